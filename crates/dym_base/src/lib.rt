@@ -1,5 +1,22 @@
-//! What every crate of the product speaks of: handles, commands, replies, limits, and the definitions that
-//! contracts cite.
+//! What every crate of the product speaks of: handles, classes, commands, replies and limits, and in `specs/` the
+//! definitions that contracts cite: a heap as a finite map from handles to bytes, one step of it, logs as whole copies,
+//! and a run. It stands on nothing, and every other crate stands on it. Its one contract: a handle and its number, and a
+//! length and its class, are what the definitions say.
 #![tactic(auto)]
 
+pub mod bad_kind;
+pub mod blob;
+pub mod class;
+pub mod command;
+pub mod handle;
 pub mod limits;
+pub mod name;
+pub mod reply;
+
+pub use bad_kind::BadKind;
+pub use blob::Blob;
+pub use class::{class_of, per_area, size_of_class};
+pub use command::{Command, Kind, Version};
+pub use handle::Handle;
+pub use name::{Name, is_name};
+pub use reply::{Refusal, Reply};

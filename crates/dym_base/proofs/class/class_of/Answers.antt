@@ -1,0 +1,45 @@
+use Rattle.std.proofs.Common.{◌≡◌, ℕ, suc, ◌+◌, ◌-◌, ◌*◌, ◌^◌, ◌<◌, ◌≤◌, ◌⊎◌, Some, inl, inr, refl, sym, ap, add-one, arith}
+use Rattle.std.proofs.Math.Nat.{pow-le-pow_right, pow-succ'}
+use Rattle.std.proofs.lemmas.Bool.{cases_lt}
+use Rattle.dym_base.specs.Numbers.{cls}
+use Rattle.dym_base.proofs.Classes.{cls_is, cls_none}
+use Rattle.dym_base.proofs.class.class_of.Goals as goal
+
+powers_rise : (i j : ℕ) → i ≤ j → 2 ^ i ≤ 2 ^ j
+powers_rise i j h = pow-le-pow_right {n = 2} (omega arith) h
+
+-- the exponents of numbers from 32 to 65,535
+least_exponent : (x e : ℕ) → 32 ≤ x → x < 2 ^ (e + 1) → 5 ≤ e
+least_exponent x e low lt =
+    elim (cases_lt e 5) as (λ _. 5 ≤ e) [
+      | inl small ↦ (let p : 2 ^ (e + 1) ≤ 2 ^ 5 = powers_rise (e + 1) 5 (omega arith) in absurd (omega arith))
+      | inr big ↦ big
+    ]
+
+greatest_exponent : (x e : ℕ) → x < 65536 → 2 ^ e ≤ x → e < 16
+greatest_exponent x e high le =
+    elim (cases_lt e 16) as (λ _. e < 16) [
+      | inl small ↦ small
+      | inr big ↦ (let p : 2 ^ 16 ≤ 2 ^ e = powers_rise 16 e big in absurd (omega arith))
+    ]
+
+doubled : (e : ℕ) → 2 ^ (e + 1) ≡ 2 * 2 ^ e
+doubled e = rw add-one (pow-succ' 2 e)
+
+class_above : (n e : ℕ) → 32 < n → n ≤ 65536 → 2 ^ e ≤ n - 1 → n - 1 < 2 * 2 ^ e → cls n ≡ Some (e + 1)
+class_above n e low high le lt =
+    let twice : 2 ^ (e + 1) ≡ 2 * 2 ^ e = doubled e in
+    let below : n - 1 < 2 ^ (e + 1) = omega arith in
+    let lowest : 5 ≤ e = least_exponent (n - 1) e (omega arith) below in
+    let highest : e < 16 = greatest_exponent (n - 1) e (omega arith) le in
+    let before : e + 1 - 1 ≡ e = omega arith in
+    cls_is n (e + 1) (omega arith) (omega arith) (inr (rw before (omega arith))) (omega arith)
+
+pub returns-then-len-le32 : goal.returns-then-len-le32
+returns-then-len-le32 c = sym (cls_is c.args.len 5 (omega arith) (omega arith) (inl refl) (omega arith))
+
+pub returns-then-len-gt65536 : goal.returns-then-len-gt65536
+returns-then-len-gt65536 c = sym (cls_none c.args.len (omega arith))
+
+pub returns : goal.returns
+returns c = sym (class_above c.args.len c.ilog2.result (omega arith) (omega arith) c.ilog2.ensures.power_le c.ilog2.ensures.next_power_gt)

@@ -1,0 +1,41 @@
+//! Bytes that a command or a reply keeps.
+ghost use Rattle.std.specs.Prelude.{◌≡◌, List, ℕ, IfOk};
+
+use std::alloc::{AllocError, Global};
+use std::marker::Model;
+
+/// Bytes that a command or a reply keeps, seen as their list.
+#[derive(Drop)]
+pub struct Blob {
+    bytes: Vec<u8>,
+}
+
+impl Model for Blob {
+    ghost Value = { List ℕ };
+
+    ghost view = { λ b. b.bytes.items };
+}
+
+impl Blob {
+    /// A copy of the bytes.
+    pub fn new(alloc: Global, bytes: &[u8]) -> Result<Blob, AllocError>
+        ensures { IfOk result (λ blob. blob ≡ bytes.now) }
+    {
+        let bytes = Vec::from_slice(alloc, bytes)?;
+        Ok(Blob { bytes })
+    }
+
+    /// The bytes of a list, which is moved and not copied.
+    pub fn of_vec(bytes: Vec<u8>) -> Blob
+        ensures { result ≡ bytes.items }
+    {
+        Blob { bytes }
+    }
+
+    /// The bytes.
+    pub fn bytes(&self) -> &[u8]
+        ensures { result.now ≡ self.now }
+    {
+        self.bytes.as_slice()
+    }
+}
