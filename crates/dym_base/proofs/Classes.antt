@@ -1,11 +1,11 @@
 -- The class of a length: what `cls` finds.
-use Rattle.std.proofs.Common.{◌≡◌, ℕ, zero, suc, ◌+◌, ◌-◌, ◌^◌, ◌<◌, ◌≤◌, ◌⊎◌, inl, inr, Bool, true, false, cond, nat_le, find, Option, Some, None, List, [], ◌∷◌, refl, sym, ap, subst, ◌∙◌, arith}
+use Rattle.std.proofs.Common.{◌≡◌, ℕ, zero, suc, ◌+◌, ◌-◌, ◌^◌, ◌<◌, ◌≤◌, ◌⊎◌, inl, inr, Bool, true, false, cond, nat_le, find, Some, None, refl, ap, subst, ◌∙◌, arith}
 use Rattle.std.specs.List.{range_with_len}
 use Rattle.std.proofs.Math.Nat.{pow-le-pow_right}
-use Rattle.std.proofs.lemmas.Bool.Decides.{nat_tests, leb_tells}
-use Rattle.std.proofs.lemmas.Bool.{cases_eq}
-use Rattle.std.proofs.lemmas.Nat.{pow_pos}
-use Rattle.dym_base.specs.Numbers.{cls, size, classes}
+use Rattle.std.proofs.lemmas.Bool.Decides.{nat_tests}
+use Rattle.std.proofs.lemmas.Bool.{cases_eq, leb-true}
+use Rattle.std.proofs.lemmas.Option.{same_Some}
+use Rattle.dym_base.specs.Numbers.{cls, size}
 
 cond_true : {A : Type 0} (b : Bool) (x y : A) → b ≡ true → cond b x y ≡ x
 cond_true b x y e = ap (λ c. cond c x y) e
@@ -26,6 +26,15 @@ pub find_none_in_range : (p : ℕ → Bool) (m a : ℕ) → ((i : ℕ) → a ≤
 find_none_in_range p zero a fails = refl
 find_none_in_range p (suc m) a fails =
     cond_false (p a) _ _ (fails a (omega arith) (omega arith)) ∙ find_none_in_range p m (a + 1) (λ i l h. fails i (omega arith) (omega arith))
+
+-- a number that is found is of the range, and passes
+pub found_in_range : (p : ℕ → Bool) (m a j : ℕ) → find p (range_with_len a m) ≡ Some j → (a ≤ j) × (j < a + m) × (p j ≡ true)
+found_in_range p zero a j is = cc
+found_in_range p (suc m) a j is =
+    elim (p a) as (λ b. p a ≡ b → cond b (Some a) (find p (range_with_len (a + 1) m)) ≡ Some j → (a ≤ j) × (j < a + suc m) × (p j ≡ true)) [
+      | true ↦ λ passes here. (let same : a ≡ j = same_Some a j here in (omega arith, omega arith, subst (λ x. p x ≡ true) same passes))
+      | false ↦ λ fails later. (let rest = found_in_range p m (a + 1) j later in (omega (arith, rest.0), omega (arith, rest.1), rest.2))
+    ] refl is
 
 above : (n m : ℕ) → m < n → nat_le n m ≡ false
 above n m h = grind (arith, nat_tests)
@@ -50,3 +59,10 @@ cls_none n big =
     find_none_in_range (λ i. nat_le n (size i)) 12 5 (λ i l h. above n (2 ^ i) (
     let most : 2 ^ i ≤ 2 ^ 16 = pow-le-pow_right {n = 2} (omega arith) {i = i} {j = 16} (omega arith) in
     omega arith))
+
+-- a class is one of the twelve, and large enough
+pub cls_class : (n e : ℕ) → cls n ≡ Some e → (5 ≤ e) × (e ≤ 16) × (n ≤ 2 ^ e)
+unfolding cls
+cls_class n e is =
+    let found = found_in_range (λ i. nat_le n (size i)) 12 5 e is in
+    (found.0, omega (arith, found.1), leb-true n (2 ^ e) found.2)

@@ -1,5 +1,5 @@
 -- What a heap means: a finite map from handles to bytes, and how many segments it needs.
-use Rattle.std.specs.Prelude.{ℕ, zero, suc, ◌+◌, ◌/◌, max, Bool, List, [], ◌∷◌, ◌==◌, nat_eq, if◌then◌else◌, sum_by}
+use Rattle.std.specs.Prelude.{ℕ, zero, suc, ◌+◌, ◌/◌, max, List, [], ◌∷◌, ◌==◌, if◌then◌else◌, sum_by}
 use Rattle.std.specs.Ordering.{nat_cmp}
 use Rattle.std.specs.FinMap.{FinMap, contains_key, len, keys}
 use Rattle.std.specs.FinSet.{FinSet}

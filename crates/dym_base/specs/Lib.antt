@@ -6,3 +6,5 @@ pub mod HeapStep
 pub mod Packed
 pub mod Objects
 pub mod Origins
+pub mod Laws
+pub mod RunLaws

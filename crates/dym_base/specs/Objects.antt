@@ -1,15 +1,16 @@
 -- An object: a heap, and the logs of it that are kept, each as a whole copy. One command to an object, and a run of many.
-use Rattle.std.specs.Prelude.{ℕ, ◌+◌, ◌-◌, Bool, List, [], ◌∷◌, ◌++◌, length, take, drop, ◌==◌, nat_eq, nat_le, if◌then◌else◌, count_by, Option, None, Some}
+use Rattle.std.specs.Prelude.{ℕ, ◌+◌, ◌-◌, List, [], ◌∷◌, ◌++◌, length, take, drop, ◌==◌, nat_le, if◌then◌else◌, count_by, Option, None, Some}
 use Rattle.std.specs.FinMap as map
 use Rattle.std.specs.FinSet as set
+use Rattle.dym_base.specs.declared.limits.TheConstants.{MOST_KEPT_LOGS, MOST_DEPTH}
 use Rattle.dym_base.specs.Heaps.{Live, Touched, HeapState}
 use Rattle.dym_base.specs.HeapStep.{HeapAnswer, heap_step}
-use Rattle.dym_base.specs.Packed.{Logged, packed}
+use Rattle.dym_base.specs.Packed.{packed}
 use Rattle.dym_base.specs.declared.command.Version.{Version}
 use Rattle.dym_base.specs.declared.command.Kind.{Kind}
 use Rattle.dym_base.specs.declared.command.Kind.TheVariants.{Full, Inc}
 use Rattle.dym_base.specs.declared.command.Command.{Command}
-use Rattle.dym_base.specs.declared.command.Command.TheVariants.{Malloc, Calloc, Realloc, Free, Write, Fill, Read, Link, Follow, Sum, Log, Ilog, Restore, Prune, Logs}
+use Rattle.dym_base.specs.declared.command.Command.TheVariants.{Log, Ilog, Restore, Prune, Logs}
 use Rattle.dym_base.specs.declared.reply.Reply.{Reply}
 use Rattle.dym_base.specs.declared.reply.Reply.TheVariants as reply
 use Rattle.dym_base.specs.declared.reply.Refusal.TheVariants.{NotAfter, LogsFull, NoLog}
@@ -57,7 +58,7 @@ record_of v e = packed (record { version = v; kind = kind_of e; time = e.time; c
 abbrev pub next_depth : Kind → Option LogEntry → ℕ
 next_depth Full newest = 0
 next_depth Inc None = 0
-next_depth Inc (Some e) = if e.depth == 31 then 0 else e.depth + 1
+next_depth Inc (Some e) = if e.depth == MOST_DEPTH then 0 else e.depth + 1
 
 abbrev pub found_touched : ℕ → Touched → Touched
 found_touched depth touched = if depth == 0 then set.empty else touched
@@ -72,7 +73,7 @@ unchanged s reply = record { object = s; reply = reply }
 
 abbrev pub log_more : Version → ObjectState → ℕ → Kind → ObjectAnswer
 log_more v s t kind =
-    if length s.logs == 256
+    if length s.logs == MOST_KEPT_LOGS
     then unchanged s (reply.Refused LogsFull)
     else record {
       object = record {

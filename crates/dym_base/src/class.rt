@@ -1,11 +1,12 @@
 //! The size classes of chunks.
-ghost use Rattle.std.specs.Prelude.{◌≡◌, ◌≤◌};
+ghost use Rattle.std.specs.Prelude.{◌≡◌, ◌≤◌, ◌^◌, IfSome};
 ghost use Rattle.dym_base.specs.Numbers.{cls, size, per};
 
 /// The class exponent of a chunk of `len` bytes: the least from 5 with `2^e >= len`. None exactly where `len` is above
 /// 65,536.
 pub fn class_of(len: u64) -> Option<u8>
-    ensures { result ≡ cls len }
+    ensures value { result ≡ cls len }
+    ensures class { IfSome result (λ e. (5 ≤ e) × (e ≤ 16) × (len ≤ size e) × (len ≤ 2 ^ 16)) }
 {
     if len <= 32 {
         return Some(5);

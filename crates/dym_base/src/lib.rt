@@ -9,6 +9,7 @@ pub mod blob;
 pub mod class;
 pub mod command;
 pub mod handle;
+pub mod laws;
 pub mod limits;
 pub mod name;
 pub mod reply;
@@ -20,3 +21,6 @@ pub use command::{Command, Kind, Version};
 pub use handle::Handle;
 pub use name::{Name, is_name};
 pub use reply::{Refusal, Reply};
+
+#[cfg(test)]
+mod tests;

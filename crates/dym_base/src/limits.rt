@@ -45,6 +45,9 @@ pub const MOST_OBJECTS: usize = 4_096;
 /// The most commands of a script.
 pub const MOST_COMMANDS: usize = 1_048_576;
 
+/// The most commands of a script that is made.
+pub const MOST_MADE_COMMANDS: u32 = 200_000;
+
 /// The most bytes that one `read` line asks for.
 pub const MOST_READ_BYTES: u32 = 256;
 

@@ -1,8 +1,8 @@
-use Rattle.std.proofs.Common.{◌≡◌, ℕ, suc, ◌+◌, ◌-◌, ◌*◌, ◌^◌, ◌<◌, ◌≤◌, ◌⊎◌, Some, inl, inr, refl, sym, ap, add-one, arith}
+use Rattle.std.proofs.Common.{◌≡◌, ℕ, ◌+◌, ◌-◌, ◌*◌, ◌^◌, ◌<◌, ◌≤◌, Some, inl, inr, refl, sym, add-one, arith}
 use Rattle.std.proofs.Math.Nat.{pow-le-pow_right, pow-succ'}
 use Rattle.std.proofs.lemmas.Bool.{cases_lt}
 use Rattle.dym_base.specs.Numbers.{cls}
-use Rattle.dym_base.proofs.Classes.{cls_is, cls_none}
+use Rattle.dym_base.proofs.Classes.{cls_is, cls_none, cls_class}
 use Rattle.dym_base.proofs.class.class_of.Goals as goal
 
 powers_rise : (i j : ℕ) → i ≤ j → 2 ^ i ≤ 2 ^ j
@@ -35,11 +35,19 @@ class_above n e low high le lt =
     let before : e + 1 - 1 ≡ e = omega arith in
     cls_is n (e + 1) (omega arith) (omega arith) (inr (rw before (omega arith))) (omega arith)
 
+cls_bounds : (n e : ℕ) → cls n ≡ Some e → n ≤ 65536 → (5 ≤ e) × (e ≤ 16) × (n ≤ 2 ^ e) × (n ≤ 65536)
+cls_bounds n e is high = let class = cls_class n e is in (class.0, class.1, class.2, high)
+
 pub returns-then-len-le32 : goal.returns-then-len-le32
-returns-then-len-le32 c = sym (cls_is c.args.len 5 (omega arith) (omega arith) (inl refl) (omega arith))
+returns-then-len-le32 c = record {
+  value = sym (cls_is c.args.len 5 (omega arith) (omega arith) (inl refl) (omega arith));
+  class = (omega arith, omega arith, omega arith, omega arith);
+}
 
 pub returns-then-len-gt65536 : goal.returns-then-len-gt65536
-returns-then-len-gt65536 c = sym (cls_none c.args.len (omega arith))
+returns-then-len-gt65536 c = record { value = sym (cls_none c.args.len (omega arith)); class = tt }
 
 pub returns : goal.returns
-returns c = sym (class_above c.args.len c.ilog2.result (omega arith) (omega arith) c.ilog2.ensures.power_le c.ilog2.ensures.next_power_gt)
+returns c =
+    let is = class_above c.args.len c.ilog2.result (omega arith) (omega arith) c.ilog2.ensures.power_le c.ilog2.ensures.next_power_gt in
+    record { value = sym is; class = cls_bounds c.args.len (c.ilog2.result + 1) is (omega arith) }

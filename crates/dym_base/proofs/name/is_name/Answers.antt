@@ -1,10 +1,10 @@
-use Rattle.std.proofs.Common.{rules, ◌≡◌, List, ℕ, ◌≤◌, ◌<◌, length, Bool, true, false, not, ◌&&◌, nat_le, codes, [], ◌∷◌, refl, sym, ap, ◌∙◌, arith, tests}
+use Rattle.std.proofs.Common.{rules, ◌≡◌, ℕ, ◌≤◌, length, Bool, true, false, not, ◌&&◌, nat_le, codes, refl, sym, ap, ◌∙◌, arith, tests}
 use Rattle.std.specs.List.{list_all}
 use Rattle.std.specs.Str.{bytes_eq}
 use Rattle.std.proofs.lemmas.Iterator.{YieldsList-from_slice}
 use Rattle.std.proofs.lemmas.Iterator.Search.{all_from_yields_List}
 use Rattle.std.proofs.lemmas.Bool.Decides.{nat_tests}
-use Rattle.dym_base.specs.Names.{is_name, is_name_byte}
+use Rattle.dym_base.specs.Names.{is_name_byte}
 use Rattle.dym_base.proofs.name.is_name.Goals as goal
 
 -- a test of four parts, where the first three hold
