@@ -66,15 +66,12 @@ reach_there e k is = cond-true (exponent_of k == e) _ _ (eq-eqb (exponent_of k) 
 pub reach_other : (e k : ℕ) → (exponent_of k ≡ e → ⊥) → reach e k ≡ 0
 reach_other e k isnt = cond-false (exponent_of k == e) _ _ (ne_eqb (exponent_of k) e isnt)
 
-max_least : (a b n : ℕ) → a ≤ n → b ≤ n → max a b ≤ n
-max_least a b n p q = omega arith
-
 areas_over_least : (e n : ℕ) (ks : List ℕ) → ((k : ℕ) → list_any (eq_by_cmp nat_cmp k) ks ≡ true → reach e k ≤ n) → areas_over e ks ≤ n
 areas_over_least e n [] each = omega arith
 areas_over_least e n (k ∷ ks) each =
-    max_least _ _ n
-    (each k (or_left _ _ (unsigned_tied k k ∙ eq-eqb k k refl)))
-    (areas_over_least e n ks (λ q is. each q (or_right _ _ is)))
+    let here : reach e k ≤ n = each k (or_left _ _ (unsigned_tied k k ∙ eq-eqb k k refl)) in
+    let rest = areas_over_least e n ks (λ q is. each q (or_right _ _ is)) in
+    omega arith
 
 areas_over_each : (e k : ℕ) (ks : List ℕ) → list_any (eq_by_cmp nat_cmp k) ks ≡ true → reach e k ≤ areas_over e ks
 areas_over_each e k [] is = absurd (true≢false (sym is))

@@ -1,6 +1,7 @@
 pub mod Classes
 pub mod Maps
 pub mod Heaps
+pub mod Classwise
 pub mod Steps
 pub mod Touched
 pub mod Sizes

@@ -1,10 +1,10 @@
 -- What the definitions come to, in the subject's own words. Each is the contract of a function of src/laws.rt.
-use Rattle.std.specs.Prelude.{◌≡◌, ℕ, ◌/◌, ◌^◌, ◌<◌, ◌≤◌, ◌↔◌, true, false, ⊤, List, length, Option, None, Some}
+use Rattle.std.specs.Prelude.{◌≡◌, ℕ, ◌+◌, ◌/◌, ◌^◌, ◌<◌, ◌≤◌, ◌↔◌, true, false, ⊤, List, length, Option, None, Some}
 use Rattle.std.specs.FinMap as map
 use Rattle.std.specs.FinSet as set
 use Rattle.dym_base.specs.Numbers.{size, per, number, exponent_of, index_of, cls}
 use Rattle.dym_base.specs.Heaps.{Live, HeapState, fresh, areas, held}
-use Rattle.dym_base.specs.HeapStep.{heap_step}
+use Rattle.dym_base.specs.HeapStep.{held_with_fresh, heap_step}
 use Rattle.dym_base.specs.Objects.{ObjectState, object_step, empty_heap}
 use Rattle.dym_base.specs.declared.handle.Handle.{Handle}
 use Rattle.dym_base.specs.declared.command.Version.{Version}
@@ -37,6 +37,13 @@ HandleKeepsNumber = (n : ℕ) → (number (exponent_of n) (index_of n) ≡ n) ×
 -- the areas of a class are the least number that each live index of the class, divided by the chunks of an area, is below
 abbrev pub AreasAreLeast : Type 0
 AreasAreLeast = (live : Live) (e n : ℕ) → (areas live e ≤ n) ↔ ((k : ℕ) → IsLive live k → exponent_of k ≡ e → index_of k / per e < n)
+
+-- a new chunk needs no segment more where an area that is there has its index; else it is the first of the next area, and
+-- needs one more
+abbrev pub FreshNeedsArea : Type 0
+FreshNeedsArea = (live : Live) (e : ℕ) → 5 ≤ e → e ≤ 16 → fresh live e < 2 ^ 32 →
+    (fresh live e / per e < areas live e → held_with_fresh live e ≡ held live)
+    × (areas live e ≤ fresh live e / per e → (fresh live e / per e ≡ areas live e) × (held_with_fresh live e ≡ held live + 1))
 
 -- no step takes a heap above its quota
 abbrev pub QuotaIsKept : Type 0

@@ -8,3 +8,8 @@ pub mod Objects
 pub mod Origins
 pub mod Laws
 pub mod RunLaws
+pub mod Slots
+pub mod SlotWords
+pub mod SlotSteps
+pub mod SlotFacts
+pub mod SlotNotes

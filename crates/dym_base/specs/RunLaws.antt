@@ -5,6 +5,7 @@ use Rattle.std.specs.FinSet.{contains}
 use Rattle.dym_base.specs.Heaps.{held}
 use Rattle.dym_base.specs.Objects.{LogEntry, ObjectState, reached, run_end}
 use Rattle.dym_base.specs.Laws.{IsLive, IsWellSized, ResizesHandle, TouchesLive}
+use Rattle.dym_base.specs.declared.limits.TheConstants.{MOST_KEPT_LOGS, MOST_DEPTH}
 use Rattle.dym_base.specs.declared.command.Version.{Version}
 use Rattle.dym_base.specs.declared.command.Command.{Command}
 
@@ -45,9 +46,9 @@ abbrev pub EachFollows : List LogEntry → Type 0
 EachFollows [] = ⊤
 EachFollows (e ∷ es) = FirstFollows e es × EachFollows es
 
--- at most 256 logs are kept, none deeper than 31, their times rising
+-- no more logs are kept than may be, none deeper than may be, their times rising
 abbrev pub IsLogList : List LogEntry → Type 0
-IsLogList logs = (length logs ≤ 256) × AllByRecursion (λ e. e.depth ≤ 31) logs × EachFollows logs
+IsLogList logs = (length logs ≤ MOST_KEPT_LOGS) × AllByRecursion (λ e. e.depth ≤ MOST_DEPTH) logs × EachFollows logs
 
 abbrev pub RunsKeepLogs : Type 0
 RunsKeepLogs = (v : Version) (quota : ℕ) (commands : List Command) → IsLogList (run_end v quota commands).logs

@@ -1,5 +1,5 @@
 //! What the definitions come to, in the subject's own words. Each law is the contract of a function that does nothing.
-ghost use Rattle.dym_base.specs.Laws.{FreshIsFree, FreshIsLeast, NumberKeepsHandle, HandleKeepsNumber, AreasAreLeast, QuotaIsKept, StartIsWellSized, StepIsWellSized, HeapRefusalKeeps, ObjectRefusalKeeps, StartTouchesLive, StepTouchesLive};
+ghost use Rattle.dym_base.specs.Laws.{FreshIsFree, FreshIsLeast, NumberKeepsHandle, HandleKeepsNumber, AreasAreLeast, FreshNeedsArea, QuotaIsKept, StartIsWellSized, StepIsWellSized, HeapRefusalKeeps, ObjectRefusalKeeps, StartTouchesLive, StepTouchesLive};
 ghost use Rattle.dym_base.specs.RunLaws.{RunsKeepQuota, RunsKeepSizes, RunsTouchLive, RunsKeepLogs, ReachedAreBefore};
 
 /// The index of a new chunk is the least of its class that isn't live.
@@ -17,6 +17,11 @@ pub fn numbers_name_handles()
 /// The areas of a class reach just as far as its live chunks.
 pub fn areas_are_least()
     ensures { AreasAreLeast }
+{}
+
+/// A new chunk needs at most one segment more, and none where an area of its class has room.
+pub fn fresh_needs_an_area()
+    ensures { FreshNeedsArea }
 {}
 
 /// No command takes a heap above its quota.

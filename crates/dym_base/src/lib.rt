@@ -13,6 +13,7 @@ pub mod laws;
 pub mod limits;
 pub mod name;
 pub mod reply;
+pub mod slots;
 
 pub use bad_kind::BadKind;
 pub use blob::Blob;

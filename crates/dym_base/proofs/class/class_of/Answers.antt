@@ -1,18 +1,16 @@
 use Rattle.std.proofs.Common.{◌≡◌, ℕ, ◌+◌, ◌-◌, ◌*◌, ◌^◌, ◌<◌, ◌≤◌, Some, inl, inr, refl, sym, add-one, arith}
-use Rattle.std.proofs.Math.Nat.{pow-le-pow_right, pow-succ'}
+use Rattle.std.proofs.Math.Nat.{pow-succ'}
+use Rattle.std.proofs.Math.Pow.{pow_mono}
 use Rattle.std.proofs.lemmas.Bool.{cases_lt}
 use Rattle.dym_base.specs.Numbers.{cls}
 use Rattle.dym_base.proofs.Classes.{cls_is, cls_none, cls_class}
 use Rattle.dym_base.proofs.class.class_of.Goals as goal
 
-powers_rise : (i j : ℕ) → i ≤ j → 2 ^ i ≤ 2 ^ j
-powers_rise i j h = pow-le-pow_right {n = 2} (omega arith) h
-
 -- the exponents of numbers from 32 to 65,535
 least_exponent : (x e : ℕ) → 32 ≤ x → x < 2 ^ (e + 1) → 5 ≤ e
 least_exponent x e low lt =
     elim (cases_lt e 5) as (λ _. 5 ≤ e) [
-      | inl small ↦ (let p : 2 ^ (e + 1) ≤ 2 ^ 5 = powers_rise (e + 1) 5 (omega arith) in absurd (omega arith))
+      | inl small ↦ (let p : 2 ^ (e + 1) ≤ 2 ^ 5 = pow_mono {i = e + 1} {j = 5} (omega arith) in absurd (omega arith))
       | inr big ↦ big
     ]
 
@@ -20,7 +18,7 @@ greatest_exponent : (x e : ℕ) → x < 65536 → 2 ^ e ≤ x → e < 16
 greatest_exponent x e high le =
     elim (cases_lt e 16) as (λ _. e < 16) [
       | inl small ↦ small
-      | inr big ↦ (let p : 2 ^ 16 ≤ 2 ^ e = powers_rise 16 e big in absurd (omega arith))
+      | inr big ↦ (let p : 2 ^ 16 ≤ 2 ^ e = pow_mono {i = 16} {j = e} big in absurd (omega arith))
     ]
 
 doubled : (e : ℕ) → 2 ^ (e + 1) ≡ 2 * 2 ^ e

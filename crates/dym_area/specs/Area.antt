@@ -1,0 +1,72 @@
+-- What is seen of an area, and what its calls do with it.
+use Rattle.std.specs.Prelude.{◌≡◌, ℕ, zero, suc, ◌+◌, ◌-◌, ◌*◌, ◌<◌, ◌≤◌, Bool, true, false, List, ◌++◌, length, replicate, slice_set}
+use Rattle.dym_base.specs.Numbers.{size, per}
+use Rattle.dym_base.specs.declared.limits.TheConstants.{MOST_CHUNKS, SEGMENT_BYTES}
+use Rattle.dym_bits.specs.Bits.{IsSet, bits_of_bytes, clear_bits}
+use Rattle.dym_region.specs.Content.{with_part}
+use Rattle.dym_region.specs.declared.segment.SegmentId.{SegmentId}
+
+-- one segment cut into chunks of a class: which of them are used, which are dirty, and all the bytes
+pub record AreaMeaning : Type 0 where
+  pub exponent : ℕ
+  pub ordinal : ℕ
+  pub used : List Bool
+  pub dirty : List Bool
+  pub content : List ℕ
+  pub identity : SegmentId
+
+-- what is true of every area
+pub record IsLawful (area : AreaMeaning) : Type 0 where
+  pub least : 5 ≤ area.exponent
+  pub greatest : area.exponent ≤ 16
+  pub used_len : length area.used ≡ MOST_CHUNKS
+  pub dirty_len : length area.dirty ≡ MOST_CHUNKS
+  pub used_below : (i : ℕ) → IsSet area.used i → i < per area.exponent
+  pub dirty_used : (i : ℕ) → IsSet area.dirty i → IsSet area.used i
+  pub content_len : length area.content ≡ SEGMENT_BYTES
+
+-- where the bytes of chunk i begin
+abbrev pub chunk_start : AreaMeaning → ℕ → ℕ
+chunk_start area i = i * size area.exponent
+
+-- the dirty bits after n bytes of chunk i were written
+abbrev pub dirty_after : List Bool → ℕ → ℕ → List Bool
+dirty_after dirty i zero = dirty
+dirty_after dirty i (suc n) = slice_set dirty i true
+
+-- the area after chunk i was taken: it is used, dirty and zero
+abbrev pub with_taken : AreaMeaning → ℕ → AreaMeaning
+with_taken area i =
+    record area {
+      used = slice_set area.used i true;
+      dirty = slice_set area.dirty i true;
+      content = with_part area.content (chunk_start area i) (replicate (size area.exponent) 0);
+    }
+
+-- the area after chunk i was given up
+abbrev pub with_released : AreaMeaning → ℕ → AreaMeaning
+with_released area i = record area { used = slice_set area.used i false; dirty = slice_set area.dirty i false }
+
+-- the area after the bytes were written into chunk i from place `at` of the chunk on
+abbrev pub with_written : AreaMeaning → ℕ → ℕ → List ℕ → AreaMeaning
+with_written area i at bytes =
+    record area {
+      dirty = dirty_after area.dirty i (length bytes);
+      content = with_part area.content (chunk_start area i + at) bytes;
+    }
+
+-- the area after the bytes were put over those of the chunks from chunk `from` on
+abbrev pub with_loaded : AreaMeaning → ℕ → List ℕ → AreaMeaning
+with_loaded area from bytes = record area { content = with_part area.content (chunk_start area from) bytes }
+
+-- the area with no chunk dirty
+abbrev pub with_clean : AreaMeaning → AreaMeaning
+with_clean area = record area { dirty = clear_bits MOST_CHUNKS }
+
+-- the area whose use bits are those of the bytes, with no chunk dirty
+abbrev pub with_used_bytes : AreaMeaning → List ℕ → AreaMeaning
+with_used_bytes area bytes =
+    record area {
+      used = bits_of_bytes bytes ++ clear_bits (MOST_CHUNKS - 8 * length bytes);
+      dirty = clear_bits MOST_CHUNKS;
+    }

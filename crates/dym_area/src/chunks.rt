@@ -1,0 +1,237 @@
+//! One segment cut into chunks.
+ghost use Rattle.std.specs.Prelude.{◌≡◌, ℕ, ◌+◌, ◌/◌, ◌<◌, ◌≤◌, ◌↔◌, max, length, replicate, IsTrue, MatchOption};
+ghost use Rattle.dym_base.specs.Numbers.{size, per};
+ghost use Rattle.dym_bits.specs.Bits.{bit_in, bits_of_bytes, clear_bits, IsSet, IsClear, IsFirstClear, IsNextSet, IsTopSet};
+ghost use Rattle.dym_region.specs.Content.{part_of};
+ghost use Rattle.dym_area.specs.Area.{IsLawful, chunk_start, with_taken, with_released, with_written, with_loaded, with_clean, with_used_bytes};
+
+use dym_base::class::{per_area, size_of_class};
+use dym_base::limits::{MOST_CHUNKS, SEGMENT_BYTES};
+use dym_bits::Bits;
+use dym_region::Segment;
+use std::marker::Model;
+
+/// A segment cut into chunks of one class, with a use bit and a dirty bit for each chunk. No call takes memory.
+pub struct Area<G: Segment> {
+    exp: u8,
+    ordinal: u32,
+    used: Bits,
+    dirty: Bits,
+    segment: G,
+}
+
+impl<G: Segment> Model for Area<G> {
+    ghost use Rattle.dym_area.specs.Area.{AreaMeaning, IsLawful};
+
+    ghost Value = { AreaMeaning };
+
+    ghost view = { λ a. record { exponent = a.exp; ordinal = a.ordinal; used = a.used; dirty = a.dirty; content = G.content a.segment; identity = G.id a.segment } };
+
+    ghost invariant = { λ a. IsLawful (record { exponent = a.exp; ordinal = a.ordinal; used = a.used; dirty = a.dirty; content = G.content a.segment; identity = G.id a.segment }) };
+}
+
+impl<G: Segment> Area<G> {
+    /// An area of class `exp` over a segment, with no chunk used. `ordinal` is its place among the areas of its class.
+    pub fn new(exp: u8, ordinal: u32, seg: G) -> Area<G>
+        requires least { 5 ≤ exp }
+        requires greatest { exp ≤ 16 }
+        ensures made { result ≡ record { exponent = exp; ordinal = ordinal; used = clear_bits MOST_CHUNKS; dirty = clear_bits MOST_CHUNKS; content = G.content seg; identity = G.id seg } }
+        ensures lawful { IsLawful result }
+        ensures none { (i : ℕ) → IsClear result.used i }
+    {
+        Area {
+            exp,
+            ordinal,
+            used: Bits::new(),
+            dirty: Bits::new(),
+            segment: seg,
+        }
+    }
+
+    /// The class exponent.
+    pub fn exp(&self) -> u8
+        ensures { result ≡ self.now.exponent }
+    {
+        self.exp
+    }
+
+    /// The place among the areas of the class.
+    pub fn ordinal(&self) -> u32
+        ensures { result ≡ self.now.ordinal }
+    {
+        self.ordinal
+    }
+
+    /// Takes the least unused chunk, which becomes used, dirty and zero, and answers its index. None where all are used.
+    pub fn take_first(&mut self) -> Option<u32>
+        ensures first { MatchOption result ((k : ℕ) → k < per self.old.exponent → IsSet self.old.used k) (IsFirstClear self.old.used (per self.old.exponent)) }
+        ensures after { MatchOption result (self.new ≡ self.old) (λ i. self.new ≡ with_taken self.old i) }
+        ensures lawful { IsLawful self.new }
+    {
+        let i = self.used.first_clear(per_area(self.exp))?;
+        let size = size_of_class(self.exp);
+        self.used.set(i);
+        self.dirty.set(i);
+        self.segment.zero(i * size, size);
+        Some(i)
+    }
+
+    /// Gives up a used chunk: it is neither used nor dirty. Its bytes stay.
+    pub fn release(&mut self, i: u32)
+        requires { IsSet self.old.used i }
+        ensures after { self.new ≡ with_released self.old i }
+        ensures lawful { IsLawful self.new }
+    {
+        self.used.clear(i);
+        self.dirty.clear(i);
+    }
+
+    /// Writes the bytes into a used chunk, from its place `at` on, and marks it dirty. An empty write changes nothing.
+    pub fn write(&mut self, i: u32, at: u32, bytes: &[u8])
+        requires used { IsSet self.old.used i }
+        requires within { at + length bytes.now ≤ size self.old.exponent }
+        ensures after { self.new ≡ with_written self.old i at bytes.now }
+        ensures empty { length bytes.now ≡ 0 → self.new ≡ self.old }
+        ensures lawful { IsLawful self.new }
+    {
+        let start = i * size_of_class(self.exp) + at;
+        if bytes.is_empty() {
+            return;
+        }
+        self.dirty.set(i);
+        self.segment.write(start, bytes);
+    }
+
+    /// Writes `len` zero bytes into a used chunk, from its place `at` on, as `write` does.
+    pub fn zero(&mut self, i: u32, at: u32, len: u32)
+        requires used { IsSet self.old.used i }
+        requires within { at + len ≤ size self.old.exponent }
+        ensures after { self.new ≡ with_written self.old i at (replicate len 0) }
+        ensures empty { len ≡ 0 → self.new ≡ self.old }
+        ensures lawful { IsLawful self.new }
+    {
+        let start = i * size_of_class(self.exp) + at;
+        if len == 0 {
+            return;
+        }
+        self.dirty.set(i);
+        self.segment.zero(start, len);
+    }
+
+    /// Fills `out` with the bytes of a used chunk, from its place `at` on.
+    pub fn read(&self, i: u32, at: u32, out: &mut [u8])
+        requires used { IsSet self.now.used i }
+        requires within { at + length out.old ≤ size self.now.exponent }
+        ensures { out.new ≡ part_of self.now.content (chunk_start self.now i + at) (length out.old) }
+    {
+        let start = i * size_of_class(self.exp) + at;
+        self.segment.read(start, out);
+    }
+
+    /// Fills `out` with the bytes of the chunks from chunk `from` on, used or not, one chunk after the other.
+    pub fn read_run(&self, from: u32, out: &mut [u8])
+        requires { chunk_start self.now from + length out.old ≤ SEGMENT_BYTES }
+        ensures { out.new ≡ part_of self.now.content (chunk_start self.now from) (length out.old) }
+    {
+        self.segment.read(from * size_of_class(self.exp), out);
+    }
+
+    /// Puts the bytes over those of the chunks from chunk `from` on. All bits stay as they are.
+    pub fn load_run(&mut self, from: u32, bytes: &[u8])
+        requires { chunk_start self.old from + length bytes.now ≤ SEGMENT_BYTES }
+        ensures after { self.new ≡ with_loaded self.old from bytes.now }
+        ensures lawful { IsLawful self.new }
+    {
+        self.segment.write(from * size_of_class(self.exp), bytes);
+    }
+
+    /// Whether chunk `i` is used.
+    pub fn is_used(&self, i: u32) -> bool
+        requires { i < per self.now.exponent }
+        ensures { result ≡ bit_in self.now.used i }
+    {
+        self.used.get(i)
+    }
+
+    /// Whether chunk `i` is dirty.
+    pub fn is_dirty(&self, i: u32) -> bool
+        requires { i < per self.now.exponent }
+        ensures { result ≡ bit_in self.now.dirty i }
+    {
+        self.dirty.get(i)
+    }
+
+    /// Whether all chunks are used, so that `take_first` answers None.
+    pub fn is_full(&self) -> bool
+        ensures { IsTrue result ↔ ((i : ℕ) → i < per self.now.exponent → IsSet self.now.used i) }
+    {
+        self.used.first_clear(per_area(self.exp)).is_none()
+    }
+
+    /// The greatest used index, and None where no chunk is used.
+    pub fn top(&self) -> Option<u32>
+        ensures { MatchOption result ((i : ℕ) → IsClear self.now.used i) (IsTopSet self.now.used) }
+    {
+        self.used.top_set()
+    }
+
+    /// The least used index that is at least `from`, and None where there is none.
+    pub fn next_used(&self, from: u32) -> Option<u32>
+        requires { from ≤ MOST_CHUNKS }
+        ensures { MatchOption result ((i : ℕ) → from ≤ i → IsClear self.now.used i) (IsNextSet self.now.used from) }
+    {
+        self.used.next_set(from)
+    }
+
+    /// The use bits.
+    pub fn used(&self) -> &Bits
+        ensures { result.now ≡ self.now.used }
+    {
+        &self.used
+    }
+
+    /// The dirty bits.
+    pub fn dirty(&self) -> &Bits
+        ensures { result.now ≡ self.now.dirty }
+    {
+        &self.dirty
+    }
+
+    /// Marks no chunk dirty.
+    pub fn clear_dirty(&mut self)
+        ensures after { self.new ≡ with_clean self.old }
+        ensures lawful { IsLawful self.new }
+    {
+        self.dirty.clear_all();
+    }
+
+    /// Takes the use bits from a bitmap of `max(1, per_area / 8)` bytes and marks no chunk dirty. The bytes stay.
+    pub fn set_from(&mut self, use_bytes: &[u8])
+        requires len { length use_bytes.now ≡ max 1 (per self.old.exponent / 8) }
+        requires below { (i : ℕ) → IsSet (bits_of_bytes use_bytes.now) i → i < per self.old.exponent }
+        ensures after { self.new ≡ with_used_bytes self.old use_bytes.now }
+        ensures bits { (i : ℕ) → bit_in self.new.used i ≡ bit_in (bits_of_bytes use_bytes.now) i }
+        ensures lawful { IsLawful self.new }
+    {
+        self.used.set_bytes(use_bytes);
+        self.dirty = Bits::new();
+    }
+
+    /// The segment, with the bytes as they stand.
+    pub fn into_segment(self) -> G
+        ensures content { G.content result ≡ self.content }
+        ensures same { G.id result ≡ self.identity }
+    {
+        let Area {
+            exp: _,
+            ordinal: _,
+            used: _,
+            dirty: _,
+            segment,
+        } = self;
+        segment
+    }
+}
+
+#[cfg(test)]
+mod tests;

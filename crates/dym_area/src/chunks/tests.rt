@@ -1,0 +1,73 @@
+//! One walk through an area of each class.
+ghost use Rattle.std.specs.Prelude.{◌≤◌};
+ghost use Rattle.dym_area.specs.Area.{IsLawful};
+
+use super::*;
+use dym_region::VecSegment;
+use std::process::Abort;
+use std::test::Fail;
+
+// Writes the last bytes of a chunk that is used.
+fn put(area: &mut Area<VecSegment>, i: u32, bytes: [u8; 4])
+    requires { IsLawful area.old }
+    ensures { IsLawful area.new }
+{
+    let size = size_of_class(area.exp());
+    if i < per_area(area.exp()) && area.is_used(i) && size >= 4 {
+        area.write(i, size - 4, &bytes);
+    }
+}
+
+// The last bytes of a chunk, if it is used.
+fn last_bytes(area: &Area<VecSegment>, i: u32) -> Option<[u8; 4]>
+    requires { IsLawful area.now }
+{
+    let size = size_of_class(area.exp());
+    let mut bytes = [9; 4];
+    if i < per_area(area.exp()) && area.is_used(i) && size >= 4 {
+        area.read(i, size - 4, &mut bytes);
+        return Some(bytes);
+    }
+    None
+}
+
+// Gives up a chunk that is used.
+fn give(area: &mut Area<VecSegment>, i: u32)
+    requires { IsLawful area.old }
+    ensures { IsLawful area.new }
+{
+    if i < per_area(area.exp()) && area.is_used(i) {
+        area.release(i);
+    }
+}
+
+fn walk(rt: &impl Abort, exp: u8, seg: VecSegment)
+    requires least { 5 ≤ exp }
+    requires greatest { exp ≤ 16 }
+{
+    let all = per_area(exp);
+    let mut area = Area::new(exp, 3, seg);
+    for i in 0..all {
+        assert_eq!(rt; area.take_first(), Some(i));
+    }
+    assert_eq!(rt; area.take_first(), None);
+    let last = all - 1;
+    let middle = all / 2;
+    put(&mut area, last, [5, 6, 7, 8]);
+    assert_eq!(rt; last_bytes(&area, last), Some([5, 6, 7, 8]));
+    put(&mut area, middle, [1, 2, 3, 4]);
+    give(&mut area, middle);
+    assert_eq!(rt; last_bytes(&area, middle), None);
+    assert_eq!(rt; area.take_first(), Some(middle));
+    assert_eq!(rt; last_bytes(&area, middle), Some([0; 4]));
+    assert_eq!(rt; (area.take_first(), area.top()), (None, Some(last)));
+    let _segment = area.into_segment();
+}
+
+#[test]
+fn each_class_to_its_last_chunk(rt: HostRuntime) -> Result<(), Fail> {
+    for exp in 5..17 {
+        walk(&rt, exp, VecSegment::new(rt.alloc())?);
+    }
+    Ok(())
+}

@@ -1,0 +1,4 @@
+pub mod BitmapLemmas
+pub mod ByteBits
+pub mod Counts
+pub mod Searches

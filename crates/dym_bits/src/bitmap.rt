@@ -1,0 +1,227 @@
+//! The bitmap, its searches, and its bytes.
+
+ghost use Rattle.std.specs.Prelude.{◌≡◌, ℕ, ◌+◌, ◌-◌, ◌*◌, ◌/◌, ◌<◌, ◌≤◌, max, true, false, ◌++◌, length, take, drop, slice_set, MatchOption};
+ghost use Rattle.dym_base.specs.Packed.{bitmap, bitmap_byte};
+ghost use Rattle.dym_bits.specs.Bits.{digits, bit_in, bits_of_bytes, bytes_of_bits, clear_bits, set_count, IsSet, IsClear, IsFirstClear, IsNextSet, IsTopSet};
+
+use crate::bytes::{WORD_BITS, WORDS, bytes_of, padded, word_at};
+use dym_base::limits::MOST_CHUNKS;
+use std::marker::Model;
+
+/// 2,048 bits, one for each chunk that a segment can have. No call takes memory.
+#[derive(Drop)]
+pub struct Bits {
+    words: [u64; WORDS],
+}
+
+impl Model for Bits {
+    ghost use Rattle.std.specs.Prelude.{Bool, List};
+    ghost use Rattle.dym_bits.specs.Bits.{bits_of};
+
+    ghost Value = { List Bool };
+
+    ghost view = { λ b. bits_of 64 b.words };
+}
+
+impl Bits {
+    /// A bitmap with every bit clear.
+    pub fn new() -> Bits
+        ensures clear { result ≡ clear_bits MOST_CHUNKS }
+        ensures len { length result ≡ MOST_CHUNKS }
+        ensures none { (k : ℕ) → IsClear result k }
+    {
+        Bits { words: [0; WORDS] }
+    }
+
+    /// Whether bit `i` is set.
+    pub fn get(&self, i: u32) -> bool
+        requires { i < MOST_CHUNKS }
+        ensures { result ≡ bit_in self.now i }
+    {
+        (self.words[(i / WORD_BITS) as usize] >> (i % WORD_BITS)) & 1 == 1
+    }
+
+    /// Sets bit `i`.
+    pub fn set(&mut self, i: u32)
+        requires { i < MOST_CHUNKS }
+        ensures after { self.new ≡ slice_set self.old i true }
+        ensures len { length self.new ≡ MOST_CHUNKS }
+    {
+        self.words[(i / WORD_BITS) as usize] |= 1 << (i % WORD_BITS);
+    }
+
+    /// Clears bit `i`.
+    pub fn clear(&mut self, i: u32)
+        requires { i < MOST_CHUNKS }
+        ensures after { self.new ≡ slice_set self.old i false }
+        ensures len { length self.new ≡ MOST_CHUNKS }
+    {
+        self.words[(i / WORD_BITS) as usize] &= !(1 << (i % WORD_BITS));
+    }
+
+    /// Clears every bit.
+    pub fn clear_all(&mut self)
+        ensures clear { self.new ≡ clear_bits MOST_CHUNKS }
+        ensures len { length self.new ≡ MOST_CHUNKS }
+        ensures none { (k : ℕ) → IsClear self.new k }
+    {
+        self.words = [0; WORDS];
+    }
+
+    /// How many bits are set.
+    pub fn count(&self) -> u32
+        ensures { result ≡ set_count self.now }
+    {
+        self.count_below(MOST_CHUNKS)
+    }
+
+    /// How many bits below `limit` are set.
+    pub fn count_below(&self, limit: u32) -> u32
+        requires { limit ≤ MOST_CHUNKS }
+        ensures counted { result ≡ set_count (take limit self.now) }
+        ensures len { length self.now ≡ MOST_CHUNKS }
+    {
+        let whole = (limit / WORD_BITS) as usize;
+        let mut count = 0;
+        for word in &self.words[..whole] {
+            count += word.count_ones();
+        }
+        let rest = limit % WORD_BITS;
+        if rest == 0 {
+            return count;
+        }
+        count + (self.words[whole] & ((1 << rest) - 1)).count_ones()
+    }
+
+    /// The least clear index below `limit`, and None where all bits below it are set.
+    pub fn first_clear(&self, limit: u32) -> Option<u32>
+        requires { limit ≤ MOST_CHUNKS }
+        ensures { MatchOption result ((k : ℕ) → k < limit → IsSet self.now k) (λ i. IsFirstClear self.now limit i) }
+    {
+        for q in 0..WORDS as u32 {
+            let word = self.words[q as usize];
+            if word != u64::MAX {
+                let i = q * WORD_BITS + word.trailing_ones();
+                return if i < limit { Some(i) } else { None };
+            }
+        }
+        None
+    }
+
+    /// The least set index that is at least `from`, and None where there is none.
+    pub fn next_set(&self, from: u32) -> Option<u32>
+        requires { from ≤ MOST_CHUNKS }
+        ensures { MatchOption result ((k : ℕ) → from ≤ k → IsClear self.now k) (λ i. IsNextSet self.now from i) }
+    {
+        let words = &self.words;
+        if from == MOST_CHUNKS {
+            return None;
+        }
+        let first = from / WORD_BITS;
+        let rest = words[first as usize] & (u64::MAX << (from % WORD_BITS));
+        if rest != 0 {
+            return Some(first * WORD_BITS + rest.trailing_zeros());
+        }
+        for q in first + 1..WORDS as u32 {
+            let word = words[q as usize];
+            if word != 0 {
+                return Some(q * WORD_BITS + word.trailing_zeros());
+            }
+        }
+        None
+    }
+
+    /// The greatest set index, and None where no bit is set.
+    pub fn top_set(&self) -> Option<u32>
+        ensures { MatchOption result ((k : ℕ) → IsClear self.now k) (λ i. IsTopSet self.now i) }
+    {
+        for q in (0..WORDS as u32).rev() {
+            let word = self.words[q as usize];
+            if word != 0 {
+                return Some(q * WORD_BITS + word.ilog2());
+            }
+        }
+        None
+    }
+
+    /// Bits `8 * k` to `8 * k + 7` as a byte, the first of them lowest.
+    pub fn byte(&self, k: u32) -> u8
+        requires { 8 * k < MOST_CHUNKS }
+        ensures { result ≡ bitmap_byte (bit_in self.now) k }
+    {
+        ((self.words[(k / 8) as usize] >> (k % 8 * 8)) & 0xff) as u8
+    }
+
+    /// Puts the bits of `v`, the lowest first, in the place of bits `8 * k` to `8 * k + 7`.
+    pub fn set_byte(&mut self, k: u32, v: u8)
+        requires { 8 * k < MOST_CHUNKS }
+        ensures after { self.new ≡ take (8 * k) self.old ++ digits 8 v ++ drop (8 * k + 8) self.old }
+        ensures len { length self.new ≡ MOST_CHUNKS }
+    {
+        let q = (k / 8) as usize;
+        let at = k % 8 * 8;
+        self.words[q] = (self.words[q] & !(0xff << at)) | (u64::from(v) << at);
+    }
+
+    /// Takes the bits from bytes, eight from each and the lowest first, and clears those past them.
+    pub fn set_bytes(&mut self, bytes: &[u8])
+        requires { 8 * length bytes.now ≤ MOST_CHUNKS }
+        ensures after { self.new ≡ bits_of_bytes bytes.now ++ clear_bits (MOST_CHUNKS - 8 * length bytes.now) }
+        ensures len { length self.new ≡ MOST_CHUNKS }
+        ensures bits { (i : ℕ) → bit_in self.new i ≡ bit_in (bits_of_bytes bytes.now) i }
+    {
+        let padded = padded(bytes);
+        for q in 0..WORDS {
+            self.words[q] = word_at(&padded, 8 * q);
+        }
+    }
+
+    /// Fills `out` with the first bits, eight in each byte and the first of them lowest.
+    pub fn write_bytes(&self, out: &mut [u8])
+        requires { 8 * length out.old ≤ MOST_CHUNKS }
+        ensures after { out.new ≡ bytes_of_bits (length out.old) self.now }
+
+        // Where no bit from n on is set and `out` is as long as the bitmap of n bits, it is that bitmap.
+        ensures whole { (n : ℕ) → length out.old ≡ max 1 (n / 8) → ((i : ℕ) → n ≤ i → IsClear self.now i) → out.new ≡ bitmap n (bit_in self.now) }
+        ensures bits { bits_of_bytes out.new ≡ take (8 * length out.old) self.now }
+    {
+        let bytes = bytes_of(&self.words);
+        out.copy_from_slice(&bytes[..out.len()]);
+    }
+}
+
+#[cfg(test)]
+mod tests {
+    use super::*;
+
+    #[test]
+    fn searches_counts_and_bytes(rt: HostRuntime) {
+        // two set bits; the least clear index, the least set one from 64 on, the greatest; bytes 7 and 255
+        for (low, high, clear, next, top, seventh, last) in [
+            (0, 1, Some(2), None, Some(1), 0, 0),
+            (0, 2047, Some(1), Some(2047), Some(2047), 0, 128),
+            (63, 64, Some(0), Some(64), Some(64), 128, 0),
+            (56, 127, Some(0), Some(127), Some(127), 1, 0),
+        ] {
+            let mut bits = Bits::new();
+            if low < MOST_CHUNKS && high < MOST_CHUNKS {
+                bits.set(low);
+                bits.set(high);
+            }
+            assert_eq!(rt; bits.count(), 2);
+            assert_eq!(rt; bits.first_clear(MOST_CHUNKS), clear);
+            assert_eq!(rt; bits.next_set(64), next);
+            assert_eq!(rt; bits.next_set(MOST_CHUNKS), None);
+            assert_eq!(rt; bits.top_set(), top);
+            assert_eq!(rt; (bits.byte(7), bits.byte(255)), (seventh, last));
+            let mut bytes = [0; 256];
+            bits.write_bytes(&mut bytes);
+            let mut again = Bits::new();
+            again.set_bytes(&bytes);
+            assert_eq!(rt;
+                (again.count(), again.next_set(64), again.top_set()),
+                (2, next, top)
+            );
+        }
+    }
+}

@@ -1,0 +1,47 @@
+//! Between the words of a bitmap and its bytes.
+
+ghost use Rattle.std.specs.Prelude.{◌≡◌, ◌+◌, ◌-◌, ◌*◌, ◌≤◌, ◌++◌, length, take, drop};
+ghost use Rattle.dym_bits.specs.Bits.{digits, bits_of, bits_of_bytes, clear_bits};
+
+use dym_base::limits::MOST_CHUNKS;
+
+/// Bits of one word.
+pub(crate) const WORD_BITS: u32 = 64;
+
+/// Words of one bitmap.
+pub(crate) const WORDS: usize = (MOST_CHUNKS / WORD_BITS) as usize;
+
+/// Bytes of one bitmap.
+const BYTES: usize = (MOST_CHUNKS / 8) as usize;
+
+/// The bytes, and after them bytes that are 0.
+pub(crate) fn padded(bytes: &[u8]) -> [u8; BYTES]
+    requires { length bytes.now ≤ BYTES }
+    ensures { bits_of_bytes result ≡ bits_of_bytes bytes.now ++ clear_bits (MOST_CHUNKS - 8 * length bytes.now) }
+{
+    let mut room = [0; BYTES];
+    room[..bytes.len()].copy_from_slice(bytes);
+    room
+}
+
+/// The word whose bits are those of the eight bytes from `at` on.
+pub(crate) fn word_at(bytes: &[u8; BYTES], at: usize) -> u64
+    requires { at + 8 ≤ BYTES }
+    ensures { digits 64 result ≡ bits_of_bytes (take 8 (drop at bytes.now)) }
+{
+    let eight = &bytes[at..at + 8];
+    u64::from_le_bytes([
+        eight[0], eight[1], eight[2], eight[3], eight[4], eight[5], eight[6], eight[7],
+    ])
+}
+
+/// The bytes whose bits are those of the words.
+pub(crate) fn bytes_of(words: &[u64; WORDS]) -> [u8; BYTES]
+    ensures { bits_of_bytes result ≡ bits_of 64 words.now }
+{
+    let mut room = [0; BYTES];
+    for q in 0..WORDS {
+        room[8 * q..8 * q + 8].copy_from_slice(&words[q].to_le_bytes());
+    }
+    room
+}

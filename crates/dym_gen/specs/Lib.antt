@@ -1,0 +1,4 @@
+pub mod Draws
+pub mod Commands
+pub mod Scripts
+pub mod Laws

@@ -1,0 +1,194 @@
+-- How texts that are written one after the other make one text, and counts of faults in parts of a call one count.
+use Rattle.std.specs.Prelude.{◌≡◌, ℕ, ◌+◌, ◌-◌, ◌^◌, ◌<◌, ◌≤◌, List, [], ◌∷◌, ◌++◌, refl, length, take, drop, get_or, Option, Some, None, Result, Ok, Err, IsErr, IsErrAnd, flat_map}
+use Rattle.std.proofs.Common.{sym, ◌∙◌, ap, subst, inl, inr, append_assoc, append-nil, arith, take-append-drop, add-one}
+use Rattle.std.proofs.Math.Nat.{eq-or-lt_of_le}
+use Rattle.std.proofs.Math.Seq.{drop-cons, take-suc}
+use Rattle.std.proofs.lemmas.Grind.{flat_map-append}
+use Rattle.std.specs.Io.KnownBytes.{Appends, Keeps}
+use Rattle.std.proofs.KnownBytes.{Appends-nil, Appends-trans}
+use Rattle.dym_io.specs.Faults.{Rose}
+use Rattle.dym_io.specs.Sink.{Output, Appended, AppendedFront, Stopped, Writes, WritesOr, Leaves}
+
+-- ---- a count that rose in a part of a call rose in the whole call
+
+pub rose_later : (old mid new : ℕ) → old ≤ mid → Rose mid new → Rose old new
+rose_later old mid new le rose = elim rose [ inl more ↦ inl (omega arith) | inr full ↦ inr full ]
+
+rose_from_full : (old mid new : ℕ) → old ≤ mid → mid ≤ new → mid ≡ 2 ^ 64 - 1 → Rose old new
+rose_from_full old mid new le more full =
+    elim (eq-or-lt_of_le more) [ inl same ↦ inr (sym same ∙ full) | inr above ↦ inl (omega arith) ]
+
+pub rose_earlier : (old mid new : ℕ) → old ≤ mid → mid ≤ new → Rose old mid → Rose old new
+rose_earlier old mid new le more rose =
+    elim rose [ inl risen ↦ inl (omega arith) | inr full ↦ rose_from_full old mid new le more full ]
+
+-- ---- all of a text
+
+pub appended_nothing : (s : Output) → Appended s s []
+appended_nothing s = record { written = Appends-nil s.written; flushed = refl; faults = omega arith }
+
+pub appended_both : (a b c : Output) (t u : List ℕ) → Appended a b t → Appended b c u → Appended a c (t ++ u)
+appended_both a b c t u p q =
+    let count : a.faults ≤ c.faults = omega (arith, p.faults, q.faults) in
+    record {
+      written = Appends-trans a.written b.written c.written t u p.written q.written;
+      flushed = q.flushed ∙ p.flushed;
+      faults = count;
+    }
+
+-- a call that writes nothing comes behind, as a flush: at its Ok too
+pub appends_kept : (a b c : Option (List ℕ)) (t : List ℕ) → Appends a b t → Keeps b c → Appends a c t
+appends_kept None b c t p q = tt
+appends_kept (Some xs) None c t p q = absurd p
+appends_kept (Some xs) (Some ys) None t p q = absurd q
+appends_kept (Some xs) (Some ys) (Some zs) t p q = q ∙ p
+
+-- where it failed
+pub appended_kept : (a b c : Output) (t : List ℕ) → Appended a b t → Keeps b.written c.written → c.flushed ≡ b.flushed → b.faults ≤ c.faults → Appended a c t
+appended_kept a b c t p kept stays count =
+    let counts : a.faults ≤ c.faults = omega (arith, p.faults, count) in
+    record { written = appends_kept a.written b.written c.written t p.written kept; flushed = stays ∙ p.flushed; faults = counts }
+
+-- ---- the front of a text
+
+pub front_of_appended : (a b : Output) (t u : List ℕ) → Appended a b t → AppendedFront a b (t ++ u)
+front_of_appended a b t u p = record { front = t; rest = u; whole = refl; appended = p }
+
+pub front_within : (a b : Output) (t u : List ℕ) → AppendedFront a b t → AppendedFront a b (t ++ u)
+front_within a b t u p = record {
+  front = p.front;
+  rest = p.rest ++ u;
+  whole = ap (λ l. l ++ u) p.whole ∙ append_assoc p.front p.rest u;
+  appended = p.appended;
+}
+
+pub front_after : (a b c : Output) (t u : List ℕ) → Appended a b t → AppendedFront b c u → AppendedFront a c (t ++ u)
+front_after a b c t u p q = record {
+  front = t ++ q.front;
+  rest = q.rest;
+  whole = ap (λ l. t ++ l) q.whole ∙ sym (append_assoc t q.front q.rest);
+  appended = appended_both a b c t q.front p q.appended;
+}
+
+-- ---- the front of a text, and a fault
+
+pub stopped_within : (a b : Output) (t u : List ℕ) → Stopped a b t → Stopped a b (t ++ u)
+stopped_within a b t u p = record { front = front_within a b t u p.front; rose = p.rose }
+
+pub stopped_after : (a b c : Output) (t u : List ℕ) → Appended a b t → Stopped b c u → Stopped a c (t ++ u)
+stopped_after a b c t u p q = record {
+  front = front_after a b c t u p q.front;
+  rose = rose_later a.faults b.faults c.faults p.faults q.rose;
+}
+
+-- of a text that is written in parts one is cut short: `done` is written, and `rest` comes behind it
+pub stopped_part : (a b c : Output) (text done t rest : List ℕ) → Appended a b done → Stopped b c t → text ≡ (done ++ t) ++ rest → Stopped a c text
+stopped_part a b c text done t rest p q e =
+    subst (Stopped a c) (sym e) (stopped_within a c (done ++ t) rest (stopped_after a b c done t p q))
+
+-- ---- a text that is written after another
+
+pub writes_after : {T E : Type 0} → (a b c : Output) (t u : List ℕ) (r : Result T E) → Appended a b t → Writes b c u r → Writes a c (t ++ u) r
+writes_after a b c t u (Ok x) p q = appended_both a b c t u p q
+writes_after a b c t u (Err e) p q = stopped_after a b c t u p q
+
+pub writes_or_after : {T E : Type 0} → (IsSinks : E → Type 0) (a b c : Output) (t u : List ℕ) (r : Result T E) → Appended a b t → WritesOr IsSinks b c u r → WritesOr IsSinks a c (t ++ u) r
+writes_or_after IsSinks a b c t u (Ok x) p q = appended_both a b c t u p q
+writes_or_after IsSinks a b c t u (Err e) p q =
+    (front_after a b c t u p q.0, λ is. rose_later a.faults b.faults c.faults p.faults (q.1 is))
+
+-- ---- at an error that `?` passes on
+
+pub writes_stopped : {T E : Type 0} → (a b : Output) (t : List ℕ) (r : Result T E) → IsErr r → Stopped a b t → Writes a b t r
+writes_stopped a b t (Ok x) is p = cc
+writes_stopped a b t (Err e) is p = p
+
+-- the front of a longer text
+pub writes_cut : {T E : Type 0} → (a b : Output) (t u : List ℕ) (r : Result T E) → IsErr r → Stopped a b t → Writes a b (t ++ u) r
+writes_cut a b t u r is p = writes_stopped a b (t ++ u) r is (stopped_within a b t u p)
+
+pub writes_or_stopped : {T E : Type 0} → (IsSinks : E → Type 0) (a b : Output) (t : List ℕ) (r : Result T E) → IsErr r → Stopped a b t → WritesOr IsSinks a b t r
+writes_or_stopped IsSinks a b t (Ok x) is p = cc
+writes_or_stopped IsSinks a b t (Err e) is p = (p.front, λ _. p.rose)
+
+-- an error of another cause, as `?` makes it
+pub writes_or_other : {T E : Type 0} → (IsSinks : E → Type 0) (a b : Output) (t : List ℕ) (r : Result T E) (cause : E) → IsErrAnd r (λ e. e ≡ cause) → ¬ IsSinks cause → AppendedFront a b t → WritesOr IsSinks a b t r
+writes_or_other IsSinks a b t (Ok x) cause is other p = absurd is
+writes_or_other IsSinks a b t (Err e) cause is other p = (p, λ h. absurd (other (subst IsSinks is h)))
+
+-- ---- a chain of texts: all but a rest is written
+
+pub leaves_all : (s : Output) (text : List ℕ) → Leaves s s text text
+leaves_all s text = record { done = []; whole = refl; appended = appended_nothing s }
+
+pub leaves_same : (a b : Output) (text rest other : List ℕ) → Leaves a b text rest → rest ≡ other → Leaves a b text other
+leaves_same a b text rest other p e = record { done = p.done; whole = p.whole ∙ ap (λ l. p.done ++ l) e; appended = p.appended }
+
+pub leaves_more : (a b c : Output) (text t u : List ℕ) → Leaves a b text (t ++ u) → Appended b c t → Leaves a c text u
+leaves_more a b c text t u p q = record {
+  done = p.done ++ t;
+  whole = p.whole ∙ sym (append_assoc p.done t u);
+  appended = appended_both a b c p.done t p.appended q;
+}
+
+-- of the rest its first n were written
+pub leaves_drop : (a b c : Output) (text rest : List ℕ) (n : ℕ) → Leaves a b text rest → Appended b c (take n rest) → Leaves a c text (drop n rest)
+leaves_drop a b c text rest n p q =
+    leaves_more a b c text (take n rest) (drop n rest) (leaves_same a b text rest _ p (sym (take-append-drop n rest))) q
+
+pub leaves_cut : (a b c : Output) (text t u : List ℕ) → Leaves a b text (t ++ u) → Stopped b c t → Stopped a c text
+leaves_cut a b c text t u p q =
+    let whole = stopped_after a b c p.done (t ++ u) p.appended (stopped_within b c t u q) in
+    subst (Stopped a c) (sym p.whole) whole
+
+pub leaves_last : {T E : Type 0} → (a b c : Output) (text t : List ℕ) (r : Result T E) → Leaves a b text t → Writes b c t r → Writes a c text r
+leaves_last a b c text t r p q =
+    let P : List ℕ → Type 0 = λ l. Writes a c l r in
+    subst P (sym p.whole) (writes_after a b c p.done t r p.appended q)
+
+pub leaves_nothing : (a b : Output) (text : List ℕ) → Leaves a b text [] → Appended a b text
+leaves_nothing a b text p = subst (Appended a b) (sym (p.whole ∙ append-nil p.done)) p.appended
+
+pub leaves_front : (a b : Output) (text rest : List ℕ) → Leaves a b text rest → AppendedFront a b text
+leaves_front a b text rest p = record { front = p.done; rest = rest; whole = p.whole; appended = p.appended }
+
+-- ---- a loop: of the texts of some items, those of the first i are written. `d` is what a read past the end gives
+
+texts_at_item : {X : Type 0} → (f : X → List ℕ) (items : List X) (i : ℕ) (d : X) → i < length items
+    → flat_map f items ≡ flat_map f (take i items) ++ (f (get_or items i d) ++ flat_map f (drop (i + 1) items))
+texts_at_item f items i d within =
+    let tail : drop i items ≡ get_or items i d ∷ drop (i + 1) items = rw add-one (drop-cons items i d within) in
+    ap (flat_map f) (sym (take-append-drop i items)) ∙ flat_map-append f (take i items) (drop i items) ∙ ap (λ l. flat_map f (take i items) ++ flat_map f l) tail
+
+texts_to_item : {X : Type 0} → (f : X → List ℕ) (items : List X) (i : ℕ) (d : X) → i < length items
+    → flat_map f (take (i + 1) items) ≡ flat_map f (take i items) ++ f (get_or items i d)
+texts_to_item f items i d within =
+    let one : take (i + 1) items ≡ take i items ++ (get_or items i d ∷ []) = rw add-one (take-suc items i d within) in
+    ap (flat_map f) one ∙ flat_map-append f (take i items) (get_or items i d ∷ []) ∙ ap (λ l. flat_map f (take i items) ++ l) (append-nil (f (get_or items i d)))
+
+pub each_more : {X : Type 0} → (f : X → List ℕ) (items : List X) (i : ℕ) (d : X) (a b c : Output) → i < length items
+    → Appended a b (flat_map f (take i items)) → Appended b c (f (get_or items i d)) → Appended a c (flat_map f (take (i + 1) items))
+each_more f items i d a b c within p q =
+    subst (Appended a c) (sym (texts_to_item f items i d within)) (appended_both a b c (flat_map f (take i items)) (f (get_or items i d)) p q)
+
+pub each_cut : {X : Type 0} → (f : X → List ℕ) (items : List X) (i : ℕ) (d : X) (a b c : Output) → i < length items
+    → Appended a b (flat_map f (take i items)) → Stopped b c (f (get_or items i d)) → Stopped a c (flat_map f items)
+each_cut f items i d a b c within p q =
+    let rest = flat_map f (drop (i + 1) items) in
+    let text = f (get_or items i d) in
+    let whole = stopped_after a b c (flat_map f (take i items)) (text ++ rest) p (stopped_within b c text rest q) in
+    subst (Stopped a c) (sym (texts_at_item f items i d within)) whole
+
+-- the same for an item of a type parameter or of a type that owns memory, which goals name with the equation
+pub each_more_item : {X : Type 0} → (f : X → List ℕ) (items : List X) (i : ℕ) (x : X) (a b c : Output) → i < length items → x ≡ get_or items i x
+    → Appended a b (flat_map f (take i items)) → Appended b c (f x) → Appended a c (flat_map f (take (i + 1) items))
+each_more_item f items i x a b c within is p q =
+    each_more f items i x a b c within p (subst (λ y. Appended b c (f y)) is q)
+
+pub each_cut_item : {X : Type 0} → (f : X → List ℕ) (items : List X) (i : ℕ) (x : X) (a b c : Output) → i < length items → x ≡ get_or items i x
+    → Appended a b (flat_map f (take i items)) → Stopped b c (f x) → Stopped a c (flat_map f items)
+each_cut_item f items i x a b c within is p q =
+    each_cut f items i x a b c within p (subst (λ y. Stopped b c (f y)) is q)
+
+-- For an answer of `search` or `grind`, or for a function's `using`: texts of which each stands as it is in the whole.
+pub ruleset writing = (appended_nothing, appended_both, stopped_within, stopped_after, writes_stopped, writes_or_stopped, front_of_appended, front_after, front_within)

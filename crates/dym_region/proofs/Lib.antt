@@ -1,0 +1,6 @@
+mod Arguments
+mod ByteVecs
+mod Claims
+mod Cutting
+mod LodgeCalls
+mod Numbering

@@ -1,0 +1,78 @@
+//! What no clause says: that memory is given, and that the bytes of one segment are not those of another.
+ghost use Rattle.std.specs.Prelude.{◌≡◌, IfOk, length, vec_len};
+ghost use Rattle.dym_base.specs.declared.limits.TheConstants.{SEGMENT_BYTES};
+
+use crate::raw_segment::RawSegment;
+use crate::region::Region;
+use crate::segment::Segment;
+use crate::vec_segment::VecSegment;
+use dym_base::limits::SEGMENT_BYTES;
+use std::alloc::{AllocError, Global};
+use std::process::Abort;
+use std::test::Fail;
+use std::thread;
+
+fn page_of(alloc: Global, byte: u8) -> Result<Vec<u8>, AllocError>
+    ensures { IfOk result (λ page. vec_len page ≡ SEGMENT_BYTES) }
+{
+    vec![in alloc; byte; SEGMENT_BYTES as usize]
+}
+
+fn assert_holds<S: Segment>(rt: &impl Abort, segment: &S, want: &[u8], seen: &mut [u8])
+    requires { length seen.old ≡ SEGMENT_BYTES }
+{
+    segment.read(0, seen);
+    assert!(rt; *seen == *want, "the segment holds its own bytes");
+}
+
+fn written(mut segment: RawSegment, page: &[u8]) -> RawSegment
+    requires { length page.now ≡ SEGMENT_BYTES }
+    ensures { ⟦<RawSegment as Segment>⟧.id result ≡ ⟦<RawSegment as Segment>⟧.id segment }
+{
+    segment.write(0, page);
+    segment
+}
+
+#[test]
+fn segments_of_one_region_keep_apart(rt: HostRuntime) -> Result<(), Fail> {
+    let alloc = rt.alloc();
+    let (zeros, ones) = (page_of(alloc, 0)?, page_of(alloc, 1)?);
+    let (twos, threes) = (page_of(alloc, 2)?, page_of(alloc, 3)?);
+    let mut seen = page_of(alloc, 9)?;
+    let (region, mut segments) = Region::new(alloc, 3)?;
+    let (third, second, first) = (
+        segments.take_last(),
+        segments.take_last(),
+        segments.take_last(),
+    );
+    assert_holds(&rt, &third, &zeros, &mut seen);
+    let first = written(first, &ones);
+    let third = written(third, &threes);
+    let (second, ()) = thread::join(&rt, || written(second, &twos), || ());
+    assert_holds(&rt, &first, &ones, &mut seen);
+    assert_holds(&rt, &second, &twos, &mut seen);
+    assert_holds(&rt, &third, &threes, &mut seen);
+    assert_eq!(rt;
+        (first.number(), second.number(), third.number()),
+        (0, 1, 2)
+    );
+    segments.push_reserved(second);
+    segments.push_reserved(first);
+    segments.push_reserved(third);
+    region.close(segments);
+    Ok(())
+}
+
+#[test]
+fn a_lone_segment_reads_back(rt: HostRuntime) -> Result<(), Fail> {
+    let zeros = page_of(rt.alloc(), 0)?;
+    let mut seen = page_of(rt.alloc(), 9)?;
+    let mut segment = VecSegment::new(rt.alloc())?;
+    assert_holds(&rt, &segment, &zeros, &mut seen);
+    segment.write(65_533, b"abc");
+    segment.zero(65_534, 1);
+    let mut end = *b"....";
+    segment.read(65_532, &mut end);
+    assert_eq!(rt; &end, b"\0a\0c");
+    Ok(())
+}

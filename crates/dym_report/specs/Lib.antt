@@ -1,0 +1,6 @@
+pub mod Handles
+pub mod Hex
+pub mod Replies
+pub mod Objects
+pub mod Orders
+pub mod Late

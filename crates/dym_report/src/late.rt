@@ -1,0 +1,72 @@
+//! What the orders `views` and `late` print besides.
+ghost use Rattle.std.specs.Prelude.{◌≡◌, ◌++◌, codes, decimal};
+ghost use Rattle.dym_io.specs.Sink.{Writes};
+ghost use Rattle.dym_report.specs.declared.late.ViewLine.{ViewLine};
+ghost use Rattle.dym_report.specs.Late.{view_line, late_line, replayed_line};
+
+use crate::line::Line;
+use crate::reply::{write_number, write_reply};
+use dym_base::Reply;
+use dym_io::{Sink, SinkFault, push_all};
+
+/// What is seen of a log: its time, how many chunks it has, and the sum of their bytes.
+#[derive(Clone, Copy, Debug, PartialEq, Eq)]
+pub struct ViewLine {
+    pub time: u64,
+    pub chunks: u32,
+    pub total: u64,
+}
+
+/// What one line of a script of late events gets.
+#[derive(Clone, Copy)]
+pub enum LateOut<'a> {
+    /// The event was accepted, and its command has this reply.
+    Reply(&'a Reply),
+    /// The event was before the last commit, which is this.
+    Early { bound: u64 },
+    /// The line was a commit.
+    Committed,
+}
+
+/// Writes what is seen of an object's oldest log, where it has one. Its only error is that of the sink.
+pub fn write_view<W: Sink>(sink: &mut W, line: Option<ViewLine>) -> Result<(), SinkFault>
+    ensures { Writes (W.output sink.old) (W.output sink.new) (view_line line) result }
+{
+    match line {
+        None => push_all(sink, b"view none\n"),
+        Some(view) => push_all(sink, numbers_of(view).bytes()),
+    }
+}
+
+/// The line of a view.
+fn numbers_of(view: ViewLine) -> Line
+    ensures { result ≡ codes "view " ++ decimal view.time ++ codes " " ++ decimal view.chunks ++ codes " " ++ decimal view.total ++ codes "\n" }
+{
+    let mut line = Line::new();
+    line.text(b"\n");
+    line.number(view.total);
+    line.text(b" ");
+    line.number(u64::from(view.chunks));
+    line.text(b" ");
+    line.number(view.time);
+    line.text(b"view ");
+    line
+}
+
+/// Writes the line that a line of late events gets. Its only error is that of the sink.
+pub fn write_late_line<W: Sink>(sink: &mut W, line: LateOut) -> Result<(), SinkFault>
+    ensures { Writes (W.output sink.old) (W.output sink.new) (late_line line.entry) result }
+{
+    match line {
+        LateOut::Reply(reply) => write_reply(sink, reply),
+        LateOut::Early { bound } => write_number(sink, b"early ", bound),
+        LateOut::Committed => push_all(sink, b"ok\n"),
+    }
+}
+
+/// Writes how many events were run again. Its only error is that of the sink.
+pub fn write_replayed<W: Sink>(sink: &mut W, replayed: u64) -> Result<(), SinkFault>
+    ensures { Writes (W.output sink.old) (W.output sink.new) (replayed_line replayed) result }
+{
+    write_number(sink, b"replayed ", replayed)
+}

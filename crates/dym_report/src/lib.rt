@@ -1,0 +1,23 @@
+//! What the program prints: replies, heaps, logs, summaries and errors, as text in a sink. It stands on dym_base and dym_io,
+//! and the top call stands on it. Its one contract: each call writes the text that its definition says, or a front of it
+//! where the sink failed. No call takes memory.
+#![tactic(auto)]
+
+pub mod hex_text;
+pub mod late;
+pub mod line;
+pub mod object;
+pub mod order;
+pub mod reply;
+pub mod totals;
+
+pub use hex_text::write_hex_line;
+pub use late::{LateOut, ViewLine, write_late_line, write_replayed, write_view};
+pub use line::Line;
+pub use object::{write_heading, write_heap_line, write_image, write_logs};
+pub use order::{write_counts, write_end, write_error, write_events, write_usage};
+pub use reply::{write_replies, write_reply};
+pub use totals::{Totals, write_summary};
+
+#[cfg(test)]
+mod tests;

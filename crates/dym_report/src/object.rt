@@ -1,0 +1,65 @@
+//! The parts of the report of one object.
+ghost use Rattle.std.specs.Prelude.{◌≡◌, ◌+◌, ◌≤◌, ◌++◌, length};
+ghost use Rattle.dym_io.specs.Sink.{Writes};
+ghost use Rattle.dym_report.specs.Handles.{handle_text};
+ghost use Rattle.dym_report.specs.Objects.{heading, heap_line, length_text, image_line, logs_line};
+
+use crate::hex_text::{trimmed, write_hex_line};
+use crate::line::Line;
+use crate::reply::write_numbers;
+use dym_base::{Handle, Name, Version};
+use dym_io::{Sink, SinkFault, push_parts};
+
+/// Writes the line that names an object. Its only error is that of the sink.
+pub fn write_heading<W: Sink>(sink: &mut W, name: &Name) -> Result<(), SinkFault>
+    ensures { Writes (W.output sink.old) (W.output sink.new) (heading name.now) result }
+{
+    push_parts(
+        sink,
+        &[b"object ".as_slice(), name.bytes(), b"\n".as_slice()],
+    )
+}
+
+/// Writes how many chunks are live, and how many segments they need. Its only error is that of the sink.
+pub fn write_heap_line<W: Sink>(sink: &mut W, chunks: u32, segments: u32) -> Result<(), SinkFault>
+    ensures { Writes (W.output sink.old) (W.output sink.new) (heap_line chunks segments) result }
+{
+    write_numbers(sink, b"heap ", u64::from(chunks), u64::from(segments))
+}
+
+/// Writes the line of a live chunk with these bytes. Its only error is that of the sink.
+pub fn write_image<W: Sink>(
+    sink: &mut W,
+    version: Version,
+    handle: Handle,
+    bytes: &[u8],
+) -> Result<(), SinkFault>
+    ensures { Writes (W.output sink.old) (W.output sink.new) (image_line version handle bytes.now) result }
+{
+    let head = image_head(version, handle, bytes.len());
+    write_hex_line(sink, head.bytes(), trimmed(bytes))
+}
+
+/// What stands before the bytes of a live chunk.
+fn image_head(version: Version, handle: Handle, len: usize) -> Line
+    ensures { result ≡ handle_text handle ++ length_text version len }
+{
+    let mut line = Line::new();
+    line.text(b" ");
+    match version {
+        Version::One => {}
+        Version::Two => {
+            line.number(len as u64);
+            line.text(b" ");
+        }
+    }
+    line.handle(handle);
+    line
+}
+
+/// Writes how many logs are kept, and how many records they take. Its only error is that of the sink.
+pub fn write_logs<W: Sink>(sink: &mut W, kept: u32, slots: u32) -> Result<(), SinkFault>
+    ensures { Writes (W.output sink.old) (W.output sink.new) (logs_line kept slots) result }
+{
+    write_numbers(sink, b"logs ", u64::from(kept), u64::from(slots))
+}

@@ -1,0 +1,6 @@
+pub mod Cuts
+pub mod Index
+pub mod Kept
+pub mod Numbers
+pub mod Counts
+pub mod Moves

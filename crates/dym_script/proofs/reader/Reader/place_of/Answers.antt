@@ -1,0 +1,13 @@
+use Rattle.std.proofs.Common.{◌≡◌, ◌∙◌, arith}
+use Rattle.dym_script.specs.Scripts.{object_of}
+use Rattle.dym_script.proofs.Index.{found_within, found_name}
+use Rattle.dym_script.proofs.reader.Reader.place_of.Goals as goal
+
+pub returns : goal.returns
+returns c =
+    let found : c.copied.result ≡ object_of c.args.self.now.script.objects.items c.args.name.now = c.copied.ensures ∙ c.get.ensures.value ∙ c.requires.indexed c.args.name.now in
+    record {
+      value = found;
+      within = found_within _ _ _ found;
+      name = found_name _ _ _ c.requires.lawful.names found;
+    }

@@ -1,0 +1,21 @@
+//! The reader of scripts: it turns bytes into declarations and commands, or names the first bad line. It stands on
+//! `dym_base`; the top call, which runs what was read, stands above it. Its one contract: what is read is what the
+//! grammar in `specs/` gives for the same bytes, and each object's commands are those of its own lines, in order.
+#![tactic(auto)]
+
+mod line_fail;
+mod line_tests;
+mod lines;
+mod own;
+mod places;
+mod read;
+mod reader;
+pub mod script;
+mod verb;
+
+pub use own::{Part, apart, own_commands};
+pub use read::read_script;
+pub use script::{Decl, Line, Script, ScriptFail};
+
+#[cfg(test)]
+mod tests;

@@ -1,0 +1,180 @@
+//! What no clause shows: that good scripts are read, and that the kinds of bad lines are those of the format.
+use crate::{Script, ScriptFail, apart, own_commands, read_script};
+use dym_base::{BadKind, Command, Version};
+use std::alloc::{AllocError, Global};
+use std::test::Fail;
+
+/// The first bad line of a text, and what is wrong with it.
+fn bad(alloc: Global, text: &[u8]) -> Option<(u32, BadKind)> {
+    match read_script(alloc, text) {
+        Err(ScriptFail::Bad { line, kind }) => Some((line, kind)),
+        _ => None,
+    }
+}
+
+/// The lengths that an object's lines ask, joined to text.
+fn lengths(alloc: Global, commands: &[Command]) -> Result<Vec<u64>, AllocError> {
+    let mut lengths = Vec::new(alloc);
+    for command in commands {
+        if let Command::Malloc { len } = command {
+            lengths.push(*len)?;
+        }
+    }
+    Ok(lengths)
+}
+
+const GOOD: &[u8] =
+    b"# a comment\n\nobject a 1\n  object  b_2 0001024 \na malloc 4\nb_2 malloc 18446744073709551615\n#\na malloc 00000000000000000007";
+
+#[test]
+fn good_script(rt: HostRuntime) -> Result<(), Fail> {
+    let script = read_script(rt.alloc(), GOOD)?;
+    assert_eq!(rt; script.version, Version::One);
+    assert_eq!(rt; script.objects.len(), 2);
+    assert_eq!(rt; script.lines.len(), 3);
+    assert_eq!(rt; script.objects[1].name.bytes(), b"b_2".as_slice());
+    assert_eq!(rt; script.objects[1].quota, 1024);
+    assert_eq!(rt; script.objects[1].line, 4);
+    let own = own_commands(rt.alloc(), &script, 0)?;
+    assert_eq!(rt; lengths(rt.alloc(), &own)?.as_slice(), [4, 7].as_slice());
+    let parts = apart(rt.alloc(), script)?;
+    assert_eq!(rt; parts.len(), 2);
+    assert_eq!(rt;
+        lengths(rt.alloc(), &parts[0].commands)?.as_slice(),
+        [4, 7].as_slice()
+    );
+    assert_eq!(rt;
+        lengths(rt.alloc(), &parts[1].commands)?.as_slice(),
+        [u64::MAX].as_slice()
+    );
+    Ok(())
+}
+
+#[test]
+fn versions(rt: HostRuntime) -> Result<(), Fail> {
+    let table: [(&[u8], Version); 4] = [
+        (b"", Version::One),
+        (b"\n# version 2\n", Version::One),
+        (b"version 2", Version::Two),
+        (
+            b"\n#\n version  2 \nobject version 1\nversion malloc 2\n",
+            Version::Two,
+        ),
+    ];
+    for (text, version) in table {
+        let script = read_script(rt.alloc(), text)?;
+        assert_eq!(rt; script.version, version);
+    }
+    Ok(())
+}
+
+#[test]
+fn bad_lines(rt: HostRuntime) {
+    let table: [(&[u8], u32, BadKind); 32] = [
+        (b"a malloc 4", 1, BadKind::Undeclared),
+        (b"a malloc", 1, BadKind::Command),
+        (b"a", 1, BadKind::Command),
+        (b"a malloc 4 5", 1, BadKind::Command),
+        (b"a mallok 4", 1, BadKind::Command),
+        (b"a Malloc 4", 1, BadKind::Command),
+        (b"object a", 1, BadKind::Command),
+        (b"object a 1 2", 1, BadKind::Command),
+        (b"object malloc 4", 0, BadKind::Command),
+        (b"a malloc 18446744073709551616", 1, BadKind::Number),
+        (b"a malloc 000000000000000000007", 1, BadKind::Number),
+        (b"a malloc -1", 1, BadKind::Number),
+        (b"a malloc 4x", 1, BadKind::Number),
+        (b"object a x", 1, BadKind::Number),
+        (b"a-b malloc 4", 1, BadKind::Name),
+        (b"a-b malloc x", 1, BadKind::Number),
+        (b"object object 1", 1, BadKind::Name),
+        (b"object a-b 0", 1, BadKind::Name),
+        (
+            b"object abcdefghijklmnopqrstuvwxyz0123456 1",
+            1,
+            BadKind::Name,
+        ),
+        (
+            b"abcdefghijklmnopqrstuvwxyz0123456 malloc 1",
+            1,
+            BadKind::Name,
+        ),
+        (b"object a 1\nobject a 2", 2, BadKind::Twice),
+        (b"object a 1\nobject a 0", 2, BadKind::Twice),
+        (b"object a 0", 1, BadKind::QuotaRange),
+        (b"object a 1025\n", 1, BadKind::QuotaRange),
+        (b"\na\tlogs", 2, BadKind::Bytes),
+        (b"#\x7f", 1, BadKind::Bytes),
+        (b"object a 1\r\n", 1, BadKind::Bytes),
+        (b"version 3", 1, BadKind::Command),
+        (b"version 2\nversion 2", 2, BadKind::Command),
+        (b"object a 1\nversion 2", 2, BadKind::Command),
+        (b"version 2 2", 1, BadKind::Command),
+        (b"a malloc 4\nobject a 1\n", 1, BadKind::Undeclared),
+    ];
+    for (text, line, kind) in table {
+        let wanted = if line == 0 { None } else { Some((line, kind)) };
+        assert_eq!(rt; bad(rt.alloc(), text), wanted, "{text:?}");
+    }
+}
+
+/// So many copies of a byte.
+fn copies(alloc: Global, byte: u8, count: usize) -> Result<Vec<u8>, AllocError> {
+    vec![in alloc; byte; count]
+}
+
+#[test]
+fn lengths_of_lines_and_inputs(rt: HostRuntime) -> Result<(), Fail> {
+    let mut line = copies(rt.alloc(), b'#', 4096)?;
+    assert!(rt; read_script(rt.alloc(), &line).is_ok());
+    line.push(b'x')?;
+    assert_eq!(rt; bad(rt.alloc(), &line), Some((1, BadKind::LongLine)));
+    let mut lines = copies(rt.alloc(), b'\n', 16_777_216)?;
+    assert!(rt; read_script(rt.alloc(), &lines).is_ok());
+    lines.push(b'\n')?;
+    assert_eq!(rt; bad(rt.alloc(), &lines), Some((0, BadKind::TooLong)));
+    Ok(())
+}
+
+/// A script of so many declarations.
+fn declarations(alloc: Global, count: u32) -> Result<String, AllocError> {
+    let mut text = String::new(alloc);
+    for n in 0..count {
+        let line = format!(in alloc; "object o{n} 1\n")?;
+        text.push_str(&line)?;
+    }
+    Ok(text)
+}
+
+#[test]
+fn many_objects(rt: HostRuntime) -> Result<(), Fail> {
+    let most = declarations(rt.alloc(), 4096)?;
+    assert!(rt; read_script(rt.alloc(), most.as_bytes()).is_ok());
+    let more = declarations(rt.alloc(), 4097)?;
+    assert_eq!(rt;
+        bad(rt.alloc(), more.as_bytes()),
+        Some((4097, BadKind::Many))
+    );
+    Ok(())
+}
+
+/// A script of one object and so many commands.
+fn commands(alloc: Global, count: u32) -> Result<String, AllocError> {
+    let mut text = String::from_str(alloc, "object a 1\n")?;
+    for _ in 0..count {
+        text.push_str("a malloc 1\n")?;
+    }
+    Ok(text)
+}
+
+#[test]
+fn many_commands(rt: HostRuntime) -> Result<(), Fail> {
+    let most = commands(rt.alloc(), 1_048_576)?;
+    assert!(rt; read_script(rt.alloc(), most.as_bytes()).is_ok());
+    let more = commands(rt.alloc(), 1_048_577)?;
+    assert_eq!(rt;
+        bad(rt.alloc(), more.as_bytes()),
+        Some((1_048_578, BadKind::Many))
+    );
+    Ok(())
+}

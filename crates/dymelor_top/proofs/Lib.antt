@@ -1,0 +1,7 @@
+pub mod ThinFacts
+pub mod BuiltScripts
+pub mod RunFacts
+pub mod ObjectText
+pub mod PassedOn
+pub mod PartFacts
+pub mod Served

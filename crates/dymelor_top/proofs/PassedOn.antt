@@ -1,0 +1,21 @@
+-- An error that is passed on, of whatever cause.
+use Rattle.std.proofs.Common.{◌≡◌, ℕ, suc, ◌+◌, ◌<◌, List, ◌∷◌, ◌++◌, length, take, drop, get_or, flat_map, Result, Ok, Err, IsErrAnd, sym, ap, subst, ◌∙◌, add-one, drop-cons, take-append-drop}
+use Rattle.std.proofs.lemmas.Grind.{flat_map-append}
+use Rattle.dym_io.specs.Faults.{Rose}
+use Rattle.dym_io.specs.Sink.{Output, Appended, AppendedFront, WritesOr}
+use Rattle.dym_io.specs.Laws.{front_after, front_within}
+
+-- the same error, where it may be the sink's
+pub writes_or_passed : {T E : Type 0} → (IsSinks : E → Type 0) (a b : Output) (t : List ℕ) (r : Result T E) (e : E) → IsErrAnd r (λ x. x ≡ e)
+    → AppendedFront a b t → (IsSinks e → Rose a.faults b.faults) → WritesOr IsSinks a b t r
+writes_or_passed IsSinks a b t (Ok x) e is front rose = absurd is
+writes_or_passed IsSinks a b t (Err x) e is front rose = (front, λ h. rose (subst IsSinks is h))
+
+-- of the texts of some items those of the first i are written, and the front of the next
+pub each_front_item : {X : Type 0} → (f : X → List ℕ) (items : List X) (i : ℕ) (x : X) (a b c : Output) → i < length items → x ≡ get_or items i x
+    → Appended a b (flat_map f (take i items)) → AppendedFront b c (f x) → AppendedFront a c (flat_map f items)
+each_front_item f items i x a b c within is p q =
+    let cut : drop i items ≡ x ∷ drop (i + 1) items = rw (add-one, drop-cons items i x within) (λ j. sym is j ∷ drop (suc i) items) in
+    let whole : flat_map f items ≡ flat_map f (take i items) ++ (f x ++ flat_map f (drop (i + 1) items)) =
+    ap (flat_map f) (sym (take-append-drop i items)) ∙ flat_map-append f (take i items) (drop i items) ∙ ap (λ l. flat_map f (take i items) ++ flat_map f l) cut in
+    subst (AppendedFront a c) (sym whole) (front_after a b c (flat_map f (take i items)) (f x ++ flat_map f (drop (i + 1) items)) p (front_within b c (f x) (flat_map f (drop (i + 1) items)) q))

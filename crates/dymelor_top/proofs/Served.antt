@@ -1,0 +1,283 @@
+-- From what the parts of a top call do to the headline.
+use Rattle.std.proofs.Common.{◌≡◌, ℕ, ◌+◌, ◌<◌, ◌≤◌, ◌⊎◌, inl, inr, Bool, true, false, cond, List, [], ◌++◌, length, drop, nat_lt, Option, Some, None, IfSome, Result, Ok, Err, IsErr, MatchBool, refl, sym, ap, subst, ◌∙◌, append-nil, length-append, arith}
+use Rattle.std.specs.Option.{OnSome}
+use Rattle.std.proofs.Math.ListN.{drop_of_length-le}
+use Rattle.std.proofs.Math.Seq.{drop-append_seam}
+use Rattle.std.proofs.lemmas.Bool.Decides.{nat_tests}
+use Rattle.std.specs.Io.KnownBytes.{Consumes, Keeps}
+use Rattle.std.proofs.KnownBytes.{Appends-nil, Keeps-refl}
+use Rattle.dym_base.specs.declared.limits.TheConstants.{MOST_INPUT_BYTES}
+use Rattle.dym_base.specs.declared.bad_kind.BadKind.TheVariants as bad
+use Rattle.dym_io.specs.Faults.{Rose}
+use Rattle.dym_io.specs.Source.{IsEndOrLimit}
+use Rattle.dym_io.specs.Sink.{Output, Appended, AppendedFront, Stopped, AllFlushed}
+use Rattle.dym_io.specs.Laws.{appends_kept}
+use Rattle.dym_script.specs.Lines.{lines_of}
+use Rattle.dym_script.specs.Scripts.{Said, script_of, read_lines, start}
+use Rattle.dym_trace.specs.declared.answer.TraceAnswer.{TraceAnswer}
+use Rattle.dym_trace.specs.Verdict.{IsVerdict}
+use Rattle.dym_trace.proofs.Once.{one_verdict}
+use Rattle.dymelor_top.specs.declared.plan.Reading.{Reading}
+use Rattle.dymelor_top.specs.declared.plan.Reading.TheVariants as reading
+use Rattle.dymelor_top.specs.declared.plan.Plan.{Plan}
+use Rattle.dymelor_top.specs.declared.plan.Plan.TheVariants as plan
+use Rattle.dymelor_top.specs.declared.stop.WriteFail.{WriteFail}
+use Rattle.dymelor_top.specs.declared.stop.Stop.{Stop}
+use Rattle.dymelor_top.specs.declared.stop.Stop.TheVariants as stop
+use Rattle.dymelor_top.specs.Stops.{stop_status}
+use Rattle.dymelor_top.specs.Report.{report_text}
+use Rattle.dymelor_top.specs.Answers.{Answer, fault_answer, of_script, counts_of, of_verdict, IsJudged, IsTraceAnswer, IsRead, IsAnswer, usage_answer}
+use Rattle.dymelor_top.specs.Headline.{Input, WroteFront, WroteAll, Serves, Writes, WritesAnswer, PlanHeadline}
+
+-- What was written
+
+-- a flush after an appended text leaves all bytes flushed since the text's start
+flushed_since : (written : Option (List ℕ)) (f g h : Option ℕ) → g ≡ f
+    → IfSome written (λ bytes. OnSome g (h ≡ Some (length bytes))) → IfSome written (λ bytes. OnSome f (h ≡ Some (length bytes)))
+flushed_since None f g h is x = tt
+flushed_since (Some bytes) f g h is x = subst (λ k. OnSome k (h ≡ Some (length bytes))) is x
+
+pub wrote_all : (a b c : Output) (t : List ℕ) → Appended a b t → Keeps b.written c.written → AllFlushed b c → WroteAll a c t
+wrote_all a b c t p keeps flushed = record {
+  written = appends_kept a.written b.written c.written t p.written keeps;
+  flushed = flushed_since c.written a.flushed b.flushed c.flushed p.flushed flushed;
+}
+
+pub front_wrote : (a b : Output) (t : List ℕ) → AppendedFront a b t → WroteFront a b t
+front_wrote a b t p = record { front = p.front; rest = p.rest; whole = p.whole; written = p.appended.written }
+
+pub front_kept : (a b c : Output) (t : List ℕ) → Appended a b t → Keeps b.written c.written → WroteFront a c t
+front_kept a b c t p keeps = record { front = t; rest = []; whole = sym (append-nil t); written = appends_kept a.written b.written c.written t p.written keeps }
+
+nothing_wrote : (a : Output) (t : List ℕ) → WroteFront a a t
+nothing_wrote a t = record { front = []; rest = t; whole = refl; written = Appends-nil a.written }
+
+pub serves_front : {E : Type 0} → (Is : Answer → Type 0) (a b : Output) (r : Result ℕ E) → IsErr r → ((answer : Answer) → Is answer → WroteFront a b answer.text) → Serves Is a b r
+serves_front Is a b (Ok status) is front = absurd (cc)
+serves_front Is a b (Err e) is front = front
+
+-- an answer that is given
+pub writes_of : (f : Answer) (a b : Output) (r : Result ℕ WriteFail) → WritesAnswer f a b r → Writes (λ x. x ≡ f) a b r
+writes_of f a b (Ok status) w = (f, refl, w.0, w.1)
+writes_of f a b (Err e) w = (λ x is. subst (λ y. AppendedFront a b y.text) (sym is) w.0, w.1)
+
+-- What was read
+
+cut_true : {A : Type 0} (b : Bool) (x y : A) → b ≡ true → cond b x y ≡ x
+cut_true true x y is = refl
+cut_true false x y is = absurd (cc)
+
+-- an input that is too long has one verdict, whatever its bytes
+too_long : (bytes : List ℕ) → MOST_INPUT_BYTES < length bytes → script_of bytes ≡ Err (record { line = 0; kind = bad.TooLong })
+unfolding script_of
+too_long bytes long =
+    let test : nat_lt MOST_INPUT_BYTES (length bytes) ≡ true = grind (arith, nat_tests) in
+    cut_true (nat_lt MOST_INPUT_BYTES (length bytes)) (Err (record { line = 0; kind = bad.TooLong })) (read_lines start 1 (lines_of bytes)) test
+
+drop_front : (n : ℕ) (xs ys : List ℕ) → length xs ≡ n → drop n (xs ++ ys) ≡ ys
+drop_front n xs ys is = ap (λ k. drop k (xs ++ ys)) (sym is) ∙ drop-append_seam xs ys
+
+-- what was read is the whole input, or both are too long
+abbrev SameVerdict : List ℕ → List ℕ → Type 0
+SameVerdict read all = (read ≡ all) ⊎ ((MOST_INPUT_BYTES < length read) × (MOST_INPUT_BYTES < length all))
+
+read_so : (n : ℕ) (all read more : List ℕ) → n ≡ MOST_INPUT_BYTES + 1 → all ≡ read ++ more → length read ≤ n → (more ≡ []) ⊎ (length read ≡ n)
+    → (more ≡ drop n all) × SameVerdict read all
+read_so n all read more limit is within (inl none) =
+    let same : all ≡ read = is ∙ ap (λ l. read ++ l) none ∙ append-nil read in
+    let short : length all ≤ n = subst (λ l. length l ≤ n) (sym same) within in
+    (none ∙ sym (drop_of_length-le all short), inl (sym same))
+read_so n all read more limit is within (inr full) =
+    let long : MOST_INPUT_BYTES < length read = omega (arith, full, limit) in
+    let longer : MOST_INPUT_BYTES < length all = omega (arith, long, ap length is, length-append read more) in
+    (sym (drop_front n read more full) ∙ ap (drop n) (sym is), inr (long, longer))
+
+pub read_whole_input : (n : ℕ) (left_old left_new : Option (List ℕ)) (read all : List ℕ) → n ≡ MOST_INPUT_BYTES + 1 → left_old ≡ Some all
+    → Consumes left_old left_new read → length read ≤ n → IsEndOrLimit n left_old left_new read
+    → (left_new ≡ Some (drop n all)) × SameVerdict read all
+read_whole_input n left_old left_new read all limit known consumed within ended =
+    told left_new (subst (λ l. Consumes l left_new read) known consumed) (subst (λ l. IsEndOrLimit n l left_new read) known ended)
+  where
+    told : (new : Option (List ℕ)) → Consumes (Some all) new read → IsEndOrLimit n (Some all) new read → (new ≡ Some (drop n all)) × SameVerdict read all
+    told None taken end = absurd taken
+    told (Some more) taken end = let so = read_so n all read more limit taken within end in (ap Some so.0, so.1)
+
+test_long : (bytes : List ℕ) → MOST_INPUT_BYTES < length bytes → nat_lt MOST_INPUT_BYTES (length bytes) ≡ true
+test_long bytes long = grind (arith, nat_tests)
+
+-- so both have the same answers
+same_script : (f : Said → List ℕ) (read all : List ℕ) (answer : Answer) → SameVerdict read all → answer ≡ of_script f (script_of read) → answer ≡ of_script f (script_of all)
+same_script f read all answer (inl same) is = is ∙ ap (λ l. of_script f (script_of l)) same
+same_script f read all answer (inr long) is = is ∙ ap (of_script f) (too_long read long.0 ∙ sym (too_long all long.1))
+
+same_trace : (read all : List ℕ) (answer : Answer) → SameVerdict read all → IsTraceAnswer read answer → IsTraceAnswer all answer
+same_trace read all answer (inl same) is = subst (λ l. IsTraceAnswer l answer) same is
+same_trace read all answer (inr long) is =
+    let P : List ℕ → Bool → Type 0 = λ l b. MatchBool b (answer ≡ fault_answer 0 bad.TooLong) (IsJudged l answer) in
+    let named : answer ≡ fault_answer 0 bad.TooLong = subst (P read) (test_long read long.0) is in
+    subst (P all) (sym (test_long all long.1)) named
+
+turned : (read all : List ℕ) → SameVerdict read all → SameVerdict all read
+turned read all (inl same) = inl (sym same)
+turned read all (inr long) = inr (long.1, long.0)
+
+pub same_answer : (r : Reading) (read all : List ℕ) (answer : Answer) → SameVerdict read all → IsRead r read answer → IsRead r all answer
+same_answer reading.Report read all answer same is = same_script report_text read all answer same is
+same_answer reading.Counts read all answer same is = same_script counts_of read all answer same is
+same_answer reading.Trace read all answer same is = same_trace read all answer same is
+
+pub same_back : (r : Reading) (read all : List ℕ) (answer : Answer) → SameVerdict read all → IsRead r all answer → IsRead r read answer
+same_back r read all answer same is = same_answer r all read answer (turned read all same) is
+
+-- The headline
+
+no_usage : {P : Type 0} (status : ℕ) → (status ≡ 0) ⊎ (status ≡ 2) → status ≡ 1 → P
+no_usage status (inl zero) is = absurd (omega arith)
+no_usage status (inr two) is = absurd (omega arith)
+
+small : (status : ℕ) → (status ≡ 0) ⊎ (status ≡ 2) → status ≤ 2
+small status (inl zero) = omega arith
+small status (inr two) = omega arith
+
+-- a trace has one verdict, and so each input one answer
+one_judged : (bytes : List ℕ) (x y : Answer) → IsJudged bytes x → IsJudged bytes y → x ≡ y
+one_judged bytes x y p q = p.is ∙ ap of_verdict (one_verdict bytes p.verdict q.verdict p.right q.right) ∙ sym q.is
+
+one_trace : (bytes : List ℕ) (b : Bool) (x y : Answer) → MatchBool b (x ≡ fault_answer 0 bad.TooLong) (IsJudged bytes x) → MatchBool b (y ≡ fault_answer 0 bad.TooLong) (IsJudged bytes y) → x ≡ y
+one_trace bytes true x y p q = p ∙ sym q
+one_trace bytes false x y p q = one_judged bytes x y p q
+
+pub one_read : (r : Reading) (bytes : List ℕ) (x y : Answer) → IsRead r bytes x → IsRead r bytes y → x ≡ y
+one_read reading.Report bytes x y p q = p ∙ sym q
+one_read reading.Counts bytes x y p q = p ∙ sym q
+one_read reading.Trace bytes x y p q = one_trace bytes (nat_lt MOST_INPUT_BYTES (length bytes)) x y p q
+
+pub one_answer : (p : Plan) (bytes : List ℕ) (x y : Answer) → IsAnswer p bytes x → IsAnswer p bytes y → x ≡ y
+one_answer (plan.Read r) bytes x y p q = one_read r bytes x y p q
+one_answer plan.Usage bytes x y p q = p ∙ sym q
+
+no_plan : {P : Type 0} (r : Reading) → plan.Read r ≡ plan.Usage → P
+no_plan r is = absurd (cc)
+
+all_is_front : (a b : Output) (t : List ℕ) → WroteAll a b t → WroteFront a b t
+all_is_front a b t p = record { front = t; rest = []; whole = sym (append-nil t); written = p.written }
+
+-- of the one answer all was written
+whole_front : (r : Reading) (bytes : List ℕ) (a b : Output) (status : ℕ) → (x : Answer) × IsRead r bytes x × (status ≡ x.status) × WroteAll a b x.text
+    → (answer : Answer) → IsRead r bytes answer → WroteFront a b answer.text
+whole_front r bytes a b status w answer is =
+    subst (λ (x : Answer). WroteFront a b x.text) (one_read r bytes w.0 answer w.1 is) (all_is_front a b w.0.text w.3)
+
+-- an answer was written whole
+pub read_whole : (r : Reading) (old new : Input) (a b : Output) (status : ℕ)
+    → ((bytes : List ℕ) → old.left ≡ Some bytes → (x : Answer) × IsRead r bytes x × (status ≡ x.status) × WroteAll a b x.text)
+    → ((bytes : List ℕ) → old.left ≡ Some bytes → new.left ≡ Some (drop (MOST_INPUT_BYTES + 1) bytes))
+    → (status ≡ 0) ⊎ (status ≡ 2) → PlanHeadline (plan.Read r) old new a b status
+read_whole r old new a b status served read zero_or_two =
+    let low : status ≤ 2 = small status zero_or_two in
+    record {
+      answered = λ bytes known. record {
+        prefix = whole_front r bytes a b status (served bytes known);
+        whole = λ le. served bytes known;
+        complete = λ source sink. inl low;
+      };
+      read = λ le. read;
+      usage = λ is. no_usage status zero_or_two is;
+      only_usage = λ is. no_plan r is;
+      source = λ is. absurd (omega (arith, low, is));
+      sink = λ is. absurd (omega (arith, low, is));
+      known = omega (arith, low);
+    }
+
+-- a call that reads its source stopped
+pub read_stopped : (r : Reading) (old new : Input) (a b : Output) (stopped : Stop)
+    → ((bytes : List ℕ) → old.left ≡ Some bytes → (x : Answer) → IsRead r bytes x → WroteFront a b x.text)
+    → (stopped ≡ stop.Source → Rose old.faults new.faults × (b ≡ a)) → (stopped ≡ stop.Sink → Rose a.faults b.faults) → PlanHeadline (plan.Read r) old new a b (stop_status stopped)
+read_stopped r old new a b stop.Source front source sink =
+    let why = source refl in
+    record {
+      answered = λ bytes known. record { prefix = front bytes known; whole = λ le. absurd (omega (arith, le)); complete = λ calm still. absurd (calm why.0) };
+      read = λ le. absurd (omega (arith, le));
+      usage = λ is. absurd (omega (arith, is));
+      only_usage = λ is. no_plan r is;
+      source = λ is. (why.0, subst (λ o. WroteFront a o []) (sym why.1) (nothing_wrote a []));
+      sink = λ is. absurd (omega (arith, is));
+      known = omega arith;
+    }
+read_stopped r old new a b stop.Sink front source sink = record {
+  answered = λ bytes known. record { prefix = front bytes known; whole = λ le. absurd (omega (arith, le)); complete = λ calm still. absurd (still (sink refl)) };
+  read = λ le. absurd (omega (arith, le));
+  usage = λ is. absurd (omega (arith, is));
+  only_usage = λ is. no_plan r is;
+  source = λ is. absurd (omega (arith, is));
+  sink = λ is. sink refl;
+  known = omega arith;
+}
+read_stopped r old new a b stop.Memory front source sink = record {
+  answered = λ bytes known. record { prefix = front bytes known; whole = λ le. absurd (omega (arith, le)); complete = λ calm still. inr refl };
+  read = λ le. absurd (omega (arith, le));
+  usage = λ is. absurd (omega (arith, is));
+  only_usage = λ is. no_plan r is;
+  source = λ is. absurd (omega (arith, is));
+  sink = λ is. absurd (omega (arith, is));
+  known = omega arith;
+}
+
+-- words of no order were answered
+pub usage_whole : (old : Input) (a b : Output) (status : ℕ) → status ≡ 1 → WroteAll a b usage_answer.text → PlanHeadline plan.Usage old old a b status
+usage_whole old a b status one all = record {
+  answered = λ bytes known. record {
+    prefix = λ x is. subst (λ (y : Answer). WroteFront a b y.text) (sym is) (all_is_front a b usage_answer.text all);
+    whole = λ le. (usage_answer, refl, one, all);
+    complete = λ source sink. inl (omega (arith, one));
+  };
+  read = λ le. tt;
+  usage = λ is. refl;
+  only_usage = λ is. (inl one, Keeps-refl old.left, refl);
+  source = λ is. absurd (omega (arith, one, is));
+  sink = λ is. absurd (omega (arith, one, is));
+  known = omega (arith, one);
+}
+
+-- the sink failed while words of no order were answered
+pub usage_stopped : (old : Input) (a b : Output) (status : ℕ) → status ≡ 4 → WroteFront a b usage_answer.text → Rose a.faults b.faults → PlanHeadline plan.Usage old old a b status
+usage_stopped old a b status four front rose = record {
+  answered = λ bytes known. record {
+    prefix = λ x is. subst (λ (y : Answer). WroteFront a b y.text) (sym is) front;
+    whole = λ le. absurd (omega (arith, four, le));
+    complete = λ source sink. absurd (sink rose);
+  };
+  read = λ le. tt;
+  usage = λ is. absurd (omega (arith, four, is));
+  only_usage = λ is. (inr four, Keeps-refl old.left, refl);
+  source = λ is. absurd (omega (arith, four, is));
+  sink = λ is. rose;
+  known = omega (arith, four);
+}
+
+-- Traces
+
+pub too_long_trace : (bytes : List ℕ) → MOST_INPUT_BYTES < length bytes → IsTraceAnswer bytes (fault_answer 0 bad.TooLong)
+too_long_trace bytes long =
+    let P : Bool → Type 0 = λ b. MatchBool b (fault_answer 0 bad.TooLong ≡ fault_answer 0 bad.TooLong) (IsJudged bytes (fault_answer 0 bad.TooLong)) in
+    subst P (sym (test_long bytes long)) refl
+
+pub judged_trace : (bytes : List ℕ) (v : TraceAnswer) → length bytes ≤ MOST_INPUT_BYTES → IsVerdict bytes v → IsTraceAnswer bytes (of_verdict v)
+judged_trace bytes v short right =
+    let test : nat_lt MOST_INPUT_BYTES (length bytes) ≡ false = grind (arith, nat_tests) in
+    let P : Bool → Type 0 = λ b. MatchBool b (of_verdict v ≡ fault_answer 0 bad.TooLong) (IsJudged bytes (of_verdict v)) in
+    subst P (sym test) (record { verdict = v; right = right; is = refl })
+
+-- the text of the one answer was written, or a front of it
+pub trace_written : (bytes : List ℕ) (a b : Output) (status : ℕ) (v : TraceAnswer) (x : Answer) → length bytes ≤ MOST_INPUT_BYTES → IsVerdict bytes v → of_verdict v ≡ x
+    → status ≡ x.status → Appended a b x.text → (y : Answer) × IsTraceAnswer bytes y × (status ≡ y.status) × Appended a b y.text
+trace_written bytes a b status v x short right is same done =
+    (x, subst (IsTraceAnswer bytes) is (judged_trace bytes v short right), same, done)
+
+pub trace_stopped : (bytes : List ℕ) (a b : Output) (r : Result ℕ WriteFail) (v : TraceAnswer) (x : Answer) → length bytes ≤ MOST_INPUT_BYTES → IsVerdict bytes v → of_verdict v ≡ x
+    → IsErr r → Stopped a b x.text → Writes (IsTraceAnswer bytes) a b r
+trace_stopped bytes a b (Ok status) v x short right is err stopped = absurd (cc)
+trace_stopped bytes a b (Err e) v x short right is err stopped = (
+  λ y of_y. subst (λ (z : Answer). AppendedFront a b z.text) (one_read reading.Trace bytes x y (subst (IsTraceAnswer bytes) is (judged_trace bytes v short right)) of_y) stopped.front,
+  λ _. stopped.rose,
+)

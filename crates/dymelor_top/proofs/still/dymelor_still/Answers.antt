@@ -1,0 +1,28 @@
+use Rattle.std.proofs.Common.{◌≡◌, subst, sym, ap, ◌∙◌, Err}
+use Rattle.dymelor_top.specs.declared.plan.Plan.TheVariants as plan
+use Rattle.dymelor_top.specs.Stops.{stop_status}
+use Rattle.dymelor_top.specs.Plans.{plan_of}
+use Rattle.dymelor_top.specs.Headline.{Input, PlanHeadline}
+use Rattle.dymelor_top.proofs.Served.{read_whole, read_stopped}
+use Rattle.dymelor_top.proofs.still.dymelor_still.Goals as goal
+
+pub returns-in-Ok : goal.returns-in-Ok
+returns-in-Ok g c =
+    let old : Input = record { left = g.R.Source.left c.args.source.now; faults = g.R.Source.faults c.args.source.now } in
+    let new : Input = record { left = g.R.Source.left c.serve_read.new.source; faults = g.R.Source.faults c.serve_read.new.source } in
+    let a = g.W.Sink.output c.args.sink.now in
+    let b = g.W.Sink.output c.serve_read.new.sink in
+    let planned : plan.Read c.in-Read.reading ≡ plan_of _ = sym c.in-Read.is ∙ c.plan_for.ensures ∙ ap plan_of c.read_words.ensures in
+    subst (λ p. PlanHeadline p old new a b c.in-Ok.status) planned (read_whole c.in-Read.reading old new a b c.in-Ok.status c.in-Ok.ensures.served c.in-Ok.ensures.read c.in-Ok.ensures.status)
+
+pub returns-in-Err : goal.returns-in-Err
+returns-in-Err g c =
+    let old : Input = record { left = g.R.Source.left c.args.source.now; faults = g.R.Source.faults c.args.source.now } in
+    let new : Input = record { left = g.R.Source.left c.serve_read.new.source; faults = g.R.Source.faults c.serve_read.new.source } in
+    let a = g.W.Sink.output c.args.sink.now in
+    let b = g.W.Sink.output c.serve_read.new.sink in
+    let planned : plan.Read c.in-Read.reading ≡ plan_of _ = sym c.in-Read.is ∙ c.plan_for.ensures ∙ ap plan_of c.read_words.ensures in
+    let stopped = c.in-Err.stop in
+    let headline : PlanHeadline (plan.Read c.in-Read.reading) old new a b (stop_status stopped) =
+    read_stopped c.in-Read.reading old new a b stopped c.in-Err.ensures.served (λ is. c.in-Err.ensures.source_fault (ap Err is)) (λ is. c.in-Err.ensures.sink_fault (ap Err is)) in
+    subst (λ p. PlanHeadline p old new a b c.status.result) planned (subst (PlanHeadline (plan.Read c.in-Read.reading) old new a b) (sym c.status.ensures) headline)

@@ -1,0 +1,87 @@
+-- What a top call promises: the bytes written are a prefix of the defined answer, and all of it at status 0, 1 or 2; every
+-- other status but want of memory has its cause.
+use Rattle.std.specs.Prelude.{◌≡◌, ℕ, ◌+◌, ◌≤◌, ◌⊎◌, Bool, List, [], ◌++◌, drop, Option, Some, Result, MatchResult}
+use Rattle.std.specs.Bool.{OnTrue}
+use Rattle.std.specs.Io.KnownBytes.{Appends, Keeps}
+use Rattle.dym_base.specs.declared.limits.TheConstants.{MOST_INPUT_BYTES}
+use Rattle.dym_io.specs.Faults.{Rose}
+use Rattle.dym_io.specs.Sink.{Output, AllFlushed, Appended, AppendedFront}
+use Rattle.dym_words.specs.declared.order.Order.{Order}
+use Rattle.dym_words.specs.declared.order.Usage.{Usage}
+use Rattle.dymelor_top.specs.declared.stop.WriteFail.{WriteFail}
+use Rattle.dymelor_top.specs.declared.stop.WriteFail.TheVariants as fail
+use Rattle.dymelor_top.specs.declared.plan.Plan.{Plan}
+use Rattle.dymelor_top.specs.Plans.{plan_of}
+use Rattle.dymelor_top.specs.declared.plan.Plan.TheVariants as plan
+use Rattle.dymelor_top.specs.Answers.{Answer, IsAnswer, reads}
+
+-- a source before or after a call: the bytes that are left, where it tells them, and its count of faults
+pub record Input : Type 0 where
+  pub left : Option (List ℕ)
+  pub faults : ℕ
+
+-- the front of a text was written
+pub record WroteFront (old new : Output) (text : List ℕ) : Type 0 where
+  pub front : List ℕ
+  pub rest : List ℕ
+  pub whole : text ≡ front ++ rest
+  pub written : Appends old.written new.written front
+
+-- a text was written whole, and all bytes are flushed
+pub record WroteAll (old new : Output) (text : List ℕ) : Type 0 where
+  pub written : Appends old.written new.written text
+  pub flushed : AllFlushed old new
+
+-- these bytes are the input, where the source is read
+abbrev pub IsInput : Bool → Input → List ℕ → Type 0
+IsInput reads_it source bytes = OnTrue reads_it (source.left ≡ Some bytes)
+
+-- the input was read to its end, or for as many bytes as tell that it is too long
+abbrev pub WasRead : Bool → Input → Input → Type 0
+WasRead reads_it old new = OnTrue reads_it ((bytes : List ℕ) → old.left ≡ Some bytes → new.left ≡ Some (drop (MOST_INPUT_BYTES + 1) bytes))
+
+-- what holds of the answers that an input may have (it has one), as the status has it
+pub record Answered (Is : Answer → Type 0) (old new : Output) (source_rose : Type 0) (status : ℕ) : Type 0 where
+  -- whatever the status, a prefix of the answer was written
+  pub prefix : (answer : Answer) → Is answer → WroteFront old new answer.text
+  -- at 0, 1 and 2 the status is the answer's, and all of the answer was written
+  pub whole : status ≤ 2 → (answer : Answer) × Is answer × (status ≡ answer.status) × WroteAll old new answer.text
+  -- where neither the source nor the sink failed, all of it was written, or memory ran out
+  pub complete : ¬ source_rose → ¬ Rose old.faults new.faults → (status ≤ 2) ⊎ (status ≡ 5)
+
+-- what holds of a call that had this plan
+pub record PlanHeadline (p : Plan) (old new : Input) (sink_old sink_new : Output) (status : ℕ) : Type 0 where
+  pub answered : (bytes : List ℕ) → IsInput (reads p) old bytes → Answered (IsAnswer p bytes) sink_old sink_new (Rose old.faults new.faults) status
+  -- 0 and 2: the input was read
+  pub read : status ≤ 2 → WasRead (reads p) old new
+  -- 1: words of no order. Such words get no other status but 4, and nothing is read for them
+  pub usage : status ≡ 1 → p ≡ plan.Usage
+  pub only_usage : p ≡ plan.Usage → ((status ≡ 1) ⊎ (status ≡ 4)) × Keeps old.left new.left × (new.faults ≡ old.faults)
+  -- 3: the source failed in this call, and nothing was written
+  pub source : status ≡ 3 → Rose old.faults new.faults × WroteFront sink_old sink_new []
+  -- 4: the sink failed in this call
+  pub sink : status ≡ 4 → Rose sink_old.faults sink_new.faults
+  -- there is no other status
+  pub known : status ≤ 5
+
+-- what holds of a call that was given this order
+abbrev pub Headline : Result Order Usage → Input → Input → Output → Output → ℕ → Type 0
+Headline order old new sink_old sink_new status = PlanHeadline (plan_of order) old new sink_old sink_new status
+
+-- what a call that answers for a known input does: the whole answer at Ok, and else the front of it
+abbrev pub Serves : {E : Type 0} → (Answer → Type 0) → Output → Output → Result ℕ E → Type 0
+Serves Is old new result =
+    MatchResult result (λ status. (answer : Answer) × Is answer × (status ≡ answer.status) × WroteAll old new answer.text)
+    (λ _. (answer : Answer) → Is answer → WroteFront old new answer.text)
+
+-- the same before the sink was flushed
+abbrev pub Writes : (Answer → Type 0) → Output → Output → Result ℕ WriteFail → Type 0
+Writes Is old new result =
+    MatchResult result (λ status. (answer : Answer) × Is answer × (status ≡ answer.status) × Appended old new answer.text)
+    (λ failed. ((answer : Answer) → Is answer → AppendedFront old new answer.text) × (failed ≡ fail.Sink → Rose old.faults new.faults))
+
+-- the same where the answer is given
+abbrev pub WritesAnswer : Answer → Output → Output → Result ℕ WriteFail → Type 0
+WritesAnswer defined old new result =
+    MatchResult result (λ status. (status ≡ defined.status) × Appended old new defined.text)
+    (λ failed. AppendedFront old new defined.text × (failed ≡ fail.Sink → Rose old.faults new.faults))

@@ -1,0 +1,21 @@
+-- Why a top call stops, and the status that tells of it.
+use Rattle.std.specs.Prelude.{ℕ}
+use Rattle.dym_io.specs.declared.read.ReadFail.{ReadFail}
+use Rattle.dym_io.specs.declared.read.ReadFail.TheVariants as read
+use Rattle.dymelor_top.specs.declared.stop.WriteFail.{WriteFail}
+use Rattle.dymelor_top.specs.declared.stop.WriteFail.TheVariants as write
+use Rattle.dymelor_top.specs.declared.stop.Stop.{Stop}
+use Rattle.dymelor_top.specs.declared.stop.Stop.TheVariants as stop
+
+abbrev pub stop_status : Stop → ℕ
+stop_status stop.Source = 3
+stop_status stop.Sink = 4
+stop_status stop.Memory = 5
+
+abbrev pub of_read : ReadFail → Stop
+of_read read.Source = stop.Source
+of_read read.Memory = stop.Memory
+
+abbrev pub of_write : WriteFail → Stop
+of_write write.Sink = stop.Sink
+of_write write.Memory = stop.Memory

@@ -1,0 +1,86 @@
+//! The top call that starts no thread.
+ghost use Rattle.std.specs.Prelude.{◌≡◌, ◌≤◌, ◌⊎◌, ◌+◌, ℕ, List, Some, drop, map, string_bytes, IfOk, IfErr, OnOk, IsErrOf};
+ghost use Rattle.dym_io.specs.Faults.{Rose};
+ghost use Rattle.std.specs.Io.KnownBytes.{Keeps};
+ghost use Rattle.dym_io.specs.Sink.{Output, AllFlushed};
+ghost use Rattle.dym_words.specs.Orders.{order};
+ghost use Rattle.dymelor_top.specs.Answers.{usage_answer, IsRead};
+ghost use Rattle.dymelor_top.specs.Headline.{Headline, Serves};
+ghost use Rattle.dymelor_top.specs.declared.stop.Stop.TheVariants.{Source as SourceStopped, Sink as SinkStopped};
+ghost use Rattle.dymelor_top.specs.declared.stop.WriteFail.TheVariants.{Sink as SinkFailed};
+
+use crate::answer::answer;
+use crate::plan::{Plan, Reading, plan_for};
+use crate::stop::{Stop, WriteFail};
+use dym_base::limits::MOST_INPUT_BYTES;
+use dym_io::{ReadFail, Sink, Source, read_whole};
+use dym_report::write_usage;
+use dym_words::read_words;
+use std::alloc::Global;
+
+/// Serves the words of a command line that start no thread, and answers the status: 0 and the whole answer, 1 for words of
+/// no order, 2 and the line of the first fault of a bad script, 3 and 4 where the source or the sink failed, 5 where memory
+/// ran out. It always returns.
+pub fn dymelor_still<R: Source, W: Sink>(
+    alloc: Global,
+    words: &[String],
+    source: &mut R,
+    sink: &mut W,
+) -> u8
+    ensures { Headline (order (map string_bytes words.now))
+        (record { left = R.left source.old; faults = R.faults source.old }) (record { left = R.left source.new; faults = R.faults source.new })
+        (W.output sink.old) (W.output sink.new) result }
+{
+    match plan_for(&read_words(words)) {
+        Plan::Read(reading) => match serve_read(alloc, reading, source, sink) {
+            Ok(status) => status,
+            Err(stop) => stop.status(),
+        },
+        Plan::Usage => match serve_usage(sink) {
+            Ok(status) => status,
+            Err(fail) => Stop::from(fail).status(),
+        },
+    }
+}
+
+/// Answers words of no order.
+fn serve_usage<W: Sink>(sink: &mut W) -> Result<u8, WriteFail>
+    ensures served { Serves (λ a. a ≡ usage_answer) (W.output sink.old) (W.output sink.new) result }
+    ensures fault { IfErr result (λ fail. (fail ≡ SinkFailed) × Rose (W.output sink.old).faults (W.output sink.new).faults) }
+{
+    write_usage(sink)?;
+    flush(sink)?;
+    Ok(1)
+}
+
+/// Reads the source, and writes what is made of it.
+fn serve_read<R: Source, W: Sink>(
+    alloc: Global,
+    reading: Reading,
+    source: &mut R,
+    sink: &mut W,
+) -> Result<u8, Stop>
+    ensures served { (bytes : List ℕ) → R.left source.old ≡ Some bytes → Serves (IsRead reading bytes) (W.output sink.old) (W.output sink.new) result }
+    ensures read { (bytes : List ℕ) → R.left source.old ≡ Some bytes → OnOk result (R.left source.new ≡ Some (drop (MOST_INPUT_BYTES + 1) bytes)) }
+    ensures status { IfOk result (λ status. (status ≡ 0) ⊎ (status ≡ 2)) }
+    ensures source_fault { IsErrOf result SourceStopped → Rose (R.faults source.old) (R.faults source.new) × (W.output sink.new ≡ W.output sink.old) }
+    ensures sink_fault { IsErrOf result SinkStopped → Rose (W.output sink.old).faults (W.output sink.new).faults }
+{
+    let bytes = read_whole(alloc, source, MOST_INPUT_BYTES + 1)?;
+    let status = answer(alloc, reading, bytes, sink)?;
+    flush(sink)?;
+    Ok(status)
+}
+
+/// Flushes all that was written.
+fn flush<W: Sink>(sink: &mut W) -> Result<(), WriteFail>
+    ensures written { Keeps (W.output sink.old).written (W.output sink.new).written }
+    ensures flushed { OnOk result (AllFlushed (W.output sink.old) (W.output sink.new)) }
+    ensures count { (W.output sink.old).faults ≤ (W.output sink.new).faults }
+    ensures fault { IfErr result (λ fail. (fail ≡ SinkFailed) × Rose (W.output sink.old).faults (W.output sink.new).faults) }
+{
+    match sink.flush() {
+        Ok(()) => Ok(()),
+        Err(_) => Err(WriteFail::Sink),
+    }
+}

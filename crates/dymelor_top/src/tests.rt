@@ -1,0 +1,326 @@
+//! Worked examples: words and an input, with the status and the bytes that must be written.
+
+use crate::dymelor_still;
+use dym_io::{MemSink, MemSource};
+use std::alloc::Global;
+use std::test::Fail;
+
+/// What a source or a sink in memory gives or takes.
+#[derive(Clone, Copy)]
+struct Calls {
+    /// The most bytes of one call.
+    piece: usize,
+    /// The most bytes in all, of a sink.
+    room: usize,
+    /// The call that fails.
+    fails: Option<u32>,
+}
+
+/// A source or a sink whose calls don't fail.
+const WHOLE: Calls = Calls {
+    piece: 65_536,
+    room: 65_536,
+    fails: None,
+};
+
+/// The calls that fail, as a list.
+fn failing(alloc: Global, calls: Calls) -> Result<Vec<u32>, Fail> {
+    let mut fails = Vec::new(alloc);
+    if let Some(call) = calls.fails {
+        fails.push(call)?;
+    }
+    Ok(fails)
+}
+
+/// The status and the bytes that the words give for an input.
+fn served(
+    alloc: Global,
+    words: &[&str],
+    input: &[u8],
+    from: Calls,
+    to: Calls,
+) -> Result<(u8, Vec<u8>), Fail> {
+    let mut list = Vec::new(alloc);
+    for word in words {
+        list.push(String::from_str(alloc, word)?)?;
+    }
+    let bytes = Vec::from_slice(alloc, input)?;
+    let mut source = MemSource::new(bytes, from.piece.max(1), failing(alloc, from)?);
+    let mut sink = MemSink::new(alloc, to.room, to.piece.max(1), failing(alloc, to)?)?;
+    let status = dymelor_still(alloc, &list, &mut source, &mut sink);
+    Ok((status, sink.bytes().to_vec(alloc)?))
+}
+
+/// The input and the report of the first path.
+const FIRST: &str = "object a 1\na malloc 40\n";
+
+const FIRST_REPORT: &str = "object a\nok 64:0\nheap 1 1\n64:0 -\nlogs 0 0\nend\n";
+
+#[test]
+fn answers_worked_rows(rt: HostRuntime) -> Result<(), Fail> {
+    let plain = ["plain"].as_slice();
+    let rows: [(&[&str], &str, u8, &str); 40] = [
+        (plain, "", 0, "end\n"),
+        (plain, "\n  \n# a comment\n   # another\n", 0, "end\n"),
+        (plain, FIRST, 0, FIRST_REPORT),
+        (plain, "object a 1\na malloc 40", 0, FIRST_REPORT),
+        (
+            plain,
+            "object a 2\na malloc 0\na malloc 65536\na malloc 65537\n",
+            0,
+            "object a\nok 32:0\nok 65536:0\ntoolarge\nheap 2 2\n32:0 -\n65536:0 -\nlogs 0 0\nend\n",
+        ),
+        (
+            plain,
+            "object a 1\na malloc 65536\na malloc 1\n",
+            0,
+            "object a\nok 65536:0\nquota\nheap 1 1\n65536:0 -\nlogs 0 0\nend\n",
+        ),
+        (
+            plain,
+            "object b 2\nobject a 1\na malloc 64\nb malloc 64\na malloc 33\nb malloc 32\n",
+            0,
+            "object b\nok 64:0\nok 32:0\nheap 2 2\n32:0 -\n64:0 -\nlogs 0 0\nobject a\nok 64:0\nok 64:1\nheap 2 1\n64:0 -\n64:1 -\nlogs 0 0\nend\n",
+        ),
+        (plain, "version 2\n", 0, "end\n"),
+        (
+            plain,
+            "# two\nversion 2\nobject a 1\na malloc 40\na malloc 0\n",
+            0,
+            "object a\nok 64:0\nquota\nheap 1 1\n64:0 40 -\nlogs 0 0\nend\n",
+        ),
+        (
+            plain,
+            "object a 1\nversion 2\n",
+            2,
+            "error line 2: command\n",
+        ),
+        (plain, "version 3\n", 2, "error line 1: command\n"),
+        (
+            plain,
+            "object a 1\na mallok 4\n",
+            2,
+            "error line 2: command\n",
+        ),
+        (plain, "a malloc 4\n", 2, "error line 1: undeclared\n"),
+        (plain, "a malloc\n", 2, "error line 1: command\n"),
+        (plain, "a\n", 2, "error line 1: command\n"),
+        (
+            plain,
+            "a malloc 18446744073709551616\n",
+            2,
+            "error line 1: number\n",
+        ),
+        (
+            plain,
+            "object a 18446744073709551615\n",
+            2,
+            "error line 1: quota\n",
+        ),
+        (
+            plain,
+            "object a 1\na malloc 000000000000000000040\n",
+            2,
+            "error line 2: number\n",
+        ),
+        (plain, "a-b malloc 4\n", 2, "error line 1: name\n"),
+        (plain, "object object 1\n", 2, "error line 1: name\n"),
+        (
+            plain,
+            "object abcdefghijklmnopqrstuvwxyz_012345 1\n",
+            2,
+            "error line 1: name\n",
+        ),
+        (plain, "object a 0\n", 2, "error line 1: quota\n"),
+        (plain, "object a 1025\n", 2, "error line 1: quota\n"),
+        (
+            plain,
+            "object a 1\nobject a 2\n",
+            2,
+            "error line 2: twice\n",
+        ),
+        (
+            plain,
+            "object a 1\nobject a 0\n",
+            2,
+            "error line 2: twice\n",
+        ),
+        (plain, "\na\tlogs\n", 2, "error line 2: bytes\n"),
+        (plain, "object a\n", 2, "error line 1: command\n"),
+        (plain, "object a b c\n", 2, "error line 1: command\n"),
+        (plain, "object a-b c\n", 2, "error line 1: number\n"),
+        (&[], FIRST, 1, "usage\n"),
+        (&["plain", "plain"], FIRST, 1, "usage\n"),
+        (&["Plain"], FIRST, 1, "usage\n"),
+        (&["plain", "--summary", "--summary"], FIRST, 1, "usage\n"),
+        (&["run", "--workers", "0"], FIRST, 1, "usage\n"),
+        (&["--help"], FIRST, 1, "usage\n"),
+        (&["--version"], FIRST, 1, "usage\n"),
+        (&["plain", "--gen", "7", "0", "1"], FIRST, 1, "usage\n"),
+        (&[""], FIRST, 1, "usage\n"),
+        (&["plain", ""], FIRST, 1, "usage\n"),
+        (&["help"], FIRST, 1, "usage\n"),
+    ];
+    for (words, input, status, text) in rows {
+        let (found, bytes) = served(rt.alloc(), words, input.as_bytes(), WHOLE, WHOLE)?;
+        assert_eq!(rt; found, status, "of {input}");
+        assert_eq!(rt; bytes.as_slice(), text.as_bytes(), "of {input}");
+    }
+    Ok(())
+}
+
+#[test]
+fn answers_counts_and_traces(rt: HostRuntime) -> Result<(), Fail> {
+    let check = ["check"].as_slice();
+    let trace = ["trace"].as_slice();
+    let rows: [(&[&str], &str, u8, &str); 17] = [
+        (check, "", 0, "ok 0 0\n"),
+        (check, FIRST, 0, "ok 1 1\n"),
+        (
+            check,
+            "version 2\nobject b 2\nobject a 1\na malloc 64\nb malloc 70000\n\na malloc 1\n",
+            0,
+            "ok 2 3\n",
+        ),
+        (check, "object a 1025\n", 2, "error line 1: quota\n"),
+        (
+            check,
+            "object a 1\nb malloc 4\n",
+            2,
+            "error line 2: undeclared\n",
+        ),
+        (&["check", "trace"], FIRST, 1, "usage\n"),
+        (trace, "", 0, "ok 0\n"),
+        (trace, "o claim 96\n", 0, "ok 1\n"),
+        (trace, "o claim 320\n", 2, "error line 1: step\n"),
+        (trace, "o claim 00\n", 2, "error line 1: step\n"),
+        (
+            trace,
+            "o claim 0\no swap 0 0\no put 0\ns root\ns grab 0\n",
+            2,
+            "error line 5: step\n",
+        ),
+        (
+            trace,
+            "o claim 0\no swap 0 0\no put 0\no claim 1\no swap 1 1\no put 1\no raise 1\ns root\ns grab 0\no look 0\ns swap 0\ns free 0\no claim 0\ns look 1\no swap 0 1\no put 0\n",
+            2,
+            "error line 15: step\n",
+        ),
+        (
+            trace,
+            "o claim 0\no swap 0 0\no put 0\no claim 1\no swap 1 1\no put 1\no raise 1\ns root\ns grab 0\no look 0\ns swap 0\ns free 0\no claim 0\ns look 1\no swap 0 2\no put 0\ns grab 1\n",
+            2,
+            "error line 17: step\n",
+        ),
+        (
+            trace,
+            "o claim 0\no swap 0 0\no put 0\no claim 1\no swap 1 1\no put 1\no raise 1\ns root\ns grab 0\ns swap 0\ns free 0\no take 1\no swap 1 -\no swap 1 1\no lower 1\n",
+            0,
+            "ok 15\n",
+        ),
+        (
+            trace,
+            "o claim 0\no swap 0 0\no put 0\no claim 1\no swap 1 1\no put 1\no raise 1\ns root\ns grab 0\no look 0\ns swap 0\ns free 0\no claim 0\ns look 1\no swap 0 2\no put 0\n",
+            0,
+            "ok 16\n",
+        ),
+        (trace, "o claim 0\nO claim 1\n", 2, "error line 2: step\n"),
+        (&["trace", "--"], "o claim 0\n", 1, "usage\n"),
+    ];
+    for (words, input, status, text) in rows {
+        let (found, bytes) = served(rt.alloc(), words, input.as_bytes(), WHOLE, WHOLE)?;
+        assert_eq!(rt; found, status, "of {input}");
+        assert_eq!(rt; bytes.as_slice(), text.as_bytes(), "of {input}");
+    }
+    Ok(())
+}
+
+#[test]
+fn answers_long_inputs(rt: HostRuntime) -> Result<(), Fail> {
+    let alloc = rt.alloc();
+    let line = vec![in alloc; b'x'; 4_097]?;
+    let mut comment = vec![in alloc; b'x'; 4_096]?;
+    comment[0] = b'#';
+    let ends = vec![in alloc; b'\n'; 16_777_217]?;
+    let rows: [(&[u8], u8, &str); 4] = [
+        (&line, 2, "error line 1: longline\n"),
+        (&comment, 0, "end\n"),
+        (&ends, 2, "error line 0: toolong\n"),
+        (&ends[1..], 0, "end\n"),
+    ];
+    for (input, status, text) in rows {
+        let (found, bytes) = served(alloc, &["plain"], input, WHOLE, WHOLE)?;
+        assert_eq!(rt; found, status, "at {text}");
+        assert_eq!(rt; bytes.as_slice(), text.as_bytes(), "at {text}");
+    }
+    Ok(())
+}
+
+#[test]
+fn names_the_declaration_that_is_one_too_many(rt: HostRuntime) -> Result<(), Fail> {
+    let alloc = rt.alloc();
+    let mut input = String::new(alloc);
+    for k in 0u32..4_097 {
+        write!(input, "object o{k} 1\n")?;
+    }
+    let (status, bytes) = served(alloc, &["plain"], input.as_bytes(), WHOLE, WHOLE)?;
+    assert_eq!(rt; status, 2);
+    assert_eq!(rt; bytes.as_slice(), b"error line 4097: many\n".as_slice());
+    Ok(())
+}
+
+#[test]
+fn tells_of_calls_that_fail(rt: HostRuntime) -> Result<(), Fail> {
+    let alloc = rt.alloc();
+    let bytes = Calls { piece: 1, ..WHOLE };
+    for call in 0u32..26 {
+        let from = Calls {
+            fails: Some(call),
+            ..bytes
+        };
+        let (status, written) = served(alloc, &["plain"], FIRST.as_bytes(), from, WHOLE)?;
+        let (wanted, text) = if call < 24 {
+            (3, "")
+        } else {
+            (0, FIRST_REPORT)
+        };
+        assert_eq!(rt; status, wanted, "at source call {call}");
+        assert_eq!(rt;
+            written.as_slice(),
+            text.as_bytes(),
+            "at source call {call}"
+        );
+    }
+    let report = FIRST_REPORT.as_bytes();
+    for call in 0u32..48 {
+        let to = Calls {
+            fails: Some(call),
+            ..bytes
+        };
+        let (status, written) = served(alloc, &["plain"], FIRST.as_bytes(), WHOLE, to)?;
+        let wanted = if call <= 46 { 4 } else { 0 };
+        let count = report.len().min(call as usize);
+        assert_eq!(rt; status, wanted, "at sink call {call}");
+        assert_eq!(rt; written.as_slice(), &report[..count], "at sink call {call}");
+    }
+    for room in 0..47 {
+        let to = Calls { room, ..WHOLE };
+        let (status, written) = served(alloc, &["plain"], FIRST.as_bytes(), WHOLE, to)?;
+        let wanted = if room < 46 { 4 } else { 0 };
+        assert_eq!(rt; status, wanted, "at room {room}");
+        assert_eq!(rt;
+            written.as_slice(),
+            &report[..room.min(report.len())],
+            "at room {room}"
+        );
+    }
+    let five = Calls { room: 5, ..WHOLE };
+    let (status, written) = served(alloc, &["plain"], b"a mallok 4", WHOLE, five)?;
+    assert_eq!(rt; status, 4);
+    assert_eq!(rt; written.as_slice(), b"error".as_slice());
+    let three = Calls { room: 3, ..WHOLE };
+    let (status, written) = served(alloc, &[], b"", WHOLE, three)?;
+    assert_eq!(rt; status, 4);
+    assert_eq!(rt; written.as_slice(), b"usa".as_slice());
+    Ok(())
+}
