@@ -3,11 +3,13 @@
 //! none.
 #![tactic(auto)]
 
+mod laws;
 mod made;
 mod number;
 mod options;
 pub mod order;
 mod read;
 
+pub use laws::made_orders_are_within;
 pub use order::{Input, Order, Usage};
 pub use read::read_words;

@@ -4,4 +4,5 @@ pub mod RunFacts
 pub mod ObjectText
 pub mod PassedOn
 pub mod PartFacts
+pub mod MadePlans
 pub mod Served

@@ -5,7 +5,7 @@ use Rattle.std.proofs.Math.ListN.{drop_of_length-le}
 use Rattle.std.proofs.Math.Seq.{drop-append_seam}
 use Rattle.std.proofs.lemmas.Bool.Decides.{nat_tests}
 use Rattle.std.specs.Io.KnownBytes.{Consumes, Keeps}
-use Rattle.std.proofs.KnownBytes.{Appends-nil, Keeps-refl}
+use Rattle.std.proofs.KnownBytes.{Appends-nil}
 use Rattle.dym_base.specs.declared.limits.TheConstants.{MOST_INPUT_BYTES}
 use Rattle.dym_base.specs.declared.bad_kind.BadKind.TheVariants as bad
 use Rattle.dym_io.specs.Faults.{Rose}
@@ -26,7 +26,7 @@ use Rattle.dymelor_top.specs.declared.stop.Stop.{Stop}
 use Rattle.dymelor_top.specs.declared.stop.Stop.TheVariants as stop
 use Rattle.dymelor_top.specs.Stops.{stop_status}
 use Rattle.dymelor_top.specs.Report.{report_text}
-use Rattle.dymelor_top.specs.Answers.{Answer, fault_answer, of_script, counts_of, of_verdict, IsJudged, IsTraceAnswer, IsRead, IsAnswer, usage_answer}
+use Rattle.dymelor_top.specs.Answers.{Answer, fault_answer, of_script, counts_of, of_verdict, IsJudged, IsTraceAnswer, IsRead, IsAnswer, reads}
 use Rattle.dymelor_top.specs.Headline.{Input, WroteFront, WroteAll, Serves, Writes, WritesAnswer, PlanHeadline}
 
 -- What was written
@@ -154,10 +154,17 @@ one_read reading.Trace bytes x y p q = one_trace bytes (nat_lt MOST_INPUT_BYTES 
 
 pub one_answer : (p : Plan) (bytes : List ℕ) (x y : Answer) → IsAnswer p bytes x → IsAnswer p bytes y → x ≡ y
 one_answer (plan.Read r) bytes x y p q = one_read r bytes x y p q
+one_answer (plan.Make seed objects commands) bytes x y p q = p ∙ sym q
 one_answer plan.Usage bytes x y p q = p ∙ sym q
 
 no_plan : {P : Type 0} (r : Reading) → plan.Read r ≡ plan.Usage → P
 no_plan r is = absurd (cc)
+
+no_make : {P : Type 0} (r : Reading) (seed objects commands : ℕ) → plan.Read r ≡ plan.Make seed objects commands → P
+no_make r seed objects commands is = absurd (cc)
+
+no_source : {P : Type 0} (r : Reading) → reads (plan.Read r) ≡ false → P
+no_source r is = absurd (cc)
 
 all_is_front : (a b : Output) (t : List ℕ) → WroteAll a b t → WroteFront a b t
 all_is_front a b t p = record { front = t; rest = []; whole = sym (append-nil t); written = p.written }
@@ -182,8 +189,10 @@ read_whole r old new a b status served read zero_or_two =
         complete = λ source sink. inl low;
       };
       read = λ le. read;
+      unread = λ is. no_source r is;
       usage = λ is. no_usage status zero_or_two is;
       only_usage = λ is. no_plan r is;
+      made = λ seed objects commands is. no_make r seed objects commands is;
       source = λ is. absurd (omega (arith, low, is));
       sink = λ is. absurd (omega (arith, low, is));
       known = omega (arith, low);
@@ -198,8 +207,10 @@ read_stopped r old new a b stop.Source front source sink =
     record {
       answered = λ bytes known. record { prefix = front bytes known; whole = λ le. absurd (omega (arith, le)); complete = λ calm still. absurd (calm why.0) };
       read = λ le. absurd (omega (arith, le));
+      unread = λ is. no_source r is;
       usage = λ is. absurd (omega (arith, is));
       only_usage = λ is. no_plan r is;
+      made = λ seed objects commands is. no_make r seed objects commands is;
       source = λ is. (why.0, subst (λ o. WroteFront a o []) (sym why.1) (nothing_wrote a []));
       sink = λ is. absurd (omega (arith, is));
       known = omega arith;
@@ -207,8 +218,10 @@ read_stopped r old new a b stop.Source front source sink =
 read_stopped r old new a b stop.Sink front source sink = record {
   answered = λ bytes known. record { prefix = front bytes known; whole = λ le. absurd (omega (arith, le)); complete = λ calm still. absurd (still (sink refl)) };
   read = λ le. absurd (omega (arith, le));
+  unread = λ is. no_source r is;
   usage = λ is. absurd (omega (arith, is));
   only_usage = λ is. no_plan r is;
+  made = λ seed objects commands is. no_make r seed objects commands is;
   source = λ is. absurd (omega (arith, is));
   sink = λ is. sink refl;
   known = omega arith;
@@ -216,43 +229,13 @@ read_stopped r old new a b stop.Sink front source sink = record {
 read_stopped r old new a b stop.Memory front source sink = record {
   answered = λ bytes known. record { prefix = front bytes known; whole = λ le. absurd (omega (arith, le)); complete = λ calm still. inr refl };
   read = λ le. absurd (omega (arith, le));
+  unread = λ is. no_source r is;
   usage = λ is. absurd (omega (arith, is));
   only_usage = λ is. no_plan r is;
+  made = λ seed objects commands is. no_make r seed objects commands is;
   source = λ is. absurd (omega (arith, is));
   sink = λ is. absurd (omega (arith, is));
   known = omega arith;
-}
-
--- words of no order were answered
-pub usage_whole : (old : Input) (a b : Output) (status : ℕ) → status ≡ 1 → WroteAll a b usage_answer.text → PlanHeadline plan.Usage old old a b status
-usage_whole old a b status one all = record {
-  answered = λ bytes known. record {
-    prefix = λ x is. subst (λ (y : Answer). WroteFront a b y.text) (sym is) (all_is_front a b usage_answer.text all);
-    whole = λ le. (usage_answer, refl, one, all);
-    complete = λ source sink. inl (omega (arith, one));
-  };
-  read = λ le. tt;
-  usage = λ is. refl;
-  only_usage = λ is. (inl one, Keeps-refl old.left, refl);
-  source = λ is. absurd (omega (arith, one, is));
-  sink = λ is. absurd (omega (arith, one, is));
-  known = omega (arith, one);
-}
-
--- the sink failed while words of no order were answered
-pub usage_stopped : (old : Input) (a b : Output) (status : ℕ) → status ≡ 4 → WroteFront a b usage_answer.text → Rose a.faults b.faults → PlanHeadline plan.Usage old old a b status
-usage_stopped old a b status four front rose = record {
-  answered = λ bytes known. record {
-    prefix = λ x is. subst (λ (y : Answer). WroteFront a b y.text) (sym is) front;
-    whole = λ le. absurd (omega (arith, four, le));
-    complete = λ source sink. absurd (sink rose);
-  };
-  read = λ le. tt;
-  usage = λ is. absurd (omega (arith, four, is));
-  only_usage = λ is. (inr four, Keeps-refl old.left, refl);
-  source = λ is. absurd (omega (arith, four, is));
-  sink = λ is. rose;
-  known = omega (arith, four);
 }
 
 -- Traces

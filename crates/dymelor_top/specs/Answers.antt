@@ -7,6 +7,7 @@ use Rattle.dym_script.specs.Scripts.{Said, Fault, script_of}
 use Rattle.dym_trace.specs.declared.answer.TraceAnswer.{TraceAnswer}
 use Rattle.dym_trace.specs.declared.answer.TraceAnswer.TheVariants.{Good, Bad}
 use Rattle.dym_trace.specs.Verdict.{IsVerdict}
+use Rattle.dym_gen.specs.Scripts.{generated}
 use Rattle.dym_report.specs.Orders.{counts_text, events_text, error_text, usage_text}
 use Rattle.dymelor_top.specs.declared.plan.Reading.{Reading}
 use Rattle.dymelor_top.specs.declared.plan.Reading.TheVariants as reading
@@ -51,17 +52,23 @@ IsRead reading.Report bytes answer = answer ≡ of_script report_text (script_of
 IsRead reading.Counts bytes answer = answer ≡ of_script counts_of (script_of bytes)
 IsRead reading.Trace bytes answer = IsTraceAnswer bytes answer
 
+-- the answer to an order to make a script: its text
+abbrev pub made_answer : ℕ → ℕ → ℕ → Answer
+made_answer seed objects commands = record { status = 0; text = generated seed objects commands }
+
 abbrev pub usage_answer : Answer
 usage_answer = record { status = 1; text = usage_text }
 
 -- the answer that a plan has, for the bytes of its input
 abbrev pub IsAnswer : Plan → List ℕ → Answer → Type 0
 IsAnswer (plan.Read reading) bytes answer = IsRead reading bytes answer
+IsAnswer (plan.Make seed objects commands) bytes answer = answer ≡ made_answer seed objects commands
 IsAnswer plan.Usage bytes answer = answer ≡ usage_answer
 
 -- whether a plan reads its source
 abbrev pub reads : Plan → Bool
 reads (plan.Read reading) = true
+reads (plan.Make seed objects commands) = false
 reads plan.Usage = false
 
 -- an input has at most one answer

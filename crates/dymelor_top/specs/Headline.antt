@@ -1,6 +1,6 @@
 -- What a top call promises: the bytes written are a prefix of the defined answer, and all of it at status 0, 1 or 2; every
 -- other status but want of memory has its cause.
-use Rattle.std.specs.Prelude.{◌≡◌, ℕ, ◌+◌, ◌≤◌, ◌⊎◌, Bool, List, [], ◌++◌, drop, Option, Some, Result, MatchResult}
+use Rattle.std.specs.Prelude.{◌≡◌, ℕ, ◌+◌, ◌≤◌, ◌⊎◌, Bool, false, List, [], ◌++◌, drop, Option, Some, Result, MatchResult}
 use Rattle.std.specs.Bool.{OnTrue}
 use Rattle.std.specs.Io.KnownBytes.{Appends, Keeps}
 use Rattle.dym_base.specs.declared.limits.TheConstants.{MOST_INPUT_BYTES}
@@ -54,9 +54,13 @@ pub record PlanHeadline (p : Plan) (old new : Input) (sink_old sink_new : Output
   pub answered : (bytes : List ℕ) → IsInput (reads p) old bytes → Answered (IsAnswer p bytes) sink_old sink_new (Rose old.faults new.faults) status
   -- 0 and 2: the input was read
   pub read : status ≤ 2 → WasRead (reads p) old new
-  -- 1: words of no order. Such words get no other status but 4, and nothing is read for them
+  -- where the plan reads nothing, the source stays as it was
+  pub unread : reads p ≡ false → Keeps old.left new.left × (new.faults ≡ old.faults)
+  -- 1: words of no order. Such words get no other status but 4
   pub usage : status ≡ 1 → p ≡ plan.Usage
-  pub only_usage : p ≡ plan.Usage → ((status ≡ 1) ⊎ (status ≡ 4)) × Keeps old.left new.left × (new.faults ≡ old.faults)
+  pub only_usage : p ≡ plan.Usage → (status ≡ 1) ⊎ (status ≡ 4)
+  -- to make a script takes no memory: such an order gets 0, or 4
+  pub made : (seed objects commands : ℕ) → p ≡ plan.Make seed objects commands → (status ≡ 0) ⊎ (status ≡ 4)
   -- 3: the source failed in this call, and nothing was written
   pub source : status ≡ 3 → Rose old.faults new.faults × WroteFront sink_old sink_new []
   -- 4: the sink failed in this call

@@ -18,7 +18,7 @@ abbrev pub plan_of : Result Order Usage → Plan
 plan_of (Ok (Plain input summary)) = plain_plan input summary
 plan_of (Ok (Run workers segments quantum input summary)) = plan.Usage
 plan_of (Ok Check) = plan.Read reading.Counts
-plan_of (Ok (Gen seed objects commands)) = plan.Usage
+plan_of (Ok (Gen seed objects commands)) = plan.Make seed objects commands
 plan_of (Ok Trace) = plan.Read reading.Trace
 plan_of (Ok (Save name)) = plan.Usage
 plan_of (Ok (Load time)) = plan.Usage

@@ -20,6 +20,12 @@ pub enum Reading {
 pub enum Plan {
     /// Read the source, and write what is made of it.
     Read(Reading),
+    /// Write the script that the generator makes of these numbers.
+    Make {
+        seed: u64,
+        objects: u32,
+        commands: u32,
+    },
     /// Say that the words are no order that is served.
     Usage,
 }
@@ -32,7 +38,17 @@ pub fn plan_for(order: &Result<Order, Usage>) -> Plan
         Ok(Order::Plain { input, summary }) => plan_for_plain(input, *summary),
         Ok(Order::Run { .. }) => Plan::Usage,
         Ok(Order::Check) => Plan::Read(Reading::Counts),
-        Ok(Order::Gen { .. }) => Plan::Usage,
+        Ok(
+            Order::Gen {
+                seed,
+                objects,
+                commands,
+            },
+        ) => Plan::Make {
+            seed: *seed,
+            objects: *objects,
+            commands: *commands,
+        },
         Ok(Order::Trace) => Plan::Read(Reading::Trace),
         Ok(Order::Save { .. }) => Plan::Usage,
         Ok(Order::Load { .. }) => Plan::Usage,

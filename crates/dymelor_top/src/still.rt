@@ -1,10 +1,11 @@
 //! The top call that starts no thread.
-ghost use Rattle.std.specs.Prelude.{◌≡◌, ◌≤◌, ◌⊎◌, ◌+◌, ℕ, List, Some, drop, map, string_bytes, IfOk, IfErr, OnOk, IsErrOf};
+ghost use Rattle.std.specs.Prelude.{◌≡◌, ◌<◌, ◌≤◌, ◌⊎◌, ◌+◌, ℕ, List, Some, drop, map, string_bytes, IfOk, IfErr, OnOk, IsErrOf};
+ghost use Rattle.dym_base.specs.declared.limits.TheConstants.{MOST_OBJECTS, MOST_MADE_COMMANDS};
 ghost use Rattle.dym_io.specs.Faults.{Rose};
 ghost use Rattle.std.specs.Io.KnownBytes.{Keeps};
 ghost use Rattle.dym_io.specs.Sink.{Output, AllFlushed};
 ghost use Rattle.dym_words.specs.Orders.{order};
-ghost use Rattle.dymelor_top.specs.Answers.{usage_answer, IsRead};
+ghost use Rattle.dymelor_top.specs.Answers.{made_answer, usage_answer, IsRead};
 ghost use Rattle.dymelor_top.specs.Headline.{Headline, Serves};
 ghost use Rattle.dymelor_top.specs.declared.stop.Stop.TheVariants.{Source as SourceStopped, Sink as SinkStopped};
 ghost use Rattle.dymelor_top.specs.declared.stop.WriteFail.TheVariants.{Sink as SinkFailed};
@@ -13,6 +14,7 @@ use crate::answer::answer;
 use crate::plan::{Plan, Reading, plan_for};
 use crate::stop::{Stop, WriteFail};
 use dym_base::limits::MOST_INPUT_BYTES;
+use dym_gen::gen_script;
 use dym_io::{ReadFail, Sink, Source, read_whole};
 use dym_report::write_usage;
 use dym_words::read_words;
@@ -36,6 +38,14 @@ pub fn dymelor_still<R: Source, W: Sink>(
             Ok(status) => status,
             Err(stop) => stop.status(),
         },
+        Plan::Make {
+            seed,
+            objects,
+            commands,
+        } => match serve_made(sink, seed, objects, commands) {
+            Ok(status) => status,
+            Err(fail) => Stop::from(fail).status(),
+        },
         Plan::Usage => match serve_usage(sink) {
             Ok(status) => status,
             Err(fail) => Stop::from(fail).status(),
@@ -51,6 +61,24 @@ fn serve_usage<W: Sink>(sink: &mut W) -> Result<u8, WriteFail>
     write_usage(sink)?;
     flush(sink)?;
     Ok(1)
+}
+
+/// Writes the script that a seed makes.
+fn serve_made<W: Sink>(
+    sink: &mut W,
+    seed: u64,
+    objects: u32,
+    commands: u32,
+) -> Result<u8, WriteFail>
+    requires some { 0 < objects }
+    requires objects { objects ≤ MOST_OBJECTS }
+    requires commands { commands ≤ MOST_MADE_COMMANDS }
+    ensures served { Serves (λ a. a ≡ made_answer seed objects commands) (W.output sink.old) (W.output sink.new) result }
+    ensures fault { IfErr result (λ fail. (fail ≡ SinkFailed) × Rose (W.output sink.old).faults (W.output sink.new).faults) }
+{
+    gen_script(sink, seed, objects, commands)?;
+    flush(sink)?;
+    Ok(0)
 }
 
 /// Reads the source, and writes what is made of it.

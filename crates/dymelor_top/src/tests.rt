@@ -236,6 +236,38 @@ fn answers_counts_and_traces(rt: HostRuntime) -> Result<(), Fail> {
 }
 
 #[test]
+fn makes_scripts(rt: HostRuntime) -> Result<(), Fail> {
+    let four = "object o0 1\no0 malloc 40\no0 malloc 65536\no0 log 2\no0 fill 128:0 34 11 37\n";
+    let rows: [(&[&str], u8, &str); 11] = [
+        (&["gen", "7", "1", "4"], 0, four),
+        (&["gen", "2147483655", "01", "4"], 0, four),
+        (
+            &["gen", "18446744073709551615", "2", "0"],
+            0,
+            "object o0 1\nobject o1 4\n",
+        ),
+        (&["gen"], 1, "usage\n"),
+        (&["gen", "7", "1"], 1, "usage\n"),
+        (&["gen", "7", "1", "4", "4"], 1, "usage\n"),
+        (&["gen", "7", "0", "4"], 1, "usage\n"),
+        (&["gen", "7", "4097", "4"], 1, "usage\n"),
+        (&["gen", "7", "1", "200001"], 1, "usage\n"),
+        (&["gen", "18446744073709551616", "1", "4"], 1, "usage\n"),
+        (&["gen", "7", "1", "4x"], 1, "usage\n"),
+    ];
+    let unread = Calls {
+        fails: Some(0),
+        ..WHOLE
+    };
+    for (words, status, text) in rows {
+        let (found, bytes) = served(rt.alloc(), words, b"", unread, WHOLE)?;
+        assert_eq!(rt; found, status, "at {text}");
+        assert_eq!(rt; bytes.as_slice(), text.as_bytes(), "at {text}");
+    }
+    Ok(())
+}
+
+#[test]
 fn answers_long_inputs(rt: HostRuntime) -> Result<(), Fail> {
     let alloc = rt.alloc();
     let line = vec![in alloc; b'x'; 4_097]?;

@@ -1,8 +1,10 @@
-use Rattle.std.proofs.Common.{◌≡◌, subst, sym, ap, ◌∙◌, Err}
+use Rattle.std.proofs.Common.{◌≡◌, map, string_bytes, subst, sym, ap, ◌∙◌, Err}
+use Rattle.dym_words.proofs.Within.{orders_are_within}
 use Rattle.dymelor_top.specs.declared.plan.Plan.TheVariants as plan
 use Rattle.dymelor_top.specs.Stops.{stop_status}
 use Rattle.dymelor_top.specs.Plans.{plan_of}
 use Rattle.dymelor_top.specs.Headline.{Input, PlanHeadline}
+use Rattle.dymelor_top.proofs.MadePlans.{can_be_made}
 use Rattle.dymelor_top.proofs.Served.{read_whole, read_stopped}
 use Rattle.dymelor_top.proofs.still.dymelor_still.Goals as goal
 
@@ -26,3 +28,15 @@ returns-in-Err g c =
     let headline : PlanHeadline (plan.Read c.in-Read.reading) old new a b (stop_status stopped) =
     read_stopped c.in-Read.reading old new a b stopped c.in-Err.ensures.served (λ is. c.in-Err.ensures.source_fault (ap Err is)) (λ is. c.in-Err.ensures.sink_fault (ap Err is)) in
     subst (λ p. PlanHeadline p old new a b c.status.result) planned (subst (PlanHeadline (plan.Read c.in-Read.reading) old new a b) (sym c.status.ensures) headline)
+
+pub serve_made-requires-clause-some : goal.serve_made-requires-clause-some
+serve_made-requires-clause-some g c =
+    (can_be_made _ c.in-Make.seed c.in-Make.objects c.in-Make.commands (orders_are_within (map string_bytes c.args.words.now)) (sym c.in-Make.is ∙ c.plan_for.ensures ∙ ap plan_of c.read_words.ensures)).some
+
+pub serve_made-requires-clause-objects : goal.serve_made-requires-clause-objects
+serve_made-requires-clause-objects g c =
+    (can_be_made _ c.in-Make.seed c.in-Make.objects c.in-Make.commands (orders_are_within (map string_bytes c.args.words.now)) (sym c.in-Make.is ∙ c.plan_for.ensures ∙ ap plan_of c.read_words.ensures)).objects_fit
+
+pub serve_made-requires-clause-commands : goal.serve_made-requires-clause-commands
+serve_made-requires-clause-commands g c =
+    (can_be_made _ c.in-Make.seed c.in-Make.objects c.in-Make.commands (orders_are_within (map string_bytes c.args.words.now)) (sym c.in-Make.is ∙ c.plan_for.ensures ∙ ap plan_of c.read_words.ensures)).commands_fit

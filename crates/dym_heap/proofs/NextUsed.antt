@@ -1,0 +1,126 @@
+-- The next chunk in use, area by area.
+use Rattle.std.proofs.Common.{◌≡◌, ℕ, ◌+◌, ◌-◌, ◌*◌, ◌<◌, ◌≤◌, inl, inr, Bool, false, is_some, IsSome, None, List, length, get_or, sym, ap, ◌∙◌, arith}
+use Rattle.std.proofs.lemmas.Bool.{cases_lt}
+use Rattle.std.proofs.lemmas.List.{get_or_past}
+use Rattle.std.proofs.Math.Nat.{add-mul}
+use Rattle.std.proofs.lemmas.Nat.{pow_pos, le-div, mul-le}
+use Rattle.dym_base.specs.Numbers.{per}
+use Rattle.dym_base.specs.Origins.{Origin}
+use Rattle.dym_base.specs.declared.command.Version.{Version}
+use Rattle.dym_region.specs.declared.segment.SegmentId.{SegmentId}
+use Rattle.dym_heap.specs.Table.{Row, chunk_at}
+use Rattle.dym_heap.specs.Shelves.{ShelfMeaning, IsNextUsed}
+use Rattle.dym_heap.specs.Places.{PlaceMeaning, IsUsedFrom}
+use Rattle.dym_heap.specs.Arrangement.{IsShelf, shelf_of}
+use Rattle.dym_heap.proofs.Rows.{class_end}
+use Rattle.dym_heap.proofs.Sizes.{per_fits}
+use Rattle.dym_heap.proofs.ShelfFacts as facts
+use Rattle.dym_heap.proofs.ShelfFacts.{Spot}
+
+-- no chunk of a row is in use from `from` up to `to`
+abbrev pub FreeUpTo : List Row → ℕ → ℕ → ℕ → Type 0
+FreeUpTo rows c from to = (i : ℕ) → from ≤ i → i < to → chunk_at rows c i ≡ None
+
+module _ (v : Version) (quota : ℕ) (ids : List SegmentId) (origin : Origin) (starts : List ℕ) (places : List PlaceMeaning) (full : List (List Bool)) (room spare spare_room : ℕ)
+    (s : ShelfMeaning) (view : shelf_of v quota ids origin starts places ≡ s) (is : IsShelf v quota ids starts places full room spare spare_room) (e : ℕ) (low : 5 ≤ e) (high : e ≤ 16) where
+  per_is : per (e - 5 + 5) ≡ per e
+  per_is = ap per (let h : e - 5 + 5 ≡ e = omega arith in h)
+
+  class_in : e - 5 < 12
+  class_in = omega arith
+
+  many : ℕ → ℕ
+  many k = get_or starts (k + 1) 0 - get_or starts k 0
+
+  pub count_k : (k : ℕ) → k ≡ e - 5 → (get_or starts (k + 1) 0 - get_or starts k 0 ≤ 1024) × (get_or starts k 0 ≤ get_or starts (k + 1) 0) × (get_or starts (k + 1) 0 ≤ length places)
+  count_k k same =
+      let top = class_end v starts places full (e - 5) is.arranged class_in in
+      let up = is.arranged.rising (e - 5) class_in in
+      let fits = is.supplied.within in
+      let most = is.supplied.most in
+      let a : get_or starts (k + 1) 0 ≡ get_or starts (e - 5 + 1) 0 = ap (λ x. get_or starts (x + 1) 0) same in
+      let b : get_or starts k 0 ≡ get_or starts (e - 5) 0 = ap (λ x. get_or starts x 0) same in
+      (omega arith, omega arith, omega arith)
+
+  pub few_chunks : (k r : ℕ) → k ≡ e - 5 → r ≡ per e → (get_or starts (k + 1) 0 - get_or starts k 0) * r ≤ 2097152
+  few_chunks k r same is_r = let c = (count_k k same).0 in let p = per_fits e low in mul-le (get_or starts (k + 1) 0 - get_or starts k 0) r 1024 2048 c (omega arith)
+
+  pub per_least : (r : ℕ) → r ≡ per e → 0 < r
+  per_least r is_r = let p : 0 < per e = pow_pos (16 - e) in omega arith
+
+  pub per_most : (r : ℕ) → r ≡ per e → r ≤ 2048
+  per_most r is_r = let p = per_fits e low in omega arith
+
+  -- past the areas of the class
+  pub past_all : (k r i : ℕ) → k ≡ e - 5 → r ≡ per e → (get_or starts (k + 1) 0 - get_or starts k 0) * r ≤ i → chunk_at s.rows (e - 5) i ≡ None
+  past_all k r i same is_r far =
+      let up = (count_k k same).1 in
+      let a : get_or starts (k + 1) 0 ≡ get_or starts (e - 5 + 1) 0 = ap (λ x. get_or starts (x + 1) 0) same in
+      let b : get_or starts k 0 ≡ get_or starts (e - 5) 0 = ap (λ x. get_or starts x 0) same in
+      let p : per (e - 5 + 5) ≡ r = per_is ∙ sym is_r in
+      let m : (get_or starts (k + 1) 0 - get_or starts k 0) * per (e - 5 + 5) ≡ (get_or starts (k + 1) 0 - get_or starts k 0) * r = ap (λ x. (get_or starts (k + 1) 0 - get_or starts k 0) * x) p in
+      let d = le-div (get_or starts (k + 1) 0 - get_or starts k 0) i (per (e - 5 + 5)) (pow_pos (16 - (e - 5 + 5))) (omega arith) in
+      facts.past_s v quota ids origin starts places full room spare spare_room s view is (e - 5) i class_in (omega arith)
+
+  module _ (k r o : ℕ) (same : k ≡ e - 5) (is_r : r ≡ per e) (l : o < get_or starts (k + 1) 0 - get_or starts k 0) (q : PlaceMeaning) (here : q ≡ get_or places (get_or starts k 0 + o) q) where
+    spot : (j : ℕ) → j < r → Spot v quota ids origin starts places full room spare spare_room s view is (e - 5) o j (get_or starts k 0 + o)
+    spot j below =
+        let a : get_or starts (k + 1) 0 ≡ get_or starts (e - 5 + 1) 0 = ap (λ x. get_or starts (x + 1) 0) same in
+        let b : get_or starts k 0 ≡ get_or starts (e - 5) 0 = ap (λ x. get_or starts x 0) same in
+        let up = (count_k k same).1 in
+        record { small = class_in; within = omega arith; at = omega arith; below = (let p = per_is in omega arith) }
+
+    chunk_q : (j : ℕ) → j < r → chunk_at s.rows (e - 5) (o * r + j) ≡ get_or q.chunks j None
+    chunk_q j below =
+        (let p : r ≡ per (e - 5 + 5) = is_r ∙ sym per_is in ap (λ x. chunk_at s.rows (e - 5) (o * x + j)) p)
+        ∙ facts.chunk_s v quota ids origin starts places full room spare spare_room s view is (e - 5) o j (get_or starts k 0 + o) (spot j below) q
+        ∙ ap (λ (z : PlaceMeaning). get_or z.chunks j None) (sym here)
+
+    long_q : length q.chunks ≡ r
+    long_q =
+        let sp = spot 0 (per_least r is_r) in
+        let p = facts.placed_s v quota ids origin starts places full room spare spare_room s view is (e - 5) o 0 (get_or starts k 0 + o) sp q in
+        ap (λ (z : PlaceMeaning). length z.chunks) here ∙ p.place.whole ∙ ap per p.exponent ∙ per_is ∙ sym is_r
+
+    inside_q : (j : ℕ) → IsSome (get_or q.chunks j None) → j < r
+    inside_q j some =
+        elim (cases_lt j r) as (λ _. j < r) [
+          | inl below ↦ below
+          | inr past ↦ (let gone : is_some (get_or q.chunks j None) ≡ false = ap is_some (get_or_past q.chunks j None (let n = long_q in omega arith)) in absurd cc)
+        ]
+
+    pub place_n : get_or starts k 0 + o < length places
+    place_n = let c = count_k k same in let top = c.2 in let up = c.1 in omega arith
+
+    pub below_n : (j : ℕ) → IsUsedFrom q.chunks 0 j → j < r
+    below_n j found = inside_q j found.used
+
+    pub found_n : (from ch f : ℕ) → FreeUpTo s.rows (e - 5) from (o * r + ch) → from ≤ o * r + ch → ch < r → IsUsedFrom q.chunks ch f → (f < r) × IsNextUsed s.rows (e - 5) from (o * r + f)
+    found_n from ch f free start small found =
+        let below : f < r = inside_q f found.used in
+        let at = found.at_least in (
+          below,
+          record {
+            at_least = omega arith;
+            used = ap is_some (chunk_q f below) ∙ found.used;
+            least = λ i a b.
+                elim (cases_lt i (o * r + ch)) as (λ _. chunk_at s.rows (e - 5) i ≡ None) [
+                  | inl before ↦ free i a before
+                  | inr past ↦ (let h : i ≡ o * r + (i - o * r) = omega arith in ap (chunk_at s.rows (e - 5)) h ∙ chunk_q (i - o * r) (omega arith) ∙ found.least (i - o * r) (omega arith) (omega arith))
+                ];
+          },
+        )
+
+    pub none_n : (from ch : ℕ) → FreeUpTo s.rows (e - 5) from (o * r + ch) → ch < r → ((j : ℕ) → ch ≤ j → get_or q.chunks j None ≡ None) → FreeUpTo s.rows (e - 5) from ((o + 1) * r + 0)
+    none_n from ch free small none i a b =
+        let m = add-mul o 1 r in
+        elim (cases_lt i (o * r + ch)) as (λ _. chunk_at s.rows (e - 5) i ≡ None) [
+          | inl before ↦ free i a before
+          | inr past ↦ (let h : i ≡ o * r + (i - o * r) = omega arith in ap (chunk_at s.rows (e - 5)) h ∙ chunk_q (i - o * r) (omega arith) ∙ none (i - o * r) (omega arith))
+        ]
+
+  pub fits_n : (k r o : ℕ) → k ≡ e - 5 → r ≡ per e → o < get_or starts (k + 1) 0 - get_or starts k 0 → o * r ≤ 2097152
+  fits_n k r o same is_r l = let c = (count_k k same).0 in let p = per_fits e low in mul-le o r 1024 2048 (omega arith) (omega arith)
+
+  pub end_n : (k r o i : ℕ) → k ≡ e - 5 → r ≡ per e → get_or starts (k + 1) 0 - get_or starts k 0 ≤ o → o * r ≤ i → chunk_at s.rows (e - 5) i ≡ None
+  end_n k r o i same is_r past far = past_all k r i same is_r (let m = mul-le (get_or starts (k + 1) 0 - get_or starts k 0) r o r past (omega arith) in omega arith)

@@ -1,0 +1,150 @@
+-- The segments of the areas are those that are held.
+use Rattle.std.proofs.Common.{◌≡◌, ℕ, ◌+◌, ◌-◌, ◌<◌, ◌≤◌, ◌⊎◌, inl, inr, Bool, true, false, cond, ◌&&◌, ◌==◌, List, [], ◌∷◌, ◌++◌, length, get_or, set, refl, sym, ap, subst, ◌∙◌, arith, length-set, sum_by}
+use Rattle.std.specs.List.{insert, remove}
+use Rattle.std.proofs.lemmas.Bool.{eq-eqb, eqb-true}
+use Rattle.std.proofs.lemmas.List.{get_or_push, length_push, nil_from_length}
+use Rattle.std.proofs.lemmas.List.Edits.{length-insert, length-remove}
+use Rattle.std.proofs.lemmas.List.Sums.{sum_by-cons, sum_by-append, sum_by_push, sum_by-set, sum_by-insert, sum_by-remove, get_or-le-sum_by}
+use Rattle.dym_base.specs.declared.command.Version.{Version}
+use Rattle.dym_base.specs.declared.command.Version.TheVariants.{One, Two}
+use Rattle.dym_region.specs.declared.segment.SegmentId.{SegmentId}
+use Rattle.dym_quota.specs.HeldIds.{IsHeld, GivesBack}
+use Rattle.dym_heap.specs.Places.{PlaceMeaning}
+use Rattle.dym_heap.specs.Arrangement.{IsSupplied, HasTables, Owns}
+
+-- ---- an identity that weighs something is there
+
+abbrev same_id : SegmentId → SegmentId → Bool
+same_id x y = (x.region == y.region) && (x.number == y.number)
+
+abbrev weight_of : SegmentId → SegmentId → ℕ
+weight_of x y = cond (same_id x y) 1 0
+
+same_id-true : (x y : SegmentId) → same_id x y ≡ true → x ≡ y
+same_id-true x y h =
+    elim (x.region == y.region) as (λ b. x.region == y.region ≡ b → (b && (x.number == y.number)) ≡ true → x ≡ y) [
+      | true ↦ λ a b. (let r = eqb-true x.region y.region a in let n = eqb-true x.number y.number b in λ i. record { region = r i; number = n i })
+      | false ↦ λ a b. absurd cc
+    ] refl h
+
+same_id-self : (x : SegmentId) → same_id x x ≡ true
+same_id-self x = ap (λ b. b && (x.number == x.number)) (eq-eqb x.region x.region refl) ∙ eq-eqb x.number x.number refl
+
+held_by_weight : (x : SegmentId) (ids : List SegmentId) → 0 < sum_by (weight_of x) ids → IsHeld ids x
+held_by_weight x [] some = absurd (omega arith)
+held_by_weight x (y ∷ ids) some =
+    elim (same_id x y) as (λ b. same_id x y ≡ b → IsHeld (y ∷ ids) x) [
+      | true ↦ λ h. record { front = []; back = ids; is = ap (λ z. z ∷ ids) (sym (same_id-true x y h)) }
+      | false ↦ λ h.
+          let none : weight_of x y ≡ 0 = ap (λ b. cond b 1 0) h in
+          let rest = held_by_weight x ids (omega (arith, sum_by-cons (weight_of x) y ids)) in
+          record { front = y ∷ rest.front; back = rest.back; is = ap (λ zs. y ∷ zs) rest.is }
+    ] refl
+
+pub place_held : (v : Version) (quota : ℕ) (ids : List SegmentId) (places : List PlaceMeaning) (room spare spare_room k : ℕ) (d : PlaceMeaning) → IsSupplied v quota ids places room spare spare_room → k < length places
+    → IsHeld ids (get_or places k d).identity
+place_held v quota ids places room spare spare_room k d is l =
+    let x : SegmentId = (get_or places k d).identity in
+    let one : weight_of x x ≡ 1 = ap (λ b. cond b 1 0) (same_id-self x) in
+    let le = get_or-le-sum_by (λ (p : PlaceMeaning). weight_of x p.identity) places k d l in
+    let same = is.owned (weight_of x) in
+    held_by_weight x ids (omega arith)
+
+-- ---- an area changes, comes or goes
+
+pub supplied-put : (v : Version) (quota : ℕ) (ids : List SegmentId) (places : List PlaceMeaning) (room spare spare_room k : ℕ) (d p : PlaceMeaning) → IsSupplied v quota ids places room spare spare_room → k < length places
+    → p.identity ≡ (get_or places k d).identity → IsSupplied v quota ids (set places k p) room spare spare_room
+supplied-put v quota ids places room spare spare_room k d p is l same = record {
+  least = is.least;
+  most = is.most;
+  within = (let w = is.within in omega (arith, length-set places k p));
+  has_room = is.has_room;
+  tables = subst (λ n. HasTables v quota n spare spare_room) (sym (length-set places k p)) is.tables;
+  owned = λ weight.
+      let before = is.owned weight in
+      let after = sum_by-set (λ (p : PlaceMeaning). weight p.identity) places k p d l in
+      let e : weight p.identity ≡ weight (get_or places k d).identity = ap weight same in
+      omega arith;
+}
+
+-- the tables left after one was taken where there are any
+pub fewer_tables : (v : Version) (quota areas spare spare' room : ℕ) → HasTables v quota areas spare room → areas < quota → spare' ≡ spare - 1 → HasTables v quota (areas + 1) spare' room
+fewer_tables One quota areas spare spare' room has less is = omega arith
+fewer_tables Two quota areas spare spare' room has less is = let a = has.0 in (omega arith, has.1)
+
+-- the version and whether there is a table to take
+pub table_there : (v : Version) (quota areas spare room : ℕ) → HasTables v quota areas spare room → areas < quota → ((v ≡ One) × (spare ≡ 0)) ⊎ ((v ≡ Two) × (0 < spare))
+table_there One quota areas spare room has less = inl (refl, has)
+table_there Two quota areas spare room has less = let a = has.0 in inr (refl, omega arith)
+
+pub supplied-insert : (v : Version) (quota : ℕ) (ids ids' : List SegmentId) (places : List PlaceMeaning) (room room' spare spare' spare_room at : ℕ) (p : PlaceMeaning)
+    → IsSupplied v quota ids places room spare spare_room → length places < quota → at ≤ length places → ids' ≡ ids ++ p.identity ∷ [] → room ≤ room' → spare' ≡ spare - 1
+    → IsSupplied v quota ids' (insert places at p) room' spare' spare_room
+supplied-insert v quota ids ids' places room room' spare spare' spare_room at p is less fits more bigger fewer = record {
+  least = is.least;
+  most = is.most;
+  within = omega (arith, length-insert places at p fits);
+  has_room = (let r = is.has_room in omega arith);
+  tables = subst (λ n. HasTables v quota n spare' spare_room) (sym (length-insert places at p fits)) (fewer_tables v quota (length places) spare spare' spare_room is.tables less fewer);
+  owned = λ weight.
+      let before = is.owned weight in
+      let after = sum_by-insert (λ (p : PlaceMeaning). weight p.identity) places at p in
+      let held = ap (sum_by weight) more ∙ sum_by_push weight ids p.identity in
+      omega arith;
+}
+
+pub supplied-remove : (v : Version) (quota : ℕ) (ids ids' : List SegmentId) (places : List PlaceMeaning) (room spare spare' spare_room spare_room' k : ℕ) (d : PlaceMeaning)
+    → IsSupplied v quota ids places room spare spare_room → k < length places → GivesBack ids ids' (get_or places k d).identity → HasTables v quota (length (remove places k)) spare' spare_room'
+    → IsSupplied v quota ids' (remove places k) room spare' spare_room'
+supplied-remove v quota ids ids' places room spare spare' spare_room spare_room' k d is l back tables = record {
+  least = is.least;
+  most = is.most;
+  within = (let w = is.within in omega (arith, length-remove places k l));
+  has_room = is.has_room;
+  tables = tables;
+  owned = λ weight.
+      let before = is.owned weight in
+      let after = sum_by-remove (λ (p : PlaceMeaning). weight p.identity) places k d l in
+      let x : SegmentId = (get_or places k d).identity in
+      let was = ap (sum_by weight) back.was ∙ sum_by-append weight back.front (x ∷ back.back) in
+      let first = sum_by-cons weight x back.back in
+      let now = ap (sum_by weight) back.is ∙ sum_by-append weight back.front back.back in
+      omega arith;
+}
+
+pub more_tables_one : (quota areas areas' spare room : ℕ) → HasTables One quota areas spare room → HasTables One quota areas' spare room
+more_tables_one quota areas areas' spare room has = has
+
+pub more_tables_two : (quota areas areas' spare spare' room room' : ℕ) → HasTables Two quota areas spare room → areas' + 1 ≡ areas → spare' ≡ spare + 1 → room ≤ room' → HasTables Two quota areas' spare' room'
+more_tables_two quota areas areas' spare spare' room room' has less more bigger = let a = has.0 in let b = has.1 in (omega arith, omega arith)
+
+-- ---- giving all areas back
+
+pub owns_held : (ids : List SegmentId) (places : List PlaceMeaning) (k : ℕ) (d : PlaceMeaning) → Owns ids places → k < length places → IsHeld ids (get_or places k d).identity
+owns_held ids places k d owns l =
+    let x : SegmentId = (get_or places k d).identity in
+    let one : weight_of x x ≡ 1 = ap (λ b. cond b 1 0) (same_id-self x) in
+    let le = get_or-le-sum_by (λ (p : PlaceMeaning). weight_of x p.identity) places k d l in
+    let same = owns (weight_of x) in
+    held_by_weight x ids (omega arith)
+
+pub last_owned : (ids : List SegmentId) (places places' : List PlaceMeaning) (p : PlaceMeaning) → Owns ids places → places ≡ places' ++ p ∷ [] → IsHeld ids p.identity
+last_owned ids places places' p owns is =
+    subst (λ (q : PlaceMeaning). IsHeld ids q.identity) (ap (λ xs. get_or xs (length places') p) is ∙ get_or_push places' p p (length places') refl)
+    (owns_held ids places (length places') p owns (let n = ap length is in omega (arith, length_push places' p)))
+
+pub owns_less : (ids ids' : List SegmentId) (places places' : List PlaceMeaning) (p : PlaceMeaning) → Owns ids places → places ≡ places' ++ p ∷ [] → GivesBack ids ids' p.identity → Owns ids' places'
+owns_less ids ids' places places' p owns is back weight =
+    let before = owns weight in
+    let all = ap (sum_by (λ (q : PlaceMeaning). weight q.identity)) is ∙ sum_by_push (λ (q : PlaceMeaning). weight q.identity) places' p in
+    let was = ap (sum_by weight) back.was ∙ sum_by-append weight back.front (p.identity ∷ back.back) in
+    let first = sum_by-cons weight p.identity back.back in
+    let now = ap (sum_by weight) back.is ∙ sum_by-append weight back.front back.back in
+    omega arith
+
+ones : {A : Type 0} (xs : List A) → sum_by (λ x. 1) xs ≡ length xs
+ones [] = refl
+ones (x ∷ xs) = sum_by-cons (λ x. 1) x xs ∙ (let rest = ones xs in omega arith)
+
+pub owns_none : (ids : List SegmentId) (places : List PlaceMeaning) → Owns ids places → length places ≡ 0 → ids ≡ []
+owns_none ids places owns none = nil_from_length ids (let a = owns (λ x. 1) in let b = ones ids in let c = ones places in omega arith)

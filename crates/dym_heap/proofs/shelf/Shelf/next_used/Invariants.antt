@@ -1,0 +1,13 @@
+use Rattle.std.proofs.Common.{◌+◌, ◌-◌, ◌*◌, ◌<◌, ◌≤◌}
+use Rattle.dym_heap.proofs.NextUsed.{FreeUpTo}
+use Rattle.dym_heap.proofs.shelf.Shelf.next_used.Given as goal
+
+abbrev pub invariant-loop-ordinal : goal.invariant-loop-ordinal
+invariant-loop-ordinal g l = record {
+  free : FreeUpTo l.self.rows (l.exp - 5) l.from (l.ordinal * l.per + l.chunk);
+  start : l.from ≤ l.ordinal * l.per + l.chunk;
+  small : l.chunk < l.per;
+}
+
+abbrev pub decreases-loop-ordinal : goal.decreases-loop-ordinal
+decreases-loop-ordinal g l = l.count - l.ordinal

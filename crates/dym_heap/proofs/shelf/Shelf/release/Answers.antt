@@ -1,0 +1,31 @@
+use Rattle.std.proofs.Common.{arith, ◌-◌, false, subst, IsSome}
+use Rattle.dym_heap.proofs.ShelfCalls as calls
+use Rattle.dym_heap.proofs.shelf.Shelf.release.Goals as goal
+
+pub unreachable-requires : goal.unreachable-requires
+unreachable-requires g c = calls.not_past _ _ _ _ _ _ _ _ _ _ _ c.self.view_is c.self.invariant c.args.exp c.requires.least c.requires.most c.args.index c.requires.used c.in_default.ensures
+
+pub index_mut-place-requires : goal.index_mut-place-requires
+index_mut-place-requires g c =
+    let l = calls.in_e_at _ _ _ _ _ _ _ _ _ _ _ c.self.view_is c.self.invariant c.args.exp c.requires.least c.requires.most c.args.index _ _ _ c.in-Some.ensures in omega arith
+
+pub release-requires : goal.release-requires
+release-requires g c = subst IsSome (calls.chunk_i _ _ _ _ _ _ _ _ _ _ _ c.self.view_is c.self.invariant c.args.exp c.requires.least c.requires.most _ _ _ (calls.spot_e _ _ _ _ _ _ _ _ _ _ _ c.self.view_is c.self.invariant c.args.exp c.requires.least c.requires.most c.args.index _ _ _ c.in-Some.ensures) _ c.index_mut-place.ensures.value c.args.index (calls.index_e _ _ _ _ _ _ _ _ _ _ _ c.self.view_is c.self.invariant c.args.exp c.requires.least c.requires.most c.args.index _ _ _ c.in-Some.ensures)) c.requires.used
+
+pub clear-requires : goal.clear-requires
+clear-requires g c = calls.few_e _ _ _ _ _ _ _ _ _ _ _ c.self.view_is c.self.invariant c.args.exp c.requires.least c.requires.most _ _ _ (calls.spot_e _ _ _ _ _ _ _ _ _ _ _ c.self.view_is c.self.invariant c.args.exp c.requires.least c.requires.most c.args.index _ _ _ c.in-Some.ensures) _ c.index_mut-place.ensures.value
+
+pub invariant_of-self : goal.invariant_of-self
+invariant_of-self g c =
+    (calls.released _ _ _ _ _ _ _ _ _ _ _ c.self.view_is c.self.invariant c.args.exp c.requires.least c.requires.most _ _ _ (calls.spot_e _ _ _ _ _ _ _ _ _ _ _ c.self.view_is c.self.invariant c.args.exp c.requires.least c.requires.most c.args.index _ _ _ c.in-Some.ensures) _ c.index_mut-place.ensures.value _ _ c.args.index (calls.index_e _ _ _ _ _ _ _ _ _ _ _ c.self.view_is c.self.invariant c.args.exp c.requires.least c.requires.most c.args.index _ _ _ c.in-Some.ensures) c.release.ensures.freed c.release.ensures.lawful
+    (calls.marks_written _ (c.args.exp - 5) _ c.in-Some.spot.ordinal _ _ false c.class_index.ensures c.index_mut-marks.ensures.value (calls.full_in _ _ _ _ _ _ _ _ _ _ _ c.self.view_is c.self.invariant c.args.exp c.requires.least c.requires.most _ c.class_index.ensures) c.clear.ensures.after)).shelf
+
+pub returns-clause-freed : goal.returns-clause-freed
+returns-clause-freed g c =
+    (calls.released _ _ _ _ _ _ _ _ _ _ _ c.self.view_is c.self.invariant c.args.exp c.requires.least c.requires.most _ _ _ (calls.spot_e _ _ _ _ _ _ _ _ _ _ _ c.self.view_is c.self.invariant c.args.exp c.requires.least c.requires.most c.args.index _ _ _ c.in-Some.ensures) _ c.index_mut-place.ensures.value _ _ c.args.index (calls.index_e _ _ _ _ _ _ _ _ _ _ _ c.self.view_is c.self.invariant c.args.exp c.requires.least c.requires.most c.args.index _ _ _ c.in-Some.ensures) c.release.ensures.freed c.release.ensures.lawful
+    (calls.marks_written _ (c.args.exp - 5) _ c.in-Some.spot.ordinal _ _ false c.class_index.ensures c.index_mut-marks.ensures.value (calls.full_in _ _ _ _ _ _ _ _ _ _ _ c.self.view_is c.self.invariant c.args.exp c.requires.least c.requires.most _ c.class_index.ensures) c.clear.ensures.after)).gives
+
+pub returns-clause-kept : goal.returns-clause-kept
+returns-clause-kept g c =
+    (calls.released _ _ _ _ _ _ _ _ _ _ _ c.self.view_is c.self.invariant c.args.exp c.requires.least c.requires.most _ _ _ (calls.spot_e _ _ _ _ _ _ _ _ _ _ _ c.self.view_is c.self.invariant c.args.exp c.requires.least c.requires.most c.args.index _ _ _ c.in-Some.ensures) _ c.index_mut-place.ensures.value _ _ c.args.index (calls.index_e _ _ _ _ _ _ _ _ _ _ _ c.self.view_is c.self.invariant c.args.exp c.requires.least c.requires.most c.args.index _ _ _ c.in-Some.ensures) c.release.ensures.freed c.release.ensures.lawful
+    (calls.marks_written _ (c.args.exp - 5) _ c.in-Some.spot.ordinal _ _ false c.class_index.ensures c.index_mut-marks.ensures.value (calls.full_in _ _ _ _ _ _ _ _ _ _ _ c.self.view_is c.self.invariant c.args.exp c.requires.least c.requires.most _ c.class_index.ensures) c.clear.ensures.after)).kept

@@ -1,0 +1,104 @@
+-- How a shelf keeps its areas: those of all classes in one list, class after class, and a mark for each that is full.
+use Rattle.std.specs.Prelude.{◌≡◌, ℕ, ◌+◌, ◌≤◌, ◌<◌, Bool, List, [], map, length, slice_index, slice_index_or, slice_range, None, IsSome, sum_by}
+use Rattle.std.specs.List.{range_with_len, flat_map}
+use Rattle.dym_base.specs.declared.command.Version.{Version}
+use Rattle.dym_base.specs.declared.command.Version.TheVariants.{One, Two}
+use Rattle.dym_base.specs.declared.limits.TheConstants.{MOST_CHUNKS}
+use Rattle.dym_bits.specs.Bits.{IsSet, IsClear}
+use Rattle.dym_region.specs.declared.segment.SegmentId.{SegmentId}
+use Rattle.dym_base.specs.Origins.{Origin}
+use Rattle.dym_heap.specs.Table.{Row}
+use Rattle.dym_heap.specs.Shelves.{ShelfMeaning}
+use Rattle.dym_heap.specs.Places.{PlaceMeaning, IsPlace}
+
+-- the chunks of areas of one class, one area after the other
+abbrev pub row_of : List PlaceMeaning → Row
+row_of places = record { chunks = flat_map (λ p. p.chunks) places; touched = flat_map (λ p. p.touched) places }
+
+-- the areas of class c + 5: they stand from start c up to start c + 1
+abbrev pub class_places : List ℕ → List PlaceMeaning → ℕ → List PlaceMeaning
+class_places starts places c = slice_range places (slice_index starts c) (slice_index starts (c + 1))
+
+-- the rows of the first n classes
+unfoldable pub rows_upto : ℕ → List ℕ → List PlaceMeaning → List Row
+rows_upto n starts places = map (λ c. row_of (class_places starts places c)) (range_with_len 0 n)
+
+-- an area of class e, at its place in the class
+pub record IsPlaced (v : Version) (e o : ℕ) (p : PlaceMeaning) : Type 0 where
+  pub place : IsPlace p
+  pub version : p.version ≡ v
+  pub exponent : p.exponent ≡ e
+  pub ordinal : p.ordinal ≡ o
+
+-- the bits of class c
+abbrev pub marks_of_class : List (List Bool) → ℕ → List Bool
+marks_of_class full c = slice_index_or full c []
+
+-- each chunk of the area is in use
+abbrev pub IsFullPlace : PlaceMeaning → Type 0
+IsFullPlace p = (i : ℕ) → i < length p.chunks → IsSome (slice_index_or p.chunks i None)
+
+-- a chunk of the area is free
+abbrev pub HasFree : PlaceMeaning → Type 0
+HasFree p = (i : ℕ) × (i < length p.chunks) × (slice_index_or p.chunks i None ≡ None)
+
+-- the thirteen starts, the areas and the marks belong together
+pub record IsArranged (v : Version) (starts : List ℕ) (places : List PlaceMeaning) (full : List (List Bool)) : Type 0 where
+  pub starts_len : length starts ≡ 13
+  pub first : slice_index starts 0 ≡ 0
+  pub rising : (c : ℕ) → c < 12 → slice_index starts c ≤ slice_index starts (c + 1)
+  pub last : slice_index starts 12 ≡ length places
+  pub placed : (c o : ℕ) (d : PlaceMeaning) → c < 12 → slice_index starts c + o < slice_index starts (c + 1)
+      → IsPlaced v (c + 5) o (slice_index_or places (slice_index starts c + o) d)
+  pub full_len : length full ≡ 12
+  pub bits_len : (c : ℕ) → c < 12 → length (marks_of_class full c) ≡ MOST_CHUNKS
+  -- a mark says that the area is full, and only an area that is not lacks one
+  pub marked : (c o : ℕ) (d : PlaceMeaning) → c < 12 → IsSet (marks_of_class full c) o
+      → (slice_index starts c + o < slice_index starts (c + 1)) × IsFullPlace (slice_index_or places (slice_index starts c + o) d)
+  pub unmarked : (c o : ℕ) (d : PlaceMeaning) → c < 12 → slice_index starts c + o < slice_index starts (c + 1) → IsClear (marks_of_class full c) o
+      → HasFree (slice_index_or places (slice_index starts c + o) d)
+
+-- in version 2 there are tables of lengths for as many areas as the quota allows, and in version 1 none
+abbrev pub HasTables : Version → ℕ → ℕ → ℕ → ℕ → Type 0
+HasTables One quota areas spare room = spare ≡ 0
+HasTables Two quota areas spare room = (spare + areas ≡ quota) × (quota ≤ room)
+
+-- whatever each identity weighs, those that are held weigh as much as those of the areas
+abbrev pub Owns : List SegmentId → List PlaceMeaning → Type 0
+Owns ids places = (weight : SegmentId → ℕ) → sum_by weight ids ≡ sum_by (λ (p : PlaceMeaning). weight p.identity) places
+
+-- the areas are over the segments that are held, and there is room for as many as the quota allows
+pub record IsSupplied (v : Version) (quota : ℕ) (ids : List SegmentId) (places : List PlaceMeaning) (room spare spare_room : ℕ) : Type 0 where
+  pub least : 1 ≤ quota
+  pub most : quota ≤ 1024
+  pub within : length places ≤ quota
+  pub has_room : quota ≤ room
+  pub tables : HasTables v quota (length places) spare spare_room
+  pub owned : Owns ids places
+
+-- a shelf, read from its starts and its areas
+abbrev pub shelf_of : Version → ℕ → List SegmentId → Origin → List ℕ → List PlaceMeaning → ShelfMeaning
+shelf_of v quota ids origin starts places = record { version = v; quota = quota; held_ids = ids; origin = origin; rows = rows_upto 12 starts places }
+
+-- what a shelf keeps
+pub record IsShelf (v : Version) (quota : ℕ) (ids : List SegmentId) (starts : List ℕ) (places : List PlaceMeaning) (full : List (List Bool)) (room spare spare_room : ℕ) : Type 0 where
+  pub arranged : IsArranged v starts places full
+  pub supplied : IsSupplied v quota ids places room spare spare_room
+
+-- each start past class c is one higher
+pub record Shifts (starts starts' : List ℕ) (c : ℕ) : Type 0 where
+  pub len : length starts' ≡ length starts
+  pub low : (d : ℕ) → d ≤ c → slice_index starts' d ≡ slice_index starts d
+  pub high : (d : ℕ) → c < d → d < 13 → slice_index starts' d ≡ slice_index starts d + 1
+
+-- each start past class c is one lower
+pub record Unshifts (starts starts' : List ℕ) (c : ℕ) : Type 0 where
+  pub len : length starts' ≡ length starts
+  pub low : (d : ℕ) → d ≤ c → slice_index starts' d ≡ slice_index starts d
+  pub high : (d : ℕ) → c < d → d < 13 → slice_index starts' d + 1 ≡ slice_index starts d
+
+-- twelve bitmaps, none of which has a bit set
+pub record AreClear (full : List (List Bool)) : Type 0 where
+  pub classes : length full ≡ 12
+  pub long : (c : ℕ) → c < 12 → length (marks_of_class full c) ≡ MOST_CHUNKS
+  pub clear : (c o : ℕ) → c < 12 → IsClear (marks_of_class full c) o

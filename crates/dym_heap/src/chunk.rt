@@ -1,0 +1,184 @@
+//! Chunks of a shelf by their handles.
+ghost use Rattle.std.specs.Prelude.{◌≡◌, ℕ, ◌+◌, ◌-◌, ◌≤◌, ◌<◌, true, None, Some, List, length, replicate, Ok, MatchOption, IsSome, option_map};
+ghost use Rattle.std.specs.FinMap.{get};
+ghost use Rattle.dym_base.specs.Numbers.{number};
+ghost use Rattle.dym_base.specs.HeapStep.{key, splice, with_chunk, without_chunk, found_at, resize, fitted, held_with_fresh};
+ghost use Rattle.dym_base.specs.Heaps.{fresh};
+ghost use Rattle.dym_base.specs.declared.command.Version.TheVariants.{Two};
+ghost use Rattle.dym_heap.specs.Meaning.{IsSizeOf};
+ghost use Rattle.dym_heap.specs.Replies.{found_reply};
+ghost use Rattle.dym_heap.specs.Table.{chunk_at, live_of, state_of};
+ghost use Rattle.dym_heap.specs.Shelves.{ShelfMeaning, IsTidy, IsKept, Keeps, FitsIn, Copied};
+
+use crate::found::Found;
+use crate::fresh::take_fresh;
+use crate::shelf::Shelf;
+use dym_base::limits::{GREATEST_EXPONENT, LEAST_EXPONENT};
+use dym_base::{Handle, Version};
+use dym_quota::Supply;
+
+/// The bytes that are copied at a time.
+const BLOCK: usize = 1_024;
+
+/// A chunk's length in bytes, and None where it isn't live.
+pub(crate) fn len_of_handle<S: Supply>(shelf: &Shelf<S>, h: Handle) -> Option<u32>
+    requires { IsTidy shelf.now }
+    ensures len { result ≡ option_map length (get (live_of shelf.now.rows) (key h)) }
+    ensures place { IsSome result → (5 ≤ h.exp) × (h.exp ≤ 16) × (get (live_of shelf.now.rows) (key h) ≡ chunk_at shelf.now.rows (h.exp - 5) h.index) }
+{
+    if h.exp < LEAST_EXPONENT {
+        return None;
+    }
+    if h.exp > GREATEST_EXPONENT {
+        return None;
+    }
+    shelf.chunk_len(h.exp, h.index)
+}
+
+/// Frees a chunk that is live, and gives back the areas that its class needs no more.
+pub(crate) fn free_chunk<S: Supply>(shelf: &mut Shelf<S>, way: &S::Way, exp: u8, index: u32)
+    requires least { 5 ≤ exp }
+    requires most { exp ≤ 16 }
+    requires tidy { IsTidy shelf.old }
+    requires live { IsSome (chunk_at shelf.old.rows (exp - 5) index) }
+    ensures after { state_of shelf.new.rows ≡ without_chunk (state_of shelf.old.rows) (number exp index) }
+    ensures keeps { Keeps shelf.old shelf.new }
+    ensures tidy { IsTidy shelf.new }
+{
+    shelf.release(exp, index);
+    shelf.trim(way, exp);
+}
+
+/// Writes at least one byte into a chunk that is live.
+pub(crate) fn write_chunk<S: Supply>(
+    shelf: &mut Shelf<S>,
+    exp: u8,
+    index: u32,
+    at: u32,
+    bytes: &[u8],
+)
+    requires least { 5 ≤ exp }
+    requires most { exp ≤ 16 }
+    requires tidy { IsTidy shelf.old }
+    requires some { 0 < length bytes.now }
+    requires within { FitsIn (chunk_at shelf.old.rows (exp - 5) index) (at + length bytes.now) }
+    ensures after { MatchOption (chunk_at shelf.old.rows (exp - 5) index) ⊥ (λ old. state_of shelf.new.rows ≡ with_chunk (state_of shelf.old.rows) (number exp index) (splice at bytes.now old)) }
+    ensures keeps { Keeps shelf.old shelf.new }
+    ensures held { shelf.new.held_ids ≡ shelf.old.held_ids }
+    ensures tidy { IsTidy shelf.new }
+{
+    shelf.write(exp, index, at, bytes);
+}
+
+/// Makes at least one byte of a chunk that is live `byte`.
+pub(crate) fn fill_chunk<S: Supply>(
+    shelf: &mut Shelf<S>,
+    exp: u8,
+    index: u32,
+    at: u32,
+    len: u32,
+    byte: u8,
+)
+    requires least { 5 ≤ exp }
+    requires most { exp ≤ 16 }
+    requires tidy { IsTidy shelf.old }
+    requires some { 0 < len }
+    requires within { FitsIn (chunk_at shelf.old.rows (exp - 5) index) (at + len) }
+    ensures after { MatchOption (chunk_at shelf.old.rows (exp - 5) index) ⊥ (λ old. state_of shelf.new.rows ≡ with_chunk (state_of shelf.old.rows) (number exp index) (splice at (replicate len byte) old)) }
+    ensures keeps { Keeps shelf.old shelf.new }
+    ensures held { shelf.new.held_ids ≡ shelf.old.held_ids }
+    ensures tidy { IsTidy shelf.new }
+{
+    shelf.fill(exp, index, at, len, byte);
+}
+
+/// What a number in a chunk's bytes names.
+pub(crate) fn find_number<S: Supply>(shelf: &Shelf<S>, n: u64) -> Found
+    requires { IsTidy shelf.now }
+    ensures { found_reply (Ok result) ≡ found_at (state_of shelf.now.rows) n }
+{
+    if n == 0 {
+        return Found::Nil;
+    }
+    let Some(h) = Handle::of_number(n) else {
+        return Found::Loose(n);
+    };
+    if len_of_handle(shelf, h).is_none() {
+        return Found::Loose(n);
+    }
+    Found::Live(h)
+}
+
+/// Another length for a chunk that is live, of its own class. In version 1 nothing changes.
+pub(crate) fn resize_chunk<S: Supply>(shelf: &mut Shelf<S>, h: Handle, old: u32, len: u32)
+    requires least { 5 ≤ h.exp }
+    requires most { h.exp ≤ 16 }
+    requires tidy { IsTidy shelf.old }
+    requires sized { IsSizeOf Two h.exp len }
+    requires live { MatchOption (chunk_at shelf.old.rows (h.exp - 5) h.index) ⊥ (λ bytes. length bytes ≡ old) }
+    ensures after { MatchOption (chunk_at shelf.old.rows (h.exp - 5) h.index) ⊥ (λ bytes. state_of shelf.new.rows ≡ resize shelf.old.version (state_of shelf.old.rows) h len bytes) }
+    ensures keeps { Keeps shelf.old shelf.new }
+    ensures held { shelf.new.held_ids ≡ shelf.old.held_ids }
+    ensures tidy { IsTidy shelf.new }
+{
+    if shelf.version() == Version::One {
+        return;
+    }
+    if len == old {
+        return;
+    }
+    shelf.resize(h.exp, h.index, len);
+}
+
+/// Copies the first `len` bytes of a chunk over those of a chunk of another class.
+fn copy_chunk<S: Supply>(shelf: &mut Shelf<S>, from: Handle, to: Handle, len: u32)
+    requires from_class { (5 ≤ from.exp) × (from.exp ≤ 16) }
+    requires to_class { (5 ≤ to.exp) × (to.exp ≤ 16) }
+    requires apart { from.exp ≡ to.exp → ⊥ }
+    requires kept { IsKept shelf.old }
+    requires source { FitsIn (chunk_at shelf.old.rows (from.exp - 5) from.index) len }
+    requires target { FitsIn (chunk_at shelf.old.rows (to.exp - 5) to.index) len }
+    ensures copied { Copied shelf.old shelf.new (from.exp - 5) from.index (to.exp - 5) to.index len }
+    ensures kept { IsKept shelf.new }
+{
+    let mut block = [0; BLOCK];
+    let mut done = 0;
+    while done < len {
+        let more = (len - done).min(BLOCK as u32);
+        let part = &mut block[..more as usize];
+        shelf.read(from.exp, from.index, done, part);
+        shelf.write(to.exp, to.index, done, part);
+        done += more;
+    }
+}
+
+/// Moves a chunk that is live to a fresh chunk of another class, where the quota allows it: its first bytes, and zeros after
+/// them up to `len`.
+pub(crate) fn move_chunk<S: Supply>(
+    shelf: &mut Shelf<S>,
+    way: &S::Way,
+    from: Handle,
+    old: u32,
+    exp: u8,
+    len: u32,
+) -> Option<u32>
+    requires from_class { (5 ≤ from.exp) × (from.exp ≤ 16) }
+    requires to_class { (5 ≤ exp) × (exp ≤ 16) }
+    requires apart { from.exp ≡ exp → ⊥ }
+    requires tidy { IsTidy shelf.old }
+    requires sized { IsSizeOf shelf.old.version exp len }
+    requires live { MatchOption (chunk_at shelf.old.rows (from.exp - 5) from.index) ⊥ (λ bytes. length bytes ≡ old) }
+    ensures answer { MatchOption result (shelf.old.quota < held_with_fresh (live_of shelf.old.rows) exp)
+        (λ i. (held_with_fresh (live_of shelf.old.rows) exp ≤ shelf.old.quota) × (i ≡ fresh (live_of shelf.old.rows) exp)) }
+    ensures after { MatchOption result (shelf.new ≡ shelf.old)
+        (λ i. MatchOption (chunk_at shelf.old.rows (from.exp - 5) from.index) ⊥ (λ bytes. state_of shelf.new.rows ≡ without_chunk (with_chunk (state_of shelf.old.rows) (number exp i) (fitted len bytes)) (key from))) }
+    ensures keeps { Keeps shelf.old shelf.new }
+    ensures tidy { IsTidy shelf.new }
+{
+    let Some(index) = take_fresh(shelf, way, exp, len) else {
+        return None;
+    };
+    copy_chunk(shelf, from, Handle { exp, index }, old.min(len));
+    free_chunk(shelf, way, from.exp, from.index);
+    Some(index)
+}

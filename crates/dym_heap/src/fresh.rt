@@ -1,0 +1,42 @@
+//! Fresh chunks.
+ghost use Rattle.std.specs.Prelude.{◌≡◌, ℕ, ◌+◌, ◌-◌, ◌≤◌, ◌<◌, true, false, None, Some, [], length, take, drop, replicate, slice_index_or, IsSome, MatchOption};
+ghost use Rattle.dym_base.specs.Numbers.{number};
+ghost use Rattle.dym_base.specs.Heaps.{fresh};
+ghost use Rattle.dym_base.specs.HeapStep.{held_with_fresh, with_chunk};
+ghost use Rattle.dym_heap.specs.Meaning.{IsSizeOf};
+ghost use Rattle.dym_heap.specs.Table.{row_at, chunk_at, live_of, state_of};
+ghost use Rattle.dym_heap.specs.Shelves.{ShelfMeaning, IsTidy, Keeps};
+
+use crate::shelf::Shelf;
+use dym_quota::Supply;
+
+/// A fresh chunk of a class, of `len` zero bytes, where the quota allows it.
+pub(crate) fn take_fresh<S: Supply>(
+    shelf: &mut Shelf<S>,
+    way: &S::Way,
+    exp: u8,
+    len: u32,
+) -> Option<u32>
+    requires least { 5 ≤ exp }
+    requires most { exp ≤ 16 }
+    requires tidy { IsTidy shelf.old }
+    requires sized { IsSizeOf shelf.old.version exp len }
+    ensures answer { MatchOption result (shelf.old.quota < held_with_fresh (live_of shelf.old.rows) exp)
+        (λ i. (held_with_fresh (live_of shelf.old.rows) exp ≤ shelf.old.quota) × (i ≡ fresh (live_of shelf.old.rows) exp)) }
+    ensures after { MatchOption result (shelf.new ≡ shelf.old)
+        (λ i. state_of shelf.new.rows ≡ with_chunk (state_of shelf.old.rows) (number exp i) (replicate len 0)) }
+    ensures keeps { Keeps shelf.old shelf.new }
+    ensures tidy { IsTidy shelf.new }
+{
+    if let Some(index) = shelf.take_chunk(exp, len) {
+        return Some(index);
+    }
+    if shelf.held() == shelf.quota() {
+        return None;
+    }
+    shelf.add_area(way, exp);
+    let Some(index) = shelf.take_chunk(exp, len) else {
+        unreachable!();
+    };
+    Some(index)
+}

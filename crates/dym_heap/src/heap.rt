@@ -1,0 +1,331 @@
+//! The heap.
+ghost use Rattle.std.specs.Prelude.{◌≡◌, ℕ, ◌+◌, ◌-◌, ◌^◌, false, ◌≤◌, ◌<◌, true, false, None, Some, [], List, length, replicate, IsSome, IsTrue, MatchOption, OnErr, IfOk, IfErr, option_map};
+ghost use Rattle.std.specs.FinMap.{get, contains_key};
+ghost use Rattle.std.specs.FinSet as FinSet;
+ghost use Rattle.dym_base.specs.HeapStep.{key};
+ghost use Rattle.dym_base.specs.Objects.{empty_heap};
+ghost use Rattle.dym_base.specs.declared.command.Version.TheVariants.{One};
+ghost use Rattle.dym_base.specs.declared.command.Command.TheVariants.{Malloc, Calloc, Realloc, Free, Write, Fill, Read, Follow};
+ghost use Rattle.dym_base.specs.declared.limits.TheConstants.{MOST_QUOTA};
+ghost use Rattle.dym_heap.specs.Meaning.{HeapMeaning, IsSound};
+ghost use Rattle.dym_heap.specs.Replies.{step_of, stepped, done_reply, chunk_reply, moved_reply, bytes_reply, found_reply, after_key, IsNextLive};
+
+use crate::chunk::{
+    fill_chunk, find_number, free_chunk, len_of_handle, move_chunk, resize_chunk, write_chunk,
+};
+use crate::found::Found;
+use crate::fresh::take_fresh;
+use crate::next::next_from;
+use crate::shelf::Shelf;
+use dym_base::limits::MOST_QUOTA;
+use dym_base::{Handle, Refusal, Version, class_of, size_of_class};
+use dym_quota::Supply;
+use std::alloc::{AllocError, Global};
+use std::marker::Model;
+
+/// The heap of one simulation object.
+///
+/// Contracts see its version, its quota, its live and touched chunks, the identities of the segments that it holds, where
+/// these come from, and how many commands were applied to it. Only `open` and `open_as` take memory. A refusal changes
+/// nothing.
+pub struct Heap<S: Supply> {
+    shelf: Shelf<S>,
+    applied: u64,
+}
+
+impl<S: Supply> Model for Heap<S> {
+    ghost use Rattle.std.specs.Prelude.{ℕ, List};
+    ghost use Rattle.std.specs.Coded.{codes};
+    ghost use Rattle.dym_heap.specs.Meaning.{HeapMeaning, live_code, touched_code};
+
+    ghost Value = { HeapMeaning };
+
+    ghost coded = { Prim.hlevel (codes, live_code, touched_code) };
+
+    ghost use Rattle.dym_heap.specs.Table.{state_of};
+    ghost use Rattle.dym_heap.specs.Shelves.{IsTidy};
+
+    ghost view = { λ h. record { version = h.shelf.version; quota = h.shelf.quota; state = state_of h.shelf.rows; held_ids = h.shelf.held_ids; origin = h.shelf.origin; applied = h.applied } };
+
+    ghost invariant = { λ h. IsTidy h.shelf };
+}
+
+impl<S: Supply> Heap<S> {
+    /// An empty heap of version 1. Room for all areas of the quota is taken here.
+    pub fn open(alloc: Global, supply: S) -> Result<Heap<S>, (AllocError, S)>
+        requires nothing_held { S.held_ids supply ≡ [] }
+        requires least { 1 ≤ S.quota_of supply }
+        requires most { S.quota_of supply ≤ MOST_QUOTA }
+        ensures opened { IfOk result (λ h. h ≡ record { version = One; quota = S.quota_of supply; state = empty_heap; held_ids = []; origin = S.origin supply; applied = 0 }) }
+        ensures sound { IfOk result IsSound }
+        ensures back { IfErr result (λ e. e.1 ≡ supply) }
+    {
+        Heap::open_as(alloc, supply, Version::One)
+    }
+
+    /// An empty heap of a version. In version 2 room for all lengths is taken too.
+    pub fn open_as(alloc: Global, supply: S, version: Version) -> Result<Heap<S>, (AllocError, S)>
+        requires nothing_held { S.held_ids supply ≡ [] }
+        requires least { 1 ≤ S.quota_of supply }
+        requires most { S.quota_of supply ≤ MOST_QUOTA }
+        ensures opened { IfOk result (λ h. h ≡ record { version = version; quota = S.quota_of supply; state = empty_heap; held_ids = []; origin = S.origin supply; applied = 0 }) }
+        ensures sound { IfOk result IsSound }
+        ensures back { IfErr result (λ e. e.1 ≡ supply) }
+    {
+        match Shelf::open(alloc, supply, version) {
+            Ok(shelf) => Ok(Heap { shelf, applied: 0 }),
+            Err(refused) => Err(refused),
+        }
+    }
+
+    /// The version, which no call changes.
+    pub fn version(&self) -> Version
+        ensures { result ≡ self.now.version }
+    {
+        self.shelf.version()
+    }
+
+    /// How many segments the heap holds.
+    pub fn held(&self) -> u32
+        ensures { result ≡ length self.now.held_ids }
+    {
+        self.shelf.held()
+    }
+
+    /// The most segments that the heap may hold.
+    pub fn quota(&self) -> u32
+        ensures { result ≡ self.now.quota }
+    {
+        self.shelf.quota()
+    }
+
+    /// How many commands were applied.
+    pub fn applied(&self) -> u64
+        ensures { result ≡ self.now.applied }
+    {
+        self.applied
+    }
+
+    /// A fresh chunk of `len` zero bytes. In version 1 it has all bytes of its class.
+    pub fn malloc(&mut self, way: &S::Way, len: u64) -> Result<Handle, Refusal>
+        ensures reply { chunk_reply result ≡ (step_of self.old (Malloc len)).reply }
+        ensures after { self.new ≡ record (stepped self.old (Malloc len)) { held_ids = self.new.held_ids } }
+        ensures refused { OnErr result (self.new ≡ self.old) }
+        ensures sound { IsSound self.new }
+    {
+        let Some(exp) = class_of(len) else {
+            let _applied = self.applied;
+            return Err(Refusal::TooLarge);
+        };
+        let bytes = new_len(self.shelf.version(), exp, len);
+        match take_fresh(&mut self.shelf, way, exp, bytes) {
+            Some(index) => Ok(Handle { exp, index }),
+            None => Err(Refusal::Quota),
+        }
+    }
+
+    /// A fresh chunk of `n * len` zero bytes.
+    pub fn calloc(&mut self, way: &S::Way, n: u64, len: u64) -> Result<Handle, Refusal>
+        ensures reply { chunk_reply result ≡ (step_of self.old (Calloc n len)).reply }
+        ensures after { self.new ≡ record (stepped self.old (Calloc n len)) { held_ids = self.new.held_ids } }
+        ensures refused { OnErr result (self.new ≡ self.old) }
+        ensures sound { IsSound self.new }
+    {
+        let Some(product) = n.checked_mul(len) else {
+            let _applied = self.applied;
+            return Err(Refusal::TooLarge);
+        };
+        self.malloc(way, product)
+    }
+
+    /// A chunk of `len` bytes with the old bytes up to the smaller length, then zeros. A chunk of its own class keeps its
+    /// handle; nil is as `malloc`, and a `len` of 0 frees the chunk.
+    pub fn realloc(
+        &mut self,
+        way: &S::Way,
+        h: Option<Handle>,
+        len: u64,
+    ) -> Result<Option<Handle>, Refusal>
+        ensures reply { moved_reply result ≡ (step_of self.old (Realloc h len)).reply }
+        ensures after { self.new ≡ record (stepped self.old (Realloc h len)) { held_ids = self.new.held_ids } }
+        ensures refused { OnErr result (self.new ≡ self.old) }
+        ensures sound { IsSound self.new }
+    {
+        let Some(h) = h else {
+            return match self.malloc(way, len) {
+                Ok(fresh) => Ok(Some(fresh)),
+                Err(refusal) => Err(refusal),
+            };
+        };
+        if len == 0 {
+            return match self.free(way, Some(h)) {
+                Ok(()) => Ok(None),
+                Err(refusal) => Err(refusal),
+            };
+        }
+        self.realloc_live(way, h, len)
+    }
+
+    /// As `realloc` of a handle and at least one byte.
+    fn realloc_live(&mut self, way: &S::Way, h: Handle, len: u64) -> Result<Option<Handle>, Refusal>
+        requires { 0 < len }
+        ensures reply { moved_reply result ≡ (step_of self.old (Realloc (Some h) len)).reply }
+        ensures after { self.new ≡ record (stepped self.old (Realloc (Some h) len)) { held_ids = self.new.held_ids } }
+        ensures refused { OnErr result (self.new ≡ self.old) }
+        ensures sound { IsSound self.new }
+    {
+        let Some(old) = len_of_handle(&self.shelf, h) else {
+            return Err(Refusal::Dead);
+        };
+        let Some(exp) = class_of(len) else {
+            return Err(Refusal::TooLarge);
+        };
+        if exp == h.exp {
+            resize_chunk(&mut self.shelf, h, old, len as u32);
+            return Ok(Some(h));
+        }
+        let bytes = new_len(self.shelf.version(), exp, len);
+        match move_chunk(&mut self.shelf, way, h, old, exp, bytes) {
+            Some(index) => Ok(Some(Handle { exp, index })),
+            None => Err(Refusal::Quota),
+        }
+    }
+
+    /// Frees a chunk. Nil does nothing.
+    pub fn free(&mut self, way: &S::Way, h: Option<Handle>) -> Result<(), Refusal>
+        ensures reply { done_reply result ≡ (step_of self.old (Free h)).reply }
+        ensures after { self.new ≡ record (stepped self.old (Free h)) { held_ids = self.new.held_ids } }
+        ensures refused { OnErr result (self.new ≡ self.old) }
+        ensures sound { IsSound self.new }
+    {
+        let Some(h) = h else {
+            let _applied = self.applied;
+            return Ok(());
+        };
+        if len_of_handle(&self.shelf, h).is_none() {
+            return Err(Refusal::Dead);
+        }
+        free_chunk(&mut self.shelf, way, h.exp, h.index);
+        Ok(())
+    }
+
+    /// Writes the bytes into a chunk, from its place `at` on. An empty write changes nothing.
+    pub fn write(&mut self, h: Handle, at: u32, bytes: &[u8]) -> Result<(), Refusal>
+        ensures reply { done_reply result ≡ (step_of self.old (Write h at bytes.now)).reply }
+        ensures after { self.new ≡ stepped self.old (Write h at bytes.now) }
+        ensures sound { IsSound self.new }
+    {
+        let Some(len) = len_of_handle(&self.shelf, h) else {
+            return Err(Refusal::Dead);
+        };
+        if at as usize + bytes.len() > len as usize {
+            return Err(Refusal::Range);
+        }
+        if bytes.is_empty() {
+            return Ok(());
+        }
+        write_chunk(&mut self.shelf, h.exp, h.index, at, bytes);
+        Ok(())
+    }
+
+    /// Makes `len` bytes of a chunk from its place `at` on `byte`. Where `len` is 0 nothing changes.
+    pub fn fill(&mut self, h: Handle, at: u32, len: u32, byte: u8) -> Result<(), Refusal>
+        ensures reply { done_reply result ≡ (step_of self.old (Fill h at len byte)).reply }
+        ensures after { self.new ≡ stepped self.old (Fill h at len byte) }
+        ensures sound { IsSound self.new }
+    {
+        let Some(size) = len_of_handle(&self.shelf, h) else {
+            return Err(Refusal::Dead);
+        };
+        if u64::from(at) + u64::from(len) > u64::from(size) {
+            return Err(Refusal::Range);
+        }
+        if len == 0 {
+            return Ok(());
+        }
+        fill_chunk(&mut self.shelf, h.exp, h.index, at, len, byte);
+        Ok(())
+    }
+
+    /// What the eight bytes of a chunk from its place `at` on name.
+    pub fn follow(&self, h: Handle, at: u32) -> Result<Found, Refusal>
+        ensures { found_reply result ≡ (step_of self.now (Follow h at)).reply }
+    {
+        let Some(size) = len_of_handle(&self.shelf, h) else {
+            return Err(Refusal::Dead);
+        };
+        if u64::from(at) + 8 > u64::from(size) {
+            return Err(Refusal::Range);
+        }
+        let mut bytes = [0; 8];
+        self.shelf.read(h.exp, h.index, at, &mut bytes);
+        Ok(find_number(&self.shelf, u64::from_le_bytes(bytes)))
+    }
+
+    /// Copies the bytes of a chunk from its place `at` on into `out`.
+    pub fn read(&self, h: Handle, at: u32, out: &mut [u8]) -> Result<(), Refusal>
+        ensures reply { bytes_reply result out.new ≡ (step_of self.now (Read h at (length out.old))).reply }
+        ensures refused { OnErr result (out.new ≡ out.old) }
+    {
+        let Some(len) = len_of_handle(&self.shelf, h) else {
+            return Err(Refusal::Dead);
+        };
+        if at as usize + out.len() > len as usize {
+            return Err(Refusal::Range);
+        }
+        self.shelf.read(h.exp, h.index, at, out);
+        Ok(())
+    }
+
+    /// A chunk's length in bytes, and None where it isn't live.
+    pub fn size_of(&self, h: Handle) -> Option<u32>
+        ensures { result ≡ option_map length (get self.now.state.live (key h)) }
+    {
+        len_of_handle(&self.shelf, h)
+    }
+
+    /// Whether a chunk is live.
+    pub fn is_live(&self, h: Handle) -> bool
+        ensures { result ≡ contains_key self.now.state.live (key h) }
+    {
+        len_of_handle(&self.shelf, h).is_some()
+    }
+
+    /// The least live chunk above a handle, or the least of all.
+    pub fn next_live(&self, after: Option<Handle>) -> Option<Handle>
+        ensures { MatchOption result ((k : ℕ) → after_key after ≤ k → contains_key self.now.state.live k ≡ false) (λ h. IsNextLive self.now.state.live (after_key after) (key h)) }
+    {
+        next_from(&self.shelf, after)
+    }
+
+    /// No chunk is touched.
+    pub fn clear_dirty(&mut self)
+        ensures cleared { self.new ≡ record self.old { state = record { live = self.old.state.live; touched = FinSet.empty } } }
+        ensures sound { IsSound self.new }
+    {
+        self.shelf.clear_touched();
+    }
+
+    /// Gives all segments back, and answers the supply.
+    pub fn end(self, way: &S::Way) -> S
+        ensures nothing_held { S.held_ids result ≡ [] }
+        ensures quota { S.quota_of result ≡ self.quota }
+        ensures origin { S.origin result ≡ self.origin }
+    {
+        let Heap { shelf, applied: _ } = self;
+        shelf.close(way)
+    }
+}
+
+/// The bytes of a new chunk of a class for which `len` were asked.
+fn new_len(version: Version, exp: u8, len: u64) -> u32
+    requires least { 5 ≤ exp }
+    requires most { exp ≤ 16 }
+    requires small { len < 2 ^ 32 }
+    ensures { result ≡ Rattle.dym_base.specs.HeapStep.new_len version exp len }
+{
+    match version {
+        Version::One => size_of_class(exp),
+        Version::Two => len as u32,
+    }
+}

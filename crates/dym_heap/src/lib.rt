@@ -1,0 +1,20 @@
+//! The heap of one simulation object: chunks of twelve classes in areas, named by handles that survive a rollback. Below
+//! stand the areas, and the supply that their segments come from; above stand the chain of logs and the object. Its one
+//! contract: a heap is a map from handles to bytes, read from the use bits, lengths and segments of its areas, and each
+//! call is one step of that map.
+#![tactic(auto)]
+
+mod chunk;
+mod found;
+mod fresh;
+mod heap;
+mod lengths;
+mod next;
+mod place;
+mod shelf;
+mod spot;
+#[cfg(test)]
+mod tests;
+
+pub use found::Found;
+pub use heap::Heap;

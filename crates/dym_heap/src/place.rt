@@ -1,0 +1,213 @@
+//! An area with the lengths of its chunks.
+ghost use Rattle.std.specs.Prelude.{◌≡◌, ℕ, ◌+◌, ◌-◌, ◌≤◌, ◌<◌, ◌↔◌, true, false, None, Some, List, length, take, drop, replicate, slice_index, slice_index_or, IsSome, IsTrue, MatchBool, MatchOption, option_map};
+ghost use Rattle.dym_base.specs.Numbers.{per};
+ghost use Rattle.dym_base.specs.HeapStep.{splice, fitted};
+ghost use Rattle.dym_base.specs.declared.limits.TheConstants.{MOST_CHUNKS};
+ghost use Rattle.dym_base.specs.declared.command.Version.TheVariants.{Two};
+ghost use Rattle.dym_heap.specs.Meaning.{IsSizeOf};
+ghost use Rattle.dym_heap.specs.Lengths.{version_of, numbers_of};
+ghost use Rattle.dym_heap.specs.Shelves.{FitsIn};
+ghost use Rattle.dym_heap.specs.Places.{PlaceMeaning, IsPlace, IsFreeIn, IsUsedFrom, IsRepeated, place_put, noted, len_of};
+
+use crate::lengths::Lengths;
+use dym_area::Area;
+use dym_base::size_of_class;
+use dym_region::Segment;
+use std::marker::Model;
+
+/// The bytes that `fill` writes at a time.
+const BLOCK: usize = 1_024;
+
+/// An area, and in version 2 the lengths of its chunks.
+pub(crate) struct Place<G: Segment> {
+    area: Area<G>,
+    lengths: Option<Lengths>,
+}
+
+impl<G: Segment> Model for Place<G> {
+    ghost use Rattle.dym_heap.specs.Places.{PlaceMeaning};
+
+    ghost Value = { PlaceMeaning };
+
+    ghost use Rattle.dym_heap.specs.Places.{place_of, IsMeasured};
+    ghost use Rattle.dym_heap.specs.Lengths.{numbers_of};
+
+    ghost view = { λ p. place_of p.area (numbers_of p.lengths) };
+
+    ghost invariant = { λ p. IsMeasured p.area (numbers_of p.lengths) };
+}
+
+impl<G: Segment> Place<G> {
+    /// A place with no chunk in use.
+    pub(crate) fn new(exp: u8, ordinal: u32, segment: G, lengths: Option<Lengths>) -> Place<G>
+        requires least { 5 ≤ exp }
+        requires most { exp ≤ 16 }
+        ensures made { result ≡ record { version = version_of lengths; exponent = exp; ordinal = ordinal; identity = G.id segment; chunks = replicate (per exp) None; touched = replicate (per exp) false } }
+        ensures lawful { IsPlace result }
+    {
+        Place {
+            area: Area::new(exp, ordinal, segment),
+            lengths,
+        }
+    }
+
+    /// Takes the least free chunk, with `len` zero bytes, and answers its index.
+    pub(crate) fn take_chunk(&mut self, len: u32) -> Option<u32>
+        requires { IsSizeOf self.old.version self.old.exponent len }
+        ensures taken { MatchOption result (self.new ≡ self.old) (λ i. self.new ≡ place_put self.old i (Some (replicate len 0)) true) }
+        ensures free { MatchOption result ((i : ℕ) → i < length self.old.chunks → IsSome (slice_index_or self.old.chunks i None)) (λ i. IsFreeIn self.old.chunks i) }
+        ensures lawful { IsPlace self.new }
+    {
+        let Some(i) = self.area.take_first() else {
+            return None;
+        };
+        note(&mut self.lengths, i, len);
+        Some(i)
+    }
+
+    /// Whether every chunk is in use.
+    pub(crate) fn is_full(&self) -> bool
+        ensures { IsTrue result ↔ ((i : ℕ) → i < length self.now.chunks → IsSome (slice_index_or self.now.chunks i None)) }
+    {
+        self.area.is_full()
+    }
+
+    /// Whether no chunk is in use.
+    pub(crate) fn is_empty(&self) -> bool
+        ensures { MatchBool result ((i : ℕ) → slice_index_or self.now.chunks i None ≡ None) ((i : ℕ) × IsSome (slice_index_or self.now.chunks i None)) }
+    {
+        self.area.top().is_none()
+    }
+
+    /// The least index from `from` on of a chunk in use.
+    pub(crate) fn next_used(&self, from: u32) -> Option<u32>
+        requires { from ≤ MOST_CHUNKS }
+        ensures { MatchOption result ((i : ℕ) → from ≤ i → slice_index_or self.now.chunks i None ≡ None) (λ i. IsUsedFrom self.now.chunks from i) }
+    {
+        self.area.next_used(from)
+    }
+
+    /// The bytes of chunk `i`, and None where it is free.
+    pub(crate) fn chunk_len(&self, i: u32) -> Option<u32>
+        requires { i < length self.now.chunks }
+        ensures { result ≡ option_map length (slice_index_or self.now.chunks i None) }
+    {
+        if !self.area.is_used(i) {
+            return None;
+        }
+        Some(noted_len(&self.lengths, self.area.exp(), i))
+    }
+
+    /// Chunk `i` is free from now on.
+    pub(crate) fn release(&mut self, i: u32)
+        requires { IsSome (slice_index_or self.old.chunks i None) }
+        ensures freed { self.new ≡ place_put self.old i None false }
+        ensures lawful { IsPlace self.new }
+    {
+        self.area.release(i);
+    }
+
+    /// Copies the bytes of chunk `i` from its place `at` on into `out`.
+    pub(crate) fn read(&self, i: u32, at: u32, out: &mut [u8])
+        requires { FitsIn (slice_index_or self.now.chunks i None) (at + length out.old) }
+        ensures { MatchOption (slice_index_or self.now.chunks i None) ⊥ (λ bytes. out.new ≡ take (length out.old) (drop at bytes)) }
+    {
+        self.area.read(i, at, out);
+    }
+
+    /// Writes at least one byte.
+    pub(crate) fn write(&mut self, i: u32, at: u32, bytes: &[u8])
+        requires some { 0 < length bytes.now }
+        requires within { FitsIn (slice_index_or self.old.chunks i None) (at + length bytes.now) }
+        ensures written { MatchOption (slice_index_or self.old.chunks i None) ⊥ (λ old. self.new ≡ place_put self.old i (Some (splice at bytes.now old)) true) }
+        ensures lawful { IsPlace self.new }
+    {
+        self.area.write(i, at, bytes);
+    }
+
+    /// Makes at least one byte `byte`.
+    pub(crate) fn fill(&mut self, i: u32, at: u32, len: u32, byte: u8)
+        requires some { 0 < len }
+        requires within { FitsIn (slice_index_or self.old.chunks i None) (at + len) }
+        ensures filled { MatchOption (slice_index_or self.old.chunks i None) ⊥ (λ old. self.new ≡ place_put self.old i (Some (splice at (replicate len byte) old)) true) }
+        ensures lawful { IsPlace self.new }
+    {
+        self.repeat(i, at, len, &[byte; BLOCK]);
+    }
+
+    /// Writes at least one byte, which are those of a block of equal bytes, again and again.
+    fn repeat(&mut self, i: u32, at: u32, len: u32, block: &[u8])
+        requires some { 0 < len }
+        requires block { IsRepeated block.now }
+        requires within { FitsIn (slice_index_or self.old.chunks i None) (at + len) }
+        ensures filled { MatchOption (slice_index_or self.old.chunks i None) ⊥ (λ old. self.new ≡ place_put self.old i (Some (splice at (replicate len (slice_index block.now 0)) old)) true) }
+        ensures lawful { IsPlace self.new }
+    {
+        let size = block.len() as u32;
+        let mut done = len.min(size);
+        self.write(i, at, &block[..done as usize]);
+        while done < len {
+            let more = (len - done).min(size);
+            self.write(i, at + done, &block[..more as usize]);
+            done += more;
+        }
+    }
+
+    /// Another length for a chunk, in version 2: its first bytes stay, and zeros follow. Where it shrinks, a zero behind its
+    /// new end marks it as touched.
+    pub(crate) fn resize(&mut self, i: u32, len: u32)
+        requires version { self.old.version ≡ Two }
+        requires sized { IsSizeOf Two self.old.exponent len }
+        requires another { MatchOption (slice_index_or self.old.chunks i None) ⊥ (λ old. length old ≡ len → ⊥) }
+        ensures resized { MatchOption (slice_index_or self.old.chunks i None) ⊥ (λ old. self.new ≡ place_put self.old i (Some (fitted len old)) true) }
+        ensures lawful { IsPlace self.new }
+    {
+        let old = noted_len(&self.lengths, self.area.exp(), i);
+        note(&mut self.lengths, i, len);
+        if old < len {
+            self.area.zero(i, old, len - old);
+        } else {
+            self.area.zero(i, len, 1);
+        }
+    }
+
+    /// No chunk is touched.
+    pub(crate) fn clear_touched(&mut self)
+        ensures cleared { self.new ≡ record self.old { touched = replicate (length self.old.touched) false } }
+        ensures lawful { IsPlace self.new }
+    {
+        self.area.clear_dirty();
+    }
+
+    /// The segment and the lengths.
+    pub(crate) fn into_parts(self) -> (G, Option<Lengths>)
+        ensures same { G.id result.0 ≡ self.identity }
+        ensures version { version_of result.1 ≡ self.version }
+    {
+        let Place { area, lengths } = self;
+        (area.into_segment(), lengths)
+    }
+}
+
+/// Notes the length of chunk `i` where lengths are kept.
+fn note(lengths: &mut Option<Lengths>, i: u32, len: u32)
+    requires { i < MOST_CHUNKS }
+    ensures { numbers_of lengths.new ≡ noted (numbers_of lengths.old) i len }
+{
+    if let Some(lengths) = lengths {
+        lengths.set(i, len);
+    }
+}
+
+/// The bytes of chunk `i` of a class: those of the class, or as many as were noted.
+fn noted_len(lengths: &Option<Lengths>, exp: u8, i: u32) -> u32
+    requires least { 5 ≤ exp }
+    requires most { exp ≤ 16 }
+    requires within { i < MOST_CHUNKS }
+    ensures { result ≡ len_of exp (numbers_of lengths.now) i }
+{
+    match lengths {
+        None => size_of_class(exp),
+        Some(lengths) => lengths.get(i),
+    }
+}

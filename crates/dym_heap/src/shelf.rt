@@ -1,0 +1,400 @@
+//! The areas of a heap, class by class.
+ghost use Rattle.std.specs.Prelude.{◌≡◌, ℕ, ◌+◌, ◌-◌, ◌≤◌, ◌<◌, true, false, None, Some, [], List, map, length, take, drop, replicate, slice_index_or, IsSome, MatchBool, MatchOption, OnOk, OnErr, IfOk, IfErr, option_map, vec_len, vec_capacity};
+ghost use Rattle.dym_base.specs.Numbers.{per};
+ghost use Rattle.dym_base.specs.HeapStep.{splice, fitted};
+ghost use Rattle.dym_base.specs.declared.command.Version.TheVariants.{Two};
+ghost use Rattle.dym_base.specs.declared.limits.TheConstants.{MOST_QUOTA};
+ghost use Rattle.dym_heap.specs.Meaning.{IsSizeOf};
+ghost use Rattle.dym_heap.specs.Table.{row_at, chunk_at};
+ghost use Rattle.dym_heap.specs.Shape.{IsTrimmed};
+ghost use Rattle.dym_heap.specs.Places.{clean};
+ghost use Rattle.dym_heap.specs.Arrangement.{AreClear, HasTables, Owns};
+ghost use Rattle.dym_heap.specs.Shelves.{ShelfMeaning, IsKept, IsFirstFree, IsNextUsed, with_row, with_put, longer, Trims, EndsFree, without_last, FitsIn, empty_rows, untouched_rows};
+
+use crate::lengths::Lengths;
+use crate::place::Place;
+use crate::spot::{class_index, find, keep_table, mark_full, shift_down, shift_up};
+use dym_base::limits::MOST_QUOTA;
+use dym_base::{Version, per_area};
+use dym_bits::Bits;
+use dym_quota::Supply;
+use dym_region::Segment;
+use std::alloc::{AllocError, Global};
+use std::marker::Model;
+
+/// Classes of chunks.
+const CLASSES: usize = 12;
+
+/// The areas of a heap, and the supply that their segments come from.
+pub(crate) struct Shelf<S: Supply> {
+    version: Version,
+    supply: S,
+    /// The areas of all classes, class after class, ordinals rising.
+    places: Vec<Place<S::Seg>>,
+    /// Where the areas of each class begin, and at the end where those of the last class end.
+    starts: [u32; 13],
+    /// For each class which of its areas are full.
+    full: Vec<Bits>,
+    /// Tables of lengths that no area has.
+    spare: Vec<Lengths>,
+}
+
+impl<S: Supply> Model for Shelf<S> {
+    ghost use Rattle.dym_heap.specs.Shelves.{ShelfMeaning};
+
+    ghost Value = { ShelfMeaning };
+
+    ghost use Rattle.std.specs.Prelude.{vec_len, vec_capacity};
+    ghost use Rattle.dym_heap.specs.Arrangement.{shelf_of, IsShelf};
+
+    ghost view = { λ s. shelf_of s.version (S.quota_of s.supply) (S.held_ids s.supply) (S.origin s.supply) s.starts s.places.items };
+
+    ghost invariant = { λ s. IsShelf s.version (S.quota_of s.supply) (S.held_ids s.supply) s.starts s.places.items s.full.items (vec_capacity s.places) (vec_len s.spare) (vec_capacity s.spare) };
+}
+
+impl<S: Supply> Shelf<S> {
+    /// A shelf with no area. Room for all areas of the quota is taken here.
+    pub(crate) fn open(
+        alloc: Global,
+        supply: S,
+        version: Version,
+    ) -> Result<Shelf<S>, (AllocError, S)>
+        requires nothing_held { S.held_ids supply ≡ [] }
+        requires least { 1 ≤ S.quota_of supply }
+        requires most { S.quota_of supply ≤ MOST_QUOTA }
+        ensures opened { IfOk result (λ s. s ≡ record { version = version; quota = S.quota_of supply; held_ids = []; origin = S.origin supply; rows = empty_rows }) }
+        ensures kept { IfOk result IsKept }
+        ensures back { IfErr result (λ e. e.1 ≡ supply) }
+    {
+        let full = match clear_marks(alloc) {
+            Ok(full) => full,
+            Err(refused) => return Err((refused, supply)),
+        };
+        let quota = supply.quota();
+        let spare = match tables(alloc, version, quota) {
+            Ok(spare) => spare,
+            Err(refused) => return Err((refused, supply)),
+        };
+        let places = match Vec::with_capacity(alloc, quota as usize) {
+            Ok(places) => places,
+            Err(refused) => return Err((refused, supply)),
+        };
+        Ok(Shelf {
+            version,
+            supply,
+            places,
+            starts: [0; 13],
+            full,
+            spare,
+        })
+    }
+
+    pub(crate) fn version(&self) -> Version
+        ensures { result ≡ self.now.version }
+    {
+        self.version
+    }
+
+    /// How many segments are held.
+    pub(crate) fn held(&self) -> u32
+        ensures { result ≡ length self.now.held_ids }
+    {
+        self.supply.held()
+    }
+
+    pub(crate) fn quota(&self) -> u32
+        ensures { result ≡ self.now.quota }
+    {
+        self.supply.quota()
+    }
+
+    /// The least free chunk of a class, which is now in use, touched, and of `len` zero bytes. None where no area of the
+    /// class has a free chunk.
+    pub(crate) fn take_chunk(&mut self, exp: u8, len: u32) -> Option<u32>
+        requires least { 5 ≤ exp }
+        requires most { exp ≤ 16 }
+        requires sized { IsSizeOf self.old.version exp len }
+        ensures taken { MatchOption result (self.new ≡ self.old) (λ i. self.new ≡ with_put self.old (exp - 5) i (Some (replicate len 0)) true) }
+        ensures place { MatchOption result ((i : ℕ) → i < length (row_at self.old.rows (exp - 5)).chunks → IsSome (chunk_at self.old.rows (exp - 5) i)) (λ i. IsFirstFree self.old.rows (exp - 5) i) }
+        ensures kept { IsKept self.new }
+    {
+        let class = class_index(exp);
+        let first = self.starts[class];
+        let count = self.starts[class + 1] - first;
+        let Some(ordinal) = self.full[class].first_clear(count) else {
+            return None;
+        };
+        let place = &mut self.places[(first + ordinal) as usize];
+        let Some(chunk) = place.take_chunk(len) else {
+            unreachable!();
+        };
+        let is_full = place.is_full();
+        mark_full(&mut self.full, class, ordinal, is_full);
+        Some(ordinal * per_area(exp) + chunk)
+    }
+
+    /// A new area at the end of a class.
+    pub(crate) fn add_area(&mut self, way: &S::Way, exp: u8)
+        requires least { 5 ≤ exp }
+        requires most { exp ≤ 16 }
+        requires room { length self.old.held_ids < self.old.quota }
+        ensures added { self.new ≡ record (with_row self.old (exp - 5) (longer (per exp) (row_at self.old.rows (exp - 5)))) { held_ids = self.new.held_ids } }
+        ensures kept { IsKept self.new }
+    {
+        let class = class_index(exp);
+        let at = self.starts[class + 1];
+        let ordinal = at - self.starts[class];
+        let lengths = self.spare.pop();
+        let segment = self.supply.take(way);
+        let place = Place::new(exp, ordinal, segment, lengths);
+        self.places.insert(at as usize, place).unwrap();
+        shift_up(&mut self.starts, class);
+    }
+
+    /// Gives back the empty areas at the end of a class.
+    pub(crate) fn trim(&mut self, way: &S::Way, exp: u8)
+        requires least { 5 ≤ exp }
+        requires most { exp ≤ 16 }
+        requires kept { IsKept self.old }
+        ensures trims { Trims self.old self.new (exp - 5) }
+        ensures kept { IsKept self.new }
+    {
+        while self.ends_free(exp) {
+            self.drop_area(way, exp);
+        }
+    }
+
+    /// Whether a class ends with an empty area.
+    fn ends_free(&self, exp: u8) -> bool
+        requires least { 5 ≤ exp }
+        requires most { exp ≤ 16 }
+        ensures { MatchBool result (EndsFree self.now.rows (exp - 5) (per exp)) (IsTrimmed (per exp) (row_at self.now.rows (exp - 5))) }
+    {
+        let class = class_index(exp);
+        let end = self.starts[class + 1];
+        if end == self.starts[class] {
+            return false;
+        }
+        self.places[end as usize - 1].is_empty()
+    }
+
+    /// Gives back the last area of a class, which is empty.
+    fn drop_area(&mut self, way: &S::Way, exp: u8)
+        requires least { 5 ≤ exp }
+        requires most { exp ≤ 16 }
+        requires free { EndsFree self.old.rows (exp - 5) (per exp) }
+        ensures dropped { self.new ≡ without_last self.old (exp - 5) (per exp) self.new.held_ids }
+        ensures fewer { length self.new.held_ids + 1 ≡ length self.old.held_ids }
+        ensures kept { IsKept self.new }
+    {
+        let class = class_index(exp);
+        let last = self.starts[class + 1] as usize - 1;
+        let place = self.places.remove(last);
+        let (segment, lengths) = place.into_parts();
+        self.supply.give(way, segment);
+        keep_table(&mut self.spare, lengths);
+        shift_down(&mut self.starts, class);
+    }
+
+    /// The bytes of a chunk that is in use.
+    pub(crate) fn chunk_len(&self, exp: u8, index: u32) -> Option<u32>
+        requires least { 5 ≤ exp }
+        requires most { exp ≤ 16 }
+        ensures { result ≡ option_map length (chunk_at self.now.rows (exp - 5) index) }
+    {
+        let Some(spot) = find(&self.starts, exp, index) else {
+            return None;
+        };
+        self.places[spot.place].chunk_len(spot.chunk)
+    }
+
+    /// The least index from `from` on of a chunk that is in use.
+    pub(crate) fn next_used(&self, exp: u8, from: u64) -> Option<u32>
+        requires least { 5 ≤ exp }
+        requires most { exp ≤ 16 }
+        ensures { MatchOption result ((i : ℕ) → from ≤ i → chunk_at self.now.rows (exp - 5) i ≡ None) (λ i. IsNextUsed self.now.rows (exp - 5) from i) }
+    {
+        let class = class_index(exp);
+        let per = per_area(exp);
+        let first = self.starts[class];
+        let count = self.starts[class + 1] - first;
+        let end = count * per;
+        if from >= u64::from(end) {
+            return None;
+        }
+        let mut ordinal = from as u32 / per;
+        let mut chunk = from as u32 % per;
+        while ordinal < count {
+            let place = &self.places[(first + ordinal) as usize];
+            if let Some(found) = place.next_used(chunk) {
+                return Some(ordinal * per + found);
+            }
+            ordinal += 1;
+            chunk = 0;
+        }
+        None
+    }
+
+    /// The chunk is free.
+    pub(crate) fn release(&mut self, exp: u8, index: u32)
+        requires least { 5 ≤ exp }
+        requires most { exp ≤ 16 }
+        requires used { IsSome (chunk_at self.old.rows (exp - 5) index) }
+        ensures freed { self.new ≡ with_put self.old (exp - 5) index None false }
+        ensures kept { IsKept self.new }
+    {
+        let Some(spot) = find(&self.starts, exp, index) else {
+            unreachable!();
+        };
+        let place = &mut self.places[spot.place];
+        place.release(spot.chunk);
+        let marks = &mut self.full[class_index(exp)];
+        marks.clear(spot.ordinal);
+    }
+
+    /// Copies the chunk's bytes from place `at` on into `out`.
+    pub(crate) fn read(&self, exp: u8, index: u32, at: u32, out: &mut [u8])
+        requires least { 5 ≤ exp }
+        requires most { exp ≤ 16 }
+        requires within { FitsIn (chunk_at self.now.rows (exp - 5) index) (at + length out.old) }
+        ensures { MatchOption (chunk_at self.now.rows (exp - 5) index) ⊥ (λ bytes. out.new ≡ take (length out.old) (drop at bytes)) }
+    {
+        let Some(spot) = find(&self.starts, exp, index) else {
+            unreachable!();
+        };
+        self.places[spot.place].read(spot.chunk, at, out);
+    }
+
+    /// Writes at least one byte.
+    pub(crate) fn write(&mut self, exp: u8, index: u32, at: u32, bytes: &[u8])
+        requires least { 5 ≤ exp }
+        requires most { exp ≤ 16 }
+        requires some { 0 < length bytes.now }
+        requires within { FitsIn (chunk_at self.old.rows (exp - 5) index) (at + length bytes.now) }
+        ensures written { MatchOption (chunk_at self.old.rows (exp - 5) index) ⊥ (λ old. self.new ≡ with_put self.old (exp - 5) index (Some (splice at bytes.now old)) true) }
+        ensures kept { IsKept self.new }
+    {
+        let Some(spot) = find(&self.starts, exp, index) else {
+            unreachable!();
+        };
+        let place = &mut self.places[spot.place];
+        place.write(spot.chunk, at, bytes);
+    }
+
+    /// Makes at least one byte `byte`.
+    pub(crate) fn fill(&mut self, exp: u8, index: u32, at: u32, len: u32, byte: u8)
+        requires least { 5 ≤ exp }
+        requires most { exp ≤ 16 }
+        requires some { 0 < len }
+        requires within { FitsIn (chunk_at self.old.rows (exp - 5) index) (at + len) }
+        ensures filled { MatchOption (chunk_at self.old.rows (exp - 5) index) ⊥ (λ old. self.new ≡ with_put self.old (exp - 5) index (Some (splice at (replicate len byte) old)) true) }
+        ensures kept { IsKept self.new }
+    {
+        let Some(spot) = find(&self.starts, exp, index) else {
+            unreachable!();
+        };
+        let place = &mut self.places[spot.place];
+        place.fill(spot.chunk, at, len, byte);
+    }
+
+    /// Another length for a chunk, of version 2: its first bytes stay, and zeros follow.
+    pub(crate) fn resize(&mut self, exp: u8, index: u32, len: u32)
+        requires least { 5 ≤ exp }
+        requires most { exp ≤ 16 }
+        requires version { self.old.version ≡ Two }
+        requires sized { IsSizeOf Two exp len }
+        requires another { MatchOption (chunk_at self.old.rows (exp - 5) index) ⊥ (λ old. length old ≡ len → ⊥) }
+        ensures resized { MatchOption (chunk_at self.old.rows (exp - 5) index) ⊥ (λ old. self.new ≡ with_put self.old (exp - 5) index (Some (fitted len old)) true) }
+        ensures kept { IsKept self.new }
+    {
+        let Some(spot) = find(&self.starts, exp, index) else {
+            unreachable!();
+        };
+        let place = &mut self.places[spot.place];
+        place.resize(spot.chunk, len);
+    }
+
+    /// No chunk is touched.
+    pub(crate) fn clear_touched(&mut self)
+        ensures cleared { self.new ≡ record self.old { rows = untouched_rows self.old.rows } }
+        ensures kept { IsKept self.new }
+    {
+        clear_places(&mut self.places);
+    }
+
+    /// Gives all segments back.
+    pub(crate) fn close(self, way: &S::Way) -> S
+        requires { IsKept self }
+        ensures nothing_held { S.held_ids result ≡ [] }
+        ensures quota { S.quota_of result ≡ self.quota }
+        ensures origin { S.origin result ≡ self.origin }
+    {
+        let Shelf {
+            version: _,
+            supply,
+            places,
+            starts: _,
+            full: _,
+            spare: _,
+        } = self;
+        give_all(supply, way, places)
+    }
+}
+
+/// No area is full.
+fn clear_marks(alloc: Global) -> Result<Vec<Bits>, AllocError>
+    ensures { IfOk result (λ full. AreClear full.items) }
+{
+    let mut full = Vec::with_capacity(alloc, CLASSES)?;
+    for _ in 0..CLASSES {
+        full.push(Bits::new())?;
+    }
+    Ok(full)
+}
+
+/// Tables of lengths for as many areas as the quota allows, in version 2 alone.
+fn tables(alloc: Global, version: Version, quota: u32) -> Result<Vec<Lengths>, AllocError>
+    ensures { IfOk result (λ spare. HasTables version quota 0 (vec_len spare) (vec_capacity spare)) }
+{
+    match version {
+        Version::One => Ok(Vec::new(alloc)),
+        Version::Two => all_tables(alloc, quota),
+    }
+}
+
+/// As many tables of lengths as the quota allows.
+fn all_tables(alloc: Global, quota: u32) -> Result<Vec<Lengths>, AllocError>
+    ensures { IfOk result (λ spare. (vec_len spare ≡ quota) × (quota ≤ vec_capacity spare)) }
+{
+    let mut spare = Vec::with_capacity(alloc, quota as usize)?;
+    for _ in 0..quota {
+        spare.push(Lengths::new(alloc)?)?;
+    }
+    Ok(spare)
+}
+
+/// Gives back the segments of all areas.
+fn give_all<S: Supply>(mut supply: S, way: &S::Way, mut places: Vec<Place<S::Seg>>) -> S
+    requires { Owns (S.held_ids supply) places.items }
+    ensures nothing_held { S.held_ids result ≡ [] }
+    ensures quota { S.quota_of result ≡ S.quota_of supply }
+    ensures origin { S.origin result ≡ S.origin supply }
+{
+    while let Some(place) = places.pop() {
+        let (segment, _lengths) = place.into_parts();
+        supply.give(way, segment);
+    }
+    places.destroy_empty();
+    supply
+}
+
+/// No chunk of these areas is touched.
+fn clear_places<G: Segment>(places: &mut Vec<Place<G>>)
+    ensures cleaned { places.new.items ≡ map clean places.old.items }
+    ensures room { vec_capacity places.new ≡ vec_capacity places.old }
+{
+    for i in 0..places.len() {
+        let place = &mut places[i];
+        place.clear_touched();
+    }
+}

@@ -1,0 +1,68 @@
+//! What no clause says: that memory is given, and that each segment has bytes of its own.
+ghost use Rattle.std.specs.Prelude.{◌≡◌, ◌+◌, ◌<◌, length};
+
+use crate::own_supply::OwnSupply;
+use crate::supply::Supply;
+use dym_region::{Segment, VecSegment};
+use std::test::Fail;
+
+fn take_marked(supply: &mut OwnSupply, mark: u8) -> VecSegment
+    requires { length (⟦<OwnSupply as Supply>⟧.held_ids supply.old) < ⟦<OwnSupply as Supply>⟧.quota_of supply.old }
+    ensures held { length (⟦<OwnSupply as Supply>⟧.held_ids supply.new)
+        ≡ length (⟦<OwnSupply as Supply>⟧.held_ids supply.old) + 1 }
+    ensures quota { ⟦<OwnSupply as Supply>⟧.quota_of supply.new ≡ ⟦<OwnSupply as Supply>⟧.quota_of supply.old }
+{
+    let mut segment = supply.take(&());
+    segment.write(65_535, &[mark]);
+    segment
+}
+
+fn give_back(supply: &mut OwnSupply, segment: VecSegment)
+    requires { 0 < length (⟦<OwnSupply as Supply>⟧.held_ids supply.old) }
+    ensures held { length (⟦<OwnSupply as Supply>⟧.held_ids supply.new) + 1
+        ≡ length (⟦<OwnSupply as Supply>⟧.held_ids supply.old) }
+    ensures quota { ⟦<OwnSupply as Supply>⟧.quota_of supply.new ≡ ⟦<OwnSupply as Supply>⟧.quota_of supply.old }
+{
+    supply.give(&(), segment);
+}
+
+fn mark_of(segment: &VecSegment) -> u8 {
+    let mut seen = [0];
+    segment.read(65_535, &mut seen);
+    seen[0]
+}
+
+#[test]
+fn three_segments_go_out_and_come_back(rt: HostRuntime) -> Result<(), Fail> {
+    let mut supply = OwnSupply::open(rt.alloc(), 3)?;
+    assert_eq!(rt; (supply.quota(), supply.held()), (3, 0));
+    let first = take_marked(&mut supply, 1);
+    assert_eq!(rt; supply.held(), 1);
+    let second = take_marked(&mut supply, 2);
+    assert_eq!(rt; supply.held(), 2);
+    let third = take_marked(&mut supply, 3);
+    assert_eq!(rt; (supply.quota(), supply.held()), (3, 3));
+    assert_eq!(rt;
+        (mark_of(&first), mark_of(&second), mark_of(&third)),
+        (1, 2, 3)
+    );
+    give_back(&mut supply, second);
+    assert_eq!(rt; supply.held(), 2);
+    give_back(&mut supply, first);
+    give_back(&mut supply, third);
+    assert_eq!(rt; (supply.quota(), supply.held()), (3, 0));
+    let again = take_marked(&mut supply, 4);
+    assert_eq!(rt; (mark_of(&again), supply.held()), (4, 1));
+    Ok(())
+}
+
+#[test]
+fn a_quota_of_one(rt: HostRuntime) -> Result<(), Fail> {
+    let mut supply = OwnSupply::open(rt.alloc(), 1)?;
+    let segment = take_marked(&mut supply, 1);
+    assert_eq!(rt; (supply.quota(), supply.held()), (1, 1));
+    give_back(&mut supply, segment);
+    let segment = take_marked(&mut supply, 2);
+    assert_eq!(rt; (mark_of(&segment), supply.held()), (2, 1));
+    Ok(())
+}
