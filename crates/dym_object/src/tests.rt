@@ -1,0 +1,213 @@
+//! What no clause says: that memory is given, and that an object over a real supply answers what a person worked out by
+//! hand.
+ghost use Rattle.std.specs.Prelude.{◌≡◌, ◌≤◌, ◌<◌, ◌^◌, IfOk};
+ghost use Rattle.dym_object.specs.Commands.{IsHeapCommand};
+
+use crate::object::Object;
+use dym_base::{Blob, Command, Handle, Refusal, Reply, Version};
+use dym_quota::OwnSupply;
+use std::alloc::{AllocError, Global};
+use std::process::Abort;
+
+const H32: Handle = Handle { exp: 5, index: 0 };
+
+const SECOND: Handle = Handle { exp: 5, index: 1 };
+
+const H64: Handle = Handle { exp: 6, index: 0 };
+
+const H1024: Handle = Handle { exp: 10, index: 0 };
+
+const WHOLE: Handle = Handle { exp: 16, index: 0 };
+
+/// A command to a heap.
+#[derive(Clone, Copy)]
+enum Step {
+    Malloc(u64),
+    Calloc(u64, u64),
+    Realloc(Option<Handle>, u64),
+    Free(Option<Handle>),
+    Write(Handle, u32, &'static [u8]),
+    Fill(Handle, u32, u32, u8),
+    Read(Handle, u32, u32),
+    Link(Handle, u32, Option<Handle>),
+    Follow(Handle, u32),
+    Sum(Handle),
+}
+
+/// The reply that is wanted.
+#[derive(Clone, Copy)]
+enum Want {
+    Done,
+    Chunk(Handle),
+    Nil,
+    Loose(u64),
+    Bytes(&'static [u8]),
+    Total(u64),
+    Refused(Refusal),
+}
+
+fn command_of(alloc: Global, step: Step) -> Result<Command, AllocError>
+    ensures { IfOk result IsHeapCommand }
+{
+    match step {
+        Step::Malloc(len) => Ok(Command::Malloc { len }),
+        Step::Calloc(n, len) => Ok(Command::Calloc { n, len }),
+        Step::Realloc(h, len) => Ok(Command::Realloc { h, len }),
+        Step::Free(h) => Ok(Command::Free { h }),
+        Step::Write(h, at, bytes) => {
+            let bytes = Blob::new(alloc, bytes)?;
+            Ok(Command::Write { h, at, bytes })
+        }
+        Step::Fill(h, at, len, byte) => Ok(Command::Fill { h, at, len, byte }),
+        Step::Read(h, at, len) => Ok(Command::Read { h, at, len }),
+        Step::Link(h, at, to) => Ok(Command::Link { h, at, to }),
+        Step::Follow(h, at) => Ok(Command::Follow { h, at }),
+        Step::Sum(h) => Ok(Command::Sum { h }),
+    }
+}
+
+fn is_reply(reply: &Reply, want: Want) -> bool {
+    match (reply, want) {
+        (Reply::Done, Want::Done) => true,
+        (Reply::Nil, Want::Nil) => true,
+        (Reply::Chunk(h), Want::Chunk(other)) => *h == other,
+        (Reply::Loose(n), Want::Loose(other)) => *n == other,
+        (Reply::Total(n), Want::Total(other)) => *n == other,
+        (Reply::Bytes(blob), Want::Bytes(bytes)) => blob.bytes() == bytes,
+        (Reply::Refused(why), Want::Refused(other)) => *why == other,
+        _ => false,
+    }
+}
+
+fn has_reply(
+    object: &mut Object<OwnSupply>,
+    alloc: Global,
+    step: Step,
+    want: Want,
+) -> Result<bool, AllocError>
+    requires { object.old.ran < 2 ^ 60 }
+{
+    let command = command_of(alloc, step)?;
+    let reply = object.run(&(), alloc, &command)?;
+    Ok(is_reply(&reply, want))
+}
+
+fn have_replies(
+    rt: &impl Abort,
+    object: &mut Object<OwnSupply>,
+    alloc: Global,
+    rows: &[(Step, Want)],
+) -> Result<(), AllocError> {
+    for (step, want) in rows {
+        let ran = object.ran();
+        assert!(rt; ran < 100);
+        assert!(rt; has_reply(object, alloc, *step, *want)?, "at command {ran}");
+        assert_eq!(rt; object.ran(), ran + 1);
+    }
+    Ok(())
+}
+
+fn answers(
+    rt: &impl Abort,
+    alloc: Global,
+    quota: u32,
+    version: Version,
+    rows: &[(Step, Want)],
+) -> Result<(), AllocError>
+    requires least { 1 ≤ quota }
+    requires most { quota ≤ 1024 }
+{
+    let supply = OwnSupply::open(alloc, quota)?;
+    let mut object = match Object::open_as(alloc, supply, version) {
+        Ok(object) => object,
+        Err((error, _)) => return Err(error),
+    };
+    let answered = have_replies(rt, &mut object, alloc, rows);
+    assert!(rt; object.heap().held() <= quota);
+    object.end(&());
+    answered
+}
+
+#[test]
+fn version_1(rt: HostRuntime) -> Result<(), AllocError> {
+    let rows = [
+        (Step::Malloc(0), Want::Chunk(H32)),
+        (Step::Malloc(65_536), Want::Chunk(WHOLE)),
+        (Step::Malloc(65_537), Want::Refused(Refusal::TooLarge)),
+        (Step::Malloc(40), Want::Refused(Refusal::Quota)),
+        (Step::Fill(WHOLE, 0, 65_536, 1), Want::Done),
+        (Step::Sum(WHOLE), Want::Total(65_536)),
+        (Step::Fill(WHOLE, 65_535, 1, 255), Want::Done),
+        (Step::Sum(WHOLE), Want::Total(65_790)),
+        (Step::Free(Some(WHOLE)), Want::Done),
+        (Step::Free(Some(WHOLE)), Want::Refused(Refusal::Dead)),
+        (Step::Free(None), Want::Done),
+        (Step::Malloc(32), Want::Chunk(SECOND)),
+        (Step::Free(Some(H32)), Want::Done),
+        (Step::Malloc(20), Want::Chunk(H32)),
+        (Step::Malloc(40), Want::Chunk(H64)),
+        (Step::Write(H64, 62, b"\xaa\xbb"), Want::Done),
+        (
+            Step::Write(H64, 63, b"\xaa\xbb"),
+            Want::Refused(Refusal::Range),
+        ),
+        (Step::Write(H64, 64, b""), Want::Done),
+        (Step::Read(H64, 62, 2), Want::Bytes(b"\xaa\xbb")),
+        (Step::Read(H64, 64, 0), Want::Bytes(b"")),
+        (Step::Read(H64, 63, 2), Want::Refused(Refusal::Range)),
+        (Step::Read(WHOLE, 0, 1), Want::Refused(Refusal::Dead)),
+        (Step::Sum(H64), Want::Total(357)),
+        (
+            Step::Calloc(4_294_967_296, 4_294_967_296),
+            Want::Refused(Refusal::TooLarge),
+        ),
+        (Step::Link(H32, 8, Some(SECOND)), Want::Done),
+        (Step::Follow(H32, 8), Want::Chunk(SECOND)),
+        (Step::Follow(H32, 0), Want::Nil),
+        (Step::Follow(H32, 25), Want::Refused(Refusal::Range)),
+        (Step::Realloc(Some(SECOND), 0), Want::Nil),
+        (Step::Follow(H32, 8), Want::Loose(21_474_836_481)),
+        (Step::Read(H32, 8, 8), Want::Bytes(b"\x01\0\0\0\x05\0\0\0")),
+        (Step::Link(H32, 8, None), Want::Done),
+        (Step::Sum(H32), Want::Total(0)),
+        (Step::Realloc(Some(H64), 50), Want::Chunk(H64)),
+        (
+            Step::Realloc(Some(H64), 65_537),
+            Want::Refused(Refusal::TooLarge),
+        ),
+        (
+            Step::Realloc(Some(SECOND), 40),
+            Want::Refused(Refusal::Dead),
+        ),
+        (Step::Realloc(Some(H64), 1), Want::Chunk(SECOND)),
+        (Step::Calloc(2, 20), Want::Chunk(H64)),
+        (Step::Realloc(None, 65_536), Want::Refused(Refusal::Quota)),
+    ];
+    answers(&rt, rt.alloc(), 2, Version::One, &rows)
+}
+
+#[test]
+fn version_2(rt: HostRuntime) -> Result<(), AllocError> {
+    let rows = [
+        (Step::Malloc(0), Want::Chunk(H32)),
+        (Step::Write(H32, 0, b"\x01"), Want::Refused(Refusal::Range)),
+        (Step::Realloc(Some(H32), 3), Want::Chunk(H32)),
+        (Step::Write(H32, 0, b"\x01\x02\x03"), Want::Done),
+        (Step::Realloc(Some(H32), 2), Want::Chunk(H32)),
+        (Step::Realloc(Some(H32), 4), Want::Chunk(H32)),
+        (Step::Read(H32, 0, 4), Want::Bytes(b"\x01\x02\0\0")),
+        (Step::Realloc(Some(H32), 0), Want::Nil),
+        (Step::Malloc(600), Want::Chunk(H1024)),
+        (Step::Fill(H1024, 0, 600, 255), Want::Done),
+        (Step::Fill(H1024, 0, 601, 0), Want::Refused(Refusal::Range)),
+        (Step::Sum(H1024), Want::Total(153_000)),
+        (Step::Calloc(3, 5), Want::Refused(Refusal::Quota)),
+        (Step::Free(Some(H1024)), Want::Done),
+        (Step::Calloc(3, 5), Want::Chunk(H32)),
+        (Step::Link(H32, 7, Some(WHOLE)), Want::Done),
+        (Step::Link(H32, 8, None), Want::Refused(Refusal::Range)),
+        (Step::Follow(H32, 7), Want::Loose(68_719_476_736)),
+        (Step::Sum(H32), Want::Total(16)),
+    ];
+    answers(&rt, rt.alloc(), 1, Version::Two, &rows)
+}
