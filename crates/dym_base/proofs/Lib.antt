@@ -7,3 +7,4 @@ pub mod Touched
 pub mod Sizes
 pub mod Quota
 pub mod Runs
+pub mod Standing

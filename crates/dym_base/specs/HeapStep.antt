@@ -1,6 +1,6 @@
 -- One command to a heap. A command is judged by the first row that fits it; the first refusal whose condition holds is the
 -- reply, and nothing else then changes.
-use Rattle.std.specs.Prelude.{ℕ, ◌+◌, ◌-◌, ◌*◌, List, [], ◌∷◌, ◌++◌, length, take, drop, replicate, sum, ◌==◌, nat_lt, if◌then◌else◌, Option, None, Some}
+use Rattle.std.specs.Prelude.{⊤, ℕ, ◌+◌, ◌-◌, ◌*◌, List, [], ◌∷◌, ◌++◌, length, take, drop, replicate, sum, ◌==◌, nat_lt, if◌then◌else◌, Option, None, Some}
 use Rattle.std.specs.Int.{w64, to_le_bytes, from_le_bytes}
 use Rattle.std.specs.FinMap as map
 use Rattle.std.specs.FinSet as set
@@ -169,3 +169,12 @@ heap_step v quota s (Ilog t) = record { heap = s; reply = Done }
 heap_step v quota s (Restore t) = record { heap = s; reply = Done }
 heap_step v quota s (Prune g) = record { heap = s; reply = Done }
 heap_step v quota s Logs = record { heap = s; reply = Done }
+
+-- every command but those about logs
+abbrev pub IsHeapCommand : Command → Type 0
+IsHeapCommand (Log t) = ⊥
+IsHeapCommand (Ilog t) = ⊥
+IsHeapCommand (Restore t) = ⊥
+IsHeapCommand (Prune g) = ⊥
+IsHeapCommand Logs = ⊥
+IsHeapCommand _ = ⊤

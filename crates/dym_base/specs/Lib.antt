@@ -4,10 +4,12 @@ pub mod BadKinds
 pub mod Heaps
 pub mod HeapStep
 pub mod Packed
+pub mod StandsFor
 pub mod Objects
 pub mod Origins
 pub mod Laws
 pub mod RunLaws
+pub mod StandingLaws
 pub mod Slots
 pub mod SlotWords
 pub mod SlotSteps

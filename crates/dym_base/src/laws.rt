@@ -1,5 +1,6 @@
 //! What the definitions come to, in the subject's own words. Each law is the contract of a function that does nothing.
 ghost use Rattle.dym_base.specs.Laws.{FreshIsFree, FreshIsLeast, NumberKeepsHandle, HandleKeepsNumber, AreasAreLeast, FreshNeedsArea, QuotaIsKept, StartIsWellSized, StepIsWellSized, HeapRefusalKeeps, ObjectRefusalKeeps, StartTouchesLive, StepTouchesLive};
+ghost use Rattle.dym_base.specs.StandingLaws.{FullStandsAlone, LogsStandForOne};
 ghost use Rattle.dym_base.specs.RunLaws.{RunsKeepQuota, RunsKeepSizes, RunsTouchLive, RunsKeepLogs, ReachedAreBefore};
 
 /// The index of a new chunk is the least of its class that isn't live.
@@ -70,4 +71,10 @@ pub fn runs_keep_logs()
 /// A restore and a prune find the last log at or before a time by counting the logs at or before it.
 pub fn reached_are_before()
     ensures { ReachedAreBefore }
+{}
+
+/// A full log alone stands for its copy, and no logs stand for two maps.
+pub fn logs_stand_for_one()
+    ensures alone { FullStandsAlone }
+    ensures one { LogsStandForOne }
 {}

@@ -1,11 +1,11 @@
 -- What the searches by words of 64 bits find, as facts on the list of bits.
 use Rattle.std.proofs.Common.{◌≡◌, ℕ, suc, ◌+◌, ◌-◌, ◌*◌, ◌/◌, ◌%◌, ◌^◌, ◌<◌, ◌≤◌, Bool, true, false, List, length, get_or, sym, ◌∙◌, ap, arith, inl, inr, min, bit_and, w64}
-use Rattle.std.specs.Int.{bit_at, trailing_ones, trailing_zeros}
+use Rattle.std.specs.Int.{bit_at, bit_not, trailing_ones, trailing_zeros}
 use Rattle.std.proofs.lemmas.List.{get_or_past}
 use Rattle.std.proofs.lemmas.Nat.{div-add-mod', div_below, le-div, pow_pos}
-use Rattle.std.proofs.lemmas.Nat.Bits.{bit_at_and, bit_at-lt, bit_at_mask_inside, bit_at_mask_below, bit_at-trailing_ones, bit_at-trailing_zeros, bit_at_ones, bit_at_above, ones_shl, bit_at-zero}
+use Rattle.std.proofs.lemmas.Nat.Bits.{bit_at_and, bit_at-lt, bit_at_mask_inside, bit_at_mask_below, bit_at-trailing_ones, bit_at-trailing_zeros, bit_at_ones, bit_at_above, bit_at_not, ones_shl, bit_at-zero}
 use Rattle.std.proofs.lemmas.Bool.{cases_eq, cases_lt, cases_order}
-use Rattle.dym_bits.specs.Bits.{digit, bits_of, IsFirstClear, IsNextSet, IsTopSet}
+use Rattle.dym_bits.specs.Bits.{digit, bits_of, IsFirstClear, IsNextSet, IsNextClear, IsTopSet}
 use Rattle.dym_bits.proofs.BitmapLemmas.{digit_is_set, digit_is_clear, length-bits_of, get_or-bits_of, get_or-bits_of_at}
 use Rattle.std.proofs.Math.Nat.{pos_of_ne-zero, pow-suc}
 
@@ -136,6 +136,83 @@ none_set_from ns from rest none i at_least =
           i at_least below
       | inr past ↦ clear_past ns i past
     ]
+
+-- ---- the next clear bit
+
+-- a word turned, without its bits below bit a
+digit_turned : (n a r : ℕ) → n < 2 ^ 64 → a ≤ r → r < 64 → bit_at (bit_and (bit_not w64 n) ((2 ^ 64 - 1) * 2 ^ a % 2 ^ 64)) r ≡ 1 - bit_at n r
+digit_turned n a r fits at_least short = digit_masked (bit_not w64 n) a r at_least short ∙ bit_at_not w64 n r fits short
+
+clear_of_turned : (n a r : ℕ) → n < 2 ^ 64 → a ≤ r → r < 64 → bit_at (bit_and (bit_not w64 n) ((2 ^ 64 - 1) * 2 ^ a % 2 ^ 64)) r ≡ 1 → digit n r ≡ false
+clear_of_turned n a r fits at_least short one =
+    digit_is_clear n r (omega (arith, digit_turned n a r fits at_least short, bit_at-lt n r))
+
+set_of_turned : (n a r : ℕ) → n < 2 ^ 64 → a ≤ r → r < 64 → bit_at (bit_and (bit_not w64 n) ((2 ^ 64 - 1) * 2 ^ a % 2 ^ 64)) r ≡ 0 → digit n r ≡ true
+set_of_turned n a r fits at_least short none =
+    digit_is_set n r (omega (arith, digit_turned n a r fits at_least short, bit_at-lt n r))
+
+pub next_clear_in_rest : (ns : List ℕ) (from : ℕ) → from < length ns * 64 → get_or ns (from / 64) 0 < 2 ^ 64 → (let rest = bit_and (bit_not w64 (get_or ns (from / 64) 0)) ((2 ^ 64 - 1) * 2 ^ (from % 64) % 2 ^ 64) in (rest ≡ 0 → ⊥) → rest < 2 ^ 64 → IsNextClear (bits_of 64 ns) from (from / 64 * 64 + trailing_zeros w64 rest))
+next_clear_in_rest ns from within word some fits =
+    let n = get_or ns (from / 64) 0 in
+    let a = from % 64 in
+    let rest = bit_and (bit_not w64 n) ((2 ^ 64 - 1) * 2 ^ a % 2 ^ 64) in
+    let found = bit_at-trailing_zeros w64 rest (pos_of_ne-zero some) fits in
+    let r = trailing_zeros w64 rest in
+    let inside : r < 64 = found.0 in
+    let at_least : a ≤ r
+    = elim (cases_lt r a) [ inl before ↦ absurd (one_is_not_none (bit_at rest r) found.1 (digit_masked_below (bit_not w64 n) a r before (omega arith))) | inr after ↦ after ] in
+    record {
+      within = omega (arith, length-bits_of 64 ns);
+      at_least = omega (arith, div-add-mod' from 64);
+      is_clear = get_or-bits_of 64 ns (from / 64) r (omega arith) inside ∙ clear_of_turned n a r word at_least inside found.1;
+      least = alike_between ns true from (from / 64 * 64 + r) (omega arith)
+          (λ q j short from_here before.
+          let same : q ≡ from / 64 = omega (arith, div-add-mod' from 64) in
+          let after : a ≤ j = omega (arith, div-add-mod' from 64) in
+          ap (λ m. digit (get_or ns m 0) j) same
+          ∙ set_of_turned n a j word after short (found.2 j (omega arith)));
+    }
+
+-- the words between are full
+set_before_word : (ns : List ℕ) (from to : ℕ) → to ≤ length ns * 64 → get_or ns (from / 64) 0 < 2 ^ 64 → bit_and (bit_not w64 (get_or ns (from / 64) 0)) ((2 ^ 64 - 1) * 2 ^ (from % 64) % 2 ^ 64) ≡ 0 → ((q r : ℕ) → r < 64 → from / 64 < q → q * 64 + r < to → digit (get_or ns q 0) r ≡ true) → (i : ℕ) → from ≤ i → i < to → get_or (bits_of 64 ns) i false ≡ true
+set_before_word ns from to within word rest later i at_least below =
+    alike_between ns true from to within
+    (λ q r short from_here before.
+    elim (cases_order q (from / 64)) [
+      | inl same ↦
+          ap (λ m. digit (get_or ns m 0) r) same
+          ∙ set_of_turned (get_or ns (from / 64) 0) (from % 64) r word (omega (arith, div-add-mod' from 64)) short (ap (λ m. bit_at m r) rest ∙ bit_at-zero r)
+      | inr (inl earlier) ↦ absurd (omega (arith, div-add-mod' from 64))
+      | inr (inr after) ↦ later q r short after before
+    ])
+    i at_least below
+
+digit_of_full : (n r : ℕ) → n ≡ 2 ^ 64 - 1 → r < 64 → digit n r ≡ true
+digit_of_full n r full short = ap (λ m. digit m r) full ∙ digit_is_set (2 ^ 64 - 1) r (bit_at_ones 64 r short)
+
+pub next_clear_in_word : (ns : List ℕ) (from q : ℕ) → q < length ns → from / 64 < q → get_or ns (from / 64) 0 < 2 ^ 64 → bit_and (bit_not w64 (get_or ns (from / 64) 0)) ((2 ^ 64 - 1) * 2 ^ (from % 64) % 2 ^ 64) ≡ 0 → ((p : ℕ) → from / 64 < p → p < q → get_or ns p 0 ≡ 2 ^ 64 - 1) → get_or ns q 0 + 1 < 2 ^ 64 → IsNextClear (bits_of 64 ns) from (q * 64 + trailing_ones w64 (get_or ns q 0))
+next_clear_in_word ns from q within later word rest full room =
+    let n = get_or ns q 0 in
+    let found = bit_at-trailing_ones w64 n room in
+    let r = trailing_ones w64 n in
+    let inside : r < 64 = found.0 in
+    record {
+      within = omega (arith, length-bits_of 64 ns);
+      at_least = omega (arith, div-add-mod' from 64);
+      is_clear = get_or-bits_of 64 ns q r within inside ∙ digit_is_clear n r found.1;
+      least = set_before_word ns from (q * 64 + r) (omega arith) word rest
+          (λ p j short after before.
+          elim (cases_eq p q) [
+            | inl same ↦ ap (λ m. digit (get_or ns m 0) j) same ∙ digit_is_set n j (found.2 j (omega arith))
+            | inr other ↦ digit_of_full (get_or ns p 0) j (full p after (omega arith)) short
+          ]);
+    }
+
+pub none_clear_from : (ns : List ℕ) (from : ℕ) → get_or ns (from / 64) 0 < 2 ^ 64 → bit_and (bit_not w64 (get_or ns (from / 64) 0)) ((2 ^ 64 - 1) * 2 ^ (from % 64) % 2 ^ 64) ≡ 0 → ((p : ℕ) → from / 64 < p → p < length ns → get_or ns p 0 ≡ 2 ^ 64 - 1) → (i : ℕ) → from ≤ i → i < length ns * 64 → get_or (bits_of 64 ns) i false ≡ true
+none_clear_from ns from word rest full i at_least below =
+    set_before_word ns from (length ns * 64) (omega arith) word rest
+    (λ p j short after before. digit_of_full (get_or ns p 0) j (full p after (omega arith)) short)
+    i at_least below
 
 -- ---- the last set bit
 

@@ -62,6 +62,13 @@ pub record IsNextSet (bits : List Bool) (from i : ℕ) : Type 0 where
   pub is_set : IsSet bits i
   pub least : (k : ℕ) → from ≤ k → k < i → IsClear bits k
 
+-- i is the least clear index that is at least `from`
+pub record IsNextClear (bits : List Bool) (from i : ℕ) : Type 0 where
+  pub within : i < length bits
+  pub at_least : from ≤ i
+  pub is_clear : IsClear bits i
+  pub least : (k : ℕ) → from ≤ k → k < i → IsSet bits k
+
 -- i is the greatest set index
 pub record IsTopSet (bits : List Bool) (i : ℕ) : Type 0 where
   pub within : i < length bits

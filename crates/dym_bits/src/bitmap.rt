@@ -2,7 +2,7 @@
 
 ghost use Rattle.std.specs.Prelude.{◌≡◌, ℕ, ◌+◌, ◌-◌, ◌*◌, ◌/◌, ◌<◌, ◌≤◌, max, true, false, ◌++◌, length, take, drop, slice_set, MatchOption};
 ghost use Rattle.dym_base.specs.Packed.{bitmap, bitmap_byte};
-ghost use Rattle.dym_bits.specs.Bits.{digits, bit_in, bits_of_bytes, bytes_of_bits, clear_bits, set_count, IsSet, IsClear, IsFirstClear, IsNextSet, IsTopSet};
+ghost use Rattle.dym_bits.specs.Bits.{digits, bit_in, bits_of_bytes, bytes_of_bits, clear_bits, set_count, IsSet, IsClear, IsFirstClear, IsNextSet, IsNextClear, IsTopSet};
 
 use crate::bytes::{WORD_BITS, WORDS, bytes_of, padded, word_at};
 use dym_base::limits::MOST_CHUNKS;
@@ -126,6 +126,29 @@ impl Bits {
             let word = words[q as usize];
             if word != 0 {
                 return Some(q * WORD_BITS + word.trailing_zeros());
+            }
+        }
+        None
+    }
+
+    /// The least clear index that is at least `from`, and None where all bits from there on are set.
+    pub fn next_clear(&self, from: u32) -> Option<u32>
+        requires { from ≤ MOST_CHUNKS }
+        ensures { MatchOption result ((k : ℕ) → from ≤ k → k < MOST_CHUNKS → IsSet self.now k) (λ i. IsNextClear self.now from i) }
+    {
+        let words = &self.words;
+        if from == MOST_CHUNKS {
+            return None;
+        }
+        let first = from / WORD_BITS;
+        let rest = !words[first as usize] & (u64::MAX << (from % WORD_BITS));
+        if rest != 0 {
+            return Some(first * WORD_BITS + rest.trailing_zeros());
+        }
+        for q in first + 1..WORDS as u32 {
+            let word = words[q as usize];
+            if word != u64::MAX {
+                return Some(q * WORD_BITS + word.trailing_ones());
             }
         }
         None

@@ -1,12 +1,11 @@
 -- Commands to the heap of an object, one and many.
 use Rattle.std.proofs.Common.{◌≡◌, ℕ, List, [], ◌∷◌, refl, ap, ◌∙◌}
 use Rattle.std.specs.List.{AllByRecursion}
-use Rattle.dym_base.specs.HeapStep.{heap_step}
+use Rattle.dym_base.specs.HeapStep.{heap_step, IsHeapCommand}
 use Rattle.dym_base.specs.Objects.{ObjectState, ObjectAnswer, of_heap, object_step, replies_from, object_after, heap_replies, heap_after}
 use Rattle.dym_base.specs.declared.command.Version.{Version}
 use Rattle.dym_base.specs.declared.command.Command.{Command}
 use Rattle.dym_base.specs.declared.command.Command.TheVariants.{Malloc, Calloc, Realloc, Free, Write, Fill, Read, Link, Follow, Sum, Log, Ilog, Restore, Prune, Logs}
-use Rattle.dym_object.specs.Commands.{IsHeapCommand}
 
 pub step_is : (v : Version) (quota : ℕ) (s : ObjectState) (c : Command) → IsHeapCommand c → object_step v quota s c ≡ of_heap s (heap_step v quota s.heap c)
 step_is v quota s (Malloc n) is = refl

@@ -1,21 +1,12 @@
--- Which commands are commands to a heap, and which reply takes memory.
+-- Which reply takes memory.
 use Rattle.std.specs.Prelude.{⊤, ℕ, Result, Ok, Err}
 use Rattle.dym_base.specs.declared.command.Command.{Command}
-use Rattle.dym_base.specs.declared.command.Command.TheVariants.{Read, Log, Ilog, Restore, Prune, Logs}
+use Rattle.dym_base.specs.declared.command.Command.TheVariants.{Read}
 use Rattle.dym_base.specs.declared.reply.Reply.{Reply}
 use Rattle.dym_base.specs.declared.reply.Reply.TheVariants.{Total, Refused}
 use Rattle.dym_base.specs.declared.reply.Refusal.{Refusal}
 use Rattle.dym_heap.specs.Meaning.{HeapMeaning}
 use Rattle.dym_heap.specs.Replies.{step_of}
-
--- every command but those about logs
-abbrev pub IsHeapCommand : Command → Type 0
-IsHeapCommand (Log t) = ⊥
-IsHeapCommand (Ilog t) = ⊥
-IsHeapCommand (Restore t) = ⊥
-IsHeapCommand (Prune g) = ⊥
-IsHeapCommand Logs = ⊥
-IsHeapCommand _ = ⊤
 
 abbrev pub IsNotRefused : Reply → Type 0
 IsNotRefused (Refused why) = ⊥

@@ -1,11 +1,10 @@
 -- A run of an object by commands to its heap alone is a run of that heap, and keeps the logs.
 use Rattle.std.specs.Prelude.{◌≡◌, ℕ, List}
 use Rattle.std.specs.List.{AllByRecursion}
-use Rattle.dym_base.specs.HeapStep.{heap_step}
+use Rattle.dym_base.specs.HeapStep.{heap_step, IsHeapCommand}
 use Rattle.dym_base.specs.Objects.{ObjectState, of_heap, object_step, replies_from, object_after, heap_replies, heap_after}
 use Rattle.dym_base.specs.declared.command.Version.{Version}
 use Rattle.dym_base.specs.declared.command.Command.{Command}
-use Rattle.dym_object.specs.Commands.{IsHeapCommand}
 
 -- one command to the heap of an object
 abbrev pub HeapCommandsStep : Type 0

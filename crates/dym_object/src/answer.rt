@@ -1,10 +1,11 @@
 //! The reply to one command to a heap.
 ghost use Rattle.std.specs.Prelude.{◌≡◌, ℕ, IfOk, IfErr};
 ghost use Rattle.dym_base.specs.HeapStep;
+ghost use Rattle.dym_base.specs.HeapStep.{IsHeapCommand};
 ghost use Rattle.dym_base.specs.declared.command.Command.TheVariants.{Read, Link};
 ghost use Rattle.dym_heap.specs.Meaning.{IsSound};
 ghost use Rattle.dym_heap.specs.Replies.{step_of, stepped, chunk_reply, moved_reply, done_reply, found_reply};
-ghost use Rattle.dym_object.specs.Commands.{IsHeapCommand, TakesMemory, total_reply};
+ghost use Rattle.dym_object.specs.Commands.{TakesMemory, total_reply};
 
 use crate::sum::sum_chunk;
 use dym_base::{Blob, Command, Handle, Refusal, Reply};

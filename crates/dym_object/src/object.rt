@@ -1,11 +1,12 @@
 //! A simulation object.
 ghost use Rattle.std.specs.Prelude.{◌≡◌, ℕ, ◌+◌, ◌^◌, ◌<◌, ◌≤◌, [], OnOk, OnErr, IfOk, IfErr};
+ghost use Rattle.dym_base.specs.HeapStep.{IsHeapCommand};
 ghost use Rattle.dym_base.specs.Objects.{empty_heap};
 ghost use Rattle.dym_base.specs.declared.command.Version.TheVariants.{One};
 ghost use Rattle.dym_base.specs.declared.limits.TheConstants.{MOST_QUOTA};
 ghost use Rattle.dym_heap.specs.Meaning.{IsSound};
 ghost use Rattle.dym_heap.specs.Replies.{step_of, stepped};
-ghost use Rattle.dym_object.specs.Commands.{IsHeapCommand, TakesMemory};
+ghost use Rattle.dym_object.specs.Commands.{TakesMemory};
 ghost use Rattle.dym_object.specs.Meaning.{ObjectMeaning};
 
 use crate::answer::answer;

@@ -1,7 +1,7 @@
 //! What no clause says: that memory is given, and that an object over a real supply answers what a person worked out by
 //! hand.
 ghost use Rattle.std.specs.Prelude.{◌≡◌, ◌≤◌, ◌<◌, ◌^◌, IfOk};
-ghost use Rattle.dym_object.specs.Commands.{IsHeapCommand};
+ghost use Rattle.dym_base.specs.HeapStep.{IsHeapCommand};
 
 use crate::object::Object;
 use dym_base::{Blob, Command, Handle, Refusal, Reply, Version};

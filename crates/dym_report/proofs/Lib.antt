@@ -1,3 +1,7 @@
 pub mod Digits
 pub mod Trims
 pub mod HexPieces
+pub mod EntriesInOrder
+pub mod LiveWalk
+pub mod LiveChunks
+pub mod ObjectParts

@@ -1,5 +1,6 @@
 pub mod Handles
 pub mod Hex
+pub mod Entries
 pub mod Replies
 pub mod Objects
 pub mod Orders

@@ -1,12 +1,15 @@
 //! The texts of the formats, once each.
+ghost use Rattle.dym_heap.specs.Meaning.{IsSound};
 
 use crate::{
     Totals, write_counts, write_end, write_error, write_events, write_heading, write_heap_line,
-    write_image, write_logs, write_replies, write_summary, write_usage,
+    write_image, write_logs, write_object, write_replies, write_summary, write_usage,
 };
 use dym_base::{BadKind, Blob, Handle, Kind, Name, Refusal, Reply, Version};
+use dym_heap::Heap;
 use dym_io::{MemSink, SinkFault};
-use std::alloc::AllocError;
+use dym_quota::OwnSupply;
+use std::alloc::{AllocError, Global};
 
 const CHUNK: Handle = Handle { exp: 16, index: 7 };
 
@@ -26,6 +29,60 @@ fn write_others(sink: &mut MemSink, totals: &Totals) -> Result<(), SinkFault> {
     write_events(sink, 0)?;
     write_error(sink, 17, BadKind::QuotaRange)?;
     write_usage(sink)
+}
+
+/// Takes chunks of three classes, the largest first, and writes into three of them.
+fn fill(heap: &mut Heap<OwnSupply>) -> Result<(), Refusal>
+    requires { IsSound heap.old }
+    ensures { IsSound heap.new }
+{
+    let large = heap.malloc(&(), 4_000)?;
+    let first = heap.malloc(&(), 40)?;
+    let second = heap.malloc(&(), 64)?;
+    heap.malloc(&(), 1)?;
+    heap.write(large, 0, &[1, 2, 0])?;
+    heap.write(first, 2, &[0xab])?;
+    heap.write(second, 3, &[0xff, 0, 0x10])
+}
+
+/// Prints an object with such a heap, and answers whether each call did what it should.
+fn print_filled(
+    alloc: Global,
+    version: Version,
+    name: &Name,
+    sink: &mut MemSink,
+) -> Result<bool, AllocError> {
+    let supply = OwnSupply::open(alloc, 4)?;
+    let mut heap = match Heap::open_as(alloc, supply, version) {
+        Ok(heap) => heap,
+        Err((error, _)) => return Err(error),
+    };
+    let filled = fill(&mut heap).is_ok();
+    let printed = write_object(sink, name, &[Reply::Done, Reply::Nil], &heap, 2, 3).is_ok();
+    let _ = heap.end(&());
+    Ok(filled && printed)
+}
+
+#[test]
+fn a_heap_is_printed_chunk_by_chunk(rt: HostRuntime) -> Result<(), AllocError> {
+    let name = Name::new(b"a_1").unwrap();
+    let mut sink = MemSink::new(rt.alloc(), 1_000, 7, Vec::new(rt.alloc()))?;
+    assert!(rt; print_filled(rt.alloc(), Version::One, &name, &mut sink)?);
+    let text = b"object a_1\nok\nok nil\nheap 4 3\n\
+        32:0 -\n64:0 0000ab\n64:1 000000ff0010\n4096:0 0102\nlogs 2 3\n";
+    assert_eq!(rt; sink.bytes(), text.as_slice());
+    Ok(())
+}
+
+#[test]
+fn lengths_are_printed_in_version_2(rt: HostRuntime) -> Result<(), AllocError> {
+    let name = Name::new(b"b").unwrap();
+    let mut sink = MemSink::new(rt.alloc(), 1_000, 1_000, Vec::new(rt.alloc()))?;
+    assert!(rt; print_filled(rt.alloc(), Version::Two, &name, &mut sink)?);
+    let text = b"object b\nok\nok nil\nheap 4 3\n\
+        32:0 1 -\n64:0 40 0000ab\n64:1 64 000000ff0010\n4096:0 4000 0102\nlogs 2 3\n";
+    assert_eq!(rt; sink.bytes(), text.as_slice());
+    Ok(())
 }
 
 #[test]

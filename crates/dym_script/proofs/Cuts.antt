@@ -1,9 +1,8 @@
 -- Where an input is cut into lines, and a line into words.
-use Rattle.std.proofs.Common.{◌≡◌, ℕ, zero, suc, ◌+◌, ◌-◌, ◌<◌, ◌≤◌, Bool, true, false, cond, not, eqb, List, [], ◌∷◌, length, take, drop, get_or, get_or-drop, refl, sym, ap, ◌∙◌, arith, rules, eqb-true, add-one, one-add, length-drop, take_all, add-zero}
+use Rattle.std.proofs.Common.{◌≡◌, ℕ, zero, suc, ◌+◌, ◌-◌, ◌<◌, Bool, true, false, cond, not, eqb, List, [], ◌∷◌, length, take, drop, get_or, get_or-drop, refl, sym, ap, ◌∙◌, arith, one-add, length-drop, take_all, add-zero}
 use Rattle.std.proofs.lemmas.List.Sums.{prefix_len_stops}
 use Rattle.std.proofs.lemmas.Bool.{false_from_ne_true}
 use Rattle.std.specs.List.{prefix_len, slice_split, onto_first, filter}
-use Rattle.std.proofs.lemmas.Grind.{common_steps}
 use Rattle.dym_script.specs.Lines.{lines_of, words_of, is_space, is_word}
 
 -- no line end stands before place n, and one stands there

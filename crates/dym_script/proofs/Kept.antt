@@ -1,17 +1,15 @@
 -- What the reader of lines keeps between two lines.
-use Rattle.std.proofs.Common.{◌≡◌, ℕ, ◌+◌, ◌<◌, ◌≤◌, Bool, true, false, cond, List, [], ◌∷◌, ◌++◌, length, Option, Some, None, IsTrue, refl, sym, ap, subst, ◌∙◌, arith, All, Vec, Global, length-append, ⊎_elim}
+use Rattle.std.proofs.Common.{◌≡◌, ℕ, ◌<◌, ◌≤◌, true, false, List, [], ◌∷◌, ◌++◌, length, Some, None, IsTrue, refl, sym, ap, subst, ◌∙◌, arith, Vec, Global, length-append}
 use Rattle.std.specs.Bool.{nat_eq}
 use Rattle.std.specs.Str.{bytes_eq}
 use Rattle.std.specs.HashMap.{get_by, Updates}
 use Rattle.std.specs.Cmp.Lexicographic.{pointwise, bytes_decides}
-use Rattle.std.proofs.lemmas.Bool.{cases_Bool}
 use Rattle.std.proofs.lemmas.List.Elements.{All-nil, All-push, All-weaker}
 use Rattle.dym_base.specs.Names.{is_name}
-use Rattle.dym_base.specs.declared.limits.TheConstants.{MOST_OBJECTS, MOST_COMMANDS, MOST_QUOTA}
+use Rattle.dym_base.specs.declared.limits.TheConstants.{MOST_OBJECTS, MOST_QUOTA}
 use Rattle.dym_script.specs.declared.script.Decl.{Decl}
-use Rattle.dym_script.specs.declared.script.Line.{Line}
 use Rattle.dym_script.specs.declared.reader.Reader.{Reader}
-use Rattle.dym_script.specs.Scripts.{Said, object_of, said}
+use Rattle.dym_script.specs.Scripts.{Said, object_of}
 use Rattle.dym_script.specs.Answers.{IsLawful}
 use Rattle.dym_script.specs.Readers.{IsKept}
 use Rattle.dym_script.proofs.Index.{with_last, with_last_no, object_of_none, object_of_push, other_bytes}

@@ -4,3 +4,5 @@ pub mod Kept
 pub mod Numbers
 pub mod Counts
 pub mod Moves
+pub mod Faults
+pub mod HeapCommands

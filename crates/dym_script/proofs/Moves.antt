@@ -1,12 +1,10 @@
 -- Commands that are moved to their objects' parts.
-use Rattle.std.proofs.Common.{◌≡◌, ℕ, ◌+◌, ◌<◌, ◌≤◌, ◌==◌, Bool, true, false, cond, List, [], ◌∷◌, ◌++◌, length, map, filter, get_or, set, refl, sym, ap, ◌∙◌, arith, get_or-set_other, length-set, subst, eqb-true, ◌≢◌, append-nil}
+use Rattle.std.proofs.Common.{◌≡◌, ℕ, ◌<◌, ◌==◌, true, false, cond, List, [], ◌∷◌, ◌++◌, length, map, filter, get_or, set, refl, sym, ap, ◌∙◌, arith, get_or-set_other, length-set, eqb-true, ◌≢◌, append-nil}
 use Rattle.std.proofs.Math.Seq.{map-set_same}
-use Rattle.std.proofs.lemmas.Grind.{common_steps, get_or-set_at}
+use Rattle.std.proofs.lemmas.Grind.{get_or-set_at}
 use Rattle.std.proofs.lemmas.Bool.Decides.{nat_tests}
-use Rattle.dym_script.specs.declared.script.Decl.{Decl}
 use Rattle.dym_script.specs.declared.script.Line.{Line}
 use Rattle.dym_script.specs.declared.own.Part.{Part}
-use Rattle.dym_base.specs.declared.command.Command.{Command}
 use Rattle.dym_script.specs.Parts.{commands_of, EachHas}
 
 commands_of_push : (lines : List Line) (line : Line) (k : ℕ) → commands_of (lines ++ line ∷ []) k ≡ commands_of lines k ++ cond (line.object == k) (line.command ∷ []) []

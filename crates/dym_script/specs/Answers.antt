@@ -1,5 +1,5 @@
 -- What a reader of the code answers, against what the grammar gives.
-use Rattle.std.specs.Prelude.{◌≡◌, ◌≤◌, ◌<◌, ℕ, IsTrue, Result, Ok, Err, All, length}
+use Rattle.std.specs.Prelude.{◌≡◌, ◌≤◌, ◌<◌, IsTrue, Result, Ok, Err, All, length}
 use Rattle.dym_base.specs.Names.{is_name}
 use Rattle.dym_base.specs.declared.limits.TheConstants.{MOST_OBJECTS, MOST_COMMANDS, MOST_QUOTA}
 use Rattle.dym_base.specs.declared.bad_kind.BadKind.{BadKind}

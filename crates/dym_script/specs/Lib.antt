@@ -5,3 +5,5 @@ pub mod Scripts
 pub mod Answers
 pub mod Readers
 pub mod Parts
+pub mod Laws
+pub mod HeapCommands

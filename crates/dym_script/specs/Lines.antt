@@ -1,5 +1,5 @@
 -- How an input is cut into lines, and a line into words.
-use Rattle.std.specs.Prelude.{ℕ, Bool, true, false, ◌==◌, nat_eq, if◌then◌else◌, List, [], ◌∷◌}
+use Rattle.std.specs.Prelude.{ℕ, Bool, true, false, ◌==◌, if◌then◌else◌, List, [], ◌∷◌}
 use Rattle.std.specs.List.{slice_split, onto_first, filter}
 
 -- the lines of an input, which is cut at each line end. A last piece without one is a line where it isn't empty
@@ -7,9 +7,11 @@ abbrev pub lines_of : List ℕ → List (List ℕ)
 lines_of [] = []
 lines_of (b ∷ bytes) = if b == 10 then [] ∷ lines_of bytes else onto_first b (lines_of bytes)
 
+-- the byte that stands between words
 abbrev pub is_space : ℕ → Bool
 is_space b = b == 32
 
+-- a piece is a word where it isn't empty
 abbrev pub is_word : List ℕ → Bool
 is_word [] = false
 is_word (b ∷ bytes) = true

@@ -1,5 +1,5 @@
 -- What the reader of lines keeps between two lines.
-use Rattle.std.specs.Prelude.{◌≡◌, ◌≤◌, ◌<◌, ℕ, List, Option}
+use Rattle.std.specs.Prelude.{◌≡◌, ℕ, List}
 use Rattle.std.specs.Str.{bytes_eq}
 use Rattle.std.specs.HashMap.{get_by}
 use Rattle.dym_script.specs.declared.reader.Reader.{Reader}

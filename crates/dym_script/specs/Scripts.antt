@@ -1,6 +1,6 @@
 -- The grammar of scripts. The input is cut into lines, and each line is classed by tests in a fixed order: it is good and
 -- says one thing, or it has one kind of fault, that of the first test that fails.
-use Rattle.std.specs.Prelude.{ℕ, ◌+◌, ◌-◌, ◌^◌, Bool, true, false, not, ◌&&◌, ◌||◌, ◌==◌, nat_eq, nat_lt, nat_le, if◌then◌else◌, List, [], ◌∷◌, ◌++◌, length, codes, slice_index, Option, None, Some, is_some, map, filter, Result, Ok, Err}
+use Rattle.std.specs.Prelude.{ℕ, ◌+◌, ◌-◌, ◌^◌, Bool, true, false, not, ◌&&◌, ◌||◌, ◌==◌, nat_lt, nat_le, if◌then◌else◌, List, [], ◌∷◌, ◌++◌, length, codes, slice_index, Option, None, Some, is_some, map, filter, Result, Ok, Err}
 use Rattle.std.specs.List.{list_all, position_from}
 use Rattle.std.specs.Str.{bytes_eq}
 use Rattle.dym_base.specs.Names.{is_name}
@@ -33,6 +33,7 @@ pub record Reading : Type 0 where
   pub begun : Bool
   pub said : Said
 
+-- nothing is read yet, and the version is 1 unless a line says otherwise
 abbrev pub start : Reading
 start = record { begun = false; said = record { version = One; objects = []; lines = [] } }
 
@@ -57,6 +58,10 @@ ask_at s command (Some object) =
     if length s.lines == MOST_COMMANDS then Err bad.Many
     else Ok (record s { lines = s.lines ++ record { object = object; command = command } ∷ [] })
 
+-- what is wrong with a command whose name isn't declared
+abbrev pub name_fault : List ℕ → BadKind
+name_fault name = if is_name name then bad.Undeclared else bad.Name
+
 -- the line asks something of an object
 abbrev pub ask : Said → List ℕ → Result Command BadKind → Result Said BadKind
 ask s name (Err kind) = Err kind
@@ -67,6 +72,7 @@ abbrev pub declare_words : Said → ℕ → List (List ℕ) → Result Said BadK
 declare_words s number (name ∷ quota ∷ []) = declare s number name (number_to (2 ^ 64 - 1) quota)
 declare_words s number words = Err bad.Command
 
+-- the words after a verb, where the second word is one
 abbrev pub ask_verb : Said → List ℕ → Option Verb → List (List ℕ) → Result Said BadKind
 ask_verb s name None words = Err bad.Command
 ask_verb s name (Some v) words = ask s name (command_of v words)
@@ -81,10 +87,12 @@ abbrev pub say : Said → ℕ → List ℕ → List (List ℕ) → Result Said B
 say s number first words =
     if bytes_eq first (codes "object") then declare_words s number words else ask_words s first words
 
+-- the two words of the version line
 abbrev pub is_version : List ℕ → List (List ℕ) → Bool
 is_version first (second ∷ []) = bytes_eq first (codes "version") && bytes_eq second (codes "2")
 is_version first words = false
 
+-- a line that isn't skipped was read
 abbrev pub begin : Result Said BadKind → Result Reading BadKind
 begin (Err kind) = Err kind
 begin (Ok s) = Ok (record { begun = true; said = s })
@@ -97,6 +105,7 @@ read_words r number (first ∷ words) =
     else if not r.begun && is_version first words then Ok (record { begun = true; said = record r.said { version = Two } })
     else begin (say r.said number first words)
 
+-- what may stand in a line
 abbrev pub is_printable : ℕ → Bool
 is_printable b = nat_le 0x20 b && nat_le b 0x7e
 
@@ -112,6 +121,7 @@ pub record Fault : Type 0 where
   pub line : ℕ
   pub kind : BadKind
 
+-- the rest is read only after a good line
 abbrev pub go_on : ℕ → Result Reading BadKind → (Reading → Result Said Fault) → Result Said Fault
 go_on number (Err kind) rest = Err (record { line = number; kind = kind })
 go_on number (Ok r) rest = rest r
@@ -130,7 +140,3 @@ script_of bytes =
 -- the commands of the lines of one object, in the script's order
 unfoldable pub own : Said → ℕ → List Command
 own s object = map (λ line. line.command) (filter (λ line. line.object == object) s.lines)
-
--- what is wrong with a command whose name isn't declared
-abbrev pub name_fault : List ℕ → BadKind
-name_fault name = if is_name name then bad.Undeclared else bad.Name

@@ -51,6 +51,24 @@ pub fn two_words(text: &[u8]) -> Option<(&[u8], &[u8])>
     Some((first, second))
 }
 
+/// The three words of a line.
+pub fn three_words(text: &[u8]) -> Option<(&[u8], &[u8], &[u8])>
+    ensures { MatchOption result (length (words_of text.now) ≢ 3) (λ words. words_of text.now ≡ words.0.now ∷ words.1.now ∷ words.2.now ∷ []) }
+{
+    let (first, after) = next_word(text)?;
+    let (second, third) = two_words(after)?;
+    Some((first, second, third))
+}
+
+/// The four words of a line.
+pub fn four_words(text: &[u8]) -> Option<(&[u8], &[u8], &[u8], &[u8])>
+    ensures { MatchOption result (length (words_of text.now) ≢ 4) (λ words. words_of text.now ≡ words.0.now ∷ words.1.now ∷ words.2.now ∷ words.3.now ∷ []) }
+{
+    let (first, after) = next_word(text)?;
+    let (second, third, fourth) = three_words(after)?;
+    Some((first, second, third, fourth))
+}
+
 /// How many spaces stand at the front.
 fn spaces_before(text: &[u8]) -> usize
     ensures value { result ≡ prefix_len is_space text.now }

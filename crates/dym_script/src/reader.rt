@@ -111,7 +111,7 @@ impl Reader {
         } else {
             let (word, words) = next_word(words).ok_or(LineFail::Bad(BadKind::Command))?;
             let verb = Verb::of(word).ok_or(LineFail::Bad(BadKind::Command))?;
-            let command = verb.command(words)?;
+            let command = verb.command(alloc, words)?;
             self.ask(first, command)
         }
     }

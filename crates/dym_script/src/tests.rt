@@ -1,6 +1,6 @@
 //! What no clause shows: that good scripts are read, and that the kinds of bad lines are those of the format.
-use crate::{Script, ScriptFail, apart, own_commands, read_script};
-use dym_base::{BadKind, Command, Version};
+use crate::{ScriptFail, apart, own_commands, read_script};
+use dym_base::{BadKind, Blob, Command, Handle, Version};
 use std::alloc::{AllocError, Global};
 use std::test::Fail;
 
@@ -70,7 +70,7 @@ fn versions(rt: HostRuntime) -> Result<(), Fail> {
 
 #[test]
 fn bad_lines(rt: HostRuntime) {
-    let table: [(&[u8], u32, BadKind); 32] = [
+    let table: [(&[u8], u32, BadKind); 55] = [
         (b"a malloc 4", 1, BadKind::Undeclared),
         (b"a malloc", 1, BadKind::Command),
         (b"a", 1, BadKind::Command),
@@ -80,6 +80,7 @@ fn bad_lines(rt: HostRuntime) {
         (b"object a", 1, BadKind::Command),
         (b"object a 1 2", 1, BadKind::Command),
         (b"object malloc 4", 0, BadKind::Command),
+        (b"object a 1\na free 32:007", 0, BadKind::Command),
         (b"a malloc 18446744073709551616", 1, BadKind::Number),
         (b"a malloc 000000000000000000007", 1, BadKind::Number),
         (b"a malloc -1", 1, BadKind::Number),
@@ -110,12 +111,155 @@ fn bad_lines(rt: HostRuntime) {
         (b"version 2\nversion 2", 2, BadKind::Command),
         (b"object a 1\nversion 2", 2, BadKind::Command),
         (b"version 2 2", 1, BadKind::Command),
+        (b"a read 32:0 0 257", 1, BadKind::Number),
+        (b"a free 48:0", 1, BadKind::Handle),
+        (b"a free 032:0", 1, BadKind::Handle),
+        (b"a free 32:4294967296", 1, BadKind::Handle),
+        (b"a free 32", 1, BadKind::Handle),
+        (b"a free 32:", 1, BadKind::Handle),
+        (b"a free 32:0:0", 1, BadKind::Handle),
+        (b"a sum nil", 1, BadKind::Handle),
+        (b"a write nil 0 00", 1, BadKind::Handle),
+        (b"a write nil 0 abc", 1, BadKind::Handle),
+        (b"a write nil x abc", 1, BadKind::Number),
+        (b"a write 64:0 0 abc", 1, BadKind::Hex),
+        (b"a write 64:0 0 0g", 1, BadKind::Hex),
+        (b"a-b write 64:0 0 --", 1, BadKind::Hex),
+        (b"a fill 64:0 0 4294967296 0", 1, BadKind::Number),
+        (b"a fill 48:0 0 1 256", 1, BadKind::Number),
+        (b"object a 1\na log 1", 2, BadKind::Command),
+        (b"object a 1\na ilog 1", 2, BadKind::Command),
+        (b"object a 1\na restore 1", 2, BadKind::Command),
+        (b"object a 1\na prune 1", 2, BadKind::Command),
+        (b"object a 1\na logs", 2, BadKind::Command),
+        (b"a write 64:0 0", 1, BadKind::Command),
         (b"a malloc 4\nobject a 1\n", 1, BadKind::Undeclared),
     ];
     for (text, line, kind) in table {
         let wanted = if line == 0 { None } else { Some((line, kind)) };
         assert_eq!(rt; bad(rt.alloc(), text), wanted, "{text:?}");
     }
+}
+
+/// Whether this is the command that a line after the name `a` asks.
+fn asks(alloc: Global, line: &[u8], wanted: &Command) -> Result<bool, AllocError> {
+    let mut text = Vec::from_slice(alloc, b"object a 1\na ")?;
+    text.extend_from_slice(line)?;
+    match read_script(alloc, &text) {
+        Ok(script) => match script.lines.first() {
+            Some(line) => Ok(same(&line.command, wanted)),
+            None => Ok(false),
+        },
+        Err(_) => Ok(false),
+    }
+}
+
+/// Whether two commands are the same.
+fn same(x: &Command, y: &Command) -> bool {
+    match (x, y) {
+        (Command::Malloc { len }, Command::Malloc { len: other }) => len == other,
+        (Command::Calloc { n, len }, Command::Calloc { n: m, len: other }) => n == m
+            && len == other,
+        (Command::Realloc { h, len }, Command::Realloc { h: g, len: other }) => h == g
+            && len == other,
+        (Command::Free { h }, Command::Free { h: g }) => h == g,
+        (
+            Command::Write { h, at, bytes },
+            Command::Write {
+                h: g,
+                at: to,
+                bytes: other,
+            },
+        ) => { h == g && at == to && bytes.bytes() == other.bytes() }
+        (
+            Command::Fill { h, at, len, byte },
+            Command::Fill {
+                h: g,
+                at: to,
+                len: other,
+                byte: b,
+            },
+        ) => { h == g && at == to && len == other && byte == b }
+        (
+            Command::Read { h, at, len },
+            Command::Read {
+                h: g,
+                at: to,
+                len: other,
+            },
+        ) => h == g && at == to && len == other,
+        (
+            Command::Link { h, at, to },
+            Command::Link {
+                h: g,
+                at: place,
+                to: other,
+            },
+        ) => h == g && at == place && to == other,
+        (Command::Follow { h, at }, Command::Follow { h: g, at: to }) => h == g && at == to,
+        (Command::Sum { h }, Command::Sum { h: g }) => h == g,
+        _ => false,
+    }
+}
+
+#[test]
+fn each_command(rt: HostRuntime) -> Result<(), Fail> {
+    let h = Handle { exp: 5, index: 7 };
+    let last = Handle {
+        exp: 16,
+        index: u32::MAX,
+    };
+    let bytes = Blob::new(rt.alloc(), &[0xab, 0x0c, 0xff])?;
+    let none = Blob::new(rt.alloc(), &[])?;
+    let table: [(&[u8], Command); 14] = [
+        (b"malloc 0", Command::Malloc { len: 0 }),
+        (b"calloc 3 20", Command::Calloc { n: 3, len: 20 }),
+        (b"realloc nil 5", Command::Realloc { h: None, len: 5 }),
+        (b"realloc 32:7 5", Command::Realloc { h: Some(h), len: 5 }),
+        (b"free nil", Command::Free { h: None }),
+        (b"free 65536:4294967295", Command::Free { h: Some(last) }),
+        (
+            b"write 32:7 4294967295 aB0cFF",
+            Command::Write {
+                h,
+                at: u32::MAX,
+                bytes,
+            },
+        ),
+        (
+            b"write 32:7 1 -",
+            Command::Write {
+                h,
+                at: 1,
+                bytes: none,
+            },
+        ),
+        (
+            b"fill 32:007 1 2 255",
+            Command::Fill {
+                h,
+                at: 1,
+                len: 2,
+                byte: 255,
+            },
+        ),
+        (b"read 32:7 3 256", Command::Read { h, at: 3, len: 256 }),
+        (
+            b"link 32:7 8 65536:4294967295",
+            Command::Link {
+                h,
+                at: 8,
+                to: Some(last),
+            },
+        ),
+        (b"link 32:7 0 nil", Command::Link { h, at: 0, to: None }),
+        (b"follow 32:7 8", Command::Follow { h, at: 8 }),
+        (b"sum 32:7", Command::Sum { h }),
+    ];
+    for (line, wanted) in &table {
+        assert!(rt; asks(rt.alloc(), line, wanted)?, "{line:?}");
+    }
+    Ok(())
 }
 
 /// So many copies of a byte.

@@ -1,8 +1,7 @@
-pub mod ThinFacts
-pub mod BuiltScripts
 pub mod RunFacts
 pub mod ObjectText
 pub mod PassedOn
 pub mod PartFacts
 pub mod MadePlans
 pub mod Served
+pub mod SummaryFacts

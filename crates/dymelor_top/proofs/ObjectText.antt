@@ -1,37 +1,41 @@
--- The part of an object of which the chunks are known.
-use Rattle.std.proofs.Common.{◌≡◌, ℕ, List, [], ◌∷◌, ◌++◌, length, map, flat_map, refl, sym, ap, ◌∙◌}
-use Rattle.dym_base.specs.Heaps.{held}
-use Rattle.dym_base.specs.HeapStep.{key, handle_of}
+-- The part of an object whose commands are commands to its heap.
+use Rattle.std.proofs.Common.{◌≡◌, ℕ, List, [], length, refl, sym, ap, ◌∙◌}
+use Rattle.std.specs.List.{AllByRecursion}
+use Rattle.std.proofs.lemmas.List.Elements.{recursion_from_All}
+use Rattle.dym_base.specs.Heaps.{Live, HeapState}
+use Rattle.dym_base.specs.Objects.{ObjectState, object_start, empty_heap, run_replies, run_end, heap_replies, heap_after, slots}
 use Rattle.dym_base.specs.declared.command.Version.{Version}
+use Rattle.dym_base.specs.declared.command.Command.{Command}
 use Rattle.dym_base.specs.declared.reply.Reply.{Reply}
-use Rattle.dym_base.specs.Objects.{run_replies, run_end, slots}
-use Rattle.dym_report.specs.Objects.{heading, heap_line, image_line, logs_line, object_text}
-use Rattle.dym_report.specs.Replies.{reply_line}
-use Rattle.dymelor_top.specs.declared.thin.Chunk.{Chunk}
+use Rattle.dym_heap.specs.Meaning.{HeapMeaning}
+use Rattle.dym_base.specs.HeapStep.{IsHeapCommand}
+use Rattle.dym_object.specs.Runs.{HeapCommandsReply, HeapCommandsEnd}
+use Rattle.dym_report.specs.Objects.{object_text}
+use Rattle.dym_script.specs.declared.own.Part.{Part}
+use Rattle.dymelor_top.specs.Parts.{own_of, IsRunnable}
 use Rattle.dymelor_top.specs.Report.{Own, part_text}
-use Rattle.dymelor_top.specs.Thin.{InOrder, live_of, entry_of}
-use Rattle.dymelor_top.proofs.ThinFacts.{entries_are, len_is}
 
-abbrev pub chunk_line : Version → Chunk → List ℕ
-chunk_line v c = image_line v (handle_of (key c.handle)) c.bytes.items
-
-lines_of_entries : (v : Version) (chunks : List Chunk) → flat_map (λ e. image_line v (handle_of e.0) e.1) (map entry_of chunks) ≡ flat_map (chunk_line v) chunks
-lines_of_entries v [] = refl
-lines_of_entries v (c ∷ cs) = ap (λ l. chunk_line v c ++ l) (lines_of_entries v cs)
-
--- its five parts
-pub object_is : (v : Version) (name : List ℕ) (replies : List Reply) (chunks : List Chunk) → InOrder chunks
-    → object_text v name replies (live_of chunks) 0 0
-    ≡ heading name ++ flat_map reply_line replies ++ heap_line (length chunks) (held (live_of chunks)) ++ flat_map (chunk_line v) chunks ++ logs_line 0 0
-unfolding object_text
-object_is v name replies chunks order =
-    let images = ap (flat_map (λ e. image_line v (handle_of e.0) e.1)) (entries_are chunks order) ∙ lines_of_entries v chunks in
-    λ i. heading name ++ flat_map reply_line replies ++ heap_line (len_is chunks order i) (held (live_of chunks)) ++ images i ++ logs_line 0 0
-
--- the part of an object whose commands ran and left no log
-pub part_is : (v : Version) (o : Own) (replies : List Reply) (chunks : List Chunk) → replies ≡ run_replies v o.decl.quota o.commands
-    → live_of chunks ≡ (run_end v o.decl.quota o.commands).heap.live → (run_end v o.decl.quota o.commands).logs ≡ []
-    → part_text v o ≡ object_text v o.decl.name replies (live_of chunks) 0 0
+-- what a run of the heap gave is what the part shows, and it shows no log
+pub part_is : HeapCommandsReply → HeapCommandsEnd → (v : Version) (o : Own) (replies : List Reply) (live : Live) → AllByRecursion IsHeapCommand o.commands
+    → replies ≡ heap_replies v o.decl.quota empty_heap o.commands → live ≡ (heap_after v o.decl.quota empty_heap o.commands).live
+    → part_text v o ≡ object_text v o.decl.name replies live 0 0
 unfolding part_text
-part_is v o replies chunks replied left none =
-    λ i. object_text v o.decl.name (sym replied i) (sym left i) (length (none i)) (slots (none i))
+part_is replies_are end_is v o replies live all replied left =
+    let answered : run_replies v o.decl.quota o.commands ≡ replies = replies_are v o.decl.quota object_start o.commands all ∙ sym replied in
+    let ends : run_end v o.decl.quota o.commands ≡ record { heap = heap_after v o.decl.quota empty_heap o.commands; logs = [] } = end_is v o.decl.quota object_start o.commands all in
+    let kept : (run_end v o.decl.quota o.commands).heap.live ≡ live = ap (λ (s : ObjectState). s.heap.live) ends ∙ sym left in
+    let none : (run_end v o.decl.quota o.commands).logs ≡ [] = ap (λ (s : ObjectState). s.logs) ends in
+    λ i. object_text v o.decl.name (answered i) (kept i) (length (none i)) (slots (none i))
+
+-- the same of a part, by the heap before the run and the heap after it
+pub part_shown : HeapCommandsReply → HeapCommandsEnd → (part : Part) (start now : HeapMeaning) (commands : List Command) (replies : List Reply)
+    → IsRunnable part → commands ≡ part.commands.items → start.quota ≡ part.decl.quota → start.state ≡ empty_heap
+    → replies ≡ heap_replies start.version start.quota start.state commands → now.state ≡ heap_after start.version start.quota start.state commands
+    → now.version ≡ start.version
+    → part_text start.version (own_of part) ≡ object_text now.version part.decl.name replies now.state.live 0 0
+part_shown replies_are end_is part start now commands replies can same quota empty replied left version =
+    let v : Version = start.version in
+    let answered : replies ≡ heap_replies v part.decl.quota empty_heap part.commands.items = replied ∙ (λ i. heap_replies v (quota i) (empty i) (same i)) in
+    let kept : now.state.live ≡ (heap_after v part.decl.quota empty_heap part.commands.items).live = ap (λ (s : HeapState). s.live) left ∙ (λ i. (heap_after v (quota i) (empty i) (same i)).live) in
+    part_is replies_are end_is v (own_of part) replies now.state.live (recursion_from_All IsHeapCommand part.commands.items can.heap_commands) answered kept
+    ∙ ap (λ w. object_text w part.decl.name replies now.state.live 0 0) (sym version)

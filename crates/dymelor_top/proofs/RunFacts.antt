@@ -1,68 +1,61 @@
--- One command more of a run.
+-- A run of a heap by commands, as far as it has come.
 use Rattle.std.proofs.Common.{◌≡◌, ℕ, suc, ◌+◌, ◌<◌, List, [], ◌∷◌, ◌++◌, length, drop, get_or, refl, sym, ap, ◌∙◌, add-one, drop-cons, append_assoc, append-nil, le_of_eq}
 use Rattle.std.proofs.Math.ListN.{drop_of_length-le}
-use Rattle.std.specs.FinMap.{empty, empty_of_len}
-use Rattle.dym_base.specs.Heaps.{Touched}
-use Rattle.dym_base.specs.HeapStep.{heap_step}
-use Rattle.dym_base.specs.Objects.{ObjectState, object_start, object_step, object_after, replies_from, run_replies, run_end}
+use Rattle.dym_base.specs.Heaps.{HeapState}
+use Rattle.dym_base.specs.HeapStep.{HeapAnswer, heap_step}
+use Rattle.dym_base.specs.Objects.{heap_replies, heap_after}
 use Rattle.dym_base.specs.declared.command.Version.{Version}
 use Rattle.dym_base.specs.declared.command.Command.{Command}
-use Rattle.dym_base.specs.declared.command.Command.TheVariants.{Malloc}
 use Rattle.dym_base.specs.declared.reply.Reply.{Reply}
-use Rattle.dymelor_top.specs.declared.thin.Chunk.{Chunk}
-use Rattle.dymelor_top.specs.Thin.{InOrder, live_of}
-use Rattle.dymelor_top.specs.Runs.{Ran}
-use Rattle.dymelor_top.proofs.ThinFacts.{state_of, len_is}
+use Rattle.dym_heap.specs.Meaning.{HeapMeaning}
+use Rattle.dym_heap.specs.Replies.{step_of}
 
-pub none_in_order : InOrder []
-unfolding InOrder
-none_in_order = tt
-
-none_live : live_of [] ≡ empty
-none_live = empty_of_len (live_of []) (len_is [] none_in_order)
+-- after the first i commands, the other commands lead from the heap now to the replies and the end of the whole run
+pub record Ran (start now : HeapMeaning) (commands : List Command) (i : ℕ) (replies : List Reply) : Type 0 where
+  pub version : now.version ≡ start.version
+  pub quota : now.quota ≡ start.quota
+  pub replied : replies ++ heap_replies start.version start.quota now.state (drop i commands) ≡ heap_replies start.version start.quota start.state commands
+  pub ends : heap_after start.version start.quota now.state (drop i commands) ≡ heap_after start.version start.quota start.state commands
 
 -- before the first command
-pub ran_none : (v : Version) (quota : ℕ) (commands : List Command) (replies : List Reply) (chunks : List Chunk) → replies ≡ [] → chunks ≡ [] → Ran v quota commands 0 replies chunks
-ran_none v quota commands replies chunks no_replies no_chunks = record {
-  state = object_start;
-  live = sym (ap live_of no_chunks ∙ none_live);
-  logs = refl;
-  replied = ap (λ l. l ++ run_replies v quota commands) no_replies;
+pub ran_none : (start : HeapMeaning) (commands : List Command) (replies : List Reply) → replies ≡ [] → Ran start start commands 0 replies
+ran_none start commands replies none = record {
+  version = refl;
+  quota = refl;
+  replied = ap (λ l. l ++ heap_replies start.version start.quota start.state commands) none;
   ends = refl;
 }
 
-pub ran_more : (v : Version) (quota : ℕ) (commands : List Command) (i n : ℕ) (c : Command) (replies : List Reply) (reply : Reply) (chunks new : List Chunk)
-    → i < length commands → c ≡ get_or commands i c → c ≡ Malloc n → Ran v quota commands i replies chunks
-    → ((touched : Touched) → reply ≡ (heap_step v quota (state_of chunks touched) (Malloc n)).reply)
-    → ((touched : Touched) → live_of new ≡ (heap_step v quota (state_of chunks touched) (Malloc n)).heap.live)
-    → Ran v quota commands (i + 1) (replies ++ reply ∷ []) new
-ran_more v quota commands i n c replies reply chunks new within at is ran replied after =
-    let rest = drop (i + 1) commands in
-    let cut : drop i commands ≡ Malloc n ∷ rest = rw (add-one, drop-cons commands i c within) (λ j. (sym at ∙ is) j ∷ drop (suc i) commands) in
-    let heap : ran.state.heap ≡ state_of chunks ran.state.heap.touched = λ j. record { live = ran.live j; touched = ran.state.heap.touched } in
-    let next : ObjectState = (object_step v quota ran.state (Malloc n)).object in
-    let said : reply ≡ (heap_step v quota ran.state.heap (Malloc n)).reply = replied ran.state.heap.touched ∙ ap (λ h. (heap_step v quota h (Malloc n)).reply) (sym heap) in
-    let left : live_of new ≡ next.heap.live = after ran.state.heap.touched ∙ ap (λ h. (heap_step v quota h (Malloc n)).heap.live) (sym heap) in
+-- one command more
+pub ran_more : (start now next : HeapMeaning) (commands : List Command) (i : ℕ) (c : Command) (replies : List Reply) (reply : Reply)
+    → i < length commands → c ≡ get_or commands i c → Ran start now commands i replies
+    → reply ≡ (step_of now c).reply → next.state ≡ (step_of now c).heap → next.version ≡ now.version → next.quota ≡ now.quota
+    → Ran start next commands (i + 1) (replies ++ reply ∷ [])
+ran_more start now next commands i c replies reply within at ran replied after version quota =
+    let v : Version = start.version in
+    let q : ℕ = start.quota in
+    let rest : List Command = drop (i + 1) commands in
+    let cut : drop i commands ≡ c ∷ rest = rw (add-one, drop-cons commands i c within) (λ j. sym at j ∷ drop (suc i) commands) in
+    let step : step_of now c ≡ heap_step v q now.state c = λ j. heap_step (ran.version j) (ran.quota j) now.state c in
+    let said : reply ≡ (heap_step v q now.state c).reply = replied ∙ ap (λ (a : HeapAnswer). a.reply) step in
+    let left : next.state ≡ (heap_step v q now.state c).heap = after ∙ ap (λ (a : HeapAnswer). a.heap) step in
     record {
-      state = next;
-      live = sym left;
-      logs = ran.logs;
-      replied = append_assoc replies (reply ∷ []) (replies_from v quota next rest)
-          ∙ ap (λ x. replies ++ x ∷ replies_from v quota next rest) said
-          ∙ ap (λ l. replies ++ replies_from v quota ran.state l) (sym cut)
+      version = version ∙ ran.version;
+      quota = quota ∙ ran.quota;
+      replied = append_assoc replies (reply ∷ []) (heap_replies v q next.state rest)
+          ∙ (λ j. replies ++ said j ∷ heap_replies v q (left j) rest)
+          ∙ ap (λ l. replies ++ heap_replies v q now.state l) (sym cut)
           ∙ ran.replied;
-      ends = ap (object_after v quota ran.state) (sym cut) ∙ ran.ends;
+      ends = ap (λ s. heap_after v q s rest) left ∙ ap (heap_after v q now.state) (sym cut) ∙ ran.ends;
     }
 
 -- after the last command
-pub ran_all : (v : Version) (quota : ℕ) (commands : List Command) (i : ℕ) (replies : List Reply) (chunks : List Chunk) → length commands ≡ i → Ran v quota commands i replies chunks
-    → (replies ≡ run_replies v quota commands) × ((live_of chunks ≡ (run_end v quota commands).heap.live) × ((run_end v quota commands).logs ≡ []))
-ran_all v quota commands i replies chunks all ran =
-    let none : drop i commands ≡ [] = drop_of_length-le commands (le_of_eq all) in
-    let ends : ran.state ≡ run_end v quota commands = ap (object_after v quota ran.state) (sym none) ∙ ran.ends in (
-      sym (append-nil replies) ∙ ap (λ l. replies ++ replies_from v quota ran.state l) (sym none) ∙ ran.replied,
-      (
-        sym ran.live ∙ ap (λ s. s.heap.live) ends,
-        ap (λ s. s.logs) (sym ends) ∙ ran.logs,
-      ),
+pub ran_all : (start now : HeapMeaning) (commands : List Command) (i : ℕ) (replies : List Reply) → length commands ≡ i → Ran start now commands i replies
+    → (replies ≡ heap_replies start.version start.quota start.state commands) × (now.state ≡ heap_after start.version start.quota start.state commands)
+ran_all start now commands i replies all ran =
+    let v : Version = start.version in
+    let q : ℕ = start.quota in
+    let none : drop i commands ≡ [] = drop_of_length-le commands (le_of_eq all) in (
+      sym (append-nil replies) ∙ ap (λ l. replies ++ heap_replies v q now.state l) (sym none) ∙ ran.replied,
+      ap (heap_after v q now.state) (sym none) ∙ ran.ends,
     )

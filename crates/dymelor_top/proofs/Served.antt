@@ -26,6 +26,7 @@ use Rattle.dymelor_top.specs.declared.stop.Stop.{Stop}
 use Rattle.dymelor_top.specs.declared.stop.Stop.TheVariants as stop
 use Rattle.dymelor_top.specs.Stops.{stop_status}
 use Rattle.dymelor_top.specs.Report.{report_text}
+use Rattle.dymelor_top.specs.Summary.{summary_of}
 use Rattle.dymelor_top.specs.Answers.{Answer, fault_answer, of_script, counts_of, of_verdict, IsJudged, IsTraceAnswer, IsRead, IsAnswer, reads}
 use Rattle.dymelor_top.specs.Headline.{Input, WroteFront, WroteAll, Serves, Writes, WritesAnswer, PlanHeadline}
 
@@ -123,6 +124,7 @@ turned read all (inr long) = inr (long.1, long.0)
 
 pub same_answer : (r : Reading) (read all : List ℕ) (answer : Answer) → SameVerdict read all → IsRead r read answer → IsRead r all answer
 same_answer reading.Report read all answer same is = same_script report_text read all answer same is
+same_answer reading.Summary read all answer same is = same_script summary_of read all answer same is
 same_answer reading.Counts read all answer same is = same_script counts_of read all answer same is
 same_answer reading.Trace read all answer same is = same_trace read all answer same is
 
@@ -149,6 +151,7 @@ one_trace bytes false x y p q = one_judged bytes x y p q
 
 pub one_read : (r : Reading) (bytes : List ℕ) (x y : Answer) → IsRead r bytes x → IsRead r bytes y → x ≡ y
 one_read reading.Report bytes x y p q = p ∙ sym q
+one_read reading.Summary bytes x y p q = p ∙ sym q
 one_read reading.Counts bytes x y p q = p ∙ sym q
 one_read reading.Trace bytes x y p q = one_trace bytes (nat_lt MOST_INPUT_BYTES (length bytes)) x y p q
 

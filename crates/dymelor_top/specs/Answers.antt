@@ -14,6 +14,7 @@ use Rattle.dymelor_top.specs.declared.plan.Reading.TheVariants as reading
 use Rattle.dymelor_top.specs.declared.plan.Plan.{Plan}
 use Rattle.dymelor_top.specs.declared.plan.Plan.TheVariants as plan
 use Rattle.dymelor_top.specs.Report.{report_text}
+use Rattle.dymelor_top.specs.Summary.{summary_of}
 
 pub record Answer : Type 0 where
   pub status : ℕ
@@ -49,6 +50,7 @@ IsTraceAnswer bytes answer = MatchBool (nat_lt MOST_INPUT_BYTES (length bytes)) 
 -- the answer to an input that is read
 abbrev pub IsRead : Reading → List ℕ → Answer → Type 0
 IsRead reading.Report bytes answer = answer ≡ of_script report_text (script_of bytes)
+IsRead reading.Summary bytes answer = answer ≡ of_script summary_of (script_of bytes)
 IsRead reading.Counts bytes answer = answer ≡ of_script counts_of (script_of bytes)
 IsRead reading.Trace bytes answer = IsTraceAnswer bytes answer
 

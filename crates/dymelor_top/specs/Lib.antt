@@ -1,9 +1,7 @@
-pub mod Thin
 pub mod Stops
 pub mod Report
+pub mod Summary
 pub mod Plans
 pub mod Answers
 pub mod Headline
-pub mod Built
 pub mod Parts
-pub mod Runs

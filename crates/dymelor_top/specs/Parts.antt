@@ -1,15 +1,16 @@
 -- The parts of a script that was taken apart.
 use Rattle.std.specs.Prelude.{◌≤◌, ◌^◌, All, length}
+use Rattle.dym_base.specs.HeapStep.{IsHeapCommand}
 use Rattle.dym_script.specs.declared.own.Part.{Part}
-use Rattle.dymelor_top.specs.Built.{IsBuilt}
 use Rattle.dymelor_top.specs.Report.{Own}
 
 -- a part as the report has it
 abbrev pub own_of : Part → Own
 own_of part = record { decl = part.decl; commands = part.commands.items }
 
--- the commands of the part are allocations, no more than a script has, and its quota is one
+-- the commands of the part are commands to a heap, no more than a script has, and its quota is one
 pub record IsRunnable (part : Part) : Type 0 where
-  pub built : All IsBuilt part.commands.items
+  pub heap_commands : All IsHeapCommand part.commands.items
   pub few : length part.commands.items ≤ 2 ^ 20
-  pub quota : part.decl.quota ≤ 1024
+  pub quota_least : 1 ≤ part.decl.quota
+  pub quota_most : part.decl.quota ≤ 1024

@@ -10,7 +10,7 @@ use Rattle.dymelor_top.specs.declared.plan.Plan.TheVariants as plan
 use Rattle.dymelor_top.specs.declared.plan.Reading.TheVariants as reading
 
 abbrev pub plain_plan : Input → Bool → Plan
-plain_plan Script true = plan.Usage
+plain_plan Script true = plan.Read reading.Summary
 plain_plan Script false = plan.Read reading.Report
 plain_plan (Made seed objects commands) summary = plan.Usage
 

@@ -3,16 +3,18 @@ ghost use Rattle.std.specs.Prelude.{◌≡◌, ◌⊎◌, IfOk};
 ghost use Rattle.dym_io.specs.Sink.{Output};
 ghost use Rattle.dym_script.specs.Scripts.{script_of};
 ghost use Rattle.dymelor_top.specs.Report.{report_text};
+ghost use Rattle.dymelor_top.specs.Summary.{summary_of};
 ghost use Rattle.dymelor_top.specs.Answers.{of_script, counts_of, IsRead, IsTraceAnswer};
 ghost use Rattle.dymelor_top.specs.Headline.{Writes, WritesAnswer};
 
 use crate::plain::write_report;
 use crate::plan::Reading;
 use crate::stop::WriteFail;
+use crate::total::total;
 use dym_base::BadKind;
 use dym_base::limits::MOST_INPUT_BYTES;
 use dym_io::Sink;
-use dym_report::{write_counts, write_error, write_events};
+use dym_report::{write_counts, write_error, write_events, write_summary};
 use dym_script::{ScriptFail, read_script};
 use dym_trace::{TraceAnswer, check_trace};
 use std::alloc::Global;
@@ -29,6 +31,7 @@ pub fn answer<W: Sink>(
 {
     match reading {
         Reading::Report => answer_report(alloc, bytes, sink),
+        Reading::Summary => answer_summary(alloc, bytes, sink),
         Reading::Counts => answer_counts(alloc, bytes, sink),
         Reading::Trace => answer_trace(alloc, bytes, sink),
     }
@@ -42,6 +45,25 @@ fn answer_report<W: Sink>(alloc: Global, bytes: Vec<u8>, sink: &mut W) -> Result
     match read_script(alloc, &bytes) {
         Ok(script) => {
             write_report(alloc, script, sink)?;
+            Ok(0)
+        }
+        Err(ScriptFail::Bad { line, kind }) => {
+            write_error(sink, line, kind)?;
+            Ok(2)
+        }
+        Err(ScriptFail::Memory) => Err(WriteFail::Memory),
+    }
+}
+
+/// Writes the summary of a script, or the line of its first fault.
+fn answer_summary<W: Sink>(alloc: Global, bytes: Vec<u8>, sink: &mut W) -> Result<u8, WriteFail>
+    ensures answered { WritesAnswer (of_script summary_of (script_of bytes.items)) (W.output sink.old) (W.output sink.new) result }
+    ensures status { IfOk result (λ status. (status ≡ 0) ⊎ (status ≡ 2)) }
+{
+    match read_script(alloc, &bytes) {
+        Ok(script) => {
+            let totals = total(alloc, script)?;
+            write_summary(sink, &totals)?;
             Ok(0)
         }
         Err(ScriptFail::Bad { line, kind }) => {

@@ -9,9 +9,10 @@ mod plain;
 mod plan;
 mod still;
 mod stop;
+mod tally;
 #[cfg(test)]
 mod tests;
-mod thin;
+mod total;
 
 pub use laws::one_answer;
 pub use still::dymelor_still;

@@ -1,33 +1,28 @@
 //! The order `plain`: one object after another, each part written as its object ends.
-ghost use Rattle.std.specs.Prelude.{◌≡◌, ◌≤◌, ◌<◌, ◌+◌, ◌^◌, [], ◌++◌, length, vec_len, flat_map, IfOk, OnOk, All};
-ghost use Rattle.dym_base.specs.Heaps.{HeapState, held};
-ghost use Rattle.dym_base.specs.Numbers.{number};
-ghost use Rattle.dym_base.specs.HeapStep.{key, handle_of};
-ghost use Rattle.dym_base.specs.Objects.{ObjectState, run_replies, run_end};
-ghost use Rattle.dym_io.specs.Sink.{Output, Writes, WritesOr};
+ghost use Rattle.std.specs.Prelude.{◌≡◌, ◌≤◌, ◌^◌, length, flat_map, IfOk, OnOk, All};
+ghost use Rattle.dym_base.specs.Objects.{empty_heap, heap_replies, heap_after};
+ghost use Rattle.dym_heap.specs.Meaning.{IsSound};
+ghost use Rattle.dym_io.specs.Sink.{Output, WritesOr};
+ghost use Rattle.dym_base.specs.HeapStep.{IsHeapCommand};
 ghost use Rattle.dym_script.specs.Scripts.{Said, said};
-ghost use Rattle.dymelor_top.specs.Built.{IsBuilt};
-ghost use Rattle.dymelor_top.specs.Parts.{IsRunnable, own_of};
 ghost use Rattle.dym_script.specs.Answers.{IsLawful};
-ghost use Rattle.dym_report.specs.Objects.{object_text, image_line};
+ghost use Rattle.dymelor_top.specs.Parts.{IsRunnable, own_of};
 ghost use Rattle.dymelor_top.specs.Report.{Own, part_text, report_text};
-ghost use Rattle.dymelor_top.specs.Thin.{InOrder, live_of};
 ghost use Rattle.dymelor_top.specs.declared.stop.WriteFail.TheVariants.{Sink as SinkFailed};
 
 use crate::stop::WriteFail;
-use crate::thin::{Chunk, held_by, malloc};
-use dym_base::{Command, Handle, Name, Reply, Version, laws};
-use dym_io::{Sink, SinkFault};
-use dym_report::{
-    write_end, write_heading, write_heap_line, write_image, write_logs, write_replies,
-};
+use dym_base::{Command, Reply, Version};
+use dym_io::Sink;
+use dym_object::{Object, laws};
+use dym_quota::OwnSupply;
+use dym_report::{write_end, write_object};
 use dym_script::{Part, Script, apart};
 use std::alloc::{AllocError, Global};
 
 /// Writes the report of a script, one object after another.
 pub fn write_report<W: Sink>(alloc: Global, script: Script, sink: &mut W) -> Result<(), WriteFail>
     requires lawful { IsLawful (said script) }
-    requires built { All (λ line. IsBuilt line.command) script.lines.items }
+    requires heap_commands { All (λ line. IsHeapCommand line.command) script.lines.items }
     ensures { WritesOr (λ fail. fail ≡ SinkFailed) (W.output sink.old) (W.output sink.new) (report_text (said script)) result }
 {
     let version = script.version;
@@ -53,7 +48,7 @@ fn write_parts<W: Sink>(
     Ok(())
 }
 
-/// Runs the commands of an object, and writes its part.
+/// Opens an object, runs its commands and writes its part. Its segments are back when the call returns.
 fn write_part<W: Sink>(
     alloc: Global,
     version: Version,
@@ -63,80 +58,72 @@ fn write_part<W: Sink>(
     requires { IsRunnable part.now }
     ensures { WritesOr (λ fail. fail ≡ SinkFailed) (W.output sink.old) (W.output sink.new) (part_text version (own_of part.now)) result }
 {
-    laws::runs_keep_quota();
-    let mut chunks = Vec::new(alloc);
-    let replies = run(alloc, version, part.decl.quota, &part.commands, &mut chunks)?;
-    write_object(sink, version, &part.decl.name, &replies, &chunks)?;
-    Ok(())
+    let mut object = open_object(alloc, version, part.decl.quota)?;
+    let written = write_run(alloc, &mut object, part, sink);
+    object.end(&());
+    written
 }
 
-/// The replies to the commands of an object with an empty heap, which are allocations alone, and the chunks that they leave.
-fn run(
+/// An object with an empty heap, whose segments are its own.
+pub fn open_object(
     alloc: Global,
     version: Version,
     quota: u32,
-    commands: &[Command],
-    chunks: &mut Vec<Chunk>,
-) -> Result<Vec<Reply>, AllocError>
-    requires built { All IsBuilt commands.now }
-    requires few { length commands.now ≤ 2 ^ 20 }
-    requires empty { chunks.old.items ≡ [] }
-    ensures replies { IfOk result (λ replies. replies.items ≡ run_replies version quota commands.now) }
-    ensures heap { OnOk result (live_of chunks.new.items ≡ (run_end version quota commands.now).heap.live) }
-    ensures logs { OnOk result ((run_end version quota commands.now).logs ≡ []) }
-    ensures order { OnOk result (InOrder chunks.new.items) }
-    ensures count { OnOk result (vec_len chunks.new ≤ 2 ^ 20) }
+) -> Result<Object<OwnSupply>, AllocError>
+    requires least { 1 ≤ quota }
+    requires most { quota ≤ 1024 }
+    ensures version { IfOk result (λ o. o.heap.version ≡ version) }
+    ensures quota { IfOk result (λ o. o.heap.quota ≡ quota) }
+    ensures empty { IfOk result (λ o. o.heap.state ≡ empty_heap) }
+    ensures ran { IfOk result (λ o. o.ran ≡ 0) }
+    ensures sound { IfOk result (λ o. IsSound o.heap) }
 {
-    let mut replies = Vec::with_capacity(alloc, commands.len())?;
-    for command in commands {
-        let Command::Malloc { len } = command else {
-            unreachable!()
-        };
-        replies.push(malloc(alloc, version, quota, chunks, *len)?)?;
+    let supply = OwnSupply::open(alloc, quota)?;
+    match Object::open_as(alloc, supply, version) {
+        Ok(object) => Ok(object),
+        Err((error, _)) => Err(error),
     }
-    Ok(replies)
 }
 
-/// Writes the part of an object without logs: its replies and its chunks.
-fn write_object<W: Sink>(
+/// Runs the commands of an object that was just opened, and writes its part.
+fn write_run<W: Sink>(
+    alloc: Global,
+    object: &mut Object<OwnSupply>,
+    part: &Part,
     sink: &mut W,
-    version: Version,
-    name: &Name,
-    replies: &[Reply],
-    chunks: &[Chunk],
-) -> Result<(), SinkFault>
-    requires order { InOrder chunks.now }
-    requires few { length chunks.now < 2 ^ 32 }
-    requires held { held (live_of chunks.now) < 2 ^ 32 }
-    ensures { Writes (W.output sink.old) (W.output sink.new) (object_text version name.now replies.now (live_of chunks.now) 0 0) result }
+) -> Result<(), WriteFail>
+    requires runnable { IsRunnable part.now }
+    requires sound { IsSound object.old.heap }
+    requires quota { object.old.heap.quota ≡ part.now.decl.quota }
+    requires empty { object.old.heap.state ≡ empty_heap }
+    requires ran { object.old.ran ≡ 0 }
+    ensures { WritesOr (λ fail. fail ≡ SinkFailed) (W.output sink.old) (W.output sink.new) (part_text object.old.heap.version (own_of part.now)) result }
 {
-    write_heading(sink, name)?;
-    write_replies(sink, replies)?;
-    write_heap_line(sink, chunks.len() as u32, held_by(chunks) as u32)?;
-    write_images(sink, version, chunks)?;
-    write_logs(sink, 0, 0)
-}
-
-/// Writes a line for each chunk.
-fn write_images<W: Sink>(sink: &mut W, version: Version, chunks: &[Chunk]) -> Result<(), SinkFault>
-    ensures { Writes (W.output sink.old) (W.output sink.new) (flat_map (λ c. image_line version (handle_of (key c.handle)) c.bytes.items) chunks.now) result }
-{
-    for chunk in chunks {
-        let Handle { exp, index } = chunk.handle;
-        write_chunk(sink, version, exp, index, &chunk.bytes)?;
-    }
+    laws::heap_runs();
+    let replies = run(alloc, object, &part.commands)?;
+    write_object(sink, &part.decl.name, &replies, object.heap(), 0, 0)?;
     Ok(())
 }
 
-/// Writes the line of a chunk.
-fn write_chunk<W: Sink>(
-    sink: &mut W,
-    version: Version,
-    exp: u8,
-    index: u32,
-    bytes: &[u8],
-) -> Result<(), SinkFault>
-    ensures { Writes (W.output sink.old) (W.output sink.new) (image_line version (handle_of (number exp index)) bytes.now) result }
+/// The replies to the commands of an object that ran none yet, which are commands to its heap.
+pub fn run(
+    alloc: Global,
+    object: &mut Object<OwnSupply>,
+    commands: &[Command],
+) -> Result<Vec<Reply>, AllocError>
+    requires heap_commands { All IsHeapCommand commands.now }
+    requires few { length commands.now ≤ 2 ^ 20 }
+    requires ran { object.old.ran ≡ 0 }
+    requires sound { IsSound object.old.heap }
+    ensures replies { IfOk result (λ replies. replies.items ≡ heap_replies object.old.heap.version object.old.heap.quota object.old.heap.state commands.now) }
+    ensures count { IfOk result (λ replies. length replies.items ≡ length commands.now) }
+    ensures heap { OnOk result (object.new.heap.state ≡ heap_after object.old.heap.version object.old.heap.quota object.old.heap.state commands.now) }
+    ensures version { OnOk result (object.new.heap.version ≡ object.old.heap.version) }
+    ensures sound { OnOk result (IsSound object.new.heap) }
 {
-    write_image(sink, version, Handle { exp, index }, bytes)
+    let mut replies = Vec::with_capacity(alloc, commands.len())?;
+    for command in commands {
+        replies.push_reserved(object.run(&(), alloc, command)?);
+    }
+    Ok(replies)
 }

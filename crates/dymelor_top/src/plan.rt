@@ -9,6 +9,8 @@ use dym_words::{Input, Order, Usage};
 pub enum Reading {
     /// The report of a script.
     Report,
+    /// The summary of a script.
+    Summary,
     /// How many objects and commands a script has.
     Counts,
     /// The verdict on a trace.
@@ -62,7 +64,7 @@ fn plan_for_plain(input: &Input, summary: bool) -> Plan
     ensures { result ≡ plain_plan input.now summary }
 {
     match input {
-        Input::Script if summary => Plan::Usage,
+        Input::Script if summary => Plan::Read(Reading::Summary),
         Input::Script => Plan::Read(Reading::Report),
         Input::Made { .. } => Plan::Usage,
     }

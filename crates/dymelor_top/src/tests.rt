@@ -59,7 +59,8 @@ const FIRST_REPORT: &str = "object a\nok 64:0\nheap 1 1\n64:0 -\nlogs 0 0\nend\n
 #[test]
 fn answers_worked_rows(rt: HostRuntime) -> Result<(), Fail> {
     let plain = ["plain"].as_slice();
-    let rows: [(&[&str], &str, u8, &str); 40] = [
+    let summary = ["plain", "--summary"].as_slice();
+    let rows: [(&[&str], &str, u8, &str); 57] = [
         (plain, "", 0, "end\n"),
         (plain, "\n  \n# a comment\n   # another\n", 0, "end\n"),
         (plain, FIRST, 0, FIRST_REPORT),
@@ -81,6 +82,88 @@ fn answers_worked_rows(rt: HostRuntime) -> Result<(), Fail> {
             "object b 2\nobject a 1\na malloc 64\nb malloc 64\na malloc 33\nb malloc 32\n",
             0,
             "object b\nok 64:0\nok 32:0\nheap 2 2\n32:0 -\n64:0 -\nlogs 0 0\nobject a\nok 64:0\nok 64:1\nheap 2 1\n64:0 -\n64:1 -\nlogs 0 0\nend\n",
+        ),
+        (
+            plain,
+            "object a 1\na malloc 40\na write 64:0 1 0aff\na read 64:0 0 4\na sum 64:0\na calloc 2 32\na link 64:0 8 64:1\na follow 64:0 8\na free 64:1\na follow 64:0 8\na free nil\na fill 64:0 8 8 0\na read 64:1 0 1\na read 64:0 60 8\n",
+            0,
+            "object a\nok 64:0\nok\nok 000aff00\nok 265\nok 64:1\nok\nok 64:1\nok\nloose 25769803777\nok\nok\ndead\nrange\nheap 1 1\n64:0 000aff\nlogs 0 0\nend\n",
+        ),
+        (
+            plain,
+            "object a 1\na malloc 65536\na malloc 1\na free 65536:0\na malloc 1\n",
+            0,
+            "object a\nok 65536:0\nquota\nok\nok 32:0\nheap 1 1\n32:0 -\nlogs 0 0\nend\n",
+        ),
+        (
+            plain,
+            "object a 1\na malloc 32\na malloc 32\na malloc 32\na free 32:1\na malloc 20\n",
+            0,
+            "object a\nok 32:0\nok 32:1\nok 32:2\nok\nok 32:1\nheap 3 1\n32:0 -\n32:1 -\n32:2 -\nlogs 0 0\nend\n",
+        ),
+        (
+            plain,
+            "object a 1\na malloc 40\na free nil\na free 64:0\na free 64:0\n",
+            0,
+            "object a\nok 64:0\nok\nok\ndead\nheap 0 0\nlogs 0 0\nend\n",
+        ),
+        (
+            plain,
+            "object a 1\na malloc 40\na write 64:0 62 aabb\na write 64:0 63 aabb\na write 64:0 64 -\na read 64:0 62 2\na read 64:0 64 0\na sum 64:0\na free 64:0\n",
+            0,
+            "object a\nok 64:0\nok\nrange\nok\nok aabb\nok -\nok 357\nok\nheap 0 0\nlogs 0 0\nend\n",
+        ),
+        (
+            plain,
+            "object a 2\na calloc 4294967296 4294967296\na calloc 0 7\na calloc 2 20\n",
+            0,
+            "object a\ntoolarge\nok 32:0\nok 64:0\nheap 2 2\n32:0 -\n64:0 -\nlogs 0 0\nend\n",
+        ),
+        (
+            plain,
+            "object a 2\nobject b 1\na malloc 1\na write 32:0 0 01\na realloc 32:0 40\na read 64:0 0 2\na realloc 64:0 50\na realloc 64:0 0\na realloc nil 5\nb malloc 1\nb write 32:0 0 01\nb realloc 32:0 40\nb realloc 32:1 40\nb realloc 32:0 65537\n",
+            0,
+            "object a\nok 32:0\nok\nok 64:0\nok 0100\nok 64:0\nok nil\nok 32:0\nheap 1 1\n32:0 -\nlogs 0 0\nobject b\nok 32:0\nok\nquota\ndead\ntoolarge\nheap 1 1\n32:0 01\nlogs 0 0\nend\n",
+        ),
+        (
+            plain,
+            "object a 1\na malloc 32\na malloc 32\na link 32:0 8 32:1\na follow 32:0 8\na follow 32:0 0\na follow 32:0 25\na free 32:1\na follow 32:0 8\n",
+            0,
+            "object a\nok 32:0\nok 32:1\nok\nok 32:1\nok nil\nrange\nok\nloose 21474836481\nheap 1 1\n32:0 00000000000000000100000005\nlogs 0 0\nend\n",
+        ),
+        (
+            plain,
+            "version 2\nobject a 1\na malloc 0\na write 32:0 0 01\na realloc 32:0 3\na write 32:0 0 010203\na realloc 32:0 2\na realloc 32:0 4\na read 32:0 0 4\na realloc 32:0 0\n",
+            0,
+            "object a\nok 32:0\nrange\nok 32:0\nok\nok 32:0\nok 32:0\nok 01020000\nok nil\nheap 0 0\nlogs 0 0\nend\n",
+        ),
+        (plain, "a free 48:0\n", 2, "error line 1: handle\n"),
+        (plain, "a write nil 0 00\n", 2, "error line 1: handle\n"),
+        (plain, "a write 64:0 0 abc\n", 2, "error line 1: hex\n"),
+        (plain, "a read 32:0 0 257\n", 2, "error line 1: number\n"),
+        (
+            summary,
+            "object a 2\nobject b 1\na malloc 1\na write 32:0 0 01\na realloc 32:0 40\na read 64:0 0 2\na realloc 64:0 50\na realloc 64:0 0\na realloc nil 5\nb malloc 1\nb write 32:0 0 01\nb realloc 32:0 40\nb realloc 32:1 40\nb realloc 32:0 65537\n",
+            0,
+            "summary objects 2 commands 12 ok 9 refused 3 chunks 2 segments 2 kept 0 slots 0\n",
+        ),
+        (
+            summary,
+            "version 2\nobject a 1\nobject b 3\nb malloc 0\nb calloc 3 3\nb malloc 40\nb malloc 65536\nb malloc 1000\n",
+            0,
+            "summary objects 2 commands 5 ok 4 refused 1 chunks 4 segments 3 kept 0 slots 0\n",
+        ),
+        (
+            summary,
+            "object a 1\na mallok 4\n",
+            2,
+            "error line 2: command\n",
+        ),
+        (
+            summary,
+            "",
+            0,
+            "summary objects 0 commands 0 ok 0 refused 0 chunks 0 segments 0 kept 0 slots 0\n",
         ),
         (plain, "version 2\n", 0, "end\n"),
         (
@@ -173,9 +256,15 @@ fn answers_worked_rows(rt: HostRuntime) -> Result<(), Fail> {
 fn answers_counts_and_traces(rt: HostRuntime) -> Result<(), Fail> {
     let check = ["check"].as_slice();
     let trace = ["trace"].as_slice();
-    let rows: [(&[&str], &str, u8, &str); 17] = [
+    let rows: [(&[&str], &str, u8, &str); 18] = [
         (check, "", 0, "ok 0 0\n"),
         (check, FIRST, 0, "ok 1 1\n"),
+        (
+            check,
+            "object a 2\nobject b 1\na malloc 1\na write 32:0 0 01\na realloc 32:0 40\na read 64:0 0 2\na realloc 64:0 50\na realloc 64:0 0\na realloc nil 5\nb malloc 1\nb write 32:0 0 01\nb realloc 32:0 40\nb realloc 32:1 40\nb realloc 32:0 65537\n",
+            0,
+            "ok 2 12\n",
+        ),
         (
             check,
             "version 2\nobject b 2\nobject a 1\na malloc 64\nb malloc 70000\n\na malloc 1\n",

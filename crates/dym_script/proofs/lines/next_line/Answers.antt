@@ -1,4 +1,4 @@
-use Rattle.std.proofs.Common.{◌≡◌, ◌<◌, ℕ, Bool, true, false, length, eqb, get_or, arith, add-one}
+use Rattle.std.proofs.Common.{arith, add-one}
 use Rattle.dym_script.proofs.Cuts.{lines_of_cut, lines_of_last, take_rest, not_true}
 use Rattle.dym_script.proofs.lines.next_line.Goals as goal
 

@@ -1,4 +1,4 @@
-use Rattle.std.proofs.Common.{arith, refl, ◌≡◌, length, eqb-true}
+use Rattle.std.proofs.Common.{arith}
 use Rattle.dym_script.proofs.Cuts.{first_word, no_word}
 use Rattle.dym_script.proofs.lines.next_word.Goals as goal
 

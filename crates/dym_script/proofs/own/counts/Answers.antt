@@ -1,4 +1,4 @@
-use Rattle.std.proofs.Common.{◌<◌, ℕ, length, arith, ap, length-set, ◌∙◌}
+use Rattle.std.proofs.Common.{◌<◌, arith, length-set, ◌∙◌}
 use Rattle.dym_script.proofs.Counts.{counted_more, count_small, line_below}
 use Rattle.dym_script.proofs.own.counts.Goals as goal
 

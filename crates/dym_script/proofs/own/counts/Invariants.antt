@@ -1,4 +1,4 @@
-use Rattle.std.proofs.Common.{◌≡◌, ◌<◌, ◌==◌, ℕ, List, take, count_by, slice_index, length}
+use Rattle.std.proofs.Common.{◌≡◌, ◌<◌, ◌==◌, ℕ, take, count_by, slice_index, length}
 use Rattle.dym_script.proofs.own.counts.Given as goal
 
 abbrev pub invariant-loop-line : goal.invariant-loop-line

@@ -1,4 +1,4 @@
-use Rattle.std.proofs.Common.{refl, arith}
+use Rattle.std.proofs.Common.{refl}
 use Rattle.dym_script.specs.declared.own.Part.{Part}
 use Rattle.dym_script.proofs.Moves.{commands_more, decls_more}
 use Rattle.dym_script.proofs.own.give.Goals as goal

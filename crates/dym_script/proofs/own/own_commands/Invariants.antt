@@ -1,4 +1,4 @@
-use Rattle.std.proofs.Common.{◌≡◌, ◌==◌, ℕ, List, take, map, filter}
+use Rattle.std.proofs.Common.{◌≡◌, ◌==◌, take, map, filter}
 use Rattle.dym_script.proofs.own.own_commands.Given as goal
 
 abbrev pub invariant-loop-line : goal.invariant-loop-line

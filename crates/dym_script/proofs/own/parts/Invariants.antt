@@ -1,4 +1,4 @@
-use Rattle.std.proofs.Common.{◌≡◌, [], ℕ, List, map, All}
+use Rattle.std.proofs.Common.{◌≡◌, [], map, All}
 use Rattle.dym_script.proofs.own.parts.Given as goal
 
 abbrev pub invariant-loop-decl : goal.invariant-loop-decl

@@ -1,4 +1,4 @@
-use Rattle.std.proofs.Common.{◌≡◌, ◌<◌, ◌≤◌, ◌+◌, ◌∙◌, ℕ, true, get_or, length, sym, arith}
+use Rattle.std.proofs.Common.{◌≡◌, ◌+◌, true, get_or, sym, arith}
 use Rattle.std.specs.Char.{is_ascii_digit}
 use Rattle.dym_script.proofs.Numbers.{digits_fit, digits_more, digit_range}
 use Rattle.dym_script.proofs.places.number_to.Goals as goal

@@ -1,4 +1,4 @@
-use Rattle.std.proofs.Common.{◌≡◌, ℕ, ◌+◌, ◌≤◌, length}
+use Rattle.std.proofs.Common.{◌≡◌, ◌+◌, ◌≤◌, length}
 use Rattle.dym_script.specs.Lines.{lines_of}
 use Rattle.dym_script.specs.Scripts.{read_lines, start}
 use Rattle.dym_script.specs.Readers.{IsKept, seen}

@@ -1,20 +1,18 @@
 use Rattle.std.proofs.Common.{◌≡◌, ℕ, Err, Result, refl, subst, sym, ap, ◌∙◌}
-use Rattle.std.proofs.lemmas.List.Elements.{All-from_recursion}
 use Rattle.dym_base.specs.declared.bad_kind.BadKind.{BadKind}
 use Rattle.dym_report.specs.Orders.{error_text}
 use Rattle.dym_io.specs.Sink.{Appended}
 use Rattle.dym_script.specs.declared.script.ScriptFail.TheVariants as fail
 use Rattle.dym_script.specs.Answers.{Gives}
 use Rattle.dym_script.specs.Scripts.{Said, Fault, said, script_of}
-use Rattle.dymelor_top.specs.Built.{IsBuilt}
 use Rattle.dymelor_top.specs.Report.{report_text}
 use Rattle.dymelor_top.specs.Answers.{of_script}
-use Rattle.dymelor_top.proofs.BuiltScripts.{script_built}
+use Rattle.dym_script.proofs.HeapCommands.{are_heap_commands}
 use Rattle.dymelor_top.proofs.answer.answer_report.Goals as goal
 
-pub write_report-requires-clause-built : goal.write_report-requires-clause-built
-write_report-requires-clause-built g c =
-    All-from_recursion (λ line. IsBuilt line.command) c.in-Ok.script.lines.items (script_built c.deref.result.now (said c.in-Ok.script) c.in-Ok.ensures.read)
+pub write_report-requires-clause-heap_commands : goal.write_report-requires-clause-heap_commands
+write_report-requires-clause-heap_commands g c =
+    are_heap_commands c.deref.result.now (said c.in-Ok.script) c.in-Ok.ensures.read
 
 pub returns-in-Err-Bad-clause-answered : goal.returns-in-Err-Bad-clause-answered
 returns-in-Err-Bad-clause-answered g c =

@@ -1,11 +1,13 @@
-use Rattle.std.proofs.Common.{◌≤◌, vec_len}
-use Rattle.dymelor_top.specs.Thin.{InOrder}
-use Rattle.dymelor_top.specs.Runs.{Ran}
+use Rattle.std.proofs.Common.{◌≡◌, ◌≤◌, length, vec_len, vec_capacity}
+use Rattle.dym_heap.specs.Meaning.{IsSound}
+use Rattle.dymelor_top.proofs.RunFacts.{Ran}
 use Rattle.dymelor_top.proofs.plain.run.Given as goal
 
 abbrev pub invariant-loop-command : goal.invariant-loop-command
 invariant-loop-command l = record {
-  ran : Ran l.version l.quota l.commands l.command-index l.replies.items l.chunks.items;
-  order : InOrder l.chunks.items;
-  count : vec_len l.chunks ≤ l.command-index;
+  ran : Ran l.initial.object.heap l.object.heap l.commands l.command-index l.replies.items;
+  count : l.object.ran ≡ l.command-index;
+  sound : IsSound l.object.heap;
+  filled : vec_len l.replies ≡ l.command-index;
+  room : length l.commands ≤ vec_capacity l.replies;
 }

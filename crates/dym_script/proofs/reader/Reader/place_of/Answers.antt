@@ -1,4 +1,4 @@
-use Rattle.std.proofs.Common.{◌≡◌, ◌∙◌, arith}
+use Rattle.std.proofs.Common.{◌≡◌, ◌∙◌}
 use Rattle.dym_script.specs.Scripts.{object_of}
 use Rattle.dym_script.proofs.Index.{found_within, found_name}
 use Rattle.dym_script.proofs.reader.Reader.place_of.Goals as goal
