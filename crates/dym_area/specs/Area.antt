@@ -25,6 +25,12 @@ pub record IsLawful (area : AreaMeaning) : Type 0 where
   pub dirty_used : (i : ℕ) → IsSet area.dirty i → IsSet area.used i
   pub content_len : length area.content ≡ SEGMENT_BYTES
 
+-- what an area keeps: every chunk below a number is used
+pub record IsKept (area : AreaMeaning) (full_below : ℕ) : Type 0 where
+  pub lawful : IsLawful area
+  pub full : (i : ℕ) → i < full_below → IsSet area.used i
+  pub within : full_below ≤ MOST_CHUNKS
+
 -- where the bytes of chunk i begin
 abbrev pub chunk_start : AreaMeaning → ℕ → ℕ
 chunk_start area i = i * size area.exponent

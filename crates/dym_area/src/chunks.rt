@@ -17,17 +17,19 @@ pub struct Area<G: Segment> {
     ordinal: u32,
     used: Bits,
     dirty: Bits,
+    /// Every chunk below this one is used.
+    full_below: u32,
     segment: G,
 }
 
 impl<G: Segment> Model for Area<G> {
-    ghost use Rattle.dym_area.specs.Area.{AreaMeaning, IsLawful};
+    ghost use Rattle.dym_area.specs.Area.{AreaMeaning, IsKept};
 
     ghost Value = { AreaMeaning };
 
     ghost view = { λ a. record { exponent = a.exp; ordinal = a.ordinal; used = a.used; dirty = a.dirty; content = G.content a.segment; identity = G.id a.segment } };
 
-    ghost invariant = { λ a. IsLawful (record { exponent = a.exp; ordinal = a.ordinal; used = a.used; dirty = a.dirty; content = G.content a.segment; identity = G.id a.segment }) };
+    ghost invariant = { λ a. IsKept (record { exponent = a.exp; ordinal = a.ordinal; used = a.used; dirty = a.dirty; content = G.content a.segment; identity = G.id a.segment }) a.full_below };
 }
 
 impl<G: Segment> Area<G> {
@@ -44,6 +46,7 @@ impl<G: Segment> Area<G> {
             ordinal,
             used: Bits::new(),
             dirty: Bits::new(),
+            full_below: 0,
             segment: seg,
         }
     }
@@ -68,12 +71,27 @@ impl<G: Segment> Area<G> {
         ensures after { MatchOption result (self.new ≡ self.old) (λ i. self.new ≡ with_taken self.old i) }
         ensures lawful { IsLawful self.new }
     {
-        let i = self.used.first_clear(per_area(self.exp))?;
+        let i = self.first_free()?;
         let size = size_of_class(self.exp);
         self.used.set(i);
         self.dirty.set(i);
+        self.full_below = i + 1;
         self.segment.zero(i * size, size);
         Some(i)
+    }
+
+    /// The least unused chunk, and None where all are used. The search begins where chunks may be unused.
+    fn first_free(&self) -> Option<u32>
+        ensures { MatchOption result ((k : ℕ) → k < per self.now.exponent → IsSet self.now.used k) (IsFirstClear self.now.used (per self.now.exponent)) }
+    {
+        let Some(i) = self.used.next_clear(self.full_below) else {
+            return None;
+        };
+        if i < per_area(self.exp) {
+            Some(i)
+        } else {
+            None
+        }
     }
 
     /// Gives up a used chunk: it is neither used nor dirty. Its bytes stay.
@@ -84,6 +102,7 @@ impl<G: Segment> Area<G> {
     {
         self.used.clear(i);
         self.dirty.clear(i);
+        self.full_below = self.full_below.min(i);
     }
 
     /// Writes the bytes into a used chunk, from its place `at` on, and marks it dirty. An empty write changes nothing.
@@ -165,7 +184,7 @@ impl<G: Segment> Area<G> {
     pub fn is_full(&self) -> bool
         ensures { IsTrue result ↔ ((i : ℕ) → i < per self.now.exponent → IsSet self.now.used i) }
     {
-        self.used.first_clear(per_area(self.exp)).is_none()
+        self.first_free().is_none()
     }
 
     /// The greatest used index, and None where no chunk is used.
@@ -215,6 +234,7 @@ impl<G: Segment> Area<G> {
     {
         self.used.set_bytes(use_bytes);
         self.dirty = Bits::new();
+        self.full_below = 0;
     }
 
     /// The segment, with the bytes as they stand.
@@ -227,6 +247,7 @@ impl<G: Segment> Area<G> {
             ordinal: _,
             used: _,
             dirty: _,
+            full_below: _,
             segment,
         } = self;
         segment

@@ -6,3 +6,7 @@ pub mod Replies
 pub mod Places
 pub mod Lengths
 pub mod Arrangement
+pub mod Lending
+pub mod Loading
+pub mod Bodies
+pub mod Shaping

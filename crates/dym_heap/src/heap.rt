@@ -7,6 +7,9 @@ ghost use Rattle.dym_base.specs.Objects.{empty_heap};
 ghost use Rattle.dym_base.specs.declared.command.Version.TheVariants.{One};
 ghost use Rattle.dym_base.specs.declared.command.Command.TheVariants.{Malloc, Calloc, Realloc, Free, Write, Fill, Read, Follow};
 ghost use Rattle.dym_base.specs.declared.limits.TheConstants.{MOST_QUOTA};
+ghost use Rattle.dym_base.specs.Heaps.{held};
+ghost use Rattle.dym_pack.specs.Reading.{OfLog};
+ghost use Rattle.dym_heap.specs.Loading.{HaveOneSetOfHandles, IsLoaded};
 ghost use Rattle.dym_heap.specs.Meaning.{HeapMeaning, IsSound};
 ghost use Rattle.dym_heap.specs.Replies.{step_of, stepped, done_reply, chunk_reply, moved_reply, bytes_reply, found_reply, after_key, IsNextLive};
 
@@ -15,10 +18,13 @@ use crate::chunk::{
 };
 use crate::found::Found;
 use crate::fresh::take_fresh;
+use crate::loading::load_record;
 use crate::next::next_from;
+use crate::shape::shape_shelf;
 use crate::shelf::Shelf;
 use dym_base::limits::MOST_QUOTA;
 use dym_base::{Handle, Refusal, Version, class_of, size_of_class};
+use dym_pack::Record;
 use dym_quota::Supply;
 use std::alloc::{AllocError, Global};
 use std::marker::Model;
@@ -29,7 +35,7 @@ use std::marker::Model;
 /// these come from, and how many commands were applied to it. Only `open` and `open_as` take memory. A refusal changes
 /// nothing.
 pub struct Heap<S: Supply> {
-    shelf: Shelf<S>,
+    pub(crate) shelf: Shelf<S>,
     applied: u64,
 }
 
@@ -304,6 +310,31 @@ impl<S: Supply> Heap<S> {
         ensures sound { IsSound self.new }
     {
         self.shelf.clear_touched();
+    }
+
+    /// Shapes the heap to a record's areas and use bits: areas that the record lacks are given back, then those that are
+    /// missing are taken. Live are then the handles that the record has in use, with bytes that no clause tells; nothing is
+    /// touched.
+    pub fn shape_to(&mut self, way: &S::Way, rec: &Record)
+        requires version { OfLog rec.now (λ log. log.version ≡ self.old.version) }
+        requires within { OfLog rec.now (λ log. held log.copy ≤ self.old.quota) }
+        ensures handles { OfLog rec.now (λ log. HaveOneSetOfHandles self.new.state.live log.copy) }
+        ensures touched { self.new.state.touched ≡ FinSet.empty }
+        ensures same { self.new ≡ record self.old { state = self.new.state; held_ids = self.new.held_ids } }
+        ensures sound { IsSound self.new }
+    {
+        shape_shelf(&mut self.shelf, way, rec);
+    }
+
+    /// Writes the bytes, and in version 2 the length, of each chunk that the record packs and that is live now. What is
+    /// touched stays as it is.
+    pub fn load(&mut self, rec: &Record)
+        requires version { OfLog rec.now (λ log. log.version ≡ self.old.version) }
+        ensures loaded { OfLog rec.now (λ log. IsLoaded log self.old.state.live self.new.state.live) }
+        ensures same { self.new ≡ record self.old { state = record { live = self.new.state.live; touched = self.old.state.touched } } }
+        ensures sound { IsSound self.new }
+    {
+        load_record(&mut self.shelf, rec);
     }
 
     /// Gives all segments back, and answers the supply.

@@ -1,5 +1,5 @@
 //! The lengths of the chunks of one area, which version 2 keeps.
-ghost use Rattle.std.specs.Prelude.{◌≡◌, ◌<◌, IfOk, length, slice_index, slice_set, vec_len};
+ghost use Rattle.std.specs.Prelude.{◌≡◌, ◌<◌, IfOk, length, replicate, slice_index, slice_set, vec_len};
 ghost use Rattle.dym_base.specs.declared.limits.TheConstants.{MOST_CHUNKS};
 
 use dym_base::limits::MOST_CHUNKS;
@@ -33,5 +33,12 @@ impl Lengths {
         ensures { self.new.table.items ≡ slice_set self.old.table.items i len }
     {
         self.table[i as usize] = len;
+    }
+
+    /// Notes `len` as the length of every chunk.
+    pub(crate) fn fill(&mut self, len: u32)
+        ensures { self.new.table.items ≡ replicate MOST_CHUNKS len }
+    {
+        self.table.fill(len);
     }
 }

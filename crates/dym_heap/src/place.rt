@@ -1,17 +1,24 @@
 //! An area with the lengths of its chunks.
-ghost use Rattle.std.specs.Prelude.{◌≡◌, ℕ, ◌+◌, ◌-◌, ◌≤◌, ◌<◌, ◌↔◌, true, false, None, Some, List, length, take, drop, replicate, slice_index, slice_index_or, IsSome, IsTrue, MatchBool, MatchOption, option_map};
-ghost use Rattle.dym_base.specs.Numbers.{per};
+ghost use Rattle.std.specs.Prelude.{◌≡◌, ℕ, ◌+◌, ◌-◌, ◌≤◌, ◌<◌, ◌*◌, ◌/◌, max, ◌↔◌, true, false, None, Some, [], List, length, take, drop, replicate, slice_index, slice_index_or, IsSome, is_some, IsTrue, MatchBool, MatchOption, option_map, unwrap_or};
+ghost use Rattle.std.specs.List.{flat_map, range_with_len};
+ghost use Rattle.dym_base.specs.Numbers.{size, per};
 ghost use Rattle.dym_base.specs.HeapStep.{splice, fitted};
-ghost use Rattle.dym_base.specs.declared.limits.TheConstants.{MOST_CHUNKS};
-ghost use Rattle.dym_base.specs.declared.command.Version.TheVariants.{Two};
+ghost use Rattle.dym_base.specs.declared.limits.TheConstants.{MOST_CHUNKS, SEGMENT_BYTES};
+ghost use Rattle.dym_base.specs.declared.command.Version.TheVariants.{One, Two};
+ghost use Rattle.dym_bits.specs.Bits.{bit_in, bits_of_bytes, IsSet};
 ghost use Rattle.dym_heap.specs.Meaning.{IsSizeOf};
 ghost use Rattle.dym_heap.specs.Lengths.{version_of, numbers_of};
 ghost use Rattle.dym_heap.specs.Shelves.{FitsIn};
+ghost use Rattle.dym_heap.specs.Bodies.{IsBodyOf, IsBody, IsLoadedPlace};
+ghost use Rattle.dym_heap.specs.Shaping.{IsShapedPlace};
+ghost use Rattle.dym_heap.specs.Lending.{IsUsedRun};
 ghost use Rattle.dym_heap.specs.Places.{PlaceMeaning, IsPlace, IsFreeIn, IsUsedFrom, IsRepeated, place_put, noted, len_of};
 
 use crate::lengths::Lengths;
+use crate::load::{load_runs, load_sized};
 use dym_area::Area;
 use dym_base::size_of_class;
+use dym_bits::Bits;
 use dym_region::Segment;
 use std::marker::Model;
 
@@ -98,6 +105,68 @@ impl<G: Segment> Place<G> {
         Some(noted_len(&self.lengths, self.area.exp(), i))
     }
 
+    /// The class exponent.
+    pub(crate) fn exp(&self) -> u8
+        ensures { result ≡ self.now.exponent }
+    {
+        self.area.exp()
+    }
+
+    /// The place among the areas of the class.
+    pub(crate) fn ordinal(&self) -> u32
+        ensures { result ≡ self.now.ordinal }
+    {
+        self.area.ordinal()
+    }
+
+    /// Which chunks are in use.
+    pub(crate) fn used_bits(&self) -> &Bits
+        ensures { (i : ℕ) → bit_in result.now i ≡ is_some (slice_index_or self.now.chunks i None) }
+    {
+        self.area.used()
+    }
+
+    /// Which chunks are touched.
+    pub(crate) fn dirty_bits(&self) -> &Bits
+        ensures { (i : ℕ) → bit_in result.now i ≡ slice_index_or self.now.touched i false }
+    {
+        self.area.dirty()
+    }
+
+    /// Whether chunk `i` is in use.
+    pub(crate) fn is_used(&self, i: u32) -> bool
+        requires { i < length self.now.chunks }
+        ensures { result ≡ is_some (slice_index_or self.now.chunks i None) }
+    {
+        self.area.is_used(i)
+    }
+
+    /// Whether chunk `i` is touched.
+    pub(crate) fn is_dirty(&self, i: u32) -> bool
+        requires { i < length self.now.chunks }
+        ensures { result ≡ slice_index_or self.now.touched i false }
+    {
+        self.area.is_dirty(i)
+    }
+
+    /// How many bytes chunk `i`, which is in use, has.
+    pub(crate) fn used_len(&self, i: u32) -> u32
+        requires { IsSome (slice_index_or self.now.chunks i None) }
+        ensures { Some result ≡ option_map length (slice_index_or self.now.chunks i None) }
+    {
+        noted_len(&self.lengths, self.area.exp(), i)
+    }
+
+    /// Copies the bytes of the chunks from chunk `from` on into `out`: in version 1 those of as many chunks in use as it has
+    /// room for.
+    pub(crate) fn read_run(&self, from: u32, out: &mut [u8])
+        requires { from * size self.now.exponent + length out.old ≤ SEGMENT_BYTES }
+        ensures { (count : ℕ) → self.now.version ≡ One → IsUsedRun self.now.chunks from count → length out.old ≡ count * size self.now.exponent
+            → out.new ≡ flat_map (λ i. unwrap_or (slice_index_or self.now.chunks i None) []) (range_with_len from count) }
+    {
+        self.area.read_run(from, out);
+    }
+
     /// Chunk `i` is free from now on.
     pub(crate) fn release(&mut self, i: u32)
         requires { IsSome (slice_index_or self.old.chunks i None) }
@@ -177,6 +246,34 @@ impl<G: Segment> Place<G> {
         ensures lawful { IsPlace self.new }
     {
         self.area.clear_dirty();
+    }
+
+    /// Puts the chunks that a body packs over those in use, in version 2 with their lengths. What is touched stays.
+    pub(crate) fn load(&mut self, packed: &Bits, body: &[u8])
+        requires { IsBody self.old.version self.old.exponent packed.now body.now }
+        ensures loaded { (f : ℕ → List ℕ) → IsBodyOf self.old.version self.old.exponent packed.now body.now f → IsLoadedPlace self.old self.new packed.now f }
+        ensures lawful { IsPlace self.new }
+    {
+        match &mut self.lengths {
+            None => load_runs(&mut self.area, packed, body),
+            Some(lengths) => load_sized(&mut self.area, lengths, packed, body),
+        }
+    }
+
+    /// Takes the use bits from a bitmap, marks no chunk as touched, and in version 2 gives each chunk all bytes of its class. The
+    /// bytes stay.
+    pub(crate) fn shape(&mut self, use_bytes: &[u8])
+        requires len { length use_bytes.now ≡ max 1 (per self.old.exponent / 8) }
+        requires below { (i : ℕ) → IsSet (bits_of_bytes use_bytes.now) i → i < per self.old.exponent }
+        ensures shaped { IsShapedPlace self.old self.new (bit_in (bits_of_bytes use_bytes.now)) }
+        ensures lawful { IsPlace self.new }
+    {
+        self.area.set_from(use_bytes);
+        let size = size_of_class(self.area.exp());
+        match &mut self.lengths {
+            None => {}
+            Some(lengths) => lengths.fill(size),
+        }
     }
 
     /// The segment and the lengths.

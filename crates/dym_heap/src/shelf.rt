@@ -1,19 +1,23 @@
 //! The areas of a heap, class by class.
-ghost use Rattle.std.specs.Prelude.{◌≡◌, ℕ, ◌+◌, ◌-◌, ◌≤◌, ◌<◌, true, false, None, Some, [], List, map, length, take, drop, replicate, slice_index_or, IsSome, MatchBool, MatchOption, OnOk, OnErr, IfOk, IfErr, option_map, vec_len, vec_capacity};
+ghost use Rattle.std.specs.Prelude.{◌≡◌, ℕ, ◌+◌, ◌-◌, ◌*◌, ◌/◌, max, ◌≤◌, ◌<◌, true, false, None, Some, [], List, map, length, take, drop, replicate, slice_index_or, IsSome, MatchBool, MatchOption, OnOk, OnErr, IfOk, IfErr, option_map, vec_len, vec_capacity};
 ghost use Rattle.dym_base.specs.Numbers.{per};
 ghost use Rattle.dym_base.specs.HeapStep.{splice, fitted};
 ghost use Rattle.dym_base.specs.declared.command.Version.TheVariants.{Two};
 ghost use Rattle.dym_base.specs.declared.limits.TheConstants.{MOST_QUOTA};
+ghost use Rattle.dym_bits.specs.Bits.{bit_in, bits_of_bytes, IsSet};
 ghost use Rattle.dym_heap.specs.Meaning.{IsSizeOf};
-ghost use Rattle.dym_heap.specs.Table.{row_at, chunk_at};
+ghost use Rattle.dym_heap.specs.Table.{row_at, chunk_at, live_of, touched_of};
 ghost use Rattle.dym_heap.specs.Shape.{IsTrimmed};
 ghost use Rattle.dym_heap.specs.Places.{clean};
+ghost use Rattle.dym_heap.specs.Bodies.{IsBodyOf, IsBody, IsLoadedArea};
+ghost use Rattle.dym_heap.specs.Shaping.{IsShapedArea, HasAreas};
+ghost use Rattle.dym_heap.specs.Lending.{IsAreaOf};
 ghost use Rattle.dym_heap.specs.Arrangement.{AreClear, HasTables, Owns};
-ghost use Rattle.dym_heap.specs.Shelves.{ShelfMeaning, IsKept, IsFirstFree, IsNextUsed, with_row, with_put, longer, Trims, EndsFree, without_last, FitsIn, empty_rows, untouched_rows};
+ghost use Rattle.dym_heap.specs.Shelves.{ShelfMeaning, IsKept, IsTidy, IsFirstFree, IsNextUsed, Keeps, with_row, with_put, longer, Trims, EndsFree, without_last, FitsIn, empty_rows, untouched_rows};
 
 use crate::lengths::Lengths;
 use crate::place::Place;
-use crate::spot::{class_index, find, keep_table, mark_full, shift_down, shift_up};
+use crate::spot::{class_index, find, keep_table, mark_full, set_mark, shift_down, shift_up};
 use dym_base::limits::MOST_QUOTA;
 use dym_base::{Version, per_area};
 use dym_bits::Bits;
@@ -24,6 +28,9 @@ use std::marker::Model;
 
 /// Classes of chunks.
 const CLASSES: usize = 12;
+
+/// The bitmap of an area with no chunk in use.
+const NO_CHUNK: [u8; 256] = [0; 256];
 
 /// The areas of a heap, and the supply that their segments come from.
 pub(crate) struct Shelf<S: Supply> {
@@ -196,6 +203,16 @@ impl<S: Supply> Shelf<S> {
         shift_down(&mut self.starts, class);
     }
 
+    /// Area `k` of all areas.
+    pub(crate) fn place(&self, k: u32) -> &Place<S::Seg>
+        requires tidy { IsTidy self.now }
+        requires within { k < length self.now.held_ids }
+        ensures area { IsAreaOf (live_of self.now.rows) (touched_of self.now.rows) k result.now }
+        ensures version { result.now.version ≡ self.now.version }
+    {
+        &self.places[k as usize]
+    }
+
     /// The bytes of a chunk that is in use.
     pub(crate) fn chunk_len(&self, exp: u8, index: u32) -> Option<u32>
         requires least { 5 ≤ exp }
@@ -312,6 +329,70 @@ impl<S: Supply> Shelf<S> {
         };
         let place = &mut self.places[spot.place];
         place.resize(spot.chunk, len);
+    }
+
+    /// Puts the chunks that a body packs over those in use of an area of a class, where the class has that area.
+    pub(crate) fn load_area(&mut self, exp: u8, ordinal: u32, packed: &Bits, body: &[u8])
+        requires least { 5 ≤ exp }
+        requires most { exp ≤ 16 }
+        requires body { IsBody self.old.version exp packed.now body.now }
+        ensures loaded { (f : ℕ → List ℕ) → IsBodyOf self.old.version exp packed.now body.now f → IsLoadedArea self.old.rows self.new.rows (exp - 5) ordinal packed.now f }
+        ensures long { (d : ℕ) → length (row_at self.new.rows d).chunks ≡ length (row_at self.old.rows d).chunks }
+        ensures same { self.new ≡ record self.old { rows = self.new.rows } }
+        ensures kept { IsKept self.new }
+    {
+        let class = class_index(exp);
+        let first = self.starts[class];
+        if ordinal >= self.starts[class + 1] - first {
+            return;
+        }
+        let place = &mut self.places[(first + ordinal) as usize];
+        place.load(packed, body);
+    }
+
+    /// How many areas a class has.
+    pub(crate) fn areas(&self, exp: u8) -> u32
+        requires least { 5 ≤ exp }
+        requires most { exp ≤ 16 }
+        ensures { HasAreas self.now.rows (exp - 5) result }
+    {
+        let class = class_index(exp);
+        self.starts[class + 1] - self.starts[class]
+    }
+
+    /// Takes the use bits of an area from a bitmap. No chunk of it is touched, and no clause tells its bytes.
+    pub(crate) fn shape_area(&mut self, exp: u8, ordinal: u32, use_bytes: &[u8])
+        requires least { 5 ≤ exp }
+        requires most { exp ≤ 16 }
+        requires area { ordinal * per exp < length (row_at self.old.rows (exp - 5)).chunks }
+        requires len { length use_bytes.now ≡ max 1 (per exp / 8) }
+        requires below { (i : ℕ) → IsSet (bits_of_bytes use_bytes.now) i → i < per exp }
+        ensures shaped { IsShapedArea self.old.rows self.new.rows (exp - 5) ordinal (bit_in (bits_of_bytes use_bytes.now)) }
+        ensures long { (d : ℕ) → length (row_at self.new.rows d).chunks ≡ length (row_at self.old.rows d).chunks }
+        ensures same { self.new ≡ record self.old { rows = self.new.rows } }
+        ensures kept { IsKept self.new }
+    {
+        let class = class_index(exp);
+        let place = &mut self.places[(self.starts[class] + ordinal) as usize];
+        place.shape(use_bytes);
+        let is_full = place.is_full();
+        set_mark(&mut self.full, class, ordinal, is_full);
+    }
+
+    /// Gives back the last area of a class, whatever its chunks are.
+    pub(crate) fn give_last(&mut self, way: &S::Way, exp: u8)
+        requires least { 5 ≤ exp }
+        requires most { exp ≤ 16 }
+        requires some { per exp ≤ length (row_at self.old.rows (exp - 5)).chunks }
+        requires kept { IsKept self.old }
+        ensures fewer { length (row_at self.new.rows (exp - 5)).chunks + per exp ≡ length (row_at self.old.rows (exp - 5)).chunks }
+        ensures others { (d : ℕ) → (d ≡ exp - 5 → ⊥) → length (row_at self.new.rows d).chunks ≡ length (row_at self.old.rows d).chunks }
+        ensures keeps { Keeps self.old self.new }
+        ensures kept { IsKept self.new }
+    {
+        let last = self.areas(exp) - 1;
+        self.shape_area(exp, last, &NO_CHUNK[..(per_area(exp) as usize / 8).max(1)]);
+        self.drop_area(way, exp);
     }
 
     /// No chunk is touched.

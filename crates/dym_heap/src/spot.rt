@@ -60,6 +60,20 @@ pub(crate) fn mark_full(full: &mut Vec<Bits>, class: usize, ordinal: u32, is_ful
     }
 }
 
+/// Marks whether an area is full.
+pub(crate) fn set_mark(full: &mut Vec<Bits>, class: usize, ordinal: u32, is_full: bool)
+    requires class { class < length full.old.items }
+    requires ordinal { ordinal < MOST_CHUNKS }
+    ensures { full.new.items ≡ slice_set full.old.items class (slice_set (marks_of_class full.old.items class) ordinal is_full) }
+{
+    let marks = &mut full[class];
+    if is_full {
+        marks.set(ordinal);
+    } else {
+        marks.clear(ordinal);
+    }
+}
+
 /// Moves the starts past a class one up.
 pub(crate) fn shift_up(starts: &mut [u32; 13], class: usize)
     requires class { class < 12 }

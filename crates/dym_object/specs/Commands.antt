@@ -1,21 +1,21 @@
 -- Which reply takes memory.
 use Rattle.std.specs.Prelude.{⊤, ℕ, Result, Ok, Err}
 use Rattle.dym_base.specs.declared.command.Command.{Command}
-use Rattle.dym_base.specs.declared.command.Command.TheVariants.{Read}
+use Rattle.dym_base.specs.declared.command.Command.TheVariants.{Read, Log, Ilog}
 use Rattle.dym_base.specs.declared.reply.Reply.{Reply}
 use Rattle.dym_base.specs.declared.reply.Reply.TheVariants.{Total, Refused}
 use Rattle.dym_base.specs.declared.reply.Refusal.{Refusal}
-use Rattle.dym_heap.specs.Meaning.{HeapMeaning}
-use Rattle.dym_heap.specs.Replies.{step_of}
 
 abbrev pub IsNotRefused : Reply → Type 0
 IsNotRefused (Refused why) = ⊥
 IsNotRefused _ = ⊤
 
--- a read that isn't refused: its bytes take memory
-abbrev pub TakesMemory : HeapMeaning → Command → Type 0
-TakesMemory heap (Read h at n) = IsNotRefused (step_of heap (Read h at n)).reply
-TakesMemory heap _ = ⊥
+-- a command whose reply takes memory: a read that isn't refused for its bytes, a log that isn't refused for its record
+abbrev pub TakesMemory : Command → Reply → Type 0
+TakesMemory (Read h at n) reply = IsNotRefused reply
+TakesMemory (Log t) reply = IsNotRefused reply
+TakesMemory (Ilog t) reply = IsNotRefused reply
+TakesMemory _ reply = ⊥
 
 -- the answer of a sum as a reply
 abbrev pub total_reply : Result ℕ Refusal → Reply

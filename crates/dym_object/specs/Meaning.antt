@@ -1,8 +1,28 @@
 -- What an object stands for, as its callers see it.
-use Rattle.std.specs.Prelude.{ℕ}
-use Rattle.dym_heap.specs.Meaning.{HeapMeaning}
+use Rattle.std.specs.Prelude.{ℕ, ◌≤◌}
+use Rattle.dym_base.specs.Objects.{ObjectState, ObjectAnswer, object_step}
+use Rattle.dym_base.specs.declared.command.Command.{Command}
+use Rattle.dym_heap.specs.Meaning.{HeapMeaning, IsSound}
+use Rattle.dym_chain.specs.Chains.{ChainMeaning, Belongs, StandsForCopies, object_of}
 
--- an object: its heap, and how many commands it ran
+-- an object: its heap, the chain of its logs, and how many commands it ran
 pub record ObjectMeaning : Type 0 where
   pub heap : HeapMeaning
+  pub chain : ChainMeaning
   pub ran : ℕ
+
+-- the object as the definition of a step has it: the heap's chunks and the kept logs
+abbrev pub state_of : ObjectMeaning → ObjectState
+state_of o = object_of o.heap.state o.chain
+
+-- the step of an object by a command
+abbrev pub step_by : ObjectMeaning → Command → ObjectAnswer
+step_by o command = object_step o.heap.version o.heap.quota (state_of o) command
+
+-- what is true of every object: its heap is sound, the chain belongs to it and stands for the copies of its logs, and no
+-- more records were made than commands were run
+pub record IsWhole (o : ObjectMeaning) : Type 0 where
+  pub sound : IsSound o.heap
+  pub belongs : Belongs o.heap.version o.heap.quota o.heap.state o.chain
+  pub stands : StandsForCopies o.chain
+  pub counted : o.chain.made ≤ o.ran

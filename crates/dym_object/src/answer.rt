@@ -1,5 +1,5 @@
 //! The reply to one command to a heap.
-ghost use Rattle.std.specs.Prelude.{◌≡◌, ℕ, IfOk, IfErr};
+ghost use Rattle.std.specs.Prelude.{◌≡◌, ℕ, OnErr, IfOk, IfErr};
 ghost use Rattle.dym_base.specs.HeapStep;
 ghost use Rattle.dym_base.specs.HeapStep.{IsHeapCommand};
 ghost use Rattle.dym_base.specs.declared.command.Command.TheVariants.{Read, Link};
@@ -24,8 +24,8 @@ pub(crate) fn answer<S: Supply>(
     requires sound { IsSound heap.old }
     ensures reply { IfOk result (λ r. r ≡ (step_of heap.old command.now).reply) }
     ensures after { heap.new ≡ record (stepped heap.old command.now) { held_ids = heap.new.held_ids } }
-    ensures memory { IfErr result (λ _. TakesMemory heap.old command.now) }
-    ensures unchanged { IfErr result (λ _. heap.new ≡ heap.old) }
+    ensures memory { IfErr result (λ _. TakesMemory command.now (step_of heap.old command.now).reply) }
+    ensures unchanged { OnErr result (heap.new ≡ heap.old) }
     ensures sound { IsSound heap.new }
 {
     match command {
@@ -56,7 +56,7 @@ fn read<S: Supply>(
     len: u32,
 ) -> Result<Reply, AllocError>
     ensures reply { IfOk result (λ r. r ≡ (step_of heap.now (Read h at len)).reply) }
-    ensures memory { IfErr result (λ _. TakesMemory heap.now (Read h at len)) }
+    ensures memory { IfErr result (λ _. TakesMemory (Read h at len) (step_of heap.now (Read h at len)).reply) }
 {
     let Some(size) = heap.size_of(h) else {
         return Ok(Reply::Refused(Refusal::Dead));

@@ -1,74 +1,96 @@
 //! A simulation object.
-ghost use Rattle.std.specs.Prelude.{◌≡◌, ℕ, ◌+◌, ◌^◌, ◌<◌, ◌≤◌, [], OnOk, OnErr, IfOk, IfErr};
-ghost use Rattle.dym_base.specs.HeapStep.{IsHeapCommand};
+ghost use Rattle.std.specs.Prelude.{◌≡◌, ℕ, ◌+◌, ◌^◌, ◌<◌, ◌≤◌, None, [], length, OnOk, OnErr, IfOk, IfErr};
+ghost use Rattle.dym_base.specs.Objects as Objects;
 ghost use Rattle.dym_base.specs.Objects.{empty_heap};
 ghost use Rattle.dym_base.specs.declared.command.Version.TheVariants.{One};
 ghost use Rattle.dym_base.specs.declared.limits.TheConstants.{MOST_QUOTA};
 ghost use Rattle.dym_heap.specs.Meaning.{IsSound};
-ghost use Rattle.dym_heap.specs.Replies.{step_of, stepped};
 ghost use Rattle.dym_object.specs.Commands.{TakesMemory};
-ghost use Rattle.dym_object.specs.Meaning.{ObjectMeaning};
+ghost use Rattle.dym_object.specs.Meaning.{ObjectMeaning, IsWhole, state_of, step_by};
 
-use crate::answer::answer;
+use crate::logs::answer_to;
 use dym_base::limits::MOST_QUOTA;
 use dym_base::{Command, Reply, Version};
+use dym_chain::{Chain, LogKeep};
 use dym_heap::Heap;
 use dym_quota::Supply;
 use std::alloc::{AllocError, Global};
 use std::marker::Model;
 
-/// A simulation object: a heap, and how many commands it ran.
+/// A simulation object: a heap, the chain of its logs, and how many commands it ran.
 ///
-/// Only opening and a read that isn't refused take memory. A refusal and want of memory change nothing of the heap.
-pub struct Object<S: Supply> {
+/// Only opening, and a log or a read that isn't refused, take memory. A refusal changes nothing of the heap and its logs.
+pub struct Object<S: Supply, K: LogKeep> {
     heap: Heap<S>,
+    chain: Chain<K>,
     ran: u64,
 }
 
-impl<S: Supply> Model for Object<S> {
+impl<S: Supply, K: LogKeep> Model for Object<S, K> {
     ghost use Rattle.std.specs.Coded.{codes};
-    ghost use Rattle.dym_heap.specs.Meaning.{IsSound, live_code, touched_code};
-    ghost use Rattle.dym_object.specs.Meaning.{ObjectMeaning};
+    ghost use Rattle.dym_heap.specs.Meaning.{live_code, touched_code};
+    ghost use Rattle.dym_object.specs.Meaning.{ObjectMeaning, IsWhole};
 
     ghost Value = { ObjectMeaning };
 
     ghost coded = { Prim.hlevel (codes, live_code, touched_code) };
 
-    ghost view = { λ o. record { heap = o.heap; ran = o.ran } };
+    ghost view = { λ o. record { heap = o.heap; chain = o.chain; ran = o.ran } };
 
-    ghost invariant = { λ o. IsSound o.heap };
+    ghost invariant = { λ o. IsWhole (record { heap = o.heap; chain = o.chain; ran = o.ran }) };
 }
 
-impl<S: Supply> Object<S> {
-    /// An object of version 1 with an empty heap. All memory of the heap is taken here.
-    pub fn open(alloc: Global, supply: S) -> Result<Object<S>, (AllocError, S)>
+impl<S: Supply, K: LogKeep> Object<S, K> {
+    /// An object of version 1 with an empty heap and no log. All memory of the heap and room for all logs are taken here.
+    pub fn open(alloc: Global, supply: S, keep: K) -> Result<Object<S, K>, (AllocError, S, K)>
         requires nothing_held { S.held_ids supply ≡ [] }
         requires least { 1 ≤ S.quota_of supply }
         requires most { S.quota_of supply ≤ MOST_QUOTA }
-        ensures opened { IfOk result (λ o. o ≡ record { heap = record { version = One; quota = S.quota_of supply; state = empty_heap; held_ids = []; origin = S.origin supply; applied = 0 }; ran = 0 }) }
-        ensures sound { IfOk result (λ o. IsSound o.heap) }
-        ensures back { IfErr result (λ e. e.1 ≡ supply) }
+        requires empty { (K.meaning keep).records ≡ [] }
+        requires made { (K.meaning keep).made ≡ 0 }
+        requires idle { (K.meaning keep).lifted ≡ None }
+        ensures opened { IfOk result (λ o. o ≡ record { heap = record { version = One; quota = S.quota_of supply; state = empty_heap; held_ids = []; origin = S.origin supply; applied = 0 }; chain = record { below = []; logs = []; records = []; made = 0; origin = (K.meaning keep).origin }; ran = 0 }) }
+        ensures whole { IfOk result IsWhole }
+        ensures supply { IfErr result (λ e. e.1 ≡ supply) }
+        ensures keep { IfErr result (λ e. K.meaning e.2 ≡ K.meaning keep) }
     {
-        Object::open_as(alloc, supply, Version::One)
+        Object::open_as(alloc, supply, keep, Version::One)
     }
 
-    /// An object of a version with an empty heap. All memory of the heap is taken here.
-    pub fn open_as(alloc: Global, supply: S, version: Version) -> Result<Object<S>, (AllocError, S)>
+    /// An object of a version with an empty heap and no log. All memory of the heap and room for all logs are taken here.
+    pub fn open_as(
+        alloc: Global,
+        supply: S,
+        keep: K,
+        version: Version,
+    ) -> Result<Object<S, K>, (AllocError, S, K)>
         requires nothing_held { S.held_ids supply ≡ [] }
         requires least { 1 ≤ S.quota_of supply }
         requires most { S.quota_of supply ≤ MOST_QUOTA }
-        ensures opened { IfOk result (λ o. o ≡ record { heap = record { version = version; quota = S.quota_of supply; state = empty_heap; held_ids = []; origin = S.origin supply; applied = 0 }; ran = 0 }) }
-        ensures sound { IfOk result (λ o. IsSound o.heap) }
-        ensures back { IfErr result (λ e. e.1 ≡ supply) }
+        requires empty { (K.meaning keep).records ≡ [] }
+        requires made { (K.meaning keep).made ≡ 0 }
+        requires idle { (K.meaning keep).lifted ≡ None }
+        ensures opened { IfOk result (λ o. o ≡ record { heap = record { version = version; quota = S.quota_of supply; state = empty_heap; held_ids = []; origin = S.origin supply; applied = 0 }; chain = record { below = []; logs = []; records = []; made = 0; origin = (K.meaning keep).origin }; ran = 0 }) }
+        ensures whole { IfOk result IsWhole }
+        ensures supply { IfErr result (λ e. e.1 ≡ supply) }
+        ensures keep { IfErr result (λ e. K.meaning e.2 ≡ K.meaning keep) }
     {
+        let chain = match Chain::open(alloc, keep) {
+            Ok(chain) => chain,
+            Err((error, keep)) => return Err((error, supply, keep)),
+        };
         match Heap::open_as(alloc, supply, version) {
-            Ok(heap) => Ok(Object { heap, ran: 0 }),
-            Err(refused) => Err(refused),
+            Ok(heap) => Ok(Object {
+                heap,
+                chain,
+                ran: 0,
+            }),
+            Err((error, supply)) => Err((error, supply, chain.into_keep())),
         }
     }
 
-    /// Runs one command to the heap, and answers its reply. Only a read that isn't refused can answer that memory is wanting:
-    /// it then wasn't run.
+    /// Runs one command, and answers its reply. Only a log or a read that isn't refused can answer that memory is wanting: it
+    /// then wasn't run.
     pub fn run(
         &mut self,
         way: &S::Way,
@@ -76,14 +98,16 @@ impl<S: Supply> Object<S> {
         command: &Command,
     ) -> Result<Reply, AllocError>
         requires ran { self.old.ran < 2 ^ 60 }
-        requires heap_command { IsHeapCommand command.now }
-        ensures reply { IfOk result (λ r. r ≡ (step_of self.old.heap command.now).reply) }
-        ensures after { OnOk result (self.new ≡ record { heap = record (stepped self.old.heap command.now) { held_ids = self.new.heap.held_ids }; ran = self.old.ran + 1 }) }
-        ensures memory { IfErr result (λ _. TakesMemory self.old.heap command.now) }
+        ensures reply { IfOk result (λ r. r ≡ (step_by self.old command.now).reply) }
+        ensures after { OnOk result (state_of self.new ≡ (step_by self.old command.now).object) }
+        ensures ran { OnOk result (self.new.ran ≡ self.old.ran + 1) }
+        ensures memory { IfErr result (λ _. TakesMemory command.now (step_by self.old command.now).reply) }
         ensures unchanged { OnErr result (self.new ≡ self.old) }
-        ensures sound { IsSound self.new.heap }
+        ensures heap { self.new.heap ≡ record self.old.heap { state = self.new.heap.state; held_ids = self.new.heap.held_ids } }
+        ensures origin { self.new.chain.origin ≡ self.old.chain.origin }
+        ensures whole { IsWhole self.new }
     {
-        let reply = answer(&mut self.heap, way, alloc, command)?;
+        let reply = answer_to(&mut self.heap, &mut self.chain, way, alloc, command)?;
         self.ran += 1;
         Ok(reply)
     }
@@ -103,13 +127,46 @@ impl<S: Supply> Object<S> {
         &self.heap
     }
 
-    /// Gives all segments back, and answers the supply.
-    pub fn end(self, way: &S::Way) -> S
-        ensures nothing_held { S.held_ids result ≡ [] }
-        ensures quota { S.quota_of result ≡ self.heap.quota }
-        ensures origin { S.origin result ≡ self.heap.origin }
+    /// How many logs are kept.
+    pub fn kept(&self) -> u32
+        ensures { result ≡ length self.now.chain.logs }
     {
-        let Object { heap, ran: _ } = self;
-        heap.end(way)
+        self.chain.kept()
+    }
+
+    /// How many records they take.
+    pub fn slots(&self) -> u32
+        ensures slots { result ≡ Objects.slots self.now.chain.logs }
+        ensures records { result ≡ length self.now.chain.records }
+    {
+        self.chain.slots()
+    }
+
+    /// Gives up the object, and answers its heap as it stands and the keep of its records.
+    pub fn split(self) -> (Heap<S>, K)
+        ensures heap { result.0 ≡ self.heap }
+        ensures keep { K.meaning result.1 ≡ record { records = self.chain.records; made = self.chain.made; lifted = None; origin = self.chain.origin } }
+        ensures slots { length self.chain.records ≡ Objects.slots self.chain.logs }
+        ensures whole { IsWhole self }
+    {
+        let Object {
+            heap,
+            chain,
+            ran: _,
+        } = self;
+        (heap, chain.into_keep())
+    }
+
+    /// Gives all segments back, and answers the supply and the keep of the records.
+    pub fn end(self, way: &S::Way) -> (S, K)
+        ensures nothing_held { S.held_ids result.0 ≡ [] }
+        ensures quota { S.quota_of result.0 ≡ self.heap.quota }
+        ensures supply_origin { S.origin result.0 ≡ self.heap.origin }
+        ensures keep { K.meaning result.1 ≡ record { records = self.chain.records; made = self.chain.made; lifted = None; origin = self.chain.origin } }
+        ensures slots { length self.chain.records ≡ Objects.slots self.chain.logs }
+        ensures whole { IsWhole self }
+    {
+        let (heap, keep) = self.split();
+        (heap.end(way), keep)
     }
 }

@@ -1,10 +1,10 @@
-//! What no clause says: that memory is given, and that an object over a real supply answers what a person worked out by
-//! hand.
-ghost use Rattle.std.specs.Prelude.{◌≡◌, ◌≤◌, ◌<◌, ◌^◌, IfOk};
-ghost use Rattle.dym_base.specs.HeapStep.{IsHeapCommand};
+//! What no clause says: that memory is given, and that an object over a real supply and a real keep answers what a person
+//! worked out by hand.
+ghost use Rattle.std.specs.Prelude.{◌≤◌, ◌<◌, ◌^◌};
 
 use crate::object::Object;
-use dym_base::{Blob, Command, Handle, Refusal, Reply, Version};
+use dym_base::{Blob, Command, Handle, Kind, Refusal, Reply, Version};
+use dym_chain::{LogKeep, VecKeep};
 use dym_quota::OwnSupply;
 use std::alloc::{AllocError, Global};
 use std::process::Abort;
@@ -19,7 +19,7 @@ const H1024: Handle = Handle { exp: 10, index: 0 };
 
 const WHOLE: Handle = Handle { exp: 16, index: 0 };
 
-/// A command to a heap.
+/// A command, without the room that its bytes take.
 #[derive(Clone, Copy)]
 enum Step {
     Malloc(u64),
@@ -32,6 +32,11 @@ enum Step {
     Link(Handle, u32, Option<Handle>),
     Follow(Handle, u32),
     Sum(Handle),
+    Log(u64),
+    Ilog(u64),
+    Restore(u64),
+    Prune(u64),
+    Logs,
 }
 
 /// The reply that is wanted.
@@ -43,12 +48,14 @@ enum Want {
     Loose(u64),
     Bytes(&'static [u8]),
     Total(u64),
+    Logged(Kind, u64),
+    At(u64),
+    Dropped(u32),
+    Slots(u32, u32),
     Refused(Refusal),
 }
 
-fn command_of(alloc: Global, step: Step) -> Result<Command, AllocError>
-    ensures { IfOk result IsHeapCommand }
-{
+fn command_of(alloc: Global, step: Step) -> Result<Command, AllocError> {
     match step {
         Step::Malloc(len) => Ok(Command::Malloc { len }),
         Step::Calloc(n, len) => Ok(Command::Calloc { n, len }),
@@ -63,6 +70,11 @@ fn command_of(alloc: Global, step: Step) -> Result<Command, AllocError>
         Step::Link(h, at, to) => Ok(Command::Link { h, at, to }),
         Step::Follow(h, at) => Ok(Command::Follow { h, at }),
         Step::Sum(h) => Ok(Command::Sum { h }),
+        Step::Log(time) => Ok(Command::Log { time }),
+        Step::Ilog(time) => Ok(Command::Ilog { time }),
+        Step::Restore(time) => Ok(Command::Restore { time }),
+        Step::Prune(bound) => Ok(Command::Prune { bound }),
+        Step::Logs => Ok(Command::Logs),
     }
 }
 
@@ -74,13 +86,19 @@ fn is_reply(reply: &Reply, want: Want) -> bool {
         (Reply::Loose(n), Want::Loose(other)) => *n == other,
         (Reply::Total(n), Want::Total(other)) => *n == other,
         (Reply::Bytes(blob), Want::Bytes(bytes)) => blob.bytes() == bytes,
+        (Reply::Logged { kind, len }, Want::Logged(other, bytes)) => *kind == other
+            && *len == bytes,
+        (Reply::At(time), Want::At(other)) => *time == other,
+        (Reply::Dropped(n), Want::Dropped(other)) => *n == other,
+        (Reply::Slots { kept, slots }, Want::Slots(logs, records)) => *kept == logs
+            && *slots == records,
         (Reply::Refused(why), Want::Refused(other)) => *why == other,
         _ => false,
     }
 }
 
 fn has_reply(
-    object: &mut Object<OwnSupply>,
+    object: &mut Object<OwnSupply, VecKeep>,
     alloc: Global,
     step: Step,
     want: Want,
@@ -94,17 +112,33 @@ fn has_reply(
 
 fn have_replies(
     rt: &impl Abort,
-    object: &mut Object<OwnSupply>,
+    object: &mut Object<OwnSupply, VecKeep>,
     alloc: Global,
     rows: &[(Step, Want)],
 ) -> Result<(), AllocError> {
     for (step, want) in rows {
         let ran = object.ran();
-        assert!(rt; ran < 100);
+        assert!(rt; ran < 1000);
         assert!(rt; has_reply(object, alloc, *step, *want)?, "at command {ran}");
         assert_eq!(rt; object.ran(), ran + 1);
     }
     Ok(())
+}
+
+fn opened(
+    alloc: Global,
+    quota: u32,
+    version: Version,
+) -> Result<Object<OwnSupply, VecKeep>, AllocError>
+    requires least { 1 ≤ quota }
+    requires most { quota ≤ 1024 }
+{
+    let keep = VecKeep::open(alloc)?;
+    let supply = OwnSupply::open(alloc, quota)?;
+    match Object::open_as(alloc, supply, keep, version) {
+        Ok(object) => Ok(object),
+        Err((error, _, _)) => Err(error),
+    }
 }
 
 fn answers(
@@ -117,14 +151,13 @@ fn answers(
     requires least { 1 ≤ quota }
     requires most { quota ≤ 1024 }
 {
-    let supply = OwnSupply::open(alloc, quota)?;
-    let mut object = match Object::open_as(alloc, supply, version) {
-        Ok(object) => object,
-        Err((error, _)) => return Err(error),
-    };
+    let mut object = opened(alloc, quota, version)?;
     let answered = have_replies(rt, &mut object, alloc, rows);
     assert!(rt; object.heap().held() <= quota);
-    object.end(&());
+    let slots = object.slots();
+    let (heap, keep) = object.split();
+    assert_eq!(rt; keep.len(), slots);
+    heap.end(&());
     answered
 }
 
@@ -210,4 +243,82 @@ fn version_2(rt: HostRuntime) -> Result<(), AllocError> {
         (Step::Sum(H32), Want::Total(16)),
     ];
     answers(&rt, rt.alloc(), 1, Version::Two, &rows)
+}
+
+#[test]
+fn logs_of_exact_sizes_and_a_pruned_base(rt: HostRuntime) -> Result<(), AllocError> {
+    let rows = [
+        (Step::Logs, Want::Slots(0, 0)),
+        (Step::Malloc(40), Want::Chunk(H64)),
+        (Step::Log(10), Want::Logged(Kind::Full, 210)),
+        (Step::Write(H64, 0, b"\x2a"), Want::Done),
+        (Step::Ilog(20), Want::Logged(Kind::Inc, 338)),
+        (Step::Ilog(30), Want::Logged(Kind::Inc, 274)),
+        (Step::Logs, Want::Slots(3, 3)),
+        (Step::Restore(25), Want::At(20)),
+        (Step::Ilog(26), Want::Logged(Kind::Inc, 274)),
+        (Step::Restore(5), Want::Refused(Refusal::NoLog)),
+        (Step::Prune(5), Want::Dropped(0)),
+        (Step::Prune(22), Want::Dropped(1)),
+        (Step::Restore(15), Want::Refused(Refusal::NoLog)),
+        (Step::Logs, Want::Slots(2, 3)),
+        (Step::Read(H64, 0, 1), Want::Bytes(b"\x2a")),
+    ];
+    answers(&rt, rt.alloc(), 1, Version::One, &rows)
+}
+
+#[test]
+fn reuse_between_logs(rt: HostRuntime) -> Result<(), AllocError> {
+    let rows = [
+        (Step::Malloc(64), Want::Chunk(H64)),
+        (Step::Write(H64, 0, b"\x07"), Want::Done),
+        (Step::Log(10), Want::Logged(Kind::Full, 210)),
+        (Step::Free(Some(H64)), Want::Done),
+        (Step::Malloc(64), Want::Chunk(H64)),
+        (Step::Ilog(20), Want::Logged(Kind::Inc, 338)),
+        (Step::Restore(20), Want::At(20)),
+        (Step::Read(H64, 0, 1), Want::Bytes(b"\0")),
+        (Step::Restore(10), Want::At(10)),
+        (Step::Read(H64, 0, 1), Want::Bytes(b"\x07")),
+        (Step::Logs, Want::Slots(1, 1)),
+    ];
+    answers(&rt, rt.alloc(), 1, Version::One, &rows)
+}
+
+/// Logs an empty heap at the times 1 to 256.
+fn log_until_full(
+    rt: &impl Abort,
+    object: &mut Object<OwnSupply, VecKeep>,
+    alloc: Global,
+) -> Result<(), AllocError> {
+    for time in 1..257 {
+        let full = Want::Logged(Kind::Full, 13);
+        assert!(rt; object.ran() < 1000);
+        assert!(rt;
+            has_reply(object, alloc, Step::Log(time), full)?,
+            "at time {time}"
+        );
+    }
+    Ok(())
+}
+
+#[test]
+fn order_of_log_refusals(rt: HostRuntime) -> Result<(), AllocError> {
+    let rows = [
+        (Step::Log(257), Want::Refused(Refusal::LogsFull)),
+        (
+            Step::Log(256),
+            Want::Refused(Refusal::NotAfter { newest: 256 }),
+        ),
+        (Step::Prune(256), Want::Dropped(255)),
+        (Step::Log(257), Want::Logged(Kind::Full, 13)),
+        (Step::Logs, Want::Slots(2, 2)),
+    ];
+    let mut object = opened(rt.alloc(), 1, Version::One)?;
+    let full = log_until_full(&rt, &mut object, rt.alloc());
+    let answered = have_replies(&rt, &mut object, rt.alloc(), &rows);
+    let (_, keep) = object.end(&());
+    assert_eq!(&rt; keep.len(), 2);
+    full?;
+    answered
 }

@@ -40,7 +40,10 @@ logs_line kept slots = codes "logs " ++ decimal kept ++ codes " " ++ decimal slo
 abbrev pub images_text : Version → Live → List ℕ
 images_text version live = flat_map (λ e. image_line version (handle_of e.0) e.1) (entries live)
 
+-- what stands behind an object's replies: its counts, its live chunks and its logs
+abbrev pub state_text : Version → Live → ℕ → ℕ → List ℕ
+state_text version live kept slots = heap_line (len live) (held live) ++ images_text version live ++ logs_line kept slots
+
 -- the whole part of one object
 unfoldable pub object_text : Version → List ℕ → List Reply → Live → ℕ → ℕ → List ℕ
-object_text version name replies live kept slots =
-    heading name ++ flat_map reply_line replies ++ heap_line (len live) (held live) ++ images_text version live ++ logs_line kept slots
+object_text version name replies live kept slots = heading name ++ flat_map reply_line replies ++ state_text version live kept slots

@@ -6,7 +6,7 @@ ghost use Rattle.dym_base.specs.HeapStep.{handle_of};
 ghost use Rattle.dym_base.specs.Numbers.{number};
 ghost use Rattle.dym_heap.specs.Meaning.{IsSound};
 ghost use Rattle.dym_io.specs.Sink.{Writes};
-ghost use Rattle.dym_report.specs.Objects.{heap_line, image_line, images_text, object_text};
+ghost use Rattle.dym_report.specs.Objects.{heap_line, image_line, images_text, state_text, object_text};
 
 use crate::object::{write_heading, write_image, write_logs};
 use crate::reply::{write_numbers, write_replies};
@@ -34,6 +34,20 @@ pub fn write_object<W: Sink, S: Supply>(
 {
     write_heading(sink, name)?;
     write_replies(sink, replies)?;
+    write_state(sink, heap, kept, slots)
+}
+
+/// Writes what stands behind an object's replies: its heap, and how many logs it keeps, which take that many records. Its
+/// only error is that of the sink.
+pub fn write_state<W: Sink, S: Supply>(
+    sink: &mut W,
+    heap: &Heap<S>,
+    kept: u32,
+    slots: u32,
+) -> Result<(), SinkFault>
+    requires sound { IsSound heap.now }
+    ensures { Writes (W.output sink.old) (W.output sink.new) (state_text heap.now.version heap.now.state.live kept slots) result }
+{
     write_heap(sink, heap)?;
     write_images(sink, heap)?;
     write_logs(sink, kept, slots)

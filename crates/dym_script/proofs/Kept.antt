@@ -15,15 +15,15 @@ use Rattle.dym_script.specs.Readers.{IsKept}
 use Rattle.dym_script.proofs.Index.{with_last, with_last_no, object_of_none, object_of_push, other_bytes}
 
 -- nothing is read yet
-pub kept_start : (r : Reader) → r.names.entries ≡ [] → r.script.objects.items ≡ [] → r.script.lines.items ≡ [] → IsKept r
-kept_start r names objects lines = record {
+pub kept_start : (r : Reader) → r.names.entries ≡ [] → r.objects.items ≡ [] → IsKept r
+kept_start r names objects = record {
   indexed = λ name. rw (names, objects) (sym (object_of_none name));
   lawful = record {
     objects = rw objects (omega arith);
-    lines = rw lines (omega arith);
+    lines = omega arith;
     names = rw objects (All-nil (λ d. IsTrue (is_name d.name)));
     quotas = rw objects (All-nil (λ d. (1 ≤ d.quota) × (d.quota ≤ MOST_QUOTA)));
-    declared = rw lines (All-nil (λ line. line.object < length r.script.objects.items));
+    declared = All-nil (λ line. line.object < length r.objects.items);
   };
 }
 
@@ -45,12 +45,12 @@ put_bytes r s key place bytes same updates =
     subst P same (updates.1, λ name other. other_bytes (λ (k : Vec ℕ Global). k.items) key.items name r.names.entries s.names.entries updates.3 other)
 
 -- the index finds one name more
-pub indexed_declare : (r s : Reader) (d : Decl) → IsKept r → object_of r.script.objects.items d.name ≡ None
-    → get_by (λ k. bytes_eq d.name k.items) s.names ≡ Some (length r.script.objects.items)
+pub indexed_declare : (r s : Reader) (d : Decl) → IsKept r → object_of r.objects.items d.name ≡ None
+    → get_by (λ k. bytes_eq d.name k.items) s.names ≡ Some (length r.objects.items)
     → ((name : List ℕ) → bytes_eq d.name name ≡ false → get_by (λ k. bytes_eq name k.items) s.names ≡ get_by (λ k. bytes_eq name k.items) r.names)
-    → s.script.objects.items ≡ r.script.objects.items ++ d ∷ [] → (name : List ℕ) → get_by (λ k. bytes_eq name k.items) s.names ≡ object_of s.script.objects.items name
+    → s.objects.items ≡ r.objects.items ++ d ∷ [] → (name : List ℕ) → get_by (λ k. bytes_eq name k.items) s.names ≡ object_of s.objects.items name
 indexed_declare r s d kept absent found others objects name =
-    let old = r.script.objects.items in
+    let old = r.objects.items in
     let P : List ℕ → Type 0 = λ n. get_by (λ k. bytes_eq n k.items) s.names ≡ with_last (object_of old n) (bytes_eq d.name n) (length old) in
     let same : bytes_eq d.name d.name ≡ true = (bytes_decides d.name d.name).1 refl in
     let here : P d.name = found ∙ sym (ap (λ o. with_last o (bytes_eq d.name d.name) (length old)) absent ∙ ap (λ b. with_last None b (length old)) same) in

@@ -2,7 +2,8 @@ pub mod Cuts
 pub mod Index
 pub mod Kept
 pub mod Numbers
-pub mod Counts
+pub mod Tallies
 pub mod Moves
 pub mod Faults
-pub mod HeapCommands
+pub mod Hexes
+pub mod Asking

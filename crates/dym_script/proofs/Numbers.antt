@@ -34,11 +34,20 @@ ten_positive = omega arith
 pub ten_to_20 : (n : ℕ) → n ≤ 20 → 10 ^ n ≤ 10 ^ 20
 ten_to_20 n small = pow-le-pow_right (ten_positive) small
 
+ten_to_18 : (n : ℕ) → n ≤ 18 → 10 ^ n ≤ 10 ^ 18
+ten_to_18 n small = pow-le-pow_right (ten_positive) small
+
 -- at most 20 digits fit
 pub digits_fit : (word : List ℕ) (i : ℕ) → length word ≤ 20 → list_all is_ascii_digit (take i word) ≡ true → digits_value 10 (take i word) < 10 ^ 20
 digits_fit word i short digits =
     let len : length (take i word) ≤ 20 = omega (arith, length-take i word) in
     omega (arith, digits_value-lt 10 (take i word) (all_digits (take i word) digits), ten_to_20 (length (take i word)) len)
+
+-- and fewer than 19 leave room for one more
+pub digits_fit_short : (word : List ℕ) (i : ℕ) → length word < 20 → i < length word → list_all is_ascii_digit (take i word) ≡ true → digits_value 10 (take i word) < 10 ^ 18
+digits_fit_short word i short inside digits =
+    let len : length (take i word) ≤ 18 = omega (arith, length-take i word) in
+    omega (arith, digits_value-lt 10 (take i word) (all_digits (take i word) digits), ten_to_18 (length (take i word)) len)
 
 -- one digit more
 pub digits_more : (word : List ℕ) (i value digit : ℕ) → i < length word → list_all is_ascii_digit (take i word) ≡ true → value ≡ digits_value 10 (take i word) → is_ascii_digit (get_or word i 0) ≡ true → digit + 48 ≡ get_or word i 0

@@ -3,7 +3,7 @@ pub mod Words
 pub mod Table
 pub mod Scripts
 pub mod Answers
+pub mod Asks
 pub mod Readers
 pub mod Parts
 pub mod Laws
-pub mod HeapCommands

@@ -1,16 +1,69 @@
--- What the reader of lines keeps between two lines.
-use Rattle.std.specs.Prelude.{◌≡◌, ℕ, List}
+-- What the reader of lines keeps between two lines, and what it hands on of one.
+use Rattle.std.specs.Prelude.{◌≡◌, ◌<◌, ℕ, Bool, List, [], length, Option, None, Some, Result, Ok, Err, IsTrue}
 use Rattle.std.specs.Str.{bytes_eq}
 use Rattle.std.specs.HashMap.{get_by}
+use Rattle.dym_base.specs.Names.{is_name}
+use Rattle.dym_base.specs.declared.bad_kind.BadKind.{BadKind}
+use Rattle.dym_script.specs.declared.line_fail.LineFail.{LineFail}
+use Rattle.dym_script.specs.declared.line_fail.LineFail.TheVariants as line
+use Rattle.dym_script.specs.declared.script.Decl.{Decl}
+use Rattle.dym_script.specs.declared.script.Line.{Line}
+use Rattle.dym_script.specs.declared.asked.Ask.{Ask}
 use Rattle.dym_script.specs.declared.reader.Reader.{Reader}
-use Rattle.dym_script.specs.Scripts.{Reading, said, object_of}
+use Rattle.dym_script.specs.Scripts.{Said, Reading, object_of, ask_at, name_fault}
+use Rattle.dym_script.specs.Asks.{asks}
 use Rattle.dym_script.specs.Answers.{IsLawful}
 
--- what was read so far
-abbrev pub seen : Reader → Reading
-seen r = record { begun = r.begun; said = said r.script }
+-- what was read so far, where these are the lines that ask something
+abbrev pub seen : Reader → List Line → Reading
+seen r lines = record { begun = r.begun; said = record { version = r.version; objects = r.objects.items; lines = lines } }
 
 -- the index finds each declared name and no other, and what was read is lawful
 pub record IsKept (r : Reader) : Type 0 where
-  pub indexed : (name : List ℕ) → get_by (λ key. bytes_eq name key.items) r.names ≡ object_of r.script.objects.items name
-  pub lawful : IsLawful (said r.script)
+  pub indexed : (name : List ℕ) → get_by (λ key. bytes_eq name key.items) r.names ≡ object_of r.objects.items name
+  pub lawful : IsLawful (seen r []).said
+
+-- what is asked is asked of a declared object
+abbrev pub IsWithin : Reader → Option Ask → Type 0
+IsWithin r None = Unit {0}
+IsWithin r (Some ask) = ask.object < length r.objects.items
+
+-- what is said with what a line asks
+abbrev pub with_ask : Said → Option Ask → Result Said BadKind
+with_ask s None = Ok s
+with_ask s (Some ask) = ask_at s (asks ask.asked) (Some ask.object)
+
+-- what is read then
+abbrev pub reading : Bool → Result Said BadKind → Result Reading BadKind
+reading begun (Err kind) = Err kind
+reading begun (Ok s) = Ok (record { begun = begun; said = s })
+
+-- whatever was asked before, the grammar says the same of the line, unless memory ran out
+abbrev pub GivesSaid : (List Line → Said) → Result (Option Ask) LineFail → (List Line → Result Said BadKind) → Type 0
+GivesSaid after (Ok ask) read = (lines : List Line) → read lines ≡ with_ask (after lines) ask
+GivesSaid after (Err (line.Bad kind)) read = (lines : List Line) → read lines ≡ Err kind
+GivesSaid after (Err line.Memory) read = Unit {0}
+
+-- the same of all that is read
+abbrev pub GivesReading : (List Line → Reading) → Result (Option Ask) LineFail → (List Line → Result Reading BadKind) → Type 0
+GivesReading after (Ok ask) read = (lines : List Line) → read lines ≡ reading (after lines).begun (with_ask (after lines).said ask)
+GivesReading after (Err (line.Bad kind)) read = (lines : List Line) → read lines ≡ Err kind
+GivesReading after (Err line.Memory) read = Unit {0}
+
+-- the same of a declaration, which asks nothing
+abbrev pub Declares : (List Line → Said) → Result Unit LineFail → (List Line → Result Said BadKind) → Type 0
+Declares after (Ok _) read = (lines : List Line) → read lines ≡ Ok (after lines)
+Declares after (Err (line.Bad kind)) read = (lines : List Line) → read lines ≡ Err kind
+Declares after (Err line.Memory) read = Unit {0}
+
+-- the object of this name, or what is wrong with it
+abbrev pub Finds : Result ℕ LineFail → List Decl → List ℕ → Type 0
+Finds (Ok object) objects name = (object_of objects name ≡ Some object) × IsTrue (is_name name)
+Finds (Err (line.Bad kind)) objects name = (object_of objects name ≡ None) × (kind ≡ name_fault name)
+Finds (Err line.Memory) objects name = Unit {0}
+
+-- where so many lines asked something before, so many do after the line, and the grammar says the same of it
+abbrev pub CountsLine : ℕ → ℕ → (List Line → Reading) → Result Unit LineFail → (List Line → Result Reading BadKind) → Type 0
+CountsLine n m after (Ok _) read = (lines : List Line) → length lines ≡ n → (more : List Line) × (length more ≡ m) × (read lines ≡ Ok (after more))
+CountsLine n m after (Err (line.Bad kind)) read = (lines : List Line) → length lines ≡ n → read lines ≡ Err kind
+CountsLine n m after (Err line.Memory) read = Unit {0}

@@ -84,12 +84,17 @@ row verb.Read = record { word = codes "read"; places = OneHandle ∷ At ∷ Read
 row verb.Link = record { word = codes "link"; places = OneHandle ∷ At ∷ HandleOrNil ∷ []; make = λ v. command.Link v.0 v.1.0 v.1.1.0 }
 row verb.Follow = record { word = codes "follow"; places = OneHandle ∷ At ∷ []; make = λ v. command.Follow v.0 v.1.0 }
 row verb.Sum = record { word = codes "sum"; places = OneHandle ∷ []; make = λ v. command.Sum v.0 }
+row verb.Log = record { word = codes "log"; places = Num ∷ []; make = λ v. command.Log v.0 }
+row verb.Ilog = record { word = codes "ilog"; places = Num ∷ []; make = λ v. command.Ilog v.0 }
+row verb.Restore = record { word = codes "restore"; places = Num ∷ []; make = λ v. command.Restore v.0 }
+row verb.Prune = record { word = codes "prune"; places = Num ∷ []; make = λ v. command.Prune v.0 }
+row verb.Logs = record { word = codes "logs"; places = []; make = λ v. command.Logs }
 
 -- all of them, in the order of the table
 abbrev pub verbs : List Verb
 verbs =
     verb.Malloc ∷ verb.Calloc ∷ verb.Realloc ∷ verb.Free ∷ verb.Write ∷ verb.Fill ∷ verb.Read ∷ verb.Link ∷ verb.Follow
-    ∷ verb.Sum ∷ []
+    ∷ verb.Sum ∷ verb.Log ∷ verb.Ilog ∷ verb.Restore ∷ verb.Prune ∷ verb.Logs ∷ []
 
 -- the verb whose word this is
 unfoldable pub verb_of : List ℕ → Option Verb

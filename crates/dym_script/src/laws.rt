@@ -1,14 +1,8 @@
 //! What holds of the grammar.
-ghost use Rattle.dym_script.specs.HeapCommands.{AreHeapCommands};
 ghost use Rattle.dym_script.specs.Laws.{FaultStays, FaultIsWithin};
 
 /// The first bad line is one of the input's, and what stands after it doesn't matter.
 pub fn first_fault()
     ensures stays { FaultStays }
     ensures within { FaultIsWithin }
-{}
-
-/// The commands of a script are commands to a heap: so far the table has no row about logs.
-pub fn heap_commands()
-    ensures { AreHeapCommands }
 {}

@@ -3,6 +3,7 @@
 //! grammar in `specs/` gives for the same bytes, and each object's commands are those of its own lines, in order.
 #![tactic(auto)]
 
+mod asked;
 mod laws;
 mod line_fail;
 mod line_tests;
@@ -14,10 +15,10 @@ mod reader;
 pub mod script;
 mod verb;
 
-pub use laws::{first_fault, heap_commands};
+pub use laws::first_fault;
 pub use own::{Part, apart, own_commands};
-pub use read::read_script;
-pub use script::{Decl, Line, Script, ScriptFail};
+pub use read::{count_script, read_script};
+pub use script::{Counts, Decl, Line, Script, ScriptFail};
 
 #[cfg(test)]
 mod tests;

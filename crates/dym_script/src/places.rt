@@ -1,23 +1,58 @@
 //! What the words of a line stand for.
-ghost use Rattle.std.specs.Prelude.{◌≡◌, ◌≤◌, length, ◌-◌, ◌^◌, ◌==◌, not, IfSome};
-ghost use Rattle.std.specs.List.{prefix_len};
-ghost use Rattle.std.specs.Option.{ok_or};
+ghost use Rattle.std.specs.Prelude.{◌≡◌, ◌≤◌, ◌<◌, length, ◌-◌, ◌^◌, ◌==◌, not, is_some, codes, IfSome, IfOk};
+ghost use Rattle.std.specs.Str.{bytes_eq};
+ghost use Rattle.std.specs.List.{list_all, prefix_len};
 ghost use Rattle.dym_script.specs.Words.{number_to, exponent_of, handle_of, handle_or_nil_of, hex_of};
-ghost use Rattle.dym_script.specs.Answers.{GivesLine};
+ghost use Rattle.dym_script.specs.Asks.{bytes_or_none};
+ghost use Rattle.hex.specs.Hex.{is_hex_digit};
 
-use crate::line_fail::LineFail;
 use dym_base::limits::MOST_READ_BYTES;
-use dym_base::{BadKind, Blob, Handle};
-use hex::FromHexError;
-use std::alloc::Global;
+use dym_base::{Blob, Handle};
+use std::alloc::{AllocError, Global};
 
 /// The number that a word writes, where it writes one of at most 20 digits and that is at most `most`.
-#[tactic(auto, unfolding(crate::specs::Words::number_to))]
 pub fn number_to(most: u64, word: &[u8]) -> Option<u64>
     ensures value { result ≡ number_to most word.now }
     ensures within { IfSome result (λ number. number ≤ most) }
 {
-    if word.is_empty() || word.len() > 20 {
+    if word.len() < 20 {
+        short_number(most, word)
+    } else {
+        long_number(most, word)
+    }
+}
+
+/// The number that a word writes which has too few digits to pass `2^64`.
+#[tactic(auto, unfolding(crate::specs::Words::number_to))]
+fn short_number(most: u64, word: &[u8]) -> Option<u64>
+    requires { length word.now < 20 }
+    ensures value { result ≡ number_to most word.now }
+    ensures within { IfSome result (λ number. number ≤ most) }
+{
+    if word.is_empty() {
+        return None;
+    }
+    let mut value = 0;
+    for digit in word {
+        if !digit.is_ascii_digit() {
+            return None;
+        }
+        value = value * 10 + u64::from(digit - b'0');
+    }
+    if value > most {
+        return None;
+    }
+    Some(value)
+}
+
+/// The number that a word of at least 20 digits writes.
+#[tactic(auto, unfolding(crate::specs::Words::number_to))]
+fn long_number(most: u64, word: &[u8]) -> Option<u64>
+    requires { 20 ≤ length word.now }
+    ensures value { result ≡ number_to most word.now }
+    ensures within { IfSome result (λ number. number ≤ most) }
+{
+    if word.len() > 20 {
         return None;
     }
     let mut value = 0u128;
@@ -133,20 +168,51 @@ pub fn handle_or_nil_of(word: &[u8]) -> Option<Option<Handle>>
     Some(Some(handle))
 }
 
-/// The bytes that a word writes.
-#[tactic(auto, unfolding(crate::specs::Words::hex_of))]
-pub fn hex_of(alloc: Global, word: &[u8]) -> Result<Blob, LineFail>
-    ensures { GivesLine (λ bytes. bytes) result (ok_or (hex_of word.now) BadKind.Hex) }
+/// Whether a word is the dash that writes no bytes.
+fn is_dash(word: &[u8]) -> bool
+    ensures { result ≡ bytes_eq word.now (codes "-") }
 {
-    if word == b"-".as_slice() {
-        return Ok(Blob::of_vec(Vec::new(alloc)));
+    word == b"-".as_slice()
+}
+
+/// Whether a word writes bytes.
+#[tactic(auto, unfolding(crate::specs::Words::hex_of))]
+pub fn is_hex(word: &[u8]) -> bool
+    ensures { result ≡ is_some (hex_of word.now) }
+{
+    if is_dash(word) {
+        return true;
     }
-    if word.len() < 2 {
-        return Err(LineFail::Bad(BadKind::Hex));
+    if word.len() < 2 || word.len() % 2 != 0 {
+        return false;
+    }
+    are_hex_digits(word)
+}
+
+/// Whether each byte is a hexadecimal digit.
+fn are_hex_digits(word: &[u8]) -> bool
+    ensures { result ≡ list_all is_hex_digit word.now }
+{
+    word.iter().all(is_hex_digit)
+}
+
+/// Whether this is a hexadecimal digit, in either case.
+fn is_hex_digit(byte: &u8) -> bool
+    ensures { result ≡ is_hex_digit byte.now }
+{
+    matches!(byte, b'A'..=b'F' | b'a'..=b'f' | b'0'..=b'9')
+}
+
+/// The bytes that a word writes, where it writes some. Want of memory is the one failure then.
+#[tactic(auto, unfolding(crate::specs::Words::hex_of))]
+pub fn bytes_of(alloc: Global, word: &[u8]) -> Result<Blob, AllocError>
+    ensures { IfOk result (λ bytes. bytes ≡ bytes_or_none (hex_of word.now)) }
+{
+    if is_dash(word) || word.len() < 2 {
+        return Ok(Blob::of_vec(Vec::new(alloc)));
     }
     match hex::decode(alloc, word) {
         Ok(bytes) => Ok(Blob::of_vec(bytes)),
-        Err(FromHexError::OutOfMemory) => Err(LineFail::Memory),
-        Err(_) => Err(LineFail::Bad(BadKind::Hex)),
+        Err(_) => Err(AllocError),
     }
 }

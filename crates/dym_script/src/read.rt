@@ -1,12 +1,14 @@
 //! Reads a whole script.
-ghost use Rattle.std.specs.Prelude.{IfOk};
-ghost use Rattle.dym_script.specs.Scripts.{script_of, said};
-ghost use Rattle.dym_script.specs.Answers.{Gives, IsLawful};
+ghost use Rattle.std.specs.Prelude.{◌≤◌, length, IfOk, OnOk};
+ghost use Rattle.dym_script.specs.Scripts.{script_of, said, read_line};
+ghost use Rattle.dym_script.specs.Answers.{Gives, GivesLine, GivesCounts, IsLawful};
+ghost use Rattle.dym_script.specs.Readers.{IsKept, seen, CountsLine};
 
+use crate::asked::Ask;
 use crate::line_fail::LineFail;
 use crate::lines::next_line;
 use crate::reader::Reader;
-use crate::script::{Script, ScriptFail};
+use crate::script::{Counts, Line, Script, ScriptFail};
 use dym_base::BadKind;
 use dym_base::limits::{MOST_COMMANDS, MOST_INPUT_BYTES};
 use std::alloc::Global;
@@ -27,20 +29,106 @@ pub fn read_script(alloc: Global, bytes: &[u8]) -> Result<Script, ScriptFail>
         });
     }
     let room = (bytes.len() / LEAST_LINE_BYTES).min(MOST_COMMANDS);
-    let mut reader = match Reader::new(alloc, room) {
-        Ok(reader) => reader,
+    let mut lines = match Vec::with_capacity(alloc, room) {
+        Ok(lines) => lines,
         Err(_) => return Err(ScriptFail::Memory),
     };
+    let mut reader = Reader::new(alloc);
     let mut rest = bytes;
     let mut number = 0;
     while let Some((line, after)) = next_line(rest) {
         number += 1;
-        match reader.read_line(alloc, number, line) {
+        match take_line(alloc, &mut reader, &mut lines, number, line) {
             Ok(()) => rest = after,
             Err(LineFail::Bad(kind)) => return Err(ScriptFail::Bad { line: number, kind }),
             Err(LineFail::Memory) => return Err(ScriptFail::Memory),
         }
     }
-    let Reader { script, .. } = reader;
-    Ok(script)
+    let Reader {
+        version,
+        objects,
+        ..
+    } = reader;
+    Ok(Script {
+        version,
+        objects,
+        lines,
+    })
+}
+
+/// Counts the declarations and the commands of a script, and keeps none of its commands. The error is that of
+/// `read_script`.
+#[tactic(auto, unfolding(crate::specs::Scripts::script_of))]
+pub fn count_script(alloc: Global, bytes: &[u8]) -> Result<Counts, ScriptFail>
+    ensures { GivesCounts result (script_of bytes.now) }
+{
+    if bytes.len() > MOST_INPUT_BYTES {
+        return Err(ScriptFail::Bad {
+            line: 0,
+            kind: BadKind::TooLong,
+        });
+    }
+    let mut commands = 0;
+    let mut reader = Reader::new(alloc);
+    let mut rest = bytes;
+    let mut number = 0;
+    while let Some((line, after)) = next_line(rest) {
+        number += 1;
+        match count_line(alloc, &mut reader, &mut commands, number, line) {
+            Ok(()) => rest = after,
+            Err(LineFail::Bad(kind)) => return Err(ScriptFail::Bad { line: number, kind }),
+            Err(LineFail::Memory) => return Err(ScriptFail::Memory),
+        }
+    }
+    Ok(Counts {
+        objects: reader.objects.len() as u32,
+        commands,
+    })
+}
+
+/// Reads a line, and takes the command that it asks.
+fn take_line(
+    alloc: Global,
+    reader: &mut Reader,
+    lines: &mut Vec<Line>,
+    number: u32,
+    line: &[u8],
+) -> Result<(), LineFail>
+    requires kept { IsKept reader.old }
+    requires lawful { IsLawful (seen reader.old lines.old.items).said }
+    ensures kept { OnOk result (IsKept reader.new) }
+    ensures lawful { OnOk result (IsLawful (seen reader.new lines.new.items).said) }
+    ensures read { GivesLine (λ _. seen reader.new lines.new.items) result (read_line (seen reader.old lines.old.items) number line.now) }
+{
+    if let Some(Ask { object, asked }) = reader.read_line(alloc, number, line)? {
+        if lines.len() == MOST_COMMANDS {
+            return Err(LineFail::Bad(BadKind::Many));
+        }
+        let command = asked.command(alloc)?;
+        lines.push(Line { object, command })?;
+    }
+    Ok(())
+}
+
+/// Reads a line, and counts the command that it asks.
+fn count_line(
+    alloc: Global,
+    reader: &mut Reader,
+    commands: &mut u32,
+    number: u32,
+    line: &[u8],
+) -> Result<(), LineFail>
+    requires kept { IsKept reader.old }
+    requires few { commands.old ≤ MOST_COMMANDS }
+    ensures kept { OnOk result (IsKept reader.new) }
+    ensures few { OnOk result (commands.new ≤ MOST_COMMANDS) }
+    ensures read { CountsLine commands.old commands.new (seen reader.new) result (λ lines. read_line (seen reader.old lines) number line.now) }
+{
+    if reader.read_line(alloc, number, line)?.is_some() {
+        if *commands as usize == MOST_COMMANDS {
+            return Err(LineFail::Bad(BadKind::Many));
+        }
+        *commands += 1;
+    }
+    Ok(())
 }

@@ -1,58 +1,61 @@
 //! Reads a script line by line.
 ghost use Rattle.std.specs.Prelude.{◌≡◌, ◌<◌, ◌≤◌, [], ◌∷◌, ◌++◌, true, length, OnOk, IfOk, IfSome};
 
+use crate::asked::{Ask, Asked};
 use crate::line_fail::LineFail;
 use crate::line_tests::{is_printable_line, is_version, unknown};
-use crate::lines::{next_word, one_word, two_words};
+use crate::lines::{next_word, two_words};
 use crate::places::number_to;
-use crate::script::{Decl, Line, Script};
+use crate::script::Decl;
 use crate::verb::Verb;
-use dym_base::limits::{MOST_COMMANDS, MOST_LINE_BYTES, MOST_OBJECTS, MOST_QUOTA};
-use dym_base::{BadKind, Command, Name, Version, is_name};
+use dym_base::limits::{MOST_LINE_BYTES, MOST_OBJECTS, MOST_QUOTA};
+use dym_base::{BadKind, Name, Version};
 use std::alloc::{AllocError, Global};
 use std::collections::HashMap;
 
-/// What was read so far.
+/// What was read so far, but for the lines that ask something.
 #[derive(Drop)]
 pub struct Reader {
     /// Whether a line was read that wasn't skipped.
     pub begun: bool,
-    pub script: Script,
+    pub version: Version,
+    pub objects: Vec<Decl>,
     /// The place of each declared name.
     pub names: HashMap<Vec<u8>, u32>,
 }
 
 impl Reader {
-    ghost use Rattle.dym_script.specs.Scripts.{start, read_line, read_words, say, declare, ask, object_of, said};
+    ghost use Rattle.dym_script.specs.Scripts.{start, read_line, read_words, say, declare, object_of};
     ghost use Rattle.dym_base.specs.Names.{is_name};
     ghost use Rattle.dym_script.specs.Lines.{words_of};
-    ghost use Rattle.dym_script.specs.Answers.{GivesLine};
-    ghost use Rattle.dym_script.specs.Readers.{IsKept, seen};
+    ghost use Rattle.dym_script.specs.Readers.{IsKept, seen, IsWithin, GivesReading, GivesSaid, Declares, Finds};
 
-    /// A reader that has read nothing, with room for `lines` commands.
-    pub fn new(alloc: Global, lines: usize) -> Result<Reader, AllocError>
-        ensures kept { IfOk result IsKept }
-        ensures seen { IfOk result (λ reader. seen reader ≡ start) }
+    /// A reader that has read nothing.
+    pub fn new(alloc: Global) -> Reader
+        ensures kept { IsKept result }
+        ensures seen { seen result [] ≡ start }
     {
-        let lines = Vec::with_capacity(alloc, lines)?;
-        let script = Script {
+        Reader {
+            begun: false,
             version: Version::One,
             objects: Vec::new(alloc),
-            lines,
-        };
-        Ok(Reader {
-            begun: false,
-            script,
             names: HashMap::new(alloc),
-        })
+        }
     }
 
-    /// Reads the line of this number.
+    /// Reads the line of this number, and hands on what it asks.
     #[tactic(auto, unfolding(crate::specs::Scripts::read_line))]
-    pub fn read_line(&mut self, alloc: Global, number: u32, line: &[u8]) -> Result<(), LineFail>
+    pub fn read_line<'a>(
+        &mut self,
+        alloc: Global,
+        number: u32,
+        line: &'a [u8],
+    ) -> Result<Option<Ask<'a>>, LineFail>
         requires { IsKept self.old }
         ensures kept { OnOk result (IsKept self.new) }
-        ensures read { GivesLine (λ _. seen self.new) result (read_line (seen self.old) number line.now) }
+        ensures grown { OnOk result (length self.old.objects.items ≤ length self.new.objects.items) }
+        ensures within { IfOk result (IsWithin self.new) }
+        ensures read { GivesReading (seen self.new) result (λ lines. read_line (seen self.old lines) number line.now) }
     {
         if line.len() > MOST_LINE_BYTES {
             return Err(LineFail::Bad(BadKind::LongLine));
@@ -62,57 +65,62 @@ impl Reader {
         }
         match next_word(line) {
             Some((first, words)) => self.read_words(alloc, number, first, words),
-            None => Ok(()),
+            None => Ok(None),
         }
     }
 
     /// Reads a line by its first word and the text of the others.
-    fn read_words(
+    fn read_words<'a>(
         &mut self,
         alloc: Global,
         number: u32,
         first: &[u8],
-        words: &[u8],
-    ) -> Result<(), LineFail>
+        words: &'a [u8],
+    ) -> Result<Option<Ask<'a>>, LineFail>
         requires { IsKept self.old }
         ensures kept { OnOk result (IsKept self.new) }
-        ensures read { GivesLine (λ _. seen self.new) result (read_words (seen self.old) number (first.now ∷ words_of words.now)) }
+        ensures grown { OnOk result (length self.old.objects.items ≤ length self.new.objects.items) }
+        ensures within { IfOk result (IsWithin self.new) }
+        ensures read { GivesReading (seen self.new) result (λ lines. read_words (seen self.old lines) number (first.now ∷ words_of words.now)) }
     {
         if first.first() == Some(&b'#') {
-            return Ok(());
+            return Ok(None);
         }
         if !self.begun && is_version(first, words) {
             self.begun = true;
-            self.script.version = Version::Two;
-            return Ok(());
+            self.version = Version::Two;
+            return Ok(None);
         }
-        self.say(alloc, number, first, words)?;
+        let ask = self.say(alloc, number, first, words)?;
         self.begun = true;
-        Ok(())
+        Ok(ask)
     }
 
     /// Reads a line that isn't skipped and isn't the version line.
-    fn say(
+    fn say<'a>(
         &mut self,
         alloc: Global,
         number: u32,
         first: &[u8],
-        words: &[u8],
-    ) -> Result<(), LineFail>
+        words: &'a [u8],
+    ) -> Result<Option<Ask<'a>>, LineFail>
         requires { IsKept self.old }
         ensures kept { OnOk result (IsKept self.new) }
-        ensures begun { self.new.begun ≡ self.old.begun }
-        ensures read { GivesLine (λ _. (seen self.new).said) result (say (seen self.old).said number first.now (words_of words.now)) }
+        ensures grown { OnOk result (length self.old.objects.items ≤ length self.new.objects.items) }
+        ensures within { IfOk result (IsWithin self.new) }
+        ensures read { GivesSaid (λ lines. (seen self.new lines).said) result (λ lines. say (seen self.old lines).said number first.now (words_of words.now)) }
     {
         if first == b"object".as_slice() {
             let (name, quota) = two_words(words).ok_or(LineFail::Bad(BadKind::Command))?;
             let quota = number_to(u64::MAX, quota).ok_or(LineFail::Bad(BadKind::Number))?;
-            self.declare(alloc, number, name, quota)
+            self.declare(alloc, number, name, quota)?;
+            Ok(None)
         } else {
             let (word, words) = next_word(words).ok_or(LineFail::Bad(BadKind::Command))?;
             let verb = Verb::of(word).ok_or(LineFail::Bad(BadKind::Command))?;
-            let command = verb.command(alloc, words)?;
-            self.ask(first, command)
+            let asked = verb.asked(words)?;
+            let object = self.asked_of(first)?;
+            Ok(Some(Ask { object, asked }))
         }
     }
 
@@ -126,8 +134,8 @@ impl Reader {
     ) -> Result<(), LineFail>
         requires { IsKept self.old }
         ensures kept { OnOk result (IsKept self.new) }
-        ensures begun { self.new.begun ≡ self.old.begun }
-        ensures read { GivesLine (λ _. (seen self.new).said) result (declare (seen self.old).said number name.now (Some quota)) }
+        ensures grown { OnOk result (length self.old.objects.items ≤ length self.new.objects.items) }
+        ensures read { Declares (λ lines. (seen self.new lines).said) result (λ lines. declare (seen self.old lines).said number name.now (Some quota)) }
     {
         let declared = Name::new(name).ok_or(LineFail::Bad(BadKind::Name))?;
         if self.place_of(name).is_some() {
@@ -136,7 +144,7 @@ impl Reader {
         if quota < 1 || quota > u64::from(MOST_QUOTA) {
             return Err(LineFail::Bad(BadKind::QuotaRange));
         }
-        if self.script.objects.len() == MOST_OBJECTS {
+        if self.objects.len() == MOST_OBJECTS {
             return Err(LineFail::Bad(BadKind::Many));
         }
         let decl = Decl {
@@ -151,45 +159,39 @@ impl Reader {
     /// Adds a declaration of a new name.
     fn add(&mut self, alloc: Global, decl: Decl) -> Result<(), AllocError>
         requires kept { IsKept self.old }
-        requires fresh { object_of self.old.script.objects.items decl.name ≡ None }
-        requires room { length self.old.script.objects.items < MOST_OBJECTS }
+        requires fresh { object_of self.old.objects.items decl.name ≡ None }
+        requires room { length self.old.objects.items < MOST_OBJECTS }
         requires name { is_name decl.name ≡ true }
         requires least { 1 ≤ decl.quota }
         requires most { decl.quota ≤ MOST_QUOTA }
         ensures kept { OnOk result (IsKept self.new) }
-        ensures begun { self.new.begun ≡ self.old.begun }
-        ensures added { OnOk result (said self.new.script ≡ record (said self.old.script) { objects = self.old.script.objects.items ++ decl ∷ [] }) }
+        ensures version { self.new.version ≡ self.old.version }
+        ensures added { OnOk result (self.new.objects.items ≡ self.old.objects.items ++ decl ∷ []) }
     {
         let key = Vec::from_slice(alloc, decl.name.bytes())?;
-        let place = self.script.objects.len() as u32;
+        let place = self.objects.len() as u32;
         self.names.insert(key, place)?;
-        self.script.objects.push(decl)?;
+        self.objects.push(decl)?;
         Ok(())
     }
 
-    /// Reads a command to the object of this name.
-    fn ask(&mut self, name: &[u8], command: Command) -> Result<(), LineFail>
-        requires { IsKept self.old }
-        ensures kept { OnOk result (IsKept self.new) }
-        ensures begun { self.new.begun ≡ self.old.begun }
-        ensures read { GivesLine (λ _. (seen self.new).said) result (ask (seen self.old).said name.now (Ok command)) }
+    /// The place of the object that a command names.
+    fn asked_of(&self, name: &[u8]) -> Result<u32, LineFail>
+        requires { IsKept self.now }
+        ensures within { IfOk result (λ object. object < length self.now.objects.items) }
+        ensures found { Finds result self.now.objects.items name.now }
     {
-        let object = match self.place_of(name) {
-            Some(object) => object,
-            None => return Err(LineFail::Bad(unknown(name))),
-        };
-        if self.script.lines.len() == MOST_COMMANDS {
-            return Err(LineFail::Bad(BadKind::Many));
+        match self.place_of(name) {
+            Some(object) => Ok(object),
+            None => Err(LineFail::Bad(unknown(name))),
         }
-        self.script.lines.push(Line { object, command })?;
-        Ok(())
     }
 
     /// The place of the object of this name.
     fn place_of(&self, name: &[u8]) -> Option<u32>
         requires { IsKept self.now }
-        ensures value { result ≡ object_of self.now.script.objects.items name.now }
-        ensures within { IfSome result (λ place. place < length self.now.script.objects.items) }
+        ensures value { result ≡ object_of self.now.objects.items name.now }
+        ensures within { IfSome result (λ place. place < length self.now.objects.items) }
         ensures name { IfSome result (λ _. is_name name.now ≡ true) }
     {
         self.names.get(name).copied()

@@ -1,5 +1,5 @@
 //! What no clause shows: that good scripts are read, and that the kinds of bad lines are those of the format.
-use crate::{ScriptFail, apart, own_commands, read_script};
+use crate::{Counts, ScriptFail, apart, count_script, own_commands, read_script};
 use dym_base::{BadKind, Blob, Command, Handle, Version};
 use std::alloc::{AllocError, Global};
 use std::test::Fail;
@@ -37,6 +37,14 @@ fn good_script(rt: HostRuntime) -> Result<(), Fail> {
     assert_eq!(rt; script.objects[1].line, 4);
     let own = own_commands(rt.alloc(), &script, 0)?;
     assert_eq!(rt; lengths(rt.alloc(), &own)?.as_slice(), [4, 7].as_slice());
+    let counts = count_script(rt.alloc(), GOOD)?;
+    assert_eq!(rt;
+        counts,
+        Counts {
+            objects: 2,
+            commands: 3
+        }
+    );
     let parts = apart(rt.alloc(), script)?;
     assert_eq!(rt; parts.len(), 2);
     assert_eq!(rt;
@@ -127,11 +135,15 @@ fn bad_lines(rt: HostRuntime) {
         (b"a-b write 64:0 0 --", 1, BadKind::Hex),
         (b"a fill 64:0 0 4294967296 0", 1, BadKind::Number),
         (b"a fill 48:0 0 1 256", 1, BadKind::Number),
-        (b"object a 1\na log 1", 2, BadKind::Command),
-        (b"object a 1\na ilog 1", 2, BadKind::Command),
-        (b"object a 1\na restore 1", 2, BadKind::Command),
-        (b"object a 1\na prune 1", 2, BadKind::Command),
-        (b"object a 1\na logs", 2, BadKind::Command),
+        (b"object a 1\na log", 2, BadKind::Command),
+        (b"object a 1\na ilog 1 2", 2, BadKind::Command),
+        (b"object a 1\na restore x", 2, BadKind::Number),
+        (
+            b"object a 1\na prune 18446744073709551616",
+            2,
+            BadKind::Number,
+        ),
+        (b"object a 1\na logs 1", 2, BadKind::Command),
         (b"a write 64:0 0", 1, BadKind::Command),
         (b"a malloc 4\nobject a 1\n", 1, BadKind::Undeclared),
     ];
@@ -198,6 +210,11 @@ fn same(x: &Command, y: &Command) -> bool {
         ) => h == g && at == place && to == other,
         (Command::Follow { h, at }, Command::Follow { h: g, at: to }) => h == g && at == to,
         (Command::Sum { h }, Command::Sum { h: g }) => h == g,
+        (Command::Log { time }, Command::Log { time: other }) => time == other,
+        (Command::Ilog { time }, Command::Ilog { time: other }) => time == other,
+        (Command::Restore { time }, Command::Restore { time: other }) => time == other,
+        (Command::Prune { bound }, Command::Prune { bound: other }) => bound == other,
+        (Command::Logs, Command::Logs) => true,
         _ => false,
     }
 }
@@ -211,7 +228,7 @@ fn each_command(rt: HostRuntime) -> Result<(), Fail> {
     };
     let bytes = Blob::new(rt.alloc(), &[0xab, 0x0c, 0xff])?;
     let none = Blob::new(rt.alloc(), &[])?;
-    let table: [(&[u8], Command); 14] = [
+    let table: [(&[u8], Command); 19] = [
         (b"malloc 0", Command::Malloc { len: 0 }),
         (b"calloc 3 20", Command::Calloc { n: 3, len: 20 }),
         (b"realloc nil 5", Command::Realloc { h: None, len: 5 }),
@@ -255,6 +272,14 @@ fn each_command(rt: HostRuntime) -> Result<(), Fail> {
         (b"link 32:7 0 nil", Command::Link { h, at: 0, to: None }),
         (b"follow 32:7 8", Command::Follow { h, at: 8 }),
         (b"sum 32:7", Command::Sum { h }),
+        (b"log 0", Command::Log { time: 0 }),
+        (
+            b"ilog 18446744073709551615",
+            Command::Ilog { time: u64::MAX },
+        ),
+        (b"restore 5", Command::Restore { time: 5 }),
+        (b"prune 6", Command::Prune { bound: 6 }),
+        (b"logs", Command::Logs),
     ];
     for (line, wanted) in &table {
         assert!(rt; asks(rt.alloc(), line, wanted)?, "{line:?}");

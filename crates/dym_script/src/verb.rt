@@ -3,14 +3,15 @@ ghost use Rattle.std.specs.Prelude.{◌≡◌};
 ghost use Rattle.dym_script.specs.Table.{command_of, verb_of};
 ghost use Rattle.dym_script.specs.Lines.{words_of};
 ghost use Rattle.dym_script.specs.Answers.{GivesLine};
+ghost use Rattle.dym_script.specs.Asks.{asks};
 
+use crate::asked::Asked;
 use crate::line_fail::LineFail;
-use crate::lines::{four_words, one_word, three_words, two_words};
+use crate::lines::{four_words, next_word, one_word, three_words, two_words};
 use crate::places::{
-    byte_value, handle_of, handle_or_nil_of, hex_of, number_32, number_to, read_len,
+    byte_value, handle_of, handle_or_nil_of, is_hex, number_32, number_to, read_len,
 };
 use dym_base::{BadKind, Command};
-use std::alloc::Global;
 
 /// What a command line asks.
 #[derive(Clone, Copy)]
@@ -25,6 +26,11 @@ pub enum Verb {
     Link,
     Follow,
     Sum,
+    Log,
+    Ilog,
+    Restore,
+    Prune,
+    Logs,
 }
 
 impl Verb {
@@ -53,138 +59,206 @@ impl Verb {
             Some(Verb::Follow)
         } else if word == b"sum".as_slice() {
             Some(Verb::Sum)
+        } else if word == b"log".as_slice() {
+            Some(Verb::Log)
+        } else if word == b"ilog".as_slice() {
+            Some(Verb::Ilog)
+        } else if word == b"restore".as_slice() {
+            Some(Verb::Restore)
+        } else if word == b"prune".as_slice() {
+            Some(Verb::Prune)
+        } else if word == b"logs".as_slice() {
+            Some(Verb::Logs)
         } else {
             None
         }
     }
 
-    /// The command that the words after the verb make.
-    pub fn command(self, alloc: Global, words: &[u8]) -> Result<Command, LineFail>
-        ensures { GivesLine (λ command. command) result (command_of self (words_of words.now)) }
+    /// What the words after the verb ask.
+    pub fn asked(self, words: &[u8]) -> Result<Asked<'_>, LineFail>
+        ensures { GivesLine asks result (command_of self (words_of words.now)) }
     {
         match self {
             Verb::Malloc => malloc(words),
             Verb::Calloc => calloc(words),
             Verb::Realloc => realloc(words),
             Verb::Free => free(words),
-            Verb::Write => write(alloc, words),
+            Verb::Write => write(words),
             Verb::Fill => fill(words),
             Verb::Read => read(words),
             Verb::Link => link(words),
             Verb::Follow => follow(words),
             Verb::Sum => sum(words),
+            Verb::Log => log(words),
+            Verb::Ilog => ilog(words),
+            Verb::Restore => restore(words),
+            Verb::Prune => prune(words),
+            Verb::Logs => logs(words),
         }
     }
 }
 
 /// Of a length.
 #[tactic(auto, unfolding(crate::specs::Table::command_of))]
-fn malloc(words: &[u8]) -> Result<Command, LineFail>
-    ensures { GivesLine (λ command. command) result (command_of Verb.Malloc (words_of words.now)) }
+fn malloc(words: &[u8]) -> Result<Asked<'_>, LineFail>
+    ensures { GivesLine asks result (command_of Verb.Malloc (words_of words.now)) }
 {
     let len = one_word(words).ok_or(LineFail::Bad(BadKind::Command))?;
     let len = number_to(u64::MAX, len).ok_or(LineFail::Bad(BadKind::Number))?;
-    Ok(Command::Malloc { len })
+    Ok(Asked::Plain(Command::Malloc { len }))
 }
 
 /// Of a number and a length.
 #[tactic(auto, unfolding(crate::specs::Table::command_of))]
-fn calloc(words: &[u8]) -> Result<Command, LineFail>
-    ensures { GivesLine (λ command. command) result (command_of Verb.Calloc (words_of words.now)) }
+fn calloc(words: &[u8]) -> Result<Asked<'_>, LineFail>
+    ensures { GivesLine asks result (command_of Verb.Calloc (words_of words.now)) }
 {
     let (n, len) = two_words(words).ok_or(LineFail::Bad(BadKind::Command))?;
     let n = number_to(u64::MAX, n).ok_or(LineFail::Bad(BadKind::Number))?;
     let len = number_to(u64::MAX, len).ok_or(LineFail::Bad(BadKind::Number))?;
-    Ok(Command::Calloc { n, len })
+    Ok(Asked::Plain(Command::Calloc { n, len }))
 }
 
 /// Of a handle or nil and a length.
 #[tactic(auto, unfolding(crate::specs::Table::command_of))]
-fn realloc(words: &[u8]) -> Result<Command, LineFail>
-    ensures { GivesLine (λ command. command) result (command_of Verb.Realloc (words_of words.now)) }
+fn realloc(words: &[u8]) -> Result<Asked<'_>, LineFail>
+    ensures { GivesLine asks result (command_of Verb.Realloc (words_of words.now)) }
 {
     let (h, len) = two_words(words).ok_or(LineFail::Bad(BadKind::Command))?;
     let len = number_to(u64::MAX, len).ok_or(LineFail::Bad(BadKind::Number))?;
     let h = handle_or_nil_of(h).ok_or(LineFail::Bad(BadKind::Handle))?;
-    Ok(Command::Realloc { h, len })
+    Ok(Asked::Plain(Command::Realloc { h, len }))
 }
 
 /// Of a handle or nil.
 #[tactic(auto, unfolding(crate::specs::Table::command_of))]
-fn free(words: &[u8]) -> Result<Command, LineFail>
-    ensures { GivesLine (λ command. command) result (command_of Verb.Free (words_of words.now)) }
+fn free(words: &[u8]) -> Result<Asked<'_>, LineFail>
+    ensures { GivesLine asks result (command_of Verb.Free (words_of words.now)) }
 {
     let h = one_word(words).ok_or(LineFail::Bad(BadKind::Command))?;
     let h = handle_or_nil_of(h).ok_or(LineFail::Bad(BadKind::Handle))?;
-    Ok(Command::Free { h })
+    Ok(Asked::Plain(Command::Free { h }))
 }
 
 /// Of a handle, a place and bytes.
 #[tactic(auto, unfolding(crate::specs::Table::command_of))]
-fn write(alloc: Global, words: &[u8]) -> Result<Command, LineFail>
-    ensures { GivesLine (λ command. command) result (command_of Verb.Write (words_of words.now)) }
+fn write(words: &[u8]) -> Result<Asked<'_>, LineFail>
+    ensures { GivesLine asks result (command_of Verb.Write (words_of words.now)) }
 {
-    let (h, at, bytes) = three_words(words).ok_or(LineFail::Bad(BadKind::Command))?;
+    let (h, at, hex) = three_words(words).ok_or(LineFail::Bad(BadKind::Command))?;
     let at = number_32(at).ok_or(LineFail::Bad(BadKind::Number))?;
     let h = handle_of(h).ok_or(LineFail::Bad(BadKind::Handle))?;
-    let bytes = hex_of(alloc, bytes)?;
-    Ok(Command::Write { h, at, bytes })
+    if !is_hex(hex) {
+        return Err(LineFail::Bad(BadKind::Hex));
+    }
+    Ok(Asked::Write { h, at, hex })
 }
 
 /// Of a handle, a place, a length and a byte.
 #[tactic(auto, unfolding(crate::specs::Table::command_of))]
-fn fill(words: &[u8]) -> Result<Command, LineFail>
-    ensures { GivesLine (λ command. command) result (command_of Verb.Fill (words_of words.now)) }
+fn fill(words: &[u8]) -> Result<Asked<'_>, LineFail>
+    ensures { GivesLine asks result (command_of Verb.Fill (words_of words.now)) }
 {
     let (h, at, len, byte) = four_words(words).ok_or(LineFail::Bad(BadKind::Command))?;
     let at = number_32(at).ok_or(LineFail::Bad(BadKind::Number))?;
     let len = number_32(len).ok_or(LineFail::Bad(BadKind::Number))?;
     let byte = byte_value(byte).ok_or(LineFail::Bad(BadKind::Number))?;
     let h = handle_of(h).ok_or(LineFail::Bad(BadKind::Handle))?;
-    Ok(Command::Fill { h, at, len, byte })
+    Ok(Asked::Plain(Command::Fill { h, at, len, byte }))
 }
 
 /// Of a handle, a place and a length.
 #[tactic(auto, unfolding(crate::specs::Table::command_of))]
-fn read(words: &[u8]) -> Result<Command, LineFail>
-    ensures { GivesLine (λ command. command) result (command_of Verb.Read (words_of words.now)) }
+fn read(words: &[u8]) -> Result<Asked<'_>, LineFail>
+    ensures { GivesLine asks result (command_of Verb.Read (words_of words.now)) }
 {
     let (h, at, len) = three_words(words).ok_or(LineFail::Bad(BadKind::Command))?;
     let at = number_32(at).ok_or(LineFail::Bad(BadKind::Number))?;
     let len = read_len(len).ok_or(LineFail::Bad(BadKind::Number))?;
     let h = handle_of(h).ok_or(LineFail::Bad(BadKind::Handle))?;
-    Ok(Command::Read { h, at, len })
+    Ok(Asked::Plain(Command::Read { h, at, len }))
 }
 
 /// Of a handle, a place, and a handle or nil.
 #[tactic(auto, unfolding(crate::specs::Table::command_of))]
-fn link(words: &[u8]) -> Result<Command, LineFail>
-    ensures { GivesLine (λ command. command) result (command_of Verb.Link (words_of words.now)) }
+fn link(words: &[u8]) -> Result<Asked<'_>, LineFail>
+    ensures { GivesLine asks result (command_of Verb.Link (words_of words.now)) }
 {
     let (h, at, to) = three_words(words).ok_or(LineFail::Bad(BadKind::Command))?;
     let at = number_32(at).ok_or(LineFail::Bad(BadKind::Number))?;
     let h = handle_of(h).ok_or(LineFail::Bad(BadKind::Handle))?;
     let to = handle_or_nil_of(to).ok_or(LineFail::Bad(BadKind::Handle))?;
-    Ok(Command::Link { h, at, to })
+    Ok(Asked::Plain(Command::Link { h, at, to }))
 }
 
 /// Of a handle and a place.
 #[tactic(auto, unfolding(crate::specs::Table::command_of))]
-fn follow(words: &[u8]) -> Result<Command, LineFail>
-    ensures { GivesLine (λ command. command) result (command_of Verb.Follow (words_of words.now)) }
+fn follow(words: &[u8]) -> Result<Asked<'_>, LineFail>
+    ensures { GivesLine asks result (command_of Verb.Follow (words_of words.now)) }
 {
     let (h, at) = two_words(words).ok_or(LineFail::Bad(BadKind::Command))?;
     let at = number_32(at).ok_or(LineFail::Bad(BadKind::Number))?;
     let h = handle_of(h).ok_or(LineFail::Bad(BadKind::Handle))?;
-    Ok(Command::Follow { h, at })
+    Ok(Asked::Plain(Command::Follow { h, at }))
 }
 
 /// Of a handle.
 #[tactic(auto, unfolding(crate::specs::Table::command_of))]
-fn sum(words: &[u8]) -> Result<Command, LineFail>
-    ensures { GivesLine (λ command. command) result (command_of Verb.Sum (words_of words.now)) }
+fn sum(words: &[u8]) -> Result<Asked<'_>, LineFail>
+    ensures { GivesLine asks result (command_of Verb.Sum (words_of words.now)) }
 {
     let h = one_word(words).ok_or(LineFail::Bad(BadKind::Command))?;
     let h = handle_of(h).ok_or(LineFail::Bad(BadKind::Handle))?;
-    Ok(Command::Sum { h })
+    Ok(Asked::Plain(Command::Sum { h }))
+}
+
+/// Of a time.
+#[tactic(auto, unfolding(crate::specs::Table::command_of))]
+fn log(words: &[u8]) -> Result<Asked<'_>, LineFail>
+    ensures { GivesLine asks result (command_of Verb.Log (words_of words.now)) }
+{
+    let time = one_word(words).ok_or(LineFail::Bad(BadKind::Command))?;
+    let time = number_to(u64::MAX, time).ok_or(LineFail::Bad(BadKind::Number))?;
+    Ok(Asked::Plain(Command::Log { time }))
+}
+
+/// Of a time.
+#[tactic(auto, unfolding(crate::specs::Table::command_of))]
+fn ilog(words: &[u8]) -> Result<Asked<'_>, LineFail>
+    ensures { GivesLine asks result (command_of Verb.Ilog (words_of words.now)) }
+{
+    let time = one_word(words).ok_or(LineFail::Bad(BadKind::Command))?;
+    let time = number_to(u64::MAX, time).ok_or(LineFail::Bad(BadKind::Number))?;
+    Ok(Asked::Plain(Command::Ilog { time }))
+}
+
+/// Of a time.
+#[tactic(auto, unfolding(crate::specs::Table::command_of))]
+fn restore(words: &[u8]) -> Result<Asked<'_>, LineFail>
+    ensures { GivesLine asks result (command_of Verb.Restore (words_of words.now)) }
+{
+    let time = one_word(words).ok_or(LineFail::Bad(BadKind::Command))?;
+    let time = number_to(u64::MAX, time).ok_or(LineFail::Bad(BadKind::Number))?;
+    Ok(Asked::Plain(Command::Restore { time }))
+}
+
+/// Of a bound.
+#[tactic(auto, unfolding(crate::specs::Table::command_of))]
+fn prune(words: &[u8]) -> Result<Asked<'_>, LineFail>
+    ensures { GivesLine asks result (command_of Verb.Prune (words_of words.now)) }
+{
+    let bound = one_word(words).ok_or(LineFail::Bad(BadKind::Command))?;
+    let bound = number_to(u64::MAX, bound).ok_or(LineFail::Bad(BadKind::Number))?;
+    Ok(Asked::Plain(Command::Prune { bound }))
+}
+
+/// Of nothing.
+#[tactic(auto, unfolding(crate::specs::Table::command_of))]
+fn logs(words: &[u8]) -> Result<Asked<'_>, LineFail>
+    ensures { GivesLine asks result (command_of Verb.Logs (words_of words.now)) }
+{
+    match next_word(words) {
+        Some(_) => Err(LineFail::Bad(BadKind::Command)),
+        None => Ok(Asked::Plain(Command::Logs)),
+    }
 }

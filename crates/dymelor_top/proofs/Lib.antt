@@ -5,3 +5,4 @@ pub mod PartFacts
 pub mod MadePlans
 pub mod Served
 pub mod SummaryFacts
+pub mod WrittenReplies

@@ -1,10 +1,7 @@
 -- The parts of a script that was taken apart are its objects, and each may run.
 use Rattle.std.proofs.Common.{◌≡◌, ℕ, suc, ◌+◌, ◌<◌, ◌≤◌, ◌^◌, true, false, cond, List, [], ◌∷◌, ◌++◌, length, map, filter, flat_map, All, get_or, refl, sym, ap, subst, ◌∙◌, add-zero, arith, ◌==◌}
-use Rattle.std.specs.List.{AllByRecursion}
-use Rattle.std.proofs.lemmas.List.Elements.{All-from_recursion, recursion_from_All}
 use Rattle.std.proofs.Math.ListN.{get_or-map}
 use Rattle.dym_base.specs.declared.command.Version.{Version}
-use Rattle.dym_base.specs.HeapStep.{IsHeapCommand}
 use Rattle.dym_script.specs.declared.script.Decl.{Decl}
 use Rattle.dym_script.specs.declared.script.Line.{Line}
 use Rattle.dym_script.specs.declared.own.Part.{Part}
@@ -43,14 +40,6 @@ texts_of_parts v (p ∷ ps) = ap (λ l. part_text v (own_of p) ++ l) (texts_of_p
 
 -- the commands of one object are among those of the script
 module _ (object : ℕ) where
-  own_heap_commands : (lines : List Line) → AllByRecursion (λ (line : Line). IsHeapCommand line.command) lines → AllByRecursion IsHeapCommand (map (λ (line : Line). line.command) (filter (λ line. line.object == object) lines))
-  own_heap_commands [] all = tt
-  own_heap_commands (x ∷ xs) all =
-      elim (x.object == object) as (λ b. AllByRecursion IsHeapCommand (map (λ (line : Line). line.command) (cond b (x ∷ filter (λ line. line.object == object) xs) (filter (λ line. line.object == object) xs)))) [
-        | true ↦ (all.0, own_heap_commands xs all.1)
-        | false ↦ own_heap_commands xs all.1
-      ]
-
   own_few : (lines : List Line) → length (map (λ (line : Line). line.command) (filter (λ line. line.object == object) lines)) ≤ length lines
   own_few [] = omega arith
   own_few (x ∷ xs) =
@@ -66,15 +55,14 @@ length_decls : (parts : List Part) → length (map (λ (p : Part). p.decl) parts
 length_decls [] = refl
 length_decls (p ∷ ps) = ap suc (length_decls ps)
 
-pub parts_run : (s : Said) (parts : List Part) → map (λ p. p.decl) parts ≡ s.objects → EachOwns parts s → IsLawful s → All (λ line. IsHeapCommand line.command) s.lines → All IsRunnable parts
+pub parts_run : (s : Said) (parts : List Part) → map (λ p. p.decl) parts ≡ s.objects → EachOwns parts s → IsLawful s → All IsRunnable parts
 unfolding own
-parts_run s parts decls owns lawful heap_commands k d within =
+parts_run s parts decls owns lawful k d within =
     let commands = owns k d within in
     let at : get_or s.objects k d.decl ≡ (get_or parts k d).decl = ap (λ ds. get_or ds k d.decl) (sym decls) ∙ decl_at parts k d in
     let reach : k < length s.objects = omega (arith, length_decls parts, ap length decls) in
     let quota = lawful.quotas k d.decl reach in
     record {
-      heap_commands = subst (All IsHeapCommand) (sym commands) (All-from_recursion IsHeapCommand _ (own_heap_commands k s.lines (recursion_from_All (λ (line : Line). IsHeapCommand line.command) s.lines heap_commands)));
       few = subst (λ n. n ≤ 2 ^ 20) (ap length (sym commands)) (omega (arith, own_few k s.lines, lawful.lines));
       quota_least = subst (λ (x : Decl). 1 ≤ x.quota) at quota.0;
       quota_most = subst (λ (x : Decl). x.quota ≤ 1024) at quota.1;

@@ -5,13 +5,14 @@ use Rattle.std.proofs.Math.ListN.{drop_of_length-le}
 use Rattle.std.proofs.Math.Seq.{drop-append_seam}
 use Rattle.std.proofs.lemmas.Bool.Decides.{nat_tests}
 use Rattle.std.specs.Io.KnownBytes.{Consumes, Keeps}
-use Rattle.std.proofs.KnownBytes.{Appends-nil}
+use Rattle.std.proofs.KnownBytes.{Appends-nil, Keeps-refl}
 use Rattle.dym_base.specs.declared.limits.TheConstants.{MOST_INPUT_BYTES}
 use Rattle.dym_base.specs.declared.bad_kind.BadKind.TheVariants as bad
 use Rattle.dym_io.specs.Faults.{Rose}
 use Rattle.dym_io.specs.Source.{IsEndOrLimit}
 use Rattle.dym_io.specs.Sink.{Output, Appended, AppendedFront, Stopped, AllFlushed}
 use Rattle.dym_io.specs.Laws.{appends_kept}
+use Rattle.dym_gen.specs.Scripts.{generated}
 use Rattle.dym_script.specs.Lines.{lines_of}
 use Rattle.dym_script.specs.Scripts.{Said, script_of, read_lines, start}
 use Rattle.dym_trace.specs.declared.answer.TraceAnswer.{TraceAnswer}
@@ -22,9 +23,10 @@ use Rattle.dymelor_top.specs.declared.plan.Reading.TheVariants as reading
 use Rattle.dymelor_top.specs.declared.plan.Plan.{Plan}
 use Rattle.dymelor_top.specs.declared.plan.Plan.TheVariants as plan
 use Rattle.dymelor_top.specs.declared.stop.WriteFail.{WriteFail}
+use Rattle.dymelor_top.specs.declared.stop.WriteFail.TheVariants as fail
 use Rattle.dymelor_top.specs.declared.stop.Stop.{Stop}
 use Rattle.dymelor_top.specs.declared.stop.Stop.TheVariants as stop
-use Rattle.dymelor_top.specs.Stops.{stop_status}
+use Rattle.dymelor_top.specs.Stops.{stop_status, of_write}
 use Rattle.dymelor_top.specs.Report.{report_text}
 use Rattle.dymelor_top.specs.Summary.{summary_of}
 use Rattle.dymelor_top.specs.Answers.{Answer, fault_answer, of_script, counts_of, of_verdict, IsJudged, IsTraceAnswer, IsRead, IsAnswer, reads}
@@ -157,6 +159,7 @@ one_read reading.Trace bytes x y p q = one_trace bytes (nat_lt MOST_INPUT_BYTES 
 
 pub one_answer : (p : Plan) (bytes : List ℕ) (x y : Answer) → IsAnswer p bytes x → IsAnswer p bytes y → x ≡ y
 one_answer (plan.Read r) bytes x y p q = one_read r bytes x y p q
+one_answer (plan.ReadMade r seed objects commands) bytes x y p q = one_read r (generated seed objects commands) x y p q
 one_answer (plan.Make seed objects commands) bytes x y p q = p ∙ sym q
 one_answer plan.Usage bytes x y p q = p ∙ sym q
 
@@ -236,6 +239,55 @@ read_stopped r old new a b stop.Memory front source sink = record {
   usage = λ is. absurd (omega (arith, is));
   only_usage = λ is. no_plan r is;
   made = λ seed objects commands is. no_make r seed objects commands is;
+  source = λ is. absurd (omega (arith, is));
+  sink = λ is. absurd (omega (arith, is));
+  known = omega arith;
+}
+
+-- a made script was answered whole
+pub made_whole : (r : Reading) (seed objects commands : ℕ) (old : Input) (a b : Output) (status : ℕ)
+    → (x : Answer) × IsRead r (generated seed objects commands) x × (status ≡ x.status) × WroteAll a b x.text
+    → (status ≡ 0) ⊎ (status ≡ 2) → PlanHeadline (plan.ReadMade r seed objects commands) old old a b status
+made_whole r seed objects commands old a b status served zero_or_two =
+    let low : status ≤ 2 = small status zero_or_two in
+    record {
+      answered = λ bytes known. record {
+        prefix = whole_front r (generated seed objects commands) a b status served;
+        whole = λ le. served;
+        complete = λ source sink. inl low;
+      };
+      read = λ le. tt;
+      unread = λ is. (Keeps-refl old.left, refl);
+      usage = λ is. no_usage status zero_or_two is;
+      only_usage = λ is. absurd (cc);
+      made = λ s o c is. absurd (cc);
+      source = λ is. absurd (omega (arith, low, is));
+      sink = λ is. absurd (omega (arith, low, is));
+      known = omega (arith, low);
+    }
+
+-- and where that stopped
+pub made_stopped : (r : Reading) (seed objects commands : ℕ) (old : Input) (a b : Output) (stopped : WriteFail)
+    → ((x : Answer) → IsRead r (generated seed objects commands) x → WroteFront a b x.text)
+    → (stopped ≡ fail.Sink → Rose a.faults b.faults) → PlanHeadline (plan.ReadMade r seed objects commands) old old a b (stop_status (of_write stopped))
+made_stopped r seed objects commands old a b fail.Sink front sink = record {
+  answered = λ bytes known. record { prefix = front; whole = λ le. absurd (omega (arith, le)); complete = λ calm still. absurd (still (sink refl)) };
+  read = λ le. absurd (omega (arith, le));
+  unread = λ is. (Keeps-refl old.left, refl);
+  usage = λ is. absurd (omega (arith, is));
+  only_usage = λ is. absurd (cc);
+  made = λ s o c is. absurd (cc);
+  source = λ is. absurd (omega (arith, is));
+  sink = λ is. sink refl;
+  known = omega arith;
+}
+made_stopped r seed objects commands old a b fail.Memory front sink = record {
+  answered = λ bytes known. record { prefix = front; whole = λ le. absurd (omega (arith, le)); complete = λ calm still. inr refl };
+  read = λ le. absurd (omega (arith, le));
+  unread = λ is. (Keeps-refl old.left, refl);
+  usage = λ is. absurd (omega (arith, is));
+  only_usage = λ is. absurd (cc);
+  made = λ s o c is. absurd (cc);
   source = λ is. absurd (omega (arith, is));
   sink = λ is. absurd (omega (arith, is));
   known = omega arith;

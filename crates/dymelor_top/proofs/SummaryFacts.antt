@@ -1,5 +1,5 @@
 -- What objects come to, counted one after another.
-use Rattle.std.proofs.Common.{◌≡◌, ℕ, suc, ◌+◌, ◌<◌, ◌≤◌, true, false, not, cond, List, [], ◌∷◌, length, map, filter, drop, get_or, count_by, sum_by, refl, sym, ap, ◌∙◌, ◌-◌, add-one, add-zero, drop-cons, le_of_eq, Bool, ◌⊎◌, inl, inr, arith, ◌==◌}
+use Rattle.std.proofs.Common.{◌≡◌, ℕ, suc, ◌+◌, ◌<◌, ◌≤◌, true, false, not, cond, List, [], ◌∷◌, length, map, filter, drop, get_or, count_by, sum_by, refl, subst, sym, ap, ◌∙◌, ◌-◌, add-one, add-zero, drop-cons, le_of_eq, Bool, ◌⊎◌, inl, inr, arith, ◌==◌}
 use Rattle.std.specs.Prelude.{nat_le}
 use Rattle.std.specs.List.{AllByRecursion}
 use Rattle.std.specs.FinMap.{len}
@@ -9,13 +9,12 @@ use Rattle.std.proofs.lemmas.List.Sums.{sum_by-cons, length-filter, count_by-le-
 use Rattle.std.proofs.Math.ListN.{drop_of_length-le}
 use Rattle.std.proofs.lemmas.List.{length-map}
 use Rattle.dym_base.specs.Heaps.{Live, HeapState, held}
-use Rattle.dym_base.specs.HeapStep.{IsHeapCommand}
-use Rattle.dym_base.specs.Objects.{ObjectState, object_start, empty_heap, run_replies, run_end, heap_replies, heap_after, slots}
+use Rattle.dym_base.specs.RunLaws.{IsLogList, RunsKeepLogs}
+use Rattle.dym_base.specs.Objects.{LogEntry, ObjectState, object_start, object_step, replies_from, object_after, slots}
 use Rattle.dym_base.specs.declared.command.Version.{Version}
 use Rattle.dym_base.specs.declared.command.Command.{Command}
 use Rattle.dym_base.specs.declared.reply.Reply.{Reply}
-use Rattle.dym_heap.specs.Meaning.{HeapMeaning}
-use Rattle.dym_object.specs.Runs.{HeapCommandsReply, HeapCommandsEnd}
+use Rattle.dym_object.specs.Meaning.{ObjectMeaning, state_of}
 use Rattle.dym_script.specs.declared.script.Line.{Line}
 use Rattle.dym_script.specs.declared.own.Part.{Part}
 use Rattle.dym_script.specs.Scripts.{Said, own}
@@ -24,6 +23,7 @@ use Rattle.dymelor_top.specs.declared.tally.Tally.{Tally}
 use Rattle.dymelor_top.specs.Parts.{own_of, IsRunnable}
 use Rattle.dymelor_top.specs.Report.{Own}
 use Rattle.dymelor_top.proofs.PartFacts.{OwnsFrom}
+use Rattle.dymelor_top.proofs.RunFacts.{Ran}
 use Rattle.dymelor_top.specs.Summary.{is_refusal, tally_of, no_tally, both_tallies, tally_all}
 
 -- ---- the commands of all objects are those of the lines
@@ -124,36 +124,53 @@ count_not (r ∷ rs) =
     one true = refl
     one false = refl
 
+pub at_most_one : (b : Bool) → cond {A = ℕ} b 1 0 ≤ 1
+at_most_one true = omega arith
+at_most_one false = omega arith
+
+pub length_replies : (v : Version) (quota : ℕ) (s : ObjectState) (commands : List Command) → length (replies_from v quota s commands) ≡ length commands
+length_replies v quota s [] = refl
+length_replies v quota s (c ∷ cs) = ap suc (length_replies v quota (object_step v quota s c).object cs)
+
 pub not_refused : (replies : List Reply) (n refused : ℕ) → n ≡ length replies → refused ≡ count_by is_refusal replies → n - refused ≡ count_by (λ r. not (is_refusal r)) replies
 not_refused replies n refused all is = omega (arith, all, is, count_not replies)
 
--- what a run of the heap gave is what the object comes to, and it keeps no log
-tally_is : HeapCommandsReply → HeapCommandsEnd → (v : Version) (o : Own) (replies : List Reply) (live : Live) → AllByRecursion IsHeapCommand o.commands
-    → replies ≡ heap_replies v o.decl.quota empty_heap o.commands → live ≡ (heap_after v o.decl.quota empty_heap o.commands).live
-    → tally_of v o ≡ record { ok = count_by (λ r. not (is_refusal r)) replies; refused = count_by is_refusal replies; chunks = len live; segments = held live; kept = 0; slots = 0 }
-unfolding tally_of
-tally_is replies_are end_is v o replies live all replied left =
-    let answered : run_replies v o.decl.quota o.commands ≡ replies = replies_are v o.decl.quota object_start o.commands all ∙ sym replied in
-    let ends : run_end v o.decl.quota o.commands ≡ record { heap = heap_after v o.decl.quota empty_heap o.commands; logs = [] } = end_is v o.decl.quota object_start o.commands all in
-    let kept : (run_end v o.decl.quota o.commands).heap.live ≡ live = ap (λ (s : ObjectState). s.heap.live) ends ∙ sym left in
-    let none : (run_end v o.decl.quota o.commands).logs ≡ [] = ap (λ (s : ObjectState). s.logs) ends in
-    λ i. record {
-      ok = count_by (λ r. not (is_refusal r)) (answered i);
-      refused = count_by is_refusal (answered i);
-      chunks = len (kept i);
-      segments = held (kept i);
-      kept = length (none i);
-      slots = slots (none i);
-    }
+-- after the first i commands, so many of the replies to them are refusals
+pub record Refusing (start now : ObjectMeaning) (commands : List Command) (i refused : ℕ) : Type 0 where
+  pub replies : List Reply
+  pub ran : Ran start now commands i replies
+  pub counted : refused ≡ count_by is_refusal replies
 
--- the same of a part, by the heap before the run and the heap after it
-pub tally_shown : HeapCommandsReply → HeapCommandsEnd → (part : Part) (start now : HeapMeaning) (commands : List Command) (replies : List Reply) (tally : Tally)
-    → IsRunnable part → commands ≡ part.commands.items → start.quota ≡ part.decl.quota → start.state ≡ empty_heap
-    → replies ≡ heap_replies start.version start.quota start.state commands → now.state ≡ heap_after start.version start.quota start.state commands
-    → tally ≡ record { ok = count_by (λ r. not (is_refusal r)) replies; refused = count_by is_refusal replies; chunks = len now.state.live; segments = held now.state.live; kept = 0; slots = 0 }
-    → tally ≡ tally_of start.version (own_of part)
-tally_shown replies_are end_is part start now commands replies tally can same quota empty replied left is =
-    let v : Version = start.version in
-    let answered : replies ≡ heap_replies v part.decl.quota empty_heap part.commands.items = replied ∙ (λ i. heap_replies v (quota i) (empty i) (same i)) in
-    let kept : now.state.live ≡ (heap_after v part.decl.quota empty_heap part.commands.items).live = ap (λ (s : HeapState). s.live) left ∙ (λ i. (heap_after v (quota i) (empty i) (same i)).live) in
-    is ∙ sym (tally_is replies_are end_is v (own_of part) replies now.state.live (recursion_from_All IsHeapCommand part.commands.items can.heap_commands) answered kept)
+-- what replies and an end come to
+abbrev pub counted : List Reply → ObjectState → Tally
+counted replies s = record {
+  ok = count_by (λ r. not (is_refusal r)) replies;
+  refused = count_by is_refusal replies;
+  chunks = len s.heap.live;
+  segments = held s.heap.live;
+  kept = length s.logs;
+  slots = slots s.logs;
+}
+
+tally_is : (v : Version) (part : Part) → tally_of v (own_of part) ≡ counted (replies_from v part.decl.quota object_start part.commands.items) (object_after v part.decl.quota object_start part.commands.items)
+unfolding tally_of
+tally_is v part = refl
+
+-- few logs are kept, and they take few records
+pub slots_few : (logs : List LogEntry) → IsLogList logs → slots logs ≤ 287
+slots_few [] lawful = omega arith
+slots_few (e ∷ es) lawful = omega (arith, lawful.0, lawful.1.0)
+
+-- along a run the logs are such as an object keeps
+pub log_list : RunsKeepLogs → (start now : ObjectMeaning) (commands : List Command) → state_of start ≡ object_start
+    → state_of now ≡ object_after start.heap.version start.heap.quota (state_of start) commands → IsLogList now.chain.logs
+log_list keep start now commands begun ends =
+    subst (λ (s : ObjectState). IsLogList s.logs) (sym (ends ∙ ap (λ s. object_after start.heap.version start.heap.quota s commands) begun)) (keep start.heap.version start.heap.quota commands)
+
+-- those of a run are what the part comes to
+pub tally_shown : (part : Part) (start : ObjectMeaning) (commands : List Command)
+    → commands ≡ part.commands.items → start.heap.quota ≡ part.decl.quota → state_of start ≡ object_start
+    → counted (replies_from start.heap.version start.heap.quota (state_of start) commands) (object_after start.heap.version start.heap.quota (state_of start) commands) ≡ tally_of start.heap.version (own_of part)
+tally_shown part start commands same quota begun =
+    let v : Version = start.heap.version in
+    (λ i. counted (replies_from v (quota i) (begun i) (same i)) (object_after v (quota i) (begun i) (same i))) ∙ sym (tally_is v part)

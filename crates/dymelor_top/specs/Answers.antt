@@ -64,12 +64,14 @@ usage_answer = record { status = 1; text = usage_text }
 -- the answer that a plan has, for the bytes of its input
 abbrev pub IsAnswer : Plan → List ℕ → Answer → Type 0
 IsAnswer (plan.Read reading) bytes answer = IsRead reading bytes answer
+IsAnswer (plan.ReadMade reading seed objects commands) bytes answer = IsRead reading (generated seed objects commands) answer
 IsAnswer (plan.Make seed objects commands) bytes answer = answer ≡ made_answer seed objects commands
 IsAnswer plan.Usage bytes answer = answer ≡ usage_answer
 
 -- whether a plan reads its source
 abbrev pub reads : Plan → Bool
 reads (plan.Read reading) = true
+reads (plan.ReadMade reading seed objects commands) = false
 reads (plan.Make seed objects commands) = false
 reads plan.Usage = false
 

@@ -7,12 +7,16 @@ use Rattle.dym_words.specs.declared.order.Order.TheVariants.{Plain, Run, Check, 
 use Rattle.dym_words.specs.declared.order.Usage.{Usage}
 use Rattle.dymelor_top.specs.declared.plan.Plan.{Plan}
 use Rattle.dymelor_top.specs.declared.plan.Plan.TheVariants as plan
+use Rattle.dymelor_top.specs.declared.plan.Reading.{Reading}
 use Rattle.dymelor_top.specs.declared.plan.Reading.TheVariants as reading
 
+abbrev pub report_or_summary : Bool → Reading
+report_or_summary true = reading.Summary
+report_or_summary false = reading.Report
+
 abbrev pub plain_plan : Input → Bool → Plan
-plain_plan Script true = plan.Read reading.Summary
-plain_plan Script false = plan.Read reading.Report
-plain_plan (Made seed objects commands) summary = plan.Usage
+plain_plan Script summary = plan.Read (report_or_summary summary)
+plain_plan (Made seed objects commands) summary = plan.ReadMade (report_or_summary summary) seed objects commands
 
 abbrev pub plan_of : Result Order Usage → Plan
 plan_of (Ok (Plain input summary)) = plain_plan input summary

@@ -15,7 +15,7 @@ use dym_base::BadKind;
 use dym_base::limits::MOST_INPUT_BYTES;
 use dym_io::Sink;
 use dym_report::{write_counts, write_error, write_events, write_summary};
-use dym_script::{ScriptFail, read_script};
+use dym_script::{Counts, ScriptFail, count_script, read_script};
 use dym_trace::{TraceAnswer, check_trace};
 use std::alloc::Global;
 
@@ -79,9 +79,9 @@ fn answer_counts<W: Sink>(alloc: Global, bytes: Vec<u8>, sink: &mut W) -> Result
     ensures answered { WritesAnswer (of_script counts_of (script_of bytes.items)) (W.output sink.old) (W.output sink.new) result }
     ensures status { IfOk result (λ status. (status ≡ 0) ⊎ (status ≡ 2)) }
 {
-    match read_script(alloc, &bytes) {
-        Ok(script) => {
-            write_counts(sink, script.objects.len() as u32, script.lines.len() as u32)?;
+    match count_script(alloc, &bytes) {
+        Ok(Counts { objects, commands }) => {
+            write_counts(sink, objects, commands)?;
             Ok(0)
         }
         Err(ScriptFail::Bad { line, kind }) => {

@@ -1,28 +1,31 @@
 //! The order `plain`: one object after another, each part written as its object ends.
-ghost use Rattle.std.specs.Prelude.{◌≡◌, ◌≤◌, ◌^◌, length, flat_map, IfOk, OnOk, All};
-ghost use Rattle.dym_base.specs.Objects.{empty_heap, heap_replies, heap_after};
-ghost use Rattle.dym_heap.specs.Meaning.{IsSound};
+ghost use Rattle.std.specs.Prelude.{◌≡◌, ◌+◌, ◌≤◌, ◌^◌, length, flat_map, IfOk, OnOk, All};
+ghost use Rattle.dym_base.specs.Objects.{object_start, replies_from, object_after};
 ghost use Rattle.dym_io.specs.Sink.{Output, WritesOr};
-ghost use Rattle.dym_base.specs.HeapStep.{IsHeapCommand};
-ghost use Rattle.dym_script.specs.Scripts.{Said, said};
+ghost use Rattle.dym_object.specs.Meaning.{state_of};
+ghost use Rattle.dym_report.specs.Replies.{reply_line};
+ghost use Rattle.dym_script.specs.Scripts.{said};
 ghost use Rattle.dym_script.specs.Answers.{IsLawful};
 ghost use Rattle.dymelor_top.specs.Parts.{IsRunnable, own_of};
-ghost use Rattle.dymelor_top.specs.Report.{Own, part_text, report_text};
+ghost use Rattle.dymelor_top.specs.Report.{part_text, report_text};
 ghost use Rattle.dymelor_top.specs.declared.stop.WriteFail.TheVariants.{Sink as SinkFailed};
 
 use crate::stop::WriteFail;
 use dym_base::{Command, Reply, Version};
+use dym_chain::VecKeep;
 use dym_io::Sink;
-use dym_object::{Object, laws};
+use dym_object::Object;
 use dym_quota::OwnSupply;
-use dym_report::{write_end, write_object};
+use dym_report::{write_end, write_heading, write_replies, write_state};
 use dym_script::{Part, Script, apart};
 use std::alloc::{AllocError, Global};
+
+/// How many commands are run before their replies are written.
+const BATCH: usize = 1_024;
 
 /// Writes the report of a script, one object after another.
 pub fn write_report<W: Sink>(alloc: Global, script: Script, sink: &mut W) -> Result<(), WriteFail>
     requires lawful { IsLawful (said script) }
-    requires heap_commands { All (λ line. IsHeapCommand line.command) script.lines.items }
     ensures { WritesOr (λ fail. fail ≡ SinkFailed) (W.output sink.old) (W.output sink.new) (report_text (said script)) result }
 {
     let version = script.version;
@@ -64,62 +67,82 @@ fn write_part<W: Sink>(
     written
 }
 
-/// An object with an empty heap, whose segments are its own.
+/// An object with an empty heap and no log, whose segments and records are its own.
 pub fn open_object(
     alloc: Global,
     version: Version,
     quota: u32,
-) -> Result<Object<OwnSupply>, AllocError>
+) -> Result<Object<OwnSupply, VecKeep>, AllocError>
     requires least { 1 ≤ quota }
     requires most { quota ≤ 1024 }
     ensures version { IfOk result (λ o. o.heap.version ≡ version) }
     ensures quota { IfOk result (λ o. o.heap.quota ≡ quota) }
-    ensures empty { IfOk result (λ o. o.heap.state ≡ empty_heap) }
+    ensures start { IfOk result (λ o. state_of o ≡ object_start) }
     ensures ran { IfOk result (λ o. o.ran ≡ 0) }
-    ensures sound { IfOk result (λ o. IsSound o.heap) }
 {
     let supply = OwnSupply::open(alloc, quota)?;
-    match Object::open_as(alloc, supply, version) {
+    let keep = VecKeep::open(alloc)?;
+    match Object::open_as(alloc, supply, keep, version) {
         Ok(object) => Ok(object),
-        Err((error, _)) => Err(error),
+        Err((error, _, _)) => Err(error),
     }
 }
 
 /// Runs the commands of an object that was just opened, and writes its part.
 fn write_run<W: Sink>(
     alloc: Global,
-    object: &mut Object<OwnSupply>,
+    object: &mut Object<OwnSupply, VecKeep>,
     part: &Part,
     sink: &mut W,
 ) -> Result<(), WriteFail>
     requires runnable { IsRunnable part.now }
-    requires sound { IsSound object.old.heap }
     requires quota { object.old.heap.quota ≡ part.now.decl.quota }
-    requires empty { object.old.heap.state ≡ empty_heap }
+    requires start { state_of object.old ≡ object_start }
     requires ran { object.old.ran ≡ 0 }
     ensures { WritesOr (λ fail. fail ≡ SinkFailed) (W.output sink.old) (W.output sink.new) (part_text object.old.heap.version (own_of part.now)) result }
 {
-    laws::heap_runs();
-    let replies = run(alloc, object, &part.commands)?;
-    write_object(sink, &part.decl.name, &replies, object.heap(), 0, 0)?;
+    write_heading(sink, &part.decl.name)?;
+    run_and_write(alloc, object, &part.commands, sink)?;
+    write_state(sink, object.heap(), object.kept(), object.slots())?;
     Ok(())
 }
 
-/// The replies to the commands of an object that ran none yet, which are commands to its heap.
-pub fn run(
+/// Runs commands, and writes their replies, some at a time.
+fn run_and_write<W: Sink>(
     alloc: Global,
-    object: &mut Object<OwnSupply>,
+    object: &mut Object<OwnSupply, VecKeep>,
     commands: &[Command],
-) -> Result<Vec<Reply>, AllocError>
-    requires heap_commands { All IsHeapCommand commands.now }
+    sink: &mut W,
+) -> Result<(), WriteFail>
     requires few { length commands.now ≤ 2 ^ 20 }
     requires ran { object.old.ran ≡ 0 }
-    requires sound { IsSound object.old.heap }
-    ensures replies { IfOk result (λ replies. replies.items ≡ heap_replies object.old.heap.version object.old.heap.quota object.old.heap.state commands.now) }
-    ensures count { IfOk result (λ replies. length replies.items ≡ length commands.now) }
-    ensures heap { OnOk result (object.new.heap.state ≡ heap_after object.old.heap.version object.old.heap.quota object.old.heap.state commands.now) }
+    ensures replies { WritesOr (λ fail. fail ≡ SinkFailed) (W.output sink.old) (W.output sink.new)
+        (flat_map reply_line (replies_from object.old.heap.version object.old.heap.quota (state_of object.old) commands.now)) result }
+    ensures state { OnOk result (state_of object.new ≡ object_after object.old.heap.version object.old.heap.quota (state_of object.old) commands.now) }
     ensures version { OnOk result (object.new.heap.version ≡ object.old.heap.version) }
-    ensures sound { OnOk result (IsSound object.new.heap) }
+{
+    let mut rest = commands;
+    while !rest.is_empty() {
+        let (batch, after) = rest.split_at(rest.len().min(BATCH));
+        let replies = run(alloc, object, batch)?;
+        write_replies(sink, &replies)?;
+        rest = after;
+    }
+    Ok(())
+}
+
+/// The replies to commands.
+fn run(
+    alloc: Global,
+    object: &mut Object<OwnSupply, VecKeep>,
+    commands: &[Command],
+) -> Result<Vec<Reply>, AllocError>
+    requires few { object.old.ran + length commands.now ≤ 2 ^ 20 }
+    ensures replies { IfOk result (λ replies. replies.items ≡ replies_from object.old.heap.version object.old.heap.quota (state_of object.old) commands.now) }
+    ensures state { OnOk result (state_of object.new ≡ object_after object.old.heap.version object.old.heap.quota (state_of object.old) commands.now) }
+    ensures version { OnOk result (object.new.heap.version ≡ object.old.heap.version) }
+    ensures quota { OnOk result (object.new.heap.quota ≡ object.old.heap.quota) }
+    ensures ran { OnOk result (object.new.ran ≡ object.old.ran + length commands.now) }
 {
     let mut replies = Vec::with_capacity(alloc, commands.len())?;
     for command in commands {

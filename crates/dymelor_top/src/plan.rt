@@ -22,6 +22,13 @@ pub enum Reading {
 pub enum Plan {
     /// Read the source, and write what is made of it.
     Read(Reading),
+    /// Write what is made of the script that the generator makes of these numbers. Nothing is read.
+    ReadMade {
+        reading: Reading,
+        seed: u64,
+        objects: u32,
+        commands: u32,
+    },
     /// Write the script that the generator makes of these numbers.
     Make {
         seed: u64,
@@ -63,9 +70,22 @@ pub fn plan_for(order: &Result<Order, Usage>) -> Plan
 fn plan_for_plain(input: &Input, summary: bool) -> Plan
     ensures { result ≡ plain_plan input.now summary }
 {
+    let reading = if summary {
+        Reading::Summary
+    } else {
+        Reading::Report
+    };
     match input {
-        Input::Script if summary => Plan::Read(Reading::Summary),
-        Input::Script => Plan::Read(Reading::Report),
-        Input::Made { .. } => Plan::Usage,
+        Input::Script => Plan::Read(reading),
+        Input::Made {
+            seed,
+            objects,
+            commands,
+        } => Plan::ReadMade {
+            reading,
+            seed: *seed,
+            objects: *objects,
+            commands: *commands,
+        },
     }
 }

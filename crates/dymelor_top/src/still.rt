@@ -4,6 +4,7 @@ ghost use Rattle.dym_base.specs.declared.limits.TheConstants.{MOST_OBJECTS, MOST
 ghost use Rattle.dym_io.specs.Faults.{Rose};
 ghost use Rattle.std.specs.Io.KnownBytes.{Keeps};
 ghost use Rattle.dym_io.specs.Sink.{Output, AllFlushed};
+ghost use Rattle.dym_gen.specs.Scripts.{generated};
 ghost use Rattle.dym_words.specs.Orders.{order};
 ghost use Rattle.dymelor_top.specs.Answers.{made_answer, usage_answer, IsRead};
 ghost use Rattle.dymelor_top.specs.Headline.{Headline, Serves};
@@ -15,10 +16,13 @@ use crate::plan::{Plan, Reading, plan_for};
 use crate::stop::{Stop, WriteFail};
 use dym_base::limits::MOST_INPUT_BYTES;
 use dym_gen::gen_script;
-use dym_io::{ReadFail, Sink, Source, read_whole};
+use dym_io::{MemSink, ReadFail, Sink, Source, read_whole};
 use dym_report::write_usage;
 use dym_words::read_words;
-use std::alloc::Global;
+use std::alloc::{AllocError, Global};
+
+/// The bytes of room that the longest made script fits in.
+const MADE_ROOM: usize = 6_600_000;
 
 /// Serves the words of a command line that start no thread, and answers the status: 0 and the whole answer, 1 for words of
 /// no order, 2 and the line of the first fault of a bad script, 3 and 4 where the source or the sink failed, 5 where memory
@@ -37,6 +41,15 @@ pub fn dymelor_still<R: Source, W: Sink>(
         Plan::Read(reading) => match serve_read(alloc, reading, source, sink) {
             Ok(status) => status,
             Err(stop) => stop.status(),
+        },
+        Plan::ReadMade {
+            reading,
+            seed,
+            objects,
+            commands,
+        } => match serve_read_made(alloc, reading, seed, objects, commands, sink) {
+            Ok(status) => status,
+            Err(fail) => Stop::from(fail).status(),
         },
         Plan::Make {
             seed,
@@ -79,6 +92,42 @@ fn serve_made<W: Sink>(
     gen_script(sink, seed, objects, commands)?;
     flush(sink)?;
     Ok(0)
+}
+
+/// Writes what is made of the script that a seed makes.
+fn serve_read_made<W: Sink>(
+    alloc: Global,
+    reading: Reading,
+    seed: u64,
+    objects: u32,
+    commands: u32,
+    sink: &mut W,
+) -> Result<u8, WriteFail>
+    requires some { 0 < objects }
+    requires objects { objects ≤ MOST_OBJECTS }
+    requires commands { commands ≤ MOST_MADE_COMMANDS }
+    ensures served { Serves (IsRead reading (generated seed objects commands)) (W.output sink.old) (W.output sink.new) result }
+    ensures status { IfOk result (λ status. (status ≡ 0) ⊎ (status ≡ 2)) }
+    ensures fault { IsErrOf result SinkFailed → Rose (W.output sink.old).faults (W.output sink.new).faults }
+{
+    let made = made_script(alloc, seed, objects, commands)?;
+    let status = answer(alloc, reading, made, sink)?;
+    flush(sink)?;
+    Ok(status)
+}
+
+/// The script that a seed makes. A sink of this room takes the longest one.
+fn made_script(alloc: Global, seed: u64, objects: u32, commands: u32) -> Result<Vec<u8>, AllocError>
+    requires some { 0 < objects }
+    requires objects { objects ≤ MOST_OBJECTS }
+    requires commands { commands ≤ MOST_MADE_COMMANDS }
+    ensures { IfOk result (λ made. made.items ≡ generated seed objects commands) }
+{
+    let mut made = MemSink::new(alloc, MADE_ROOM, MADE_ROOM, Vec::new(alloc))?;
+    match gen_script(&mut made, seed, objects, commands) {
+        Ok(()) => Vec::from_slice(alloc, made.bytes()),
+        Err(_) => Err(AllocError),
+    }
 }
 
 /// Reads the source, and writes what is made of it.

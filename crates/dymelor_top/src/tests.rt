@@ -253,6 +253,127 @@ fn answers_worked_rows(rt: HostRuntime) -> Result<(), Fail> {
 }
 
 #[test]
+fn answers_scripts_with_logs(rt: HostRuntime) -> Result<(), Fail> {
+    let plain = ["plain"].as_slice();
+    let summary = ["plain", "--summary"].as_slice();
+    let rows: [(&[&str], &str, u8, &str); 10] = [
+        (
+            plain,
+            "object a 1\na malloc 40\na log 10\na write 64:0 0 2a\na ilog 20\na ilog 30\n",
+            0,
+            "object a\nok 64:0\nok full 210\nok\nok inc 338\nok inc 274\nheap 1 1\n64:0 2a\nlogs 3 3\nend\n",
+        ),
+        (
+            plain,
+            "object a 1\na malloc 40\na log 10\na write 64:0 0 2a\na ilog 20\na ilog 30\na restore 25\na ilog 26\na restore 5\na prune 5\na prune 22\na restore 15\na logs\n",
+            0,
+            "object a\nok 64:0\nok full 210\nok\nok inc 338\nok inc 274\nok 20\nok inc 274\nnolog\nok 0\nok 1\nnolog\nok 2 3\nheap 1 1\n64:0 2a\nlogs 2 3\nend\n",
+        ),
+        (
+            plain,
+            "object a 1\na malloc 64\na write 64:0 0 07\na log 10\na free 64:0\na malloc 64\na ilog 20\na restore 20\na read 64:0 0 1\na restore 10\na read 64:0 0 1\n",
+            0,
+            "object a\nok 64:0\nok\nok full 210\nok\nok 64:0\nok inc 338\nok 20\nok 00\nok 10\nok 07\nheap 1 1\n64:0 07\nlogs 1 1\nend\n",
+        ),
+        (
+            plain,
+            "object a 1\na malloc 65536\na fill 65536:0 0 65536 1\na sum 65536:0\na log 1\na ilog 2\na fill 65536:0 65535 1 255\na sum 65536:0\na ilog 3\na restore 2\na sum 65536:0\na free 65536:0\n",
+            0,
+            "object a\nok 65536:0\nok\nok 65536\nok full 65555\nok inc 20\nok\nok 65790\nok inc 65556\nok 2\nok 65536\nok\nheap 0 0\nlogs 2 2\nend\n",
+        ),
+        (
+            plain,
+            "object a 3\na malloc 65536\na malloc 65536\na malloc 65536\na free 65536:1\na malloc 32\na log 1\na free 65536:2\na malloc 32\na restore 1\n",
+            0,
+            "object a\nok 65536:0\nok 65536:1\nok 65536:2\nok\nquota\nok full 131103\nok\nok 32:0\nok 1\nheap 2 3\n65536:0 -\n65536:2 -\nlogs 1 1\nend\n",
+        ),
+        (
+            plain,
+            "version 2\nobject a 1\na malloc 40\na write 64:0 1 aa\na write 64:0 39 aabb\na log 1\na realloc 64:0 50\na ilog 2\na restore 1\na sum 64:0\n",
+            0,
+            "object a\nok 64:0\nok\nrange\nok full 190\nok 64:0\nok inc 328\nok 1\nok 170\nheap 1 1\n64:0 40 00aa\nlogs 1 1\nend\n",
+        ),
+        (
+            plain,
+            "object a 2\nobject b 2\nobject c 2\na malloc 65536\nb malloc 32\nc malloc 64\na malloc 1\nb malloc 65536\nc log 1\na log 5\nc free 64:0\na free 32:0\nc restore 1\nb malloc 128\na restore 9\n",
+            0,
+            "object a\nok 65536:0\nok 32:0\nok full 65848\nok\nok 5\nheap 2 2\n32:0 -\n65536:0 -\nlogs 1 1\nobject b\nok 32:0\nok 65536:0\nquota\nheap 2 2\n32:0 -\n65536:0 -\nlogs 0 0\nobject c\nok 64:0\nok full 210\nok\nok 1\nheap 1 1\n64:0 -\nlogs 1 1\nend\n",
+        ),
+        (
+            summary,
+            "object a 1\na malloc 40\na log 10\na write 64:0 0 2a\na ilog 20\na ilog 30\na restore 25\na ilog 26\na restore 5\na prune 5\na prune 22\na restore 15\na logs\n",
+            0,
+            "summary objects 1 commands 12 ok 10 refused 2 chunks 1 segments 1 kept 2 slots 3\n",
+        ),
+        (
+            &["plain", "--gen", "7", "1", "4", "--summary"],
+            "object a 1\n",
+            0,
+            "summary objects 1 commands 4 ok 2 refused 2 chunks 1 segments 1 kept 1 slots 1\n",
+        ),
+        (
+            &["plain", "--gen", "7", "1", "4"],
+            "object a 1\n",
+            0,
+            "object o0\nok 64:0\nquota\nok full 210\ndead\nheap 1 1\n64:0 -\nlogs 1 1\nend\n",
+        ),
+    ];
+    for (words, input, status, text) in rows {
+        let (found, bytes) = served(rt.alloc(), words, input.as_bytes(), WHOLE, WHOLE)?;
+        assert_eq!(rt; found, status, "of {input}");
+        assert_eq!(rt; bytes.as_slice(), text.as_bytes(), "of {input}");
+    }
+    Ok(())
+}
+
+/// A line about logs for each time from `from` on and below `until`.
+fn logs(alloc: Global, word: &str, from: u32, until: u32) -> Result<String, Fail> {
+    let mut lines = String::new(alloc);
+    for time in from..until {
+        write!(lines, "a {word} {time}\n")?;
+    }
+    Ok(lines)
+}
+
+/// A line so many times.
+fn repeated(alloc: Global, line: &str, count: u32) -> Result<String, Fail> {
+    let mut lines = String::new(alloc);
+    for _ in 0..count {
+        lines.push_str(line)?;
+    }
+    Ok(lines)
+}
+
+#[test]
+fn keeps_256_logs(rt: HostRuntime) -> Result<(), Fail> {
+    let alloc = rt.alloc();
+    let mut input = String::from_str(alloc, "object a 1\n")?;
+    input.push_str(&logs(alloc, "log", 1, 257)?)?;
+    input.push_str("a log 257\na log 256\na prune 256\na log 257\n")?;
+    let mut text = String::from_str(alloc, "object a\n")?;
+    text.push_str(&repeated(alloc, "ok full 13\n", 256)?)?;
+    text.push_str("logsfull\nnotafter 256\nok 255\nok full 13\nheap 0 0\nlogs 2 2\nend\n")?;
+    let (status, bytes) = served(alloc, &["plain"], input.as_bytes(), WHOLE, WHOLE)?;
+    assert_eq!(rt; status, 0);
+    assert_eq!(rt; bytes.as_slice(), text.as_bytes());
+    Ok(())
+}
+
+#[test]
+fn logs_31_on_a_full_one(rt: HostRuntime) -> Result<(), Fail> {
+    let alloc = rt.alloc();
+    let mut input = String::from_str(alloc, "object a 1\na log 1\n")?;
+    input.push_str(&logs(alloc, "ilog", 2, 34)?)?;
+    let mut text = String::from_str(alloc, "object a\nok full 13\n")?;
+    text.push_str(&repeated(alloc, "ok inc 13\n", 31)?)?;
+    text.push_str("ok full 13\nheap 0 0\nlogs 33 33\nend\n")?;
+    let (status, bytes) = served(alloc, &["plain"], input.as_bytes(), WHOLE, WHOLE)?;
+    assert_eq!(rt; status, 0);
+    assert_eq!(rt; bytes.as_slice(), text.as_bytes());
+    Ok(())
+}
+
+#[test]
 fn answers_counts_and_traces(rt: HostRuntime) -> Result<(), Fail> {
     let check = ["check"].as_slice();
     let trace = ["trace"].as_slice();

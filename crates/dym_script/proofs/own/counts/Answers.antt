@@ -1,5 +1,5 @@
 use Rattle.std.proofs.Common.{◌<◌, arith, length-set, ◌∙◌}
-use Rattle.dym_script.proofs.Counts.{counted_more, count_small, line_below}
+use Rattle.dym_script.proofs.Tallies.{counted_more, count_small, line_below}
 use Rattle.dym_script.proofs.own.counts.Goals as goal
 
 pub overflow_add-index_mut : goal.overflow_add-index_mut

@@ -1,5 +1,6 @@
 use Rattle.std.proofs.Common.{◌≡◌, ◌+◌, ◌≤◌, length}
 use Rattle.dym_script.specs.Lines.{lines_of}
+use Rattle.dym_script.specs.Answers.{IsLawful}
 use Rattle.dym_script.specs.Scripts.{read_lines, start}
 use Rattle.dym_script.specs.Readers.{IsKept, seen}
 use Rattle.dym_script.proofs.read.read_script.Given as goal
@@ -7,8 +8,9 @@ use Rattle.dym_script.proofs.read.read_script.Given as goal
 abbrev pub invariant-loop-line : goal.invariant-loop-line
 invariant-loop-line l = record {
   kept : IsKept l.reader;
+  lawful : IsLawful (seen l.reader l.lines.items).said;
   short : l.number + length l.rest ≤ length l.bytes;
-  read : read_lines (seen l.reader) (l.number + 1) (lines_of l.rest) ≡ read_lines start 1 (lines_of l.bytes);
+  read : read_lines (seen l.reader l.lines.items) (l.number + 1) (lines_of l.rest) ≡ read_lines start 1 (lines_of l.bytes);
 }
 
 abbrev pub decreases-loop-line : goal.decreases-loop-line

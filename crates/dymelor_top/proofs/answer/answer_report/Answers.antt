@@ -7,12 +7,7 @@ use Rattle.dym_script.specs.Answers.{Gives}
 use Rattle.dym_script.specs.Scripts.{Said, Fault, said, script_of}
 use Rattle.dymelor_top.specs.Report.{report_text}
 use Rattle.dymelor_top.specs.Answers.{of_script}
-use Rattle.dym_script.proofs.HeapCommands.{are_heap_commands}
 use Rattle.dymelor_top.proofs.answer.answer_report.Goals as goal
-
-pub write_report-requires-clause-heap_commands : goal.write_report-requires-clause-heap_commands
-write_report-requires-clause-heap_commands g c =
-    are_heap_commands c.deref.result.now (said c.in-Ok.script) c.in-Ok.ensures.read
 
 pub returns-in-Err-Bad-clause-answered : goal.returns-in-Err-Bad-clause-answered
 returns-in-Err-Bad-clause-answered g c =

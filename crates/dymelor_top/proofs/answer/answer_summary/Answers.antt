@@ -7,12 +7,7 @@ use Rattle.dym_script.specs.Answers.{Gives}
 use Rattle.dym_script.specs.Scripts.{Said, Fault, said, script_of}
 use Rattle.dymelor_top.specs.Summary.{summary_of}
 use Rattle.dymelor_top.specs.Answers.{of_script}
-use Rattle.dym_script.proofs.HeapCommands.{are_heap_commands}
 use Rattle.dymelor_top.proofs.answer.answer_summary.Goals as goal
-
-pub total-requires-clause-heap_commands : goal.total-requires-clause-heap_commands
-total-requires-clause-heap_commands g c =
-    are_heap_commands c.deref.result.now (said c.in-Ok.script) c.in-Ok.ensures.read
 
 pub returns-in-Err-Bad-clause-answered : goal.returns-in-Err-Bad-clause-answered
 returns-in-Err-Bad-clause-answered g c =

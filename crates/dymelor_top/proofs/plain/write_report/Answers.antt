@@ -14,7 +14,7 @@ use Rattle.dymelor_top.proofs.plain.write_report.Goals as goal
 pub write_parts-requires : goal.write_parts-requires
 write_parts-requires g c =
     subst (All IsRunnable) (sym c.deref.ensures.value)
-    (parts_run (said c.args.script) c.in_ok-parts.parts.items c.in_ok-parts.ensures.decls c.in_ok-parts.ensures.commands c.requires.lawful c.requires.heap_commands)
+    (parts_run (said c.args.script) c.in_ok-parts.parts.items c.in_ok-parts.ensures.decls c.in_ok-parts.ensures.commands c.requires.lawful)
 
 pub returns-in_err-write_parts : goal.returns-in_err-write_parts
 returns-in_err-write_parts g c =

@@ -1,11 +1,11 @@
 use Rattle.std.proofs.Common.{◌≡◌, map, string_bytes, subst, sym, ap, ◌∙◌, Err}
 use Rattle.dym_words.proofs.Within.{orders_are_within}
 use Rattle.dymelor_top.specs.declared.plan.Plan.TheVariants as plan
-use Rattle.dymelor_top.specs.Stops.{stop_status}
+use Rattle.dymelor_top.specs.Stops.{stop_status, of_write}
 use Rattle.dymelor_top.specs.Plans.{plan_of}
 use Rattle.dymelor_top.specs.Headline.{Input, PlanHeadline}
-use Rattle.dymelor_top.proofs.MadePlans.{can_be_made}
-use Rattle.dymelor_top.proofs.Served.{read_whole, read_stopped}
+use Rattle.dymelor_top.proofs.MadePlans.{can_be_made, can_be_read}
+use Rattle.dymelor_top.proofs.Served.{read_whole, read_stopped, made_whole, made_stopped}
 use Rattle.dymelor_top.proofs.still.dymelor_still.Goals as goal
 
 pub returns-in-Ok : goal.returns-in-Ok
@@ -40,3 +40,37 @@ serve_made-requires-clause-objects g c =
 pub serve_made-requires-clause-commands : goal.serve_made-requires-clause-commands
 serve_made-requires-clause-commands g c =
     (can_be_made _ c.in-Make.seed c.in-Make.objects c.in-Make.commands (orders_are_within (map string_bytes c.args.words.now)) (sym c.in-Make.is ∙ c.plan_for.ensures ∙ ap plan_of c.read_words.ensures)).commands_fit
+
+pub serve_read_made-requires-clause-some : goal.serve_read_made-requires-clause-some
+serve_read_made-requires-clause-some g c =
+    (can_be_read _ c.in-ReadMade.reading c.in-ReadMade.seed c.in-ReadMade.objects c.in-ReadMade.commands (orders_are_within (map string_bytes c.args.words.now)) (sym c.in-ReadMade.is ∙ c.plan_for.ensures ∙ ap plan_of c.read_words.ensures)).some
+
+pub serve_read_made-requires-clause-objects : goal.serve_read_made-requires-clause-objects
+serve_read_made-requires-clause-objects g c =
+    (can_be_read _ c.in-ReadMade.reading c.in-ReadMade.seed c.in-ReadMade.objects c.in-ReadMade.commands (orders_are_within (map string_bytes c.args.words.now)) (sym c.in-ReadMade.is ∙ c.plan_for.ensures ∙ ap plan_of c.read_words.ensures)).objects_fit
+
+pub serve_read_made-requires-clause-commands : goal.serve_read_made-requires-clause-commands
+serve_read_made-requires-clause-commands g c =
+    (can_be_read _ c.in-ReadMade.reading c.in-ReadMade.seed c.in-ReadMade.objects c.in-ReadMade.commands (orders_are_within (map string_bytes c.args.words.now)) (sym c.in-ReadMade.is ∙ c.plan_for.ensures ∙ ap plan_of c.read_words.ensures)).commands_fit
+
+pub returns-in-Ok-serve_read_made : goal.returns-in-Ok-serve_read_made
+returns-in-Ok-serve_read_made g c =
+    let old : Input = record { left = g.R.Source.left c.args.source.now; faults = g.R.Source.faults c.args.source.now } in
+    let a = g.W.Sink.output c.args.sink.now in
+    let b = g.W.Sink.output c.serve_read_made.new.sink in
+    let made = c.in-ReadMade in
+    let planned : plan.ReadMade made.reading made.seed made.objects made.commands ≡ plan_of _ = sym made.is ∙ c.plan_for.ensures ∙ ap plan_of c.read_words.ensures in
+    let ok = c.in-Ok-serve_read_made in
+    subst (λ p. PlanHeadline p old old a b ok.status) planned (made_whole made.reading made.seed made.objects made.commands old a b ok.status ok.ensures.served ok.ensures.status)
+
+pub returns-in-Err-serve_read_made : goal.returns-in-Err-serve_read_made
+returns-in-Err-serve_read_made g c =
+    let old : Input = record { left = g.R.Source.left c.args.source.now; faults = g.R.Source.faults c.args.source.now } in
+    let a = g.W.Sink.output c.args.sink.now in
+    let b = g.W.Sink.output c.serve_read_made.new.sink in
+    let made = c.in-ReadMade in
+    let planned : plan.ReadMade made.reading made.seed made.objects made.commands ≡ plan_of _ = sym made.is ∙ c.plan_for.ensures ∙ ap plan_of c.read_words.ensures in
+    let headline : PlanHeadline (plan.ReadMade made.reading made.seed made.objects made.commands) old old a b (stop_status (of_write c.in-Err-serve_read_made.fail)) =
+    made_stopped made.reading made.seed made.objects made.commands old a b c.in-Err-serve_read_made.fail c.in-Err-serve_read_made.ensures.served (λ is. c.in-Err-serve_read_made.ensures.fault (ap Err is)) in
+    subst (λ p. PlanHeadline p old old a b c.status-in-Err-serve_read_made.result) planned
+    (subst (PlanHeadline (plan.ReadMade made.reading made.seed made.objects made.commands) old old a b) (sym (c.status-in-Err-serve_read_made.ensures ∙ ap stop_status c.from.ensures)) headline)

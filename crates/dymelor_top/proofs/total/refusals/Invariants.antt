@@ -1,9 +1,10 @@
-use Rattle.std.proofs.Common.{◌≡◌, ◌≤◌, take, count_by}
-use Rattle.dymelor_top.specs.Summary.{is_refusal}
+use Rattle.std.proofs.Common.{◌≡◌, ◌≤◌}
+use Rattle.dymelor_top.proofs.SummaryFacts.{Refusing}
 use Rattle.dymelor_top.proofs.total.refusals.Given as goal
 
-abbrev pub invariant-loop-reply : goal.invariant-loop-reply
-invariant-loop-reply l = record {
-  counted : l.refused ≡ count_by is_refusal (take l.reply-index l.replies);
-  within : l.refused ≤ l.reply-index;
+abbrev pub invariant-loop-command : goal.invariant-loop-command
+invariant-loop-command l = record {
+  refusing : Refusing l.initial.object l.object l.commands l.command-index l.refused;
+  within : l.refused ≤ l.command-index;
+  count : l.object.ran ≡ l.command-index;
 }

@@ -15,7 +15,7 @@ use Rattle.dymelor_top.proofs.total.total.Goals as goal
 pub tally_parts-requires-clause-runnable : goal.tally_parts-requires-clause-runnable
 tally_parts-requires-clause-runnable c =
     subst (All IsRunnable) (sym c.deref.ensures.value)
-    (parts_run (said c.args.script) c.in_ok-parts.parts.items c.in_ok-parts.ensures.decls c.in_ok-parts.ensures.commands c.requires.lawful c.requires.heap_commands)
+    (parts_run (said c.args.script) c.in_ok-parts.parts.items c.in_ok-parts.ensures.decls c.in_ok-parts.ensures.commands c.requires.lawful)
 
 pub tally_parts-requires-clause-commands : goal.tally_parts-requires-clause-commands
 tally_parts-requires-clause-commands c =

@@ -1,28 +1,44 @@
-use Rattle.std.proofs.Common.{◌≡◌, ◌*◌, ◌<◌, ap, arith}
+use Rattle.std.proofs.Common.{◌≡◌, ℕ, ◌*◌, ◌<◌, length, ap, sym, subst, rules, arith}
 use Rattle.dym_base.specs.Numbers.{size, per}
+use Rattle.dym_area.specs.Area.{AreaMeaning}
+use Rattle.dym_bits.specs.Bits.{IsSet}
 use Rattle.dym_area.proofs.Classes.{per_small, chunk_fits}
+use Rattle.dym_area.proofs.Taken.{set_below}
 use Rattle.dym_area.proofs.chunks.Area.take_first.Goals as goal
-
-pub first_clear-requires : goal.first_clear-requires
-first_clear-requires g c =
-    omega (arith, per_small c.self.inside.exp c.self.invariant.least)
 
 pub set-requires : goal.set-requires
 set-requires g c =
-    omega (arith, per_small c.self.inside.exp c.self.invariant.least, c.in_ok-i.ensures.below)
+    let same : per c.self.inside.exp ≡ per c.args.self.now.exponent = ap (λ (a : AreaMeaning). per a.exponent) c.self.view_is in
+    omega (arith, same, per_small c.self.inside.exp c.self.invariant.lawful.least, c.in_ok-i.ensures.below)
 
 pub set-requires-2 : goal.set-requires-2
 set-requires-2 g c =
-    omega (arith, per_small c.self.inside.exp c.self.invariant.least, c.in_ok-i.ensures.below)
+    let same : per c.self.inside.exp ≡ per c.args.self.now.exponent = ap (λ (a : AreaMeaning). per a.exponent) c.self.view_is in
+    omega (arith, same, per_small c.self.inside.exp c.self.invariant.lawful.least, c.in_ok-i.ensures.below)
 
 pub overflow_mul-i : goal.overflow_mul-i
 overflow_mul-i g c =
     let start : c.in_ok-i.i * c.size_of_class-size.result ≡ c.in_ok-i.i * size c.self.inside.exp = ap (λ s. c.in_ok-i.i * s) c.size_of_class-size.ensures in
-    let within : c.in_ok-i.i < per c.self.inside.exp = omega (arith, c.in_ok-i.ensures.below) in
-    omega (arith, chunk_fits c.self.inside.exp c.in_ok-i.i c.self.invariant.greatest within)
+    let same : per c.self.inside.exp ≡ per c.args.self.now.exponent = ap (λ (a : AreaMeaning). per a.exponent) c.self.view_is in
+    let within : c.in_ok-i.i < per c.self.inside.exp = omega (arith, same, c.in_ok-i.ensures.below) in
+    omega (arith, chunk_fits c.self.inside.exp c.in_ok-i.i c.self.invariant.lawful.greatest within)
 
 pub zero-requires : goal.zero-requires
 zero-requires g c =
     let start : c.in_ok-i.i * c.size_of_class-size.result ≡ c.in_ok-i.i * size c.self.inside.exp = ap (λ s. c.in_ok-i.i * s) c.size_of_class-size.ensures in
-    let within : c.in_ok-i.i < per c.self.inside.exp = omega (arith, c.in_ok-i.ensures.below) in
-    omega (arith, chunk_fits c.self.inside.exp c.in_ok-i.i c.self.invariant.greatest within)
+    let same : per c.self.inside.exp ≡ per c.args.self.now.exponent = ap (λ (a : AreaMeaning). per a.exponent) c.self.view_is in
+    let within : c.in_ok-i.i < per c.self.inside.exp = omega (arith, same, c.in_ok-i.ensures.below) in
+    omega (arith, chunk_fits c.self.inside.exp c.in_ok-i.i c.self.invariant.lawful.greatest within)
+
+pub invariant_of-self : goal.invariant_of-self
+invariant_of-self g c =
+    let i = c.in_ok-i.i in
+    let below : (k : ℕ) → k < i → IsSet c.self.inside.used k = λ k lt. subst (λ (a : AreaMeaning). IsSet a.used k) (sym c.self.view_is) (c.in_ok-i.ensures.least k lt) in
+    let same : per c.self.inside.exp ≡ per c.args.self.now.exponent = ap (λ (a : AreaMeaning). per a.exponent) c.self.view_is in
+    let small = per_small c.self.inside.exp c.self.invariant.lawful.least in
+    let within : i < length c.self.inside.used = omega (arith, same, small, c.in_ok-i.ensures.below, c.self.invariant.lawful.used_len) in
+    record {
+      lawful = search rules;
+      full = λ k under. subst (λ bits. IsSet bits k) (sym c.set.ensures.after) (set_below c.self.inside.used i within below k under);
+      within = omega (arith, same, small, c.in_ok-i.ensures.below);
+    }

@@ -1,6 +1,6 @@
-use Rattle.std.proofs.Common.{◌≡◌, ◌∙◌, length, Some, ap, rules}
+use Rattle.std.proofs.Common.{◌≡◌, [], ◌∙◌, length, Some, ap, rules}
 use Rattle.dym_script.specs.declared.reader.Reader.{Reader}
-use Rattle.dym_script.specs.Scripts.{said}
+use Rattle.dym_script.specs.Readers.{seen}
 use Rattle.dym_script.proofs.Kept.{indexed_declare, lawful_declare, put_bytes}
 use Rattle.dym_script.proofs.reader.Reader.add.Goals as goal
 
@@ -9,12 +9,13 @@ returns-clause-kept c =
     let r : Reader = c.args.self.now in
     let s : Reader = record {
       begun = r.begun;
-      script = record { version = r.script.version; objects = c.push.new.self; lines = r.script.lines };
+      version = r.version;
+      objects = c.push.new.self;
       names = c.insert.new.self;
     } in
-    let place : c.len-place.result ≡ length r.script.objects.items = search rules in
+    let place : c.len-place.result ≡ length r.objects.items = search rules in
     let put = put_bytes r s c.in_ok-key.key c.len-place.result c.args.decl.name (c.in_ok-key.ensures.items ∙ c.bytes.ensures) c.in_ok-insert.ensures.updates in
     record {
       indexed = indexed_declare r s c.args.decl c.requires.kept c.requires.fresh (put.0 ∙ ap (λ n. Some n) place) put.1 c.in_ok-push.ensures.items;
-      lawful = rw c.in_ok-push.ensures.items (lawful_declare (said r.script) c.args.decl c.requires.kept.lawful c.requires.room c.requires.name c.requires.least c.requires.most);
+      lawful = rw c.in_ok-push.ensures.items (lawful_declare (seen r []).said c.args.decl c.requires.kept.lawful c.requires.room c.requires.name c.requires.least c.requires.most);
     }

@@ -2,4 +2,4 @@ use Rattle.dym_script.proofs.Kept.{kept_start}
 use Rattle.dym_script.proofs.reader.Reader.new.Goals as goal
 
 pub returns-clause-kept : goal.returns-clause-kept
-returns-clause-kept c = kept_start _ c.new-2.ensures.empty c.new.ensures.items c.in_ok-lines.ensures.items
+returns-clause-kept c = kept_start _ c.new-2.ensures.empty c.new.ensures.items

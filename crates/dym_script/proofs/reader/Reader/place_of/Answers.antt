@@ -5,7 +5,7 @@ use Rattle.dym_script.proofs.reader.Reader.place_of.Goals as goal
 
 pub returns : goal.returns
 returns c =
-    let found : c.copied.result ≡ object_of c.args.self.now.script.objects.items c.args.name.now = c.copied.ensures ∙ c.get.ensures.value ∙ c.requires.indexed c.args.name.now in
+    let found : c.copied.result ≡ object_of c.args.self.now.objects.items c.args.name.now = c.copied.ensures ∙ c.get.ensures.value ∙ c.requires.indexed c.args.name.now in
     record {
       value = found;
       within = found_within _ _ _ found;

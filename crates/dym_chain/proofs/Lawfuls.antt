@@ -1,0 +1,43 @@
+-- What is true of every chain stays true as logs are added, and as those at either end are dropped.
+use Rattle.std.proofs.Common.{◌≡◌, ℕ, ◌+◌, ◌-◌, ◌<◌, List, [], ◌∷◌, length, map, take, drop, refl, sym, ap, subst, ◌∙◌, arith, length-append}
+use Rattle.std.proofs.Math.Seq.{get_or-append-add}
+use Rattle.std.proofs.lemmas.List.{take-map, drop-map}
+use Rattle.dym_base.specs.Objects.{LogEntry, record_of}
+use Rattle.dym_base.specs.Packed.{packed}
+use Rattle.dym_base.specs.StandsFor.{LogsStandFor}
+use Rattle.dym_base.specs.declared.command.Version.{Version}
+use Rattle.dym_chain.specs.Keeps.{bytes_of}
+use Rattle.dym_chain.specs.Chains.{ChainMeaning, all_logs, no_entry, log_at, oldest_depth, StandsForCopies}
+use Rattle.dym_chain.specs.Lawful.{IsLawful, logged_of}
+use Rattle.dym_chain.proofs.Stands.{stands_at}
+
+-- every lawful chain stands for its copies
+
+pub packed_of : (v : Version) (logs : List LogEntry) → map packed (map (logged_of v) logs) ≡ map (record_of v) logs
+packed_of v [] = refl
+packed_of v (e ∷ logs) = ap (λ l. record_of v e ∷ l) (packed_of v logs)
+
+pub at_place : (c : ChainMeaning) (k : ℕ) → log_at (all_logs c) (length c.below + k) ≡ log_at c.logs k
+at_place c k = get_or-append-add c.below c.logs k no_entry
+
+pub stands : (c : ChainMeaning) → IsLawful c → StandsForCopies c
+stands c law k within =
+    let v = law.version in
+    let i : ℕ = length c.below + k in
+    let e : LogEntry = log_at (all_logs c) i in
+    let is : e ≡ log_at c.logs k = at_place c k in
+    let inside : i < length (all_logs c) = omega (arith, length-append c.below c.logs, within) in
+    let d : ℕ = (log_at c.logs k).depth in
+    let part : List LogEntry = take (d + 1) (drop (i - d) (all_logs c)) in
+    let base : length c.below + k - d ≡ oldest_depth c.logs + k - d = ap (λ n. n + k - d) law.base in
+    let stand : LogsStandFor (map (logged_of v) part) (log_at c.logs k).copy =
+    subst (λ (f : LogEntry). LogsStandFor (map (logged_of v) (take (f.depth + 1) (drop (i - f.depth) (all_logs c)))) f.copy) is (stands_at v (all_logs c) law.follows law.keeps law.full i inside) in
+    record {
+      logs = map (logged_of v) part;
+      are = packed_of v part
+          ∙ sym (take-map (record_of v) (d + 1) (drop (i - d) (all_logs c)))
+          ∙ ap (λ l. take (d + 1) l) (sym (drop-map (record_of v) (i - d) (all_logs c)))
+          ∙ ap (λ l. take (d + 1) (drop (i - d) l)) (sym law.records)
+          ∙ ap (λ n. take (d + 1) (drop n (bytes_of c.records))) base;
+      stand = stand;
+    }

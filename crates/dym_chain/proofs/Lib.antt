@@ -1,0 +1,14 @@
+pub mod Slots
+pub mod Places
+pub mod Stands
+pub mod Belonging
+pub mod Records
+pub mod Lawfuls
+pub mod Moves
+pub mod Finds
+pub mod Loading
+pub mod Logs
+pub mod Prunes
+pub mod Takes
+pub mod Restores
+pub mod Opens

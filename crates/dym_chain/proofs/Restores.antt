@@ -1,0 +1,195 @@
+-- The fields of a chain and a heap as a log is restored.
+use Rattle.std.proofs.Common.{◌≡◌, ℕ, ◌+◌, ◌-◌, ◌<◌, ◌≤◌, Option, Some, None, List, [], ◌∷◌, length, map, take, drop, get_or, refl, sym, ap, subst, ◌∙◌, arith, length-append}
+use Rattle.std.specs.List.{AllByRecursion}
+use Rattle.std.specs.FinSet as set
+use Rattle.std.proofs.lemmas.List.{length-take, take-map, drop-map, get_or-take, get_or-map}
+use Rattle.dym_base.specs.Heaps.{Live, Touched, HeapState, held}
+use Rattle.dym_base.specs.Objects.{LogEntry, record_of, newest, reached, restore, restore_to}
+use Rattle.dym_base.specs.Packed.{Logged, packed}
+use Rattle.dym_base.specs.StandsFor.{LogsStandFor}
+use Rattle.dym_base.specs.declared.command.Version.{Version}
+use Rattle.dym_pack.specs.Reading.{IsRecorded, OfLog}
+use Rattle.dym_heap.specs.Loading.{HaveOneSetOfHandles}
+use Rattle.dym_heap.specs.Meaning.{HeapMeaning}
+use Rattle.dym_region.specs.declared.segment.SegmentId.{SegmentId}
+use Rattle.dym_chain.specs.Keeps.{Numbered, KeepMeaning, no_record, record_at, bytes_of, up_to}
+use Rattle.dym_chain.specs.Chains.{ChainMeaning, all_logs, no_entry, log_at, object_of}
+use Rattle.dym_chain.specs.Lawful.{IsLawful, entry_of, logged_of}
+use Rattle.dym_chain.specs.Loads.{AreLoaded, HaveVersion}
+use Rattle.dym_chain.specs.Told.{Told}
+use Rattle.dym_chain.specs.Whole.{chain_of, IsChain}
+use Rattle.dym_chain.specs.declared.entry.Entry.{Entry}
+use Rattle.dym_base.proofs.Runs.{all_take, all_drop}
+use Rattle.dym_chain.proofs.Places.{first_depth, depth_within, newest_there}
+use Rattle.dym_chain.proofs.Stands.{stands_at, loaded_is}
+use Rattle.dym_chain.proofs.Records.{version_same, held_same, recorded_at}
+use Rattle.dym_chain.proofs.Lawfuls.{at_place, packed_of}
+use Rattle.dym_chain.proofs.Moves.{lawful_take}
+use Rattle.dym_chain.proofs.Finds.{all_at, entry_at, count_same}
+use Rattle.dym_chain.proofs.Prunes.{records_count, base_is}
+
+-- the chain with its first n logs alone
+abbrev pub first_logs : ℕ → ChainMeaning → ChainMeaning
+first_logs n c = record c { logs = take n c.logs; records = take (length c.below + n) c.records }
+
+-- the answer of a restore
+
+pub none_restored : (s : HeapState) (c : ChainMeaning) (t : ℕ) → reached t c.logs ≡ 0 → restore (object_of s c) t ≡ restore_to (object_of s c) [] None
+none_restored s c t none = ap (λ n. restore_to (object_of s c) (take n c.logs) (newest (take n c.logs))) none
+
+pub last_of_first : (logs : List LogEntry) (n : ℕ) → 0 < n → n ≤ length logs → newest (take n logs) ≡ Some (log_at logs (n - 1))
+last_of_first logs n some within =
+    newest_there (take n logs) (n - 1) (omega (arith, length-take n logs, some, within)) ∙ ap Some (get_or-take n logs (n - 1) no_entry (omega (arith, some)))
+
+pub restored_is : (s : HeapState) (c : ChainMeaning) (t n : ℕ) → n ≡ reached t c.logs → 0 < n → n ≤ length c.logs → restore (object_of s c) t ≡ restore_to (object_of s c) (take n c.logs) (Some (log_at c.logs (n - 1)))
+restored_is s c t n is some within =
+    ap (λ k. restore_to (object_of s c) (take k c.logs) (newest (take k c.logs))) (sym is)
+    ∙ ap (λ o. restore_to (object_of s c) (take n c.logs) o) (last_of_first c.logs n some within)
+
+-- what holds where the first n logs are left
+pub record Restoring (keep : KeepMeaning) (told : Told) (n base depth time : ℕ) : Type 0 where
+  pub some : 0 < n
+  pub within : n ≤ length told.logs
+  pub base_is : base ≡ length told.below
+  pub depth_is : depth ≡ (log_at told.logs (n - 1)).depth
+  pub time_is : time ≡ (log_at told.logs (n - 1)).time
+  pub fits : depth ≤ base + (n - 1)
+  pub inside : base + (n - 1) < length keep.records
+  pub small : base + n < 1024
+  pub shallow : depth ≤ 31
+
+pub restoring : (kept : List Entry) (capacity : ℕ) (keep : KeepMeaning) (told : Told) (n base depth time : ℕ) (d e : Entry) → IsChain kept capacity keep told → 0 < n → n ≤ length kept → base ≡ (get_or kept 0 d).depth → depth ≡ (get_or kept (n - 1) e).depth → time ≡ (get_or kept (n - 1) e).time → Restoring keep told n base depth time
+restoring kept capacity keep told n base depth time d e chain some within base_of depth_of time_of =
+    let c : ChainMeaning = chain_of told keep in
+    let count = count_same told.logs kept chain.shows.entries in
+    let there : n - 1 < length told.logs = omega (arith, count, some, within) in
+    let first : 0 < length told.logs = omega (arith, there) in
+    let at : base ≡ length told.below = base_of ∙ base_is kept capacity keep told d chain first in
+    let target = entry_at told.logs kept (n - 1) e chain.shows.entries there in
+    let low : depth ≡ (log_at told.logs (n - 1)).depth = depth_of ∙ ap (λ (x : Entry). x.depth) target in
+    let i_within : length told.below + (n - 1) < length (all_logs c) = omega (arith, length-append told.below told.logs, there) in
+    let deep = depth_within (all_logs c) chain.lawful.follows chain.lawful.full (length told.below + (n - 1)) i_within in
+    let same = ap (λ (x : LogEntry). x.depth) (at_place c (n - 1)) in
+    let records = records_count c chain.lawful in
+    let Small : LogEntry → Type 0 = λ x. x.depth ≤ 31 in
+    let shallow : (log_at told.logs (n - 1)).depth ≤ 31 = all_at Small told.logs (n - 1) chain.lawful.list.1 there in
+    let oldest : (log_at told.logs 0).depth ≤ 31 = all_at Small told.logs 0 chain.lawful.list.1 first in
+    let first_is = first_depth told.logs first in
+    let few = chain.lawful.list.0 in
+    let base_law = chain.lawful.base in
+    record {
+      some = some;
+      within = omega (arith, count, within);
+      base_is = at;
+      depth_is = low;
+      time_is = time_of ∙ ap (λ (x : Entry). x.time) target;
+      fits = omega (arith, deep, same, low, at);
+      inside = omega (arith, records, at, there);
+      small = omega (arith, at, base_law, first_is, oldest, there, few, some);
+      shallow = omega (arith, low, shallow);
+    }
+
+-- the record of the log that is restored
+pub target_record : (c : ChainMeaning) (v : Version) (n base : ℕ) → bytes_of c.records ≡ map (record_of v) (all_logs c) → 0 < n → n ≤ length c.logs → base ≡ length c.below → base + (n - 1) < length c.records → (record_at (take (base + (n - 1) + 1) c.records) (base + (n - 1))).bytes ≡ record_of v (log_at c.logs (n - 1))
+target_record c v n base are some within base_is inside =
+    let place : ℕ = base + (n - 1) in
+    let there : place < length (all_logs c) = omega (arith, length-append c.below c.logs, some, within, base_is) in
+    ap (λ (r : Numbered). r.bytes) (get_or-take (place + 1) c.records place no_record (omega arith))
+    ∙ sym (get_or-map (λ (r : Numbered). r.bytes) c.records place no_record [] inside)
+    ∙ ap (λ (l : List (List ℕ)). get_or l place []) are
+    ∙ get_or-map (record_of v) (all_logs c) place no_entry [] there
+    ∙ ap (λ b. record_of v (log_at (all_logs c) (b + (n - 1)))) base_is
+    ∙ ap (record_of v) (at_place c (n - 1))
+
+pub target_recorded : (c : ChainMeaning) (v : Version) (n : ℕ) → IsLawful c → bytes_of c.records ≡ map (record_of v) (all_logs c) → 0 < n → n ≤ length c.logs → IsRecorded (logged_of v (log_at c.logs (n - 1)))
+target_recorded c v n law are some within =
+    let R : LogEntry → Type 0 = λ e. IsRecorded (logged_of v e) in
+    subst R (at_place c (n - 1)) (all_at R (all_logs c) (length c.below + (n - 1)) (recorded_at (all_logs c) v law.version (sym law.records ∙ are) law.recorded) (omega (arith, length-append c.below c.logs, some, within)))
+
+pub of_version : (rec : List ℕ) (v : Version) (e : LogEntry) → rec ≡ record_of v e → OfLog rec (λ log. log.version ≡ v)
+of_version rec v e is log recorded same = version_same log (logged_of v e) (same ∙ is)
+
+pub within_quota : (rec : List ℕ) (v : Version) (e : LogEntry) (quota : ℕ) → IsRecorded (logged_of v e) → held e.copy ≤ quota → rec ≡ record_of v e → OfLog rec (λ log. held log.copy ≤ quota)
+within_quota rec v e quota mine fits is log recorded same =
+    let equal : held log.copy ≡ held e.copy = held_same log (logged_of v e) recorded mine (same ∙ is) in
+    omega (arith, equal, fits)
+
+-- the records that are loaded
+have_version : (v : Version) (logs : List LogEntry) → HaveVersion v (map (record_of v) logs)
+have_version v [] = tt
+have_version v (e ∷ logs) = (of_version (record_of v e) v e refl, have_version v logs)
+
+pub part_records : (c : ChainMeaning) (v : Version) (a b : ℕ) → bytes_of c.records ≡ map (record_of v) (all_logs c) → map (record_of v) (take a (drop b (all_logs c))) ≡ take a (drop b (bytes_of c.records))
+part_records c v a b are =
+    sym (take-map (record_of v) a (drop b (all_logs c))) ∙ ap (take a) (sym (drop-map (record_of v) b (all_logs c))) ∙ ap (λ l. take a (drop b l)) (sym are)
+
+pub part_version : (c : ChainMeaning) (v : Version) (a b : ℕ) → bytes_of c.records ≡ map (record_of v) (all_logs c) → HaveVersion v (take a (drop b (bytes_of c.records)))
+part_version c v a b are = subst (HaveVersion v) (part_records c v a b are) (have_version v (take a (drop b (all_logs c))))
+
+logged_all : (v : Version) (logs : List LogEntry) → AllByRecursion (λ (e : LogEntry). IsRecorded (logged_of v e)) logs → AllByRecursion IsRecorded (map (logged_of v) logs)
+logged_all v [] all = tt
+logged_all v (e ∷ logs) all = (all.0, logged_all v logs all.1)
+
+-- what is loaded is the copy
+pub restored_live : (c : ChainMeaning) (v : Version) (i depth : ℕ) (shaped live : Live) → IsLawful c → bytes_of c.records ≡ map (record_of v) (all_logs c) → i < length (all_logs c) → depth ≡ (log_at (all_logs c) i).depth → HaveOneSetOfHandles shaped (log_at (all_logs c) i).copy → ((logs : List Logged) → AllByRecursion IsRecorded logs → map packed logs ≡ take (depth + 1) (drop (i - depth) (bytes_of c.records)) → AreLoaded logs shaped live) → live ≡ (log_at (all_logs c) i).copy
+restored_live c v i depth shaped live law are within depth_is handles loaded =
+    let part : List LogEntry = take (depth + 1) (drop (i - depth) (all_logs c)) in
+    let R : LogEntry → Type 0 = λ e. IsRecorded (logged_of v e) in
+    let recorded : AllByRecursion R (all_logs c) = recorded_at (all_logs c) v law.version (sym law.records ∙ are) law.recorded in
+    let all : AllByRecursion IsRecorded (map (logged_of v) part) = logged_all v part (all_take R (depth + 1) (drop (i - depth) (all_logs c)) (all_drop R (i - depth) (all_logs c) recorded)) in
+    let stand : LogsStandFor (map (logged_of v) part) (log_at (all_logs c) i).copy =
+    subst (λ d. LogsStandFor (map (logged_of v) (take (d + 1) (drop (i - d) (all_logs c)))) (log_at (all_logs c) i).copy) (sym depth_is) (stands_at v (all_logs c) law.follows law.keeps law.full i within) in
+    loaded_is (map (logged_of v) part) (log_at (all_logs c) i).copy shaped live stand handles (loaded (map (logged_of v) part) all (packed_of v part ∙ part_records c v (depth + 1) (i - depth) are))
+
+-- the keep, after its later records were dropped and one was out and back
+pub lowered : (k k1 k2 k3 : KeepMeaning) (place : ℕ) → k1 ≡ up_to k place → k2 ≡ record k1 { lifted = Some place } → k3 ≡ record k2 { lifted = None } → k.lifted ≡ None → k3 ≡ up_to k place
+lowered k k1 k2 k3 place dropped out back idle =
+    back ∙ ap (λ (x : KeepMeaning). record x { lifted = None }) (out ∙ ap (λ (x : KeepMeaning). record x { lifted = Some place }) dropped)
+    ∙ ap (λ (l : Option ℕ). record { records = take (place + 1) k.records; made = k.made; lifted = l; origin = k.origin }) (sym idle)
+
+-- the chain that the fields then show
+pub first_is : (keep keep' : KeepMeaning) (told told' : Told) (n base : ℕ) → 0 < n → base ≡ length told.below → keep' ≡ up_to keep (base + (n - 1)) → told' ≡ record { below = told.below; logs = take n told.logs } → chain_of told' keep' ≡ first_logs n (chain_of told keep)
+first_is keep keep' told told' n base some base_is keep_is told_is =
+    let sum : base + (n - 1) + 1 ≡ length told.below + n = omega (arith, some, base_is) in
+    ap (λ (x : Told). chain_of x keep') told_is
+    ∙ ap (chain_of (record { below = told.below; logs = take n told.logs })) keep_is
+    ∙ ap (λ m. record { below = told.below; logs = take n told.logs; records = take m keep.records; made = keep.made; origin = keep.origin }) sum
+
+pub chain_first : (kept kept' : List Entry) (capacity capacity' : ℕ) (keep keep' : KeepMeaning) (told told' : Told) (n base : ℕ) → IsChain kept capacity keep told → 0 < n → base ≡ length told.below → kept' ≡ take n kept → capacity' ≡ capacity → keep' ≡ up_to keep (base + (n - 1)) → told' ≡ record { below = told.below; logs = take n told.logs } → IsChain kept' capacity' keep' told'
+chain_first kept kept' capacity capacity' keep keep' told told' n base chain some base_is entries room keep_is told_is = record {
+  shows = record {
+    entries = entries ∙ ap (take n) chain.shows.entries ∙ take-map entry_of n told.logs ∙ ap (λ (t : Told). map entry_of t.logs) (sym told_is);
+    room = omega (arith, chain.shows.room, room);
+    idle = ap (λ (k : KeepMeaning). k.lifted) keep_is ∙ chain.shows.idle;
+  };
+  lawful = subst IsLawful (sym (first_is keep keep' told told' n base some base_is keep_is told_is)) (lawful_take (chain_of told keep) n some chain.lawful);
+}
+
+-- the log that is restored, among all
+pub at_first : (c : ChainMeaning) (n base : ℕ) → 0 < n → base ≡ length c.below → log_at (all_logs (first_logs n c)) (base + (n - 1)) ≡ log_at c.logs (n - 1)
+at_first c n base some base_is =
+    ap (λ b. log_at (all_logs (first_logs n c)) (b + (n - 1))) base_is ∙ at_place (first_logs n c) (n - 1) ∙ get_or-take n c.logs (n - 1) no_entry (omega (arith, some))
+
+pub first_inside : (c : ChainMeaning) (n base : ℕ) → 0 < n → n ≤ length c.logs → base ≡ length c.below → base + (n - 1) < length (all_logs (first_logs n c))
+first_inside c n base some within base_is =
+    let a = length-append c.below (take n c.logs) in
+    let b = length-take n c.logs in
+    omega (arith, a, b, some, within, base_is)
+
+-- what stays as it was
+pub keeps_rest : (x c now : ChainMeaning) (n : ℕ) → x ≡ first_logs n c → c ≡ now → x ≡ record now { logs = x.logs; records = x.records }
+keeps_rest x c now n is same =
+    is ∙ ap (λ (y : ChainMeaning). record y { logs = take n c.logs; records = take (length c.below + n) c.records }) same
+    ∙ ap (λ (y : ChainMeaning). record now { logs = y.logs; records = y.records }) (sym is)
+
+pub heap_rest : (h h1 h2 : HeapMeaning) → h1 ≡ record h { state = h1.state; held_ids = h1.held_ids } → h2 ≡ record h1 { state = record { live = h2.state.live; touched = h1.state.touched } } → h2 ≡ record h { state = h2.state; held_ids = h2.held_ids }
+heap_rest h h1 h2 shaped loaded =
+    loaded ∙ ap (λ (x : HeapMeaning). record x { state = record { live = h2.state.live; touched = h1.state.touched } }) shaped
+    ∙ ap (λ (x : HeapState). record h { state = x; held_ids = h1.held_ids }) (sym (ap (λ (x : HeapMeaning). x.state) loaded))
+    ∙ ap (λ (x : List SegmentId). record h { state = h2.state; held_ids = x }) (sym (ap (λ (x : HeapMeaning). x.held_ids) loaded))
+
+pub state_is : (h1 h2 : HeapMeaning) (copy : Live) → h1.state.touched ≡ set.empty → h2 ≡ record h1 { state = record { live = h2.state.live; touched = h1.state.touched } } → h2.state.live ≡ copy → h2.state ≡ record { live = copy; touched = set.empty }
+state_is h1 h2 copy clean loaded live =
+    ap (λ (x : HeapMeaning). x.state) loaded
+    ∙ ap (λ (m : Live). record { live = m; touched = h1.state.touched }) live
+    ∙ ap (λ (t : Touched). record { live = copy; touched = t }) clean

@@ -1,0 +1,152 @@
+-- The records of a vector's slots: one more, one out, one back, and those before or after a place gone.
+use Rattle.std.proofs.Common.{◌≡◌, ℕ, zero, suc, ◌+◌, ◌<◌, inl, inr, Option, Some, None, IsSome, List, [], ◌∷◌, ◌++◌, length, map, take, drop, get_or, unwrap_or, refl, sym, ap, subst, ◌∙◌, arith, length-append}
+use Rattle.std.proofs.Math.ListN.{set, length-set}
+use Rattle.std.proofs.Math.Seq.{map-set_same, get_or-append_seam}
+use Rattle.std.proofs.Math.ListN.{get_or-append}
+use Rattle.std.proofs.lemmas.Bool.{cases_eq, cases_lt, true≢false}
+use Rattle.std.proofs.lemmas.Option.{same_Some, none-some}
+use Rattle.std.proofs.lemmas.List.{length-take, length-drop, get_or-take, get_or-drop, get_or-set_same, get_or-set_other, map-append, take-map, drop-map}
+use Rattle.dym_chain.specs.Keeps.{Numbered, first_number, NumbersRise}
+use Rattle.dym_chain.specs.VecKeeps.{shown, bytes_out, place_out, no_slot, IsKept}
+use Rattle.dym_chain.specs.declared.vec_keep.Slot.{Slot}
+use Rattle.dym_chain.specs.declared.vec_keep.Lifted.{Lifted}
+
+-- numbers that rise
+
+all_below : (r : Numbered) (rs : List Numbered) (made : ℕ) → NumbersRise (r ∷ rs) made → r.number < made
+all_below r [] made rise = rise.0
+all_below r (q ∷ rs) made rise = (let next = all_below q rs made rise.1 in omega (arith, rise.0))
+
+pub rise_push : (rs : List Numbered) (made : ℕ) (bytes : List ℕ) → NumbersRise rs made → NumbersRise (rs ++ record { number = made; bytes = bytes } ∷ []) (made + 1)
+rise_push [] made bytes rise = (omega arith, tt)
+rise_push (r ∷ []) made bytes rise = (rise.0, rise_push [] made bytes tt)
+rise_push (r ∷ q ∷ rs) made bytes rise = (rise.0, rise_push (q ∷ rs) made bytes rise.1)
+
+first_take : (r : Numbered) (n : ℕ) (rs : List Numbered) (made : ℕ) → NumbersRise (r ∷ rs) made → r.number < first_number (take n rs) made
+first_take r zero rs made rise = all_below r rs made rise
+first_take r (suc n) [] made rise = rise.0
+first_take r (suc n) (q ∷ rs) made rise = rise.0
+
+pub rise_take : (n : ℕ) (rs : List Numbered) (made : ℕ) → NumbersRise rs made → NumbersRise (take n rs) made
+rise_take zero rs made rise = tt
+rise_take (suc n) [] made rise = tt
+rise_take (suc n) (r ∷ rs) made rise = (first_take r n rs made rise, rise_take n rs made rise.1)
+
+pub rise_drop : (n : ℕ) (rs : List Numbered) (made : ℕ) → NumbersRise rs made → NumbersRise (drop n rs) made
+rise_drop zero rs made rise = rise
+rise_drop (suc n) [] made rise = tt
+rise_drop (suc n) (r ∷ rs) made rise = rise_drop n rs made rise.1
+
+-- where each slot has its record, it doesn't matter which one is out
+
+unwrap_there : (o : Option (List ℕ)) (a b : List ℕ) → IsSome o → unwrap_or o a ≡ unwrap_or o b
+unwrap_there None a b is = absurd (true≢false (sym is))
+unwrap_there (Some x) a b is = refl
+
+pub shown_there : (a b : List ℕ) (slots : List Slot) → ((i : ℕ) → i < length slots → IsSome (get_or slots i no_slot).held) → map (shown a) slots ≡ map (shown b) slots
+shown_there a b [] there = refl
+shown_there a b (s ∷ slots) there =
+    let first : IsSome s.held = there 0 (omega arith) in
+    let rest : map (shown a) slots ≡ map (shown b) slots = shown_there a b slots (λ i within. there (suc i) (omega (arith, within))) in
+    ap (λ (bytes : List ℕ). record { number = s.number; bytes = bytes } ∷ map (shown a) slots) (unwrap_there s.held a b first) ∙ ap (λ l. shown b s ∷ l) rest
+
+-- one is taken out
+
+pub shown_lifted : (out b : List ℕ) (slots : List Slot) (i : ℕ) (s : Slot) → ((j : ℕ) → j < length slots → IsSome (get_or slots j no_slot).held) → s ≡ get_or slots i no_slot → s.held ≡ Some out → map (shown out) (set slots i (record { number = s.number; held = None })) ≡ map (shown b) slots
+shown_lifted out b slots i s there is held =
+    map-set_same (shown out) slots i (record { number = s.number; held = None }) no_slot (ap (λ (o : Option (List ℕ)). record { number = s.number; bytes = unwrap_or o out }) (sym held) ∙ ap (shown out) is)
+    ∙ shown_there out b slots there
+
+-- one comes back
+
+there_set : (slots : List Slot) (i : ℕ) (n : ℕ) (rec : List ℕ) → i < length slots → ((j : ℕ) → j < length slots → (Some i ≡ Some j → ⊥) → IsSome (get_or slots j no_slot).held) → (j : ℕ) → j < length (set slots i (record { number = n; held = Some rec })) → IsSome (get_or (set slots i (record { number = n; held = Some rec })) j no_slot).held
+there_set slots i n rec inside there j within =
+    let S : Slot = record { number = n; held = Some rec } in
+    let Is : Slot → Type 0 = λ s. IsSome s.held in
+    elim (cases_eq j i) as (λ _. Is (get_or (set slots i S) j no_slot)) [
+      | inl same ↦ subst (λ q. Is (get_or (set slots i S) q no_slot)) (sym same) (subst Is (sym (get_or-set_same slots i S no_slot inside)) refl)
+      | inr other ↦ subst Is (sym (get_or-set_other slots i j S no_slot other)) (there j (omega (arith, within, length-set slots i S)) (λ e. other (sym (same_Some i j e))))
+    ]
+
+pub shown_lowered : (a out rec : List ℕ) (slots : List Slot) (i : ℕ) (s : Slot) → i < length slots → ((j : ℕ) → j < length slots → (Some i ≡ Some j → ⊥) → IsSome (get_or slots j no_slot).held) → s ≡ get_or slots i no_slot → rec ≡ (shown out s).bytes → map (shown a) (set slots i (record { number = s.number; held = Some rec })) ≡ map (shown out) slots
+shown_lowered a out rec slots i s inside there is bytes =
+    shown_there a out (set slots i (record { number = s.number; held = Some rec })) (there_set slots i s.number rec inside there)
+    ∙ map-set_same (shown out) slots i (record { number = s.number; held = Some rec }) no_slot (ap (λ (b : List ℕ). record { number = s.number; bytes = b }) bytes ∙ ap (shown out) is)
+
+-- what each call keeps
+
+pub kept_push : (slots : List Slot) (lifted : Option Lifted) (made capacity capacity' : ℕ) (rec : List ℕ) → capacity' ≡ capacity → length slots < 288 → IsKept slots lifted made capacity → IsKept (slots ++ record { number = made; held = Some rec } ∷ []) lifted (made + 1) capacity'
+kept_push slots lifted made capacity capacity' rec same few kept =
+    let S : Slot = record { number = made; held = Some rec } in
+    let Is : Slot → Type 0 = λ s. IsSome s.held in
+    let one_more : length (slots ++ S ∷ []) ≡ length slots + 1 = length-append slots (S ∷ []) in
+    record {
+      room = omega (arith, kept.room, same);
+      few = omega (arith, one_more, few);
+      rise = rw (map-append (shown (bytes_out lifted)) slots (S ∷ [])) (rise_push (map (shown (bytes_out lifted)) slots) made rec kept.rise);
+      there = λ i within out. (elim (cases_lt i (length slots)) as (λ _. Is (get_or (slots ++ S ∷ []) i no_slot)) [
+        | inl before ↦ subst Is (sym (get_or-append slots (S ∷ []) no_slot i before)) (kept.there i before out)
+        | inr last ↦ (let at : length slots ≡ i = omega (arith, within, one_more, last) in
+            subst (λ j. Is (get_or (slots ++ S ∷ []) j no_slot)) at (subst Is (sym (get_or-append_seam slots S [] no_slot)) refl))
+      ]);
+      inside = λ i is. (let before = kept.inside i is in omega (arith, one_more, before));
+    }
+
+pub kept_lift : (slots : List Slot) (made capacity i : ℕ) (s : Slot) (lifted new : Option Lifted) → IsKept slots lifted made capacity → place_out lifted ≡ None → i < length slots → s ≡ get_or slots i no_slot → s.held ≡ Some (bytes_out new) → place_out new ≡ Some i → IsKept (set slots i (record { number = s.number; held = None })) new made capacity
+kept_lift slots made capacity i s lifted new kept idle inside is held place =
+    let S : Slot = record { number = s.number; held = None } in
+    let Is : Slot → Type 0 = λ s. IsSome s.held in
+    let there : (j : ℕ) → j < length slots → Is (get_or slots j no_slot) = λ j within. kept.there j within (λ e. none-some j (sym idle ∙ e)) in
+    let same : length (set slots i S) ≡ length slots = length-set slots i S in
+    record {
+      room = kept.room;
+      few = omega (arith, same, kept.few);
+      rise = subst (λ rs. NumbersRise rs made) (sym (shown_lifted (bytes_out new) (bytes_out lifted) slots i s there is held)) kept.rise;
+      there = λ j within other. (let apart : j ≡ i → ⊥ = λ e. other (place ∙ ap Some (sym e)) in
+          subst Is (sym (get_or-set_other slots i j S no_slot apart)) (there j (omega (arith, same, within))));
+      inside = λ j out. (let e : i ≡ j = same_Some i j (sym place ∙ out) in omega (arith, same, e, inside));
+    }
+
+pub kept_lower : (slots : List Slot) (made capacity i : ℕ) (s : Slot) (rec : List ℕ) (lifted : Option Lifted) → IsKept slots lifted made capacity → place_out lifted ≡ Some i → s ≡ get_or slots i no_slot → rec ≡ (shown (bytes_out lifted) s).bytes → IsKept (set slots i (record { number = s.number; held = Some rec })) None made capacity
+kept_lower slots made capacity i s rec lifted kept place is bytes =
+    let S : Slot = record { number = s.number; held = Some rec } in
+    let inside : i < length slots = kept.inside i place in
+    let others : (j : ℕ) → j < length slots → (Some i ≡ Some j → ⊥) → IsSome (get_or slots j no_slot).held = λ j within other. kept.there j within (λ e. other (sym place ∙ e)) in
+    record {
+      room = kept.room;
+      few = omega (arith, length-set slots i S, kept.few);
+      rise = subst (λ rs. NumbersRise rs made) (sym (shown_lowered [] (bytes_out lifted) rec slots i s inside others is bytes)) kept.rise;
+      there = λ j within other. there_set slots i s.number rec inside others j within;
+      inside = λ j out. absurd (none-some j out);
+    }
+
+pub kept_take : (slots slots' : List Slot) (lifted : Option Lifted) (made capacity capacity' n : ℕ) → capacity' ≡ capacity → slots' ≡ take n slots → place_out lifted ≡ None → IsKept slots lifted made capacity → IsKept slots' lifted made capacity'
+kept_take slots slots' lifted made capacity capacity' n same is idle kept =
+    let Is : Slot → Type 0 = λ s. IsSome s.held in
+    let len = length-take n slots in
+    subst (λ l. IsKept l lifted made capacity') (sym is) (record {
+      room = omega (arith, kept.room, same);
+      few = omega (arith, len, kept.few);
+      rise = subst (λ rs. NumbersRise rs made) (take-map (shown (bytes_out lifted)) n slots) (rise_take n (map (shown (bytes_out lifted)) slots) made kept.rise);
+      there = λ i within out. subst Is (sym (get_or-take n slots i no_slot (omega (arith, len, within)))) (kept.there i (omega (arith, len, within)) out);
+      inside = λ i out. absurd (none-some i (sym idle ∙ out));
+    })
+
+pub kept_drop : (slots slots' : List Slot) (lifted : Option Lifted) (made capacity capacity' n : ℕ) → capacity' ≡ capacity → slots' ≡ drop n slots → place_out lifted ≡ None → IsKept slots lifted made capacity → IsKept slots' lifted made capacity'
+kept_drop slots slots' lifted made capacity capacity' n same is idle kept =
+    let Is : Slot → Type 0 = λ s. IsSome s.held in
+    let len = length-drop n slots in
+    subst (λ l. IsKept l lifted made capacity') (sym is) (record {
+      room = omega (arith, kept.room, same);
+      few = omega (arith, len, kept.few);
+      rise = subst (λ rs. NumbersRise rs made) (drop-map (shown (bytes_out lifted)) n slots) (rise_drop n (map (shown (bytes_out lifted)) slots) made kept.rise);
+      there = λ i within out. subst Is (sym (get_or-drop n slots i no_slot)) (kept.there (n + i) (omega (arith, len, within)) (λ e. none-some (n + i) (sym idle ∙ e)));
+      inside = λ i out. absurd (none-some i (sym idle ∙ out));
+    })
+
+-- what a slot's reading says, whatever stands past the end
+
+pub at_place : (slots : List Slot) (i : ℕ) (d : Slot) → i < length slots → get_or slots i d ≡ get_or slots i no_slot
+at_place [] i d within = absurd (omega (arith, within))
+at_place (s ∷ slots) zero d within = refl
+at_place (s ∷ slots) (suc i) d within = at_place slots i d (omega (arith, within))

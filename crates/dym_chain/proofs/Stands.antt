@@ -1,0 +1,154 @@
+-- What a list of logs stands for as it grows, and what it leaves in a heap that it is loaded into.
+use Rattle.std.proofs.Common.{◌≡◌, ℕ, zero, suc, ◌+◌, ◌-◌, ◌<◌, ◌≤◌, inl, inr, true, false, cond, is_some, ⊎_elim, ◌==◌, Option, Some, None, List, [], ◌∷◌, ◌++◌, length, map, take, drop, refl, sym, ap, subst, ◌∙◌, arith}
+use Rattle.std.specs.Cmp.{nat_cmp_total}
+use Rattle.std.specs.List.{AllByRecursion}
+use Rattle.std.specs.FinMap.{get, contains_key, same_map, nat_cmp-IsAntisymmetric}
+use Rattle.std.specs.FinSet.{contains}
+use Rattle.std.proofs.lemmas.Bool.{cases_Bool, cond-true, cond-false, true≢false, eq-eqb, ne_eqb}
+use Rattle.std.proofs.lemmas.List.{map-append}
+use Rattle.dym_base.specs.Heaps.{Live}
+use Rattle.dym_base.specs.Objects.{LogEntry, kind_of}
+use Rattle.dym_base.specs.Packed.{Logged, packs_by}
+use Rattle.dym_base.specs.StandsFor.{packed_by, or_else, newest_packed, IsChain, UsesLast, LogsStandFor}
+use Rattle.dym_base.specs.RunLaws.{EachFollows}
+use Rattle.dym_base.specs.declared.command.Version.{Version}
+use Rattle.dym_base.specs.declared.command.Kind.{Kind}
+use Rattle.dym_base.specs.declared.command.Kind.TheVariants.{Full, Inc}
+use Rattle.dym_base.proofs.Standing.{full_stands_alone}
+use Rattle.dym_heap.specs.Loading.{IsLoaded, HaveOneSetOfHandles}
+use Rattle.dym_chain.specs.Chains.{KeepsUntouched, log_at, oldest_depth}
+use Rattle.dym_chain.specs.Lawful.{EachKeeps, logged_of}
+use Rattle.dym_chain.specs.Loads.{AreLoaded}
+use Rattle.dym_chain.proofs.Places.{follows_at, keeps_at, first_depth, depth_within, part_more}
+
+-- the first of two, or else the second
+
+or_none : (o : Option (List ℕ)) → o ≡ or_else o None
+or_none None = refl
+or_none (Some x) = refl
+
+or_assoc : (a b c : Option (List ℕ)) → or_else (or_else a b) c ≡ or_else a (or_else b c)
+or_assoc None b c = refl
+or_assoc (Some x) b c = refl
+
+or_some : (o other : Option (List ℕ)) → is_some o ≡ true → or_else o other ≡ o
+or_some None other has = absurd (true≢false (sym has))
+or_some (Some x) other has = refl
+
+some_or : (o other : Option (List ℕ)) → is_some other ≡ true → is_some (or_else o other) ≡ true
+some_or None other has = has
+some_or (Some x) other has = refl
+
+none_of : (o : Option (List ℕ)) → is_some o ≡ false → o ≡ None
+none_of None gone = refl
+none_of (Some x) gone = absurd (true≢false gone)
+
+-- one log more
+
+pub packed_push : (logs : List Logged) (l : Logged) (k : ℕ) → newest_packed (logs ++ l ∷ []) k ≡ or_else (packed_by l k) (newest_packed logs k)
+packed_push [] l k = or_none (packed_by l k)
+packed_push (x ∷ logs) l k = ap (λ o. or_else o (packed_by x k)) (packed_push logs l k) ∙ or_assoc (packed_by l k) (newest_packed logs k) (packed_by x k)
+
+all_inc : (logs : List Logged) (l : Logged) → AllByRecursion (λ (n : Logged). n.kind ≡ Inc) logs → l.kind ≡ Inc → AllByRecursion (λ (n : Logged). n.kind ≡ Inc) (logs ++ l ∷ [])
+all_inc [] l all inc = (inc, tt)
+all_inc (x ∷ logs) l all inc = (all.0, all_inc logs l all.1 inc)
+
+chain_push : (logs : List Logged) (l : Logged) → IsChain logs → l.kind ≡ Inc → IsChain (logs ++ l ∷ [])
+chain_push [] l chain inc = absurd chain
+chain_push (x ∷ logs) l chain inc = (chain.0, all_inc logs l chain.1 inc)
+
+uses_push : (logs : List Logged) (l : Logged) → UsesLast (logs ++ l ∷ []) l.copy
+uses_push [] l = λ k. refl
+uses_push (x ∷ []) l = λ k. refl
+uses_push (x ∷ y ∷ logs) l = uses_push (y ∷ logs) l
+
+packs_inc : (l : Logged) (k : ℕ) → l.kind ≡ Inc → packed_by l k ≡ cond (contains l.found k) (get l.copy k) None
+packs_inc l k inc = ap (λ (kind : Kind). cond (packs_by kind l.copy l.found k) (get l.copy k) None) inc
+
+pub stands_push : (logs : List Logged) (before : Live) (l : Logged) → LogsStandFor logs before → l.kind ≡ Inc → KeepsUntouched l.copy l.found before → LogsStandFor (logs ++ l ∷ []) l.copy
+stands_push logs before l stand inc keeps = record {
+  chain = chain_push logs l stand.chain inc;
+  handles = uses_push logs l;
+  bytes = λ k has. packed_push logs l k ∙ ap (λ o. or_else o (newest_packed logs k)) (packs_inc l k inc) ∙ ⊎_elim
+      (λ packs. ap (λ o. or_else o (newest_packed logs k)) (cond-true (contains l.found k) (get l.copy k) None packs) ∙ or_some (get l.copy k) (newest_packed logs k) has)
+      (λ kept. ap (λ o. or_else o (newest_packed logs k)) (cond-false (contains l.found k) (get l.copy k) None kept)
+      ∙ stand.bytes k (ap is_some (keeps k has kept) ∙ has) ∙ keeps k has kept)
+      (cases_Bool (contains l.found k));
+}
+
+-- the logs from the last full one up to log i stand for its copy
+
+kind_full : (e : LogEntry) → e.depth ≡ 0 → kind_of e ≡ Full
+kind_full e none = cond-true (e.depth == 0) Full Inc (eq-eqb e.depth 0 none)
+
+kind_inc : (e : LogEntry) (d : ℕ) → e.depth ≡ d + 1 → kind_of e ≡ Inc
+kind_inc e d some = cond-false (e.depth == 0) Full Inc (ne_eqb e.depth 0 (λ none. (let no_such : ⊥ = omega (arith, some, none) in no_such)))
+
+alone_at : (v : Version) (logs : List LogEntry) (i : ℕ) → i < length logs → (log_at logs i).depth ≡ 0 → LogsStandFor (map (logged_of v) (take ((log_at logs i).depth + 1) (drop (i - (log_at logs i).depth) logs))) (log_at logs i).copy
+alone_at v logs i within none =
+    let one : take 1 (drop i logs) ≡ log_at logs i ∷ [] = part_more logs i 0 i (omega arith) within in
+    let P : ℕ → Type 0 = λ d. LogsStandFor (map (logged_of v) (take (d + 1) (drop (i - d) logs))) (log_at logs i).copy in
+    let at : i ≡ i - 0 = omega arith in
+    subst P (sym none) (subst (λ b. LogsStandFor (map (logged_of v) (take 1 (drop b logs))) (log_at logs i).copy) at
+    (subst (λ part. LogsStandFor (map (logged_of v) part) (log_at logs i).copy) (sym one) (full_stands_alone (logged_of v (log_at logs i)) (kind_full (log_at logs i) none))))
+
+pub stands_at : (v : Version) (logs : List LogEntry) → EachFollows logs → EachKeeps logs → oldest_depth logs ≡ 0 → (i : ℕ) → i < length logs → LogsStandFor (map (logged_of v) (take ((log_at logs i).depth + 1) (drop (i - (log_at logs i).depth) logs))) (log_at logs i).copy
+stands_at v logs follows keeps full zero within = alone_at v logs zero within (first_depth logs within ∙ full)
+stands_at v logs follows keeps full (suc i) within =
+    let e : LogEntry = log_at logs i in
+    let f : LogEntry = log_at logs (suc i) in
+    let low : e.depth ≤ i = depth_within logs follows full i (omega (arith, within)) in
+    let Stand : List LogEntry → Type 0 = λ part. LogsStandFor (map (logged_of v) part) f.copy in
+    elim (follows_at logs i follows within).1 as (λ _. Stand (take (f.depth + 1) (drop (suc i - f.depth) logs))) [
+      | inl none ↦ alone_at v logs (suc i) within none
+      | inr one ↦ (
+          let b : ℕ = i - e.depth in
+          let before = stands_at v logs follows keeps full i (omega (arith, within)) in
+          let more : take (suc (e.depth + 1)) (drop b logs) ≡ take (e.depth + 1) (drop b logs) ++ f ∷ [] = part_more logs b (e.depth + 1) (suc i) (omega (arith, low)) within in
+          let grown : LogsStandFor (map (logged_of v) (take (e.depth + 1) (drop b logs)) ++ logged_of v f ∷ []) f.copy =
+          stands_push (map (logged_of v) (take (e.depth + 1) (drop b logs))) e.copy (logged_of v f) before (kind_inc f e.depth one) (keeps_at logs i keeps within (omega (arith, one))) in
+          let n_is : suc (e.depth + 1) ≡ f.depth + 1 = omega (arith, one) in
+          let b_is : b ≡ suc i - f.depth = omega (arith, one, low) in
+          subst (λ n. Stand (take n (drop (suc i - f.depth) logs))) n_is
+          (subst (λ at. Stand (take (suc (e.depth + 1)) (drop at logs))) b_is
+          (subst Stand (sym more) (subst (λ l. LogsStandFor l f.copy) (sym (map-append (logged_of v) (take (e.depth + 1) (drop b logs)) (f ∷ []))) grown))))
+    ]
+
+-- what loading leaves
+
+pub loaded_none : (live : Live) → AreLoaded [] live live
+loaded_none live k =
+    ⊎_elim
+    (λ has. sym (cond-true (contains_key live k) (get live k) None has))
+    (λ gone. none_of (get live k) gone ∙ sym (cond-false (contains_key live k) (get live k) None gone))
+    (cases_Bool (contains_key live k))
+
+pub loaded_push : (logs : List Logged) (l : Logged) (old mid new : Live) → AreLoaded logs old mid → IsLoaded l mid new → AreLoaded (logs ++ l ∷ []) old new
+loaded_push logs l old mid new loaded next k =
+    ⊎_elim
+    (λ has. (
+    let mid_is : get mid k ≡ or_else (newest_packed logs k) (get old k) = loaded k ∙ cond-true (contains_key old k) (or_else (newest_packed logs k) (get old k)) None has in
+    let there : contains_key mid k ≡ true = ap is_some mid_is ∙ some_or (newest_packed logs k) (get old k) has in
+    next k ∙ cond-true (contains_key mid k) (or_else (packed_by l k) (get mid k)) None there
+    ∙ ap (λ o. or_else (packed_by l k) o) mid_is
+    ∙ sym (or_assoc (packed_by l k) (newest_packed logs k) (get old k))
+    ∙ ap (λ o. or_else o (get old k)) (sym (packed_push logs l k))
+    ∙ sym (cond-true (contains_key old k) (or_else (newest_packed (logs ++ l ∷ []) k) (get old k)) None has)))
+    (λ gone. (
+    let mid_is : get mid k ≡ None = loaded k ∙ cond-false (contains_key old k) (or_else (newest_packed logs k) (get old k)) None gone in
+    next k ∙ cond-false (contains_key mid k) (or_else (packed_by l k) (get mid k)) None (ap is_some mid_is)
+    ∙ sym (cond-false (contains_key old k) (or_else (newest_packed (logs ++ l ∷ []) k) (get old k)) None gone)))
+    (cases_Bool (contains_key old k))
+
+-- logs that stand for a map bring it into a heap that has its handles
+pub loaded_is : (logs : List Logged) (copy old new : Live) → LogsStandFor logs copy → HaveOneSetOfHandles old copy → AreLoaded logs old new → new ≡ copy
+loaded_is logs copy old new stand same loaded =
+    same_map nat_cmp_total nat_cmp-IsAntisymmetric new copy (λ k.
+    ⊎_elim
+    (λ has. (let there : contains_key copy k ≡ true = sym (same k) ∙ has in
+    loaded k ∙ cond-true (contains_key old k) (or_else (newest_packed logs k) (get old k)) None has
+    ∙ ap (λ o. or_else o (get old k)) (stand.bytes k there)
+    ∙ or_some (get copy k) (get old k) there))
+    (λ gone. loaded k ∙ cond-false (contains_key old k) (or_else (newest_packed logs k) (get old k)) None gone
+    ∙ sym (none_of (get copy k) (sym (same k) ∙ gone)))
+    (cases_Bool (contains_key old k)))

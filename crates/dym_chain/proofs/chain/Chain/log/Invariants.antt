@@ -1,0 +1,9 @@
+use Rattle.std.proofs.Common.{[], ◌∷◌, ◌++◌}
+use Rattle.dym_base.specs.Objects.{found_touched}
+use Rattle.dym_chain.proofs.chain.Chain.log.Given as goal
+
+abbrev pub ghost-logged : goal.ghost-logged
+ghost-logged g a = record {
+  below = a.self.now.told.below;
+  logs = a.self.now.told.logs ++ record { time = a.time; depth = a.depth; copy = a.heap.now.state.live; found = found_touched a.depth a.heap.now.state.touched } ∷ [];
+}

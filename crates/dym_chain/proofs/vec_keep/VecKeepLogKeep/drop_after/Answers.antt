@@ -1,0 +1,25 @@
+use Rattle.std.proofs.Common.{◌≡◌, ◌+◌, List, None, map, ap, sym, ◌∙◌}
+use Rattle.std.proofs.lemmas.List.{take-map}
+use Rattle.std.specs.Vec.{vec_capacity}
+use Rattle.dym_base.specs.Origins.{own}
+use Rattle.dym_chain.specs.Keeps.{Numbered, KeepMeaning, up_to}
+use Rattle.dym_chain.specs.VecKeeps.{shown, bytes_out, place_out}
+use Rattle.dym_chain.specs.declared.vec_keep.Slot.{Slot}
+use Rattle.dym_chain.proofs.Slots.{kept_take}
+use Rattle.dym_chain.proofs.vec_keep.VecKeepLogKeep.drop_after.Goals as goal
+
+pub invariant_of-self : goal.invariant_of-self
+invariant_of-self c =
+    let i = c.self.inside in
+    let idle : place_out i.lifted ≡ None = ap (λ (k : KeepMeaning). k.lifted) c.self.view_is ∙ c.requires.idle in
+    kept_take i.slots.items c.truncate.new.self.items i.lifted i.made (vec_capacity i.slots) (vec_capacity c.truncate.new.self) (c.args.place + 1) c.truncate.ensures.capacity c.truncate.ensures.items idle c.self.invariant
+
+pub returns : goal.returns
+returns c =
+    let i = c.self.inside in
+    record {
+      after =
+          ap (λ (slots : List Slot). record { records = map (shown (bytes_out i.lifted)) slots; made = i.made; lifted = place_out i.lifted; origin = own }) c.truncate.ensures.items
+          ∙ ap (λ (records : List Numbered). record { records = records; made = i.made; lifted = place_out i.lifted; origin = own }) (sym (take-map (shown (bytes_out i.lifted)) (c.args.place + 1) i.slots.items))
+          ∙ ap (λ (k : KeepMeaning). up_to k c.args.place) c.self.view_is;
+    }

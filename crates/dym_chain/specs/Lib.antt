@@ -1,0 +1,9 @@
+pub mod Keeps
+pub mod VecKeeps
+pub mod Chains
+pub mod Told
+pub mod Lawful
+pub mod Whole
+pub mod Answers
+pub mod Loads
+pub mod ChainLaws

@@ -1,0 +1,21 @@
+-- A chain, read from its keep and from what clauses know besides.
+use Rattle.dym_chain.specs.Keeps.{KeepMeaning}
+use Rattle.dym_chain.specs.Chains.{ChainMeaning}
+use Rattle.dym_chain.specs.Lawful.{IsLawful, Shows}
+use Rattle.dym_chain.specs.Told.{Told}
+use Rattle.dym_chain.specs.declared.entry.Entry.{Entry}
+use Rattle.std.specs.Prelude.{ℕ, List}
+
+abbrev pub chain_of : Told → KeepMeaning → ChainMeaning
+chain_of told keep = record {
+  below = told.below;
+  logs = told.logs;
+  records = keep.records;
+  made = keep.made;
+  origin = keep.origin;
+}
+
+-- what is true of the fields of every chain
+pub record IsChain (kept : List Entry) (capacity : ℕ) (keep : KeepMeaning) (told : Told) : Type 0 where
+  pub shows : Shows kept capacity keep told.logs
+  pub lawful : IsLawful (chain_of told keep)

@@ -1,0 +1,127 @@
+//! What no clause says: that memory is given, and that a chain over a real heap answers what a person worked out by hand.
+ghost use Rattle.std.specs.Prelude.{◌≡◌, ◌≤◌, ◌<◌};
+ghost use Rattle.dym_heap.specs.Meaning.{IsSound};
+ghost use Rattle.dym_chain.specs.Chains.{Belongs};
+
+use crate::chain::Chain;
+use crate::laws::heap_steps_keep_belonging;
+use crate::log_error::LogError;
+use crate::vec_keep::VecKeep;
+use dym_base::{Handle, Kind, Refusal};
+use dym_heap::Heap;
+use dym_quota::OwnSupply;
+use std::alloc::{AllocError, Global};
+use std::process::Abort;
+
+const H64: Handle = Handle { exp: 6, index: 0 };
+
+fn allocates(heap: &mut Heap<OwnSupply>, chain: &Chain<VecKeep>) -> bool
+    requires { Belongs heap.old.version heap.old.quota heap.old.state chain.now }
+    ensures belongs { Belongs heap.new.version heap.new.quota heap.new.state chain.now }
+    ensures sound { IsSound heap.new }
+{
+    heap_steps_keep_belonging();
+    heap.malloc(&(), 40) == Ok(H64)
+}
+
+fn writes(heap: &mut Heap<OwnSupply>, chain: &Chain<VecKeep>) -> bool
+    requires { Belongs heap.old.version heap.old.quota heap.old.state chain.now }
+    ensures belongs { Belongs heap.new.version heap.new.quota heap.new.state chain.now }
+    ensures sound { IsSound heap.new }
+{
+    heap_steps_keep_belonging();
+    heap.write(H64, 0, b"\x2a") == Ok(())
+}
+
+fn logs(
+    heap: &mut Heap<OwnSupply>,
+    chain: &mut Chain<VecKeep>,
+    alloc: Global,
+    time: u64,
+    want: Kind,
+    answer: (Kind, u64),
+) -> Result<bool, AllocError>
+    requires belongs { Belongs heap.old.version heap.old.quota heap.old.state chain.old }
+    requires sound { IsSound heap.old }
+    ensures belongs { Belongs heap.new.version heap.new.quota heap.new.state chain.new }
+    ensures sound { IsSound heap.new }
+{
+    if chain.made() >= 100 {
+        return Ok(false);
+    }
+    match chain.log(alloc, heap, time, want) {
+        Ok(logged) => Ok(logged == answer),
+        Err(LogError::Refused(_)) => Ok(false),
+        Err(LogError::Memory) => Err(AllocError),
+    }
+}
+
+fn restores(
+    heap: &mut Heap<OwnSupply>,
+    chain: &mut Chain<VecKeep>,
+    time: u64,
+    answer: Result<u64, Refusal>,
+) -> bool
+    requires belongs { Belongs heap.old.version heap.old.quota heap.old.state chain.old }
+    requires sound { IsSound heap.old }
+    ensures belongs { Belongs heap.new.version heap.new.quota heap.new.state chain.new }
+    ensures sound { IsSound heap.new }
+{
+    chain.restore(&(), heap, time) == answer
+}
+
+fn prunes(heap: &Heap<OwnSupply>, chain: &mut Chain<VecKeep>, bound: u64) -> u32
+    requires { Belongs heap.now.version heap.now.quota heap.now.state chain.old }
+    ensures { Belongs heap.now.version heap.now.quota heap.now.state chain.new }
+{
+    let _ = heap;
+    chain.prune(bound)
+}
+
+fn has_answers(
+    rt: &impl Abort,
+    heap: &mut Heap<OwnSupply>,
+    chain: &mut Chain<VecKeep>,
+    alloc: Global,
+) -> Result<(), AllocError>
+    requires { Belongs heap.old.version heap.old.quota heap.old.state chain.old }
+{
+    assert!(rt; allocates(heap, chain));
+    assert!(rt; logs(heap, chain, alloc, 10, Kind::Full, (Kind::Full, 210))?);
+    assert!(rt; writes(heap, chain));
+    assert!(rt; logs(heap, chain, alloc, 20, Kind::Inc, (Kind::Inc, 338))?);
+    assert!(rt; logs(heap, chain, alloc, 30, Kind::Inc, (Kind::Inc, 274))?);
+    assert!(rt; restores(heap, chain, 25, Ok(20)));
+    assert!(rt; logs(heap, chain, alloc, 26, Kind::Inc, (Kind::Inc, 274))?);
+    assert!(rt; restores(heap, chain, 5, Err(Refusal::NoLog)));
+    assert_eq!(rt; prunes(heap, chain, 5), 0);
+    assert_eq!(rt; prunes(heap, chain, 22), 1);
+    assert!(rt; restores(heap, chain, 15, Err(Refusal::NoLog)));
+    assert_eq!(rt; chain.kept(), 2);
+    assert_eq!(rt; chain.slots(), 3);
+    let mut bytes = [0];
+    assert!(rt; heap.read(H64, 0, &mut bytes) == Ok(()));
+    assert_eq!(rt; bytes[0], 0x2a);
+    Ok(())
+}
+
+#[test]
+fn pruned_base(rt: HostRuntime) -> Result<(), AllocError> {
+    let alloc = rt.alloc();
+    let supply = OwnSupply::open(alloc, 1)?;
+    let keep = VecKeep::open(alloc)?;
+    let mut heap = match Heap::open(alloc, supply) {
+        Ok(heap) => heap,
+        Err((error, _)) => return Err(error),
+    };
+    let answered = match Chain::open(alloc, keep) {
+        Ok(mut chain) => {
+            let answered = has_answers(&rt, &mut heap, &mut chain, alloc);
+            chain.into_keep();
+            answered
+        }
+        Err((error, _keep)) => Err(error),
+    };
+    heap.end(&());
+    answered
+}

@@ -1,0 +1,147 @@
+-- What the calls answer that lend an area.
+use Rattle.std.proofs.Common.{◌≡◌, ℕ, zero, suc, ◌+◌, ◌*◌, ◌<◌, ◌≤◌, ◌&&◌, inl, inr, true, false, is_some, Option, Some, None, List, [], ◌++◌, length, get_or, take, drop, ltb, refl, sym, ap, subst, ◌∙◌, arith, MatchOption, suc-mul}
+use Rattle.std.specs.Prelude.{option_map, unwrap_or}
+use Rattle.std.specs.List.{flat_map, between, range_with_len}
+use Rattle.std.proofs.lemmas.Bool.{cases_lt, lt-ltb, le-ltb}
+use Rattle.std.proofs.lemmas.List.{get_or_past, take_all}
+use Rattle.std.proofs.lemmas.List.Edits.{between_none}
+use Rattle.std.proofs.lemmas.Nat.{mul-le}
+use Rattle.std.proofs.Math.Nat.{add-mul}
+use Rattle.std.specs.FinMap.{get}
+use Rattle.std.specs.FinSet.{contains}
+use Rattle.dym_base.specs.Numbers.{size, per}
+use Rattle.dym_base.specs.Heaps.{Live, Touched, held}
+use Rattle.dym_base.specs.declared.command.Version.TheVariants.{One}
+use Rattle.dym_bits.specs.Bits.{bit_in}
+use Rattle.dym_region.specs.Content.{part_of}
+use Rattle.dym_area.specs.Area.{AreaMeaning}
+use Rattle.dym_pack.specs.Areas.{area_at, chunks_of, chunk_number, is_used_at, bytes_at}
+use Rattle.dym_heap.specs.Meaning.{HeapMeaning}
+use Rattle.dym_heap.specs.Table.{live_of, touched_of}
+use Rattle.dym_heap.specs.Shelves.{ShelfMeaning, IsTidy, FitsIn}
+use Rattle.dym_heap.specs.Places.{PlaceMeaning, len_of, version_by, place_of, IsMeasured}
+use Rattle.dym_heap.specs.Lending.{IsAreaOf, IsUsedRun}
+use Rattle.dym_heap.proofs.Sizes.{whole_area}
+use Rattle.dym_heap.proofs.Steps.{tidy_held}
+use Rattle.dym_heap.proofs.Soundness.{heap_of}
+use Rattle.dym_heap.proofs.Joins.{between-join, flat-same}
+use Rattle.dym_heap.proofs.PlaceSteps.{some_used, used_chunk, mark_of}
+use Rattle.dym_heap.proofs.PlaceFacts.{chunk_at_p, set_p}
+
+-- ---- the bits and the bytes of a place, from its area
+
+module _ (area : AreaMeaning) (ls : Option (List ℕ)) (p : PlaceMeaning) (v : place_of area ls ≡ p) (m : IsMeasured area ls) where
+  pub used_p : (i : ℕ) → bit_in area.used i ≡ is_some (get_or p.chunks i None)
+  used_p i = sym (ap is_some (chunk_at_p area ls p v m i) ∙ some_used area ls i)
+
+  pub touched_p : (i : ℕ) → bit_in area.dirty i ≡ get_or p.touched i false
+  touched_p i = sym (sym (ap (λ (q : PlaceMeaning). get_or q.touched i false) v) ∙ mark_of area i m.lawful)
+
+  len_one : (i : ℕ) → version_by ls ≡ One → len_of area.exponent ls i ≡ size area.exponent
+  len_one i one = elim ls as (λ x. version_by x ≡ One → len_of area.exponent x i ≡ size area.exponent) [ None ↦ λ e. refl | Some ns ↦ λ e. cc ] one
+
+  pub run_p : (from count : ℕ) → p.version ≡ One → IsUsedRun p.chunks from count → from * size area.exponent + count * size area.exponent ≤ length area.content
+      → part_of area.content (from * size area.exponent) (count * size area.exponent) ≡ flat_map (λ i. unwrap_or (get_or p.chunks i None) []) (range_with_len from count)
+  run_p from zero one used fits =
+      let z : from * size area.exponent + zero * size area.exponent ≡ from * size area.exponent = omega arith in
+      ap (λ b. between (from * size area.exponent) b area.content) z ∙ between_none area.content (from * size area.exponent)
+  run_p from (suc n) one used fits =
+      let e : ℕ = size area.exponent in
+      let more = suc-mul n e in
+      let next = add-mul from 1 e in
+      let first = used from (omega arith) (omega arith) in
+      let version : version_by ls ≡ One = ap (λ (q : PlaceMeaning). q.version) v ∙ one in
+      let here : get_or p.chunks from None ≡ Some (between (from * e) (from * e + e) area.content) =
+      chunk_at_p area ls p v m from ∙ used_chunk area ls from (set_p area ls p v m from first) ∙ ap (λ k. Some (part_of area.content (from * e) k)) (len_one from version) in
+      let rest = run_p (from + 1) n one (λ i low high. used i (omega arith) (omega arith)) (omega arith) in
+      sym (between-join (from * e) (from * e + e) (from * e + suc n * e) area.content (omega arith) (omega arith) (omega arith))
+      ∙ ap (λ xs. xs ++ between (from * e + e) (from * e + suc n * e) area.content) (sym (ap (λ o. unwrap_or o []) here))
+      ∙ ap (λ xs. unwrap_or (get_or p.chunks from None) [] ++ xs)
+      ((let a : from * e + e ≡ (from + 1) * e = omega arith in let b : from * e + suc n * e ≡ (from + 1) * e + n * e = omega arith in
+      ap (λ x. between x (from * e + suc n * e) area.content) a ∙ ap (λ x. between ((from + 1) * e) x area.content) b) ∙ rest)
+
+-- ---- the answers, from the area that a place is
+
+length_there : (o : Option (List ℕ)) (n : ℕ) → Some n ≡ option_map length o → n ≡ length (unwrap_or o [])
+length_there None n e = absurd cc
+length_there (Some xs) n e = cc
+
+bytes_there : (o : Option (List ℕ)) (n : ℕ) (out : List ℕ) → n ≡ length (unwrap_or o []) → MatchOption o ⊥ (λ bytes. out ≡ take n (drop 0 bytes)) → out ≡ unwrap_or o []
+bytes_there None n out long h = absurd h
+bytes_there (Some xs) n out long h = h ∙ take_all n xs (omega arith)
+
+fits_there : (o : Option (List ℕ)) (n : ℕ) → is_some o ≡ true → n ≡ length (unwrap_or o []) → FitsIn o (0 + n)
+fits_there None n some long = absurd cc
+fits_there (Some xs) n some long = omega arith
+
+module _ (live : Live) (touched : Touched) (k : ℕ) (p : PlaceMeaning) (is : IsAreaOf live touched k p) where
+  pub long_a : length p.chunks ≡ chunks_of live k
+  long_a = is.place.whole ∙ ap per is.exponent
+
+  pub used_a : (i : ℕ) → is_some (get_or p.chunks i None) ≡ (ltb i (chunks_of live k) && is_used_at live k i)
+  used_a i =
+      let long = long_a in
+      elim (cases_lt i (length p.chunks)) as (λ _. is_some (get_or p.chunks i None) ≡ (ltb i (chunks_of live k) && is_used_at live k i)) [
+        | inl l ↦ ap is_some (is.chunk i l) ∙ sym (ap (λ b. b && is_used_at live k i) (lt-ltb i (chunks_of live k) (omega arith)))
+        | inr past ↦ ap is_some (get_or_past p.chunks i None past) ∙ sym (ap (λ b. b && is_used_at live k i) (le-ltb i (chunks_of live k) (omega arith)))
+      ]
+
+  pub touched_a : (i : ℕ) → get_or p.touched i false ≡ (ltb i (chunks_of live k) && contains touched (chunk_number live k i))
+  touched_a i =
+      let long = long_a in
+      let marks = is.place.marks in
+      elim (cases_lt i (length p.chunks)) as (λ _. get_or p.touched i false ≡ (ltb i (chunks_of live k) && contains touched (chunk_number live k i))) [
+        | inl l ↦ is.mark i l ∙ sym (ap (λ b. b && contains touched (chunk_number live k i)) (lt-ltb i (chunks_of live k) (omega arith)))
+        | inr past ↦ get_or_past p.touched i false (omega arith) ∙ sym (ap (λ b. b && contains touched (chunk_number live k i)) (le-ltb i (chunks_of live k) (omega arith)))
+      ]
+
+  pub inside_a : (i : ℕ) → i < chunks_of live k → i < length p.chunks
+  inside_a i l = let long = long_a in omega arith
+
+  pub is_used_a : (i : ℕ) → i < chunks_of live k → is_some (get_or p.chunks i None) ≡ is_used_at live k i
+  is_used_a i l = ap is_some (is.chunk i (inside_a i l))
+
+  pub is_touched_a : (i : ℕ) → i < chunks_of live k → get_or p.touched i false ≡ contains touched (chunk_number live k i)
+  is_touched_a i l = is.mark i (inside_a i l)
+
+  pub len_a : (i n : ℕ) → i < chunks_of live k → Some n ≡ option_map length (get_or p.chunks i None) → n ≡ length (bytes_at live k i)
+  len_a i n l e = length_there (get live (chunk_number live k i)) n (e ∙ ap (option_map length) (is.chunk i (inside_a i l)))
+
+  pub fits_a : (i n : ℕ) → i < chunks_of live k → is_used_at live k i ≡ true → n ≡ length (bytes_at live k i) → FitsIn (get_or p.chunks i None) (0 + n)
+  fits_a i n l used long = subst (λ o. FitsIn o (0 + n)) (sym (is.chunk i (inside_a i l))) (fits_there (get live (chunk_number live k i)) n used long)
+
+  pub bytes_a : (i n : ℕ) (out : List ℕ) → i < chunks_of live k → n ≡ length (bytes_at live k i) → MatchOption (get_or p.chunks i None) ⊥ (λ bytes. out ≡ take n (drop 0 bytes)) → out ≡ bytes_at live k i
+  bytes_a i n out l long h = bytes_there (get live (chunk_number live k i)) n out long (subst (λ o. MatchOption o ⊥ (λ bytes. out ≡ take n (drop 0 bytes))) (is.chunk i (inside_a i l)) h)
+
+  -- ---- a run
+
+  pub run_fits : (from count n : ℕ) → from + count ≤ chunks_of live k → n ≡ count * size (area_at live k).exponent → from * size p.exponent + n ≤ 65536
+  run_fits from count n inside long =
+      let e : ℕ = (area_at live k).exponent in
+      let same : from * size p.exponent ≡ from * size e = ap (λ x. from * size x) is.exponent in
+      let high : e ≤ 16 = let m = is.place.most in let x = is.exponent in omega arith in
+      let whole = whole_area e high in
+      let m = mul-le (from + count) (size e) (per e) (size e) inside (omega arith) in
+      let sum = add-mul from count (size e) in
+      omega arith
+
+  pub run_used : (from count : ℕ) → from + count ≤ chunks_of live k → ((i : ℕ) → from ≤ i → i < from + count → is_used_at live k i ≡ true) → IsUsedRun p.chunks from count
+  run_used from count inside used i low high = is_used_a i (omega arith) ∙ used i low high
+
+  pub run_a : (from count : ℕ) → from + count ≤ chunks_of live k → flat_map (λ i. unwrap_or (get_or p.chunks i None) []) (range_with_len from count) ≡ flat_map (bytes_at live k) (range_with_len from count)
+  run_a from count inside = flat-same (λ i. unwrap_or (get_or p.chunks i None) []) (bytes_at live k) from count (λ i low high. ap (λ o. unwrap_or o []) (is.chunk i (inside_a i (omega arith))))
+
+-- ---- the areas of a heap
+
+module _ (s : ShelfMeaning) (applied : ℕ) (h : HeapMeaning) (view : heap_of s applied ≡ h) (tidy : IsTidy s) where
+  pub held_h : length s.held_ids ≡ held h.state.live
+  held_h = sym (tidy_held s tidy) ∙ ap (λ (x : HeapMeaning). held x.state.live) view
+
+  pub within_h : (k : ℕ) → k < held h.state.live → k < length s.held_ids
+  within_h k l = let n = held_h in omega arith
+
+  pub area_h : (k : ℕ) (p : PlaceMeaning) → IsAreaOf (live_of s.rows) (touched_of s.rows) k p → IsAreaOf h.state.live h.state.touched k p
+  area_h k p is = subst (λ (x : HeapMeaning). IsAreaOf x.state.live x.state.touched k p) view is
+
+  pub version_h : (p : PlaceMeaning) → p.version ≡ s.version → p.version ≡ h.version
+  version_h p e = e ∙ ap (λ (x : HeapMeaning). x.version) view

@@ -1,0 +1,65 @@
+use Rattle.std.proofs.Common.{ℕ, ◌<◌, arith, ap, max, ◌≡◌, nat_cmp, rules}
+use Rattle.dym_base.specs.Heaps.{held}
+use Rattle.std.specs.Ordering.{ord_max}
+use Rattle.dym_pack.specs.Areas.{AreaName}
+use Rattle.dym_heap.proofs.AreaLists.{named}
+use Rattle.dym_heap.proofs.RecordLoads.{class_low, class_high}
+use Rattle.dym_heap.proofs.Counts as counts
+use Rattle.dym_heap.proofs.shape.count_areas.Goals as goal
+
+-- the greater of two, as the code takes it
+greater : (x a b : ℕ) → x ≡ ord_max nat_cmp a b → x ≡ max a b
+greater x a b is = search rules
+
+pub class_index-class-requires-clause-least : goal.class_index-class-requires-clause-least
+class_index-class-requires-clause-least c =
+    let has = c.area_count-k-end.ensures.recorded in
+    let e = c.area-exp.ensures.exp has.0 has.1 has.2 in
+    let low = class_low has.0 has.1 c.loop-k.k (let n = c.area_count-k-end.ensures.count has.0 has.1 has.2 in let t = c.loop-k-test.true in omega arith) in
+    omega arith
+
+pub class_index-class-requires-clause-most : goal.class_index-class-requires-clause-most
+class_index-class-requires-clause-most c =
+    let has = c.area_count-k-end.ensures.recorded in
+    let e = c.area-exp.ensures.exp has.0 has.1 has.2 in
+    let high = class_high has.0 has.1 c.loop-k.k (let n = c.area_count-k-end.ensures.count has.0 has.1 has.2 in let t = c.loop-k-test.true in omega arith) in
+    omega arith
+
+pub bounds-counts-class : goal.bounds-counts-class
+bounds-counts-class c =
+    let has = c.area_count-k-end.ensures.recorded in
+    let e = c.area-exp.ensures.exp has.0 has.1 has.2 in
+    let high = class_high has.0 has.1 c.loop-k.k (let n = c.area_count-k-end.ensures.count has.0 has.1 has.2 in let t = c.loop-k-test.true in omega arith) in
+    let i = c.class_index-class.ensures in
+    omega arith
+
+pub overflow_add-ordinal : goal.overflow_add-ordinal
+overflow_add-ordinal c =
+    let has = c.area_count-k-end.ensures.recorded in
+    let n = named has.0.copy c.loop-k.k (let n = c.area_count-k-end.ensures.count has.0 has.1 has.2 in let t = c.loop-k-test.true in omega arith) in
+    let o = c.area-exp.ensures.ordinal has.0 has.1 has.2 in
+    let is = ap (λ (a : AreaName). a.ordinal) n.is in
+    let low = n.below in
+    let few = has.1.packable.few in
+    let l : c.loop-k.k < held has.0.copy = (let n = c.area_count-k-end.ensures.count has.0 has.1 has.2 in let t = c.loop-k-test.true in omega arith) in
+    omega arith
+
+pub bounds-counts-class-in-loop-k : goal.bounds-counts-class-in-loop-k
+bounds-counts-class-in-loop-k c =
+    let has = c.area_count-k-end.ensures.recorded in
+    let e = c.area-exp.ensures.exp has.0 has.1 has.2 in
+    let high = class_high has.0 has.1 c.loop-k.k (let n = c.area_count-k-end.ensures.count has.0 has.1 has.2 in let t = c.loop-k-test.true in omega arith) in
+    let i = c.class_index-class.ensures in
+    omega arith
+
+pub loop-k-preserved : goal.loop-k-preserved
+loop-k-preserved c = record {
+  counted = counts.counted_more c.args.rec.now c.loop-k.counts c.loop-k.k c.class_index-class.result c.area-exp.result.exp c.area-exp.result.ordinal c.max.result c.loop-k.invariant.counted c.area_count-k-end.ensures.recorded
+      (λ log is e. (let n = c.area_count-k-end.ensures.count log is e in let t = c.loop-k-test.true in omega arith)) c.area-exp.ensures.exp c.area-exp.ensures.ordinal c.class_index-class.ensures (greater _ _ _ c.max.ensures);
+}
+
+pub returns-clause-are : goal.returns-clause-are
+returns-clause-are c = counts.counted_all c.args.rec.now c.loop-k.counts c.loop-k.k c.loop-k.invariant.counted (λ log is e. let n = c.area_count-k-end.ensures.count log is e in let t = c.loop-k-test.false in let m = c.loop-k.auto.k-end in omega arith)
+
+pub returns-clause-total : goal.returns-clause-total
+returns-clause-total c = counts.counted_total c.args.rec.now c.loop-k.counts c.loop-k.k c.loop-k.invariant.counted c.area_count-k-end.ensures.recorded (λ log is e. let n = c.area_count-k-end.ensures.count log is e in let t = c.loop-k-test.false in let m = c.loop-k.auto.k-end in omega arith)

@@ -1,0 +1,50 @@
+-- The packed chunks of one area, and what an area, a place and a shelf have after they were loaded.
+use Rattle.std.specs.Prelude.{◌≡◌, ℕ, ◌+◌, ◌*◌, ◌/◌, ◌≤◌, ◌<◌, Bool, true, false, List, length, slice_index, slice_index_or, Option, None, Some}
+use Rattle.std.specs.List.{flat_map, filter, range_with_len}
+use Rattle.dym_base.specs.Numbers.{size, per}
+use Rattle.dym_base.specs.Packed.{packed_chunk}
+use Rattle.dym_base.specs.declared.command.Version.{Version}
+use Rattle.dym_bits.specs.Bits.{bit_in, IsSet, IsClear}
+use Rattle.dym_region.specs.Content.{part_of}
+use Rattle.dym_area.specs.Area.{AreaMeaning}
+use Rattle.dym_heap.specs.Meaning.{IsSizeOf}
+use Rattle.dym_heap.specs.Table.{Row, chunk_at, touch_at}
+use Rattle.dym_heap.specs.Places.{PlaceMeaning}
+
+-- the body packs the chunks of an area of class e whose bits are set: of chunk i the bytes f i
+pub record IsBodyOf (v : Version) (e : ℕ) (bits : List Bool) (body : List ℕ) (f : ℕ → List ℕ) : Type 0 where
+  pub below : (i : ℕ) → IsSet bits i → i < per e
+  pub sized : (i : ℕ) → IsSet bits i → IsSizeOf v e (length (f i))
+  pub is : body ≡ flat_map (λ i. packed_chunk v (f i)) (filter (bit_in bits) (range_with_len 0 (per e)))
+
+-- there are such bytes
+abbrev pub IsBody : Version → ℕ → List Bool → List ℕ → Type 0
+IsBody v e bits body = (f : ℕ → List ℕ) × IsBodyOf v e bits body f
+
+-- the area has these bytes where a bit is set, and the old ones elsewhere
+pub record HoldsLoaded (old new : AreaMeaning) (bits : List Bool) (f : ℕ → List ℕ) : Type 0 where
+  pub same : new ≡ record old { content = new.content }
+  pub loaded : (i : ℕ) → IsSet bits i → part_of new.content (i * size old.exponent) (length (f i)) ≡ f i
+  pub kept : (i n : ℕ) → i < per old.exponent → n ≤ size old.exponent → IsClear bits i → part_of new.content (i * size old.exponent) n ≡ part_of old.content (i * size old.exponent) n
+
+-- the table has their lengths where a bit is set, and the old ones elsewhere
+pub record NotesLoaded (old new : List ℕ) (bits : List Bool) (f : ℕ → List ℕ) : Type 0 where
+  pub noted : (i : ℕ) → IsSet bits i → slice_index new i ≡ length (f i)
+  pub kept : (i : ℕ) → IsClear bits i → slice_index new i ≡ slice_index old i
+
+-- what a chunk is after these bytes were loaded into it, where it is packed
+abbrev pub loaded_over : Bool → List ℕ → Option (List ℕ) → Option (List ℕ)
+loaded_over is_packed bytes None = None
+loaded_over true bytes (Some old) = Some bytes
+loaded_over false bytes (Some old) = Some old
+
+-- each chunk of the place is loaded
+pub record IsLoadedPlace (old new : PlaceMeaning) (bits : List Bool) (f : ℕ → List ℕ) : Type 0 where
+  pub same : new ≡ record old { chunks = new.chunks }
+  pub chunk : (i : ℕ) → slice_index_or new.chunks i None ≡ loaded_over (bit_in bits i) (f i) (slice_index_or old.chunks i None)
+
+-- area o of row c is loaded
+pub record IsLoadedArea (old new : List Row) (c o : ℕ) (bits : List Bool) (f : ℕ → List ℕ) : Type 0 where
+  pub here : (i : ℕ) → i < per (c + 5) → chunk_at new c (o * per (c + 5) + i) ≡ loaded_over (bit_in bits i) (f i) (chunk_at old c (o * per (c + 5) + i))
+  pub others : (d i : ℕ) → (d ≡ c → i / per (c + 5) ≡ o → ⊥) → chunk_at new d i ≡ chunk_at old d i
+  pub marks : (d i : ℕ) → touch_at new d i ≡ touch_at old d i

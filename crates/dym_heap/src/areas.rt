@@ -1,0 +1,56 @@
+//! A heap lends its areas to be packed.
+ghost use Rattle.dym_heap.specs.Loading.{areas_of};
+
+use crate::heap::Heap;
+use dym_base::Version;
+use dym_bits::Bits;
+use dym_pack::Areas;
+use dym_quota::Supply;
+
+impl<S: Supply> Areas for Heap<S> {
+    ghost meaning = { areas_of };
+
+    fn version(&self) -> Version {
+        self.shelf.version()
+    }
+
+    fn area_count(&self) -> u32 {
+        self.shelf.held()
+    }
+
+    fn area_exp(&self, k: u32) -> u8 {
+        self.shelf.place(k).exp()
+    }
+
+    fn area_ordinal(&self, k: u32) -> u32 {
+        self.shelf.place(k).ordinal()
+    }
+
+    fn used_bits(&self, k: u32) -> &Bits {
+        self.shelf.place(k).used_bits()
+    }
+
+    fn dirty_bits(&self, k: u32) -> &Bits {
+        self.shelf.place(k).dirty_bits()
+    }
+
+    fn chunk_used(&self, k: u32, i: u32) -> bool {
+        self.shelf.place(k).is_used(i)
+    }
+
+    fn chunk_dirty(&self, k: u32, i: u32) -> bool {
+        self.shelf.place(k).is_dirty(i)
+    }
+
+    fn chunk_len(&self, k: u32, i: u32) -> u32 {
+        self.shelf.place(k).used_len(i)
+    }
+
+    fn chunk_read(&self, k: u32, i: u32, out: &mut [u8]) {
+        self.shelf.place(k).read(i, 0, out);
+    }
+
+    fn run_read(&self, k: u32, from: u32, _count: u32, out: &mut [u8]) {
+        self.shelf.place(k).read_run(from, out);
+    }
+}

@@ -1,0 +1,12 @@
+pub mod Bitmaps
+pub mod Chunks
+pub mod Fronts
+pub mod Heads
+pub mod Logs
+pub mod Named
+pub mod Ranges
+pub mod Slices
+pub mod Tells
+pub mod Unique
+pub mod Walks
+pub mod Written

@@ -1,0 +1,31 @@
+use Rattle.std.proofs.Common.{◌≡◌, ◌+◌, ◌-◌, ◌/◌, ◌≤◌, max, length, take, drop, ap, sym, ◌∙◌, arith}
+use Rattle.dym_base.specs.Numbers.{per}
+use Rattle.dym_base.specs.Packed.{packed}
+use Rattle.dym_pack.specs.Areas.{chunks_of}
+use Rattle.std.proofs.lemmas.List.{length-take}
+use Rattle.dym_pack.proofs.Slices.{touched_fits, touched_read}
+use Rattle.dym_pack.proofs.record.Record.touched_bytes.Goals as goal
+
+pub slice_bounds-result-end : goal.slice_bounds-result-end
+slice_bounds-result-end c =
+    let log = c.whole-bytes.ensures.is.0 in
+    let rec = c.whole-bytes.ensures.is.1 in
+    let same = c.whole-bytes.ensures.is.2 ∙ c.whole-bytes.ensures.same in
+    let long = ap length c.whole-bytes.ensures.is.2 in
+    let map_is : c.map_bytes-map.result ≡ max 1 (chunks_of log.copy c.args.k / 8) = c.map_bytes-map.ensures.value ∙ ap (λ e. max 1 (per e / 8)) (c.area_exp.ensures.is log rec same) in
+    let short : c.start.result + 5 + c.map_bytes-map.result + c.map_bytes-map.result ≤ length c.whole-bytes.result.now = omega (arith, touched_fits log c.args.k (c.requires.area log rec same) (c.requires.kind log rec same), c.start.ensures.at log rec same) in
+    short
+
+pub returns-clause-is : goal.returns-clause-is
+returns-clause-is c log rec same =
+    let map_is : c.map_bytes-map.result ≡ max 1 (chunks_of log.copy c.args.k / 8) = c.map_bytes-map.ensures.value ∙ ap (λ e. max 1 (per e / 8)) (c.area_exp.ensures.is log rec same) in
+    let map = c.map_bytes-map.result in
+    let n_is : c.start.result + 5 + map + map - (c.start.result + 5 + map) ≡ map = omega arith in
+    ap (λ n. take n (drop (c.start.result + 5 + map) c.whole-bytes.result.now)) n_is
+    ∙ ap (λ bytes. take map (drop (c.start.result + 5 + map) bytes)) (c.whole-bytes.ensures.same ∙ sym same)
+    ∙ ap (λ s. take map (drop (s + 5 + map) (packed log))) (c.start.ensures.at log rec same)
+    ∙ touched_read log c.args.k map (c.requires.area log rec same) (c.requires.kind log rec same) map_is
+
+pub returns-clause-few : goal.returns-clause-few
+returns-clause-few c =
+    omega (arith, length-take (c.start.result + 5 + c.map_bytes-map.result + c.map_bytes-map.result - (c.start.result + 5 + c.map_bytes-map.result)) (drop (c.start.result + 5 + c.map_bytes-map.result) c.whole-bytes.result.now), c.map_bytes-map.ensures.few)

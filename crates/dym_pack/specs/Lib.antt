@@ -1,0 +1,4 @@
+pub mod Areas
+pub mod Laws
+pub mod Places
+pub mod Reading

@@ -1,0 +1,18 @@
+use Rattle.std.proofs.Common.{◌≡◌, ◌+◌, ◌≤◌, List, length}
+use Rattle.dym_base.specs.declared.limits.TheConstants.{MOST_COMMANDS}
+use Rattle.dym_script.specs.declared.script.Line.{Line}
+use Rattle.dym_script.specs.Lines.{lines_of}
+use Rattle.dym_script.specs.Scripts.{read_lines, start}
+use Rattle.dym_script.specs.Readers.{IsKept, seen}
+use Rattle.dym_script.proofs.read.count_script.Given as goal
+
+abbrev pub invariant-loop-line : goal.invariant-loop-line
+invariant-loop-line l = record {
+  kept : IsKept l.reader;
+  few : l.commands ≤ MOST_COMMANDS;
+  short : l.number + length l.rest ≤ length l.bytes;
+  read : (lines : List Line) × (length lines ≡ l.commands) × (read_lines (seen l.reader lines) (l.number + 1) (lines_of l.rest) ≡ read_lines start 1 (lines_of l.bytes));
+}
+
+abbrev pub decreases-loop-line : goal.decreases-loop-line
+decreases-loop-line l = length l.rest
