@@ -1,15 +1,19 @@
 -- A command to the heap of an object: the step of the object is that of its heap.
-use Rattle.std.proofs.Common.{◌≡◌, ℕ, Result, Ok, Err, OnOk, refl, ap, sym, subst, ◌∙◌}
+use Rattle.std.proofs.Common.{◌≡◌, ℕ, Result, Ok, Err, OnOk, IfOk, refl, ap, sym, subst, ◌∙◌}
 use Rattle.dym_base.specs.HeapStep.{heap_step, IsHeapCommand}
 use Rattle.dym_base.specs.Objects.{ObjectState, ObjectAnswer, of_heap, object_step}
 use Rattle.dym_base.specs.declared.command.Version.{Version}
 use Rattle.dym_base.specs.declared.command.Command.{Command}
 use Rattle.dym_base.specs.declared.command.Command.TheVariants.{Malloc, Calloc, Realloc, Free, Write, Fill, Read, Link, Follow, Sum, Log, Ilog, Restore, Prune, Logs}
+use Rattle.dym_base.specs.declared.reply.Reply.{Reply}
+use Rattle.dym_base.specs.declared.reply.Reply.TheVariants.{Done, Chunk, Nil, Loose, Bytes, Total, Logged, At, Dropped, Slots, Refused}
 use Rattle.dym_heap.specs.Meaning.{HeapMeaning}
 use Rattle.dym_heap.specs.Replies.{stepped}
 use Rattle.dym_chain.specs.Chains.{ChainMeaning, Belongs, object_of}
 use Rattle.dym_chain.specs.ChainLaws.{HeapStepsKeepBelonging}
+use Rattle.dym_object.specs.Commands.{OnRefusal}
 
+-- one command to the heap of an object
 pub step_is : (v : Version) (quota : ℕ) (s : ObjectState) (c : Command) → IsHeapCommand c → object_step v quota s c ≡ of_heap s (heap_step v quota s.heap c)
 step_is v quota s (Malloc n) is = refl
 step_is v quota s (Calloc m n) is = refl
@@ -27,6 +31,7 @@ step_is v quota s (Restore t) is = absurd is
 step_is v quota s (Prune g) is = absurd is
 step_is v quota s Logs is = absurd is
 
+-- a command that is none of those about logs
 pub is_heap_command : (c : Command) → ((t : ℕ) → c ≡ Log t → ⊥) → ((t : ℕ) → c ≡ Ilog t → ⊥) → ((t : ℕ) → c ≡ Restore t → ⊥) → ((g : ℕ) → c ≡ Prune g → ⊥) → (c ≡ Logs → ⊥) → IsHeapCommand c
 is_heap_command (Malloc n) a b d e f = tt
 is_heap_command (Calloc m n) a b d e f = tt
@@ -64,3 +69,21 @@ rest_stays h new c after =
 pub still_belongs : HeapStepsKeepBelonging → (h new : HeapMeaning) (chain : ChainMeaning) (c : Command) → new ≡ record (stepped h c) { held_ids = new.held_ids } → Belongs h.version h.quota h.state chain → Belongs new.version new.quota new.state chain
 still_belongs law h new chain c after belongs =
     subst (λ (m : HeapMeaning). Belongs m.version m.quota m.state chain) (sym after) (law h.version h.quota h.state c chain belongs)
+
+-- what holds at a refusal, with what holds at every reply
+refused_too : (r : Reply) (P Q : Type 0) → Q → OnRefusal r P → OnRefusal r (P × Q)
+refused_too (Refused why) P Q q p = (p, q)
+refused_too Done P Q q p = tt
+refused_too (Chunk h) P Q q p = tt
+refused_too Nil P Q q p = tt
+refused_too (Loose n) P Q q p = tt
+refused_too (Bytes bytes) P Q q p = tt
+refused_too (Total n) P Q q p = tt
+refused_too (Logged kind len) P Q q p = tt
+refused_too (At t) P Q q p = tt
+refused_too (Dropped n) P Q q p = tt
+refused_too (Slots n m) P Q q p = tt
+
+pub refused_both : {E : Type 0} (r : Result Reply E) (P Q : Type 0) → Q → IfOk r (λ reply. OnRefusal reply P) → IfOk r (λ reply. OnRefusal reply (P × Q))
+refused_both (Ok reply) P Q q p = refused_too reply P Q q p
+refused_both (Err e) P Q q p = tt

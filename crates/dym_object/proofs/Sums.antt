@@ -1,5 +1,5 @@
 -- The sum of a chunk, piece by piece.
-use Rattle.std.proofs.Common.{◌≡◌, ℕ, suc, ◌+◌, ◌<◌, Option, Some, None, MatchOption, List, [], ◌∷◌, ◌++◌, length, take, drop, sum, get_or, sym, ap, subst, ◌∙◌, zero-add, nat_lt}
+use Rattle.std.proofs.Common.{◌≡◌, ℕ, suc, ◌+◌, ◌<◌, Option, Some, None, MatchOption, List, [], ◌∷◌, length, take, drop, sum, get_or, sym, ap, subst, ◌∙◌, zero-add, nat_lt}
 use Rattle.std.proofs.Math.Seq.{take-suc, take-add}
 use Rattle.std.proofs.lemmas.Bool.{cond_both}
 use Rattle.std.proofs.lemmas.List.Sums.{sum_by-append}

@@ -1,4 +1,4 @@
--- Which reply takes memory.
+-- Which reply takes memory, and what holds at a refusal.
 use Rattle.std.specs.Prelude.{⊤, ℕ, Result, Ok, Err}
 use Rattle.dym_base.specs.declared.command.Command.{Command}
 use Rattle.dym_base.specs.declared.command.Command.TheVariants.{Read, Log, Ilog}
@@ -9,6 +9,11 @@ use Rattle.dym_base.specs.declared.reply.Refusal.{Refusal}
 abbrev pub IsNotRefused : Reply → Type 0
 IsNotRefused (Refused why) = ⊥
 IsNotRefused _ = ⊤
+
+-- a fact that holds where the reply is a refusal
+abbrev pub OnRefusal : Reply → Type 0 → Type 0
+OnRefusal (Refused why) P = P
+OnRefusal _ P = ⊤
 
 -- a command whose reply takes memory: a read that isn't refused for its bytes, a log that isn't refused for its record
 abbrev pub TakesMemory : Command → Reply → Type 0

@@ -5,7 +5,7 @@ ghost use Rattle.dym_base.specs.HeapStep.{IsHeapCommand};
 ghost use Rattle.dym_base.specs.declared.command.Command.TheVariants.{Read, Link};
 ghost use Rattle.dym_heap.specs.Meaning.{IsSound};
 ghost use Rattle.dym_heap.specs.Replies.{step_of, stepped, chunk_reply, moved_reply, done_reply, found_reply};
-ghost use Rattle.dym_object.specs.Commands.{TakesMemory, total_reply};
+ghost use Rattle.dym_object.specs.Commands.{TakesMemory, OnRefusal, total_reply};
 
 use crate::sum::sum_chunk;
 use dym_base::{Blob, Command, Handle, Refusal, Reply};
@@ -26,6 +26,7 @@ pub(crate) fn answer<S: Supply>(
     ensures after { heap.new ≡ record (stepped heap.old command.now) { held_ids = heap.new.held_ids } }
     ensures memory { IfErr result (λ _. TakesMemory command.now (step_of heap.old command.now).reply) }
     ensures unchanged { OnErr result (heap.new ≡ heap.old) }
+    ensures refused { IfOk result (λ r. OnRefusal r (heap.new ≡ heap.old)) }
     ensures sound { IsSound heap.new }
 {
     match command {

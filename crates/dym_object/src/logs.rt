@@ -4,7 +4,7 @@ ghost use Rattle.dym_base.specs.Objects as Objects;
 ghost use Rattle.dym_base.specs.Objects.{object_step};
 ghost use Rattle.dym_heap.specs.Meaning.{IsSound};
 ghost use Rattle.dym_chain.specs.Chains.{Belongs, StandsForCopies, object_of};
-ghost use Rattle.dym_object.specs.Commands.{TakesMemory, IsNotRefused};
+ghost use Rattle.dym_object.specs.Commands.{TakesMemory, IsNotRefused, OnRefusal};
 
 use crate::answer::answer;
 use dym_base::{Command, Kind, Reply};
@@ -29,6 +29,7 @@ pub(crate) fn answer_to<S: Supply, K: LogKeep>(
     ensures after { OnOk result (object_of heap.new.state chain.new ≡ (object_step heap.old.version heap.old.quota (object_of heap.old.state chain.old) command.now).object) }
     ensures memory { IfErr result (λ _. TakesMemory command.now (object_step heap.old.version heap.old.quota (object_of heap.old.state chain.old) command.now).reply) }
     ensures unchanged { OnErr result ((heap.new ≡ heap.old) × (chain.new ≡ chain.old)) }
+    ensures refused { IfOk result (λ r. OnRefusal r ((heap.new ≡ heap.old) × (chain.new ≡ chain.old))) }
     ensures heap { heap.new ≡ record heap.old { state = heap.new.state; held_ids = heap.new.held_ids } }
     ensures made { chain.new.made ≤ chain.old.made + 1 }
     ensures origin { chain.new.origin ≡ chain.old.origin }
@@ -67,6 +68,7 @@ fn log<S: Supply, K: LogKeep>(
     ensures after { OnOk result (object_of heap.new.state chain.new ≡ (Objects.log heap.old.version (object_of heap.old.state chain.old) time want).object) }
     ensures memory { IfErr result (λ _. IsNotRefused (Objects.log heap.old.version (object_of heap.old.state chain.old) time want).reply) }
     ensures unchanged { OnErr result ((heap.new ≡ heap.old) × (chain.new ≡ chain.old)) }
+    ensures refused { IfOk result (λ r. OnRefusal r ((heap.new ≡ heap.old) × (chain.new ≡ chain.old))) }
     ensures heap { heap.new ≡ record heap.old { state = heap.new.state } }
     ensures made { chain.new.made ≤ chain.old.made + 1 }
     ensures origin { chain.new.origin ≡ chain.old.origin }
@@ -94,6 +96,7 @@ fn restore<S: Supply, K: LogKeep>(
     ensures after { object_of heap.new.state chain.new ≡ (Objects.restore (object_of heap.old.state chain.old) time).object }
     ensures heap { heap.new ≡ record heap.old { state = heap.new.state; held_ids = heap.new.held_ids } }
     ensures chain { chain.new ≡ record chain.old { logs = chain.new.logs; records = chain.new.records } }
+    ensures refused { OnRefusal result ((heap.new ≡ heap.old) × (chain.new ≡ chain.old)) }
     ensures sound { IsSound heap.new }
     ensures belongs { Belongs heap.new.version heap.new.quota heap.new.state chain.new }
     ensures stands { StandsForCopies chain.new }

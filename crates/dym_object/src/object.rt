@@ -5,7 +5,7 @@ ghost use Rattle.dym_base.specs.Objects.{empty_heap};
 ghost use Rattle.dym_base.specs.declared.command.Version.TheVariants.{One};
 ghost use Rattle.dym_base.specs.declared.limits.TheConstants.{MOST_QUOTA};
 ghost use Rattle.dym_heap.specs.Meaning.{IsSound};
-ghost use Rattle.dym_object.specs.Commands.{TakesMemory};
+ghost use Rattle.dym_object.specs.Commands.{TakesMemory, OnRefusal};
 ghost use Rattle.dym_object.specs.Meaning.{ObjectMeaning, IsWhole, state_of, step_by};
 
 use crate::logs::answer_to;
@@ -103,6 +103,7 @@ impl<S: Supply, K: LogKeep> Object<S, K> {
         ensures ran { OnOk result (self.new.ran ≡ self.old.ran + 1) }
         ensures memory { IfErr result (λ _. TakesMemory command.now (step_by self.old command.now).reply) }
         ensures unchanged { OnErr result (self.new ≡ self.old) }
+        ensures refused { IfOk result (λ r. OnRefusal r (self.new ≡ record self.old { ran = self.old.ran + 1 })) }
         ensures heap { self.new.heap ≡ record self.old.heap { state = self.new.heap.state; held_ids = self.new.heap.held_ids } }
         ensures origin { self.new.chain.origin ≡ self.old.chain.origin }
         ensures whole { IsWhole self.new }

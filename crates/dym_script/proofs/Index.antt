@@ -1,5 +1,8 @@
 -- The index of the declared names: what a new name leaves of it, and what a name that is found is.
-use Rattle.std.proofs.Common.{◌≡◌, ℕ, ◌+◌, ◌<◌, Bool, true, false, cond, List, [], ◌∷◌, ◌++◌, length, Option, Some, None, IsTrue, refl, sym, ap, subst, ◌∙◌, arith, add-zero, All, rules, IfSome}
+use Rattle.std.proofs.Common.{◌≡◌, ℕ, ◌+◌, ◌<◌, Bool, true, false, cond, List, [], ◌∷◌, ◌++◌, length, Option, Some, None, IsTrue, refl, sym, ap, subst, ◌∙◌, arith, add-zero, All, rules, IfSome, get_or, nat_lt, length-append}
+use Rattle.std.proofs.Math.ListN.{get_or-append}
+use Rattle.std.proofs.Math.Seq.{get_or-append_seam}
+use Rattle.std.proofs.lemmas.Bool.Decides.{nat_tests}
 use Rattle.std.specs.List.{position_from}
 use Rattle.std.specs.Str.{bytes_eq}
 use Rattle.std.specs.Map.{lookup, KeepsOthers}
@@ -28,6 +31,27 @@ position_from_push test i (e ∷ ds) d = elim (test e) as (λ b. cond b (Some i)
 pub object_of_push : (ds : List Decl) (d : Decl) (name : List ℕ) → object_of (ds ++ d ∷ []) name ≡ with_last (object_of ds name) (bytes_eq d.name name) (length ds)
 unfolding object_of
 object_of_push ds d name = position_from_push (λ e. bytes_eq e.name name) 0 ds d ∙ ap (with_last (position_from (λ e. bytes_eq e.name name) 0 ds) (bytes_eq d.name name)) (omega arith)
+
+-- a new name leaves each declaration the first of its name, and the new one is
+pub first_push : (ds : List Decl) (d : Decl) → ((k : ℕ) (e : Decl) → k < length ds → object_of ds (get_or ds k e).name ≡ Some k) → object_of ds d.name ≡ None
+    → (k : ℕ) (e : Decl) → k < length (ds ++ d ∷ []) → object_of (ds ++ d ∷ []) (get_or (ds ++ d ∷ []) k e).name ≡ Some k
+first_push ds d first fresh k e below =
+    elim (nat_lt k (length ds)) as (λ b. nat_lt k (length ds) ≡ b → object_of (ds ++ d ∷ []) (get_or (ds ++ d ∷ []) k e).name ≡ Some k) [
+      | true ↦ λ old.
+          let inside : k < length ds = grind (arith, nat_tests) in
+          ap (λ (x : Decl). object_of (ds ++ d ∷ []) x.name) (get_or-append ds (d ∷ []) e k inside)
+          ∙ object_of_push ds d (get_or ds k e).name ∙ ap (λ o. with_last o (bytes_eq d.name (get_or ds k e).name) (length ds)) (first k e inside)
+      | false ↦ λ new.
+          let last : k ≡ length ds = grind (arith, nat_tests, length-append ds (d ∷ [])) in
+          let same : bytes_eq d.name d.name ≡ true = (bytes_decides d.name d.name).1 refl in
+          ap (λ (x : Decl). object_of (ds ++ d ∷ []) x.name) (ap (λ n. get_or (ds ++ d ∷ []) n e) last ∙ get_or-append_seam ds d [] e)
+          ∙ object_of_push ds d d.name ∙ ap (λ o. with_last o (bytes_eq d.name d.name) (length ds)) fresh ∙ ap (λ b. with_last None b (length ds)) same ∙ ap (λ n. Some n) (sym last)
+    ] refl
+
+-- the declaration in this place, where a name is its own, is the one that the name finds
+pub first_of_name : (ds : List Decl) (d : Decl) (k : ℕ) (name : List ℕ) → ((k : ℕ) (e : Decl) → k < length ds → object_of ds (get_or ds k e).name ≡ Some k) → k < length ds → d ≡ get_or ds k d
+    → bytes_eq d.name name ≡ true → object_of ds name ≡ Some k
+first_of_name ds d k name first inside at same = subst (λ n. object_of ds n ≡ Some k) ((bytes_decides d.name name).0 same) (ap (λ (x : Decl). object_of ds x.name) at ∙ first k d inside)
 
 position_from_within : (test : Decl → Bool) (i : ℕ) (ds : List Decl) (k : ℕ) → position_from test i ds ≡ Some k → k < i + length ds
 position_from_within test i [] k found = absurd (cc)

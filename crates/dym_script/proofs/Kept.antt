@@ -18,6 +18,7 @@ use Rattle.dym_script.proofs.Index.{with_last, with_last_no, object_of_none, obj
 pub kept_start : (r : Reader) → r.names.entries ≡ [] → r.objects.items ≡ [] → IsKept r
 kept_start r names objects = record {
   indexed = λ name. rw (names, objects) (sym (object_of_none name));
+  first = rw objects (λ k d below. absurd (omega arith));
   lawful = record {
     objects = rw objects (omega arith);
     lines = omega arith;

@@ -4,6 +4,7 @@ pub mod Kept
 pub mod Numbers
 pub mod Tallies
 pub mod Moves
+pub mod Holding
 pub mod Faults
 pub mod Hexes
 pub mod Asking

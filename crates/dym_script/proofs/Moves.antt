@@ -7,7 +7,8 @@ use Rattle.dym_script.specs.declared.script.Line.{Line}
 use Rattle.dym_script.specs.declared.own.Part.{Part}
 use Rattle.dym_script.specs.Parts.{commands_of, EachHas}
 
-commands_of_push : (lines : List Line) (line : Line) (k : ℕ) → commands_of (lines ++ line ∷ []) k ≡ commands_of lines k ++ cond (line.object == k) (line.command ∷ []) []
+-- the commands of an object, with one line more
+pub commands_of_push : (lines : List Line) (line : Line) (k : ℕ) → commands_of (lines ++ line ∷ []) k ≡ commands_of lines k ++ cond (line.object == k) (line.command ∷ []) []
 commands_of_push [] line k = elim (line.object == k) as (λ b. map (λ (l : Line). l.command) (cond b (line ∷ []) []) ≡ cond b (line.command ∷ []) []) [ true ↦ refl | false ↦ refl ]
 commands_of_push (l ∷ ls) line k = elim (l.object == k) as (λ b. map (λ (m : Line). m.command) (cond b (l ∷ filter (λ m. m.object == k) (ls ++ line ∷ [])) (filter (λ m. m.object == k) (ls ++ line ∷ []))) ≡ map (λ m. m.command) (cond b (l ∷ filter (λ m. m.object == k) ls) (filter (λ m. m.object == k) ls)) ++ cond (line.object == k) (line.command ∷ []) []) [
   | true ↦ ap (λ cs. l.command ∷ cs) (commands_of_push ls line k)

@@ -2,8 +2,10 @@ pub mod Lines
 pub mod Words
 pub mod Table
 pub mod Scripts
+pub mod Plain
 pub mod Answers
 pub mod Asks
 pub mod Readers
 pub mod Parts
+pub mod Held
 pub mod Laws

@@ -1,5 +1,5 @@
 -- What the reader of lines keeps between two lines, and what it hands on of one.
-use Rattle.std.specs.Prelude.{◌≡◌, ◌<◌, ℕ, Bool, List, [], length, Option, None, Some, Result, Ok, Err, IsTrue}
+use Rattle.std.specs.Prelude.{◌≡◌, ◌<◌, ℕ, Bool, List, [], length, slice_index_or, Option, None, Some, Result, Ok, Err, IsTrue}
 use Rattle.std.specs.Str.{bytes_eq}
 use Rattle.std.specs.HashMap.{get_by}
 use Rattle.dym_base.specs.Names.{is_name}
@@ -18,9 +18,10 @@ use Rattle.dym_script.specs.Answers.{IsLawful}
 abbrev pub seen : Reader → List Line → Reading
 seen r lines = record { begun = r.begun; said = record { version = r.version; objects = r.objects.items; lines = lines } }
 
--- the index finds each declared name and no other, and what was read is lawful
+-- the index finds each declared name and no other, each declaration is the first of its name, and what was read is lawful
 pub record IsKept (r : Reader) : Type 0 where
   pub indexed : (name : List ℕ) → get_by (λ key. bytes_eq name key.items) r.names ≡ object_of r.objects.items name
+  pub first : (k : ℕ) (d : Decl) → k < length r.objects.items → object_of r.objects.items (slice_index_or r.objects.items k d).name ≡ Some k
   pub lawful : IsLawful (seen r []).said
 
 -- what is asked is asked of a declared object

@@ -7,10 +7,63 @@ use dym_base::{Command, Handle};
 use std::alloc::{AllocError, Global};
 
 /// What a command line asks. The bytes of a write are still the word of the line that writes them.
-#[derive(Drop)]
+#[derive(Clone, Copy)]
 pub enum Asked<'a> {
-    Plain(Command),
-    Write { h: Handle, at: u32, hex: &'a [u8] },
+    Malloc {
+        len: u64,
+    },
+    Calloc {
+        n: u64,
+        len: u64,
+    },
+    Realloc {
+        h: Option<Handle>,
+        len: u64,
+    },
+    Free {
+        h: Option<Handle>,
+    },
+    Write {
+        h: Handle,
+        at: u32,
+        hex: &'a [u8],
+    },
+    Fill {
+        h: Handle,
+        at: u32,
+        len: u32,
+        byte: u8,
+    },
+    Read {
+        h: Handle,
+        at: u32,
+        len: u32,
+    },
+    Link {
+        h: Handle,
+        at: u32,
+        to: Option<Handle>,
+    },
+    Follow {
+        h: Handle,
+        at: u32,
+    },
+    Sum {
+        h: Handle,
+    },
+    Log {
+        time: u64,
+    },
+    Ilog {
+        time: u64,
+    },
+    Restore {
+        time: u64,
+    },
+    Prune {
+        bound: u64,
+    },
+    Logs,
 }
 
 impl<'a> Asked<'a> {
@@ -18,18 +71,33 @@ impl<'a> Asked<'a> {
     pub fn command(self, alloc: Global) -> Result<Command, AllocError>
         ensures { IfOk result (λ command. command ≡ asks self.entry) }
     {
-        match self {
-            Asked::Plain(command) => Ok(command),
-            Asked::Write { h, at, hex } => {
-                let bytes = bytes_of(alloc, hex)?;
-                Ok(Command::Write { h, at, bytes })
-            }
-        }
+        let command = match self {
+            Asked::Malloc { len } => Command::Malloc { len },
+            Asked::Calloc { n, len } => Command::Calloc { n, len },
+            Asked::Realloc { h, len } => Command::Realloc { h, len },
+            Asked::Free { h } => Command::Free { h },
+            Asked::Write { h, at, hex } => Command::Write {
+                h,
+                at,
+                bytes: bytes_of(alloc, hex)?,
+            },
+            Asked::Fill { h, at, len, byte } => Command::Fill { h, at, len, byte },
+            Asked::Read { h, at, len } => Command::Read { h, at, len },
+            Asked::Link { h, at, to } => Command::Link { h, at, to },
+            Asked::Follow { h, at } => Command::Follow { h, at },
+            Asked::Sum { h } => Command::Sum { h },
+            Asked::Log { time } => Command::Log { time },
+            Asked::Ilog { time } => Command::Ilog { time },
+            Asked::Restore { time } => Command::Restore { time },
+            Asked::Prune { bound } => Command::Prune { bound },
+            Asked::Logs => Command::Logs,
+        };
+        Ok(command)
     }
 }
 
 /// What a line asks of the object in a place.
-#[derive(Drop)]
+#[derive(Clone, Copy)]
 pub struct Ask<'a> {
     pub object: u32,
     pub asked: Asked<'a>,

@@ -9,6 +9,7 @@ mod line_fail;
 mod line_tests;
 mod lines;
 mod own;
+mod parts;
 mod places;
 mod read;
 mod reader;
@@ -17,6 +18,7 @@ mod verb;
 
 pub use laws::first_fault;
 pub use own::{Part, apart, own_commands};
+pub use parts::{Parts, read_parts};
 pub use read::{count_script, read_script};
 pub use script::{Counts, Decl, Line, Script, ScriptFail};
 

@@ -1,6 +1,8 @@
 //! Lines of an input and words of a line, cut off at the front one by one.
-ghost use Rattle.std.specs.Prelude.{◌≡◌, ◌≢◌, ◌<◌, [], ◌∷◌, not, length, ◌≤◌, IfSome, MatchOption};
-ghost use Rattle.std.specs.List.{prefix_len};
+ghost use Rattle.std.specs.Prelude.{◌≡◌, ◌≢◌, ◌<◌, [], ◌∷◌, not, true, length, ◌≤◌, IfSome, MatchOption};
+ghost use Rattle.std.specs.List.{prefix_len, list_all};
+ghost use Rattle.dym_script.specs.Scripts.{is_printable};
+ghost use Rattle.dym_script.specs.Plain.{is_plain};
 ghost use Rattle.dym_script.specs.Lines.{lines_of, words_of, is_space};
 
 use memchr::memchr;
@@ -9,6 +11,7 @@ use memchr::memchr;
 pub fn next_line(text: &[u8]) -> Option<(&[u8], &[u8])>
     ensures cut { MatchOption result (lines_of text.now ≡ []) (λ cut. lines_of text.now ≡ cut.0.now ∷ lines_of cut.1.now) }
     ensures shorter { IfSome result (λ cut. length cut.1.now < length text.now) }
+    ensures plain { IfSome result (λ cut. list_all is_plain text.now ≡ true → (list_all is_printable cut.0.now ≡ true) × (list_all is_plain cut.1.now ≡ true)) }
 {
     if text.is_empty() {
         return None;

@@ -1,11 +1,13 @@
 //! Reads a whole script.
-ghost use Rattle.std.specs.Prelude.{◌≤◌, length, IfOk, OnOk};
-ghost use Rattle.dym_script.specs.Scripts.{script_of, said, read_line};
+ghost use Rattle.std.specs.Prelude.{◌≡◌, ◌≤◌, true, length, IfOk, OnOk};
+ghost use Rattle.std.specs.List.{list_all};
+ghost use Rattle.dym_script.specs.Scripts.{script_of, said, read_line, is_printable};
 ghost use Rattle.dym_script.specs.Answers.{Gives, GivesLine, GivesCounts, IsLawful};
 ghost use Rattle.dym_script.specs.Readers.{IsKept, seen, CountsLine};
 
 use crate::asked::Ask;
 use crate::line_fail::LineFail;
+use crate::line_tests::is_plain;
 use crate::lines::next_line;
 use crate::reader::Reader;
 use crate::script::{Counts, Line, Script, ScriptFail};
@@ -33,12 +35,13 @@ pub fn read_script(alloc: Global, bytes: &[u8]) -> Result<Script, ScriptFail>
         Ok(lines) => lines,
         Err(_) => return Err(ScriptFail::Memory),
     };
+    let plain = is_plain(bytes);
     let mut reader = Reader::new(alloc);
     let mut rest = bytes;
     let mut number = 0;
     while let Some((line, after)) = next_line(rest) {
         number += 1;
-        match take_line(alloc, &mut reader, &mut lines, number, line) {
+        match take_line(alloc, &mut reader, &mut lines, number, line, plain) {
             Ok(()) => rest = after,
             Err(LineFail::Bad(kind)) => return Err(ScriptFail::Bad { line: number, kind }),
             Err(LineFail::Memory) => return Err(ScriptFail::Memory),
@@ -69,12 +72,13 @@ pub fn count_script(alloc: Global, bytes: &[u8]) -> Result<Counts, ScriptFail>
         });
     }
     let mut commands = 0;
+    let plain = is_plain(bytes);
     let mut reader = Reader::new(alloc);
     let mut rest = bytes;
     let mut number = 0;
     while let Some((line, after)) = next_line(rest) {
         number += 1;
-        match count_line(alloc, &mut reader, &mut commands, number, line) {
+        match count_line(alloc, &mut reader, &mut commands, number, line, plain) {
             Ok(()) => rest = after,
             Err(LineFail::Bad(kind)) => return Err(ScriptFail::Bad { line: number, kind }),
             Err(LineFail::Memory) => return Err(ScriptFail::Memory),
@@ -93,14 +97,16 @@ fn take_line(
     lines: &mut Vec<Line>,
     number: u32,
     line: &[u8],
+    plain: bool,
 ) -> Result<(), LineFail>
     requires kept { IsKept reader.old }
+    requires plain { plain ≡ true → list_all is_printable line.now ≡ true }
     requires lawful { IsLawful (seen reader.old lines.old.items).said }
     ensures kept { OnOk result (IsKept reader.new) }
     ensures lawful { OnOk result (IsLawful (seen reader.new lines.new.items).said) }
     ensures read { GivesLine (λ _. seen reader.new lines.new.items) result (read_line (seen reader.old lines.old.items) number line.now) }
 {
-    if let Some(Ask { object, asked }) = reader.read_line(alloc, number, line)? {
+    if let Some(Ask { object, asked }) = reader.read_line(alloc, number, line, plain)? {
         if lines.len() == MOST_COMMANDS {
             return Err(LineFail::Bad(BadKind::Many));
         }
@@ -117,14 +123,16 @@ fn count_line(
     commands: &mut u32,
     number: u32,
     line: &[u8],
+    plain: bool,
 ) -> Result<(), LineFail>
     requires kept { IsKept reader.old }
+    requires plain { plain ≡ true → list_all is_printable line.now ≡ true }
     requires few { commands.old ≤ MOST_COMMANDS }
     ensures kept { OnOk result (IsKept reader.new) }
     ensures few { OnOk result (commands.new ≤ MOST_COMMANDS) }
     ensures read { CountsLine commands.old commands.new (seen reader.new) result (λ lines. read_line (seen reader.old lines) number line.now) }
 {
-    if reader.read_line(alloc, number, line)?.is_some() {
+    if reader.read_line(alloc, number, line, plain)?.is_some() {
         if *commands as usize == MOST_COMMANDS {
             return Err(LineFail::Bad(BadKind::Many));
         }

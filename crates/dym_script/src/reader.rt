@@ -1,5 +1,5 @@
 //! Reads a script line by line.
-ghost use Rattle.std.specs.Prelude.{◌≡◌, ◌<◌, ◌≤◌, [], ◌∷◌, ◌++◌, true, length, OnOk, IfOk, IfSome};
+ghost use Rattle.std.specs.Prelude.{◌≡◌, ◌+◌, ◌<◌, ◌≤◌, [], ◌∷◌, ◌++◌, true, length, OnOk, IfOk, IfSome};
 
 use crate::asked::{Ask, Asked};
 use crate::line_fail::LineFail;
@@ -22,10 +22,13 @@ pub struct Reader {
     pub objects: Vec<Decl>,
     /// The place of each declared name.
     pub names: HashMap<Vec<u8>, u32>,
+    /// The place of the object that the line before asked something of. The next line mostly asks the same one.
+    pub last: u32,
 }
 
 impl Reader {
-    ghost use Rattle.dym_script.specs.Scripts.{start, read_line, read_words, say, declare, object_of};
+    ghost use Rattle.dym_script.specs.Scripts.{start, read_line, read_words, say, declare, object_of, is_printable};
+    ghost use Rattle.std.specs.List.{list_all};
     ghost use Rattle.dym_base.specs.Names.{is_name};
     ghost use Rattle.dym_script.specs.Lines.{words_of};
     ghost use Rattle.dym_script.specs.Readers.{IsKept, seen, IsWithin, GivesReading, GivesSaid, Declares, Finds};
@@ -40,27 +43,32 @@ impl Reader {
             version: Version::One,
             objects: Vec::new(alloc),
             names: HashMap::new(alloc),
+            last: 0,
         }
     }
 
-    /// Reads the line of this number, and hands on what it asks.
+    /// Reads the line of this number, and hands on what it asks. Where the whole input is known to be plain, no byte of
+    /// the line is tested again.
     #[tactic(auto, unfolding(crate::specs::Scripts::read_line))]
     pub fn read_line<'a>(
         &mut self,
         alloc: Global,
         number: u32,
         line: &'a [u8],
+        plain: bool,
     ) -> Result<Option<Ask<'a>>, LineFail>
-        requires { IsKept self.old }
+        requires kept { IsKept self.old }
+        requires plain { plain ≡ true → list_all is_printable line.now ≡ true }
         ensures kept { OnOk result (IsKept self.new) }
         ensures grown { OnOk result (length self.old.objects.items ≤ length self.new.objects.items) }
+        ensures by_one { OnOk result (length self.new.objects.items ≤ length self.old.objects.items + 1) }
         ensures within { IfOk result (IsWithin self.new) }
         ensures read { GivesReading (seen self.new) result (λ lines. read_line (seen self.old lines) number line.now) }
     {
         if line.len() > MOST_LINE_BYTES {
             return Err(LineFail::Bad(BadKind::LongLine));
         }
-        if !is_printable_line(line) {
+        if !plain && !is_printable_line(line) {
             return Err(LineFail::Bad(BadKind::Bytes));
         }
         match next_word(line) {
@@ -80,6 +88,7 @@ impl Reader {
         requires { IsKept self.old }
         ensures kept { OnOk result (IsKept self.new) }
         ensures grown { OnOk result (length self.old.objects.items ≤ length self.new.objects.items) }
+        ensures by_one { OnOk result (length self.new.objects.items ≤ length self.old.objects.items + 1) }
         ensures within { IfOk result (IsWithin self.new) }
         ensures read { GivesReading (seen self.new) result (λ lines. read_words (seen self.old lines) number (first.now ∷ words_of words.now)) }
     {
@@ -107,6 +116,7 @@ impl Reader {
         requires { IsKept self.old }
         ensures kept { OnOk result (IsKept self.new) }
         ensures grown { OnOk result (length self.old.objects.items ≤ length self.new.objects.items) }
+        ensures by_one { OnOk result (length self.new.objects.items ≤ length self.old.objects.items + 1) }
         ensures within { IfOk result (IsWithin self.new) }
         ensures read { GivesSaid (λ lines. (seen self.new lines).said) result (λ lines. say (seen self.old lines).said number first.now (words_of words.now)) }
     {
@@ -120,6 +130,7 @@ impl Reader {
             let verb = Verb::of(word).ok_or(LineFail::Bad(BadKind::Command))?;
             let asked = verb.asked(words)?;
             let object = self.asked_of(first)?;
+            self.last = object;
             Ok(Some(Ask { object, asked }))
         }
     }
@@ -135,6 +146,7 @@ impl Reader {
         requires { IsKept self.old }
         ensures kept { OnOk result (IsKept self.new) }
         ensures grown { OnOk result (length self.old.objects.items ≤ length self.new.objects.items) }
+        ensures by_one { OnOk result (length self.new.objects.items ≤ length self.old.objects.items + 1) }
         ensures read { Declares (λ lines. (seen self.new lines).said) result (λ lines. declare (seen self.old lines).said number name.now (Some quota)) }
     {
         let declared = Name::new(name).ok_or(LineFail::Bad(BadKind::Name))?;
@@ -194,6 +206,22 @@ impl Reader {
         ensures within { IfSome result (λ place. place < length self.now.objects.items) }
         ensures name { IfSome result (λ _. is_name name.now ≡ true) }
     {
+        if self.names_last(name) {
+            return Some(self.last);
+        }
         self.names.get(name).copied()
+    }
+
+    /// Whether this is the name of the object that the line before asked.
+    fn names_last(&self, name: &[u8]) -> bool
+        requires { IsKept self.now }
+        ensures { result ≡ true → object_of self.now.objects.items name.now ≡ Some self.now.last }
+    {
+        let place = self.last as usize;
+        if place >= self.objects.len() {
+            return false;
+        }
+        let decl = &self.objects[place];
+        decl.name.bytes() == name
     }
 }

@@ -1,5 +1,5 @@
 //! What no clause shows: that good scripts are read, and that the kinds of bad lines are those of the format.
-use crate::{Counts, ScriptFail, apart, count_script, own_commands, read_script};
+use crate::{Counts, ScriptFail, apart, count_script, own_commands, read_parts, read_script};
 use dym_base::{BadKind, Blob, Command, Handle, Version};
 use std::alloc::{AllocError, Global};
 use std::test::Fail;
@@ -44,6 +44,14 @@ fn good_script(rt: HostRuntime) -> Result<(), Fail> {
             objects: 2,
             commands: 3
         }
+    );
+    let read = read_parts(rt.alloc(), GOOD)?;
+    assert_eq!(rt; read.version, Version::One);
+    assert_eq!(rt; read.parts.len(), 2);
+    assert_eq!(rt; read.parts[1].decl.line, 4);
+    assert_eq!(rt;
+        lengths(rt.alloc(), &read.parts[0].commands)?.as_slice(),
+        [4, 7].as_slice()
     );
     let parts = apart(rt.alloc(), script)?;
     assert_eq!(rt; parts.len(), 2);

@@ -11,7 +11,7 @@ use crate::lines::{four_words, next_word, one_word, three_words, two_words};
 use crate::places::{
     byte_value, handle_of, handle_or_nil_of, is_hex, number_32, number_to, read_len,
 };
-use dym_base::{BadKind, Command};
+use dym_base::BadKind;
 
 /// What a command line asks.
 #[derive(Clone, Copy)]
@@ -105,7 +105,7 @@ fn malloc(words: &[u8]) -> Result<Asked<'_>, LineFail>
 {
     let len = one_word(words).ok_or(LineFail::Bad(BadKind::Command))?;
     let len = number_to(u64::MAX, len).ok_or(LineFail::Bad(BadKind::Number))?;
-    Ok(Asked::Plain(Command::Malloc { len }))
+    Ok(Asked::Malloc { len })
 }
 
 /// Of a number and a length.
@@ -116,7 +116,7 @@ fn calloc(words: &[u8]) -> Result<Asked<'_>, LineFail>
     let (n, len) = two_words(words).ok_or(LineFail::Bad(BadKind::Command))?;
     let n = number_to(u64::MAX, n).ok_or(LineFail::Bad(BadKind::Number))?;
     let len = number_to(u64::MAX, len).ok_or(LineFail::Bad(BadKind::Number))?;
-    Ok(Asked::Plain(Command::Calloc { n, len }))
+    Ok(Asked::Calloc { n, len })
 }
 
 /// Of a handle or nil and a length.
@@ -127,7 +127,7 @@ fn realloc(words: &[u8]) -> Result<Asked<'_>, LineFail>
     let (h, len) = two_words(words).ok_or(LineFail::Bad(BadKind::Command))?;
     let len = number_to(u64::MAX, len).ok_or(LineFail::Bad(BadKind::Number))?;
     let h = handle_or_nil_of(h).ok_or(LineFail::Bad(BadKind::Handle))?;
-    Ok(Asked::Plain(Command::Realloc { h, len }))
+    Ok(Asked::Realloc { h, len })
 }
 
 /// Of a handle or nil.
@@ -137,7 +137,7 @@ fn free(words: &[u8]) -> Result<Asked<'_>, LineFail>
 {
     let h = one_word(words).ok_or(LineFail::Bad(BadKind::Command))?;
     let h = handle_or_nil_of(h).ok_or(LineFail::Bad(BadKind::Handle))?;
-    Ok(Asked::Plain(Command::Free { h }))
+    Ok(Asked::Free { h })
 }
 
 /// Of a handle, a place and bytes.
@@ -164,7 +164,7 @@ fn fill(words: &[u8]) -> Result<Asked<'_>, LineFail>
     let len = number_32(len).ok_or(LineFail::Bad(BadKind::Number))?;
     let byte = byte_value(byte).ok_or(LineFail::Bad(BadKind::Number))?;
     let h = handle_of(h).ok_or(LineFail::Bad(BadKind::Handle))?;
-    Ok(Asked::Plain(Command::Fill { h, at, len, byte }))
+    Ok(Asked::Fill { h, at, len, byte })
 }
 
 /// Of a handle, a place and a length.
@@ -176,7 +176,7 @@ fn read(words: &[u8]) -> Result<Asked<'_>, LineFail>
     let at = number_32(at).ok_or(LineFail::Bad(BadKind::Number))?;
     let len = read_len(len).ok_or(LineFail::Bad(BadKind::Number))?;
     let h = handle_of(h).ok_or(LineFail::Bad(BadKind::Handle))?;
-    Ok(Asked::Plain(Command::Read { h, at, len }))
+    Ok(Asked::Read { h, at, len })
 }
 
 /// Of a handle, a place, and a handle or nil.
@@ -188,7 +188,7 @@ fn link(words: &[u8]) -> Result<Asked<'_>, LineFail>
     let at = number_32(at).ok_or(LineFail::Bad(BadKind::Number))?;
     let h = handle_of(h).ok_or(LineFail::Bad(BadKind::Handle))?;
     let to = handle_or_nil_of(to).ok_or(LineFail::Bad(BadKind::Handle))?;
-    Ok(Asked::Plain(Command::Link { h, at, to }))
+    Ok(Asked::Link { h, at, to })
 }
 
 /// Of a handle and a place.
@@ -199,7 +199,7 @@ fn follow(words: &[u8]) -> Result<Asked<'_>, LineFail>
     let (h, at) = two_words(words).ok_or(LineFail::Bad(BadKind::Command))?;
     let at = number_32(at).ok_or(LineFail::Bad(BadKind::Number))?;
     let h = handle_of(h).ok_or(LineFail::Bad(BadKind::Handle))?;
-    Ok(Asked::Plain(Command::Follow { h, at }))
+    Ok(Asked::Follow { h, at })
 }
 
 /// Of a handle.
@@ -209,7 +209,7 @@ fn sum(words: &[u8]) -> Result<Asked<'_>, LineFail>
 {
     let h = one_word(words).ok_or(LineFail::Bad(BadKind::Command))?;
     let h = handle_of(h).ok_or(LineFail::Bad(BadKind::Handle))?;
-    Ok(Asked::Plain(Command::Sum { h }))
+    Ok(Asked::Sum { h })
 }
 
 /// Of a time.
@@ -219,7 +219,7 @@ fn log(words: &[u8]) -> Result<Asked<'_>, LineFail>
 {
     let time = one_word(words).ok_or(LineFail::Bad(BadKind::Command))?;
     let time = number_to(u64::MAX, time).ok_or(LineFail::Bad(BadKind::Number))?;
-    Ok(Asked::Plain(Command::Log { time }))
+    Ok(Asked::Log { time })
 }
 
 /// Of a time.
@@ -229,7 +229,7 @@ fn ilog(words: &[u8]) -> Result<Asked<'_>, LineFail>
 {
     let time = one_word(words).ok_or(LineFail::Bad(BadKind::Command))?;
     let time = number_to(u64::MAX, time).ok_or(LineFail::Bad(BadKind::Number))?;
-    Ok(Asked::Plain(Command::Ilog { time }))
+    Ok(Asked::Ilog { time })
 }
 
 /// Of a time.
@@ -239,7 +239,7 @@ fn restore(words: &[u8]) -> Result<Asked<'_>, LineFail>
 {
     let time = one_word(words).ok_or(LineFail::Bad(BadKind::Command))?;
     let time = number_to(u64::MAX, time).ok_or(LineFail::Bad(BadKind::Number))?;
-    Ok(Asked::Plain(Command::Restore { time }))
+    Ok(Asked::Restore { time })
 }
 
 /// Of a bound.
@@ -249,7 +249,7 @@ fn prune(words: &[u8]) -> Result<Asked<'_>, LineFail>
 {
     let bound = one_word(words).ok_or(LineFail::Bad(BadKind::Command))?;
     let bound = number_to(u64::MAX, bound).ok_or(LineFail::Bad(BadKind::Number))?;
-    Ok(Asked::Plain(Command::Prune { bound }))
+    Ok(Asked::Prune { bound })
 }
 
 /// Of nothing.
@@ -259,6 +259,6 @@ fn logs(words: &[u8]) -> Result<Asked<'_>, LineFail>
 {
     match next_word(words) {
         Some(_) => Err(LineFail::Bad(BadKind::Command)),
-        None => Ok(Asked::Plain(Command::Logs)),
+        None => Ok(Asked::Logs),
     }
 }

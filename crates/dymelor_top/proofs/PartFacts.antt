@@ -5,6 +5,8 @@ use Rattle.dym_base.specs.declared.command.Version.{Version}
 use Rattle.dym_script.specs.declared.script.Decl.{Decl}
 use Rattle.dym_script.specs.declared.script.Line.{Line}
 use Rattle.dym_script.specs.declared.own.Part.{Part}
+use Rattle.dym_script.specs.declared.parts.Parts.{Parts}
+use Rattle.dym_script.specs.Held.{ArePartsOf}
 use Rattle.dym_script.specs.Scripts.{Said, own}
 use Rattle.dym_script.specs.Answers.{IsLawful}
 use Rattle.dym_script.specs.Parts.{EachOwns}
@@ -74,3 +76,9 @@ pub report_is : (s : Said) (parts : List Part) → map (λ p. p.decl) parts ≡ 
 unfolding report_text
 report_is s parts decls owns =
     ap (λ l. l ++ end_text) (ap (flat_map (part_text s.version)) (sym (parts_are_objects s parts decls owns)) ∙ sym (texts_of_parts s.version parts))
+
+-- the same of a script that was read into its parts
+pub report_of_parts : (parts : Parts) (s : Said) → ArePartsOf parts s → report_text s ≡ flat_map (λ part. part_text parts.version (own_of part)) parts.parts.items ++ end_text
+report_of_parts parts s are =
+    report_is s parts.parts.items are.decls are.commands
+    ∙ ap (λ v. flat_map (λ part. part_text v (own_of part)) parts.parts.items ++ end_text) are.version

@@ -4,6 +4,10 @@ use Rattle.std.proofs.lemmas.Grind.{flat_map-append}
 use Rattle.dym_io.specs.Faults.{Rose}
 use Rattle.dym_io.specs.Sink.{Output, Appended, AppendedFront, WritesOr}
 use Rattle.dym_io.specs.Laws.{front_after, front_within}
+use Rattle.dymelor_top.specs.declared.stop.WriteFail.{WriteFail}
+use Rattle.dymelor_top.specs.declared.stop.WriteFail.TheVariants as fail
+use Rattle.dymelor_top.specs.Answers.{Answer}
+use Rattle.dymelor_top.specs.Headline.{WritesAnswer}
 
 -- the same error, where it may be the sink's
 pub writes_or_passed : {T E : Type 0} → (IsSinks : E → Type 0) (a b : Output) (t : List ℕ) (r : Result T E) (e : E) → IsErrAnd r (λ x. x ≡ e)
@@ -19,3 +23,9 @@ each_front_item f items i x a b c within is p q =
     let whole : flat_map f items ≡ flat_map f (take i items) ++ (f x ++ flat_map f (drop (i + 1) items)) =
     ap (flat_map f) (sym (take-append-drop i items)) ∙ flat_map-append f (take i items) (drop i items) ∙ ap (λ l. flat_map f (take i items) ++ flat_map f l) cut in
     subst (AppendedFront a c) (sym whole) (front_after a b c (flat_map f (take i items)) (f x ++ flat_map f (drop (i + 1) items)) p (front_within b c (f x) (flat_map f (drop (i + 1) items)) q))
+
+-- the same of an answer that is given
+pub answer_passed : (defined : Answer) (a b : Output) (r : Result ℕ WriteFail) (e : WriteFail) → IsErrAnd r (λ x. x ≡ e)
+    → AppendedFront a b defined.text → (e ≡ fail.Sink → Rose a.faults b.faults) → WritesAnswer defined a b r
+answer_passed defined a b (Ok x) e is front rose = absurd is
+answer_passed defined a b (Err x) e is front rose = (front, λ h. rose (sym is ∙ h))

@@ -4,8 +4,8 @@ ghost use Rattle.dym_base.specs.Objects.{object_start, replies_from, object_afte
 ghost use Rattle.dym_io.specs.Sink.{Output, WritesOr};
 ghost use Rattle.dym_object.specs.Meaning.{state_of};
 ghost use Rattle.dym_report.specs.Replies.{reply_line};
-ghost use Rattle.dym_script.specs.Scripts.{said};
-ghost use Rattle.dym_script.specs.Answers.{IsLawful};
+ghost use Rattle.dym_script.specs.Scripts.{Said};
+ghost use Rattle.dym_script.specs.Held.{ArePartsOf};
 ghost use Rattle.dymelor_top.specs.Parts.{IsRunnable, own_of};
 ghost use Rattle.dymelor_top.specs.Report.{part_text, report_text};
 ghost use Rattle.dymelor_top.specs.declared.stop.WriteFail.TheVariants.{Sink as SinkFailed};
@@ -17,20 +17,18 @@ use dym_io::Sink;
 use dym_object::Object;
 use dym_quota::OwnSupply;
 use dym_report::{write_end, write_heading, write_replies, write_state};
-use dym_script::{Part, Script, apart};
+use dym_script::{Part, Parts};
 use std::alloc::{AllocError, Global};
 
 /// How many commands are run before their replies are written.
 const BATCH: usize = 1_024;
 
 /// Writes the report of a script, one object after another.
-pub fn write_report<W: Sink>(alloc: Global, script: Script, sink: &mut W) -> Result<(), WriteFail>
-    requires lawful { IsLawful (said script) }
-    ensures { WritesOr (λ fail. fail ≡ SinkFailed) (W.output sink.old) (W.output sink.new) (report_text (said script)) result }
+pub fn write_report<W: Sink>(alloc: Global, script: &Parts, sink: &mut W) -> Result<(), WriteFail>
+    requires made { (s : Said) × ArePartsOf script.now s }
+    ensures { (s : Said) → ArePartsOf script.now s → WritesOr (λ fail. fail ≡ SinkFailed) (W.output sink.old) (W.output sink.new) (report_text s) result }
 {
-    let version = script.version;
-    let parts = apart(alloc, script)?;
-    write_parts(alloc, version, &parts, sink)?;
+    write_parts(alloc, script.version, &script.parts, sink)?;
     write_end(sink)?;
     Ok(())
 }

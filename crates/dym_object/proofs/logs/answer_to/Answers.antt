@@ -1,4 +1,4 @@
-use Rattle.std.proofs.Common.{rules, ◌≡◌, OnErr, IfOk, IfErr, refl, sym, subst}
+use Rattle.std.proofs.Common.{rules, ◌≡◌, IfOk, IfErr, refl, sym, subst}
 use Rattle.std.proofs.lemmas.Result.{on_err_weaker}
 use Rattle.dym_base.specs.HeapStep.{IsHeapCommand}
 use Rattle.dym_base.specs.Objects.{ObjectAnswer, object_step}
@@ -6,7 +6,7 @@ use Rattle.dym_base.specs.declared.command.Command.{Command}
 use Rattle.dym_base.specs.declared.reply.Reply.TheVariants.{Dropped}
 use Rattle.dym_chain.specs.Chains.{object_of}
 use Rattle.dym_object.specs.Commands.{TakesMemory}
-use Rattle.dym_object.proofs.Steps.{step_is, is_heap_command, at_ok, object_is, rest_stays, still_belongs}
+use Rattle.dym_object.proofs.Steps.{step_is, is_heap_command, at_ok, object_is, rest_stays, still_belongs, refused_both}
 use Rattle.dym_object.proofs.logs.answer_to.Goals as goal
 
 pub returns-in-Prune-clause-reply : goal.returns-in-Prune-clause-reply
@@ -30,6 +30,7 @@ returns-in_default g c =
       after = at_ok c.answer.result (object_is old new chain command is c.answer.ensures.after);
       memory = subst (λ (a : ObjectAnswer). IfErr c.answer.result (λ _. TakesMemory command a.reply)) same c.answer.ensures.memory;
       unchanged = on_err_weaker c.answer.result (λ (kept : new ≡ old). (kept, refl {a = chain})) c.answer.ensures.unchanged;
+      refused = refused_both c.answer.result (new ≡ old) (chain ≡ chain) (refl {a = chain}) c.answer.ensures.refused;
       heap = rest_stays old new command c.answer.ensures.after;
       made = search rules;
       origin = refl {a = chain.origin};

@@ -1,4 +1,4 @@
-use Rattle.std.proofs.Common.{◌≡◌, ℕ, ◌*◌, ◌≤◌, sum, take}
+use Rattle.std.proofs.Common.{◌≡◌, ◌*◌, ◌≤◌, sum, take}
 use Rattle.dym_object.proofs.sum.sum_bytes.Given as goal
 
 abbrev pub invariant-loop-byte : goal.invariant-loop-byte

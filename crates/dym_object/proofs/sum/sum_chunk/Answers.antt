@@ -1,4 +1,4 @@
-use Rattle.std.proofs.Common.{arith, rules, ◌≡◌, ℕ, ◌+◌, ◌≤◌, length, take, drop, sum, subst, sym, MatchOption, length-take-le, length-append}
+use Rattle.std.proofs.Common.{arith, rules, ◌≡◌, ◌+◌, ◌≤◌, length, take, drop, sum, subst, sym, MatchOption, length-take-le, length-append}
 use Rattle.std.specs.FinMap.{get}
 use Rattle.std.proofs.lemmas.List.{length-drop}
 use Rattle.dym_base.specs.HeapStep.{key, read}

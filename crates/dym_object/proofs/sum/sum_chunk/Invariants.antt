@@ -1,4 +1,4 @@
-use Rattle.std.proofs.Common.{◌≡◌, ℕ, ◌-◌, ◌*◌, ◌≤◌, length, take, sum, MatchOption}
+use Rattle.std.proofs.Common.{◌≡◌, ◌-◌, ◌*◌, ◌≤◌, length, take, sum, MatchOption}
 use Rattle.std.specs.FinMap.{get}
 use Rattle.dym_base.specs.HeapStep.{key}
 use Rattle.dym_object.proofs.sum.sum_chunk.Given as goal

@@ -1,8 +1,10 @@
-use Rattle.std.proofs.Common.{◌≡◌, ◌+◌, ◌≤◌, List, length}
+use Rattle.std.proofs.Common.{◌≡◌, ◌+◌, ◌≤◌, true, List, length}
 use Rattle.dym_base.specs.declared.limits.TheConstants.{MOST_COMMANDS}
 use Rattle.dym_script.specs.declared.script.Line.{Line}
 use Rattle.dym_script.specs.Lines.{lines_of}
 use Rattle.dym_script.specs.Scripts.{read_lines, start}
+use Rattle.std.specs.List.{list_all}
+use Rattle.dym_script.specs.Plain.{is_plain}
 use Rattle.dym_script.specs.Readers.{IsKept, seen}
 use Rattle.dym_script.proofs.read.count_script.Given as goal
 
@@ -11,6 +13,7 @@ invariant-loop-line l = record {
   kept : IsKept l.reader;
   few : l.commands ≤ MOST_COMMANDS;
   short : l.number + length l.rest ≤ length l.bytes;
+  plain : l.plain ≡ true → list_all is_plain l.rest ≡ true;
   read : (lines : List Line) × (length lines ≡ l.commands) × (read_lines (seen l.reader lines) (l.number + 1) (lines_of l.rest) ≡ read_lines start 1 (lines_of l.bytes));
 }
 

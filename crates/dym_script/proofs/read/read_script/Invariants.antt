@@ -1,7 +1,9 @@
-use Rattle.std.proofs.Common.{◌≡◌, ◌+◌, ◌≤◌, length}
+use Rattle.std.proofs.Common.{◌≡◌, ◌+◌, ◌≤◌, true, length}
 use Rattle.dym_script.specs.Lines.{lines_of}
 use Rattle.dym_script.specs.Answers.{IsLawful}
 use Rattle.dym_script.specs.Scripts.{read_lines, start}
+use Rattle.std.specs.List.{list_all}
+use Rattle.dym_script.specs.Plain.{is_plain}
 use Rattle.dym_script.specs.Readers.{IsKept, seen}
 use Rattle.dym_script.proofs.read.read_script.Given as goal
 
@@ -10,6 +12,7 @@ invariant-loop-line l = record {
   kept : IsKept l.reader;
   lawful : IsLawful (seen l.reader l.lines.items).said;
   short : l.number + length l.rest ≤ length l.bytes;
+  plain : l.plain ≡ true → list_all is_plain l.rest ≡ true;
   read : read_lines (seen l.reader l.lines.items) (l.number + 1) (lines_of l.rest) ≡ read_lines start 1 (lines_of l.bytes);
 }
 
