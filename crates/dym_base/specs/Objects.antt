@@ -145,12 +145,3 @@ run_replies v quota commands = replies_from v quota object_start commands
 
 abbrev pub run_end : Version → ℕ → List Command → ObjectState
 run_end v quota commands = object_after v quota object_start commands
-
--- the same of a heap alone
-abbrev pub heap_replies : Version → ℕ → HeapState → List Command → List Reply
-heap_replies v quota s [] = []
-heap_replies v quota s (c ∷ cs) = (heap_step v quota s c).reply ∷ heap_replies v quota (heap_step v quota s c).heap cs
-
-abbrev pub heap_after : Version → ℕ → HeapState → List Command → HeapState
-heap_after v quota s [] = s
-heap_after v quota s (c ∷ cs) = heap_after v quota (heap_step v quota s c).heap cs

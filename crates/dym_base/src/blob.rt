@@ -1,13 +1,17 @@
 //! Bytes that a command or a reply keeps.
 ghost use Rattle.std.specs.Prelude.{◌≡◌, List, ℕ, IfOk};
 
+use smallvec::SmallVec;
 use std::alloc::{AllocError, Global};
 use std::marker::Model;
 
-/// Bytes that a command or a reply keeps, seen as their list.
+/// How many bytes are kept in the value itself: as many as a command that reads or writes a few words has.
+const INLINE: usize = 16;
+
+/// Bytes that a command or a reply keeps, seen as their list. Few bytes take no memory of their own.
 #[derive(Drop)]
 pub struct Blob {
-    bytes: Vec<u8>,
+    bytes: SmallVec<u8, INLINE>,
 }
 
 impl Model for Blob {
@@ -21,7 +25,7 @@ impl Blob {
     pub fn new(alloc: Global, bytes: &[u8]) -> Result<Blob, AllocError>
         ensures { IfOk result (λ blob. blob ≡ bytes.now) }
     {
-        let bytes = Vec::from_slice(alloc, bytes)?;
+        let bytes = SmallVec::from_slice(alloc, bytes)?;
         Ok(Blob { bytes })
     }
 
@@ -29,7 +33,9 @@ impl Blob {
     pub fn of_vec(bytes: Vec<u8>) -> Blob
         ensures { result ≡ bytes.items }
     {
-        Blob { bytes }
+        Blob {
+            bytes: SmallVec::from_vec(bytes),
+        }
     }
 
     /// The bytes.

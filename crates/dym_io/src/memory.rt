@@ -195,6 +195,20 @@ impl MemSink {
     {
         &self.bytes
     }
+
+    /// Gives up the sink, and hands out the bytes that were written.
+    pub fn into_bytes(self) -> Vec<u8>
+        ensures { result.items ≡ self.written }
+    {
+        let MemSink {
+            bytes,
+            flushed: _,
+            room: _,
+            piece: _,
+            calls: _,
+        } = self;
+        bytes
+    }
 }
 
 impl Sink for MemSink {
