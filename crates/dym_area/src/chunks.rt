@@ -137,6 +137,16 @@ impl<G: Segment> Area<G> {
         self.segment.zero(start, len);
     }
 
+    /// The `len` bytes of a used chunk from its place `at` on.
+    pub fn bytes(&self, i: u32, at: u32, len: u32) -> &[u8]
+        requires used { IsSet self.now.used i }
+        requires within { at + len ≤ size self.now.exponent }
+        ensures { result.now ≡ part_of self.now.content (chunk_start self.now i + at) len }
+    {
+        let start = i * size_of_class(self.exp) + at;
+        self.segment.bytes(start, len)
+    }
+
     /// Fills `out` with the bytes of a used chunk, from its place `at` on.
     pub fn read(&self, i: u32, at: u32, out: &mut [u8])
         requires used { IsSet self.now.used i }
@@ -147,12 +157,12 @@ impl<G: Segment> Area<G> {
         self.segment.read(start, out);
     }
 
-    /// Fills `out` with the bytes of the chunks from chunk `from` on, used or not, one chunk after the other.
-    pub fn read_run(&self, from: u32, out: &mut [u8])
-        requires { chunk_start self.now from + length out.old ≤ SEGMENT_BYTES }
-        ensures { out.new ≡ part_of self.now.content (chunk_start self.now from) (length out.old) }
+    /// The `len` bytes of the chunks from chunk `from` on, used or not, one chunk after the other.
+    pub fn run_bytes(&self, from: u32, len: u32) -> &[u8]
+        requires { chunk_start self.now from + len ≤ SEGMENT_BYTES }
+        ensures { result.now ≡ part_of self.now.content (chunk_start self.now from) len }
     {
-        self.segment.read(from * size_of_class(self.exp), out);
+        self.segment.bytes(from * size_of_class(self.exp), len)
     }
 
     /// Puts the bytes over those of the chunks from chunk `from` on. All bits stay as they are.

@@ -8,7 +8,7 @@ use Rattle.std.proofs.lemmas.Nat.{div-add-mod'}
 use Rattle.std.proofs.lemmas.Nat.Bits.{bit_at_and, bit_at-lt, bit_at_ones, bit_at_above, bit_at-zero}
 use Rattle.std.proofs.lemmas.Bool.{cases_eq, cases_lt}
 use Rattle.dym_bits.proofs.BitmapLemmas.{length-digits, get_or-digits, length-bits_of, get_or-bits_of, get_or-bits_of_at, bits_of-replicate}
-use Rattle.dym_bits.proofs.Counts.{digits-suc, half_below, bits_of-append, bits_of-single, bits_of-take_more, take-bits_of}
+use Rattle.dym_bits.proofs.Counts.{digits-suc, half_below, bits_of-append, bits_of-single, bits_of-take_more}
 use Rattle.std.specs.Int.{bytes_low_first, byte_at, to_le_bytes, from_le_bytes}
 use Rattle.std.proofs.Common.{cond, max, subst}
 use Rattle.std.proofs.lemmas.List.{length-take, length-drop, get_or-take, get_or-drop, take-append-drop, take-take, drop-take, take_more_set, get_or-append_right, length-take-le}
@@ -138,16 +138,15 @@ byte_of_bytes bytes k within fits =
     (λ j short. ap (bit_in (bits_of 8 bytes)) (omega arith) ∙ get_or-bits_of 8 bytes k j within short)
 
 -- the first n of the bytes that have all the bits
-pub bytes_from_bits : (front bytes : List ℕ) (n : ℕ) → front ≡ take n bytes → n ≤ length bytes → ((k : ℕ) → get_or front k 0 < 256) → front ≡ bytes_of_bits n (bits_of 8 bytes)
+pub bytes_from_bits : (bytes : List ℕ) (n : ℕ) → n ≤ length bytes → ((k : ℕ) → get_or bytes k 0 < 256) → take n bytes ≡ bytes_of_bits n (bits_of 8 bytes)
 unfolding bytes_of_bits
-bytes_from_bits front bytes n front_is within fits =
-    let long : length front ≡ n = ap length front_is ∙ length-take-le n bytes within in
+bytes_from_bits bytes n within fits =
+    let long : length (take n bytes) ≡ n = length-take-le n bytes within in
     ext_get_or 0 _ _ (long ∙ sym (length-map-range_with_len (bitmap_byte (bit_in (bits_of 8 bytes))) 0 n))
     (λ k below.
     let short : k < n = omega arith in
-    let read : get_or front k 0 ≡ get_or bytes k 0 = ap (λ xs. get_or xs k 0) front_is ∙ get_or-take n bytes k 0 short in
-    read
-    ∙ sym (byte_of_bytes bytes k (omega arith) (omega (arith, fits k)))
+    get_or-take n bytes k 0 short
+    ∙ sym (byte_of_bytes bytes k (omega arith) (fits k))
     ∙ sym (get_or-map-range_with_len (bitmap_byte (bit_in (bits_of 8 bytes))) 0 n k k 0 short (zero-add k)))
 
 -- bits past n that are clear may be left out
@@ -336,8 +335,3 @@ word_to_bytes ns bytes part q k within room written so_far =
     ∙ ap (λ bits. bits ++ bits_of 8 part) so_far
     ∙ ap (λ bits. bits_of 64 (take q ns) ++ bits) (ap (bits_of 8) written ∙ sym (digits_of_bytes (get_or ns q 0)))
     ∙ sym (bits_of-take_more 64 ns q within)
-
--- the front of the bytes that have all the bits
-pub front_bits : (bytes : List ℕ) (bits : List Bool) (n : ℕ) → bits_of 8 bytes ≡ bits → bits_of 8 (take n bytes) ≡ take (8 * n) bits
-front_bits bytes bits n same =
-    sym (take-bits_of 8 bytes n) ∙ ap (λ m. take m (bits_of 8 bytes)) (omega arith) ∙ ap (take (8 * n)) same

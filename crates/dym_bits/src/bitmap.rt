@@ -4,7 +4,7 @@ ghost use Rattle.std.specs.Prelude.{◌≡◌, ℕ, ◌+◌, ◌-◌, ◌*◌, �
 ghost use Rattle.dym_base.specs.Packed.{bitmap, bitmap_byte};
 ghost use Rattle.dym_bits.specs.Bits.{digits, bit_in, bits_of_bytes, bytes_of_bits, clear_bits, set_count, IsSet, IsClear, IsFirstClear, IsNextSet, IsNextClear, IsTopSet};
 
-use crate::bytes::{WORD_BITS, WORDS, bytes_of, padded, word_at};
+use crate::bytes::{BITMAP_BYTES, WORD_BITS, WORDS, bytes_fit, bytes_of, padded, word_at};
 use dym_base::limits::MOST_CHUNKS;
 use std::marker::Model;
 
@@ -154,6 +154,19 @@ impl Bits {
         None
     }
 
+    /// The first index after the run of set bits that begins at `first`.
+    pub fn run_end(&self, first: u32) -> u32
+        requires within { first < MOST_CHUNKS }
+        requires set { IsSet self.now first }
+        ensures after { first < result }
+        ensures run { (j : ℕ) → first ≤ j → j < result → IsSet self.now j }
+    {
+        match self.next_clear(first) {
+            Some(end) => end,
+            None => MOST_CHUNKS,
+        }
+    }
+
     /// The greatest set index, and None where no bit is set.
     pub fn top_set(&self) -> Option<u32>
         ensures { MatchOption result ((k : ℕ) → IsClear self.now k) (λ i. IsTopSet self.now i) }
@@ -199,17 +212,17 @@ impl Bits {
         }
     }
 
-    /// Fills `out` with the first bits, eight in each byte and the first of them lowest.
-    pub fn write_bytes(&self, out: &mut [u8])
-        requires { 8 * length out.old ≤ MOST_CHUNKS }
-        ensures after { out.new ≡ bytes_of_bits (length out.old) self.now }
+    /// All bits as bytes, eight in each and the first of them lowest.
+    pub fn bytes(&self) -> [u8; BITMAP_BYTES]
+        ensures front { (k : ℕ) → 8 * k ≤ MOST_CHUNKS → take k result ≡ bytes_of_bits k self.now }
 
-        // Where no bit from n on is set and `out` is as long as the bitmap of n bits, it is that bitmap.
-        ensures whole { (n : ℕ) → length out.old ≡ max 1 (n / 8) → ((i : ℕ) → n ≤ i → IsClear self.now i) → out.new ≡ bitmap n (bit_in self.now) }
-        ensures bits { bits_of_bytes out.new ≡ take (8 * length out.old) self.now }
+        // Where no bit from n on is set, the first of them are the bitmap of n bits.
+        ensures whole { (k n : ℕ) → 8 * k ≤ MOST_CHUNKS → k ≡ max 1 (n / 8) → ((i : ℕ) → n ≤ i → IsClear self.now i) → take k result ≡ bitmap n (bit_in self.now) }
+        ensures bits { bits_of_bytes result ≡ self.now }
     {
         let bytes = bytes_of(&self.words);
-        out.copy_from_slice(&bytes[..out.len()]);
+        bytes_fit(&bytes);
+        bytes
     }
 }
 
@@ -237,10 +250,8 @@ mod tests {
             assert_eq!(rt; bits.next_set(MOST_CHUNKS), None);
             assert_eq!(rt; bits.top_set(), top);
             assert_eq!(rt; (bits.byte(7), bits.byte(255)), (seventh, last));
-            let mut bytes = [0; 256];
-            bits.write_bytes(&mut bytes);
             let mut again = Bits::new();
-            again.set_bytes(&bytes);
+            again.set_bytes(&bits.bytes());
             assert_eq!(rt;
                 (again.count(), again.next_set(64), again.top_set()),
                 (2, next, top)

@@ -1,6 +1,6 @@
 //! Between the words of a bitmap and its bytes.
 
-ghost use Rattle.std.specs.Prelude.{◌≡◌, ◌+◌, ◌-◌, ◌*◌, ◌≤◌, ◌++◌, length, take, drop};
+ghost use Rattle.std.specs.Prelude.{◌≡◌, ℕ, ◌<◌, slice_index, ◌+◌, ◌-◌, ◌*◌, ◌≤◌, ◌++◌, length, take, drop};
 ghost use Rattle.dym_bits.specs.Bits.{digits, bits_of, bits_of_bytes, clear_bits};
 
 use dym_base::limits::MOST_CHUNKS;
@@ -12,21 +12,21 @@ pub(crate) const WORD_BITS: u32 = 64;
 pub(crate) const WORDS: usize = (MOST_CHUNKS / WORD_BITS) as usize;
 
 /// Bytes of one bitmap.
-const BYTES: usize = (MOST_CHUNKS / 8) as usize;
+pub const BITMAP_BYTES: usize = (MOST_CHUNKS / 8) as usize;
 
 /// The bytes, and after them bytes that are 0.
-pub(crate) fn padded(bytes: &[u8]) -> [u8; BYTES]
-    requires { length bytes.now ≤ BYTES }
+pub(crate) fn padded(bytes: &[u8]) -> [u8; BITMAP_BYTES]
+    requires { length bytes.now ≤ BITMAP_BYTES }
     ensures { bits_of_bytes result ≡ bits_of_bytes bytes.now ++ clear_bits (MOST_CHUNKS - 8 * length bytes.now) }
 {
-    let mut room = [0; BYTES];
+    let mut room = [0; BITMAP_BYTES];
     room[..bytes.len()].copy_from_slice(bytes);
     room
 }
 
 /// The word whose bits are those of the eight bytes from `at` on.
-pub(crate) fn word_at(bytes: &[u8; BYTES], at: usize) -> u64
-    requires { at + 8 ≤ BYTES }
+pub(crate) fn word_at(bytes: &[u8; BITMAP_BYTES], at: usize) -> u64
+    requires { at + 8 ≤ BITMAP_BYTES }
     ensures { digits 64 result ≡ bits_of_bytes (take 8 (drop at bytes.now)) }
 {
     let eight = &bytes[at..at + 8];
@@ -36,12 +36,19 @@ pub(crate) fn word_at(bytes: &[u8; BYTES], at: usize) -> u64
 }
 
 /// The bytes whose bits are those of the words.
-pub(crate) fn bytes_of(words: &[u64; WORDS]) -> [u8; BYTES]
+pub(crate) fn bytes_of(words: &[u64; WORDS]) -> [u8; BITMAP_BYTES]
     ensures { bits_of_bytes result ≡ bits_of 64 words.now }
 {
-    let mut room = [0; BYTES];
+    let mut room = [0; BITMAP_BYTES];
     for q in 0..WORDS {
         room[8 * q..8 * q + 8].copy_from_slice(&words[q].to_le_bytes());
     }
     room
+}
+
+/// A law: each of the bytes fits in eight bits.
+pub(crate) fn bytes_fit(bytes: &[u8])
+    ensures { (k : ℕ) → slice_index bytes.now k < 256 }
+{
+    let _ = bytes.len();
 }

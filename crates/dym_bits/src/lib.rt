@@ -11,3 +11,4 @@ mod bitmap;
 mod bytes;
 
 pub use bitmap::Bits;
+pub use bytes::BITMAP_BYTES;

@@ -1,9 +1,9 @@
 -- What the calls answer that lend an area.
-use Rattle.std.proofs.Common.{◌≡◌, ℕ, zero, suc, ◌+◌, ◌*◌, ◌<◌, ◌≤◌, ◌&&◌, inl, inr, true, false, is_some, Option, Some, None, List, [], ◌++◌, length, get_or, take, drop, ltb, refl, sym, ap, subst, ◌∙◌, arith, MatchOption, suc-mul}
+use Rattle.std.proofs.Common.{◌≡◌, ℕ, zero, suc, ◌+◌, ◌*◌, ◌<◌, ◌≤◌, ◌&&◌, inl, inr, true, false, is_some, Option, Some, None, List, [], ◌++◌, length, get_or, ltb, refl, sym, ap, subst, ◌∙◌, arith, suc-mul}
 use Rattle.std.specs.Prelude.{option_map, unwrap_or}
 use Rattle.std.specs.List.{flat_map, between, range_with_len}
 use Rattle.std.proofs.lemmas.Bool.{cases_lt, lt-ltb, le-ltb}
-use Rattle.std.proofs.lemmas.List.{get_or_past, take_all}
+use Rattle.std.proofs.lemmas.List.{get_or_past}
 use Rattle.std.proofs.lemmas.List.Edits.{between_none}
 use Rattle.std.proofs.lemmas.Nat.{mul-le}
 use Rattle.std.proofs.Math.Nat.{add-mul}
@@ -18,7 +18,7 @@ use Rattle.dym_area.specs.Area.{AreaMeaning}
 use Rattle.dym_pack.specs.Areas.{area_at, chunks_of, chunk_number, is_used_at, bytes_at}
 use Rattle.dym_heap.specs.Meaning.{HeapMeaning}
 use Rattle.dym_heap.specs.Table.{live_of, touched_of}
-use Rattle.dym_heap.specs.Shelves.{ShelfMeaning, IsTidy, FitsIn}
+use Rattle.dym_heap.specs.Shelves.{ShelfMeaning, IsTidy}
 use Rattle.dym_heap.specs.Places.{PlaceMeaning, len_of, version_by, place_of, IsMeasured}
 use Rattle.dym_heap.specs.Lending.{IsAreaOf, IsUsedRun}
 use Rattle.dym_heap.proofs.Sizes.{whole_area}
@@ -66,14 +66,6 @@ length_there : (o : Option (List ℕ)) (n : ℕ) → Some n ≡ option_map lengt
 length_there None n e = absurd cc
 length_there (Some xs) n e = cc
 
-bytes_there : (o : Option (List ℕ)) (n : ℕ) (out : List ℕ) → n ≡ length (unwrap_or o []) → MatchOption o ⊥ (λ bytes. out ≡ take n (drop 0 bytes)) → out ≡ unwrap_or o []
-bytes_there None n out long h = absurd h
-bytes_there (Some xs) n out long h = h ∙ take_all n xs (omega arith)
-
-fits_there : (o : Option (List ℕ)) (n : ℕ) → is_some o ≡ true → n ≡ length (unwrap_or o []) → FitsIn o (0 + n)
-fits_there None n some long = absurd cc
-fits_there (Some xs) n some long = omega arith
-
 module _ (live : Live) (touched : Touched) (k : ℕ) (p : PlaceMeaning) (is : IsAreaOf live touched k p) where
   pub long_a : length p.chunks ≡ chunks_of live k
   long_a = is.place.whole ∙ ap per is.exponent
@@ -107,18 +99,16 @@ module _ (live : Live) (touched : Touched) (k : ℕ) (p : PlaceMeaning) (is : Is
   pub len_a : (i n : ℕ) → i < chunks_of live k → Some n ≡ option_map length (get_or p.chunks i None) → n ≡ length (bytes_at live k i)
   len_a i n l e = length_there (get live (chunk_number live k i)) n (e ∙ ap (option_map length) (is.chunk i (inside_a i l)))
 
-  pub fits_a : (i n : ℕ) → i < chunks_of live k → is_used_at live k i ≡ true → n ≡ length (bytes_at live k i) → FitsIn (get_or p.chunks i None) (0 + n)
-  fits_a i n l used long = subst (λ o. FitsIn o (0 + n)) (sym (is.chunk i (inside_a i l))) (fits_there (get live (chunk_number live k i)) n used long)
-
-  pub bytes_a : (i n : ℕ) (out : List ℕ) → i < chunks_of live k → n ≡ length (bytes_at live k i) → MatchOption (get_or p.chunks i None) ⊥ (λ bytes. out ≡ take n (drop 0 bytes)) → out ≡ bytes_at live k i
-  bytes_a i n out l long h = bytes_there (get live (chunk_number live k i)) n out long (subst (λ o. MatchOption o ⊥ (λ bytes. out ≡ take n (drop 0 bytes))) (is.chunk i (inside_a i l)) h)
+  pub bytes_a : (i : ℕ) (out : List ℕ) → i < chunks_of live k → Some out ≡ get_or p.chunks i None → out ≡ bytes_at live k i
+  bytes_a i out l e = ap (λ o. unwrap_or o []) (e ∙ is.chunk i (inside_a i l))
 
   -- ---- a run
 
-  pub run_fits : (from count n : ℕ) → from + count ≤ chunks_of live k → n ≡ count * size (area_at live k).exponent → from * size p.exponent + n ≤ 65536
-  run_fits from count n inside long =
+  pub run_fits : (from count : ℕ) → from + count ≤ chunks_of live k → from * size p.exponent + count * size p.exponent ≤ 65536
+  run_fits from count inside =
       let e : ℕ = (area_at live k).exponent in
       let same : from * size p.exponent ≡ from * size e = ap (λ x. from * size x) is.exponent in
+      let long : count * size p.exponent ≡ count * size e = ap (λ x. count * size x) is.exponent in
       let high : e ≤ 16 = let m = is.place.most in let x = is.exponent in omega arith in
       let whole = whole_area e high in
       let m = mul-le (from + count) (size e) (per e) (size e) inside (omega arith) in

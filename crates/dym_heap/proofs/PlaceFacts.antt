@@ -56,10 +56,10 @@ module _ (area : AreaMeaning) (ls : Option (List ℕ)) (p : PlaceMeaning) (v : p
   pub first_p : (i : ℕ) → IsFirstClear area.used (per area.exponent) i → IsFreeIn p.chunks i
   first_p i first = subst (λ (q : PlaceMeaning). IsFreeIn q.chunks i) v (first_free area ls i m.lawful first)
 
-  free_p : (i : ℕ) → IsClear area.used i → get_or p.chunks i None ≡ None
+  pub free_p : (i : ℕ) → IsClear area.used i → get_or p.chunks i None ≡ None
   free_p i clear = chunk_at_p i ∙ unused_chunk area ls i clear
 
-  some_p : (i : ℕ) → IsSet area.used i → IsSome (get_or p.chunks i None)
+  pub some_p : (i : ℕ) → IsSet area.used i → IsSome (get_or p.chunks i None)
   some_p i h = ap is_some (chunk_at_p i) ∙ some_used area ls i ∙ h
 
   pub next_p : (o : Option ℕ) (from : ℕ) → MatchOption o ((i : ℕ) → from ≤ i → IsClear area.used i) (IsNextSet area.used from)
@@ -79,6 +79,17 @@ module _ (area : AreaMeaning) (ls : Option (List ℕ)) (p : PlaceMeaning) (v : p
 
   pub len_free_p : (i : ℕ) → IsClear area.used i → None ≡ option_map (length {A = ℕ}) (get_or p.chunks i None)
   len_free_p i clear = sym (ap (option_map length) (free_p i clear))
+
+  pub len_fits_p : (i : ℕ) → IsSet area.used i → len_of area.exponent ls i ≤ size area.exponent
+  len_fits_p i h = size_fits (version_by ls) area.exponent (len_of area.exponent ls i) (m.fits i h)
+
+  pub bytes_p : (i n : ℕ) → IsSet area.used i → n ≡ len_of area.exponent ls i → Some (part_of area.content (chunk_start area i + 0) n) ≡ get_or p.chunks i None
+  bytes_p i n h long =
+      let start : chunk_start area i + 0 ≡ chunk_start area i = omega arith in
+      ap (λ a. Some (part_of area.content a n)) start
+      ∙ ap (λ k. Some (part_of area.content (chunk_start area i) k)) long
+      ∙ sym (used_chunk area ls i h)
+      ∙ sym (chunk_at_p i)
 
   -- ---- a chunk in use, of at least n bytes
   pub record InUse (i n : ℕ) : Type 0 where

@@ -46,11 +46,11 @@ impl<S: Supply> Areas for Heap<S> {
         self.shelf.place(k).used_len(i)
     }
 
-    fn chunk_read(&self, k: u32, i: u32, out: &mut [u8]) {
-        self.shelf.place(k).read(i, 0, out);
+    fn chunk_bytes(&self, k: u32, i: u32) -> &[u8] {
+        self.shelf.place(k).used_bytes(i)
     }
 
-    fn run_read(&self, k: u32, from: u32, _count: u32, out: &mut [u8]) {
-        self.shelf.place(k).read_run(from, out);
+    fn run_bytes(&self, k: u32, from: u32, count: u32) -> &[u8] {
+        self.shelf.place(k).run_bytes(from, count)
     }
 }

@@ -35,6 +35,20 @@ pub(crate) fn len_of_handle<S: Supply>(shelf: &Shelf<S>, h: Handle) -> Option<u3
     shelf.chunk_len(h.exp, h.index)
 }
 
+/// A chunk's bytes, and None where it isn't live.
+pub(crate) fn bytes_of_handle<S: Supply>(shelf: &Shelf<S>, h: Handle) -> Option<&[u8]>
+    requires { IsTidy shelf.now }
+    ensures { MatchOption result (get (live_of shelf.now.rows) (key h) ≡ None) (λ bytes. get (live_of shelf.now.rows) (key h) ≡ Some bytes.now) }
+{
+    if h.exp < LEAST_EXPONENT {
+        return None;
+    }
+    if h.exp > GREATEST_EXPONENT {
+        return None;
+    }
+    shelf.bytes(h.exp, h.index)
+}
+
 /// Frees a chunk that is live, and gives back the areas that its class needs no more.
 pub(crate) fn free_chunk<S: Supply>(shelf: &mut Shelf<S>, way: &S::Way, exp: u8, index: u32)
     requires least { 5 ≤ exp }

@@ -14,7 +14,8 @@ ghost use Rattle.dym_heap.specs.Meaning.{HeapMeaning, IsSound};
 ghost use Rattle.dym_heap.specs.Replies.{step_of, stepped, done_reply, chunk_reply, moved_reply, bytes_reply, found_reply, after_key, IsNextLive};
 
 use crate::chunk::{
-    fill_chunk, find_number, free_chunk, len_of_handle, move_chunk, resize_chunk, write_chunk,
+    bytes_of_handle, fill_chunk, find_number, free_chunk, len_of_handle, move_chunk, resize_chunk,
+    write_chunk,
 };
 use crate::found::Found;
 use crate::fresh::take_fresh;
@@ -281,6 +282,13 @@ impl<S: Supply> Heap<S> {
         }
         self.shelf.read(h.exp, h.index, at, out);
         Ok(())
+    }
+
+    /// All bytes of a chunk, and None where it isn't live.
+    pub fn bytes(&self, h: Handle) -> Option<&[u8]>
+        ensures { MatchOption result (get self.now.state.live (key h) ≡ None) (λ bytes. get self.now.state.live (key h) ≡ Some bytes.now) }
+    {
+        bytes_of_handle(&self.shelf, h)
     }
 
     /// A chunk's length in bytes, and None where it isn't live.

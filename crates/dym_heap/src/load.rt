@@ -1,15 +1,12 @@
 //! Packed chunks are put over those of an area.
-ghost use Rattle.std.specs.Prelude.{◌≡◌, ℕ, ◌≤◌, ◌<◌, List, length};
+ghost use Rattle.std.specs.Prelude.{◌≡◌, ℕ, List, length};
 ghost use Rattle.std.specs.Int.{from_le_bytes, w32};
 ghost use Rattle.dym_base.specs.declared.command.Version.TheVariants.{One, Two};
-ghost use Rattle.dym_base.specs.declared.limits.TheConstants.{MOST_CHUNKS};
-ghost use Rattle.dym_bits.specs.Bits.{IsSet};
 ghost use Rattle.dym_area.specs.Area.{IsLawful};
 ghost use Rattle.dym_heap.specs.Bodies.{IsBodyOf, IsBody, HoldsLoaded, NotesLoaded};
 
 use crate::lengths::Lengths;
 use dym_area::Area;
-use dym_base::limits::MOST_CHUNKS;
 use dym_base::size_of_class;
 use dym_bits::Bits;
 use dym_region::Segment;
@@ -26,24 +23,11 @@ pub(crate) fn load_runs<G: Segment>(area: &mut Area<G>, packed: &Bits, body: &[u
     let mut from = 0;
     let mut at = 0;
     while let Some(start) = packed.next_set(from) {
-        let end = run_end(packed, start);
+        let end = packed.run_end(start);
         let len = ((end - start) * size) as usize;
         area.load_run(start, &body[at..at + len]);
         at += len;
         from = end;
-    }
-}
-
-/// Where the run of set bits ends that begins at `start`.
-fn run_end(bits: &Bits, start: u32) -> u32
-    requires small { start < MOST_CHUNKS }
-    requires set { IsSet bits.now start }
-    ensures more { start < result }
-    ensures run { (k : ℕ) → start ≤ k → k < result → IsSet bits.now k }
-{
-    match bits.next_clear(start) {
-        Some(end) => end,
-        None => MOST_CHUNKS,
     }
 }
 

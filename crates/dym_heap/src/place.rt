@@ -94,7 +94,7 @@ impl<G: Segment> Place<G> {
         self.area.next_used(from)
     }
 
-    /// The bytes of chunk `i`, and None where it is free.
+    /// How many bytes chunk `i` has, and None where it is free.
     pub(crate) fn chunk_len(&self, i: u32) -> Option<u32>
         requires { i < length self.now.chunks }
         ensures { result ≡ option_map length (slice_index_or self.now.chunks i None) }
@@ -157,14 +157,35 @@ impl<G: Segment> Place<G> {
         noted_len(&self.lengths, self.area.exp(), i)
     }
 
-    /// Copies the bytes of the chunks from chunk `from` on into `out`: in version 1 those of as many chunks in use as it has
-    /// room for.
-    pub(crate) fn read_run(&self, from: u32, out: &mut [u8])
-        requires { from * size self.now.exponent + length out.old ≤ SEGMENT_BYTES }
-        ensures { (count : ℕ) → self.now.version ≡ One → IsUsedRun self.now.chunks from count → length out.old ≡ count * size self.now.exponent
-            → out.new ≡ flat_map (λ i. unwrap_or (slice_index_or self.now.chunks i None) []) (range_with_len from count) }
+    /// The bytes of chunk `i`, which is in use.
+    pub(crate) fn used_bytes(&self, i: u32) -> &[u8]
+        requires { IsSome (slice_index_or self.now.chunks i None) }
+        ensures { Some result.now ≡ slice_index_or self.now.chunks i None }
     {
-        self.area.read_run(from, out);
+        self.area
+            .bytes(i, 0, noted_len(&self.lengths, self.area.exp(), i))
+    }
+
+    /// The bytes of chunk `i`, and None where it is free.
+    pub(crate) fn chunk_bytes(&self, i: u32) -> Option<&[u8]>
+        requires { i < length self.now.chunks }
+        ensures { MatchOption result (slice_index_or self.now.chunks i None ≡ None) (λ bytes. slice_index_or self.now.chunks i None ≡ Some bytes.now) }
+    {
+        if !self.area.is_used(i) {
+            return None;
+        }
+        Some(self.used_bytes(i))
+    }
+
+    /// The bytes of `count` chunks from chunk `from` on, each as long as its class allows: in version 1 those of the chunks,
+    /// where all are in use.
+    pub(crate) fn run_bytes(&self, from: u32, count: u32) -> &[u8]
+        requires { from * size self.now.exponent + count * size self.now.exponent ≤ SEGMENT_BYTES }
+        ensures { self.now.version ≡ One → IsUsedRun self.now.chunks from count
+            → result.now ≡ flat_map (λ i. unwrap_or (slice_index_or self.now.chunks i None) []) (range_with_len from count) }
+    {
+        self.area
+            .run_bytes(from, count * size_of_class(self.area.exp()))
     }
 
     /// Chunk `i` is free from now on.

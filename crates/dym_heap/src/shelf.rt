@@ -213,7 +213,19 @@ impl<S: Supply> Shelf<S> {
         &self.places[k as usize]
     }
 
-    /// The bytes of a chunk that is in use.
+    /// The bytes of a chunk, and None where it isn't in use.
+    pub(crate) fn bytes(&self, exp: u8, index: u32) -> Option<&[u8]>
+        requires least { 5 ≤ exp }
+        requires most { exp ≤ 16 }
+        ensures { MatchOption result (chunk_at self.now.rows (exp - 5) index ≡ None) (λ bytes. chunk_at self.now.rows (exp - 5) index ≡ Some bytes.now) }
+    {
+        let Some(spot) = find(&self.starts, exp, index) else {
+            return None;
+        };
+        self.places[spot.place].chunk_bytes(spot.chunk)
+    }
+
+    /// How many bytes a chunk has that is in use.
     pub(crate) fn chunk_len(&self, exp: u8, index: u32) -> Option<u32>
         requires least { 5 ≤ exp }
         requires most { exp ≤ 16 }

@@ -1,8 +1,7 @@
 -- The bytes of a log as those before an area, the area's, and those after it.
-use Rattle.std.proofs.Common.{◌≡◌, ℕ, ◌+◌, ◌-◌, ◌<◌, ◌≤◌, List, [], ◌∷◌, ◌++◌, length, map, take, drop, set, get_or, inl, inr, refl, sym, ◌∙◌, ap, arith}
+use Rattle.std.proofs.Common.{◌≡◌, ℕ, ◌+◌, ◌-◌, ◌<◌, ◌≤◌, List, [], ◌∷◌, ◌++◌, length, map, take, drop, refl, sym, ◌∙◌, ap, arith}
 use Rattle.std.specs.List.{range_with_len, flat_map, filter}
-use Rattle.std.proofs.lemmas.List.{length-append, append-nil, append_assoc, take_more, take_all, take-append-drop, drop_at, get_or-set_same, get_or-set_other}
-use Rattle.std.proofs.lemmas.Bool.{cases_eq}
+use Rattle.std.proofs.lemmas.List.{length-append, append-nil, append_assoc, take_more, take_all, take-append-drop, drop_at}
 use Rattle.std.proofs.lemmas.List.Concat.{flat_map-append}
 use mathlib.Core.Path.{fun_ext}
 use Rattle.dym_base.specs.Numbers.{classes}
@@ -100,11 +99,3 @@ at_area log k within =
 
 pub area_len_is : (log : Logged) (k : ℕ) → length (area_bytes log (area_at log.copy k)) ≡ length (area_head log k) + length (body_from log k 0)
 area_len_is log k = ap length (area_is_parts log k) ∙ length-append (area_head log k) (body_from log k 0)
-
--- one start more
-pub start_set : (log : Logged) (starts : List ℕ) (k at : ℕ) → k < length starts → at ≡ start_of log k → ((j : ℕ) → j < k → get_or starts j 0 ≡ start_of log j) → (j : ℕ) → j < k + 1 → get_or (set starts k at) j 0 ≡ start_of log j
-start_set log starts k at within is before j below =
-    elim (cases_eq j k) as (λ _. get_or (set starts k at) j 0 ≡ start_of log j) [
-      | inl same ↦ ap (λ i. get_or (set starts k at) i 0) same ∙ get_or-set_same starts k at 0 within ∙ is ∙ ap (start_of log) (sym same)
-      | inr other ↦ get_or-set_other starts k j at 0 other ∙ before j (omega arith)
-    ]

@@ -1,8 +1,7 @@
 //! What can be packed.
-ghost use Rattle.std.specs.Prelude.{◌≡◌, ℕ, ◌+◌, ◌*◌, ◌<◌, ◌≤◌, ◌&&◌, nat_lt, true, length, IsTrue};
+ghost use Rattle.std.specs.Prelude.{◌≡◌, ℕ, ◌+◌, ◌<◌, ◌≤◌, ◌&&◌, nat_lt, true, length, IsTrue};
 ghost use Rattle.std.specs.List.{flat_map, range_with_len};
 ghost use Rattle.std.specs.FinSet.{contains};
-ghost use Rattle.dym_base.specs.Numbers.{size};
 ghost use Rattle.dym_base.specs.Heaps.{held};
 ghost use Rattle.dym_base.specs.declared.command.Version.TheVariants.{One};
 ghost use Rattle.dym_bits.specs.Bits.{bit_in};
@@ -64,20 +63,18 @@ pub trait Areas {
         requires used { is_used_at (meaning self.now).live k i ≡ true }
         ensures { result ≡ length (bytes_at (meaning self.now).live k i) };
 
-    /// Copies the bytes of a chunk in use.
-    fn chunk_read(&self, k: u32, i: u32, out: &mut [u8])
+    /// The bytes of a chunk in use.
+    fn chunk_bytes(&self, k: u32, i: u32) -> &[u8]
         requires area { k < held (meaning self.now).live }
         requires chunk { i < chunks_of (meaning self.now).live k }
         requires used { is_used_at (meaning self.now).live k i ≡ true }
-        requires len { length out.old ≡ length (bytes_at (meaning self.now).live k i) }
-        ensures { out.new ≡ bytes_at (meaning self.now).live k i };
+        ensures { result.now ≡ bytes_at (meaning self.now).live k i };
 
-    /// Copies the bytes of `count` chunks in use that stand side by side, in version 1, where each has all bytes of its class.
-    fn run_read(&self, k: u32, from: u32, count: u32, out: &mut [u8])
+    /// The bytes of `count` chunks in use that stand side by side, in version 1, where each has all bytes of its class.
+    fn run_bytes(&self, k: u32, from: u32, count: u32) -> &[u8]
         requires version { (meaning self.now).version ≡ One }
         requires area { k < held (meaning self.now).live }
         requires chunks { from + count ≤ chunks_of (meaning self.now).live k }
         requires used { (i : ℕ) → from ≤ i → i < from + count → is_used_at (meaning self.now).live k i ≡ true }
-        requires len { length out.old ≡ count * size (area_at (meaning self.now).live k).exponent }
-        ensures { out.new ≡ flat_map (bytes_at (meaning self.now).live k) (range_with_len from count) };
+        ensures { result.now ≡ flat_map (bytes_at (meaning self.now).live k) (range_with_len from count) };
 }

@@ -1,20 +1,20 @@
 //! One area of a record: its length, and its bytes.
-ghost use Rattle.std.specs.Prelude.{◌≡◌, ℕ, ◌+◌, ◌*◌, ◌/◌, ◌<◌, ◌≤◌, Bool, true, ◌&&◌, nat_lt, max, ◌++◌, length, take};
+ghost use Rattle.std.specs.Prelude.{◌≡◌, ℕ, ◌+◌, ◌*◌, ◌/◌, ◌<◌, ◌≤◌, Bool, true, ◌&&◌, nat_lt, max, ◌++◌, length, OnOk};
 ghost use Rattle.dym_base.specs.Packed.{bitmap, packed_chunk};
-ghost use Rattle.dym_base.specs.Numbers.{per, size};
+ghost use Rattle.dym_base.specs.Numbers.{per};
 ghost use Rattle.dym_base.specs.Heaps.{held};
 ghost use Rattle.dym_base.specs.declared.command.Version.TheVariants.{One, Two};
-ghost use Rattle.dym_bits.specs.Bits.{IsSet, bit_in};
-ghost use Rattle.dym_pack.specs.Areas.{IsPackable, area_at, bytes_at, chunks_of, is_used_at, logged};
+ghost use Rattle.dym_bits.specs.Bits.{bit_in};
+ghost use Rattle.dym_pack.specs.Areas.{IsPackable, area_at, chunks_of, logged};
 ghost use Rattle.dym_pack.specs.Reading.{packs_at, body_from};
-ghost use Rattle.dym_pack.specs.Places.{area_bytes, area_head, use_map, touched_map};
+ghost use Rattle.dym_pack.specs.Places.{area_bytes, area_head};
 
 use crate::areas::Areas;
-use crate::layout::{NAME_BYTES, map_bytes, put_name};
+use crate::layout::{NAME_BYTES, map_bytes, name_of};
 use crate::walk::LENGTH_BYTES;
-use dym_base::limits::MOST_CHUNKS;
 use dym_base::{Kind, Version, size_of_class};
 use dym_bits::Bits;
+use std::alloc::AllocError;
 
 /// Which chunks of an area a log of this kind packs.
 fn bits_to_pack<A: Areas>(areas: &A, kind: Kind, k: u32) -> &Bits
@@ -84,25 +84,26 @@ fn chunks_len<A: Areas>(areas: &A, kind: Kind, k: u32, bits: &Bits) -> u32
     len
 }
 
-/// Writes an area, and tells how many bytes that took.
-pub(crate) fn put_area<A: Areas>(areas: &A, kind: Kind, k: u32, out: &mut [u8]) -> usize
+/// Appends an area.
+pub(crate) fn put_area<A: Areas>(
+    areas: &A,
+    kind: Kind,
+    k: u32,
+    out: &mut Vec<u8>,
+) -> Result<(), AllocError>
     requires packable { IsPackable (A.meaning areas.now) }
     requires area { k < held (A.meaning areas.now).live }
-    requires room { length (area_bytes (logged (A.meaning areas.now) kind 0) (area_at (A.meaning areas.now).live k)) ≤ length out.old }
-    ensures count { result ≡ length (area_bytes (logged (A.meaning areas.now) kind 0) (area_at (A.meaning areas.now).live k)) }
-    ensures bytes { take result out.new ≡ area_bytes (logged (A.meaning areas.now) kind 0) (area_at (A.meaning areas.now).live k) }
+    ensures { OnOk result (out.new.items ≡ out.old.items ++ area_bytes (logged (A.meaning areas.now) kind 0) (area_at (A.meaning areas.now).live k)) }
 {
-    let at = put_head(areas, kind, k, out);
-    at + put_body(areas, kind, k, &mut out[at..])
+    put_head(areas, kind, k, out)?;
+    put_body(areas, kind, k, out)
 }
 
-/// Writes the packed chunks of an area.
-fn put_body<A: Areas>(areas: &A, kind: Kind, k: u32, out: &mut [u8]) -> usize
+/// Appends the packed chunks of an area.
+fn put_body<A: Areas>(areas: &A, kind: Kind, k: u32, out: &mut Vec<u8>) -> Result<(), AllocError>
     requires packable { IsPackable (A.meaning areas.now) }
     requires area { k < held (A.meaning areas.now).live }
-    requires room { length (body_from (logged (A.meaning areas.now) kind 0) k 0) ≤ length out.old }
-    ensures count { result ≡ length (body_from (logged (A.meaning areas.now) kind 0) k 0) }
-    ensures bytes { take result out.new ≡ body_from (logged (A.meaning areas.now) kind 0) k 0 }
+    ensures { OnOk result (out.new.items ≡ out.old.items ++ body_from (logged (A.meaning areas.now) kind 0) k 0) }
 {
     let bits = bits_to_pack(areas, kind, k);
     match areas.version() {
@@ -111,122 +112,80 @@ fn put_body<A: Areas>(areas: &A, kind: Kind, k: u32, out: &mut [u8]) -> usize
     }
 }
 
-/// Writes what stands before the packed chunks of an area.
-fn put_head<A: Areas>(areas: &A, kind: Kind, k: u32, out: &mut [u8]) -> usize
-    requires packable { IsPackable (A.meaning areas.now) }
-    requires area { k < held (A.meaning areas.now).live }
-    requires room { length (area_head (logged (A.meaning areas.now) kind 0) k) ≤ length out.old }
-    ensures count { result ≡ length (area_head (logged (A.meaning areas.now) kind 0) k) }
-    ensures bytes { take result out.new ≡ area_head (logged (A.meaning areas.now) kind 0) k }
+/// Appends what stands before the packed chunks of an area.
+fn put_head<A: Areas>(areas: &A, kind: Kind, k: u32, out: &mut Vec<u8>) -> Result<(), AllocError>
+    requires { k < held (A.meaning areas.now).live }
+    ensures { OnOk result (out.new.items ≡ out.old.items ++ area_head (logged (A.meaning areas.now) kind 0) k) }
 {
     let exp = areas.area_exp(k);
-    put_name(exp, areas.area_ordinal(k), out);
-    NAME_BYTES
-        + put_maps(
-            areas,
-            kind,
-            k,
-            map_bytes(exp) as usize,
-            &mut out[NAME_BYTES..],
-        )
-}
-
-/// Writes the bits of an area, whose bitmaps have `map` bytes.
-fn put_maps<A: Areas>(areas: &A, kind: Kind, k: u32, map: usize, out: &mut [u8]) -> usize
-    requires packable { IsPackable (A.meaning areas.now) }
-    requires area { k < held (A.meaning areas.now).live }
-    requires map { map ≡ max 1 (chunks_of (A.meaning areas.now).live k / 8) }
-    requires room { length (use_map (logged (A.meaning areas.now) kind 0) k ++ touched_map (logged (A.meaning areas.now) kind 0) k) ≤ length out.old }
-    ensures count { result ≡ length (use_map (logged (A.meaning areas.now) kind 0) k ++ touched_map (logged (A.meaning areas.now) kind 0) k) }
-    ensures bytes { take result out.new ≡ use_map (logged (A.meaning areas.now) kind 0) k ++ touched_map (logged (A.meaning areas.now) kind 0) k }
-{
-    put_bits(areas.used_bits(k), map, out);
+    let map = map_bytes(exp) as usize;
+    out.extend_from_slice(&name_of(exp, areas.area_ordinal(k)))?;
+    put_bits(areas.used_bits(k), map, out)?;
     match kind {
-        Kind::Full => map,
-        Kind::Inc => {
-            put_bits(areas.dirty_bits(k), map, &mut out[map..]);
-            map + map
-        }
+        Kind::Full => Ok(()),
+        Kind::Inc => put_bits(areas.dirty_bits(k), map, out),
     }
 }
 
-/// Writes a bitmap of `map` bytes.
-fn put_bits(bits: &Bits, map: usize, out: &mut [u8])
-    requires few { map ≤ 256 }
-    requires room { map ≤ length out.old }
-    ensures { (n : ℕ) (is_set : ℕ → Bool) → map ≡ max 1 (n / 8) → ((i : ℕ) → bit_in bits.now i ≡ (nat_lt i n && is_set i)) → take map out.new ≡ bitmap n is_set }
+/// Appends a bitmap of `map` bytes.
+fn put_bits(bits: &Bits, map: usize, out: &mut Vec<u8>) -> Result<(), AllocError>
+    requires { map ≤ 256 }
+    ensures { (n : ℕ) (is_set : ℕ → Bool) → map ≡ max 1 (n / 8) → ((i : ℕ) → bit_in bits.now i ≡ (nat_lt i n && is_set i)) → OnOk result (out.new.items ≡ out.old.items ++ bitmap n is_set) }
 {
-    bits.write_bytes(&mut out[..map]);
+    out.extend_from_slice(&bits.bytes()[..map])
 }
 
-/// Writes the packed chunks of an area in version 1, each run of them at once.
-fn put_runs<A: Areas>(areas: &A, kind: Kind, k: u32, bits: &Bits, out: &mut [u8]) -> usize
+/// Appends the packed chunks of an area in version 1, each run of them at once.
+fn put_runs<A: Areas>(
+    areas: &A,
+    kind: Kind,
+    k: u32,
+    bits: &Bits,
+    out: &mut Vec<u8>,
+) -> Result<(), AllocError>
     requires packable { IsPackable (A.meaning areas.now) }
     requires area { k < held (A.meaning areas.now).live }
     requires version { (A.meaning areas.now).version ≡ One }
     requires bits { (i : ℕ) → bit_in bits.now i ≡ (nat_lt i (chunks_of (A.meaning areas.now).live k) && packs_at (logged (A.meaning areas.now) kind 0) k i) }
-    requires room { length (body_from (logged (A.meaning areas.now) kind 0) k 0) ≤ length out.old }
-    ensures count { result ≡ length (body_from (logged (A.meaning areas.now) kind 0) k 0) }
-    ensures bytes { take result out.new ≡ body_from (logged (A.meaning areas.now) kind 0) k 0 }
+    ensures { OnOk result (out.new.items ≡ out.old.items ++ body_from (logged (A.meaning areas.now) kind 0) k 0) }
 {
-    let size = size_of_class(areas.area_exp(k)) as usize;
-    let mut at = 0;
     let mut from = 0;
     while let Some(first) = bits.next_set(from) {
-        let end = run_end(bits, first);
-        let len = (end - first) as usize * size;
-        areas.run_read(k, first, end - first, &mut out[at..at + len]);
-        at += len;
+        let end = bits.run_end(first);
+        out.extend_from_slice(areas.run_bytes(k, first, end - first))?;
         from = end;
     }
-    at
+    Ok(())
 }
 
-/// The first index after the run of set bits that begins at `first`.
-fn run_end(bits: &Bits, first: u32) -> u32
-    requires within { first < MOST_CHUNKS }
-    requires set { IsSet bits.now first }
-    ensures after { first < result }
-    ensures run { (j : ℕ) → first ≤ j → j < result → IsSet bits.now j }
-{
-    match bits.next_clear(first) {
-        Some(end) => end,
-        None => MOST_CHUNKS,
-    }
-}
-
-/// Writes the packed chunks of an area in version 2, each after its length.
-fn put_chunks<A: Areas>(areas: &A, kind: Kind, k: u32, bits: &Bits, out: &mut [u8]) -> usize
+/// Appends the packed chunks of an area in version 2, each after its length.
+fn put_chunks<A: Areas>(
+    areas: &A,
+    kind: Kind,
+    k: u32,
+    bits: &Bits,
+    out: &mut Vec<u8>,
+) -> Result<(), AllocError>
     requires packable { IsPackable (A.meaning areas.now) }
     requires area { k < held (A.meaning areas.now).live }
     requires version { (A.meaning areas.now).version ≡ Two }
     requires bits { (i : ℕ) → bit_in bits.now i ≡ (nat_lt i (chunks_of (A.meaning areas.now).live k) && packs_at (logged (A.meaning areas.now) kind 0) k i) }
-    requires room { length (body_from (logged (A.meaning areas.now) kind 0) k 0) ≤ length out.old }
-    ensures count { result ≡ length (body_from (logged (A.meaning areas.now) kind 0) k 0) }
-    ensures bytes { take result out.new ≡ body_from (logged (A.meaning areas.now) kind 0) k 0 }
+    ensures { OnOk result (out.new.items ≡ out.old.items ++ body_from (logged (A.meaning areas.now) kind 0) k 0) }
 {
-    let mut at = 0;
     let mut from = 0;
     while let Some(i) = bits.next_set(from) {
-        at += put_chunk(areas, k, i, &mut out[at..]);
+        put_chunk(areas.chunk_bytes(k, i), out)?;
         from = i + 1;
     }
-    at
+    Ok(())
 }
 
-/// Writes a chunk after its length, and tells how many bytes that took.
-fn put_chunk<A: Areas>(areas: &A, k: u32, i: u32, out: &mut [u8]) -> usize
-    requires packable { IsPackable (A.meaning areas.now) }
-    requires area { k < held (A.meaning areas.now).live }
-    requires chunk { i < chunks_of (A.meaning areas.now).live k }
-    requires used { is_used_at (A.meaning areas.now).live k i ≡ true }
-    requires room { 4 + length (bytes_at (A.meaning areas.now).live k i) ≤ length out.old }
-    ensures count { result ≡ length (packed_chunk Two (bytes_at (A.meaning areas.now).live k i)) }
-    ensures bytes { take result out.new ≡ packed_chunk Two (bytes_at (A.meaning areas.now).live k i) }
+/// Appends a chunk after its length.
+fn put_chunk(bytes: &[u8], out: &mut Vec<u8>) -> Result<(), AllocError>
+    requires { length bytes.now ≤ 65536 }
+    ensures { OnOk result (out.new.items ≡ out.old.items ++ packed_chunk Two bytes.now) }
 {
-    let len = areas.chunk_len(k, i);
-    let end = LENGTH_BYTES + len as usize;
-    out[..LENGTH_BYTES].copy_from_slice(&len.to_le_bytes());
-    areas.chunk_read(k, i, &mut out[LENGTH_BYTES..end]);
-    end
+    let len = bytes.len() as u32;
+    out.extend_from_slice(&len.to_le_bytes())?;
+    out.extend_from_slice(bytes)
 }

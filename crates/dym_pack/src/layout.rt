@@ -37,23 +37,25 @@ pub(crate) fn map_bytes(exp: u8) -> u32
     (per_area(exp) / 8).max(1)
 }
 
-/// Writes what stands before the areas.
-pub(crate) fn put_header(version: Version, kind: Kind, time: u64, count: u32, out: &mut [u8])
-    requires { 13 ≤ length out.old }
-    ensures { take 13 out.new ≡ kind_byte version kind ∷ to_le_bytes w64 time ++ to_le_bytes w32 count }
+/// What stands before the areas.
+pub(crate) fn header_of(version: Version, kind: Kind, time: u64, count: u32) -> [u8; HEADER_BYTES]
+    ensures { result ≡ kind_byte version kind ∷ to_le_bytes w64 time ++ to_le_bytes w32 count }
 {
+    let mut out = [0; HEADER_BYTES];
     out[0] = byte_of_kind(version, kind);
     out[1..9].copy_from_slice(&time.to_le_bytes());
     out[9..HEADER_BYTES].copy_from_slice(&count.to_le_bytes());
+    out
 }
 
-/// Writes the class and the ordinal of an area.
-pub(crate) fn put_name(exp: u8, ordinal: u32, out: &mut [u8])
-    requires { 5 ≤ length out.old }
-    ensures { take 5 out.new ≡ name_bytes exp ordinal }
+/// The class and the ordinal of an area.
+pub(crate) fn name_of(exp: u8, ordinal: u32) -> [u8; NAME_BYTES]
+    ensures { result ≡ name_bytes exp ordinal }
 {
+    let mut out = [0; NAME_BYTES];
     out[0] = exp;
     out[1..NAME_BYTES].copy_from_slice(&ordinal.to_le_bytes());
+    out
 }
 
 /// The version that the first byte of a record tells.

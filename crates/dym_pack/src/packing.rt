@@ -3,11 +3,11 @@ ghost use Rattle.std.specs.Prelude.{◌≡◌, ℕ, ◌+◌, ◌<◌, ◌≤◌,
 ghost use Rattle.dym_base.specs.Heaps.{held};
 ghost use Rattle.dym_base.specs.Packed.{packed};
 ghost use Rattle.dym_pack.specs.Areas.{IsPackable, area_at, logged};
-ghost use Rattle.dym_pack.specs.Places.{area_bytes, starts_of};
+ghost use Rattle.dym_pack.specs.Places.{area_bytes};
 
 use crate::areas::Areas;
 use crate::areas_out::{area_len, put_area};
-use crate::layout::{HEADER_BYTES, put_header};
+use crate::layout::{HEADER_BYTES, header_of};
 use crate::record::Record;
 use dym_base::Kind;
 use std::alloc::{AllocError, Global};
@@ -29,26 +29,14 @@ pub fn pack<A: Areas>(alloc: Global, areas: &A, kind: Kind, time: u64) -> Result
     requires packable { IsPackable (A.meaning areas.now) }
     ensures { IfOk result (λ r. r ≡ packed (logged (A.meaning areas.now) kind time)) }
 {
-    let mut bytes = vec![in alloc; 0; packed_len(areas, kind) as usize]?;
-    let mut starts = vec![in alloc; 0; areas.area_count() as usize + 1]?;
-    put_areas(areas, kind, time, &mut bytes, &mut starts);
-    Ok(Record { bytes, starts })
-}
-
-/// Fills the bytes of a record, and the places where its areas begin.
-fn put_areas<A: Areas>(areas: &A, kind: Kind, time: u64, bytes: &mut [u8], starts: &mut [usize])
-    requires packable { IsPackable (A.meaning areas.now) }
-    requires room { length bytes.old ≡ length (packed (logged (A.meaning areas.now) kind time)) }
-    requires places { length starts.old ≡ held (A.meaning areas.now).live + 1 }
-    ensures packed { bytes.new ≡ packed (logged (A.meaning areas.now) kind time) }
-    ensures starts { starts.new ≡ starts_of (logged (A.meaning areas.now) kind time) }
-{
     let count = areas.area_count();
-    put_header(areas.version(), kind, time, count, bytes);
-    let mut at = HEADER_BYTES;
+    let mut bytes = Vec::with_capacity(alloc, packed_len(areas, kind) as usize)?;
+    let mut starts = Vec::with_capacity(alloc, count as usize + 1)?;
+    bytes.extend_from_slice(&header_of(areas.version(), kind, time, count))?;
     for k in 0..count {
-        starts[k as usize] = at;
-        at += put_area(areas, kind, k, &mut bytes[at..]);
+        starts.push(bytes.len())?;
+        put_area(areas, kind, k, &mut bytes)?;
     }
-    starts[count as usize] = at;
+    starts.push(bytes.len())?;
+    Ok(Record { bytes, starts })
 }

@@ -20,6 +20,11 @@ pub trait Segment {
 
     ghost id: { Self → SegmentId };
 
+    /// The `len` bytes from place `at` on.
+    fn bytes(&self, at: u32, len: u32) -> &[u8]
+        requires { at + len ≤ SEGMENT_BYTES }
+        ensures { result.now ≡ part_of (content self.now) at len };
+
     /// Copies the bytes from place `at` on into `out`.
     fn read(&self, at: u32, out: &mut [u8])
         requires { at + length out.old ≤ SEGMENT_BYTES }

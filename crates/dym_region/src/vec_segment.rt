@@ -31,6 +31,11 @@ impl Segment for VecSegment {
 
     ghost content_is_whole = { λ s. s.whole };
 
+    fn bytes(&self, at: u32, len: u32) -> &[u8] {
+        let start = at as usize;
+        &self.bytes[start..start + len as usize]
+    }
+
     fn read(&self, at: u32, out: &mut [u8]) {
         let start = at as usize;
         out.copy_from_slice(&self.bytes[start..start + out.len()]);

@@ -10,14 +10,10 @@ ghost use Rattle.dym_report.specs.Objects.{heap_line, image_line, images_text, s
 
 use crate::object::{write_heading, write_image, write_logs};
 use crate::reply::{write_numbers, write_replies};
-use dym_base::limits::SEGMENT_BYTES;
 use dym_base::{Handle, Name, Reply};
 use dym_heap::Heap;
 use dym_io::{Sink, SinkFault};
 use dym_quota::Supply;
-
-/// The bytes of the largest chunk.
-const LARGEST: usize = SEGMENT_BYTES as usize;
 
 /// Writes the whole part of one object: its name, its replies, its heap, and how many logs it keeps, which take that many
 /// records. Its only error is that of the sink.
@@ -81,32 +77,27 @@ fn write_images<W: Sink, S: Supply>(sink: &mut W, heap: &Heap<S>) -> Result<(), 
     requires sound { IsSound heap.now }
     ensures { Writes (W.output sink.old) (W.output sink.new) (images_text heap.now.version heap.now.state.live) result }
 {
-    let mut buffer = [0; LARGEST];
     let mut last = None;
     while let Some(handle) = heap.next_live(last) {
-        write_live(sink, heap, handle.exp, handle.index, &mut buffer)?;
+        write_live(sink, heap, handle.exp, handle.index)?;
         last = Some(handle);
     }
     Ok(())
 }
 
-/// Writes the line of a live chunk of a heap, whose bytes are read into the buffer.
+/// Writes the line of a live chunk of a heap.
 fn write_live<W: Sink, S: Supply>(
     sink: &mut W,
     heap: &Heap<S>,
     exp: u8,
     index: u32,
-    buffer: &mut [u8; LARGEST],
 ) -> Result<(), SinkFault>
-    requires sound { IsSound heap.now }
-    requires live { contains_key heap.now.state.live (number exp index) ≡ true }
+    requires { contains_key heap.now.state.live (number exp index) ≡ true }
     ensures { IfSome (get heap.now.state.live (number exp index)) (λ bytes. Writes (W.output sink.old) (W.output sink.new) (image_line heap.now.version (handle_of (number exp index)) bytes) result) }
 {
     let handle = Handle { exp, index };
-    let Some(len) = heap.size_of(handle) else {
+    let Some(bytes) = heap.bytes(handle) else {
         unreachable!()
     };
-    let bytes = &mut buffer[..len as usize];
-    let _ = heap.read(handle, 0, bytes);
     write_image(sink, heap.version(), handle, bytes)
 }

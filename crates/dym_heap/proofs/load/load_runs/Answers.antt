@@ -7,26 +7,26 @@ use Rattle.dym_heap.proofs.load.load_runs.Goals as goal
 pub next_set-requires : goal.next_set-requires
 next_set-requires g c = let small = c.loop-start.invariant.small in let most = per_fits _ c.requires.lawful.least in omega arith
 
-pub run_end-end-requires-clause-small : goal.run_end-end-requires-clause-small
-run_end-end-requires-clause-small g c = loads.first_below _ _ _ _ _ c.requires.lawful.least c.requires.body c.in-Some.ensures.is_set
+pub run_end-end-requires-clause-within : goal.run_end-end-requires-clause-within
+run_end-end-requires-clause-within g c = loads.first_below _ _ _ _ _ c.requires.lawful.least c.requires.body c.in-Some.ensures.is_set
 
 pub overflow_mul-len : goal.overflow_mul-len
-overflow_mul-len g c = let fits = loads.one_size c.args.area.now c.args.packed.now c.args.body.now c.requires.lawful c.requires.body c.loop-start.area c.loop-start.from c.loop-start.at c.loop-start.invariant.loaded c.in-Some.start c.run_end-end.result c.in-Some.ensures c.run_end-end.ensures.more c.run_end-end.ensures.run _ (c.size_of_class-size.ensures ∙ ap size c.exp.ensures) in omega arith
+overflow_mul-len g c = let fits = loads.one_size c.args.area.now c.args.packed.now c.args.body.now c.requires.lawful c.requires.body c.loop-start.area c.loop-start.from c.loop-start.at c.loop-start.invariant.loaded c.in-Some.start c.run_end-end.result c.in-Some.ensures c.run_end-end.ensures.after c.run_end-end.ensures.run _ (c.size_of_class-size.ensures ∙ ap size c.exp.ensures) in omega arith
 
 pub slice_bounds-load_run-end : goal.slice_bounds-load_run-end
-slice_bounds-load_run-end g c = let fits = loads.one_fits c.args.area.now c.args.packed.now c.args.body.now c.requires.lawful c.requires.body c.loop-start.area c.loop-start.from c.loop-start.at c.loop-start.invariant.loaded c.in-Some.start c.run_end-end.result c.in-Some.ensures c.run_end-end.ensures.more c.run_end-end.ensures.run _ (c.size_of_class-size.ensures ∙ ap size c.exp.ensures) c.loop-start.invariant.within in omega arith
+slice_bounds-load_run-end g c = let fits = loads.one_fits c.args.area.now c.args.packed.now c.args.body.now c.requires.lawful c.requires.body c.loop-start.area c.loop-start.from c.loop-start.at c.loop-start.invariant.loaded c.in-Some.start c.run_end-end.result c.in-Some.ensures c.run_end-end.ensures.after c.run_end-end.ensures.run _ (c.size_of_class-size.ensures ∙ ap size c.exp.ensures) c.loop-start.invariant.within in omega arith
 
 pub load_run-requires : goal.load_run-requires
 load_run-requires g c =
-    loads.one_room c.args.area.now c.args.packed.now c.args.body.now c.requires.lawful c.requires.body c.loop-start.area c.loop-start.from c.loop-start.at c.loop-start.invariant.loaded c.in-Some.start c.run_end-end.result c.in-Some.ensures c.run_end-end.ensures.more c.run_end-end.ensures.run c.size_of_class-size.result (length (take (c.loop-start.at + (c.run_end-end.result - c.in-Some.start) * c.size_of_class-size.result - c.loop-start.at) (drop c.loop-start.at c.args.body.now))) (c.size_of_class-size.ensures ∙ ap size c.exp.ensures)
+    loads.one_room c.args.area.now c.args.packed.now c.args.body.now c.requires.lawful c.requires.body c.loop-start.area c.loop-start.from c.loop-start.at c.loop-start.invariant.loaded c.in-Some.start c.run_end-end.result c.in-Some.ensures c.run_end-end.ensures.after c.run_end-end.ensures.run c.size_of_class-size.result (length (take (c.loop-start.at + (c.run_end-end.result - c.in-Some.start) * c.size_of_class-size.result - c.loop-start.at) (drop c.loop-start.at c.args.body.now))) (c.size_of_class-size.ensures ∙ ap size c.exp.ensures)
     (omega (arith, length-take (c.loop-start.at + (c.run_end-end.result - c.in-Some.start) * c.size_of_class-size.result - c.loop-start.at) (drop c.loop-start.at c.args.body.now)))
 
 pub loop-start-preserved : goal.loop-start-preserved
 loop-start-preserved g c = record {
-  small = loads.one_end c.args.area.now c.args.packed.now c.args.body.now c.requires.lawful c.requires.body c.loop-start.area c.loop-start.from c.loop-start.at c.loop-start.invariant.loaded c.in-Some.start c.run_end-end.result c.in-Some.ensures c.run_end-end.ensures.more c.run_end-end.ensures.run;
-  within = loads.one_fits c.args.area.now c.args.packed.now c.args.body.now c.requires.lawful c.requires.body c.loop-start.area c.loop-start.from c.loop-start.at c.loop-start.invariant.loaded c.in-Some.start c.run_end-end.result c.in-Some.ensures c.run_end-end.ensures.more c.run_end-end.ensures.run _ (c.size_of_class-size.ensures ∙ ap size c.exp.ensures) c.loop-start.invariant.within;
+  small = loads.one_end c.args.area.now c.args.packed.now c.args.body.now c.requires.lawful c.requires.body c.loop-start.area c.loop-start.from c.loop-start.at c.loop-start.invariant.loaded c.in-Some.start c.run_end-end.result c.in-Some.ensures c.run_end-end.ensures.after c.run_end-end.ensures.run;
+  within = loads.one_fits c.args.area.now c.args.packed.now c.args.body.now c.requires.lawful c.requires.body c.loop-start.area c.loop-start.from c.loop-start.at c.loop-start.invariant.loaded c.in-Some.start c.run_end-end.result c.in-Some.ensures c.run_end-end.ensures.after c.run_end-end.ensures.run _ (c.size_of_class-size.ensures ∙ ap size c.exp.ensures) c.loop-start.invariant.within;
   lawful = c.load_run.ensures.lawful;
-  loaded = loads.one_more c.args.area.now c.args.packed.now c.args.body.now c.requires.lawful c.requires.body c.loop-start.area c.loop-start.from c.loop-start.at c.loop-start.invariant.loaded c.in-Some.start c.run_end-end.result c.in-Some.ensures c.run_end-end.ensures.more c.run_end-end.ensures.run _ _ (c.size_of_class-size.ensures ∙ ap size c.exp.ensures) c.loop-start.invariant.lawful c.load_run.ensures.after;
+  loaded = loads.one_more c.args.area.now c.args.packed.now c.args.body.now c.requires.lawful c.requires.body c.loop-start.area c.loop-start.from c.loop-start.at c.loop-start.invariant.loaded c.in-Some.start c.run_end-end.result c.in-Some.ensures c.run_end-end.ensures.after c.run_end-end.ensures.run _ _ (c.size_of_class-size.ensures ∙ ap size c.exp.ensures) c.loop-start.invariant.lawful c.load_run.ensures.after;
 }
 
 pub returns-clause-loaded : goal.returns-clause-loaded

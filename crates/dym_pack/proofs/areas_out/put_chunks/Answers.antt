@@ -1,12 +1,12 @@
-use Rattle.std.proofs.Common.{◌≡◌, ◌+◌, ◌-◌, ◌<◌, ◌≤◌, ◌++◌, length, drop, ap, ◌∙◌, arith}
-use Rattle.std.proofs.lemmas.List.{length-take, length-drop}
-use Rattle.dym_pack.specs.Areas.{logged, bytes_at}
-use Rattle.dym_pack.specs.Reading.{body_from}
+use Rattle.std.proofs.Common.{◌+◌, ◌-◌, ◌<◌, ◌++◌, length, ap, sym, ◌∙◌, arith}
 use Rattle.dym_base.specs.Packed.{packed_chunk}
 use Rattle.dym_base.specs.declared.command.Version.TheVariants.{Two}
+use Rattle.dym_pack.specs.Areas.{logged}
+use Rattle.dym_pack.specs.Reading.{body_from}
 use Rattle.dym_pack.proofs.Named.{few_chunks}
-use Rattle.dym_pack.proofs.Chunks.{next_packed, none_packed, chunk_bytes_two, two_len}
-use Rattle.dym_pack.proofs.Written.{room_more, put_more, put_all, put_count, put_room}
+use Rattle.dym_pack.proofs.Chunks.{next_packed, none_packed, packs_used, chunk_bytes, chunk_bytes_two, chunk_len_most}
+use Rattle.dym_pack.proofs.Logs.{lent}
+use Rattle.dym_pack.proofs.Written.{put_more, put_all}
 use Rattle.dym_pack.proofs.areas_out.put_chunks.Goals as goal
 
 pub next_set-requires : goal.next_set-requires
@@ -14,16 +14,12 @@ next_set-requires g c =
     let few = few_chunks (g.A.Areas.meaning c.args.areas.now).live c.args.k c.requires.area in
     omega (arith, c.loop-i.invariant.within)
 
-pub put_chunk-at-requires-clause-room : goal.put_chunk-at-requires-clause-room
-put_chunk-at-requires-clause-room g c =
+pub put_chunk-requires : goal.put_chunk-requires
+put_chunk-requires g c =
     let m = g.A.Areas.meaning c.args.areas.now in
     let log = logged m c.args.kind 0 in
-    let few = few_chunks m.live c.args.k c.requires.area in
     let next = next_packed log c.args.k c.args.bits.now c.requires.bits c.loop-i.from c.in-Some.i c.in-Some.ensures in
-    let split : body_from log c.args.k c.loop-i.from ≡ packed_chunk Two (bytes_at m.live c.args.k c.in-Some.i) ++ body_from log c.args.k (c.in-Some.i + 1)
-    = next.2 ∙ ap (λ bytes. bytes ++ body_from log c.args.k (c.in-Some.i + 1)) (chunk_bytes_two log c.requires.version c.args.k c.in-Some.i) in
-    let room = room_more c.loop-i.at c.loop-i.out (packed_chunk Two (bytes_at m.live c.args.k c.in-Some.i)) (body_from log c.args.k (c.in-Some.i + 1)) (body_from log c.args.k c.loop-i.from) (body_from log c.args.k 0) c.loop-i.invariant.room split c.loop-i.invariant.so_far (omega arith) in
-    omega (arith, two_len (bytes_at m.live c.args.k c.in-Some.i), length-take (length c.loop-i.out - c.loop-i.at) (drop c.loop-i.at c.loop-i.out), length-drop c.loop-i.at c.loop-i.out)
+    omega (arith, ap length c.chunk_bytes.ensures, chunk_len_most m c.requires.packable c.args.k c.in-Some.i c.requires.area next.0 (packs_used log (lent m c.args.kind 0 c.requires.packable) c.args.k c.in-Some.i next.1))
 
 pub loop-i-smaller : goal.loop-i-smaller
 loop-i-smaller g c =
@@ -39,29 +35,15 @@ pub loop-i-preserved : goal.loop-i-preserved
 loop-i-preserved g c =
     let m = g.A.Areas.meaning c.args.areas.now in
     let log = logged m c.args.kind 0 in
-    let few = few_chunks m.live c.args.k c.requires.area in
     let next = next_packed log c.args.k c.args.bits.now c.requires.bits c.loop-i.from c.in-Some.i c.in-Some.ensures in
-    let split : body_from log c.args.k c.loop-i.from ≡ packed_chunk Two (bytes_at m.live c.args.k c.in-Some.i) ++ body_from log c.args.k (c.in-Some.i + 1)
-    = next.2 ∙ ap (λ bytes. bytes ++ body_from log c.args.k (c.in-Some.i + 1)) (chunk_bytes_two log c.requires.version c.args.k c.in-Some.i) in
-    let room = room_more c.loop-i.at c.loop-i.out (packed_chunk Two (bytes_at m.live c.args.k c.in-Some.i)) (body_from log c.args.k (c.in-Some.i + 1)) (body_from log c.args.k c.loop-i.from) (body_from log c.args.k 0) c.loop-i.invariant.room split c.loop-i.invariant.so_far (omega arith) in
-    let fits : c.put_chunk-at.result ≤ length c.put_chunk-at.new.out = omega (arith, length-take (length c.loop-i.out - c.loop-i.at) (drop c.loop-i.at c.loop-i.out), length-drop c.loop-i.at c.loop-i.out, c.put_chunk-at.ensures.count) in
     record {
       within = omega (arith, next.0);
-      room = put_room c.loop-i.at (length c.loop-i.out - c.loop-i.at) c.put_chunk-at.result c.loop-i.out c.put_chunk-at.new.out c.loop-i.invariant.room fits;
-      so_far = put_more c.loop-i.at (length c.loop-i.out - c.loop-i.at) c.put_chunk-at.result c.loop-i.out c.put_chunk-at.new.out (packed_chunk Two (bytes_at m.live c.args.k c.in-Some.i)) (body_from log c.args.k (c.in-Some.i + 1)) (body_from log c.args.k c.loop-i.from) (body_from log c.args.k 0)
-          c.loop-i.invariant.room fits c.put_chunk-at.ensures.bytes split c.loop-i.invariant.so_far;
+      so_far = put_more c.loop-i.out.items c.put_chunk.new.out.items (chunk_bytes log c.args.k c.in-Some.i) (body_from log c.args.k (c.in-Some.i + 1)) (body_from log c.args.k c.loop-i.from) c.args.out.now.items (body_from log c.args.k 0)
+          (c.in_ok-put_chunk.ensures ∙ ap (λ bytes. c.loop-i.out.items ++ packed_chunk Two bytes) c.chunk_bytes.ensures ∙ ap (λ bytes. c.loop-i.out.items ++ bytes) (sym (chunk_bytes_two log c.requires.version c.args.k c.in-Some.i)))
+          next.2 c.loop-i.invariant.so_far;
     }
 
-pub returns-clause-count : goal.returns-clause-count
-returns-clause-count g c =
-    let m = g.A.Areas.meaning c.args.areas.now in
-    let log = logged m c.args.kind 0 in
-    let few = few_chunks m.live c.args.k c.requires.area in
-    put_count c.loop-i.at c.loop-i.out (body_from log c.args.k c.loop-i.from) (body_from log c.args.k 0) c.loop-i.invariant.room (none_packed log c.args.k c.args.bits.now c.requires.bits c.loop-i.from c.in_default.ensures) c.loop-i.invariant.so_far
-
-pub returns-clause-bytes : goal.returns-clause-bytes
-returns-clause-bytes g c =
-    let m = g.A.Areas.meaning c.args.areas.now in
-    let log = logged m c.args.kind 0 in
-    let few = few_chunks m.live c.args.k c.requires.area in
-    put_all c.loop-i.at c.loop-i.out (body_from log c.args.k c.loop-i.from) (body_from log c.args.k 0) (none_packed log c.args.k c.args.bits.now c.requires.bits c.loop-i.from c.in_default.ensures) c.loop-i.invariant.so_far
+pub returns : goal.returns
+returns g c =
+    let log = logged (g.A.Areas.meaning c.args.areas.now) c.args.kind 0 in
+    put_all c.loop-i.out.items (body_from log c.args.k c.loop-i.from) c.args.out.now.items (body_from log c.args.k 0) (none_packed log c.args.k c.args.bits.now c.requires.bits c.loop-i.from c.in_default.ensures) c.loop-i.invariant.so_far

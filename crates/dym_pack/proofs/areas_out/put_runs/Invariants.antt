@@ -1,4 +1,4 @@
-use Rattle.std.proofs.Common.{◌≡◌, ◌-◌, ◌≤◌, ◌++◌, length, take}
+use Rattle.std.proofs.Common.{◌≡◌, ◌-◌, ◌≤◌, ◌++◌}
 use Rattle.dym_pack.specs.Areas.{chunks_of, logged}
 use Rattle.dym_pack.specs.Reading.{body_from}
 use Rattle.dym_pack.proofs.areas_out.put_runs.Given as goal
@@ -6,8 +6,7 @@ use Rattle.dym_pack.proofs.areas_out.put_runs.Given as goal
 abbrev pub invariant-loop-first : goal.invariant-loop-first
 invariant-loop-first g l = record {
   within : l.from ≤ chunks_of (g.A.Areas.meaning l.areas).live l.k;
-  room : l.at ≤ length l.out;
-  so_far : take l.at l.out ++ body_from (logged (g.A.Areas.meaning l.areas) l.fn.kind 0) l.k l.from ≡ body_from (logged (g.A.Areas.meaning l.areas) l.fn.kind 0) l.k 0;
+  so_far : l.out.items ++ body_from (logged (g.A.Areas.meaning l.areas) l.fn.kind 0) l.k l.from ≡ l.fn.out.items ++ body_from (logged (g.A.Areas.meaning l.areas) l.fn.kind 0) l.k 0;
 }
 
 abbrev pub decreases-loop-first : goal.decreases-loop-first

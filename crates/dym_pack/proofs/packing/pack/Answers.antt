@@ -1,21 +1,66 @@
-use Rattle.std.proofs.Common.{◌≡◌, ◌++◌, length, take, drop, sym, ◌∙◌, arith}
-use Rattle.std.proofs.lemmas.List.{take_at}
-use Rattle.dym_base.specs.Packed.{packed}
-use Rattle.dym_pack.specs.Areas.{logged}
-use Rattle.dym_pack.specs.Places.{starts_of}
+use Rattle.std.proofs.Common.{◌≡◌, ◌+◌, ◌∷◌, ◌++◌, [], map, length, ap, sym, zero-add, ◌∙◌, arith}
+use Rattle.std.specs.Int.{w32, w64, to_le_bytes}
+use Rattle.std.specs.List.{range_with_len}
+use Rattle.std.proofs.lemmas.List.FromFn.{map-range_with_len_more}
+use Rattle.dym_base.specs.Packed.{packed, kind_byte}
+use Rattle.dym_pack.specs.Areas.{logged, area_at}
+use Rattle.dym_pack.specs.Places.{front, start_of, starts_of, area_bytes}
+use Rattle.dym_pack.proofs.Fronts.{front_none, front_more, front_all, area_at_any_time}
 use Rattle.dym_pack.proofs.Logs.{recorded}
 use Rattle.dym_pack.proofs.Unique.{same_starts}
 use Rattle.dym_pack.proofs.packing.pack.Goals as goal
 
+pub loop-k-init : goal.loop-k-init
+loop-k-init g c =
+    let m = g.A.Areas.meaning c.args.areas.now in
+    record {
+      done = c.in_ok-extend_from_slice.ensures.items
+          ∙ ap (λ bytes. bytes ++ c.header_of.result) c.in_ok-bytes.ensures.items
+          ∙ c.header_of.ensures
+          ∙ ap (λ v. kind_byte v c.args.kind ∷ to_le_bytes w64 c.args.time ++ to_le_bytes w32 c.area_count-count.result) c.version.ensures
+          ∙ ap (λ n. kind_byte m.version c.args.kind ∷ to_le_bytes w64 c.args.time ++ to_le_bytes w32 n) c.area_count-count.ensures
+          ∙ sym (front_none (logged m c.args.kind c.args.time));
+      placed = c.in_ok-starts.ensures.items;
+    }
+
+pub loop-k-preserved : goal.loop-k-preserved
+loop-k-preserved g c =
+    let m = g.A.Areas.meaning c.args.areas.now in
+    let log = logged m c.args.kind c.args.time in
+    let area = area_at m.live c.loop-k.k in
+    let long : c.len.result ≡ start_of log c.loop-k.k = omega (arith, c.len.ensures, ap length c.loop-k.invariant.done) in
+    record {
+      done = c.in_ok-put_area.ensures
+          ∙ ap (λ bytes. bytes ++ area_bytes (logged m c.args.kind 0) area) c.loop-k.invariant.done
+          ∙ ap (λ bytes. front log c.loop-k.k ++ bytes) (area_at_any_time m c.args.kind c.args.time area)
+          ∙ sym (front_more log c.loop-k.k (omega arith));
+      placed = c.in_ok-push.ensures.items
+          ∙ ap (λ xs. xs ++ c.len.result ∷ []) c.loop-k.invariant.placed
+          ∙ ap (λ n. map (start_of log) (range_with_len 0 c.loop-k.k) ++ n ∷ []) long
+          ∙ sym (map-range_with_len_more (start_of log) 0 c.loop-k.k c.loop-k.k (zero-add c.loop-k.k));
+    }
+
 pub invariant_of-result : goal.invariant_of-result
+unfolding starts_of
 invariant_of-result g c =
-    let log = logged (g.A.Areas.meaning c.args.areas.now) c.args.kind c.args.time in
-    let ok = recorded (g.A.Areas.meaning c.args.areas.now) c.args.kind c.args.time c.requires.packable (omega arith) in
-    let bytes : take c.in_ok-bytes.bytes.len (c.put_areas.new.bytes ++ drop (length c.put_areas.new.bytes) c.in_ok-bytes.bytes.items) ≡ packed log
-    = take_at c.put_areas.new.bytes _ c.in_ok-bytes.bytes.len (omega (arith, c.deref_mut.ensures.len, c.put_areas.auto.bytes)) ∙ c.put_areas.ensures.packed in
-    let starts : take c.in_ok-starts.starts.len (c.put_areas.new.starts ++ drop (length c.put_areas.new.starts) c.in_ok-starts.starts.items) ≡ starts_of log
-    = take_at c.put_areas.new.starts _ c.in_ok-starts.starts.len (omega (arith, c.deref_mut-2.ensures.len, c.put_areas.auto.starts)) ∙ c.put_areas.ensures.starts in
+    let m = g.A.Areas.meaning c.args.areas.now in
+    let log = logged m c.args.kind c.args.time in
+    let ok = recorded m c.args.kind c.args.time c.requires.packable (omega arith) in
+    let k = c.loop-k.k in
+    let bytes : c.loop-k.bytes.items ≡ packed log = c.loop-k.invariant.done ∙ front_all log k (omega arith) in
+    let long : c.len-2.result ≡ start_of log k = omega (arith, c.len-2.ensures, ap length c.loop-k.invariant.done) in
+    let all : k ≡ Rattle.dym_base.specs.Heaps.held m.live = omega arith in
+    let starts : c.push-2.new.self.items ≡ starts_of log
+    = c.in_ok-push-2.ensures.items
+    ∙ ap (λ xs. xs ++ c.len-2.result ∷ []) c.loop-k.invariant.placed
+    ∙ ap (λ n. map (start_of log) (range_with_len 0 k) ++ n ∷ []) long
+    ∙ sym (map-range_with_len_more (start_of log) 0 k k (zero-add k))
+    ∙ ap (λ n. map (start_of log) (range_with_len 0 (n + 1))) all in
     record {
       is = (log, ok, sym bytes);
       placed = λ other rec same. starts ∙ same_starts log other ok rec (sym bytes ∙ sym same);
     }
+
+pub returns : goal.returns
+returns g c =
+    c.loop-k.invariant.done ∙ front_all (logged (g.A.Areas.meaning c.args.areas.now) c.args.kind c.args.time) c.loop-k.k (omega arith)

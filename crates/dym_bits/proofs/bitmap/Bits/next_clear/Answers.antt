@@ -1,5 +1,5 @@
 use Rattle.std.proofs.Common.{List, Bool, ◌+◌, ◌-◌, ◌*◌, ◌/◌, ◌%◌, ◌^◌, get_or, arith, subst, bit_and, w64}
-use Rattle.std.specs.Int.{bit_not, trailing_zeros, trailing_ones}
+use Rattle.std.specs.Int.{bit_not, trailing_zeros}
 use Rattle.std.proofs.lemmas.Nat.{and_le_l}
 use Rattle.dym_bits.proofs.Searches.{next_clear_in_rest, next_clear_in_word, none_clear_from}
 use Rattle.dym_bits.specs.Bits.{IsNextClear}
