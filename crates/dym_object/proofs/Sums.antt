@@ -1,38 +1,21 @@
--- The sum of a chunk, piece by piece.
-use Rattle.std.proofs.Common.{◌≡◌, ℕ, suc, ◌+◌, ◌<◌, Option, Some, None, MatchOption, List, [], ◌∷◌, length, take, drop, sum, get_or, sym, ap, subst, ◌∙◌, zero-add, nat_lt}
-use Rattle.std.proofs.Math.Seq.{take-suc, take-add}
-use Rattle.std.proofs.lemmas.Bool.{cond_both}
-use Rattle.std.proofs.lemmas.List.Sums.{sum_by-append}
-use Rattle.dym_base.specs.Heaps.{HeapState}
-use Rattle.dym_base.specs.HeapStep.{HeapAnswer, read, refused}
-use Rattle.dym_base.specs.declared.reply.Reply.{Reply}
-use Rattle.dym_base.specs.declared.reply.Reply.TheVariants.{Bytes}
-use Rattle.dym_base.specs.declared.reply.Refusal.TheVariants.{Range}
-use Rattle.dym_object.specs.Commands.{IsNotRefused}
+-- How many bytes a chunk has at most.
+use Rattle.std.proofs.Common.{◌≡◌, ℕ, ◌^◌, ◌≤◌, Some, List, length, is_some, ap, arith}
+use Rattle.std.specs.FinMap.{get}
+use Rattle.std.proofs.Math.Nat.{pow-le-pow_right}
+use Rattle.dym_base.specs.Numbers.{exponent_of}
+use Rattle.dym_base.specs.declared.command.Version.{Version}
+use Rattle.dym_base.specs.declared.command.Version.TheVariants.{One, Two}
+use Rattle.dym_base.proofs.Classes.{cls_class}
+use Rattle.dym_heap.specs.Meaning.{HeapMeaning, IsSizeOf, IsSound}
 
--- one number more
-pub sum_more : (xs : List ℕ) (i : ℕ) → i < length xs → sum (take (suc i) xs) ≡ sum (take i xs) + get_or xs i 0
-sum_more xs i within =
-    rw (take-suc xs i 0 within) (sum_by-append (λ x. x) (take i xs) (get_or xs i 0 ∷ []) ∙ ap (λ n. sum (take i xs) + n) (zero-add (get_or xs i 0)))
+-- the length of a chunk of a class
+within_class : (v : Version) (e n : ℕ) → IsSizeOf v e n → n ≤ 2 ^ e
+within_class One e n is = omega arith
+within_class Two e n is = (cls_class n e is).2
 
--- one piece more
-sum_piece : (bytes piece : List ℕ) (at n : ℕ) → piece ≡ take n (drop at bytes) → sum (take (at + n) bytes) ≡ sum (take at bytes) + sum piece
-sum_piece bytes piece at n is =
-    rw (take-add at n bytes) (sum_by-append (λ x. x) (take at bytes) (take n (drop at bytes)) ∙ ap (λ l. sum (take at bytes) + sum l) (sym is))
-
-bytes_of : Reply → List ℕ
-bytes_of (Bytes bytes) = bytes
-bytes_of _ = []
-
-bytes_are : (a b : List ℕ) → Bytes a ≡ Bytes b → a ≡ b
-unfolding bytes_of
-bytes_are a b same = ap bytes_of same
-
--- the sum so far, where one piece more was read
-pub read_piece : (s : HeapState) (o : Option (List ℕ)) (at n total : ℕ) (piece : List ℕ) → MatchOption o ⊥ (λ bytes. total ≡ sum (take at bytes)) → Bytes piece ≡ (read s at n o).reply → MatchOption o ⊥ (λ bytes. total + sum piece ≡ sum (take (at + n) bytes))
-read_piece s None at n total piece so is = so
-read_piece s (Some bytes) at n total piece so is =
-    cond_both (nat_lt (length bytes) (at + n)) (refused s Range) (record { heap = s; reply = Bytes (take n (drop at bytes)) }) (λ (a : HeapAnswer). Bytes piece ≡ a.reply → total + sum piece ≡ sum (take (at + n) bytes))
-    (λ _ wrong. absurd (subst IsNotRefused wrong tt))
-    (λ _ same. ap (λ t. t + sum piece) so ∙ sym (sum_piece bytes piece at n (bytes_are piece (take n (drop at bytes)) same)))
-    is
+-- a chunk has at most the bytes of a segment
+pub chunk_fits : (h : HeapMeaning) (k : ℕ) (bytes : List ℕ) → IsSound h → get h.state.live k ≡ Some bytes → length bytes ≤ 65536
+chunk_fits h k bytes sound is =
+    let class : exponent_of k ≤ 16 = sound.most_class k (ap is_some is) in
+    let within = within_class h.version (exponent_of k) (length bytes) (sound.sized k bytes is) in
+    omega (arith, within, pow-le-pow_right {n = 2} (omega arith) {i = exponent_of k} {j = 16} class)

@@ -1,5 +1,5 @@
 //! The reply to one command to a heap.
-ghost use Rattle.std.specs.Prelude.{◌≡◌, ℕ, OnErr, IfOk, IfErr};
+ghost use Rattle.std.specs.Prelude.{◌≡◌, ℕ, ◌≤◌, OnErr, IfOk, IfErr};
 ghost use Rattle.dym_base.specs.HeapStep;
 ghost use Rattle.dym_base.specs.HeapStep.{IsHeapCommand};
 ghost use Rattle.dym_base.specs.declared.command.Command.TheVariants.{Read, Link};
@@ -13,7 +13,11 @@ use dym_heap::{Found, Heap};
 use dym_quota::Supply;
 use std::alloc::{AllocError, Global};
 
+/// The most bytes that a reply keeps in itself.
+const FEW: u32 = 16;
+
 /// One command to a heap. Only a read that isn't refused takes memory.
+#[inline(always)]
 pub(crate) fn answer<S: Supply>(
     heap: &mut Heap<S>,
     way: &S::Way,
@@ -59,6 +63,45 @@ fn read<S: Supply>(
     ensures reply { IfOk result (λ r. r ≡ (step_of heap.now (Read h at len)).reply) }
     ensures memory { IfErr result (λ _. TakesMemory (Read h at len) (step_of heap.now (Read h at len)).reply) }
 {
+    if len <= FEW {
+        read_few(heap, alloc, h, at, len)
+    } else {
+        read_many(heap, alloc, h, at, len)
+    }
+}
+
+/// Reads so few bytes that a reply keeps them in itself.
+fn read_few<S: Supply>(
+    heap: &Heap<S>,
+    alloc: Global,
+    h: Handle,
+    at: u32,
+    len: u32,
+) -> Result<Reply, AllocError>
+    requires few { len ≤ FEW }
+    ensures reply { IfOk result (λ r. r ≡ (step_of heap.now (Read h at len)).reply) }
+    ensures memory { IfErr result (λ _. TakesMemory (Read h at len) (step_of heap.now (Read h at len)).reply) }
+{
+    let mut buffer = [0; FEW as usize];
+    let bytes = &mut buffer[..len as usize];
+    if let Err(why) = heap.read(h, at, bytes) {
+        return Ok(Reply::Refused(why));
+    }
+    let blob = Blob::new(alloc, bytes)?;
+    Ok(Reply::Bytes(blob))
+}
+
+/// Reads bytes of a chunk into memory that the reply then owns.
+fn read_many<S: Supply>(
+    heap: &Heap<S>,
+    alloc: Global,
+    h: Handle,
+    at: u32,
+    len: u32,
+) -> Result<Reply, AllocError>
+    ensures reply { IfOk result (λ r. r ≡ (step_of heap.now (Read h at len)).reply) }
+    ensures memory { IfErr result (λ _. TakesMemory (Read h at len) (step_of heap.now (Read h at len)).reply) }
+{
     let Some(size) = heap.size_of(h) else {
         return Ok(Reply::Refused(Refusal::Dead));
     };
@@ -73,6 +116,7 @@ fn read<S: Supply>(
 }
 
 /// Writes the number of a handle into a chunk, or 0 for nil.
+#[inline(always)]
 fn link<S: Supply>(heap: &mut Heap<S>, h: Handle, at: u32, to: Option<Handle>) -> Reply
     ensures reply { result ≡ (step_of heap.old (Link h at to)).reply }
     ensures after { heap.new ≡ stepped heap.old (Link h at to) }
@@ -91,6 +135,7 @@ fn link_number(to: Option<Handle>) -> u64
     }
 }
 
+#[inline(always)]
 fn of_chunk(answer: Result<Handle, Refusal>) -> Reply
     ensures { result ≡ chunk_reply answer }
 {
@@ -100,6 +145,7 @@ fn of_chunk(answer: Result<Handle, Refusal>) -> Reply
     }
 }
 
+#[inline(always)]
 fn of_moved(answer: Result<Option<Handle>, Refusal>) -> Reply
     ensures { result ≡ moved_reply answer }
 {
@@ -110,6 +156,7 @@ fn of_moved(answer: Result<Option<Handle>, Refusal>) -> Reply
     }
 }
 
+#[inline(always)]
 fn of_done(answer: Result<(), Refusal>) -> Reply
     ensures { result ≡ done_reply answer }
 {
@@ -119,6 +166,7 @@ fn of_done(answer: Result<(), Refusal>) -> Reply
     }
 }
 
+#[inline(always)]
 fn of_found(answer: Result<Found, Refusal>) -> Reply
     ensures { result ≡ found_reply answer }
 {
@@ -130,6 +178,7 @@ fn of_found(answer: Result<Found, Refusal>) -> Reply
     }
 }
 
+#[inline(always)]
 fn of_total(answer: Result<u64, Refusal>) -> Reply
     ensures { result ≡ total_reply answer }
 {

@@ -14,6 +14,7 @@ use dym_quota::Supply;
 use std::alloc::{AllocError, Global};
 
 /// One command to an object of this heap and this chain. Only a log and a read that aren't refused take memory.
+#[inline(always)]
 pub(crate) fn answer_to<S: Supply, K: LogKeep>(
     heap: &mut Heap<S>,
     chain: &mut Chain<K>,
@@ -54,6 +55,7 @@ pub(crate) fn answer_to<S: Supply, K: LogKeep>(
 }
 
 /// Logs the heap. No memory is taken where the log is refused.
+#[inline(always)]
 fn log<S: Supply, K: LogKeep>(
     heap: &mut Heap<S>,
     chain: &mut Chain<K>,
@@ -84,6 +86,7 @@ fn log<S: Supply, K: LogKeep>(
 }
 
 /// Restores the last log at or before a time.
+#[inline(always)]
 fn restore<S: Supply, K: LogKeep>(
     heap: &mut Heap<S>,
     chain: &mut Chain<K>,

@@ -108,9 +108,35 @@ impl<S: Supply, K: LogKeep> Object<S, K> {
         ensures origin { self.new.chain.origin ≡ self.old.chain.origin }
         ensures whole { IsWhole self.new }
     {
-        let reply = answer_to(&mut self.heap, &mut self.chain, way, alloc, command)?;
-        self.ran += 1;
+        let mut reply = Reply::Done;
+        self.run_into(way, alloc, command, &mut reply)?;
         Ok(reply)
+    }
+
+    /// Runs one command as `run` does, and writes its reply into a place, so that no reply is moved. Where memory is wanting the
+    /// place keeps the reply that it had.
+    pub fn run_into(
+        &mut self,
+        way: &S::Way,
+        alloc: Global,
+        command: &Command,
+        reply: &mut Reply,
+    ) -> Result<(), AllocError>
+        requires ran { self.old.ran < 2 ^ 60 }
+        ensures reply { OnOk result (reply.new ≡ (step_by self.old command.now).reply) }
+        ensures after { OnOk result (state_of self.new ≡ (step_by self.old command.now).object) }
+        ensures ran { OnOk result (self.new.ran ≡ self.old.ran + 1) }
+        ensures memory { IfErr result (λ _. TakesMemory command.now (step_by self.old command.now).reply) }
+        ensures unchanged { OnErr result (self.new ≡ self.old) }
+        ensures kept { OnErr result (reply.new ≡ reply.old) }
+        ensures refused { OnOk result (OnRefusal reply.new (self.new ≡ record self.old { ran = self.old.ran + 1 })) }
+        ensures heap { self.new.heap ≡ record self.old.heap { state = self.new.heap.state; held_ids = self.new.heap.held_ids } }
+        ensures origin { self.new.chain.origin ≡ self.old.chain.origin }
+        ensures whole { IsWhole self.new }
+    {
+        *reply = answer_to(&mut self.heap, &mut self.chain, way, alloc, command)?;
+        self.ran += 1;
+        Ok(())
     }
 
     /// How many commands were run.

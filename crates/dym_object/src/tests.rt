@@ -322,3 +322,98 @@ fn order_of_log_refusals(rt: HostRuntime) -> Result<(), AllocError> {
     full?;
     answered
 }
+
+/// What can be seen of an object whose chunk `H64` is live.
+#[derive(Clone, Copy, Debug, PartialEq, Eq)]
+struct Seen {
+    ran: u64,
+    kept: u32,
+    slots: u32,
+    held: u32,
+    chunk: [u8; 64],
+    next: Option<Handle>,
+}
+
+fn look_at(rt: &impl Abort, object: &Object<OwnSupply, VecKeep>) -> Seen {
+    let heap = object.heap();
+    let mut chunk = [0; 64];
+    assert!(rt; heap.read(H64, 0, &mut chunk).is_ok());
+    Seen {
+        ran: object.ran(),
+        kept: object.kept(),
+        slots: object.slots(),
+        held: heap.held(),
+        chunk,
+        next: heap.next_live(Some(H64)),
+    }
+}
+
+/// Runs a command. Where memory is wanting the object is as it was, and the command then gets its reply.
+fn replies_at_last(
+    rt: &impl Abort,
+    object: &mut Object<OwnSupply, VecKeep>,
+    alloc: Global,
+    step: Step,
+    want: Want,
+) -> Result<(), AllocError> {
+    let command = command_of(alloc, step)?;
+    let ran = object.ran();
+    assert!(rt; ran < 1000);
+    let before = look_at(rt, object);
+    let mut reply = Reply::Dropped(7);
+    if object.run_into(&(), alloc, &command, &mut reply).is_err() {
+        assert_eq!(rt; look_at(rt, object), before);
+        assert!(rt; is_reply(&reply, Want::Dropped(7)));
+        assert!(rt; object.ran() < 1000);
+        let again = object.run_into(&(), alloc, &command, &mut reply);
+        assert!(rt; again.is_ok());
+    }
+    assert!(rt; is_reply(&reply, want), "at command {ran}");
+    assert_eq!(rt; object.ran(), ran + 1);
+    Ok(())
+}
+
+/// Logs and reads, beside which each allocation can be made to fail.
+fn run_where_memory_is_wanting(
+    rt: &impl Abort,
+    object: &mut Object<OwnSupply, VecKeep>,
+    alloc: Global,
+) -> Result<(), AllocError> {
+    let first = (Step::Malloc(40), Want::Chunk(H64));
+    have_replies(rt, object, alloc, &[first])?;
+    let rows = [
+        (Step::Fill(H64, 0, 40, 3), Want::Done),
+        (Step::Log(10), Want::Logged(Kind::Full, 210)),
+        (Step::Fill(H64, 20, 40, 4), Want::Done),
+        (Step::Ilog(20), Want::Logged(Kind::Inc, 338)),
+        (
+            Step::Read(H64, 10, 20),
+            Want::Bytes(
+                b"\x03\x03\x03\x03\x03\x03\x03\x03\x03\x03\x04\x04\x04\x04\x04\x04\x04\x04\x04\x04",
+            ),
+        ),
+        (Step::Read(H64, 19, 2), Want::Bytes(b"\x03\x04")),
+        (Step::Fill(H64, 0, 64, 5), Want::Done),
+        (Step::Restore(20), Want::At(20)),
+        (Step::Sum(H64), Want::Total(220)),
+        (Step::Ilog(30), Want::Logged(Kind::Inc, 274)),
+        (Step::Restore(10), Want::At(10)),
+        (Step::Sum(H64), Want::Total(120)),
+        (Step::Logs, Want::Slots(1, 1)),
+    ];
+    for (step, want) in &rows {
+        replies_at_last(rt, object, alloc, *step, *want)?;
+    }
+    Ok(())
+}
+
+/// With a failing allocation this ends at it where it belongs to the test, and goes on where it was a command's.
+#[test]
+fn unchanged_where_memory_is_wanting(rt: HostRuntime) -> Result<(), AllocError> {
+    let Ok(mut object) = opened(rt.alloc(), 1, Version::One) else {
+        return Ok(());
+    };
+    let _ended = run_where_memory_is_wanting(&rt, &mut object, rt.alloc());
+    object.end(&());
+    Ok(())
+}
