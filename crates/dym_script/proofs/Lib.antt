@@ -4,7 +4,11 @@ pub mod Kept
 pub mod Numbers
 pub mod Tallies
 pub mod Moves
+pub mod Ends
+pub mod Standing
 pub mod Holding
 pub mod Faults
 pub mod Hexes
 pub mod Asking
+pub mod Spelled
+pub mod SpelledLines

@@ -7,5 +7,7 @@ pub mod Answers
 pub mod Asks
 pub mod Readers
 pub mod Parts
+pub mod Placed
 pub mod Held
 pub mod Laws
+pub mod Quick

@@ -1,5 +1,7 @@
 -- What the reader of lines keeps between two lines, and what it hands on of one.
-use Rattle.std.specs.Prelude.{◌≡◌, ◌<◌, ℕ, Bool, List, [], length, slice_index_or, Option, None, Some, Result, Ok, Err, IsTrue}
+use Rattle.std.specs.Prelude.{◌≡◌, ◌+◌, ◌<◌, ℕ, Bool, true, List, [], ◌++◌, length, slice_index_or, Option, None, Some, Result, Ok, Err, IsTrue}
+use denote.Ref.{Bor}
+use Rattle.std.specs.List.{list_all}
 use Rattle.std.specs.Str.{bytes_eq}
 use Rattle.std.specs.HashMap.{get_by}
 use Rattle.dym_base.specs.Names.{is_name}
@@ -9,10 +11,15 @@ use Rattle.dym_script.specs.declared.line_fail.LineFail.TheVariants as line
 use Rattle.dym_script.specs.declared.script.Decl.{Decl}
 use Rattle.dym_script.specs.declared.script.Line.{Line}
 use Rattle.dym_script.specs.declared.asked.Ask.{Ask}
+use Rattle.dym_script.specs.declared.reader.Next.{Next}
 use Rattle.dym_script.specs.declared.reader.Reader.{Reader}
-use Rattle.dym_script.specs.Scripts.{Said, Reading, object_of, ask_at, name_fault}
+use Rattle.dym_script.specs.Lines.{lines_of}
+use Rattle.dym_script.specs.Plain.{is_plain}
+use Rattle.dym_script.specs.Scripts.{Said, Reading, Fault, object_of, ask_at, name_fault, read_lines, go_on}
 use Rattle.dym_script.specs.Asks.{asks}
 use Rattle.dym_script.specs.Answers.{IsLawful}
+use Rattle.dym_script.specs.Lines.{words_of}
+use Rattle.dym_script.specs.Placed.{command_in, first_command, IsEndOf}
 
 -- what was read so far, where these are the lines that ask something
 abbrev pub seen : Reader → List Line → Reading
@@ -28,6 +35,16 @@ pub record IsKept (r : Reader) : Type 0 where
 abbrev pub IsWithin : Reader → Option Ask → Type 0
 IsWithin r None = Unit {0}
 IsWithin r (Some ask) = ask.object < length r.objects.items
+
+-- what is asked is the command of these words, which are handed on
+abbrev pub AsksOf : List ℕ → Option Ask → Type 0
+AsksOf words None = Unit {0}
+AsksOf words (Some ask) = (ask.words.now ≡ words) × (command_in (words_of ask.words.now) ≡ Some (asks ask.asked))
+
+-- what is asked is the command of the words at the line's end that are handed on
+abbrev pub AsksAtEnd : List ℕ → Option Ask → Type 0
+AsksAtEnd line None = Unit {0}
+AsksAtEnd line (Some ask) = IsEndOf ask.words.now line × (command_in (words_of ask.words.now) ≡ Some (asks ask.asked))
 
 -- what is said with what a line asks
 abbrev pub with_ask : Said → Option Ask → Result Said BadKind
@@ -63,8 +80,30 @@ Finds (Ok object) objects name = (object_of objects name ≡ Some object) × IsT
 Finds (Err (line.Bad kind)) objects name = (object_of objects name ≡ None) × (kind ≡ name_fault name)
 Finds (Err line.Memory) objects name = Unit {0}
 
--- where so many lines asked something before, so many do after the line, and the grammar says the same of it
-abbrev pub CountsLine : ℕ → ℕ → (List Line → Reading) → Result Unit LineFail → (List Line → Result Reading BadKind) → Type 0
-CountsLine n m after (Ok _) read = (lines : List Line) → length lines ≡ n → (more : List Line) × (length more ≡ m) × (read lines ≡ Ok (after more))
-CountsLine n m after (Err (line.Bad kind)) read = (lines : List Line) → length lines ≡ n → read lines ≡ Err kind
-CountsLine n m after (Err line.Memory) read = Unit {0}
+-- the text begins with the name of the object in this place, and goes on with the rest
+pub record IsNamed (r : Reader) (text : List ℕ) (object : ℕ) (rest : List ℕ) : Type 0 where
+  pub name : List ℕ
+  pub is : text ≡ name ++ rest
+  pub found : object_of r.objects.items name ≡ Some object
+
+-- the first line of the text asks this of a declared object, whatever was asked before, and then the rest is read
+pub record IsNext (r : Reader) (text : List ℕ) (ask : Ask) (rest : List ℕ) : Type 0 where
+  pub within : IsWithin r (Some ask)
+  pub shorter : length rest < length text
+  pub plain : list_all is_plain rest ≡ true
+  pub at : IsEndOf ask.words.now text
+  pub stands : first_command (lines_of ask.words.now) ≡ Some (asks ask.asked)
+  pub after : IsEndOf rest text
+  pub read : (number : ℕ) (lines : List Line) → read_lines (seen r lines) number (lines_of text) ≡ go_on number (reading true (with_ask (seen r lines).said (Some ask))) (λ next. read_lines next (number + 1) (lines_of rest))
+
+-- whatever was asked before, the grammar says the same of the first line and then reads the rest, unless memory ran out
+abbrev pub GivesNext : (List Line → Reading) → ℕ → Result Next LineFail → (List Line → Result Said Fault) → Type 0
+GivesNext after number (Ok next) read = (lines : List Line) → read lines ≡ go_on number (reading (after lines).begun (with_ask (after lines).said next.ask)) (λ r. read_lines r (number + 1) (lines_of next.rest.now))
+GivesNext after number (Err (line.Bad kind)) read = (lines : List Line) → read lines ≡ Err (record { line = number; kind = kind })
+GivesNext after number (Err line.Memory) read = Unit {0}
+
+-- where so many lines asked something before, so many do after the first line, and the grammar reads the rest then
+abbrev pub CountsNext : ℕ → ℕ → (List Line → Reading) → ℕ → Result (Bor (List ℕ)) LineFail → (List Line → Result Said Fault) → Type 0
+CountsNext n m after number (Ok rest) read = (lines : List Line) → length lines ≡ n → (more : List Line) × (length more ≡ m) × (read lines ≡ read_lines (after more) (number + 1) (lines_of rest.now))
+CountsNext n m after number (Err (line.Bad kind)) read = (lines : List Line) → length lines ≡ n → read lines ≡ Err (record { line = number; kind = kind })
+CountsNext n m after number (Err line.Memory) read = Unit {0}

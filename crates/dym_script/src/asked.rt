@@ -1,5 +1,5 @@
 //! What a command line asks, before the bytes of a write are made.
-ghost use Rattle.std.specs.Prelude.{◌≡◌, IfOk};
+ghost use Rattle.std.specs.Prelude.{◌≡◌, IfOk, OnOk};
 ghost use Rattle.dym_script.specs.Asks.{asks};
 
 use crate::places::bytes_of;
@@ -71,28 +71,37 @@ impl<'a> Asked<'a> {
     pub fn command(self, alloc: Global) -> Result<Command, AllocError>
         ensures { IfOk result (λ command. command ≡ asks self.entry) }
     {
-        let command = match self {
-            Asked::Malloc { len } => Command::Malloc { len },
-            Asked::Calloc { n, len } => Command::Calloc { n, len },
-            Asked::Realloc { h, len } => Command::Realloc { h, len },
-            Asked::Free { h } => Command::Free { h },
-            Asked::Write { h, at, hex } => Command::Write {
-                h,
-                at,
-                bytes: bytes_of(alloc, hex)?,
-            },
-            Asked::Fill { h, at, len, byte } => Command::Fill { h, at, len, byte },
-            Asked::Read { h, at, len } => Command::Read { h, at, len },
-            Asked::Link { h, at, to } => Command::Link { h, at, to },
-            Asked::Follow { h, at } => Command::Follow { h, at },
-            Asked::Sum { h } => Command::Sum { h },
-            Asked::Log { time } => Command::Log { time },
-            Asked::Ilog { time } => Command::Ilog { time },
-            Asked::Restore { time } => Command::Restore { time },
-            Asked::Prune { bound } => Command::Prune { bound },
-            Asked::Logs => Command::Logs,
-        };
+        let mut command = Command::Logs;
+        self.put(alloc, &mut command)?;
         Ok(command)
+    }
+
+    /// Puts the command into a place, so that it is not copied.
+    #[inline(always)]
+    pub fn put(self, alloc: Global, command: &mut Command) -> Result<(), AllocError>
+        ensures { OnOk result (command.new ≡ asks self.entry) }
+    {
+        match self {
+            Asked::Malloc { len } => *command = Command::Malloc { len },
+            Asked::Calloc { n, len } => *command = Command::Calloc { n, len },
+            Asked::Realloc { h, len } => *command = Command::Realloc { h, len },
+            Asked::Free { h } => *command = Command::Free { h },
+            Asked::Write { h, at, hex } => {
+                let bytes = bytes_of(alloc, hex)?;
+                *command = Command::Write { h, at, bytes };
+            }
+            Asked::Fill { h, at, len, byte } => *command = Command::Fill { h, at, len, byte },
+            Asked::Read { h, at, len } => *command = Command::Read { h, at, len },
+            Asked::Link { h, at, to } => *command = Command::Link { h, at, to },
+            Asked::Follow { h, at } => *command = Command::Follow { h, at },
+            Asked::Sum { h } => *command = Command::Sum { h },
+            Asked::Log { time } => *command = Command::Log { time },
+            Asked::Ilog { time } => *command = Command::Ilog { time },
+            Asked::Restore { time } => *command = Command::Restore { time },
+            Asked::Prune { bound } => *command = Command::Prune { bound },
+            Asked::Logs => *command = Command::Logs,
+        }
+        Ok(())
     }
 }
 
@@ -100,5 +109,7 @@ impl<'a> Asked<'a> {
 #[derive(Clone, Copy)]
 pub struct Ask<'a> {
     pub object: u32,
+    /// The text behind the object's name, to the end of the line or further.
+    pub words: &'a [u8],
     pub asked: Asked<'a>,
 }

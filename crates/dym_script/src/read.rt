@@ -1,15 +1,17 @@
 //! Reads a whole script.
-ghost use Rattle.std.specs.Prelude.{◌≡◌, ◌≤◌, true, length, IfOk, OnOk};
+ghost use Rattle.std.specs.Prelude.{◌≡◌, ◌<◌, ◌≤◌, true, length, IfOk, OnOk};
 ghost use Rattle.std.specs.List.{list_all};
-ghost use Rattle.dym_script.specs.Scripts.{script_of, said, read_line, is_printable};
+ghost use Rattle.dym_script.specs.Lines.{lines_of};
+ghost use Rattle.dym_script.specs.Plain.{is_plain};
+ghost use Rattle.dym_script.specs.Scripts.{script_of, said, read_line, read_lines, is_printable};
 ghost use Rattle.dym_script.specs.Answers.{Gives, GivesLine, GivesCounts, IsLawful};
-ghost use Rattle.dym_script.specs.Readers.{IsKept, seen, CountsLine};
+ghost use Rattle.dym_script.specs.Readers.{IsKept, seen, CountsNext};
 
 use crate::asked::Ask;
 use crate::line_fail::LineFail;
 use crate::line_tests::is_plain;
 use crate::lines::next_line;
-use crate::reader::Reader;
+use crate::reader::{Next, Reader};
 use crate::script::{Counts, Line, Script, ScriptFail};
 use dym_base::BadKind;
 use dym_base::limits::{MOST_COMMANDS, MOST_INPUT_BYTES};
@@ -76,10 +78,10 @@ pub fn count_script(alloc: Global, bytes: &[u8]) -> Result<Counts, ScriptFail>
     let mut reader = Reader::new(alloc);
     let mut rest = bytes;
     let mut number = 0;
-    while let Some((line, after)) = next_line(rest) {
+    while !rest.is_empty() {
         number += 1;
-        match count_line(alloc, &mut reader, &mut commands, number, line, plain) {
-            Ok(()) => rest = after,
+        match count_next(alloc, &mut reader, &mut commands, number, rest, plain) {
+            Ok(after) => rest = after,
             Err(LineFail::Bad(kind)) => return Err(ScriptFail::Bad { line: number, kind }),
             Err(LineFail::Memory) => return Err(ScriptFail::Memory),
         }
@@ -106,7 +108,7 @@ fn take_line(
     ensures lawful { OnOk result (IsLawful (seen reader.new lines.new.items).said) }
     ensures read { GivesLine (λ _. seen reader.new lines.new.items) result (read_line (seen reader.old lines.old.items) number line.now) }
 {
-    if let Some(Ask { object, asked }) = reader.read_line(alloc, number, line, plain)? {
+    if let Some(Ask { object, asked, .. }) = reader.read_line(alloc, number, line, plain)? {
         if lines.len() == MOST_COMMANDS {
             return Err(LineFail::Bad(BadKind::Many));
         }
@@ -116,27 +118,32 @@ fn take_line(
     Ok(())
 }
 
-/// Reads a line, and counts the command that it asks.
-fn count_line(
+/// Reads the first line of a text, and counts the command that it asks. The text after the line is left.
+#[inline(always)]
+fn count_next<'a>(
     alloc: Global,
     reader: &mut Reader,
     commands: &mut u32,
     number: u32,
-    line: &[u8],
+    text: &'a [u8],
     plain: bool,
-) -> Result<(), LineFail>
+) -> Result<&'a [u8], LineFail>
     requires kept { IsKept reader.old }
-    requires plain { plain ≡ true → list_all is_printable line.now ≡ true }
+    requires some { 0 < length text.now }
+    requires plain { plain ≡ true → list_all is_plain text.now ≡ true }
     requires few { commands.old ≤ MOST_COMMANDS }
     ensures kept { OnOk result (IsKept reader.new) }
     ensures few { OnOk result (commands.new ≤ MOST_COMMANDS) }
-    ensures read { CountsLine commands.old commands.new (seen reader.new) result (λ lines. read_line (seen reader.old lines) number line.now) }
+    ensures shorter { IfOk result (λ rest. length rest.now < length text.now) }
+    ensures plain { IfOk result (λ rest. plain ≡ true → list_all is_plain rest.now ≡ true) }
+    ensures read { CountsNext commands.old commands.new (seen reader.new) number result (λ lines. read_lines (seen reader.old lines) number (lines_of text.now)) }
 {
-    if reader.read_line(alloc, number, line, plain)?.is_some() {
+    let Next { ask, rest } = reader.read_next(alloc, number, text, plain)?;
+    if ask.is_some() {
         if *commands as usize == MOST_COMMANDS {
             return Err(LineFail::Bad(BadKind::Many));
         }
         *commands += 1;
     }
-    Ok(())
+    Ok(rest)
 }

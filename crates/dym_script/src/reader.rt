@@ -4,14 +4,22 @@ ghost use Rattle.std.specs.Prelude.{◌≡◌, ◌+◌, ◌<◌, ◌≤◌, [], 
 use crate::asked::{Ask, Asked};
 use crate::line_fail::LineFail;
 use crate::line_tests::{is_printable_line, is_version, unknown};
-use crate::lines::{next_word, two_words};
+use crate::lines::{next_line, next_word, two_words};
+use crate::near::Near;
 use crate::places::number_to;
+use crate::quick::{front_name, quick_rest};
 use crate::script::Decl;
 use crate::verb::Verb;
 use dym_base::limits::{MOST_LINE_BYTES, MOST_OBJECTS, MOST_QUOTA};
 use dym_base::{BadKind, Name, Version};
 use std::alloc::{AllocError, Global};
 use std::collections::HashMap;
+
+/// What the first line of a text asks, and the text after the line.
+pub struct Next<'a> {
+    pub ask: Option<Ask<'a>>,
+    pub rest: &'a [u8],
+}
 
 /// What was read so far, but for the lines that ask something.
 #[derive(Drop)]
@@ -22,16 +30,19 @@ pub struct Reader {
     pub objects: Vec<Decl>,
     /// The place of each declared name.
     pub names: HashMap<Vec<u8>, u32>,
+    /// Where a name is looked for before it is hashed.
+    pub near: Near,
     /// The place of the object that the line before asked something of. The next line mostly asks the same one.
     pub last: u32,
 }
 
 impl Reader {
-    ghost use Rattle.dym_script.specs.Scripts.{start, read_line, read_words, say, declare, object_of, is_printable};
+    ghost use Rattle.dym_script.specs.Scripts.{start, read_lines, read_line, read_words, say, declare, object_of, is_printable};
     ghost use Rattle.std.specs.List.{list_all};
     ghost use Rattle.dym_base.specs.Names.{is_name};
-    ghost use Rattle.dym_script.specs.Lines.{words_of};
-    ghost use Rattle.dym_script.specs.Readers.{IsKept, seen, IsWithin, GivesReading, GivesSaid, Declares, Finds};
+    ghost use Rattle.dym_script.specs.Lines.{words_of, lines_of};
+    ghost use Rattle.dym_script.specs.Plain.{is_plain};
+    ghost use Rattle.dym_script.specs.Readers.{IsKept, seen, IsWithin, AsksOf, AsksAtEnd, GivesReading, GivesSaid, Declares, Finds, IsNamed, IsNext, GivesNext};
 
     /// A reader that has read nothing.
     pub fn new(alloc: Global) -> Reader
@@ -43,8 +54,128 @@ impl Reader {
             version: Version::One,
             objects: Vec::new(alloc),
             names: HashMap::new(alloc),
+            near: Near::new(),
             last: 0,
         }
+    }
+
+    /// Reads the first line of a text, which has this number, and hands on what it asks. Where the whole text is known to be
+    /// plain, a line in the usual spelling is read in one pass.
+    #[inline(always)]
+    pub fn read_next<'a>(
+        &mut self,
+        alloc: Global,
+        number: u32,
+        text: &'a [u8],
+        plain: bool,
+    ) -> Result<Next<'a>, LineFail>
+        requires kept { IsKept self.old }
+        requires some { 0 < length text.now }
+        requires plain { plain ≡ true → list_all is_plain text.now ≡ true }
+        ensures kept { OnOk result (IsKept self.new) }
+        ensures grown { OnOk result (length self.old.objects.items ≤ length self.new.objects.items) }
+        ensures by_one { OnOk result (length self.new.objects.items ≤ length self.old.objects.items + 1) }
+        ensures within { IfOk result (λ next. IsWithin self.new next.ask) }
+        ensures shorter { IfOk result (λ next. length next.rest.now < length text.now) }
+        ensures plain { IfOk result (λ next. plain ≡ true → list_all is_plain next.rest.now ≡ true) }
+        ensures read { GivesNext (seen self.new) number result (λ lines. read_lines (seen self.old lines) number (lines_of text.now)) }
+    {
+        if plain {
+            if let Some((ask, rest)) = self.next_quickly(text) {
+                self.begun = true;
+                self.last = ask.object;
+                let ask = Some(ask);
+                return Ok(Next { ask, rest });
+            }
+        }
+        self.read_exactly(alloc, number, text, plain)
+    }
+
+    /// The same of a line in any spelling.
+    #[inline(never)]
+    fn read_exactly<'a>(
+        &mut self,
+        alloc: Global,
+        number: u32,
+        text: &'a [u8],
+        plain: bool,
+    ) -> Result<Next<'a>, LineFail>
+        requires kept { IsKept self.old }
+        requires some { 0 < length text.now }
+        requires plain { plain ≡ true → list_all is_plain text.now ≡ true }
+        ensures kept { OnOk result (IsKept self.new) }
+        ensures grown { OnOk result (length self.old.objects.items ≤ length self.new.objects.items) }
+        ensures by_one { OnOk result (length self.new.objects.items ≤ length self.old.objects.items + 1) }
+        ensures within { IfOk result (λ next. IsWithin self.new next.ask) }
+        ensures shorter { IfOk result (λ next. length next.rest.now < length text.now) }
+        ensures plain { IfOk result (λ next. plain ≡ true → list_all is_plain next.rest.now ≡ true) }
+        ensures read { GivesNext (seen self.new) number result (λ lines. read_lines (seen self.old lines) number (lines_of text.now)) }
+    {
+        let Some((line, rest)) = next_line(text) else {
+            unreachable!();
+        };
+        match self.read_line(alloc, number, line, plain) {
+            Ok(ask) => Ok(Next { ask, rest }),
+            Err(fail) => Err(fail),
+        }
+    }
+
+    /// What the first line of a plain text asks, where it is in the usual spelling, and the text after the line.
+    #[inline(always)]
+    pub fn next_quickly<'a>(&self, text: &'a [u8]) -> Option<(Ask<'a>, &'a [u8])>
+        requires kept { IsKept self.now }
+        requires plain { list_all is_plain text.now ≡ true }
+        ensures { IfSome result (λ next. IsNext self.now text.now next.0 next.1.now) }
+    {
+        let (object, words) = self.object_at(text)?;
+        let mut asked = Asked::Logs;
+        let rest = quick_rest(words, &mut asked)?;
+        if text.len() - rest.len() > MOST_LINE_BYTES + 1 {
+            return None;
+        }
+        let ask = Ask {
+            object,
+            words,
+            asked,
+        };
+        Some((ask, rest))
+    }
+
+    /// The place of the object whose name stands at the front of a text, and the text after the name.
+    #[inline(always)]
+    fn object_at<'a>(&self, text: &'a [u8]) -> Option<(u32, &'a [u8])>
+        requires { IsKept self.now }
+        ensures { IfSome result (λ cut. IsNamed self.now text.now cut.0 cut.1.now) }
+    {
+        match self.last_at(text) {
+            Some(words) => Some((self.last, words)),
+            None => self.any_at(text),
+        }
+    }
+
+    /// The text after the name of the object that the line before asked, where that name and a space stand at its front.
+    #[inline(always)]
+    fn last_at<'a>(&self, text: &'a [u8]) -> Option<&'a [u8]>
+        requires { IsKept self.now }
+        ensures { IfSome result (λ words. IsNamed self.now text.now self.now.last words.now) }
+    {
+        let name = self.last_name()?;
+        let words = text.strip_prefix(name)?;
+        if words.first() != Some(&b' ') {
+            return None;
+        }
+        Some(words)
+    }
+
+    /// The place of any object whose name stands at the front of a text, and the text after the name.
+    #[inline(never)]
+    fn any_at<'a>(&self, text: &'a [u8]) -> Option<(u32, &'a [u8])>
+        requires { IsKept self.now }
+        ensures { IfSome result (λ cut. IsNamed self.now text.now cut.0 cut.1.now) }
+    {
+        let (name, words) = front_name(text)?;
+        let object = self.place_of(name)?;
+        Some((object, words))
     }
 
     /// Reads the line of this number, and hands on what it asks. Where the whole input is known to be plain, no byte of
@@ -63,6 +194,7 @@ impl Reader {
         ensures grown { OnOk result (length self.old.objects.items ≤ length self.new.objects.items) }
         ensures by_one { OnOk result (length self.new.objects.items ≤ length self.old.objects.items + 1) }
         ensures within { IfOk result (IsWithin self.new) }
+        ensures asks { IfOk result (AsksAtEnd line.now) }
         ensures read { GivesReading (seen self.new) result (λ lines. read_line (seen self.old lines) number line.now) }
     {
         if line.len() > MOST_LINE_BYTES {
@@ -90,6 +222,7 @@ impl Reader {
         ensures grown { OnOk result (length self.old.objects.items ≤ length self.new.objects.items) }
         ensures by_one { OnOk result (length self.new.objects.items ≤ length self.old.objects.items + 1) }
         ensures within { IfOk result (IsWithin self.new) }
+        ensures asks { IfOk result (AsksOf words.now) }
         ensures read { GivesReading (seen self.new) result (λ lines. read_words (seen self.old lines) number (first.now ∷ words_of words.now)) }
     {
         if first.first() == Some(&b'#') {
@@ -118,6 +251,7 @@ impl Reader {
         ensures grown { OnOk result (length self.old.objects.items ≤ length self.new.objects.items) }
         ensures by_one { OnOk result (length self.new.objects.items ≤ length self.old.objects.items + 1) }
         ensures within { IfOk result (IsWithin self.new) }
+        ensures asks { IfOk result (AsksOf words.now) }
         ensures read { GivesSaid (λ lines. (seen self.new lines).said) result (λ lines. say (seen self.old lines).said number first.now (words_of words.now)) }
     {
         if first == b"object".as_slice() {
@@ -126,12 +260,16 @@ impl Reader {
             self.declare(alloc, number, name, quota)?;
             Ok(None)
         } else {
-            let (word, words) = next_word(words).ok_or(LineFail::Bad(BadKind::Command))?;
+            let (word, operands) = next_word(words).ok_or(LineFail::Bad(BadKind::Command))?;
             let verb = Verb::of(word).ok_or(LineFail::Bad(BadKind::Command))?;
-            let asked = verb.asked(words)?;
+            let asked = verb.asked(operands)?;
             let object = self.asked_of(first)?;
             self.last = object;
-            Ok(Some(Ask { object, asked }))
+            Ok(Some(Ask {
+                object,
+                words,
+                asked,
+            }))
         }
     }
 
@@ -182,6 +320,7 @@ impl Reader {
     {
         let key = Vec::from_slice(alloc, decl.name.bytes())?;
         let place = self.objects.len() as u32;
+        self.near.keep(decl.name.bytes(), place);
         self.names.insert(key, place)?;
         self.objects.push(decl)?;
         Ok(())
@@ -206,18 +345,33 @@ impl Reader {
         ensures within { IfSome result (λ place. place < length self.now.objects.items) }
         ensures name { IfSome result (λ _. is_name name.now ≡ true) }
     {
-        if self.names_last(name) {
-            return Some(self.last);
+        let near = self.near.place(name);
+        if self.is_named(near, name) {
+            return Some(near);
         }
         self.names.get(name).copied()
     }
 
-    /// Whether this is the name of the object that the line before asked.
-    fn names_last(&self, name: &[u8]) -> bool
+    /// The name of the object that the line before asked.
+    #[inline(always)]
+    fn last_name(&self) -> Option<&[u8]>
         requires { IsKept self.now }
-        ensures { result ≡ true → object_of self.now.objects.items name.now ≡ Some self.now.last }
+        ensures { IfSome result (λ name. object_of self.now.objects.items name.now ≡ Some self.now.last) }
     {
         let place = self.last as usize;
+        if place >= self.objects.len() {
+            return None;
+        }
+        let decl = &self.objects[place];
+        Some(decl.name.bytes())
+    }
+
+    /// Whether the object in a place has this name.
+    fn is_named(&self, place: u32, name: &[u8]) -> bool
+        requires { IsKept self.now }
+        ensures { result ≡ true → object_of self.now.objects.items name.now ≡ Some place }
+    {
+        let place = place as usize;
         if place >= self.objects.len() {
             return false;
         }

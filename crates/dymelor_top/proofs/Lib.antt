@@ -1,6 +1,7 @@
 pub mod RunFacts
 pub mod ObjectText
 pub mod PassedOn
+pub mod PlacedFacts
 pub mod PartFacts
 pub mod MadePlans
 pub mod Served

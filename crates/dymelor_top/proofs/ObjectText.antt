@@ -1,38 +1,37 @@
 -- The part of an object, in three pieces.
-use Rattle.std.proofs.Common.{◌≡◌, ℕ, List, ◌++◌, length, flat_map, append_assoc, refl, sym, ap, ◌∙◌}
-use Rattle.dym_base.specs.Heaps.{Live}
-use Rattle.dym_base.specs.Objects.{ObjectState, LogEntry, object_start, replies_from, object_after, slots}
+use Rattle.std.proofs.Common.{◌≡◌, ℕ, List, ◌++◌, length, flat_map, append_assoc, refl, sym, ◌∙◌}
+use Rattle.dym_base.specs.Objects.{ObjectState, object_start, replies_from, object_after, slots}
 use Rattle.dym_base.specs.declared.command.Version.{Version}
 use Rattle.dym_base.specs.declared.command.Command.{Command}
-use Rattle.dym_base.specs.declared.reply.Reply.{Reply}
 use Rattle.dym_object.specs.Meaning.{ObjectMeaning, state_of}
 use Rattle.dym_report.specs.Objects.{heading, state_text, object_text}
 use Rattle.dym_report.specs.Replies.{reply_line}
-use Rattle.dym_script.specs.declared.own.Part.{Part}
+use Rattle.dym_script.specs.declared.parts.Placed.{Placed}
+use Rattle.dym_script.specs.Placed.{commands_at}
 use Rattle.dymelor_top.specs.Parts.{own_of}
 use Rattle.dymelor_top.specs.Report.{part_text}
 
 -- a part begins with its heading
-pub part_pieces : (v : Version) (part : Part) → (rest : List ℕ) × (part_text v (own_of part) ≡ heading part.decl.name ++ rest)
+pub part_pieces : (bytes : List ℕ) (v : Version) (part : Placed) → (rest : List ℕ) × (part_text v (own_of bytes part) ≡ heading part.decl.name ++ rest)
 unfolding part_text object_text
-part_pieces v part = (_, append_assoc (heading part.decl.name) _ _)
+part_pieces bytes v part = (_, append_assoc (heading part.decl.name) _ _)
 
 -- what stands behind the replies of an object
 abbrev pub behind : Version → ObjectState → List ℕ
 behind v s = state_text v s.heap.live (length s.logs) (slots s.logs)
 
-part_is : (v : Version) (part : Part)
-    → part_text v (own_of part)
-    ≡ (heading part.decl.name ++ flat_map reply_line (replies_from v part.decl.quota object_start part.commands.items)) ++ behind v (object_after v part.decl.quota object_start part.commands.items)
+part_is : (bytes : List ℕ) (v : Version) (part : Placed)
+    → part_text v (own_of bytes part)
+    ≡ (heading part.decl.name ++ flat_map reply_line (replies_from v part.decl.quota object_start (commands_at bytes part.places.items))) ++ behind v (object_after v part.decl.quota object_start (commands_at bytes part.places.items))
 unfolding part_text object_text
-part_is v part = refl
+part_is bytes v part = refl
 
 -- the replies of a run, and what stands behind them, make the part
-pub part_shown : (part : Part) (start : ObjectMeaning) (commands : List Command)
-    → commands ≡ part.commands.items → start.heap.quota ≡ part.decl.quota → state_of start ≡ object_start
-    → part_text start.heap.version (own_of part)
+pub part_shown : (bytes : List ℕ) (part : Placed) (start : ObjectMeaning) (commands : List Command)
+    → commands ≡ commands_at bytes part.places.items → start.heap.quota ≡ part.decl.quota → state_of start ≡ object_start
+    → part_text start.heap.version (own_of bytes part)
     ≡ (heading part.decl.name ++ flat_map reply_line (replies_from start.heap.version start.heap.quota (state_of start) commands)) ++ behind start.heap.version (object_after start.heap.version start.heap.quota (state_of start) commands)
-part_shown part start commands same quota begun =
+part_shown bytes part start commands same quota begun =
     let v : Version = start.heap.version in
-    part_is v part
+    part_is bytes v part
     ∙ (λ i. (heading part.decl.name ++ flat_map reply_line (replies_from v (sym quota i) (sym begun i) (sym same i))) ++ behind v (object_after v (sym quota i) (sym begun i) (sym same i)))

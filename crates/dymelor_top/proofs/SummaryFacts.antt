@@ -1,14 +1,13 @@
 -- What objects come to, counted one after another.
-use Rattle.std.proofs.Common.{◌≡◌, ℕ, suc, ◌+◌, ◌<◌, ◌≤◌, true, false, not, cond, List, [], ◌∷◌, length, map, filter, drop, get_or, count_by, sum_by, refl, subst, sym, ap, ◌∙◌, ◌-◌, add-one, add-zero, drop-cons, le_of_eq, Bool, ◌⊎◌, inl, inr, arith, ◌==◌}
+use Rattle.std.proofs.Common.{◌≡◌, ℕ, suc, ◌+◌, ◌<◌, ◌≤◌, true, false, not, cond, List, [], ◌∷◌, ◌++◌, All, length, map, filter, drop, get_or, count_by, sum_by, refl, subst, sym, ap, ◌∙◌, ◌-◌, add-one, add-zero, drop-cons, le_of_eq, Bool, ◌⊎◌, inl, inr, arith, ◌==◌}
 use Rattle.std.specs.Prelude.{nat_le}
-use Rattle.std.specs.List.{AllByRecursion}
 use Rattle.std.specs.FinMap.{len}
 use Rattle.std.proofs.lemmas.Bool.{cases_order, cond-true, cond-false, eq-eqb, ne_eqb, le-leb, lt-leb}
-use Rattle.std.proofs.lemmas.List.Elements.{recursion_from_All}
-use Rattle.std.proofs.lemmas.List.Sums.{sum_by-cons, length-filter, count_by-le-length}
+use Rattle.std.proofs.lemmas.List.Elements.{All-head, All-tail, All-weaker}
+use Rattle.std.proofs.lemmas.List.Sums.{sum_by-cons, length-filter}
 use Rattle.std.proofs.Math.ListN.{drop_of_length-le}
 use Rattle.std.proofs.lemmas.List.{length-map}
-use Rattle.dym_base.specs.Heaps.{Live, HeapState, held}
+use Rattle.dym_base.specs.Heaps.{held}
 use Rattle.dym_base.specs.RunLaws.{IsLogList, RunsKeepLogs}
 use Rattle.dym_base.specs.Objects.{LogEntry, ObjectState, object_start, object_step, replies_from, object_after, slots}
 use Rattle.dym_base.specs.declared.command.Version.{Version}
@@ -16,15 +15,18 @@ use Rattle.dym_base.specs.declared.command.Command.{Command}
 use Rattle.dym_base.specs.declared.reply.Reply.{Reply}
 use Rattle.dym_object.specs.Meaning.{ObjectMeaning, state_of}
 use Rattle.dym_script.specs.declared.script.Line.{Line}
-use Rattle.dym_script.specs.declared.own.Part.{Part}
+use Rattle.dym_script.specs.declared.parts.Placed.{Placed}
+use Rattle.dym_script.specs.declared.parts.Parts.{Parts}
+use Rattle.dym_script.specs.Held.{ArePartsOf}
 use Rattle.dym_script.specs.Scripts.{Said, own}
-use Rattle.dym_script.specs.Parts.{EachOwns}
+use Rattle.dym_script.specs.Placed.{commands_at, EachStands}
 use Rattle.dymelor_top.specs.declared.tally.Tally.{Tally}
-use Rattle.dymelor_top.specs.Parts.{own_of, IsRunnable}
-use Rattle.dymelor_top.specs.Report.{Own}
-use Rattle.dymelor_top.proofs.PartFacts.{OwnsFrom}
-use Rattle.dymelor_top.proofs.RunFacts.{Ran}
-use Rattle.dymelor_top.specs.Summary.{is_refusal, tally_of, no_tally, both_tallies, tally_all}
+use Rattle.dymelor_top.specs.Parts.{own_of}
+use Rattle.dymelor_top.specs.Report.{objects_of}
+use Rattle.dymelor_top.proofs.PlacedFacts.{stand_length}
+use Rattle.dymelor_top.proofs.PartFacts.{OwnsFrom, owns_first, owns_later, owns_all, parts_are_objects}
+use Rattle.dymelor_top.proofs.WrittenReplies.{replies_both, after_both}
+use Rattle.dymelor_top.specs.Summary.{is_refusal, tally_of, no_tally, both_tallies, tally_all, totals_of}
 
 -- ---- the commands of all objects are those of the lines
 
@@ -56,25 +58,49 @@ own_length : (s : Said) (k : ℕ) → length (own s k) ≡ count_by (λ line. li
 unfolding own
 own_length s k = length-map (filter (λ line. line.object == k) s.lines) (λ (line : Line). line.command) ∙ length-filter (λ (line : Line). line.object == k) s.lines
 
-commands_from : (s : Said) (k : ℕ) (parts : List Part) → OwnsFrom s k parts → sum_by (λ part. length part.commands.items) parts ≤ reach k s.lines
-commands_from s k [] owns = omega arith
-commands_from s k (p ∷ ps) owns =
-    let first : p.commands.items ≡ own s k = owns 0 p (omega arith) ∙ ap (own s) (add-zero k) in
-    let later : OwnsFrom s (k + 1) ps = λ j d within. owns (suc j) d (omega arith) ∙ ap (own s) (shifted j) in
-    omega (arith, sum_by-cons (λ (part : Part). length part.commands.items) p ps, ap length first, own_length s k, split_reach k s.lines, commands_from s (k + 1) ps later)
-  where
-    shifted : (j : ℕ) → k + suc j ≡ (k + 1) + j
-    shifted j = omega arith
+-- no line is an object's from the k-th on, where all are of those before
+reach_none : (k : ℕ) (lines : List Line) → All (λ line. line.object < k) lines → reach k lines ≡ 0
+reach_none k [] all = refl
+reach_none k (x ∷ xs) all =
+    omega (
+      arith,
+      sum_by-cons (λ (line : Line). cond (nat_le k line.object) 1 0) x xs,
+      cond-false {A = ℕ} (nat_le k x.object) 1 0 (lt-leb k x.object (All-head (λ (line : Line). line.object < k) x xs all)),
+      reach_none k xs (All-tail (λ (line : Line). line.object < k) x xs all),
+    )
 
--- together the parts have no more commands than the script has lines
-pub commands_within : (s : Said) (parts : List Part) → EachOwns parts s → sum_by (λ part. length part.commands.items) parts ≤ length s.lines
-commands_within s parts owns =
-    let reached : sum_by (λ (part : Part). length part.commands.items) parts ≤ reach 0 s.lines = commands_from s 0 parts (λ j d within. owns j d within ∙ ap (own s) (zero_first j)) in
-    let all : reach 0 s.lines ≤ length s.lines = count_by-le-length (λ (line : Line). nat_le 0 line.object) s.lines in
-    omega (arith, reached, all)
-  where
-    zero_first : (j : ℕ) → j ≡ 0 + j
-    zero_first j = omega arith
+reach_all : (lines : List Line) → reach 0 lines ≡ length lines
+reach_all [] = refl
+reach_all (x ∷ xs) =
+    omega (arith, sum_by-cons (λ (line : Line). cond (nat_le 0 line.object) 1 0) x xs, cond-true {A = ℕ} (nat_le 0 x.object) 1 0 (le-leb 0 x.object (omega arith)), reach_all xs)
+
+commands_from : (bytes : List ℕ) (s : Said) (k : ℕ) (parts : List Placed) → OwnsFrom bytes s k parts → All (λ line. line.object < k + length parts) s.lines → sum_by (λ part. length part.places.items) parts ≡ reach k s.lines
+commands_from bytes s k [] owns all = sym (reach_none k s.lines (All-weaker (λ line. line.object < k + 0) (λ line. line.object < k) (λ line below. omega (arith, below)) s.lines all))
+commands_from bytes s k (p ∷ ps) owns all =
+    let within : All (λ line. line.object < (k + 1) + length ps) s.lines =
+    All-weaker (λ line. line.object < k + suc (length ps)) (λ line. line.object < (k + 1) + length ps) (λ line below. omega (arith, below)) s.lines all in
+    omega (
+      arith,
+      sum_by-cons (λ (part : Placed). length part.places.items) p ps,
+      stand_length bytes p.places.items (own s k) (owns_first bytes s k p ps owns),
+      own_length s k,
+      split_reach k s.lines,
+      commands_from bytes s (k + 1) ps (owns_later bytes s k p ps owns) within,
+    )
+
+-- together the parts have as many commands as the script has lines
+pub commands_all : (bytes : List ℕ) (s : Said) (parts : List Placed) → EachStands bytes parts s → length parts ≡ length s.objects → All (λ line. line.object < length s.objects) s.lines
+    → sum_by (λ part. length part.places.items) parts ≡ length s.lines
+commands_all bytes s parts owns same declared =
+    let all : All (λ line. line.object < 0 + length parts) s.lines =
+    All-weaker (λ line. line.object < length s.objects) (λ line. line.object < 0 + length parts) (λ line below. omega (arith, below, same)) s.lines declared in
+    commands_from bytes s 0 parts (owns_all bytes s parts owns) all ∙ reach_all s.lines
+
+pub objects_of_parts : (bytes : List ℕ) (parts : Parts) (s : Said) → ArePartsOf bytes parts s → length parts.parts.items ≡ length s.objects
+objects_of_parts bytes parts s are = sym (length-map parts.parts.items (λ (p : Placed). p.decl)) ∙ ap length are.decls
+
+pub commands_of_parts : (bytes : List ℕ) (parts : Parts) (s : Said) → ArePartsOf bytes parts s → sum_by (λ part. length part.places.items) parts.parts.items ≡ length s.lines
+commands_of_parts bytes parts s are = commands_all bytes s parts.parts.items are.commands (objects_of_parts bytes parts s are) are.lawful.declared
 
 -- ---- sums of tallies
 
@@ -94,24 +120,44 @@ tally_regroup a b c = λ i. record { ok = regroup a.ok b.ok c.ok i; refused = re
     regroup x y z = omega arith
 
 -- after the first i parts were counted, what they come to with the others is what all come to
-abbrev pub Counted : Version → List Part → ℕ → Tally → Type 0
-Counted v parts i tally = both_tallies tally (tally_all v (map own_of (drop i parts))) ≡ tally_all v (map own_of parts)
+abbrev pub Counted : List ℕ → Version → List Placed → ℕ → Tally → Type 0
+Counted bytes v parts i tally = both_tallies tally (tally_all v (map (own_of bytes) (drop i parts))) ≡ tally_all v (map (own_of bytes) parts)
 
-pub counted_more : (v : Version) (parts : List Part) (i : ℕ) (p : Part) (tally more new : Tally) → i < length parts → p ≡ get_or parts i p
-    → Counted v parts i tally → more ≡ tally_of v (own_of p) → new ≡ both_tallies tally more → Counted v parts (i + 1) new
-counted_more v parts i p tally more new within at counted is sum =
-    let rest : List Part = drop (i + 1) parts in
+pub counted_more : (bytes : List ℕ) (v : Version) (parts : List Placed) (i : ℕ) (p : Placed) (tally more new : Tally) → i < length parts → p ≡ get_or parts i p
+    → Counted bytes v parts i tally → more ≡ tally_of v (own_of bytes p) → new ≡ both_tallies tally more → Counted bytes v parts (i + 1) new
+counted_more bytes v parts i p tally more new within at counted is sum =
+    let rest : List Placed = drop (i + 1) parts in
     let cut : drop i parts ≡ p ∷ rest = rw (add-one, drop-cons parts i p within) (λ j. sym at j ∷ drop (suc i) parts) in
-    ap (λ t. both_tallies t (tally_all v (map own_of rest))) sum
-    ∙ tally_regroup tally more (tally_all v (map own_of rest))
-    ∙ ap (λ t. both_tallies tally (both_tallies t (tally_all v (map own_of rest)))) is
-    ∙ ap (λ ps. both_tallies tally (tally_all v (map own_of ps))) (sym cut)
+    ap (λ t. both_tallies t (tally_all v (map (own_of bytes) rest))) sum
+    ∙ tally_regroup tally more (tally_all v (map (own_of bytes) rest))
+    ∙ ap (λ t. both_tallies tally (both_tallies t (tally_all v (map (own_of bytes) rest)))) is
+    ∙ ap (λ ps. both_tallies tally (tally_all v (map (own_of bytes) ps))) (sym cut)
     ∙ counted
 
-pub counted_all : (v : Version) (parts : List Part) (i : ℕ) (tally : Tally) → length parts ≡ i → Counted v parts i tally → tally ≡ tally_all v (map own_of parts)
-counted_all v parts i tally all counted =
+pub counted_all : (bytes : List ℕ) (v : Version) (parts : List Placed) (i : ℕ) (tally : Tally) → length parts ≡ i → Counted bytes v parts i tally → tally ≡ tally_all v (map (own_of bytes) parts)
+counted_all bytes v parts i tally all counted =
     let none : drop i parts ≡ [] = drop_of_length-le parts (le_of_eq all) in
-    sym (tally_last tally) ∙ ap (λ ps. both_tallies tally (tally_all v (map own_of ps))) (sym none) ∙ counted
+    sym (tally_last tally) ∙ ap (λ ps. both_tallies tally (tally_all v (map (own_of bytes) ps))) (sym none) ∙ counted
+
+-- the totals of a script's parts
+pub total_is : (bytes : List ℕ) (parts : Parts) (s : Said) (tally : Tally) (objects : ℕ) → ArePartsOf bytes parts s → tally ≡ tally_all parts.version (map (own_of bytes) parts.parts.items)
+    → tally.ok + tally.refused ≡ sum_by (λ part. length part.places.items) parts.parts.items → objects ≡ length parts.parts.items
+    → record { objects = objects; commands = tally.ok + tally.refused; ok = tally.ok; refused = tally.refused; chunks = tally.chunks; segments = tally.segments; kept = tally.kept; slots = tally.slots } ≡ totals_of s
+total_is bytes parts s tally objects are is replies len =
+    let ps : List Placed = parts.parts.items in
+    let all : tally ≡ tally_all s.version (objects_of s) = is ∙ (λ i. tally_all (sym are.version i) (parts_are_objects bytes s ps are.decls are.commands i)) in
+    let count : objects ≡ length s.objects = len ∙ objects_of_parts bytes parts s are in
+    let commands : tally.ok + tally.refused ≡ length s.lines = replies ∙ commands_of_parts bytes parts s are in
+    λ i. record {
+      objects = count i;
+      commands = commands i;
+      ok = (all i).ok;
+      refused = (all i).refused;
+      chunks = (all i).chunks;
+      segments = (all i).segments;
+      kept = (all i).kept;
+      slots = (all i).slots;
+    }
 
 -- ---- one object
 
@@ -124,10 +170,6 @@ count_not (r ∷ rs) =
     one true = refl
     one false = refl
 
-pub at_most_one : (b : Bool) → cond {A = ℕ} b 1 0 ≤ 1
-at_most_one true = omega arith
-at_most_one false = omega arith
-
 pub length_replies : (v : Version) (quota : ℕ) (s : ObjectState) (commands : List Command) → length (replies_from v quota s commands) ≡ length commands
 length_replies v quota s [] = refl
 length_replies v quota s (c ∷ cs) = ap suc (length_replies v quota (object_step v quota s c).object cs)
@@ -135,11 +177,46 @@ length_replies v quota s (c ∷ cs) = ap suc (length_replies v quota (object_ste
 pub not_refused : (replies : List Reply) (n refused : ℕ) → n ≡ length replies → refused ≡ count_by is_refusal replies → n - refused ≡ count_by (λ r. not (is_refusal r)) replies
 not_refused replies n refused all is = omega (arith, all, is, count_not replies)
 
--- after the first i commands, so many of the replies to them are refusals
-pub record Refusing (start now : ObjectMeaning) (commands : List Command) (i refused : ℕ) : Type 0 where
-  pub replies : List Reply
-  pub ran : Ran start now commands i replies
-  pub counted : refused ≡ count_by is_refusal replies
+-- with so many refusals so far, those of the replies to the commands that are left make those of the whole run
+pub record Refusing (start now : ObjectMeaning) (commands rest : List Command) (refused : ℕ) : Type 0 where
+  pub version : now.heap.version ≡ start.heap.version
+  pub quota : now.heap.quota ≡ start.heap.quota
+  pub counted : refused + count_by is_refusal (replies_from start.heap.version start.heap.quota (state_of now) rest) ≡ count_by is_refusal (replies_from start.heap.version start.heap.quota (state_of start) commands)
+  pub ends : object_after start.heap.version start.heap.quota (state_of now) rest ≡ object_after start.heap.version start.heap.quota (state_of start) commands
+
+count_both : (xs ys : List Reply) → count_by is_refusal (xs ++ ys) ≡ count_by is_refusal xs + count_by is_refusal ys
+count_both [] ys = omega arith
+count_both (x ∷ xs) ys = omega (arith, sum_by-cons (λ (r : Reply). cond (is_refusal r) 1 0) x (xs ++ ys), sum_by-cons (λ (r : Reply). cond (is_refusal r) 1 0) x xs, count_both xs ys)
+
+-- the next commands were run
+pub refusing_more : (start now next : ObjectMeaning) (commands rest batch after : List Command) (refused more : ℕ) → Refusing start now commands rest refused → rest ≡ batch ++ after
+    → next.heap.version ≡ now.heap.version → next.heap.quota ≡ now.heap.quota → state_of next ≡ object_after now.heap.version now.heap.quota (state_of now) batch
+    → more ≡ count_by is_refusal (replies_from now.heap.version now.heap.quota (state_of now) batch) → Refusing start next commands after (refused + more)
+refusing_more start now next commands rest batch after refused more r cut version quota state counts =
+    let v : Version = start.heap.version in
+    let q : ℕ = start.heap.quota in
+    let s : ObjectState = object_after v q (state_of now) batch in
+    let left : state_of next ≡ s = state ∙ (λ i. object_after (r.version i) (r.quota i) (state_of now) batch) in
+    let first : more ≡ count_by is_refusal (replies_from v q (state_of now) batch) = counts ∙ (λ i. count_by is_refusal (replies_from (r.version i) (r.quota i) (state_of now) batch)) in
+    let whole : count_by is_refusal (replies_from v q (state_of now) rest) ≡ count_by is_refusal (replies_from v q (state_of now) batch) + count_by is_refusal (replies_from v q s after) =
+    ap (λ cs. count_by is_refusal (replies_from v q (state_of now) cs)) cut ∙ ap (count_by is_refusal) (replies_both v q (state_of now) batch after)
+    ∙ count_both (replies_from v q (state_of now) batch) (replies_from v q s after) in
+    record {
+      version = version ∙ r.version;
+      quota = quota ∙ r.quota;
+      counted = omega (arith, r.counted, whole, first, ap (λ t. count_by is_refusal (replies_from v q t after)) left);
+      ends = ap (λ t. object_after v q t after) left ∙ sym (after_both v q (state_of now) batch after) ∙ ap (object_after v q (state_of now)) (sym cut) ∙ r.ends;
+    }
+
+-- all commands were run
+pub refusing_all : (start now : ObjectMeaning) (commands rest : List Command) (refused : ℕ) → Refusing start now commands rest refused → rest ≡ []
+    → (refused ≡ count_by is_refusal (replies_from start.heap.version start.heap.quota (state_of start) commands)) × (state_of now ≡ object_after start.heap.version start.heap.quota (state_of start) commands)
+refusing_all start now commands rest refused r none =
+    let v : Version = start.heap.version in
+    let q : ℕ = start.heap.quota in (
+      omega (arith, r.counted, ap (λ cs. count_by is_refusal (replies_from v q (state_of now) cs)) none),
+      ap (object_after v q (state_of now)) (sym none) ∙ r.ends,
+    )
 
 -- what replies and an end come to
 abbrev pub counted : List Reply → ObjectState → Tally
@@ -152,9 +229,10 @@ counted replies s = record {
   slots = slots s.logs;
 }
 
-tally_is : (v : Version) (part : Part) → tally_of v (own_of part) ≡ counted (replies_from v part.decl.quota object_start part.commands.items) (object_after v part.decl.quota object_start part.commands.items)
+tally_is : (bytes : List ℕ) (v : Version) (part : Placed)
+    → tally_of v (own_of bytes part) ≡ counted (replies_from v part.decl.quota object_start (commands_at bytes part.places.items)) (object_after v part.decl.quota object_start (commands_at bytes part.places.items))
 unfolding tally_of
-tally_is v part = refl
+tally_is bytes v part = refl
 
 -- few logs are kept, and they take few records
 pub slots_few : (logs : List LogEntry) → IsLogList logs → slots logs ≤ 287
@@ -168,9 +246,9 @@ log_list keep start now commands begun ends =
     subst (λ (s : ObjectState). IsLogList s.logs) (sym (ends ∙ ap (λ s. object_after start.heap.version start.heap.quota s commands) begun)) (keep start.heap.version start.heap.quota commands)
 
 -- those of a run are what the part comes to
-pub tally_shown : (part : Part) (start : ObjectMeaning) (commands : List Command)
-    → commands ≡ part.commands.items → start.heap.quota ≡ part.decl.quota → state_of start ≡ object_start
-    → counted (replies_from start.heap.version start.heap.quota (state_of start) commands) (object_after start.heap.version start.heap.quota (state_of start) commands) ≡ tally_of start.heap.version (own_of part)
-tally_shown part start commands same quota begun =
+pub tally_shown : (bytes : List ℕ) (part : Placed) (start : ObjectMeaning) (commands : List Command)
+    → commands ≡ commands_at bytes part.places.items → start.heap.quota ≡ part.decl.quota → state_of start ≡ object_start
+    → counted (replies_from start.heap.version start.heap.quota (state_of start) commands) (object_after start.heap.version start.heap.quota (state_of start) commands) ≡ tally_of start.heap.version (own_of bytes part)
+tally_shown bytes part start commands same quota begun =
     let v : Version = start.heap.version in
-    (λ i. counted (replies_from v (quota i) (begun i) (same i)) (object_after v (quota i) (begun i) (same i))) ∙ sym (tally_is v part)
+    (λ i. counted (replies_from v (quota i) (begun i) (same i)) (object_after v (quota i) (begun i) (same i))) ∙ sym (tally_is bytes v part)

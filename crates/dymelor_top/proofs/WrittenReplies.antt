@@ -1,13 +1,12 @@
 -- Replies that are written some at a time.
-use Rattle.std.proofs.Common.{◌≡◌, ℕ, List, [], ◌∷◌, ◌++◌, flat_map, append-nil, refl, sym, ap, subst, ◌∙◌}
+use Rattle.std.proofs.Common.{◌≡◌, ℕ, List, [], ◌∷◌, ◌++◌, flat_map, refl, sym, ap, ◌∙◌}
 use Rattle.std.proofs.lemmas.Grind.{flat_map-append}
 use Rattle.dym_base.specs.Objects.{ObjectState, object_step, replies_from, object_after}
 use Rattle.dym_base.specs.declared.command.Version.{Version}
 use Rattle.dym_base.specs.declared.command.Command.{Command}
-use Rattle.dym_base.specs.declared.reply.Reply.{Reply}
 use Rattle.dym_object.specs.Meaning.{ObjectMeaning, state_of}
 use Rattle.dym_io.specs.Sink.{Output, Appended, Leaves}
-use Rattle.dym_io.specs.Laws.{leaves_same, leaves_more}
+use Rattle.dym_io.specs.Laws.{leaves_same, leaves_more, leaves_nothing}
 use Rattle.dym_report.specs.Replies.{reply_line}
 
 -- the lines of the replies to commands
@@ -21,12 +20,12 @@ pub record Written (start now : ObjectMeaning) (commands rest : List Command) (o
   pub leaves : Leaves old new (lines_of start.heap.version start.heap.quota (state_of start) commands) (lines_of start.heap.version start.heap.quota (state_of now) rest)
   pub ends : object_after start.heap.version start.heap.quota (state_of now) rest ≡ object_after start.heap.version start.heap.quota (state_of start) commands
 
-replies_both : (v : Version) (quota : ℕ) (s : ObjectState) (cs ds : List Command)
+pub replies_both : (v : Version) (quota : ℕ) (s : ObjectState) (cs ds : List Command)
     → replies_from v quota s (cs ++ ds) ≡ replies_from v quota s cs ++ replies_from v quota (object_after v quota s cs) ds
 replies_both v quota s [] ds = refl
 replies_both v quota s (c ∷ cs) ds = ap (λ l. (object_step v quota s c).reply ∷ l) (replies_both v quota (object_step v quota s c).object cs ds)
 
-after_both : (v : Version) (quota : ℕ) (s : ObjectState) (cs ds : List Command) → object_after v quota s (cs ++ ds) ≡ object_after v quota (object_after v quota s cs) ds
+pub after_both : (v : Version) (quota : ℕ) (s : ObjectState) (cs ds : List Command) → object_after v quota s (cs ++ ds) ≡ object_after v quota (object_after v quota s cs) ds
 after_both v quota s [] ds = refl
 after_both v quota s (c ∷ cs) ds = after_both v quota (object_step v quota s c).object cs ds
 
@@ -54,3 +53,13 @@ written_more start now next commands rest batch after old mid new w cut version 
       leaves = leaves_same old new _ _ _ left (λ i. lines_of (w.version i) (w.quota i) (sym state i) after);
       ends = (λ i. object_after (sym w.version i) (sym w.quota i) (state i) after) ∙ sym (after_both now.heap.version now.heap.quota (state_of now) batch after) ∙ (λ i. object_after (w.version i) (w.quota i) (state_of now) (sym cut i)) ∙ w.ends;
     }
+
+-- no command is left
+pub written_all : (start now : ObjectMeaning) (commands rest : List Command) (old new : Output) → Written start now commands rest old new → rest ≡ []
+    → Appended old new (lines_of start.heap.version start.heap.quota (state_of start) commands) × (state_of now ≡ object_after start.heap.version start.heap.quota (state_of start) commands)
+written_all start now commands rest old new w none =
+    let v : Version = start.heap.version in
+    let q : ℕ = start.heap.quota in (
+      leaves_nothing old new _ (leaves_same old new _ (lines_of v q (state_of now) rest) [] w.leaves (ap (lines_of v q (state_of now)) none)),
+      ap (object_after v q (state_of now)) (sym none) ∙ w.ends,
+    )

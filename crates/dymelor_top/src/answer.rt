@@ -15,7 +15,7 @@ use dym_base::BadKind;
 use dym_base::limits::MOST_INPUT_BYTES;
 use dym_io::Sink;
 use dym_report::{write_counts, write_error, write_events, write_summary};
-use dym_script::{Counts, ScriptFail, count_script, read_parts, read_script};
+use dym_script::{Counts, ScriptFail, count_script, read_parts};
 use dym_trace::{TraceAnswer, check_trace};
 use std::alloc::Global;
 
@@ -42,9 +42,10 @@ fn answer_report<W: Sink>(alloc: Global, bytes: Vec<u8>, sink: &mut W) -> Result
     ensures answered { WritesAnswer (of_script report_text (script_of bytes.items)) (W.output sink.old) (W.output sink.new) result }
     ensures status { IfOk result (λ status. (status ≡ 0) ⊎ (status ≡ 2)) }
 {
-    match read_parts(alloc, &bytes) {
+    let input = bytes.as_slice();
+    match read_parts(alloc, input) {
         Ok(script) => {
-            write_report(alloc, &script, sink)?;
+            write_report(alloc, input, &script, sink)?;
             Ok(0)
         }
         Err(ScriptFail::Bad { line, kind }) => {
@@ -60,9 +61,10 @@ fn answer_summary<W: Sink>(alloc: Global, bytes: Vec<u8>, sink: &mut W) -> Resul
     ensures answered { WritesAnswer (of_script summary_of (script_of bytes.items)) (W.output sink.old) (W.output sink.new) result }
     ensures status { IfOk result (λ status. (status ≡ 0) ⊎ (status ≡ 2)) }
 {
-    match read_script(alloc, &bytes) {
+    let input = bytes.as_slice();
+    match read_parts(alloc, input) {
         Ok(script) => {
-            let totals = total(alloc, script)?;
+            let totals = total(alloc, input, &script)?;
             write_summary(sink, &totals)?;
             Ok(0)
         }

@@ -1,11 +1,12 @@
 //! The order `plain`: one object after another, each part written as its object ends.
-ghost use Rattle.std.specs.Prelude.{◌≡◌, ◌+◌, ◌≤◌, ◌^◌, length, flat_map, IfOk, OnOk, All};
+ghost use Rattle.std.specs.Prelude.{◌≡◌, ◌+◌, ◌≤◌, ◌^◌, length, flat_map, IsSome, IfOk, OnOk, All};
 ghost use Rattle.dym_base.specs.Objects.{object_start, replies_from, object_after};
 ghost use Rattle.dym_io.specs.Sink.{Output, WritesOr};
 ghost use Rattle.dym_object.specs.Meaning.{state_of};
 ghost use Rattle.dym_report.specs.Replies.{reply_line};
 ghost use Rattle.dym_script.specs.Scripts.{Said};
 ghost use Rattle.dym_script.specs.Held.{ArePartsOf};
+ghost use Rattle.dym_script.specs.Placed.{command_at, commands_at};
 ghost use Rattle.dymelor_top.specs.Parts.{IsRunnable, own_of};
 ghost use Rattle.dymelor_top.specs.Report.{part_text, report_text};
 ghost use Rattle.dymelor_top.specs.declared.stop.WriteFail.TheVariants.{Sink as SinkFailed};
@@ -17,18 +18,23 @@ use dym_io::Sink;
 use dym_object::Object;
 use dym_quota::OwnSupply;
 use dym_report::{write_end, write_heading, write_replies, write_state};
-use dym_script::{Part, Parts};
+use dym_script::{Parts, Placed, read_commands};
 use std::alloc::{AllocError, Global};
 
-/// How many commands are run before their replies are written.
-const BATCH: usize = 1_024;
+/// How many commands are read and run at a time.
+pub const BATCH: usize = 256;
 
-/// Writes the report of a script, one object after another.
-pub fn write_report<W: Sink>(alloc: Global, script: &Parts, sink: &mut W) -> Result<(), WriteFail>
-    requires made { (s : Said) × ArePartsOf script.now s }
-    ensures { (s : Said) → ArePartsOf script.now s → WritesOr (λ fail. fail ≡ SinkFailed) (W.output sink.old) (W.output sink.new) (report_text s) result }
+/// Writes the report of a script, one object after another. Its commands are read where they stand in the input.
+pub fn write_report<W: Sink>(
+    alloc: Global,
+    bytes: &[u8],
+    script: &Parts,
+    sink: &mut W,
+) -> Result<(), WriteFail>
+    requires made { (s : Said) × ArePartsOf bytes.now script.now s }
+    ensures { (s : Said) → ArePartsOf bytes.now script.now s → WritesOr (λ fail. fail ≡ SinkFailed) (W.output sink.old) (W.output sink.new) (report_text s) result }
 {
-    write_parts(alloc, script.version, &script.parts, sink)?;
+    write_parts(alloc, script.version, bytes, &script.parts, sink)?;
     write_end(sink)?;
     Ok(())
 }
@@ -37,14 +43,15 @@ pub fn write_report<W: Sink>(alloc: Global, script: &Parts, sink: &mut W) -> Res
 fn write_parts<W: Sink>(
     alloc: Global,
     version: Version,
-    parts: &[Part],
+    bytes: &[u8],
+    parts: &[Placed],
     sink: &mut W,
 ) -> Result<(), WriteFail>
-    requires { All IsRunnable parts.now }
-    ensures { WritesOr (λ fail. fail ≡ SinkFailed) (W.output sink.old) (W.output sink.new) (flat_map (λ part. part_text version (own_of part)) parts.now) result }
+    requires { All (IsRunnable bytes.now) parts.now }
+    ensures { WritesOr (λ fail. fail ≡ SinkFailed) (W.output sink.old) (W.output sink.new) (flat_map (λ part. part_text version (own_of bytes.now part)) parts.now) result }
 {
     for part in parts {
-        write_part(alloc, version, part, sink)?;
+        write_part(alloc, version, bytes, part, sink)?;
     }
     Ok(())
 }
@@ -53,14 +60,15 @@ fn write_parts<W: Sink>(
 fn write_part<W: Sink>(
     alloc: Global,
     version: Version,
-    part: &Part,
+    bytes: &[u8],
+    part: &Placed,
     sink: &mut W,
 ) -> Result<(), WriteFail>
-    requires { IsRunnable part.now }
-    ensures { WritesOr (λ fail. fail ≡ SinkFailed) (W.output sink.old) (W.output sink.new) (part_text version (own_of part.now)) result }
+    requires { IsRunnable bytes.now part.now }
+    ensures { WritesOr (λ fail. fail ≡ SinkFailed) (W.output sink.old) (W.output sink.new) (part_text version (own_of bytes.now part.now)) result }
 {
     let mut object = open_object(alloc, version, part.decl.quota)?;
-    let written = write_run(alloc, &mut object, part, sink);
+    let written = write_run(alloc, &mut object, bytes, part, sink);
     object.end(&());
     written
 }
@@ -90,47 +98,52 @@ pub fn open_object(
 fn write_run<W: Sink>(
     alloc: Global,
     object: &mut Object<OwnSupply, VecKeep>,
-    part: &Part,
+    bytes: &[u8],
+    part: &Placed,
     sink: &mut W,
 ) -> Result<(), WriteFail>
-    requires runnable { IsRunnable part.now }
+    requires runnable { IsRunnable bytes.now part.now }
     requires quota { object.old.heap.quota ≡ part.now.decl.quota }
     requires start { state_of object.old ≡ object_start }
     requires ran { object.old.ran ≡ 0 }
-    ensures { WritesOr (λ fail. fail ≡ SinkFailed) (W.output sink.old) (W.output sink.new) (part_text object.old.heap.version (own_of part.now)) result }
+    ensures { WritesOr (λ fail. fail ≡ SinkFailed) (W.output sink.old) (W.output sink.new) (part_text object.old.heap.version (own_of bytes.now part.now)) result }
 {
     write_heading(sink, &part.decl.name)?;
-    run_and_write(alloc, object, &part.commands, sink)?;
+    run_and_write(alloc, object, bytes, &part.places, sink)?;
     write_state(sink, object.heap(), object.kept(), object.slots())?;
     Ok(())
 }
 
-/// Runs commands, and writes their replies, some at a time.
+/// Runs the commands that stand at places of the input, and writes their replies, some at a time.
 fn run_and_write<W: Sink>(
     alloc: Global,
     object: &mut Object<OwnSupply, VecKeep>,
-    commands: &[Command],
+    bytes: &[u8],
+    places: &[u32],
     sink: &mut W,
 ) -> Result<(), WriteFail>
-    requires few { length commands.now ≤ 2 ^ 20 }
+    requires few { length places.now ≤ 2 ^ 20 }
+    requires found { All (λ place. IsSome (command_at bytes.now place)) places.now }
     requires ran { object.old.ran ≡ 0 }
     ensures replies { WritesOr (λ fail. fail ≡ SinkFailed) (W.output sink.old) (W.output sink.new)
-        (flat_map reply_line (replies_from object.old.heap.version object.old.heap.quota (state_of object.old) commands.now)) result }
-    ensures state { OnOk result (state_of object.new ≡ object_after object.old.heap.version object.old.heap.quota (state_of object.old) commands.now) }
+        (flat_map reply_line (replies_from object.old.heap.version object.old.heap.quota (state_of object.old) (commands_at bytes.now places.now))) result }
+    ensures state { OnOk result (state_of object.new ≡ object_after object.old.heap.version object.old.heap.quota (state_of object.old) (commands_at bytes.now places.now)) }
     ensures version { OnOk result (object.new.heap.version ≡ object.old.heap.version) }
 {
-    let mut rest = commands;
+    let mut commands = Vec::new(alloc);
+    let mut rest = places;
     while !rest.is_empty() {
         let (batch, after) = rest.split_at(rest.len().min(BATCH));
-        let replies = run(alloc, object, batch)?;
+        read_commands(alloc, bytes, batch, &mut commands)?;
+        let replies = run(alloc, object, &commands)?;
         write_replies(sink, &replies)?;
         rest = after;
     }
     Ok(())
 }
 
-/// The replies to commands.
-fn run(
+/// The replies to commands, each written where it then stands.
+pub fn run(
     alloc: Global,
     object: &mut Object<OwnSupply, VecKeep>,
     commands: &[Command],
@@ -144,7 +157,9 @@ fn run(
 {
     let mut replies = Vec::with_capacity(alloc, commands.len())?;
     for command in commands {
-        replies.push_reserved(object.run(&(), alloc, command)?);
+        replies.push_reserved(Reply::Done);
+        let last = replies.len() - 1;
+        object.run_into(&(), alloc, command, &mut replies[last])?;
     }
     Ok(replies)
 }

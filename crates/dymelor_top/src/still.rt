@@ -125,7 +125,7 @@ fn made_script(alloc: Global, seed: u64, objects: u32, commands: u32) -> Result<
 {
     let mut made = MemSink::new(alloc, MADE_ROOM, MADE_ROOM, Vec::new(alloc))?;
     match gen_script(&mut made, seed, objects, commands) {
-        Ok(()) => Vec::from_slice(alloc, made.bytes()),
+        Ok(()) => Ok(made.into_bytes()),
         Err(_) => Err(AllocError),
     }
 }

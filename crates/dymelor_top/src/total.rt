@@ -1,35 +1,33 @@
 //! The order `plain --summary`: one object after another, counted as it ends.
-ghost use Rattle.std.specs.Prelude.{cond, ◌≡◌, ◌+◌, ◌≤◌, ◌^◌, length, map, sum_by, count_by, IfOk, OnOk, All};
+ghost use Rattle.std.specs.Prelude.{◌≡◌, ◌+◌, ◌≤◌, ◌^◌, length, map, sum_by, count_by, IsSome, IfOk, OnOk, All};
 ghost use Rattle.dym_base.specs.Objects.{object_start, replies_from, object_after};
 ghost use Rattle.dym_base.specs.declared.limits.TheConstants.{MOST_OBJECTS, MOST_COMMANDS, MOST_QUOTA};
 ghost use Rattle.dym_object.specs.Meaning.{state_of};
-ghost use Rattle.dym_script.specs.Scripts.{said};
-ghost use Rattle.dym_script.specs.Answers.{IsLawful};
+ghost use Rattle.dym_script.specs.Scripts.{Said};
+ghost use Rattle.dym_script.specs.Held.{ArePartsOf};
+ghost use Rattle.dym_script.specs.Placed.{command_at, commands_at};
 ghost use Rattle.dymelor_top.specs.Parts.{IsRunnable, own_of};
 ghost use Rattle.dymelor_top.specs.Summary.{is_refusal, tally_of, tally_all, totals_of};
 
-use crate::plain::open_object;
+use crate::plain::{BATCH, open_object, run};
 use crate::tally::Tally;
-use dym_base::{Command, Reply, Version, laws};
+use dym_base::{Reply, Version, laws};
 use dym_chain::VecKeep;
 use dym_object::Object;
 use dym_quota::OwnSupply;
 use dym_report::{Totals, live_chunks};
-use dym_script::{Part, Script, apart};
+use dym_script::{Parts, Placed, read_commands};
 use std::alloc::{AllocError, Global};
 
-/// What the objects of a script come to.
-pub fn total(alloc: Global, script: Script) -> Result<Totals, AllocError>
-    requires lawful { IsLawful (said script) }
-    ensures { IfOk result (λ totals. totals ≡ totals_of (said script)) }
+/// What the objects of a script come to. Its commands are read where they stand in the input.
+pub fn total(alloc: Global, bytes: &[u8], script: &Parts) -> Result<Totals, AllocError>
+    requires made { (s : Said) × ArePartsOf bytes.now script.now s }
+    ensures { IfOk result (λ totals. (s : Said) → ArePartsOf bytes.now script.now s → totals ≡ totals_of s) }
 {
-    let version = script.version;
-    let commands = script.lines.len() as u32;
-    let parts = apart(alloc, script)?;
-    let tally = tally_parts(alloc, version, &parts)?;
+    let tally = tally_parts(alloc, script.version, bytes, &script.parts)?;
     Ok(Totals {
-        objects: parts.len() as u32,
-        commands,
+        objects: script.parts.len() as u32,
+        commands: tally.ok + tally.refused,
         ok: tally.ok,
         refused: tally.refused,
         chunks: tally.chunks,
@@ -40,31 +38,42 @@ pub fn total(alloc: Global, script: Script) -> Result<Totals, AllocError>
 }
 
 /// What objects come to together.
-fn tally_parts(alloc: Global, version: Version, parts: &[Part]) -> Result<Tally, AllocError>
-    requires runnable { All IsRunnable parts.now }
+fn tally_parts(
+    alloc: Global,
+    version: Version,
+    bytes: &[u8],
+    parts: &[Placed],
+) -> Result<Tally, AllocError>
+    requires runnable { All (IsRunnable bytes.now) parts.now }
     requires objects { length parts.now ≤ MOST_OBJECTS }
-    requires commands { sum_by (λ part. length part.commands.items) parts.now ≤ MOST_COMMANDS }
-    ensures { IfOk result (λ tally. tally ≡ tally_all version (map own_of parts.now)) }
+    requires commands { sum_by (λ part. length part.places.items) parts.now ≤ MOST_COMMANDS }
+    ensures counted { IfOk result (λ tally. tally ≡ tally_all version (map (own_of bytes.now) parts.now)) }
+    ensures replies { IfOk result (λ tally. tally.ok + tally.refused ≡ sum_by (λ part. length part.places.items) parts.now) }
 {
     let mut tally = Tally::none();
     for part in parts {
-        tally = tally.and(tally_part(alloc, version, part)?);
+        tally = tally.and(tally_part(alloc, version, bytes, part)?);
     }
     Ok(tally)
 }
 
 /// Opens an object, runs its commands and counts what it comes to. Its segments are back when the call returns.
-fn tally_part(alloc: Global, version: Version, part: &Part) -> Result<Tally, AllocError>
-    requires { IsRunnable part.now }
-    ensures counted { IfOk result (λ tally. tally ≡ tally_of version (own_of part.now)) }
-    ensures replies { IfOk result (λ tally. tally.ok + tally.refused ≡ length part.now.commands.items) }
+fn tally_part(
+    alloc: Global,
+    version: Version,
+    bytes: &[u8],
+    part: &Placed,
+) -> Result<Tally, AllocError>
+    requires { IsRunnable bytes.now part.now }
+    ensures counted { IfOk result (λ tally. tally ≡ tally_of version (own_of bytes.now part.now)) }
+    ensures replies { IfOk result (λ tally. tally.ok + tally.refused ≡ length part.now.places.items) }
     ensures chunks { IfOk result (λ tally. tally.chunks ≤ 2 ^ 37) }
     ensures segments { IfOk result (λ tally. tally.segments ≤ MOST_QUOTA) }
     ensures kept { IfOk result (λ tally. tally.kept ≤ 256) }
     ensures slots { IfOk result (λ tally. tally.slots ≤ 287) }
 {
     let mut object = open_object(alloc, version, part.decl.quota)?;
-    let tally = tally_run(alloc, &mut object, part);
+    let tally = tally_run(alloc, &mut object, bytes, part);
     object.end(&());
     tally
 }
@@ -73,24 +82,25 @@ fn tally_part(alloc: Global, version: Version, part: &Part) -> Result<Tally, All
 fn tally_run(
     alloc: Global,
     object: &mut Object<OwnSupply, VecKeep>,
-    part: &Part,
+    bytes: &[u8],
+    part: &Placed,
 ) -> Result<Tally, AllocError>
-    requires runnable { IsRunnable part.now }
+    requires runnable { IsRunnable bytes.now part.now }
     requires quota { object.old.heap.quota ≡ part.now.decl.quota }
     requires start { state_of object.old ≡ object_start }
     requires ran { object.old.ran ≡ 0 }
-    ensures counted { IfOk result (λ tally. tally ≡ tally_of object.old.heap.version (own_of part.now)) }
-    ensures replies { IfOk result (λ tally. tally.ok + tally.refused ≡ length part.now.commands.items) }
+    ensures counted { IfOk result (λ tally. tally ≡ tally_of object.old.heap.version (own_of bytes.now part.now)) }
+    ensures replies { IfOk result (λ tally. tally.ok + tally.refused ≡ length part.now.places.items) }
     ensures chunks { IfOk result (λ tally. tally.chunks ≤ 2 ^ 37) }
     ensures segments { IfOk result (λ tally. tally.segments ≤ MOST_QUOTA) }
     ensures kept { IfOk result (λ tally. tally.kept ≤ 256) }
     ensures slots { IfOk result (λ tally. tally.slots ≤ 287) }
 {
     laws::runs_keep_logs();
-    let refused = refusals(alloc, object, &part.commands)?;
+    let refused = refusals(alloc, object, bytes, &part.places)?;
     let heap = object.heap();
     Ok(Tally {
-        ok: part.commands.len() as u32 - refused,
+        ok: part.places.len() as u32 - refused,
         refused,
         chunks: live_chunks(heap),
         segments: u64::from(heap.held()),
@@ -99,32 +109,45 @@ fn tally_run(
     })
 }
 
-/// How many refusals a reply is: one or none.
-fn refusals_in(reply: &Reply) -> u32
-    ensures { result ≡ cond (is_refusal reply.now) 1 0 }
-{
-    match reply {
-        Reply::Refused(_) => 1,
-        _ => 0,
-    }
-}
-
-/// Runs the commands of an object that ran none yet, and counts those that it refuses.
+/// Runs the commands that stand at places of the input, of an object that ran none yet, and counts those that it refuses.
 fn refusals(
     alloc: Global,
     object: &mut Object<OwnSupply, VecKeep>,
-    commands: &[Command],
+    bytes: &[u8],
+    places: &[u32],
 ) -> Result<u32, AllocError>
-    requires few { length commands.now ≤ 2 ^ 20 }
+    requires few { length places.now ≤ 2 ^ 20 }
+    requires found { All (λ place. IsSome (command_at bytes.now place)) places.now }
     requires ran { object.old.ran ≡ 0 }
-    ensures within { IfOk result (λ n. n ≤ length commands.now) }
-    ensures counted { IfOk result (λ n. n ≡ count_by is_refusal (replies_from object.old.heap.version object.old.heap.quota (state_of object.old) commands.now)) }
-    ensures state { OnOk result (state_of object.new ≡ object_after object.old.heap.version object.old.heap.quota (state_of object.old) commands.now) }
+    ensures within { IfOk result (λ n. n ≤ length places.now) }
+    ensures counted { IfOk result (λ n. n ≡ count_by is_refusal (replies_from object.old.heap.version object.old.heap.quota (state_of object.old) (commands_at bytes.now places.now))) }
+    ensures state { OnOk result (state_of object.new ≡ object_after object.old.heap.version object.old.heap.quota (state_of object.old) (commands_at bytes.now places.now)) }
 {
+    let mut commands = Vec::new(alloc);
     let mut refused = 0;
-    for command in commands {
-        let reply = object.run(&(), alloc, command)?;
-        refused += refusals_in(&reply);
+    let mut rest = places;
+    while !rest.is_empty() {
+        let (batch, after) = rest.split_at(rest.len().min(BATCH));
+        read_commands(alloc, bytes, batch, &mut commands)?;
+        let replies = run(alloc, object, &commands)?;
+        refused += refused_among(&replies);
+        rest = after;
     }
     Ok(refused)
+}
+
+/// How many of some replies are refusals.
+fn refused_among(replies: &[Reply]) -> u32
+    requires { length replies.now ≤ 2 ^ 20 }
+    ensures { result ≡ count_by is_refusal replies.now }
+{
+    let refused = replies.iter().filter(|reply| is_refusal(reply)).count();
+    refused as u32
+}
+
+/// Whether a reply is a refusal.
+fn is_refusal(reply: &Reply) -> bool
+    ensures { result ≡ is_refusal reply.now }
+{
+    matches!(reply, Reply::Refused(_))
 }

@@ -8,8 +8,8 @@ use Rattle.dym_script.specs.Plain.{is_plain}
 use Rattle.dym_script.specs.Readers.{IsKept, seen}
 use Rattle.dym_script.proofs.read.count_script.Given as goal
 
-abbrev pub invariant-loop-line : goal.invariant-loop-line
-invariant-loop-line l = record {
+abbrev pub invariant-loop-rest : goal.invariant-loop-rest
+invariant-loop-rest l = record {
   kept : IsKept l.reader;
   few : l.commands ≤ MOST_COMMANDS;
   short : l.number + length l.rest ≤ length l.bytes;
@@ -17,5 +17,5 @@ invariant-loop-line l = record {
   read : (lines : List Line) × (length lines ≡ l.commands) × (read_lines (seen l.reader lines) (l.number + 1) (lines_of l.rest) ≡ read_lines start 1 (lines_of l.bytes));
 }
 
-abbrev pub decreases-loop-line : goal.decreases-loop-line
-decreases-loop-line l = length l.rest
+abbrev pub decreases-loop-rest : goal.decreases-loop-rest
+decreases-loop-rest l = length l.rest

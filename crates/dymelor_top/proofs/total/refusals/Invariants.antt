@@ -1,10 +1,15 @@
-use Rattle.std.proofs.Common.{◌≡◌, ◌≤◌}
+use Rattle.std.proofs.Common.{◌+◌, ◌≤◌, ◌^◌, All, IsSome, length}
+use Rattle.dym_script.specs.Placed.{command_at, commands_at}
 use Rattle.dymelor_top.proofs.SummaryFacts.{Refusing}
 use Rattle.dymelor_top.proofs.total.refusals.Given as goal
 
-abbrev pub invariant-loop-command : goal.invariant-loop-command
-invariant-loop-command l = record {
-  refusing : Refusing l.initial.object l.object l.commands l.command-index l.refused;
-  within : l.refused ≤ l.command-index;
-  count : l.object.ran ≡ l.command-index;
+abbrev pub invariant-loop-rest : goal.invariant-loop-rest
+invariant-loop-rest l = record {
+  refusing : Refusing l.initial.object l.object (commands_at l.bytes l.places) (commands_at l.bytes l.rest) l.refused;
+  within : l.refused + length l.rest ≤ length l.places;
+  few : l.object.ran + length l.rest ≤ 2 ^ 20;
+  found : All (λ place. IsSome (command_at l.bytes place)) l.rest;
 }
+
+abbrev pub decreases-loop-rest : goal.decreases-loop-rest
+decreases-loop-rest l = length l.rest

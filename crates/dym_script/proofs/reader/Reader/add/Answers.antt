@@ -13,6 +13,7 @@ returns-clause-kept c =
       version = r.version;
       objects = c.push.new.self;
       names = c.insert.new.self;
+      near = c.keep.new.self;
       last = r.last;
     } in
     let place : c.len-place.result ≡ length r.objects.items = search rules in

@@ -3,9 +3,9 @@ use Rattle.dym_script.specs.Scripts.{object_of}
 use Rattle.dym_script.proofs.Index.{found_within, found_name}
 use Rattle.dym_script.proofs.reader.Reader.place_of.Goals as goal
 
-pub returns-then-names_last : goal.returns-then-names_last
-returns-then-names_last c =
-    let found : Some c.args.self.now.last ≡ object_of c.args.self.now.objects.items c.args.name.now = sym (c.names_last.ensures c.if-names_last.true) in
+pub returns-then-is_named : goal.returns-then-is_named
+returns-then-is_named c =
+    let found : Some c.place-near.result ≡ object_of c.args.self.now.objects.items c.args.name.now = sym (c.is_named.ensures c.if-is_named.true) in
     record {
       value = found;
       within = found_within _ _ _ found;
