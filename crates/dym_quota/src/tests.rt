@@ -66,3 +66,17 @@ fn a_quota_of_one(rt: HostRuntime) -> Result<(), Fail> {
     assert_eq!(rt; (mark_of(&segment), supply.held()), (2, 1));
     Ok(())
 }
+
+#[test]
+fn another_quota(rt: HostRuntime) -> Result<(), Fail> {
+    let supply = OwnSupply::open(rt.alloc(), 3)?;
+    let supply = supply.with_quota(rt.alloc(), 1)?;
+    assert_eq!(rt; (supply.quota(), supply.held()), (1, 0));
+    let mut supply = supply.with_quota(rt.alloc(), 4)?;
+    assert_eq!(rt; (supply.quota(), supply.held()), (4, 0));
+    let first = take_marked(&mut supply, 1);
+    let second = take_marked(&mut supply, 2);
+    assert_eq!(rt; supply.held(), 2);
+    assert_eq!(rt; (mark_of(&first), mark_of(&second)), (1, 2));
+    Ok(())
+}

@@ -1,8 +1,0 @@
-use Rattle.std.proofs.Common.{◌≡◌, ◌≤◌, vec_len, vec_capacity}
-use Rattle.dym_quota.proofs.own_supply.OwnSupply.open.Given as goal
-
-abbrev pub invariant-loop : goal.invariant-loop
-invariant-loop l = record {
-  made : vec_len l.spare ≡ l.counter;
-  room : l.quota ≤ vec_capacity l.spare;
-}
