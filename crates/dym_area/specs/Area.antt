@@ -1,8 +1,9 @@
 -- What is seen of an area, and what its calls do with it.
-use Rattle.std.specs.Prelude.{◌≡◌, ℕ, zero, suc, ◌+◌, ◌-◌, ◌*◌, ◌<◌, ◌≤◌, Bool, true, false, List, ◌++◌, length, replicate, slice_set}
+use Rattle.std.specs.Prelude.{◌≡◌, ℕ, zero, suc, ◌+◌, ◌-◌, ◌*◌, ◌/◌, ◌^◌, ◌<◌, ◌≤◌, Bool, true, false, List, ◌++◌, length, replicate, slice_set}
+use Rattle.std.specs.Int.{bit_at}
 use Rattle.dym_base.specs.Numbers.{size, per}
 use Rattle.dym_base.specs.declared.limits.TheConstants.{MOST_CHUNKS, SEGMENT_BYTES}
-use Rattle.dym_bits.specs.Bits.{IsSet, bits_of_bytes, clear_bits}
+use Rattle.dym_bits.specs.Bits.{IsSet, IsClear, bits_of_bytes, clear_bits}
 use Rattle.dym_region.specs.Content.{with_part}
 use Rattle.dym_region.specs.declared.segment.SegmentId.{SegmentId}
 
@@ -25,11 +26,23 @@ pub record IsLawful (area : AreaMeaning) : Type 0 where
   pub dirty_used : (i : ℕ) → IsSet area.dirty i → IsSet area.used i
   pub content_len : length area.content ≡ SEGMENT_BYTES
 
--- what an area keeps: every chunk below a number is used
-pub record IsKept (area : AreaMeaning) (full_below : ℕ) : Type 0 where
+-- one of the chunks below `count` is unused whose bits stand in word q, where 64 of them are
+pub record HasRoom (used : List Bool) (count q : ℕ) : Type 0 where
+  pub chunk : ℕ
+  pub within : chunk < count
+  pub word : chunk / 64 ≡ q
+  pub unused : IsClear used chunk
+
+-- the bits of `room` that are set are those of the words with an unused chunk
+pub record IsSummary (used : List Bool) (count room : ℕ) : Type 0 where
+  pub found : (q : ℕ) → bit_at room q ≡ 1 → HasRoom used count q
+  pub marked : (i : ℕ) → i < count → IsClear used i → bit_at room (i / 64) ≡ 1
+
+-- what an area keeps: a summary of its use bits
+pub record IsKept (area : AreaMeaning) (room : ℕ) : Type 0 where
   pub lawful : IsLawful area
-  pub full : (i : ℕ) → i < full_below → IsSet area.used i
-  pub within : full_below ≤ MOST_CHUNKS
+  pub summed : IsSummary area.used (per area.exponent) room
+  pub fits : room < 2 ^ 32
 
 -- where the bytes of chunk i begin
 abbrev pub chunk_start : AreaMeaning → ℕ → ℕ

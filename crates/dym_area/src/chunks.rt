@@ -5,7 +5,8 @@ ghost use Rattle.dym_bits.specs.Bits.{bit_in, bits_of_bytes, clear_bits, IsSet, 
 ghost use Rattle.dym_region.specs.Content.{part_of};
 ghost use Rattle.dym_area.specs.Area.{IsLawful, chunk_start, with_taken, with_released, with_written, with_loaded, with_clean, with_used_bytes};
 
-use dym_base::class::{per_area, size_of_class};
+use crate::summary::{WORD_CHUNKS, after_take, summary_of, with_room};
+use dym_base::class::size_of_class;
 use dym_base::limits::{MOST_CHUNKS, SEGMENT_BYTES};
 use dym_bits::Bits;
 use dym_region::Segment;
@@ -17,8 +18,8 @@ pub struct Area<G: Segment> {
     ordinal: u32,
     used: Bits,
     dirty: Bits,
-    /// Every chunk below this one is used.
-    full_below: u32,
+    /// Bit `q` is set where one of the chunks from `64 * q` to `64 * q + 63` is unused.
+    room: u32,
     segment: G,
 }
 
@@ -29,7 +30,7 @@ impl<G: Segment> Model for Area<G> {
 
     ghost view = { λ a. record { exponent = a.exp; ordinal = a.ordinal; used = a.used; dirty = a.dirty; content = G.content a.segment; identity = G.id a.segment } };
 
-    ghost invariant = { λ a. IsKept (record { exponent = a.exp; ordinal = a.ordinal; used = a.used; dirty = a.dirty; content = G.content a.segment; identity = G.id a.segment }) a.full_below };
+    ghost invariant = { λ a. IsKept (record { exponent = a.exp; ordinal = a.ordinal; used = a.used; dirty = a.dirty; content = G.content a.segment; identity = G.id a.segment }) a.room };
 }
 
 impl<G: Segment> Area<G> {
@@ -41,12 +42,14 @@ impl<G: Segment> Area<G> {
         ensures lawful { IsLawful result }
         ensures none { (i : ℕ) → IsClear result.used i }
     {
+        let used = Bits::new();
+        let room = summary_of(&used, exp);
         Area {
             exp,
             ordinal,
-            used: Bits::new(),
+            used,
             dirty: Bits::new(),
-            full_below: 0,
+            room,
             segment: seg,
         }
     }
@@ -75,23 +78,20 @@ impl<G: Segment> Area<G> {
         let size = size_of_class(self.exp);
         self.used.set(i);
         self.dirty.set(i);
-        self.full_below = i + 1;
+        self.room = after_take(self.room, &self.used, self.exp, i);
         self.segment.zero(i * size, size);
         Some(i)
     }
 
-    /// The least unused chunk, and None where all are used. The search begins where chunks may be unused.
+    /// The least unused chunk, and None where all are used. The summary names the word where it is found.
     fn first_free(&self) -> Option<u32>
         ensures { MatchOption result ((k : ℕ) → k < per self.now.exponent → IsSet self.now.used k) (IsFirstClear self.now.used (per self.now.exponent)) }
     {
-        let Some(i) = self.used.next_clear(self.full_below) else {
+        if self.room == 0 {
             return None;
-        };
-        if i < per_area(self.exp) {
-            Some(i)
-        } else {
-            None
         }
+        let first = self.room.trailing_zeros() * WORD_CHUNKS;
+        self.used.next_clear_in_word(first)
     }
 
     /// Gives up a used chunk: it is neither used nor dirty. Its bytes stay.
@@ -102,7 +102,7 @@ impl<G: Segment> Area<G> {
     {
         self.used.clear(i);
         self.dirty.clear(i);
-        self.full_below = self.full_below.min(i);
+        self.room = with_room(self.room, i);
     }
 
     /// Writes the bytes into a used chunk, from its place `at` on, and marks it dirty. An empty write changes nothing.
@@ -194,7 +194,7 @@ impl<G: Segment> Area<G> {
     pub fn is_full(&self) -> bool
         ensures { IsTrue result ↔ ((i : ℕ) → i < per self.now.exponent → IsSet self.now.used i) }
     {
-        self.first_free().is_none()
+        self.room == 0
     }
 
     /// The greatest used index, and None where no chunk is used.
@@ -244,7 +244,7 @@ impl<G: Segment> Area<G> {
     {
         self.used.set_bytes(use_bytes);
         self.dirty = Bits::new();
-        self.full_below = 0;
+        self.room = summary_of(&self.used, self.exp);
     }
 
     /// The segment, with the bytes as they stand.
@@ -257,7 +257,7 @@ impl<G: Segment> Area<G> {
             ordinal: _,
             used: _,
             dirty: _,
-            full_below: _,
+            room: _,
             segment,
         } = self;
         segment

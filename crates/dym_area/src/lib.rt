@@ -9,5 +9,6 @@
 #![tactic(auto)]
 
 mod chunks;
+mod summary;
 
 pub use chunks::Area;

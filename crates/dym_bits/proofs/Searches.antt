@@ -5,7 +5,7 @@ use Rattle.std.proofs.lemmas.List.{get_or_past}
 use Rattle.std.proofs.lemmas.Nat.{div-add-mod', div_below, le-div, pow_pos}
 use Rattle.std.proofs.lemmas.Nat.Bits.{bit_at_and, bit_at-lt, bit_at_mask_inside, bit_at_mask_below, bit_at-trailing_ones, bit_at-trailing_zeros, bit_at_ones, bit_at_above, bit_at_not, ones_shl, bit_at-zero}
 use Rattle.std.proofs.lemmas.Bool.{cases_eq, cases_lt, cases_order}
-use Rattle.dym_bits.specs.Bits.{digit, bits_of, IsFirstClear, IsNextSet, IsNextClear, IsTopSet}
+use Rattle.dym_bits.specs.Bits.{digit, bits_of, IsFirstClear, IsNextSet, IsNextClear, IsNextClearInWord, IsTopSet}
 use Rattle.dym_bits.proofs.BitmapLemmas.{digit_is_set, digit_is_clear, length-bits_of, get_or-bits_of, get_or-bits_of_at}
 use Rattle.std.proofs.Math.Nat.{pos_of_ne-zero, pow-suc}
 
@@ -127,14 +127,15 @@ next_set_in_word ns from q within later rest none some fits =
           ]);
     }
 
-pub none_set_from : (ns : List ℕ) (from : ℕ) → bit_and (get_or ns (from / 64) 0) ((2 ^ 64 - 1) * 2 ^ (from % 64) % 2 ^ 64) ≡ 0 → ((p : ℕ) → from / 64 < p → p < length ns → get_or ns p 0 ≡ 0) → (i : ℕ) → from ≤ i → get_or (bits_of 64 ns) i false ≡ false
-none_set_from ns from rest none i at_least =
-    elim (cases_lt i (length ns * 64)) [
+-- no bit is set in the words up to the one before `last`, nor from `limit` on
+pub none_set_within : (ns : List ℕ) (from limit last : ℕ) → limit ≤ length ns * 64 → limit ≤ last * 64 → bit_and (get_or ns (from / 64) 0) ((2 ^ 64 - 1) * 2 ^ (from % 64) % 2 ^ 64) ≡ 0 → ((p : ℕ) → from / 64 < p → p < last → get_or ns p 0 ≡ 0) → ((i : ℕ) → limit ≤ i → get_or (bits_of 64 ns) i false ≡ false) → (i : ℕ) → from ≤ i → get_or (bits_of 64 ns) i false ≡ false
+none_set_within ns from limit last within reached rest none clear i at_least =
+    elim (cases_lt i limit) [
       | inl below ↦
-          clear_before_word ns from (length ns * 64) (omega arith) rest
+          clear_before_word ns from limit within rest
           (λ p j short after before. digit_of_zero (get_or ns p 0) j (none p after (omega arith)))
           i at_least below
-      | inr past ↦ clear_past ns i past
+      | inr past ↦ clear i past
     ]
 
 -- ---- the next clear bit
@@ -172,6 +173,21 @@ next_clear_in_rest ns from within word some fits =
           ap (λ m. digit (get_or ns m 0) j) same
           ∙ set_of_turned n a j word after short (found.2 j (omega arith)));
     }
+
+-- the same in the word where `from` lies
+pub next_clear_here : (ns : List ℕ) (from : ℕ) → from < length ns * 64 → get_or ns (from / 64) 0 < 2 ^ 64 → (let rest = bit_and (bit_not w64 (get_or ns (from / 64) 0)) ((2 ^ 64 - 1) * 2 ^ (from % 64) % 2 ^ 64) in (rest ≡ 0 → ⊥) → rest < 2 ^ 64 → IsNextClearInWord (bits_of 64 ns) from (from / 64 * 64 + trailing_zeros w64 rest))
+next_clear_here ns from within word some fits =
+    let rest = bit_and (bit_not w64 (get_or ns (from / 64) 0)) ((2 ^ 64 - 1) * 2 ^ (from % 64) % 2 ^ 64) in
+    let found = bit_at-trailing_zeros w64 rest (pos_of_ne-zero some) fits in
+    let inside : trailing_zeros w64 rest < 64 = found.0 in
+    record { next = next_clear_in_rest ns from within word some fits; word = omega arith }
+
+-- the bits of the word where `from` lies are set from there on
+pub set_here : (ns : List ℕ) (from : ℕ) → from < length ns * 64 → get_or ns (from / 64) 0 < 2 ^ 64 → bit_and (bit_not w64 (get_or ns (from / 64) 0)) ((2 ^ 64 - 1) * 2 ^ (from % 64) % 2 ^ 64) ≡ 0 → (i : ℕ) → from ≤ i → i / 64 ≡ from / 64 → get_or (bits_of 64 ns) i false ≡ true
+set_here ns from within word rest i at_least same =
+    get_or-bits_of_at 64 ns i (omega arith) (omega (arith, div-add-mod' i 64, div-add-mod' from 64))
+    ∙ ap (λ m. digit (get_or ns m 0) (i % 64)) same
+    ∙ set_of_turned (get_or ns (from / 64) 0) (from % 64) (i % 64) word (omega (arith, div-add-mod' i 64, div-add-mod' from 64)) (omega arith) (ap (λ m. bit_at m (i % 64)) rest ∙ bit_at-zero (i % 64))
 
 -- the words between are full
 set_before_word : (ns : List ℕ) (from to : ℕ) → to ≤ length ns * 64 → get_or ns (from / 64) 0 < 2 ^ 64 → bit_and (bit_not w64 (get_or ns (from / 64) 0)) ((2 ^ 64 - 1) * 2 ^ (from % 64) % 2 ^ 64) ≡ 0 → ((q r : ℕ) → r < 64 → from / 64 < q → q * 64 + r < to → digit (get_or ns q 0) r ≡ true) → (i : ℕ) → from ≤ i → i < to → get_or (bits_of 64 ns) i false ≡ true

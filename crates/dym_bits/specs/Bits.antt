@@ -1,5 +1,5 @@
 -- Numbers and bytes read as bits, and what the searches of a bitmap find.
-use Rattle.std.specs.Prelude.{◌≡◌, ℕ, ◌<◌, ◌≤◌, Bool, true, false, ◌==◌, List, length, map, replicate, slice_index_or, count_by, flat_map}
+use Rattle.std.specs.Prelude.{◌≡◌, ℕ, ◌/◌, ◌<◌, ◌≤◌, Bool, true, false, ◌==◌, List, length, map, replicate, slice_index_or, count_by, flat_map}
 use Rattle.std.specs.List.{range_with_len}
 use Rattle.std.specs.Int.{bit_at}
 use Rattle.dym_base.specs.Packed.{bitmap_byte}
@@ -68,6 +68,11 @@ pub record IsNextClear (bits : List Bool) (from i : ℕ) : Type 0 where
   pub at_least : from ≤ i
   pub is_clear : IsClear bits i
   pub least : (k : ℕ) → from ≤ k → k < i → IsSet bits k
+
+-- and i is in the same word of 64 bits
+pub record IsNextClearInWord (bits : List Bool) (from i : ℕ) : Type 0 where
+  pub next : IsNextClear bits from i
+  pub word : i / 64 ≡ from / 64
 
 -- i is the greatest set index
 pub record IsTopSet (bits : List Bool) (i : ℕ) : Type 0 where

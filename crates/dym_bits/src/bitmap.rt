@@ -2,9 +2,10 @@
 
 ghost use Rattle.std.specs.Prelude.{◌≡◌, ℕ, ◌+◌, ◌-◌, ◌*◌, ◌/◌, ◌<◌, ◌≤◌, max, true, false, ◌++◌, length, take, drop, slice_set, MatchOption};
 ghost use Rattle.dym_base.specs.Packed.{bitmap, bitmap_byte};
-ghost use Rattle.dym_bits.specs.Bits.{digits, bit_in, bits_of_bytes, bytes_of_bits, clear_bits, set_count, IsSet, IsClear, IsFirstClear, IsNextSet, IsNextClear, IsTopSet};
+ghost use Rattle.dym_bits.specs.Bits.{digits, bit_in, bits_of_bytes, bytes_of_bits, clear_bits, set_count, IsSet, IsClear, IsFirstClear, IsNextSet, IsNextClear, IsNextClearInWord, IsTopSet};
 
 use crate::bytes::{BITMAP_BYTES, WORD_BITS, WORDS, bytes_fit, bytes_of, padded, word_at};
+use crate::scan::next_set_in;
 use dym_base::limits::MOST_CHUNKS;
 use std::marker::Model;
 
@@ -113,22 +114,17 @@ impl Bits {
         requires { from ≤ MOST_CHUNKS }
         ensures { MatchOption result ((k : ℕ) → from ≤ k → IsClear self.now k) (λ i. IsNextSet self.now from i) }
     {
-        let words = &self.words;
-        if from == MOST_CHUNKS {
-            return None;
-        }
-        let first = from / WORD_BITS;
-        let rest = words[first as usize] & (u64::MAX << (from % WORD_BITS));
-        if rest != 0 {
-            return Some(first * WORD_BITS + rest.trailing_zeros());
-        }
-        for q in first + 1..WORDS as u32 {
-            let word = words[q as usize];
-            if word != 0 {
-                return Some(q * WORD_BITS + word.trailing_zeros());
-            }
-        }
-        None
+        next_set_in(&self.words, from, MOST_CHUNKS)
+    }
+
+    /// The same where no bit from `limit` on is set: the words past it aren't read.
+    pub fn next_set_within(&self, from: u32, limit: u32) -> Option<u32>
+        requires within { from ≤ limit }
+        requires limit { limit ≤ MOST_CHUNKS }
+        requires clear { (k : ℕ) → limit ≤ k → IsClear self.now k }
+        ensures { MatchOption result ((k : ℕ) → from ≤ k → IsClear self.now k) (λ i. IsNextSet self.now from i) }
+    {
+        next_set_in(&self.words, from, limit)
     }
 
     /// The least clear index that is at least `from`, and None where all bits from there on are set.
@@ -152,6 +148,19 @@ impl Bits {
             }
         }
         None
+    }
+
+    /// The least clear index that is at least `from` and lies in the same word of 64 bits, and None where there is none.
+    pub fn next_clear_in_word(&self, from: u32) -> Option<u32>
+        requires { from < MOST_CHUNKS }
+        ensures { MatchOption result ((k : ℕ) → from ≤ k → k / 64 ≡ from / 64 → IsSet self.now k) (λ i. IsNextClearInWord self.now from i) }
+    {
+        let first = from / WORD_BITS;
+        let rest = !self.words[first as usize] & (u64::MAX << (from % WORD_BITS));
+        if rest == 0 {
+            return None;
+        }
+        Some(first * WORD_BITS + rest.trailing_zeros())
     }
 
     /// The first index after the run of set bits that begins at `first`.
@@ -246,6 +255,8 @@ mod tests {
             }
             assert_eq!(rt; bits.count(), 2);
             assert_eq!(rt; bits.first_clear(MOST_CHUNKS), clear);
+            let after = if low == 63 { None } else { Some(63) };
+            assert_eq!(rt; bits.next_clear_in_word(63), after);
             assert_eq!(rt; bits.next_set(64), next);
             assert_eq!(rt; bits.next_set(MOST_CHUNKS), None);
             assert_eq!(rt; bits.top_set(), top);

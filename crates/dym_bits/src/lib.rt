@@ -9,6 +9,7 @@
 
 mod bitmap;
 mod bytes;
+mod scan;
 
 pub use bitmap::Bits;
 pub use bytes::BITMAP_BYTES;

@@ -3,6 +3,7 @@ ghost use Rattle.std.specs.Prelude.{◌≤◌};
 ghost use Rattle.dym_area.specs.Area.{IsLawful};
 
 use super::*;
+use dym_base::class::per_area;
 use dym_region::VecSegment;
 use std::process::Abort;
 use std::test::Fail;

@@ -3,7 +3,7 @@ use Rattle.dym_base.specs.Numbers.{size, per}
 use Rattle.dym_area.specs.Area.{AreaMeaning}
 use Rattle.dym_bits.specs.Bits.{IsSet}
 use Rattle.dym_area.proofs.Classes.{per_small, chunk_fits}
-use Rattle.dym_area.proofs.Taken.{set_below}
+use Rattle.dym_area.proofs.Taken.{set_below, used_below_taken, dirty_used_taken}
 use Rattle.dym_area.proofs.chunks.Area.take_first.Goals as goal
 
 pub set-requires : goal.set-requires
@@ -30,15 +30,40 @@ zero-requires g c =
     let within : c.in_ok-i.i < per c.self.inside.exp = omega (arith, same, c.in_ok-i.ensures.below) in
     omega (arith, chunk_fits c.self.inside.exp c.in_ok-i.i c.self.invariant.lawful.greatest within)
 
-pub invariant_of-self : goal.invariant_of-self
-invariant_of-self g c =
+pub after_take-self-inside-requires-clause-within : goal.after_take-self-inside-requires-clause-within
+after_take-self-inside-requires-clause-within g c =
+    let same : per c.self.inside.exp ≡ per c.args.self.now.exponent = ap (λ (a : AreaMeaning). per a.exponent) c.self.view_is in
+    omega (arith, same, per_small c.self.inside.exp c.self.invariant.lawful.least, c.in_ok-i.ensures.below)
+
+pub after_take-self-inside-requires-clause-below : goal.after_take-self-inside-requires-clause-below
+after_take-self-inside-requires-clause-below g c k most =
     let i = c.in_ok-i.i in
     let below : (k : ℕ) → k < i → IsSet c.self.inside.used k = λ k lt. subst (λ (a : AreaMeaning). IsSet a.used k) (sym c.self.view_is) (c.in_ok-i.ensures.least k lt) in
     let same : per c.self.inside.exp ≡ per c.args.self.now.exponent = ap (λ (a : AreaMeaning). per a.exponent) c.self.view_is in
-    let small = per_small c.self.inside.exp c.self.invariant.lawful.least in
-    let within : i < length c.self.inside.used = omega (arith, same, small, c.in_ok-i.ensures.below, c.self.invariant.lawful.used_len) in
+    let within : i < length c.self.inside.used = omega (arith, same, per_small c.self.inside.exp c.self.invariant.lawful.least, c.in_ok-i.ensures.below, c.self.invariant.lawful.used_len) in
+    subst (λ bits. IsSet bits k) (sym c.set.ensures.after) (set_below c.self.inside.used i within below k (omega (arith, most)))
+
+pub invariant_of-self : goal.invariant_of-self
+invariant_of-self g c =
+    let i = c.in_ok-i.i in
+    let same : per c.self.inside.exp ≡ per c.args.self.now.exponent = ap (λ (a : AreaMeaning). per a.exponent) c.self.view_is in
+    let within : i < per c.self.inside.exp = omega (arith, same, c.in_ok-i.ensures.below) in
+    let there : i < length c.self.inside.used = omega (arith, within, per_small c.self.inside.exp c.self.invariant.lawful.least, c.self.invariant.lawful.used_len) in
     record {
-      lawful = search rules;
-      full = λ k under. subst (λ bits. IsSet bits k) (sym c.set.ensures.after) (set_below c.self.inside.used i within below k under);
-      within = omega (arith, same, small, c.in_ok-i.ensures.below);
+      lawful = record {
+        least = c.self.invariant.lawful.least;
+        greatest = c.self.invariant.lawful.greatest;
+        used_len = c.set.ensures.len;
+        dirty_len = c.set-2.ensures.len;
+        used_below = λ k set. used_below_taken c.self.inside.used (per c.self.inside.exp) i within c.self.invariant.lawful.used_below k (subst (λ bits. IsSet bits k) c.set.ensures.after set);
+        dirty_used = λ k set.
+            subst (λ bits. IsSet bits k) (sym c.set.ensures.after)
+            (dirty_used_taken c.self.inside.used c.self.inside.dirty i there c.self.invariant.lawful.dirty_used k (subst (λ bits. IsSet bits k) c.set-2.ensures.after set));
+        content_len = search rules;
+      };
+      summed = c.after_take-self-inside.ensures;
+      fits = search rules;
     }
+
+pub returns-clause-lawful : goal.returns-clause-lawful
+returns-clause-lawful g c = (invariant_of-self g c).lawful

@@ -1,0 +1,31 @@
+//! Searches in the words of a bitmap.
+
+ghost use Rattle.std.specs.Prelude.{◌≡◌, ℕ, ◌≤◌, MatchOption};
+ghost use Rattle.dym_bits.specs.Bits.{bits_of, IsClear, IsNextSet};
+
+use crate::bytes::{WORD_BITS, WORDS};
+use dym_base::limits::MOST_CHUNKS;
+
+/// The least set index that is at least `from`, where no bit from `limit` on is set.
+pub(crate) fn next_set_in(words: &[u64; WORDS], from: u32, limit: u32) -> Option<u32>
+    requires within { from ≤ limit }
+    requires limit { limit ≤ MOST_CHUNKS }
+    requires clear { (k : ℕ) → limit ≤ k → IsClear (bits_of 64 words.now) k }
+    ensures { MatchOption result ((k : ℕ) → from ≤ k → IsClear (bits_of 64 words.now) k) (λ i. IsNextSet (bits_of 64 words.now) from i) }
+{
+    if from == limit {
+        return None;
+    }
+    let first = from / WORD_BITS;
+    let rest = words[first as usize] & (u64::MAX << (from % WORD_BITS));
+    if rest != 0 {
+        return Some(first * WORD_BITS + rest.trailing_zeros());
+    }
+    for q in first + 1..limit.div_ceil(WORD_BITS) {
+        let word = words[q as usize];
+        if word != 0 {
+            return Some(q * WORD_BITS + word.trailing_zeros());
+        }
+    }
+    None
+}
