@@ -174,6 +174,12 @@ count_is log k bits told =
     ∙ ap length (append-nil (filter p (range_with_len 0 (n - 0))))
     ∙ ap length (filter_same p (packs_at log k) (n - 0) 0 (λ j l h. told j ∙ ap (λ t. t && packs_at log k j) (lt-ltb j n (omega arith))))
 
+-- the bits of an area's chunks count what is packed, whatever bits stand past them
+pub count_of_area_is : (log : Logged) (k : ℕ) (bits : List Bool) → Tells log k bits → (n : ℕ) → n ≡ chunks_of log.copy k → count_by (λ b. b) (take n bits) ≡ length (packed_from log k 0)
+count_of_area_is log k bits told n all =
+    ap (λ m. count_by (λ b. b) (take m bits)) {x = n} {y = chunks_of log.copy k - 0} (omega (arith, all))
+    ∙ count_below_is log k bits told (chunks_of log.copy k - 0) (omega arith)
+
 -- ---- the length of a body in version 2
 
 pub two_len : (bytes : List ℕ) → length (packed_chunk Two bytes) ≡ 4 + length bytes

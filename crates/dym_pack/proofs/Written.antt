@@ -1,21 +1,6 @@
--- Lists after a write to a part of them, and lists that are appended to.
-use Rattle.std.proofs.Common.{◌≡◌, ℕ, ◌+◌, ◌<◌, ◌≤◌, List, [], ◌∷◌, ◌++◌, cond, Result, Ok, Err, is_ok, OnOk, length, take, drop, set, sym, ◌∙◌, ap, arith}
-use Rattle.std.proofs.lemmas.List.{length-append, append-nil, append_assoc, length-take-le, take_more_set, length-set, length-drop}
-use Rattle.std.proofs.lemmas.Slice.{take-put_mid}
-use borrow.Rule.Slice.PartMut.{put_mid}
-
--- a first byte, and bytes after it
-pub take_first_put : (k y : ℕ) (xs ys : List ℕ) (n : ℕ) → 0 < length xs → n ≡ 1 + length ys → take n (put_mid 1 k (set xs 0 y) ys) ≡ y ∷ ys
-take_first_put k y xs ys n some all =
-    take-put_mid 1 k (set xs 0 y) ys n all (omega (arith, length-set xs 0 y)) ∙ ap (λ front. front ++ ys) (take_more_set xs 0 y some)
-
-pub put_room : (at k n : ℕ) (out new : List ℕ) → at ≤ length out → n ≤ length new → at + n ≤ length (put_mid at k out new)
-put_room at k n out new within short =
-    omega (arith, length-append (take at out) (new ++ drop k (drop at out)), length-append new (drop k (drop at out)), length-take-le at out within)
-
-pub put_len : (at k : ℕ) (out new : List ℕ) → at + k ≤ length out → length new ≡ k → length (put_mid at k out new) ≡ length out
-put_len at k out new within long =
-    omega (arith, length-append (take at out) (new ++ drop k (drop at out)), length-append new (drop k (drop at out)), length-take-le at out (omega arith), length-drop k (drop at out), length-drop at out)
+-- Lists that are appended to.
+use Rattle.std.proofs.Common.{◌≡◌, ℕ, List, [], ◌++◌, cond, Result, Ok, Err, is_ok, OnOk, sym, ◌∙◌, ap}
+use Rattle.std.proofs.lemmas.List.{append-nil, append_assoc}
 
 -- what follows from a fact of an answer that is Ok
 pub on_ok : {T E : Type 0} (r : Result T E) (P Q : Type 0) → (P → Q) → OnOk r P → OnOk r Q

@@ -12,7 +12,7 @@ ghost use Rattle.dym_pack.specs.Places.{area_bytes, area_head};
 use crate::areas::Areas;
 use crate::layout::{NAME_BYTES, map_bytes, name_of};
 use crate::walk::LENGTH_BYTES;
-use dym_base::{Kind, Version, size_of_class};
+use dym_base::{Kind, Version, per_area, size_of_class};
 use dym_bits::Bits;
 use std::alloc::AllocError;
 
@@ -25,6 +25,14 @@ fn bits_to_pack<A: Areas>(areas: &A, kind: Kind, k: u32) -> &Bits
         Kind::Full => areas.used_bits(k),
         Kind::Inc => areas.dirty_bits(k),
     }
+}
+
+/// How many chunks an area has.
+fn chunk_count<A: Areas>(areas: &A, k: u32) -> u32
+    requires { k < held (A.meaning areas.now).live }
+    ensures { result ≡ chunks_of (A.meaning areas.now).live k }
+{
+    per_area(areas.area_exp(k))
 }
 
 /// How many bytes an area takes.
@@ -62,7 +70,7 @@ fn body_len<A: Areas>(areas: &A, kind: Kind, k: u32, exp: u8) -> u32
 {
     let bits = bits_to_pack(areas, kind, k);
     match areas.version() {
-        Version::One => bits.count() * size_of_class(exp),
+        Version::One => bits.count_below(per_area(exp)) * size_of_class(exp),
         Version::Two => chunks_len(areas, kind, k, bits),
     }
 }
@@ -75,9 +83,10 @@ fn chunks_len<A: Areas>(areas: &A, kind: Kind, k: u32, bits: &Bits) -> u32
     requires bits { (i : ℕ) → bit_in bits.now i ≡ (nat_lt i (chunks_of (A.meaning areas.now).live k) && packs_at (logged (A.meaning areas.now) kind 0) k i) }
     ensures { result ≡ length (body_from (logged (A.meaning areas.now) kind 0) k 0) }
 {
+    let chunks = chunk_count(areas, k);
     let mut len = 0;
     let mut from = 0;
-    while let Some(i) = bits.next_set(from) {
+    while let Some(i) = bits.next_set_within(from, chunks) {
         len += LENGTH_BYTES as u32 + areas.chunk_len(k, i);
         from = i + 1;
     }
@@ -149,8 +158,9 @@ fn put_runs<A: Areas>(
     requires bits { (i : ℕ) → bit_in bits.now i ≡ (nat_lt i (chunks_of (A.meaning areas.now).live k) && packs_at (logged (A.meaning areas.now) kind 0) k i) }
     ensures { OnOk result (out.new.items ≡ out.old.items ++ body_from (logged (A.meaning areas.now) kind 0) k 0) }
 {
+    let chunks = chunk_count(areas, k);
     let mut from = 0;
-    while let Some(first) = bits.next_set(from) {
+    while let Some(first) = bits.next_set_within(from, chunks) {
         let end = bits.run_end(first);
         out.extend_from_slice(areas.run_bytes(k, first, end - first))?;
         from = end;
@@ -172,8 +182,9 @@ fn put_chunks<A: Areas>(
     requires bits { (i : ℕ) → bit_in bits.now i ≡ (nat_lt i (chunks_of (A.meaning areas.now).live k) && packs_at (logged (A.meaning areas.now) kind 0) k i) }
     ensures { OnOk result (out.new.items ≡ out.old.items ++ body_from (logged (A.meaning areas.now) kind 0) k 0) }
 {
+    let chunks = chunk_count(areas, k);
     let mut from = 0;
-    while let Some(i) = bits.next_set(from) {
+    while let Some(i) = bits.next_set_within(from, chunks) {
         put_chunk(areas.chunk_bytes(k, i), out)?;
         from = i + 1;
     }

@@ -1,5 +1,5 @@
 //! The fixed parts of a record.
-ghost use Rattle.std.specs.Prelude.{◌≡◌, ℕ, ◌==◌, slice_index, ◌+◌, ◌/◌, ◌%◌, ◌<◌, ◌≤◌, ◌∷◌, ◌++◌, max, length, take};
+ghost use Rattle.std.specs.Prelude.{◌≡◌, ℕ, ◌==◌, slice_index, ◌+◌, ◌/◌, ◌%◌, ◌<◌, ◌≤◌, ◌∷◌, ◌++◌, max, length, take, OnOk};
 ghost use Rattle.std.specs.Int.{w32, w64, bit_at, to_le_bytes};
 ghost use Rattle.dym_base.specs.Numbers.{per};
 ghost use Rattle.dym_base.specs.Packed.{kind_byte};
@@ -8,6 +8,7 @@ ghost use Rattle.dym_base.specs.declared.command.Version.{Version};
 ghost use Rattle.dym_base.specs.declared.command.Kind.{Kind};
 
 use dym_base::{Kind, Version, per_area};
+use std::alloc::AllocError;
 
 /// The kind, the time and the number of areas.
 pub(crate) const HEADER_BYTES: usize = 13;
@@ -37,15 +38,19 @@ pub(crate) fn map_bytes(exp: u8) -> u32
     (per_area(exp) / 8).max(1)
 }
 
-/// What stands before the areas.
-pub(crate) fn header_of(version: Version, kind: Kind, time: u64, count: u32) -> [u8; HEADER_BYTES]
-    ensures { result ≡ kind_byte version kind ∷ to_le_bytes w64 time ++ to_le_bytes w32 count }
+/// Appends what stands before the areas.
+pub(crate) fn put_header(
+    version: Version,
+    kind: Kind,
+    time: u64,
+    count: u32,
+    out: &mut Vec<u8>,
+) -> Result<(), AllocError>
+    ensures { OnOk result (out.new.items ≡ out.old.items ++ (kind_byte version kind ∷ to_le_bytes w64 time ++ to_le_bytes w32 count)) }
 {
-    let mut out = [0; HEADER_BYTES];
-    out[0] = byte_of_kind(version, kind);
-    out[1..9].copy_from_slice(&time.to_le_bytes());
-    out[9..HEADER_BYTES].copy_from_slice(&count.to_le_bytes());
-    out
+    out.push(byte_of_kind(version, kind))?;
+    out.extend_from_slice(&time.to_le_bytes())?;
+    out.extend_from_slice(&count.to_le_bytes())
 }
 
 /// The class and the ordinal of an area.

@@ -7,9 +7,10 @@ ghost use Rattle.dym_pack.specs.Places.{area_bytes};
 
 use crate::areas::Areas;
 use crate::areas_out::{area_len, put_area};
-use crate::layout::{HEADER_BYTES, header_of};
+use crate::layout::{HEADER_BYTES, put_header};
 use crate::record::Record;
 use dym_base::Kind;
+use smallvec::SmallVec;
 use std::alloc::{AllocError, Global};
 
 /// The length of the record that packing areas gives, at whatever time.
@@ -31,12 +32,12 @@ pub fn pack<A: Areas>(alloc: Global, areas: &A, kind: Kind, time: u64) -> Result
 {
     let count = areas.area_count();
     let mut bytes = Vec::with_capacity(alloc, packed_len(areas, kind) as usize)?;
-    let mut starts = Vec::with_capacity(alloc, count as usize + 1)?;
-    bytes.extend_from_slice(&header_of(areas.version(), kind, time, count))?;
+    let mut starts = SmallVec::with_capacity(alloc, count as usize + 1)?;
+    put_header(areas.version(), kind, time, count, &mut bytes)?;
     for k in 0..count {
-        starts.push(bytes.len())?;
+        starts.push_reserved(bytes.len());
         put_area(areas, kind, k, &mut bytes)?;
     }
-    starts.push(bytes.len())?;
+    starts.push_reserved(bytes.len());
     Ok(Record { bytes, starts })
 }

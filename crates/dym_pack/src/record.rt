@@ -15,7 +15,11 @@ use crate::layout::{HEADER_BYTES, NAME_BYTES, is_bit, kind_of, map_bytes, versio
 use crate::walk::chunk_after;
 use dym_base::{Kind, Version, size_of_class};
 use dym_bits::Bits;
+use smallvec::SmallVec;
 use std::marker::Model;
+
+/// How many places are kept in the record itself: as many as three areas have, with the end of the last.
+const FEW_STARTS: usize = 4;
 
 /// An area of a record: its class exponent, its ordinal, and how many chunks the record packs for it.
 pub struct AreaHead {
@@ -25,10 +29,12 @@ pub struct AreaHead {
 }
 
 /// A heap at a time, as packed bytes. It shares nothing with the heap that it was packed from. No reader takes memory.
+///
+/// The bytes lie in one allocation, and where each area begins, in the record itself if there are few areas.
 #[derive(Drop)]
 pub struct Record {
     pub(crate) bytes: Vec<u8>,
-    pub(crate) starts: Vec<usize>,
+    pub(crate) starts: SmallVec<usize, FEW_STARTS>,
 }
 
 impl Model for Record {
@@ -217,7 +223,7 @@ impl Record {
         ensures at { OfLog self.now (λ log. result ≡ start_of log k) }
         ensures within { result ≤ length self.now }
     {
-        self.starts[k as usize]
+        self.starts.as_slice()[k as usize]
     }
 
     /// The class exponent of area `k`.

@@ -1,14 +1,24 @@
 use Rattle.std.proofs.Common.{◌+◌, ◌-◌, ◌<◌, length, ap, arith}
-use Rattle.dym_pack.specs.Areas.{logged}
+use Rattle.dym_pack.specs.Areas.{chunks_of, logged}
+use Rattle.dym_pack.specs.Reading.{packs_at}
+use Rattle.dym_pack.proofs.Bitmaps.{clear_past}
 use Rattle.dym_pack.proofs.Named.{few_chunks}
 use Rattle.dym_pack.proofs.Chunks.{next_packed, none_packed, packs_used, chunk_len_most, body_most, step_len_two}
 use Rattle.dym_pack.proofs.Logs.{lent}
 use Rattle.dym_pack.proofs.areas_out.chunks_len.Goals as goal
 
-pub next_set-requires : goal.next_set-requires
-next_set-requires g c =
+pub next_set_within-requires-clause-within : goal.next_set_within-requires-clause-within
+next_set_within-requires-clause-within g c = omega (arith, c.loop-i.invariant.within, c.chunk_count-chunks.ensures)
+
+pub next_set_within-requires-clause-limit : goal.next_set_within-requires-clause-limit
+next_set_within-requires-clause-limit g c =
     let few = few_chunks (g.A.Areas.meaning c.args.areas.now).live c.args.k c.requires.area in
-    omega (arith, c.loop-i.invariant.within)
+    omega (arith, c.chunk_count-chunks.ensures)
+
+pub next_set_within-requires-clause-clear : goal.next_set_within-requires-clause-clear
+next_set_within-requires-clause-clear g c j past =
+    let m = g.A.Areas.meaning c.args.areas.now in
+    clear_past (chunks_of m.live c.args.k) c.args.bits.now (packs_at (logged m c.args.kind 0) c.args.k) c.requires.bits j (omega (arith, c.chunk_count-chunks.ensures))
 
 pub overflow_add-len : goal.overflow_add-len
 overflow_add-len g c =

@@ -1,4 +1,4 @@
-use Rattle.std.proofs.Common.{◌≡◌, map}
+use Rattle.std.proofs.Common.{◌≡◌, ◌+◌, ◌≤◌, map}
 use Rattle.std.specs.List.{range_with_len}
 use Rattle.dym_pack.specs.Areas.{logged}
 use Rattle.dym_pack.specs.Places.{front, start_of}
@@ -8,4 +8,5 @@ abbrev pub invariant-loop-k : goal.invariant-loop-k
 invariant-loop-k g l = record {
   done : l.bytes.items ≡ front (logged (g.A.Areas.meaning l.areas) l.fn.kind l.fn.time) l.k;
   placed : l.starts.items ≡ map (start_of (logged (g.A.Areas.meaning l.areas) l.fn.kind l.fn.time)) (range_with_len 0 l.k);
+  room : l.count + 1 ≤ l.starts.capacity;
 }

@@ -1,23 +1,21 @@
 use Rattle.std.proofs.Common.{length, get_or, ap, sym, ◌∙◌, arith}
-use Rattle.std.proofs.lemmas.List.{get_or_read}
 use Rattle.dym_pack.proofs.Slices.{length_starts, starts_at}
 use Rattle.dym_pack.proofs.Fronts.{start_within}
 use Rattle.dym_pack.proofs.record.Record.start.Goals as goal
 
-pub index-requires : goal.index-requires
-index-requires c =
+pub bounds-as_slice-k : goal.bounds-as_slice-k
+bounds-as_slice-k c =
     let log = c.self.invariant.is.0 in
     let rec = c.self.invariant.is.1 in
     let same = c.self.invariant.is.2 in
     let within = c.requires log rec (same ∙ c.self.view_is) in
-    omega (arith, ap length (c.self.invariant.placed log rec same), length_starts log)
+    omega (arith, ap length (c.self.invariant.placed log rec same), length_starts log, ap length c.as_slice.ensures)
 
 pub returns-clause-at : goal.returns-clause-at
 returns-clause-at c log rec same =
     let within = c.requires log rec same in
     let placed = c.self.invariant.placed log rec (same ∙ sym c.self.view_is) in
-    get_or_read c.self.inside.starts.items c.args.k c.index.result.now (omega (arith, ap length placed, length_starts log)) c.index.ensures 0
-    ∙ ap (λ xs. get_or xs c.args.k 0) placed
+    ap (λ xs. get_or xs c.args.k 0) (c.as_slice.ensures ∙ placed)
     ∙ starts_at log c.args.k within
 
 pub returns-clause-within : goal.returns-clause-within
@@ -27,7 +25,6 @@ returns-clause-within c =
     let same = c.self.invariant.is.2 in
     let within = c.requires log rec (same ∙ c.self.view_is) in
     let placed = c.self.invariant.placed log rec same in
-    let read = get_or_read c.self.inside.starts.items c.args.k c.index.result.now (omega (arith, ap length placed, length_starts log)) c.index.ensures 0
-    ∙ ap (λ xs. get_or xs c.args.k 0) placed
+    let read = ap (λ xs. get_or xs c.args.k 0) (c.as_slice.ensures ∙ placed)
     ∙ starts_at log c.args.k within in
     omega (arith, start_within log c.args.k, ap length (same ∙ c.self.view_is))
