@@ -1,5 +1,5 @@
 -- What the calls of a tidy shelf mean for the maps that it stands for.
-use Rattle.std.proofs.Common.{◌≡◌, ℕ, ◌+◌, ◌-◌, ◌^◌, ◌<◌, ◌≤◌, inl, inr, true, false, is_some, IsSome, Option, Some, None, List, length, get_or, set, refl, sym, ap, subst, ◌∙◌, arith, MatchOption}
+use Rattle.std.proofs.Common.{◌≡◌, ℕ, ◌+◌, ◌-◌, ◌^◌, ◌<◌, ◌≤◌, inl, inr, true, false, is_some, IsSome, Option, Some, None, List, length, get_or, set, refl, sym, ap, subst, ◌∙◌, arith, Bool, MatchBool, MatchOption}
 use Rattle.std.proofs.lemmas.Bool.{cases_eq, cases_lt}
 use Rattle.std.proofs.lemmas.List.{get_or_past}
 use Rattle.std.specs.FinMap.{get}
@@ -69,6 +69,10 @@ pub by_old : (o : Option (List ℕ)) (old : List ℕ) (Q : List ℕ → Type 0) 
 by_old o old Q is q = subst (λ x. MatchOption x ⊥ Q) (sym is) q
 
 -- ---- a chunk is freed
+
+-- what a release tells of a chunk that is in use
+pub was_used : (o : Option (List ℕ)) (b : Bool) (Used Free : Type 0) → b ≡ is_some o → IsSome o → MatchBool b Used Free → Used
+was_used o b Used Free answer used gives = subst (λ a. MatchBool a Used Free) (answer ∙ used) gives
 
 pub record Freed (s t : ShelfMeaning) (e i : ℕ) : Type 0 where
   pub state : state_of t.rows ≡ without_chunk (state_of s.rows) (number e i)

@@ -6,7 +6,7 @@ use Rattle.dym_base.specs.Numbers.{size, per}
 use Rattle.dym_base.specs.HeapStep.{splice, fitted}
 use Rattle.dym_base.specs.declared.command.Version.TheVariants.{Two}
 use Rattle.dym_base.specs.declared.limits.TheConstants.{MOST_CHUNKS}
-use Rattle.dym_bits.specs.Bits.{IsSet, IsClear, IsFirstClear, IsNextSet, IsTopSet}
+use Rattle.dym_bits.specs.Bits.{IsSet, IsClear, IsFirstClear, IsNextSet}
 use Rattle.dym_region.specs.Content.{part_of}
 use Rattle.dym_area.specs.Area.{AreaMeaning, IsLawful, chunk_start, with_taken, with_released, with_written, with_clean}
 use Rattle.dym_heap.specs.Meaning.{IsSizeOf}
@@ -67,10 +67,10 @@ module _ (area : AreaMeaning) (ls : Option (List ℕ)) (p : PlaceMeaning) (v : p
   next_p None from clear = λ i l. free_p i (clear i l)
   next_p (Some i) from next = record { at_least = next.at_least; used = some_p i next.is_set; least = λ k low high. free_p k (next.least k low high) }
 
-  pub empty_p : (o : Option ℕ) → MatchOption o ((i : ℕ) → IsClear area.used i) (IsTopSet area.used)
+  pub empty_p : (o : Option ℕ) → MatchOption o ((i : ℕ) → 0 ≤ i → IsClear area.used i) (IsNextSet area.used 0)
       → MatchBool (is_none o) ((i : ℕ) → get_or p.chunks i None ≡ None) ((i : ℕ) × IsSome (get_or p.chunks i None))
-  empty_p None clear = λ i. free_p i (clear i)
-  empty_p (Some i) top = (i, some_p i top.is_set)
+  empty_p None clear = λ i. free_p i (clear i (omega arith))
+  empty_p (Some i) next = (i, some_p i next.is_set)
 
   pub len_used_p : (i : ℕ) → IsSet area.used i → Some (len_of area.exponent ls i) ≡ option_map length (get_or p.chunks i None)
   len_used_p i h =

@@ -1,5 +1,5 @@
 //! Chunks of a shelf by their handles.
-ghost use Rattle.std.specs.Prelude.{◌≡◌, ℕ, ◌+◌, ◌-◌, ◌≤◌, ◌<◌, true, None, Some, List, length, replicate, Ok, MatchOption, IsSome, option_map};
+ghost use Rattle.std.specs.Prelude.{◌≡◌, ℕ, ◌+◌, ◌-◌, ◌≤◌, ◌<◌, true, None, Some, List, length, replicate, Ok, MatchOption, IsSome, is_some, MatchBool, option_map};
 ghost use Rattle.std.specs.FinMap.{get};
 ghost use Rattle.dym_base.specs.Numbers.{number};
 ghost use Rattle.dym_base.specs.HeapStep.{key, splice, with_chunk, without_chunk, found_at, resize, fitted, held_with_fresh};
@@ -19,6 +19,9 @@ use dym_quota::Supply;
 
 /// The bytes that are copied at a time.
 const BLOCK: usize = 1_024;
+
+/// The bytes of a block for copies that are short.
+const SMALL_BLOCK: usize = 64;
 
 /// A chunk's length in bytes, and None where it isn't live.
 pub(crate) fn len_of_handle<S: Supply>(shelf: &Shelf<S>, h: Handle) -> Option<u32>
@@ -59,8 +62,29 @@ pub(crate) fn free_chunk<S: Supply>(shelf: &mut Shelf<S>, way: &S::Way, exp: u8,
     ensures keeps { Keeps shelf.old shelf.new }
     ensures tidy { IsTidy shelf.new }
 {
-    shelf.release(exp, index);
+    let _used = shelf.release(exp, index);
     shelf.trim(way, exp);
+}
+
+/// Frees a chunk, and gives back the areas that its class needs no more. False where it isn't live, and nothing changes then.
+pub(crate) fn free_handle<S: Supply>(shelf: &mut Shelf<S>, way: &S::Way, h: Handle) -> bool
+    requires tidy { IsTidy shelf.old }
+    ensures live { result ≡ is_some (get (live_of shelf.old.rows) (key h)) }
+    ensures after { MatchBool result (state_of shelf.new.rows ≡ without_chunk (state_of shelf.old.rows) (key h)) (shelf.new ≡ shelf.old) }
+    ensures keeps { Keeps shelf.old shelf.new }
+    ensures tidy { IsTidy shelf.new }
+{
+    if h.exp < LEAST_EXPONENT {
+        return false;
+    }
+    if h.exp > GREATEST_EXPONENT {
+        return false;
+    }
+    if !shelf.release(h.exp, h.index) {
+        return false;
+    }
+    shelf.trim(way, h.exp);
+    true
 }
 
 /// Writes at least one byte into a chunk that is live.
@@ -155,10 +179,30 @@ fn copy_chunk<S: Supply>(shelf: &mut Shelf<S>, from: Handle, to: Handle, len: u3
     ensures copied { Copied shelf.old shelf.new (from.exp - 5) from.index (to.exp - 5) to.index len }
     ensures kept { IsKept shelf.new }
 {
-    let mut block = [0; BLOCK];
+    if len as usize <= SMALL_BLOCK {
+        copy_by(shelf, from, to, len, &mut [0; SMALL_BLOCK]);
+    } else {
+        copy_by(shelf, from, to, len, &mut [0; BLOCK]);
+    }
+}
+
+/// Copies as `copy_chunk` does, as many bytes at a time as the block holds.
+fn copy_by<S: Supply>(shelf: &mut Shelf<S>, from: Handle, to: Handle, len: u32, block: &mut [u8])
+    requires some { 0 < length block.old }
+    requires short { length block.old < 65536 }
+    requires from_class { (5 ≤ from.exp) × (from.exp ≤ 16) }
+    requires to_class { (5 ≤ to.exp) × (to.exp ≤ 16) }
+    requires apart { from.exp ≡ to.exp → ⊥ }
+    requires kept { IsKept shelf.old }
+    requires source { FitsIn (chunk_at shelf.old.rows (from.exp - 5) from.index) len }
+    requires target { FitsIn (chunk_at shelf.old.rows (to.exp - 5) to.index) len }
+    ensures copied { Copied shelf.old shelf.new (from.exp - 5) from.index (to.exp - 5) to.index len }
+    ensures kept { IsKept shelf.new }
+{
+    let size = block.len() as u32;
     let mut done = 0;
     while done < len {
-        let more = (len - done).min(BLOCK as u32);
+        let more = (len - done).min(size);
         let part = &mut block[..more as usize];
         shelf.read(from.exp, from.index, done, part);
         shelf.write(to.exp, to.index, done, part);

@@ -14,7 +14,7 @@ ghost use Rattle.dym_heap.specs.Meaning.{HeapMeaning, IsSound};
 ghost use Rattle.dym_heap.specs.Replies.{step_of, stepped, done_reply, chunk_reply, moved_reply, bytes_reply, found_reply, after_key, IsNextLive};
 
 use crate::chunk::{
-    bytes_of_handle, fill_chunk, find_number, free_chunk, len_of_handle, move_chunk, resize_chunk,
+    bytes_of_handle, fill_chunk, find_number, free_handle, len_of_handle, move_chunk, resize_chunk,
     write_chunk,
 };
 use crate::found::Found;
@@ -209,10 +209,9 @@ impl<S: Supply> Heap<S> {
             let _applied = self.applied;
             return Ok(());
         };
-        if len_of_handle(&self.shelf, h).is_none() {
+        if !free_handle(&mut self.shelf, way, h) {
             return Err(Refusal::Dead);
         }
-        free_chunk(&mut self.shelf, way, h.exp, h.index);
         Ok(())
     }
 

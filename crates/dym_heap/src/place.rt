@@ -25,6 +25,9 @@ use std::marker::Model;
 /// The bytes that `fill` writes at a time.
 const BLOCK: usize = 1_024;
 
+/// The bytes of a block for fills that are short.
+const SMALL_BLOCK: usize = 64;
+
 /// An area, and in version 2 the lengths of its chunks.
 pub(crate) struct Place<G: Segment> {
     area: Area<G>,
@@ -79,11 +82,11 @@ impl<G: Segment> Place<G> {
         self.area.is_full()
     }
 
-    /// Whether no chunk is in use.
+    /// Whether no chunk is in use. The search begins at the front, where chunks are taken first.
     pub(crate) fn is_empty(&self) -> bool
         ensures { MatchBool result ((i : ℕ) → slice_index_or self.now.chunks i None ≡ None) ((i : ℕ) × IsSome (slice_index_or self.now.chunks i None)) }
     {
-        self.area.top().is_none()
+        self.area.next_used(0).is_none()
     }
 
     /// The least index from `from` on of a chunk in use.
@@ -222,7 +225,11 @@ impl<G: Segment> Place<G> {
         ensures filled { MatchOption (slice_index_or self.old.chunks i None) ⊥ (λ old. self.new ≡ place_put self.old i (Some (splice at (replicate len byte) old)) true) }
         ensures lawful { IsPlace self.new }
     {
-        self.repeat(i, at, len, &[byte; BLOCK]);
+        if len as usize <= SMALL_BLOCK {
+            self.repeat(i, at, len, &[byte; SMALL_BLOCK]);
+        } else {
+            self.repeat(i, at, len, &[byte; BLOCK]);
+        }
     }
 
     /// Writes at least one byte, which are those of a block of equal bytes, again and again.

@@ -1,5 +1,5 @@
 //! The areas of a heap, class by class.
-ghost use Rattle.std.specs.Prelude.{◌≡◌, ℕ, ◌+◌, ◌-◌, ◌*◌, ◌/◌, max, ◌≤◌, ◌<◌, true, false, None, Some, [], List, map, length, take, drop, replicate, slice_index_or, IsSome, MatchBool, MatchOption, OnOk, OnErr, IfOk, IfErr, option_map, vec_len, vec_capacity};
+ghost use Rattle.std.specs.Prelude.{◌≡◌, ℕ, ◌+◌, ◌-◌, ◌*◌, ◌/◌, max, ◌≤◌, ◌<◌, true, false, None, Some, [], List, map, length, take, drop, replicate, slice_index_or, IsSome, MatchBool, MatchOption, OnOk, OnErr, IfOk, IfErr, is_some, option_map, vec_len, vec_capacity};
 ghost use Rattle.dym_base.specs.Numbers.{per};
 ghost use Rattle.dym_base.specs.HeapStep.{splice, fitted};
 ghost use Rattle.dym_base.specs.declared.command.Version.TheVariants.{Two};
@@ -264,21 +264,25 @@ impl<S: Supply> Shelf<S> {
         None
     }
 
-    /// The chunk is free.
-    pub(crate) fn release(&mut self, exp: u8, index: u32)
+    /// The chunk is free from now on. False where it was so already.
+    pub(crate) fn release(&mut self, exp: u8, index: u32) -> bool
         requires least { 5 ≤ exp }
         requires most { exp ≤ 16 }
-        requires used { IsSome (chunk_at self.old.rows (exp - 5) index) }
-        ensures freed { self.new ≡ with_put self.old (exp - 5) index None false }
+        ensures used { result ≡ is_some (chunk_at self.old.rows (exp - 5) index) }
+        ensures freed { MatchBool result (self.new ≡ with_put self.old (exp - 5) index None false) (self.new ≡ self.old) }
         ensures kept { IsKept self.new }
     {
         let Some(spot) = find(&self.starts, exp, index) else {
-            unreachable!();
+            return false;
         };
+        if !self.places[spot.place].is_used(spot.chunk) {
+            return false;
+        }
         let place = &mut self.places[spot.place];
         place.release(spot.chunk);
         let marks = &mut self.full[class_index(exp)];
         marks.clear(spot.ordinal);
+        true
     }
 
     /// Copies the chunk's bytes from place `at` on into `out`.

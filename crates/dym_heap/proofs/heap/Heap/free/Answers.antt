@@ -6,8 +6,8 @@ use Rattle.dym_heap.proofs.heap.Heap.free.Goals as goal
 pub returns-in_default-clause-sound : goal.returns-in_default-clause-sound
 returns-in_default-clause-sound g c = subst IsSound c.self.view_is (sound_of c.self.inside.shelf c.self.inside.applied c.self.invariant)
 
-pub returns-then-is_none-clause-sound : goal.returns-then-is_none-clause-sound
-returns-then-is_none-clause-sound g c = subst IsSound c.self.view_is (sound_of c.self.inside.shelf c.self.inside.applied c.self.invariant)
+pub returns-then-not-free_handle-clause-sound : goal.returns-then-not-free_handle-clause-sound
+returns-then-not-free_handle-clause-sound g c = sound_of c.free_handle.new.shelf c.self.inside.applied c.free_handle.ensures.tidy
 
 pub returns-clause-sound : goal.returns-clause-sound
-returns-clause-sound g c = sound_of c.free_chunk.new.shelf c.self.inside.applied c.free_chunk.ensures.tidy
+returns-clause-sound g c = sound_of c.free_handle.new.shelf c.self.inside.applied c.free_handle.ensures.tidy

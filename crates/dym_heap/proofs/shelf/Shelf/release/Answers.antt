@@ -1,16 +1,36 @@
-use Rattle.std.proofs.Common.{arith, ◌-◌, false, subst, IsSome}
+use Rattle.std.proofs.Common.{arith, ◌-◌, false, subst, sym, ap, is_some, IsSome, ◌∙◌}
 use Rattle.dym_heap.proofs.ShelfCalls as calls
+use Rattle.dym_heap.proofs.ShelfFacts as facts
 use Rattle.dym_heap.proofs.shelf.Shelf.release.Goals as goal
 
-pub unreachable-requires : goal.unreachable-requires
-unreachable-requires g c = calls.not_past _ _ _ _ _ _ _ _ _ _ _ c.self.view_is c.self.invariant c.args.exp c.requires.least c.requires.most c.args.index c.requires.used c.in_default.ensures
+pub returns-in_default-clause-used : goal.returns-in_default-clause-used
+returns-in_default-clause-used g c = sym (ap is_some (calls.past_e _ _ _ _ _ _ _ _ _ _ _ c.self.view_is c.self.invariant c.args.exp c.requires.least c.requires.most c.args.index c.in_default.ensures))
+
+pub returns-in_default-clause-kept : goal.returns-in_default-clause-kept
+returns-in_default-clause-kept g c = facts.kept_s _ _ _ _ _ _ _ _ _ _ _ c.self.view_is c.self.invariant
+
+pub index-requires : goal.index-requires
+index-requires g c =
+    let l = calls.in_e_at _ _ _ _ _ _ _ _ _ _ _ c.self.view_is c.self.invariant c.args.exp c.requires.least c.requires.most c.args.index _ _ _ c.in-Some.ensures in omega arith
+
+pub is_used-requires : goal.is_used-requires
+is_used-requires g c = calls.inside_e _ _ _ _ _ _ _ _ _ _ _ c.self.view_is c.self.invariant c.args.exp c.requires.least c.requires.most _ _ _ (calls.spot_e _ _ _ _ _ _ _ _ _ _ _ c.self.view_is c.self.invariant c.args.exp c.requires.least c.requires.most c.args.index _ _ _ c.in-Some.ensures) _ c.index.ensures
+
+pub returns-then-not-is_used-clause-used : goal.returns-then-not-is_used-clause-used
+returns-then-not-is_used-clause-used g c = c.if-not-is_used.ensures ∙ sym (ap is_some (calls.chunk_i _ _ _ _ _ _ _ _ _ _ _ c.self.view_is c.self.invariant c.args.exp c.requires.least c.requires.most _ _ _ (calls.spot_e _ _ _ _ _ _ _ _ _ _ _ c.self.view_is c.self.invariant c.args.exp c.requires.least c.requires.most c.args.index _ _ _ c.in-Some.ensures) _ c.index.ensures c.args.index (calls.index_e _ _ _ _ _ _ _ _ _ _ _ c.self.view_is c.self.invariant c.args.exp c.requires.least c.requires.most c.args.index _ _ _ c.in-Some.ensures)))
+
+pub returns-then-not-is_used-clause-kept : goal.returns-then-not-is_used-clause-kept
+returns-then-not-is_used-clause-kept g c = facts.kept_s _ _ _ _ _ _ _ _ _ _ _ c.self.view_is c.self.invariant
+
+pub returns-clause-used : goal.returns-clause-used
+returns-clause-used g c = c.if-not-is_used.ensures ∙ sym (ap is_some (calls.chunk_i _ _ _ _ _ _ _ _ _ _ _ c.self.view_is c.self.invariant c.args.exp c.requires.least c.requires.most _ _ _ (calls.spot_e _ _ _ _ _ _ _ _ _ _ _ c.self.view_is c.self.invariant c.args.exp c.requires.least c.requires.most c.args.index _ _ _ c.in-Some.ensures) _ c.index.ensures c.args.index (calls.index_e _ _ _ _ _ _ _ _ _ _ _ c.self.view_is c.self.invariant c.args.exp c.requires.least c.requires.most c.args.index _ _ _ c.in-Some.ensures)))
 
 pub index_mut-place-requires : goal.index_mut-place-requires
 index_mut-place-requires g c =
     let l = calls.in_e_at _ _ _ _ _ _ _ _ _ _ _ c.self.view_is c.self.invariant c.args.exp c.requires.least c.requires.most c.args.index _ _ _ c.in-Some.ensures in omega arith
 
 pub release-requires : goal.release-requires
-release-requires g c = subst IsSome (calls.chunk_i _ _ _ _ _ _ _ _ _ _ _ c.self.view_is c.self.invariant c.args.exp c.requires.least c.requires.most _ _ _ (calls.spot_e _ _ _ _ _ _ _ _ _ _ _ c.self.view_is c.self.invariant c.args.exp c.requires.least c.requires.most c.args.index _ _ _ c.in-Some.ensures) _ c.index_mut-place.ensures.value c.args.index (calls.index_e _ _ _ _ _ _ _ _ _ _ _ c.self.view_is c.self.invariant c.args.exp c.requires.least c.requires.most c.args.index _ _ _ c.in-Some.ensures)) c.requires.used
+release-requires g c = subst IsSome (calls.chunk_i _ _ _ _ _ _ _ _ _ _ _ c.self.view_is c.self.invariant c.args.exp c.requires.least c.requires.most _ _ _ (calls.spot_e _ _ _ _ _ _ _ _ _ _ _ c.self.view_is c.self.invariant c.args.exp c.requires.least c.requires.most c.args.index _ _ _ c.in-Some.ensures) _ c.index_mut-place.ensures.value c.args.index (calls.index_e _ _ _ _ _ _ _ _ _ _ _ c.self.view_is c.self.invariant c.args.exp c.requires.least c.requires.most c.args.index _ _ _ c.in-Some.ensures)) (sym (c.if-not-is_used.ensures ∙ sym (ap is_some (calls.chunk_i _ _ _ _ _ _ _ _ _ _ _ c.self.view_is c.self.invariant c.args.exp c.requires.least c.requires.most _ _ _ (calls.spot_e _ _ _ _ _ _ _ _ _ _ _ c.self.view_is c.self.invariant c.args.exp c.requires.least c.requires.most c.args.index _ _ _ c.in-Some.ensures) _ c.index.ensures c.args.index (calls.index_e _ _ _ _ _ _ _ _ _ _ _ c.self.view_is c.self.invariant c.args.exp c.requires.least c.requires.most c.args.index _ _ _ c.in-Some.ensures)))))
 
 pub clear-requires : goal.clear-requires
 clear-requires g c = calls.few_e _ _ _ _ _ _ _ _ _ _ _ c.self.view_is c.self.invariant c.args.exp c.requires.least c.requires.most _ _ _ (calls.spot_e _ _ _ _ _ _ _ _ _ _ _ c.self.view_is c.self.invariant c.args.exp c.requires.least c.requires.most c.args.index _ _ _ c.in-Some.ensures) _ c.index_mut-place.ensures.value

@@ -3,7 +3,7 @@ use Rattle.std.proofs.lemmas.List.{length-drop}
 use Rattle.dym_heap.specs.Table.{chunk_at}
 use Rattle.dym_heap.specs.Shelves.{FitsIn}
 use Rattle.dym_heap.proofs.Copies.{copy_next, fits_midway}
-use Rattle.dym_heap.proofs.chunk.copy_chunk.Goals as goal
+use Rattle.dym_heap.proofs.chunk.copy_by.Goals as goal
 
 pub write-requires-clause-within : goal.write-requires-clause-within
 write-requires-clause-within g c =
