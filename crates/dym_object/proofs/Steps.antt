@@ -1,5 +1,5 @@
 -- A command to the heap of an object: the step of the object is that of its heap.
-use Rattle.std.proofs.Common.{◌≡◌, ℕ, Result, Ok, Err, OnOk, IfOk, refl, ap, sym, subst, ◌∙◌}
+use Rattle.std.proofs.Common.{◌≡◌, ℕ, Result, Ok, Err, OnOk, refl, ap, sym, subst, ◌∙◌}
 use Rattle.dym_base.specs.HeapStep.{heap_step, IsHeapCommand}
 use Rattle.dym_base.specs.Objects.{ObjectState, ObjectAnswer, of_heap, object_step}
 use Rattle.dym_base.specs.declared.command.Version.{Version}
@@ -84,6 +84,6 @@ refused_too (At t) P Q q p = tt
 refused_too (Dropped n) P Q q p = tt
 refused_too (Slots n m) P Q q p = tt
 
-pub refused_both : {E : Type 0} (r : Result Reply E) (P Q : Type 0) → Q → IfOk r (λ reply. OnRefusal reply P) → IfOk r (λ reply. OnRefusal reply (P × Q))
-refused_both (Ok reply) P Q q p = refused_too reply P Q q p
-refused_both (Err e) P Q q p = tt
+pub refused_both : {T E : Type 0} (r : Result T E) (reply : Reply) (P Q : Type 0) → Q → OnOk r (OnRefusal reply P) → OnOk r (OnRefusal reply (P × Q))
+refused_both (Ok x) reply P Q q p = refused_too reply P Q q p
+refused_both (Err e) reply P Q q p = tt

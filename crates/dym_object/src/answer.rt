@@ -1,5 +1,5 @@
-//! The reply to one command to a heap.
-ghost use Rattle.std.specs.Prelude.{◌≡◌, ℕ, ◌≤◌, OnErr, IfOk, IfErr};
+//! The reply to one command to a heap, written into a place.
+ghost use Rattle.std.specs.Prelude.{◌≡◌, ℕ, ◌≤◌, OnOk, OnErr, IfErr};
 ghost use Rattle.dym_base.specs.HeapStep;
 ghost use Rattle.dym_base.specs.HeapStep.{IsHeapCommand};
 ghost use Rattle.dym_base.specs.declared.command.Command.TheVariants.{Read, Link};
@@ -16,40 +16,44 @@ use std::alloc::{AllocError, Global};
 /// The most bytes that a reply keeps in itself.
 const FEW: u32 = 16;
 
-/// One command to a heap. Only a read that isn't refused takes memory.
+/// Runs one command to a heap, and writes its reply into a place. Only a read that isn't refused takes memory; where that is
+/// wanting the place keeps the reply that it had.
 #[inline(always)]
 pub(crate) fn answer<S: Supply>(
     heap: &mut Heap<S>,
     way: &S::Way,
     alloc: Global,
     command: &Command,
-) -> Result<Reply, AllocError>
+    reply: &mut Reply,
+) -> Result<(), AllocError>
     requires heap_command { IsHeapCommand command.now }
     requires sound { IsSound heap.old }
-    ensures reply { IfOk result (λ r. r ≡ (step_of heap.old command.now).reply) }
+    ensures reply { OnOk result (reply.new ≡ (step_of heap.old command.now).reply) }
     ensures after { heap.new ≡ record (stepped heap.old command.now) { held_ids = heap.new.held_ids } }
     ensures memory { IfErr result (λ _. TakesMemory command.now (step_of heap.old command.now).reply) }
     ensures unchanged { OnErr result (heap.new ≡ heap.old) }
-    ensures refused { IfOk result (λ r. OnRefusal r (heap.new ≡ heap.old)) }
+    ensures kept { OnErr result (reply.new ≡ reply.old) }
+    ensures refused { OnOk result (OnRefusal reply.new (heap.new ≡ heap.old)) }
     ensures sound { IsSound heap.new }
 {
     match command {
-        Command::Malloc { len } => Ok(of_chunk(heap.malloc(way, *len))),
-        Command::Calloc { n, len } => Ok(of_chunk(heap.calloc(way, *n, *len))),
-        Command::Realloc { h, len } => Ok(of_moved(heap.realloc(way, *h, *len))),
-        Command::Free { h } => Ok(of_done(heap.free(way, *h))),
-        Command::Write { h, at, bytes } => Ok(of_done(heap.write(*h, *at, bytes.bytes()))),
-        Command::Fill { h, at, len, byte } => Ok(of_done(heap.fill(*h, *at, *len, *byte))),
-        Command::Read { h, at, len } => read(heap, alloc, *h, *at, *len),
-        Command::Link { h, at, to } => Ok(link(heap, *h, *at, *to)),
-        Command::Follow { h, at } => Ok(of_found(heap.follow(*h, *at))),
-        Command::Sum { h } => Ok(of_total(sum_chunk(heap, *h))),
+        Command::Malloc { len } => put_chunk(heap.malloc(way, *len), reply),
+        Command::Calloc { n, len } => put_chunk(heap.calloc(way, *n, *len), reply),
+        Command::Realloc { h, len } => put_moved(heap.realloc(way, *h, *len), reply),
+        Command::Free { h } => put_done(heap.free(way, *h), reply),
+        Command::Write { h, at, bytes } => put_done(heap.write(*h, *at, bytes.bytes()), reply),
+        Command::Fill { h, at, len, byte } => put_done(heap.fill(*h, *at, *len, *byte), reply),
+        Command::Read { h, at, len } => return read(heap, alloc, *h, *at, *len, reply),
+        Command::Link { h, at, to } => link(heap, *h, *at, *to, reply),
+        Command::Follow { h, at } => put_found(heap.follow(*h, *at), reply),
+        Command::Sum { h } => put_total(sum_chunk(heap, *h), reply),
         Command::Log { .. }
         | Command::Ilog { .. }
         | Command::Restore { .. }
         | Command::Prune { .. }
         | Command::Logs => { unreachable!() }
     }
+    Ok(())
 }
 
 /// Reads bytes of a chunk. No memory is taken where the read is refused.
@@ -59,14 +63,16 @@ fn read<S: Supply>(
     h: Handle,
     at: u32,
     len: u32,
-) -> Result<Reply, AllocError>
-    ensures reply { IfOk result (λ r. r ≡ (step_of heap.now (Read h at len)).reply) }
+    reply: &mut Reply,
+) -> Result<(), AllocError>
+    ensures reply { OnOk result (reply.new ≡ (step_of heap.now (Read h at len)).reply) }
     ensures memory { IfErr result (λ _. TakesMemory (Read h at len) (step_of heap.now (Read h at len)).reply) }
+    ensures kept { OnErr result (reply.new ≡ reply.old) }
 {
     if len <= FEW {
-        read_few(heap, alloc, h, at, len)
+        read_few(heap, alloc, h, at, len, reply)
     } else {
-        read_many(heap, alloc, h, at, len)
+        read_many(heap, alloc, h, at, len, reply)
     }
 }
 
@@ -77,18 +83,21 @@ fn read_few<S: Supply>(
     h: Handle,
     at: u32,
     len: u32,
-) -> Result<Reply, AllocError>
+    reply: &mut Reply,
+) -> Result<(), AllocError>
     requires few { len ≤ FEW }
-    ensures reply { IfOk result (λ r. r ≡ (step_of heap.now (Read h at len)).reply) }
+    ensures reply { OnOk result (reply.new ≡ (step_of heap.now (Read h at len)).reply) }
     ensures memory { IfErr result (λ _. TakesMemory (Read h at len) (step_of heap.now (Read h at len)).reply) }
+    ensures kept { OnErr result (reply.new ≡ reply.old) }
 {
     let mut buffer = [0; FEW as usize];
     let bytes = &mut buffer[..len as usize];
     if let Err(why) = heap.read(h, at, bytes) {
-        return Ok(Reply::Refused(why));
+        *reply = Reply::Refused(why);
+        return Ok(());
     }
-    let blob = Blob::new(alloc, bytes)?;
-    Ok(Reply::Bytes(blob))
+    *reply = Reply::Bytes(Blob::new(alloc, bytes)?);
+    Ok(())
 }
 
 /// Reads bytes of a chunk into memory that the reply then owns.
@@ -98,31 +107,36 @@ fn read_many<S: Supply>(
     h: Handle,
     at: u32,
     len: u32,
-) -> Result<Reply, AllocError>
-    ensures reply { IfOk result (λ r. r ≡ (step_of heap.now (Read h at len)).reply) }
+    reply: &mut Reply,
+) -> Result<(), AllocError>
+    ensures reply { OnOk result (reply.new ≡ (step_of heap.now (Read h at len)).reply) }
     ensures memory { IfErr result (λ _. TakesMemory (Read h at len) (step_of heap.now (Read h at len)).reply) }
+    ensures kept { OnErr result (reply.new ≡ reply.old) }
 {
     let Some(size) = heap.size_of(h) else {
-        return Ok(Reply::Refused(Refusal::Dead));
+        *reply = Reply::Refused(Refusal::Dead);
+        return Ok(());
     };
     if u64::from(at) + u64::from(len) > u64::from(size) {
-        return Ok(Reply::Refused(Refusal::Range));
+        *reply = Reply::Refused(Refusal::Range);
+        return Ok(());
     }
     let mut bytes = vec![in alloc; 0; len as usize]?;
     match heap.read(h, at, &mut bytes) {
-        Ok(()) => Ok(Reply::Bytes(Blob::of_vec(bytes))),
-        Err(why) => Ok(Reply::Refused(why)),
+        Ok(()) => *reply = Reply::Bytes(Blob::of_vec(bytes)),
+        Err(why) => *reply = Reply::Refused(why),
     }
+    Ok(())
 }
 
 /// Writes the number of a handle into a chunk, or 0 for nil.
 #[inline(always)]
-fn link<S: Supply>(heap: &mut Heap<S>, h: Handle, at: u32, to: Option<Handle>) -> Reply
-    ensures reply { result ≡ (step_of heap.old (Link h at to)).reply }
+fn link<S: Supply>(heap: &mut Heap<S>, h: Handle, at: u32, to: Option<Handle>, reply: &mut Reply)
+    ensures reply { reply.new ≡ (step_of heap.old (Link h at to)).reply }
     ensures after { heap.new ≡ stepped heap.old (Link h at to) }
     ensures sound { IsSound heap.new }
 {
-    of_done(heap.write(h, at, &link_number(to).to_le_bytes()))
+    put_done(heap.write(h, at, &link_number(to).to_le_bytes()), reply)
 }
 
 /// The number that stands for a handle or nil in a chunk's bytes.
@@ -135,55 +149,60 @@ fn link_number(to: Option<Handle>) -> u64
     }
 }
 
+/// Writes the reply that names a new chunk.
 #[inline(always)]
-fn of_chunk(answer: Result<Handle, Refusal>) -> Reply
-    ensures { result ≡ chunk_reply answer }
+fn put_chunk(answer: Result<Handle, Refusal>, reply: &mut Reply)
+    ensures { reply.new ≡ chunk_reply answer }
 {
     match answer {
-        Ok(h) => Reply::Chunk(h),
-        Err(why) => Reply::Refused(why),
+        Ok(h) => *reply = Reply::Chunk(h),
+        Err(why) => *reply = Reply::Refused(why),
     }
 }
 
+/// Writes the reply that names where a chunk now is, if anywhere.
 #[inline(always)]
-fn of_moved(answer: Result<Option<Handle>, Refusal>) -> Reply
-    ensures { result ≡ moved_reply answer }
+fn put_moved(answer: Result<Option<Handle>, Refusal>, reply: &mut Reply)
+    ensures { reply.new ≡ moved_reply answer }
 {
     match answer {
-        Ok(Some(h)) => Reply::Chunk(h),
-        Ok(None) => Reply::Nil,
-        Err(why) => Reply::Refused(why),
+        Ok(Some(h)) => *reply = Reply::Chunk(h),
+        Ok(None) => *reply = Reply::Nil,
+        Err(why) => *reply = Reply::Refused(why),
     }
 }
 
+/// Writes the reply of a command that has nothing to tell.
 #[inline(always)]
-fn of_done(answer: Result<(), Refusal>) -> Reply
-    ensures { result ≡ done_reply answer }
+fn put_done(answer: Result<(), Refusal>, reply: &mut Reply)
+    ensures { reply.new ≡ done_reply answer }
 {
     match answer {
-        Ok(()) => Reply::Done,
-        Err(why) => Reply::Refused(why),
+        Ok(()) => *reply = Reply::Done,
+        Err(why) => *reply = Reply::Refused(why),
     }
 }
 
+/// Writes the reply that tells which chunk a number stands for.
 #[inline(always)]
-fn of_found(answer: Result<Found, Refusal>) -> Reply
-    ensures { result ≡ found_reply answer }
+fn put_found(answer: Result<Found, Refusal>, reply: &mut Reply)
+    ensures { reply.new ≡ found_reply answer }
 {
     match answer {
-        Ok(Found::Nil) => Reply::Nil,
-        Ok(Found::Live(h)) => Reply::Chunk(h),
-        Ok(Found::Loose(n)) => Reply::Loose(n),
-        Err(why) => Reply::Refused(why),
+        Ok(Found::Nil) => *reply = Reply::Nil,
+        Ok(Found::Live(h)) => *reply = Reply::Chunk(h),
+        Ok(Found::Loose(n)) => *reply = Reply::Loose(n),
+        Err(why) => *reply = Reply::Refused(why),
     }
 }
 
+/// Writes the reply that tells a sum.
 #[inline(always)]
-fn of_total(answer: Result<u64, Refusal>) -> Reply
-    ensures { result ≡ total_reply answer }
+fn put_total(answer: Result<u64, Refusal>, reply: &mut Reply)
+    ensures { reply.new ≡ total_reply answer }
 {
     match answer {
-        Ok(total) => Reply::Total(total),
-        Err(why) => Reply::Refused(why),
+        Ok(total) => *reply = Reply::Total(total),
+        Err(why) => *reply = Reply::Refused(why),
     }
 }

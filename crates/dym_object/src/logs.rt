@@ -1,5 +1,5 @@
-//! The reply to one command to an object: to its logs here, to its heap by `answer`.
-ghost use Rattle.std.specs.Prelude.{◌≡◌, ℕ, ◌+◌, ◌^◌, ◌<◌, ◌≤◌, OnOk, OnErr, IfOk, IfErr};
+//! The reply to one command to an object, written into a place: to its logs here, to its heap by `answer`.
+ghost use Rattle.std.specs.Prelude.{◌≡◌, ℕ, ◌+◌, ◌^◌, ◌<◌, ◌≤◌, OnOk, OnErr, IfErr};
 ghost use Rattle.dym_base.specs.Objects as Objects;
 ghost use Rattle.dym_base.specs.Objects.{object_step};
 ghost use Rattle.dym_heap.specs.Meaning.{IsSound};
@@ -13,7 +13,8 @@ use dym_heap::Heap;
 use dym_quota::Supply;
 use std::alloc::{AllocError, Global};
 
-/// One command to an object of this heap and this chain. Only a log and a read that aren't refused take memory.
+/// Runs one command to an object of this heap and this chain, and writes its reply into a place. Only a log and a read that
+/// aren't refused take memory; where that is wanting the place keeps the reply that it had.
 #[inline(always)]
 pub(crate) fn answer_to<S: Supply, K: LogKeep>(
     heap: &mut Heap<S>,
@@ -21,16 +22,18 @@ pub(crate) fn answer_to<S: Supply, K: LogKeep>(
     way: &S::Way,
     alloc: Global,
     command: &Command,
-) -> Result<Reply, AllocError>
+    reply: &mut Reply,
+) -> Result<(), AllocError>
     requires sound { IsSound heap.old }
     requires belongs { Belongs heap.old.version heap.old.quota heap.old.state chain.old }
     requires stands { StandsForCopies chain.old }
     requires made { chain.old.made < 2 ^ 60 }
-    ensures reply { IfOk result (λ r. r ≡ (object_step heap.old.version heap.old.quota (object_of heap.old.state chain.old) command.now).reply) }
+    ensures reply { OnOk result (reply.new ≡ (object_step heap.old.version heap.old.quota (object_of heap.old.state chain.old) command.now).reply) }
     ensures after { OnOk result (object_of heap.new.state chain.new ≡ (object_step heap.old.version heap.old.quota (object_of heap.old.state chain.old) command.now).object) }
     ensures memory { IfErr result (λ _. TakesMemory command.now (object_step heap.old.version heap.old.quota (object_of heap.old.state chain.old) command.now).reply) }
     ensures unchanged { OnErr result ((heap.new ≡ heap.old) × (chain.new ≡ chain.old)) }
-    ensures refused { IfOk result (λ r. OnRefusal r ((heap.new ≡ heap.old) × (chain.new ≡ chain.old))) }
+    ensures kept { OnErr result (reply.new ≡ reply.old) }
+    ensures refused { OnOk result (OnRefusal reply.new ((heap.new ≡ heap.old) × (chain.new ≡ chain.old))) }
     ensures heap { heap.new ≡ record heap.old { state = heap.new.state; held_ids = heap.new.held_ids } }
     ensures made { chain.new.made ≤ chain.old.made + 1 }
     ensures origin { chain.new.origin ≡ chain.old.origin }
@@ -39,17 +42,26 @@ pub(crate) fn answer_to<S: Supply, K: LogKeep>(
     ensures stands { StandsForCopies chain.new }
 {
     match command {
-        Command::Log { time } => log(heap, chain, alloc, *time, Kind::Full),
-        Command::Ilog { time } => log(heap, chain, alloc, *time, Kind::Inc),
-        Command::Restore { time } => Ok(restore(heap, chain, way, *time)),
-        Command::Prune { bound } => Ok(Reply::Dropped(chain.prune(*bound))),
-        Command::Logs => Ok(Reply::Slots {
-            kept: chain.kept(),
-            slots: chain.slots(),
-        }),
+        Command::Log { time } => log(heap, chain, alloc, *time, Kind::Full, reply),
+        Command::Ilog { time } => log(heap, chain, alloc, *time, Kind::Inc, reply),
+        Command::Restore { time } => {
+            restore(heap, chain, way, *time, reply);
+            Ok(())
+        }
+        Command::Prune { bound } => {
+            *reply = Reply::Dropped(chain.prune(*bound));
+            Ok(())
+        }
+        Command::Logs => {
+            *reply = Reply::Slots {
+                kept: chain.kept(),
+                slots: chain.slots(),
+            };
+            Ok(())
+        }
         _ => {
             dym_chain::laws::heap_steps_keep_belonging();
-            answer(heap, way, alloc, command)
+            answer(heap, way, alloc, command, reply)
         }
     }
 }
@@ -62,15 +74,17 @@ fn log<S: Supply, K: LogKeep>(
     alloc: Global,
     time: u64,
     want: Kind,
-) -> Result<Reply, AllocError>
+    reply: &mut Reply,
+) -> Result<(), AllocError>
     requires sound { IsSound heap.old }
     requires belongs { Belongs heap.old.version heap.old.quota heap.old.state chain.old }
     requires made { chain.old.made < 2 ^ 60 }
-    ensures reply { IfOk result (λ r. r ≡ (Objects.log heap.old.version (object_of heap.old.state chain.old) time want).reply) }
+    ensures reply { OnOk result (reply.new ≡ (Objects.log heap.old.version (object_of heap.old.state chain.old) time want).reply) }
     ensures after { OnOk result (object_of heap.new.state chain.new ≡ (Objects.log heap.old.version (object_of heap.old.state chain.old) time want).object) }
     ensures memory { IfErr result (λ _. IsNotRefused (Objects.log heap.old.version (object_of heap.old.state chain.old) time want).reply) }
     ensures unchanged { OnErr result ((heap.new ≡ heap.old) × (chain.new ≡ chain.old)) }
-    ensures refused { IfOk result (λ r. OnRefusal r ((heap.new ≡ heap.old) × (chain.new ≡ chain.old))) }
+    ensures kept { OnErr result (reply.new ≡ reply.old) }
+    ensures refused { OnOk result (OnRefusal reply.new ((heap.new ≡ heap.old) × (chain.new ≡ chain.old))) }
     ensures heap { heap.new ≡ record heap.old { state = heap.new.state } }
     ensures made { chain.new.made ≤ chain.old.made + 1 }
     ensures origin { chain.new.origin ≡ chain.old.origin }
@@ -79,10 +93,11 @@ fn log<S: Supply, K: LogKeep>(
     ensures stands { StandsForCopies chain.new }
 {
     match chain.log(alloc, heap, time, want) {
-        Ok((kind, len)) => Ok(Reply::Logged { kind, len }),
-        Err(LogError::Refused(why)) => Ok(Reply::Refused(why)),
-        Err(LogError::Memory) => Err(AllocError),
+        Ok((kind, len)) => *reply = Reply::Logged { kind, len },
+        Err(LogError::Refused(why)) => *reply = Reply::Refused(why),
+        Err(LogError::Memory) => return Err(AllocError),
     }
+    Ok(())
 }
 
 /// Restores the last log at or before a time.
@@ -92,20 +107,21 @@ fn restore<S: Supply, K: LogKeep>(
     chain: &mut Chain<K>,
     way: &S::Way,
     time: u64,
-) -> Reply
+    reply: &mut Reply,
+)
     requires sound { IsSound heap.old }
     requires belongs { Belongs heap.old.version heap.old.quota heap.old.state chain.old }
-    ensures reply { result ≡ (Objects.restore (object_of heap.old.state chain.old) time).reply }
+    ensures reply { reply.new ≡ (Objects.restore (object_of heap.old.state chain.old) time).reply }
     ensures after { object_of heap.new.state chain.new ≡ (Objects.restore (object_of heap.old.state chain.old) time).object }
     ensures heap { heap.new ≡ record heap.old { state = heap.new.state; held_ids = heap.new.held_ids } }
     ensures chain { chain.new ≡ record chain.old { logs = chain.new.logs; records = chain.new.records } }
-    ensures refused { OnRefusal result ((heap.new ≡ heap.old) × (chain.new ≡ chain.old)) }
+    ensures refused { OnRefusal reply.new ((heap.new ≡ heap.old) × (chain.new ≡ chain.old)) }
     ensures sound { IsSound heap.new }
     ensures belongs { Belongs heap.new.version heap.new.quota heap.new.state chain.new }
     ensures stands { StandsForCopies chain.new }
 {
     match chain.restore(way, heap, time) {
-        Ok(restored) => Reply::At(restored),
-        Err(why) => Reply::Refused(why),
+        Ok(restored) => *reply = Reply::At(restored),
+        Err(why) => *reply = Reply::Refused(why),
     }
 }

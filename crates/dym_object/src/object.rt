@@ -134,7 +134,7 @@ impl<S: Supply, K: LogKeep> Object<S, K> {
         ensures origin { self.new.chain.origin ≡ self.old.chain.origin }
         ensures whole { IsWhole self.new }
     {
-        *reply = answer_to(&mut self.heap, &mut self.chain, way, alloc, command)?;
+        answer_to(&mut self.heap, &mut self.chain, way, alloc, command, reply)?;
         self.ran += 1;
         Ok(())
     }

@@ -17,18 +17,18 @@ pub(crate) fn sum_chunk<S: Supply>(heap: &Heap<S>, h: Handle) -> Result<u64, Ref
     let Some(bytes) = heap.bytes(h) else {
         return Err(Refusal::Dead);
     };
-    Ok(sum_bytes(bytes))
+    Ok(u64::from(sum_bytes(bytes)))
 }
 
-/// The sum of some bytes.
-fn sum_bytes(bytes: &[u8]) -> u64
+/// The sum of some bytes. Numbers of 32 bits hold it, and more of them are added at a time.
+fn sum_bytes(bytes: &[u8]) -> u32
     requires { length bytes.now ≤ 65536 }
     ensures total { result ≡ sum bytes.now }
     ensures small { result ≤ 255 * length bytes.now }
 {
     let mut total = 0;
     for byte in bytes {
-        total += u64::from(*byte);
+        total += u32::from(*byte);
     }
     total
 }

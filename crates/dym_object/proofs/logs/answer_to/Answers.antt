@@ -1,4 +1,4 @@
-use Rattle.std.proofs.Common.{rules, ◌≡◌, IfOk, IfErr, refl, sym, subst}
+use Rattle.std.proofs.Common.{rules, ◌≡◌, OnOk, IfErr, refl, sym, subst}
 use Rattle.std.proofs.lemmas.Result.{on_err_weaker}
 use Rattle.dym_base.specs.HeapStep.{IsHeapCommand}
 use Rattle.dym_base.specs.Objects.{ObjectAnswer, object_step}
@@ -26,11 +26,12 @@ returns-in_default g c =
     let command = c.args.command.now in
     let same = sym (step_is old.version old.quota (object_of old.state chain) command is) in
     record {
-      reply = subst (λ (a : ObjectAnswer). IfOk c.answer.result (λ r. r ≡ a.reply)) same c.answer.ensures.reply;
+      reply = subst (λ (a : ObjectAnswer). OnOk c.answer.result (c.answer.new.reply ≡ a.reply)) same c.answer.ensures.reply;
       after = at_ok c.answer.result (object_is old new chain command is c.answer.ensures.after);
       memory = subst (λ (a : ObjectAnswer). IfErr c.answer.result (λ _. TakesMemory command a.reply)) same c.answer.ensures.memory;
       unchanged = on_err_weaker c.answer.result (λ (kept : new ≡ old). (kept, refl {a = chain})) c.answer.ensures.unchanged;
-      refused = refused_both c.answer.result (new ≡ old) (chain ≡ chain) (refl {a = chain}) c.answer.ensures.refused;
+      kept = c.answer.ensures.kept;
+      refused = refused_both c.answer.result c.answer.new.reply (new ≡ old) (chain ≡ chain) (refl {a = chain}) c.answer.ensures.refused;
       heap = rest_stays old new command c.answer.ensures.after;
       made = search rules;
       origin = refl {a = chain.origin};
