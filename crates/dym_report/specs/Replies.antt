@@ -1,5 +1,5 @@
 -- Replies as text.
-use Rattle.std.specs.Prelude.{ℕ, List, ◌++◌, codes, decimal}
+use Rattle.std.specs.Prelude.{ℕ, ◌+◌, ◌*◌, List, ◌++◌, length, codes, decimal}
 use Rattle.dym_base.specs.declared.command.Kind.{Kind}
 use Rattle.dym_base.specs.declared.command.Kind.TheVariants.{Full, Inc}
 use Rattle.dym_base.specs.declared.reply.Refusal.{Refusal}
@@ -37,3 +37,8 @@ reply_text (Refused why) = refusal_text why
 
 abbrev pub reply_line : Reply → List ℕ
 reply_line reply = reply_text reply ++ codes "\n"
+
+-- so many bytes are enough for a reply's line
+abbrev pub line_room : Reply → ℕ
+line_room (Bytes bytes) = 80 + 2 * length bytes
+line_room reply = 80

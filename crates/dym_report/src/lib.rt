@@ -3,6 +3,7 @@
 //! where the sink failed. No call takes memory.
 #![tactic(auto)]
 
+pub mod compose;
 pub mod hex_text;
 pub mod late;
 pub mod line;

@@ -91,7 +91,7 @@ impl Line {
 }
 
 /// The bytes of a chunk of a class, and 0 where the exponent is above those of all classes.
-fn size(exp: u8) -> u64
+pub(crate) fn size(exp: u8) -> u64
     ensures { result ≡ size_of exp }
 {
     if exp <= GREATEST_EXPONENT {

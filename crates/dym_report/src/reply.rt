@@ -1,35 +1,31 @@
 //! Replies as text.
-ghost use Rattle.std.specs.Prelude.{◌≡◌, ◌+◌, ◌≤◌, ◌++◌, length, decimal, codes, flat_map};
+ghost use Rattle.std.specs.Prelude.{◌≡◌, ◌≤◌, ◌++◌, length, drop, decimal, codes, flat_map, IfSome};
 ghost use Rattle.dym_io.specs.Sink.{Writes};
-ghost use Rattle.dym_report.specs.Replies.{reply_line, kind_text, refusal_text};
-ghost use Rattle.dym_report.specs.Handles.{handle_text};
+ghost use Rattle.dym_report.specs.Replies.{reply_line};
 
+use crate::compose::{has_room, put_line};
 use crate::hex_text::write_hex_line;
-use crate::line::Line;
-use dym_base::{Handle, Kind, Refusal, Reply};
+use crate::line::{LINE_ROOM, Line};
+use dym_base::Reply;
 use dym_io::{Sink, SinkFault, push_all};
+
+/// How many replies are written together.
+const GROUP: usize = 32;
+
+/// The bytes of a page, where these are composed.
+const PAGE_ROOM: usize = 2_048;
 
 /// Writes the line of one reply. Its only error is that of the sink.
 pub fn write_reply<W: Sink>(sink: &mut W, reply: &Reply) -> Result<(), SinkFault>
     ensures { Writes (W.output sink.old) (W.output sink.new) (reply_line reply.now) result }
 {
     match reply {
-        Reply::Done => push_all(sink, b"ok\n"),
-        Reply::Chunk(handle) => write_chunk(sink, *handle),
-        Reply::Nil => push_all(sink, b"ok nil\n"),
-        Reply::Loose(number) => write_number(sink, b"loose ", *number),
         Reply::Bytes(bytes) => write_hex_line(sink, b"ok ", bytes.bytes()),
-        Reply::Total(total) => write_number(sink, b"ok ", *total),
-        Reply::Logged { kind, len } => write_logged(sink, *kind, *len),
-        Reply::At(time) => write_number(sink, b"ok ", *time),
-        Reply::Dropped(count) => write_number(sink, b"ok ", u64::from(*count)),
-        Reply::Slots { kept, slots } => write_numbers(
-            sink,
-            b"ok ",
-            u64::from(*kept),
-            u64::from(*slots),
-        ),
-        Reply::Refused(refusal) => write_refusal(sink, *refusal),
+        _ => {
+            let mut line = [0; LINE_ROOM];
+            let start = put_line(&mut line, LINE_ROOM, reply);
+            push_all(sink, &line[start..])
+        }
     }
 }
 
@@ -37,43 +33,50 @@ pub fn write_reply<W: Sink>(sink: &mut W, reply: &Reply) -> Result<(), SinkFault
 pub fn write_replies<W: Sink>(sink: &mut W, replies: &[Reply]) -> Result<(), SinkFault>
     ensures { Writes (W.output sink.old) (W.output sink.new) (flat_map reply_line replies.now) result }
 {
-    for reply in replies {
-        write_reply(sink, reply)?;
+    let mut page = [0; PAGE_ROOM];
+    let mut rest = replies;
+    'groups: while !rest.is_empty() {
+        let (group, after) = rest.split_at(rest.len().min(GROUP));
+        write_group(sink, &mut page, group)?;
+        rest = after;
     }
     Ok(())
 }
 
-fn write_chunk<W: Sink>(sink: &mut W, handle: Handle) -> Result<(), SinkFault>
-    ensures { Writes (W.output sink.old) (W.output sink.new) (codes "ok " ++ handle_text handle ++ codes "\n") result }
+/// Writes the lines of some replies: together, where the page has room for them.
+fn write_group<W: Sink>(sink: &mut W, page: &mut [u8], group: &[Reply]) -> Result<(), SinkFault>
+    ensures { Writes (W.output sink.old) (W.output sink.new) (flat_map reply_line group.now) result }
 {
-    let mut line = Line::new();
-    line.text(b"\n");
-    line.handle(handle);
-    line.text(b"ok ");
-    push_all(sink, line.bytes())
-}
-
-fn write_logged<W: Sink>(sink: &mut W, kind: Kind, len: u64) -> Result<(), SinkFault>
-    ensures { Writes (W.output sink.old) (W.output sink.new) (codes "ok " ++ kind_text kind ++ codes " " ++ decimal len ++ codes "\n") result }
-{
-    match kind {
-        Kind::Full => write_number(sink, b"ok full ", len),
-        Kind::Inc => write_number(sink, b"ok inc ", len),
+    match put_lines(page, group) {
+        Some(start) => push_all(sink, &page[start..]),
+        None => write_each(sink, group),
     }
 }
 
-fn write_refusal<W: Sink>(sink: &mut W, refusal: Refusal) -> Result<(), SinkFault>
-    ensures { Writes (W.output sink.old) (W.output sink.new) (refusal_text refusal ++ codes "\n") result }
+/// Puts the lines of some replies at the end of the page, and answers where they start, if there is room for them all.
+fn put_lines(page: &mut [u8], group: &[Reply]) -> Option<usize>
+    ensures start { IfSome result (λ start. start ≤ length page.new) }
+    ensures lines { IfSome result (λ start. drop start page.new ≡ flat_map reply_line group.now) }
 {
-    match refusal {
-        Refusal::TooLarge => push_all(sink, b"toolarge\n"),
-        Refusal::Quota => push_all(sink, b"quota\n"),
-        Refusal::Dead => push_all(sink, b"dead\n"),
-        Refusal::Range => push_all(sink, b"range\n"),
-        Refusal::NotAfter { newest } => write_number(sink, b"notafter ", newest),
-        Refusal::LogsFull => push_all(sink, b"logsfull\n"),
-        Refusal::NoLog => push_all(sink, b"nolog\n"),
+    let mut start = page.len();
+    for i in (0..group.len()).rev() {
+        let reply = &group[i];
+        if !has_room(start, reply) {
+            return None;
+        }
+        start = put_line(page, start, reply);
     }
+    Some(start)
+}
+
+/// Writes the lines of some replies, one by one.
+fn write_each<W: Sink>(sink: &mut W, replies: &[Reply]) -> Result<(), SinkFault>
+    ensures { Writes (W.output sink.old) (W.output sink.new) (flat_map reply_line replies.now) result }
+{
+    for reply in replies {
+        write_reply(sink, reply)?;
+    }
+    Ok(())
 }
 
 /// Writes a line of a word and a number.
