@@ -1,11 +1,11 @@
--- Which words write bytes.
-use Rattle.std.proofs.Common.{◌≡◌, ℕ, ◌%◌, ◌≤◌, arith, true, false, List, length, Result, Ok, Err, codes, is_some, nat_lt, refl, sym, ◌∙◌}
+-- Which words write bytes, and which.
+use Rattle.std.proofs.Common.{◌≡◌, ℕ, ◌+◌, ◌*◌, ◌%◌, ◌≤◌, Some, arith, true, false, List, length, Result, Ok, Err, codes, is_some, nat_lt, refl, sym, ◌∙◌}
 use Rattle.std.specs.List.{list_all}
 use Rattle.std.specs.Str.{bytes_eq}
 use Rattle.std.specs.Result.{result_ok}
 use Rattle.std.proofs.lemmas.List.Sums.{AllPass-from_list_all, list_all-from_AllPass}
 use Rattle.std.proofs.lemmas.Bool.Decides.{nat_tests}
-use Rattle.hex.specs.Hex.{decode_of, is_hex_digit}
+use Rattle.hex.specs.Hex.{decode_of, is_hex_digit, hex_digit_value, pair_value}
 use Rattle.hex.specs.declared.error.FromHexError.{FromHexError}
 use Rattle.hex.proofs.HexLemmas.{decode_of-ok, decode_of-digits}
 use Rattle.dym_script.specs.Words.{hex_of}
@@ -27,3 +27,7 @@ unfolding hex_of
 hex_some word dash long even =
     let short : nat_lt (length word) 2 ≡ false = grind (arith, nat_tests) in
     rw (dash, short) (decoded word (decode_of word) refl even)
+
+-- the byte of two digits that have these values
+pub pair_is : (high low i h l : ℕ) → hex_digit_value high ≡ Some h → hex_digit_value low ≡ Some l → pair_value high low i ≡ Ok (h * 16 + l)
+pair_is high low i h l first second = rw (first, second) refl

@@ -73,11 +73,6 @@ words_of_spelled name words named bare =
     let good = both_true (is_word name) (list_all is_bare name) named in
     ap (filter is_word) (split_word name (spelled words) [] words good.1 (split_spelled words bare) ∙ ap (λ w. w ∷ words) (append-nil name)) ∙ rw (good.0, words_stay words bare) refl
 
--- and of its words after the first
-pub words_of_words : (words : List (List ℕ)) → list_all is_bare_word words ≡ true → words_of (spelled words) ≡ words
-unfolding words_of
-words_of_words words bare = ap (filter is_word) (split_spelled words bare) ∙ words_stay words bare
-
 no_end_of_word : (word : List ℕ) → is_bare_word word ≡ true → list_all (λ b. not (b == 10)) word ≡ true
 no_end_of_word word bare = all_weaker is_bare (λ b. not (b == 10)) (λ c h. ap not (bare_apart c h).1) word (both_true (is_word word) (list_all is_bare word) bare).1
 

@@ -1,34 +1,26 @@
 -- What the grammar says of a line in the usual spelling.
-use Rattle.std.proofs.Common.{drop, ◌≡◌, ℕ, ◌+◌, ◌-◌, ◌<◌, ◌≤◌, ◌==◌, Bool, true, false, cond, not, ◌&&◌, List, [], ◌∷◌, ◌++◌, length, get_or, codes, Option, Some, None, Result, Ok, Err, nat_le, nat_lt, refl, sym, ap, ◌∙◌, arith, rules, is_some, eq-eqb, append_assoc, length-append}
+use Rattle.std.proofs.Common.{◌≡◌, ℕ, ◌+◌, ◌-◌, ◌<◌, ◌≤◌, ◌==◌, Bool, true, false, cond, not, ◌&&◌, List, [], ◌∷◌, ◌++◌, length, get_or, codes, Some, None, Result, Ok, Err, nat_le, nat_lt, refl, sym, ap, ◌∙◌, arith, rules, append_assoc, length-append}
 use Rattle.std.proofs.lemmas.Bool.Decides.{nat_tests}
-use Rattle.std.proofs.Math.Seq.{drop-append_seam}
 use Rattle.std.specs.List.{list_all, onto_first}
 use Rattle.std.specs.Str.{bytes_eq}
 use Rattle.std.specs.Cmp.Lexicographic.{bytes_decides}
 use Rattle.dym_base.specs.Names.{is_name, is_name_byte}
 use Rattle.dym_base.specs.declared.bad_kind.BadKind.{BadKind}
-use Rattle.dym_base.specs.declared.bad_kind.BadKind.TheVariants as bad
 use Rattle.dym_base.specs.declared.command.Command.{Command}
-use Rattle.dym_base.specs.declared.limits.TheConstants.{MOST_NAME_BYTES, MOST_LINE_BYTES, MOST_COMMANDS}
+use Rattle.dym_base.specs.declared.limits.TheConstants.{MOST_NAME_BYTES, MOST_LINE_BYTES}
 use Rattle.dym_script.specs.declared.verb.Verb.{Verb}
 use Rattle.dym_script.specs.declared.asked.Asked.{Asked}
 use Rattle.dym_script.specs.declared.asked.Ask.{Ask}
-use Rattle.dym_script.specs.declared.line_fail.LineFail.{LineFail}
-use Rattle.dym_script.specs.declared.line_fail.LineFail.TheVariants as fail
-use Rattle.dym_script.specs.declared.script.Line.{Line}
 use Rattle.dym_script.specs.declared.reader.Reader.{Reader}
 use Rattle.dym_script.specs.Lines.{lines_of, words_of}
-use Rattle.dym_script.specs.Scripts.{Said, Reading, Fault, object_of, ask_at, is_version, begin, is_printable, read_line, read_lines, go_on}
+use Rattle.dym_script.specs.Scripts.{Said, Reading, object_of, ask_at, is_version, begin, is_printable, read_line, read_lines, go_on}
 use Rattle.dym_script.specs.Plain.{is_plain}
 use Rattle.dym_script.specs.Asks.{asks}
 use Rattle.dym_script.specs.Table.{verb_of, command_of}
-use Rattle.std.specs.Result.{result_ok}
-use Rattle.dym_script.specs.Placed.{command_in, command_by, first_command, IsEndOf}
-use Rattle.dym_script.specs.Readers.{IsKept, seen, reading, with_ask, GivesReading, IsNamed, IsNext, GivesNext}
+use Rattle.dym_script.specs.Readers.{IsKept, seen, reading, IsNamed, IsNext}
 use Rattle.dym_script.specs.Quick.{is_bare, is_bare_word, spelled, Demands}
-use Rattle.dym_script.proofs.Asking.{asked_more}
 use Rattle.dym_script.proofs.Index.{object_of_name, object_of_within}
-use Rattle.dym_script.proofs.Spelled.{both_true, no_more, all_weaker, words_of_spelled, words_of_words, no_end, no_end_of_spelled, lines_of_front, plain_front}
+use Rattle.dym_script.proofs.Spelled.{both_true, no_more, all_weaker, words_of_spelled, no_end, lines_of_front, plain_front}
 
 -- a verb and its words in the usual spelling stand after a name
 pub record DemandsOf (name text : List ℕ) (asked : Asked) (after : List ℕ) : Type 0 where
@@ -89,10 +81,10 @@ read_asking r number place line name word words v command short good cut named v
     let fits : nat_lt MOST_LINE_BYTES (length line) ≡ false = grind (arith, nat_tests) in
     rw (fits, good, cut, name_no_hash name named, not_version name word words v verb, and_no (not r.begun), (name_parts name named).2, verb, makes, named, object) (begin_reading (ask_at r.said command (Some place)))
 
--- the first line of a text asks this of the object of this name, and then the rest is read
-pub read_demands : (r : Reading) (number place : ℕ) (name text after : List ℕ) (asked : Asked) → DemandsOf name text asked after → length text ≤ length after + (MOST_LINE_BYTES + 1) → list_all is_plain text ≡ true → is_name name ≡ true → object_of r.said.objects name ≡ Some place
-    → read_lines r number (lines_of text) ≡ go_on number (reading true (ask_at r.said (asks asked) (Some place))) (λ next. read_lines next (number + 1) (lines_of after))
-read_demands r number place name text after asked whole short good named object =
+-- the first line of a text asks this of the object of this name, whatever was read before
+pub first_demands : (name text after : List ℕ) (asked : Asked) → DemandsOf name text asked after → length text ≤ length after + (MOST_LINE_BYTES + 1) → list_all is_plain text ≡ true → is_name name ≡ true
+    → (line : List ℕ) × (lines_of text ≡ line ∷ lines_of after) × ((r : Reading) (number place : ℕ) → object_of r.said.objects name ≡ Some place → read_line r number line ≡ reading true (ask_at r.said (asks asked) (Some place)))
+first_demands name text after asked whole short good named =
     let d = whole.demands in
     let words = d.word ∷ d.words in
     let line = name ++ spelled words in
@@ -100,10 +92,18 @@ read_demands r number place name text after asked whole short good named object 
     let bare = name_bare name named in
     let none = no_end name words bare d.bare in
     let len : length text ≡ length line + (1 + length after) = ap length is ∙ length-append line (10 ∷ after) ∙ omega arith in
-    let plain = plain_front line after none (ap (list_all is_plain) (sym is) ∙ good) in
-    ap (λ t. read_lines r number (lines_of t)) is
-    ∙ ap (read_lines r number) (lines_of_front line after none)
-    ∙ ap (λ o. go_on number o (λ next. read_lines next (number + 1) (lines_of after))) (read_asking r number place line name d.word d.words d.verb (asks asked) (omega arith) plain.0 (words_of_spelled name words bare d.bare) named d.named d.makes object)
+    let plain = plain_front line after none (ap (list_all is_plain) (sym is) ∙ good) in (
+      line,
+      ap lines_of is ∙ lines_of_front line after none,
+      λ r number place object. read_asking r number place line name d.word d.words d.verb (asks asked) (omega arith) plain.0 (words_of_spelled name words bare d.bare) named d.named d.makes object,
+    )
+
+-- the first line of a text asks this of the object of this name, and then the rest is read
+pub read_demands : (r : Reading) (number place : ℕ) (name text after : List ℕ) (asked : Asked) → DemandsOf name text asked after → length text ≤ length after + (MOST_LINE_BYTES + 1) → list_all is_plain text ≡ true → is_name name ≡ true → object_of r.said.objects name ≡ Some place
+    → read_lines r number (lines_of text) ≡ go_on number (reading true (ask_at r.said (asks asked) (Some place))) (λ next. read_lines next (number + 1) (lines_of after))
+read_demands r number place name text after asked whole short good named object =
+    let (line, cut, read) = first_demands name text after asked whole short good named in
+    ap (read_lines r number) cut ∙ ap (λ o. go_on number o (λ next. read_lines next (number + 1) (lines_of after))) (read r number place object)
 
 -- after that line the text is plain where it was, and it is shorter
 pub rest_demands : (name text after : List ℕ) (asked : Asked) → DemandsOf name text asked after → is_name name ≡ true → list_all is_plain text ≡ true → (list_all is_plain after ≡ true) × (length after < length text)
@@ -135,35 +135,9 @@ demands_shorter text after asked d = omega (arith, ap length d.is, length-append
 pub demands_of_shorter : (name text after : List ℕ) (asked : Asked) → DemandsOf name text asked after → length after < length text
 demands_of_shorter name text after asked whole = omega (arith, ap length whole.is, length-append name whole.line, demands_shorter whole.line after asked whole.demands)
 
--- a verb and its words in the usual spelling are the first line of a text that begins with them
-pub demands_line : (text after : List ℕ) (asked : Asked) (d : Demands text asked after) → (line : List ℕ) × (lines_of text ≡ line ∷ lines_of after) × (words_of line ≡ d.word ∷ d.words)
-demands_line text after asked d =
-    let words = d.word ∷ d.words in
-    (spelled words, ap lines_of d.is ∙ lines_of_front (spelled words) after (no_end_of_spelled words d.bare), words_of_words words d.bare)
-
--- what stands behind a front is an end
-pub end_behind_front : (front rest text : List ℕ) → text ≡ front ++ rest → IsEndOf rest text
-end_behind_front front rest text is =
-    let n : length text - length rest ≡ length front = omega (arith, ap length is, length-append front rest) in
-    sym (ap (drop (length text - length rest)) is ∙ ap (λ k. drop k (front ++ rest)) n ∙ drop-append_seam front rest)
-
--- what stands after a line in the usual spelling is an end
-end_after_demands : (name text after : List ℕ) (asked : Asked) → DemandsOf name text asked after → IsEndOf after text
-end_after_demands name text after asked whole =
-    let d = whole.demands in
-    let line = name ++ spelled (d.word ∷ d.words) in
-    let is : text ≡ (line ++ 10 ∷ []) ++ after = whole.is ∙ ap (λ t. name ++ t) d.is ∙ sym (append_assoc name (spelled (d.word ∷ d.words)) (10 ∷ after)) ∙ sym (append_assoc line (10 ∷ []) after) in
-    end_behind_front (line ++ 10 ∷ []) after text is
-
--- what a verb and its words in the usual spelling ask is what the first line asks
-pub demands_command : (text after : List ℕ) (asked : Asked) → Demands text asked after → first_command (lines_of text) ≡ Some (asks asked)
-demands_command text after asked d =
-    let (line, cut, words) = demands_line text after asked d in
-    ap first_command cut ∙ ap command_in words ∙ ap (λ v. command_by v d.words) d.named ∙ ap result_ok d.makes
-
 -- a line in the usual spelling that names a declared object is the next to be read
-pub next_asked : (r : Reader) (text words rest : List ℕ) (ask : Ask) → ask.words.now ≡ words → IsKept r → IsNamed r text ask.object words → Demands words ask.asked rest → length text - length rest ≤ MOST_LINE_BYTES + 1 → list_all is_plain text ≡ true → IsNext r text ask rest
-next_asked r text words rest ask same kept names demands short good =
+pub next_asked : (r : Reader) (text words rest : List ℕ) (ask : Ask) → IsKept r → IsNamed r text ask.object words → Demands words ask.asked rest → length text - length rest ≤ MOST_LINE_BYTES + 1 → list_all is_plain text ≡ true → IsNext r text ask rest
+next_asked r text words rest ask kept names demands short good =
     let whole : DemandsOf names.name text ask.asked rest = record {
       line = words;
       is = names.is;
@@ -171,44 +145,15 @@ next_asked r text words rest ask same kept names demands short good =
     } in
     let named : is_name names.name ≡ true = search (rules, object_of_name r.objects.items names.name ask.object kept.lawful.names names.found) in
     let after = rest_demands names.name text rest ask.asked whole named good in
+    let (line, cut, read) = first_demands names.name text rest ask.asked whole (omega arith) good named in
     record {
       within = object_of_within r.objects.items names.name ask.object names.found;
       shorter = after.1;
       plain = after.0;
-      at = rw same (end_behind_front names.name words text names.is);
-      stands = rw same (demands_command words rest ask.asked demands);
-      after = end_after_demands names.name text rest ask.asked whole;
+      first = (line, cut, λ number lines. read (seen r lines) number ask.object names.found);
       read = λ number lines. read_demands (seen r lines) number ask.object names.name text rest ask.asked whole (omega arith) good named names.found;
     }
 
 -- the first line is read, and then the rest
 pub exact_next : (r : Reading) (number : ℕ) (text line rest : List ℕ) (o : Result Reading BadKind) → lines_of text ≡ line ∷ lines_of rest → read_line r number line ≡ o → read_lines r number (lines_of text) ≡ go_on number o (λ next. read_lines next (number + 1) (lines_of rest))
 exact_next r number text line rest o cut is = ap (read_lines r number) cut ∙ ap (λ p. go_on number p (λ next. read_lines next (number + 1) (lines_of rest))) is
-
-pub failed_next : (r s : Reader) (fail : LineFail) (number : ℕ) (text line rest : List ℕ) → lines_of text ≡ line ∷ lines_of rest → GivesReading (seen s) (Err fail) (λ lines. read_line (seen r lines) number line) → GivesNext (seen s) number (Err fail) (λ lines. read_lines (seen r lines) number (lines_of text))
-failed_next r s (fail.Bad kind) number text line rest cut gives = λ lines. exact_next (seen r lines) number text line rest (Err kind) cut (gives lines)
-failed_next r s fail.Memory number text line rest cut gives = tt
-
--- what follows a line that asks something, which is counted
-pub counted_some : (r : Reader) (ask : Option Ask) (n number : ℕ) (rest : List ℕ) (read : List Line → Result Said Fault) → is_some ask ≡ true → ¬ (n ≡ MOST_COMMANDS)
-    → ((lines : List Line) → read lines ≡ go_on number (reading r.begun (with_ask (seen r lines).said ask)) (λ next. read_lines next (number + 1) (lines_of rest)))
-    → (lines : List Line) → length lines ≡ n → (more : List Line) × (length more ≡ n + 1) × (read lines ≡ read_lines (seen r more) (number + 1) (lines_of rest))
-counted_some r ask n number rest read some room gives lines len =
-    let (more, count, is) = asked_more r ask n (λ ls. reading r.begun (with_ask (seen r ls).said ask)) some room (λ ls. refl) lines len in
-    (more, count, gives lines ∙ ap (λ o. go_on number o (λ next. read_lines next (number + 1) (lines_of rest))) is)
-
--- and where it asks nothing
-pub counted_none : (r : Reader) (ask : Option Ask) (n number : ℕ) (rest : List ℕ) (read : List Line → Result Said Fault) → is_some ask ≡ false
-    → ((lines : List Line) → read lines ≡ go_on number (reading r.begun (with_ask (seen r lines).said ask)) (λ next. read_lines next (number + 1) (lines_of rest)))
-    → (lines : List Line) → length lines ≡ n → (more : List Line) × (length more ≡ n) × (read lines ≡ read_lines (seen r more) (number + 1) (lines_of rest))
-counted_none r None n number rest read none gives lines len = (lines, len, gives lines)
-counted_none r (Some ask) n number rest read none gives lines len = absurd (cc)
-
--- and where there is no room
-pub counted_full : (r : Reader) (ask : Option Ask) (n number : ℕ) (rest : List ℕ) (read : List Line → Result Said Fault) → is_some ask ≡ true → n ≡ MOST_COMMANDS
-    → ((lines : List Line) → read lines ≡ go_on number (reading r.begun (with_ask (seen r lines).said ask)) (λ next. read_lines next (number + 1) (lines_of rest)))
-    → (lines : List Line) → length lines ≡ n → read lines ≡ Err (record { line = number; kind = bad.Many })
-counted_full r None n number rest read some full gives lines len = absurd (cc)
-counted_full r (Some ask) n number rest read some full gives lines len =
-    let same : (length lines == MOST_COMMANDS) ≡ true = eq-eqb (length lines) MOST_COMMANDS (len ∙ full) in
-    gives lines ∙ rw same refl

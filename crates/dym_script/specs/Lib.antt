@@ -5,9 +5,11 @@ pub mod Scripts
 pub mod Plain
 pub mod Answers
 pub mod Asks
+pub mod Kept
 pub mod Readers
+pub mod Counting
 pub mod Parts
-pub mod Placed
 pub mod Held
 pub mod Laws
 pub mod Quick
+pub mod Fronts

@@ -1,6 +1,5 @@
 -- What the reader of lines keeps between two lines, and what it hands on of one.
-use Rattle.std.specs.Prelude.{◌≡◌, ◌+◌, ◌<◌, ℕ, Bool, true, List, [], ◌++◌, length, slice_index_or, Option, None, Some, Result, Ok, Err, IsTrue}
-use denote.Ref.{Bor}
+use Rattle.std.specs.Prelude.{◌≡◌, ◌+◌, ◌<◌, ℕ, Bool, true, List, [], ◌∷◌, ◌++◌, length, slice_index_or, Option, None, Some, Result, Ok, Err, IsTrue}
 use Rattle.std.specs.List.{list_all}
 use Rattle.std.specs.Str.{bytes_eq}
 use Rattle.std.specs.HashMap.{get_by}
@@ -15,11 +14,9 @@ use Rattle.dym_script.specs.declared.reader.Next.{Next}
 use Rattle.dym_script.specs.declared.reader.Reader.{Reader}
 use Rattle.dym_script.specs.Lines.{lines_of}
 use Rattle.dym_script.specs.Plain.{is_plain}
-use Rattle.dym_script.specs.Scripts.{Said, Reading, Fault, object_of, ask_at, name_fault, read_lines, go_on}
+use Rattle.dym_script.specs.Scripts.{Said, Reading, object_of, ask_at, name_fault, read_line, read_lines, go_on}
 use Rattle.dym_script.specs.Asks.{asks}
 use Rattle.dym_script.specs.Answers.{IsLawful}
-use Rattle.dym_script.specs.Lines.{words_of}
-use Rattle.dym_script.specs.Placed.{command_in, first_command, IsEndOf}
 
 -- what was read so far, where these are the lines that ask something
 abbrev pub seen : Reader → List Line → Reading
@@ -35,16 +32,6 @@ pub record IsKept (r : Reader) : Type 0 where
 abbrev pub IsWithin : Reader → Option Ask → Type 0
 IsWithin r None = Unit {0}
 IsWithin r (Some ask) = ask.object < length r.objects.items
-
--- what is asked is the command of these words, which are handed on
-abbrev pub AsksOf : List ℕ → Option Ask → Type 0
-AsksOf words None = Unit {0}
-AsksOf words (Some ask) = (ask.words.now ≡ words) × (command_in (words_of ask.words.now) ≡ Some (asks ask.asked))
-
--- what is asked is the command of the words at the line's end that are handed on
-abbrev pub AsksAtEnd : List ℕ → Option Ask → Type 0
-AsksAtEnd line None = Unit {0}
-AsksAtEnd line (Some ask) = IsEndOf ask.words.now line × (command_in (words_of ask.words.now) ≡ Some (asks ask.asked))
 
 -- what is said with what a line asks
 abbrev pub with_ask : Said → Option Ask → Result Said BadKind
@@ -91,19 +78,12 @@ pub record IsNext (r : Reader) (text : List ℕ) (ask : Ask) (rest : List ℕ) :
   pub within : IsWithin r (Some ask)
   pub shorter : length rest < length text
   pub plain : list_all is_plain rest ≡ true
-  pub at : IsEndOf ask.words.now text
-  pub stands : first_command (lines_of ask.words.now) ≡ Some (asks ask.asked)
-  pub after : IsEndOf rest text
+  pub first : (line : List ℕ) × (lines_of text ≡ line ∷ lines_of rest) × ((number : ℕ) (lines : List Line) → read_line (seen r lines) number line ≡ reading true (with_ask (seen r lines).said (Some ask)))
   pub read : (number : ℕ) (lines : List Line) → read_lines (seen r lines) number (lines_of text) ≡ go_on number (reading true (with_ask (seen r lines).said (Some ask))) (λ next. read_lines next (number + 1) (lines_of rest))
 
--- whatever was asked before, the grammar says the same of the first line and then reads the rest, unless memory ran out
-abbrev pub GivesNext : (List Line → Reading) → ℕ → Result Next LineFail → (List Line → Result Said Fault) → Type 0
-GivesNext after number (Ok next) read = (lines : List Line) → read lines ≡ go_on number (reading (after lines).begun (with_ask (after lines).said next.ask)) (λ r. read_lines r (number + 1) (lines_of next.rest.now))
-GivesNext after number (Err (line.Bad kind)) read = (lines : List Line) → read lines ≡ Err (record { line = number; kind = kind })
-GivesNext after number (Err line.Memory) read = Unit {0}
-
--- where so many lines asked something before, so many do after the first line, and the grammar reads the rest then
-abbrev pub CountsNext : ℕ → ℕ → (List Line → Reading) → ℕ → Result (Bor (List ℕ)) LineFail → (List Line → Result Said Fault) → Type 0
-CountsNext n m after number (Ok rest) read = (lines : List Line) → length lines ≡ n → (more : List Line) × (length more ≡ m) × (read lines ≡ read_lines (after more) (number + 1) (lines_of rest.now))
-CountsNext n m after number (Err (line.Bad kind)) read = (lines : List Line) → length lines ≡ n → read lines ≡ Err (record { line = number; kind = kind })
-CountsNext n m after number (Err line.Memory) read = Unit {0}
+-- the text has a first line, and whatever was asked before, the grammar says the same of it, unless memory ran out. At Ok the
+-- other lines are those of the rest
+abbrev pub GivesNext : (List Line → Reading) → (List Line → Reading) → ℕ → List ℕ → Result Next LineFail → Type 0
+GivesNext before after number text (Ok next) = (line : List ℕ) × (lines_of text ≡ line ∷ lines_of next.rest.now) × ((lines : List Line) → read_line (before lines) number line ≡ reading (after lines).begun (with_ask (after lines).said next.ask))
+GivesNext before after number text (Err (line.Bad kind)) = (line : List ℕ) × (others : List (List ℕ)) × (lines_of text ≡ line ∷ others) × ((lines : List Line) → read_line (before lines) number line ≡ Err kind)
+GivesNext before after number text (Err line.Memory) = Unit {0}

@@ -109,7 +109,5 @@ impl<'a> Asked<'a> {
 #[derive(Clone, Copy)]
 pub struct Ask<'a> {
     pub object: u32,
-    /// The text behind the object's name, to the end of the line or further.
-    pub words: &'a [u8],
     pub asked: Asked<'a>,
 }

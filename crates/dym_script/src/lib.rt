@@ -1,15 +1,18 @@
 //! The reader of scripts: it turns bytes into declarations and commands, or names the first bad line. It stands on
 //! `dym_base`; the top call, which runs what was read, stands above it. Its one contract: what is read is what the
 //! grammar in `specs/` gives for the same bytes, and each object's commands are those of its own lines, in order. Commands are
-//! kept as they are, or as the places in the input where they stand.
+//! kept as they are, or in 16 bytes each.
 #![tactic(auto)]
 
 mod asked;
+mod counting;
+mod kept;
 mod laws;
 mod line_fail;
 mod line_tests;
 mod lines;
 mod near;
+mod numerals;
 mod own;
 mod parts;
 mod places;
@@ -17,17 +20,20 @@ mod quick;
 mod quick_verbs;
 mod quick_words;
 mod read;
-mod read_at;
 mod reader;
 pub mod script;
+mod sizes;
 mod verb;
 
+pub use counting::Counting;
+pub use kept::{Kept, Long, Tables};
 pub use laws::first_fault;
 pub use own::{Part, apart, own_commands};
-pub use parts::{Parts, Placed, read_parts};
+pub use parts::{KeptPart, Parts, read_parts};
 pub use read::{count_script, read_script};
-pub use read_at::read_commands;
 pub use script::{Counts, Decl, Line, Script, ScriptFail};
 
+#[cfg(test)]
+mod quick_tests;
 #[cfg(test)]
 mod tests;

@@ -4,7 +4,6 @@ ghost use Rattle.std.specs.List.{prefix_len, list_all};
 ghost use Rattle.dym_script.specs.Scripts.{is_printable};
 ghost use Rattle.dym_script.specs.Plain.{is_plain};
 ghost use Rattle.dym_script.specs.Lines.{lines_of, words_of, is_space};
-ghost use Rattle.dym_script.specs.Placed.{IsEndOf};
 
 use memchr::memchr;
 
@@ -13,7 +12,6 @@ pub fn next_line(text: &[u8]) -> Option<(&[u8], &[u8])>
     ensures cut { MatchOption result (lines_of text.now ≡ []) (λ cut. lines_of text.now ≡ cut.0.now ∷ lines_of cut.1.now) }
     ensures shorter { IfSome result (λ cut. length cut.1.now < length text.now) }
     ensures within { IfSome result (λ cut. length cut.0.now + length cut.1.now ≤ length text.now) }
-    ensures after { IfSome result (λ cut. IsEndOf cut.1.now text.now) }
     ensures plain { IfSome result (λ cut. list_all is_plain text.now ≡ true → (list_all is_printable cut.0.now ≡ true) × (list_all is_plain cut.1.now ≡ true)) }
 {
     if text.is_empty() {
@@ -27,8 +25,7 @@ pub fn next_line(text: &[u8]) -> Option<(&[u8], &[u8])>
 
 /// The first word of a line, and what stands after it. None where no word is left.
 pub fn next_word(text: &[u8]) -> Option<(&[u8], &[u8])>
-    ensures after { IfSome result (λ cut. IsEndOf cut.1.now text.now) }
-    ensures cut { MatchOption result (words_of text.now ≡ []) (λ cut. words_of text.now ≡ cut.0.now ∷ words_of cut.1.now) }
+    ensures { MatchOption result (words_of text.now ≡ []) (λ cut. words_of text.now ≡ cut.0.now ∷ words_of cut.1.now) }
 {
     let (_, text) = text.split_at(spaces_before(text));
     if text.is_empty() {

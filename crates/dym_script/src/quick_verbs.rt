@@ -5,7 +5,8 @@ ghost use Rattle.dym_script.specs.Quick.{Demands};
 
 use crate::asked::Asked;
 use crate::quick_words::{
-    after_line, byte_value, handle, handle_or_nil, hex, number, number_32, read_len,
+    after_byte, after_line, after_verb, byte_value, handle, handle_or_nil, hex, number, number_32,
+    read_len,
 };
 
 /// Of a length.
@@ -13,9 +14,7 @@ use crate::quick_words::{
 pub fn malloc<'a>(text: &'a [u8], asked: &mut Asked<'a>) -> Option<&'a [u8]>
     ensures { IfSome result (λ after. Demands text.now asked.new after.now) }
 {
-    let [b' ', b'm', b'a', b'l', b'l', b'o', b'c', rest @ ..] = text else {
-        return None;
-    };
+    let rest = after_verb(text, b"\0 malloc", 7)?;
     let (len, rest) = number(rest)?;
     let after = after_line(rest)?;
     *asked = Asked::Malloc { len };
@@ -27,9 +26,7 @@ pub fn malloc<'a>(text: &'a [u8], asked: &mut Asked<'a>) -> Option<&'a [u8]>
 pub fn calloc<'a>(text: &'a [u8], asked: &mut Asked<'a>) -> Option<&'a [u8]>
     ensures { IfSome result (λ after. Demands text.now asked.new after.now) }
 {
-    let [b' ', b'c', b'a', b'l', b'l', b'o', b'c', rest @ ..] = text else {
-        return None;
-    };
+    let rest = after_verb(text, b"\0 calloc", 7)?;
     let (n, rest) = number(rest)?;
     let (len, rest) = number(rest)?;
     let after = after_line(rest)?;
@@ -42,9 +39,8 @@ pub fn calloc<'a>(text: &'a [u8], asked: &mut Asked<'a>) -> Option<&'a [u8]>
 pub fn realloc<'a>(text: &'a [u8], asked: &mut Asked<'a>) -> Option<&'a [u8]>
     ensures { IfSome result (λ after. Demands text.now asked.new after.now) }
 {
-    let [b' ', b'r', b'e', b'a', b'l', b'l', b'o', b'c', rest @ ..] = text else {
-        return None;
-    };
+    let end = after_verb(text, b"\0 reallo", 7)?;
+    let rest = after_byte(end, b'c')?;
     let (h, rest) = handle_or_nil(rest)?;
     let (len, rest) = number(rest)?;
     let after = after_line(rest)?;
@@ -57,9 +53,7 @@ pub fn realloc<'a>(text: &'a [u8], asked: &mut Asked<'a>) -> Option<&'a [u8]>
 pub fn free<'a>(text: &'a [u8], asked: &mut Asked<'a>) -> Option<&'a [u8]>
     ensures { IfSome result (λ after. Demands text.now asked.new after.now) }
 {
-    let [b' ', b'f', b'r', b'e', b'e', rest @ ..] = text else {
-        return None;
-    };
+    let rest = after_verb(text, b"\0\0\0 free", 5)?;
     let (h, rest) = handle_or_nil(rest)?;
     let after = after_line(rest)?;
     *asked = Asked::Free { h };
@@ -71,9 +65,7 @@ pub fn free<'a>(text: &'a [u8], asked: &mut Asked<'a>) -> Option<&'a [u8]>
 pub fn write<'a>(text: &'a [u8], asked: &mut Asked<'a>) -> Option<&'a [u8]>
     ensures { IfSome result (λ after. Demands text.now asked.new after.now) }
 {
-    let [b' ', b'w', b'r', b'i', b't', b'e', rest @ ..] = text else {
-        return None;
-    };
+    let rest = after_verb(text, b"\0\0 write", 6)?;
     let (h, rest) = handle(rest)?;
     let (at, rest) = number_32(rest)?;
     let (hex, rest) = hex(rest)?;
@@ -87,9 +79,7 @@ pub fn write<'a>(text: &'a [u8], asked: &mut Asked<'a>) -> Option<&'a [u8]>
 pub fn fill<'a>(text: &'a [u8], asked: &mut Asked<'a>) -> Option<&'a [u8]>
     ensures { IfSome result (λ after. Demands text.now asked.new after.now) }
 {
-    let [b' ', b'f', b'i', b'l', b'l', rest @ ..] = text else {
-        return None;
-    };
+    let rest = after_verb(text, b"\0\0\0 fill", 5)?;
     let (h, rest) = handle(rest)?;
     let (at, rest) = number_32(rest)?;
     let (len, rest) = number_32(rest)?;
@@ -104,9 +94,7 @@ pub fn fill<'a>(text: &'a [u8], asked: &mut Asked<'a>) -> Option<&'a [u8]>
 pub fn read<'a>(text: &'a [u8], asked: &mut Asked<'a>) -> Option<&'a [u8]>
     ensures { IfSome result (λ after. Demands text.now asked.new after.now) }
 {
-    let [b' ', b'r', b'e', b'a', b'd', rest @ ..] = text else {
-        return None;
-    };
+    let rest = after_verb(text, b"\0\0\0 read", 5)?;
     let (h, rest) = handle(rest)?;
     let (at, rest) = number_32(rest)?;
     let (len, rest) = read_len(rest)?;
@@ -120,9 +108,7 @@ pub fn read<'a>(text: &'a [u8], asked: &mut Asked<'a>) -> Option<&'a [u8]>
 pub fn link<'a>(text: &'a [u8], asked: &mut Asked<'a>) -> Option<&'a [u8]>
     ensures { IfSome result (λ after. Demands text.now asked.new after.now) }
 {
-    let [b' ', b'l', b'i', b'n', b'k', rest @ ..] = text else {
-        return None;
-    };
+    let rest = after_verb(text, b"\0\0\0 link", 5)?;
     let (h, rest) = handle(rest)?;
     let (at, rest) = number_32(rest)?;
     let (to, rest) = handle_or_nil(rest)?;
@@ -136,9 +122,7 @@ pub fn link<'a>(text: &'a [u8], asked: &mut Asked<'a>) -> Option<&'a [u8]>
 pub fn follow<'a>(text: &'a [u8], asked: &mut Asked<'a>) -> Option<&'a [u8]>
     ensures { IfSome result (λ after. Demands text.now asked.new after.now) }
 {
-    let [b' ', b'f', b'o', b'l', b'l', b'o', b'w', rest @ ..] = text else {
-        return None;
-    };
+    let rest = after_verb(text, b"\0 follow", 7)?;
     let (h, rest) = handle(rest)?;
     let (at, rest) = number_32(rest)?;
     let after = after_line(rest)?;
@@ -151,9 +135,7 @@ pub fn follow<'a>(text: &'a [u8], asked: &mut Asked<'a>) -> Option<&'a [u8]>
 pub fn sum<'a>(text: &'a [u8], asked: &mut Asked<'a>) -> Option<&'a [u8]>
     ensures { IfSome result (λ after. Demands text.now asked.new after.now) }
 {
-    let [b' ', b's', b'u', b'm', rest @ ..] = text else {
-        return None;
-    };
+    let rest = after_verb(text, b"\0\0\0\0 sum", 4)?;
     let (h, rest) = handle(rest)?;
     let after = after_line(rest)?;
     *asked = Asked::Sum { h };
@@ -165,9 +147,7 @@ pub fn sum<'a>(text: &'a [u8], asked: &mut Asked<'a>) -> Option<&'a [u8]>
 pub fn log<'a>(text: &'a [u8], asked: &mut Asked<'a>) -> Option<&'a [u8]>
     ensures { IfSome result (λ after. Demands text.now asked.new after.now) }
 {
-    let [b' ', b'l', b'o', b'g', rest @ ..] = text else {
-        return None;
-    };
+    let rest = after_verb(text, b"\0\0\0\0 log", 4)?;
     let (time, rest) = number(rest)?;
     let after = after_line(rest)?;
     *asked = Asked::Log { time };
@@ -179,9 +159,7 @@ pub fn log<'a>(text: &'a [u8], asked: &mut Asked<'a>) -> Option<&'a [u8]>
 pub fn ilog<'a>(text: &'a [u8], asked: &mut Asked<'a>) -> Option<&'a [u8]>
     ensures { IfSome result (λ after. Demands text.now asked.new after.now) }
 {
-    let [b' ', b'i', b'l', b'o', b'g', rest @ ..] = text else {
-        return None;
-    };
+    let rest = after_verb(text, b"\0\0\0 ilog", 5)?;
     let (time, rest) = number(rest)?;
     let after = after_line(rest)?;
     *asked = Asked::Ilog { time };
@@ -193,9 +171,8 @@ pub fn ilog<'a>(text: &'a [u8], asked: &mut Asked<'a>) -> Option<&'a [u8]>
 pub fn restore<'a>(text: &'a [u8], asked: &mut Asked<'a>) -> Option<&'a [u8]>
     ensures { IfSome result (λ after. Demands text.now asked.new after.now) }
 {
-    let [b' ', b'r', b'e', b's', b't', b'o', b'r', b'e', rest @ ..] = text else {
-        return None;
-    };
+    let end = after_verb(text, b"\0 restor", 7)?;
+    let rest = after_byte(end, b'e')?;
     let (time, rest) = number(rest)?;
     let after = after_line(rest)?;
     *asked = Asked::Restore { time };
@@ -207,9 +184,7 @@ pub fn restore<'a>(text: &'a [u8], asked: &mut Asked<'a>) -> Option<&'a [u8]>
 pub fn prune<'a>(text: &'a [u8], asked: &mut Asked<'a>) -> Option<&'a [u8]>
     ensures { IfSome result (λ after. Demands text.now asked.new after.now) }
 {
-    let [b' ', b'p', b'r', b'u', b'n', b'e', rest @ ..] = text else {
-        return None;
-    };
+    let rest = after_verb(text, b"\0\0 prune", 6)?;
     let (bound, rest) = number(rest)?;
     let after = after_line(rest)?;
     *asked = Asked::Prune { bound };
@@ -221,9 +196,7 @@ pub fn prune<'a>(text: &'a [u8], asked: &mut Asked<'a>) -> Option<&'a [u8]>
 pub fn logs<'a>(text: &'a [u8], asked: &mut Asked<'a>) -> Option<&'a [u8]>
     ensures { IfSome result (λ after. Demands text.now asked.new after.now) }
 {
-    let [b' ', b'l', b'o', b'g', b's', rest @ ..] = text else {
-        return None;
-    };
+    let rest = after_verb(text, b"\0\0\0 logs", 5)?;
     let after = after_line(rest)?;
     *asked = Asked::Logs;
     Some(after)

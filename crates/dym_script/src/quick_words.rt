@@ -1,16 +1,15 @@
 //! The operands of a line in the usual spelling, each read off at the front of a text.
-ghost use Rattle.std.specs.Prelude.{◌≡◌, ◌<◌, ◌≤◌, ◌-◌, ◌^◌, ◌∷◌, length, IfSome};
+ghost use Rattle.std.specs.Prelude.{◌≡◌, ℕ, get_or, ◌<◌, ◌≤◌, ◌-◌, ◌*◌, ◌^◌, ◌∷◌, ◌++◌, length, drop, IfSome};
 ghost use Rattle.dym_script.specs.Quick.{Counts, Sizes, Begins};
 ghost use Rattle.dym_script.specs.Words.{number_to, handle_of, handle_or_nil_of, hex_of};
 ghost use Rattle.dym_script.specs.Asks.{bytes_or_none};
 
+use crate::numerals::{digits, first_word};
 use crate::places::are_hex_digits;
+use crate::sizes::size;
 use dym_base::Handle;
 use dym_base::limits::MOST_READ_BYTES;
 use memchr::memchr;
-
-/// The most bytes that are looked at for a number and the byte after it. More digits might not fit.
-const NUMBER_BYTES: usize = 19;
 
 /// The text after a space.
 #[inline(always)]
@@ -23,6 +22,44 @@ pub fn after_space(text: &[u8]) -> Option<&[u8]>
     }
 }
 
+/// The text after a verb and the space before it, which have fewer than eight bytes and are compared at once: `padded` ends with
+/// them. Nothing is said where the text has fewer than eight bytes.
+#[inline(always)]
+pub fn after_verb<'a>(text: &'a [u8], padded: &[u8; 8], length: usize) -> Option<&'a [u8]>
+    requires some { 0 < length }
+    requires few { length < 8 }
+    ensures { IfSome result (λ rest. text.now ≡ drop (8 - length) padded.now ++ rest.now) }
+{
+    bytes_fit(padded);
+    let word = first_word(text)?;
+    if word << (64 - 8 * length) != u64::from_le_bytes(*padded) {
+        return None;
+    }
+    Some(&text[length..])
+}
+
+/// The text after a byte.
+#[inline(always)]
+pub fn after_byte(text: &[u8], byte: u8) -> Option<&[u8]>
+    ensures { IfSome result (λ rest. text.now ≡ byte ∷ rest.now) }
+{
+    let [first, rest @ ..] = text else {
+        return None;
+    };
+    if *first != byte {
+        return None;
+    }
+    Some(rest)
+}
+
+/// A law: each of the bytes fits in eight bits.
+#[inline(always)]
+fn bytes_fit(bytes: &[u8])
+    ensures { (k : ℕ) → get_or bytes.now k 0 < 256 }
+{
+    let _ = bytes.len();
+}
+
 /// The text after a line end.
 #[inline(always)]
 pub fn after_line(text: &[u8]) -> Option<&[u8]>
@@ -32,26 +69,6 @@ pub fn after_line(text: &[u8]) -> Option<&[u8]>
         [b'\n', rest @ ..] => Some(rest),
         _ => None,
     }
-}
-
-/// The number that digits write, and the text after them.
-#[inline(always)]
-fn digits(text: &[u8]) -> Option<(u64, &[u8])>
-    ensures counts { IfSome result (λ cut. Counts text.now cut.0 cut.1.now) }
-    ensures within { IfSome result (λ cut. cut.0 < 2 ^ 64) }
-{
-    let (front, _) = text.split_at(text.len().min(NUMBER_BYTES));
-    let mut value = 0;
-    for (at, byte) in front.iter().enumerate() {
-        if !byte.is_ascii_digit() {
-            if at == 0 {
-                return None;
-            }
-            return Some((value, &text[at..]));
-        }
-        value = value * 10 + u64::from(byte - b'0');
-    }
-    None
 }
 
 /// Digits that write a number below `2^32`.
@@ -111,69 +128,6 @@ pub fn read_len(text: &[u8]) -> Option<(u32, &[u8])>
         return None;
     }
     Some((number, rest))
-}
-
-/// The class exponent of a chunk size that a colon follows, and the text after the colon.
-#[inline(always)]
-fn size(text: &[u8]) -> Option<(u8, &[u8])>
-    ensures { IfSome result (λ cut. Sizes text.now cut.0 cut.1.now) }
-{
-    match small_size(text) {
-        Some(cut) => Some(cut),
-        None => great_size(text),
-    }
-}
-
-/// The same of the chunk sizes up to 1,024.
-#[inline(always)]
-fn small_size(text: &[u8]) -> Option<(u8, &[u8])>
-    ensures { IfSome result (λ cut. Sizes text.now cut.0 cut.1.now) }
-{
-    if let [b'3', b'2', b':', rest @ ..] = text {
-        return Some((5, rest));
-    }
-    if let [b'6', b'4', b':', rest @ ..] = text {
-        return Some((6, rest));
-    }
-    if let [b'1', b'2', b'8', b':', rest @ ..] = text {
-        return Some((7, rest));
-    }
-    if let [b'2', b'5', b'6', b':', rest @ ..] = text {
-        return Some((8, rest));
-    }
-    if let [b'5', b'1', b'2', b':', rest @ ..] = text {
-        return Some((9, rest));
-    }
-    if let [b'1', b'0', b'2', b'4', b':', rest @ ..] = text {
-        return Some((10, rest));
-    }
-    None
-}
-
-/// The same of the others.
-#[inline(always)]
-fn great_size(text: &[u8]) -> Option<(u8, &[u8])>
-    ensures { IfSome result (λ cut. Sizes text.now cut.0 cut.1.now) }
-{
-    if let [b'2', b'0', b'4', b'8', b':', rest @ ..] = text {
-        return Some((11, rest));
-    }
-    if let [b'4', b'0', b'9', b'6', b':', rest @ ..] = text {
-        return Some((12, rest));
-    }
-    if let [b'8', b'1', b'9', b'2', b':', rest @ ..] = text {
-        return Some((13, rest));
-    }
-    if let [b'1', b'6', b'3', b'8', b'4', b':', rest @ ..] = text {
-        return Some((14, rest));
-    }
-    if let [b'3', b'2', b'7', b'6', b'8', b':', rest @ ..] = text {
-        return Some((15, rest));
-    }
-    if let [b'6', b'5', b'5', b'3', b'6', b':', rest @ ..] = text {
-        return Some((16, rest));
-    }
-    None
 }
 
 /// A handle.

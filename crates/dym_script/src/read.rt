@@ -5,13 +5,14 @@ ghost use Rattle.dym_script.specs.Lines.{lines_of};
 ghost use Rattle.dym_script.specs.Plain.{is_plain};
 ghost use Rattle.dym_script.specs.Scripts.{script_of, said, read_line, read_lines, is_printable};
 ghost use Rattle.dym_script.specs.Answers.{Gives, GivesLine, GivesCounts, IsLawful};
-ghost use Rattle.dym_script.specs.Readers.{IsKept, seen, CountsNext};
+ghost use Rattle.dym_script.specs.Readers.{IsKept, seen};
 
 use crate::asked::Ask;
+use crate::counting::Counting;
 use crate::line_fail::LineFail;
 use crate::line_tests::is_plain;
 use crate::lines::next_line;
-use crate::reader::{Next, Reader};
+use crate::reader::Reader;
 use crate::script::{Counts, Line, Script, ScriptFail};
 use dym_base::BadKind;
 use dym_base::limits::{MOST_COMMANDS, MOST_INPUT_BYTES};
@@ -73,23 +74,7 @@ pub fn count_script(alloc: Global, bytes: &[u8]) -> Result<Counts, ScriptFail>
             kind: BadKind::TooLong,
         });
     }
-    let mut commands = 0;
-    let plain = is_plain(bytes);
-    let mut reader = Reader::new(alloc);
-    let mut rest = bytes;
-    let mut number = 0;
-    while !rest.is_empty() {
-        number += 1;
-        match count_next(alloc, &mut reader, &mut commands, number, rest, plain) {
-            Ok(after) => rest = after,
-            Err(LineFail::Bad(kind)) => return Err(ScriptFail::Bad { line: number, kind }),
-            Err(LineFail::Memory) => return Err(ScriptFail::Memory),
-        }
-    }
-    Ok(Counts {
-        objects: reader.objects.len() as u32,
-        commands,
-    })
+    Counting::new(alloc).finish(alloc, bytes)
 }
 
 /// Reads a line, and takes the command that it asks.
@@ -116,34 +101,4 @@ fn take_line(
         lines.push(Line { object, command })?;
     }
     Ok(())
-}
-
-/// Reads the first line of a text, and counts the command that it asks. The text after the line is left.
-#[inline(always)]
-fn count_next<'a>(
-    alloc: Global,
-    reader: &mut Reader,
-    commands: &mut u32,
-    number: u32,
-    text: &'a [u8],
-    plain: bool,
-) -> Result<&'a [u8], LineFail>
-    requires kept { IsKept reader.old }
-    requires some { 0 < length text.now }
-    requires plain { plain ≡ true → list_all is_plain text.now ≡ true }
-    requires few { commands.old ≤ MOST_COMMANDS }
-    ensures kept { OnOk result (IsKept reader.new) }
-    ensures few { OnOk result (commands.new ≤ MOST_COMMANDS) }
-    ensures shorter { IfOk result (λ rest. length rest.now < length text.now) }
-    ensures plain { IfOk result (λ rest. plain ≡ true → list_all is_plain rest.now ≡ true) }
-    ensures read { CountsNext commands.old commands.new (seen reader.new) number result (λ lines. read_lines (seen reader.old lines) number (lines_of text.now)) }
-{
-    let Next { ask, rest } = reader.read_next(alloc, number, text, plain)?;
-    if ask.is_some() {
-        if *commands as usize == MOST_COMMANDS {
-            return Err(LineFail::Bad(BadKind::Many));
-        }
-        *commands += 1;
-    }
-    Ok(rest)
 }

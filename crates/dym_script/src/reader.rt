@@ -5,7 +5,7 @@ use crate::asked::{Ask, Asked};
 use crate::line_fail::LineFail;
 use crate::line_tests::{is_printable_line, is_version, unknown};
 use crate::lines::{next_line, next_word, two_words};
-use crate::near::Near;
+use crate::near::{Near, key_of};
 use crate::places::number_to;
 use crate::quick::{front_name, quick_rest};
 use crate::script::Decl;
@@ -42,7 +42,7 @@ impl Reader {
     ghost use Rattle.dym_base.specs.Names.{is_name};
     ghost use Rattle.dym_script.specs.Lines.{words_of, lines_of};
     ghost use Rattle.dym_script.specs.Plain.{is_plain};
-    ghost use Rattle.dym_script.specs.Readers.{IsKept, seen, IsWithin, AsksOf, AsksAtEnd, GivesReading, GivesSaid, Declares, Finds, IsNamed, IsNext, GivesNext};
+    ghost use Rattle.dym_script.specs.Readers.{IsKept, seen, IsWithin, GivesReading, GivesSaid, Declares, Finds, IsNamed, IsNext, GivesNext};
 
     /// A reader that has read nothing.
     pub fn new(alloc: Global) -> Reader
@@ -78,13 +78,14 @@ impl Reader {
         ensures within { IfOk result (λ next. IsWithin self.new next.ask) }
         ensures shorter { IfOk result (λ next. length next.rest.now < length text.now) }
         ensures plain { IfOk result (λ next. plain ≡ true → list_all is_plain next.rest.now ≡ true) }
-        ensures read { GivesNext (seen self.new) number result (λ lines. read_lines (seen self.old lines) number (lines_of text.now)) }
+        ensures read { GivesNext (seen self.old) (seen self.new) number text.now result }
     {
         if plain {
-            if let Some((ask, rest)) = self.next_quickly(text) {
+            let mut asked = Asked::Logs;
+            if let Some((object, rest)) = self.next_quickly(text, &mut asked) {
                 self.begun = true;
-                self.last = ask.object;
-                let ask = Some(ask);
+                self.last = object;
+                let ask = Some(Ask { object, asked });
                 return Ok(Next { ask, rest });
             }
         }
@@ -109,7 +110,7 @@ impl Reader {
         ensures within { IfOk result (λ next. IsWithin self.new next.ask) }
         ensures shorter { IfOk result (λ next. length next.rest.now < length text.now) }
         ensures plain { IfOk result (λ next. plain ≡ true → list_all is_plain next.rest.now ≡ true) }
-        ensures read { GivesNext (seen self.new) number result (λ lines. read_lines (seen self.old lines) number (lines_of text.now)) }
+        ensures read { GivesNext (seen self.old) (seen self.new) number text.now result }
     {
         let Some((line, rest)) = next_line(text) else {
             unreachable!();
@@ -120,25 +121,20 @@ impl Reader {
         }
     }
 
-    /// What the first line of a plain text asks, where it is in the usual spelling, and the text after the line.
+    /// The object that the first line of a plain text asks something of, where it is in the usual spelling, and the text after
+    /// the line. What is asked goes into a place.
     #[inline(always)]
-    pub fn next_quickly<'a>(&self, text: &'a [u8]) -> Option<(Ask<'a>, &'a [u8])>
+    pub fn next_quickly<'a>(&self, text: &'a [u8], asked: &mut Asked<'a>) -> Option<(u32, &'a [u8])>
         requires kept { IsKept self.now }
         requires plain { list_all is_plain text.now ≡ true }
-        ensures { IfSome result (λ next. IsNext self.now text.now next.0 next.1.now) }
+        ensures { IfSome result (λ next. IsNext self.now text.now (record { object = next.0; asked = asked.new }) next.1.now) }
     {
         let (object, words) = self.object_at(text)?;
-        let mut asked = Asked::Logs;
-        let rest = quick_rest(words, &mut asked)?;
+        let rest = quick_rest(words, asked)?;
         if text.len() - rest.len() > MOST_LINE_BYTES + 1 {
             return None;
         }
-        let ask = Ask {
-            object,
-            words,
-            asked,
-        };
-        Some((ask, rest))
+        Some((object, rest))
     }
 
     /// The place of the object whose name stands at the front of a text, and the text after the name.
@@ -160,22 +156,25 @@ impl Reader {
         ensures { IfSome result (λ words. IsNamed self.now text.now self.now.last words.now) }
     {
         let name = self.last_name()?;
-        let words = text.strip_prefix(name)?;
-        if words.first() != Some(&b' ') {
+        if text.len() <= name.len() {
+            return None;
+        }
+        let (front, words) = text.split_at(name.len());
+        if front != name || words.first() != Some(&b' ') {
             return None;
         }
         Some(words)
     }
 
     /// The place of any object whose name stands at the front of a text, and the text after the name.
-    #[inline(never)]
+    #[inline(always)]
     fn any_at<'a>(&self, text: &'a [u8]) -> Option<(u32, &'a [u8])>
         requires { IsKept self.now }
         ensures { IfSome result (λ cut. IsNamed self.now text.now cut.0 cut.1.now) }
     {
-        let (name, words) = front_name(text)?;
-        let object = self.place_of(name)?;
-        Some((object, words))
+        let named = front_name(text)?;
+        let object = self.place_near(named.key, named.name)?;
+        Some((object, named.words))
     }
 
     /// Reads the line of this number, and hands on what it asks. Where the whole input is known to be plain, no byte of
@@ -194,7 +193,6 @@ impl Reader {
         ensures grown { OnOk result (length self.old.objects.items ≤ length self.new.objects.items) }
         ensures by_one { OnOk result (length self.new.objects.items ≤ length self.old.objects.items + 1) }
         ensures within { IfOk result (IsWithin self.new) }
-        ensures asks { IfOk result (AsksAtEnd line.now) }
         ensures read { GivesReading (seen self.new) result (λ lines. read_line (seen self.old lines) number line.now) }
     {
         if line.len() > MOST_LINE_BYTES {
@@ -222,7 +220,6 @@ impl Reader {
         ensures grown { OnOk result (length self.old.objects.items ≤ length self.new.objects.items) }
         ensures by_one { OnOk result (length self.new.objects.items ≤ length self.old.objects.items + 1) }
         ensures within { IfOk result (IsWithin self.new) }
-        ensures asks { IfOk result (AsksOf words.now) }
         ensures read { GivesReading (seen self.new) result (λ lines. read_words (seen self.old lines) number (first.now ∷ words_of words.now)) }
     {
         if first.first() == Some(&b'#') {
@@ -251,7 +248,6 @@ impl Reader {
         ensures grown { OnOk result (length self.old.objects.items ≤ length self.new.objects.items) }
         ensures by_one { OnOk result (length self.new.objects.items ≤ length self.old.objects.items + 1) }
         ensures within { IfOk result (IsWithin self.new) }
-        ensures asks { IfOk result (AsksOf words.now) }
         ensures read { GivesSaid (λ lines. (seen self.new lines).said) result (λ lines. say (seen self.old lines).said number first.now (words_of words.now)) }
     {
         if first == b"object".as_slice() {
@@ -265,11 +261,7 @@ impl Reader {
             let asked = verb.asked(operands)?;
             let object = self.asked_of(first)?;
             self.last = object;
-            Ok(Some(Ask {
-                object,
-                words,
-                asked,
-            }))
+            Ok(Some(Ask { object, asked }))
         }
     }
 
@@ -320,7 +312,7 @@ impl Reader {
     {
         let key = Vec::from_slice(alloc, decl.name.bytes())?;
         let place = self.objects.len() as u32;
-        self.near.keep(decl.name.bytes(), place);
+        self.near.keep(key_of(decl.name.bytes()), place);
         self.names.insert(key, place)?;
         self.objects.push(decl)?;
         Ok(())
@@ -345,7 +337,18 @@ impl Reader {
         ensures within { IfSome result (λ place. place < length self.now.objects.items) }
         ensures name { IfSome result (λ _. is_name name.now ≡ true) }
     {
-        let near = self.near.place(name);
+        self.place_near(key_of(name), name)
+    }
+
+    /// The same where the name's key is known.
+    #[inline(never)]
+    fn place_near(&self, key: u32, name: &[u8]) -> Option<u32>
+        requires { IsKept self.now }
+        ensures value { result ≡ object_of self.now.objects.items name.now }
+        ensures within { IfSome result (λ place. place < length self.now.objects.items) }
+        ensures name { IfSome result (λ _. is_name name.now ≡ true) }
+    {
+        let near = self.near.place(key);
         if self.is_named(near, name) {
             return Some(near);
         }

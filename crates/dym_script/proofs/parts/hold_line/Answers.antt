@@ -6,23 +6,20 @@ use Rattle.dym_script.specs.declared.script.Line.{Line}
 use Rattle.dym_script.specs.Asks.{asks}
 use Rattle.dym_script.specs.Scripts.{read_line}
 use Rattle.dym_script.specs.Readers.{seen}
-use Rattle.dym_script.proofs.Standing.{stands}
-use Rattle.dym_script.proofs.Holding.{holds_same, holds_push, read_push, asked_within, asked_at_end, below_most}
+use Rattle.dym_script.proofs.Holding.{holds_same, holds_push, read_push, asked_within, below_most}
 use Rattle.dym_script.proofs.parts.hold_line.Goals as goal
 
-pub returns-in_ok-take-clause-read : goal.returns-in_ok-take-clause-read
-returns-in_ok-take-clause-read c bytes at lines holds =
+pub returns-in_ok-keep-clause-read : goal.returns-in_ok-keep-clause-read
+returns-in_ok-keep-clause-read c lines holds =
     let r : Reader = c.args.reader.now in
     let s : Reader = c.read_line.new.self in
     let a : Ask = c.in-Some.field-0 in
     let line : Line = record { object = a.object; command = asks a.asked } in
     let is : c.in_ok-ask.ask ≡ Some a = search rules in
-    let same = holds_same bytes r s c.args.held.now c.open.new.self lines c.requires.lists c.in_ok-ask.ensures.grown c.in_ok-ask.ensures.kept c.in_ok-open.ensures.commands c.in_ok-open.ensures.holds holds in
+    let same = holds_same r s c.args.held.now c.open.new.self lines c.requires.lists c.in_ok-ask.ensures.grown c.in_ok-ask.ensures.kept c.in_ok-open.ensures.commands c.in_ok-open.ensures.tables c.in_ok-open.ensures.holds holds in
     let few : c.open.new.self.commands ≤ MOST_COMMANDS = omega (arith, c.in_ok-open.ensures.commands, c.requires.few) in
-    let room = below_most c.open.new.self.commands MOST_COMMANDS few c.if-held-eq-MOST_COMMANDS.false in
-    let said = asked_at_end c.args.line.now c.in_ok-ask.ask a is c.in_ok-ask.ensures.asks in
-    let found = stands bytes c.args.line.now a.words.now c.args.start at.0 (asks a.asked) at.1 said.0 said.1 in (
+    let room = below_most c.open.new.self.commands MOST_COMMANDS few c.if-held-eq-MOST_COMMANDS.false in (
       lines ++ line ∷ [],
-      holds_push bytes s c.open.new.self c.take.new.self lines line (asked_within s c.in_ok-ask.ask a is c.in_ok-ask.ensures.within) room c.in_ok-take.ensures.commands (c.in_ok-take.ensures.holds bytes lines line refl found same.each) same,
+      holds_push s c.open.new.self c.keep.new.self lines line (asked_within s c.in_ok-ask.ask a is c.in_ok-ask.ensures.within) room c.in_ok-keep.ensures.commands (c.in_ok-keep.ensures.holds lines line refl refl same.each) same,
       read_push s c.in_ok-ask.ask a c.open.new.self.commands lines (read_line (seen r lines) c.args.number c.args.line.now) is same.count c.if-held-eq-MOST_COMMANDS.false (c.in_ok-ask.ensures.read lines),
     )

@@ -2,4 +2,4 @@ use Rattle.dym_script.proofs.Holding.{have_all}
 use Rattle.dym_script.proofs.parts.joined.Goals as goal
 
 pub returns-clause-commands : goal.returns-clause-commands
-returns-clause-commands c bytes lines holds = have_all bytes c.loop-decl.parts.items c.args.lists.items lines c.loop-decl.invariant.within c.loop-decl.invariant.have holds
+returns-clause-commands c tables lines holds = have_all tables c.loop-decl.parts.items c.args.lists.items lines c.loop-decl.invariant.within c.loop-decl.invariant.have holds

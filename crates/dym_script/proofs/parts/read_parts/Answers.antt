@@ -4,7 +4,6 @@ use Rattle.dym_script.specs.Lines.{lines_of}
 use Rattle.dym_script.specs.Scripts.{read_lines}
 use Rattle.dym_script.specs.Readers.{seen}
 use Rattle.dym_script.specs.Held.{Holds, HoldsNext}
-use Rattle.dym_script.proofs.Ends.{end_of_end}
 use Rattle.dym_script.proofs.Holding.{parts_read, no_lines, good_next, bad_next}
 use Rattle.dym_script.proofs.parts.read_parts.Goals as goal
 
@@ -17,10 +16,10 @@ loop-rest-preserved c =
       kept = c.in-Ok.ensures.kept;
       lists = c.in-Ok.ensures.lists;
       few = c.in-Ok.ensures.few;
+      rows = c.in-Ok.ensures.rows;
       short = omega (arith, l.invariant.short, c.in-Ok.ensures.shorter);
-      ends = end_of_end after l.rest.now bytes c.in-Ok.ensures.after l.invariant.ends;
       plain = c.in-Ok.ensures.plain;
-      read = good_next bytes l.rest.now after l.reader c.hold_next.new.reader l.held c.hold_next.new.held (l.number + 1) (c.in-Ok.ensures.read bytes refl l.invariant.ends) l.invariant.read;
+      read = good_next bytes l.rest.now after l.reader c.hold_next.new.reader l.held c.hold_next.new.held (l.number + 1) c.in-Ok.ensures.read l.invariant.read;
     }
 
 pub returns-in-Err-Bad : goal.returns-in-Err-Bad
@@ -28,8 +27,8 @@ returns-in-Err-Bad c =
     let l = c.loop-rest in
     let bytes = c.args.bytes.now in
     let (lines, holds, read) = l.invariant.read in
-    let P : LineFail → Type 0 = λ e. HoldsNext (Holds bytes l.reader l.held) (Holds bytes c.hold_next.new.reader c.hold_next.new.held) (seen c.hold_next.new.reader) (l.number + 1) (Err e) (λ ls. read_lines (seen l.reader ls) (l.number + 1) (lines_of l.rest.now)) in
-    let bad = subst P c.in-Err-Bad.field-0-is (c.in-Err-Bad.ensures.read bytes refl l.invariant.ends) lines holds in
+    let P : LineFail → Type 0 = λ e. HoldsNext (Holds l.reader l.held) (Holds c.hold_next.new.reader c.hold_next.new.held) (seen c.hold_next.new.reader) (l.number + 1) (Err e) (λ ls. read_lines (seen l.reader ls) (l.number + 1) (lines_of l.rest.now)) in
+    let bad = subst P c.in-Err-Bad.field-0-is c.in-Err-Bad.ensures.read lines holds in
     bad_next bytes l.rest.now l.reader (l.number + 1) lines c.in-Err-Bad.kind c.if-bytes-gt-MOST_INPUT_BYTES.false read bad
     ∙ sym (ap (λ kind. Err (record { line = l.number + 1; kind = kind })) c.in-Err-Bad.kind-is)
 
@@ -39,4 +38,4 @@ returns-in-Ok-joined c =
     let empty : length l.rest.now ≡ 0 = search rules in
     let none = no_lines l.rest.now empty in
     let (lines, holds, read) = l.invariant.read in
-    parts_read c.args.bytes.now l.rest.now l.reader l.held l.number lines (record { version = l.reader.version; parts = c.in-Ok-joined.parts }) c.if-bytes-gt-MOST_INPUT_BYTES.false none holds read refl c.in-Ok-joined.ensures.decls c.in-Ok-joined.ensures.commands
+    parts_read c.args.bytes.now l.rest.now l.reader l.held l.number lines (record { version = l.reader.version; parts = c.in-Ok-joined.parts; tables = l.held.tables }) c.if-bytes-gt-MOST_INPUT_BYTES.false none holds read refl c.in-Ok-joined.ensures.decls refl c.in-Ok-joined.ensures.commands

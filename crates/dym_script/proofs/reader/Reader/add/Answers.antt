@@ -2,7 +2,7 @@ use Rattle.std.proofs.Common.{◌≡◌, [], ◌∙◌, length, Some, ap, rules}
 use Rattle.dym_script.specs.declared.reader.Reader.{Reader}
 use Rattle.dym_script.specs.Readers.{seen}
 use Rattle.dym_script.proofs.Index.{first_push}
-use Rattle.dym_script.proofs.Kept.{indexed_declare, lawful_declare, put_bytes}
+use Rattle.dym_script.proofs.KeptReader.{indexed_declare, lawful_declare, put_bytes}
 use Rattle.dym_script.proofs.reader.Reader.add.Goals as goal
 
 pub returns-clause-kept : goal.returns-clause-kept

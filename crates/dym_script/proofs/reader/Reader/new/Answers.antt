@@ -1,4 +1,4 @@
-use Rattle.dym_script.proofs.Kept.{kept_start}
+use Rattle.dym_script.proofs.KeptReader.{kept_start}
 use Rattle.dym_script.proofs.reader.Reader.new.Goals as goal
 
 pub returns-clause-kept : goal.returns-clause-kept

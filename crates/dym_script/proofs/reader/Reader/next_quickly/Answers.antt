@@ -1,6 +1,6 @@
-use Rattle.std.proofs.Common.{refl}
 use Rattle.dym_script.proofs.SpelledLines.{next_asked}
 use Rattle.dym_script.proofs.reader.Reader.next_quickly.Goals as goal
 
 pub returns : goal.returns
-returns c = next_asked c.args.self.now _ _ _ _ refl c.requires.kept c.in_ok-object.ensures c.in_ok-rest.ensures c.if-text-rest.false c.requires.plain
+returns c =
+    next_asked c.args.self.now _ _ _ _ c.requires.kept c.in_ok-object.ensures c.in_ok-rest.ensures c.if-text-rest.false c.requires.plain

@@ -1,0 +1,12 @@
+use Rattle.std.proofs.Common.{refl, arith}
+use Rattle.dym_script.proofs.Rows.{row_short, row_is}
+use Rattle.dym_script.proofs.sizes.guessed_size.Goals as goal
+
+pub slice_bounds-result-count : goal.slice_bounds-result-count
+slice_bounds-result-count c = omega (arith, row_short c.row_of-row.result c.row_of-row.ensures, c.in_ok-word.ensures.within)
+
+pub slice_bounds-result-start : goal.slice_bounds-result-start
+slice_bounds-result-start c = omega (arith, row_short c.row_of-row.result c.row_of-row.ensures, c.in_ok-word.ensures.within)
+
+pub returns : goal.returns
+returns c = row_is c.args.text.now _ c.in_ok-word.word c.row_of-row.result (λ i. omega (arith, c.type_inv.text i)) c.in_ok-word.ensures.within c.in_ok-word.ensures.word c.row_of-row.ensures c.if-word-length.false refl

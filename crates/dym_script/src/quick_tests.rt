@@ -1,0 +1,91 @@
+//! What no clause shows: that the guesses of the quick reader are right, so that a line in the usual spelling isn't read twice.
+use crate::near::key_of;
+use crate::numerals::few_digits;
+use crate::quick::front_name;
+use crate::sizes::guessed_size;
+
+#[test]
+fn few_digits_at_once(rt: HostRuntime) {
+    let table: [(&[u8], Option<u64>); 14] = [
+        (b"0\na logs", Some(0)),
+        (b"7 65536:9", Some(7)),
+        (b"10 32:0 5", Some(10)),
+        (b"042 9999", Some(42)),
+        (b"9999\n\n\n\n", Some(9999)),
+        (b"12345 67", Some(12_345)),
+        (b"999999 9", Some(999_999)),
+        (b"1234567 ", Some(1_234_567)),
+        (b"9/999999", Some(9)),
+        (b"8:999999", None),
+        (b"12345678", None),
+        (b" 1234567", None),
+        (b"x1234567", None),
+        (b"123456\n", None),
+    ];
+    for (text, wanted) in table {
+        let value = few_digits(text).map(|(value, _)| value);
+        assert_eq!(rt; value, wanted, "{text:?}");
+    }
+    assert_eq!(rt; few_digits(b"1234 678"), Some((1234, b" 678".as_slice())));
+}
+
+#[test]
+fn each_size_is_guessed(rt: HostRuntime) {
+    let table: [(&[u8], u8); 12] = [
+        (b"32:0 1\na", 5),
+        (b"64:12 345", 6),
+        (b"128:1 nil", 7),
+        (b"256:9\na logs", 8),
+        (b"512:4294967295", 9),
+        (b"1024:000", 10),
+        (b"2048:00:", 11),
+        (b"4096:::::", 12),
+        (b"8192:12\n", 13),
+        (b"16384:1\n", 14),
+        (b"32768:1\n", 15),
+        (b"65536:1\n", 16),
+    ];
+    for (text, exp) in table {
+        assert_eq!(rt;
+            guessed_size(text).map(|(exp, _)| exp),
+            Some(exp),
+            "{text:?}"
+        );
+    }
+    let others: [&[u8]; 6] = [
+        b"032:0 1\n",
+        b"48:0 1\na",
+        b"32768 1\n",
+        b"327680:1",
+        b"nil 1234",
+        b"64:0 1\n",
+    ];
+    for text in others {
+        assert_eq!(rt; guessed_size(text), None, "{text:?}");
+    }
+    assert_eq!(rt; guessed_size(b"128:17 4"), Some((7, b"17 4".as_slice())));
+}
+
+#[test]
+fn names_have_one_key(rt: HostRuntime) {
+    let table: [(&[u8], usize); 7] = [
+        (b"a logs\n", 1),
+        (b"a malloc 4", 1),
+        (b"ob_17 free 32:0", 5),
+        (b"s4095 sum 64:1", 5),
+        (b"seventy logs\n", 7),
+        (b"eight_08 logs\n", 8),
+        (b"abcdefghijklmnopqrstuvwxyz012345 logs\n", 32),
+    ];
+    for (text, length) in table {
+        let name = &text[..length];
+        match front_name(text) {
+            Some(named) => {
+                assert_eq!(rt; named.name, name);
+                assert_eq!(rt; named.key, key_of(name), "{text:?}");
+                assert_eq!(rt; named.words, &text[length..]);
+            }
+            None => assert!(rt; false, "{text:?}"),
+        }
+    }
+}

@@ -1,0 +1,134 @@
+//! The class size of a handle. Which one stands at the front of a text is a guess that takes no branch, from its first three
+//! bytes; the whole size and its colon are then compared, so that nothing but time rests on it.
+ghost use Rattle.std.specs.Prelude.{◌<◌, IfSome};
+ghost use Rattle.dym_script.specs.Quick.{Sizes};
+
+use crate::numerals::first_word;
+
+/// How many rows the tables of class sizes have. Twelve are in use, and the others repeat the first size.
+const ROWS: usize = 16;
+
+/// A multiple of the first three bytes of a class size with its colon tells the row, by four of its bits.
+const SPREAD: u64 = 4163;
+
+/// The text of each class size with its colon, in the highest bytes of a word, the first of them lowest.
+const TEXTS: [u64; ROWS] = [
+    0x3a32_3931_3800_0000,
+    0x3a32_3300_0000_0000,
+    0x3a34_3230_3100_0000,
+    0x3a32_3135_0000_0000,
+    0x3a36_3335_3536_0000,
+    0x3a32_3300_0000_0000,
+    0x3a32_3300_0000_0000,
+    0x3a34_3600_0000_0000,
+    0x3a36_3532_0000_0000,
+    0x3a38_3637_3233_0000,
+    0x3a38_3430_3200_0000,
+    0x3a32_3300_0000_0000,
+    0x3a34_3833_3631_0000,
+    0x3a38_3231_0000_0000,
+    0x3a32_3300_0000_0000,
+    0x3a36_3930_3400_0000,
+];
+
+/// How many bytes each of these texts has.
+const LENGTHS: [usize; ROWS] = [5, 3, 5, 4, 6, 3, 3, 3, 4, 6, 5, 3, 6, 4, 3, 5];
+
+/// The exponent of each class size.
+const EXPONENTS: [u8; ROWS] = [13, 5, 10, 9, 16, 5, 5, 6, 8, 15, 11, 5, 14, 7, 5, 12];
+
+/// The class exponent of a chunk size that a colon follows, and the text after the colon.
+#[inline(always)]
+pub fn size(text: &[u8]) -> Option<(u8, &[u8])>
+    ensures { IfSome result (λ cut. Sizes text.now cut.0 cut.1.now) }
+{
+    match guessed_size(text) {
+        Some(cut) => Some(cut),
+        None => any_size(text),
+    }
+}
+
+/// The same where eight bytes or more are left.
+#[inline(always)]
+pub fn guessed_size(text: &[u8]) -> Option<(u8, &[u8])>
+    ensures { IfSome result (λ cut. Sizes text.now cut.0 cut.1.now) }
+{
+    let word = first_word(text)?;
+    let row = row_of(word);
+    let length = LENGTHS[row];
+    if word << (64 - 8 * length) != TEXTS[row] {
+        return None;
+    }
+    Some((EXPONENTS[row], &text[length..]))
+}
+
+/// The row of the class size whose text a word seems to begin with.
+#[inline(always)]
+fn row_of(word: u64) -> usize
+    ensures { result < ROWS }
+{
+    (word.wrapping_mul(SPREAD) >> 20) as usize % ROWS
+}
+
+/// The same of any text.
+#[inline(never)]
+fn any_size(text: &[u8]) -> Option<(u8, &[u8])>
+    ensures { IfSome result (λ cut. Sizes text.now cut.0 cut.1.now) }
+{
+    match small_size(text) {
+        Some(cut) => Some(cut),
+        None => great_size(text),
+    }
+}
+
+/// The same of the chunk sizes up to 1,024.
+#[inline(always)]
+fn small_size(text: &[u8]) -> Option<(u8, &[u8])>
+    ensures { IfSome result (λ cut. Sizes text.now cut.0 cut.1.now) }
+{
+    if let [b'3', b'2', b':', rest @ ..] = text {
+        return Some((5, rest));
+    }
+    if let [b'6', b'4', b':', rest @ ..] = text {
+        return Some((6, rest));
+    }
+    if let [b'1', b'2', b'8', b':', rest @ ..] = text {
+        return Some((7, rest));
+    }
+    if let [b'2', b'5', b'6', b':', rest @ ..] = text {
+        return Some((8, rest));
+    }
+    if let [b'5', b'1', b'2', b':', rest @ ..] = text {
+        return Some((9, rest));
+    }
+    if let [b'1', b'0', b'2', b'4', b':', rest @ ..] = text {
+        return Some((10, rest));
+    }
+    None
+}
+
+/// The same of the others.
+#[inline(always)]
+fn great_size(text: &[u8]) -> Option<(u8, &[u8])>
+    ensures { IfSome result (λ cut. Sizes text.now cut.0 cut.1.now) }
+{
+    if let [b'2', b'0', b'4', b'8', b':', rest @ ..] = text {
+        return Some((11, rest));
+    }
+    if let [b'4', b'0', b'9', b'6', b':', rest @ ..] = text {
+        return Some((12, rest));
+    }
+    if let [b'8', b'1', b'9', b'2', b':', rest @ ..] = text {
+        return Some((13, rest));
+    }
+    if let [b'1', b'6', b'3', b'8', b'4', b':', rest @ ..] = text {
+        return Some((14, rest));
+    }
+    if let [b'3', b'2', b'7', b'6', b'8', b':', rest @ ..] = text {
+        return Some((15, rest));
+    }
+    if let [b'6', b'5', b'5', b'3', b'6', b':', rest @ ..] = text {
+        return Some((16, rest));
+    }
+    None
+}
