@@ -1,9 +1,10 @@
 pub mod RunFacts
 pub mod ObjectText
 pub mod PassedOn
-pub mod PlacedFacts
+pub mod KeptFacts
 pub mod PartFacts
 pub mod MadePlans
 pub mod Served
 pub mod SummaryFacts
 pub mod WrittenReplies
+pub mod CountedBlocks

@@ -1,7 +1,6 @@
 -- A run of an object by commands, as far as it has come.
-use Rattle.std.proofs.Common.{◌≡◌, ℕ, suc, ◌+◌, ◌-◌, ◌<◌, set, length-append, arith, List, [], ◌∷◌, ◌++◌, length, drop, get_or, sym, ap, ◌∙◌, add-one, drop-cons, append_assoc, append-nil, le_of_eq}
+use Rattle.std.proofs.Common.{◌≡◌, ℕ, suc, ◌+◌, ◌<◌, List, [], ◌∷◌, ◌++◌, length, drop, get_or, sym, ap, ◌∙◌, add-one, drop-cons, append_assoc, append-nil, le_of_eq}
 use Rattle.std.proofs.Math.ListN.{drop_of_length-le}
-use Rattle.std.proofs.Math.Seq.{set-append_seam}
 use Rattle.dym_base.specs.Objects.{ObjectAnswer, object_step, replies_from, object_after}
 use Rattle.dym_base.specs.declared.command.Version.{Version}
 use Rattle.dym_base.specs.declared.command.Command.{Command}
@@ -37,12 +36,6 @@ ran_more start now next commands i c replies reply within at ran replied after v
           ∙ ran.replied;
       ends = ap (λ s. object_after v q s rest) left ∙ ap (object_after v q (state_of now)) (sym cut) ∙ ran.ends;
     }
-
--- a reply that is written over the last of some
-pub last_written : (old more : List Reply) (place reply : Reply) (n : ℕ) → more ≡ old ++ place ∷ [] → n ≡ length more → set more (n - 1) reply ≡ old ++ reply ∷ []
-last_written old more place reply n is all =
-    let at : n - 1 ≡ length old = omega (arith, all, ap length is, length-append old (place ∷ [])) in
-    (λ j. set (is j) (at j) reply) ∙ set-append_seam old place [] reply
 
 -- after the last command
 pub ran_all : (start now : ObjectMeaning) (commands : List Command) (i : ℕ) (replies : List Reply) → length commands ≡ i → Ran start now commands i replies

@@ -71,7 +71,7 @@ cut_true true x y is = refl
 cut_true false x y is = absurd (cc)
 
 -- an input that is too long has one verdict, whatever its bytes
-too_long : (bytes : List ℕ) → MOST_INPUT_BYTES < length bytes → script_of bytes ≡ Err (record { line = 0; kind = bad.TooLong })
+pub too_long : (bytes : List ℕ) → MOST_INPUT_BYTES < length bytes → script_of bytes ≡ Err (record { line = 0; kind = bad.TooLong })
 unfolding script_of
 too_long bytes long =
     let test : nat_lt MOST_INPUT_BYTES (length bytes) ≡ true = grind (arith, nat_tests) in
@@ -81,10 +81,10 @@ drop_front : (n : ℕ) (xs ys : List ℕ) → length xs ≡ n → drop n (xs ++ 
 drop_front n xs ys is = ap (λ k. drop k (xs ++ ys)) (sym is) ∙ drop-append_seam xs ys
 
 -- what was read is the whole input, or both are too long
-abbrev SameVerdict : List ℕ → List ℕ → Type 0
+abbrev pub SameVerdict : List ℕ → List ℕ → Type 0
 SameVerdict read all = (read ≡ all) ⊎ ((MOST_INPUT_BYTES < length read) × (MOST_INPUT_BYTES < length all))
 
-read_so : (n : ℕ) (all read more : List ℕ) → n ≡ MOST_INPUT_BYTES + 1 → all ≡ read ++ more → length read ≤ n → (more ≡ []) ⊎ (length read ≡ n)
+pub read_so : (n : ℕ) (all read more : List ℕ) → n ≡ MOST_INPUT_BYTES + 1 → all ≡ read ++ more → length read ≤ n → (more ≡ []) ⊎ (length read ≡ n)
     → (more ≡ drop n all) × SameVerdict read all
 read_so n all read more limit is within (inl none) =
     let same : all ≡ read = is ∙ ap (λ l. read ++ l) none ∙ append-nil read in

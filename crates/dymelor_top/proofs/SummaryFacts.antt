@@ -14,16 +14,18 @@ use Rattle.dym_base.specs.declared.command.Version.{Version}
 use Rattle.dym_base.specs.declared.command.Command.{Command}
 use Rattle.dym_base.specs.declared.reply.Reply.{Reply}
 use Rattle.dym_object.specs.Meaning.{ObjectMeaning, state_of}
+use Rattle.dym_script.specs.declared.kept.Tables.{Tables}
 use Rattle.dym_script.specs.declared.script.Line.{Line}
-use Rattle.dym_script.specs.declared.parts.Placed.{Placed}
+use Rattle.dym_script.specs.declared.parts.KeptPart.{KeptPart}
 use Rattle.dym_script.specs.declared.parts.Parts.{Parts}
 use Rattle.dym_script.specs.Held.{ArePartsOf}
 use Rattle.dym_script.specs.Scripts.{Said, own}
-use Rattle.dym_script.specs.Placed.{commands_at, EachStands}
+use Rattle.dym_script.specs.Kept.{kept_commands}
+use Rattle.dym_script.specs.Parts.{EachKeepsOwn}
 use Rattle.dymelor_top.specs.declared.tally.Tally.{Tally}
 use Rattle.dymelor_top.specs.Parts.{own_of}
 use Rattle.dymelor_top.specs.Report.{objects_of}
-use Rattle.dymelor_top.proofs.PlacedFacts.{stand_length}
+use Rattle.dymelor_top.proofs.KeptFacts.{are_length}
 use Rattle.dymelor_top.proofs.PartFacts.{OwnsFrom, owns_first, owns_later, owns_all, parts_are_objects}
 use Rattle.dymelor_top.proofs.WrittenReplies.{replies_both, after_both}
 use Rattle.dymelor_top.specs.Summary.{is_refusal, tally_of, no_tally, both_tallies, tally_all, totals_of}
@@ -74,33 +76,33 @@ reach_all [] = refl
 reach_all (x ∷ xs) =
     omega (arith, sum_by-cons (λ (line : Line). cond (nat_le 0 line.object) 1 0) x xs, cond-true {A = ℕ} (nat_le 0 x.object) 1 0 (le-leb 0 x.object (omega arith)), reach_all xs)
 
-commands_from : (bytes : List ℕ) (s : Said) (k : ℕ) (parts : List Placed) → OwnsFrom bytes s k parts → All (λ line. line.object < k + length parts) s.lines → sum_by (λ part. length part.places.items) parts ≡ reach k s.lines
-commands_from bytes s k [] owns all = sym (reach_none k s.lines (All-weaker (λ line. line.object < k + 0) (λ line. line.object < k) (λ line below. omega (arith, below)) s.lines all))
-commands_from bytes s k (p ∷ ps) owns all =
+commands_from : (tables : Tables) (s : Said) (k : ℕ) (parts : List KeptPart) → OwnsFrom tables s k parts → All (λ line. line.object < k + length parts) s.lines → sum_by (λ part. length part.commands.items) parts ≡ reach k s.lines
+commands_from tables s k [] owns all = sym (reach_none k s.lines (All-weaker (λ line. line.object < k + 0) (λ line. line.object < k) (λ line below. omega (arith, below)) s.lines all))
+commands_from tables s k (p ∷ ps) owns all =
     let within : All (λ line. line.object < (k + 1) + length ps) s.lines =
     All-weaker (λ line. line.object < k + suc (length ps)) (λ line. line.object < (k + 1) + length ps) (λ line below. omega (arith, below)) s.lines all in
     omega (
       arith,
-      sum_by-cons (λ (part : Placed). length part.places.items) p ps,
-      stand_length bytes p.places.items (own s k) (owns_first bytes s k p ps owns),
+      sum_by-cons (λ (part : KeptPart). length part.commands.items) p ps,
+      are_length tables p.commands.items (own s k) (owns_first tables s k p ps owns),
       own_length s k,
       split_reach k s.lines,
-      commands_from bytes s (k + 1) ps (owns_later bytes s k p ps owns) within,
+      commands_from tables s (k + 1) ps (owns_later tables s k p ps owns) within,
     )
 
 -- together the parts have as many commands as the script has lines
-pub commands_all : (bytes : List ℕ) (s : Said) (parts : List Placed) → EachStands bytes parts s → length parts ≡ length s.objects → All (λ line. line.object < length s.objects) s.lines
-    → sum_by (λ part. length part.places.items) parts ≡ length s.lines
-commands_all bytes s parts owns same declared =
+pub commands_all : (tables : Tables) (s : Said) (parts : List KeptPart) → EachKeepsOwn tables parts s → length parts ≡ length s.objects → All (λ line. line.object < length s.objects) s.lines
+    → sum_by (λ part. length part.commands.items) parts ≡ length s.lines
+commands_all tables s parts owns same declared =
     let all : All (λ line. line.object < 0 + length parts) s.lines =
     All-weaker (λ line. line.object < length s.objects) (λ line. line.object < 0 + length parts) (λ line below. omega (arith, below, same)) s.lines declared in
-    commands_from bytes s 0 parts (owns_all bytes s parts owns) all ∙ reach_all s.lines
+    commands_from tables s 0 parts (owns_all tables s parts owns) all ∙ reach_all s.lines
 
-pub objects_of_parts : (bytes : List ℕ) (parts : Parts) (s : Said) → ArePartsOf bytes parts s → length parts.parts.items ≡ length s.objects
-objects_of_parts bytes parts s are = sym (length-map parts.parts.items (λ (p : Placed). p.decl)) ∙ ap length are.decls
+pub objects_of_parts : (parts : Parts) (s : Said) → ArePartsOf parts s → length parts.parts.items ≡ length s.objects
+objects_of_parts parts s are = sym (length-map parts.parts.items (λ (p : KeptPart). p.decl)) ∙ ap length are.decls
 
-pub commands_of_parts : (bytes : List ℕ) (parts : Parts) (s : Said) → ArePartsOf bytes parts s → sum_by (λ part. length part.places.items) parts.parts.items ≡ length s.lines
-commands_of_parts bytes parts s are = commands_all bytes s parts.parts.items are.commands (objects_of_parts bytes parts s are) are.lawful.declared
+pub commands_of_parts : (parts : Parts) (s : Said) → ArePartsOf parts s → sum_by (λ part. length part.commands.items) parts.parts.items ≡ length s.lines
+commands_of_parts parts s are = commands_all parts.tables s parts.parts.items are.commands (objects_of_parts parts s are) are.lawful.declared
 
 -- ---- sums of tallies
 
@@ -120,34 +122,34 @@ tally_regroup a b c = λ i. record { ok = regroup a.ok b.ok c.ok i; refused = re
     regroup x y z = omega arith
 
 -- after the first i parts were counted, what they come to with the others is what all come to
-abbrev pub Counted : List ℕ → Version → List Placed → ℕ → Tally → Type 0
-Counted bytes v parts i tally = both_tallies tally (tally_all v (map (own_of bytes) (drop i parts))) ≡ tally_all v (map (own_of bytes) parts)
+abbrev pub Counted : Tables → Version → List KeptPart → ℕ → Tally → Type 0
+Counted tables v parts i tally = both_tallies tally (tally_all v (map (own_of tables) (drop i parts))) ≡ tally_all v (map (own_of tables) parts)
 
-pub counted_more : (bytes : List ℕ) (v : Version) (parts : List Placed) (i : ℕ) (p : Placed) (tally more new : Tally) → i < length parts → p ≡ get_or parts i p
-    → Counted bytes v parts i tally → more ≡ tally_of v (own_of bytes p) → new ≡ both_tallies tally more → Counted bytes v parts (i + 1) new
-counted_more bytes v parts i p tally more new within at counted is sum =
-    let rest : List Placed = drop (i + 1) parts in
+pub counted_more : (tables : Tables) (v : Version) (parts : List KeptPart) (i : ℕ) (p : KeptPart) (tally more new : Tally) → i < length parts → p ≡ get_or parts i p
+    → Counted tables v parts i tally → more ≡ tally_of v (own_of tables p) → new ≡ both_tallies tally more → Counted tables v parts (i + 1) new
+counted_more tables v parts i p tally more new within at counted is sum =
+    let rest : List KeptPart = drop (i + 1) parts in
     let cut : drop i parts ≡ p ∷ rest = rw (add-one, drop-cons parts i p within) (λ j. sym at j ∷ drop (suc i) parts) in
-    ap (λ t. both_tallies t (tally_all v (map (own_of bytes) rest))) sum
-    ∙ tally_regroup tally more (tally_all v (map (own_of bytes) rest))
-    ∙ ap (λ t. both_tallies tally (both_tallies t (tally_all v (map (own_of bytes) rest)))) is
-    ∙ ap (λ ps. both_tallies tally (tally_all v (map (own_of bytes) ps))) (sym cut)
+    ap (λ t. both_tallies t (tally_all v (map (own_of tables) rest))) sum
+    ∙ tally_regroup tally more (tally_all v (map (own_of tables) rest))
+    ∙ ap (λ t. both_tallies tally (both_tallies t (tally_all v (map (own_of tables) rest)))) is
+    ∙ ap (λ ps. both_tallies tally (tally_all v (map (own_of tables) ps))) (sym cut)
     ∙ counted
 
-pub counted_all : (bytes : List ℕ) (v : Version) (parts : List Placed) (i : ℕ) (tally : Tally) → length parts ≡ i → Counted bytes v parts i tally → tally ≡ tally_all v (map (own_of bytes) parts)
-counted_all bytes v parts i tally all counted =
+pub counted_all : (tables : Tables) (v : Version) (parts : List KeptPart) (i : ℕ) (tally : Tally) → length parts ≡ i → Counted tables v parts i tally → tally ≡ tally_all v (map (own_of tables) parts)
+counted_all tables v parts i tally all counted =
     let none : drop i parts ≡ [] = drop_of_length-le parts (le_of_eq all) in
-    sym (tally_last tally) ∙ ap (λ ps. both_tallies tally (tally_all v (map (own_of bytes) ps))) (sym none) ∙ counted
+    sym (tally_last tally) ∙ ap (λ ps. both_tallies tally (tally_all v (map (own_of tables) ps))) (sym none) ∙ counted
 
 -- the totals of a script's parts
-pub total_is : (bytes : List ℕ) (parts : Parts) (s : Said) (tally : Tally) (objects : ℕ) → ArePartsOf bytes parts s → tally ≡ tally_all parts.version (map (own_of bytes) parts.parts.items)
-    → tally.ok + tally.refused ≡ sum_by (λ part. length part.places.items) parts.parts.items → objects ≡ length parts.parts.items
+pub total_is : (parts : Parts) (s : Said) (tally : Tally) (objects : ℕ) → ArePartsOf parts s → tally ≡ tally_all parts.version (map (own_of parts.tables) parts.parts.items)
+    → tally.ok + tally.refused ≡ sum_by (λ part. length part.commands.items) parts.parts.items → objects ≡ length parts.parts.items
     → record { objects = objects; commands = tally.ok + tally.refused; ok = tally.ok; refused = tally.refused; chunks = tally.chunks; segments = tally.segments; kept = tally.kept; slots = tally.slots } ≡ totals_of s
-total_is bytes parts s tally objects are is replies len =
-    let ps : List Placed = parts.parts.items in
-    let all : tally ≡ tally_all s.version (objects_of s) = is ∙ (λ i. tally_all (sym are.version i) (parts_are_objects bytes s ps are.decls are.commands i)) in
-    let count : objects ≡ length s.objects = len ∙ objects_of_parts bytes parts s are in
-    let commands : tally.ok + tally.refused ≡ length s.lines = replies ∙ commands_of_parts bytes parts s are in
+total_is parts s tally objects are is replies len =
+    let ps : List KeptPart = parts.parts.items in
+    let all : tally ≡ tally_all s.version (objects_of s) = is ∙ (λ i. tally_all (sym are.version i) (parts_are_objects parts.tables s ps are.decls are.commands i)) in
+    let count : objects ≡ length s.objects = len ∙ objects_of_parts parts s are in
+    let commands : tally.ok + tally.refused ≡ length s.lines = replies ∙ commands_of_parts parts s are in
     λ i. record {
       objects = count i;
       commands = commands i;
@@ -229,10 +231,10 @@ counted replies s = record {
   slots = slots s.logs;
 }
 
-tally_is : (bytes : List ℕ) (v : Version) (part : Placed)
-    → tally_of v (own_of bytes part) ≡ counted (replies_from v part.decl.quota object_start (commands_at bytes part.places.items)) (object_after v part.decl.quota object_start (commands_at bytes part.places.items))
+tally_is : (tables : Tables) (v : Version) (part : KeptPart)
+    → tally_of v (own_of tables part) ≡ counted (replies_from v part.decl.quota object_start (kept_commands tables part.commands.items)) (object_after v part.decl.quota object_start (kept_commands tables part.commands.items))
 unfolding tally_of
-tally_is bytes v part = refl
+tally_is tables v part = refl
 
 -- few logs are kept, and they take few records
 pub slots_few : (logs : List LogEntry) → IsLogList logs → slots logs ≤ 287
@@ -246,9 +248,9 @@ log_list keep start now commands begun ends =
     subst (λ (s : ObjectState). IsLogList s.logs) (sym (ends ∙ ap (λ s. object_after start.heap.version start.heap.quota s commands) begun)) (keep start.heap.version start.heap.quota commands)
 
 -- those of a run are what the part comes to
-pub tally_shown : (bytes : List ℕ) (part : Placed) (start : ObjectMeaning) (commands : List Command)
-    → commands ≡ commands_at bytes part.places.items → start.heap.quota ≡ part.decl.quota → state_of start ≡ object_start
-    → counted (replies_from start.heap.version start.heap.quota (state_of start) commands) (object_after start.heap.version start.heap.quota (state_of start) commands) ≡ tally_of start.heap.version (own_of bytes part)
-tally_shown bytes part start commands same quota begun =
+pub tally_shown : (tables : Tables) (part : KeptPart) (start : ObjectMeaning) (commands : List Command)
+    → commands ≡ kept_commands tables part.commands.items → start.heap.quota ≡ part.decl.quota → state_of start ≡ object_start
+    → counted (replies_from start.heap.version start.heap.quota (state_of start) commands) (object_after start.heap.version start.heap.quota (state_of start) commands) ≡ tally_of start.heap.version (own_of tables part)
+tally_shown tables part start commands same quota begun =
     let v : Version = start.heap.version in
-    (λ i. counted (replies_from v (quota i) (begun i) (same i)) (object_after v (quota i) (begun i) (same i))) ∙ sym (tally_is bytes v part)
+    (λ i. counted (replies_from v (quota i) (begun i) (same i)) (object_after v (quota i) (begun i) (same i))) ∙ sym (tally_is tables v part)

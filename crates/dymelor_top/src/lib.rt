@@ -4,7 +4,9 @@
 #![tactic(auto)]
 
 mod answer;
+mod counts;
 mod laws;
+mod lender;
 mod plain;
 mod plan;
 mod still;

@@ -6,11 +6,12 @@ ghost use Rattle.dym_object.specs.Meaning.{state_of};
 ghost use Rattle.dym_report.specs.Replies.{reply_line};
 ghost use Rattle.dym_script.specs.Scripts.{Said};
 ghost use Rattle.dym_script.specs.Held.{ArePartsOf};
-ghost use Rattle.dym_script.specs.Placed.{command_at, commands_at};
+ghost use Rattle.dym_script.specs.Kept.{kept_command, kept_commands};
 ghost use Rattle.dymelor_top.specs.Parts.{IsRunnable, own_of};
 ghost use Rattle.dymelor_top.specs.Report.{part_text, report_text};
 ghost use Rattle.dymelor_top.specs.declared.stop.WriteFail.TheVariants.{Sink as SinkFailed};
 
+use crate::lender::Lender;
 use crate::stop::WriteFail;
 use dym_base::{Command, Reply, Version};
 use dym_chain::VecKeep;
@@ -18,23 +19,18 @@ use dym_io::Sink;
 use dym_object::Object;
 use dym_quota::OwnSupply;
 use dym_report::{write_end, write_heading, write_replies, write_state};
-use dym_script::{Parts, Placed, read_commands};
+use dym_script::{Kept, KeptPart, Parts, Tables};
 use std::alloc::{AllocError, Global};
 
-/// How many commands are read and run at a time.
+/// How many commands are run before their replies are written.
 pub const BATCH: usize = 256;
 
-/// Writes the report of a script, one object after another. Its commands are read where they stand in the input.
-pub fn write_report<W: Sink>(
-    alloc: Global,
-    bytes: &[u8],
-    script: &Parts,
-    sink: &mut W,
-) -> Result<(), WriteFail>
-    requires made { (s : Said) × ArePartsOf bytes.now script.now s }
-    ensures { (s : Said) → ArePartsOf bytes.now script.now s → WritesOr (λ fail. fail ≡ SinkFailed) (W.output sink.old) (W.output sink.new) (report_text s) result }
+/// Writes the report of a script, one object after another. Each command is put out of what is kept of it as it runs.
+pub fn write_report<W: Sink>(alloc: Global, script: &Parts, sink: &mut W) -> Result<(), WriteFail>
+    requires made { (s : Said) × ArePartsOf script.now s }
+    ensures { (s : Said) → ArePartsOf script.now s → WritesOr (λ fail. fail ≡ SinkFailed) (W.output sink.old) (W.output sink.new) (report_text s) result }
 {
-    write_parts(alloc, script.version, bytes, &script.parts, sink)?;
+    write_parts(alloc, script.version, &script.tables, &script.parts, sink)?;
     write_end(sink)?;
     Ok(())
 }
@@ -43,40 +39,44 @@ pub fn write_report<W: Sink>(
 fn write_parts<W: Sink>(
     alloc: Global,
     version: Version,
-    bytes: &[u8],
-    parts: &[Placed],
+    tables: &Tables,
+    parts: &[KeptPart],
     sink: &mut W,
 ) -> Result<(), WriteFail>
-    requires { All (IsRunnable bytes.now) parts.now }
-    ensures { WritesOr (λ fail. fail ≡ SinkFailed) (W.output sink.old) (W.output sink.new) (flat_map (λ part. part_text version (own_of bytes.now part)) parts.now) result }
+    requires { All (IsRunnable tables.now) parts.now }
+    ensures { WritesOr (λ fail. fail ≡ SinkFailed) (W.output sink.old) (W.output sink.new) (flat_map (λ part. part_text version (own_of tables.now part)) parts.now) result }
 {
+    let mut lender = Lender::new(alloc);
     for part in parts {
-        write_part(alloc, version, bytes, part, sink)?;
+        write_part(alloc, version, tables, part, &mut lender, sink)?;
     }
     Ok(())
 }
 
-/// Opens an object, runs its commands and writes its part. Its segments are back when the call returns.
+/// Opens an object, runs its commands and writes its part. Its segments are lent, and back when the call returns.
 fn write_part<W: Sink>(
     alloc: Global,
     version: Version,
-    bytes: &[u8],
-    part: &Placed,
+    tables: &Tables,
+    part: &KeptPart,
+    lender: &mut Lender,
     sink: &mut W,
 ) -> Result<(), WriteFail>
-    requires { IsRunnable bytes.now part.now }
-    ensures { WritesOr (λ fail. fail ≡ SinkFailed) (W.output sink.old) (W.output sink.new) (part_text version (own_of bytes.now part.now)) result }
+    requires { IsRunnable tables.now part.now }
+    ensures { WritesOr (λ fail. fail ≡ SinkFailed) (W.output sink.old) (W.output sink.new) (part_text version (own_of tables.now part.now)) result }
 {
-    let mut object = open_object(alloc, version, part.decl.quota)?;
-    let written = write_run(alloc, &mut object, bytes, part, sink);
-    object.end(&());
+    let mut object = open_object(alloc, version, lender, part.decl.quota)?;
+    let written = write_run(alloc, &mut object, tables, part, sink);
+    let (supply, _) = object.end(&());
+    lender.take_back(supply);
     written
 }
 
-/// An object with an empty heap and no log, whose segments and records are its own.
+/// An object with an empty heap and no log, whose segments are lent and whose records are its own.
 pub fn open_object(
     alloc: Global,
     version: Version,
+    lender: &mut Lender,
     quota: u32,
 ) -> Result<Object<OwnSupply, VecKeep>, AllocError>
     requires least { 1 ≤ quota }
@@ -86,7 +86,7 @@ pub fn open_object(
     ensures start { IfOk result (λ o. state_of o ≡ object_start) }
     ensures ran { IfOk result (λ o. o.ran ≡ 0) }
 {
-    let supply = OwnSupply::open(alloc, quota)?;
+    let supply = lender.lend(alloc, quota)?;
     let keep = VecKeep::open(alloc)?;
     match Object::open_as(alloc, supply, keep, version) {
         Ok(object) => Ok(object),
@@ -98,68 +98,83 @@ pub fn open_object(
 fn write_run<W: Sink>(
     alloc: Global,
     object: &mut Object<OwnSupply, VecKeep>,
-    bytes: &[u8],
-    part: &Placed,
+    tables: &Tables,
+    part: &KeptPart,
     sink: &mut W,
 ) -> Result<(), WriteFail>
-    requires runnable { IsRunnable bytes.now part.now }
+    requires runnable { IsRunnable tables.now part.now }
     requires quota { object.old.heap.quota ≡ part.now.decl.quota }
     requires start { state_of object.old ≡ object_start }
     requires ran { object.old.ran ≡ 0 }
-    ensures { WritesOr (λ fail. fail ≡ SinkFailed) (W.output sink.old) (W.output sink.new) (part_text object.old.heap.version (own_of bytes.now part.now)) result }
+    ensures { WritesOr (λ fail. fail ≡ SinkFailed) (W.output sink.old) (W.output sink.new) (part_text object.old.heap.version (own_of tables.now part.now)) result }
 {
     write_heading(sink, &part.decl.name)?;
-    run_and_write(alloc, object, bytes, &part.places, sink)?;
+    run_and_write(alloc, object, tables, &part.commands, sink)?;
     write_state(sink, object.heap(), object.kept(), object.slots())?;
     Ok(())
 }
 
-/// Runs the commands that stand at places of the input, and writes their replies, some at a time.
+/// Runs commands that are kept, and writes their replies, some at a time.
 fn run_and_write<W: Sink>(
     alloc: Global,
     object: &mut Object<OwnSupply, VecKeep>,
-    bytes: &[u8],
-    places: &[u32],
+    tables: &Tables,
+    kept: &[Kept],
     sink: &mut W,
 ) -> Result<(), WriteFail>
-    requires few { length places.now ≤ 2 ^ 20 }
-    requires found { All (λ place. IsSome (command_at bytes.now place)) places.now }
+    requires few { length kept.now ≤ 2 ^ 20 }
+    requires found { All (λ one. IsSome (kept_command tables.now one)) kept.now }
     requires ran { object.old.ran ≡ 0 }
     ensures replies { WritesOr (λ fail. fail ≡ SinkFailed) (W.output sink.old) (W.output sink.new)
-        (flat_map reply_line (replies_from object.old.heap.version object.old.heap.quota (state_of object.old) (commands_at bytes.now places.now))) result }
-    ensures state { OnOk result (state_of object.new ≡ object_after object.old.heap.version object.old.heap.quota (state_of object.old) (commands_at bytes.now places.now)) }
+        (flat_map reply_line (replies_from object.old.heap.version object.old.heap.quota (state_of object.old) (kept_commands tables.now kept.now))) result }
+    ensures state { OnOk result (state_of object.new ≡ object_after object.old.heap.version object.old.heap.quota (state_of object.old) (kept_commands tables.now kept.now)) }
     ensures version { OnOk result (object.new.heap.version ≡ object.old.heap.version) }
 {
-    let mut commands = Vec::new(alloc);
-    let mut rest = places;
+    let mut replies = Vec::new(alloc);
+    let mut rest = kept;
     while !rest.is_empty() {
         let (batch, after) = rest.split_at(rest.len().min(BATCH));
-        read_commands(alloc, bytes, batch, &mut commands)?;
-        let replies = run(alloc, object, &commands)?;
+        run(alloc, object, tables, batch, &mut replies)?;
         write_replies(sink, &replies)?;
         rest = after;
     }
     Ok(())
 }
 
-/// The replies to commands, each written where it then stands.
+/// Runs commands that are kept, and writes their replies over those that the vector has, whose memory serves again.
 pub fn run(
     alloc: Global,
     object: &mut Object<OwnSupply, VecKeep>,
-    commands: &[Command],
-) -> Result<Vec<Reply>, AllocError>
-    requires few { object.old.ran + length commands.now ≤ 2 ^ 20 }
-    ensures replies { IfOk result (λ replies. replies.items ≡ replies_from object.old.heap.version object.old.heap.quota (state_of object.old) commands.now) }
-    ensures state { OnOk result (state_of object.new ≡ object_after object.old.heap.version object.old.heap.quota (state_of object.old) commands.now) }
+    tables: &Tables,
+    kept: &[Kept],
+    replies: &mut Vec<Reply>,
+) -> Result<(), AllocError>
+    requires few { object.old.ran + length kept.now ≤ 2 ^ 20 }
+    requires found { All (λ one. IsSome (kept_command tables.now one)) kept.now }
+    ensures replies { OnOk result (replies.new.items ≡ replies_from object.old.heap.version object.old.heap.quota (state_of object.old) (kept_commands tables.now kept.now)) }
+    ensures state { OnOk result (state_of object.new ≡ object_after object.old.heap.version object.old.heap.quota (state_of object.old) (kept_commands tables.now kept.now)) }
     ensures version { OnOk result (object.new.heap.version ≡ object.old.heap.version) }
     ensures quota { OnOk result (object.new.heap.quota ≡ object.old.heap.quota) }
-    ensures ran { OnOk result (object.new.ran ≡ object.old.ran + length commands.now) }
+    ensures ran { OnOk result (object.new.ran ≡ object.old.ran + length kept.now) }
 {
-    let mut replies = Vec::with_capacity(alloc, commands.len())?;
-    for command in commands {
-        replies.push_reserved(Reply::Done);
-        let last = replies.len() - 1;
-        object.run_into(&(), alloc, command, &mut replies[last])?;
+    make_places(kept.len(), replies)?;
+    let mut command = Command::Logs;
+    for (index, one) in kept.iter().enumerate() {
+        one.put(alloc, tables, &mut command)?;
+        object.run_into(&(), alloc, &command, &mut replies[index])?;
     }
-    Ok(replies)
+    Ok(())
+}
+
+/// Makes a vector so many replies long. What they are is not said: they are to be written over.
+fn make_places(count: usize, replies: &mut Vec<Reply>) -> Result<(), AllocError>
+    ensures { OnOk result (length replies.new.items ≡ count) }
+{
+    replies.truncate(count);
+    let wanting = count - replies.len();
+    replies.reserve(wanting)?;
+    for _ in 0..wanting {
+        replies.push_reserved(Reply::Done);
+    }
+    Ok(())
 }

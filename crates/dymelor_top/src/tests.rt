@@ -499,6 +499,60 @@ fn answers_long_inputs(rt: HostRuntime) -> Result<(), Fail> {
 }
 
 #[test]
+fn counts_scripts_in_pieces(rt: HostRuntime) -> Result<(), Fail> {
+    let alloc = rt.alloc();
+    let mut long = String::from_str(alloc, "object a 1\n")?;
+    for _ in 0u32..30_000 {
+        long.push_str("a malloc 40\n")?;
+    }
+    let mut late = String::from_str(alloc, long.as_str())?;
+    late.push_str("a mallok 4\n\n")?;
+    let rows: [(&str, u8, &str); 5] = [
+        (FIRST, 0, "ok 1 1\n"),
+        ("object a 1\na malloc 40", 0, "ok 1 1\n"),
+        ("x\n# more\n", 2, "error line 1: command\n"),
+        (long.as_str(), 0, "ok 1 30000\n"),
+        (late.as_str(), 2, "error line 30002: command\n"),
+    ];
+    for (input, status, text) in rows {
+        for piece in [1, 7, 4_099, 65_536, 524_288] {
+            let from = Calls { piece, ..WHOLE };
+            let (found, bytes) = served(alloc, &["check"], input.as_bytes(), from, WHOLE)?;
+            assert_eq!(rt; found, status, "at {piece} of {text}");
+            assert_eq!(rt; bytes.as_slice(), text.as_bytes(), "at {piece} of {text}");
+        }
+    }
+    Ok(())
+}
+
+#[test]
+fn counts_read_on_behind_a_bad_line(rt: HostRuntime) -> Result<(), Fail> {
+    let alloc = rt.alloc();
+    let mut input = vec![in alloc; b'\n'; 16_777_217]?;
+    input[1] = b'x';
+    let rows: [(&[u8], &str); 2] = [
+        (&input, "error line 0: toolong\n"),
+        (&input[1..], "error line 1: command\n"),
+    ];
+    for (input, text) in rows {
+        let (found, bytes) = served(alloc, &["check"], input, WHOLE, WHOLE)?;
+        assert_eq!(rt; found, 2, "at {text}");
+        assert_eq!(rt; bytes.as_slice(), text.as_bytes(), "at {text}");
+    }
+    for call in 0u32..8 {
+        let from = Calls {
+            piece: 1,
+            fails: Some(call),
+            ..WHOLE
+        };
+        let (found, _) = served(alloc, &["check"], b"x\n# y\n", from, WHOLE)?;
+        let wanted = if call < 7 { 3 } else { 2 };
+        assert_eq!(rt; found, wanted, "at source call {call}");
+    }
+    Ok(())
+}
+
+#[test]
 fn names_the_declaration_that_is_one_too_many(rt: HostRuntime) -> Result<(), Fail> {
     let alloc = rt.alloc();
     let mut input = String::new(alloc);

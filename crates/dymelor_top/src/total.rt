@@ -5,10 +5,11 @@ ghost use Rattle.dym_base.specs.declared.limits.TheConstants.{MOST_OBJECTS, MOST
 ghost use Rattle.dym_object.specs.Meaning.{state_of};
 ghost use Rattle.dym_script.specs.Scripts.{Said};
 ghost use Rattle.dym_script.specs.Held.{ArePartsOf};
-ghost use Rattle.dym_script.specs.Placed.{command_at, commands_at};
+ghost use Rattle.dym_script.specs.Kept.{kept_command, kept_commands};
 ghost use Rattle.dymelor_top.specs.Parts.{IsRunnable, own_of};
 ghost use Rattle.dymelor_top.specs.Summary.{is_refusal, tally_of, tally_all, totals_of};
 
+use crate::lender::Lender;
 use crate::plain::{BATCH, open_object, run};
 use crate::tally::Tally;
 use dym_base::{Reply, Version, laws};
@@ -16,15 +17,15 @@ use dym_chain::VecKeep;
 use dym_object::Object;
 use dym_quota::OwnSupply;
 use dym_report::{Totals, live_chunks};
-use dym_script::{Parts, Placed, read_commands};
+use dym_script::{Kept, KeptPart, Parts, Tables};
 use std::alloc::{AllocError, Global};
 
-/// What the objects of a script come to. Its commands are read where they stand in the input.
-pub fn total(alloc: Global, bytes: &[u8], script: &Parts) -> Result<Totals, AllocError>
-    requires made { (s : Said) × ArePartsOf bytes.now script.now s }
-    ensures { IfOk result (λ totals. (s : Said) → ArePartsOf bytes.now script.now s → totals ≡ totals_of s) }
+/// What the objects of a script come to. Each command is put out of what is kept of it as it runs.
+pub fn total(alloc: Global, script: &Parts) -> Result<Totals, AllocError>
+    requires made { (s : Said) × ArePartsOf script.now s }
+    ensures { IfOk result (λ totals. (s : Said) → ArePartsOf script.now s → totals ≡ totals_of s) }
 {
-    let tally = tally_parts(alloc, script.version, bytes, &script.parts)?;
+    let tally = tally_parts(alloc, script.version, &script.tables, &script.parts)?;
     Ok(Totals {
         objects: script.parts.len() as u32,
         commands: tally.ok + tally.refused,
@@ -41,40 +42,43 @@ pub fn total(alloc: Global, bytes: &[u8], script: &Parts) -> Result<Totals, Allo
 fn tally_parts(
     alloc: Global,
     version: Version,
-    bytes: &[u8],
-    parts: &[Placed],
+    tables: &Tables,
+    parts: &[KeptPart],
 ) -> Result<Tally, AllocError>
-    requires runnable { All (IsRunnable bytes.now) parts.now }
+    requires runnable { All (IsRunnable tables.now) parts.now }
     requires objects { length parts.now ≤ MOST_OBJECTS }
-    requires commands { sum_by (λ part. length part.places.items) parts.now ≤ MOST_COMMANDS }
-    ensures counted { IfOk result (λ tally. tally ≡ tally_all version (map (own_of bytes.now) parts.now)) }
-    ensures replies { IfOk result (λ tally. tally.ok + tally.refused ≡ sum_by (λ part. length part.places.items) parts.now) }
+    requires commands { sum_by (λ part. length part.commands.items) parts.now ≤ MOST_COMMANDS }
+    ensures counted { IfOk result (λ tally. tally ≡ tally_all version (map (own_of tables.now) parts.now)) }
+    ensures replies { IfOk result (λ tally. tally.ok + tally.refused ≡ sum_by (λ part. length part.commands.items) parts.now) }
 {
     let mut tally = Tally::none();
+    let mut lender = Lender::new(alloc);
     for part in parts {
-        tally = tally.and(tally_part(alloc, version, bytes, part)?);
+        tally = tally.and(tally_part(alloc, version, tables, part, &mut lender)?);
     }
     Ok(tally)
 }
 
-/// Opens an object, runs its commands and counts what it comes to. Its segments are back when the call returns.
+/// Opens an object, runs its commands and counts what it comes to. Its segments are lent, and back when the call returns.
 fn tally_part(
     alloc: Global,
     version: Version,
-    bytes: &[u8],
-    part: &Placed,
+    tables: &Tables,
+    part: &KeptPart,
+    lender: &mut Lender,
 ) -> Result<Tally, AllocError>
-    requires { IsRunnable bytes.now part.now }
-    ensures counted { IfOk result (λ tally. tally ≡ tally_of version (own_of bytes.now part.now)) }
-    ensures replies { IfOk result (λ tally. tally.ok + tally.refused ≡ length part.now.places.items) }
+    requires { IsRunnable tables.now part.now }
+    ensures counted { IfOk result (λ tally. tally ≡ tally_of version (own_of tables.now part.now)) }
+    ensures replies { IfOk result (λ tally. tally.ok + tally.refused ≡ length part.now.commands.items) }
     ensures chunks { IfOk result (λ tally. tally.chunks ≤ 2 ^ 37) }
     ensures segments { IfOk result (λ tally. tally.segments ≤ MOST_QUOTA) }
     ensures kept { IfOk result (λ tally. tally.kept ≤ 256) }
     ensures slots { IfOk result (λ tally. tally.slots ≤ 287) }
 {
-    let mut object = open_object(alloc, version, part.decl.quota)?;
-    let tally = tally_run(alloc, &mut object, bytes, part);
-    object.end(&());
+    let mut object = open_object(alloc, version, lender, part.decl.quota)?;
+    let tally = tally_run(alloc, &mut object, tables, part);
+    let (supply, _) = object.end(&());
+    lender.take_back(supply);
     tally
 }
 
@@ -82,25 +86,25 @@ fn tally_part(
 fn tally_run(
     alloc: Global,
     object: &mut Object<OwnSupply, VecKeep>,
-    bytes: &[u8],
-    part: &Placed,
+    tables: &Tables,
+    part: &KeptPart,
 ) -> Result<Tally, AllocError>
-    requires runnable { IsRunnable bytes.now part.now }
+    requires runnable { IsRunnable tables.now part.now }
     requires quota { object.old.heap.quota ≡ part.now.decl.quota }
     requires start { state_of object.old ≡ object_start }
     requires ran { object.old.ran ≡ 0 }
-    ensures counted { IfOk result (λ tally. tally ≡ tally_of object.old.heap.version (own_of bytes.now part.now)) }
-    ensures replies { IfOk result (λ tally. tally.ok + tally.refused ≡ length part.now.places.items) }
+    ensures counted { IfOk result (λ tally. tally ≡ tally_of object.old.heap.version (own_of tables.now part.now)) }
+    ensures replies { IfOk result (λ tally. tally.ok + tally.refused ≡ length part.now.commands.items) }
     ensures chunks { IfOk result (λ tally. tally.chunks ≤ 2 ^ 37) }
     ensures segments { IfOk result (λ tally. tally.segments ≤ MOST_QUOTA) }
     ensures kept { IfOk result (λ tally. tally.kept ≤ 256) }
     ensures slots { IfOk result (λ tally. tally.slots ≤ 287) }
 {
     laws::runs_keep_logs();
-    let refused = refusals(alloc, object, bytes, &part.places)?;
+    let refused = refusals(alloc, object, tables, &part.commands)?;
     let heap = object.heap();
     Ok(Tally {
-        ok: part.places.len() as u32 - refused,
+        ok: part.commands.len() as u32 - refused,
         refused,
         chunks: live_chunks(heap),
         segments: u64::from(heap.held()),
@@ -109,27 +113,26 @@ fn tally_run(
     })
 }
 
-/// Runs the commands that stand at places of the input, of an object that ran none yet, and counts those that it refuses.
+/// Runs commands that are kept, of an object that ran none yet, and counts those that it refuses.
 fn refusals(
     alloc: Global,
     object: &mut Object<OwnSupply, VecKeep>,
-    bytes: &[u8],
-    places: &[u32],
+    tables: &Tables,
+    kept: &[Kept],
 ) -> Result<u32, AllocError>
-    requires few { length places.now ≤ 2 ^ 20 }
-    requires found { All (λ place. IsSome (command_at bytes.now place)) places.now }
+    requires few { length kept.now ≤ 2 ^ 20 }
+    requires found { All (λ one. IsSome (kept_command tables.now one)) kept.now }
     requires ran { object.old.ran ≡ 0 }
-    ensures within { IfOk result (λ n. n ≤ length places.now) }
-    ensures counted { IfOk result (λ n. n ≡ count_by is_refusal (replies_from object.old.heap.version object.old.heap.quota (state_of object.old) (commands_at bytes.now places.now))) }
-    ensures state { OnOk result (state_of object.new ≡ object_after object.old.heap.version object.old.heap.quota (state_of object.old) (commands_at bytes.now places.now)) }
+    ensures within { IfOk result (λ n. n ≤ length kept.now) }
+    ensures counted { IfOk result (λ n. n ≡ count_by is_refusal (replies_from object.old.heap.version object.old.heap.quota (state_of object.old) (kept_commands tables.now kept.now))) }
+    ensures state { OnOk result (state_of object.new ≡ object_after object.old.heap.version object.old.heap.quota (state_of object.old) (kept_commands tables.now kept.now)) }
 {
-    let mut commands = Vec::new(alloc);
+    let mut replies = Vec::new(alloc);
     let mut refused = 0;
-    let mut rest = places;
+    let mut rest = kept;
     while !rest.is_empty() {
         let (batch, after) = rest.split_at(rest.len().min(BATCH));
-        read_commands(alloc, bytes, batch, &mut commands)?;
-        let replies = run(alloc, object, &commands)?;
+        run(alloc, object, tables, batch, &mut replies)?;
         refused += refused_among(&replies);
         rest = after;
     }

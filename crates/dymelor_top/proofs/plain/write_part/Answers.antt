@@ -9,5 +9,5 @@ pub returns : goal.returns
 returns g c =
     let before = g.W.Sink.output c.args.sink.now in
     let after = g.W.Sink.output c.write_run-written.new.sink in
-    subst (λ v. WritesOr (λ failed. failed ≡ fail.Sink) before after (part_text v (own_of c.args.bytes.now c.args.part.now)) c.write_run-written.result)
+    subst (λ v. WritesOr (λ failed. failed ≡ fail.Sink) before after (part_text v (own_of c.args.tables.now c.args.part.now)) c.write_run-written.result)
     c.in_ok-object.ensures.version c.write_run-written.ensures

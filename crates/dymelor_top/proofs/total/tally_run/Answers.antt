@@ -4,9 +4,9 @@ use Rattle.dym_base.specs.Heaps.{held}
 use Rattle.dym_base.specs.Objects.{replies_from, object_after, slots}
 use Rattle.dym_heap.specs.Meaning.{HeapMeaning, IsSound}
 use Rattle.dym_object.specs.Meaning.{state_of}
-use Rattle.dym_script.specs.Placed.{commands_at}
+use Rattle.dym_script.specs.Kept.{kept_commands}
 use Rattle.dymelor_top.specs.Summary.{is_refusal}
-use Rattle.dymelor_top.proofs.PlacedFacts.{commands_count}
+use Rattle.dymelor_top.proofs.KeptFacts.{commands_count}
 use Rattle.dymelor_top.proofs.SummaryFacts.{not_refused, length_replies, counted, slots_few, log_list, tally_shown}
 use Rattle.dymelor_top.proofs.total.tally_run.Goals as goal
 
@@ -22,12 +22,12 @@ returns-clause-counted c =
     let now = c.refusals.new.object in
     let v = start.heap.version in
     let q = start.heap.quota in
-    let commands = commands_at c.args.bytes.now c.deref.result.now in
+    let commands = kept_commands c.args.tables.now c.deref.result.now in
     let replies = replies_from v q (state_of start) commands in
     let ends : object_after v q (state_of start) commands ≡ state_of now = sym c.in_ok-refused.ensures.state in
     let heap = c.heap-heap.ensures.heap in
     let sound : IsSound c.heap-heap.result.now = subst IsSound (sym heap) c.heap-heap.ensures.sound in
-    let all : c.len.result ≡ length replies = omega (arith, c.len.ensures, ap length c.deref.ensures.value, length_replies v q (state_of start) commands, commands_count c.args.bytes.now c.args.part.now.places.items c.requires.runnable.found, ap (λ ps. length (commands_at c.args.bytes.now ps)) c.deref.ensures.value) in
+    let all : c.len.result ≡ length replies = omega (arith, c.len.ensures, ap length c.deref.ensures.value, length_replies v q (state_of start) commands, commands_count c.args.tables.now c.args.part.now.commands.items c.requires.runnable.found, ap (λ ps. length (kept_commands c.args.tables.now ps)) c.deref.ensures.value) in
     let ok : c.len.result - c.in_ok-refused.refused ≡ count_by (λ r. not (is_refusal r)) replies = not_refused replies c.len.result c.in_ok-refused.refused all c.in_ok-refused.ensures.counted in
     let chunks : c.live_chunks.result ≡ len now.heap.state.live = c.live_chunks.ensures.counted ∙ ap (λ (h : HeapMeaning). len h.state.live) heap in
     let segments : c.from.result ≡ held now.heap.state.live = c.from.ensures ∙ c.held.ensures ∙ sound.holds ∙ ap (λ (h : HeapMeaning). held h.state.live) heap in
@@ -35,14 +35,14 @@ returns-clause-counted c =
     let records : c.from-3.result ≡ slots now.chain.logs = c.from-3.ensures ∙ c.slots.ensures.slots in
     (λ i. record { ok = ok i; refused = c.in_ok-refused.ensures.counted i; chunks = chunks i; segments = segments i; kept = kept i; slots = records i })
     ∙ ap (counted replies) (sym ends)
-    ∙ tally_shown c.args.bytes.now c.args.part.now start commands (ap (commands_at c.args.bytes.now) c.deref.ensures.value) c.requires.quota c.requires.start
+    ∙ tally_shown c.args.tables.now c.args.part.now start commands (ap (kept_commands c.args.tables.now) c.deref.ensures.value) c.requires.quota c.requires.start
 
 pub returns-clause-kept : goal.returns-clause-kept
 returns-clause-kept c =
-    let lawful = log_list c.runs_keep_logs.ensures c.args.object.now c.refusals.new.object (commands_at c.args.bytes.now c.deref.result.now) c.requires.start c.in_ok-refused.ensures.state in
+    let lawful = log_list c.runs_keep_logs.ensures c.args.object.now c.refusals.new.object (kept_commands c.args.tables.now c.deref.result.now) c.requires.start c.in_ok-refused.ensures.state in
     omega (arith, c.from-2.ensures, c.kept.ensures, lawful.0)
 
 pub returns-clause-slots : goal.returns-clause-slots
 returns-clause-slots c =
-    let lawful = log_list c.runs_keep_logs.ensures c.args.object.now c.refusals.new.object (commands_at c.args.bytes.now c.deref.result.now) c.requires.start c.in_ok-refused.ensures.state in
+    let lawful = log_list c.runs_keep_logs.ensures c.args.object.now c.refusals.new.object (kept_commands c.args.tables.now c.deref.result.now) c.requires.start c.in_ok-refused.ensures.state in
     omega (arith, c.from-3.ensures, c.slots.ensures.slots, slots_few c.refusals.new.object.chain.logs lawful)

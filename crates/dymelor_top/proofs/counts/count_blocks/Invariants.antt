@@ -1,0 +1,13 @@
+use Rattle.std.proofs.Common.{◌-◌, ◌≤◌, take}
+use Rattle.dym_base.specs.declared.limits.TheConstants.{MOST_INPUT_BYTES, MOST_LINE_BYTES}
+use Rattle.dymelor_top.proofs.CountedBlocks.{CountedSoFar}
+use Rattle.dymelor_top.proofs.counts.count_blocks.Given as goal
+
+abbrev pub invariant-pieces : goal.invariant-pieces
+invariant-pieces g l = record {
+  short : l.left ≤ MOST_LINE_BYTES;
+  counted : CountedSoFar (g.R.Source.left l.initial.source) (g.R.Source.left l.source) (g.R.Source.faults l.initial.source) (g.R.Source.faults l.source) l.counting (take l.left l.block) l.pulled;
+}
+
+abbrev pub decreases-pieces : goal.decreases-pieces
+decreases-pieces g l = MOST_INPUT_BYTES - l.pulled

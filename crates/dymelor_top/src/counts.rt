@@ -1,0 +1,150 @@
+//! Counts the script that a source gives, block by block, so that no input is kept whole.
+ghost use Rattle.std.specs.Prelude.{◌≡◌, ◌+◌, ◌-◌, ◌<◌, ◌≤◌, ℕ, List, [], ◌++◌, Some, Ok, Err, take, drop, length, IfOk, OnOk, OnErr, IsErrOf};
+ghost use Rattle.std.specs.Io.KnownBytes.{Consumes};
+ghost use Rattle.dym_io.specs.Faults.{Rose};
+ghost use Rattle.dym_io.specs.Source.{IsEmptyAtEnd};
+ghost use Rattle.dym_script.specs.Scripts.{script_of};
+ghost use Rattle.dym_script.specs.Answers.{GivesCounts};
+ghost use Rattle.dym_script.specs.declared.script.ScriptFail.TheVariants.{Bad};
+ghost use Rattle.dym_base.specs.declared.bad_kind.BadKind.TheVariants.{TooLong};
+ghost use Rattle.dymelor_top.specs.Counts.{IsFaultOf, Tells, IsDrained};
+
+use dym_base::BadKind;
+use dym_base::limits::{MOST_INPUT_BYTES, MOST_LINE_BYTES};
+use dym_io::{Failed, ReadFail, Source};
+use dym_script::{Counting, Counts, ScriptFail};
+use std::alloc::{AllocError, Global};
+
+/// The bytes of a block, which is little enough to stay in a cache.
+const BLOCK: usize = 262_144;
+
+/// Counts the script that a source gives, and answers what `count_script` does of its bytes. The source is read to its end,
+/// or for as many bytes as tell that the input is too long. The outer error: the source failed, or memory ran out before all
+/// was read.
+pub fn count_source<R: Source>(
+    alloc: Global,
+    source: &mut R,
+) -> Result<Result<Counts, ScriptFail>, ReadFail>
+    ensures counted { (bytes : List ℕ) → R.left source.old ≡ Some bytes → IfOk result (λ counted. GivesCounts counted (script_of bytes)) }
+    ensures read { (bytes : List ℕ) → R.left source.old ≡ Some bytes → OnOk result (R.left source.new ≡ Some (drop (MOST_INPUT_BYTES + 1) bytes)) }
+    ensures failed { IsErrOf result ReadFail.Source → Rose (R.faults source.old) (R.faults source.new) }
+{
+    let mut block = vec![in alloc; 0; BLOCK]?;
+    count_blocks(alloc, source, &mut block)
+}
+
+/// Counts the script that a source gives. What is pulled stands in the block behind the bytes of a line that wasn't ended.
+fn count_blocks<R: Source>(
+    alloc: Global,
+    source: &mut R,
+    block: &mut [u8],
+) -> Result<Result<Counts, ScriptFail>, ReadFail>
+    requires { MOST_LINE_BYTES < length block.old }
+    ensures counted { IfOk result (λ counted. Tells [] (R.left source.old) (R.left source.new) counted) }
+    ensures failed { IsErrOf result ReadFail.Source → Rose (R.faults source.old) (R.faults source.new) }
+{
+    let mut counting = Counting::new(alloc);
+    let mut left = 0;
+    let mut pulled = 0;
+    'pieces: loop {
+        let room = (block.len() - left).min(MOST_INPUT_BYTES + 1 - pulled);
+        let amount = pull_behind(source, block, left, room)?;
+        if amount == 0 {
+            return Ok(counting.finish(alloc, &block[..left]));
+        }
+        pulled += amount;
+        if pulled > MOST_INPUT_BYTES {
+            return Ok(Err(too_long()));
+        }
+        let end = left + amount;
+        match counting.take(alloc, &block[..end]) {
+            Ok(rest) => {
+                keep_end(block, end, rest);
+                left = rest;
+            }
+            Err(ScriptFail::Bad { line, kind }) => {
+                return Ok(Err(fault(source, block, pulled, line, kind)?));
+            }
+            Err(ScriptFail::Memory) => return Err(ReadFail::Memory),
+        }
+    }
+}
+
+/// Pulls the next bytes into a block behind those that are left there.
+fn pull_behind<R: Source>(
+    source: &mut R,
+    block: &mut [u8],
+    left: usize,
+    room: usize,
+) -> Result<usize, Failed>
+    requires some { 0 < room }
+    requires fits { left + room ≤ length block.old }
+    ensures amount { IfOk result (λ n. n ≤ room) }
+    ensures kept { OnOk result (take left block.new ≡ take left block.old) }
+    ensures taken { IfOk result (λ n. Consumes (R.left source.old) (R.left source.new) (take n (drop left block.new))) }
+    ensures end { IfOk result (IsEmptyAtEnd (R.left source.old)) }
+    ensures count { R.faults source.old ≤ R.faults source.new }
+    ensures failed { OnErr result (Rose (R.faults source.old) (R.faults source.new)) }
+{
+    source.pull(&mut block[left..left + room])
+}
+
+/// Moves the last bytes of those that stand in a block's front to its start.
+fn keep_end(block: &mut [u8], end: usize, rest: usize)
+    requires rest { rest ≤ end }
+    requires end { end ≤ length block.old }
+    ensures { take rest block.new ≡ drop (end - rest) (take end block.old) }
+{
+    block.copy_within(end - rest..end, 0);
+}
+
+/// What is wrong with an input whose first bad line is known. All of it is read first, since one that is too long has no
+/// other fault.
+fn fault<R: Source>(
+    source: &mut R,
+    block: &mut [u8],
+    pulled: usize,
+    line: u32,
+    kind: BadKind,
+) -> Result<ScriptFail, Failed>
+    requires some { 0 < length block.old }
+    requires within { pulled ≤ MOST_INPUT_BYTES }
+    ensures told { (front : List ℕ) → length front ≡ pulled → IsFaultOf front line kind → IfOk result (λ fail. Tells front (R.left source.old) (R.left source.new) (Err fail)) }
+    ensures failed { OnErr result (Rose (R.faults source.old) (R.faults source.new)) }
+{
+    let all = drain(source, block, pulled)?;
+    if all > MOST_INPUT_BYTES {
+        return Ok(too_long());
+    }
+    Ok(ScriptFail::Bad { line, kind })
+}
+
+/// Reads a source to its end, or until as many bytes were pulled as tell that the input is too long. Answers how many were
+/// pulled in all.
+fn drain<R: Source>(source: &mut R, block: &mut [u8], pulled: usize) -> Result<usize, Failed>
+    requires some { 0 < length block.old }
+    requires within { pulled ≤ MOST_INPUT_BYTES }
+    ensures drained { IfOk result (IsDrained pulled (R.left source.old) (R.left source.new)) }
+    ensures failed { OnErr result (Rose (R.faults source.old) (R.faults source.new)) }
+{
+    let mut all = pulled;
+    'pieces: while all <= MOST_INPUT_BYTES {
+        let room = block.len().min(MOST_INPUT_BYTES + 1 - all);
+        let amount = source.pull(&mut block[..room])?;
+        if amount == 0 {
+            break 'pieces;
+        }
+        all += amount;
+    }
+    Ok(all)
+}
+
+/// What is wrong with an input that is too long.
+fn too_long() -> ScriptFail
+    ensures { result ≡ Bad 0 TooLong }
+{
+    ScriptFail::Bad {
+        line: 0,
+        kind: BadKind::TooLong,
+    }
+}
