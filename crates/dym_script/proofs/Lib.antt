@@ -5,7 +5,7 @@ pub mod Numbers
 pub mod Tallies
 pub mod Moves
 pub mod KeptCommands
-pub mod Holding
+pub mod HeldLines
 pub mod Faults
 pub mod Hexes
 pub mod Asking
@@ -14,4 +14,5 @@ pub mod SpelledLines
 pub mod Fronts
 pub mod Rows
 pub mod VerbFronts
+pub mod PiecesRead
 pub mod Counted

@@ -13,7 +13,7 @@ use Rattle.dym_script.specs.declared.asked.Asked.{Asked}
 use Rattle.dym_script.specs.declared.asked.Ask.{Ask}
 use Rattle.dym_script.specs.declared.reader.Reader.{Reader}
 use Rattle.dym_script.specs.Lines.{lines_of, words_of}
-use Rattle.dym_script.specs.Scripts.{Said, Reading, object_of, ask_at, is_version, begin, is_printable, read_line, read_lines, go_on}
+use Rattle.dym_script.specs.Scripts.{Said, Reading, object_of, ask_at, is_version, begin, is_printable, read_line}
 use Rattle.dym_script.specs.Plain.{is_plain}
 use Rattle.dym_script.specs.Asks.{asks}
 use Rattle.dym_script.specs.Table.{verb_of, command_of}
@@ -98,13 +98,6 @@ first_demands name text after asked whole short good named =
       λ r number place object. read_asking r number place line name d.word d.words d.verb (asks asked) (omega arith) plain.0 (words_of_spelled name words bare d.bare) named d.named d.makes object,
     )
 
--- the first line of a text asks this of the object of this name, and then the rest is read
-pub read_demands : (r : Reading) (number place : ℕ) (name text after : List ℕ) (asked : Asked) → DemandsOf name text asked after → length text ≤ length after + (MOST_LINE_BYTES + 1) → list_all is_plain text ≡ true → is_name name ≡ true → object_of r.said.objects name ≡ Some place
-    → read_lines r number (lines_of text) ≡ go_on number (reading true (ask_at r.said (asks asked) (Some place))) (λ next. read_lines next (number + 1) (lines_of after))
-read_demands r number place name text after asked whole short good named object =
-    let (line, cut, read) = first_demands name text after asked whole short good named in
-    ap (read_lines r number) cut ∙ ap (λ o. go_on number o (λ next. read_lines next (number + 1) (lines_of after))) (read r number place object)
-
 -- after that line the text is plain where it was, and it is shorter
 pub rest_demands : (name text after : List ℕ) (asked : Asked) → DemandsOf name text asked after → is_name name ≡ true → list_all is_plain text ≡ true → (list_all is_plain after ≡ true) × (length after < length text)
 rest_demands name text after asked whole named good =
@@ -151,9 +144,4 @@ next_asked r text words rest ask kept names demands short good =
       shorter = after.1;
       plain = after.0;
       first = (line, cut, λ number lines. read (seen r lines) number ask.object names.found);
-      read = λ number lines. read_demands (seen r lines) number ask.object names.name text rest ask.asked whole (omega arith) good named names.found;
     }
-
--- the first line is read, and then the rest
-pub exact_next : (r : Reading) (number : ℕ) (text line rest : List ℕ) (o : Result Reading BadKind) → lines_of text ≡ line ∷ lines_of rest → read_line r number line ≡ o → read_lines r number (lines_of text) ≡ go_on number o (λ next. read_lines next (number + 1) (lines_of rest))
-exact_next r number text line rest o cut is = ap (read_lines r number) cut ∙ ap (λ p. go_on number p (λ next. read_lines next (number + 1) (lines_of rest))) is

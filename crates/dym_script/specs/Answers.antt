@@ -23,6 +23,16 @@ Gives (Ok script) read = read ≡ Ok (said script)
 Gives (Err (fail.Bad line kind)) read = read ≡ Err (record { line = line; kind = kind })
 Gives (Err fail.Memory) read = Unit {0}
 
+-- no script is read for this reason, which is what the grammar gives, unless memory ran out
+abbrev pub FailsSo : ScriptFail → Result Said Fault → Type 0
+FailsSo (fail.Bad line kind) read = read ≡ Err (record { line = line; kind = kind })
+FailsSo fail.Memory read = Unit {0}
+
+-- what a reader makes of a script is that of what the grammar gives, unless memory ran out
+abbrev pub GivesBy : {M : Type 0} → (M → Said → Type 0) → Result M ScriptFail → Result Said Fault → Type 0
+GivesBy tells (Ok made) read = (s : Said) × (read ≡ Ok s) × tells made s
+GivesBy tells (Err failed) read = FailsSo failed read
+
 -- how much is said
 abbrev pub counted : Result Said Fault → Result Counts Fault
 counted (Ok s) = Ok (record { objects = length s.objects; commands = length s.lines })

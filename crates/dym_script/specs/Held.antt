@@ -1,22 +1,20 @@
 -- Commands that are held for their objects while a script is read.
-use Rattle.std.specs.Prelude.{◌≡◌, ◌+◌, ◌<◌, ℕ, List, length, map, slice_index_or, Result, Ok, Err}
-use denote.Ref.{Bor}
+use Rattle.std.specs.Prelude.{◌≡◌, ◌<◌, ◌≤◌, ℕ, List, length, map, slice_index_or, Result, Ok, Err}
 use Rattle.std.specs.Global.{Vec}
+use Rattle.dym_base.specs.declared.limits.TheConstants.{MOST_COMMANDS}
 use Rattle.dym_base.specs.declared.bad_kind.BadKind.{BadKind}
 use Rattle.dym_script.specs.declared.line_fail.LineFail.{LineFail}
 use Rattle.dym_script.specs.declared.line_fail.LineFail.TheVariants as line
 use Rattle.dym_script.specs.declared.script.Line.{Line}
 use Rattle.dym_script.specs.declared.script.ScriptFail.{ScriptFail}
-use Rattle.dym_script.specs.declared.script.ScriptFail.TheVariants as fail
 use Rattle.dym_script.specs.declared.kept.Kept.{Kept}
 use Rattle.dym_script.specs.declared.kept.Tables.{Tables}
 use Rattle.dym_script.specs.declared.reader.Reader.{Reader}
 use Rattle.dym_script.specs.declared.parts.Held.{Held}
 use Rattle.dym_script.specs.declared.parts.Parts.{Parts}
-use Rattle.dym_script.specs.Lines.{lines_of}
-use Rattle.dym_script.specs.Scripts.{Said, Reading, Fault, read_lines}
-use Rattle.dym_script.specs.Answers.{IsLawful}
-use Rattle.dym_script.specs.Readers.{seen}
+use Rattle.dym_script.specs.Scripts.{Said, Reading, Fault}
+use Rattle.dym_script.specs.Answers.{IsLawful, GivesBy}
+use Rattle.dym_script.specs.Readers.{IsKept, seen}
 use Rattle.dym_script.specs.Parts.{commands_of, EachKeepsOwn}
 use Rattle.dym_script.specs.Kept.{AreKept}
 
@@ -36,11 +34,16 @@ HoldsLine before after seen (Ok _) read = (lines : List Line) → before lines �
 HoldsLine before after seen (Err (line.Bad kind)) read = (lines : List Line) → before lines → read lines ≡ Err kind
 HoldsLine before after seen (Err line.Memory) read = Unit {0}
 
--- where something is held before the first line of a text, so it is after it, of lines of which the grammar says the same before it reads the rest
-abbrev pub HoldsNext : (List Line → Type 0) → (List Line → Type 0) → (List Line → Reading) → ℕ → Result (Bor (List ℕ)) LineFail → (List Line → Result Said Fault) → Type 0
-HoldsNext before after seen number (Ok rest) read = (lines : List Line) → before lines → (more : List Line) × after more × (read lines ≡ read_lines (seen more) (number + 1) (lines_of rest.now))
-HoldsNext before after seen number (Err (line.Bad kind)) read = (lines : List Line) → before lines → read lines ≡ Err (record { line = number; kind = kind })
-HoldsNext before after seen number (Err line.Memory) read = Unit {0}
+-- the reader and what is held are fit for one line more
+pub record CanHold (r : Reader) (h : Held) : Type 0 where
+  pub kept : IsKept r
+  pub lists : length h.lists.items ≡ length r.objects.items
+  pub few : h.commands ≤ MOST_COMMANDS
+  pub rows : length h.tables.whole.items ≤ h.commands
+
+-- what is held is what the lines of this reading ask
+abbrev pub StandsHeld : Reader → Held → Reading → Type 0
+StandsHeld r h now = (lines : List Line) × Holds r h lines × (now ≡ seen r lines)
 
 -- the parts are those of what the grammar gives, which is lawful
 pub record ArePartsOf (parts : Parts) (s : Said) : Type 0 where
@@ -51,6 +54,4 @@ pub record ArePartsOf (parts : Parts) (s : Said) : Type 0 where
 
 -- the answer of the reader of parts is what the grammar gives, unless memory ran out
 abbrev pub GivesParts : Result Parts ScriptFail → Result Said Fault → Type 0
-GivesParts (Ok parts) read = (s : Said) × (read ≡ Ok s) × ArePartsOf parts s
-GivesParts (Err (fail.Bad line kind)) read = read ≡ Err (record { line = line; kind = kind })
-GivesParts (Err fail.Memory) read = Unit {0}
+GivesParts result read = GivesBy ArePartsOf result read

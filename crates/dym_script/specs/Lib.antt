@@ -7,6 +7,7 @@ pub mod Answers
 pub mod Asks
 pub mod Kept
 pub mod Readers
+pub mod Pieces
 pub mod Counting
 pub mod Parts
 pub mod Held

@@ -1,5 +1,5 @@
 -- What the reader of lines keeps between two lines, and what it hands on of one.
-use Rattle.std.specs.Prelude.{◌≡◌, ◌+◌, ◌<◌, ℕ, Bool, true, List, [], ◌∷◌, ◌++◌, length, slice_index_or, Option, None, Some, Result, Ok, Err, IsTrue}
+use Rattle.std.specs.Prelude.{◌≡◌, ◌<◌, ℕ, Bool, true, List, [], ◌∷◌, ◌++◌, length, slice_index_or, Option, None, Some, Result, Ok, Err, IsTrue}
 use Rattle.std.specs.List.{list_all}
 use Rattle.std.specs.Str.{bytes_eq}
 use Rattle.std.specs.HashMap.{get_by}
@@ -14,7 +14,7 @@ use Rattle.dym_script.specs.declared.reader.Next.{Next}
 use Rattle.dym_script.specs.declared.reader.Reader.{Reader}
 use Rattle.dym_script.specs.Lines.{lines_of}
 use Rattle.dym_script.specs.Plain.{is_plain}
-use Rattle.dym_script.specs.Scripts.{Said, Reading, object_of, ask_at, name_fault, read_line, read_lines, go_on}
+use Rattle.dym_script.specs.Scripts.{Said, Reading, object_of, ask_at, name_fault, read_line}
 use Rattle.dym_script.specs.Asks.{asks}
 use Rattle.dym_script.specs.Answers.{IsLawful}
 
@@ -73,13 +73,12 @@ pub record IsNamed (r : Reader) (text : List ℕ) (object : ℕ) (rest : List �
   pub is : text ≡ name ++ rest
   pub found : object_of r.objects.items name ≡ Some object
 
--- the first line of the text asks this of a declared object, whatever was asked before, and then the rest is read
+-- the first line of the text asks this of a declared object, whatever was asked before, and the other lines are those of the rest
 pub record IsNext (r : Reader) (text : List ℕ) (ask : Ask) (rest : List ℕ) : Type 0 where
   pub within : IsWithin r (Some ask)
   pub shorter : length rest < length text
   pub plain : list_all is_plain rest ≡ true
   pub first : (line : List ℕ) × (lines_of text ≡ line ∷ lines_of rest) × ((number : ℕ) (lines : List Line) → read_line (seen r lines) number line ≡ reading true (with_ask (seen r lines).said (Some ask)))
-  pub read : (number : ℕ) (lines : List Line) → read_lines (seen r lines) number (lines_of text) ≡ go_on number (reading true (with_ask (seen r lines).said (Some ask))) (λ next. read_lines next (number + 1) (lines_of rest))
 
 -- the text has a first line, and whatever was asked before, the grammar says the same of it, unless memory ran out. At Ok the
 -- other lines are those of the rest

@@ -6,15 +6,18 @@
 
 mod asked;
 mod counting;
+mod holding;
 mod kept;
 mod laws;
 mod line_fail;
+mod line_reader;
 mod line_tests;
 mod lines;
 mod near;
 mod numerals;
 mod own;
 mod parts;
+mod pieces;
 mod places;
 mod quick;
 mod quick_verbs;
@@ -26,10 +29,13 @@ mod sizes;
 mod verb;
 
 pub use counting::Counting;
+pub use holding::{Holding, read_parts};
 pub use kept::{Kept, Long, Tables};
 pub use laws::first_fault;
+pub use line_reader::LineReader;
 pub use own::{Part, apart, own_commands};
-pub use parts::{KeptPart, Parts, read_parts};
+pub use parts::{KeptPart, Parts};
+pub use pieces::Pieces;
 pub use read::{count_script, read_script};
 pub use script::{Counts, Decl, Line, Script, ScriptFail};
 

@@ -1,24 +1,23 @@
-//! Reads a script into its objects, each with its own commands, kept in little memory.
+//! A script by its objects, each with its own commands, kept in little memory.
 ghost use Rattle.std.specs.Prelude.{◌≡◌, ◌+◌, ◌≤◌, ◌<◌, true, length, map, List, [], ◌∷◌, ◌++◌, All, IfOk, OnOk};
 ghost use Rattle.std.specs.List.{list_all};
 ghost use Rattle.dym_base.specs.declared.limits.TheConstants.{MOST_COMMANDS};
 ghost use Rattle.dym_script.specs.declared.script.Line.{Line};
-ghost use Rattle.dym_script.specs.Lines.{lines_of};
 ghost use Rattle.dym_script.specs.Plain.{is_plain};
-ghost use Rattle.dym_script.specs.Scripts.{script_of, read_line, read_lines, is_printable};
+ghost use Rattle.dym_script.specs.Scripts.{read_line, is_printable};
 ghost use Rattle.dym_script.specs.Readers.{IsKept, seen};
 ghost use Rattle.dym_script.specs.Asks.{asks};
+ghost use Rattle.dym_script.specs.Pieces.{ReadsNext};
 ghost use Rattle.dym_script.specs.Parts.{EachKeeps};
-ghost use Rattle.dym_script.specs.Held.{HoldsEach, Holds, HoldsLine, HoldsNext, GivesParts};
+ghost use Rattle.dym_script.specs.Held.{HoldsEach, Holds, HoldsLine, StandsHeld};
 
 use crate::asked::{Ask, Asked};
 use crate::kept::{Kept, Tables};
 use crate::line_fail::LineFail;
-use crate::line_tests::is_plain;
 use crate::lines::next_line;
 use crate::reader::Reader;
-use crate::script::{Decl, ScriptFail};
-use dym_base::limits::{MOST_COMMANDS, MOST_INPUT_BYTES};
+use crate::script::Decl;
+use dym_base::limits::MOST_COMMANDS;
 use dym_base::{BadKind, Version};
 use std::alloc::{AllocError, Global};
 use std::mem;
@@ -51,6 +50,19 @@ pub struct Held {
 }
 
 impl Held {
+    /// Nothing is held yet.
+    pub fn new(alloc: Global) -> Held
+        ensures lists { result.lists.items ≡ [] }
+        ensures rows { length result.tables.whole.items ≡ 0 }
+        ensures commands { result.commands ≡ 0 }
+    {
+        Held {
+            lists: Vec::new(alloc),
+            tables: Tables::new(alloc),
+            commands: 0,
+        }
+    }
+
     /// Adds an empty list where an object more is declared.
     fn open(&mut self, alloc: Global, objects: usize) -> Result<(), AllocError>
         requires least { length self.old.lists.items ≤ objects }
@@ -86,54 +98,9 @@ impl Held {
     }
 }
 
-/// Reads a script, and keeps its commands in little memory, so that the input isn't needed any more. The error is that of
-/// `read_script`.
-#[tactic(auto, unfolding(crate::specs::Scripts::script_of))]
-pub fn read_parts(alloc: Global, bytes: &[u8]) -> Result<Parts, ScriptFail>
-    ensures { GivesParts result (script_of bytes.now) }
-{
-    if bytes.len() > MOST_INPUT_BYTES {
-        return Err(ScriptFail::Bad {
-            line: 0,
-            kind: BadKind::TooLong,
-        });
-    }
-    let plain = is_plain(bytes);
-    let mut held = Held {
-        lists: Vec::new(alloc),
-        tables: Tables::new(alloc),
-        commands: 0,
-    };
-    let mut reader = Reader::new(alloc);
-    let mut rest = bytes;
-    let mut number = 0;
-    while !rest.is_empty() {
-        number += 1;
-        match hold_next(alloc, &mut reader, &mut held, number, rest, plain) {
-            Ok(after) => rest = after,
-            Err(LineFail::Bad(kind)) => return Err(ScriptFail::Bad { line: number, kind }),
-            Err(LineFail::Memory) => return Err(ScriptFail::Memory),
-        }
-    }
-    let Reader {
-        version,
-        objects,
-        ..
-    } = reader;
-    let Held { lists, tables, .. } = held;
-    match joined(alloc, objects, lists) {
-        Ok(parts) => Ok(Parts {
-            version,
-            parts,
-            tables,
-        }),
-        Err(_) => Err(ScriptFail::Memory),
-    }
-}
-
 /// Reads the first line of a text, and keeps the command that it asks. The text after the line is left.
 #[inline(always)]
-fn hold_next<'a>(
+pub fn hold_next<'a>(
     alloc: Global,
     reader: &mut Reader,
     held: &mut Held,
@@ -153,7 +120,7 @@ fn hold_next<'a>(
     ensures rows { OnOk result (length held.new.tables.whole.items ≤ held.new.commands) }
     ensures shorter { IfOk result (λ rest. length rest.now < length text.now) }
     ensures plain { IfOk result (λ rest. plain ≡ true → list_all is_plain rest.now ≡ true) }
-    ensures read { HoldsNext (Holds reader.old held.old) (Holds reader.new held.new) (seen reader.new) number result (λ lines. read_lines (seen reader.old lines) number (lines_of text.now)) }
+    ensures read { ReadsNext (StandsHeld reader.old held.old) (StandsHeld reader.new held.new) number text.now result }
 {
     if plain {
         let mut asked = Asked::Logs;
@@ -192,7 +159,7 @@ fn hold_exactly<'a>(
     ensures rows { OnOk result (length held.new.tables.whole.items ≤ held.new.commands) }
     ensures shorter { IfOk result (λ rest. length rest.now < length text.now) }
     ensures plain { IfOk result (λ rest. plain ≡ true → list_all is_plain rest.now ≡ true) }
-    ensures read { HoldsNext (Holds reader.old held.old) (Holds reader.new held.new) (seen reader.new) number result (λ lines. read_lines (seen reader.old lines) number (lines_of text.now)) }
+    ensures read { ReadsNext (StandsHeld reader.old held.old) (StandsHeld reader.new held.new) number text.now result }
 {
     let Some((line, rest)) = next_line(text) else {
         unreachable!();
@@ -235,7 +202,7 @@ fn hold_line(
 }
 
 /// Each declaration with the commands that are held for its object.
-fn joined(
+pub fn joined(
     alloc: Global,
     objects: Vec<Decl>,
     mut lists: Vec<Vec<Kept>>,

@@ -12,6 +12,7 @@ use crate::counting::Counting;
 use crate::line_fail::LineFail;
 use crate::line_tests::is_plain;
 use crate::lines::next_line;
+use crate::pieces::Pieces;
 use crate::reader::Reader;
 use crate::script::{Counts, Line, Script, ScriptFail};
 use dym_base::BadKind;
@@ -74,7 +75,7 @@ pub fn count_script(alloc: Global, bytes: &[u8]) -> Result<Counts, ScriptFail>
             kind: BadKind::TooLong,
         });
     }
-    Counting::new(alloc).finish(alloc, bytes)
+    Pieces::<Counting>::new(alloc).finish(alloc, bytes)
 }
 
 /// Reads a line, and takes the command that it asks.

@@ -6,7 +6,7 @@ use Rattle.dym_script.specs.declared.script.Line.{Line}
 use Rattle.dym_script.specs.Asks.{asks}
 use Rattle.dym_script.specs.Scripts.{read_line}
 use Rattle.dym_script.specs.Readers.{seen}
-use Rattle.dym_script.proofs.Holding.{holds_same, holds_push, read_push, asked_within, below_most}
+use Rattle.dym_script.proofs.HeldLines.{holds_same, holds_push, read_push, asked_within, below_most}
 use Rattle.dym_script.proofs.parts.hold_line.Goals as goal
 
 pub returns-in_ok-keep-clause-read : goal.returns-in_ok-keep-clause-read

@@ -1,4 +1,4 @@
-use Rattle.dym_script.proofs.Holding.{have_all}
+use Rattle.dym_script.proofs.HeldLines.{have_all}
 use Rattle.dym_script.proofs.parts.joined.Goals as goal
 
 pub returns-clause-commands : goal.returns-clause-commands

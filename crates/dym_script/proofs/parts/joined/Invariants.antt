@@ -1,5 +1,5 @@
 use Rattle.std.proofs.Common.{◌≡◌, ◌≤◌, map, length}
-use Rattle.dym_script.proofs.Holding.{HaveHeld, StillHeld}
+use Rattle.dym_script.proofs.HeldLines.{HaveHeld, StillHeld}
 use Rattle.dym_script.proofs.parts.joined.Given as goal
 
 abbrev pub invariant-loop-decl : goal.invariant-loop-decl

@@ -1,4 +1,4 @@
-use Rattle.dym_script.proofs.Holding.{holds_more}
+use Rattle.dym_script.proofs.HeldLines.{holds_more}
 use Rattle.dym_script.proofs.parts.Held.keep.Goals as goal
 
 pub returns-clause-holds : goal.returns-clause-holds

@@ -1,4 +1,4 @@
-use Rattle.dym_script.proofs.Holding.{holds_open}
+use Rattle.dym_script.proofs.HeldLines.{holds_open}
 use Rattle.dym_script.proofs.parts.Held.open.Goals as goal
 
 pub returns-in_ok-push-clause-holds : goal.returns-in_ok-push-clause-holds

@@ -1,5 +1,5 @@
 -- Commands that are held for their objects while a script is read.
-use Rattle.std.proofs.Common.{◌≡◌, ◌≢◌, ℕ, ◌+◌, ◌<◌, ◌≤◌, ◌==◌, true, false, cond, List, [], ◌∷◌, ◌++◌, All, length, map, filter, nat_lt, get_or, set, refl, sym, ap, ◌∙◌, arith, get_or-set_other, length-set, length-append, eqb-true, append-nil, Option, Some, Result, Ok, Err, subst}
+use Rattle.std.proofs.Common.{◌≡◌, ◌≢◌, ℕ, ◌+◌, ◌<◌, ◌≤◌, ◌==◌, true, false, cond, List, [], ◌∷◌, ◌++◌, All, length, map, filter, nat_lt, get_or, set, refl, sym, ap, ◌∙◌, arith, get_or-set_other, length-set, length-append, eqb-true, eq-eqb, append-nil, Option, Some, Result, Ok, Err, subst}
 use Rattle.std.specs.Global.{Vec}
 use Rattle.std.proofs.Math.ListN.{get_or-append}
 use Rattle.std.proofs.Math.Seq.{get_or-append_seam}
@@ -9,7 +9,8 @@ use Rattle.std.proofs.lemmas.Grind.{get_or-set_at}
 use Rattle.std.proofs.lemmas.Bool.Decides.{nat_tests}
 use Rattle.dym_base.specs.declared.command.Command.{Command}
 use Rattle.dym_base.specs.declared.bad_kind.BadKind.{BadKind}
-use Rattle.dym_base.specs.declared.limits.TheConstants.{MOST_COMMANDS, MOST_INPUT_BYTES}
+use Rattle.dym_base.specs.declared.bad_kind.BadKind.TheVariants as bad
+use Rattle.dym_base.specs.declared.limits.TheConstants.{MOST_COMMANDS}
 use Rattle.dym_script.specs.declared.script.Line.{Line}
 use Rattle.dym_script.specs.declared.parts.KeptPart.{KeptPart}
 use Rattle.dym_script.specs.declared.asked.Asked.{Asked}
@@ -20,16 +21,17 @@ use Rattle.dym_script.specs.declared.parts.Held.{Held}
 use Rattle.dym_script.specs.declared.parts.Parts.{Parts}
 use Rattle.dym_script.specs.declared.reader.Reader.{Reader}
 use Rattle.dym_script.specs.Lines.{lines_of}
-use Rattle.dym_script.specs.Scripts.{Said, Reading, Fault, start, go_on, read_line, read_lines, script_of, own}
+use Rattle.dym_script.specs.Scripts.{Said, Reading, read_line, read_lines, own}
 use Rattle.dym_script.specs.Asks.{asks}
-use Rattle.dym_script.specs.Readers.{IsKept, IsWithin, seen, reading, with_ask}
+use Rattle.dym_script.specs.Pieces.{ReadsNext}
+use Rattle.dym_script.specs.Readers.{IsKept, IsWithin, IsNext, seen, reading, with_ask}
 use Rattle.dym_script.specs.Parts.{commands_of, EachKeeps, EachKeepsOwn}
 use Rattle.dym_script.specs.Kept.{kept_command, AreKept, StillMean}
-use Rattle.dym_script.specs.Held.{HoldsEach, Holds, HoldsLine, HoldsNext, ArePartsOf}
+use Rattle.dym_script.specs.Held.{HoldsEach, Holds, HoldsLine, StandsHeld, ArePartsOf}
 use Rattle.dym_script.specs.declared.line_fail.LineFail.{LineFail}
 use Rattle.dym_script.specs.declared.line_fail.LineFail.TheVariants as fail
 use Rattle.dym_script.proofs.Moves.{commands_of_push}
-use Rattle.dym_script.proofs.SpelledLines.{exact_next}
+use Rattle.dym_script.proofs.PiecesRead.{lines_next}
 use Rattle.dym_script.proofs.KeptCommands.{are_still, are_more}
 
 -- no line asks something of an object that isn't declared yet
@@ -84,14 +86,6 @@ pub holds_more : (t u : Tables) (lists : List (Vec Kept)) (kept : Kept) (object 
 holds_more t u lists kept object old new asked still inside at pushed means lines line own is holds =
     holds_longer u lists kept object old new inside at pushed lines line own (means ∙ sym (ap (λ c. Some c) is)) (holds_still t u lists lines still holds)
 
--- nothing is held before the first line
-pub holds_start : (r : Reader) (h : Held) → IsKept r → h.lists.items ≡ [] → h.commands ≡ 0 → Holds r h []
-holds_start r h kept lists none = record {
-  count = sym none;
-  each = rw lists (λ k d small. absurd (omega arith));
-  lawful = kept.lawful;
-}
-
 -- a line that asks nothing
 pub holds_same : (r s : Reader) (g h : Held) (lines : List Line) → length g.lists.items ≡ length r.objects.items → length r.objects.items ≤ length s.objects.items → IsKept s → h.commands ≡ g.commands → h.tables ≡ g.tables
     → ((ls : List Line) → All (λ line. line.object < length g.lists.items) ls → HoldsEach g.tables g.lists.items ls → HoldsEach g.tables h.lists.items ls)
@@ -143,60 +137,63 @@ keeps_all : (t : Tables) (parts : List KeptPart) (s : Said) → EachKeeps t part
 unfolding own
 keeps_all t parts s has = has
 
--- where a line isn't read, nothing is held of it
-pub failed_held : (r s : Reader) (g h : Held) (fail : LineFail) (number : ℕ) (text line rest : List ℕ) → lines_of text ≡ line ∷ lines_of rest
-    → HoldsLine (Holds r g) (Holds s h) (seen s) (Err fail) (λ lines. read_line (seen r lines) number line)
-    → HoldsNext (Holds r g) (Holds s h) (seen s) number (Err fail) (λ lines. read_lines (seen r lines) number (lines_of text))
-failed_held r s g h (fail.Bad kind) number text line rest cut gives = λ lines holds. exact_next (seen r lines) number text line rest (Err kind) cut (gives lines holds)
-failed_held r s g h fail.Memory number text line rest cut gives = tt
+-- where a line was read, what is held after it stands for what is read
+pub line_stands : (r s : Reader) (g h : Held) (number : ℕ) (text line rest : List ℕ) → lines_of text ≡ line ∷ lines_of rest
+    → ((lines : List Line) → Holds r g lines → (more : List Line) × Holds s h more × (read_line (seen r lines) number line ≡ Ok (seen s more)))
+    → (old : Reading) → StandsHeld r g old → (new : Reading) × StandsHeld s h new × ((others : List (List ℕ)) → read_lines old number (lines_of text ++ others) ≡ read_lines new (number + 1) (lines_of rest ++ others))
+line_stands r s g h number text line rest cut reads old stands =
+    let (lines, holds, is) = stands in
+    let (more, held, good) = reads lines holds in
+    (seen s more, (more, held, refl), λ others. ap (λ x. read_lines x number (lines_of text ++ others)) is ∙ lines_next (seen r lines) number text line (lines_of rest) others (Ok (seen s more)) cut good)
+
+-- and where it is bad, the text is
+pub line_fails : (r s : Reader) (g h : Held) (number : ℕ) (text line rest : List ℕ) (failed : LineFail) → lines_of text ≡ line ∷ lines_of rest
+    → HoldsLine (Holds r g) (Holds s h) (seen s) (Err failed) (λ lines. read_line (seen r lines) number line)
+    → ReadsNext (StandsHeld r g) (StandsHeld s h) number text (Err failed)
+line_fails r s g h number text line rest (fail.Bad kind) cut reads = λ old stands others.
+    let (lines, holds, is) = stands in
+    ap (λ x. read_lines x number (lines_of text ++ others)) is ∙ lines_next (seen r lines) number text line (lines_of rest) others (Err kind) cut (reads lines holds)
+line_fails r s g h number text line rest fail.Memory cut reads = tt
 
 -- the grammar says of a line in the usual spelling what is held with it
-pub held_next : (r : Reader) (ask : Ask) (n number : ℕ) (rest : List ℕ) (lines : List Line) (read : Result Said Fault) → length lines ≡ n → ¬ (n ≡ MOST_COMMANDS)
-    → read ≡ go_on number (reading true (with_ask (seen r lines).said (Some ask))) (λ next. read_lines next (number + 1) (lines_of rest))
-    → read ≡ read_lines (seen (record r { begun = true; last = ask.object }) (lines ++ record { object = ask.object; command = asks ask.asked } ∷ [])) (number + 1) (lines_of rest)
-held_next r ask n number rest lines read len room gives =
-    let free : (length lines == MOST_COMMANDS) ≡ false = grind (arith, nat_tests) in
-    gives ∙ rw free refl
-
--- a good line leaves less to read
-pub good_next : (bytes rest after : List ℕ) (r s : Reader) (g h : Held) (number : ℕ)
-    → ((lines : List Line) → Holds r g lines → (more : List Line) × Holds s h more × (read_lines (seen r lines) number (lines_of rest) ≡ read_lines (seen s more) (number + 1) (lines_of after)))
-    → (lines : List Line) × Holds r g lines × (read_lines (seen r lines) number (lines_of rest) ≡ read_lines start 1 (lines_of bytes))
-    → (lines : List Line) × Holds s h lines × (read_lines (seen s lines) (number + 1) (lines_of after) ≡ read_lines start 1 (lines_of bytes))
-good_next bytes rest after r s g h number reads before =
-    let (lines, holds, read) = before in
-    let (more, held, step) = reads lines holds in (more, held, sym step ∙ read)
-
--- a bad line is the first
-pub bad_next : (bytes rest : List ℕ) (r : Reader) (number : ℕ) (lines : List Line) (kind : BadKind) → length bytes ≤ MOST_INPUT_BYTES
-    → read_lines (seen r lines) number (lines_of rest) ≡ read_lines start 1 (lines_of bytes) → read_lines (seen r lines) number (lines_of rest) ≡ Err (record { line = number; kind = kind }) → script_of bytes ≡ Err (record { line = number; kind = kind })
-unfolding script_of
-bad_next bytes rest r number lines kind short read bad =
-    let fits : nat_lt MOST_INPUT_BYTES (length bytes) ≡ false = grind (arith, nat_tests) in
-    rw fits (sym read ∙ bad)
-
--- nothing has no line
-pub no_lines : (text : List ℕ) → length text ≡ 0 → lines_of text ≡ []
-no_lines [] none = refl
-no_lines (b ∷ bytes) none = absurd (omega (arith, none))
-
--- when no line is left, the parts are those of what the grammar gives
-pub parts_read : (bytes rest : List ℕ) (r : Reader) (h : Held) (number : ℕ) (lines : List Line) (parts : Parts) → length bytes ≤ MOST_INPUT_BYTES → lines_of rest ≡ [] → Holds r h lines
-    → read_lines (seen r lines) (number + 1) (lines_of rest) ≡ read_lines start 1 (lines_of bytes) → parts.version ≡ r.version → map (λ part. part.decl) parts.parts.items ≡ r.objects.items
-    → parts.tables ≡ h.tables → ((t : Tables) (ls : List Line) → HoldsEach t h.lists.items ls → EachKeeps t parts.parts.items ls) → (s : Said) × (script_of bytes ≡ Ok s) × ArePartsOf parts s
-unfolding script_of
-parts_read bytes rest r h number lines parts short none holds read version decls tables has =
-    let fits : nat_lt MOST_INPUT_BYTES (length bytes) ≡ false = grind (arith, nat_tests) in
-    let said = (seen r lines).said in (
-      said,
-      rw fits (sym read ∙ ap (λ ls. read_lines (seen r lines) (number + 1) ls) none),
-      record {
-        version = sym version;
-        decls = decls;
-        commands = keeps_all parts.tables parts.parts.items said (has parts.tables lines (subst (λ t. HoldsEach t h.lists.items lines) (sym tables) holds.each));
-        lawful = holds.lawful;
-      },
+pub quick_holds : (r : Reader) (ask : Ask) (g h : Held) (number : ℕ) (text rest : List ℕ) → IsNext r text ask rest → ¬ (g.commands ≡ MOST_COMMANDS) → g.commands < MOST_COMMANDS → h.commands ≡ g.commands + 1
+    → ((lines : List Line) (line : Line) → line.object ≡ ask.object → line.command ≡ asks ask.asked → HoldsEach g.tables g.lists.items lines → HoldsEach h.tables h.lists.items (lines ++ line ∷ []))
+    → (old : Reading) → StandsHeld r g old → (new : Reading) × StandsHeld (record r { begun = true; last = ask.object }) h new × ((others : List (List ℕ)) → read_lines old number (lines_of text ++ others) ≡ read_lines new (number + 1) (lines_of rest ++ others))
+quick_holds r ask g h number text rest next other room more takes old stands =
+    let (lines, holds, is) = stands in
+    let s : Reader = record r { begun = true; last = ask.object } in
+    let one : Line = record { object = ask.object; command = asks ask.asked } in
+    let same : Holds s g lines = record { count = holds.count; each = holds.each; lawful = holds.lawful } in
+    let (line, cut, gives) = next.first in
+    let free : (length lines == MOST_COMMANDS) ≡ false = grind (arith, nat_tests, holds.count) in
+    let good : read_line (seen r lines) number line ≡ Ok (seen s (lines ++ one ∷ [])) = gives number lines ∙ rw free refl in (
+      seen s (lines ++ one ∷ []),
+      (lines ++ one ∷ [], holds_push s g h lines one next.within room more (takes lines one refl refl holds.each) same, refl),
+      λ others. ap (λ x. read_lines x number (lines_of text ++ others)) is ∙ lines_next (seen r lines) number text line (lines_of rest) others (Ok (seen s (lines ++ one ∷ []))) cut good,
     )
+
+-- where there is no room, the line is bad
+pub quick_full : (r : Reader) (ask : Ask) (g : Held) (number : ℕ) (text rest : List ℕ) → IsNext r text ask rest → g.commands ≡ MOST_COMMANDS
+    → (old : Reading) → StandsHeld r g old → (others : List (List ℕ)) → read_lines old number (lines_of text ++ others) ≡ Err (record { line = number; kind = bad.Many })
+quick_full r ask g number text rest next full old stands others =
+    let (lines, holds, is) = stands in
+    let (line, cut, gives) = next.first in
+    let same : (length lines == MOST_COMMANDS) ≡ true = eq-eqb (length lines) MOST_COMMANDS (holds.count ∙ full) in
+    ap (λ x. read_lines x number (lines_of text ++ others)) is ∙ lines_next (seen r lines) number text line (lines_of rest) others (Err bad.Many) cut (gives number lines ∙ rw same refl)
+
+-- when all lines are read, the parts are those of what the grammar gives
+pub parts_made : (r : Reader) (h : Held) (parts : Parts) → parts.version ≡ r.version → map (λ part. part.decl) parts.parts.items ≡ r.objects.items
+    → parts.tables ≡ h.tables → ((t : Tables) (ls : List Line) → HoldsEach t h.lists.items ls → EachKeeps t parts.parts.items ls) → (now : Reading) → StandsHeld r h now → ArePartsOf parts now.said
+parts_made r h parts version decls tables has now stands =
+    let (lines, holds, is) = stands in
+    let said = (seen r lines).said in
+    let made : ArePartsOf parts said = record {
+      version = sym version;
+      decls = decls;
+      commands = keeps_all parts.tables parts.parts.items said (has parts.tables lines (subst (λ t. HoldsEach t h.lists.items lines) (sym tables) holds.each));
+      lawful = holds.lawful;
+    } in
+    subst (λ (x : Reading). ArePartsOf parts x.said) (sym is) made
 
 -- the parts so far have what was held first
 abbrev pub HaveHeld : List KeptPart → List (Vec Kept) → Type 0
