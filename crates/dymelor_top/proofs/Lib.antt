@@ -7,4 +7,4 @@ pub mod MadePlans
 pub mod Served
 pub mod SummaryFacts
 pub mod WrittenReplies
-pub mod CountedBlocks
+pub mod ReadBlocks

@@ -30,7 +30,7 @@ use Rattle.dymelor_top.specs.Stops.{stop_status, of_write}
 use Rattle.dymelor_top.specs.Report.{report_text}
 use Rattle.dymelor_top.specs.Summary.{summary_of}
 use Rattle.dymelor_top.specs.Answers.{Answer, fault_answer, of_script, counts_of, of_verdict, IsJudged, IsTraceAnswer, IsRead, IsAnswer, reads}
-use Rattle.dymelor_top.specs.Headline.{Input, WroteFront, WroteAll, Serves, Writes, WritesAnswer, PlanHeadline}
+use Rattle.dymelor_top.specs.Headline.{Input, WroteFront, WroteAll, Serves, Writes, WritesSo, WritesAnswer, PlanHeadline}
 
 -- What was written
 
@@ -58,6 +58,11 @@ nothing_wrote a t = record { front = []; rest = t; whole = refl; written = Appen
 pub serves_front : {E : Type 0} → (Is : Answer → Type 0) (a b : Output) (r : Result ℕ E) → IsErr r → ((answer : Answer) → Is answer → WroteFront a b answer.text) → Serves Is a b r
 serves_front Is a b (Ok status) is front = absurd (cc)
 serves_front Is a b (Err e) is front = front
+
+-- a call that stopped wrote a front
+pub stopped_front : {E : Type 0} → (Is : Answer → Type 0) (a b : Output) (r : Result ℕ E) → IsErr r → ((answer : Answer) → Is answer → AppendedFront a b answer.text) → WritesSo Is a b r
+stopped_front Is a b (Ok status) is front = absurd (cc)
+stopped_front Is a b (Err e) is front = front
 
 -- an answer that is given
 pub writes_of : (f : Answer) (a b : Output) (r : Result ℕ WriteFail) → WritesAnswer f a b r → Writes (λ x. x ≡ f) a b r

@@ -84,6 +84,12 @@ Writes Is old new result =
     MatchResult result (λ status. (answer : Answer) × Is answer × (status ≡ answer.status) × Appended old new answer.text)
     (λ failed. ((answer : Answer) → Is answer → AppendedFront old new answer.text) × (failed ≡ fail.Sink → Rose old.faults new.faults))
 
+-- the same whatever stops the call
+abbrev pub WritesSo : {E : Type 0} → (Answer → Type 0) → Output → Output → Result ℕ E → Type 0
+WritesSo Is old new result =
+    MatchResult result (λ status. (answer : Answer) × Is answer × (status ≡ answer.status) × Appended old new answer.text)
+    (λ _. (answer : Answer) → Is answer → AppendedFront old new answer.text)
+
 -- the same where the answer is given
 abbrev pub WritesAnswer : Answer → Output → Output → Result ℕ WriteFail → Type 0
 WritesAnswer defined old new result =

@@ -5,4 +5,4 @@ pub mod Plans
 pub mod Answers
 pub mod Headline
 pub mod Parts
-pub mod Counts
+pub mod Blocks

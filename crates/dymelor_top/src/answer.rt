@@ -1,5 +1,6 @@
 //! What is made of an input that was read.
-ghost use Rattle.std.specs.Prelude.{◌≡◌, ◌≤◌, ◌⊎◌, Result, IfOk, IsErrOf};
+ghost use Rattle.std.specs.Prelude.{◌≡◌, ◌≤◌, ◌⊎◌, ◌+◌, ℕ, List, Some, drop, Result, IfOk, OnOk, IsErrOf};
+ghost use Rattle.dym_base.specs.declared.limits.TheConstants.{MOST_INPUT_BYTES};
 ghost use Rattle.dym_io.specs.Faults.{Rose};
 ghost use Rattle.dym_io.specs.Sink.{Output};
 ghost use Rattle.dym_script.specs.Scripts.{Said, Fault, script_of};
@@ -8,18 +9,20 @@ ghost use Rattle.dym_script.specs.Held.{GivesParts};
 ghost use Rattle.dymelor_top.specs.Report.{report_text};
 ghost use Rattle.dymelor_top.specs.Summary.{summary_of};
 ghost use Rattle.dymelor_top.specs.Answers.{of_script, counts_of, IsRead, IsTraceAnswer};
-ghost use Rattle.dymelor_top.specs.Headline.{Writes, WritesAnswer};
+ghost use Rattle.dymelor_top.specs.Headline.{Writes, WritesSo, WritesAnswer};
 ghost use Rattle.dymelor_top.specs.declared.stop.WriteFail.TheVariants.{Sink as SinkFailed};
+ghost use Rattle.dymelor_top.specs.declared.stop.Stop.TheVariants.{Source as SourceStopped, Sink as SinkStopped};
 
+use crate::blocks::read_source;
 use crate::plain::write_report;
 use crate::plan::Reading;
-use crate::stop::WriteFail;
+use crate::stop::{Stop, WriteFail};
 use crate::total::total;
 use dym_base::BadKind;
 use dym_base::limits::MOST_INPUT_BYTES;
-use dym_io::Sink;
+use dym_io::{Sink, Source, read_whole};
 use dym_report::{write_counts, write_error, write_events, write_summary};
-use dym_script::{Counts, Parts, ScriptFail, count_script, read_parts};
+use dym_script::{Counting, Counts, Holding, Parts, ScriptFail, count_script, read_parts};
 use dym_trace::{TraceAnswer, check_trace};
 use std::alloc::Global;
 
@@ -34,19 +37,67 @@ pub fn answer<W: Sink>(
     ensures status { IfOk result (λ status. (status ≡ 0) ⊎ (status ≡ 2)) }
 {
     match reading {
-        Reading::Report => answer_report(alloc, bytes, sink),
-        Reading::Summary => answer_summary(alloc, bytes, sink),
+        Reading::Report => answer_report(alloc, read_made_script(alloc, bytes), sink),
+        Reading::Summary => answer_summary(alloc, read_made_script(alloc, bytes), sink),
         Reading::Counts => answer_counts(alloc, bytes, sink),
         Reading::Trace => answer_trace(alloc, bytes, sink),
     }
 }
 
-/// Writes the report of a script, or the line of its first fault.
-fn answer_report<W: Sink>(alloc: Global, bytes: Vec<u8>, sink: &mut W) -> Result<u8, WriteFail>
-    ensures answered { WritesAnswer (of_script report_text (script_of bytes.items)) (W.output sink.old) (W.output sink.new) result }
+/// Reads the source, and writes what is made of it. Only a trace is kept whole.
+pub fn answer_source<R: Source, W: Sink>(
+    alloc: Global,
+    reading: Reading,
+    source: &mut R,
+    sink: &mut W,
+) -> Result<u8, Stop>
+    ensures answered { (bytes : List ℕ) → R.left source.old ≡ Some bytes → WritesSo (IsRead reading bytes) (W.output sink.old) (W.output sink.new) result }
+    ensures read { (bytes : List ℕ) → R.left source.old ≡ Some bytes → OnOk result (R.left source.new ≡ Some (drop (MOST_INPUT_BYTES + 1) bytes)) }
     ensures status { IfOk result (λ status. (status ≡ 0) ⊎ (status ≡ 2)) }
+    ensures count { OnOk result ((W.output sink.old).faults ≤ (W.output sink.new).faults) }
+    ensures source_fault { IsErrOf result SourceStopped → Rose (R.faults source.old) (R.faults source.new) × (W.output sink.new ≡ W.output sink.old) }
+    ensures sink_fault { IsErrOf result SinkStopped → Rose (W.output sink.old).faults (W.output sink.new).faults }
 {
-    match read_whole_script(alloc, bytes) {
+    match reading {
+        Reading::Report => {
+            let script = read_source::<Holding, R>(alloc, source)?;
+            Ok(answer_report(alloc, script, sink)?)
+        }
+        Reading::Summary => {
+            let script = read_source::<Holding, R>(alloc, source)?;
+            Ok(answer_summary(alloc, script, sink)?)
+        }
+        Reading::Counts => {
+            let counted = read_source::<Counting, R>(alloc, source)?;
+            Ok(answer_counted(counted, sink)?)
+        }
+        Reading::Trace => {
+            let bytes = read_whole(alloc, source, MOST_INPUT_BYTES + 1)?;
+            Ok(answer_trace(alloc, bytes, sink)?)
+        }
+    }
+}
+
+/// Reads a script into its parts, and gives its input up, whose memory then serves the run.
+fn read_made_script(alloc: Global, bytes: Vec<u8>) -> Result<Parts, ScriptFail>
+    ensures { GivesParts result (script_of bytes.items) }
+{
+    read_parts(alloc, &bytes)
+}
+
+/// Writes the report of a script that was read, or the line of its first fault.
+fn answer_report<W: Sink>(
+    alloc: Global,
+    script: Result<Parts, ScriptFail>,
+    sink: &mut W,
+) -> Result<u8, WriteFail>
+    requires made { (read : Result Said Fault) × GivesParts script read }
+    ensures answered { (read : Result Said Fault) → GivesParts script read → WritesAnswer (of_script report_text read) (W.output sink.old) (W.output sink.new) result }
+    ensures status { IfOk result (λ status. (status ≡ 0) ⊎ (status ≡ 2)) }
+    ensures count { (W.output sink.old).faults ≤ (W.output sink.new).faults }
+    ensures fault { IsErrOf result SinkFailed → Rose (W.output sink.old).faults (W.output sink.new).faults }
+{
+    match script {
         Ok(script) => {
             write_report(alloc, &script, sink)?;
             Ok(0)
@@ -59,19 +110,19 @@ fn answer_report<W: Sink>(alloc: Global, bytes: Vec<u8>, sink: &mut W) -> Result
     }
 }
 
-/// Reads a script into its parts, and gives its input up, whose memory then serves the run.
-fn read_whole_script(alloc: Global, bytes: Vec<u8>) -> Result<Parts, ScriptFail>
-    ensures { GivesParts result (script_of bytes.items) }
-{
-    read_parts(alloc, &bytes)
-}
-
-/// Writes the summary of a script, or the line of its first fault.
-fn answer_summary<W: Sink>(alloc: Global, bytes: Vec<u8>, sink: &mut W) -> Result<u8, WriteFail>
-    ensures answered { WritesAnswer (of_script summary_of (script_of bytes.items)) (W.output sink.old) (W.output sink.new) result }
+/// Writes the summary of a script that was read, or the line of its first fault.
+fn answer_summary<W: Sink>(
+    alloc: Global,
+    script: Result<Parts, ScriptFail>,
+    sink: &mut W,
+) -> Result<u8, WriteFail>
+    requires made { (read : Result Said Fault) × GivesParts script read }
+    ensures answered { (read : Result Said Fault) → GivesParts script read → WritesAnswer (of_script summary_of read) (W.output sink.old) (W.output sink.new) result }
     ensures status { IfOk result (λ status. (status ≡ 0) ⊎ (status ≡ 2)) }
+    ensures count { (W.output sink.old).faults ≤ (W.output sink.new).faults }
+    ensures fault { IsErrOf result SinkFailed → Rose (W.output sink.old).faults (W.output sink.new).faults }
 {
-    match read_whole_script(alloc, bytes) {
+    match script {
         Ok(script) => {
             let totals = total(alloc, &script)?;
             write_summary(sink, &totals)?;
@@ -94,7 +145,7 @@ fn answer_counts<W: Sink>(alloc: Global, bytes: Vec<u8>, sink: &mut W) -> Result
 }
 
 /// Writes how much a script says that was counted, or the line of its first fault.
-pub fn answer_counted<W: Sink>(
+fn answer_counted<W: Sink>(
     counted: Result<Counts, ScriptFail>,
     sink: &mut W,
 ) -> Result<u8, WriteFail>

@@ -4,7 +4,7 @@
 #![tactic(auto)]
 
 mod answer;
-mod counts;
+mod blocks;
 mod laws;
 mod lender;
 mod plain;

@@ -1,24 +1,21 @@
 //! The top call that starts no thread.
 ghost use Rattle.std.specs.Prelude.{◌≡◌, ◌<◌, ◌≤◌, ◌⊎◌, ◌+◌, ℕ, List, Some, drop, map, string_bytes, IfOk, IfErr, OnOk, IsErrOf};
-ghost use Rattle.dym_base.specs.declared.limits.TheConstants.{MOST_OBJECTS, MOST_MADE_COMMANDS};
+ghost use Rattle.dym_base.specs.declared.limits.TheConstants.{MOST_INPUT_BYTES, MOST_OBJECTS, MOST_MADE_COMMANDS};
 ghost use Rattle.dym_io.specs.Faults.{Rose};
 ghost use Rattle.std.specs.Io.KnownBytes.{Keeps};
 ghost use Rattle.dym_io.specs.Sink.{Output, AllFlushed};
 ghost use Rattle.dym_gen.specs.Scripts.{generated};
 ghost use Rattle.dym_words.specs.Orders.{order};
-ghost use Rattle.dym_script.specs.Scripts.{script_of};
-ghost use Rattle.dymelor_top.specs.Answers.{made_answer, usage_answer, of_script, counts_of, IsRead};
+ghost use Rattle.dymelor_top.specs.Answers.{made_answer, usage_answer, IsRead};
 ghost use Rattle.dymelor_top.specs.Headline.{Headline, Serves};
 ghost use Rattle.dymelor_top.specs.declared.stop.Stop.TheVariants.{Source as SourceStopped, Sink as SinkStopped};
 ghost use Rattle.dymelor_top.specs.declared.stop.WriteFail.TheVariants.{Sink as SinkFailed};
 
-use crate::answer::{answer, answer_counted};
-use crate::counts::count_source;
+use crate::answer::{answer, answer_source};
 use crate::plan::{Plan, Reading, plan_for};
 use crate::stop::{Stop, WriteFail};
-use dym_base::limits::MOST_INPUT_BYTES;
 use dym_gen::gen_script;
-use dym_io::{MemSink, ReadFail, Sink, Source, read_whole};
+use dym_io::{MemSink, Sink, Source};
 use dym_report::write_usage;
 use dym_words::read_words;
 use std::alloc::{AllocError, Global};
@@ -132,7 +129,7 @@ fn made_script(alloc: Global, seed: u64, objects: u32, commands: u32) -> Result<
     }
 }
 
-/// Reads the source, and writes what is made of it. A script that is only counted isn't kept.
+/// Reads the source, and writes what is made of it.
 fn serve_read<R: Source, W: Sink>(
     alloc: Global,
     reading: Reading,
@@ -145,43 +142,7 @@ fn serve_read<R: Source, W: Sink>(
     ensures source_fault { IsErrOf result SourceStopped → Rose (R.faults source.old) (R.faults source.new) × (W.output sink.new ≡ W.output sink.old) }
     ensures sink_fault { IsErrOf result SinkStopped → Rose (W.output sink.old).faults (W.output sink.new).faults }
 {
-    match reading {
-        Reading::Counts => serve_counts(alloc, source, sink),
-        Reading::Report | Reading::Summary | Reading::Trace => {
-            serve_whole(alloc, reading, source, sink)
-        }
-    }
-}
-
-/// Counts the script that the source gives, and writes how much it says, or the line of its first fault.
-fn serve_counts<R: Source, W: Sink>(alloc: Global, source: &mut R, sink: &mut W) -> Result<u8, Stop>
-    ensures served { (bytes : List ℕ) → R.left source.old ≡ Some bytes → Serves (λ a. a ≡ of_script counts_of (script_of bytes)) (W.output sink.old) (W.output sink.new) result }
-    ensures read { (bytes : List ℕ) → R.left source.old ≡ Some bytes → OnOk result (R.left source.new ≡ Some (drop (MOST_INPUT_BYTES + 1) bytes)) }
-    ensures status { IfOk result (λ status. (status ≡ 0) ⊎ (status ≡ 2)) }
-    ensures source_fault { IsErrOf result SourceStopped → Rose (R.faults source.old) (R.faults source.new) × (W.output sink.new ≡ W.output sink.old) }
-    ensures sink_fault { IsErrOf result SinkStopped → Rose (W.output sink.old).faults (W.output sink.new).faults }
-{
-    let counted = count_source(alloc, source)?;
-    let status = answer_counted(counted, sink)?;
-    flush(sink)?;
-    Ok(status)
-}
-
-/// Reads the source whole, and writes what is made of it.
-fn serve_whole<R: Source, W: Sink>(
-    alloc: Global,
-    reading: Reading,
-    source: &mut R,
-    sink: &mut W,
-) -> Result<u8, Stop>
-    ensures served { (bytes : List ℕ) → R.left source.old ≡ Some bytes → Serves (IsRead reading bytes) (W.output sink.old) (W.output sink.new) result }
-    ensures read { (bytes : List ℕ) → R.left source.old ≡ Some bytes → OnOk result (R.left source.new ≡ Some (drop (MOST_INPUT_BYTES + 1) bytes)) }
-    ensures status { IfOk result (λ status. (status ≡ 0) ⊎ (status ≡ 2)) }
-    ensures source_fault { IsErrOf result SourceStopped → Rose (R.faults source.old) (R.faults source.new) × (W.output sink.new ≡ W.output sink.old) }
-    ensures sink_fault { IsErrOf result SinkStopped → Rose (W.output sink.old).faults (W.output sink.new).faults }
-{
-    let bytes = read_whole(alloc, source, MOST_INPUT_BYTES + 1)?;
-    let status = answer(alloc, reading, bytes, sink)?;
+    let status = answer_source(alloc, reading, source, sink)?;
     flush(sink)?;
     Ok(status)
 }

@@ -499,25 +499,36 @@ fn answers_long_inputs(rt: HostRuntime) -> Result<(), Fail> {
 }
 
 #[test]
-fn counts_scripts_in_pieces(rt: HostRuntime) -> Result<(), Fail> {
+fn reads_scripts_in_pieces(rt: HostRuntime) -> Result<(), Fail> {
     let alloc = rt.alloc();
+    let check = ["check"].as_slice();
+    let plain = ["plain"].as_slice();
+    let summary = ["plain", "--summary"].as_slice();
     let mut long = String::from_str(alloc, "object a 1\n")?;
+    let mut far = String::from_str(alloc, "object a 1\n")?;
     for _ in 0u32..30_000 {
         long.push_str("a malloc 40\n")?;
+        far.push_str("# a comment\n")?;
     }
     let mut late = String::from_str(alloc, long.as_str())?;
     late.push_str("a mallok 4\n\n")?;
-    let rows: [(&str, u8, &str); 5] = [
-        (FIRST, 0, "ok 1 1\n"),
-        ("object a 1\na malloc 40", 0, "ok 1 1\n"),
-        ("x\n# more\n", 2, "error line 1: command\n"),
-        (long.as_str(), 0, "ok 1 30000\n"),
-        (late.as_str(), 2, "error line 30002: command\n"),
+    far.push_str("a malloc 40")?;
+    let rows: [(&[&str], &str, u8, &str); 10] = [
+        (check, FIRST, 0, "ok 1 1\n"),
+        (check, "object a 1\na malloc 40", 0, "ok 1 1\n"),
+        (check, "x\n# more\n", 2, "error line 1: command\n"),
+        (check, long.as_str(), 0, "ok 1 30000\n"),
+        (check, late.as_str(), 2, "error line 30002: command\n"),
+        (plain, "object a 1\na malloc 40", 0, FIRST_REPORT),
+        (plain, "x\n# more\n", 2, "error line 1: command\n"),
+        (plain, far.as_str(), 0, FIRST_REPORT),
+        (plain, late.as_str(), 2, "error line 30002: command\n"),
+        (summary, late.as_str(), 2, "error line 30002: command\n"),
     ];
-    for (input, status, text) in rows {
+    for (words, input, status, text) in rows {
         for piece in [1, 7, 4_099, 65_536, 524_288] {
             let from = Calls { piece, ..WHOLE };
-            let (found, bytes) = served(alloc, &["check"], input.as_bytes(), from, WHOLE)?;
+            let (found, bytes) = served(alloc, words, input.as_bytes(), from, WHOLE)?;
             assert_eq!(rt; found, status, "at {piece} of {text}");
             assert_eq!(rt; bytes.as_slice(), text.as_bytes(), "at {piece} of {text}");
         }
@@ -526,7 +537,7 @@ fn counts_scripts_in_pieces(rt: HostRuntime) -> Result<(), Fail> {
 }
 
 #[test]
-fn counts_read_on_behind_a_bad_line(rt: HostRuntime) -> Result<(), Fail> {
+fn reads_on_behind_a_bad_line(rt: HostRuntime) -> Result<(), Fail> {
     let alloc = rt.alloc();
     let mut input = vec![in alloc; b'\n'; 16_777_217]?;
     input[1] = b'x';
@@ -539,15 +550,17 @@ fn counts_read_on_behind_a_bad_line(rt: HostRuntime) -> Result<(), Fail> {
         assert_eq!(rt; found, 2, "at {text}");
         assert_eq!(rt; bytes.as_slice(), text.as_bytes(), "at {text}");
     }
-    for call in 0u32..8 {
-        let from = Calls {
-            piece: 1,
-            fails: Some(call),
-            ..WHOLE
-        };
-        let (found, _) = served(alloc, &["check"], b"x\n# y\n", from, WHOLE)?;
-        let wanted = if call < 7 { 3 } else { 2 };
-        assert_eq!(rt; found, wanted, "at source call {call}");
+    for order in ["check", "plain"] {
+        for call in 0u32..8 {
+            let from = Calls {
+                piece: 1,
+                fails: Some(call),
+                ..WHOLE
+            };
+            let (found, _) = served(alloc, &[order], b"x\n# y\n", from, WHOLE)?;
+            let wanted = if call < 7 { 3 } else { 2 };
+            assert_eq!(rt; found, wanted, "at source call {call} of {order}");
+        }
     }
     Ok(())
 }

@@ -1,7 +1,7 @@
 use Rattle.std.proofs.Common.{◌+◌, ◌-◌}
 use Rattle.dym_base.specs.declared.limits.TheConstants.{MOST_INPUT_BYTES}
-use Rattle.dymelor_top.proofs.CountedBlocks.{DrainedSoFar}
-use Rattle.dymelor_top.proofs.counts.drain.Given as goal
+use Rattle.dymelor_top.proofs.ReadBlocks.{DrainedSoFar}
+use Rattle.dymelor_top.proofs.blocks.drain.Given as goal
 
 abbrev pub invariant-pieces : goal.invariant-pieces
 invariant-pieces g l =

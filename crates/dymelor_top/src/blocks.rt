@@ -1,63 +1,64 @@
-//! Counts the script that a source gives, block by block, so that no input is kept whole.
-ghost use Rattle.std.specs.Prelude.{◌≡◌, ◌+◌, ◌-◌, ◌<◌, ◌≤◌, ℕ, List, [], ◌++◌, Some, Ok, Err, take, drop, length, IfOk, OnOk, OnErr, IsErrOf};
+//! Reads the script that a source gives, block by block, so that no input is kept whole.
+ghost use Rattle.std.specs.Prelude.{◌≡◌, ◌+◌, ◌-◌, ◌<◌, ◌≤◌, ℕ, List, [], ◌++◌, Some, take, drop, length, IfOk, OnOk, OnErr, IsErrOf};
 ghost use Rattle.std.specs.Io.KnownBytes.{Consumes};
 ghost use Rattle.dym_io.specs.Faults.{Rose};
 ghost use Rattle.dym_io.specs.Source.{IsEmptyAtEnd};
 ghost use Rattle.dym_script.specs.Scripts.{script_of};
-ghost use Rattle.dym_script.specs.Answers.{GivesCounts};
+ghost use Rattle.dym_script.specs.Answers.{FailsSo, GivesBy};
 ghost use Rattle.dym_script.specs.declared.script.ScriptFail.TheVariants.{Bad};
 ghost use Rattle.dym_base.specs.declared.bad_kind.BadKind.TheVariants.{TooLong};
-ghost use Rattle.dymelor_top.specs.Counts.{IsFaultOf, Tells, IsDrained};
+ghost use Rattle.dymelor_top.specs.Blocks.{IsFaultOf, Tells, IsDrained};
 
 use dym_base::BadKind;
 use dym_base::limits::{MOST_INPUT_BYTES, MOST_LINE_BYTES};
 use dym_io::{Failed, ReadFail, Source};
-use dym_script::{Counting, Counts, ScriptFail};
+use dym_script::{LineReader, Pieces, ScriptFail};
 use std::alloc::{AllocError, Global};
 
 /// The bytes of a block, which is little enough to stay in a cache.
 const BLOCK: usize = 262_144;
 
-/// Counts the script that a source gives, and answers what `count_script` does of its bytes. The source is read to its end,
-/// or for as many bytes as tell that the input is too long. The outer error: the source failed, or memory ran out before all
-/// was read.
-pub fn count_source<R: Source>(
+/// Reads the script that a source gives, and answers what a reader of lines makes of it, which is that of the source's bytes.
+/// The source is read to its end, or for as many bytes as tell that the input is too long. The outer error: the source
+/// failed, or memory ran out before all was read.
+pub fn read_source<K: LineReader + Drop, R: Source>(
     alloc: Global,
     source: &mut R,
-) -> Result<Result<Counts, ScriptFail>, ReadFail>
-    ensures counted { (bytes : List ℕ) → R.left source.old ≡ Some bytes → IfOk result (λ counted. GivesCounts counted (script_of bytes)) }
+) -> Result<Result<K::Made, ScriptFail>, ReadFail>
+    ensures some { IfOk result (λ made. (bytes : List ℕ) × GivesBy K.tells made (script_of bytes)) }
+    ensures gives { (bytes : List ℕ) → R.left source.old ≡ Some bytes → IfOk result (λ made. GivesBy K.tells made (script_of bytes)) }
     ensures read { (bytes : List ℕ) → R.left source.old ≡ Some bytes → OnOk result (R.left source.new ≡ Some (drop (MOST_INPUT_BYTES + 1) bytes)) }
     ensures failed { IsErrOf result ReadFail.Source → Rose (R.faults source.old) (R.faults source.new) }
 {
     let mut block = vec![in alloc; 0; BLOCK]?;
-    count_blocks(alloc, source, &mut block)
+    read_blocks::<K, R>(alloc, source, &mut block)
 }
 
-/// Counts the script that a source gives. What is pulled stands in the block behind the bytes of a line that wasn't ended.
-fn count_blocks<R: Source>(
+/// Reads the script that a source gives. What is pulled stands in the block behind the bytes of a line that wasn't ended.
+fn read_blocks<K: LineReader + Drop, R: Source>(
     alloc: Global,
     source: &mut R,
     block: &mut [u8],
-) -> Result<Result<Counts, ScriptFail>, ReadFail>
+) -> Result<Result<K::Made, ScriptFail>, ReadFail>
     requires { MOST_LINE_BYTES < length block.old }
-    ensures counted { IfOk result (λ counted. Tells [] (R.left source.old) (R.left source.new) counted) }
+    ensures told { IfOk result (λ made. Tells [] (R.left source.old) (R.left source.new) (GivesBy K.tells made)) }
     ensures failed { IsErrOf result ReadFail.Source → Rose (R.faults source.old) (R.faults source.new) }
 {
-    let mut counting = Counting::new(alloc);
+    let mut script = Pieces::<K>::new(alloc);
     let mut left = 0;
     let mut pulled = 0;
     'pieces: loop {
         let room = (block.len() - left).min(MOST_INPUT_BYTES + 1 - pulled);
         let amount = pull_behind(source, block, left, room)?;
         if amount == 0 {
-            return Ok(counting.finish(alloc, &block[..left]));
+            return Ok(script.finish(alloc, &block[..left]));
         }
         pulled += amount;
         if pulled > MOST_INPUT_BYTES {
             return Ok(Err(too_long()));
         }
         let end = left + amount;
-        match counting.take(alloc, &block[..end]) {
+        match script.take(alloc, &block[..end]) {
             Ok(rest) => {
                 keep_end(block, end, rest);
                 left = rest;
@@ -109,7 +110,7 @@ fn fault<R: Source>(
 ) -> Result<ScriptFail, Failed>
     requires some { 0 < length block.old }
     requires within { pulled ≤ MOST_INPUT_BYTES }
-    ensures told { (front : List ℕ) → length front ≡ pulled → IsFaultOf front line kind → IfOk result (λ fail. Tells front (R.left source.old) (R.left source.new) (Err fail)) }
+    ensures told { (front : List ℕ) → length front ≡ pulled → IsFaultOf front line kind → IfOk result (λ fail. Tells front (R.left source.old) (R.left source.new) (FailsSo fail)) }
     ensures failed { OnErr result (Rose (R.faults source.old) (R.faults source.new)) }
 {
     let all = drain(source, block, pulled)?;

@@ -1,4 +1,4 @@
--- What holds while a source is read and its script is counted, and what is known at the end.
+-- What holds while a source is read and its script with it, and what is known at the end.
 use Rattle.std.proofs.Common.{◌≡◌, ℕ, ◌+◌, ◌-◌, ◌<◌, ◌≤◌, inl, inr, false, List, [], ◌++◌, length, take, drop, nat_lt, Option, Some, None, Result, Ok, Err, IfOk, OnOk, refl, sym, ap, subst, ◌∙◌, append_assoc, append-nil, length-append, length-take, length-drop, take-append-drop, zero-add, arith}
 use Rattle.std.proofs.lemmas.Bool.Decides.{nat_tests}
 use Rattle.std.specs.List.{copy_within}
@@ -11,14 +11,13 @@ use Rattle.dym_base.specs.declared.limits.TheConstants.{MOST_INPUT_BYTES}
 use Rattle.dym_base.specs.declared.bad_kind.BadKind.{BadKind}
 use Rattle.dym_base.specs.declared.bad_kind.BadKind.TheVariants as bad
 use Rattle.dym_io.specs.Source.{IsEmptyAtEnd}
-use Rattle.dym_script.specs.declared.script.Counts.{Counts}
 use Rattle.dym_script.specs.declared.script.ScriptFail.{ScriptFail}
 use Rattle.dym_script.specs.declared.script.ScriptFail.TheVariants as fail
-use Rattle.dym_script.specs.declared.counting.Counting.{Counting}
-use Rattle.dym_script.specs.Scripts.{script_of}
-use Rattle.dym_script.specs.Answers.{GivesCounts}
-use Rattle.dym_script.specs.Counting.{says, Took, TakesPiece}
-use Rattle.dymelor_top.specs.Counts.{IsFaultOf, IsReadOut, Tells, IsDrained}
+use Rattle.dym_script.specs.Scripts.{Said, Fault, script_of}
+use Rattle.dym_script.specs.Answers.{FailsSo}
+use Rattle.dym_script.specs.Pieces.{says, TakesPiece}
+use Rattle.dym_script.proofs.PiecesRead.{script_says}
+use Rattle.dymelor_top.specs.Blocks.{IsFaultOf, IsReadOut, Tells, IsDrained}
 use Rattle.dymelor_top.proofs.Served.{too_long, read_so, SameVerdict}
 
 -- ---- a source that is read
@@ -78,21 +77,14 @@ drained_full pulled a b f g all so long = record {
 
 -- ---- what the bytes that were read say
 
--- those that aren't too long say what their lines say
-script_says : (bytes : List ℕ) → length bytes ≤ MOST_INPUT_BYTES → script_of bytes ≡ says bytes
-unfolding script_of
-script_says bytes short =
-    let test : nat_lt MOST_INPUT_BYTES (length bytes) ≡ false = grind (arith, nat_tests) in
-    rw test refl
-
-gives_long : (bytes : List ℕ) → MOST_INPUT_BYTES < length bytes → GivesCounts (Err (fail.Bad 0 bad.TooLong)) (script_of bytes)
+gives_long : (bytes : List ℕ) → MOST_INPUT_BYTES < length bytes → FailsSo (fail.Bad 0 bad.TooLong) (script_of bytes)
 gives_long bytes long = too_long bytes long
 
-gives_says : (counted : Result Counts ScriptFail) (bytes : List ℕ) → length bytes ≤ MOST_INPUT_BYTES → GivesCounts counted (says bytes) → GivesCounts counted (script_of bytes)
-gives_says counted bytes short gives = subst (GivesCounts counted) (sym (script_says bytes short)) gives
+gives_says : (Gives : Result Said Fault → Type 0) (bytes : List ℕ) → length bytes ≤ MOST_INPUT_BYTES → Gives (says bytes) → Gives (script_of bytes)
+gives_says Gives bytes short gives = subst Gives (sym (script_says bytes short)) gives
 
 -- behind a bad line the source was read out, and the bytes aren't too many
-pub fault_told : (pulled line all : ℕ) (kind : BadKind) (front : List ℕ) (a b : Option (List ℕ)) → IsDrained pulled a b all → all ≤ MOST_INPUT_BYTES → length front ≡ pulled → IsFaultOf front line kind → Tells front a b (Err (fail.Bad line kind))
+pub fault_told : (pulled line all : ℕ) (kind : BadKind) (front : List ℕ) (a b : Option (List ℕ)) → IsDrained pulled a b all → all ≤ MOST_INPUT_BYTES → length front ≡ pulled → IsFaultOf front line kind → Tells front a b (FailsSo (fail.Bad line kind))
 fault_told pulled line all kind front a b drained short long faulty =
     let len : length (front ++ drained.got) ≡ all = omega (arith, drained.count, long, length-append front drained.got) in
     record {
@@ -100,11 +92,11 @@ fault_told pulled line all kind front a b drained short long faulty =
       taken = drained.taken;
       within = omega (arith, len, short);
       out = subst (IsReadOut a b) (sym len) drained.out;
-      gives = gives_says (Err (fail.Bad line kind)) (front ++ drained.got) (omega (arith, len, short)) (faulty drained.got);
+      gives = gives_says (FailsSo (fail.Bad line kind)) (front ++ drained.got) (omega (arith, len, short)) (faulty drained.got);
     }
 
 -- or they are
-pub long_told : (pulled all : ℕ) (front : List ℕ) (a b : Option (List ℕ)) → IsDrained pulled a b all → MOST_INPUT_BYTES < all → length front ≡ pulled → Tells front a b (Err (fail.Bad 0 bad.TooLong))
+pub long_told : (pulled all : ℕ) (front : List ℕ) (a b : Option (List ℕ)) → IsDrained pulled a b all → MOST_INPUT_BYTES < all → length front ≡ pulled → Tells front a b (FailsSo (fail.Bad 0 bad.TooLong))
 long_told pulled all front a b drained big long =
     let len : length (front ++ drained.got) ≡ all = omega (arith, drained.count, long, length-append front drained.got) in
     record {
@@ -115,19 +107,19 @@ long_told pulled all front a b drained big long =
       gives = gives_long (front ++ drained.got) (omega (arith, len, big));
     }
 
--- ---- a script that is counted
+-- ---- a script that is read
 
--- these bytes were counted, those that are left in the block follow them, and both were taken from the source
-pub record CountedSoFar (old new : Option (List ℕ)) (faults_old faults_new : ℕ) (c : Counting) (left : List ℕ) (pulled : ℕ) : Type 0 where
+-- the lines of these bytes were read, those that are left in the block follow them, and both were taken from the source
+pub record ReadSoFar (old new : Option (List ℕ)) (faults_old faults_new : ℕ) (Takes : List ℕ → Type 0) (left : List ℕ) (pulled : ℕ) : Type 0 where
   pub taken : List ℕ
-  pub took : Took c taken
+  pub took : Takes taken
   pub consumed : Consumes old new (taken ++ left)
   pub count : length taken + length left ≡ pulled
   pub within : pulled ≤ MOST_INPUT_BYTES
   pub faults : faults_old ≤ faults_new
 
-pub counted_none : (c : Counting) (s : Option (List ℕ)) (faults : ℕ) (left : List ℕ) → left ≡ [] → Took c [] → CountedSoFar s s faults faults c left 0
-counted_none c s faults left none took = record {
+pub read_none : (Takes : List ℕ → Type 0) (s : Option (List ℕ)) (faults : ℕ) (left : List ℕ) → left ≡ [] → Takes [] → ReadSoFar s s faults faults Takes left 0
+read_none Takes s faults left none took = record {
   taken = [];
   took = took;
   consumed = subst (Consumes s s) (sym none) (Consumes-nil s);
@@ -137,9 +129,9 @@ counted_none c s faults left none took = record {
 }
 
 -- the source has no more: what is left is the last piece
-pub counted_end : (a b c : Option (List ℕ)) (f g n pulled : ℕ) (s : Counting) (left out : List ℕ) (counted : Result Counts ScriptFail) (so : CountedSoFar a b f g s left pulled) → IsEmptyAtEnd b n → n ≡ 0 → Consumes b c (take n out)
-    → ((taken : List ℕ) → Took s taken → GivesCounts counted (says (taken ++ left))) → Tells [] a c counted
-counted_end a b c f g n pulled s left out counted so at_end none taken gives =
+pub read_end : (a b c : Option (List ℕ)) (f g n pulled : ℕ) (Takes : List ℕ → Type 0) (left out : List ℕ) (Gives : Result Said Fault → Type 0) (so : ReadSoFar a b f g Takes left pulled) → IsEmptyAtEnd b n → n ≡ 0 → Consumes b c (take n out)
+    → ((taken : List ℕ) → Takes taken → Gives (says (taken ++ left))) → Tells [] a c Gives
+read_end a b c f g n pulled Takes left out Gives so at_end none taken gives =
     let got = so.taken ++ left in
     let len : length got ≤ MOST_INPUT_BYTES = omega (arith, so.count, so.within, length-append so.taken left) in
     let nothing : got ++ take n out ≡ got = ap (λ k. got ++ take k out) none ∙ append-nil got in
@@ -148,19 +140,19 @@ counted_end a b c f g n pulled s left out counted so at_end none taken gives =
       taken = subst (Consumes a c) nothing (Consumes-trans a b c got (take n out) so.consumed taken);
       within = omega (arith, len);
       out = out_at_end n (length got) a b c got out so.consumed at_end none taken;
-      gives = gives_says counted got len (gives so.taken so.took);
+      gives = gives_says Gives got len (gives so.taken so.took);
     }
 
 -- the bytes of a pull stand behind those that were left
-pub record PulledBehind (a c : Option (List ℕ)) (s : Counting) (text : List ℕ) (pulled : ℕ) : Type 0 where
+pub record PulledBehind (a c : Option (List ℕ)) (Takes : List ℕ → Type 0) (text : List ℕ) (pulled : ℕ) : Type 0 where
   pub taken : List ℕ
-  pub took : Took s taken
+  pub took : Takes taken
   pub consumed : Consumes a c (taken ++ text)
   pub count : length taken + length text ≡ pulled
 
-pub pulled_behind : (a b c : Option (List ℕ)) (f g n k pulled : ℕ) (s : Counting) (old new : List ℕ) → CountedSoFar a b f g s (take k old) pulled → take k new ≡ take k old → Consumes b c (take n (drop k new)) → k + n ≤ length new
-    → PulledBehind a c s (take (k + n) new) (pulled + n)
-pulled_behind a b c f g n k pulled s old new so kept taken enough =
+pub pulled_behind : (a b c : Option (List ℕ)) (f g n k pulled : ℕ) (Takes : List ℕ → Type 0) (old new : List ℕ) → ReadSoFar a b f g Takes (take k old) pulled → take k new ≡ take k old → Consumes b c (take n (drop k new)) → k + n ≤ length new
+    → PulledBehind a c Takes (take (k + n) new) (pulled + n)
+pulled_behind a b c f g n k pulled Takes old new so kept taken enough =
     let text : take (k + n) new ≡ take k old ++ take n (drop k new) = take-add k n new ∙ ap (λ l. l ++ take n (drop k new)) kept in
     record {
       taken = so.taken;
@@ -170,8 +162,8 @@ pulled_behind a b c f g n k pulled s old new so kept taken enough =
     }
 
 -- so many bytes were pulled that the input is too long
-pub pulled_long : (a c : Option (List ℕ)) (s : Counting) (text : List ℕ) (pulled : ℕ) → PulledBehind a c s text pulled → MOST_INPUT_BYTES < pulled → pulled ≤ MOST_INPUT_BYTES + 1 → Tells [] a c (Err (fail.Bad 0 bad.TooLong))
-pulled_long a c s text pulled so big within =
+pub pulled_long : (a c : Option (List ℕ)) (Takes : List ℕ → Type 0) (text : List ℕ) (pulled : ℕ) → PulledBehind a c Takes text pulled → MOST_INPUT_BYTES < pulled → pulled ≤ MOST_INPUT_BYTES + 1 → Tells [] a c (FailsSo (fail.Bad 0 bad.TooLong))
+pulled_long a c Takes text pulled so big within =
     let got = so.taken ++ text in
     let len : length got ≡ pulled = omega (arith, so.count, length-append so.taken text) in
     record {
@@ -182,10 +174,10 @@ pulled_long a c s text pulled so big within =
       gives = gives_long got (omega (arith, len, big));
     }
 
--- the ended lines of the text were counted
-pub counted_more : (a c : Option (List ℕ)) (f g : ℕ) (s t : Counting) (text left : List ℕ) (n pulled : ℕ) → PulledBehind a c s text pulled → pulled ≤ MOST_INPUT_BYTES → f ≤ g → TakesPiece s t text (Ok n) → left ≡ drop (length text - n) text
-    → CountedSoFar a c f g t left pulled
-counted_more a c f g s t text left n pulled so within faults takes is =
+-- the ended lines of the text were read
+pub read_more : (a c : Option (List ℕ)) (f g : ℕ) (Takes TakesNow : List ℕ → Type 0) (text left : List ℕ) (n pulled : ℕ) → PulledBehind a c Takes text pulled → pulled ≤ MOST_INPUT_BYTES → f ≤ g → TakesPiece Takes TakesNow text (Ok n) → left ≡ drop (length text - n) text
+    → ReadSoFar a c f g TakesNow left pulled
+read_more a c f g Takes TakesNow text left n pulled so within faults takes is =
     let front = take (length text - n) text in
     let whole : front ++ left ≡ text = ap (λ l. front ++ l) is ∙ take-append-drop (length text - n) text in
     record {
@@ -203,9 +195,9 @@ out_since n (Some xs) None c got taken out = absurd taken
 out_since n (Some xs) (Some ys) c got taken out = out
 
 -- a line of the text is bad, and the rest was read
-pub counted_bad : (a b c : Option (List ℕ)) (s t : Counting) (text : List ℕ) (pulled line : ℕ) (kind : BadKind) (failed : ScriptFail) → PulledBehind a b s text pulled → TakesPiece s t text (Err (fail.Bad line kind))
-    → ((front : List ℕ) → length front ≡ pulled → IsFaultOf front line kind → Tells front b c (Err failed)) → Tells [] a c (Err failed)
-counted_bad a b c s t text pulled line kind failed so takes told =
+pub read_bad : (a b c : Option (List ℕ)) (Takes TakesNow : List ℕ → Type 0) (text : List ℕ) (pulled line : ℕ) (kind : BadKind) (failed : ScriptFail) → PulledBehind a b Takes text pulled → TakesPiece Takes TakesNow text (Err (fail.Bad line kind))
+    → ((front : List ℕ) → length front ≡ pulled → IsFaultOf front line kind → Tells front b c (FailsSo failed)) → Tells [] a c (FailsSo failed)
+read_bad a b c Takes TakesNow text pulled line kind failed so takes told =
     let front = so.taken ++ text in
     let tells = told front (omega (arith, so.count, length-append so.taken text)) (λ more. takes so.taken more so.took) in
     record {
@@ -219,20 +211,20 @@ counted_bad a b c s t text pulled line kind failed so takes told =
 -- ---- the input
 
 -- two inputs that are too long say the same
-same_gives : (counted : Result Counts ScriptFail) (read all : List ℕ) → SameVerdict read all → GivesCounts counted (script_of read) → GivesCounts counted (script_of all)
-same_gives counted read all (inl same) gives = subst (λ l. GivesCounts counted (script_of l)) same gives
-same_gives counted read all (inr long) gives = subst (GivesCounts counted) (too_long read long.0 ∙ sym (too_long all long.1)) gives
+same_gives : (Gives : Result Said Fault → Type 0) (read all : List ℕ) → SameVerdict read all → Gives (script_of read) → Gives (script_of all)
+same_gives Gives read all (inl same) gives = subst (λ l. Gives (script_of l)) same gives
+same_gives Gives read all (inr long) gives = subst Gives (too_long read long.0 ∙ sym (too_long all long.1)) gives
 
--- the input was read as far as must be, and it says what was counted
-pub told_input : (n : ℕ) (old new : Option (List ℕ)) (counted : Result Counts ScriptFail) (all : List ℕ) → n ≡ MOST_INPUT_BYTES + 1 → old ≡ Some all → Tells [] old new counted → (new ≡ Some (drop n all)) × GivesCounts counted (script_of all)
-told_input n old new counted all limit known tells =
+-- the input was read as far as must be, and what it says is known
+pub told_input : (n : ℕ) (old new : Option (List ℕ)) (Gives : Result Said Fault → Type 0) (all : List ℕ) → n ≡ MOST_INPUT_BYTES + 1 → old ≡ Some all → Tells [] old new Gives → (new ≡ Some (drop n all)) × Gives (script_of all)
+told_input n old new Gives all limit known tells =
     told new (subst (λ l. Consumes l new tells.got) known tells.taken) (subst (λ l. IsReadOut l new (length tells.got)) known tells.out)
   where
-    told : (left : Option (List ℕ)) → Consumes (Some all) left tells.got → IsReadOut (Some all) left (length tells.got) → (left ≡ Some (drop n all)) × GivesCounts counted (script_of all)
+    told : (left : Option (List ℕ)) → Consumes (Some all) left tells.got → IsReadOut (Some all) left (length tells.got) → (left ≡ Some (drop n all)) × Gives (script_of all)
     told None taken out = absurd taken
     told (Some more) taken out =
         let so = read_so n all tells.got more limit taken (omega (arith, limit, tells.within)) (elim out [ inl none ↦ inl none | inr full ↦ inr (full ∙ sym limit) ]) in
-        (ap Some so.0, same_gives counted tells.got all so.1 tells.gives)
+        (ap Some so.0, same_gives Gives tells.got all so.1 tells.gives)
 
 -- ---- a block
 
@@ -248,12 +240,16 @@ kept_end block end rest within inside =
 
 -- ---- the whole call
 
-pub result_gives : {E : Type 0} → (n : ℕ) (old new : Option (List ℕ)) (result : Result (Result Counts ScriptFail) E) (all : List ℕ) → n ≡ MOST_INPUT_BYTES + 1 → old ≡ Some all → IfOk result (λ counted. Tells [] old new counted)
-    → IfOk result (λ counted. GivesCounts counted (script_of all))
-result_gives n old new (Ok counted) all limit known tells = (told_input n old new counted all limit known tells).1
-result_gives n old new (Err e) all limit known tells = tt
+pub result_some : {M E : Type 0} → (old new : Option (List ℕ)) (Gives : M → Result Said Fault → Type 0) (result : Result M E) → IfOk result (λ made. Tells [] old new (Gives made)) → IfOk result (λ made. (bytes : List ℕ) × Gives made (script_of bytes))
+result_some old new Gives (Ok made) tells = (tells.got, tells.gives)
+result_some old new Gives (Err e) tells = tt
 
-pub result_read : {E : Type 0} → (n : ℕ) (old new : Option (List ℕ)) (result : Result (Result Counts ScriptFail) E) (all : List ℕ) → n ≡ MOST_INPUT_BYTES + 1 → old ≡ Some all → IfOk result (λ counted. Tells [] old new counted)
+pub result_gives : {M E : Type 0} → (n : ℕ) (old new : Option (List ℕ)) (Gives : M → Result Said Fault → Type 0) (result : Result M E) (all : List ℕ) → n ≡ MOST_INPUT_BYTES + 1 → old ≡ Some all → IfOk result (λ made. Tells [] old new (Gives made))
+    → IfOk result (λ made. Gives made (script_of all))
+result_gives n old new Gives (Ok made) all limit known tells = (told_input n old new (Gives made) all limit known tells).1
+result_gives n old new Gives (Err e) all limit known tells = tt
+
+pub result_read : {M E : Type 0} → (n : ℕ) (old new : Option (List ℕ)) (Gives : M → Result Said Fault → Type 0) (result : Result M E) (all : List ℕ) → n ≡ MOST_INPUT_BYTES + 1 → old ≡ Some all → IfOk result (λ made. Tells [] old new (Gives made))
     → OnOk result (new ≡ Some (drop n all))
-result_read n old new (Ok counted) all limit known tells = (told_input n old new counted all limit known tells).0
-result_read n old new (Err e) all limit known tells = tt
+result_read n old new Gives (Ok made) all limit known tells = (told_input n old new (Gives made) all limit known tells).0
+result_read n old new Gives (Err e) all limit known tells = tt

@@ -1,13 +1,14 @@
-use Rattle.std.proofs.Common.{Err, subst, sym}
-use Rattle.dymelor_top.specs.Counts.{Tells}
-use Rattle.dymelor_top.proofs.CountedBlocks.{fault_told, long_told}
-use Rattle.dymelor_top.proofs.counts.fault.Goals as goal
+use Rattle.std.proofs.Common.{subst, sym}
+use Rattle.dym_script.specs.Answers.{FailsSo}
+use Rattle.dymelor_top.specs.Blocks.{Tells}
+use Rattle.dymelor_top.proofs.ReadBlocks.{fault_told, long_told}
+use Rattle.dymelor_top.proofs.blocks.fault.Goals as goal
 
 pub returns-then-all-gt-MOST_INPUT_BYTES-clause-told : goal.returns-then-all-gt-MOST_INPUT_BYTES-clause-told
 returns-then-all-gt-MOST_INPUT_BYTES-clause-told g c front len faulty =
     let old = g.R.Source.left c.args.source.now in
     let new = g.R.Source.left c.drain.new.source in
-    subst (λ e. Tells front old new (Err e)) (sym c.too_long.ensures) (long_told c.args.pulled c.in_ok-all.all front old new c.in_ok-all.ensures.drained c.if-all-gt-MOST_INPUT_BYTES.true len)
+    subst (λ e. Tells front old new (FailsSo e)) (sym c.too_long.ensures) (long_told c.args.pulled c.in_ok-all.all front old new c.in_ok-all.ensures.drained c.if-all-gt-MOST_INPUT_BYTES.true len)
 
 pub returns-clause-told : goal.returns-clause-told
 returns-clause-told g c front len faulty =

@@ -1,6 +1,6 @@
 use Rattle.std.proofs.Common.{arith, length-take}
-use Rattle.dymelor_top.proofs.CountedBlocks.{drained_more}
-use Rattle.dymelor_top.proofs.counts.drain.Goals as goal
+use Rattle.dymelor_top.proofs.ReadBlocks.{drained_more}
+use Rattle.dymelor_top.proofs.blocks.drain.Goals as goal
 
 pub pieces-preserved : goal.pieces-preserved
 pieces-preserved g c =

@@ -1,0 +1,69 @@
+use Rattle.std.proofs.Common.{◌≡◌, ℕ, ◌+◌, ◌-◌, ◌≤◌, [], ◌++◌, length, length-take, take, drop, Err, sym, ap, subst, ◌∙◌, arith}
+use Rattle.dym_base.specs.declared.bad_kind.BadKind.{BadKind}
+use Rattle.dym_script.specs.declared.script.ScriptFail.TheVariants as fail
+use Rattle.dym_script.specs.Answers.{FailsSo, GivesBy}
+use Rattle.dym_script.specs.Pieces.{says, Took, TakesPiece}
+use Rattle.dymelor_top.specs.Blocks.{IsFaultOf, Tells}
+use Rattle.dymelor_top.proofs.ReadBlocks.{read_end, pulled_behind, pulled_long, read_more, read_bad}
+use Rattle.dymelor_top.proofs.blocks.read_blocks.Goals as goal
+
+pub returns-then-amount-eq0-clause-told : goal.returns-then-amount-eq0-clause-told
+returns-then-amount-eq0-clause-told g c =
+    let l = c.pieces in
+    let pulled = c.in_ok-amount.ensures in
+    read_end (g.R.Source.left c.args.source.now) (g.R.Source.left l.source) (g.R.Source.left c.pull_behind.new.source) (g.R.Source.faults c.args.source.now) (g.R.Source.faults l.source)
+    c.in_ok-amount.amount l.pulled (Took (g.K.LineReader.fits l.script.lines) (g.K.LineReader.stands l.script.lines) l.script.number) (take l.left l.block) (drop l.left c.pull_behind.new.block) (GivesBy g.K.LineReader.tells c.finish.result) l.invariant.read pulled.end c.if-amount-eq0.true pulled.taken
+    (λ taken took. subst (λ t. GivesBy g.K.LineReader.tells c.finish.result (says (taken ++ t))) pulled.kept (c.finish.ensures taken took))
+
+pub returns-then-pulled-gt-MOST_INPUT_BYTES-clause-told : goal.returns-then-pulled-gt-MOST_INPUT_BYTES-clause-told
+returns-then-pulled-gt-MOST_INPUT_BYTES-clause-told g c =
+    let l = c.pieces in
+    let pulled = c.in_ok-amount.ensures in
+    let n = c.in_ok-amount.amount in
+    let before = Took (g.K.LineReader.fits l.script.lines) (g.K.LineReader.stands l.script.lines) l.script.number in
+    let a = g.R.Source.left c.args.source.now in
+    let b = g.R.Source.left l.source in
+    let after = g.R.Source.left c.pull_behind.new.source in
+    let fits : l.left + n ≤ length c.pull_behind.new.block = omega (arith, pulled.amount, c.min-room.ensures, l.invariant.short, c.pull_behind.auto.block) in
+    let behind = pulled_behind a b after (g.R.Source.faults c.args.source.now) (g.R.Source.faults l.source) n l.left l.pulled before l.block c.pull_behind.new.block l.invariant.read pulled.kept pulled.taken fits in
+    subst (λ e. Tells [] a after (FailsSo e)) (sym c.too_long.ensures)
+    (pulled_long a after before (take (l.left + n) c.pull_behind.new.block) (l.pulled + n) behind c.if-pulled-gt-MOST_INPUT_BYTES.true (omega (arith, pulled.amount, c.min-room.ensures)))
+
+pub pieces-preserved : goal.pieces-preserved
+pieces-preserved g c =
+    let l = c.pieces in
+    let pulled = c.in_ok-amount.ensures in
+    let n = c.in_ok-amount.amount in
+    let before = Took (g.K.LineReader.fits l.script.lines) (g.K.LineReader.stands l.script.lines) l.script.number in
+    let now = Took (g.K.LineReader.fits c.take.new.self.lines) (g.K.LineReader.stands c.take.new.self.lines) c.take.new.self.number in
+    let a = g.R.Source.left c.args.source.now in
+    let b = g.R.Source.left l.source in
+    let after = g.R.Source.left c.pull_behind.new.source in
+    let fits : l.left + n ≤ length c.pull_behind.new.block = omega (arith, pulled.amount, c.min-room.ensures, l.invariant.short, c.pull_behind.auto.block) in
+    let text = take (l.left + n) c.pull_behind.new.block in
+    let long : l.left + n ≡ length text = omega (arith, length-take (l.left + n) c.pull_behind.new.block, fits) in
+    let behind = pulled_behind a b after (g.R.Source.faults c.args.source.now) (g.R.Source.faults l.source) n l.left l.pulled before l.block c.pull_behind.new.block l.invariant.read pulled.kept pulled.taken fits in
+    record {
+      short = c.in-Ok.ensures.short;
+      read = read_more a after (g.R.Source.faults c.args.source.now) (g.R.Source.faults c.pull_behind.new.source) before now text (take c.in-Ok.rest c.keep_end.new.block) c.in-Ok.rest (l.pulled + n) behind
+          c.if-pulled-gt-MOST_INPUT_BYTES.false (omega (arith, l.invariant.read.faults, pulled.count)) c.in-Ok.ensures.took (c.keep_end.ensures ∙ ap (λ k. drop (k - c.in-Ok.rest) text) long);
+    }
+
+pub returns-in-Err-Bad-clause-told : goal.returns-in-Err-Bad-clause-told
+returns-in-Err-Bad-clause-told g c =
+    let l = c.pieces in
+    let pulled = c.in_ok-amount.ensures in
+    let n = c.in_ok-amount.amount in
+    let before = Took (g.K.LineReader.fits l.script.lines) (g.K.LineReader.stands l.script.lines) l.script.number in
+    let now = Took (g.K.LineReader.fits c.take.new.self.lines) (g.K.LineReader.stands c.take.new.self.lines) c.take.new.self.number in
+    let a = g.R.Source.left c.args.source.now in
+    let b = g.R.Source.left l.source in
+    let middle = g.R.Source.left c.pull_behind.new.source in
+    let after = g.R.Source.left c.fault.new.source in
+    let fits : l.left + n ≤ length c.pull_behind.new.block = omega (arith, pulled.amount, c.min-room.ensures, l.invariant.short, c.pull_behind.auto.block) in
+    let text = take (l.left + n) c.pull_behind.new.block in
+    let behind = pulled_behind a b middle (g.R.Source.faults c.args.source.now) (g.R.Source.faults l.source) n l.left l.pulled before l.block c.pull_behind.new.block l.invariant.read pulled.kept pulled.taken fits in
+    let takes : TakesPiece before now text (Err (fail.Bad c.in-Err-Bad.line c.in-Err-Bad.kind)) = subst (λ e. TakesPiece before now text (Err e)) c.in-Err-Bad.field-0-is c.in-Err-Bad.ensures.took in
+    let named : ◌≡◌ {A = ℕ × BadKind} _ (c.in-Err-Bad.line, c.in-Err-Bad.kind) = λ i. (c.in-Err-Bad.line-is i, c.in-Err-Bad.kind-is i) in
+    read_bad a middle after before now text (l.pulled + n) c.in-Err-Bad.line c.in-Err-Bad.kind c.in_ok-fault-in-Err-Bad.field-0 behind takes
+    (λ front len faulty. c.in_ok-fault-in-Err-Bad.ensures.told front len (let P : ℕ × BadKind → Type 0 = λ x. IsFaultOf front x.0 x.1 in subst P (sym named) faulty))
