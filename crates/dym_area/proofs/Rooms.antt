@@ -1,12 +1,12 @@
 -- The summary of the use bits: where a chunk is found, and what a chunk taken or given up changes.
-use Rattle.std.proofs.Common.{◌≡◌, ℕ, ◌+◌, ◌*◌, ◌/◌, ◌%◌, ◌^◌, ◌<◌, ◌≤◌, Bool, true, false, List, length, inl, inr, refl, sym, ◌∙◌, ap, arith, min, bit_and, w32}
+use Rattle.std.proofs.Common.{◌≡◌, ℕ, ◌+◌, ◌-◌, ◌*◌, ◌/◌, ◌%◌, ◌^◌, ◌<◌, ◌≤◌, Bool, true, false, List, length, inl, inr, refl, sym, ◌∙◌, ap, arith, min, bit_and, w32}
 use Rattle.std.specs.Prelude.{Option, None, Some, MatchOption, slice_set}
 use Rattle.std.specs.Int.{bit_at, bit_not, trailing_zeros}
 use Rattle.std.proofs.Math.Nat.{pos_of_ne-zero}
 use Rattle.std.proofs.lemmas.Bool.{cases_eq, cases_lt}
 use Rattle.std.proofs.lemmas.List.{get_or-set_other}
 use Rattle.std.proofs.lemmas.Grind.{get_or-set_at}
-use Rattle.std.proofs.lemmas.Nat.Bits.{bit_at-lt, bit_at_and, bit_at-zero, bit_at-trailing_zeros, bit_at_clear_same, bit_at_clear_other}
+use Rattle.std.proofs.lemmas.Nat.Bits.{bit_at-lt, bit_at_and, bit_at-zero, bit_at_ones, bit_at_ones_above, ones_shr, bit_at-trailing_zeros, bit_at_clear_same, bit_at_clear_other}
 use Rattle.dym_bits.specs.Bits.{bit_in, IsSet, IsClear, IsFirstClear, IsNextClearInWord}
 use Rattle.dym_area.specs.Area.{HasRoom, IsSummary}
 
@@ -151,6 +151,23 @@ summary_closed used count room i within few below here elsewhere marked =
                 unused)
             | inr other ↦ bit_at_clear_other w32 room (i / 64) (omega arith) (k / 64) (omega arith) other ∙ marked k under unused
           ];
+    }
+
+-- ---- no chunk used
+
+-- where no chunk is used every word has one that is unused
+pub all_marked : (used : List Bool) (count words : ℕ) → words ≤ 32 → count ≤ words * 64 → ((q : ℕ) → q < words → q * 64 < count) → ((i : ℕ) → IsClear used i) → IsSummary used count ((2 ^ 32 - 1) / 2 ^ (32 - words))
+all_marked used count words most enough begun clear =
+    let few : 32 - words ≤ 32 = omega arith in
+    let same : 32 - (32 - words) ≡ words = omega arith in
+    let ones : (2 ^ 32 - 1) / 2 ^ (32 - words) ≡ 2 ^ words - 1 = ones_shr 32 (32 - words) few ∙ ap (λ n. 2 ^ n - 1) same in
+    record {
+      found = λ q one.
+          elim (cases_lt q words) [
+            | inl below ↦ record { chunk = q * 64; within = begun q below; word = omega arith; unused = clear (q * 64) }
+            | inr above ↦ absurd (one_is_not_none (bit_at (2 ^ words - 1) q) (sym (ap (λ n. bit_at n q) ones) ∙ one) (bit_at_ones_above words q above))
+          ];
+      marked = λ k within unused. ap (λ n. bit_at n (k / 64)) ones ∙ bit_at_ones words (k / 64) (omega (arith, enough, within));
     }
 
 -- ---- the summary as it is put together

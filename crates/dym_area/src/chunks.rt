@@ -5,8 +5,8 @@ ghost use Rattle.dym_bits.specs.Bits.{bit_in, bits_of_bytes, clear_bits, IsSet, 
 ghost use Rattle.dym_region.specs.Content.{part_of};
 ghost use Rattle.dym_area.specs.Area.{IsLawful, chunk_start, with_taken, with_released, with_written, with_loaded, with_clean, with_used_bytes};
 
-use crate::summary::{WORD_CHUNKS, after_take, summary_of, with_room};
-use dym_base::class::size_of_class;
+use crate::summary::{WORD_CHUNKS, after_take, all_words, summary_of, with_room};
+use dym_base::class::{per_area, size_of_class};
 use dym_base::limits::{MOST_CHUNKS, SEGMENT_BYTES};
 use dym_bits::Bits;
 use dym_region::Segment;
@@ -42,14 +42,12 @@ impl<G: Segment> Area<G> {
         ensures lawful { IsLawful result }
         ensures none { (i : ℕ) → IsClear result.used i }
     {
-        let used = Bits::new();
-        let room = summary_of(&used, exp);
         Area {
             exp,
             ordinal,
-            used,
+            used: Bits::new(),
             dirty: Bits::new(),
-            room,
+            room: all_words(exp),
             segment: seg,
         }
     }
@@ -210,6 +208,13 @@ impl<G: Segment> Area<G> {
         ensures { MatchOption result ((i : ℕ) → from ≤ i → IsClear self.now.used i) (IsNextSet self.now.used from) }
     {
         self.used.next_set(from)
+    }
+
+    /// The least used index, and None where no chunk is used. Only the bits of the class's chunks are read.
+    pub fn first_used(&self) -> Option<u32>
+        ensures { MatchOption result ((i : ℕ) → 0 ≤ i → IsClear self.now.used i) (IsNextSet self.now.used 0) }
+    {
+        self.used.next_set_within(0, per_area(self.exp))
     }
 
     /// The use bits.

@@ -1,5 +1,5 @@
 //! Which words of the use bits have an unused chunk.
-ghost use Rattle.std.specs.Prelude.{◌≡◌, ℕ, ◌*◌, ◌/◌, ◌<◌, ◌≤◌, MatchBool};
+ghost use Rattle.std.specs.Prelude.{◌≡◌, ℕ, ◌*◌, ◌/◌, ◌<◌, ◌≤◌, Bool, List, MatchBool};
 ghost use Rattle.std.specs.Int.{bit_at};
 ghost use Rattle.dym_base.specs.Numbers.{per};
 ghost use Rattle.dym_bits.specs.Bits.{IsSet, IsClear};
@@ -28,12 +28,23 @@ pub(crate) fn summary_of(used: &Bits, exp: u8) -> u32
     room
 }
 
+/// The summary of an area of a class where no chunk is used.
+pub(crate) fn all_words(exp: u8) -> u32
+    requires least { 5 ≤ exp }
+    requires greatest { exp ≤ 16 }
+    ensures { (used : List Bool) → ((i : ℕ) → IsClear used i) → IsSummary used (per exp) result }
+{
+    u32::MAX >> (u32::BITS - words_of(exp))
+}
+
 /// How many words of the use bits an area of a class has.
 fn words_of(exp: u8) -> u32
     requires least { 5 ≤ exp }
     requires greatest { exp ≤ 16 }
-    ensures enough { per exp ≤ result * 64 }
+    ensures least { 1 ≤ result }
     ensures most { result ≤ 32 }
+    ensures enough { per exp ≤ result * 64 }
+    ensures begun { (q : ℕ) → q < result → q * 64 < per exp }
 {
     per_area(exp).div_ceil(WORD_CHUNKS)
 }

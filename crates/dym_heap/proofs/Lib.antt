@@ -13,9 +13,12 @@ pub mod Slices
 pub mod Rows
 pub mod RowSteps
 pub mod Owned
+pub mod Turned
+pub mod Pairs
 pub mod ShelfFacts
 pub mod Marks
 pub mod ShelfCalls
+pub mod ShelfCopies
 pub mod ShelfGrows
 pub mod HandleSteps
 pub mod Soundness

@@ -85,6 +85,10 @@ module _ (v : Version) (quota : ℕ) (ids : List SegmentId) (origin : Origin) (s
       let b = finds.1 in
       omega arith
 
+  pub chunk_there : (i o j k : ℕ) → Finds i o j k → (d : PlaceMeaning) → chunk_at s.rows (e - 5) i ≡ get_or (get_or places k d).chunks j None
+  chunk_there i o j k finds d =
+      ap (chunk_at s.rows (e - 5)) (sym (index_e i o j k finds)) ∙ facts.chunk_s v quota ids origin starts places full room spare spare_room s view is (e - 5) o j k (spot_e i o j k finds) d
+
   module _ (o j k : ℕ) (spot : Spot v quota ids origin starts places full room spare spare_room s view is (e - 5) o j k) (q : PlaceMeaning) (here : q ≡ get_or places k q) where
     pub in_e : k < length places
     in_e = facts.in_s v quota ids origin starts places full room spare spare_room s view is (e - 5) o j k spot

@@ -1,7 +1,8 @@
 -- What a place stands for: an area with the lengths of its chunks.
-use Rattle.std.specs.Prelude.{◌≡◌, ℕ, ◌≤◌, ◌<◌, Bool, true, false, if◌then◌else◌, List, map, length, take, replicate, slice_index, slice_index_or, slice_set, Option, None, Some, IsSome}
+use Rattle.std.specs.Prelude.{◌≡◌, ℕ, ◌≤◌, ◌<◌, Bool, true, false, if◌then◌else◌, List, map, length, take, replicate, slice_index, slice_index_or, slice_set, Option, None, Some, IsSome, MatchOption}
 use Rattle.std.specs.List.{range_with_len}
 use Rattle.dym_base.specs.Numbers.{size, per}
+use Rattle.dym_base.specs.HeapStep.{splice}
 use Rattle.dym_base.specs.declared.command.Version.{Version}
 use Rattle.dym_base.specs.declared.command.Version.TheVariants.{One, Two}
 use Rattle.dym_bits.specs.Bits.{bit_in, IsSet}
@@ -97,3 +98,12 @@ pub record IsRepeated (block : List ℕ) : Type 0 where
 -- the place with no chunk touched
 abbrev pub clean : PlaceMeaning → PlaceMeaning
 clean p = record p { touched = replicate (length p.touched) false }
+
+-- the first n bytes of chunk j of area s were copied over those of chunk i of area t
+pub record IsCopiedOver (old new : List PlaceMeaning) (s j t i n : ℕ) : Type 0 where
+  pub place : PlaceMeaning
+  pub areas : new ≡ slice_set old t place
+  pub chunk : MatchOption (slice_index_or (slice_index_or old s place).chunks j None) ⊥ (λ bytes.
+      MatchOption (slice_index_or (slice_index_or old t place).chunks i None) ⊥ (λ target.
+      place ≡ place_put (slice_index_or old t place) i (Some (splice 0 (take n bytes) target)) true))
+  pub lawful : IsPlace place

@@ -17,12 +17,6 @@ use dym_base::limits::{GREATEST_EXPONENT, LEAST_EXPONENT};
 use dym_base::{Handle, Version};
 use dym_quota::Supply;
 
-/// The bytes that are copied at a time.
-const BLOCK: usize = 1_024;
-
-/// The bytes of a block for copies that are short.
-const SMALL_BLOCK: usize = 64;
-
 /// A chunk's length in bytes, and None where it isn't live.
 pub(crate) fn len_of_handle<S: Supply>(shelf: &Shelf<S>, h: Handle) -> Option<u32>
     requires { IsTidy shelf.now }
@@ -179,35 +173,10 @@ fn copy_chunk<S: Supply>(shelf: &mut Shelf<S>, from: Handle, to: Handle, len: u3
     ensures copied { Copied shelf.old shelf.new (from.exp - 5) from.index (to.exp - 5) to.index len }
     ensures kept { IsKept shelf.new }
 {
-    if len as usize <= SMALL_BLOCK {
-        copy_by(shelf, from, to, len, &mut [0; SMALL_BLOCK]);
-    } else {
-        copy_by(shelf, from, to, len, &mut [0; BLOCK]);
+    if len == 0 {
+        return;
     }
-}
-
-/// Copies as `copy_chunk` does, as many bytes at a time as the block holds.
-fn copy_by<S: Supply>(shelf: &mut Shelf<S>, from: Handle, to: Handle, len: u32, block: &mut [u8])
-    requires some { 0 < length block.old }
-    requires short { length block.old < 65536 }
-    requires from_class { (5 ≤ from.exp) × (from.exp ≤ 16) }
-    requires to_class { (5 ≤ to.exp) × (to.exp ≤ 16) }
-    requires apart { from.exp ≡ to.exp → ⊥ }
-    requires kept { IsKept shelf.old }
-    requires source { FitsIn (chunk_at shelf.old.rows (from.exp - 5) from.index) len }
-    requires target { FitsIn (chunk_at shelf.old.rows (to.exp - 5) to.index) len }
-    ensures copied { Copied shelf.old shelf.new (from.exp - 5) from.index (to.exp - 5) to.index len }
-    ensures kept { IsKept shelf.new }
-{
-    let size = block.len() as u32;
-    let mut done = 0;
-    while done < len {
-        let more = (len - done).min(size);
-        let part = &mut block[..more as usize];
-        shelf.read(from.exp, from.index, done, part);
-        shelf.write(to.exp, to.index, done, part);
-        done += more;
-    }
+    shelf.copy(from, to, len);
 }
 
 /// Moves a chunk that is live to a fresh chunk of another class, where the quota allows it: its first bytes, and zeros after

@@ -11,6 +11,7 @@ use crate::shelf::Shelf;
 use dym_quota::Supply;
 
 /// A fresh chunk of a class, of `len` zero bytes, where the quota allows it.
+#[inline(always)]
 pub(crate) fn take_fresh<S: Supply>(
     shelf: &mut Shelf<S>,
     way: &S::Way,

@@ -14,6 +14,7 @@ mod lengths;
 mod load;
 mod loading;
 mod next;
+mod order;
 mod place;
 mod shape;
 mod shelf;

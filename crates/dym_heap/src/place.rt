@@ -86,7 +86,7 @@ impl<G: Segment> Place<G> {
     pub(crate) fn is_empty(&self) -> bool
         ensures { MatchBool result ((i : ℕ) → slice_index_or self.now.chunks i None ≡ None) ((i : ℕ) × IsSome (slice_index_or self.now.chunks i None)) }
     {
-        self.area.next_used(0).is_none()
+        self.area.first_used().is_none()
     }
 
     /// The least index from `from` on of a chunk in use.
@@ -216,6 +216,25 @@ impl<G: Segment> Place<G> {
         ensures lawful { IsPlace self.new }
     {
         self.area.write(i, at, bytes);
+    }
+
+    /// The first `len` bytes of chunk `i`.
+    pub(crate) fn front(&self, i: u32, len: u32) -> &[u8]
+        requires { FitsIn (slice_index_or self.now.chunks i None) len }
+        ensures { MatchOption (slice_index_or self.now.chunks i None) ⊥ (λ bytes. result.now ≡ take len bytes) }
+    {
+        self.area.bytes(i, 0, len)
+    }
+
+    /// Copies the first `len` bytes, of which there is at least one, of chunk `j` of another area over those of chunk `i`.
+    pub(crate) fn copy_from(&mut self, i: u32, source: &Place<G>, j: u32, len: u32)
+        requires some { 0 < len }
+        requires source { FitsIn (slice_index_or source.now.chunks j None) len }
+        requires target { FitsIn (slice_index_or self.old.chunks i None) len }
+        ensures copied { MatchOption (slice_index_or source.now.chunks j None) ⊥ (λ bytes. MatchOption (slice_index_or self.old.chunks i None) ⊥ (λ old. self.new ≡ place_put self.old i (Some (splice 0 (take len bytes) old)) true)) }
+        ensures lawful { IsPlace self.new }
+    {
+        self.write(i, 0, source.front(j, len));
     }
 
     /// Makes at least one byte `byte`.

@@ -16,10 +16,11 @@ ghost use Rattle.dym_heap.specs.Arrangement.{AreClear, HasTables, Owns};
 ghost use Rattle.dym_heap.specs.Shelves.{ShelfMeaning, IsKept, IsTidy, IsFirstFree, IsNextUsed, Keeps, with_row, with_put, longer, Trims, EndsFree, without_last, FitsIn, empty_rows, untouched_rows};
 
 use crate::lengths::Lengths;
+use crate::order::{copy_between, put_in, take_out};
 use crate::place::Place;
 use crate::spot::{class_index, find, keep_table, mark_full, set_mark, shift_down, shift_up};
 use dym_base::limits::MOST_QUOTA;
-use dym_base::{Version, per_area};
+use dym_base::{Handle, Version, per_area};
 use dym_bits::Bits;
 use dym_quota::Supply;
 use dym_region::Segment;
@@ -141,6 +142,7 @@ impl<S: Supply> Shelf<S> {
     }
 
     /// A new area at the end of a class.
+    #[inline(never)]
     pub(crate) fn add_area(&mut self, way: &S::Way, exp: u8)
         requires least { 5 ≤ exp }
         requires most { exp ≤ 16 }
@@ -154,7 +156,7 @@ impl<S: Supply> Shelf<S> {
         let lengths = self.spare.pop();
         let segment = self.supply.take(way);
         let place = Place::new(exp, ordinal, segment, lengths);
-        self.places.insert(at as usize, place).unwrap();
+        put_in(&mut self.places, at as usize, place);
         shift_up(&mut self.starts, class);
     }
 
@@ -196,7 +198,7 @@ impl<S: Supply> Shelf<S> {
     {
         let class = class_index(exp);
         let last = self.starts[class + 1] as usize - 1;
-        let place = self.places.remove(last);
+        let place = take_out(&mut self.places, last);
         let (segment, lengths) = place.into_parts();
         self.supply.give(way, segment);
         keep_table(&mut self.spare, lengths);
@@ -296,6 +298,26 @@ impl<S: Supply> Shelf<S> {
             unreachable!();
         };
         self.places[spot.place].read(spot.chunk, at, out);
+    }
+
+    /// Copies the first `len` bytes, of which there is at least one, of a chunk over those of a chunk of another class.
+    pub(crate) fn copy(&mut self, from: Handle, to: Handle, len: u32)
+        requires from_class { (5 ≤ from.exp) × (from.exp ≤ 16) }
+        requires to_class { (5 ≤ to.exp) × (to.exp ≤ 16) }
+        requires apart { from.exp ≡ to.exp → ⊥ }
+        requires some { 0 < len }
+        requires source { FitsIn (chunk_at self.old.rows (from.exp - 5) from.index) len }
+        requires target { FitsIn (chunk_at self.old.rows (to.exp - 5) to.index) len }
+        ensures copied { MatchOption (chunk_at self.old.rows (from.exp - 5) from.index) ⊥ (λ source. MatchOption (chunk_at self.old.rows (to.exp - 5) to.index) ⊥ (λ old. self.new ≡ with_put self.old (to.exp - 5) to.index (Some (splice 0 (take len source) old)) true)) }
+        ensures kept { IsKept self.new }
+    {
+        let Some(source) = find(&self.starts, from.exp, from.index) else {
+            unreachable!();
+        };
+        let Some(target) = find(&self.starts, to.exp, to.index) else {
+            unreachable!();
+        };
+        copy_between(&mut self.places, source, target, len);
     }
 
     /// Writes at least one byte.

@@ -103,6 +103,6 @@ pub(crate) fn keep_table(spare: &mut Vec<Lengths>, lengths: Option<Lengths>)
     ensures room { vec_capacity spare.old ≤ vec_capacity spare.new }
 {
     if let Some(lengths) = lengths {
-        spare.push(lengths).unwrap();
+        spare.push_reserved(lengths);
     }
 }
