@@ -13,9 +13,6 @@ use dym_heap::{Found, Heap};
 use dym_quota::Supply;
 use std::alloc::{AllocError, Global};
 
-/// The most bytes that a reply keeps in itself.
-const FEW: u32 = 16;
-
 /// Runs one command to a heap, and writes its reply into a place. Only a read that isn't refused takes memory; where that is
 /// wanting the place keeps the reply that it had.
 #[inline(always)]
@@ -69,63 +66,16 @@ fn read<S: Supply>(
     ensures memory { IfErr result (λ _. TakesMemory (Read h at len) (step_of heap.now (Read h at len)).reply) }
     ensures kept { OnErr result (reply.new ≡ reply.old) }
 {
-    if len <= FEW {
-        read_few(heap, alloc, h, at, len, reply)
-    } else {
-        read_many(heap, alloc, h, at, len, reply)
-    }
-}
-
-/// Reads so few bytes that a reply keeps them in itself.
-fn read_few<S: Supply>(
-    heap: &Heap<S>,
-    alloc: Global,
-    h: Handle,
-    at: u32,
-    len: u32,
-    reply: &mut Reply,
-) -> Result<(), AllocError>
-    requires few { len ≤ FEW }
-    ensures reply { OnOk result (reply.new ≡ (step_of heap.now (Read h at len)).reply) }
-    ensures memory { IfErr result (λ _. TakesMemory (Read h at len) (step_of heap.now (Read h at len)).reply) }
-    ensures kept { OnErr result (reply.new ≡ reply.old) }
-{
-    let mut buffer = [0; FEW as usize];
-    let bytes = &mut buffer[..len as usize];
-    if let Err(why) = heap.read(h, at, bytes) {
-        *reply = Reply::Refused(why);
-        return Ok(());
-    }
-    *reply = Reply::Bytes(Blob::new(alloc, bytes)?);
-    Ok(())
-}
-
-/// Reads bytes of a chunk into memory that the reply then owns.
-fn read_many<S: Supply>(
-    heap: &Heap<S>,
-    alloc: Global,
-    h: Handle,
-    at: u32,
-    len: u32,
-    reply: &mut Reply,
-) -> Result<(), AllocError>
-    ensures reply { OnOk result (reply.new ≡ (step_of heap.now (Read h at len)).reply) }
-    ensures memory { IfErr result (λ _. TakesMemory (Read h at len) (step_of heap.now (Read h at len)).reply) }
-    ensures kept { OnErr result (reply.new ≡ reply.old) }
-{
-    let Some(size) = heap.size_of(h) else {
+    let Some(bytes) = heap.bytes(h) else {
         *reply = Reply::Refused(Refusal::Dead);
         return Ok(());
     };
-    if u64::from(at) + u64::from(len) > u64::from(size) {
+    let (at, len) = (at as usize, len as usize);
+    if at + len > bytes.len() {
         *reply = Reply::Refused(Refusal::Range);
         return Ok(());
     }
-    let mut bytes = vec![in alloc; 0; len as usize]?;
-    match heap.read(h, at, &mut bytes) {
-        Ok(()) => *reply = Reply::Bytes(Blob::of_vec(bytes)),
-        Err(why) => *reply = Reply::Refused(why),
-    }
+    *reply = Reply::Bytes(Blob::new(alloc, &bytes[at..at + len])?);
     Ok(())
 }
 

@@ -114,7 +114,8 @@ impl<S: Supply, K: LogKeep> Object<S, K> {
     }
 
     /// Runs one command as `run` does, and writes its reply into a place, so that no reply is moved. Where memory is wanting the
-    /// place keeps the reply that it had.
+    /// place keeps the reply that it had. Where the caller knows which command it is, only that one's code is left of the call.
+    #[inline(always)]
     pub fn run_into(
         &mut self,
         way: &S::Way,

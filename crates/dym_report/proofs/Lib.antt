@@ -5,3 +5,4 @@ pub mod EntriesInOrder
 pub mod LiveWalk
 pub mod LiveChunks
 pub mod ObjectParts
+pub mod PageLines

@@ -1,6 +1,6 @@
-//! Replies that are put before the text that ends a buffer, so that digits are written once, where they stand. Each function
-//! here takes where that text starts, and answers where it starts then.
-ghost use Rattle.std.specs.Prelude.{◌≡◌, ◌+◌, ◌*◌, ◌≤◌, ◌++◌, true, length, drop, decimal, codes};
+//! Replies that are put behind the text that begins a buffer, so that digits are written once, where they stand. Each function
+//! here takes where that text ends, and answers where it ends then.
+ghost use Rattle.std.specs.Prelude.{◌≡◌, ◌+◌, ◌*◌, ◌<◌, ◌≤◌, ◌^◌, ◌++◌, true, length, take, decimal, codes};
 ghost use Rattle.hex.specs.Hex.{encode_lower};
 ghost use Rattle.dym_report.specs.Replies.{reply_line, reply_text, kind_text, refusal_text, line_room};
 ghost use Rattle.dym_report.specs.Handles.{handle_text};
@@ -12,6 +12,7 @@ use hex::encode_to_slice;
 use itoa::write_digits;
 
 /// Whether so many bytes are enough for the line of a reply.
+#[inline(always)]
 pub(crate) fn has_room(room: usize, reply: &Reply) -> bool
     ensures { (result ≡ true) → line_room reply.now ≤ room }
 {
@@ -23,136 +24,173 @@ pub(crate) fn has_room(room: usize, reply: &Reply) -> bool
 }
 
 /// Puts the line of a reply.
-pub(crate) fn put_line(buffer: &mut [u8], end: usize, reply: &Reply) -> usize
-    requires room { line_room reply.now ≤ end }
-    requires end { end ≤ length buffer.old }
-    ensures start { result ≤ end }
-    ensures text { drop result buffer.new ≡ reply_line reply.now ++ drop end buffer.old }
+#[inline(always)]
+pub(crate) fn put_line(buffer: &mut [u8], start: usize, reply: &Reply) -> usize
+    requires { start + line_room reply.now ≤ length buffer.old }
+    ensures end { result ≤ length buffer.new }
+    ensures text { take result buffer.new ≡ take start buffer.old ++ reply_line reply.now }
 {
-    let end = put_text(buffer, end, b"\n");
-    match reply {
-        Reply::Done => put_text(buffer, end, b"ok"),
-        Reply::Chunk(handle) => put_chunk(buffer, end, *handle),
-        Reply::Nil => put_text(buffer, end, b"ok nil"),
-        Reply::Loose(number) => put_number(buffer, end, b"loose ", *number),
-        Reply::Bytes(bytes) => put_bytes(buffer, end, bytes.bytes()),
-        Reply::Total(total) => put_number(buffer, end, b"ok ", *total),
-        Reply::Logged { kind, len } => put_logged(buffer, end, *kind, *len),
-        Reply::At(time) => put_number(buffer, end, b"ok ", *time),
-        Reply::Dropped(count) => put_number(buffer, end, b"ok ", u64::from(*count)),
-        Reply::Slots { kept, slots } => put_slots(buffer, end, *kept, *slots),
-        Reply::Refused(refusal) => put_refusal(buffer, end, *refusal),
-    }
+    let end = match reply {
+        Reply::Done => put_text(buffer, start, b"ok"),
+        Reply::Chunk(handle) => put_chunk(buffer, start, *handle),
+        Reply::Nil => put_text(buffer, start, b"ok nil"),
+        Reply::Loose(number) => put_number(buffer, start, b"loose ", *number),
+        Reply::Bytes(bytes) => put_bytes(buffer, start, bytes.bytes()),
+        Reply::Total(total) => put_number(buffer, start, b"ok ", *total),
+        Reply::Logged { kind, len } => put_logged(buffer, start, *kind, *len),
+        Reply::At(time) => put_number(buffer, start, b"ok ", *time),
+        Reply::Dropped(count) => put_number(buffer, start, b"ok ", u64::from(*count)),
+        Reply::Slots { kept, slots } => put_slots(buffer, start, *kept, *slots),
+        Reply::Refused(refusal) => put_refusal(buffer, start, *refusal),
+    };
+    put_text(buffer, end, b"\n")
 }
 
-fn put_chunk(buffer: &mut [u8], end: usize, handle: Handle) -> usize
-    requires room { 44 ≤ end }
-    requires end { end ≤ length buffer.old }
-    ensures start { result ≤ end }
-    ensures text { drop result buffer.new ≡ codes "ok " ++ handle_text handle ++ drop end buffer.old }
+#[inline(always)]
+fn put_chunk(buffer: &mut [u8], start: usize, handle: Handle) -> usize
+    requires { start + 44 ≤ length buffer.old }
+    ensures room { result ≤ start + 44 }
+    ensures len { length buffer.new ≡ length buffer.old }
+    ensures text { take result buffer.new ≡ take start buffer.old ++ codes "ok " ++ handle_text handle }
 {
-    let end = put_digits(buffer, end, u64::from(handle.index));
-    let end = put_text(buffer, end, b":");
-    put_number(buffer, end, b"ok ", size(handle.exp))
+    let end = put_number(buffer, start, b"ok ", size(handle.exp));
+    put_number(buffer, end, b":", u64::from(handle.index))
 }
 
-fn put_bytes(buffer: &mut [u8], end: usize, bytes: &[u8]) -> usize
-    requires room { 4 + 2 * length bytes.now ≤ end }
-    requires end { end ≤ length buffer.old }
-    ensures start { result ≤ end }
-    ensures text { drop result buffer.new ≡ codes "ok " ++ hex_text bytes.now ++ drop end buffer.old }
+fn put_bytes(buffer: &mut [u8], start: usize, bytes: &[u8]) -> usize
+    requires { start + (4 + 2 * length bytes.now) ≤ length buffer.old }
+    ensures room { result ≤ start + (4 + 2 * length bytes.now) }
+    ensures len { length buffer.new ≡ length buffer.old }
+    ensures text { take result buffer.new ≡ take start buffer.old ++ codes "ok " ++ hex_text bytes.now }
 {
     if bytes.is_empty() {
-        return put_text(buffer, end, b"ok -");
+        return put_text(buffer, start, b"ok -");
     }
-    let end = put_hex(buffer, end, bytes);
-    put_text(buffer, end, b"ok ")
+    let end = put_text(buffer, start, b"ok ");
+    put_hex(buffer, end, bytes)
 }
 
-fn put_logged(buffer: &mut [u8], end: usize, kind: Kind, len: u64) -> usize
-    requires room { 28 ≤ end }
-    requires end { end ≤ length buffer.old }
-    ensures start { result ≤ end }
-    ensures text { drop result buffer.new ≡ codes "ok " ++ kind_text kind ++ codes " " ++ decimal len ++ drop end buffer.old }
+fn put_logged(buffer: &mut [u8], start: usize, kind: Kind, len: u64) -> usize
+    requires { start + 28 ≤ length buffer.old }
+    ensures room { result ≤ start + 28 }
+    ensures len { length buffer.new ≡ length buffer.old }
+    ensures text { take result buffer.new ≡ take start buffer.old ++ codes "ok " ++ kind_text kind ++ codes " " ++ decimal len }
 {
     match kind {
-        Kind::Full => put_number(buffer, end, b"ok full ", len),
-        Kind::Inc => put_number(buffer, end, b"ok inc ", len),
+        Kind::Full => put_number(buffer, start, b"ok full ", len),
+        Kind::Inc => put_number(buffer, start, b"ok inc ", len),
     }
 }
 
-fn put_slots(buffer: &mut [u8], end: usize, kept: u32, slots: u32) -> usize
-    requires room { 44 ≤ end }
-    requires end { end ≤ length buffer.old }
-    ensures start { result ≤ end }
-    ensures text { drop result buffer.new ≡ codes "ok " ++ decimal kept ++ codes " " ++ decimal slots ++ drop end buffer.old }
+fn put_slots(buffer: &mut [u8], start: usize, kept: u32, slots: u32) -> usize
+    requires { start + 44 ≤ length buffer.old }
+    ensures room { result ≤ start + 44 }
+    ensures len { length buffer.new ≡ length buffer.old }
+    ensures text { take result buffer.new ≡ take start buffer.old ++ codes "ok " ++ decimal kept ++ codes " " ++ decimal slots }
 {
-    let end = put_number(buffer, end, b" ", u64::from(slots));
-    put_number(buffer, end, b"ok ", u64::from(kept))
+    let end = put_number(buffer, start, b"ok ", u64::from(kept));
+    put_number(buffer, end, b" ", u64::from(slots))
 }
 
-fn put_refusal(buffer: &mut [u8], end: usize, refusal: Refusal) -> usize
-    requires room { 29 ≤ end }
-    requires end { end ≤ length buffer.old }
-    ensures start { result ≤ end }
-    ensures text { drop result buffer.new ≡ refusal_text refusal ++ drop end buffer.old }
+fn put_refusal(buffer: &mut [u8], start: usize, refusal: Refusal) -> usize
+    requires { start + 29 ≤ length buffer.old }
+    ensures room { result ≤ start + 29 }
+    ensures len { length buffer.new ≡ length buffer.old }
+    ensures text { take result buffer.new ≡ take start buffer.old ++ refusal_text refusal }
 {
     match refusal {
-        Refusal::TooLarge => put_text(buffer, end, b"toolarge"),
-        Refusal::Quota => put_text(buffer, end, b"quota"),
-        Refusal::Dead => put_text(buffer, end, b"dead"),
-        Refusal::Range => put_text(buffer, end, b"range"),
-        Refusal::NotAfter { newest } => put_number(buffer, end, b"notafter ", newest),
-        Refusal::LogsFull => put_text(buffer, end, b"logsfull"),
-        Refusal::NoLog => put_text(buffer, end, b"nolog"),
+        Refusal::TooLarge => put_text(buffer, start, b"toolarge"),
+        Refusal::Quota => put_text(buffer, start, b"quota"),
+        Refusal::Dead => put_text(buffer, start, b"dead"),
+        Refusal::Range => put_text(buffer, start, b"range"),
+        Refusal::NotAfter { newest } => put_number(buffer, start, b"notafter ", newest),
+        Refusal::LogsFull => put_text(buffer, start, b"logsfull"),
+        Refusal::NoLog => put_text(buffer, start, b"nolog"),
     }
 }
 
 /// Puts a word and a number.
 #[inline(always)]
-fn put_number(buffer: &mut [u8], end: usize, word: &[u8], number: u64) -> usize
-    requires room { length word.now + 20 ≤ end }
-    requires end { end ≤ length buffer.old }
-    ensures start { result ≤ end }
-    ensures room { end ≤ length word.now + 20 + result }
-    ensures text { drop result buffer.new ≡ word.now ++ decimal number ++ drop end buffer.old }
+fn put_number(buffer: &mut [u8], start: usize, word: &[u8], number: u64) -> usize
+    requires { start + length word.now + 20 ≤ length buffer.old }
+    ensures room { result ≤ start + length word.now + 20 }
+    ensures len { length buffer.new ≡ length buffer.old }
+    ensures text { take result buffer.new ≡ take start buffer.old ++ word.now ++ decimal number }
 {
-    let end = put_digits(buffer, end, number);
-    put_text(buffer, end, word)
+    let end = put_text(buffer, start, word);
+    put_digits(buffer, end, number)
 }
 
 /// Puts the digits of a number.
-fn put_digits(buffer: &mut [u8], end: usize, number: u64) -> usize
-    requires room { 20 ≤ end }
-    requires end { end ≤ length buffer.old }
-    ensures start { result ≤ end }
-    ensures room { end ≤ 20 + result }
-    ensures text { drop result buffer.new ≡ decimal number ++ drop end buffer.old }
+#[inline(always)]
+fn put_digits(buffer: &mut [u8], start: usize, number: u64) -> usize
+    requires { start + 20 ≤ length buffer.old }
+    ensures room { result ≤ start + 20 }
+    ensures len { length buffer.new ≡ length buffer.old }
+    ensures text { take result buffer.new ≡ take start buffer.old ++ decimal number }
 {
-    write_digits(number, buffer, end)
+    let end = start + count_digits(number);
+    write_digits(number, buffer, end);
+    end
+}
+
+/// How many digits a number has.
+#[inline(always)]
+#[tactic(auto, using(crate::proofs::Digits::digits_1, crate::proofs::Digits::digits_2, crate::proofs::Digits::digits_3, crate::proofs::Digits::digits_4, crate::proofs::Digits::digits_5, crate::proofs::Digits::digits_6))]
+fn count_digits(number: u64) -> usize
+    ensures { result ≡ length (decimal number) }
+{
+    if number < 10 {
+        1
+    } else if number < 100 {
+        2
+    } else if number < 1_000 {
+        3
+    } else if number < 10_000 {
+        4
+    } else if number < 100_000 {
+        5
+    } else if number < 1_000_000 {
+        6
+    } else {
+        count_many(number)
+    }
+}
+
+/// How many digits a number has, counted one by one.
+fn count_many(number: u64) -> usize
+    ensures { result ≡ length (decimal number) }
+{
+    let mut left = number;
+    let mut count = 1;
+    'digits: while left >= 10 {
+        left /= 10;
+        count += 1;
+    }
+    count
 }
 
 /// Puts the hexadecimal digits of some bytes.
-fn put_hex(buffer: &mut [u8], end: usize, bytes: &[u8]) -> usize
-    requires room { 2 * length bytes.now ≤ end }
-    requires end { end ≤ length buffer.old }
-    ensures start { result + 2 * length bytes.now ≡ end }
-    ensures text { drop result buffer.new ≡ encode_lower bytes.now ++ drop end buffer.old }
+fn put_hex(buffer: &mut [u8], start: usize, bytes: &[u8]) -> usize
+    requires { start + 2 * length bytes.now ≤ length buffer.old }
+    ensures end { result ≡ start + 2 * length bytes.now }
+    ensures len { length buffer.new ≡ length buffer.old }
+    ensures text { take result buffer.new ≡ take start buffer.old ++ encode_lower bytes.now }
 {
-    let start = end - 2 * bytes.len();
+    let end = start + 2 * bytes.len();
     let _ = encode_to_slice(bytes, &mut buffer[start..end]);
-    start
+    end
 }
 
 /// Puts a text.
 #[inline(always)]
-pub(crate) fn put_text(buffer: &mut [u8], end: usize, text: &[u8]) -> usize
-    requires room { length text.now ≤ end }
-    requires end { end ≤ length buffer.old }
-    ensures start { result + length text.now ≡ end }
-    ensures text { drop result buffer.new ≡ text.now ++ drop end buffer.old }
+fn put_text(buffer: &mut [u8], start: usize, text: &[u8]) -> usize
+    requires { start + length text.now ≤ length buffer.old }
+    ensures end { result ≡ start + length text.now }
+    ensures len { length buffer.new ≡ length buffer.old }
+    ensures text { take result buffer.new ≡ take start buffer.old ++ text.now }
 {
-    let start = end - text.len();
+    let end = start + text.len();
     buffer[start..end].copy_from_slice(text);
-    start
+    end
 }

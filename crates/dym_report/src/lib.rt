@@ -10,6 +10,7 @@ pub mod line;
 pub mod live;
 pub mod object;
 pub mod order;
+pub mod page;
 pub mod reply;
 pub mod totals;
 
@@ -19,6 +20,7 @@ pub use line::Line;
 pub use live::{live_chunks, write_object, write_state};
 pub use object::{write_heading, write_heap_line, write_image, write_logs};
 pub use order::{write_counts, write_end, write_error, write_events, write_usage};
+pub use page::Page;
 pub use reply::{write_replies, write_reply};
 pub use totals::{Totals, write_summary};
 

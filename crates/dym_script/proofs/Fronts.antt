@@ -1,5 +1,5 @@
 -- The bytes of a word, the lowest first, tested all at once, and the number that they write.
-use Rattle.std.proofs.Common.{◌≡◌, ℕ, zero, suc, ◌+◌, ◌-◌, ◌*◌, ◌/◌, ◌%◌, ◌^◌, ◌<◌, ◌≤◌, true, List, [], ◌∷◌, ◌++◌, length, get_or, take, drop, replicate, nat_le, length-take, length-append, take-append-drop, refl, sym, ap, subst, ◌∙◌, arith}
+use Rattle.std.proofs.Common.{◌≡◌, ℕ, zero, suc, ◌+◌, ◌-◌, ◌*◌, ◌/◌, ◌%◌, ◌^◌, ◌<◌, ◌≤◌, true, List, [], ◌∷◌, ◌++◌, length, get_or, take, drop, replicate, nat_le, nat_eq, ◌&&◌, length-take, length-append, take-append-drop, refl, sym, ap, subst, ◌∙◌, arith}
 use Rattle.std.specs.Int.{w64, to_le_bytes, from_le_bytes}
 use Rattle.std.specs.Int.Bits.{bit_and}
 use Rattle.std.specs.List.{list_all}
@@ -13,7 +13,7 @@ use Rattle.dym_script.proofs.Numbers.{digit_is, digit_small}
 use Rattle.dym_script.specs.Quick.{Counts}
 use Rattle.dym_script.specs.Fronts.{IsFront}
 use Rattle.dym_script.proofs.Cuts.{take_rest}
-use Rattle.dym_script.proofs.Spelled.{both_true}
+use Rattle.dym_script.proofs.Hexes.{both_true}
 
 -- the number whose bytes these are, the lowest first
 abbrev word_of : List ℕ → ℕ
@@ -48,23 +48,23 @@ below (b ∷ bs) fits none =
 digit_from : (b : ℕ) → 48 ≤ b → b ≤ 57 → is_ascii_digit b ≡ true
 digit_from b low high = grind (arith, nat_tests)
 
--- a byte is a digit where it is below 128, and 80 more is not, and 70 more is
-digits_all : (bs : List ℕ) → small bs → bit_and (word_of bs) (many 128 bs) ≡ 0 → bit_and (word_of bs + many 80 bs) (many 128 bs) ≡ many 128 bs → bit_and (word_of bs + many 70 bs) (many 128 bs) ≡ 0 → list_all is_ascii_digit bs ≡ true
-digits_all [] fits none least most = refl
-digits_all (b ∷ bs) fits none least most =
+-- each is a digit's value
+abbrev low : List ℕ → Type 0
+low [] = Unit
+low (b ∷ bs) = (b ≤ 9) × low bs
+
+-- a byte is a digit's value where it is below 128, and 118 more is too
+values_low : (bs : List ℕ) → small bs → bit_and (word_of bs) (many 128 bs) ≡ 0 → bit_and (word_of bs + many 118 bs) (many 128 bs) ≡ 0 → low bs
+values_low [] fits none most = tt
+values_low (b ∷ bs) fits none most =
     let both = step (word_of bs) (many 128 bs) b fits.0 in
     let none_more : bit_and (word_of bs) (many 128 bs) ≡ 0 = omega (arith, none, both) in
-    let low : b < 128 = omega (arith, none, both, high_bit b, fits.0) in
-    let m = many 128 bs * 256 + 128 in
-    let at_least : word_of bs * 256 + b + (many 80 bs * 256 + 80) ≡ (word_of bs + many 80 bs) * 256 + (b + 80) = omega arith in
-    let two = ap (λ n. bit_and n (many 128 bs * 256 + 128)) at_least ∙ step (word_of bs + many 80 bs) (many 128 bs) (b + 80) (omega (arith, low)) in
-    let at_most : word_of bs * 256 + b + (many 70 bs * 256 + 70) ≡ (word_of bs + many 70 bs) * 256 + (b + 70) = omega arith in
-    let three = ap (λ n. bit_and n (many 128 bs * 256 + 128)) at_most ∙ step (word_of bs + many 70 bs) (many 128 bs) (b + 70) (omega (arith, low)) in
-    let least_more : bit_and (word_of bs + many 80 bs) (many 128 bs) ≡ many 128 bs = omega (arith, least, two, high_bit (b + 80)) in
-    let most_more : bit_and (word_of bs + many 70 bs) (many 128 bs) ≡ 0 = omega (arith, most, three) in
-    let from : 48 ≤ b = omega (arith, least, two, high_bit (b + 80), least_more, low) in
-    let to : b ≤ 57 = omega (arith, most, three, high_bit (b + 70), low) in
-    rw (digit_from b from to, digits_all bs fits.1 none_more least_more most_more) refl
+    let seven : b < 128 = omega (arith, none, both, high_bit b, fits.0) in
+    let at_most : word_of bs * 256 + b + (many 118 bs * 256 + 118) ≡ (word_of bs + many 118 bs) * 256 + (b + 118) = omega arith in
+    let more = ap (λ n. bit_and n (many 128 bs * 256 + 128)) at_most ∙ step (word_of bs + many 118 bs) (many 128 bs) (b + 118) (omega (arith, seven)) in
+    let most_more : bit_and (word_of bs + many 118 bs) (many 128 bs) ≡ 0 = omega (arith, most, more) in
+    let to : b ≤ 9 = omega (arith, most, more, high_bit (b + 118), seven) in
+    (to, values_low bs fits.1 none_more most_more)
 
 small_8 : (n : ℕ) → small (to_le_bytes w64 n)
 small_8 n = (omega arith, (omega arith, (omega arith, (omega arith, (omega arith, (omega arith, (omega arith, (omega arith, tt))))))))
@@ -82,19 +82,50 @@ word_room n fits none =
     let is = word_is n fits in
     subst (λ m. m ≤ 0x7f7f7f7f7f7f7f7f) is (below (to_le_bytes w64 n) (small_8 n) (ap (λ m. bit_and m 0x8080808080808080) is ∙ none))
 
--- a word's bytes are digits where its tests say so
-pub word_digits : (n : ℕ) → n < 2 ^ 64 → bit_and n 0x8080808080808080 ≡ 0 → bit_and (n + 0x5050505050505050) 0x8080808080808080 ≡ 0x8080808080808080 → bit_and (n + 0x4646464646464646) 0x8080808080808080 ≡ 0 → list_all is_ascii_digit (to_le_bytes w64 n) ≡ true
-word_digits n fits none least most =
-    let is = word_is n fits in
-    digits_all (to_le_bytes w64 n) (small_8 n)
-    (ap (λ m. bit_and m 0x8080808080808080) is ∙ none)
-    (ap (λ m. bit_and (m + 0x5050505050505050) 0x8080808080808080) is ∙ least)
-    (ap (λ m. bit_and (m + 0x4646464646464646) 0x8080808080808080) is ∙ most)
-
 fits_at : (bs : List ℕ) → small bs → (i : ℕ) → get_or bs i 0 < 256
 fits_at [] fits i = omega arith
 fits_at (b ∷ bs) fits zero = fits.0
 fits_at (b ∷ bs) fits (suc i) = fits_at bs fits.1 i
+
+-- the bytes of a word are digits' values
+record Values (n : ℕ) : Type 0 where
+  fits : n < 2 ^ 64
+  each : low (to_le_bytes w64 n)
+
+values_of : (n : ℕ) → n < 2 ^ 64 → bit_and n 0x8080808080808080 ≡ 0 → bit_and ((n + 0x7676767676767676) % 18446744073709551616) 0x8080808080808080 ≡ 0 → Values n
+values_of n fits none most =
+    let is = word_is n fits in
+    let room : (n + 0x7676767676767676) % 18446744073709551616 ≡ n + 0x7676767676767676 = omega (arith, word_room n fits none) in
+    record {
+      fits = fits;
+      each = values_low (to_le_bytes w64 n) (small_8 n)
+          (ap (λ m. bit_and m 0x8080808080808080) is ∙ none)
+          (ap (λ m. bit_and (m + 0x7676767676767676) 0x8080808080808080) is ∙ ap (λ m. bit_and m 0x8080808080808080) (sym room) ∙ most);
+    }
+
+-- zeros added to values make digits
+digits_of : (a b c d e f g h n more : ℕ) → low (a ∷ b ∷ c ∷ d ∷ e ∷ f ∷ g ∷ h ∷ [])
+    → a + b * 256 + c * 65536 + d * 16777216 + e * 4294967296 + f * 1099511627776 + g * 281474976710656 + h * 72057594037927936 ≡ n
+    → more ≡ (n + 0x3030303030303030) % 18446744073709551616
+    → (list_all is_ascii_digit (to_le_bytes w64 more) ≡ true) × (n < 2 ^ 60)
+digits_of a b c d e f g h n more (a', (b', (c', (d', (e', (f', (g', (h', _)))))))) is from =
+    let list : List ℕ = (a + 48) ∷ (b + 48) ∷ (c + 48) ∷ (d + 48) ∷ (e + 48) ∷ (f + 48) ∷ (g + 48) ∷ (h + 48) ∷ [] in
+    let fits : small list = (omega (arith, a'), (omega (arith, b'), (omega (arith, c'), (omega (arith, d'), (omega (arith, e'), (omega (arith, f'), (omega (arith, g'), (omega (arith, h'), tt)))))))) in
+    let bytes : to_le_bytes w64 more ≡ list = le_bytes_8 list more refl (fits_at list fits) (omega (arith, is, from, a', b', c', d', e', f', g', h')) in
+    let digit : (b : ℕ) → b ≤ 9 → is_ascii_digit (b + 48) ≡ true = λ b few. digit_from (b + 48) (omega arith) (omega (arith, few)) in (
+      ap (list_all is_ascii_digit) bytes ∙ rw (digit a a', digit b b', digit c c', digit d d', digit e e', digit f f', digit g g', digit h h') refl,
+      omega (arith, is, a', b', c', d', e', f', g', h'),
+    )
+
+-- a word's bytes are digits' values where its tests say so
+pub values_digits : (n : ℕ) → n < 2 ^ 64 → (nat_eq (bit_and n 0x8080808080808080) 0 && nat_eq (bit_and ((n + 0x7676767676767676) % 18446744073709551616) 0x8080808080808080) 0) ≡ true
+    → (list_all is_ascii_digit (to_le_bytes w64 ((n + 0x3030303030303030) % 18446744073709551616)) ≡ true) × (n < 2 ^ 60)
+values_digits n fits both =
+    let two = both_true (nat_eq (bit_and n 0x8080808080808080) 0) (nat_eq (bit_and ((n + 0x7676767676767676) % 18446744073709551616) 0x8080808080808080) 0) both in
+    let none : bit_and n 0x8080808080808080 ≡ 0 = grind (arith, nat_tests, two.0) in
+    let most : bit_and ((n + 0x7676767676767676) % 18446744073709551616) 0x8080808080808080 ≡ 0 = grind (arith, nat_tests, two.1) in
+    let values = values_of n fits none most in
+    digits_of (n % 256) (n / 256 % 256) (n / 65536 % 256) (n / 16777216 % 256) (n / 4294967296 % 256) (n / 1099511627776 % 256) (n / 281474976710656 % 256) (n / 72057594037927936 % 256) n _ values.each (from_le_bytes-to_le_bytes_8 n fits) refl
 
 small_of : (bs : List ℕ) → ((i : ℕ) → get_or bs i 0 < 256) → small bs
 small_of [] each = tt
@@ -161,12 +192,22 @@ value_of_eight a b c d e f g h n ab cd ef gh bytes all is from at_ab at_cd at_ef
     omega (arith, first, second, third, fourth)
 
 -- the same of a word's bytes
-pub word_value : (n ab cd ef gh : ℕ) (bytes : List ℕ) → n < 2 ^ 64 → list_all is_ascii_digit (to_le_bytes w64 n) ≡ true
+word_value : (n ab cd ef gh : ℕ) (bytes : List ℕ) → n < 2 ^ 64 → list_all is_ascii_digit (to_le_bytes w64 n) ≡ true
     → bytes ≡ to_le_bytes w64 ((n - 0x3030303030303030) * 10 + (n - 0x3030303030303030) / 256)
     → ab ≡ get_or bytes 0 0 → cd ≡ get_or bytes 2 0 → ef ≡ get_or bytes 4 0 → gh ≡ get_or bytes 6 0
     → (ab * 100 + cd) * 10000 + (ef * 100 + gh) ≡ digits_value 10 (to_le_bytes w64 n)
 word_value n ab cd ef gh bytes fits all from at_ab at_cd at_ef at_gh =
     value_of_eight (n % 256) (n / 256 % 256) (n / 65536 % 256) (n / 16777216 % 256) (n / 4294967296 % 256) (n / 1099511627776 % 256) (n / 281474976710656 % 256) (n / 72057594037927936 % 256) n ab cd ef gh bytes all (from_le_bytes-to_le_bytes_8 n fits) from at_ab at_cd at_ef at_gh
+
+-- the same of the digits' values
+pub values_value : (n ab cd ef gh : ℕ) (bytes : List ℕ) → n < 2 ^ 60 → list_all is_ascii_digit (to_le_bytes w64 ((n + 0x3030303030303030) % 18446744073709551616)) ≡ true
+    → bytes ≡ to_le_bytes w64 (n * 10 + n / 256)
+    → ab ≡ get_or bytes 0 0 → cd ≡ get_or bytes 2 0 → ef ≡ get_or bytes 4 0 → gh ≡ get_or bytes 6 0
+    → (ab * 100 + cd) * 10000 + (ef * 100 + gh) ≡ digits_value 10 (to_le_bytes w64 ((n + 0x3030303030303030) % 18446744073709551616))
+values_value n ab cd ef gh bytes few all from at_ab at_cd at_ef at_gh =
+    let m = (n + 0x3030303030303030) % 18446744073709551616 in
+    let same : m - 0x3030303030303030 ≡ n = omega (arith, few) in
+    word_value m ab cd ef gh bytes (omega arith) all (from ∙ ap (λ k. to_le_bytes w64 (k * 10 + k / 256)) (sym same)) at_ab at_cd at_ef at_gh
 
 -- zeros before the digits add nothing
 zeros_value : (k : ℕ) (bytes : List ℕ) → digits_value 10 (replicate k 48 ++ bytes) ≡ digits_value 10 bytes
@@ -232,19 +273,24 @@ front_number (a ∷ b ∷ c ∷ d ∷ e ∷ f ∷ g ∷ []) word count fits long
 room_8 : (bs : List ℕ) → small bs → from_le_bytes w64 bs < 2 ^ 64
 room_8 bs fits = omega (arith, fits_at bs fits 0, fits_at bs fits 1, fits_at bs fits 2, fits_at bs fits 3, fits_at bs fits 4, fits_at bs fits 5, fits_at bs fits 6, fits_at bs fits 7)
 
--- the word at the front of a text has room for the zeros
-pub front_room : (text : List ℕ) (word count : ℕ) → ((i : ℕ) → get_or text i 0 < 256) → 8 ≤ length text
-    → word ≡ from_le_bytes w64 text → 0 < count → count < 8
-    → word * 2 ^ (64 - 8 * count) % 18446744073709551616 + 3472328296227680304 / 2 ^ (8 * count) < 2 ^ 64
-front_room text word count each long is some few =
-    let fits = small_of text each in
-    omega (arith, (front_number text word count fits long is some few).0, room_8 (replicate (8 - count) 48 ++ take count text) (small_padded (8 - count) 48 (take count text) (omega arith) (small_take count text fits)))
+-- zeros taken from a word before its bytes are moved, and added after it, are the zeros behind which these stand
+moved_values : (word count : ℕ) → word < 2 ^ 64 → 0 < count → count < 8
+    → ((word + 14974415777481871312) % 18446744073709551616 * 2 ^ (64 - 8 * count) % 18446744073709551616 + 0x3030303030303030) % 18446744073709551616 ≡ word * 2 ^ (64 - 8 * count) % 18446744073709551616 + 3472328296227680304 / 2 ^ (8 * count)
+moved_values word zero fits some few = absurd (omega arith)
+moved_values word (suc zero) fits some few = omega (arith, fits)
+moved_values word (suc (suc zero)) fits some few = omega (arith, fits)
+moved_values word (suc (suc (suc zero))) fits some few = omega (arith, fits)
+moved_values word (suc (suc (suc (suc zero)))) fits some few = omega (arith, fits)
+moved_values word (suc (suc (suc (suc (suc zero))))) fits some few = omega (arith, fits)
+moved_values word (suc (suc (suc (suc (suc (suc zero)))))) fits some few = omega (arith, fits)
+moved_values word (suc (suc (suc (suc (suc (suc (suc zero))))))) fits some few = omega (arith, fits)
+moved_values word (suc (suc (suc (suc (suc (suc (suc (suc n)))))))) fits some few = absurd (omega arith)
 
 len_8 : (text : List ℕ) (byte count : ℕ) → 8 ≤ length text → count < 8 → length (replicate (8 - count) byte ++ take count text) ≡ 8
 len_8 text byte count long few = omega (arith, length-append (replicate (8 - count) byte) (take count text), length-replicate {A = ℕ} (8 - count) byte, length-take count text)
 
--- and with them it is zeros, and the digits after them
-pub front_is : (text : List ℕ) (word count : ℕ) → ((i : ℕ) → get_or text i 0 < 256) → 8 ≤ length text
+-- with zeros it is these, and the digits after them
+front_is : (text : List ℕ) (word count : ℕ) → ((i : ℕ) → get_or text i 0 < 256) → 8 ≤ length text
     → word ≡ from_le_bytes w64 text → 0 < count → count < 8
     → IsFront text (word * 2 ^ (64 - 8 * count) % 18446744073709551616 + 3472328296227680304 / 2 ^ (8 * count)) count
 front_is text word count each long is some few =
@@ -255,6 +301,13 @@ front_is text word count each long is some few =
       within = long;
       bytes = le_bytes_8 (replicate (8 - count) 48 ++ take count text) _ (len_8 text 48 count long few) (fits_at (replicate (8 - count) 48 ++ take count text) (small_padded (8 - count) 48 (take count text) (omega arith) (small_take count text fits))) (front_number text word count fits long is some few).0;
     }
+
+-- the same where the zeros are taken before
+pub front_values : (text : List ℕ) (word count : ℕ) → ((i : ℕ) → get_or text i 0 < 256) → 8 ≤ length text
+    → word ≡ from_le_bytes w64 text → word < 2 ^ 64 → 0 < count → count < 8
+    → IsFront text (((word + 14974415777481871312) % 18446744073709551616 * 2 ^ (64 - 8 * count) % 18446744073709551616 + 0x3030303030303030) % 18446744073709551616) count
+front_values text word count each long is fits some few =
+    subst (λ m. IsFront text m count) (sym (moved_values word count fits some few)) (front_is text word count each long is some few)
 
 -- the bytes of such a word where what stands before them is 0
 pub moved_bytes : (text : List ℕ) (word count : ℕ) → ((i : ℕ) → get_or text i 0 < 256) → 8 ≤ length text → word ≡ from_le_bytes w64 text → 0 < count → count < 8 → to_le_bytes w64 (word * 2 ^ (64 - 8 * count) % 18446744073709551616) ≡ replicate (8 - count) 0 ++ take count text

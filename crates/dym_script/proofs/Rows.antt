@@ -81,3 +81,32 @@ row_is text rest word (suc (suc (suc (suc (suc (suc (suc (suc (suc (suc (suc (su
 row_is text rest word (suc (suc (suc (suc (suc (suc (suc (suc (suc (suc (suc (suc (suc (suc zero)))))))))))))) each long is below same after = row_sizes text (codes "32") rest word 5 3 4193470278128369664 (record { each = each; long = long; is = is; same = same }) (omega arith) (omega arith) refl refl refl refl after
 row_is text rest word (suc (suc (suc (suc (suc (suc (suc (suc (suc (suc (suc (suc (suc (suc (suc zero))))))))))))))) each long is below same after = row_sizes text (codes "4096") rest word 12 5 4194602982135824384 (record { each = each; long = long; is = is; same = same }) (omega arith) (omega arith) refl refl refl refl after
 row_is text rest word (suc (suc (suc (suc (suc (suc (suc (suc (suc (suc (suc (suc (suc (suc (suc (suc n)))))))))))))))) each long is below same after = absurd (omega arith)
+
+-- only the rows of the shortest sizes have texts that end as these do
+pub row_shortest : (word row : ℕ) → row < 16 → word * 2 ^ 40 % 18446744073709551616 ≡ get_or texts row 0 → get_or lengths row 0 ≡ 3
+row_shortest word zero below same = absurd (omega (arith, same))
+row_shortest word (suc zero) below same = refl
+row_shortest word (suc (suc zero)) below same = absurd (omega (arith, same))
+row_shortest word (suc (suc (suc zero))) below same = absurd (omega (arith, same))
+row_shortest word (suc (suc (suc (suc zero)))) below same = absurd (omega (arith, same))
+row_shortest word (suc (suc (suc (suc (suc zero))))) below same = refl
+row_shortest word (suc (suc (suc (suc (suc (suc zero)))))) below same = refl
+row_shortest word (suc (suc (suc (suc (suc (suc (suc zero))))))) below same = refl
+row_shortest word (suc (suc (suc (suc (suc (suc (suc (suc zero)))))))) below same = absurd (omega (arith, same))
+row_shortest word (suc (suc (suc (suc (suc (suc (suc (suc (suc zero))))))))) below same = absurd (omega (arith, same))
+row_shortest word (suc (suc (suc (suc (suc (suc (suc (suc (suc (suc zero)))))))))) below same = absurd (omega (arith, same))
+row_shortest word (suc (suc (suc (suc (suc (suc (suc (suc (suc (suc (suc zero))))))))))) below same = refl
+row_shortest word (suc (suc (suc (suc (suc (suc (suc (suc (suc (suc (suc (suc zero)))))))))))) below same = absurd (omega (arith, same))
+row_shortest word (suc (suc (suc (suc (suc (suc (suc (suc (suc (suc (suc (suc (suc zero))))))))))))) below same = absurd (omega (arith, same))
+row_shortest word (suc (suc (suc (suc (suc (suc (suc (suc (suc (suc (suc (suc (suc (suc zero)))))))))))))) below same = refl
+row_shortest word (suc (suc (suc (suc (suc (suc (suc (suc (suc (suc (suc (suc (suc (suc (suc zero))))))))))))))) below same = absurd (omega (arith, same))
+row_shortest word (suc (suc (suc (suc (suc (suc (suc (suc (suc (suc (suc (suc (suc (suc (suc (suc n)))))))))))))))) below same = absurd (omega arith)
+
+-- and each such row's text is a size and its colon
+pub row_is_shortest : (text rest : List ℕ) (word row : ℕ) → ((i : ℕ) → get_or text i 0 < 256) → 8 ≤ length text → word ≡ from_le_bytes w64 text → row < 16
+    → word * 2 ^ 40 % 18446744073709551616 ≡ get_or texts row 0
+    → rest ≡ take (length text - 3) (drop 3 text)
+    → Sizes text (get_or exponents row 0) rest
+row_is_shortest text rest word row each long is below same after =
+    let three = sym (row_shortest word row below same) in
+    row_is text rest word row each long is below (ap (λ n. word * 2 ^ (64 - 8 * n) % 18446744073709551616) (sym three) ∙ same) (after ∙ ap (λ n. take (length text - n) (drop n text)) three)

@@ -1,5 +1,5 @@
 -- Lines in the usual spelling.
-use Rattle.std.proofs.Common.{◌≡◌, ℕ, suc, ◌+◌, ◌-◌, ◌^◌, ◌%◌, ◌<◌, ◌≤◌, ◌==◌, Bool, true, false, not, ◌&&◌, ◌||◌, List, [], ◌∷◌, ◌++◌, length, take, drop, filter, codes, Option, Some, None, Ok, is_some, is_none, nat_le, nat_lt, refl, sym, ap, subst, ◌∙◌, arith, append-nil, append_assoc, eq-eqb, drop-cons, take-append-drop, take-take, length-take, length-append}
+use Rattle.std.proofs.Common.{◌≡◌, ℕ, suc, ◌+◌, ◌-◌, ◌^◌, ◌%◌, ◌≤◌, ◌==◌, Bool, true, false, not, ◌&&◌, ◌||◌, List, [], ◌∷◌, ◌++◌, length, take, drop, filter, codes, Option, Some, None, Ok, is_some, is_none, if◌then◌else◌, nat_le, nat_lt, refl, sym, ap, subst, ◌∙◌, arith, append-nil, append_assoc, eq-eqb, drop-cons, take-append-drop, length-append}
 use Rattle.std.proofs.Math.Seq.{take-append_seam, drop-append-add}
 use Rattle.std.proofs.lemmas.Slice.Eq.{HasBytesAt}
 use Rattle.std.proofs.lemmas.List.Folds.{list_all-append}
@@ -22,11 +22,7 @@ use Rattle.dym_script.specs.Words.{is_digits, number_to, exponent_of, colon_at, 
 use Rattle.dym_script.specs.Table.{Place, Value, Values, value_of, values_of, both, row, verb_of, command_of, wrong, is_number, is_handle, is_hex}
 use Rattle.dym_script.specs.Quick.{is_bare, is_bare_word, spelled, Counts, Sizes, Begins, Spells, Demands}
 use Rattle.dym_script.proofs.Cuts.{take_rest}
-use Rattle.dym_script.proofs.Hexes.{hex_some}
-
-pub both_true : (a b : Bool) → (a && b) ≡ true → (a ≡ true) × (b ≡ true)
-both_true true b both = (refl, both)
-both_true false b both = absurd (cc)
+use Rattle.dym_script.proofs.Hexes.{both_true, hex_some}
 
 pub no_more : (b : Bool) → not b ≡ true → b ≡ false
 no_more true is = absurd (cc)
@@ -190,19 +186,26 @@ digits_bare : (word : List ℕ) → is_digits word ≡ true → is_bare_word wor
 digits_bare [] good = absurd (cc)
 digits_bare (c ∷ cs) good = all_weaker is_ascii_digit is_bare digit_bare (c ∷ cs) (both_true (nat_le 1 (length (c ∷ cs)) && nat_le (length (c ∷ cs)) 20) (list_all is_ascii_digit (c ∷ cs)) good).1
 
--- digits at the front of a text, of which so many bytes were looked at
-pub counts_front : (text front rest : List ℕ) (most at value : ℕ) → front ≡ take most text → at < length front → 0 < at → length front ≤ 19 → list_all is_ascii_digit (take at front) ≡ true → value ≡ digits_value 10 (take at front) → rest ≡ take (length text - at) (drop at text)
-    → Counts text value rest
-counts_front text front rest most at value cut inside some few digits is after =
-    let len : length (take at front) ≡ at = omega (arith, length-take at front) in
-    let low : nat_le 1 (length (take at front)) ≡ true = grind (arith, nat_tests) in
-    let high : nat_le (length (take at front)) 20 ≡ true = grind (arith, nat_tests) in
-    let same : take at front ≡ take at text = ap (take at) cut ∙ take-take at most text (omega (arith, ap length cut, length-take most text)) in
+-- a number that a word writes
+number_good : (most value : ℕ) (word : List ℕ) → Some value ≡ number_to most word → (is_digits word ≡ true) × (digits_value 10 word ≡ value)
+unfolding number_to
+number_good most value word is = elim (is_digits word) as (λ b. is_digits word ≡ b → Some value ≡ (if b && nat_le (digits_value 10 word) most then Some (digits_value 10 word) else None) → (is_digits word ≡ true) × (digits_value 10 word ≡ value)) [
+  | true ↦ λ good. elim (nat_le (digits_value 10 word) most) as (λ b. Some value ≡ (if b then Some (digits_value 10 word) else None) → (is_digits word ≡ true) × (digits_value 10 word ≡ value)) [
+    | true ↦ λ same. (good, cc)
+    | false ↦ λ clash. absurd (cc)
+  ]
+  | false ↦ λ other clash. absurd (cc)
+] refl is
+
+-- a word at the front of a text that writes a number
+pub counts_word : (text word rest : List ℕ) (most n value : ℕ) → word ≡ take n text → rest ≡ drop n text → Some value ≡ number_to most word → Counts text value rest
+counts_word text word rest most n value front back is =
+    let good = number_good most value word is in
     record {
-      digits = take at front;
-      is = sym (take-append-drop at text) ∙ ap (λ t. take at text ++ t) (sym (after ∙ take_rest at text)) ∙ ap (λ t. t ++ rest) (sym same);
-      good = rw (low, high, digits) refl;
-      value = sym is;
+      digits = word;
+      is = sym (take-append-drop n text) ∙ (λ i. sym front i ++ sym back i);
+      good = good.0;
+      value = good.1;
     }
 
 -- digits are a number where it isn't too great

@@ -1,5 +1,6 @@
 -- What the grammar says of a line in the usual spelling.
-use Rattle.std.proofs.Common.{◌≡◌, ℕ, ◌+◌, ◌-◌, ◌<◌, ◌≤◌, ◌==◌, Bool, true, false, cond, not, ◌&&◌, List, [], ◌∷◌, ◌++◌, length, get_or, codes, Some, None, Result, Ok, Err, nat_le, nat_lt, refl, sym, ap, ◌∙◌, arith, rules, append_assoc, length-append}
+use Rattle.std.proofs.Common.{◌≡◌, ℕ, ◌+◌, ◌-◌, ◌<◌, ◌≤◌, ◌==◌, Bool, true, false, cond, not, ◌&&◌, List, [], ◌∷◌, ◌++◌, length, drop, get_or, codes, Some, None, Result, Ok, Err, nat_le, nat_lt, refl, sym, ap, subst, ◌∙◌, arith, rules, append_assoc, length-append}
+use Rattle.std.proofs.Math.Seq.{drop-append_seam}
 use Rattle.std.proofs.lemmas.Bool.Decides.{nat_tests}
 use Rattle.std.specs.List.{list_all, onto_first}
 use Rattle.std.specs.Str.{bytes_eq}
@@ -20,7 +21,8 @@ use Rattle.dym_script.specs.Table.{verb_of, command_of}
 use Rattle.dym_script.specs.Readers.{IsKept, seen, reading, IsNamed, IsNext}
 use Rattle.dym_script.specs.Quick.{is_bare, is_bare_word, spelled, Demands}
 use Rattle.dym_script.proofs.Index.{object_of_name, object_of_within}
-use Rattle.dym_script.proofs.Spelled.{both_true, no_more, all_weaker, words_of_spelled, no_end, lines_of_front, plain_front}
+use Rattle.dym_script.proofs.Hexes.{both_true}
+use Rattle.dym_script.proofs.Spelled.{no_more, all_weaker, words_of_spelled, no_end, lines_of_front, plain_front}
 
 -- a verb and its words in the usual spelling stand after a name
 pub record DemandsOf (name text : List ℕ) (asked : Asked) (after : List ℕ) : Type 0 where
@@ -129,12 +131,12 @@ pub demands_of_shorter : (name text after : List ℕ) (asked : Asked) → Demand
 demands_of_shorter name text after asked whole = omega (arith, ap length whole.is, length-append name whole.line, demands_shorter whole.line after asked whole.demands)
 
 -- a line in the usual spelling that names a declared object is the next to be read
-pub next_asked : (r : Reader) (text words rest : List ℕ) (ask : Ask) → IsKept r → IsNamed r text ask.object words → Demands words ask.asked rest → length text - length rest ≤ MOST_LINE_BYTES + 1 → list_all is_plain text ≡ true → IsNext r text ask rest
-next_asked r text words rest ask kept names demands short good =
+pub next_asked : (r : Reader) (text words rest : List ℕ) (taken : ℕ) (ask : Ask) → IsKept r → IsNamed r text ask.object words → Demands words ask.asked (drop taken words) → rest ≡ drop taken words → length text - length rest ≤ MOST_LINE_BYTES + 1 → list_all is_plain text ≡ true → IsNext r text ask rest
+next_asked r text words rest taken ask kept names demands left short good =
     let whole : DemandsOf names.name text ask.asked rest = record {
       line = words;
       is = names.is;
-      demands = demands;
+      demands = subst (Demands words ask.asked) (sym left) demands;
     } in
     let named : is_name names.name ≡ true = search (rules, object_of_name r.objects.items names.name ask.object kept.lawful.names names.found) in
     let after = rest_demands names.name text rest ask.asked whole named good in
@@ -145,3 +147,12 @@ next_asked r text words rest ask kept names demands short good =
       plain = after.0;
       first = (line, cut, λ number lines. read (seen r lines) number ask.object names.found);
     }
+
+-- what stands behind a line is what is left without it
+pub demands_taken : (text after : List ℕ) (asked : Asked) → Demands text asked after → (length after ≤ length text) × (drop (length text - length after) text ≡ after)
+demands_taken text after asked demands =
+    let front = spelled (demands.word ∷ demands.words) ++ 10 ∷ [] in
+    let is : text ≡ front ++ after = demands.is ∙ sym (append_assoc (spelled (demands.word ∷ demands.words)) (10 ∷ []) after) in
+    let long : length text ≡ length front + length after = ap length is ∙ length-append front after in
+    let taken : length text - length after ≡ length front = omega (arith, long) in
+    (omega (arith, long), ap (λ t. drop (length text - length after) t) is ∙ ap (λ n. drop n (front ++ after)) taken ∙ drop-append_seam front after)

@@ -7,6 +7,7 @@ ghost use Rattle.dym_base.specs.declared.limits.TheConstants.{MOST_COMMANDS};
 ghost use Rattle.dym_script.specs.Pieces.{ReadsNext};
 ghost use Rattle.dym_script.specs.Counting.{IsReady, StandsCounted, AreCountsOf};
 
+use crate::asked::Asked;
 use crate::line_fail::LineFail;
 use crate::line_reader::LineReader;
 use crate::reader::{Next, Reader};
@@ -85,7 +86,42 @@ fn count_next<'a>(
     ensures plain { IfOk result (λ rest. plain ≡ true → list_all is_plain rest.now ≡ true) }
     ensures read { ReadsNext (StandsCounted reader.old commands.old) (StandsCounted reader.new commands.new) number text.now result }
 {
-    let Next { ask, rest } = reader.read_next(alloc, number, text, plain)?;
+    if plain {
+        let mut asked = Asked::Logs;
+        if let Some((object, rest)) = reader.next_quickly(text, &mut asked) {
+            if *commands as usize == MOST_COMMANDS {
+                return Err(LineFail::Bad(BadKind::Many));
+            }
+            reader.begun = true;
+            reader.last = object;
+            *commands += 1;
+            return Ok(rest);
+        }
+    }
+    count_exactly(alloc, reader, commands, number, text, plain)
+}
+
+/// The same of a line in any spelling.
+#[inline(never)]
+fn count_exactly<'a>(
+    alloc: Global,
+    reader: &mut Reader,
+    commands: &mut u32,
+    number: u32,
+    text: &'a [u8],
+    plain: bool,
+) -> Result<&'a [u8], LineFail>
+    requires kept { IsKept reader.old }
+    requires some { 0 < length text.now }
+    requires plain { plain ≡ true → list_all is_plain text.now ≡ true }
+    requires few { commands.old ≤ MOST_COMMANDS }
+    ensures kept { OnOk result (IsKept reader.new) }
+    ensures few { OnOk result (commands.new ≤ MOST_COMMANDS) }
+    ensures shorter { IfOk result (λ rest. length rest.now < length text.now) }
+    ensures plain { IfOk result (λ rest. plain ≡ true → list_all is_plain rest.now ≡ true) }
+    ensures read { ReadsNext (StandsCounted reader.old commands.old) (StandsCounted reader.new commands.new) number text.now result }
+{
+    let Next { ask, rest } = reader.read_exactly(alloc, number, text, plain)?;
     if ask.is_some() {
         if *commands as usize == MOST_COMMANDS {
             return Err(LineFail::Bad(BadKind::Many));

@@ -1,14 +1,14 @@
 //! Commands that were read, kept in little memory until they run.
-ghost use Rattle.std.specs.Prelude.{◌≡◌, ◌+◌, ◌≤◌, ◌<◌, ◌^◌, [], ◌∷◌, ◌++◌, length, take, drop, IsSome, Some, IfOk, OnOk};
+ghost use Rattle.std.specs.Prelude.{◌≡◌, ◌+◌, ◌≤◌, ◌<◌, ◌^◌, [], ◌∷◌, ◌++◌, length, take, drop, slice_get, IsSome, Some, IfOk, OnOk};
 ghost use Rattle.dym_base.specs.declared.command.Command.TheVariants as command;
 ghost use Rattle.dym_script.specs.Words.{hex_of};
 ghost use Rattle.dym_script.specs.Asks.{asks, bytes_or_none};
 ghost use Rattle.dym_script.specs.Kept.{long_value, handle, kept_command, StillMean};
 
 use crate::asked::Asked;
-use crate::own::copied;
-use crate::places::{are_hex_digits, bytes_of, decode_digits, is_dash};
-use dym_base::{Blob, Command, Handle};
+use crate::hex_digits::decode_digits;
+use crate::places::{bytes_of, is_dash};
+use dym_base::{Command, Handle};
 use std::alloc::{AllocError, Global};
 use std::mem::size_of;
 
@@ -259,13 +259,12 @@ impl Tables {
         if is_dash(word) || word.len() < 2 {
             return Ok(());
         }
-        if word.len() % 2 != 0 || !are_hex_digits(word) {
+        if word.len() % 2 != 0 {
             return Err(AllocError);
         }
         let place = self.bytes.len();
         self.bytes.resize(place + word.len() / 2, 0)?;
-        decode_digits(word, &mut self.bytes[place..]);
-        Ok(())
+        decode_digits(word, &mut self.bytes[place..]).ok_or(AllocError)
     }
 
     /// Keeps a command that doesn't fit.
@@ -281,14 +280,22 @@ impl Tables {
         Ok(Kept::Whole { row })
     }
 
-    /// The bytes of a write.
+    /// The bytes of a write that is kept.
     #[inline(always)]
-    fn write_bytes(&self, place: u32, len: u16) -> &[u8]
+    pub fn write_bytes(&self, place: u32, len: u16) -> &[u8]
         requires { place + len ≤ length self.now.bytes.items }
         ensures { result.now ≡ take len (drop place self.now.bytes.items) }
     {
         let place = place as usize;
         &self.bytes[place..place + len as usize]
+    }
+
+    /// The command that is kept whole in a row.
+    pub fn whole_command(&self, row: u32) -> &Command
+        requires { IsSome (slice_get self.now.whole.items row) }
+        ensures { slice_get self.now.whole.items row ≡ Some result.now }
+    {
+        &self.whole[row as usize]
     }
 }
 
@@ -343,132 +350,9 @@ fn kept_link(h: &Handle, at: u32, to: &Option<Handle>) -> Kept
     }
 }
 
-impl Kept {
-    /// Puts the command that is kept into a place, so that it is not copied. Want of memory for a write's bytes is the one failure.
-    #[inline(always)]
-    pub fn put(
-        &self,
-        alloc: Global,
-        tables: &Tables,
-        command: &mut Command,
-    ) -> Result<(), AllocError>
-        requires { IsSome (kept_command tables.now self.now) }
-        ensures { OnOk result (kept_command tables.now self.now ≡ Some command.new) }
-    {
-        match self {
-            Kept::Malloc { len } => *command = Command::Malloc { len: len.value() },
-            Kept::Calloc { n, len } => {
-                *command = Command::Calloc {
-                    n: u64::from(*n),
-                    len: u64::from(*len),
-                };
-            }
-            Kept::Realloc { exp, index, len } => {
-                *command = Command::Realloc {
-                    h: Some(handle(*exp, *index)),
-                    len: len.value(),
-                };
-            }
-            Kept::ReallocNil { len } => {
-                *command = Command::Realloc {
-                    h: None,
-                    len: len.value(),
-                };
-            }
-            Kept::Free { exp, index } => {
-                *command = Command::Free {
-                    h: Some(handle(*exp, *index)),
-                };
-            }
-            Kept::FreeNil => *command = Command::Free { h: None },
-            Kept::Write {
-                exp,
-                len,
-                index,
-                at,
-                place,
-            } => {
-                *command = Command::Write {
-                    h: handle(*exp, *index),
-                    at: *at,
-                    bytes: Blob::new(alloc, tables.write_bytes(*place, *len))?,
-                };
-            }
-            Kept::Fill {
-                exp,
-                byte,
-                index,
-                at,
-                len,
-            } => {
-                *command = Command::Fill {
-                    h: handle(*exp, *index),
-                    at: *at,
-                    len: *len,
-                    byte: *byte,
-                };
-            }
-            Kept::Read {
-                exp,
-                index,
-                at,
-                len,
-            } => {
-                *command = Command::Read {
-                    h: handle(*exp, *index),
-                    at: *at,
-                    len: *len,
-                };
-            }
-            Kept::Link {
-                exp,
-                to_exp,
-                index,
-                at,
-                to_index,
-            } => {
-                *command = Command::Link {
-                    h: handle(*exp, *index),
-                    at: *at,
-                    to: Some(handle(*to_exp, *to_index)),
-                };
-            }
-            Kept::LinkNil { exp, index, at } => {
-                *command = Command::Link {
-                    h: handle(*exp, *index),
-                    at: *at,
-                    to: None,
-                };
-            }
-            Kept::Follow { exp, index, at } => {
-                *command = Command::Follow {
-                    h: handle(*exp, *index),
-                    at: *at,
-                };
-            }
-            Kept::Sum { exp, index } => {
-                *command = Command::Sum {
-                    h: handle(*exp, *index),
-                };
-            }
-            Kept::Log { time } => *command = Command::Log { time: time.value() },
-            Kept::Ilog { time } => *command = Command::Ilog { time: time.value() },
-            Kept::Restore { time } => *command = Command::Restore { time: time.value() },
-            Kept::Prune { bound } => {
-                *command = Command::Prune {
-                    bound: bound.value(),
-                };
-            }
-            Kept::Logs => *command = Command::Logs,
-            Kept::Whole { row } => *command = copied(alloc, &tables.whole[*row as usize])?,
-        }
-        Ok(())
-    }
-}
-
-/// The handle of these numbers.
+/// The handle of these numbers, as a kept command has them.
 #[inline(always)]
-fn handle(exp: u8, index: u32) -> Handle
+pub fn handle(exp: u8, index: u32) -> Handle
     ensures { result ≡ handle exp index }
 {
     Handle { exp, index }

@@ -1,11 +1,12 @@
 //! The reader of scripts: it turns bytes into declarations and commands, or names the first bad line. It stands on
 //! `dym_base`; the top call, which runs what was read, stands above it. Its one contract: what is read is what the
 //! grammar in `specs/` gives for the same bytes, and each object's commands are those of its own lines, in order. Commands are
-//! kept as they are, or in 16 bytes each.
+//! kept as they are, or in 16 bytes each, of which `kept_command` says which command each keeps.
 #![tactic(auto)]
 
 mod asked;
 mod counting;
+mod hex_digits;
 mod holding;
 mod kept;
 mod laws;
@@ -30,7 +31,7 @@ mod verb;
 
 pub use counting::Counting;
 pub use holding::{Holding, read_parts};
-pub use kept::{Kept, Long, Tables};
+pub use kept::{Kept, Long, Tables, handle};
 pub use laws::first_fault;
 pub use line_reader::LineReader;
 pub use own::{Part, apart, own_commands};

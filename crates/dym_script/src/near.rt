@@ -4,7 +4,7 @@
 const KEYS: usize = 16_384;
 
 /// A multiple of a name's bytes has a key in its highest bits, which differ even where the names differ little.
-const SPREAD: u64 = 0x9e37_79b9_7f4a_7c15;
+const SPREAD: u64 = 0xc457_8d56_b89c_784d;
 
 /// For each key the place of the object that was declared last of those whose names have it. A place is a guess: who asks for
 /// it compares the name, so that nothing rests on the keys but time.

@@ -1,6 +1,6 @@
 //! Numbers at the front of a text, eight bytes at once. How many digits there are is a guess that takes no branch; the bytes are
 //! then tested, so that nothing but time rests on it.
-ghost use Rattle.std.specs.Prelude.{◌≡◌, ◌<◌, ◌≤◌, ◌^◌, true, length, IfSome};
+ghost use Rattle.std.specs.Prelude.{◌≡◌, ◌<◌, ◌≤◌, ◌+◌, ◌*◌, ◌%◌, ◌^◌, true, length, IfSome};
 ghost use Rattle.std.specs.List.{list_all};
 ghost use Rattle.std.specs.Char.{is_ascii_digit};
 ghost use Rattle.std.specs.Int.{w64, to_le_bytes, from_le_bytes};
@@ -8,8 +8,7 @@ ghost use Rattle.std.specs.Str.Parse.{digits_value};
 ghost use Rattle.dym_script.specs.Quick.{Counts};
 ghost use Rattle.dym_script.specs.Fronts.{IsFront};
 
-/// The most bytes that are looked at for a number and the byte after it. More digits might not fit.
-const NUMBER_BYTES: usize = 19;
+use crate::places::number_to;
 
 /// Eight zeros, as digits.
 const ZEROS: u64 = 0x3030_3030_3030_3030;
@@ -20,11 +19,14 @@ const SIXTEENS: u64 = 0x1010_1010_1010_1010;
 /// The highest bit of each of eight bytes.
 pub const HIGHEST: u64 = 0x8080_8080_8080_8080;
 
-/// Added to a digit, this gives at least 128, and to a smaller byte less.
-const TO_LEAST: u64 = 0x5050_5050_5050_5050;
+/// Added to a digit's value, this gives less than 128, and to a greater one more.
+const TO_MOST: u64 = 0x7676_7676_7676_7676;
 
-/// Added to a digit, this gives less than 128, and to a greater byte more.
-const TO_MOST: u64 = 0x4646_4646_4646_4646;
+/// What the first and the third pair of eight digits weigh, each in its half of a word.
+const FIRST_AND_THIRD: u64 = 100 + (1_000_000 << 32);
+
+/// What the second and the fourth pair weigh.
+const SECOND_AND_FOURTH: u64 = 1 + (10_000 << 32);
 
 /// The number that digits write, and the text after them.
 #[inline(always)]
@@ -33,39 +35,63 @@ pub fn digits(text: &[u8]) -> Option<(u64, &[u8])>
     ensures within { IfSome result (λ cut. cut.0 < 2 ^ 64) }
 {
     match few_digits(text) {
+        Some((number, rest)) => Some((u64::from(number), rest)),
+        None => any_digits(text),
+    }
+}
+
+/// The same of a number below `2^32`.
+#[inline(always)]
+pub fn digits_32(text: &[u8]) -> Option<(u32, &[u8])>
+    ensures counts { IfSome result (λ cut. Counts text.now cut.0 cut.1.now) }
+    ensures within { IfSome result (λ cut. cut.0 < 2 ^ 32) }
+{
+    match few_digits(text) {
         Some(cut) => Some(cut),
-        None => digits_in_turn(text),
+        None => any_digits_32(text),
     }
 }
 
 /// The same of at most seven digits, where eight bytes or more are left.
 #[inline(always)]
-pub fn few_digits(text: &[u8]) -> Option<(u64, &[u8])>
+pub fn few_digits(text: &[u8]) -> Option<(u32, &[u8])>
     ensures { IfSome result (λ cut. Counts text.now cut.0 cut.1.now) }
 {
-    let (word, count) = front(text)?;
-    let value = eight_digits(word)?;
+    let (values, count) = front(text)?;
+    let value = eight_digits(values)?;
     Some((value, &text[count..]))
 }
 
 /// The same of any digits, one after another.
-#[inline(never)]
-fn digits_in_turn(text: &[u8]) -> Option<(u64, &[u8])>
+#[inline(always)]
+fn any_digits(text: &[u8]) -> Option<(u64, &[u8])>
     ensures counts { IfSome result (λ cut. Counts text.now cut.0 cut.1.now) }
     ensures within { IfSome result (λ cut. cut.0 < 2 ^ 64) }
 {
-    let (front, _) = text.split_at(text.len().min(NUMBER_BYTES));
-    let mut value = 0;
-    for (at, byte) in front.iter().enumerate() {
-        if !byte.is_ascii_digit() {
-            if at == 0 {
-                return None;
-            }
-            return Some((value, &text[at..]));
-        }
-        value = value * 10 + u64::from(byte - b'0');
+    let (word, rest) = text.split_at(digit_count(text));
+    let number = number_to(u64::MAX, word)?;
+    Some((number, rest))
+}
+
+/// The same of those that write a number below `2^32`.
+#[inline(always)]
+fn any_digits_32(text: &[u8]) -> Option<(u32, &[u8])>
+    ensures counts { IfSome result (λ cut. Counts text.now cut.0 cut.1.now) }
+    ensures within { IfSome result (λ cut. cut.0 < 2 ^ 32) }
+{
+    let (number, rest) = any_digits(text)?;
+    if number > u64::from(u32::MAX) {
+        return None;
     }
-    None
+    Some((number as u32, rest))
+}
+
+/// How many digits stand at the front of a text.
+#[inline(never)]
+fn digit_count(text: &[u8]) -> usize
+    ensures { result ≤ length text.now }
+{
+    text.iter().take_while(|byte| byte.is_ascii_digit()).count()
 }
 
 /// The first eight bytes of a text as a word, the first of them lowest.
@@ -74,25 +100,23 @@ pub fn first_word(text: &[u8]) -> Option<u64>
     ensures word { IfSome result (λ word. word ≡ from_le_bytes w64 text.now) }
     ensures within { IfSome result (λ _. 8 ≤ length text.now) }
 {
-    let [a, b, c, d, e, f, g, h, ..] = text else {
-        return None;
-    };
-    Some(u64::from_le_bytes([*a, *b, *c, *d, *e, *f, *g, *h]))
+    let bytes = text.first_chunk::<8>()?;
+    Some(u64::from_le_bytes(*bytes))
 }
 
-/// A word of zeros, as digits, and after them the bytes at the front of a text that seem to be digits; and how many these are,
-/// one to seven.
+/// A word of zeros, and after them what the bytes at the front of a text that seem to be digits are worth; and how many these
+/// are, one to seven.
 #[inline(always)]
 fn front(text: &[u8]) -> Option<(u64, usize)>
-    ensures { IfSome result (λ front. IsFront text.now front.0 front.1) }
+    ensures { IfSome result (λ front. IsFront text.now ((front.0 + ZEROS) % 2 ^ 64) front.1) }
 {
     let word = first_word(text)?;
     let count = digits_at_front(word);
     if count == 0 || count == 8 {
         return None;
     }
-    let padded = (word << (64 - 8 * count)) + (ZEROS >> (8 * count));
-    Some((padded, count))
+    let values = word.wrapping_sub(ZEROS) << (64 - 8 * count);
+    Some((values, count))
 }
 
 /// How many digits seem to stand at the front of eight bytes. Digits have the bit that spaces and line ends lack.
@@ -103,30 +127,37 @@ fn digits_at_front(word: u64) -> usize
     (!word & SIXTEENS).trailing_zeros() as usize / 8
 }
 
-/// The number that a word's bytes write, where they are eight digits.
+/// The number that eight digits write which have these values, where they are those of digits.
 #[inline(always)]
-fn eight_digits(word: u64) -> Option<u64>
-    ensures digits { IfSome result (λ _. list_all is_ascii_digit (to_le_bytes w64 word) ≡ true) }
-    ensures value { IfSome result (λ value. value ≡ digits_value 10 (to_le_bytes w64 word)) }
+fn eight_digits(values: u64) -> Option<u32>
+    ensures digits { IfSome result (λ _. list_all is_ascii_digit (to_le_bytes w64 ((values + ZEROS) % 2 ^ 64)) ≡ true) }
+    ensures value { IfSome result (λ value. value ≡ digits_value 10 (to_le_bytes w64 ((values + ZEROS) % 2 ^ 64))) }
 {
-    if !are_digits(word) {
+    if !are_values(values) {
         return None;
     }
-    let values = word - ZEROS;
     let pairs = values * 10 + (values >> 8);
     let [ab, _, cd, _, ef, _, gh, _] = pairs.to_le_bytes();
-    let front = u64::from(ab) * 100 + u64::from(cd);
-    let back = u64::from(ef) * 100 + u64::from(gh);
-    Some(front * 10_000 + back)
+    Some(weighed(ab, cd, ef, gh))
 }
 
-/// Whether a word's bytes are eight digits.
+/// Whether each of a word's bytes is a digit's value.
 #[inline(always)]
-fn are_digits(word: u64) -> bool
-    ensures { result ≡ true → list_all is_ascii_digit (to_le_bytes w64 word) ≡ true }
+fn are_values(values: u64) -> bool
+    ensures digits { result ≡ true → list_all is_ascii_digit (to_le_bytes w64 ((values + ZEROS) % 2 ^ 64)) ≡ true }
+    ensures few { result ≡ true → values < 2 ^ 60 }
 {
-    if word & HIGHEST != 0 {
-        return false;
-    }
-    (word + TO_LEAST) & HIGHEST == HIGHEST && (word + TO_MOST) & HIGHEST == 0
+    let more = values.wrapping_add(TO_MOST);
+    (values & HIGHEST == 0) & (more & HIGHEST == 0)
+}
+
+/// The number of four pairs of digits, the two halves of a word at once.
+#[inline(always)]
+fn weighed(ab: u8, cd: u8, ef: u8, gh: u8) -> u32
+    ensures { result ≡ (ab * 100 + cd) * 10_000 + (ef * 100 + gh) }
+{
+    let outer = u64::from(ab) + (u64::from(ef) << 32);
+    let inner = u64::from(cd) + (u64::from(gh) << 32);
+    let sum = outer.wrapping_mul(FIRST_AND_THIRD) + inner.wrapping_mul(SECOND_AND_FOURTH);
+    (sum >> 32) as u32
 }

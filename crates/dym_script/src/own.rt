@@ -32,7 +32,7 @@ pub fn own_commands(alloc: Global, script: &Script, object: u32) -> Result<Vec<C
 }
 
 /// A copy of a command.
-pub fn copied(alloc: Global, command: &Command) -> Result<Command, AllocError>
+fn copied(alloc: Global, command: &Command) -> Result<Command, AllocError>
     ensures { IfOk result (λ copy. copy ≡ command.now) }
 {
     let copy = match command {

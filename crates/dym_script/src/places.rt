@@ -4,7 +4,7 @@ ghost use Rattle.std.specs.Str.{bytes_eq};
 ghost use Rattle.std.specs.List.{list_all, prefix_len};
 ghost use Rattle.dym_script.specs.Words.{number_to, exponent_of, handle_of, handle_or_nil_of, hex_of};
 ghost use Rattle.dym_script.specs.Asks.{bytes_or_none};
-ghost use Rattle.hex.specs.Hex.{is_hex_digit, hex_digit_value, decode_of};
+ghost use Rattle.hex.specs.Hex.{is_hex_digit, decode_of};
 
 use dym_base::limits::MOST_READ_BYTES;
 use dym_base::{Blob, Handle};
@@ -242,28 +242,4 @@ fn few_bytes_of(alloc: Global, digits: &[u8]) -> Result<Blob, AllocError>
         Ok(()) => Blob::new(alloc, bytes),
         Err(_) => Err(AllocError),
     }
-}
-
-/// Decodes hexadecimal digits into room for half as many bytes. No branch waits for a digit, since which one it is can't be
-/// foretold.
-pub fn decode_digits(digits: &[u8], room: &mut [u8])
-    requires good { list_all is_hex_digit digits.now ≡ true }
-    requires half { length digits.now ≡ 2 * length room.old }
-    ensures { decode_of digits.now ≡ Ok room.new }
-{
-    for i in 0..room.len() {
-        let high = digit_value(digits[2 * i]);
-        let low = digit_value(digits[2 * i + 1]);
-        room[i] = high * 16 + low;
-    }
-}
-
-/// The value of a hexadecimal digit: the low four bits of 0 to 9 are their values, and those of a letter are 9 less.
-#[inline(always)]
-fn digit_value(digit: u8) -> u8
-    requires { is_hex_digit digit ≡ true }
-    ensures value { hex_digit_value digit ≡ Some result }
-    ensures small { result < 16 }
-{
-    digit % 16 + 9 * (digit / 64)
 }

@@ -1,5 +1,5 @@
 //! Lines in the usual spelling, read in one pass. Where a line isn't spelled so, nothing is said of it.
-ghost use Rattle.std.specs.Prelude.{◌≡◌, ◌≤◌, ◌++◌, IfSome};
+ghost use Rattle.std.specs.Prelude.{◌≡◌, ◌≤◌, ◌++◌, length, drop, IfSome};
 ghost use Rattle.dym_script.specs.Quick.{Demands};
 
 use crate::asked::Asked;
@@ -9,12 +9,39 @@ use crate::quick_verbs::{
     calloc, fill, follow, free, ilog, link, log, logs, malloc, prune, read, realloc, restore, sum,
     write,
 };
+use crate::verb::Verb;
 
 /// Eight spaces, as the bytes of a word.
 const SPACES: u64 = 0x2020_2020_2020_2020;
 
 /// The lowest bit of each of eight bytes.
 const ONES: u64 = 0x0101_0101_0101_0101;
+
+/// How many rows the table of verbs has. Fifteen are in use, and the other repeats a verb.
+const VERB_ROWS: usize = 16;
+
+/// A multiple of a space and the four bytes after it, with which a verb begins, tells the row, by four of its bits.
+const VERB_SPREAD: u64 = 1_813_307;
+
+/// The verb of each row.
+const VERBS: [Verb; VERB_ROWS] = [
+    Verb::Logs,
+    Verb::Link,
+    Verb::Free,
+    Verb::Ilog,
+    Verb::Read,
+    Verb::Fill,
+    Verb::Write,
+    Verb::Calloc,
+    Verb::Malloc,
+    Verb::Sum,
+    Verb::Prune,
+    Verb::Follow,
+    Verb::Realloc,
+    Verb::Logs,
+    Verb::Restore,
+    Verb::Log,
+];
 
 /// A name at the front of a text, the key that it has among those that are near, and the text after it.
 #[derive(Drop)]
@@ -74,63 +101,45 @@ fn any_name(text: &[u8]) -> Option<Named<'_>>
     Some(Named { name, key, words })
 }
 
-/// What a line asks of which the name was read goes into a place, and the text after the line is left. It has several callers:
-/// a place takes what is asked without a copy.
+/// What a line asks of which the name was read goes into a place. Answers how many bytes of the text the line has. It has several
+/// callers: a place takes what is asked without a copy.
 #[inline(never)]
-pub fn quick_rest<'a>(text: &'a [u8], asked: &mut Asked<'a>) -> Option<&'a [u8]>
+pub fn quick_rest<'a>(text: &'a [u8], asked: &mut Asked<'a>) -> Option<usize>
+    ensures within { IfSome result (λ taken. taken ≤ length text.now) }
+    ensures asked { IfSome result (λ taken. Demands text.now asked.new (drop taken text.now)) }
+{
+    let after = after_verb_line(text, asked)?;
+    Some(text.len() - after.len())
+}
+
+/// What such a line asks goes into a place, and the text after the line is left.
+#[inline(always)]
+fn after_verb_line<'a>(text: &'a [u8], asked: &mut Asked<'a>) -> Option<&'a [u8]>
     ensures { IfSome result (λ after. Demands text.now asked.new after.now) }
 {
-    let [b' ', first, ..] = text else {
-        return None;
-    };
-    match first {
-        b'm' => malloc(text, asked),
-        b'c' => calloc(text, asked),
-        b'f' => free_fill_follow(text, asked),
-        b'r' => realloc_read_restore(text, asked),
-        b'w' => write(text, asked),
-        b'l' => link_log_logs(text, asked),
-        b's' => sum(text, asked),
-        b'i' => ilog(text, asked),
-        b'p' => prune(text, asked),
-        _ => None,
+    let word = first_word(text)?;
+    match guessed_verb(word) {
+        Verb::Malloc => malloc(text, asked),
+        Verb::Calloc => calloc(text, asked),
+        Verb::Realloc => realloc(text, asked),
+        Verb::Free => free(text, asked),
+        Verb::Write => write(text, asked),
+        Verb::Fill => fill(text, asked),
+        Verb::Read => read(text, asked),
+        Verb::Link => link(text, asked),
+        Verb::Follow => follow(text, asked),
+        Verb::Sum => sum(text, asked),
+        Verb::Log => log(text, asked),
+        Verb::Ilog => ilog(text, asked),
+        Verb::Restore => restore(text, asked),
+        Verb::Prune => prune(text, asked),
+        Verb::Logs => logs(text, asked),
     }
 }
 
-/// The verbs that begin with f.
+/// The verb with which a word seems to begin, after a space. Whoever reads the line compares the whole verb, so that nothing but
+/// time rests on it.
 #[inline(always)]
-fn free_fill_follow<'a>(text: &'a [u8], asked: &mut Asked<'a>) -> Option<&'a [u8]>
-    ensures { IfSome result (λ after. Demands text.now asked.new after.now) }
-{
-    match text {
-        [_, _, b'r', ..] => free(text, asked),
-        [_, _, b'i', ..] => fill(text, asked),
-        [_, _, b'o', ..] => follow(text, asked),
-        _ => None,
-    }
-}
-
-/// The verbs that begin with r.
-#[inline(always)]
-fn realloc_read_restore<'a>(text: &'a [u8], asked: &mut Asked<'a>) -> Option<&'a [u8]>
-    ensures { IfSome result (λ after. Demands text.now asked.new after.now) }
-{
-    match text {
-        [_, _, _, b'a', b'd', ..] => read(text, asked),
-        [_, _, _, b'a', ..] => realloc(text, asked),
-        [_, _, _, b's', ..] => restore(text, asked),
-        _ => None,
-    }
-}
-
-/// The verbs that begin with l.
-#[inline(always)]
-fn link_log_logs<'a>(text: &'a [u8], asked: &mut Asked<'a>) -> Option<&'a [u8]>
-    ensures { IfSome result (λ after. Demands text.now asked.new after.now) }
-{
-    match text {
-        [_, _, b'i', ..] => link(text, asked),
-        [_, _, _, _, b's', ..] => logs(text, asked),
-        _ => log(text, asked),
-    }
+fn guessed_verb(word: u64) -> Verb {
+    VERBS[(word.wrapping_mul(VERB_SPREAD) >> 32) as usize % VERB_ROWS]
 }

@@ -1,12 +1,13 @@
 //! What no clause shows: that the guesses of the quick reader are right, so that a line in the usual spelling isn't read twice.
+use crate::asked::Asked;
 use crate::near::key_of;
 use crate::numerals::few_digits;
-use crate::quick::front_name;
+use crate::quick::{front_name, quick_rest};
 use crate::sizes::guessed_size;
 
 #[test]
 fn few_digits_at_once(rt: HostRuntime) {
-    let table: [(&[u8], Option<u64>); 14] = [
+    let table: [(&[u8], Option<u32>); 14] = [
         (b"0\na logs", Some(0)),
         (b"7 65536:9", Some(7)),
         (b"10 32:0 5", Some(10)),
@@ -27,6 +28,31 @@ fn few_digits_at_once(rt: HostRuntime) {
         assert_eq!(rt; value, wanted, "{text:?}");
     }
     assert_eq!(rt; few_digits(b"1234 678"), Some((1234, b" 678".as_slice())));
+}
+
+#[test]
+fn each_verb_is_guessed(rt: HostRuntime) {
+    let table: [(&[u8], usize); 15] = [
+        (b" malloc 5\na logs\na logs", 10),
+        (b" calloc 5 6\na logs\na logs", 12),
+        (b" realloc nil 6\na logs\na logs", 15),
+        (b" free 32:0\na logs\na logs", 11),
+        (b" write 64:1 2 0aBf\na logs\na logs", 19),
+        (b" fill 64:1 2 3 4\na logs\na logs", 17),
+        (b" read 64:1 2 3\na logs\na logs", 15),
+        (b" link 64:1 2 nil\na logs\na logs", 17),
+        (b" follow 64:1 2\na logs\na logs", 15),
+        (b" sum 1024:1\na logs\na logs", 12),
+        (b" log 1234567890\na logs\na logs", 16),
+        (b" ilog 7\na logs\na logs", 8),
+        (b" restore 7\na logs\na logs", 11),
+        (b" prune 7\na logs\na logs", 9),
+        (b" logs\na logs\na logs", 6),
+    ];
+    for (text, taken) in table {
+        let mut asked = Asked::Logs;
+        assert_eq!(rt; quick_rest(text, &mut asked), Some(taken), "{text:?}");
+    }
 }
 
 #[test]

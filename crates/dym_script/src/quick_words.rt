@@ -4,12 +4,11 @@ ghost use Rattle.dym_script.specs.Quick.{Counts, Sizes, Begins};
 ghost use Rattle.dym_script.specs.Words.{number_to, handle_of, handle_or_nil_of, hex_of};
 ghost use Rattle.dym_script.specs.Asks.{bytes_or_none};
 
-use crate::numerals::{digits, first_word};
-use crate::places::are_hex_digits;
+use crate::hex_digits::digits_at_front;
+use crate::numerals::{digits, digits_32, first_word};
 use crate::sizes::size;
 use dym_base::Handle;
 use dym_base::limits::MOST_READ_BYTES;
-use memchr::memchr;
 
 /// The text after a space.
 #[inline(always)]
@@ -69,19 +68,6 @@ pub fn after_line(text: &[u8]) -> Option<&[u8]>
         [b'\n', rest @ ..] => Some(rest),
         _ => None,
     }
-}
-
-/// Digits that write a number below `2^32`.
-#[inline(always)]
-fn digits_32(text: &[u8]) -> Option<(u32, &[u8])>
-    ensures counts { IfSome result (λ cut. Counts text.now cut.0 cut.1.now) }
-    ensures within { IfSome result (λ cut. cut.0 < 2 ^ 32) }
-{
-    let (number, rest) = digits(text)?;
-    if number > u64::from(u32::MAX) {
-        return None;
-    }
-    Some((number as u32, rest))
 }
 
 /// A number.
@@ -146,22 +132,32 @@ pub fn handle(text: &[u8]) -> Option<(Handle, &[u8])>
 pub fn handle_or_nil(text: &[u8]) -> Option<(Option<Handle>, &[u8])>
     ensures { IfSome result (λ cut. Begins handle_or_nil_of text.now cut.0 cut.1.now) }
 {
-    if let [b' ', b'n', b'i', b'l', rest @ ..] = text {
-        return Some((None, rest));
+    match handle(text) {
+        Some((handle, rest)) => Some((Some(handle), rest)),
+        None => nil(text),
     }
-    let (handle, rest) = handle(text)?;
-    Some((Some(handle), rest))
 }
 
-/// A word that writes bytes, which is the last of its line: all its bytes are tested at once.
+/// The word for nil.
+#[inline(always)]
+fn nil(text: &[u8]) -> Option<(Option<Handle>, &[u8])>
+    ensures { IfSome result (λ cut. Begins handle_or_nil_of text.now cut.0 cut.1.now) }
+{
+    match text {
+        [b' ', b'n', b'i', b'l', rest @ ..] => Some((None, rest)),
+        _ => None,
+    }
+}
+
+/// A word that writes bytes.
 #[inline(always)]
 pub fn hex(text: &[u8]) -> Option<(&[u8], &[u8])>
     ensures { IfSome result (λ cut. Begins hex_of text.now (bytes_or_none (hex_of cut.0.now)) cut.1.now) }
 {
     let word = after_space(text)?;
-    let end = memchr(b'\n', word)?;
-    let (digits, rest) = word.split_at(end);
-    if digits.len() < 2 || digits.len() % 2 != 0 || !are_hex_digits(digits) {
+    let count = digits_at_front(word)?;
+    let (digits, rest) = word.split_at(count);
+    if digits.len() < 2 || digits.len() % 2 != 0 {
         return None;
     }
     Some((digits, rest))

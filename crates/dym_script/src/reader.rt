@@ -59,42 +59,9 @@ impl Reader {
         }
     }
 
-    /// Reads the first line of a text, which has this number, and hands on what it asks. Where the whole text is known to be
-    /// plain, a line in the usual spelling is read in one pass.
-    #[inline(always)]
-    pub fn read_next<'a>(
-        &mut self,
-        alloc: Global,
-        number: u32,
-        text: &'a [u8],
-        plain: bool,
-    ) -> Result<Next<'a>, LineFail>
-        requires kept { IsKept self.old }
-        requires some { 0 < length text.now }
-        requires plain { plain ≡ true → list_all is_plain text.now ≡ true }
-        ensures kept { OnOk result (IsKept self.new) }
-        ensures grown { OnOk result (length self.old.objects.items ≤ length self.new.objects.items) }
-        ensures by_one { OnOk result (length self.new.objects.items ≤ length self.old.objects.items + 1) }
-        ensures within { IfOk result (λ next. IsWithin self.new next.ask) }
-        ensures shorter { IfOk result (λ next. length next.rest.now < length text.now) }
-        ensures plain { IfOk result (λ next. plain ≡ true → list_all is_plain next.rest.now ≡ true) }
-        ensures read { GivesNext (seen self.old) (seen self.new) number text.now result }
-    {
-        if plain {
-            let mut asked = Asked::Logs;
-            if let Some((object, rest)) = self.next_quickly(text, &mut asked) {
-                self.begun = true;
-                self.last = object;
-                let ask = Some(Ask { object, asked });
-                return Ok(Next { ask, rest });
-            }
-        }
-        self.read_exactly(alloc, number, text, plain)
-    }
-
-    /// The same of a line in any spelling.
+    /// Reads the first line of a text, which has this number, and hands on what it asks.
     #[inline(never)]
-    fn read_exactly<'a>(
+    pub fn read_exactly<'a>(
         &mut self,
         alloc: Global,
         number: u32,
@@ -130,7 +97,8 @@ impl Reader {
         ensures { IfSome result (λ next. IsNext self.now text.now (record { object = next.0; asked = asked.new }) next.1.now) }
     {
         let (object, words) = self.object_at(text)?;
-        let rest = quick_rest(words, asked)?;
+        let taken = quick_rest(words, asked)?;
+        let (_, rest) = words.split_at(taken);
         if text.len() - rest.len() > MOST_LINE_BYTES + 1 {
             return None;
         }

@@ -1,44 +1,13 @@
 -- Commands that are kept.
-use Rattle.std.proofs.Common.{◌≡◌, ℕ, zero, suc, ◌<◌, get_or, ◌+◌, true, List, [], ◌∷◌, ◌++◌, length, take, drop, take-append-drop, All, IsSome, is_some, Option, None, Some, refl, sym, ap, subst, ◌∙◌, arith, length-append}
+use Rattle.std.proofs.Common.{◌≡◌, ℕ, zero, suc, ◌<◌, get_or, ◌+◌, ◌≤◌, true, List, [], ◌∷◌, length, drop, All, IsSome, is_some, Option, None, Some, refl, sym, ap, subst, ◌∙◌, arith, IfSome, add-one, drop-cons}
 use Rattle.std.specs.List.{filter_map, cons_option}
 use Rattle.std.proofs.lemmas.List.{length-map}
-use Rattle.std.proofs.lemmas.List.Elements.{All-nil, All-cons, All-head, All-tail, All-take, All-drop, filter_map-append}
+use Rattle.std.proofs.lemmas.List.Elements.{All-nil, All-cons, All-head, All-tail, All-get_or}
+use Rattle.std.proofs.Math.ListN.{drop_of_length-le}
 use Rattle.dym_base.specs.declared.command.Command.{Command}
 use Rattle.dym_script.specs.declared.kept.Kept.{Kept}
 use Rattle.dym_script.specs.declared.kept.Tables.{Tables}
 use Rattle.dym_script.specs.Kept.{kept_command, kept_commands, AreKept}
-
-pub commands_of_none : (tables : Tables) → kept_commands tables [] ≡ []
-unfolding kept_commands
-commands_of_none tables = refl
-
-pub commands_both : (tables : Tables) (kepts others : List Kept) → kept_commands tables (kepts ++ others) ≡ kept_commands tables kepts ++ kept_commands tables others
-unfolding kept_commands
-commands_both tables kepts others = filter_map-append (kept_command tables) kepts others
-
--- the commands that are left are those of the batch that is cut off, and the others
-pub batch_cut : (tables : Tables) (rest kepts others : List Kept) (n : ℕ) → kepts ≡ take n rest → others ≡ drop n rest → kept_commands tables rest ≡ kept_commands tables kepts ++ kept_commands tables others
-batch_cut tables rest kepts others n front back =
-    ap (kept_commands tables) (sym (take-append-drop n rest)) ∙ (λ i. kept_commands tables (sym front i ++ sym back i)) ∙ commands_both tables kepts others
-
--- the batch and the others are as many as those that are left
-pub batch_few : (rest kepts others : List Kept) (n : ℕ) → kepts ≡ take n rest → others ≡ drop n rest → length kepts + length others ≡ length rest
-batch_few rest kepts others n front back =
-    let whole : kepts ++ others ≡ rest = (λ i. front i ++ back i) ∙ take-append-drop n rest in
-    omega (arith, ap length whole, length-append kepts others)
-
--- of the batch each keeps a command, as all do
-pub batch_found : (tables : Tables) (rest kepts : List Kept) (n : ℕ) → kepts ≡ take n rest → All (λ kept. IsSome (kept_command tables kept)) rest → All (λ kept. IsSome (kept_command tables kept)) kepts
-batch_found tables rest kepts n front found = subst (All (λ kept. IsSome (kept_command tables kept))) (sym front) (All-take (λ kept. IsSome (kept_command tables kept)) n rest found)
-
--- and so do the others
-pub others_found : (tables : Tables) (rest others : List Kept) (n : ℕ) → others ≡ drop n rest → All (λ kept. IsSome (kept_command tables kept)) rest → All (λ kept. IsSome (kept_command tables kept)) others
-others_found tables rest others n back found = subst (All (λ kept. IsSome (kept_command tables kept))) (sym back) (All-drop (λ kept. IsSome (kept_command tables kept)) n rest found)
-
--- where nothing is left, no command is
-pub none_left : (tables : Tables) (rest : List Kept) → length rest ≡ 0 → kept_commands tables rest ≡ []
-none_left tables [] none = commands_of_none tables
-none_left tables (p ∷ ps) none = absurd (omega arith)
 
 -- the commands that are kept are those that are told
 pub commands_are : (tables : Tables) (kepts : List Kept) (commands : List Command) → AreKept tables kepts commands → kept_commands tables kepts ≡ commands
@@ -87,3 +56,28 @@ module _ (tables : Tables) where
       let later : command ≡ get_or rest i command = kept_at ps i d command (All-tail (λ kept. IsSome (kept_command tables kept)) p ps found) (omega (arith, inside)) is in
       elim (kept_command tables p) as (λ o. is_some o ≡ true → command ≡ get_or (cons_option o rest) (suc i) command) [ None ↦ λ none. absurd (cc) | Some c ↦ λ one. later ]
       (All-head (λ kept. IsSome (kept_command tables kept)) p ps found)
+
+-- what is true of the command that is kept
+pub kept_fact : (P : Command → Type 0) (o : Option Command) (c : Command) → o ≡ Some c → IfSome o P → P c
+kept_fact P o c is fact = subst (λ o. IfSome o P) is fact
+
+-- the command that the ith keeps stands before those after it
+pub record CommandAt (tables : Tables) (kepts : List Kept) (i : ℕ) (d : Kept) : Type 0 where
+  pub command : Command
+  pub is : kept_command tables (get_or kepts i d) ≡ Some command
+  pub cut : drop i (kept_commands tables kepts) ≡ command ∷ drop (i + 1) (kept_commands tables kepts)
+
+some_command : (o : Option Command) → IsSome o → (c : Command) × (o ≡ Some c)
+some_command None some = absurd (cc)
+some_command (Some c) some = (c, refl)
+
+pub command_at : (tables : Tables) (kepts : List Kept) (i : ℕ) (d : Kept) → All (λ kept. IsSome (kept_command tables kept)) kepts → i < length kepts → CommandAt tables kepts i d
+command_at tables kepts i d found within =
+    let one = some_command (kept_command tables (get_or kepts i d)) (All-get_or (λ kept. IsSome (kept_command tables kept)) kepts i d within found) in
+    let at : one.0 ≡ get_or (kept_commands tables kepts) i one.0 = kept_at tables kepts i d one.0 found within one.1 in
+    let inside : i < length (kept_commands tables kepts) = omega (arith, commands_count tables kepts found, within) in
+    record { command = one.0; is = one.1; cut = rw (add-one, drop-cons (kept_commands tables kepts) i one.0 inside) (λ j. sym at j ∷ drop (suc i) (kept_commands tables kepts)) }
+
+-- past the last one none is left
+pub none_behind : (tables : Tables) (kepts : List Kept) (i : ℕ) → All (λ kept. IsSome (kept_command tables kept)) kepts → length kepts ≤ i → drop i (kept_commands tables kepts) ≡ []
+none_behind tables kepts i found all = drop_of_length-le (kept_commands tables kepts) (omega (arith, commands_count tables kepts found, all))

@@ -1,4 +1,3 @@
-pub mod RunFacts
 pub mod ObjectText
 pub mod PassedOn
 pub mod KeptFacts

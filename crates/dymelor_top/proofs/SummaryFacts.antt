@@ -1,5 +1,5 @@
 -- What objects come to, counted one after another.
-use Rattle.std.proofs.Common.{◌≡◌, ℕ, suc, ◌+◌, ◌<◌, ◌≤◌, true, false, not, cond, List, [], ◌∷◌, ◌++◌, All, length, map, filter, drop, get_or, count_by, sum_by, refl, subst, sym, ap, ◌∙◌, ◌-◌, add-one, add-zero, drop-cons, le_of_eq, Bool, ◌⊎◌, inl, inr, arith, ◌==◌}
+use Rattle.std.proofs.Common.{◌≡◌, ℕ, suc, ◌+◌, ◌<◌, ◌≤◌, true, false, not, cond, List, [], ◌∷◌, All, IsSome, IfSome, length, map, filter, drop, get_or, count_by, sum_by, refl, subst, sym, ap, ◌∙◌, ◌-◌, add-one, add-zero, drop-cons, le_of_eq, Bool, ◌⊎◌, inl, inr, arith, ◌==◌}
 use Rattle.std.specs.Prelude.{nat_le}
 use Rattle.std.specs.FinMap.{len}
 use Rattle.std.proofs.lemmas.Bool.{cases_order, cond-true, cond-false, eq-eqb, ne_eqb, le-leb, lt-leb}
@@ -9,25 +9,25 @@ use Rattle.std.proofs.Math.ListN.{drop_of_length-le}
 use Rattle.std.proofs.lemmas.List.{length-map}
 use Rattle.dym_base.specs.Heaps.{held}
 use Rattle.dym_base.specs.RunLaws.{IsLogList, RunsKeepLogs}
-use Rattle.dym_base.specs.Objects.{LogEntry, ObjectState, object_start, object_step, replies_from, object_after, slots}
+use Rattle.dym_base.specs.Objects.{LogEntry, ObjectState, ObjectAnswer, object_start, object_step, replies_from, object_after, slots}
 use Rattle.dym_base.specs.declared.command.Version.{Version}
 use Rattle.dym_base.specs.declared.command.Command.{Command}
 use Rattle.dym_base.specs.declared.reply.Reply.{Reply}
-use Rattle.dym_object.specs.Meaning.{ObjectMeaning, state_of}
+use Rattle.dym_object.specs.Meaning.{ObjectMeaning, state_of, step_by}
+use Rattle.dym_script.specs.declared.kept.Kept.{Kept}
 use Rattle.dym_script.specs.declared.kept.Tables.{Tables}
 use Rattle.dym_script.specs.declared.script.Line.{Line}
 use Rattle.dym_script.specs.declared.parts.KeptPart.{KeptPart}
 use Rattle.dym_script.specs.declared.parts.Parts.{Parts}
 use Rattle.dym_script.specs.Held.{ArePartsOf}
 use Rattle.dym_script.specs.Scripts.{Said, own}
-use Rattle.dym_script.specs.Kept.{kept_commands}
+use Rattle.dym_script.specs.Kept.{kept_command, kept_commands}
 use Rattle.dym_script.specs.Parts.{EachKeepsOwn}
 use Rattle.dymelor_top.specs.declared.tally.Tally.{Tally}
 use Rattle.dymelor_top.specs.Parts.{own_of}
 use Rattle.dymelor_top.specs.Report.{objects_of}
-use Rattle.dymelor_top.proofs.KeptFacts.{are_length}
+use Rattle.dymelor_top.proofs.KeptFacts.{are_length, command_at, kept_fact}
 use Rattle.dymelor_top.proofs.PartFacts.{OwnsFrom, owns_first, owns_later, owns_all, parts_are_objects}
-use Rattle.dymelor_top.proofs.WrittenReplies.{replies_both, after_both}
 use Rattle.dymelor_top.specs.Summary.{is_refusal, tally_of, no_tally, both_tallies, tally_all, totals_of}
 
 -- ---- the commands of all objects are those of the lines
@@ -186,29 +186,34 @@ pub record Refusing (start now : ObjectMeaning) (commands rest : List Command) (
   pub counted : refused + count_by is_refusal (replies_from start.heap.version start.heap.quota (state_of now) rest) ≡ count_by is_refusal (replies_from start.heap.version start.heap.quota (state_of start) commands)
   pub ends : object_after start.heap.version start.heap.quota (state_of now) rest ≡ object_after start.heap.version start.heap.quota (state_of start) commands
 
-count_both : (xs ys : List Reply) → count_by is_refusal (xs ++ ys) ≡ count_by is_refusal xs + count_by is_refusal ys
-count_both [] ys = omega arith
-count_both (x ∷ xs) ys = omega (arith, sum_by-cons (λ (r : Reply). cond (is_refusal r) 1 0) x (xs ++ ys), sum_by-cons (λ (r : Reply). cond (is_refusal r) 1 0) x xs, count_both xs ys)
-
--- the next commands were run
-pub refusing_more : (start now next : ObjectMeaning) (commands rest batch after : List Command) (refused more : ℕ) → Refusing start now commands rest refused → rest ≡ batch ++ after
-    → next.heap.version ≡ now.heap.version → next.heap.quota ≡ now.heap.quota → state_of next ≡ object_after now.heap.version now.heap.quota (state_of now) batch
-    → more ≡ count_by is_refusal (replies_from now.heap.version now.heap.quota (state_of now) batch) → Refusing start next commands after (refused + more)
-refusing_more start now next commands rest batch after refused more r cut version quota state counts =
+-- one command more was run
+refusing_more : (start now next : ObjectMeaning) (commands rest after : List Command) (c : Command) (reply : Reply) (refused more : ℕ) → Refusing start now commands rest refused → rest ≡ c ∷ after
+    → reply ≡ (step_by now c).reply → state_of next ≡ (step_by now c).object → next.heap.version ≡ now.heap.version → next.heap.quota ≡ now.heap.quota
+    → more ≡ refused + cond (is_refusal reply) 1 0 → Refusing start next commands after more
+refusing_more start now next commands rest after c reply refused more r cut replied left version quota counts =
     let v : Version = start.heap.version in
     let q : ℕ = start.heap.quota in
-    let s : ObjectState = object_after v q (state_of now) batch in
-    let left : state_of next ≡ s = state ∙ (λ i. object_after (r.version i) (r.quota i) (state_of now) batch) in
-    let first : more ≡ count_by is_refusal (replies_from v q (state_of now) batch) = counts ∙ (λ i. count_by is_refusal (replies_from (r.version i) (r.quota i) (state_of now) batch)) in
-    let whole : count_by is_refusal (replies_from v q (state_of now) rest) ≡ count_by is_refusal (replies_from v q (state_of now) batch) + count_by is_refusal (replies_from v q s after) =
-    ap (λ cs. count_by is_refusal (replies_from v q (state_of now) cs)) cut ∙ ap (count_by is_refusal) (replies_both v q (state_of now) batch after)
-    ∙ count_both (replies_from v q (state_of now) batch) (replies_from v q s after) in
+    let others : List Reply = replies_from v q (state_of next) after in
+    let step : step_by now c ≡ object_step v q (state_of now) c = λ j. object_step (r.version j) (r.quota j) (state_of now) c in
+    let said : reply ≡ (object_step v q (state_of now) c).reply = replied ∙ ap (λ (a : ObjectAnswer). a.reply) step in
+    let state : state_of next ≡ (object_step v q (state_of now) c).object = left ∙ ap (λ (a : ObjectAnswer). a.object) step in
+    let whole : replies_from v q (state_of now) rest ≡ reply ∷ others = ap (replies_from v q (state_of now)) cut ∙ (λ j. sym said j ∷ replies_from v q (sym state j) after) in
     record {
       version = version ∙ r.version;
       quota = quota ∙ r.quota;
-      counted = omega (arith, r.counted, whole, first, ap (λ t. count_by is_refusal (replies_from v q t after)) left);
-      ends = ap (λ t. object_after v q t after) left ∙ sym (after_both v q (state_of now) batch after) ∙ ap (object_after v q (state_of now)) (sym cut) ∙ r.ends;
+      counted = omega (arith, r.counted, counts, ap (count_by is_refusal) whole, sum_by-cons (λ (x : Reply). cond (is_refusal x) 1 0) reply others);
+      ends = ap (λ s. object_after v q s after) state ∙ ap (object_after v q (state_of now)) (sym cut) ∙ r.ends;
     }
+
+-- one command more of those that are kept was run
+pub refusing_kept : (tables : Tables) (kepts : List Kept) (i : ℕ) (d : Kept) (start now next : ObjectMeaning) (reply : Reply) (refused more : ℕ) → All (λ kept. IsSome (kept_command tables kept)) kepts → i < length kepts
+    → Refusing start now (kept_commands tables kepts) (drop i (kept_commands tables kepts)) refused
+    → IfSome (kept_command tables (get_or kepts i d)) (λ c. reply ≡ (step_by now c).reply) → IfSome (kept_command tables (get_or kepts i d)) (λ c. state_of next ≡ (step_by now c).object)
+    → next.heap.version ≡ now.heap.version → next.heap.quota ≡ now.heap.quota → more ≡ refused + cond (is_refusal reply) 1 0
+    → Refusing start next (kept_commands tables kepts) (drop (i + 1) (kept_commands tables kepts)) more
+refusing_kept tables kepts i d start now next reply refused more found within r replied after version quota counts =
+    let one = command_at tables kepts i d found within in
+    refusing_more start now next (kept_commands tables kepts) _ _ one.command reply refused more r one.cut (kept_fact _ _ _ one.is replied) (kept_fact _ _ _ one.is after) version quota counts
 
 -- all commands were run
 pub refusing_all : (start now : ObjectMeaning) (commands rest : List Command) (refused : ℕ) → Refusing start now commands rest refused → rest ≡ []

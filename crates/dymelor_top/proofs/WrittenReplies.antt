@@ -1,65 +1,99 @@
--- Replies that are written some at a time.
-use Rattle.std.proofs.Common.{◌≡◌, ℕ, List, [], ◌∷◌, ◌++◌, flat_map, refl, sym, ap, ◌∙◌}
-use Rattle.std.proofs.lemmas.Grind.{flat_map-append}
-use Rattle.dym_base.specs.Objects.{ObjectState, object_step, replies_from, object_after}
+-- Replies whose lines are written, or wait on a page.
+use Rattle.std.proofs.Common.{◌≡◌, ℕ, ◌+◌, ◌<◌, All, IsSome, IfSome, length, drop, get_or, List, [], ◌∷◌, ◌++◌, flat_map, refl, sym, ap, ◌∙◌, append_assoc, append-nil}
+use Rattle.dym_base.specs.Objects.{ObjectState, ObjectAnswer, object_step, replies_from, object_after}
 use Rattle.dym_base.specs.declared.command.Version.{Version}
 use Rattle.dym_base.specs.declared.command.Command.{Command}
-use Rattle.dym_object.specs.Meaning.{ObjectMeaning, state_of}
-use Rattle.dym_io.specs.Sink.{Output, Appended, Leaves}
-use Rattle.dym_io.specs.Laws.{leaves_same, leaves_more, leaves_nothing}
+use Rattle.dym_base.specs.declared.reply.Reply.{Reply}
+use Rattle.dym_object.specs.Meaning.{ObjectMeaning, state_of, step_by}
+use Rattle.dym_io.specs.Sink.{Output, Appended, Stopped, Leaves}
+use Rattle.dym_io.specs.Laws.{leaves_all, leaves_same, leaves_cut, leaves_more, leaves_nothing}
 use Rattle.dym_report.specs.Replies.{reply_line}
+use Rattle.dym_report.proofs.PageLines.{leaves_within}
+use Rattle.dym_script.specs.declared.kept.Kept.{Kept}
+use Rattle.dym_script.specs.declared.kept.Tables.{Tables}
+use Rattle.dym_script.specs.Kept.{kept_command, kept_commands}
+use Rattle.dymelor_top.proofs.KeptFacts.{CommandAt, command_at, kept_fact}
 
 -- the lines of the replies to commands
 abbrev pub lines_of : Version → ℕ → ObjectState → List Command → List ℕ
 lines_of v quota s commands = flat_map reply_line (replies_from v quota s commands)
 
--- the commands that are left lead from the heap now to the end of the whole run, and their replies are not yet written
-pub record Written (start now : ObjectMeaning) (commands rest : List Command) (old new : Output) : Type 0 where
+-- the commands that are left lead from the object now to the end of the whole run; what waits on the page and their replies are not yet written
+pub record Written (start now : ObjectMeaning) (commands rest : List Command) (page : List ℕ) (old new : Output) : Type 0 where
   pub version : now.heap.version ≡ start.heap.version
   pub quota : now.heap.quota ≡ start.heap.quota
-  pub leaves : Leaves old new (lines_of start.heap.version start.heap.quota (state_of start) commands) (lines_of start.heap.version start.heap.quota (state_of now) rest)
+  pub leaves : Leaves old new (lines_of start.heap.version start.heap.quota (state_of start) commands) (page ++ lines_of start.heap.version start.heap.quota (state_of now) rest)
   pub ends : object_after start.heap.version start.heap.quota (state_of now) rest ≡ object_after start.heap.version start.heap.quota (state_of start) commands
 
-pub replies_both : (v : Version) (quota : ℕ) (s : ObjectState) (cs ds : List Command)
-    → replies_from v quota s (cs ++ ds) ≡ replies_from v quota s cs ++ replies_from v quota (object_after v quota s cs) ds
-replies_both v quota s [] ds = refl
-replies_both v quota s (c ∷ cs) ds = ap (λ l. (object_step v quota s c).reply ∷ l) (replies_both v quota (object_step v quota s c).object cs ds)
+-- nothing is written yet
+pub written_none : (start : ObjectMeaning) (commands : List Command) (page : List ℕ) (old : Output) → page ≡ [] → Written start start commands commands page old old
+written_none start commands page old none =
+    let text : List ℕ = lines_of start.heap.version start.heap.quota (state_of start) commands in
+    record { version = refl; quota = refl; leaves = leaves_same old old text text _ (leaves_all old text) (ap (λ l. l ++ text) (sym none)); ends = refl }
 
-pub after_both : (v : Version) (quota : ℕ) (s : ObjectState) (cs ds : List Command) → object_after v quota s (cs ++ ds) ≡ object_after v quota (object_after v quota s cs) ds
-after_both v quota s [] ds = refl
-after_both v quota s (c ∷ cs) ds = after_both v quota (object_step v quota s c).object cs ds
+module _ (start now : ObjectMeaning) (commands rest after : List Command) (c : Command) (page : List ℕ) (reply : Reply) (old mid new : Output)
+    (w : Written start now commands rest page old mid) (cut : rest ≡ c ∷ after) (replied : reply ≡ (step_by now c).reply) where
+  step : step_by now c ≡ object_step start.heap.version start.heap.quota (state_of now) c
+  step = λ j. object_step (w.version j) (w.quota j) (state_of now) c
 
-pub lines_both : (v : Version) (quota : ℕ) (s : ObjectState) (cs ds : List Command) → lines_of v quota s (cs ++ ds) ≡ lines_of v quota s cs ++ lines_of v quota (object_after v quota s cs) ds
-lines_both v quota s cs ds = ap (flat_map reply_line) (replies_both v quota s cs ds) ∙ flat_map-append reply_line (replies_from v quota s cs) (replies_from v quota (object_after v quota s cs) ds)
+  -- what is left begins with the page and the line of this reply
+  line_first : Leaves old mid (lines_of start.heap.version start.heap.quota (state_of start) commands) ((page ++ reply_line reply) ++ lines_of start.heap.version start.heap.quota (step_by now c).object after)
+  line_first =
+      let v : Version = start.heap.version in
+      let q : ℕ = start.heap.quota in
+      let others : List ℕ = lines_of v q (step_by now c).object after in
+      let said : lines_of v q (state_of now) rest ≡ reply_line reply ++ others =
+      ap (lines_of v q (state_of now)) cut ∙ (λ j. reply_line (sym step j).reply ++ lines_of v q (sym step j).object after) ∙ ap (λ r. reply_line r ++ others) (sym replied) in
+      leaves_same old mid _ _ _ w.leaves (ap (λ l. page ++ l) said ∙ sym (append_assoc page (reply_line reply) others))
 
--- what is left begins with these commands
-pub leaves_first : (start now : ObjectMeaning) (commands rest batch after : List Command) (old new : Output) → Written start now commands rest old new → rest ≡ batch ++ after
-    → Leaves old new (lines_of start.heap.version start.heap.quota (state_of start) commands) (lines_of now.heap.version now.heap.quota (state_of now) batch ++ lines_of now.heap.version now.heap.quota (object_after now.heap.version now.heap.quota (state_of now) batch) after)
-leaves_first start now commands rest batch after old new w cut =
-    leaves_same old new _ (lines_of start.heap.version start.heap.quota (state_of now) rest) _ w.leaves
-    ((λ i. lines_of (sym w.version i) (sym w.quota i) (state_of now) (cut i)) ∙ lines_both now.heap.version now.heap.quota (state_of now) batch after)
+  -- the line was added to the page
+  pub written_more : (next : ObjectMeaning) (left : List ℕ) → state_of next ≡ (step_by now c).object → next.heap.version ≡ now.heap.version → next.heap.quota ≡ now.heap.quota
+      → Leaves mid new (page ++ reply_line reply) left → Written start next commands after left old new
+  written_more next left state version quota added =
+      let v : Version = start.heap.version in
+      let q : ℕ = start.heap.quota in
+      let ran : state_of next ≡ (object_step v q (state_of now) c).object = state ∙ ap (λ (a : ObjectAnswer). a.object) step in
+      record {
+        version = version ∙ w.version;
+        quota = quota ∙ w.quota;
+        leaves = leaves_same old new _ _ _ (leaves_within old mid new _ (page ++ reply_line reply) (lines_of v q (step_by now c).object after) left line_first added) (λ j. left ++ lines_of v q (sym state j) after);
+        ends = ap (λ s. object_after v q s after) ran ∙ ap (object_after v q (state_of now)) (sym cut) ∙ w.ends;
+      }
 
--- they were run, and their replies written
-pub written_more : (start now next : ObjectMeaning) (commands rest batch after : List Command) (old mid new : Output) → Written start now commands rest old mid → rest ≡ batch ++ after
-    → next.heap.version ≡ now.heap.version → next.heap.quota ≡ now.heap.quota → state_of next ≡ object_after now.heap.version now.heap.quota (state_of now) batch
-    → Appended mid new (lines_of now.heap.version now.heap.quota (state_of now) batch) → Written start next commands after old new
-written_more start now next commands rest batch after old mid new w cut version quota state lines =
-    let v : next.heap.version ≡ start.heap.version = version ∙ w.version in
-    let q : next.heap.quota ≡ start.heap.quota = quota ∙ w.quota in
-    let left = leaves_more old mid new _ (lines_of now.heap.version now.heap.quota (state_of now) batch) _ (leaves_first start now commands rest batch after old mid w cut) lines in
-    record {
-      version = v;
-      quota = q;
-      leaves = leaves_same old new _ _ _ left (λ i. lines_of (w.version i) (w.quota i) (sym state i) after);
-      ends = (λ i. object_after (sym w.version i) (sym w.quota i) (state i) after) ∙ sym (after_both now.heap.version now.heap.quota (state_of now) batch after) ∙ (λ i. object_after (w.version i) (w.quota i) (state_of now) (sym cut i)) ∙ w.ends;
-    }
+  -- or it was cut short
+  pub written_cut : Stopped mid new (page ++ reply_line reply) → Stopped old new (lines_of start.heap.version start.heap.quota (state_of start) commands)
+  written_cut stopped = leaves_cut old mid new _ (page ++ reply_line reply) _ line_first stopped
 
 -- no command is left
-pub written_all : (start now : ObjectMeaning) (commands rest : List Command) (old new : Output) → Written start now commands rest old new → rest ≡ []
-    → Appended old new (lines_of start.heap.version start.heap.quota (state_of start) commands) × (state_of now ≡ object_after start.heap.version start.heap.quota (state_of start) commands)
-written_all start now commands rest old new w none =
-    let v : Version = start.heap.version in
-    let q : ℕ = start.heap.quota in (
-      leaves_nothing old new _ (leaves_same old new _ (lines_of v q (state_of now) rest) [] w.leaves (ap (lines_of v q (state_of now)) none)),
-      ap (object_after v q (state_of now)) (sym none) ∙ w.ends,
-    )
+module _ (start now : ObjectMeaning) (commands rest : List Command) (page : List ℕ) (old mid : Output) (w : Written start now commands rest page old mid) (none : rest ≡ []) where
+  page_left : Leaves old mid (lines_of start.heap.version start.heap.quota (state_of start) commands) page
+  page_left =
+      let v : Version = start.heap.version in
+      let q : ℕ = start.heap.quota in
+      leaves_same old mid _ _ _ w.leaves (ap (λ l. page ++ lines_of v q (state_of now) l) none ∙ append-nil page)
+
+  pub written_all : (new : Output) → Appended mid new page → Appended old new (lines_of start.heap.version start.heap.quota (state_of start) commands)
+  written_all new lines = leaves_nothing old new _ (leaves_more old mid new _ page [] (leaves_same old mid _ _ _ page_left (sym (append-nil page))) lines)
+
+  pub written_last_cut : (new : Output) → Stopped mid new page → Stopped old new (lines_of start.heap.version start.heap.quota (state_of start) commands)
+  written_last_cut new stopped = leaves_cut old mid new _ page [] (leaves_same old mid _ _ _ page_left (sym (append-nil page))) stopped
+
+  pub ended : state_of now ≡ object_after start.heap.version start.heap.quota (state_of start) commands
+  ended = ap (object_after start.heap.version start.heap.quota (state_of now)) (sym none) ∙ w.ends
+
+-- one command of those that are kept was run
+module _ (tables : Tables) (kepts : List Kept) (i : ℕ) (d : Kept) (start now : ObjectMeaning) (page : List ℕ) (reply : Reply) (old mid new : Output)
+    (found : All (λ kept. IsSome (kept_command tables kept)) kepts) (within : i < length kepts)
+    (w : Written start now (kept_commands tables kepts) (drop i (kept_commands tables kepts)) page old mid)
+    (replied : IfSome (kept_command tables (get_or kepts i d)) (λ c. reply ≡ (step_by now c).reply)) where
+  one : CommandAt tables kepts i d
+  one = command_at tables kepts i d found within
+
+  pub kept_more : (next : ObjectMeaning) (left : List ℕ) → IfSome (kept_command tables (get_or kepts i d)) (λ c. state_of next ≡ (step_by now c).object)
+      → next.heap.version ≡ now.heap.version → next.heap.quota ≡ now.heap.quota → Leaves mid new (page ++ reply_line reply) left
+      → Written start next (kept_commands tables kepts) (drop (i + 1) (kept_commands tables kepts)) left old new
+  kept_more next left after version quota added =
+      written_more start now (kept_commands tables kepts) _ _ one.command page reply old mid new w one.cut (kept_fact _ _ _ one.is replied) next left (kept_fact _ _ _ one.is after) version quota added
+
+  pub kept_cut : Stopped mid new (page ++ reply_line reply) → Stopped old new (lines_of start.heap.version start.heap.quota (state_of start) (kept_commands tables kepts))
+  kept_cut stopped = written_cut start now (kept_commands tables kepts) _ _ one.command page reply old mid new w one.cut (kept_fact _ _ _ one.is replied) stopped

@@ -18,6 +18,10 @@ use std::alloc::{AllocError, Global};
 /// The bytes of a block, which is little enough to stay in a cache.
 const BLOCK: usize = 262_144;
 
+/// The bytes that are reserved for a block. What is reserved is given back before the objects run, and the system's allocator takes
+/// its size for a measure: it keeps smaller pieces that an object gives back, in place of asking for fresh pages each time.
+const BLOCK_ROOM: usize = 4_194_304;
+
 /// Reads the script that a source gives, and answers what a reader of lines makes of it, which is that of the source's bytes.
 /// The source is read to its end, or for as many bytes as tell that the input is too long. The outer error: the source
 /// failed, or memory ran out before all was read.
@@ -30,7 +34,8 @@ pub fn read_source<K: LineReader + Drop, R: Source>(
     ensures read { (bytes : List ℕ) → R.left source.old ≡ Some bytes → OnOk result (R.left source.new ≡ Some (drop (MOST_INPUT_BYTES + 1) bytes)) }
     ensures failed { IsErrOf result ReadFail.Source → Rose (R.faults source.old) (R.faults source.new) }
 {
-    let mut block = vec![in alloc; 0; BLOCK]?;
+    let mut block = Vec::with_capacity(alloc, BLOCK_ROOM)?;
+    block.resize(BLOCK, 0)?;
     read_blocks::<K, R>(alloc, source, &mut block)
 }
 

@@ -15,6 +15,7 @@ mod tally;
 #[cfg(test)]
 mod tests;
 mod total;
+mod turn;
 
 pub use laws::one_answer;
 pub use still::dymelor_still;

@@ -1,7 +1,7 @@
 //! The order `plain`: one object after another, each part written as its object ends.
-ghost use Rattle.std.specs.Prelude.{◌≡◌, ◌+◌, ◌≤◌, ◌^◌, length, flat_map, IsSome, IfOk, OnOk, All};
+ghost use Rattle.std.specs.Prelude.{◌≡◌, ◌≤◌, ◌^◌, length, flat_map, IsSome, IfOk, OnOk, All};
 ghost use Rattle.dym_base.specs.Objects.{object_start, replies_from, object_after};
-ghost use Rattle.dym_io.specs.Sink.{Output, WritesOr};
+ghost use Rattle.dym_io.specs.Sink.{WritesOr};
 ghost use Rattle.dym_object.specs.Meaning.{state_of};
 ghost use Rattle.dym_report.specs.Replies.{reply_line};
 ghost use Rattle.dym_script.specs.Scripts.{Said};
@@ -13,19 +13,17 @@ ghost use Rattle.dymelor_top.specs.declared.stop.WriteFail.TheVariants.{Sink as 
 
 use crate::lender::Lender;
 use crate::stop::WriteFail;
-use dym_base::{Command, Reply, Version};
+use crate::turn::run_kept;
+use dym_base::{Reply, Version};
 use dym_chain::VecKeep;
 use dym_io::Sink;
 use dym_object::Object;
 use dym_quota::OwnSupply;
-use dym_report::{write_end, write_heading, write_replies, write_state};
+use dym_report::{Page, write_end, write_heading, write_state};
 use dym_script::{Kept, KeptPart, Parts, Tables};
 use std::alloc::{AllocError, Global};
 
-/// How many commands are run before their replies are written.
-pub const BATCH: usize = 256;
-
-/// Writes the report of a script, one object after another. Each command is put out of what is kept of it as it runs.
+/// Writes the report of a script, one object after another.
 pub fn write_report<W: Sink>(alloc: Global, script: &Parts, sink: &mut W) -> Result<(), WriteFail>
     requires made { (s : Said) × ArePartsOf script.now s }
     ensures { (s : Said) → ArePartsOf script.now s → WritesOr (λ fail. fail ≡ SinkFailed) (W.output sink.old) (W.output sink.new) (report_text s) result }
@@ -114,7 +112,7 @@ fn write_run<W: Sink>(
     Ok(())
 }
 
-/// Runs commands that are kept, and writes their replies, some at a time.
+/// Runs commands that are kept, and writes their replies, as many together as a page has room for.
 fn run_and_write<W: Sink>(
     alloc: Global,
     object: &mut Object<OwnSupply, VecKeep>,
@@ -130,51 +128,12 @@ fn run_and_write<W: Sink>(
     ensures state { OnOk result (state_of object.new ≡ object_after object.old.heap.version object.old.heap.quota (state_of object.old) (kept_commands tables.now kept.now)) }
     ensures version { OnOk result (object.new.heap.version ≡ object.old.heap.version) }
 {
-    let mut replies = Vec::new(alloc);
-    let mut rest = kept;
-    while !rest.is_empty() {
-        let (batch, after) = rest.split_at(rest.len().min(BATCH));
-        run(alloc, object, tables, batch, &mut replies)?;
-        write_replies(sink, &replies)?;
-        rest = after;
+    let mut page = Page::new();
+    for one in kept {
+        let mut reply = Reply::Done;
+        run_kept::<Page>(alloc, object, tables, one, &mut reply)?;
+        page.add(sink, &reply)?;
     }
-    Ok(())
-}
-
-/// Runs commands that are kept, and writes their replies over those that the vector has, whose memory serves again.
-pub fn run(
-    alloc: Global,
-    object: &mut Object<OwnSupply, VecKeep>,
-    tables: &Tables,
-    kept: &[Kept],
-    replies: &mut Vec<Reply>,
-) -> Result<(), AllocError>
-    requires few { object.old.ran + length kept.now ≤ 2 ^ 20 }
-    requires found { All (λ one. IsSome (kept_command tables.now one)) kept.now }
-    ensures replies { OnOk result (replies.new.items ≡ replies_from object.old.heap.version object.old.heap.quota (state_of object.old) (kept_commands tables.now kept.now)) }
-    ensures state { OnOk result (state_of object.new ≡ object_after object.old.heap.version object.old.heap.quota (state_of object.old) (kept_commands tables.now kept.now)) }
-    ensures version { OnOk result (object.new.heap.version ≡ object.old.heap.version) }
-    ensures quota { OnOk result (object.new.heap.quota ≡ object.old.heap.quota) }
-    ensures ran { OnOk result (object.new.ran ≡ object.old.ran + length kept.now) }
-{
-    make_places(kept.len(), replies)?;
-    let mut command = Command::Logs;
-    for (index, one) in kept.iter().enumerate() {
-        one.put(alloc, tables, &mut command)?;
-        object.run_into(&(), alloc, &command, &mut replies[index])?;
-    }
-    Ok(())
-}
-
-/// Makes a vector so many replies long. What they are is not said: they are to be written over.
-fn make_places(count: usize, replies: &mut Vec<Reply>) -> Result<(), AllocError>
-    ensures { OnOk result (length replies.new.items ≡ count) }
-{
-    replies.truncate(count);
-    let wanting = count - replies.len();
-    replies.reserve(wanting)?;
-    for _ in 0..wanting {
-        replies.push_reserved(Reply::Done);
-    }
+    page.write(sink)?;
     Ok(())
 }

@@ -10,8 +10,9 @@ ghost use Rattle.dymelor_top.specs.Parts.{IsRunnable, own_of};
 ghost use Rattle.dymelor_top.specs.Summary.{is_refusal, tally_of, tally_all, totals_of};
 
 use crate::lender::Lender;
-use crate::plain::{BATCH, open_object, run};
+use crate::plain::open_object;
 use crate::tally::Tally;
+use crate::turn::run_kept;
 use dym_base::{Reply, Version, laws};
 use dym_chain::VecKeep;
 use dym_object::Object;
@@ -20,7 +21,7 @@ use dym_report::{Totals, live_chunks};
 use dym_script::{Kept, KeptPart, Parts, Tables};
 use std::alloc::{AllocError, Global};
 
-/// What the objects of a script come to. Each command is put out of what is kept of it as it runs.
+/// What the objects of a script come to.
 pub fn total(alloc: Global, script: &Parts) -> Result<Totals, AllocError>
     requires made { (s : Said) × ArePartsOf script.now s }
     ensures { IfOk result (λ totals. (s : Said) → ArePartsOf script.now s → totals ≡ totals_of s) }
@@ -127,25 +128,15 @@ fn refusals(
     ensures counted { IfOk result (λ n. n ≡ count_by is_refusal (replies_from object.old.heap.version object.old.heap.quota (state_of object.old) (kept_commands tables.now kept.now))) }
     ensures state { OnOk result (state_of object.new ≡ object_after object.old.heap.version object.old.heap.quota (state_of object.old) (kept_commands tables.now kept.now)) }
 {
-    let mut replies = Vec::new(alloc);
     let mut refused = 0;
-    let mut rest = kept;
-    while !rest.is_empty() {
-        let (batch, after) = rest.split_at(rest.len().min(BATCH));
-        run(alloc, object, tables, batch, &mut replies)?;
-        refused += refused_among(&replies);
-        rest = after;
+    for one in kept {
+        let mut reply = Reply::Done;
+        run_kept::<Tally>(alloc, object, tables, one, &mut reply)?;
+        if is_refusal(&reply) {
+            refused += 1;
+        }
     }
     Ok(refused)
-}
-
-/// How many of some replies are refusals.
-fn refused_among(replies: &[Reply]) -> u32
-    requires { length replies.now ≤ 2 ^ 20 }
-    ensures { result ≡ count_by is_refusal replies.now }
-{
-    let refused = replies.iter().filter(|reply| is_refusal(reply)).count();
-    refused as u32
 }
 
 /// Whether a reply is a refusal.

@@ -1,9 +1,5 @@
-use Rattle.std.proofs.Common.{codes, refl, rules, arith}
-use Rattle.dym_script.proofs.Spelled.{starts, begins_nil, begins_some}
+use Rattle.dym_script.proofs.Spelled.{begins_some}
 use Rattle.dym_script.proofs.quick_words.handle_or_nil.Goals as goal
 
-pub returns-in-32 : goal.returns-in-32
-returns-in-32 c = begins_nil _ _ (starts _ (codes " nil") _ (omega arith) (search rules) refl)
-
-pub returns : goal.returns
-returns c = begins_some _ _ _ c.in_ok-handle.ensures
+pub returns-in-Some : goal.returns-in-Some
+returns-in-Some c = begins_some _ _ _ c.in-Some.ensures

@@ -3,7 +3,6 @@ use Rattle.dym_base.specs.declared.limits.TheConstants.{MOST_INPUT_BYTES}
 use Rattle.dym_io.specs.Sink.{Appended, AppendedFront}
 use Rattle.dym_script.specs.Scripts.{script_of}
 use Rattle.dym_script.proofs.Counted.{counts_given}
-use Rattle.dymelor_top.specs.declared.plan.Reading.{Reading}
 use Rattle.dymelor_top.specs.declared.plan.Reading.TheVariants as reading
 use Rattle.dymelor_top.specs.Report.{report_text}
 use Rattle.dymelor_top.specs.Summary.{summary_of}

@@ -1,0 +1,8 @@
+use Rattle.dym_report.proofs.PageLines.{behind_added, behind_stopped}
+use Rattle.dym_report.proofs.page.Page.add_behind.Goals as goal
+
+pub returns-then-not-has_room-clause-added : goal.returns-then-not-has_room-clause-added
+returns-then-not-has_room-clause-added g c = behind_added _ _ _ _ _ _ _ c.in_ok-write.ensures.written c.in_ok-write.ensures.empty c.write_reply.ensures
+
+pub returns-then-not-has_room-clause-stopped : goal.returns-then-not-has_room-clause-stopped
+returns-then-not-has_room-clause-stopped g c = behind_stopped _ _ _ _ _ _ c.in_ok-write.ensures.written c.write_reply.ensures
