@@ -8,9 +8,6 @@ use Rattle.std.proofs.lemmas.Fmt.{length-decimal-le, decimal_digit, decimal_step
 pub length_decimal_le : (n : ℕ) → n < 2 ^ 64 → length (decimal n) ≤ 20
 length_decimal_le n small = length-decimal-le 20 n (omega arith) (omega arith) small
 
-pub length_decimal_le_3 : (n : ℕ) → n < 1000 → length (decimal n) ≤ 3
-length_decimal_le_3 n small = length-decimal-le 3 n (omega arith) (omega arith) (omega arith)
-
 -- one digit more than without the last
 pub digits_step : (n : ℕ) → 10 ≤ n → n < 2 ^ 64 → length (decimal n) ≡ length (decimal (n / 10)) + 1
 digits_step n ten fits = omega (arith, ap length (decimal_step n ten fits), length-append (decimal (n / 10)) ((48 + n % 10) ∷ []))

@@ -1,5 +1,5 @@
 //! Short lines of text.
-ghost use Rattle.std.specs.Prelude.{◌≡◌, ◌+◌, ◌<◌, ◌≤◌, [], ◌++◌, length, decimal};
+ghost use Rattle.std.specs.Prelude.{◌≡◌, ◌+◌, ◌≤◌, [], ◌++◌, length, decimal};
 ghost use Rattle.dym_base.specs.declared.handle.Handle.{Handle};
 ghost use Rattle.dym_report.specs.declared.line.TheConstants.{LINE_ROOM};
 ghost use Rattle.dym_report.specs.Handles.{handle_text, size_of};
@@ -59,16 +59,6 @@ impl Line {
         ensures short { length self.new ≤ 20 + length self.old }
     {
         self.start = write_digits(n, &mut self.bytes, self.start);
-    }
-
-    /// Puts the digits of a number of at most three digits before the line.
-    pub fn short_number(&mut self, n: u32)
-        requires small { n < 1000 }
-        requires room { 3 + length self.old ≤ LINE_ROOM }
-        ensures text { self.new ≡ decimal n ++ self.old }
-        ensures short { length self.new ≤ 3 + length self.old }
-    {
-        self.start = write_digits(u64::from(n), &mut self.bytes, self.start);
     }
 
     /// Puts a handle before the line.
