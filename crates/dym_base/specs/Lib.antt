@@ -4,6 +4,7 @@ pub mod BadKinds
 pub mod Heaps
 pub mod HeapStep
 pub mod Packed
+pub mod Recorded
 pub mod StandsFor
 pub mod Objects
 pub mod Origins
