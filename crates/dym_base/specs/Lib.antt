@@ -7,11 +7,7 @@ pub mod Packed
 pub mod StandsFor
 pub mod Objects
 pub mod Origins
+pub mod Limits
 pub mod Laws
 pub mod RunLaws
 pub mod StandingLaws
-pub mod Slots
-pub mod SlotWords
-pub mod SlotSteps
-pub mod SlotFacts
-pub mod SlotNotes
