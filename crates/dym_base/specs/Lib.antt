@@ -9,6 +9,7 @@ pub mod Objects
 pub mod Origins
 pub mod Laws
 pub mod RunLaws
+pub mod LateRun
 pub mod StandingLaws
 pub mod Slots
 pub mod SlotWords
