@@ -14,4 +14,5 @@ pub mod Origins
 pub mod Limits
 pub mod Laws
 pub mod RunLaws
+pub mod LateRun
 pub mod StandingLaws
