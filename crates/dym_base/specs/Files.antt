@@ -1,5 +1,5 @@
 -- Checkpoint files: the kept logs of an object, and those below them, as bytes. Numbers have their little end first.
-use Rattle.std.specs.Prelude.{◌≡◌, ⊥, ◌⊎◌, ℕ, ◌+◌, ◌<◌, ◌≤◌, List, [], ◌∷◌, ◌++◌, map, length, codes, IsTrue}
+use Rattle.std.specs.Prelude.{◌≡◌, ◌⊎◌, ℕ, ◌+◌, ◌<◌, ◌≤◌, List, [], ◌∷◌, ◌++◌, map, length, codes, IsTrue}
 use Rattle.std.specs.Int.{w32, to_le_bytes}
 use Rattle.std.specs.List.{AllByRecursion, flat_map}
 use Rattle.dym_base.specs.declared.limits.TheConstants.{MOST_QUOTA, MOST_RECORDS, MOST_DEPTH, MOST_KEPT_LOGS}
