@@ -7,12 +7,12 @@ pub mod Packed
 pub mod Recorded
 pub mod StandsFor
 pub mod Objects
+pub mod Below
+pub mod LawfulLists
+pub mod Files
 pub mod Origins
+pub mod Limits
 pub mod Laws
 pub mod RunLaws
+pub mod LateRun
 pub mod StandingLaws
-pub mod Slots
-pub mod SlotWords
-pub mod SlotSteps
-pub mod SlotFacts
-pub mod SlotNotes
