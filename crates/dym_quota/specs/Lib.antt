@@ -1,1 +1,6 @@
+pub mod Berths
 pub mod HeldIds
+pub mod QueueShape
+pub mod SegmentRule
+pub mod SegmentSteps
+pub mod Waves
