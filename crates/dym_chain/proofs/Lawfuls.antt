@@ -10,7 +10,8 @@ use Rattle.dym_base.specs.StandsFor.{LogsStandFor}
 use Rattle.dym_base.specs.declared.command.Version.{Version}
 use Rattle.dym_base.proofs.Runs.{all_take, all_drop}
 use Rattle.dym_chain.specs.Keeps.{bytes_of}
-use Rattle.dym_chain.specs.Chains.{ChainMeaning, all_logs, no_entry, log_at, oldest_depth, StandsForCopies}
+use Rattle.dym_base.specs.Below.{oldest_depth}
+use Rattle.dym_chain.specs.Chains.{ChainMeaning, all_logs, no_entry, log_at, StandsForCopies}
 use Rattle.dym_chain.specs.Lawful.{IsLawful, logged_of}
 use Rattle.dym_chain.proofs.Stands.{stands_at}
 

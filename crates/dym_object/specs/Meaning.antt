@@ -1,5 +1,5 @@
 -- What an object stands for, as its callers see it.
-use Rattle.std.specs.Prelude.{ℕ, ◌≤◌}
+use Rattle.std.specs.Prelude.{◌≡◌, ℕ, ◌≤◌, None}
 use Rattle.dym_base.specs.Objects.{ObjectState, ObjectAnswer, object_step}
 use Rattle.dym_base.specs.declared.command.Command.{Command}
 use Rattle.dym_heap.specs.Meaning.{HeapMeaning, IsSound}
@@ -19,10 +19,11 @@ state_of o = object_of o.heap.state o.chain
 abbrev pub step_by : ObjectMeaning → Command → ObjectAnswer
 step_by o command = object_step o.heap.version o.heap.quota (state_of o) command
 
--- what is true of every object: its heap is sound, the chain belongs to it and stands for the copies of its logs, and no
--- more records were made than commands were run
+-- what is true of every object: its heap is sound, the chain belongs to it and stands for the copies of its logs, none of its
+-- records is out, and no more records were made than commands were run
 pub record IsWhole (o : ObjectMeaning) : Type 0 where
   pub sound : IsSound o.heap
   pub belongs : Belongs o.heap.version o.heap.quota o.heap.state o.chain
   pub stands : StandsForCopies o.chain
+  pub idle : o.chain.lifted ≡ None
   pub counted : o.chain.made ≤ o.ran

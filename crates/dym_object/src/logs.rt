@@ -1,5 +1,5 @@
 //! The reply to one command to an object, written into a place: to its logs here, to its heap by `answer`.
-ghost use Rattle.std.specs.Prelude.{◌≡◌, ℕ, ◌+◌, ◌^◌, ◌<◌, ◌≤◌, OnOk, OnErr, IfErr};
+ghost use Rattle.std.specs.Prelude.{◌≡◌, ℕ, ◌+◌, ◌^◌, ◌<◌, ◌≤◌, None, OnOk, OnErr, IfErr};
 ghost use Rattle.dym_base.specs.Objects as Objects;
 ghost use Rattle.dym_base.specs.Objects.{object_step};
 ghost use Rattle.dym_heap.specs.Meaning.{IsSound};
@@ -28,6 +28,7 @@ pub(crate) fn answer_to<S: Supply, K: LogKeep>(
     requires belongs { Belongs heap.old.version heap.old.quota heap.old.state chain.old }
     requires stands { StandsForCopies chain.old }
     requires made { chain.old.made < 2 ^ 60 }
+    requires idle { chain.old.lifted ≡ None }
     ensures reply { OnOk result (reply.new ≡ (object_step heap.old.version heap.old.quota (object_of heap.old.state chain.old) command.now).reply) }
     ensures after { OnOk result (object_of heap.new.state chain.new ≡ (object_step heap.old.version heap.old.quota (object_of heap.old.state chain.old) command.now).object) }
     ensures memory { IfErr result (λ _. TakesMemory command.now (object_step heap.old.version heap.old.quota (object_of heap.old.state chain.old) command.now).reply) }
@@ -40,6 +41,7 @@ pub(crate) fn answer_to<S: Supply, K: LogKeep>(
     ensures sound { IsSound heap.new }
     ensures belongs { Belongs heap.new.version heap.new.quota heap.new.state chain.new }
     ensures stands { StandsForCopies chain.new }
+    ensures idle { chain.new.lifted ≡ None }
 {
     match command {
         Command::Log { time } => log(heap, chain, alloc, *time, Kind::Full, reply),
@@ -79,6 +81,7 @@ fn log<S: Supply, K: LogKeep>(
     requires sound { IsSound heap.old }
     requires belongs { Belongs heap.old.version heap.old.quota heap.old.state chain.old }
     requires made { chain.old.made < 2 ^ 60 }
+    requires idle { chain.old.lifted ≡ None }
     ensures reply { OnOk result (reply.new ≡ (Objects.log heap.old.version (object_of heap.old.state chain.old) time want).reply) }
     ensures after { OnOk result (object_of heap.new.state chain.new ≡ (Objects.log heap.old.version (object_of heap.old.state chain.old) time want).object) }
     ensures memory { IfErr result (λ _. IsNotRefused (Objects.log heap.old.version (object_of heap.old.state chain.old) time want).reply) }
@@ -91,6 +94,7 @@ fn log<S: Supply, K: LogKeep>(
     ensures sound { IsSound heap.new }
     ensures belongs { Belongs heap.new.version heap.new.quota heap.new.state chain.new }
     ensures stands { StandsForCopies chain.new }
+    ensures idle { chain.new.lifted ≡ None }
 {
     match chain.log(alloc, heap, time, want) {
         Ok((kind, len)) => *reply = Reply::Logged { kind, len },
@@ -111,6 +115,7 @@ fn restore<S: Supply, K: LogKeep>(
 )
     requires sound { IsSound heap.old }
     requires belongs { Belongs heap.old.version heap.old.quota heap.old.state chain.old }
+    requires idle { chain.old.lifted ≡ None }
     ensures reply { reply.new ≡ (Objects.restore (object_of heap.old.state chain.old) time).reply }
     ensures after { object_of heap.new.state chain.new ≡ (Objects.restore (object_of heap.old.state chain.old) time).object }
     ensures heap { heap.new ≡ record heap.old { state = heap.new.state; held_ids = heap.new.held_ids } }
@@ -119,6 +124,7 @@ fn restore<S: Supply, K: LogKeep>(
     ensures sound { IsSound heap.new }
     ensures belongs { Belongs heap.new.version heap.new.quota heap.new.state chain.new }
     ensures stands { StandsForCopies chain.new }
+    ensures idle { chain.new.lifted ≡ None }
 {
     match chain.restore(way, heap, time) {
         Ok(restored) => *reply = Reply::At(restored),

@@ -38,4 +38,5 @@ returns-in_default g c =
       sound = c.answer.ensures.sound;
       belongs = still_belongs c.heap_steps_keep_belonging.ensures.step old new chain command c.answer.ensures.after c.requires.belongs;
       stands = c.requires.stands;
+      idle = c.requires.idle;
     }
