@@ -5,3 +5,5 @@ pub mod OwnerMoves
 pub mod SweeperMoves
 pub mod Opening
 pub mod Stepping
+pub mod SweeperSays
+pub mod Rounds

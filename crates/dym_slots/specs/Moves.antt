@@ -1,6 +1,6 @@
 -- What each kind of step on a log table tells the seat that takes it: of the word, of the seat before, of the number found
 -- and of the seat after.
-use Rattle.std.specs.Prelude.{◌≡◌, ◌≢◌, ℕ, ◌+◌, ◌<◌, ◌≤◌, ◌⊎◌, List, [], ◌∷◌, ◌++◌, length, Some, None, Contains, false}
+use Rattle.std.specs.Prelude.{◌≡◌, ◌≢◌, ℕ, ◌+◌, ◌<◌, ◌≤◌, ◌⊎◌, List, [], ◌∷◌, ◌++◌, length, Some, None, Contains, Bool, false, if◌then◌else◌}
 use Rattle.dym_base.specs.declared.limits.TheConstants.{LOG_SLOTS, LOG_WORDS}
 use Rattle.dym_slotlaw.specs.declared.slots.Slot.{Slot}
 use Rattle.dym_slotlaw.specs.declared.slots.Slot.TheVariants.{Free, Live, OutOwner, OutSweeper}
@@ -178,3 +178,17 @@ HasEntry s n o = (x : Listed) × Contains o.list x × (x.entry.slot ≡ s) × (x
 -- the record of an entry of this slot and number
 abbrev pub IsBytesOf : ℕ → ℕ → OwnerSeat → List ℕ → Type 0
 IsBytesOf s n o bytes = (x : Listed) × Contains o.list x × (x.entry.slot ≡ s) × (x.entry.number ≡ n) × (x.bytes ≡ bytes)
+
+-- Several steps of the sweeper
+
+-- a root and counts that stay
+pub record SameRound (me after : Knowing) : Type 0 where
+  pub root : (sweeper_of after.0).root_seen ≡ (sweeper_of me.0).root_seen
+  pub rounds : (sweeper_of after.0).rounds ≡ (sweeper_of me.0).rounds
+
+-- the slot of the clean count is clean now, and its record was taken back or it wasn't retired
+pub record SweptSlot (taken : Bool) (me after : Knowing) : Type 0 where
+  pub idle : IsIdleSweeper after
+  pub same : SameRound me after
+  pub clean : (sweeper_of after.0).clean ≡ (sweeper_of me.0).clean + 1
+  pub count : (sweeper_of after.0).taken_back ≡ (sweeper_of me.0).taken_back + (if taken then 1 else 0)

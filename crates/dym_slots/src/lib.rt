@@ -7,7 +7,11 @@
 
 mod owner_steps;
 mod rule;
+mod sweeper;
+mod sweeper_steps;
+mod sweeping;
 mod view;
 
 pub use rule::{LogRule, LogSeat, LogTable, Slots};
+pub use sweeper::Sweeper;
 pub use view::{Glimpse, Listed, OwnerSeat, SeatView, SweeperSeat};
