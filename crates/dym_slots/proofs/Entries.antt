@@ -11,9 +11,7 @@ use Rattle.dym_slotlaw.specs.SlotSteps.{without, from_number}
 use Rattle.dym_slotlaw.specs.SlotFacts.{NumbersRise}
 use Rattle.dym_slots.specs.declared.view.Listed.{Listed}
 use Rattle.dym_slots.specs.Seats.{Naming, listed}
-
-abbrev pub entry_of : Listed → Entry
-entry_of x = x.entry
+use Rattle.dym_slots.specs.Orders.{entry_of}
 
 pub map_entries : (records : Naming) (es : List Entry) → map entry_of (map (listed records) es) ≡ es
 map_entries records [] = refl

@@ -7,3 +7,5 @@ pub mod Opening
 pub mod Stepping
 pub mod SweeperSays
 pub mod Rounds
+pub mod Rising
+pub mod Places

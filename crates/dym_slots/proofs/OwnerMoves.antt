@@ -28,9 +28,10 @@ use Rattle.dym_slots.specs.declared.view.SeatView.{SeatView}
 use Rattle.dym_slots.specs.declared.view.SeatView.TheVariants.{Owns, Sweeps}
 use Rattle.dym_slots.specs.Seats.{Naming, listed, owner_seat, glimpse, glimpse_of, owner_of, IsOwner, past, looked, holding, with_put, lowered, with_freed, with_raised}
 use Rattle.dym_slots.specs.Shown.{Held, Knowing, TableState, words_of, Sound, Holds}
+use Rattle.dym_slots.specs.Orders.{entry_of}
 use Rattle.dym_slots.specs.Moves.{IsIdleOwner, HasOut, LiveIsNumbered, OwnerLooked, IsKnownFree, Claimed, TookOwn, TookRetired, Won, Lost, IsUnlisted, WasPut, WasLowered, FreedNewest, Raised}
 use Rattle.dym_slots.proofs.Showing.{by_state, homes_by_state, words_set, word_at, homes_set, home_at, homes_agree, named}
-use Rattle.dym_slots.proofs.Entries.{entry_of, map_entries, parts, contains_entry, contains_listed, without_newest, from_raised}
+use Rattle.dym_slots.proofs.Entries.{map_entries, parts, contains_entry, contains_listed, without_newest, from_raised}
 use Rattle.dym_slots.proofs.Running.{OwnerIn, owner_in, owner_holds, noted, sound_after, live_numbered, live_below, past_forget, past_twice, look_of, wins, loses}
 
 -- what the seat's view says of the state behind it

@@ -3,3 +3,5 @@ pub mod Shown
 pub mod Moves
 pub mod Meanings
 pub mod Sweepers
+pub mod Orders
+pub mod Owners

@@ -5,6 +5,7 @@
 //! numbered records, whatever the sweeper does meanwhile, and each step of either on the table is one step of the machine.
 #![tactic(auto)]
 
+mod owner;
 mod owner_steps;
 mod rule;
 mod sweeper;
@@ -12,6 +13,7 @@ mod sweeper_steps;
 mod sweeping;
 mod view;
 
+pub use owner::Owner;
 pub use rule::{LogRule, LogSeat, LogTable, Slots};
 pub use sweeper::Sweeper;
 pub use view::{Glimpse, Listed, OwnerSeat, SeatView, SweeperSeat};
