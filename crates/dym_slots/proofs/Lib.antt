@@ -9,3 +9,4 @@ pub mod SweeperSays
 pub mod Rounds
 pub mod Rising
 pub mod Places
+pub mod OwnerSays

@@ -52,7 +52,7 @@ apart i j a b x y lt (inr (inr p)) (inr (inl q)) e = let s = p.1.1 in let t = q.
 apart i j a b x y lt (inr (inr p)) (inr (inr q)) e = let s = p.1.1 in let t = q.1.1 in omega arith
 
 -- two places of one slot are one place
-differ : (order : List Entry) → IsOrder order → (i j : ℕ) (d : Entry) → i < length order → j < length order → i ≢ j → (get_or order i d).slot ≢ (get_or order j d).slot
+pub differ : (order : List Entry) → IsOrder order → (i j : ℕ) (d : Entry) → i < length order → j < length order → i ≢ j → (get_or order i d).slot ≢ (get_or order j d).slot
 differ order o i j d a b n e = elim (cases_lt i j) [
   | inl lt ↦ o.differ i j d lt b e
   | inr ge ↦ elim (cases_lt j i) [

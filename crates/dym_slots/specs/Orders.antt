@@ -1,11 +1,12 @@
 -- How the owner keeps the slots of its table: those of its list first, oldest first, and then the others.
-use Rattle.std.specs.Prelude.{◌≡◌, ◌≢◌, ℕ, ◌+◌, ◌<◌, ◌≤◌, List, [], ◌∷◌, map, take, length, slice_index_or, All, AllPairs}
+use Rattle.std.specs.Prelude.{◌≡◌, ◌≢◌, ℕ, ◌+◌, ◌<◌, ◌≤◌, List, [], ◌∷◌, ◌++◌, map, take, length, slice_index_or, All, AllPairs}
 use Rattle.dym_base.specs.declared.limits.TheConstants.{LOG_SLOTS, RECORD_ROOM}
 use Rattle.dym_slotlaw.specs.declared.slots.Entry.{Entry}
 use Rattle.dym_slotlaw.specs.declared.slots.TheConstants.{RECORD_NUMBERS}
 use Rattle.dym_slots.specs.declared.view.Listed.{Listed}
 use Rattle.dym_slots.specs.Seats.{owner_of, IsOwner}
 use Rattle.dym_slots.specs.Shown.{Knowing}
+use Rattle.dym_slots.specs.Moves.{IsIdleOwner}
 use Rattle.dym_slots.specs.Meanings.{Numbered, NumbersRise}
 
 -- each slot of the table stands once in the order
@@ -37,3 +38,18 @@ pub record Stands (order : List Entry) (len made : ℕ) (me : Knowing) : Type 0 
   pub most : made ≤ RECORD_NUMBERS
   pub rise : NumbersRise (map numbered (owner_of me.0).list) made
   pub remembered : (owner_of me.0).remembered ≡ []
+
+-- an owner with no slot out, whose next number and remembered slots are as before, and whose list is this one
+pub record HasLeft (list : List Listed) (me after : Knowing) : Type 0 where
+  pub idle : IsIdleOwner after
+  pub list_is : (owner_of after.0).list ≡ list
+  pub next : (owner_of after.0).next ≡ (owner_of me.0).next
+  pub remembered : (owner_of after.0).remembered ≡ (owner_of me.0).remembered
+
+-- the newest entry of a list that has an older one
+pub record IsNewest (e : Entry) (list : List Listed) : Type 0 where
+  pub older : List Listed
+  pub newest : Listed
+  pub list_is : list ≡ older ++ newest ∷ []
+  pub entry_is : newest.entry ≡ e
+  pub some_older : 0 < length older

@@ -5,6 +5,7 @@
 //! numbered records, whatever the sweeper does meanwhile, and each step of either on the table is one step of the machine.
 #![tactic(auto)]
 
+mod keeping;
 mod owner;
 mod owner_steps;
 mod rule;
