@@ -1,0 +1,12 @@
+pub mod Showing
+pub mod Entries
+pub mod Running
+pub mod OwnerMoves
+pub mod SweeperMoves
+pub mod Opening
+pub mod Stepping
+pub mod SweeperSays
+pub mod Rounds
+pub mod Rising
+pub mod Places
+pub mod OwnerSays

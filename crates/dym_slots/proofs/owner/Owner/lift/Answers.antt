@@ -1,0 +1,35 @@
+use Rattle.std.proofs.Common.{ap, ◌∙◌, sym, subst, arith, ◌≡◌, ◌<◌, ℕ}
+use Rattle.std.proofs.lemmas.List.{get_or_read}
+use Rattle.dym_slotlaw.specs.declared.slots.Entry.{Entry}
+use Rattle.dym_slotlaw.specs.declared.slots.TheConstants.{RECORD_NUMBERS}
+use Rattle.dym_slots.specs.Seats.{owner_of}
+use Rattle.dym_slots.specs.Moves.{HasEntry, IsBytesOf}
+use Rattle.dym_slots.specs.Meanings.{OwnerMeaning, record_at}
+use Rattle.dym_slots.specs.Orders.{no_entry}
+use Rattle.dym_slots.proofs.OwnerSays.{fits, count_of_records, has_entry, number_fits, in_list, bytes_here}
+use Rattle.dym_slots.proofs.owner.Owner.lift.Goals as goal
+
+pub take_out-rec-requires-clause-listed : goal.take_out-rec-requires-clause-listed
+take_out-rec-requires-clause-listed c =
+    let s = c.self.invariant.stands in
+    let lt = in_list _ _ _ c.args.place c.self.view_is (count_of_records _ _ _ _ s) c.requires.place in
+    let f = fits _ _ _ _ s in
+    let e = get_or_read c.self.inside.order.items c.args.place c.index.result.now (omega arith) c.index.ensures no_entry in
+    subst (λ (x : Entry). HasEntry x.slot x.number (owner_of c.self.inside.seat.me.0)) (sym e) (has_entry _ _ _ _ c.args.place s lt)
+
+pub take_out-rec-requires-clause-number : goal.take_out-rec-requires-clause-number
+take_out-rec-requires-clause-number c =
+    let s = c.self.invariant.stands in
+    let lt = in_list _ _ _ c.args.place c.self.view_is (count_of_records _ _ _ _ s) c.requires.place in
+    let f = fits _ _ _ _ s in
+    let e = get_or_read c.self.inside.order.items c.args.place c.index.result.now (omega arith) c.index.ensures no_entry in
+    subst (λ (x : Entry). x.number < RECORD_NUMBERS) (sym e) (number_fits _ _ _ _ c.args.place s lt)
+
+pub returns-clause-bytes : goal.returns-clause-bytes
+returns-clause-bytes c =
+    let s = c.self.invariant.stands in
+    let lt = in_list _ _ _ c.args.place c.self.view_is (count_of_records _ _ _ _ s) c.requires.place in
+    let f = fits _ _ _ _ s in
+    let e = get_or_read c.self.inside.order.items c.args.place c.index.result.now (omega arith) c.index.ensures no_entry in
+    let own = subst (λ (x : Entry). IsBytesOf x.slot x.number (owner_of c.self.inside.seat.me.0) c.take_out-rec.result) e c.take_out-rec.ensures.bytes in
+    bytes_here _ _ _ _ c.args.place _ _ s lt own ∙ ap (λ (m : OwnerMeaning). (record_at m.records c.args.place).bytes) c.self.view_is

@@ -1,0 +1,40 @@
+use Rattle.std.proofs.Common.{set, ◌+◌, ◌^◌, ap, ◌∙◌, sym, subst, arith, ◌≡◌, ◌≢◌, ◌<◌, ℕ}
+use Rattle.std.proofs.lemmas.List.{get_or_read}
+use Rattle.dym_slotlaw.specs.declared.slots.Entry.{Entry}
+use Rattle.dym_slotlaw.specs.declared.slots.TheConstants.{RECORD_NUMBERS}
+use Rattle.dym_slotlaw.specs.Slots.{entry}
+use Rattle.dym_slots.specs.Seats.{owner_of}
+use Rattle.dym_slots.specs.Shown.{Knowing}
+use Rattle.dym_slots.specs.Meanings.{OwnerMeaning}
+use Rattle.dym_slots.specs.Moves.{IsUnlisted}
+use Rattle.dym_slots.specs.Orders.{no_entry}
+use Rattle.dym_slots.proofs.OwnerSays.{fits, count_of_records, unlisted_here, put_after, put_room, sits_still, out_idle, idle_out, never_inside}
+use Rattle.dym_slots.proofs.owner.Owner.put.Goals as goal
+
+pub hold_spare-slot-requires-clause-room : goal.hold_spare-slot-requires-clause-room
+hold_spare-slot-requires-clause-room c = put_room _ _ _ c.self.view_is (count_of_records _ _ _ _ c.self.invariant.stands) c.requires.room
+
+pub put_into-requires-clause-unlisted : goal.put_into-requires-clause-unlisted
+put_into-requires-clause-unlisted c =
+    let h = c.hold_spare-slot.ensures in
+    subst (λ (s : ℕ). IsUnlisted s (owner_of c.hold_spare-slot.new.seat.me.0).list) (sym h.slot) (unlisted_here _ _ _ _ _ h.stands h.seized.same)
+
+pub invariant_of-self : goal.invariant_of-self
+invariant_of-self c =
+    let i = c.self.inside in
+    let inv = c.self.invariant in
+    let h = c.hold_spare-slot.ensures in
+    let order = c.hold_spare-slot.new.order.items in
+    let f = fits _ _ _ _ h.stands in
+    let quiet = ap (λ (m : OwnerMeaning). m.lifted) c.self.view_is ∙ c.requires.idle in
+    let left : i.made < RECORD_NUMBERS = let e = ap (λ (m : OwnerMeaning). m.made) c.self.view_is in let r = c.requires.made in omega arith in
+    let room = put_room _ _ _ c.self.view_is (count_of_records _ _ _ _ inv.stands) c.requires.room in
+    let e = get_or_read order i.len c.index_mut.result.now (omega arith) c.index_mut.ensures.value no_entry in
+    let items = ap (λ (s : ℕ). set order i.len (entry s i.made)) (ap (λ (x : Entry). x.slot) e) in
+    let now = c.put_into.ensures.after in
+    record {
+      seated = sits_still _ _ _ (c.put_into.ensures.table ∙ h.table) inv.seated;
+      stands = put_after order _ i.len i.made c.hold_spare-slot.result i.seat.me c.hold_spare-slot.new.seat.me _ c.args.rec h.stands h.seized.same room left h.slot items now;
+      inside = never_inside i.lifted (i.len + 1) quiet;
+      out = idle_out _ i.lifted _ quiet (ap (λ (m : Knowing). (owner_of m.0).out) now) (ap (λ (m : Knowing). m.1) now);
+    }

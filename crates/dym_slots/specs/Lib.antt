@@ -1,0 +1,7 @@
+pub mod Seats
+pub mod Shown
+pub mod Moves
+pub mod Meanings
+pub mod Sweepers
+pub mod Orders
+pub mod Owners

@@ -1,0 +1,55 @@
+-- How the owner keeps the slots of its table: those of its list first, oldest first, and then the others.
+use Rattle.std.specs.Prelude.{◌≡◌, ◌≢◌, ℕ, ◌+◌, ◌<◌, ◌≤◌, List, [], ◌∷◌, ◌++◌, map, take, length, slice_index_or, All, AllPairs}
+use Rattle.dym_base.specs.declared.limits.TheConstants.{LOG_SLOTS, RECORD_ROOM}
+use Rattle.dym_slotlaw.specs.declared.slots.Entry.{Entry}
+use Rattle.dym_slotlaw.specs.declared.slots.TheConstants.{RECORD_NUMBERS}
+use Rattle.dym_slots.specs.declared.view.Listed.{Listed}
+use Rattle.dym_slots.specs.Seats.{owner_of, IsOwner}
+use Rattle.dym_slots.specs.Shown.{Knowing}
+use Rattle.dym_slots.specs.Moves.{IsIdleOwner}
+use Rattle.dym_slots.specs.Meanings.{Numbered, NumbersRise}
+
+-- each slot of the table stands once in the order
+pub record IsOrder (order : List Entry) : Type 0 where
+  pub size : length order ≡ LOG_SLOTS
+  pub inside : All (λ e. e.slot < LOG_SLOTS) order
+  pub differ : AllPairs (λ a b. a.slot ≢ b.slot) order
+
+-- what stands at a place past the end
+abbrev pub no_entry : Entry
+no_entry = record { slot = 0; number = 0 }
+
+abbrev pub slot_at : List Entry → ℕ → ℕ
+slot_at order place = (slice_index_or order place no_entry).slot
+
+abbrev pub numbered : Listed → Numbered
+numbered x = record { number = x.entry.number; bytes = x.bytes }
+
+abbrev pub entry_of : Listed → Entry
+entry_of x = x.entry
+
+-- the order, the length of the list and the next number say what the owner's seat knows
+pub record Stands (order : List Entry) (len made : ℕ) (me : Knowing) : Type 0 where
+  pub seat : IsOwner me.0
+  pub order_is : IsOrder order
+  pub list : map entry_of (owner_of me.0).list ≡ take len order
+  pub few : len ≤ RECORD_ROOM
+  pub next : (owner_of me.0).next ≡ made
+  pub most : made ≤ RECORD_NUMBERS
+  pub rise : NumbersRise (map numbered (owner_of me.0).list) made
+  pub remembered : (owner_of me.0).remembered ≡ []
+
+-- an owner with no slot out, whose next number and remembered slots are as before, and whose list is this one
+pub record HasLeft (list : List Listed) (me after : Knowing) : Type 0 where
+  pub idle : IsIdleOwner after
+  pub list_is : (owner_of after.0).list ≡ list
+  pub next : (owner_of after.0).next ≡ (owner_of me.0).next
+  pub remembered : (owner_of after.0).remembered ≡ (owner_of me.0).remembered
+
+-- the newest entry of a list that has an older one
+pub record IsNewest (e : Entry) (list : List Listed) : Type 0 where
+  pub older : List Listed
+  pub newest : Listed
+  pub list_is : list ≡ older ++ newest ∷ []
+  pub entry_is : newest.entry ≡ e
+  pub some_older : 0 < length older
