@@ -1,0 +1,56 @@
+-- A new table keeps the rule, and so does one whose second seat was made.
+use Rattle.std.proofs.Common.{◌≡◌, ◌≢◌, ℕ, zero, suc, ◌+◌, ◌<◌, ◌≤◌, inl, inr, List, [], ◌∷◌, ◌++◌, map, length, replicate, set, sym, refl, ap, ◌∙◌, subst, arith, Option, Some, None}
+use Rattle.std.specs.Prelude.{zip}
+use Rattle.std.proofs.lemmas.List.{length-replicate}
+use mathlib.Core.Option as M
+use mathlib.Core.Option.{some, none, some-injective, some-ne-none}
+use lib.ListN.{get_elem?}
+use Rattle.atomic_table.specs.Table.{opening, Splits}
+use Rattle.dym_slotlaw.specs.declared.slots.Slot.{Slot}
+use Rattle.dym_slotlaw.specs.declared.slots.Slot.TheVariants.{Free}
+use Rattle.dym_slotlaw.specs.SlotWords.{slot_word}
+use Rattle.dym_slotlaw.specs.SlotNotes.{noted_start}
+use Rattle.dym_slotlaw.proofs.Steps.{start_meets}
+use Rattle.dym_slotlaw.proofs.Notes.{start_stands}
+use Rattle.dym_slots.specs.declared.view.SeatView.{SeatView}
+use Rattle.dym_slots.specs.declared.view.SeatView.TheVariants.{Alone, Owns, Sweeps}
+use Rattle.dym_slots.specs.declared.view.OwnerSeat.{OwnerSeat}
+use Rattle.dym_slots.specs.declared.view.SweeperSeat.{SweeperSeat}
+use Rattle.dym_slots.specs.Seats.{new_owner, new_sweeper}
+use Rattle.dym_slots.specs.Shown.{Held, TableState, home_shown, Holds, IsNew, Runs}
+
+words_new : (count : ℕ) → replicate count 0 ≡ map slot_word (replicate count Free)
+words_new zero = refl
+words_new (suc count) = ap (λ (l : List ℕ). 0 ∷ l) (words_new count)
+
+homes_new : (count : ℕ) → map some (replicate count None) ≡ map (λ (p : Slot × Option ℕ). home_shown (λ n. []) p.0 p.1) (zip (replicate count Free) (replicate count None))
+homes_new zero = refl
+homes_new (suc count) = ap (λ (l : List (M.Option Held)). some None ∷ l) (homes_new count)
+
+pub begins : (count : ℕ) → Holds count (opening (replicate (count + 1) 0) (replicate count None) Alone)
+begins count = inl (record {
+  words = (let up : count + 1 ≡ suc count = omega arith in rw up (ap (λ (l : List ℕ). 0 ∷ l) (words_new count)));
+  homes = homes_new count;
+  views = refl;
+})
+
+alone_id : (id : ℕ) → get_elem? (Alone ∷ []) id ≡ some Alone → id ≡ 0
+alone_id zero e = refl
+alone_id (suc i) e = absurd (some-ne-none Alone (sym e))
+
+no_alone : (o : OwnerSeat) (w : SweeperSeat) (id : ℕ) → get_elem? (Owns o ∷ Sweeps w ∷ []) id ≡ some Alone → ⊥
+no_alone o w zero e = let same : Owns o ≡ Alone = some-injective (Owns o) Alone e in cc
+no_alone o w (suc zero) e = let same : Sweeps w ≡ Alone = some-injective (Sweeps w) Alone e in cc
+no_alone o w (suc (suc i)) e = some-ne-none Alone (sym e)
+
+pub splits : (count id : ℕ) (v : SeatView) → v ≡ Alone → Splits (Holds count) id v (Owns new_owner) (Sweeps new_sweeper)
+splits count id v alone st (inl new) at =
+    let first = alone_id id (ap (λ (l : List SeatView). get_elem? l id) (sym new.views) ∙ at ∙ ap some alone) in
+    inr (
+      noted_start count,
+      (λ n. []),
+      record { words = new.words; homes = new.homes; views = λ k. set (new.views k) (first k) (Owns new_owner) ++ Sweeps new_sweeper ∷ [] },
+      record { count_is = length-replicate count Free; numbered = omega arith; facts = start_meets count; notes = start_stands count },
+    )
+splits count id v alone st (inr (a, records, shows, sound)) at =
+    absurd (no_alone _ _ id (ap (λ (l : List SeatView). get_elem? l id) (sym shows.views) ∙ at ∙ ap some alone))

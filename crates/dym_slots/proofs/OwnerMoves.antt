@@ -1,0 +1,509 @@
+-- Each step of the owner on a table is a step of the machine.
+use Rattle.std.proofs.Common.{◌≡◌, ◌≢◌, ℕ, zero, suc, ◌+◌, ◌*◌, ◌<◌, ◌≤◌, ◌⊎◌, inl, inr, Bool, true, false, nat_eq, List, [], ◌∷◌, ◌++◌, map, length, get_or, set, sym, refl, ap, ◌∙◌, subst, arith, Option, Some, None}
+use Rattle.std.specs.Prelude.{slice_index, slice_set, if◌then◌else◌, ◌==◌, option_map}
+use Rattle.std.specs.List.{All, Contains}
+use Rattle.std.proofs.lemmas.List.{set-get_or, get_or-set_same, length-map, length-append, map-append, length-set}
+use Rattle.std.proofs.lemmas.List.Elements.{All-head, All-tail, Contains-push, Contains-append_left, Contains-append_right, Contains-get_or}
+use Rattle.std.proofs.lemmas.Bool.Decides.{nat_tests}
+use mathlib.Core.Option as M
+use mathlib.Core.Option.{some, none}
+use prog.Atomic.{either}
+use lib.ListN.{get_elem?}
+use Rattle.atomic_table.specs.Table.{Act, keeps, takes, gives, put_back, rest, stepped, Allows}
+use Rattle.dym_base.specs.declared.limits.TheConstants.{RECORD_ROOM}
+use Rattle.dym_slotlaw.specs.declared.slots.Slot.{Slot}
+use Rattle.dym_slotlaw.specs.declared.slots.Slot.TheVariants.{Free, Live, OutOwner, OutSweeper}
+use Rattle.dym_slotlaw.specs.declared.slots.Entry.{Entry}
+use Rattle.dym_slotlaw.specs.declared.slots.TheConstants.{RECORD_NUMBERS}
+use Rattle.dym_slotlaw.specs.declared.slots.Event.TheVariants.{OwnerLook, OwnerClaim, OwnerTake, OwnerEmpty, OwnerFill, OwnerPut, OwnerLower, OwnerFree, OwnerRaise}
+use Rattle.dym_slotlaw.specs.SlotWords.{slot_word}
+use Rattle.dym_slotlaw.specs.Slots.{Core, OwnerView, state_of, home_of, entry, IsEntry, IsListed}
+use Rattle.dym_slotlaw.specs.SlotSteps.{OwnerLooks, OwnerClaims, OwnerTakes, OwnerEmpties, OwnerFills, OwnerPuts, OwnerLowers, OwnerFrees, OwnerRaises, remember, without, from_number, IsNewestOfTwo}
+use Rattle.dym_slotlaw.specs.SlotFacts.{Facts, IsSwept, IsReused}
+use Rattle.dym_slotlaw.specs.SlotNotes.{Noted, OwnerNote, forget}
+use Rattle.dym_slots.specs.declared.view.Listed.{Listed}
+use Rattle.dym_slots.specs.declared.view.Glimpse.{Glimpse}
+use Rattle.dym_slots.specs.declared.view.OwnerSeat.{OwnerSeat}
+use Rattle.dym_slots.specs.declared.view.SeatView.{SeatView}
+use Rattle.dym_slots.specs.declared.view.SeatView.TheVariants.{Owns, Sweeps}
+use Rattle.dym_slots.specs.Seats.{Naming, listed, owner_seat, glimpse, glimpse_of, owner_of, IsOwner, past, looked, holding, with_put, lowered, with_freed, with_raised}
+use Rattle.dym_slots.specs.Shown.{Held, Knowing, TableState, words_of, Sound, Holds}
+use Rattle.dym_slots.specs.Moves.{IsIdleOwner, HasOut, LiveIsNumbered, OwnerLooked, IsKnownFree, Claimed, TookOwn, TookRetired, Won, Lost, IsUnlisted, WasPut, WasLowered, FreedNewest, Raised}
+use Rattle.dym_slots.proofs.Showing.{by_state, homes_by_state, words_set, word_at, homes_set, home_at, homes_agree, named}
+use Rattle.dym_slots.proofs.Entries.{entry_of, map_entries, parts, contains_entry, contains_listed, without_newest, from_raised}
+use Rattle.dym_slots.proofs.Running.{OwnerIn, owner_in, owner_holds, noted, sound_after, live_numbered, live_below, past_forget, past_twice, look_of, wins, loses}
+
+-- what the seat's view says of the state behind it
+
+out_of : (count : ℕ) (st : TableState) (id : ℕ) (o : OwnerSeat) (i : OwnerIn count st id o) → i.state.core.owner.out ≡ o.out
+out_of count st id o i = ap (λ (v : OwnerSeat). v.out) i.seat
+
+next_of : (count : ℕ) (st : TableState) (id : ℕ) (o : OwnerSeat) (i : OwnerIn count st id o) → i.state.core.owner.next ≡ o.next
+next_of count st id o i = ap (λ (v : OwnerSeat). v.next) i.seat
+
+list_of : (count : ℕ) (st : TableState) (id : ℕ) (o : OwnerSeat) (i : OwnerIn count st id o) → map (listed i.records) i.state.core.owner.list ≡ o.list
+list_of count st id o i = ap (λ (v : OwnerSeat). v.list) i.seat
+
+-- an entry of the seat's list is one of the machine's, under its own record
+entry_in : (count : ℕ) (st : TableState) (id : ℕ) (o : OwnerSeat) (i : OwnerIn count st id o) (x : Listed) → Contains o.list x
+    → IsEntry i.state.core x.entry.slot x.entry.number × (i.records x.entry.number ≡ x.bytes)
+entry_in count st id o i x has = contains_entry i.records i.state.core.owner.list x (subst (λ (l : List Listed). Contains l x) (sym (list_of count st id o i)) has)
+
+-- Looks
+
+own_look : (count : ℕ) (st : TableState) (id : ℕ) (me : Knowing) (s : ℕ) (i : OwnerIn count st id (owner_of me.0)) → s < count
+    → (k : ℕ) → k ≡ slice_index st.words (s + 1)
+    → Holds count (stepped st (s + 1) k id me.1 (Owns (looked s (state_of i.state.core s) (owner_of me.0))) keeps)
+own_look count st id me s i inside k is =
+    let a = i.state in
+    let c = a.core in
+    let x = state_of c s in
+    let d : Core = record c { owner = record c.owner { remembered = remember x s c.owner.remembered } } in
+    let h : OwnerLooks s c d = record { exists = (let n = i.sound.count_is in omega arith); after = refl } in
+    owner_holds count st id (owner_of me.0) i (noted (OwnerLook s) a d) i.records (set st.words (s + 1) k) st.homes (looked s x (owner_of me.0))
+        (sound_after count (OwnerLook s) a d h i.sound.numbered i.sound)
+        (ap (set st.words (s + 1)) is ∙ set-get_or st.words (s + 1) 0 ∙ i.shows.words)
+        (i.shows.homes ∙ homes_by_state i.records c i.sound.facts)
+        (ap (looked s x) i.seat)
+        refl
+
+pub looks : (count slots id : ℕ) (me : Knowing) (s : ℕ) → IsOwner me.0 → s < count → Allows (Holds count) slots id me (s + 1) (λ k. k) (OwnerLooked (s + 1) me)
+looks count slots id me s owner inside st holds len at fits =
+    let o = owner_of me.0 in
+    let i = owner_in count st id o holds (at ∙ ap some owner) in
+    let c = i.state.core in
+    let x = state_of c s in (
+      Owns (looked s x o),
+      keeps,
+      tt,
+      own_look count st id me s i inside (slice_index st.words (s + 1)) refl,
+      record {
+        slot = s;
+        state = x;
+        at = refl;
+        shown = word_at st.words c.root c.slots s i.shows.words;
+        numbered = live_numbered count i.state i.sound s;
+        own = λ m out. sym (out_of count st id o i) ∙ i.sound.facts.owner.held s m out;
+        after_is = refl;
+      },
+    )
+
+-- Claims
+
+held_view : (records : Naming) (v : OwnerView) (note : OwnerNote) (s : ℕ) → owner_seat records (record v { out = Some s }) (forget s note) ≡ holding s (owner_seat records v note)
+held_view records v note s j = record { list = map (listed records) v.list; next = v.next; out = Some s; remembered = v.remembered; look = past_forget s note j }
+
+known_free : (count : ℕ) (st : TableState) (id : ℕ) (o : OwnerSeat) (i : OwnerIn count st id o) (s : ℕ) → o.out ≡ None → IsKnownFree s o → state_of i.state.core s ≡ Free
+known_free count st id o i s quiet (inl look) =
+    i.sound.notes.look.free s (look_of i.state.owner s Free (ap (λ (v : OwnerSeat). v.look) i.seat ∙ look))
+known_free count st id o i s quiet (inr (t, two)) =
+    let c = i.state.core in
+    let is : c.owner.remembered ≡ s ∷ t ∷ [] = ap (λ (v : OwnerSeat). v.remembered) i.seat ∙ two in
+    let has : Contains c.owner.remembered s = subst (λ (l : List ℕ). Contains l s) (sym is) (0, omega arith, refl) in
+    let lives : 1 < length c.owner.remembered = (let n = ap length is in omega arith) in
+    let past_one : ¬ IsSwept c s = subst (λ (l : List ℕ). ¬ IsSwept c (get_or l 0 0)) is (i.sound.facts.remembered.only_last 0 1 0 (omega arith) lives) in
+    elim (i.sound.facts.remembered.state s has) [
+      | inl swept ↦ absurd (past_one swept)
+      | inr (inl free) ↦ free
+      | inr (inr reused) ↦ absurd (let wrong : None ≡ Some s = sym quiet ∙ sym (out_of count st id o i) ∙ reused.0 in cc)
+    ]
+
+pub claims : (count slots id : ℕ) (me : Knowing) (s num : ℕ) → IsIdleOwner me → IsKnownFree s (owner_of me.0) → s < count → num ≡ (owner_of me.0).next → num < RECORD_NUMBERS
+    → Allows (Holds count) slots id me (s + 1) (λ k. either (k == 0) (4 * num + 2) k) (λ _ after. Claimed (s + 1) me after)
+claims count slots id me s num idle known inside number fits_number st holds len at fits =
+    let o = owner_of me.0 in
+    let i = owner_in count st id o holds (at ∙ ap some idle.seat) in
+    let a = i.state in
+    let c = a.core in
+    let k = slice_index st.words (s + 1) in
+    let is_next : num ≡ c.owner.next = number ∙ sym (next_of count st id o i) in
+    let free = known_free count st id o i s idle.none known in
+    let d : Core = record c { slots = slice_set c.slots s (OutOwner c.owner.next); owner = record c.owner { out = Some s } } in
+    let h : OwnerClaims s c d = record {
+          exists = (let n = i.sound.count_is in omega arith);
+          idle = out_of count st id o i ∙ idle.none;
+          free = free;
+          numbers_left = subst (λ (n : ℕ). n < RECORD_NUMBERS) is_next fits_number;
+          after = refl;
+        } in
+    let word : k ≡ 0 = word_at st.words c.root c.slots s i.shows.words ∙ ap slot_word free in
+    let won : either (k == 0) (4 * num + 2) k ≡ slot_word (OutOwner c.owner.next) = wins k 0 (4 * num + 2) word ∙ ap (λ (n : ℕ). 4 * n + 2) is_next in
+    let homes = i.shows.homes ∙ homes_by_state i.records c i.sound.facts in (
+      Owns (holding s o),
+      takes s None,
+      home_at i.records st.homes c.slots s homes (let n = i.sound.count_is in omega arith) ∙ ap (λ (x : Slot). some (by_state i.records x)) free,
+      owner_holds count st id o i (noted (OwnerClaim s) a d) i.records (set st.words (s + 1) (either (k == 0) (4 * num + 2) k)) (set st.homes s none) (holding s o)
+          (sound_after count (OwnerClaim s) a d h i.sound.numbered i.sound)
+          (ap (set st.words (s + 1)) won ∙ words_set st.words c.root c.slots s (OutOwner c.owner.next) i.shows.words)
+          (homes_set i.records st.homes c.slots s (OutOwner c.owner.next) homes)
+          (held_view i.records c.owner a.owner s ∙ ap (holding s) i.seat)
+          refl,
+      record { slot = s; at = refl; after_is = refl },
+    )
+
+-- Takes
+
+-- the step of a take of the slot s, which is Live
+taken : (count : ℕ) (st : TableState) (id : ℕ) (me : Knowing) (s m : ℕ) (i : OwnerIn count st id (owner_of me.0)) → (owner_of me.0).out ≡ None
+    → state_of i.state.core s ≡ Live m → s < count → (word : ℕ) → word ≡ slot_word (OutOwner m)
+    → Holds count (stepped st (s + 1) word id me.1 (Owns (holding s (owner_of me.0))) (takes s (Some (i.records m))))
+taken count st id me s m i quiet live inside word is =
+    let o = owner_of me.0 in
+    let a = i.state in
+    let c = a.core in
+    let d : Core = record c { slots = slice_set c.slots s (OutOwner m); owner = record c.owner { out = Some s } } in
+    let h : OwnerTakes s c d = record { idle = out_of count st id o i ∙ quiet; number = m; live = live; after = refl } in
+    owner_holds count st id o i (noted (OwnerTake s) a d) i.records (set st.words (s + 1) word) (set st.homes s none) (holding s o)
+        (sound_after count (OwnerTake s) a d h i.sound.numbered i.sound)
+        (ap (set st.words (s + 1)) is ∙ words_set st.words c.root c.slots s (OutOwner m) i.shows.words)
+        (homes_set i.records st.homes c.slots s (OutOwner m) (i.shows.homes ∙ homes_by_state i.records c i.sound.facts))
+        (held_view i.records c.owner a.owner s ∙ ap (holding s) i.seat)
+        refl
+
+live_home : (count : ℕ) (st : TableState) (id : ℕ) (o : OwnerSeat) (i : OwnerIn count st id o) (s m : ℕ) → state_of i.state.core s ≡ Live m → s < count
+    → get_elem? st.homes s ≡ some (some (Some (i.records m)))
+live_home count st id o i s m live inside =
+    home_at i.records st.homes i.state.core.slots s (i.shows.homes ∙ homes_by_state i.records i.state.core i.sound.facts) (let n = i.sound.count_is in omega arith)
+    ∙ ap (λ (x : Slot). some (by_state i.records x)) live
+
+pub takes_own : (count slots id : ℕ) (me : Knowing) (x : Listed) → IsIdleOwner me → Contains (owner_of me.0).list x → x.entry.slot < count
+    → Allows (Holds count) slots id me (x.entry.slot + 1) (λ k. either (k == 4 * x.entry.number + 1) (4 * x.entry.number + 2) k) (λ _ after. TookOwn (x.entry.slot + 1) (4 * x.entry.number + 1) me after)
+takes_own count slots id me x idle has inside st holds len at fits =
+    let o = owner_of me.0 in
+    let s = x.entry.slot in
+    let n = x.entry.number in
+    let i = owner_in count st id o holds (at ∙ ap some idle.seat) in
+    let c = i.state.core in
+    let k = slice_index st.words (s + 1) in
+    let e = entry_in count st id o i x has in
+    let live : state_of c s ≡ Live n = elim (i.sound.facts.entries s n e.0) [
+        | inl l ↦ l
+        | inr out ↦ absurd (let wrong : None ≡ Some s = sym idle.none ∙ sym (out_of count st id o i) ∙ out.1 in cc)
+      ] in
+    let word : k ≡ 4 * n + 1 = word_at st.words c.root c.slots s i.shows.words ∙ ap slot_word live in (
+      Owns (holding s o),
+      takes s (Some (i.records n)),
+      live_home count st id o i s n live inside,
+      taken count st id me s n i idle.none live inside (either (k == 4 * n + 1) (4 * n + 2) k) (wins k (4 * n + 1) (4 * n + 2) word),
+      record { found = x; there = has; at = refl; number = refl; after_is = ap (λ (b : List ℕ). (Owns (holding s o), (s, Some b) ∷ me.1)) e.1 },
+    )
+
+pub apart : (x y : Slot) → slot_word x ≡ slot_word y → x ≡ y
+apart Free Free e = refl
+apart Free (Live n) e = absurd (omega arith)
+apart Free (OutOwner n) e = absurd (omega arith)
+apart Free (OutSweeper n) e = absurd (omega arith)
+apart (Live m) Free e = absurd (omega arith)
+apart (Live m) (Live n) e = ap Live (omega arith)
+apart (Live m) (OutOwner n) e = absurd (omega arith)
+apart (Live m) (OutSweeper n) e = absurd (omega arith)
+apart (OutOwner m) Free e = absurd (omega arith)
+apart (OutOwner m) (Live n) e = absurd (omega arith)
+apart (OutOwner m) (OutOwner n) e = ap OutOwner (omega arith)
+apart (OutOwner m) (OutSweeper n) e = absurd (omega arith)
+apart (OutSweeper m) Free e = absurd (omega arith)
+apart (OutSweeper m) (Live n) e = absurd (omega arith)
+apart (OutSweeper m) (OutOwner n) e = absurd (omega arith)
+apart (OutSweeper m) (OutSweeper n) e = ap OutSweeper (omega arith)
+
+pub takes_retired : (count slots id : ℕ) (me : Knowing) (s n : ℕ) → IsIdleOwner me → (owner_of me.0).look ≡ Some (glimpse s (Live n)) → s < count
+    → Allows (Holds count) slots id me (s + 1) (λ k. either (k == 4 * n + 1) (4 * n + 2) k) (TookRetired (s + 1) me)
+takes_retired count slots id me s n idle look inside st holds len at fits =
+    let o = owner_of me.0 in
+    let i = owner_in count st id o holds (at ∙ ap some idle.seat) in
+    let c = i.state.core in
+    let x = state_of c s in
+    let k = slice_index st.words (s + 1) in
+    let shown : k ≡ slot_word x = word_at st.words c.root c.slots s i.shows.words in
+    let note = look_of i.state.owner s (Live n) (ap (λ (v : OwnerSeat). v.look) i.seat ∙ look) in
+    let lost : ((x ≡ Free) ⊎ ((m : ℕ) × (x ≡ OutSweeper m))) → x ≢ Live n → (w : SeatView) × (act : Act Held) × Rattle.atomic_table.specs.Table.Valid st.homes me.1 act × Holds count (stepped st (s + 1) (either (k == 4 * n + 1) (4 * n + 2) k) id me.1 w act) × TookRetired (s + 1) me k (w, Rattle.atomic_table.specs.Table.carried_after me.1 act)
+      = λ found other. (
+          Owns (looked s x o),
+          keeps,
+          tt,
+          own_look count st id me s i inside (either (k == 4 * n + 1) (4 * n + 2) k) (loses k (4 * n + 1) (4 * n + 2) (λ e. other (apart x (Live n) (sym shown ∙ e)))),
+          record { slot = s; state = x; at = refl; shown = shown; outcome = inr (found, refl) },
+        ) in
+    elim (i.sound.notes.look.live s n note) [
+      | inl live ↦ (
+          Owns (holding s o),
+          takes s (Some (i.records n)),
+          live_home count st id o i s n live inside,
+          taken count st id me s n i idle.none live inside (either (k == 4 * n + 1) (4 * n + 2) k) (wins k (4 * n + 1) (4 * n + 2) (shown ∙ ap slot_word live)),
+          record { slot = s; state = x; at = refl; shown = shown; outcome = inl (n, i.records n, live, refl) },
+        )
+      | inr (inl swept) ↦ lost (inr (n, swept)) (λ e. let wrong : Live n ≡ OutSweeper n = sym e ∙ swept in cc)
+      | inr (inr free) ↦ lost (inl free) (λ e. let wrong : Live n ≡ Free = sym e ∙ free in cc)
+    ]
+
+-- Puts
+
+-- the number of a slot that the owner has out, and that is in no entry, is in no entry either
+unlisted : (count : ℕ) (st : TableState) (id : ℕ) (o : OwnerSeat) (i : OwnerIn count st id o) (s m : ℕ) → state_of i.state.core s ≡ OutOwner m
+    → IsUnlisted s o.list → ¬ IsListed i.state.core m
+unlisted count st id o i s m out alone (t, e) =
+    let c = i.state.core in
+    elim (i.sound.facts.owner.number s m out) [
+      | inl own ↦
+          let has = contains_listed i.records c.owner.list (entry s m) own in
+          alone (listed i.records (entry s m)) (subst (λ (l : List Listed). Contains l (listed i.records (entry s m))) (list_of count st id o i) has) refl
+      | inr (inl lt) ↦ let le = i.sound.facts.list.from_root t m e in omega arith
+      | inr (inr is) ↦ let lt = i.sound.facts.list.below_next t m e in omega arith
+    ]
+
+named_here : (records : Naming) (n : ℕ) (bytes : List ℕ) → named records n bytes n ≡ bytes
+named_here records n bytes = let hit : nat_eq n n ≡ true = grind (arith, nat_tests) in rw hit refl
+
+named_else : (records : Naming) (n m : ℕ) (bytes : List ℕ) → m < n → records m ≡ named records n bytes m
+named_else records n m bytes lt = let miss : nat_eq m n ≡ false = grind (arith, nat_tests) in rw miss refl
+
+-- a list of entries below a number shows the same with that record named anew
+listed_agree : (records : Naming) (n : ℕ) (bytes : List ℕ) (es : List Entry) → All (λ e. e.number < n) es
+    → map (listed (named records n bytes)) es ≡ map (listed records) es
+listed_agree records n bytes [] all = refl
+listed_agree records n bytes (e ∷ es) all =
+    let here = named_else records n e.number bytes (All-head (λ (x : Entry). x.number < n) e es all) in
+    let rest = listed_agree records n bytes es (All-tail (λ (x : Entry). x.number < n) e es all) in
+    λ j. record { entry = e; bytes = sym here j } ∷ rest j
+
+all_below : (c : Core) → Facts c → All (λ e. e.number < c.owner.next) c.owner.list
+all_below c f k d lt =
+    let e = get_or c.owner.list k d in
+    f.list.below_next e.slot e.number (Contains-get_or c.owner.list k d lt)
+
+put_list : (records : Naming) (c : Core) (s : ℕ) (bytes : List ℕ) → Facts c
+    → map (listed (named records c.owner.next bytes)) (c.owner.list ++ entry s c.owner.next ∷ []) ≡ map (listed records) c.owner.list ++ record { entry = entry s c.owner.next; bytes = bytes } ∷ []
+put_list records c s bytes f =
+    let n = c.owner.next in
+    let old = listed_agree records n bytes c.owner.list (all_below c f) in
+    let new = named_here records n bytes in
+    map-append (listed (named records n bytes)) c.owner.list (entry s n ∷ [])
+    ∙ (λ j. old j ++ record { entry = entry s n; bytes = new j } ∷ [])
+
+put_view : (records : Naming) (c : Core) (note : OwnerNote) (s : ℕ) (bytes : List ℕ) → Facts c
+    → owner_seat (named records c.owner.next bytes) (record { list = c.owner.list ++ entry s c.owner.next ∷ []; next = c.owner.next + 1; out = None; remembered = [] }) (forget s (forget s note))
+        ≡ with_put s bytes (owner_seat records c.owner note)
+put_view records c note s bytes f =
+    let list = put_list records c s bytes f in
+    let look = past_forget s (forget s note) ∙ ap (past s) (past_forget s note) ∙ past_twice s (option_map glimpse_of note) in
+    λ j. record { list = list j; next = c.owner.next + 1; out = None; remembered = []; look = look j }
+
+up_one : (n top : ℕ) → n < top → n + 1 ≤ top
+up_one n top lt = omega arith
+
+-- the step of a put of these bytes into the slot s, which is out
+put_holds : (count : ℕ) (st : TableState) (id : ℕ) (o : OwnerSeat) (i : OwnerIn count st id o) (s m : ℕ) (bytes : List ℕ) → o.out ≡ Some s
+    → state_of i.state.core s ≡ OutOwner m → ¬ IsListed i.state.core m → s < count → i.state.core.owner.next < RECORD_NUMBERS → length o.list < RECORD_ROOM
+    → (words : List ℕ) (homes : List (M.Option Held)) → words ≡ set st.words (s + 1) (slot_word (Live i.state.core.owner.next)) → homes ≡ set st.homes s (some (Some bytes))
+    → Holds count (record { words = words; homes = homes; views = set st.views id (Owns (with_put s bytes o)) })
+put_holds count st id o i s m bytes held out alone inside left room words homes w_is h_is =
+    let a = i.state in
+    let c = a.core in
+    let n = c.owner.next in
+    let records = named i.records n bytes in
+    let holds_it = out_of count st id o i ∙ held in
+    let d : Core = record c { homes = slice_set c.homes s (Some n) } in
+    let fills : OwnerFills s n c d = record { holds = holds_it; number = m; out = out; own = λ l. absurd (alone l); fresh = λ l. refl; after = refl } in
+    let b = noted (OwnerFill s n) a d in
+    let mid = sound_after count (OwnerFill s n) a d fills i.sound.numbered i.sound in
+    let short : length c.owner.list < RECORD_ROOM = (let k = length-map c.owner.list (listed i.records) in let j = ap length (list_of count st id o i) in omega arith) in
+    let e : Core = record d { slots = slice_set c.slots s (Live n); owner = record { list = c.owner.list ++ entry s n ∷ []; next = n + 1; out = None; remembered = [] } } in
+    let puts : OwnerPuts s d e = record {
+          holds = holds_it;
+          number = m;
+          out = out;
+          unlisted = alone;
+          at_home = get_or-set_same c.homes s (Some n) None (let k = i.sound.facts.homes in let j = i.sound.count_is in omega arith);
+          numbers_left = left;
+          room = short;
+          after = refl;
+        } in
+    let agree = homes_agree i.records records c.slots (λ t q live. named_else i.records n q bytes (live_below count a i.sound t q live)) in
+    let named_home : some (Some bytes) ≡ by_state records (Live n) = ap (λ (x : List ℕ). some (Some x)) (sym (named_here i.records n bytes)) in
+    owner_holds count st id o i (noted (OwnerPut s) b e) records words homes (with_put s bytes o)
+        (sound_after count (OwnerPut s) b e puts (up_one n RECORD_NUMBERS left) mid)
+        (w_is ∙ words_set st.words c.root c.slots s (Live n) i.shows.words)
+        (h_is ∙ ap (set st.homes s) named_home ∙ homes_set records st.homes c.slots s (Live n) (i.shows.homes ∙ homes_by_state i.records c i.sound.facts ∙ agree))
+        (put_view i.records c a.owner s bytes i.sound.facts ∙ ap (with_put s bytes) i.seat)
+        refl
+
+pub puts : (count slots id : ℕ) (me : Knowing) (s : ℕ) (bytes : List ℕ) (num : ℕ) → HasOut s (Some bytes) me → IsUnlisted s (owner_of me.0).list → s < count
+    → num ≡ (owner_of me.0).next → num < RECORD_NUMBERS → length (owner_of me.0).list < RECORD_ROOM
+    → Allows (Holds count) slots id me (s + 1) (λ _. 4 * num + 1) (λ _ after. WasPut (s + 1) me after)
+puts count slots id me s bytes num has alone inside number left room st holds len at fits =
+    let o = owner_of me.0 in
+    let i = owner_in count st id o holds (at ∙ ap some has.seat) in
+    let c = i.state.core in
+    let is_next : num ≡ c.owner.next = number ∙ sym (next_of count st id o i) in
+    let state = i.sound.facts.owner.out s (out_of count st id o i ∙ has.out) in (
+      Owns (with_put s bytes o),
+      gives,
+      tt,
+      put_holds count st id o i s state.0 bytes has.out state.1 (unlisted count st id o i s state.0 state.1 alone) inside
+          (subst (λ (n : ℕ). n < RECORD_NUMBERS) is_next left) room
+          (set st.words (s + 1) (4 * num + 1)) (put_back st.homes me.1)
+          (ap (λ (n : ℕ). set st.words (s + 1) (4 * n + 1)) is_next) (ap (put_back st.homes) has.held),
+      record { slot = s; bytes = bytes; at = refl; held = has.held; after_is = ap (λ (l : List (ℕ × Held)). (Owns (with_put s bytes o), rest l)) has.held },
+    )
+
+-- Lowers
+
+lowered_view : (records : Naming) (v : OwnerView) (note : OwnerNote) (s : ℕ) → owner_seat records (record v { out = None }) (forget s (forget s note)) ≡ lowered s (owner_seat records v note)
+lowered_view records v note s =
+    let look = past_forget s (forget s note) ∙ ap (past s) (past_forget s note) ∙ past_twice s (option_map glimpse_of note) in
+    λ j. record { list = map (listed records) v.list; next = v.next; out = None; remembered = v.remembered; look = look j }
+
+-- an entry whose slot is the owner's slot out is out under its own number
+out_number : (count : ℕ) (st : TableState) (id : ℕ) (o : OwnerSeat) (i : OwnerIn count st id o) (s n : ℕ) → o.out ≡ Some s → IsEntry i.state.core s n → state_of i.state.core s ≡ OutOwner n
+out_number count st id o i s n held e =
+    let c = i.state.core in
+    let state = i.sound.facts.owner.out s (out_of count st id o i ∙ held) in
+    elim (i.sound.facts.entries s n e) [
+      | inl live ↦ absurd (let wrong : Live n ≡ OutOwner state.0 = sym live ∙ state.1 in cc)
+      | inr out ↦ out.0
+    ]
+
+lower_holds : (count : ℕ) (st : TableState) (id : ℕ) (o : OwnerSeat) (i : OwnerIn count st id o) (s n : ℕ) (bytes : List ℕ) → o.out ≡ Some s
+    → IsEntry i.state.core s n → i.records n ≡ bytes → s < count
+    → (words : List ℕ) (homes : List (M.Option Held)) → words ≡ set st.words (s + 1) (slot_word (Live n)) → homes ≡ set st.homes s (some (Some bytes))
+    → Holds count (record { words = words; homes = homes; views = set st.views id (Owns (lowered s o)) })
+lower_holds count st id o i s n bytes held is_entry own inside words homes w_is h_is =
+    let a = i.state in
+    let c = a.core in
+    let holds_it = out_of count st id o i ∙ held in
+    let out = out_number count st id o i s n held is_entry in
+    let d : Core = record c { homes = slice_set c.homes s (Some n) } in
+    let fills : OwnerFills s n c d = record { holds = holds_it; number = n; out = out; own = λ l. refl; fresh = λ l. absurd (l (s, is_entry)); after = refl } in
+    let b = noted (OwnerFill s n) a d in
+    let mid = sound_after count (OwnerFill s n) a d fills i.sound.numbered i.sound in
+    let e : Core = record d { slots = slice_set c.slots s (Live n); owner = record c.owner { out = None } } in
+    let lowers : OwnerLowers s d e = record {
+          holds = holds_it;
+          number = n;
+          out = out;
+          listed = (s, is_entry);
+          at_home = get_or-set_same c.homes s (Some n) None (let k = i.sound.facts.homes in let j = i.sound.count_is in omega arith);
+          after = refl;
+        } in
+    owner_holds count st id o i (noted (OwnerLower s) b e) i.records words homes (lowered s o)
+        (sound_after count (OwnerLower s) b e lowers i.sound.numbered mid)
+        (w_is ∙ words_set st.words c.root c.slots s (Live n) i.shows.words)
+        (h_is ∙ ap (λ (x : List ℕ). set st.homes s (some (Some x))) (sym own) ∙ homes_set i.records st.homes c.slots s (Live n) (i.shows.homes ∙ homes_by_state i.records c i.sound.facts))
+        (lowered_view i.records c.owner a.owner s ∙ ap (lowered s) i.seat)
+        refl
+
+pub lowers : (count slots id : ℕ) (me : Knowing) (x : Listed) → HasOut x.entry.slot (Some x.bytes) me → Contains (owner_of me.0).list x → x.entry.slot < count
+    → Allows (Holds count) slots id me (x.entry.slot + 1) (λ _. 4 * x.entry.number + 1) (λ _ after. WasLowered (x.entry.slot + 1) me after)
+lowers count slots id me x has there inside st holds len at fits =
+    let o = owner_of me.0 in
+    let s = x.entry.slot in
+    let i = owner_in count st id o holds (at ∙ ap some has.seat) in
+    let e = entry_in count st id o i x there in (
+      Owns (lowered s o),
+      gives,
+      tt,
+      lower_holds count st id o i s x.entry.number x.bytes has.out e.0 e.1 inside (set st.words (s + 1) (4 * x.entry.number + 1)) (put_back st.homes me.1) refl (ap (put_back st.homes) has.held),
+      record { slot = s; at = refl; after_is = ap (λ (l : List (ℕ × Held)). (Owns (lowered s o), rest l)) has.held },
+    )
+
+-- Frees
+
+freed_view : (records : Naming) (v : OwnerView) (note : OwnerNote) (s : ℕ) (es : List Entry) (list : List Listed) → map (listed records) es ≡ list
+    → owner_seat records (record v { list = es; out = None }) (forget s (forget s note)) ≡ with_freed s list (owner_seat records v note)
+freed_view records v note s es list is =
+    let look = past_forget s (forget s note) ∙ ap (past s) (past_forget s note) ∙ past_twice s (option_map glimpse_of note) in
+    λ j. record { list = is j; next = v.next; out = None; remembered = v.remembered; look = look j }
+
+-- the parts of the seat's list are parts of the machine's
+split_list : (count : ℕ) (st : TableState) (id : ℕ) (o : OwnerSeat) (i : OwnerIn count st id o) (a b : List Listed) → o.list ≡ a ++ b
+    → (i.state.core.owner.list ≡ map entry_of a ++ map entry_of b) × (map (listed i.records) (map entry_of a) ≡ a) × (map (listed i.records) (map entry_of b) ≡ b)
+split_list count st id o i a b is =
+    let c = i.state.core in
+    let shown : map (listed i.records) c.owner.list ≡ a ++ b = list_of count st id o i ∙ is in
+    let es : c.owner.list ≡ map entry_of (a ++ b) = sym (map_entries i.records c.owner.list) ∙ ap (map entry_of) shown in
+    let back = parts i.records a b (ap (map (listed i.records)) (sym es) ∙ shown) in
+    (es ∙ map-append entry_of a b, back.0, back.1)
+
+free_holds : (count : ℕ) (st : TableState) (id : ℕ) (o : OwnerSeat) (i : OwnerIn count st id o) (older : List Listed) (x : Listed) → o.list ≡ older ++ x ∷ []
+    → 0 < length older → o.out ≡ Some x.entry.slot → x.entry.slot < count
+    → (words : List ℕ) (homes : List (M.Option Held)) → words ≡ set st.words (x.entry.slot + 1) (slot_word Free) → homes ≡ set st.homes x.entry.slot (some None)
+    → Holds count (record { words = words; homes = homes; views = set st.views id (Owns (with_freed x.entry.slot older o)) })
+free_holds count st id o i older x is some_older held inside words homes w_is h_is =
+    let a = i.state in
+    let c = a.core in
+    let s = x.entry.slot in
+    let n = x.entry.number in
+    let cut = split_list count st id o i older (x ∷ []) is in
+    let es : List Entry = map entry_of older in
+    let list : c.owner.list ≡ es ++ entry s n ∷ [] = cut.0 in
+    let is_entry : IsEntry c s n = subst (λ (l : List Entry). Contains l (entry s n)) (sym list) (Contains-push es (entry s n)) in
+    let holds_it = out_of count st id o i ∙ held in
+    let out = out_number count st id o i s n held is_entry in
+    let d : Core = record c { homes = slice_set c.homes s None } in
+    let empties : OwnerEmpties s c d = record { holds = holds_it; after = refl } in
+    let b = noted (OwnerEmpty s) a d in
+    let mid = sound_after count (OwnerEmpty s) a d empties i.sound.numbered i.sound in
+    let e : Core = record d { slots = slice_set c.slots s Free; owner = record c.owner { list = without n c.owner.list; out = None } } in
+    let newest : IsNewestOfTwo c.owner.list n = (es, s, list, (let k = length-map older entry_of in omega arith)) in
+    let frees : OwnerFrees s d e = record {
+          holds = holds_it;
+          number = n;
+          out = out;
+          empty = get_or-set_same c.homes s None None (let k = i.sound.facts.homes in let j = i.sound.count_is in omega arith);
+          loose = inr newest;
+          after = refl;
+        } in
+    let left : without n c.owner.list ≡ es = ap (without n) list ∙ without_newest es s n (subst Rattle.dym_slotlaw.specs.SlotFacts.NumbersRise list i.sound.facts.list.numbers_rise) in
+    owner_holds count st id o i (noted (OwnerFree s) b e) i.records words homes (with_freed s older o)
+        (sound_after count (OwnerFree s) b e frees i.sound.numbered mid)
+        (w_is ∙ words_set st.words c.root c.slots s Free i.shows.words)
+        (h_is ∙ homes_set i.records st.homes c.slots s Free (i.shows.homes ∙ homes_by_state i.records c i.sound.facts))
+        (freed_view i.records c.owner a.owner s (without n c.owner.list) older (ap (map (listed i.records)) left ∙ cut.1) ∙ ap (with_freed s older) i.seat)
+        refl
+
+pub frees : (count slots id : ℕ) (me : Knowing) (older : List Listed) (x : Listed) → (owner_of me.0).list ≡ older ++ x ∷ [] → 0 < length older → HasOut x.entry.slot None me
+    → x.entry.slot < count → Allows (Holds count) slots id me (x.entry.slot + 1) (λ _. 0) (λ _ after. FreedNewest (x.entry.slot + 1) me after)
+frees count slots id me older x is some_older has inside st holds len at fits =
+    let o = owner_of me.0 in
+    let s = x.entry.slot in
+    let i = owner_in count st id o holds (at ∙ ap some has.seat) in (
+      Owns (with_freed s older o),
+      gives,
+      tt,
+      free_holds count st id o i older x is some_older has.out inside (set st.words (s + 1) 0) (put_back st.homes me.1) refl (ap (put_back st.homes) has.held),
+      record { older = older; newest = x; list = is; after_is = ap (λ (l : List (ℕ × Held)). (Owns (with_freed s older o), rest l)) has.held },
+    )
+
+-- Raises
+
+raised_view : (records : Naming) (v : OwnerView) (note : OwnerNote) (es : List Entry) (list : List Listed) → map (listed records) es ≡ list
+    → owner_seat records (record v { list = es }) note ≡ with_raised list (owner_seat records v note)
+raised_view records v note es list is j = record { list = is j; next = v.next; out = v.out; remembered = v.remembered; look = option_map glimpse_of note }
+
+pub raises : (count slots id : ℕ) (me : Knowing) (dropped : List Listed) (x : Listed) (others : List Listed) → (owner_of me.0).list ≡ dropped ++ x ∷ others → IsIdleOwner me
+    → Allows (Holds count) slots id me 0 (λ _. x.entry.number) (λ _ after. Raised me x.entry.number after)
+raises count slots id me dropped x others is idle st holds len at fits =
+    let o = owner_of me.0 in
+    let n = x.entry.number in
+    let i = owner_in count st id o holds (at ∙ ap some idle.seat) in
+    let a = i.state in
+    let c = a.core in
+    let cut = split_list count st id o i dropped (x ∷ others) is in
+    let list : c.owner.list ≡ map entry_of dropped ++ x.entry ∷ map entry_of others = cut.0 in
+    let is_entry : IsEntry c x.entry.slot n = subst (λ (l : List Entry). Contains l x.entry) (sym list)
+          (Contains-append_right (map entry_of dropped) (x.entry ∷ map entry_of others) x.entry (0, omega arith, refl)) in
+    let d : Core = record c { root = n; owner = record c.owner { list = from_number n c.owner.list } } in
+    let h : OwnerRaises n c d = record { idle = out_of count st id o i ∙ idle.none; listed = (x.entry.slot, is_entry); after = refl } in
+    let left : from_number n c.owner.list ≡ x.entry ∷ map entry_of others
+          = ap (from_number n) list ∙ from_raised (map entry_of dropped) (map entry_of others) x.entry (subst Rattle.dym_slotlaw.specs.SlotFacts.NumbersRise list i.sound.facts.list.numbers_rise) in (
+      Owns (with_raised (x ∷ others) o),
+      keeps,
+      tt,
+      owner_holds count st id o i (noted (OwnerRaise n) a d) i.records (set st.words 0 n) st.homes (with_raised (x ∷ others) o)
+          (sound_after count (OwnerRaise n) a d h i.sound.numbered i.sound)
+          (ap (λ (l : List ℕ). set l 0 n) i.shows.words)
+          (i.shows.homes ∙ homes_by_state i.records c i.sound.facts)
+          (raised_view i.records c.owner a.owner (from_number n c.owner.list) (x ∷ others) (ap (map (listed i.records)) left ∙ cut.2) ∙ ap (with_raised (x ∷ others)) i.seat)
+          refl,
+      record { dropped = dropped; kept = x ∷ others; list = is; first = (x, others, refl, refl); after_is = refl },
+    )

@@ -1,0 +1,211 @@
+-- Each step of the sweeper on a table is a step of the machine.
+use Rattle.std.proofs.Common.{◌≡◌, ◌≢◌, ℕ, zero, suc, ◌+◌, ◌*◌, ◌<◌, ◌≤◌, ◌⊎◌, inl, inr, Bool, true, false, nat_eq, ltb, List, [], ◌∷◌, ◌++◌, map, length, get_or, set, sym, refl, ap, ◌∙◌, subst, arith, Option, Some, None}
+use Rattle.std.specs.Prelude.{slice_index, slice_set, if◌then◌else◌, ◌==◌, nat_lt}
+use Rattle.std.proofs.lemmas.List.{set-get_or, get_or-set_same}
+use Rattle.std.proofs.lemmas.Bool.Decides.{nat_tests}
+use Rattle.std.proofs.lemmas.Bool.{cases_lt}
+use mathlib.Core.Option as M
+use mathlib.Core.Option.{some, none}
+use prog.Atomic.{either}
+use lib.ListN.{get_elem?}
+use Rattle.atomic_table.specs.Table.{Act, keeps, takes, gives, put_back, rest, stepped, Allows, Valid, carried_after}
+use Rattle.dym_slotlaw.specs.declared.slots.Slot.{Slot}
+use Rattle.dym_slotlaw.specs.declared.slots.Slot.TheVariants.{Free, Live, OutOwner, OutSweeper}
+use Rattle.dym_slotlaw.specs.declared.slots.TheConstants.{RECORD_NUMBERS}
+use Rattle.dym_slotlaw.specs.declared.slots.Event.TheVariants.{SweeperRoot, SweeperLook, SweeperGrab, SweeperEmpty, SweeperFree}
+use Rattle.dym_slotlaw.specs.SlotWords.{slot_word}
+use Rattle.dym_slotlaw.specs.Slots.{Core, SweeperView, state_of, home_of}
+use Rattle.dym_slotlaw.specs.SlotSteps.{SweeperReadsRoot, SweeperLooks, SweeperGrabs, SweeperEmpties, SweeperFrees, is_retired}
+use Rattle.dym_slotlaw.specs.SlotFacts.{Facts}
+use Rattle.dym_slotlaw.specs.SlotNotes.{Noted, SweeperNote, live_number}
+use Rattle.dym_slots.specs.declared.view.SweeperSeat.{SweeperSeat}
+use Rattle.dym_slots.specs.declared.view.SeatView.{SeatView}
+use Rattle.dym_slots.specs.declared.view.SeatView.TheVariants.{Owns, Sweeps}
+use Rattle.dym_slots.specs.Seats.{Naming, sweeper_seat, sweeper_of, IsSweeper, with_root, glanced, grabbed, with_taken_back}
+use Rattle.dym_slots.specs.Shown.{Held, Knowing, TableState, words_of, Sound, Holds}
+use Rattle.dym_slots.specs.Moves.{IsIdleSweeper, ReadRoot, SweeperLooked, TriedGrab, GaveBack}
+use Rattle.dym_slots.proofs.Showing.{by_state, homes_by_state, words_set, word_at, homes_set, home_at}
+use Rattle.dym_slots.proofs.Running.{SweeperIn, sweeper_in, sweeper_holds, noted, sound_after, wins, loses}
+use Rattle.dym_slots.proofs.OwnerMoves.{apart}
+
+out_of : (count : ℕ) (st : TableState) (id : ℕ) (w : SweeperSeat) (i : SweeperIn count st id w) → i.state.core.sweeper.out ≡ w.out
+out_of count st id w i = ap (λ (v : SweeperSeat). v.out) i.seat
+
+clean_of : (count : ℕ) (st : TableState) (id : ℕ) (w : SweeperSeat) (i : SweeperIn count st id w) → i.state.core.sweeper.clean ≡ w.clean
+clean_of count st id w i = ap (λ (v : SweeperSeat). v.clean) i.seat
+
+seen_of : (count : ℕ) (st : TableState) (id : ℕ) (w : SweeperSeat) (i : SweeperIn count st id w) → i.state.core.sweeper.root_seen ≡ w.root_seen
+seen_of count st id w i = ap (λ (v : SweeperSeat). v.root_seen) i.seat
+
+within : (root next top : ℕ) → root ≤ next → next ≤ top → root ≤ top
+within root next top a b = omega arith
+
+pub reads_root : (count slots id : ℕ) (me : Knowing) → IsIdleSweeper me → Allows (Holds count) slots id me 0 (λ k. k) (ReadRoot me)
+reads_root count slots id me idle st holds len at fits =
+    let w = sweeper_of me.0 in
+    let i = sweeper_in count st id w holds (at ∙ ap some idle.seat) in
+    let a = i.state in
+    let c = a.core in
+    let k = slice_index st.words 0 in
+    let root : k ≡ c.root = ap (λ (l : List ℕ). slice_index l 0) i.shows.words in
+    let d : Core = record c { sweeper = record c.sweeper { root_seen = c.root; clean = 0 } } in
+    let h : SweeperReadsRoot c d = record { idle = out_of count st id w i ∙ idle.none; after = refl } in (
+      Sweeps (with_root k w),
+      keeps,
+      tt,
+      sweeper_holds count st id w i (noted SweeperRoot a d) (set st.words 0 k) st.homes (with_root k w)
+          (sound_after count SweeperRoot a d h i.sound.numbered i.sound)
+          (set-get_or st.words 0 0 ∙ i.shows.words)
+          (i.shows.homes ∙ homes_by_state i.records c i.sound.facts)
+          (ap (with_root c.root) i.seat ∙ ap (λ (r : ℕ). with_root r w) (sym root))
+          refl,
+      record {
+        numbered = subst (λ (r : ℕ). r ≤ RECORD_NUMBERS) (sym root) (within c.root c.owner.next RECORD_NUMBERS i.sound.facts.list.root_below_next i.sound.numbered);
+        after_is = refl;
+      },
+    )
+
+-- the step of a look at the slot of the clean count
+own_look : (count : ℕ) (st : TableState) (id : ℕ) (me : Knowing) (s : ℕ) (i : SweeperIn count st id (sweeper_of me.0)) → (sweeper_of me.0).out ≡ None → s ≡ (sweeper_of me.0).clean → s < count
+    → (k : ℕ) → k ≡ slice_index st.words (s + 1)
+    → Holds count (stepped st (s + 1) k id me.1 (Sweeps (glanced (state_of i.state.core s) (sweeper_of me.0))) keeps)
+own_look count st id me s i quiet turn inside k is =
+    let w = sweeper_of me.0 in
+    let a = i.state in
+    let c = a.core in
+    let x = state_of c s in
+    let d : Core = record c { sweeper = record c.sweeper { clean = if is_retired c.sweeper.root_seen x then c.sweeper.clean else (c.sweeper.clean + 1) } } in
+    let h : SweeperLooks s c d = record {
+          exists = (let n = i.sound.count_is in omega arith);
+          idle = out_of count st id w i ∙ quiet;
+          in_turn = turn ∙ sym (clean_of count st id w i);
+          after = refl;
+        } in
+    sweeper_holds count st id w i (noted (SweeperLook s) a d) (set st.words (s + 1) k) st.homes (glanced x w)
+        (sound_after count (SweeperLook s) a d h i.sound.numbered i.sound)
+        (ap (set st.words (s + 1)) is ∙ set-get_or st.words (s + 1) 0 ∙ i.shows.words)
+        (i.shows.homes ∙ homes_by_state i.records c i.sound.facts)
+        (ap (glanced x) i.seat)
+        refl
+
+pub sweeper_looks : (count slots id : ℕ) (me : Knowing) (s : ℕ) → IsIdleSweeper me → s ≡ (sweeper_of me.0).clean → s < count → Allows (Holds count) slots id me (s + 1) (λ k. k) (SweeperLooked me)
+sweeper_looks count slots id me s idle turn inside st holds len at fits =
+    let w = sweeper_of me.0 in
+    let i = sweeper_in count st id w holds (at ∙ ap some idle.seat) in
+    let c = i.state.core in
+    let x = state_of c s in (
+      Sweeps (glanced x w),
+      keeps,
+      tt,
+      own_look count st id me s i idle.none turn inside (slice_index st.words (s + 1)) refl,
+      record { state = x; shown = word_at st.words c.root c.slots s i.shows.words; after_is = refl },
+    )
+
+-- Grabs
+
+grab_holds : (count : ℕ) (st : TableState) (id : ℕ) (me : Knowing) (s n : ℕ) (i : SweeperIn count st id (sweeper_of me.0)) → (sweeper_of me.0).out ≡ None
+    → state_of i.state.core s ≡ Live n → n < (sweeper_of me.0).root_seen → (k : ℕ) → k ≡ slot_word (OutSweeper n)
+    → Holds count (stepped st (s + 1) k id me.1 (Sweeps (grabbed s (sweeper_of me.0))) (takes s (Some (i.records n))))
+grab_holds count st id me s n i quiet live past k is =
+    let w = sweeper_of me.0 in
+    let a = i.state in
+    let c = a.core in
+    let d : Core = record c { slots = slice_set c.slots s (OutSweeper n); sweeper = record c.sweeper { out = Some s } } in
+    let h : SweeperGrabs s c d = record { idle = out_of count st id w i ∙ quiet; number = n; live = live; retired = (let r = seen_of count st id w i in omega arith); after = refl } in
+    sweeper_holds count st id w i (noted (SweeperGrab s) a d) (set st.words (s + 1) k) (set st.homes s none) (grabbed s w)
+        (sound_after count (SweeperGrab s) a d h i.sound.numbered i.sound)
+        (ap (set st.words (s + 1)) is ∙ words_set st.words c.root c.slots s (OutSweeper n) i.shows.words)
+        (homes_set i.records st.homes c.slots s (OutSweeper n) (i.shows.homes ∙ homes_by_state i.records c i.sound.facts))
+        (ap (grabbed s) i.seat)
+        refl
+
+-- a slot that isn't Live(n), as the note allows, isn't retired
+not_retired : (seen n : ℕ) (x : Slot) → ((m : ℕ) → x ≡ Live m → m < seen → m ≡ n) → x ≢ Live n → is_retired seen x ≡ false
+not_retired seen n Free note other = refl
+not_retired seen n (Live m) note other = elim (cases_lt m seen) [
+  | inl lt ↦ absurd (other (ap Live (note m refl lt)))
+  | inr ge ↦ grind (arith, nat_tests)
+]
+not_retired seen n (OutOwner m) note other = refl
+not_retired seen n (OutSweeper m) note other = refl
+
+-- whether two states are one
+decide : (x : Slot) (n : ℕ) → (x ≡ Live n) ⊎ (x ≢ Live n)
+decide Free n = inr (λ e. cc)
+decide (Live m) n = elim (Rattle.std.proofs.lemmas.Bool.cases_eq m n) [
+  | inl same ↦ inl (ap Live same)
+  | inr other ↦ inr (λ e. let is : m ≡ n = cc in other is)
+]
+decide (OutOwner m) n = inr (λ e. cc)
+decide (OutSweeper m) n = inr (λ e. cc)
+
+pub grabs : (count slots id : ℕ) (me : Knowing) (s n : ℕ) → IsIdleSweeper me → s ≡ (sweeper_of me.0).clean → s < count → (sweeper_of me.0).found ≡ Some n → n < (sweeper_of me.0).root_seen
+    → Allows (Holds count) slots id me (s + 1) (λ k. either (k == 4 * n + 1) (4 * n + 3) k) (TriedGrab me (4 * n + 1))
+grabs count slots id me s n idle turn inside found past st holds len at fits =
+    let w = sweeper_of me.0 in
+    let i = sweeper_in count st id w holds (at ∙ ap some idle.seat) in
+    let a = i.state in
+    let c = a.core in
+    let x = state_of c s in
+    let k = slice_index st.words (s + 1) in
+    let shown : k ≡ slot_word x = word_at st.words c.root c.slots s i.shows.words in
+    let note : (m : ℕ) → x ≡ Live m → m < w.root_seen → m ≡ n = λ m live lt.
+          i.sound.notes.found n m (ap (λ (v : SweeperSeat). v.found) i.seat ∙ found)
+              (ap (state_of c) (clean_of count st id w i ∙ sym turn) ∙ live) (let r = seen_of count st id w i in omega arith) in
+    elim (decide x n) [
+      | inl live ↦
+          let hit : k ≡ 4 * n + 1 = shown ∙ ap slot_word live in (
+            Sweeps (grabbed s w),
+            takes s (Some (i.records n)),
+            home_at i.records st.homes c.slots s (i.shows.homes ∙ homes_by_state i.records c i.sound.facts) (let j = i.sound.count_is in omega arith) ∙ ap (λ (y : Slot). some (by_state i.records y)) live,
+            grab_holds count st id me s n i idle.none live past (either (k == 4 * n + 1) (4 * n + 3) k) (wins k (4 * n + 1) (4 * n + 3) hit),
+            record { outcome = inl (hit, (i.records n, λ j. (Sweeps (grabbed (turn j) w), (turn j, Some (i.records n)) ∷ me.1))) },
+          )
+      | inr other ↦
+          let miss : k ≢ 4 * n + 1 = λ e. other (apart x (Live n) (sym shown ∙ e)) in (
+            Sweeps (glanced x w),
+            keeps,
+            tt,
+            own_look count st id me s i idle.none turn inside (either (k == 4 * n + 1) (4 * n + 3) k) (loses k (4 * n + 1) (4 * n + 3) miss),
+            record { outcome = inr (miss, (x, shown, not_retired w.root_seen n x note other, refl)) },
+          )
+    ]
+
+-- Frees
+
+freed_view : (v : SweeperView) (note : SweeperNote) (s : ℕ) → s ≡ v.clean
+    → sweeper_seat (record v { out = None; clean = if nat_eq s v.clean then (v.clean + 1) else v.clean }) (record note { found = if nat_eq s v.clean then None else note.found; taken_back = note.taken_back + 1 })
+        ≡ with_taken_back (sweeper_seat v note)
+freed_view v note s turn =
+    let hit : nat_eq s v.clean ≡ true = grind (arith, nat_tests) in
+    rw hit refl
+
+pub sweeper_frees : (count slots id : ℕ) (me : Knowing) (s : ℕ) → IsSweeper me.0 → (sweeper_of me.0).out ≡ Some s → me.1 ≡ (s, None) ∷ [] → s ≡ (sweeper_of me.0).clean → s < count
+    → Allows (Holds count) slots id me (s + 1) (λ _. 0) (λ _ after. GaveBack me after)
+sweeper_frees count slots id me s seat held carried turn inside st holds len at fits =
+    let w = sweeper_of me.0 in
+    let i = sweeper_in count st id w holds (at ∙ ap some seat) in
+    let a = i.state in
+    let c = a.core in
+    let holds_it = out_of count st id w i ∙ held in
+    let d : Core = record c { homes = slice_set c.homes s None } in
+    let empties : SweeperEmpties s c d = record { holds = holds_it; after = refl } in
+    let b = noted (SweeperEmpty s) a d in
+    let mid = sound_after count (SweeperEmpty s) a d empties i.sound.numbered i.sound in
+    let e : Core = record d { slots = slice_set c.slots s Free; sweeper = record c.sweeper { out = None; clean = if nat_eq s c.sweeper.clean then (c.sweeper.clean + 1) else c.sweeper.clean } } in
+    let h : SweeperFrees s d e = record {
+          holds = holds_it;
+          empty = get_or-set_same c.homes s None None (let k = i.sound.facts.homes in let j = i.sound.count_is in omega arith);
+          after = refl;
+        } in (
+      Sweeps (with_taken_back w),
+      gives,
+      tt,
+      sweeper_holds count st id w i (noted (SweeperFree s) b e) (set st.words (s + 1) 0) (put_back st.homes me.1) (with_taken_back w)
+          (sound_after count (SweeperFree s) b e h i.sound.numbered mid)
+          (words_set st.words c.root c.slots s Free i.shows.words)
+          (ap (put_back st.homes) carried ∙ homes_set i.records st.homes c.slots s Free (i.shows.homes ∙ homes_by_state i.records c i.sound.facts))
+          (freed_view c.sweeper a.sweeper s (turn ∙ sym (clean_of count st id w i)) ∙ ap with_taken_back i.seat)
+          refl,
+      ap (λ (l : List (ℕ × Held)). (Sweeps (with_taken_back w), rest l)) carried,
+    )

@@ -1,0 +1,69 @@
+-- What the two ends of a log table are seen as.
+use Rattle.std.specs.Prelude.{◌≡◌, ⊤, ℕ, ◌+◌, ◌<◌, List, [], ◌∷◌, ◌++◌, take, drop, slice_index_or, Option}
+use Rattle.dym_base.specs.Origins.{TableName, Origin}
+use Rattle.atomic_table.specs.Seated.{TableId}
+
+-- the name of a table, as plain data
+abbrev pub name_of : TableId → TableName
+name_of t = record {
+  words = t.words;
+  slots = t.slots;
+  views_name = t.views_name;
+  atom = t.atom;
+  block = t.block;
+  offset = t.offset;
+  slot_names = t.slot_names;
+}
+
+-- a record under its number
+pub record Numbered : Type 0 where
+  pub number : ℕ
+  pub bytes : List ℕ
+
+-- the owner: its records, oldest first, numbers rising; the number that the next record gets; the place whose record is out;
+-- the log table
+pub record OwnerMeaning : Type 0 where
+  pub records : List Numbered
+  pub made : ℕ
+  pub lifted : Option ℕ
+  pub origin : Origin
+
+-- the sweeper: its log table; how many rounds it began; how many records it took back; how many slots, from the first on, it
+-- found without a record below the root that it read last
+pub record SweeperMeaning : Type 0 where
+  pub table : TableName
+  pub rounds : ℕ
+  pub taken_back : ℕ
+  pub clean : ℕ
+
+-- what stands at a place past the end
+abbrev pub no_record : Numbered
+no_record = record { number = 0; bytes = [] }
+
+-- the record at a place
+abbrev pub record_at : List Numbered → ℕ → Numbered
+record_at records place = slice_index_or records place no_record
+
+-- the owner with one record more, under the number that was next
+abbrev pub with_record : OwnerMeaning → List ℕ → OwnerMeaning
+with_record owner bytes = record owner {
+  records = owner.records ++ record { number = owner.made; bytes = bytes } ∷ [];
+  made = owner.made + 1;
+}
+
+-- the owner without the records after a place, and without those before it
+abbrev pub up_to : OwnerMeaning → ℕ → OwnerMeaning
+up_to owner place = record owner { records = take (place + 1) owner.records }
+
+abbrev pub from : OwnerMeaning → ℕ → OwnerMeaning
+from owner place = record owner { records = drop place owner.records }
+
+-- the number of the first record, or else the next one
+abbrev pub first_number : List Numbered → ℕ → ℕ
+first_number [] made = made
+first_number (r ∷ records) made = r.number
+
+-- the numbers rise, and are below the next one
+abbrev pub NumbersRise : List Numbered → ℕ → Type 0
+NumbersRise [] made = ⊤
+NumbersRise (r ∷ records) made = (r.number < first_number records made) × NumbersRise records made

@@ -1,0 +1,19 @@
+//! What the sweeper does.
+ghost use Rattle.std.specs.Prelude.{◌≡◌, ◌+◌};
+ghost use Rattle.dym_base.specs.declared.limits.TheConstants.{LOG_SLOTS};
+
+use crate::sweeper::Sweeper;
+use crate::sweeper_steps::sweep_all;
+
+impl Sweeper {
+    /// Reads the root once, and takes back each record at rest with a number below it, unless the owner reuses that slot first.
+    /// After it no slot holds such a record at rest. The answer is how many were taken back.
+    pub fn sweep(&mut self) -> u32
+        ensures table { self.new.table ≡ self.old.table }
+        ensures rounds { self.new.rounds ≡ self.old.rounds + 1 }
+        ensures clean { self.new.clean ≡ LOG_SLOTS }
+        ensures taken { self.new.taken_back ≡ self.old.taken_back + result }
+    {
+        sweep_all(&self.table.shared, &mut self.seat)
+    }
+}
