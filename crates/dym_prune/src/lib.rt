@@ -4,9 +4,11 @@
 //! Its one contract: only sweeps, each table at least once, and it ends only where its ear has heard that the stop was asked for.
 #![tactic(auto)]
 
+mod pruning;
 mod stop;
 pub mod stop_view;
 
+pub use pruning::pruner;
 pub use stop::{Asker, Ear, Stop};
 
 #[cfg(test)]

@@ -1,0 +1,98 @@
+-- What a round does so far, and what rounds one after another do.
+use Rattle.std.proofs.Common.{◌≡◌, ◌≢◌, ℕ, suc, ◌+◌, ◌-◌, ◌^◌, ◌<◌, ◌≤◌, ◌⊎◌, min, List, length, set, sym, refl, ap, ◌∙◌, subst, inl, inr, ⊎_elim, arith}
+use Rattle.std.specs.Prelude.{slice_index_or}
+use Rattle.std.proofs.lemmas.List.{length-set, get_or-set_same, get_or-set_other, get_or_default}
+use Rattle.std.proofs.Math.Nat.{eq-or-lt_of_le}
+use Rattle.std.proofs.lemmas.List.Sums.{sum_by-set}
+use Rattle.dym_base.specs.declared.limits.TheConstants.{LOG_SLOTS}
+use Rattle.dym_slots.specs.Meanings.{SweeperMeaning}
+use Rattle.dym_prune.specs.Sweeps.{Swept, Pruned, taken_by, counted_to}
+
+-- the first i sweepers ended a sweep, and the others are as they were
+pub record SweptTo (i : ℕ) (old now : List SweeperMeaning) (answer : ℕ) : Type 0 where
+  pub same : length now ≡ length old
+  pub swept : (k : ℕ) (d : SweeperMeaning) → k < i → Swept (slice_index_or old k d) (slice_index_or now k d)
+  pub rest : (k : ℕ) (d : SweeperMeaning) → i ≤ k → slice_index_or now k d ≡ slice_index_or old k d
+  pub grown : taken_by old ≤ taken_by now
+  pub answer_is : answer ≡ counted_to (taken_by now - taken_by old)
+
+pub none_swept : (sweepers : List SweeperMeaning) → SweptTo 0 sweepers sweepers 0
+none_swept sweepers = record { same = refl; swept = λ k d low. absurd (omega (arith, low)); rest = λ k d _. refl; grown = omega arith; answer_is = omega arith }
+
+-- one sweep more: the sweeper after it, and its answer
+pub record SweptOnce (before after : SweeperMeaning) (taken : ℕ) : Type 0 where
+  pub table : after.table ≡ before.table
+  pub rounds : after.rounds ≡ before.rounds + 1
+  pub clean : after.clean ≡ LOG_SLOTS
+  pub taken_is : after.taken_back ≡ before.taken_back + taken
+
+swept_once : (before after : SweeperMeaning) (taken : ℕ) → SweptOnce before after taken → Swept before after
+swept_once before after taken once = let r = once.rounds in record { table = once.table; rounds = omega (arith, r); clean = once.clean }
+
+pub one_more : (i : ℕ) (old now : List SweeperMeaning) (answer taken : ℕ) (y d : SweeperMeaning) → i < length now
+    → SweptTo i old now answer → SweptOnce (slice_index_or now i d) y taken
+    → SweptTo (i + 1) old (set now i y) (counted_to (answer + taken))
+one_more i old now answer taken y d within so once =
+    let sums = sum_by-set (λ (s : SweeperMeaning). s.taken_back) now i y d within in
+    let sum : taken_by (set now i y) ≡ taken_by now + taken = omega (arith, sums, once.taken_is) in
+    let old_within : i < length old = let n = so.same in omega (arith, within, n) in
+    let begins : slice_index_or now i d ≡ slice_index_or old i d = so.rest i d (omega arith) in
+    record {
+      same = length-set now i y ∙ so.same;
+      swept = λ k e low. ⊎_elim
+          (λ (here : k ≡ i).
+          let at : slice_index_or (set now i y) k e ≡ y = ap (λ (j : ℕ). slice_index_or (set now i y) j e) here ∙ get_or-set_same now i y e within in
+          let was : slice_index_or now i d ≡ slice_index_or old k e =
+          begins ∙ get_or_default old i d e old_within ∙ ap (λ (j : ℕ). slice_index_or old j e) (sym here) in
+          subst (Swept (slice_index_or old k e)) (sym at) (subst (λ x. Swept x y) was (swept_once (slice_index_or now i d) y taken once)))
+          (λ (below : k < i).
+          subst (Swept (slice_index_or old k e)) (sym (get_or-set_other now i k y e (λ same. omega (arith, below, same)))) (so.swept k e below))
+          (eq-or-lt_of_le (let l : k ≤ i = omega (arith, low) in l));
+      rest = λ k e high. get_or-set_other now i k y e (λ same. omega (arith, high, same)) ∙ so.rest k e (omega (arith, high));
+      grown = let g = so.grown in omega (arith, sum, g);
+      answer_is = let g = so.grown in let a = so.answer_is in omega (arith, sum, g, a);
+    }
+
+-- once all are swept the round is over
+pub round_over : (old now : List SweeperMeaning) (answer : ℕ) → SweptTo (length old) old now answer → Pruned old now answer
+round_over old now answer so = record { same = so.same; swept = so.swept; grown = so.grown; answer_is = so.answer_is }
+
+-- rounds so far, maybe none: each sweeper is of its table and began no fewer rounds
+pub record RoundsTo (old now : List SweeperMeaning) (total : ℕ) : Type 0 where
+  pub same : length now ≡ length old
+  pub table : (k : ℕ) (d : SweeperMeaning) → k < length old → (slice_index_or now k d).table ≡ (slice_index_or old k d).table
+  pub rounds : (k : ℕ) (d : SweeperMeaning) → k < length old → (slice_index_or old k d).rounds ≤ (slice_index_or now k d).rounds
+  pub grown : taken_by old ≤ taken_by now
+  pub total_is : total ≡ counted_to (taken_by now - taken_by old)
+
+pub no_round : (sweepers : List SweeperMeaning) → RoundsTo sweepers sweepers 0
+no_round sweepers = record { same = refl; table = λ k d low. refl; rounds = λ k d low. omega arith; grown = omega arith; total_is = omega arith }
+
+-- one round more
+pub round_more : (old now new : List SweeperMeaning) (total taken : ℕ) → RoundsTo old now total → Pruned now new taken → Pruned old new (counted_to (total + taken))
+round_more old now new total taken so more =
+    let first = so.grown in
+    let second = more.grown in
+    let a = so.total_is in
+    let b = more.answer_is in
+    record {
+      same = more.same ∙ so.same;
+      swept = λ k d low.
+          let within : k < length now = let n = so.same in omega (arith, low, n) in
+          let last = more.swept k d within in
+          let r = so.rounds k d low in
+          let l = last.rounds in
+          record { table = last.table ∙ so.table k d low; rounds = omega (arith, r, l); clean = last.clean };
+      grown = omega (arith, first, second);
+      answer_is = omega (arith, first, second, a, b);
+    }
+
+-- after which there may be more
+pub go_on : (old new : List SweeperMeaning) (total : ℕ) → Pruned old new total → RoundsTo old new total
+go_on old new total so = record {
+  same = so.same;
+  table = λ k d low. (so.swept k d low).table;
+  rounds = λ k d low. let r = (so.swept k d low).rounds in omega (arith, r);
+  grown = so.grown;
+  total_is = so.answer_is;
+}

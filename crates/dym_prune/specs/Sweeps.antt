@@ -1,0 +1,26 @@
+-- What a pruner's sweeps do to its sweepers.
+use Rattle.std.specs.Prelude.{◌≡◌, ℕ, ◌-◌, ◌^◌, ◌<◌, ◌≤◌, min, List, length, slice_index_or, sum_by}
+use Rattle.dym_base.specs.declared.limits.TheConstants.{LOG_SLOTS}
+use Rattle.dym_slots.specs.Meanings.{SweeperMeaning}
+
+-- a sweeper that ended one sweep or more: it belongs to the same log table, began more rounds, and no slot has a record at rest
+-- below the root that it read last
+pub record Swept (old new : SweeperMeaning) : Type 0 where
+  pub table : new.table ≡ old.table
+  pub rounds : old.rounds < new.rounds
+  pub clean : new.clean ≡ LOG_SLOTS
+
+-- how many records sweepers took back
+abbrev pub taken_by : List SweeperMeaning → ℕ
+taken_by sweepers = sum_by (λ (s : SweeperMeaning). s.taken_back) sweepers
+
+-- so many records, or the greatest u64 where there are more
+abbrev pub counted_to : ℕ → ℕ
+counted_to n = min n (2 ^ 64 - 1)
+
+-- each sweeper ended a sweep, and the answer is the sum of what their sweeps answered
+pub record Pruned (old new : List SweeperMeaning) (answer : ℕ) : Type 0 where
+  pub same : length new ≡ length old
+  pub swept : (k : ℕ) (d : SweeperMeaning) → k < length old → Swept (slice_index_or old k d) (slice_index_or new k d)
+  pub grown : taken_by old ≤ taken_by new
+  pub answer_is : answer ≡ counted_to (taken_by new - taken_by old)
