@@ -8,3 +8,7 @@ Rose old new = (old < new) ⊎ (new ≡ 2 ^ 64 - 1)
 -- One more, staying at the greatest u64.
 abbrev pub counted : ℕ → ℕ
 counted n = min (n + 1) (2 ^ 64 - 1)
+
+-- A call failed once, and its fault was counted: the count is one more, or stands at the greatest u64.
+abbrev pub RoseOnce : ℕ → ℕ → Type 0
+RoseOnce old new = (new ≡ old + 1) ⊎ ((old ≡ 2 ^ 64 - 1) × (new ≡ old))

@@ -1,40 +1,35 @@
 -- How texts that are written one after the other make one text, and counts of faults in parts of a call one count.
-use Rattle.std.specs.Prelude.{◌≡◌, ℕ, ◌+◌, ◌-◌, ◌^◌, ◌<◌, ◌≤◌, List, [], ◌∷◌, ◌++◌, refl, length, take, drop, get_or, Option, Some, None, Result, Ok, Err, IsErr, IsErrAnd, flat_map}
+use Rattle.std.specs.Prelude.{◌≡◌, ℕ, ◌+◌, ◌<◌, List, [], ◌∷◌, ◌++◌, refl, length, take, drop, get_or, Option, Some, None, Result, Ok, Err, IsErr, IsErrAnd, flat_map}
 use Rattle.std.proofs.Common.{sym, ◌∙◌, ap, subst, inl, inr, append_assoc, append-nil, arith, take-append-drop, add-one}
-use Rattle.std.proofs.Math.Nat.{eq-or-lt_of_le}
 use Rattle.std.proofs.Math.Seq.{drop-cons, take-suc}
 use Rattle.std.proofs.lemmas.Grind.{flat_map-append}
 use Rattle.std.specs.Io.KnownBytes.{Appends, Keeps}
 use Rattle.std.proofs.KnownBytes.{Appends-nil, Appends-trans}
-use Rattle.dym_io.specs.Faults.{Rose}
-use Rattle.dym_io.specs.Sink.{Output, Appended, AppendedFront, Stopped, Writes, WritesOr, Leaves}
+use Rattle.dym_io.specs.Faults.{Rose, RoseOnce}
+use Rattle.dym_io.specs.Sink.{Output, Appended, AppendedFront, Faulted, Stopped, Writes, Blames, WritesOr, Leaves}
 
--- ---- a count that rose in a part of a call rose in the whole call
+-- ---- a fault in the last part of a call
 
-pub rose_later : (old mid new : ℕ) → old ≤ mid → Rose mid new → Rose old new
-rose_later old mid new le rose = elim rose [ inl more ↦ inl (omega arith) | inr full ↦ inr full ]
+-- before it the count stood still
+pub rose_later : (old mid new : ℕ) → mid ≡ old → RoseOnce mid new → RoseOnce old new
+rose_later old mid new same rose = subst (λ n. RoseOnce n new) same rose
 
-rose_from_full : (old mid new : ℕ) → old ≤ mid → mid ≤ new → mid ≡ 2 ^ 64 - 1 → Rose old new
-rose_from_full old mid new le more full =
-    elim (eq-or-lt_of_le more) [ inl same ↦ inr (sym same ∙ full) | inr above ↦ inl (omega arith) ]
-
-pub rose_earlier : (old mid new : ℕ) → old ≤ mid → mid ≤ new → Rose old mid → Rose old new
-rose_earlier old mid new le more rose =
-    elim rose [ inl risen ↦ inl (omega arith) | inr full ↦ rose_from_full old mid new le more full ]
+-- a count that rose by one rose
+pub once_rose : (old new : ℕ) → RoseOnce old new → Rose old new
+once_rose old new (inl more) = inl (omega (arith, more))
+once_rose old new (inr stands) = inr (stands.1 ∙ stands.0)
 
 -- ---- all of a text
 
 pub appended_nothing : (s : Output) → Appended s s []
-appended_nothing s = record { written = Appends-nil s.written; flushed = refl; faults = omega arith }
+appended_nothing s = record { written = Appends-nil s.written; flushed = refl; faults = refl }
 
 pub appended_both : (a b c : Output) (t u : List ℕ) → Appended a b t → Appended b c u → Appended a c (t ++ u)
-appended_both a b c t u p q =
-    let count : a.faults ≤ c.faults = omega (arith, p.faults, q.faults) in
-    record {
-      written = Appends-trans a.written b.written c.written t u p.written q.written;
-      flushed = q.flushed ∙ p.flushed;
-      faults = count;
-    }
+appended_both a b c t u p q = record {
+  written = Appends-trans a.written b.written c.written t u p.written q.written;
+  flushed = q.flushed ∙ p.flushed;
+  faults = q.faults ∙ p.faults;
+}
 
 -- a call that writes nothing comes behind, as a flush: at its Ok too
 pub appends_kept : (a b c : Option (List ℕ)) (t : List ℕ) → Appends a b t → Keeps b c → Appends a c t
@@ -43,23 +38,18 @@ appends_kept (Some xs) None c t p q = absurd p
 appends_kept (Some xs) (Some ys) None t p q = absurd q
 appends_kept (Some xs) (Some ys) (Some zs) t p q = q ∙ p
 
--- where it failed
-pub appended_kept : (a b c : Output) (t : List ℕ) → Appended a b t → Keeps b.written c.written → c.flushed ≡ b.flushed → b.faults ≤ c.faults → Appended a c t
-appended_kept a b c t p kept stays count =
-    let counts : a.faults ≤ c.faults = omega (arith, p.faults, count) in
-    record { written = appends_kept a.written b.written c.written t p.written kept; flushed = stays ∙ p.flushed; faults = counts }
-
 -- ---- the front of a text
 
 pub front_of_appended : (a b : Output) (t u : List ℕ) → Appended a b t → AppendedFront a b (t ++ u)
-front_of_appended a b t u p = record { front = t; rest = u; whole = refl; appended = p }
+front_of_appended a b t u p = record { front = t; rest = u; whole = refl; written = p.written; flushed = p.flushed }
 
 pub front_within : (a b : Output) (t u : List ℕ) → AppendedFront a b t → AppendedFront a b (t ++ u)
 front_within a b t u p = record {
   front = p.front;
   rest = p.rest ++ u;
   whole = ap (λ l. l ++ u) p.whole ∙ append_assoc p.front p.rest u;
-  appended = p.appended;
+  written = p.written;
+  flushed = p.flushed;
 }
 
 pub front_after : (a b c : Output) (t u : List ℕ) → Appended a b t → AppendedFront b c u → AppendedFront a c (t ++ u)
@@ -67,7 +57,8 @@ front_after a b c t u p q = record {
   front = t ++ q.front;
   rest = q.rest;
   whole = ap (λ l. t ++ l) q.whole ∙ sym (append_assoc t q.front q.rest);
-  appended = appended_both a b c t q.front p q.appended;
+  written = Appends-trans a.written b.written c.written t q.front p.written q.written;
+  flushed = q.flushed ∙ p.flushed;
 }
 
 -- ---- the front of a text, and a fault
@@ -78,6 +69,13 @@ stopped_within a b t u p = record { front = front_within a b t u p.front; rose =
 pub stopped_after : (a b c : Output) (t u : List ℕ) → Appended a b t → Stopped b c u → Stopped a c (t ++ u)
 stopped_after a b c t u p q = record {
   front = front_after a b c t u p q.front;
+  rose = rose_later a.faults b.faults c.faults p.faults q.rose;
+}
+
+-- a call failed, behind a text that is written
+pub stopped_behind : (a b c : Output) (t u : List ℕ) → Appended a b t → Faulted b c → Stopped a c (t ++ u)
+stopped_behind a b c t u p q = record {
+  front = record { front = t; rest = u; whole = refl; written = appends_kept a.written b.written c.written t p.written q.written; flushed = q.flushed ∙ p.flushed };
   rose = rose_later a.faults b.faults c.faults p.faults q.rose;
 }
 
@@ -92,10 +90,13 @@ pub writes_after : {T E : Type 0} → (a b c : Output) (t u : List ℕ) (r : Res
 writes_after a b c t u (Ok x) p q = appended_both a b c t u p q
 writes_after a b c t u (Err e) p q = stopped_after a b c t u p q
 
+-- what the count tells of a cause it tells behind a text that was written, too
+pub blames_later : (is_sinks : Type 0) (a b c : Output) (t : List ℕ) → Appended a b t → Blames is_sinks b c → Blames is_sinks a c
+blames_later is_sinks a b c t p q = (λ is. rose_later a.faults b.faults c.faults p.faults (q.0 is), λ other. q.1 other ∙ p.faults)
+
 pub writes_or_after : {T E : Type 0} → (IsSinks : E → Type 0) (a b c : Output) (t u : List ℕ) (r : Result T E) → Appended a b t → WritesOr IsSinks b c u r → WritesOr IsSinks a c (t ++ u) r
 writes_or_after IsSinks a b c t u (Ok x) p q = appended_both a b c t u p q
-writes_or_after IsSinks a b c t u (Err e) p q =
-    (front_after a b c t u p q.0, λ is. rose_later a.faults b.faults c.faults p.faults (q.1 is))
+writes_or_after IsSinks a b c t u (Err e) p q = (front_after a b c t u p q.0, blames_later (IsSinks e) a b c t p q.1)
 
 -- ---- at an error that `?` passes on
 
@@ -107,14 +108,15 @@ writes_stopped a b t (Err e) is p = p
 pub writes_cut : {T E : Type 0} → (a b : Output) (t u : List ℕ) (r : Result T E) → IsErr r → Stopped a b t → Writes a b (t ++ u) r
 writes_cut a b t u r is p = writes_stopped a b (t ++ u) r is (stopped_within a b t u p)
 
-pub writes_or_stopped : {T E : Type 0} → (IsSinks : E → Type 0) (a b : Output) (t : List ℕ) (r : Result T E) → IsErr r → Stopped a b t → WritesOr IsSinks a b t r
-writes_or_stopped IsSinks a b t (Ok x) is p = cc
-writes_or_stopped IsSinks a b t (Err e) is p = (p.front, λ _. p.rose)
+-- the sink's fault
+pub writes_or_stopped : {T E : Type 0} → (IsSinks : E → Type 0) (a b : Output) (t : List ℕ) (r : Result T E) → IsErrAnd r IsSinks → Stopped a b t → WritesOr IsSinks a b t r
+writes_or_stopped IsSinks a b t (Ok x) is p = absurd is
+writes_or_stopped IsSinks a b t (Err e) is p = (p.front, (λ _. p.rose, λ other. absurd (other is)))
 
--- an error of another cause, as `?` makes it
-pub writes_or_other : {T E : Type 0} → (IsSinks : E → Type 0) (a b : Output) (t : List ℕ) (r : Result T E) (cause : E) → IsErrAnd r (λ e. e ≡ cause) → ¬ IsSinks cause → AppendedFront a b t → WritesOr IsSinks a b t r
-writes_or_other IsSinks a b t (Ok x) cause is other p = absurd is
-writes_or_other IsSinks a b t (Err e) cause is other p = (p, λ h. absurd (other (subst IsSinks is h)))
+-- an error of another cause, as `?` makes it, behind the front of the text
+pub writes_or_other : {T E : Type 0} → (IsSinks : E → Type 0) (a b : Output) (t u : List ℕ) (r : Result T E) (cause : E) → IsErrAnd r (λ e. e ≡ cause) → ¬ IsSinks cause → Appended a b t → WritesOr IsSinks a b (t ++ u) r
+writes_or_other IsSinks a b t u (Ok x) cause is other p = absurd is
+writes_or_other IsSinks a b t u (Err e) cause is other p = (front_of_appended a b t u p, (λ h. absurd (other (subst IsSinks is h)), λ _. p.faults))
 
 -- ---- a chain of texts: all but a rest is written
 
@@ -150,7 +152,11 @@ pub leaves_nothing : (a b : Output) (text : List ℕ) → Leaves a b text [] →
 leaves_nothing a b text p = subst (Appended a b) (sym (p.whole ∙ append-nil p.done)) p.appended
 
 pub leaves_front : (a b : Output) (text rest : List ℕ) → Leaves a b text rest → AppendedFront a b text
-leaves_front a b text rest p = record { front = p.done; rest = rest; whole = p.whole; appended = p.appended }
+leaves_front a b text rest p = record { front = p.done; rest = rest; whole = p.whole; written = p.appended.written; flushed = p.appended.flushed }
+
+-- the next call failed
+pub leaves_stopped : (a b c : Output) (text rest : List ℕ) → Leaves a b text rest → Faulted b c → Stopped a c text
+leaves_stopped a b c text rest p q = subst (Stopped a c) (sym p.whole) (stopped_behind a b c p.done rest p.appended q)
 
 -- ---- a loop: of the texts of some items, those of the first i are written. `d` is what a read past the end gives
 

@@ -1,16 +1,18 @@
 //! The standard library's readers and writers as sources and sinks: the edge of what is proved.
-ghost use Rattle.std.specs.Prelude.{◌≡◌, None};
+ghost use Rattle.std.specs.Prelude.{◌≡◌, false, None};
 
 use crate::fault::Count;
 use crate::{Failed, Sink, Source};
 use std::io::{Read, Write};
 
 /// A reader of the standard library as a source. It tells its bytes where the reader does, as those in memory do. Each error of
-/// the reader is a fault, an interrupted call too, since nothing bounds how often one would have to be made again.
+/// the reader is a fault, an interrupted call too, since nothing bounds how often one would have to be made again. Once the
+/// reader has given its end or an error, it is read no more.
 #[derive(Drop)]
 pub struct StdSource<R> {
     reader: R,
     faults: Count,
+    is_done: bool,
 }
 
 impl<R: Read> StdSource<R> {
@@ -18,10 +20,12 @@ impl<R: Read> StdSource<R> {
     pub fn new(reader: R) -> StdSource<R>
         ensures left { ⟦<StdSource<R> as Source>⟧.left result ≡ R.remaining reader }
         ensures faults { ⟦<StdSource<R> as Source>⟧.faults result ≡ 0 }
+        ensures goes_on { ⟦<StdSource<R> as Source>⟧.goes_on result }
     {
         StdSource {
             reader,
             faults: Count::zero(),
+            is_done: false,
         }
     }
 }
@@ -31,10 +35,18 @@ impl<R: Read> Source for StdSource<R> {
 
     ghost faults = { λ s. s.faults.value };
 
+    ghost goes_on = { λ s. s.is_done ≡ false };
+
     fn pull(&mut self, out: &mut [u8]) -> Result<usize, Failed> {
         match self.reader.read(out) {
-            Ok(amount) => Ok(amount),
-            Err(_) => Err(self.faults.failed()),
+            Ok(amount) => {
+                self.is_done = amount == 0;
+                Ok(amount)
+            }
+            Err(_) => {
+                self.is_done = true;
+                Err(self.faults.failed())
+            }
         }
     }
 }

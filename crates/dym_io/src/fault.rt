@@ -1,6 +1,6 @@
 //! What a source or a sink answers where it fails.
-ghost use Rattle.std.specs.Prelude.{◌≡◌, ◌≤◌};
-ghost use Rattle.dym_io.specs.Faults.{Rose, counted};
+ghost use Rattle.std.specs.Prelude.{◌≡◌};
+ghost use Rattle.dym_io.specs.Faults.{RoseOnce, counted};
 
 use thiserror::Error;
 
@@ -35,8 +35,7 @@ impl Count {
 
     pub(crate) fn raise(&mut self)
         ensures after { self.new.value ≡ counted self.old.value }
-        ensures grows { self.old.value ≤ self.new.value }
-        ensures rose { Rose self.old.value self.new.value }
+        ensures rose { RoseOnce self.old.value self.new.value }
     {
         self.value = self.value.saturating_add(1);
     }
@@ -44,8 +43,7 @@ impl Count {
     /// Counts a fault.
     pub(crate) fn failed(&mut self) -> Failed
         ensures after { self.new.value ≡ counted self.old.value }
-        ensures grows { self.old.value ≤ self.new.value }
-        ensures rose { Rose self.old.value self.new.value }
+        ensures rose { RoseOnce self.old.value self.new.value }
     {
         self.raise();
         Failed

@@ -2,8 +2,8 @@
 //! the standard library's readers and writers.
 //!
 //! Below it stand the standard library and `thiserror` alone. Above it stand the printers, the generator and the top call.
-//! Its one contract: a call that writes a text appends all of it where it answers Ok, and where it answers a fault a front of
-//! it, and then the sink's count of faults rose.
+//! Its one contract: a call that writes a text appends all of it where it answers Ok, with no fault, and where it answers a
+//! fault it appended a front of the text until a call on the sink failed, the one that did.
 #![tactic(auto)]
 
 pub mod adapters;

@@ -1,7 +1,7 @@
 //! A source and a sink in memory, whose calls fail where that was asked for.
-ghost use Rattle.std.specs.Prelude.{◌≡◌, ◌⊎◌, ◌↔◌, ◌≤◌, ◌<◌, ◌++◌, [], ℕ, length, take, drop, Some, Ok, IsErr, Contains, IfOk, OnOk, OnErr};
+ghost use Rattle.std.specs.Prelude.{◌≡◌, ◌⊎◌, ◌↔◌, ◌≤◌, ◌<◌, ◌++◌, [], length, take, drop, Some, Ok, IsErr, Contains, IfOk, OnOk, OnErr, ⊤};
 ghost use Rattle.std.specs.Io.KnownBytes.{Keeps};
-ghost use Rattle.dym_io.specs.Faults.{Rose, counted};
+ghost use Rattle.dym_io.specs.Faults.{RoseOnce, counted};
 ghost use Rattle.dym_io.specs.Source.{Takes, IsEmptyAtEnd};
 ghost use Rattle.dym_io.specs.Sink.{Pushes, AllFlushed};
 ghost use Rattle.dym_io.specs.Memory.{given, accepted, output_of, SourceFails, SinkFails, IsFull};
@@ -102,13 +102,17 @@ impl Source for MemSource {
 
     ghost faults = { λ s. s.faults };
 
+    ghost goes_on = { λ s. ⊤ };
+
     fn pull(&mut self, out: &mut [u8]) -> Result<usize, Failed>
-        requires { 0 < length out.old }
+        requires room { 0 < length out.old }
+        requires goes_on { ⊤ }
         ensures amount { IfOk result (λ n. n ≤ length out.new) }
         ensures taken { Takes (Some self.old.left) (Some self.new.left) out.new result }
         ensures end { IfOk result (IsEmptyAtEnd (Some self.old.left)) }
-        ensures count { self.old.faults ≤ self.new.faults }
-        ensures failed { OnErr result (Rose self.old.faults self.new.faults) }
+        ensures more { IfOk result (λ n. 0 < n → ⊤) }
+        ensures count { OnOk result (self.new.faults ≡ self.old.faults) }
+        ensures failed { OnErr result (RoseOnce self.old.faults self.new.faults) }
 
         // Which calls fail, and what the others give.
         ensures fails { IsErr result ↔ SourceFails self.old }
@@ -219,7 +223,6 @@ impl Sink for MemSink {
         ensures some { IfOk result (λ n. 0 < n) }
         ensures amount { IfOk result (λ n. n ≤ length piece.now) }
         ensures written { Pushes (output_of self.old) (output_of self.new) piece.now result }
-        ensures failed { OnErr result (Rose self.old.faults self.new.faults) }
 
         // Which calls fail, and what the others take.
         ensures fails { IsErr result ↔ (SinkFails self.old ⊎ IsFull self.old) }
@@ -249,8 +252,8 @@ impl Sink for MemSink {
         ensures written { Keeps (output_of self.old).written (output_of self.new).written }
         ensures flushed { OnOk result (AllFlushed (output_of self.old) (output_of self.new)) }
         ensures stays { OnErr result ((output_of self.new).flushed ≡ (output_of self.old).flushed) }
-        ensures count { self.old.faults ≤ self.new.faults }
-        ensures failed { OnErr result (Rose self.old.faults self.new.faults) }
+        ensures count { OnOk result (self.new.faults ≡ self.old.faults) }
+        ensures failed { OnErr result (RoseOnce self.old.faults self.new.faults) }
 
         // Which calls fail.
         ensures fails { IsErr result ↔ SinkFails self.old }

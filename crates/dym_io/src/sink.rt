@@ -1,7 +1,7 @@
 //! Where bytes go.
-ghost use Rattle.std.specs.Prelude.{◌≡◌, ◌<◌, ◌≤◌, List, ℕ, length, take, flat_map, IfOk, OnOk, OnErr};
+ghost use Rattle.std.specs.Prelude.{◌≡◌, ◌<◌, ◌≤◌, length, flat_map, IfOk, OnOk, OnErr};
 ghost use Rattle.std.specs.Io.KnownBytes.{Keeps};
-ghost use Rattle.dym_io.specs.Faults.{Rose};
+ghost use Rattle.dym_io.specs.Faults.{RoseOnce};
 ghost use Rattle.dym_io.specs.Sink.{Output, Pushes, AllFlushed, Writes};
 
 use crate::{Failed, SinkFault};
@@ -17,16 +17,15 @@ pub trait Sink {
         requires { 0 < length piece.now }
         ensures some { IfOk result (λ n. 0 < n) }
         ensures amount { IfOk result (λ n. n ≤ length piece.now) }
-        ensures written { Pushes (output self.old) (output self.new) piece.now result }
-        ensures failed { OnErr result (Rose (output self.old).faults (output self.new).faults) };
+        ensures written { Pushes (output self.old) (output self.new) piece.now result };
 
     /// Hands all that was written on. Where it fails, the number of flushed bytes stays.
     fn flush(&mut self) -> Result<(), Failed>
         ensures written { Keeps (output self.old).written (output self.new).written }
         ensures flushed { OnOk result (AllFlushed (output self.old) (output self.new)) }
         ensures stays { OnErr result ((output self.new).flushed ≡ (output self.old).flushed) }
-        ensures count { (output self.old).faults ≤ (output self.new).faults }
-        ensures failed { OnErr result (Rose (output self.old).faults (output self.new).faults) };
+        ensures count { OnOk result ((output self.new).faults ≡ (output self.old).faults) }
+        ensures failed { OnErr result (RoseOnce (output self.old).faults (output self.new).faults) };
 }
 
 /// Writes a whole piece. An empty one needs no call. After a fault the front of it is written.

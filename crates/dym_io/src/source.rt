@@ -1,6 +1,6 @@
 //! Where bytes come from.
-ghost use Rattle.std.specs.Prelude.{◌<◌, ◌≤◌, Option, List, ℕ, length, IfOk, OnErr};
-ghost use Rattle.dym_io.specs.Faults.{Rose};
+ghost use Rattle.std.specs.Prelude.{◌≡◌, ◌<◌, ◌≤◌, Option, List, ℕ, length, IfOk, OnOk, OnErr};
+ghost use Rattle.dym_io.specs.Faults.{RoseOnce};
 ghost use Rattle.dym_io.specs.Source.{Takes, IsEmptyAtEnd};
 
 use crate::Failed;
@@ -13,13 +13,19 @@ pub trait Source {
     /// How often a call has failed.
     ghost faults: { Self → ℕ };
 
+    /// Another call may follow. Nothing tells so once a call has found the end or has failed: a terminal would ask for its end a
+    /// second time, and bytes behind a fault aren't those that follow.
+    ghost goes_on: { Self → Type 0 };
+
     /// Takes the next bytes into the front of `out`, at most its length, and says how many. What stands behind them in `out`
     /// is left open, and so is all of `out` where the call fails.
     fn pull(&mut self, out: &mut [u8]) -> Result<usize, Failed>
-        requires { 0 < length out.old }
+        requires room { 0 < length out.old }
+        requires goes_on { goes_on self.old }
         ensures amount { IfOk result (λ n. n ≤ length out.new) }
         ensures taken { Takes (left self.old) (left self.new) out.new result }
         ensures end { IfOk result (IsEmptyAtEnd (left self.old)) }
-        ensures count { faults self.old ≤ faults self.new }
-        ensures failed { OnErr result (Rose (faults self.old) (faults self.new)) };
+        ensures more { IfOk result (λ n. 0 < n → goes_on self.new) }
+        ensures count { OnOk result (faults self.new ≡ faults self.old) }
+        ensures failed { OnErr result (RoseOnce (faults self.old) (faults self.new)) };
 }

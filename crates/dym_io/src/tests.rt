@@ -139,3 +139,88 @@ fn adapters(rt: HostRuntime) -> Result<(), Fail> {
     assert_eq!(rt; sink.flush(), Err(Failed));
     Ok(())
 }
+
+/// What a `Once` does at the one call that is another than the rest.
+#[derive(Clone, Copy, PartialEq, Eq)]
+enum Other {
+    Fails,
+    GivesNothing,
+}
+
+/// Gives or takes four bytes in each call but one.
+#[derive(Drop)]
+struct Once {
+    calls: usize,
+    at: usize,
+    other: Other,
+}
+
+impl Once {
+    fn new(at: usize, other: Other) -> Once {
+        Once {
+            calls: 0,
+            at,
+            other,
+        }
+    }
+
+    fn call(&mut self) -> io::Result<usize> {
+        let is_other = self.calls == self.at;
+        self.calls = self.calls.saturating_add(1);
+        match self.other {
+            Other::Fails if is_other => Err(io::Error::from(ErrorKind::Interrupted)),
+            Other::GivesNothing if is_other => Ok(0),
+            _ => Ok(4),
+        }
+    }
+}
+
+impl Read for Once {
+    fn read(&mut self, buf: &mut [u8]) -> io::Result<usize> {
+        let amount = self.call()?.min(buf.len());
+        buf[..amount].fill(b'x');
+        Ok(amount)
+    }
+}
+
+impl Write for Once {
+    fn write(&mut self, buf: &[u8]) -> io::Result<usize> {
+        Ok(self.call()?.min(buf.len()))
+    }
+
+    fn flush(&mut self) -> io::Result<()> {
+        self.call()?;
+        Ok(())
+    }
+}
+
+#[test]
+fn no_call_follows_an_end_or_a_fault(rt: HostRuntime) -> Result<(), Fail> {
+    let alloc = rt.alloc();
+    let rows: [(usize, Other, Result<usize, ReadFail>); 4] = [
+        (0, Other::Fails, Err(ReadFail::Source)),
+        (1, Other::Fails, Err(ReadFail::Source)),
+        (0, Other::GivesNothing, Ok(0)),
+        (2, Other::GivesNothing, Ok(8)),
+    ];
+    for (at, other, expected) in rows {
+        let mut reader = Once::new(at, other);
+        let read = read_whole(alloc, &mut StdSource::new(&mut reader), 100);
+        assert_eq!(rt; read.map(|bytes| bytes.len()), expected);
+        assert_eq!(rt; reader.calls, at + 1);
+    }
+    for (at, other) in [
+        (0, Other::Fails),
+        (1, Other::Fails),
+        (1, Other::GivesNothing),
+    ] {
+        let mut writer = Once::new(at, other);
+        let written = push_all(&mut StdSink::new(&mut writer), &TEXT);
+        assert_eq!(rt; written, Err(SinkFault));
+        assert_eq!(rt; writer.calls, at + 1);
+    }
+    let mut writer = Once::new(0, Other::Fails);
+    assert_eq!(rt; StdSink::new(&mut writer).flush(), Err(Failed));
+    assert_eq!(rt; writer.calls, 1);
+    Ok(())
+}

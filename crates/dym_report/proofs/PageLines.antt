@@ -1,8 +1,8 @@
 -- Lines that wait on a page: of a text all but them and a rest is written.
-use Rattle.std.proofs.Common.{◌≡◌, ℕ, suc, ◌+◌, ◌<◌, ◌≤◌, Result, Ok, Err, OnOk, OnErr, List, [], ◌∷◌, ◌++◌, length, drop, get_or, flat_map, sym, ap, ◌∙◌, append_assoc, append-nil, add-one, drop-cons}
+use Rattle.std.proofs.Common.{◌≡◌, ℕ, suc, ◌+◌, ◌<◌, ◌≤◌, Result, Ok, Err, IsErr, OnOk, OnErr, List, [], ◌∷◌, ◌++◌, length, drop, get_or, flat_map, sym, ap, ◌∙◌, append_assoc, append-nil, add-one, drop-cons}
 use Rattle.std.proofs.Math.ListN.{drop_of_length-le}
 use Rattle.dym_io.specs.Sink.{Output, Appended, Writes, Leaves, Stopped}
-use Rattle.dym_io.specs.Laws.{appended_both, stopped_after, leaves_same, leaves_more, leaves_cut, leaves_last}
+use Rattle.dym_io.specs.Laws.{appended_both, stopped_within, stopped_after, leaves_same, leaves_more, leaves_cut, leaves_last}
 
 -- of a text that stands before a rest all but an end is written
 pub leaves_within : (a b c : Output) (text t u left : List ℕ) → Leaves a b text (t ++ u) → Leaves b c t left → Leaves a c text (left ++ u)
@@ -37,6 +37,10 @@ behind_added a b c page line left (Err e) p none q = tt
 pub behind_stopped : {T E : Type 0} → (a b c : Output) (page line : List ℕ) (r : Result T E) → Appended a b page → Writes b c line r → OnErr r (Stopped a c (page ++ line))
 behind_stopped a b c page line (Ok x) p q = tt
 behind_stopped a b c page line (Err e) p q = stopped_after a b c page line p q
+
+pub behind_cut : {T E : Type 0} → (a b : Output) (page line : List ℕ) (r : Result T E) → IsErr r → Stopped a b page → OnErr r (Stopped a b (page ++ line))
+behind_cut a b page line (Ok x) is p = tt
+behind_cut a b page line (Err e) is p = stopped_within a b page line p
 
 -- what waits is written last
 pub page_last : {X T E : Type 0} → (f : X → List ℕ) (items : List X) (i : ℕ) (page text : List ℕ) (a b c : Output) (r : Result T E) → length items ≤ i

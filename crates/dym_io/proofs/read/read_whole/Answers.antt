@@ -1,6 +1,6 @@
-use Rattle.std.proofs.Common.{◌≡◌, length, arith}
+use Rattle.std.proofs.Common.{◌≡◌, ◌+◌, ◌≤◌, length, arith}
 use Rattle.std.proofs.lemmas.Grind.{common_steps}
-use Rattle.dym_io.proofs.ReadSoFar.{ended_at_limit, ended_at_end}
+use Rattle.dym_io.proofs.ReadSoFar.{ended_at_limit, ended_at_end, took_piece}
 use Rattle.dym_io.proofs.read.read_whole.Goals.{else-pieces-test, then-pieces-test+in_ok-amount+then-amount-eq0}
 use Rattle.dym_io.proofs.read.read_whole.Goals as goal
 
@@ -13,3 +13,9 @@ returns-clause-ended g c = elim c.pieces-test.branch [
       let pull = w.in_ok-amount.ensures in
       rw w.source-is (ended_at_end _ _ _ _ _ _ w.pull.new.out c.pieces.invariant.taken pull.end w.if-amount-eq0.true pull.taken)
 ]
+
+pub returns-in_err-extend_from_slice-clause-bounded : goal.returns-in_err-extend_from_slice-clause-bounded
+returns-in_err-extend_from_slice-clause-bounded g c =
+    let pull = c.in_ok-amount.ensures in
+    let few : length c.pieces.bytes.items + c.in_ok-amount.amount ≤ c.args.limit = grind (arith, common_steps) in
+    took_piece c.args.limit c.in_ok-amount.amount _ _ _ _ c.pull.new.out c.pieces.invariant.taken pull.taken pull.amount few

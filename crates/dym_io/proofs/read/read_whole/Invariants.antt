@@ -5,7 +5,7 @@ use Rattle.dym_io.proofs.read.read_whole.Given as goal
 
 abbrev pub invariant-pieces : goal.invariant-pieces
 invariant-pieces g l =
-    ReadSoFar l.limit (g.R.Source.left l.initial.source) (g.R.Source.left l.source) (g.R.Source.faults l.initial.source) (g.R.Source.faults l.source) l.bytes.items
+    ReadSoFar l.limit (g.R.Source.left l.initial.source) (g.R.Source.left l.source) (g.R.Source.faults l.initial.source) (g.R.Source.faults l.source) (g.R.Source.goes_on l.source) l.bytes.items
 
 abbrev pub decreases-pieces : goal.decreases-pieces
 decreases-pieces g l = l.limit - vec_len l.bytes
