@@ -5,7 +5,7 @@ ghost use Rattle.dym_base.specs.Numbers.{number};
 /// The name of a chunk: the exponent of its class, and its index in that class.
 ///
 /// A handle is any pair of numbers. One whose exponent is outside 5 to 16 is live in no heap.
-#[derive(Clone, Copy, Debug, PartialEq, Eq, PartialOrd, Ord, Hash)]
+#[derive(Clone, Copy, Debug, PartialEq, Eq, Hash)]
 pub struct Handle {
     pub exp: u8,
     pub index: u32,

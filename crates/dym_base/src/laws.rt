@@ -1,6 +1,7 @@
 //! What the definitions come to, in the subject's own words. Each law is the contract of a function that does nothing.
 ghost use Rattle.dym_base.specs.Laws.{FreshIsFree, FreshIsLeast, NumberKeepsHandle, HandleKeepsNumber, AreasAreLeast, FreshNeedsArea, QuotaIsKept, StartIsWellSized, StepIsWellSized, HeapRefusalKeeps, ObjectRefusalKeeps, StartTouchesLive, StepTouchesLive};
 ghost use Rattle.dym_base.specs.StandingLaws.{FullStandsAlone, LogsStandForOne};
+ghost use Rattle.dym_base.specs.Limits.{LimitsAreThese};
 ghost use Rattle.dym_base.specs.RunLaws.{RunsKeepQuota, RunsKeepSizes, RunsTouchLive, RunsKeepLogs, ReachedAreBefore};
 
 /// The index of a new chunk is the least of its class that isn't live.
@@ -77,4 +78,9 @@ pub fn reached_are_before()
 pub fn logs_stand_for_one()
     ensures alone { FullStandsAlone }
     ensures one { LogsStandForOne }
+{}
+
+/// The limits are these numbers.
+pub fn limits_are_these()
+    ensures { LimitsAreThese }
 {}

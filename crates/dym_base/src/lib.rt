@@ -13,7 +13,6 @@ pub mod laws;
 pub mod limits;
 pub mod name;
 pub mod reply;
-pub mod slots;
 
 pub use bad_kind::BadKind;
 pub use blob::Blob;

@@ -24,7 +24,7 @@ pub enum Refusal {
 }
 
 /// The reply to one command.
-#[derive(Drop)]
+#[derive(Drop, PartialEq)]
 pub enum Reply {
     /// Done, with nothing to tell.
     Done,

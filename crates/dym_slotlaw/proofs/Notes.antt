@@ -4,14 +4,14 @@ use Rattle.std.specs.Prelude.{if◌then◌else◌, filter}
 use Rattle.std.proofs.lemmas.List.{get_or-set_other}
 use Rattle.std.proofs.lemmas.Bool.{cases_eq}
 use Rattle.std.proofs.lemmas.Bool.Decides.{nat_tests}
-use Rattle.dym_base.specs.declared.slots.Slot.{Slot}
-use Rattle.dym_base.specs.declared.slots.Slot.TheVariants.{Free, Live, OutOwner, OutSweeper}
-use Rattle.dym_base.specs.declared.slots.Event.{Event}
-use Rattle.dym_base.specs.declared.slots.Event.TheVariants.{OwnerLook, OwnerClaim, OwnerTake, OwnerEmpty, OwnerFill, OwnerPut, OwnerLower, OwnerFree, OwnerRaise, SweeperRoot, SweeperLook, SweeperGrab, SweeperEmpty, SweeperFree}
-use Rattle.dym_base.specs.Slots.{Core, state_of}
-use Rattle.dym_base.specs.SlotSteps.{Step, Steps, is_retired}
-use Rattle.dym_base.specs.SlotFacts.{Facts}
-use Rattle.dym_base.specs.SlotNotes.{Look, OwnerNote, SweeperNote, Noted, NotedStep, NotedSteps, noted_start, NotesStand, LookStands, FoundStands, owner_note, sweeper_note, forget, live_number, is_round, is_taking_back}
+use Rattle.dym_slotlaw.specs.declared.slots.Slot.{Slot}
+use Rattle.dym_slotlaw.specs.declared.slots.Slot.TheVariants.{Free, Live, OutOwner, OutSweeper}
+use Rattle.dym_slotlaw.specs.declared.slots.Event.{Event}
+use Rattle.dym_slotlaw.specs.declared.slots.Event.TheVariants.{OwnerLook, OwnerClaim, OwnerTake, OwnerEmpty, OwnerFill, OwnerPut, OwnerLower, OwnerFree, OwnerRaise, SweeperRoot, SweeperLook, SweeperGrab, SweeperEmpty, SweeperFree}
+use Rattle.dym_slotlaw.specs.Slots.{Core, state_of}
+use Rattle.dym_slotlaw.specs.SlotSteps.{Step, Steps, is_retired}
+use Rattle.dym_slotlaw.specs.SlotFacts.{Facts}
+use Rattle.dym_slotlaw.specs.SlotNotes.{Look, OwnerNote, SweeperNote, Noted, NotedStep, NotedSteps, noted_start, NotesStand, LookStands, FoundStands, owner_note, sweeper_note, forget, live_number, is_round, is_taking_back}
 use Rattle.dym_slotlaw.proofs.Places.{written, inside_live, inside_owner, inside_sweeper}
 use Rattle.dym_slotlaw.proofs.Steps.{step_keeps}
 

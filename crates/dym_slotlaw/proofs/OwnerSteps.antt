@@ -9,12 +9,12 @@ use Rattle.std.proofs.lemmas.List.{length-set}
 use Rattle.std.proofs.lemmas.List.Elements.{Contains-get_or, Contains-append_left, Contains-push, Contains-push_cases}
 use Rattle.std.proofs.lemmas.List.Quantifiers.{all_pairs_push}
 use Rattle.std.proofs.lemmas.List.Kept.{AllPairs-filter}
-use Rattle.dym_base.specs.declared.slots.Entry.{Entry}
-use Rattle.dym_base.specs.declared.slots.Slot.{Slot}
-use Rattle.dym_base.specs.declared.slots.Slot.TheVariants.{Free, Live, OutOwner, OutSweeper}
-use Rattle.dym_base.specs.Slots.{Core, state_of, entry, IsEntry, IsListed}
-use Rattle.dym_base.specs.SlotSteps.{OwnerLooks, OwnerClaims, OwnerTakes, OwnerEmpties, OwnerFills, OwnerPuts, OwnerLowers, OwnerFrees, OwnerRaises, remember, without, from_number}
-use Rattle.dym_base.specs.SlotFacts.{Facts, RememberedIsPast, IsSwept}
+use Rattle.dym_slotlaw.specs.declared.slots.Entry.{Entry}
+use Rattle.dym_slotlaw.specs.declared.slots.Slot.{Slot}
+use Rattle.dym_slotlaw.specs.declared.slots.Slot.TheVariants.{Free, Live, OutOwner, OutSweeper}
+use Rattle.dym_slotlaw.specs.Slots.{Core, state_of, entry, IsEntry, IsListed}
+use Rattle.dym_slotlaw.specs.SlotSteps.{OwnerLooks, OwnerClaims, OwnerTakes, OwnerEmpties, OwnerFills, OwnerPuts, OwnerLowers, OwnerFrees, OwnerRaises, remember, without, from_number}
+use Rattle.dym_slotlaw.specs.SlotFacts.{Facts, RememberedIsPast, IsSwept}
 use Rattle.dym_slotlaw.proofs.Places.{written, inside_live, inside_owner, one_slot, remembered_kept, from_filter, into_filter}
 
 pub claim_keeps : (s : ℕ) (c d : Core) → OwnerClaims s c d → Facts c → Facts d

@@ -4,10 +4,10 @@ use Rattle.std.specs.List.{Contains, filter}
 use Rattle.std.proofs.lemmas.List.Elements.{All-contains, All-filter, All-contains_itself, filter_passes}
 use Rattle.std.proofs.lemmas.List.{get_or-set_same, get_or-set_other, get_or_past, get_or_default}
 use Rattle.std.proofs.lemmas.Bool.{cases_eq, cases_lt}
-use Rattle.dym_base.specs.declared.slots.Slot.TheVariants.{Free, Live, OutOwner, OutSweeper}
-use Rattle.dym_base.specs.declared.slots.Entry.{Entry}
-use Rattle.dym_base.specs.Slots.{Core, state_of, entry, IsEntry}
-use Rattle.dym_base.specs.SlotFacts.{ListRises, RememberedIsPast, IsSwept, IsReused}
+use Rattle.dym_slotlaw.specs.declared.slots.Slot.TheVariants.{Free, Live, OutOwner, OutSweeper}
+use Rattle.dym_slotlaw.specs.declared.slots.Entry.{Entry}
+use Rattle.dym_slotlaw.specs.Slots.{Core, state_of, entry, IsEntry}
+use Rattle.dym_slotlaw.specs.SlotFacts.{ListRises, RememberedIsPast, IsSwept, IsReused}
 
 -- the place that was written has the new value, and each other one what it had
 pub written : {X : Type 0} (xs : List X) (s t : ℕ) (w d : X) → s < length xs →

@@ -3,8 +3,8 @@ use Rattle.std.proofs.Common.{◌≡◌, inl, inr, ℕ, zero, suc, ◌+◌, ◌<
 use Rattle.std.specs.List.{filter, list_any, range_with_len}
 use Rattle.std.proofs.lemmas.Bool.{cases_eq}
 use Rattle.std.proofs.lemmas.Bool.Decides.{nat_tests}
-use Rattle.dym_base.specs.declared.slots.Entry.{Entry}
-use Rattle.dym_base.specs.Slots.{Core}
+use Rattle.dym_slotlaw.specs.declared.slots.Entry.{Entry}
+use Rattle.dym_slotlaw.specs.Slots.{Core}
 use Rattle.dym_slotlaw.specs.SlotLaws.{unlisted_slots}
 
 -- how many of the n numbers from a on aren't taken

@@ -2,12 +2,12 @@
 use Rattle.std.proofs.Common.{◌≡◌, inl, inr, ℕ, List, [], ◌∷◌, length, replicate, ap, sym, subst, ◌∙◌, None, arith}
 use Rattle.std.proofs.lemmas.Bool.{cases_lt}
 use Rattle.std.proofs.lemmas.List.{length-set, length-replicate, get_or-replicate, get_or_past}
-use Rattle.dym_base.specs.declared.slots.Slot.TheVariants.{Free, Live, OutOwner, OutSweeper}
-use Rattle.dym_base.specs.declared.slots.Event.{Event}
-use Rattle.dym_base.specs.declared.slots.Event.TheVariants.{OwnerLook, OwnerClaim, OwnerTake, OwnerEmpty, OwnerFill, OwnerPut, OwnerLower, OwnerFree, OwnerRaise, SweeperRoot, SweeperLook, SweeperGrab, SweeperEmpty, SweeperFree}
-use Rattle.dym_base.specs.Slots.{Core, start, state_of, home_of}
-use Rattle.dym_base.specs.SlotSteps.{Step, Steps}
-use Rattle.dym_base.specs.SlotFacts.{Facts}
+use Rattle.dym_slotlaw.specs.declared.slots.Slot.TheVariants.{Free, Live, OutOwner, OutSweeper}
+use Rattle.dym_slotlaw.specs.declared.slots.Event.{Event}
+use Rattle.dym_slotlaw.specs.declared.slots.Event.TheVariants.{OwnerLook, OwnerClaim, OwnerTake, OwnerEmpty, OwnerFill, OwnerPut, OwnerLower, OwnerFree, OwnerRaise, SweeperRoot, SweeperLook, SweeperGrab, SweeperEmpty, SweeperFree}
+use Rattle.dym_slotlaw.specs.Slots.{Core, start, state_of, home_of}
+use Rattle.dym_slotlaw.specs.SlotSteps.{Step, Steps}
+use Rattle.dym_slotlaw.specs.SlotFacts.{Facts}
 use Rattle.dym_slotlaw.proofs.OwnerSteps.{look_keeps, claim_keeps, take_keeps, empty_keeps, fill_keeps, put_keeps, lower_keeps, free_keeps, raise_keeps}
 use Rattle.dym_slotlaw.proofs.SweeperSteps.{root_keeps, sweeper_look_keeps, grab_keeps, sweeper_empty_keeps, sweeper_free_keeps}
 

@@ -4,11 +4,11 @@ use Rattle.std.specs.Prelude.{if◌then◌else◌}
 use Rattle.std.proofs.lemmas.Bool.{cases_eq, cases_lt}
 use Rattle.std.proofs.lemmas.Bool.Decides.{nat_tests}
 use Rattle.std.proofs.lemmas.List.{length-set}
-use Rattle.dym_base.specs.declared.slots.Slot.{Slot}
-use Rattle.dym_base.specs.declared.slots.Slot.TheVariants.{Free, Live, OutOwner, OutSweeper}
-use Rattle.dym_base.specs.Slots.{Core, state_of}
-use Rattle.dym_base.specs.SlotSteps.{SweeperReadsRoot, SweeperLooks, SweeperGrabs, SweeperEmpties, SweeperFrees, is_retired}
-use Rattle.dym_base.specs.SlotFacts.{Facts}
+use Rattle.dym_slotlaw.specs.declared.slots.Slot.{Slot}
+use Rattle.dym_slotlaw.specs.declared.slots.Slot.TheVariants.{Free, Live, OutOwner, OutSweeper}
+use Rattle.dym_slotlaw.specs.Slots.{Core, state_of}
+use Rattle.dym_slotlaw.specs.SlotSteps.{SweeperReadsRoot, SweeperLooks, SweeperGrabs, SweeperEmpties, SweeperFrees, is_retired}
+use Rattle.dym_slotlaw.specs.SlotFacts.{Facts}
 use Rattle.dym_slotlaw.proofs.Places.{written, inside_live, inside_sweeper, remembered_kept}
 
 pub root_keeps : (c d : Core) → SweeperReadsRoot c d → Facts c → Facts d

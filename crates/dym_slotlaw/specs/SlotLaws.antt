@@ -1,13 +1,14 @@
 -- The laws of the log table, each a statement over all its states, or over all lists of its events.
-use Rattle.std.specs.Prelude.{◌≡◌, ℕ, ◌≤◌, List, length, None, AllPairs, filter, nat_eq, not}
+use Rattle.std.specs.Prelude.{◌≡◌, ℕ, ◌^◌, ◌≤◌, List, length, None, AllPairs, filter, nat_eq, not}
 use Rattle.std.specs.List.{list_any, range_with_len}
 use Rattle.dym_base.specs.declared.limits.TheConstants.{LOG_SLOTS, MOST_RECORDS}
-use Rattle.dym_base.specs.declared.slots.Slot.TheVariants.{Free, Live}
-use Rattle.dym_base.specs.declared.slots.Event.{Event}
-use Rattle.dym_base.specs.Slots.{Core, start, state_of, IsEntry}
-use Rattle.dym_base.specs.SlotSteps.{Step, Steps}
-use Rattle.dym_base.specs.SlotFacts.{Facts}
-use Rattle.dym_base.specs.SlotNotes.{Noted, noted_start, NotedStep, NotedSteps, NotesStand, CountsTell}
+use Rattle.dym_slotlaw.specs.declared.slots.Slot.TheVariants.{Free, Live}
+use Rattle.dym_slotlaw.specs.declared.slots.Event.{Event}
+use Rattle.dym_slotlaw.specs.declared.slots.TheConstants.{RECORD_NUMBERS}
+use Rattle.dym_slotlaw.specs.Slots.{Core, start, state_of, IsEntry}
+use Rattle.dym_slotlaw.specs.SlotSteps.{Step, Steps}
+use Rattle.dym_slotlaw.specs.SlotFacts.{Facts}
+use Rattle.dym_slotlaw.specs.SlotNotes.{Noted, noted_start, NotedStep, NotedSteps, NotesStand, CountsTell}
 
 -- a step from a state that meets the facts leads to one that meets them, with as many slots
 abbrev pub EachStepKeepsFacts : Type 0
@@ -49,3 +50,7 @@ unlisted_slots c = filter (λ s. not (list_any (λ e. nat_eq e.slot s) c.owner.l
 -- `put` finds a slot: a list of as many entries as an object may have leaves at least 33 slots in no entry.
 abbrev pub PutHasRoom : Type 0
 PutHasRoom = (c : Core) → length c.slots ≡ LOG_SLOTS → length c.owner.list ≤ MOST_RECORDS → 33 ≤ length (unlisted_slots c)
+
+-- a record's number is below 2 ^ 60
+abbrev pub NumbersAreBelow : Type 0
+NumbersAreBelow = RECORD_NUMBERS ≡ 2 ^ 60

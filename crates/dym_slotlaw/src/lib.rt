@@ -1,54 +1,15 @@
-//! The law of the log table: what every list of its steps keeps, and what the owner and the sweeper may rely on.
+//! The log table's machine and its law: the states of its slots, the steps of its two seats, and what every list of steps keeps.
 //!
-//! Below it stands `dym_base`, which defines the table, its steps and its facts; above it stand the trace checker and
-//! the running table. Its one contract: each step keeps all facts, whatever the owner and the sweeper do in turn.
-//!
-//! The functions do nothing. Each has a law as its contract, so that a caller's proof may rely on it.
+//! Below it stands `dym_base`; above it stand the trace checker and the running table. Its one contract: each step keeps all
+//! facts, whatever the owner and the sweeper do in turn.
 #![tactic(auto)]
 
-ghost use Rattle.dym_slotlaw.specs.SlotLaws.{EachStepKeepsFacts, EachRunKeepsFacts, EachStepKeepsNotes, EachRunKeepsNotes, EachRunHasNotes, OwnerFindsItsOwn, FirstOfTwoIsFree, FullCountIsClean, PutHasRoom};
+pub mod laws;
+pub mod slots;
 
-/// Each step keeps all facts, and the number of slots.
-pub fn each_step_keeps_facts()
-    ensures { EachStepKeepsFacts }
-{}
-
-/// Each state that a list of steps reaches from the start meets all facts.
-pub fn each_run_keeps_facts()
-    ensures { EachRunKeepsFacts }
-{}
-
-/// Each step keeps the notes of the two seats.
-pub fn each_step_keeps_notes()
-    ensures { EachStepKeepsNotes }
-{}
-
-/// Each state that a list of steps reaches from the start meets all facts and all notes.
-pub fn each_run_keeps_notes()
-    ensures { EachRunKeepsNotes }
-{}
-
-/// The notes follow each list of steps.
-pub fn each_run_has_notes()
-    ensures { EachRunHasNotes }
-{}
-
-/// The owner takes a slot of its list at the first try: it finds the slot Live under the entry's number.
-pub fn owner_finds_its_own()
-    ensures { OwnerFindsItsOwn }
-{}
-
-/// A slot that was seen out with the sweeper is Free once a second one was seen so in the same `put`.
-pub fn first_of_two_is_free()
-    ensures { FirstOfTwoIsFree }
-{}
-
-/// A sweep that found all slots clean left no record below the root that it saw.
-pub fn full_count_is_clean()
-    ensures { FullCountIsClean }
-{}
-
-/// A list of at most 287 entries leaves at least 33 slots for the next `put`.
-pub fn put_has_room()
-    ensures { PutHasRoom }
-{}
+pub use laws::{
+    each_run_has_notes, each_run_keeps_facts, each_run_keeps_notes, each_step_keeps_facts,
+    each_step_keeps_notes, first_of_two_is_free, full_count_is_clean, numbers_are_below,
+    owner_finds_its_own, put_has_room,
+};
+pub use slots::{Entry, Event, RECORD_NUMBERS, Slot};

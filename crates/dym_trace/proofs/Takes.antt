@@ -2,8 +2,8 @@
 use Rattle.std.proofs.Common.{ℕ, Bool, true, false, List, Result, Ok, Err, IfOk, ◌∙◌, subst}
 use Rattle.std.specs.Bool.{IsTrue}
 use Rattle.std.specs.declared.alloc.AllocError.{AllocError}
-use Rattle.dym_base.specs.declared.slots.Event.{Event}
-use Rattle.dym_base.specs.SlotSteps.{Step}
+use Rattle.dym_slotlaw.specs.declared.slots.Event.{Event}
+use Rattle.dym_slotlaw.specs.SlotSteps.{Step}
 use Rattle.dym_slotlaw.specs.SlotLaws.{EachStepKeepsFacts}
 use Rattle.dym_trace.specs.declared.machine.Machine.{Machine}
 use Rattle.dym_trace.specs.Events.{Reads}

@@ -1,0 +1,6 @@
+use Rattle.std.proofs.Common.{rules, arith}
+use Rattle.dym_prune.proofs.Moves.{may_ask}
+use Rattle.dym_prune.proofs.stop.Asker.ask.Goals as goal
+
+pub store-requires : goal.store-requires
+store-requires c = (search rules, search rules, may_ask _ _ _ c.args.self.now.asks)

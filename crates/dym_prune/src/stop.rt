@@ -1,0 +1,136 @@
+//! A stop: one shared word, by which one thread asks another to end.
+ghost use Rattle.std.specs.Prelude.{◌≡◌, ◌+◌, true, false, IfOk, ◌↔◌, IsTrue, IsFalse};
+ghost use Rattle.dym_prune.specs.Stops.{EarMeaning, stop_view};
+
+use crate::stop_view::StopView;
+use atomic_table::{Play, Seat, Split, Table, TableRule};
+use std::alloc::{AllocError, Global};
+use std::marker::Model;
+use std::sync::Arc;
+
+/// A stop, which is two ends of one word.
+pub struct Stop;
+
+/// The rule of the word and of what the ends know.
+pub struct StopRule;
+
+impl TableRule<(), StopView, ()> for StopRule {
+    ghost use Rattle.std.specs.Prelude.{true, false};
+    ghost use Rattle.dym_prune.specs.Stops.{stop_view, IsStop};
+
+    ghost holds = { λ _. IsStop };
+
+    ghost first = { λ _. stop_view true false false 0 };
+}
+
+/// The first end keeps asking, and the second one listens.
+struct Ends;
+
+impl Split<StopView> for Ends {
+    ghost use Rattle.std.specs.Prelude.{true, false};
+    ghost use Rattle.dym_prune.specs.Stops.{stop_view};
+
+    ghost left = { λ v. stop_view true v.asked false 0 };
+
+    ghost right = { λ v. stop_view false false false 0 };
+}
+
+/// The step of an end that asks.
+struct Ask;
+
+impl Play<(), StopView> for Ask {
+    ghost use Rattle.dym_prune.specs.Stops.{Asks};
+
+    ghost then = { λ _ me _ after. Asks me after };
+}
+
+/// The step of an end that listens.
+struct Listen;
+
+impl Play<(), StopView> for Listen {
+    ghost use Rattle.dym_prune.specs.Stops.{Listens};
+
+    ghost then = { λ _ me n after. Listens me n after };
+}
+
+type Board = Table<(), StopView, (), StopRule, Global>;
+
+type End = Seat<(), StopView>;
+
+/// The end of a stop that asks for it.
+#[derive(Drop)]
+pub struct Asker {
+    board: Arc<Board, Global>,
+    seat: End,
+    ghost seated: { (seat.table_id ≡ board.value.shared.table_id) × (board.value.shared.table_id.words ≡ 1) },
+    ghost asks: { seat.me.0.asks ≡ true },
+}
+
+/// The end of a stop that hears of it. Contracts see whether it has heard, and how often it listened and found nothing.
+#[derive(Drop)]
+pub struct Ear {
+    board: Arc<Board, Global>,
+    seat: End,
+    heard: bool,
+    ghost seated: { (seat.table_id ≡ board.value.shared.table_id) × (board.value.shared.table_id.words ≡ 1) },
+    ghost knows: { seat.me.0.heard ≡ heard },
+}
+
+impl Model for Ear {
+    ghost use Rattle.dym_prune.specs.Stops.{EarMeaning};
+
+    ghost Value = { EarMeaning };
+
+    ghost view = { λ e. record { heard = e.heard; misses = e.seat.me.0.misses } };
+}
+
+impl Stop {
+    /// A stop that nobody has asked for.
+    pub fn open(alloc: Global) -> Result<(Asker, Ear), AllocError>
+        ensures { IfOk result (λ ends. ends.1 ≡ record { heard = false; misses = 0 }) }
+    {
+        let (table, mut seat) = Board::of_words(alloc, &[0], &())?;
+        let board = Arc::new(alloc, table)?;
+        let theirs = Arc::try_clone(&board)?;
+        let ear = board.shared.split_seat::<Ends>(&mut seat);
+        let asker = Asker { board, seat };
+        Ok((
+            asker,
+            Ear {
+                board: theirs,
+                seat: ear,
+                heard: false,
+            },
+        ))
+    }
+}
+
+impl Asker {
+    /// Asks for the stop. It may be asked for again.
+    pub fn ask(&mut self) {
+        self.board.shared.store::<Ask>(&mut self.seat, 0, 1);
+    }
+}
+
+impl Ear {
+    /// Whether the stop was asked for, by one load of the word. Once this end has heard, the answer is always true.
+    pub fn asked(&mut self) -> bool
+        ensures found { IsTrue result → self.new ≡ record { heard = true; misses = self.old.misses } }
+        ensures missed { IsFalse result → self.new ≡ record { heard = false; misses = self.old.misses + 1 } }
+        ensures again { self.old.heard ≡ true → IsTrue result }
+    {
+        let found = self.board.shared.load::<Listen>(&mut self.seat, 0);
+        if found == 0 {
+            return false;
+        }
+        self.heard = true;
+        true
+    }
+
+    /// Whether this end has heard.
+    pub fn heard(&self) -> bool
+        ensures { result ≡ self.now.heard }
+    {
+        self.heard
+    }
+}
