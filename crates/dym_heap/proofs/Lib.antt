@@ -45,3 +45,4 @@ pub mod Counts
 pub mod Emptied
 pub mod UseBits
 pub mod Fitting
+pub mod Sums

@@ -1,10 +1,13 @@
 -- Sizes of classes, and where chunks lie in an area.
-use Rattle.std.proofs.Common.{◌≡◌, ℕ, ◌+◌, ◌-◌, ◌*◌, ◌^◌, ◌<◌, ◌≤◌, ◌⊎◌, inl, inr, Bool, true, false, cond, Some, None, List, [], ◌∷◌, refl, sym, ap, subst, ◌∙◌, arith}
+use Rattle.std.proofs.Common.{◌≡◌, ℕ, ◌+◌, ◌-◌, ◌*◌, ◌^◌, min, ◌<◌, ◌≤◌, ◌⊎◌, inl, inr, Bool, true, false, cond, Some, None, List, [], ◌∷◌, refl, sym, ap, subst, ◌∙◌, arith}
 use Rattle.std.specs.Prelude.{find, nat_le}
 use Rattle.std.proofs.Math.Nat.{pow-le-pow_right}
 use Rattle.std.proofs.lemmas.Nat.{pow-add, row_fits}
 use Rattle.std.proofs.lemmas.Bool.{cases_lt, lt-leb, leb-true}
 use Rattle.dym_base.specs.Numbers.{size, per, cls, classes}
+use Rattle.dym_base.specs.Heaps.{HeapState}
+use Rattle.dym_base.specs.HeapStep.{refused, malloc, malloc_in}
+use Rattle.dym_base.specs.declared.reply.Refusal.TheVariants.{TooLarge}
 use Rattle.dym_base.specs.declared.command.Version.{Version}
 use Rattle.dym_base.specs.declared.command.Version.TheVariants.{One, Two}
 use Rattle.dym_heap.specs.Meaning.{IsSizeOf}
@@ -77,3 +80,17 @@ above_classes n l =
 pub too_large : (n : ℕ) → 65536 < n → cls n ≡ None
 unfolding cls
 too_large n l = none_in (λ e. nat_le n (size e)) classes (above_classes n l)
+
+-- what is too large is refused, however large
+too_large_alike : (v : Version) (quota : ℕ) (s : HeapState) (n : ℕ) → 65536 < n → malloc v quota s n ≡ refused s TooLarge
+too_large_alike v quota s n big = ap (malloc_in v quota s n) (too_large n big)
+
+-- a length that stops at the greatest number of 64 bits
+pub malloc_saturated : (v : Version) (quota : ℕ) (s : HeapState) (n : ℕ) → malloc v quota s (min n (2 ^ 64 - 1)) ≡ malloc v quota s n
+malloc_saturated v quota s n =
+    elim (cases_lt n (2 ^ 64)) as (λ _. malloc v quota s (min n (2 ^ 64 - 1)) ≡ malloc v quota s n) [
+      | inl small ↦ ap (malloc v quota s) (let is : min n (2 ^ 64 - 1) ≡ n = omega arith in is)
+      | inr big ↦
+          too_large_alike v quota s (min n (2 ^ 64 - 1)) (omega arith)
+          ∙ sym (too_large_alike v quota s n (omega arith))
+    ]

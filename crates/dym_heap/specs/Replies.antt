@@ -1,12 +1,12 @@
 -- What the answers of a heap's calls are as replies, and the step that a call is.
-use Rattle.std.specs.Prelude.{◌≡◌, ℕ, ◌+◌, ◌≤◌, ◌<◌, true, false, List, Option, None, Some, Result, Ok, Err}
+use Rattle.std.specs.Prelude.{⊤, ◌≡◌, ℕ, ◌+◌, ◌≤◌, ◌<◌, true, false, List, Option, None, Some, Result, Ok, Err}
 use Rattle.std.specs.FinMap.{contains_key}
 use Rattle.dym_base.specs.Heaps.{Live}
 use Rattle.dym_base.specs.HeapStep.{HeapAnswer, heap_step, key}
 use Rattle.dym_base.specs.declared.handle.Handle.{Handle}
 use Rattle.dym_base.specs.declared.command.Command.{Command}
 use Rattle.dym_base.specs.declared.reply.Reply.{Reply}
-use Rattle.dym_base.specs.declared.reply.Reply.TheVariants.{Done, Chunk, Nil, Loose, Bytes, Refused}
+use Rattle.dym_base.specs.declared.reply.Reply.TheVariants.{Done, Chunk, Nil, Loose, Bytes, Total, Refused}
 use Rattle.dym_base.specs.declared.reply.Refusal.{Refusal}
 use Rattle.dym_heap.specs.declared.found.Found.{Found}
 use Rattle.dym_heap.specs.declared.found.Found.TheVariants as found
@@ -42,6 +42,19 @@ found_reply (Ok found.Nil) = Nil
 found_reply (Ok (found.Live h)) = Chunk h
 found_reply (Ok (found.Loose n)) = Loose n
 found_reply (Err why) = Refused why
+
+abbrev pub total_reply : Result ℕ Refusal → Reply
+total_reply (Ok n) = Total n
+total_reply (Err why) = Refused why
+
+-- a fact that holds where the reply is a refusal
+abbrev pub OnRefusal : Reply → Type 0 → Type 0
+OnRefusal (Refused why) P = P
+OnRefusal _ P = ⊤
+
+-- the heap with one command more applied to it
+abbrev pub counted : HeapMeaning → HeapMeaning
+counted h = record h { applied = h.applied + 1 }
 
 -- the number from which the next live chunk is sought: that after the handle's
 abbrev pub after_key : Option Handle → ℕ

@@ -5,13 +5,13 @@ ghost use Rattle.std.specs.FinSet as FinSet;
 ghost use Rattle.dym_base.specs.HeapStep.{key};
 ghost use Rattle.dym_base.specs.Objects.{empty_heap};
 ghost use Rattle.dym_base.specs.declared.command.Version.TheVariants.{One};
-ghost use Rattle.dym_base.specs.declared.command.Command.TheVariants.{Malloc, Calloc, Realloc, Free, Write, Fill, Read, Follow};
+ghost use Rattle.dym_base.specs.declared.command.Command.TheVariants.{Malloc, Calloc, Realloc, Free, Write, Fill, Read, Link, Follow, Sum};
 ghost use Rattle.dym_base.specs.declared.limits.TheConstants.{MOST_QUOTA};
 ghost use Rattle.dym_base.specs.Heaps.{held};
 ghost use Rattle.dym_pack.specs.Reading.{OfLog};
 ghost use Rattle.dym_heap.specs.Loading.{HaveOneSetOfHandles, IsLoaded};
 ghost use Rattle.dym_heap.specs.Meaning.{HeapMeaning, IsSound};
-ghost use Rattle.dym_heap.specs.Replies.{step_of, stepped, done_reply, chunk_reply, moved_reply, bytes_reply, found_reply, after_key, IsNextLive};
+ghost use Rattle.dym_heap.specs.Replies.{step_of, stepped, done_reply, chunk_reply, moved_reply, bytes_reply, found_reply, total_reply, after_key, IsNextLive};
 
 use crate::chunk::{
     bytes_of_handle, fill_chunk, find_number, free_handle, len_of_handle, move_chunk, resize_chunk,
@@ -23,6 +23,7 @@ use crate::loading::load_record;
 use crate::next::next_from;
 use crate::shape::shape_shelf;
 use crate::shelf::Shelf;
+use crate::sum::sum_bytes;
 use dym_base::limits::MOST_QUOTA;
 use dym_base::{Handle, Refusal, Version, class_of, size_of_class};
 use dym_pack::Record;
@@ -37,7 +38,7 @@ use std::marker::Model;
 /// nothing.
 pub struct Heap<S: Supply> {
     pub(crate) shelf: Shelf<S>,
-    applied: u64,
+    pub(crate) applied: u64,
 }
 
 impl<S: Supply> Model for Heap<S> {
@@ -120,11 +121,11 @@ impl<S: Supply> Heap<S> {
         ensures refused { OnErr result (self.new ≡ self.old) }
         ensures sound { IsSound self.new }
     {
+        let version = self.shelf.version();
         let Some(exp) = class_of(len) else {
-            let _applied = self.applied;
             return Err(Refusal::TooLarge);
         };
-        let bytes = new_len(self.shelf.version(), exp, len);
+        let bytes = new_len(version, exp, len);
         match take_fresh(&mut self.shelf, way, exp, bytes) {
             Some(index) => Ok(Handle { exp, index }),
             None => Err(Refusal::Quota),
@@ -138,11 +139,7 @@ impl<S: Supply> Heap<S> {
         ensures refused { OnErr result (self.new ≡ self.old) }
         ensures sound { IsSound self.new }
     {
-        let Some(product) = n.checked_mul(len) else {
-            let _applied = self.applied;
-            return Err(Refusal::TooLarge);
-        };
-        self.malloc(way, product)
+        self.malloc(way, n.saturating_mul(len))
     }
 
     /// A chunk of `len` bytes with the old bytes up to the smaller length, then zeros. A chunk of its own class keeps its
@@ -205,11 +202,11 @@ impl<S: Supply> Heap<S> {
         ensures refused { OnErr result (self.new ≡ self.old) }
         ensures sound { IsSound self.new }
     {
+        let shelf = &mut self.shelf;
         let Some(h) = h else {
-            let _applied = self.applied;
             return Ok(());
         };
-        if !free_handle(&mut self.shelf, way, h) {
+        if !free_handle(shelf, way, h) {
             return Err(Refusal::Dead);
         }
         Ok(())
@@ -219,6 +216,7 @@ impl<S: Supply> Heap<S> {
     pub fn write(&mut self, h: Handle, at: u32, bytes: &[u8]) -> Result<(), Refusal>
         ensures reply { done_reply result ≡ (step_of self.old (Write h at bytes.now)).reply }
         ensures after { self.new ≡ stepped self.old (Write h at bytes.now) }
+        ensures refused { OnErr result (self.new ≡ self.old) }
         ensures sound { IsSound self.new }
     {
         let Some(len) = len_of_handle(&self.shelf, h) else {
@@ -238,6 +236,7 @@ impl<S: Supply> Heap<S> {
     pub fn fill(&mut self, h: Handle, at: u32, len: u32, byte: u8) -> Result<(), Refusal>
         ensures reply { done_reply result ≡ (step_of self.old (Fill h at len byte)).reply }
         ensures after { self.new ≡ stepped self.old (Fill h at len byte) }
+        ensures refused { OnErr result (self.new ≡ self.old) }
         ensures sound { IsSound self.new }
     {
         let Some(size) = len_of_handle(&self.shelf, h) else {
@@ -253,6 +252,17 @@ impl<S: Supply> Heap<S> {
         Ok(())
     }
 
+    /// Writes the number of a handle into a chunk, from its place `at` on, in eight bytes, little end first, or 0 for nil. The
+    /// handle needn't be live.
+    pub fn link(&mut self, h: Handle, at: u32, to: Option<Handle>) -> Result<(), Refusal>
+        ensures reply { done_reply result ≡ (step_of self.old (Link h at to)).reply }
+        ensures after { self.new ≡ stepped self.old (Link h at to) }
+        ensures refused { OnErr result (self.new ≡ self.old) }
+        ensures sound { IsSound self.new }
+    {
+        self.write(h, at, &link_number(to).to_le_bytes())
+    }
+
     /// What the eight bytes of a chunk from its place `at` on name.
     pub fn follow(&self, h: Handle, at: u32) -> Result<Found, Refusal>
         ensures { found_reply result ≡ (step_of self.now (Follow h at)).reply }
@@ -266,6 +276,16 @@ impl<S: Supply> Heap<S> {
         let mut bytes = [0; 8];
         self.shelf.read(h.exp, h.index, at, &mut bytes);
         Ok(find_number(&self.shelf, u64::from_le_bytes(bytes)))
+    }
+
+    /// The sum of a chunk's bytes as numbers.
+    pub fn sum(&self, h: Handle) -> Result<u64, Refusal>
+        ensures { total_reply result ≡ (step_of self.now (Sum h)).reply }
+    {
+        let Some(bytes) = bytes_of_handle(&self.shelf, h) else {
+            return Err(Refusal::Dead);
+        };
+        Ok(u64::from(sum_bytes(bytes)))
     }
 
     /// Copies the bytes of a chunk from its place `at` on into `out`.
@@ -365,5 +385,15 @@ fn new_len(version: Version, exp: u8, len: u64) -> u32
     match version {
         Version::One => size_of_class(exp),
         Version::Two => len as u32,
+    }
+}
+
+/// The number that stands for a handle or nil in a chunk's bytes.
+fn link_number(to: Option<Handle>) -> u64
+    ensures { result ≡ Rattle.dym_base.specs.HeapStep.link_number to }
+{
+    match to {
+        Some(h) => h.number(),
+        None => 0,
     }
 }

@@ -4,6 +4,7 @@
 //! call is one step of that map. A heap lends its areas to be packed, and takes its shape and its bytes from records.
 #![tactic(auto)]
 
+mod apply;
 mod areas;
 mod chunk;
 mod found;
@@ -16,9 +17,11 @@ mod loading;
 mod next;
 mod order;
 mod place;
+pub mod replies;
 mod shape;
 mod shelf;
 mod spot;
+mod sum;
 #[cfg(test)]
 mod tests;
 

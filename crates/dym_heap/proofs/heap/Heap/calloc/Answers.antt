@@ -1,23 +1,18 @@
-use Rattle.std.proofs.Common.{arith, ℕ, ◌<◌, ◌^◌, inl, inr, subst, sym, ◌*◌, ap}
-use Rattle.std.proofs.lemmas.Bool.{cases_lt}
-use Rattle.dym_base.specs.HeapStep.{malloc_in}
-use Rattle.dym_heap.specs.Meaning.{IsSound}
-use Rattle.dym_heap.proofs.Soundness.{sound_of}
-use Rattle.dym_heap.proofs.Sizes.{too_large}
+use Rattle.std.proofs.Common.{◌≡◌, ◌*◌, ap, ◌∙◌}
+use Rattle.dym_base.specs.HeapStep.{HeapAnswer, malloc}
+use Rattle.dym_heap.specs.Meaning.{HeapMeaning}
+use Rattle.dym_heap.proofs.Sizes.{malloc_saturated}
 use Rattle.dym_heap.proofs.heap.Heap.calloc.Goals as goal
 
-over : (n : ℕ) → (n < 2 ^ 64 → ⊥) → 65536 < n
-over n big = elim (cases_lt 65536 n) as (λ _. 65536 < n) [ inl l ↦ l | inr past ↦ absurd (big (omega arith)) ]
+pub returns-clause-reply : goal.returns-clause-reply
+returns-clause-reply g c =
+    let old : HeapMeaning = c.args.self.now in
+    let saturated = ap (malloc old.version old.quota old.state) c.saturating_mul.ensures ∙ malloc_saturated old.version old.quota old.state (c.args.n * c.args.len) in
+    c.malloc.ensures.reply ∙ ap (λ (a : HeapAnswer). a.reply) saturated
 
-pub returns-in_default-clause-reply : goal.returns-in_default-clause-reply
-returns-in_default-clause-reply g c =
-    let big = c.in_default.ensures in
-    sym (ap (λ o. (malloc_in c.args.self.now.version c.args.self.now.quota c.args.self.now.state (c.args.n * c.args.len) o).reply) (too_large (c.args.n * c.args.len) (over (c.args.n * c.args.len) big)))
-
-pub returns-in_default-clause-after : goal.returns-in_default-clause-after
-returns-in_default-clause-after g c =
-    let big = c.in_default.ensures in
-    sym (ap (λ o. record c.args.self.now { state = (malloc_in c.args.self.now.version c.args.self.now.quota c.args.self.now.state (c.args.n * c.args.len) o).heap }) (too_large (c.args.n * c.args.len) (over (c.args.n * c.args.len) big)))
-
-pub returns-in_default-clause-sound : goal.returns-in_default-clause-sound
-returns-in_default-clause-sound g c = subst IsSound c.self.view_is (sound_of c.self.inside.shelf c.self.inside.applied c.self.invariant)
+pub returns-clause-after : goal.returns-clause-after
+returns-clause-after g c =
+    let old : HeapMeaning = c.args.self.now in
+    let new : HeapMeaning = c.malloc.new.self in
+    let saturated = ap (malloc old.version old.quota old.state) c.saturating_mul.ensures ∙ malloc_saturated old.version old.quota old.state (c.args.n * c.args.len) in
+    c.malloc.ensures.after ∙ ap (λ (a : HeapAnswer). record old { state = a.heap; held_ids = new.held_ids }) saturated

@@ -1,10 +1,8 @@
-use Rattle.std.proofs.Common.{subst}
-use Rattle.dym_heap.specs.Meaning.{IsSound}
 use Rattle.dym_heap.proofs.Soundness.{sound_of}
 use Rattle.dym_heap.proofs.heap.Heap.free.Goals as goal
 
 pub returns-in_default-clause-sound : goal.returns-in_default-clause-sound
-returns-in_default-clause-sound g c = subst IsSound c.self.view_is (sound_of c.self.inside.shelf c.self.inside.applied c.self.invariant)
+returns-in_default-clause-sound g c = sound_of c.self.inside.shelf c.self.inside.applied c.self.invariant
 
 pub returns-then-not-free_handle-clause-sound : goal.returns-then-not-free_handle-clause-sound
 returns-then-not-free_handle-clause-sound g c = sound_of c.free_handle.new.shelf c.self.inside.applied c.free_handle.ensures.tidy
