@@ -1,5 +1,5 @@
 -- What stays below the kept logs as the first of them are dropped: those from the last full one on.
-use Rattle.std.proofs.Common.{◌≡◌, ℕ, zero, suc, ◌+◌, ◌-◌, ◌<◌, ◌≤◌, ◌⊎◌, inl, inr, Bool, true, false, cond, ◌||◌, ◌==◌, List, [], ◌∷◌, ◌++◌, length, take, drop, refl, sym, ap, subst, ◌∙◌, arith, length-append}
+use Rattle.std.proofs.Common.{◌≡◌, ℕ, zero, suc, ◌+◌, ◌-◌, ◌<◌, ◌≤◌, inl, inr, Bool, true, false, ◌||◌, ◌==◌, List, [], ◌∷◌, ◌++◌, length, take, drop, refl, sym, ap, subst, ◌∙◌, arith, length-append}
 use Rattle.std.proofs.lemmas.Bool.{cond-true, cond-false, eq-eqb, ne_eqb}
 use Rattle.std.proofs.lemmas.List.{length-take, get_or-take}
 use Rattle.std.proofs.Math.Seq.{take-append-add}
@@ -8,7 +8,7 @@ use Rattle.dym_base.specs.Objects.{LogEntry}
 use Rattle.dym_base.specs.RunLaws.{EachFollows}
 use Rattle.dym_chain.specs.Chains.{ChainMeaning, all_logs, no_entry, log_at}
 use Rattle.dym_chain.specs.Lawful.{IsLawful}
-use Rattle.dym_chain.proofs.Places.{follows_at, depth_within, base_is_full}
+use Rattle.dym_chain.proofs.Places.{follows_at, base_is_full}
 use Rattle.dym_chain.proofs.Lawfuls.{at_place}
 use Rattle.dym_chain.proofs.Moves.{without, oldest_drop, depth_fits}
 

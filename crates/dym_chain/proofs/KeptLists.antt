@@ -7,7 +7,7 @@ use Rattle.std.proofs.Math.Seq.{take-append_seam}
 use Rattle.dym_base.specs.Below.{oldest_depth}
 use Rattle.dym_base.specs.LawfulLists as lawful
 use Rattle.dym_base.specs.LawfulLists.{IsLawfulList, StartsFull, MayFollow, FirstMayFollow, EachMayFollow, depths_from}
-use Rattle.dym_base.specs.Objects.{LogEntry, kind_of, record_of}
+use Rattle.dym_base.specs.Objects.{LogEntry, kind_of}
 use Rattle.dym_base.specs.Packed.{Logged, packs_by}
 use Rattle.dym_base.specs.RunLaws.{Follows, FirstFollows, EachFollows}
 use Rattle.dym_base.specs.declared.command.Version.{Version}
@@ -18,9 +18,8 @@ use Rattle.dym_chain.specs.Keeps.{bytes_of}
 use Rattle.dym_chain.specs.Chains.{ChainMeaning, all_logs, log_at, KeepsFromBefore, FirstKeeps, EachKeeps}
 use Rattle.dym_chain.specs.Kept.{AreKept}
 use Rattle.dym_chain.specs.Lawful.{IsLawful, logged_of}
-use Rattle.dym_chain.proofs.Places.{first_depth}
 use Rattle.dym_chain.proofs.Stands.{kind_full, kind_inc}
-use Rattle.dym_chain.proofs.Lawfuls.{packed_of, logged_all, at_place, stands}
+use Rattle.dym_chain.proofs.Lawfuls.{packed_of, logged_all, stands}
 
 -- ---- versions, and the first log
 

@@ -4,7 +4,7 @@ use Rattle.std.specs.List.{AllByRecursion}
 use Rattle.std.proofs.Math.Seq.{get_or-append-add}
 use Rattle.std.proofs.lemmas.List.{take-map, drop-map}
 use Rattle.dym_base.specs.Objects.{LogEntry, record_of}
-use Rattle.dym_base.specs.Packed.{Logged, packed}
+use Rattle.dym_base.specs.Packed.{packed}
 use Rattle.dym_base.specs.Recorded.{IsRecorded}
 use Rattle.dym_base.specs.StandsFor.{LogsStandFor}
 use Rattle.dym_base.specs.declared.command.Version.{Version}
