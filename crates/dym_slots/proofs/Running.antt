@@ -96,30 +96,30 @@ pub owner_holds : (count : ℕ) (st : TableState) (id : ℕ) (o : OwnerSeat) (i 
     → owner_seat records b.core.owner b.owner ≡ p → sweeper_seat b.core.sweeper b.sweeper ≡ sweeper_seat i.state.core.sweeper i.state.sweeper
     → Holds count (record { words = words; homes = homes; views = set st.views id (Owns p) })
 owner_holds count st id o i b records words homes p sound w h seat others = inr (
-    b,
-    records,
-    record {
-      words = w;
-      homes = h ∙ sym (homes_by_state records b.core sound.facts);
-      views = (λ k. set (i.shows.views k) (i.first k) (Owns p)) ∙ (λ k. Owns (sym seat k) ∷ Sweeps (sym others k) ∷ []);
-    },
-    sound,
-  )
+  b,
+  records,
+  record {
+    words = w;
+    homes = h ∙ sym (homes_by_state records b.core sound.facts);
+    views = (λ k. set (i.shows.views k) (i.first k) (Owns p)) ∙ (λ k. Owns (sym seat k) ∷ Sweeps (sym others k) ∷ []);
+  },
+  sound,
+)
 
 pub sweeper_holds : (count : ℕ) (st : TableState) (id : ℕ) (w : SweeperSeat) (i : SweeperIn count st id w) (b : Noted) (words : List ℕ) (homes : List (M.Option Held)) (p : SweeperSeat)
     → Sound count b → words ≡ words_of b.core → homes ≡ map (by_state i.records) b.core.slots
     → sweeper_seat b.core.sweeper b.sweeper ≡ p → owner_seat i.records b.core.owner b.owner ≡ owner_seat i.records i.state.core.owner i.state.owner
     → Holds count (record { words = words; homes = homes; views = set st.views id (Sweeps p) })
 sweeper_holds count st id w i b words homes p sound ws h seat others = inr (
-    b,
-    i.records,
-    record {
-      words = ws;
-      homes = h ∙ sym (homes_by_state i.records b.core sound.facts);
-      views = (λ k. set (i.shows.views k) (i.second k) (Sweeps p)) ∙ (λ k. Owns (sym others k) ∷ Sweeps (sym seat k) ∷ []);
-    },
-    sound,
-  )
+  b,
+  i.records,
+  record {
+    words = ws;
+    homes = h ∙ sym (homes_by_state i.records b.core sound.facts);
+    views = (λ k. set (i.shows.views k) (i.second k) (Sweeps p)) ∙ (λ k. Owns (sym others k) ∷ Sweeps (sym seat k) ∷ []);
+  },
+  sound,
+)
 
 -- What the facts say of a slot
 

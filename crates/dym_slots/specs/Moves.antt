@@ -140,8 +140,8 @@ pub record SweeperLooked (me : Knowing) (n : ℕ) (after : Knowing) : Type 0 whe
 -- the sweeper tried to grab the slot of the clean count, where its last look found the record `number`
 pub record TriedGrab (me : Knowing) (first n : ℕ) (after : Knowing) : Type 0 where
   pub outcome :
-    ((n ≡ first) × ((bytes : List ℕ) × (after ≡ (Sweeps (grabbed (sweeper_of me.0).clean (sweeper_of me.0)), ((sweeper_of me.0).clean, Some bytes) ∷ me.1))))
-    ⊎ ((n ≢ first) × ((state : Slot) × (n ≡ slot_word state) × (is_retired (sweeper_of me.0).root_seen state ≡ false) × (after ≡ (Sweeps (glanced state (sweeper_of me.0)), me.1))))
+      ((n ≡ first) × ((bytes : List ℕ) × (after ≡ (Sweeps (grabbed (sweeper_of me.0).clean (sweeper_of me.0)), ((sweeper_of me.0).clean, Some bytes) ∷ me.1))))
+      ⊎ ((n ≢ first) × ((state : Slot) × (n ≡ slot_word state) × (is_retired (sweeper_of me.0).root_seen state ≡ false) × (after ≡ (Sweeps (glanced state (sweeper_of me.0)), me.1))))
 
 -- the slot that the sweeper has out becomes Free
 abbrev pub GaveBack : Knowing → Knowing → Type 0
