@@ -1,5 +1,5 @@
 -- A new table keeps the rule, and so does one whose second seat was made.
-use Rattle.std.proofs.Common.{◌≡◌, ◌≢◌, ℕ, zero, suc, ◌+◌, ◌<◌, ◌≤◌, inl, inr, List, [], ◌∷◌, ◌++◌, map, length, get_or, replicate, set, sym, refl, ap, ◌∙◌, subst, arith, Option, Some, None}
+use Rattle.std.proofs.Common.{◌≡◌, ℕ, zero, suc, ◌+◌, ◌<◌, inl, inr, List, [], ◌∷◌, ◌++◌, map, length, get_or, replicate, set, sym, refl, ap, ◌∙◌, subst, arith, Option, None}
 use Rattle.std.specs.Prelude.{zip}
 use Rattle.std.specs.List.{range_with_len}
 use Rattle.std.proofs.lemmas.List.FromFn.{get_or-map-range_with_len, length-map-range_with_len}
@@ -23,7 +23,7 @@ use Rattle.dym_slots.specs.declared.view.SeatView.TheVariants.{Alone, Owns, Swee
 use Rattle.dym_slots.specs.declared.view.OwnerSeat.{OwnerSeat}
 use Rattle.dym_slots.specs.declared.view.SweeperSeat.{SweeperSeat}
 use Rattle.dym_slots.specs.Seats.{new_owner, new_sweeper}
-use Rattle.dym_slots.specs.Shown.{Held, TableState, home_shown, Holds, IsNew, Runs}
+use Rattle.dym_slots.specs.Shown.{Held, home_shown, Holds}
 
 words_new : (count : ℕ) → replicate count 0 ≡ map slot_word (replicate count Free)
 words_new zero = refl

@@ -1,9 +1,9 @@
 -- Each step of the owner on a table is a step of the machine.
-use Rattle.std.proofs.Common.{◌≡◌, ◌≢◌, ℕ, zero, suc, ◌+◌, ◌*◌, ◌<◌, ◌≤◌, ◌⊎◌, inl, inr, Bool, true, false, nat_eq, List, [], ◌∷◌, ◌++◌, map, length, get_or, set, sym, refl, ap, ◌∙◌, subst, arith, Option, Some, None}
-use Rattle.std.specs.Prelude.{slice_index, slice_set, if◌then◌else◌, ◌==◌, option_map}
+use Rattle.std.proofs.Common.{◌≡◌, ◌≢◌, ℕ, ◌+◌, ◌*◌, ◌<◌, ◌≤◌, ◌⊎◌, inl, inr, true, false, nat_eq, List, [], ◌∷◌, ◌++◌, map, length, get_or, set, sym, refl, ap, ◌∙◌, subst, arith, Some, None}
+use Rattle.std.specs.Prelude.{slice_index, slice_set, ◌==◌, option_map}
 use Rattle.std.specs.List.{All, Contains}
-use Rattle.std.proofs.lemmas.List.{set-get_or, get_or-set_same, length-map, length-append, map-append, length-set}
-use Rattle.std.proofs.lemmas.List.Elements.{All-head, All-tail, Contains-push, Contains-append_left, Contains-append_right, Contains-get_or}
+use Rattle.std.proofs.lemmas.List.{set-get_or, get_or-set_same, length-map, map-append}
+use Rattle.std.proofs.lemmas.List.Elements.{All-head, All-tail, Contains-push, Contains-append_right, Contains-get_or}
 use Rattle.std.proofs.lemmas.Bool.Decides.{nat_tests}
 use mathlib.Core.Option as M
 use mathlib.Core.Option.{some, none}
@@ -17,19 +17,18 @@ use Rattle.dym_slotlaw.specs.declared.slots.Entry.{Entry}
 use Rattle.dym_slotlaw.specs.declared.slots.TheConstants.{RECORD_NUMBERS}
 use Rattle.dym_slotlaw.specs.declared.slots.Event.TheVariants.{OwnerLook, OwnerClaim, OwnerTake, OwnerEmpty, OwnerFill, OwnerPut, OwnerLower, OwnerFree, OwnerRaise}
 use Rattle.dym_slotlaw.specs.SlotWords.{slot_word}
-use Rattle.dym_slotlaw.specs.Slots.{Core, OwnerView, state_of, home_of, entry, IsEntry, IsListed}
+use Rattle.dym_slotlaw.specs.Slots.{Core, OwnerView, state_of, entry, IsEntry, IsListed}
 use Rattle.dym_slotlaw.specs.SlotSteps.{OwnerLooks, OwnerClaims, OwnerTakes, OwnerEmpties, OwnerFills, OwnerPuts, OwnerLowers, OwnerFrees, OwnerRaises, remember, without, from_number, IsNewestOfTwo}
 use Rattle.dym_slotlaw.specs.SlotFacts.{Facts, IsSwept, IsReused}
-use Rattle.dym_slotlaw.specs.SlotNotes.{Noted, OwnerNote, forget}
+use Rattle.dym_slotlaw.specs.SlotNotes.{OwnerNote, forget}
 use Rattle.dym_slots.specs.declared.view.Listed.{Listed}
-use Rattle.dym_slots.specs.declared.view.Glimpse.{Glimpse}
 use Rattle.dym_slots.specs.declared.view.OwnerSeat.{OwnerSeat}
 use Rattle.dym_slots.specs.declared.view.SeatView.{SeatView}
-use Rattle.dym_slots.specs.declared.view.SeatView.TheVariants.{Owns, Sweeps}
+use Rattle.dym_slots.specs.declared.view.SeatView.TheVariants.{Owns}
 use Rattle.dym_slots.specs.Seats.{Naming, listed, owner_seat, glimpse, glimpse_of, owner_of, IsOwner, past, looked, holding, with_put, lowered, with_freed, with_raised}
-use Rattle.dym_slots.specs.Shown.{Held, Knowing, TableState, words_of, Sound, Holds}
+use Rattle.dym_slots.specs.Shown.{Held, Knowing, TableState, Holds}
 use Rattle.dym_slots.specs.Orders.{entry_of}
-use Rattle.dym_slots.specs.Moves.{IsIdleOwner, HasOut, LiveIsNumbered, OwnerLooked, IsKnownFree, Claimed, TookOwn, TookRetired, Won, Lost, IsUnlisted, WasPut, WasLowered, FreedNewest, Raised}
+use Rattle.dym_slots.specs.Moves.{IsIdleOwner, HasOut, OwnerLooked, IsKnownFree, Claimed, TookOwn, TookRetired, IsUnlisted, WasPut, WasLowered, FreedNewest, Raised}
 use Rattle.dym_slots.proofs.Showing.{by_state, homes_by_state, words_set, word_at, homes_set, home_at, homes_agree, named}
 use Rattle.dym_slots.proofs.Entries.{map_entries, parts, contains_entry, contains_listed, without_newest, from_raised}
 use Rattle.dym_slots.proofs.Running.{OwnerIn, owner_in, owner_holds, noted, sound_after, live_numbered, live_below, past_forget, past_twice, look_of, wins, loses}

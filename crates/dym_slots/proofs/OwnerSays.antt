@@ -1,27 +1,24 @@
 -- What the owner's fields say after each of its calls.
-use Rattle.std.proofs.Common.{◌≡◌, ◌≢◌, ℕ, zero, suc, ◌+◌, ◌-◌, ◌<◌, ◌≤◌, ◌⊎◌, inl, inr, List, [], ◌∷◌, ◌++◌, map, take, drop, length, get_or, set, sym, refl, ap, ◌∙◌, subst, arith, Option, Some, None}
-use Rattle.std.specs.List.{All, AllPairs, Contains, swap}
-use Rattle.std.specs.List.Sorted.{IsPermutation}
-use Rattle.std.proofs.lemmas.Bool.{cases_eq, cases_lt}
-use Rattle.std.proofs.lemmas.List.{length-set, length-map, length-take, length-append, map-append, take-map, drop-map, take-set-le, get_or-map, get_or-take, get_or-set_same, get_or-set_other, get_or_default, get_or_at, take_more, drop_more, take-append-drop, get_or_read}
+use Rattle.std.proofs.Common.{◌≡◌, ◌≢◌, ℕ, zero, suc, ◌+◌, ◌-◌, ◌<◌, ◌≤◌, List, [], ◌∷◌, ◌++◌, map, take, drop, length, get_or, set, sym, refl, ap, ◌∙◌, subst, arith, Option, Some, None}
+use Rattle.std.specs.List.{swap}
+use Rattle.std.proofs.lemmas.List.{length-map, length-take, length-append, map-append, take-map, drop-map, take-set-le, get_or-map, get_or-take, get_or-set_same, get_or-set_other, get_or_at, take_more, drop_more, take-append-drop, get_or_read}
 use Rattle.std.proofs.lemmas.Grind.{take-set_at}
-use Rattle.std.proofs.lemmas.List.Edits.{swap_is, length-swap}
+use Rattle.std.proofs.lemmas.List.Edits.{swap_is}
 use Rattle.dym_base.specs.declared.limits.TheConstants.{LOG_SLOTS, RECORD_ROOM}
 use Rattle.dym_slotlaw.specs.declared.slots.Entry.{Entry}
 use Rattle.dym_slotlaw.specs.declared.slots.TheConstants.{RECORD_NUMBERS}
 use Rattle.dym_slotlaw.specs.Slots.{entry}
 use Rattle.dym_slots.specs.declared.view.Listed.{Listed}
-use Rattle.dym_slots.specs.declared.view.SeatView.{SeatView}
 use Rattle.dym_slots.specs.declared.view.SeatView.TheVariants.{Owns}
-use Rattle.dym_slots.specs.Seats.{owner_of, IsOwner, with_put, lowered, with_freed, with_raised, holding}
+use Rattle.dym_slots.specs.Seats.{owner_of, with_put, lowered, with_raised, holding}
 use Rattle.dym_slots.specs.Shown.{Held, Knowing}
 use Rattle.atomic_table.specs.Seated.{TableId}
 use Rattle.dym_slots.specs.Owners.{OutIs}
-use Rattle.dym_slots.specs.Moves.{SitsAt, IsIdleOwner, HasOut, SameList, Seized, IsUnlisted, HasEntry, IsBytesOf}
+use Rattle.dym_slots.specs.Moves.{SitsAt, IsIdleOwner, SameList, IsUnlisted, HasEntry, IsBytesOf}
 use Rattle.dym_slots.specs.Meanings.{Numbered, OwnerMeaning, no_record, record_at, NumbersRise}
 use Rattle.dym_slots.specs.Orders.{IsOrder, no_entry, slot_at, numbered, entry_of, Stands, HasLeft, IsNewest}
 use Rattle.dym_slots.proofs.Rising.{below_made, one_place, rise_push, rise_drop, rise_take}
-use Rattle.dym_slots.proofs.Places.{order_swap, order_permutation, order_numbered, EntryAt, entry_at, list_size, place_of, spare_slot, bytes_at, differ}
+use Rattle.dym_slots.proofs.Places.{order_swap, order_numbered, EntryAt, entry_at, list_size, spare_slot, bytes_at, differ}
 
 -- a list is shorter than the table
 pub fits : (order : List Entry) (len made : ℕ) (me : Knowing) → Stands order len made me → len + 2 ≤ length order

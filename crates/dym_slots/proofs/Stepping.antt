@@ -1,19 +1,19 @@
 -- From what a step tells to what the owner's functions say.
-use Rattle.std.proofs.Common.{◌≡◌, ◌≢◌, ℕ, zero, suc, ◌+◌, ◌*◌, ◌<◌, ◌≤◌, ◌⊎◌, inl, inr, List, [], ◌∷◌, ◌++◌, length, sym, refl, ap, ◌∙◌, subst, arith, Option, Some, None}
+use Rattle.std.proofs.Common.{◌≡◌, ℕ, ◌+◌, ◌*◌, ◌<◌, ◌⊎◌, List, [], ◌∷◌, ◌++◌, length, sym, ap, ◌∙◌, subst, arith, Some, None}
 use Rattle.std.specs.Prelude.{◌==◌, Contains}
 use prog.Atomic.{either}
 use Rattle.atomic_table.specs.Table.{rest, Allows}
-use Rattle.dym_base.specs.declared.limits.TheConstants.{LOG_SLOTS, LOG_WORDS, RECORD_ROOM}
+use Rattle.dym_base.specs.declared.limits.TheConstants.{RECORD_ROOM}
 use Rattle.dym_slotlaw.specs.declared.slots.Slot.{Slot}
-use Rattle.dym_slotlaw.specs.declared.slots.Slot.TheVariants.{Free, Live, OutOwner, OutSweeper}
+use Rattle.dym_slotlaw.specs.declared.slots.Slot.TheVariants.{Free, Live, OutOwner}
 use Rattle.dym_slotlaw.specs.declared.slots.TheConstants.{RECORD_NUMBERS}
 use Rattle.dym_slotlaw.specs.SlotWords.{slot_word}
 use Rattle.dym_slots.specs.declared.view.Listed.{Listed}
 use Rattle.dym_slots.specs.declared.view.SeatView.{SeatView}
 use Rattle.dym_slots.specs.declared.view.SeatView.TheVariants.{Owns}
-use Rattle.dym_slots.specs.Seats.{glimpse, owner_of, IsOwner, looked, holding, with_put, lowered, with_freed, with_raised}
+use Rattle.dym_slots.specs.Seats.{glimpse, owner_of, holding, with_put, lowered}
 use Rattle.dym_slots.specs.Shown.{Held, Knowing, Holds}
-use Rattle.dym_slots.specs.Moves.{IsIdleOwner, HasOut, OwnerLooked, LookedAt, IsKnownFree, Claimed, TookOwn, TookRetired, Won, Lost, IsUnlisted, WasPut, WasLowered, FreedNewest, Raised, HasEntry, IsBytesOf}
+use Rattle.dym_slots.specs.Moves.{IsIdleOwner, HasOut, OwnerLooked, LookedAt, IsKnownFree, Claimed, TookOwn, TookRetired, Won, Lost, IsUnlisted, WasPut, WasLowered, FreedNewest, HasEntry, IsBytesOf}
 use Rattle.dym_slots.proofs.OwnerMoves.{claims, takes_own, takes_retired, puts, lowers, frees}
 
 same_slot : (s t : ℕ) → s + 1 ≡ t + 1 → t ≡ s

@@ -1,28 +1,24 @@
 -- Each step of the sweeper on a table is a step of the machine.
-use Rattle.std.proofs.Common.{◌≡◌, ◌≢◌, ℕ, zero, suc, ◌+◌, ◌*◌, ◌<◌, ◌≤◌, ◌⊎◌, inl, inr, Bool, true, false, nat_eq, ltb, List, [], ◌∷◌, ◌++◌, map, length, get_or, set, sym, refl, ap, ◌∙◌, subst, arith, Option, Some, None}
-use Rattle.std.specs.Prelude.{slice_index, slice_set, if◌then◌else◌, ◌==◌, nat_lt}
+use Rattle.std.proofs.Common.{◌≡◌, ◌≢◌, ℕ, ◌+◌, ◌*◌, ◌<◌, ◌≤◌, ◌⊎◌, inl, inr, true, false, nat_eq, List, [], ◌∷◌, set, sym, refl, ap, ◌∙◌, subst, arith, Some, None}
+use Rattle.std.specs.Prelude.{slice_index, slice_set, if◌then◌else◌, ◌==◌}
 use Rattle.std.proofs.lemmas.List.{set-get_or, get_or-set_same}
 use Rattle.std.proofs.lemmas.Bool.Decides.{nat_tests}
 use Rattle.std.proofs.lemmas.Bool.{cases_lt}
-use mathlib.Core.Option as M
 use mathlib.Core.Option.{some, none}
 use prog.Atomic.{either}
-use lib.ListN.{get_elem?}
-use Rattle.atomic_table.specs.Table.{Act, keeps, takes, gives, put_back, rest, stepped, Allows, Valid, carried_after}
+use Rattle.atomic_table.specs.Table.{keeps, takes, gives, put_back, rest, stepped, Allows}
 use Rattle.dym_slotlaw.specs.declared.slots.Slot.{Slot}
 use Rattle.dym_slotlaw.specs.declared.slots.Slot.TheVariants.{Free, Live, OutOwner, OutSweeper}
 use Rattle.dym_slotlaw.specs.declared.slots.TheConstants.{RECORD_NUMBERS}
 use Rattle.dym_slotlaw.specs.declared.slots.Event.TheVariants.{SweeperRoot, SweeperLook, SweeperGrab, SweeperEmpty, SweeperFree}
 use Rattle.dym_slotlaw.specs.SlotWords.{slot_word}
-use Rattle.dym_slotlaw.specs.Slots.{Core, SweeperView, state_of, home_of}
+use Rattle.dym_slotlaw.specs.Slots.{Core, SweeperView, state_of}
 use Rattle.dym_slotlaw.specs.SlotSteps.{SweeperReadsRoot, SweeperLooks, SweeperGrabs, SweeperEmpties, SweeperFrees, is_retired}
-use Rattle.dym_slotlaw.specs.SlotFacts.{Facts}
-use Rattle.dym_slotlaw.specs.SlotNotes.{Noted, SweeperNote, live_number}
+use Rattle.dym_slotlaw.specs.SlotNotes.{SweeperNote}
 use Rattle.dym_slots.specs.declared.view.SweeperSeat.{SweeperSeat}
-use Rattle.dym_slots.specs.declared.view.SeatView.{SeatView}
-use Rattle.dym_slots.specs.declared.view.SeatView.TheVariants.{Owns, Sweeps}
-use Rattle.dym_slots.specs.Seats.{Naming, sweeper_seat, sweeper_of, IsSweeper, with_root, glanced, grabbed, with_taken_back}
-use Rattle.dym_slots.specs.Shown.{Held, Knowing, TableState, words_of, Sound, Holds}
+use Rattle.dym_slots.specs.declared.view.SeatView.TheVariants.{Sweeps}
+use Rattle.dym_slots.specs.Seats.{sweeper_seat, sweeper_of, IsSweeper, with_root, glanced, grabbed, with_taken_back}
+use Rattle.dym_slots.specs.Shown.{Held, Knowing, TableState, Holds}
 use Rattle.dym_slots.specs.Moves.{IsIdleSweeper, ReadRoot, SweeperLooked, TriedGrab, GaveBack}
 use Rattle.dym_slots.proofs.Showing.{by_state, homes_by_state, words_set, word_at, homes_set, home_at}
 use Rattle.dym_slots.proofs.Running.{SweeperIn, sweeper_in, sweeper_holds, noted, sound_after, wins, loses}

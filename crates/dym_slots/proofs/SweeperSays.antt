@@ -1,14 +1,12 @@
 -- From what a step tells to what the sweeper's functions say.
-use Rattle.std.proofs.Common.{◌≡◌, ◌≢◌, ℕ, zero, suc, ◌+◌, ◌*◌, ◌<◌, ◌≤◌, ◌⊎◌, inl, inr, Bool, false, true, List, [], ◌∷◌, sym, refl, ap, ◌∙◌, subst, arith, Option, Some, None}
+use Rattle.std.proofs.Common.{◌≡◌, ◌≢◌, ℕ, ◌+◌, ◌<◌, inl, inr, Bool, false, List, [], ◌∷◌, sym, refl, ap, ◌∙◌, subst, arith, Some, None}
 use Rattle.std.specs.Prelude.{◌==◌, if◌then◌else◌}
 use prog.Atomic.{either}
 use Rattle.atomic_table.specs.Table.{rest, Allows}
 use Rattle.dym_slotlaw.specs.declared.slots.Slot.{Slot}
-use Rattle.dym_slotlaw.specs.declared.slots.Slot.TheVariants.{Free, Live, OutOwner, OutSweeper}
+use Rattle.dym_slotlaw.specs.declared.slots.Slot.TheVariants.{Free, Live, OutSweeper}
 use Rattle.dym_slotlaw.specs.SlotWords.{slot_word}
 use Rattle.dym_slotlaw.specs.SlotSteps.{is_retired}
-use Rattle.dym_slots.specs.declared.view.SweeperSeat.{SweeperSeat}
-use Rattle.dym_slots.specs.declared.view.SeatView.{SeatView}
 use Rattle.dym_slots.specs.declared.view.SeatView.TheVariants.{Sweeps}
 use Rattle.dym_slots.specs.Seats.{sweeper_of, IsSweeper, glanced, grabbed, with_taken_back}
 use Rattle.dym_slots.specs.Shown.{Held, Knowing, Holds}

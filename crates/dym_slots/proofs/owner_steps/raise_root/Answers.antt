@@ -1,4 +1,4 @@
-use Rattle.std.proofs.Common.{rules, ◌∙◌, subst, ℕ}
+use Rattle.std.proofs.Common.{rules, subst, ℕ}
 use Rattle.atomic_table.specs.Table.{Allows}
 use Rattle.dym_base.specs.declared.limits.TheConstants.{LOG_SLOTS}
 use Rattle.dym_slots.specs.Shown.{Holds}
