@@ -1,6 +1,12 @@
 -- A new table keeps the rule, and so does one whose second seat was made.
-use Rattle.std.proofs.Common.{◌≡◌, ◌≢◌, ℕ, zero, suc, ◌+◌, ◌<◌, ◌≤◌, inl, inr, List, [], ◌∷◌, ◌++◌, map, length, replicate, set, sym, refl, ap, ◌∙◌, subst, arith, Option, Some, None}
+use Rattle.std.proofs.Common.{◌≡◌, ℕ, zero, suc, ◌+◌, ◌<◌, inl, inr, List, [], ◌∷◌, ◌++◌, map, length, get_or, replicate, set, sym, refl, ap, ◌∙◌, subst, arith, Option, None}
 use Rattle.std.specs.Prelude.{zip}
+use Rattle.std.specs.List.{range_with_len}
+use Rattle.std.proofs.lemmas.List.FromFn.{get_or-map-range_with_len, length-map-range_with_len}
+use Rattle.dym_base.specs.declared.limits.TheConstants.{LOG_SLOTS}
+use Rattle.dym_slotlaw.specs.declared.slots.Entry.{Entry}
+use Rattle.dym_slotlaw.specs.Slots.{entry}
+use Rattle.dym_slots.specs.Orders.{IsOrder}
 use Rattle.std.proofs.lemmas.List.{length-replicate}
 use mathlib.Core.Option as M
 use mathlib.Core.Option.{some, none, some-injective, some-ne-none}
@@ -17,7 +23,7 @@ use Rattle.dym_slots.specs.declared.view.SeatView.TheVariants.{Alone, Owns, Swee
 use Rattle.dym_slots.specs.declared.view.OwnerSeat.{OwnerSeat}
 use Rattle.dym_slots.specs.declared.view.SweeperSeat.{SweeperSeat}
 use Rattle.dym_slots.specs.Seats.{new_owner, new_sweeper}
-use Rattle.dym_slots.specs.Shown.{Held, TableState, home_shown, Holds, IsNew, Runs}
+use Rattle.dym_slots.specs.Shown.{Held, home_shown, Holds}
 
 words_new : (count : ℕ) → replicate count 0 ≡ map slot_word (replicate count Free)
 words_new zero = refl
@@ -54,3 +60,17 @@ splits count id v alone st (inl new) at =
     )
 splits count id v alone st (inr (a, records, shows, sound)) at =
     absurd (no_alone _ _ id (ap (λ (l : List SeatView). get_elem? l id) (sym shows.views) ∙ at ∙ ap some alone))
+
+-- all slots in their order
+pub all_order : (order : List Entry) (n : ℕ) → n ≡ LOG_SLOTS → order ≡ map (λ s. entry s 0) (range_with_len 0 n) → IsOrder order
+all_order order n size is =
+    let at : (k : ℕ) (d : Entry) → k < n → get_or order k d ≡ entry k 0 = λ k d lt.
+    ap (λ (l : List Entry). get_or l k d) is ∙ get_or-map-range_with_len (λ s. entry s 0) 0 n k k d lt (omega arith) in
+    let len : length order ≡ n = ap length is ∙ length-map-range_with_len (λ (s : ℕ). entry s 0) 0 n in
+    record {
+      size = len ∙ size;
+      inside = λ k d lt. subst (λ (e : Entry). e.slot < LOG_SLOTS) (sym (at k d (omega arith))) (let b : k < n = omega arith in subst (λ (m : ℕ). k < m) size b);
+      differ = λ i j d lt within e.
+          let same : i ≡ j = ap (λ (x : Entry). x.slot) (sym (at i d (omega arith))) ∙ e ∙ ap (λ (x : Entry). x.slot) (at j d (omega arith)) in
+          omega arith;
+    }

@@ -1,9 +1,9 @@
 -- Each step of the owner on a table is a step of the machine.
-use Rattle.std.proofs.Common.{◌≡◌, ◌≢◌, ℕ, zero, suc, ◌+◌, ◌*◌, ◌<◌, ◌≤◌, ◌⊎◌, inl, inr, Bool, true, false, nat_eq, List, [], ◌∷◌, ◌++◌, map, length, get_or, set, sym, refl, ap, ◌∙◌, subst, arith, Option, Some, None}
-use Rattle.std.specs.Prelude.{slice_index, slice_set, if◌then◌else◌, ◌==◌, option_map}
+use Rattle.std.proofs.Common.{◌≡◌, ◌≢◌, ℕ, ◌+◌, ◌*◌, ◌<◌, ◌≤◌, ◌⊎◌, inl, inr, true, false, nat_eq, List, [], ◌∷◌, ◌++◌, map, length, get_or, set, sym, refl, ap, ◌∙◌, subst, arith, Some, None}
+use Rattle.std.specs.Prelude.{slice_index, slice_set, ◌==◌, option_map}
 use Rattle.std.specs.List.{All, Contains}
-use Rattle.std.proofs.lemmas.List.{set-get_or, get_or-set_same, length-map, length-append, map-append, length-set}
-use Rattle.std.proofs.lemmas.List.Elements.{All-head, All-tail, Contains-push, Contains-append_left, Contains-append_right, Contains-get_or}
+use Rattle.std.proofs.lemmas.List.{set-get_or, get_or-set_same, length-map, map-append}
+use Rattle.std.proofs.lemmas.List.Elements.{All-head, All-tail, Contains-push, Contains-append_right, Contains-get_or}
 use Rattle.std.proofs.lemmas.Bool.Decides.{nat_tests}
 use mathlib.Core.Option as M
 use mathlib.Core.Option.{some, none}
@@ -17,19 +17,18 @@ use Rattle.dym_slotlaw.specs.declared.slots.Entry.{Entry}
 use Rattle.dym_slotlaw.specs.declared.slots.TheConstants.{RECORD_NUMBERS}
 use Rattle.dym_slotlaw.specs.declared.slots.Event.TheVariants.{OwnerLook, OwnerClaim, OwnerTake, OwnerEmpty, OwnerFill, OwnerPut, OwnerLower, OwnerFree, OwnerRaise}
 use Rattle.dym_slotlaw.specs.SlotWords.{slot_word}
-use Rattle.dym_slotlaw.specs.Slots.{Core, OwnerView, state_of, home_of, entry, IsEntry, IsListed}
+use Rattle.dym_slotlaw.specs.Slots.{Core, OwnerView, state_of, entry, IsEntry, IsListed}
 use Rattle.dym_slotlaw.specs.SlotSteps.{OwnerLooks, OwnerClaims, OwnerTakes, OwnerEmpties, OwnerFills, OwnerPuts, OwnerLowers, OwnerFrees, OwnerRaises, remember, without, from_number, IsNewestOfTwo}
 use Rattle.dym_slotlaw.specs.SlotFacts.{Facts, IsSwept, IsReused}
-use Rattle.dym_slotlaw.specs.SlotNotes.{Noted, OwnerNote, forget}
+use Rattle.dym_slotlaw.specs.SlotNotes.{OwnerNote, forget}
 use Rattle.dym_slots.specs.declared.view.Listed.{Listed}
-use Rattle.dym_slots.specs.declared.view.Glimpse.{Glimpse}
 use Rattle.dym_slots.specs.declared.view.OwnerSeat.{OwnerSeat}
 use Rattle.dym_slots.specs.declared.view.SeatView.{SeatView}
-use Rattle.dym_slots.specs.declared.view.SeatView.TheVariants.{Owns, Sweeps}
+use Rattle.dym_slots.specs.declared.view.SeatView.TheVariants.{Owns}
 use Rattle.dym_slots.specs.Seats.{Naming, listed, owner_seat, glimpse, glimpse_of, owner_of, IsOwner, past, looked, holding, with_put, lowered, with_freed, with_raised}
-use Rattle.dym_slots.specs.Shown.{Held, Knowing, TableState, words_of, Sound, Holds}
+use Rattle.dym_slots.specs.Shown.{Held, Knowing, TableState, Holds}
 use Rattle.dym_slots.specs.Orders.{entry_of}
-use Rattle.dym_slots.specs.Moves.{IsIdleOwner, HasOut, LiveIsNumbered, OwnerLooked, IsKnownFree, Claimed, TookOwn, TookRetired, Won, Lost, IsUnlisted, WasPut, WasLowered, FreedNewest, Raised}
+use Rattle.dym_slots.specs.Moves.{IsIdleOwner, HasOut, OwnerLooked, IsKnownFree, Claimed, TookOwn, TookRetired, IsUnlisted, WasPut, WasLowered, FreedNewest, Raised}
 use Rattle.dym_slots.proofs.Showing.{by_state, homes_by_state, words_set, word_at, homes_set, home_at, homes_agree, named}
 use Rattle.dym_slots.proofs.Entries.{map_entries, parts, contains_entry, contains_listed, without_newest, from_raised}
 use Rattle.dym_slots.proofs.Running.{OwnerIn, owner_in, owner_holds, noted, sound_after, live_numbered, live_below, past_forget, past_twice, look_of, wins, loses}
@@ -62,11 +61,11 @@ own_look count st id me s i inside k is =
     let d : Core = record c { owner = record c.owner { remembered = remember x s c.owner.remembered } } in
     let h : OwnerLooks s c d = record { exists = (let n = i.sound.count_is in omega arith); after = refl } in
     owner_holds count st id (owner_of me.0) i (noted (OwnerLook s) a d) i.records (set st.words (s + 1) k) st.homes (looked s x (owner_of me.0))
-        (sound_after count (OwnerLook s) a d h i.sound.numbered i.sound)
-        (ap (set st.words (s + 1)) is ∙ set-get_or st.words (s + 1) 0 ∙ i.shows.words)
-        (i.shows.homes ∙ homes_by_state i.records c i.sound.facts)
-        (ap (looked s x) i.seat)
-        refl
+    (sound_after count (OwnerLook s) a d h i.sound.numbered i.sound)
+    (ap (set st.words (s + 1)) is ∙ set-get_or st.words (s + 1) 0 ∙ i.shows.words)
+    (i.shows.homes ∙ homes_by_state i.records c i.sound.facts)
+    (ap (looked s x) i.seat)
+    refl
 
 pub looks : (count slots id : ℕ) (me : Knowing) (s : ℕ) → IsOwner me.0 → s < count → Allows (Holds count) slots id me (s + 1) (λ k. k) (OwnerLooked (s + 1) me)
 looks count slots id me s owner inside st holds len at fits =
@@ -121,12 +120,12 @@ claims count slots id me s num idle known inside number fits_number st holds len
     let free = known_free count st id o i s idle.none known in
     let d : Core = record c { slots = slice_set c.slots s (OutOwner c.owner.next); owner = record c.owner { out = Some s } } in
     let h : OwnerClaims s c d = record {
-          exists = (let n = i.sound.count_is in omega arith);
-          idle = out_of count st id o i ∙ idle.none;
-          free = free;
-          numbers_left = subst (λ (n : ℕ). n < RECORD_NUMBERS) is_next fits_number;
-          after = refl;
-        } in
+      exists = (let n = i.sound.count_is in omega arith);
+      idle = out_of count st id o i ∙ idle.none;
+      free = free;
+      numbers_left = subst (λ (n : ℕ). n < RECORD_NUMBERS) is_next fits_number;
+      after = refl;
+    } in
     let word : k ≡ 0 = word_at st.words c.root c.slots s i.shows.words ∙ ap slot_word free in
     let won : either (k == 0) (4 * num + 2) k ≡ slot_word (OutOwner c.owner.next) = wins k 0 (4 * num + 2) word ∙ ap (λ (n : ℕ). 4 * n + 2) is_next in
     let homes = i.shows.homes ∙ homes_by_state i.records c i.sound.facts in (
@@ -155,11 +154,11 @@ taken count st id me s m i quiet live inside word is =
     let d : Core = record c { slots = slice_set c.slots s (OutOwner m); owner = record c.owner { out = Some s } } in
     let h : OwnerTakes s c d = record { idle = out_of count st id o i ∙ quiet; number = m; live = live; after = refl } in
     owner_holds count st id o i (noted (OwnerTake s) a d) i.records (set st.words (s + 1) word) (set st.homes s none) (holding s o)
-        (sound_after count (OwnerTake s) a d h i.sound.numbered i.sound)
-        (ap (set st.words (s + 1)) is ∙ words_set st.words c.root c.slots s (OutOwner m) i.shows.words)
-        (homes_set i.records st.homes c.slots s (OutOwner m) (i.shows.homes ∙ homes_by_state i.records c i.sound.facts))
-        (held_view i.records c.owner a.owner s ∙ ap (holding s) i.seat)
-        refl
+    (sound_after count (OwnerTake s) a d h i.sound.numbered i.sound)
+    (ap (set st.words (s + 1)) is ∙ words_set st.words c.root c.slots s (OutOwner m) i.shows.words)
+    (homes_set i.records st.homes c.slots s (OutOwner m) (i.shows.homes ∙ homes_by_state i.records c i.sound.facts))
+    (held_view i.records c.owner a.owner s ∙ ap (holding s) i.seat)
+    refl
 
 live_home : (count : ℕ) (st : TableState) (id : ℕ) (o : OwnerSeat) (i : OwnerIn count st id o) (s m : ℕ) → state_of i.state.core s ≡ Live m → s < count
     → get_elem? st.homes s ≡ some (some (Some (i.records m)))
@@ -178,9 +177,9 @@ takes_own count slots id me x idle has inside st holds len at fits =
     let k = slice_index st.words (s + 1) in
     let e = entry_in count st id o i x has in
     let live : state_of c s ≡ Live n = elim (i.sound.facts.entries s n e.0) [
-        | inl l ↦ l
-        | inr out ↦ absurd (let wrong : None ≡ Some s = sym idle.none ∙ sym (out_of count st id o i) ∙ out.1 in cc)
-      ] in
+      | inl l ↦ l
+      | inr out ↦ absurd (let wrong : None ≡ Some s = sym idle.none ∙ sym (out_of count st id o i) ∙ out.1 in cc)
+    ] in
     let word : k ≡ 4 * n + 1 = word_at st.words c.root c.slots s i.shows.words ∙ ap slot_word live in (
       Owns (holding s o),
       takes s (Some (i.records n)),
@@ -218,21 +217,21 @@ takes_retired count slots id me s n idle look inside st holds len at fits =
     let shown : k ≡ slot_word x = word_at st.words c.root c.slots s i.shows.words in
     let note = look_of i.state.owner s (Live n) (ap (λ (v : OwnerSeat). v.look) i.seat ∙ look) in
     let lost : ((x ≡ Free) ⊎ ((m : ℕ) × (x ≡ OutSweeper m))) → x ≢ Live n → (w : SeatView) × (act : Act Held) × Rattle.atomic_table.specs.Table.Valid st.homes me.1 act × Holds count (stepped st (s + 1) (either (k == 4 * n + 1) (4 * n + 2) k) id me.1 w act) × TookRetired (s + 1) me k (w, Rattle.atomic_table.specs.Table.carried_after me.1 act)
-      = λ found other. (
-          Owns (looked s x o),
-          keeps,
-          tt,
-          own_look count st id me s i inside (either (k == 4 * n + 1) (4 * n + 2) k) (loses k (4 * n + 1) (4 * n + 2) (λ e. other (apart x (Live n) (sym shown ∙ e)))),
-          record { slot = s; state = x; at = refl; shown = shown; outcome = inr (found, refl) },
-        ) in
+    = λ found other. (
+      Owns (looked s x o),
+      keeps,
+      tt,
+      own_look count st id me s i inside (either (k == 4 * n + 1) (4 * n + 2) k) (loses k (4 * n + 1) (4 * n + 2) (λ e. other (apart x (Live n) (sym shown ∙ e)))),
+      record { slot = s; state = x; at = refl; shown = shown; outcome = inr (found, refl) },
+    ) in
     elim (i.sound.notes.look.live s n note) [
       | inl live ↦ (
-          Owns (holding s o),
-          takes s (Some (i.records n)),
-          live_home count st id o i s n live inside,
-          taken count st id me s n i idle.none live inside (either (k == 4 * n + 1) (4 * n + 2) k) (wins k (4 * n + 1) (4 * n + 2) (shown ∙ ap slot_word live)),
-          record { slot = s; state = x; at = refl; shown = shown; outcome = inl (n, i.records n, live, refl) },
-        )
+        Owns (holding s o),
+        takes s (Some (i.records n)),
+        live_home count st id o i s n live inside,
+        taken count st id me s n i idle.none live inside (either (k == 4 * n + 1) (4 * n + 2) k) (wins k (4 * n + 1) (4 * n + 2) (shown ∙ ap slot_word live)),
+        record { slot = s; state = x; at = refl; shown = shown; outcome = inl (n, i.records n, live, refl) },
+      )
       | inr (inl swept) ↦ lost (inr (n, swept)) (λ e. let wrong : Live n ≡ OutSweeper n = sym e ∙ swept in cc)
       | inr (inr free) ↦ lost (inl free) (λ e. let wrong : Live n ≡ Free = sym e ∙ free in cc)
     ]
@@ -283,7 +282,7 @@ put_list records c s bytes f =
 
 put_view : (records : Naming) (c : Core) (note : OwnerNote) (s : ℕ) (bytes : List ℕ) → Facts c
     → owner_seat (named records c.owner.next bytes) (record { list = c.owner.list ++ entry s c.owner.next ∷ []; next = c.owner.next + 1; out = None; remembered = [] }) (forget s (forget s note))
-        ≡ with_put s bytes (owner_seat records c.owner note)
+    ≡ with_put s bytes (owner_seat records c.owner note)
 put_view records c note s bytes f =
     let list = put_list records c s bytes f in
     let look = past_forget s (forget s note) ∙ ap (past s) (past_forget s note) ∙ past_twice s (option_map glimpse_of note) in
@@ -310,23 +309,23 @@ put_holds count st id o i s m bytes held out alone inside left room words homes 
     let short : length c.owner.list < RECORD_ROOM = (let k = length-map c.owner.list (listed i.records) in let j = ap length (list_of count st id o i) in omega arith) in
     let e : Core = record d { slots = slice_set c.slots s (Live n); owner = record { list = c.owner.list ++ entry s n ∷ []; next = n + 1; out = None; remembered = [] } } in
     let puts : OwnerPuts s d e = record {
-          holds = holds_it;
-          number = m;
-          out = out;
-          unlisted = alone;
-          at_home = get_or-set_same c.homes s (Some n) None (let k = i.sound.facts.homes in let j = i.sound.count_is in omega arith);
-          numbers_left = left;
-          room = short;
-          after = refl;
-        } in
+      holds = holds_it;
+      number = m;
+      out = out;
+      unlisted = alone;
+      at_home = get_or-set_same c.homes s (Some n) None (let k = i.sound.facts.homes in let j = i.sound.count_is in omega arith);
+      numbers_left = left;
+      room = short;
+      after = refl;
+    } in
     let agree = homes_agree i.records records c.slots (λ t q live. named_else i.records n q bytes (live_below count a i.sound t q live)) in
     let named_home : some (Some bytes) ≡ by_state records (Live n) = ap (λ (x : List ℕ). some (Some x)) (sym (named_here i.records n bytes)) in
     owner_holds count st id o i (noted (OwnerPut s) b e) records words homes (with_put s bytes o)
-        (sound_after count (OwnerPut s) b e puts (up_one n RECORD_NUMBERS left) mid)
-        (w_is ∙ words_set st.words c.root c.slots s (Live n) i.shows.words)
-        (h_is ∙ ap (set st.homes s) named_home ∙ homes_set records st.homes c.slots s (Live n) (i.shows.homes ∙ homes_by_state i.records c i.sound.facts ∙ agree))
-        (put_view i.records c a.owner s bytes i.sound.facts ∙ ap (with_put s bytes) i.seat)
-        refl
+    (sound_after count (OwnerPut s) b e puts (up_one n RECORD_NUMBERS left) mid)
+    (w_is ∙ words_set st.words c.root c.slots s (Live n) i.shows.words)
+    (h_is ∙ ap (set st.homes s) named_home ∙ homes_set records st.homes c.slots s (Live n) (i.shows.homes ∙ homes_by_state i.records c i.sound.facts ∙ agree))
+    (put_view i.records c a.owner s bytes i.sound.facts ∙ ap (with_put s bytes) i.seat)
+    refl
 
 pub puts : (count slots id : ℕ) (me : Knowing) (s : ℕ) (bytes : List ℕ) (num : ℕ) → HasOut s (Some bytes) me → IsUnlisted s (owner_of me.0).list → s < count
     → num ≡ (owner_of me.0).next → num < RECORD_NUMBERS → length (owner_of me.0).list < RECORD_ROOM
@@ -379,19 +378,19 @@ lower_holds count st id o i s n bytes held is_entry own inside words homes w_is 
     let mid = sound_after count (OwnerFill s n) a d fills i.sound.numbered i.sound in
     let e : Core = record d { slots = slice_set c.slots s (Live n); owner = record c.owner { out = None } } in
     let lowers : OwnerLowers s d e = record {
-          holds = holds_it;
-          number = n;
-          out = out;
-          listed = (s, is_entry);
-          at_home = get_or-set_same c.homes s (Some n) None (let k = i.sound.facts.homes in let j = i.sound.count_is in omega arith);
-          after = refl;
-        } in
+      holds = holds_it;
+      number = n;
+      out = out;
+      listed = (s, is_entry);
+      at_home = get_or-set_same c.homes s (Some n) None (let k = i.sound.facts.homes in let j = i.sound.count_is in omega arith);
+      after = refl;
+    } in
     owner_holds count st id o i (noted (OwnerLower s) b e) i.records words homes (lowered s o)
-        (sound_after count (OwnerLower s) b e lowers i.sound.numbered mid)
-        (w_is ∙ words_set st.words c.root c.slots s (Live n) i.shows.words)
-        (h_is ∙ ap (λ (x : List ℕ). set st.homes s (some (Some x))) (sym own) ∙ homes_set i.records st.homes c.slots s (Live n) (i.shows.homes ∙ homes_by_state i.records c i.sound.facts))
-        (lowered_view i.records c.owner a.owner s ∙ ap (lowered s) i.seat)
-        refl
+    (sound_after count (OwnerLower s) b e lowers i.sound.numbered mid)
+    (w_is ∙ words_set st.words c.root c.slots s (Live n) i.shows.words)
+    (h_is ∙ ap (λ (x : List ℕ). set st.homes s (some (Some x))) (sym own) ∙ homes_set i.records st.homes c.slots s (Live n) (i.shows.homes ∙ homes_by_state i.records c i.sound.facts))
+    (lowered_view i.records c.owner a.owner s ∙ ap (lowered s) i.seat)
+    refl
 
 pub lowers : (count slots id : ℕ) (me : Knowing) (x : Listed) → HasOut x.entry.slot (Some x.bytes) me → Contains (owner_of me.0).list x → x.entry.slot < count
     → Allows (Holds count) slots id me (x.entry.slot + 1) (λ _. 4 * x.entry.number + 1) (λ _ after. WasLowered (x.entry.slot + 1) me after)
@@ -447,20 +446,20 @@ free_holds count st id o i older x is some_older held inside words homes w_is h_
     let e : Core = record d { slots = slice_set c.slots s Free; owner = record c.owner { list = without n c.owner.list; out = None } } in
     let newest : IsNewestOfTwo c.owner.list n = (es, s, list, (let k = length-map older entry_of in omega arith)) in
     let frees : OwnerFrees s d e = record {
-          holds = holds_it;
-          number = n;
-          out = out;
-          empty = get_or-set_same c.homes s None None (let k = i.sound.facts.homes in let j = i.sound.count_is in omega arith);
-          loose = inr newest;
-          after = refl;
-        } in
+      holds = holds_it;
+      number = n;
+      out = out;
+      empty = get_or-set_same c.homes s None None (let k = i.sound.facts.homes in let j = i.sound.count_is in omega arith);
+      loose = inr newest;
+      after = refl;
+    } in
     let left : without n c.owner.list ≡ es = ap (without n) list ∙ without_newest es s n (subst Rattle.dym_slotlaw.specs.SlotFacts.NumbersRise list i.sound.facts.list.numbers_rise) in
     owner_holds count st id o i (noted (OwnerFree s) b e) i.records words homes (with_freed s older o)
-        (sound_after count (OwnerFree s) b e frees i.sound.numbered mid)
-        (w_is ∙ words_set st.words c.root c.slots s Free i.shows.words)
-        (h_is ∙ homes_set i.records st.homes c.slots s Free (i.shows.homes ∙ homes_by_state i.records c i.sound.facts))
-        (freed_view i.records c.owner a.owner s (without n c.owner.list) older (ap (map (listed i.records)) left ∙ cut.1) ∙ ap (with_freed s older) i.seat)
-        refl
+    (sound_after count (OwnerFree s) b e frees i.sound.numbered mid)
+    (w_is ∙ words_set st.words c.root c.slots s Free i.shows.words)
+    (h_is ∙ homes_set i.records st.homes c.slots s Free (i.shows.homes ∙ homes_by_state i.records c i.sound.facts))
+    (freed_view i.records c.owner a.owner s (without n c.owner.list) older (ap (map (listed i.records)) left ∙ cut.1) ∙ ap (with_freed s older) i.seat)
+    refl
 
 pub frees : (count slots id : ℕ) (me : Knowing) (older : List Listed) (x : Listed) → (owner_of me.0).list ≡ older ++ x ∷ [] → 0 < length older → HasOut x.entry.slot None me
     → x.entry.slot < count → Allows (Holds count) slots id me (x.entry.slot + 1) (λ _. 0) (λ _ after. FreedNewest (x.entry.slot + 1) me after)
@@ -492,11 +491,11 @@ raises count slots id me dropped x others is idle st holds len at fits =
     let cut = split_list count st id o i dropped (x ∷ others) is in
     let list : c.owner.list ≡ map entry_of dropped ++ x.entry ∷ map entry_of others = cut.0 in
     let is_entry : IsEntry c x.entry.slot n = subst (λ (l : List Entry). Contains l x.entry) (sym list)
-          (Contains-append_right (map entry_of dropped) (x.entry ∷ map entry_of others) x.entry (0, omega arith, refl)) in
+    (Contains-append_right (map entry_of dropped) (x.entry ∷ map entry_of others) x.entry (0, omega arith, refl)) in
     let d : Core = record c { root = n; owner = record c.owner { list = from_number n c.owner.list } } in
     let h : OwnerRaises n c d = record { idle = out_of count st id o i ∙ idle.none; listed = (x.entry.slot, is_entry); after = refl } in
     let left : from_number n c.owner.list ≡ x.entry ∷ map entry_of others
-          = ap (from_number n) list ∙ from_raised (map entry_of dropped) (map entry_of others) x.entry (subst Rattle.dym_slotlaw.specs.SlotFacts.NumbersRise list i.sound.facts.list.numbers_rise) in (
+    = ap (from_number n) list ∙ from_raised (map entry_of dropped) (map entry_of others) x.entry (subst Rattle.dym_slotlaw.specs.SlotFacts.NumbersRise list i.sound.facts.list.numbers_rise) in (
       Owns (with_raised (x ∷ others) o),
       keeps,
       tt,

@@ -1,27 +1,24 @@
 -- What the owner's fields say after each of its calls.
-use Rattle.std.proofs.Common.{◌≡◌, ◌≢◌, ℕ, zero, suc, ◌+◌, ◌-◌, ◌<◌, ◌≤◌, ◌⊎◌, inl, inr, List, [], ◌∷◌, ◌++◌, map, take, drop, length, get_or, set, sym, refl, ap, ◌∙◌, subst, arith, Option, Some, None}
-use Rattle.std.specs.List.{All, AllPairs, Contains, swap}
-use Rattle.std.specs.List.Sorted.{IsPermutation}
-use Rattle.std.proofs.lemmas.Bool.{cases_eq, cases_lt}
-use Rattle.std.proofs.lemmas.List.{length-set, length-map, length-take, length-append, map-append, take-map, drop-map, take-set-le, get_or-map, get_or-take, get_or-set_same, get_or-set_other, get_or_default, get_or_at, take_more, drop_more, take-append-drop, get_or_read}
+use Rattle.std.proofs.Common.{◌≡◌, ◌≢◌, ℕ, zero, suc, ◌+◌, ◌-◌, ◌<◌, ◌≤◌, List, [], ◌∷◌, ◌++◌, map, take, drop, length, get_or, set, sym, refl, ap, ◌∙◌, subst, arith, Option, Some, None}
+use Rattle.std.specs.List.{swap}
+use Rattle.std.proofs.lemmas.List.{length-map, length-take, length-append, map-append, take-map, drop-map, take-set-le, get_or-map, get_or-take, get_or-set_same, get_or-set_other, get_or_at, take_more, drop_more, take-append-drop, get_or_read}
 use Rattle.std.proofs.lemmas.Grind.{take-set_at}
-use Rattle.std.proofs.lemmas.List.Edits.{swap_is, length-swap}
+use Rattle.std.proofs.lemmas.List.Edits.{swap_is}
 use Rattle.dym_base.specs.declared.limits.TheConstants.{LOG_SLOTS, RECORD_ROOM}
 use Rattle.dym_slotlaw.specs.declared.slots.Entry.{Entry}
 use Rattle.dym_slotlaw.specs.declared.slots.TheConstants.{RECORD_NUMBERS}
 use Rattle.dym_slotlaw.specs.Slots.{entry}
 use Rattle.dym_slots.specs.declared.view.Listed.{Listed}
-use Rattle.dym_slots.specs.declared.view.SeatView.{SeatView}
 use Rattle.dym_slots.specs.declared.view.SeatView.TheVariants.{Owns}
-use Rattle.dym_slots.specs.Seats.{owner_of, IsOwner, with_put, lowered, with_freed, with_raised, holding}
+use Rattle.dym_slots.specs.Seats.{owner_of, with_put, lowered, with_raised, holding}
 use Rattle.dym_slots.specs.Shown.{Held, Knowing}
 use Rattle.atomic_table.specs.Seated.{TableId}
 use Rattle.dym_slots.specs.Owners.{OutIs}
-use Rattle.dym_slots.specs.Moves.{SitsAt, IsIdleOwner, HasOut, SameList, Seized, IsUnlisted, HasEntry, IsBytesOf}
+use Rattle.dym_slots.specs.Moves.{SitsAt, IsIdleOwner, SameList, IsUnlisted, HasEntry, IsBytesOf}
 use Rattle.dym_slots.specs.Meanings.{Numbered, OwnerMeaning, no_record, record_at, NumbersRise}
 use Rattle.dym_slots.specs.Orders.{IsOrder, no_entry, slot_at, numbered, entry_of, Stands, HasLeft, IsNewest}
 use Rattle.dym_slots.proofs.Rising.{below_made, one_place, rise_push, rise_drop, rise_take}
-use Rattle.dym_slots.proofs.Places.{order_swap, order_permutation, order_numbered, EntryAt, entry_at, list_size, place_of, spare_slot, bytes_at, differ}
+use Rattle.dym_slots.proofs.Places.{order_swap, order_numbered, EntryAt, entry_at, list_size, spare_slot, bytes_at, differ}
 
 -- a list is shorter than the table
 pub fits : (order : List Entry) (len made : ℕ) (me : Knowing) → Stands order len made me → len + 2 ≤ length order
@@ -81,7 +78,7 @@ swapped order len made me s =
     let f = fits order len made me s in
     let is : swap order len (len + 1) ≡ set (set order len (get_or order (len + 1) no_entry)) (len + 1) (get_or order len no_entry) = sym (swap_is order len (len + 1) no_entry (omega arith) (omega arith)) in
     let front : take len (swap order len (len + 1)) ≡ take len order =
-          rw is (take-set-le len (set order len (get_or order (len + 1) no_entry)) (len + 1) (get_or order len no_entry) (omega arith) ∙ take-set-le len order len (get_or order (len + 1) no_entry) (omega arith)) in (
+    rw is (take-set-le len (set order len (get_or order (len + 1) no_entry)) (len + 1) (get_or order len no_entry) (omega arith) ∙ take-set-le len order len (get_or order (len + 1) no_entry) (omega arith)) in (
       record {
         seat = s.seat;
         order_is = order_swap order len (len + 1) (omega arith) (omega arith) s.order_is;
@@ -120,8 +117,8 @@ put_stands order len made me mid bytes s same room left =
       seat = refl;
       order_is = order_numbered order len made s.order_is;
       list = map-append entry_of (owner_of mid.0).list (record { entry = entry (slot_at order len) (owner_of mid.0).next; bytes = bytes } ∷ [])
-        ∙ (λ j. list j ++ entry (slot_at order len) (next j) ∷ [])
-        ∙ sym (take-set_at order len (len + 1) new refl (omega arith));
+          ∙ (λ j. list j ++ entry (slot_at order len) (next j) ∷ [])
+          ∙ sym (take-set_at order len (len + 1) new refl (omega arith));
       few = omega arith;
       next = ap (λ (n : ℕ). n + 1) next;
       most = up_one made RECORD_NUMBERS left;
@@ -164,7 +161,7 @@ newest_here order len made last me now s lt some_older left =
     let size = size_of_list order len made me s in
     let x : Listed = get_or list last (record { entry = no_entry; bytes = [] }) in
     let is : x.entry ≡ get_or order last no_entry
-          = sym (get_or-map entry_of list last (record { entry = no_entry; bytes = [] }) no_entry (omega arith)) ∙ ap (λ (l : List Entry). get_or l last no_entry) s.list ∙ get_or-take len order last no_entry lt in
+    = sym (get_or-map entry_of list last (record { entry = no_entry; bytes = [] }) no_entry (omega arith)) ∙ ap (λ (l : List Entry). get_or l last no_entry) s.list ∙ get_or-take len order last no_entry lt in
     record {
       older = take last list;
       newest = x;
@@ -179,7 +176,7 @@ dropped_one order len made last me now after s lt left (older, x, is, new) =
     let list = (owner_of me.0).list in
     let size = size_of_list order len made me s in
     let front : older ≡ take last list = snoc_front older (take last list) x (get_or list last (record { entry = no_entry; bytes = [] }))
-          (sym is ∙ left.list_is ∙ take_more list last (record { entry = no_entry; bytes = [] }) (omega arith)) in
+    (sym is ∙ left.list_is ∙ take_more list last (record { entry = no_entry; bytes = [] }) (omega arith)) in
     record { idle = new.idle; list_is = new.list_is ∙ front; next = new.next ∙ left.next; remembered = new.remembered ∙ left.remembered }
 
 pub take_whole : (list : List Listed) (n : ℕ) → length list ≤ n → list ≡ take n list
@@ -236,7 +233,7 @@ raise_parts order len made place me s lt =
     let size = size_of_list order len made me s in
     let x : Listed = get_or list place (record { entry = no_entry; bytes = [] }) in
     let is : x.entry ≡ get_or order place no_entry
-          = sym (get_or-map entry_of list place (record { entry = no_entry; bytes = [] }) no_entry (omega arith)) ∙ ap (λ (l : List Entry). get_or l place no_entry) s.list ∙ get_or-take len order place no_entry lt in (
+    = sym (get_or-map entry_of list place (record { entry = no_entry; bytes = [] }) no_entry (omega arith)) ∙ ap (λ (l : List Entry). get_or l place no_entry) s.list ∙ get_or-take len order place no_entry lt in (
       take place list,
       x,
       drop (place + 1) list,
@@ -253,9 +250,9 @@ kept_is order len made place me dropped x others s lt is number =
     let n = ap length is ∙ length-append dropped (x ∷ others) in
     let inside : length dropped < length list = omega arith in
     let at : record_at (map numbered list) (length dropped) ≡ numbered x
-          = get_or-map numbered list (length dropped) x no_record inside ∙ ap numbered (ap (λ (l : List Listed). get_or l (length dropped) x) is ∙ get_or_at dropped x others x (length dropped) refl) in
+    = get_or-map numbered list (length dropped) x no_record inside ∙ ap numbered (ap (λ (l : List Listed). get_or l (length dropped) x) is ∙ get_or_at dropped x others x (length dropped) refl) in
     let same : length dropped ≡ place = one_place (map numbered list) made (length dropped) place s.rise (omega arith) (omega arith)
-          (ap (λ (r : Numbered). r.number) at ∙ number ∙ number_here order len made me place s lt) in
+    (ap (λ (r : Numbered). r.number) at ∙ number ∙ number_here order len made me place s lt) in
     sym (ap (λ (l : List Listed). drop (length dropped) l) is ∙ drop_front dropped (x ∷ others)) ∙ ap (λ (k : ℕ). drop k list) same
 
 front : (m : ℕ) (xs ys : List Entry) → m ≤ length xs → take m xs ≡ take m (xs ++ ys)

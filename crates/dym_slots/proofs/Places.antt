@@ -1,6 +1,6 @@
 -- The order of the slots: what keeps it, and where an entry of the list stands in it.
-use Rattle.std.proofs.Common.{◌≡◌, ◌≢◌, ℕ, zero, suc, ◌+◌, ◌-◌, ◌<◌, ◌≤◌, ◌⊎◌, inl, inr, List, [], ◌∷◌, ◌++◌, map, take, drop, length, get_or, set, sym, refl, ap, ◌∙◌, subst, arith}
-use Rattle.std.specs.List.{All, AllPairs, Contains, swap}
+use Rattle.std.proofs.Common.{◌≡◌, ◌≢◌, ℕ, ◌<◌, ◌≤◌, ◌⊎◌, inl, inr, List, [], map, take, length, get_or, set, sym, refl, ap, ◌∙◌, subst, arith}
+use Rattle.std.specs.List.{Contains, swap}
 use Rattle.std.specs.List.Sorted.{IsPermutation}
 use Rattle.std.proofs.lemmas.Bool.{cases_eq, cases_lt}
 use Rattle.std.proofs.lemmas.List.{length-set, length-map, length-take, get_or-map, get_or-take, get_or-set_same, get_or-set_other, get_or_default}
@@ -67,13 +67,13 @@ order_swap order i j a b o =
     record {
       size = size ∙ o.size;
       inside = λ k d lt.
-        let m = moved order i j k d a b (omega arith) in
-        subst (λ (e : Entry). e.slot < LOG_SLOTS) (sym m.is) (o.inside m.from d m.inside);
+          let m = moved order i j k d a b (omega arith) in
+          subst (λ (e : Entry). e.slot < LOG_SLOTS) (sym m.is) (o.inside m.from d m.inside);
       differ = λ x y d lt within e.
-        let m = moved order i j x d a b (omega arith) in
-        let n = moved order i j y d a b (omega arith) in
-        differ order o m.from n.from d m.inside n.inside (apart i j x y m.from n.from lt m.place n.place)
-            (ap (λ (e : Entry). e.slot) (sym m.is) ∙ e ∙ ap (λ (e : Entry). e.slot) n.is);
+          let m = moved order i j x d a b (omega arith) in
+          let n = moved order i j y d a b (omega arith) in
+          differ order o m.from n.from d m.inside n.inside (apart i j x y m.from n.from lt m.place n.place)
+          (ap (λ (e : Entry). e.slot) (sym m.is) ∙ e ∙ ap (λ (e : Entry). e.slot) n.is);
     }
 
 pub order_permutation : (order after : List Entry) → IsOrder order → IsPermutation order after → IsOrder after
@@ -85,17 +85,17 @@ order_numbered order place n o =
     let new : Entry = entry (slot_at order place) n in
     let size = length-set order place new in
     let slots : (k : ℕ) (d : Entry) → k < length order → (get_or (set order place new) k d).slot ≡ (get_or order k d).slot = λ k d lt.
-          elim (cases_eq k place) [
-            | inl p ↦
-                let here : get_or (set order place new) k d ≡ new = rw p (get_or-set_same order place new d (omega arith)) in
-                ap (λ (e : Entry). e.slot) here ∙ ap (λ (e : Entry). e.slot) (get_or_default order place no_entry d (omega arith)) ∙ ap (λ (j : ℕ). (get_or order j d).slot) (sym p)
-            | inr m ↦ ap (λ (e : Entry). e.slot) (get_or-set_other order place k new d m)
-          ] in
+    elim (cases_eq k place) [
+      | inl p ↦
+          let here : get_or (set order place new) k d ≡ new = rw p (get_or-set_same order place new d (omega arith)) in
+          ap (λ (e : Entry). e.slot) here ∙ ap (λ (e : Entry). e.slot) (get_or_default order place no_entry d (omega arith)) ∙ ap (λ (j : ℕ). (get_or order j d).slot) (sym p)
+      | inr m ↦ ap (λ (e : Entry). e.slot) (get_or-set_other order place k new d m)
+    ] in
     record {
       size = size ∙ o.size;
       inside = λ k d lt. let same = slots k d (omega arith) in let old = o.inside k d (omega arith) in subst (λ (s : ℕ). s < LOG_SLOTS) (sym same) old;
       differ = λ i j d lt within e.
-        o.differ i j d lt (omega arith) (sym (slots i d (omega arith)) ∙ e ∙ slots j d (omega arith));
+          o.differ i j d lt (omega arith) (sym (slots i d (omega arith)) ∙ e ∙ slots j d (omega arith));
     }
 
 -- Where an entry stands

@@ -1,6 +1,6 @@
 -- Records whose numbers rise.
-use Rattle.std.proofs.Common.{◌≡◌, ◌≢◌, ℕ, zero, suc, ◌+◌, ◌<◌, ◌≤◌, List, [], ◌∷◌, ◌++◌, map, take, drop, length, get_or, sym, refl, ap, ◌∙◌, subst, arith}
-use Rattle.dym_slots.specs.Meanings.{Numbered, no_record, record_at, first_number, NumbersRise}
+use Rattle.std.proofs.Common.{◌≡◌, ℕ, zero, suc, ◌+◌, ◌<◌, List, [], ◌∷◌, ◌++◌, take, drop, length, refl, ap, arith}
+use Rattle.dym_slots.specs.Meanings.{Numbered, record_at, NumbersRise}
 
 rise_head : (r : Numbered) (rs : List Numbered) (made : ℕ) → NumbersRise (r ∷ rs) made → (j : ℕ) → j < length rs → r.number < (record_at rs j).number
 rise_head r [] made h j lt = absurd (omega arith)

@@ -1,5 +1,5 @@
 -- From a table that keeps the rule to the state of the machine that it shows, and back after a step.
-use Rattle.std.proofs.Common.{◌≡◌, ◌≢◌, ℕ, zero, suc, ◌+◌, ◌<◌, ◌≤◌, ◌⊎◌, inl, inr, Bool, true, false, nat_eq, List, [], ◌∷◌, map, length, get_or, set, sym, refl, ap, ◌∙◌, subst, arith, Option, Some, None}
+use Rattle.std.proofs.Common.{◌≡◌, ◌≢◌, ℕ, zero, suc, ◌<◌, ◌≤◌, inl, inr, true, false, nat_eq, List, [], ◌∷◌, map, set, sym, refl, ap, ◌∙◌, arith, Option, Some, None}
 use Rattle.std.specs.Prelude.{option_map, if◌then◌else◌, ◌==◌}
 use mathlib.Core.Option as M
 use mathlib.Core.Option.{some, none, some-injective, some-ne-none}
@@ -7,13 +7,12 @@ use prog.Atomic.{either}
 use lib.ListN.{get_elem?}
 use Rattle.atomic_table.proofs.Lists.{exchanged}
 use Rattle.dym_slotlaw.specs.declared.slots.Slot.{Slot}
-use Rattle.dym_slotlaw.specs.declared.slots.Slot.TheVariants.{Free, Live, OutOwner, OutSweeper}
+use Rattle.dym_slotlaw.specs.declared.slots.Slot.TheVariants.{Live}
 use Rattle.dym_slotlaw.specs.declared.slots.TheConstants.{RECORD_NUMBERS}
 use Rattle.dym_slotlaw.specs.declared.slots.Event.{Event}
-use Rattle.dym_slotlaw.specs.Slots.{Core, OwnerView, SweeperView, state_of, home_of, IsEntry}
+use Rattle.dym_slotlaw.specs.Slots.{Core, state_of}
 use Rattle.dym_slotlaw.specs.SlotSteps.{Step}
-use Rattle.dym_slotlaw.specs.SlotFacts.{Facts}
-use Rattle.dym_slotlaw.specs.SlotNotes.{Look, OwnerNote, SweeperNote, Noted, NotedStep, owner_note, sweeper_note, forget}
+use Rattle.dym_slotlaw.specs.SlotNotes.{OwnerNote, Noted, NotedStep, owner_note, sweeper_note, forget}
 use Rattle.dym_slotlaw.proofs.Steps.{step_keeps, step_counts}
 use Rattle.dym_slotlaw.proofs.Notes.{step_keeps_notes}
 use Rattle.dym_slots.specs.declared.view.Glimpse.{Glimpse}
@@ -22,7 +21,7 @@ use Rattle.dym_slots.specs.declared.view.SweeperSeat.{SweeperSeat}
 use Rattle.dym_slots.specs.declared.view.SeatView.{SeatView}
 use Rattle.dym_slots.specs.declared.view.SeatView.TheVariants.{Alone, Owns, Sweeps}
 use Rattle.dym_slots.specs.Seats.{Naming, owner_seat, sweeper_seat, glimpse, glimpse_of, past}
-use Rattle.dym_slots.specs.Shown.{Held, TableState, words_of, Shows, Sound, IsNew, Runs, Holds}
+use Rattle.dym_slots.specs.Shown.{Held, TableState, words_of, Shows, Sound, Holds}
 use Rattle.dym_slots.proofs.Showing.{by_state, homes_by_state}
 
 -- The state behind a seat
@@ -96,30 +95,30 @@ pub owner_holds : (count : ℕ) (st : TableState) (id : ℕ) (o : OwnerSeat) (i 
     → owner_seat records b.core.owner b.owner ≡ p → sweeper_seat b.core.sweeper b.sweeper ≡ sweeper_seat i.state.core.sweeper i.state.sweeper
     → Holds count (record { words = words; homes = homes; views = set st.views id (Owns p) })
 owner_holds count st id o i b records words homes p sound w h seat others = inr (
-    b,
-    records,
-    record {
-      words = w;
-      homes = h ∙ sym (homes_by_state records b.core sound.facts);
-      views = (λ k. set (i.shows.views k) (i.first k) (Owns p)) ∙ (λ k. Owns (sym seat k) ∷ Sweeps (sym others k) ∷ []);
-    },
-    sound,
-  )
+  b,
+  records,
+  record {
+    words = w;
+    homes = h ∙ sym (homes_by_state records b.core sound.facts);
+    views = (λ k. set (i.shows.views k) (i.first k) (Owns p)) ∙ (λ k. Owns (sym seat k) ∷ Sweeps (sym others k) ∷ []);
+  },
+  sound,
+)
 
 pub sweeper_holds : (count : ℕ) (st : TableState) (id : ℕ) (w : SweeperSeat) (i : SweeperIn count st id w) (b : Noted) (words : List ℕ) (homes : List (M.Option Held)) (p : SweeperSeat)
     → Sound count b → words ≡ words_of b.core → homes ≡ map (by_state i.records) b.core.slots
     → sweeper_seat b.core.sweeper b.sweeper ≡ p → owner_seat i.records b.core.owner b.owner ≡ owner_seat i.records i.state.core.owner i.state.owner
     → Holds count (record { words = words; homes = homes; views = set st.views id (Sweeps p) })
 sweeper_holds count st id w i b words homes p sound ws h seat others = inr (
-    b,
-    i.records,
-    record {
-      words = ws;
-      homes = h ∙ sym (homes_by_state i.records b.core sound.facts);
-      views = (λ k. set (i.shows.views k) (i.second k) (Sweeps p)) ∙ (λ k. Owns (sym others k) ∷ Sweeps (sym seat k) ∷ []);
-    },
-    sound,
-  )
+  b,
+  i.records,
+  record {
+    words = ws;
+    homes = h ∙ sym (homes_by_state i.records b.core sound.facts);
+    views = (λ k. set (i.shows.views k) (i.second k) (Sweeps p)) ∙ (λ k. Owns (sym others k) ∷ Sweeps (sym seat k) ∷ []);
+  },
+  sound,
+)
 
 -- What the facts say of a slot
 

@@ -1,7 +1,7 @@
 -- How the words and the homes of a table follow the states of its slots.
-use Rattle.std.proofs.Common.{◌≡◌, ◌≢◌, ℕ, zero, suc, ◌+◌, ◌<◌, ◌≤◌, List, [], ◌∷◌, map, length, get_or, set, sym, refl, ap, ◌∙◌, arith, Option, Some, None}
+use Rattle.std.proofs.Common.{◌≡◌, ℕ, zero, suc, ◌+◌, ◌<◌, List, [], ◌∷◌, map, length, get_or, set, sym, refl, ap, arith, Option, Some, None}
 use Rattle.std.specs.Prelude.{slice_index, zip, option_map, nat_eq, if◌then◌else◌}
-use Rattle.std.proofs.lemmas.List.{map-set, set-get_or, get_or_default}
+use Rattle.std.proofs.lemmas.List.{map-set, get_or_default}
 use mathlib.Core.Option as M
 use mathlib.Core.Option.{some, none}
 use lib.ListN.{get_elem?}

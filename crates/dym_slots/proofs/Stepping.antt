@@ -1,19 +1,19 @@
 -- From what a step tells to what the owner's functions say.
-use Rattle.std.proofs.Common.{◌≡◌, ◌≢◌, ℕ, zero, suc, ◌+◌, ◌*◌, ◌<◌, ◌≤◌, ◌⊎◌, inl, inr, List, [], ◌∷◌, ◌++◌, length, sym, refl, ap, ◌∙◌, subst, arith, Option, Some, None}
+use Rattle.std.proofs.Common.{◌≡◌, ℕ, ◌+◌, ◌*◌, ◌<◌, ◌⊎◌, List, [], ◌∷◌, ◌++◌, length, sym, ap, ◌∙◌, subst, arith, Some, None}
 use Rattle.std.specs.Prelude.{◌==◌, Contains}
 use prog.Atomic.{either}
 use Rattle.atomic_table.specs.Table.{rest, Allows}
-use Rattle.dym_base.specs.declared.limits.TheConstants.{LOG_SLOTS, LOG_WORDS, RECORD_ROOM}
+use Rattle.dym_base.specs.declared.limits.TheConstants.{RECORD_ROOM}
 use Rattle.dym_slotlaw.specs.declared.slots.Slot.{Slot}
-use Rattle.dym_slotlaw.specs.declared.slots.Slot.TheVariants.{Free, Live, OutOwner, OutSweeper}
+use Rattle.dym_slotlaw.specs.declared.slots.Slot.TheVariants.{Free, Live, OutOwner}
 use Rattle.dym_slotlaw.specs.declared.slots.TheConstants.{RECORD_NUMBERS}
 use Rattle.dym_slotlaw.specs.SlotWords.{slot_word}
 use Rattle.dym_slots.specs.declared.view.Listed.{Listed}
 use Rattle.dym_slots.specs.declared.view.SeatView.{SeatView}
 use Rattle.dym_slots.specs.declared.view.SeatView.TheVariants.{Owns}
-use Rattle.dym_slots.specs.Seats.{glimpse, owner_of, IsOwner, looked, holding, with_put, lowered, with_freed, with_raised}
+use Rattle.dym_slots.specs.Seats.{glimpse, owner_of, holding, with_put, lowered}
 use Rattle.dym_slots.specs.Shown.{Held, Knowing, Holds}
-use Rattle.dym_slots.specs.Moves.{IsIdleOwner, HasOut, OwnerLooked, LookedAt, IsKnownFree, Claimed, TookOwn, TookRetired, Won, Lost, IsUnlisted, WasPut, WasLowered, FreedNewest, Raised, HasEntry, IsBytesOf}
+use Rattle.dym_slots.specs.Moves.{IsIdleOwner, HasOut, OwnerLooked, LookedAt, IsKnownFree, Claimed, TookOwn, TookRetired, Won, Lost, IsUnlisted, WasPut, WasLowered, FreedNewest, HasEntry, IsBytesOf}
 use Rattle.dym_slots.proofs.OwnerMoves.{claims, takes_own, takes_retired, puts, lowers, frees}
 
 same_slot : (s t : ℕ) → s + 1 ≡ t + 1 → t ≡ s
@@ -29,7 +29,7 @@ pub claims_by : (count slots id : ℕ) (me : Knowing) (s num old new : ℕ) → 
     → num ≡ (owner_of me.0).next → num < RECORD_NUMBERS → Allows (Holds count) slots id me (s + 1) (λ k. either (k == old) new k) (λ _ after. Claimed (s + 1) me after)
 claims_by count slots id me s num old new a b idle known inside number below =
     subst (λ (p : ℕ × ℕ). Allows (Holds count) slots id me (s + 1) (λ k. either (k == p.0) p.1 k) (λ _ after. Claimed (s + 1) me after)) (λ j. (sym a j, sym b j))
-        (claims count slots id me s num idle known inside number below)
+    (claims count slots id me s num idle known inside number below)
 
 pub claimed_by : (s : ℕ) (me after : Knowing) → me.1 ≡ [] → Claimed (s + 1) me after → after ≡ (Owns (holding s (owner_of me.0)), (s, None) ∷ [])
 claimed_by s me after empty r =
@@ -40,7 +40,7 @@ pub takes_retired_by : (count slots id : ℕ) (me : Knowing) (s n old new : ℕ)
     → Allows (Holds count) slots id me (s + 1) (λ k. either (k == old) new k) (TookRetired (s + 1) me)
 takes_retired_by count slots id me s n old new a b idle look inside =
     subst (λ (p : ℕ × ℕ). Allows (Holds count) slots id me (s + 1) (λ k. either (k == p.0) p.1 k) (TookRetired (s + 1) me)) (λ j. (sym a j, sym b j))
-        (takes_retired count slots id me s n idle look inside)
+    (takes_retired count slots id me s n idle look inside)
 
 pub retired_by : (s n : ℕ) (me after : Knowing) (x : Slot) → TookRetired (s + 1) me n after → ((shown : Slot) → n ≡ slot_word shown → x ≡ shown) → Won s x me after ⊎ Lost s x me after
 retired_by s n me after x r reads =
@@ -61,8 +61,8 @@ puts_by count slots id me mid s num word bytes w has is alone inside number belo
     let seat : mid.0 ≡ me.0 = ap (λ (m : Knowing). m.0) is in
     let back = sym seat in
     subst (λ (n : ℕ). Allows (Holds count) slots id mid (s + 1) (λ _. n) (λ _ after. WasPut (s + 1) mid after)) (sym w)
-        (puts count slots id mid s bytes num (now_out s has.0 (Some bytes) me mid has.1 is) (subst (λ (v : SeatView). IsUnlisted s (owner_of v).list) back alone) inside
-            (number ∙ ap (λ (v : SeatView). (owner_of v).next) back) below (subst (λ (v : SeatView). length (owner_of v).list < RECORD_ROOM) back room))
+    (puts count slots id mid s bytes num (now_out s has.0 (Some bytes) me mid has.1 is) (subst (λ (v : SeatView). IsUnlisted s (owner_of v).list) back alone) inside
+    (number ∙ ap (λ (v : SeatView). (owner_of v).next) back) below (subst (λ (v : SeatView). length (owner_of v).list < RECORD_ROOM) back room))
 
 pub put_by : (me mid after : Knowing) (s : ℕ) (bytes : List ℕ) → ((home : Held) × HasOut s home me) → mid ≡ (me.0, (s, Some bytes) ∷ rest me.1) → WasPut (s + 1) mid after
     → after ≡ (Owns (with_put s bytes (owner_of me.0)), [])
@@ -86,7 +86,7 @@ pub takes_own_by : (count slots id : ℕ) (me : Knowing) (s n old new : ℕ) →
     → Allows (Holds count) slots id me (s + 1) (λ k. either (k == old) new k) (λ _ after. TookOwn (s + 1) old me after)
 takes_own_by count slots id me s n old new a b idle (x, has, at, number) inside =
     subst (λ (p : ℕ × ℕ). Allows (Holds count) slots id me (s + 1) (λ k. either (k == p.0) p.1 k) (λ _ after. TookOwn (s + 1) p.0 me after)) (λ j. (sym a j, sym b j))
-        (takes_own count slots id me (as_found s n x) idle (found_again (owner_of me.0).list s n x has at number) inside)
+    (takes_own count slots id me (as_found s n x) idle (found_again (owner_of me.0).list s n x has at number) inside)
 
 same_number : (m n : ℕ) → 4 * n + 1 ≡ 4 * m + 1 → m ≡ n
 same_number m n e = omega arith
@@ -106,7 +106,7 @@ lowers_by count slots id me mid s n word bytes w has is (x, there, at, number, o
     let y : Listed = record { entry = record { slot = s; number = n }; bytes = bytes } in
     let found : Contains (owner_of mid.0).list y = subst (λ (p : Listed × SeatView). Contains (owner_of p.1).list p.0) (λ j. (record { entry = record { slot = at j; number = number j }; bytes = own j }, back j)) there in
     subst (λ (k : ℕ). Allows (Holds count) slots id mid (s + 1) (λ _. k) (λ _ after. WasLowered (s + 1) mid after)) (sym w)
-        (lowers count slots id mid y (now_out s has.0 (Some bytes) me mid has.1 is) found inside)
+    (lowers count slots id mid y (now_out s has.0 (Some bytes) me mid has.1 is) found inside)
 
 pub lowered_by : (me mid after : Knowing) (s : ℕ) (new : Held) → mid ≡ (me.0, (s, new) ∷ rest me.1) → WasLowered (s + 1) mid after → after ≡ (Owns (lowered s (owner_of me.0)), [])
 lowered_by me mid after s new is r =
@@ -118,4 +118,4 @@ pub frees_by : (count slots id : ℕ) (me : Knowing) (s word : ℕ) → word ≡
     → Allows (Holds count) slots id me (s + 1) (λ _. word) (λ _ after. FreedNewest (s + 1) me after)
 frees_by count slots id me s word w has (older, x, list, some_older, at) inside =
     subst (λ (p : ℕ × ℕ). Allows (Holds count) slots id me (p.0 + 1) (λ _. p.1) (λ _ after. FreedNewest (p.0 + 1) me after)) (λ j. (at j, sym w j))
-        (frees count slots id me older x list some_older (subst (λ (t : ℕ). HasOut t None me) (sym at) has) (subst (λ (t : ℕ). t < count) (sym at) inside))
+    (frees count slots id me older x list some_older (subst (λ (t : ℕ). HasOut t None me) (sym at) has) (subst (λ (t : ℕ). t < count) (sym at) inside))

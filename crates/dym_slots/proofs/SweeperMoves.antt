@@ -1,28 +1,24 @@
 -- Each step of the sweeper on a table is a step of the machine.
-use Rattle.std.proofs.Common.{◌≡◌, ◌≢◌, ℕ, zero, suc, ◌+◌, ◌*◌, ◌<◌, ◌≤◌, ◌⊎◌, inl, inr, Bool, true, false, nat_eq, ltb, List, [], ◌∷◌, ◌++◌, map, length, get_or, set, sym, refl, ap, ◌∙◌, subst, arith, Option, Some, None}
-use Rattle.std.specs.Prelude.{slice_index, slice_set, if◌then◌else◌, ◌==◌, nat_lt}
+use Rattle.std.proofs.Common.{◌≡◌, ◌≢◌, ℕ, ◌+◌, ◌*◌, ◌<◌, ◌≤◌, ◌⊎◌, inl, inr, true, false, nat_eq, List, [], ◌∷◌, set, sym, refl, ap, ◌∙◌, subst, arith, Some, None}
+use Rattle.std.specs.Prelude.{slice_index, slice_set, if◌then◌else◌, ◌==◌}
 use Rattle.std.proofs.lemmas.List.{set-get_or, get_or-set_same}
 use Rattle.std.proofs.lemmas.Bool.Decides.{nat_tests}
 use Rattle.std.proofs.lemmas.Bool.{cases_lt}
-use mathlib.Core.Option as M
 use mathlib.Core.Option.{some, none}
 use prog.Atomic.{either}
-use lib.ListN.{get_elem?}
-use Rattle.atomic_table.specs.Table.{Act, keeps, takes, gives, put_back, rest, stepped, Allows, Valid, carried_after}
+use Rattle.atomic_table.specs.Table.{keeps, takes, gives, put_back, rest, stepped, Allows}
 use Rattle.dym_slotlaw.specs.declared.slots.Slot.{Slot}
 use Rattle.dym_slotlaw.specs.declared.slots.Slot.TheVariants.{Free, Live, OutOwner, OutSweeper}
 use Rattle.dym_slotlaw.specs.declared.slots.TheConstants.{RECORD_NUMBERS}
 use Rattle.dym_slotlaw.specs.declared.slots.Event.TheVariants.{SweeperRoot, SweeperLook, SweeperGrab, SweeperEmpty, SweeperFree}
 use Rattle.dym_slotlaw.specs.SlotWords.{slot_word}
-use Rattle.dym_slotlaw.specs.Slots.{Core, SweeperView, state_of, home_of}
+use Rattle.dym_slotlaw.specs.Slots.{Core, SweeperView, state_of}
 use Rattle.dym_slotlaw.specs.SlotSteps.{SweeperReadsRoot, SweeperLooks, SweeperGrabs, SweeperEmpties, SweeperFrees, is_retired}
-use Rattle.dym_slotlaw.specs.SlotFacts.{Facts}
-use Rattle.dym_slotlaw.specs.SlotNotes.{Noted, SweeperNote, live_number}
+use Rattle.dym_slotlaw.specs.SlotNotes.{SweeperNote}
 use Rattle.dym_slots.specs.declared.view.SweeperSeat.{SweeperSeat}
-use Rattle.dym_slots.specs.declared.view.SeatView.{SeatView}
-use Rattle.dym_slots.specs.declared.view.SeatView.TheVariants.{Owns, Sweeps}
-use Rattle.dym_slots.specs.Seats.{Naming, sweeper_seat, sweeper_of, IsSweeper, with_root, glanced, grabbed, with_taken_back}
-use Rattle.dym_slots.specs.Shown.{Held, Knowing, TableState, words_of, Sound, Holds}
+use Rattle.dym_slots.specs.declared.view.SeatView.TheVariants.{Sweeps}
+use Rattle.dym_slots.specs.Seats.{sweeper_seat, sweeper_of, IsSweeper, with_root, glanced, grabbed, with_taken_back}
+use Rattle.dym_slots.specs.Shown.{Held, Knowing, TableState, Holds}
 use Rattle.dym_slots.specs.Moves.{IsIdleSweeper, ReadRoot, SweeperLooked, TriedGrab, GaveBack}
 use Rattle.dym_slots.proofs.Showing.{by_state, homes_by_state, words_set, word_at, homes_set, home_at}
 use Rattle.dym_slots.proofs.Running.{SweeperIn, sweeper_in, sweeper_holds, noted, sound_after, wins, loses}
@@ -76,17 +72,17 @@ own_look count st id me s i quiet turn inside k is =
     let x = state_of c s in
     let d : Core = record c { sweeper = record c.sweeper { clean = if is_retired c.sweeper.root_seen x then c.sweeper.clean else (c.sweeper.clean + 1) } } in
     let h : SweeperLooks s c d = record {
-          exists = (let n = i.sound.count_is in omega arith);
-          idle = out_of count st id w i ∙ quiet;
-          in_turn = turn ∙ sym (clean_of count st id w i);
-          after = refl;
-        } in
+      exists = (let n = i.sound.count_is in omega arith);
+      idle = out_of count st id w i ∙ quiet;
+      in_turn = turn ∙ sym (clean_of count st id w i);
+      after = refl;
+    } in
     sweeper_holds count st id w i (noted (SweeperLook s) a d) (set st.words (s + 1) k) st.homes (glanced x w)
-        (sound_after count (SweeperLook s) a d h i.sound.numbered i.sound)
-        (ap (set st.words (s + 1)) is ∙ set-get_or st.words (s + 1) 0 ∙ i.shows.words)
-        (i.shows.homes ∙ homes_by_state i.records c i.sound.facts)
-        (ap (glanced x) i.seat)
-        refl
+    (sound_after count (SweeperLook s) a d h i.sound.numbered i.sound)
+    (ap (set st.words (s + 1)) is ∙ set-get_or st.words (s + 1) 0 ∙ i.shows.words)
+    (i.shows.homes ∙ homes_by_state i.records c i.sound.facts)
+    (ap (glanced x) i.seat)
+    refl
 
 pub sweeper_looks : (count slots id : ℕ) (me : Knowing) (s : ℕ) → IsIdleSweeper me → s ≡ (sweeper_of me.0).clean → s < count → Allows (Holds count) slots id me (s + 1) (λ k. k) (SweeperLooked me)
 sweeper_looks count slots id me s idle turn inside st holds len at fits =
@@ -113,11 +109,11 @@ grab_holds count st id me s n i quiet live past k is =
     let d : Core = record c { slots = slice_set c.slots s (OutSweeper n); sweeper = record c.sweeper { out = Some s } } in
     let h : SweeperGrabs s c d = record { idle = out_of count st id w i ∙ quiet; number = n; live = live; retired = (let r = seen_of count st id w i in omega arith); after = refl } in
     sweeper_holds count st id w i (noted (SweeperGrab s) a d) (set st.words (s + 1) k) (set st.homes s none) (grabbed s w)
-        (sound_after count (SweeperGrab s) a d h i.sound.numbered i.sound)
-        (ap (set st.words (s + 1)) is ∙ words_set st.words c.root c.slots s (OutSweeper n) i.shows.words)
-        (homes_set i.records st.homes c.slots s (OutSweeper n) (i.shows.homes ∙ homes_by_state i.records c i.sound.facts))
-        (ap (grabbed s) i.seat)
-        refl
+    (sound_after count (SweeperGrab s) a d h i.sound.numbered i.sound)
+    (ap (set st.words (s + 1)) is ∙ words_set st.words c.root c.slots s (OutSweeper n) i.shows.words)
+    (homes_set i.records st.homes c.slots s (OutSweeper n) (i.shows.homes ∙ homes_by_state i.records c i.sound.facts))
+    (ap (grabbed s) i.seat)
+    refl
 
 -- a slot that isn't Live(n), as the note allows, isn't retired
 not_retired : (seen n : ℕ) (x : Slot) → ((m : ℕ) → x ≡ Live m → m < seen → m ≡ n) → x ≢ Live n → is_retired seen x ≡ false
@@ -150,8 +146,8 @@ grabs count slots id me s n idle turn inside found past st holds len at fits =
     let k = slice_index st.words (s + 1) in
     let shown : k ≡ slot_word x = word_at st.words c.root c.slots s i.shows.words in
     let note : (m : ℕ) → x ≡ Live m → m < w.root_seen → m ≡ n = λ m live lt.
-          i.sound.notes.found n m (ap (λ (v : SweeperSeat). v.found) i.seat ∙ found)
-              (ap (state_of c) (clean_of count st id w i ∙ sym turn) ∙ live) (let r = seen_of count st id w i in omega arith) in
+    i.sound.notes.found n m (ap (λ (v : SweeperSeat). v.found) i.seat ∙ found)
+    (ap (state_of c) (clean_of count st id w i ∙ sym turn) ∙ live) (let r = seen_of count st id w i in omega arith) in
     elim (decide x n) [
       | inl live ↦
           let hit : k ≡ 4 * n + 1 = shown ∙ ap slot_word live in (
@@ -175,7 +171,7 @@ grabs count slots id me s n idle turn inside found past st holds len at fits =
 
 freed_view : (v : SweeperView) (note : SweeperNote) (s : ℕ) → s ≡ v.clean
     → sweeper_seat (record v { out = None; clean = if nat_eq s v.clean then (v.clean + 1) else v.clean }) (record note { found = if nat_eq s v.clean then None else note.found; taken_back = note.taken_back + 1 })
-        ≡ with_taken_back (sweeper_seat v note)
+    ≡ with_taken_back (sweeper_seat v note)
 freed_view v note s turn =
     let hit : nat_eq s v.clean ≡ true = grind (arith, nat_tests) in
     rw hit refl
@@ -194,10 +190,10 @@ sweeper_frees count slots id me s seat held carried turn inside st holds len at 
     let mid = sound_after count (SweeperEmpty s) a d empties i.sound.numbered i.sound in
     let e : Core = record d { slots = slice_set c.slots s Free; sweeper = record c.sweeper { out = None; clean = if nat_eq s c.sweeper.clean then (c.sweeper.clean + 1) else c.sweeper.clean } } in
     let h : SweeperFrees s d e = record {
-          holds = holds_it;
-          empty = get_or-set_same c.homes s None None (let k = i.sound.facts.homes in let j = i.sound.count_is in omega arith);
-          after = refl;
-        } in (
+      holds = holds_it;
+      empty = get_or-set_same c.homes s None None (let k = i.sound.facts.homes in let j = i.sound.count_is in omega arith);
+      after = refl;
+    } in (
       Sweeps (with_taken_back w),
       gives,
       tt,

@@ -1,14 +1,12 @@
 -- From what a step tells to what the sweeper's functions say.
-use Rattle.std.proofs.Common.{◌≡◌, ◌≢◌, ℕ, zero, suc, ◌+◌, ◌*◌, ◌<◌, ◌≤◌, ◌⊎◌, inl, inr, Bool, false, true, List, [], ◌∷◌, sym, refl, ap, ◌∙◌, subst, arith, Option, Some, None}
+use Rattle.std.proofs.Common.{◌≡◌, ◌≢◌, ℕ, ◌+◌, ◌<◌, inl, inr, Bool, false, List, [], ◌∷◌, sym, refl, ap, ◌∙◌, subst, arith, Some, None}
 use Rattle.std.specs.Prelude.{◌==◌, if◌then◌else◌}
 use prog.Atomic.{either}
 use Rattle.atomic_table.specs.Table.{rest, Allows}
 use Rattle.dym_slotlaw.specs.declared.slots.Slot.{Slot}
-use Rattle.dym_slotlaw.specs.declared.slots.Slot.TheVariants.{Free, Live, OutOwner, OutSweeper}
+use Rattle.dym_slotlaw.specs.declared.slots.Slot.TheVariants.{Free, Live, OutSweeper}
 use Rattle.dym_slotlaw.specs.SlotWords.{slot_word}
 use Rattle.dym_slotlaw.specs.SlotSteps.{is_retired}
-use Rattle.dym_slots.specs.declared.view.SweeperSeat.{SweeperSeat}
-use Rattle.dym_slots.specs.declared.view.SeatView.{SeatView}
 use Rattle.dym_slots.specs.declared.view.SeatView.TheVariants.{Sweeps}
 use Rattle.dym_slots.specs.Seats.{sweeper_of, IsSweeper, glanced, grabbed, with_taken_back}
 use Rattle.dym_slots.specs.Shown.{Held, Knowing, Holds}
@@ -23,18 +21,18 @@ pub clean_after : (me after : Knowing) (x : Slot) → IsIdleSweeper me → is_re
 clean_after me after x idle kept is =
     let w = sweeper_of me.0 in
     let here : SweptSlot false me (Sweeps (glanced x w), me.1) = record {
-          idle = record { seat = refl; none = idle.none; empty = idle.empty };
-          same = record { root = refl; rounds = refl };
-          clean = ap (λ (b : Bool). if b then w.clean else (w.clean + 1)) kept;
-          count = omega arith;
-        } in
+      idle = record { seat = refl; none = idle.none; empty = idle.empty };
+      same = record { root = refl; rounds = refl };
+      clean = ap (λ (b : Bool). if b then w.clean else (w.clean + 1)) kept;
+      count = omega arith;
+    } in
     subst (SweptSlot false me) (sym is) here
 
 pub grabs_by : (count slots id : ℕ) (me : Knowing) (s n old new : ℕ) → old ≡ slot_word (Live n) → new ≡ slot_word (OutSweeper n) → IsIdleSweeper me → s ≡ (sweeper_of me.0).clean → s < count → (sweeper_of me.0).found ≡ Some n → n < (sweeper_of me.0).root_seen
     → Allows (Holds count) slots id me (s + 1) (λ k. either (k == old) new k) (TriedGrab me old)
 grabs_by count slots id me s n old new a b idle turn inside found past =
     subst (λ (p : ℕ × ℕ). Allows (Holds count) slots id me (s + 1) (λ k. either (k == p.0) p.1 k) (TriedGrab me p.0)) (λ j. (sym a j, sym b j))
-        (grabs count slots id me s n idle turn inside found past)
+    (grabs count slots id me s n idle turn inside found past)
 
 pub grab_won : (s first n : ℕ) (me after : Knowing) → me.1 ≡ [] → s ≡ (sweeper_of me.0).clean → TriedGrab me first n after → n ≡ first
     → (bytes : List ℕ) × (after ≡ (Sweeps (grabbed s (sweeper_of me.0)), (s, Some bytes) ∷ []))
@@ -55,7 +53,7 @@ gives_by count slots id me mid s word w seat out has is turn inside =
     let here : Knowing = (me.0, (s, None) ∷ rest me.1) in
     let held : here.1 ≡ (s, None) ∷ [] = ap (λ (l : List (ℕ × Held)). (s, None) ∷ rest l) has.1 in
     subst (λ (p : ℕ × Knowing). Allows (Holds count) slots id p.1 (s + 1) (λ _. p.0) (λ _ after. GaveBack p.1 after)) (λ j. (sym w j, sym is j))
-        (sweeper_frees count slots id here s seat out held turn inside)
+    (sweeper_frees count slots id here s seat out held turn inside)
 
 pub gave_by : (me mid after : Knowing) (s : ℕ) → mid ≡ (me.0, (s, None) ∷ rest me.1) → GaveBack mid after → after ≡ (Sweeps (with_taken_back (sweeper_of me.0)), [])
 gave_by me mid after s is gave = gave ∙ (λ j. (Sweeps (with_taken_back (sweeper_of (is j).0)), []))

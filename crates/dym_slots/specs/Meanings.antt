@@ -1,5 +1,5 @@
 -- What the two ends of a log table are seen as.
-use Rattle.std.specs.Prelude.{◌≡◌, ⊤, ℕ, ◌+◌, ◌<◌, List, [], ◌∷◌, ◌++◌, take, drop, slice_index_or, Option}
+use Rattle.std.specs.Prelude.{⊤, ℕ, ◌+◌, ◌<◌, List, [], ◌∷◌, ◌++◌, take, drop, slice_index_or, Option}
 use Rattle.dym_base.specs.Origins.{TableName, Origin}
 use Rattle.atomic_table.specs.Seated.{TableId}
 

@@ -1,6 +1,6 @@
 -- What each kind of step on a log table tells the seat that takes it: of the word, of the seat before, of the number found
 -- and of the seat after.
-use Rattle.std.specs.Prelude.{◌≡◌, ◌≢◌, ℕ, ◌+◌, ◌<◌, ◌≤◌, ◌⊎◌, List, [], ◌∷◌, ◌++◌, length, Some, None, Contains, Bool, false, if◌then◌else◌}
+use Rattle.std.specs.Prelude.{◌≡◌, ◌≢◌, ℕ, ◌+◌, ◌<◌, ◌≤◌, ◌⊎◌, List, [], ◌∷◌, ◌++◌, Some, None, Contains, Bool, false, if◌then◌else◌}
 use Rattle.dym_base.specs.declared.limits.TheConstants.{LOG_SLOTS, LOG_WORDS}
 use Rattle.dym_slotlaw.specs.declared.slots.Slot.{Slot}
 use Rattle.dym_slotlaw.specs.declared.slots.Slot.TheVariants.{Free, Live, OutOwner, OutSweeper}
@@ -10,8 +10,7 @@ use Rattle.dym_slotlaw.specs.SlotSteps.{is_retired, remember}
 use Rattle.atomic_table.specs.Seated.{TableId}
 use Rattle.dym_slots.specs.declared.view.Listed.{Listed}
 use Rattle.dym_slots.specs.declared.view.OwnerSeat.{OwnerSeat}
-use Rattle.dym_slots.specs.declared.view.SweeperSeat.{SweeperSeat}
-use Rattle.dym_slots.specs.declared.view.SeatView.TheVariants.{Alone, Owns, Sweeps}
+use Rattle.dym_slots.specs.declared.view.SeatView.TheVariants.{Owns, Sweeps}
 use Rattle.dym_slots.specs.Seats.{glimpse, owner_of, sweeper_of, IsOwner, IsSweeper, looked, holding, with_put, lowered, with_freed, with_raised, with_root, glanced, grabbed, with_taken_back}
 use Rattle.dym_slots.specs.Shown.{Held, Knowing}
 
@@ -140,8 +139,8 @@ pub record SweeperLooked (me : Knowing) (n : ℕ) (after : Knowing) : Type 0 whe
 -- the sweeper tried to grab the slot of the clean count, where its last look found the record `number`
 pub record TriedGrab (me : Knowing) (first n : ℕ) (after : Knowing) : Type 0 where
   pub outcome :
-    ((n ≡ first) × ((bytes : List ℕ) × (after ≡ (Sweeps (grabbed (sweeper_of me.0).clean (sweeper_of me.0)), ((sweeper_of me.0).clean, Some bytes) ∷ me.1))))
-    ⊎ ((n ≢ first) × ((state : Slot) × (n ≡ slot_word state) × (is_retired (sweeper_of me.0).root_seen state ≡ false) × (after ≡ (Sweeps (glanced state (sweeper_of me.0)), me.1))))
+      ((n ≡ first) × ((bytes : List ℕ) × (after ≡ (Sweeps (grabbed (sweeper_of me.0).clean (sweeper_of me.0)), ((sweeper_of me.0).clean, Some bytes) ∷ me.1))))
+      ⊎ ((n ≢ first) × ((state : Slot) × (n ≡ slot_word state) × (is_retired (sweeper_of me.0).root_seen state ≡ false) × (after ≡ (Sweeps (glanced state (sweeper_of me.0)), me.1))))
 
 -- the slot that the sweeper has out becomes Free
 abbrev pub GaveBack : Knowing → Knowing → Type 0

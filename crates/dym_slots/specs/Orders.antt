@@ -1,5 +1,5 @@
 -- How the owner keeps the slots of its table: those of its list first, oldest first, and then the others.
-use Rattle.std.specs.Prelude.{◌≡◌, ◌≢◌, ℕ, ◌+◌, ◌<◌, ◌≤◌, List, [], ◌∷◌, ◌++◌, map, take, length, slice_index_or, All, AllPairs}
+use Rattle.std.specs.Prelude.{◌≡◌, ◌≢◌, ℕ, ◌<◌, ◌≤◌, List, [], ◌∷◌, ◌++◌, map, take, length, slice_index_or, All, AllPairs}
 use Rattle.dym_base.specs.declared.limits.TheConstants.{LOG_SLOTS, RECORD_ROOM}
 use Rattle.dym_slotlaw.specs.declared.slots.Entry.{Entry}
 use Rattle.dym_slotlaw.specs.declared.slots.TheConstants.{RECORD_NUMBERS}

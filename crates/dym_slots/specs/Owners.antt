@@ -1,16 +1,13 @@
 -- How an owner's fields stand for what it is seen as.
-use Rattle.std.specs.Prelude.{◌≡◌, ◌≢◌, ℕ, ◌+◌, ◌<◌, ◌≤◌, List, [], ◌∷◌, map, take, length, slice_index_or, Option, None, Some, All, AllPairs}
-use Rattle.dym_base.specs.declared.limits.TheConstants.{LOG_SLOTS, RECORD_ROOM}
+use Rattle.std.specs.Prelude.{◌≡◌, ℕ, ◌<◌, List, [], ◌∷◌, map, Option, None, Some}
 use Rattle.dym_base.specs.Origins.{shared}
 use Rattle.dym_slotlaw.specs.declared.slots.Entry.{Entry}
-use Rattle.dym_slotlaw.specs.declared.slots.TheConstants.{RECORD_NUMBERS}
-use Rattle.dym_slots.specs.declared.view.Listed.{Listed}
 use Rattle.dym_slots.specs.declared.owner.Owner.TheInside.{Inside}
-use Rattle.dym_slots.specs.Seats.{owner_of, IsOwner}
+use Rattle.dym_slots.specs.Seats.{owner_of}
 use Rattle.dym_slots.specs.Shown.{Knowing}
 use Rattle.dym_slots.specs.Moves.{SitsAt}
-use Rattle.dym_slots.specs.Meanings.{Numbered, OwnerMeaning, NumbersRise, name_of}
-use Rattle.dym_slots.specs.Orders.{IsOrder, slot_at, numbered, Stands}
+use Rattle.dym_slots.specs.Meanings.{OwnerMeaning, name_of}
+use Rattle.dym_slots.specs.Orders.{slot_at, numbered, Stands}
 
 -- the slot whose record is out, if any, has nothing at home
 abbrev pub OutIs : List Entry → Option ℕ → Knowing → Type 0

@@ -1,5 +1,5 @@
 -- How a running log table shows a state of the machine, and the rule that it keeps.
-use Rattle.std.specs.Prelude.{◌≡◌, ℕ, ◌≤◌, ◌⊎◌, List, [], ◌∷◌, map, zip, length, Option, Some, None, option_map}
+use Rattle.std.specs.Prelude.{◌≡◌, ℕ, ◌≤◌, ◌⊎◌, List, [], ◌∷◌, map, zip, length, Option, option_map}
 use mathlib.Core.Option as M
 use mathlib.Core.Option.{some, none}
 use Rattle.atomic_table.specs.Table.{State, Me}

@@ -1,6 +1,4 @@
 -- How a sweeper's fields stand for what it is seen as.
-use Rattle.std.specs.Prelude.{◌≡◌, ℕ, ◌+◌, Bool, if◌then◌else◌}
-use Rattle.dym_slots.specs.declared.view.SweeperSeat.{SweeperSeat}
 use Rattle.dym_slots.specs.declared.sweeper.Sweeper.TheInside.{Inside}
 use Rattle.dym_slots.specs.Seats.{sweeper_of}
 use Rattle.dym_slots.specs.Moves.{SitsAt, IsIdleSweeper}

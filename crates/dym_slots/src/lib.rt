@@ -6,6 +6,7 @@
 #![tactic(auto)]
 
 mod keeping;
+mod log_slots;
 mod owner;
 mod owner_steps;
 mod rule;
@@ -14,6 +15,7 @@ mod sweeper_steps;
 mod sweeping;
 mod view;
 
+pub use log_slots::LogSlots;
 pub use owner::Owner;
 pub use rule::{LogRule, LogSeat, LogTable, Slots};
 pub use sweeper::Sweeper;

@@ -245,7 +245,13 @@ fn reuse(table: &Slots, seat: &mut LogSeat, slot: u32, number: u64, next: u64) -
 
 /// Takes one of two slots that are in no entry for the next number, and answers whether it is the first. At most one of them is
 /// out with the sweeper at a time, so that the first is Free once both were seen so.
-pub(crate) fn seize_either(table: &Slots, seat: &mut LogSeat, first: u32, second: u32, next: u64) -> bool
+pub(crate) fn seize_either(
+    table: &Slots,
+    seat: &mut LogSeat,
+    first: u32,
+    second: u32,
+    next: u64,
+) -> bool
     requires table { SitsAt table.now.table_id seat.old.table_id }
     requires idle { IsIdleOwner seat.old.me }
     requires fresh { (owner_of seat.old.me.0).remembered ≡ [] }

@@ -1,7 +1,9 @@
 //! What the sweeper does.
-ghost use Rattle.std.specs.Prelude.{◌≡◌, ◌+◌};
+ghost use Rattle.std.specs.Prelude.{◌≡◌, ◌+◌, None, length};
 ghost use Rattle.dym_base.specs.declared.limits.TheConstants.{LOG_SLOTS};
+ghost use Rattle.dym_base.specs.Origins.{shared};
 
+use crate::owner::Owner;
 use crate::sweeper::Sweeper;
 use crate::sweeper_steps::sweep_all;
 
@@ -15,5 +17,15 @@ impl Sweeper {
         ensures taken { self.new.taken_back ≡ self.old.taken_back + result }
     {
         sweep_all(&self.table.shared, &mut self.seat)
+    }
+
+    /// Gives the table up, with all records that are left in it, and answers how many the owner's list has. Both ends are of one
+    /// table.
+    pub fn finish(self, owner: Owner) -> u32
+        requires table { owner.origin ≡ shared self.table }
+        requires idle { owner.lifted ≡ None }
+        ensures { result ≡ length owner.records }
+    {
+        owner.len()
     }
 }

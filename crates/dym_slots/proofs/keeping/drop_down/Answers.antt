@@ -1,4 +1,4 @@
-use Rattle.std.proofs.Common.{ap, ◌∙◌, sym, subst, arith, ◌≡◌, ◌<◌, ◌+◌, ◌-◌, ℕ, List, take, refl}
+use Rattle.std.proofs.Common.{◌∙◌, sym, subst, arith, ◌≡◌, ◌<◌, ◌+◌, ◌-◌, ℕ, take, refl}
 use Rattle.std.proofs.lemmas.List.{get_or_read}
 use Rattle.dym_slotlaw.specs.declared.slots.Entry.{Entry}
 use Rattle.dym_slotlaw.specs.declared.slots.TheConstants.{RECORD_NUMBERS}
@@ -18,7 +18,7 @@ drop_newest-requires-clause-newest c =
     let left = subst (λ (n : ℕ). HasLeft (take n (owner_of c.args.seat.now.me.0).list) c.args.seat.now.me c.loop-last.seat.me) up inv.5 in
     let e = get_or_read c.args.order.now.items last c.index.result.now (omega arith) c.index.ensures no_entry in
     subst (λ (x : Entry). IsNewest x (owner_of c.loop-last.seat.me.0).list) (sym e)
-        (newest_here _ _ _ last _ _ s (omega arith) (omega arith) left)
+    (newest_here _ _ _ last _ _ s (omega arith) (omega arith) left)
 
 pub drop_newest-requires-clause-number : goal.drop_newest-requires-clause-number
 drop_newest-requires-clause-number c =
@@ -37,8 +37,7 @@ loop-last-preserved c =
     let last = c.loop-last.last - 1 in
     let more = c.loop-last-test.true in
     let up : c.loop-last.last ≡ last + 1 = omega arith in
-    let left = subst (λ (n : ℕ). HasLeft (take n (owner_of c.args.seat.now.me.0).list) c.args.seat.now.me c.loop-last.seat.me) up inv.5 in
-    (
+    let left = subst (λ (n : ℕ). HasLeft (take n (owner_of c.args.seat.now.me.0).list) c.args.seat.now.me c.loop-last.seat.me) up inv.5 in (
       c.drop_newest.ensures.table ∙ inv.0,
       refl,
       refl,

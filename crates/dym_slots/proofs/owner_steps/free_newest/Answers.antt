@@ -1,4 +1,4 @@
-use Rattle.std.proofs.Common.{rules, ◌∙◌}
+use Rattle.std.proofs.Common.{rules}
 use Rattle.dym_base.specs.declared.limits.TheConstants.{LOG_SLOTS}
 use Rattle.dym_slots.proofs.Stepping.{frees_by}
 use Rattle.dym_slots.proofs.owner_steps.free_newest.Goals as goal

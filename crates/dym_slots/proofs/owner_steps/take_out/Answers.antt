@@ -1,4 +1,4 @@
-use Rattle.std.proofs.Common.{rules, ◌∙◌, ap, ◌≡◌, ◌∷◌, [], List, sym, refl, Some, None, ℕ}
+use Rattle.std.proofs.Common.{rules, ◌∙◌, ap, ◌∷◌, List, sym, Some, ℕ}
 use Rattle.atomic_table.specs.Table.{rest}
 use Rattle.dym_base.specs.declared.limits.TheConstants.{LOG_SLOTS}
 use Rattle.dym_slots.specs.Shown.{Held, Knowing}

@@ -1,6 +1,6 @@
-use Rattle.std.proofs.Common.{rules, arith}
+use Rattle.std.proofs.Common.{rules}
 use Rattle.dym_base.specs.declared.limits.TheConstants.{LOG_SLOTS}
-use Rattle.dym_slots.proofs.SweeperSays.{grabs_by, grab_won, grab_lost}
+use Rattle.dym_slots.proofs.SweeperSays.{grabs_by}
 use Rattle.dym_slots.proofs.sweeper_steps.grab.Goals as goal
 
 pub compare_exchange-requires : goal.compare_exchange-requires

@@ -1,4 +1,4 @@
-use Rattle.std.proofs.Common.{map, take, ap, ◌∙◌, sym, subst, arith, ◌≡◌, ◌<◌, ◌+◌, ℕ, List}
+use Rattle.std.proofs.Common.{map, ap, ◌∙◌, arith, ◌+◌}
 use Rattle.dym_base.specs.Origins.{shared}
 use Rattle.dym_slots.specs.Seats.{owner_of}
 use Rattle.dym_slots.specs.Meanings.{OwnerMeaning, up_to, name_of}

@@ -1,4 +1,4 @@
-use Rattle.std.proofs.Common.{set, ◌+◌, ◌^◌, ap, ◌∙◌, sym, subst, arith, ◌≡◌, ◌≢◌, ◌<◌, ℕ}
+use Rattle.std.proofs.Common.{set, ◌+◌, ap, ◌∙◌, sym, subst, arith, ◌<◌, ℕ}
 use Rattle.std.proofs.lemmas.List.{get_or_read}
 use Rattle.dym_slotlaw.specs.declared.slots.Entry.{Entry}
 use Rattle.dym_slotlaw.specs.declared.slots.TheConstants.{RECORD_NUMBERS}
@@ -8,7 +8,7 @@ use Rattle.dym_slots.specs.Shown.{Knowing}
 use Rattle.dym_slots.specs.Meanings.{OwnerMeaning}
 use Rattle.dym_slots.specs.Moves.{IsUnlisted}
 use Rattle.dym_slots.specs.Orders.{no_entry}
-use Rattle.dym_slots.proofs.OwnerSays.{fits, count_of_records, unlisted_here, put_after, put_room, sits_still, out_idle, idle_out, never_inside}
+use Rattle.dym_slots.proofs.OwnerSays.{fits, count_of_records, unlisted_here, put_after, put_room, sits_still, idle_out, never_inside}
 use Rattle.dym_slots.proofs.owner.Owner.put.Goals as goal
 
 pub hold_spare-slot-requires-clause-room : goal.hold_spare-slot-requires-clause-room

@@ -1,14 +1,13 @@
-use Rattle.std.proofs.Common.{map, drop, take, ◌-◌, refl, [], ap, ◌∙◌, sym, subst, arith, ◌≡◌, ◌<◌, ℕ, List, ◌++◌, ◌∷◌}
+use Rattle.std.proofs.Common.{◌-◌, refl, [], ap, ◌∙◌, sym, subst, arith, ◌≡◌, ℕ, List, ◌∷◌}
 use Rattle.std.proofs.lemmas.List.{get_or_read}
 use Rattle.dym_slotlaw.specs.declared.slots.Entry.{Entry}
-use Rattle.dym_slots.specs.declared.view.Listed.{Listed}
 use Rattle.dym_slots.specs.Seats.{owner_of}
 use Rattle.dym_base.specs.Origins.{shared}
 use Rattle.dym_slots.specs.declared.view.SeatView.TheVariants.{Owns}
 use Rattle.dym_slots.specs.Seats.{with_raised}
 use Rattle.dym_slots.specs.Shown.{Knowing}
-use Rattle.dym_slots.specs.Meanings.{Numbered, OwnerMeaning, from, name_of}
-use Rattle.dym_slots.specs.Orders.{IsOrder, Stands, numbered, no_entry}
+use Rattle.dym_slots.specs.Meanings.{OwnerMeaning, from, name_of}
+use Rattle.dym_slots.specs.Orders.{IsOrder, Stands, no_entry}
 use Rattle.dym_slots.proofs.OwnerSays.{fits, count_of_records, raise_parts, in_list, kept_is, raised_stands, raised_records, sits_still, out_idle, idle_out, never_inside}
 use Rattle.dym_slots.proofs.Places.{order_permutation}
 use Rattle.dym_slots.proofs.owner.Owner.raise.Goals as goal
