@@ -10,7 +10,8 @@ use Rattle.dym_base.specs.declared.command.Version.TheVariants.{One}
 use Rattle.dym_base.specs.Recorded.{IsRecorded}
 use Rattle.dym_pack.specs.Reading.{OfLog}
 use Rattle.dym_heap.specs.Loading.{IsLoaded}
-use Rattle.dym_chain.specs.Keeps.{Numbered, no_record, record_at, bytes_of}
+use Rattle.dym_slots.specs.Meanings.{Numbered, no_record, record_at}
+use Rattle.dym_chain.specs.Keeps.{bytes_of}
 use Rattle.dym_chain.specs.Chains.{no_entry}
 use Rattle.dym_chain.specs.Lawful.{logged_of}
 use Rattle.dym_chain.specs.Loads.{AreLoaded, HaveVersion}

@@ -10,7 +10,8 @@ use Rattle.dym_base.specs.RunLaws.{EachFollows, IsLogList}
 use Rattle.dym_base.specs.declared.command.Version.{Version}
 use Rattle.dym_base.proofs.Runs.{NewestBefore, all_push, all_take, all_drop, follows_push, follows_take, follows_drop}
 use Rattle.dym_base.specs.Recorded.{IsRecorded}
-use Rattle.dym_chain.specs.Keeps.{Numbered, bytes_of}
+use Rattle.dym_slots.specs.Meanings.{Numbered}
+use Rattle.dym_chain.specs.Keeps.{bytes_of}
 use Rattle.dym_base.specs.Below.{oldest_depth}
 use Rattle.dym_chain.specs.Chains.{ChainMeaning, all_logs, log_at, KeepsFromBefore, EachKeeps, KeepsFromNewest, Belongs, logged}
 use Rattle.dym_chain.specs.Lawful.{IsLawful, logged_of}

@@ -4,7 +4,7 @@ use Rattle.dym_base.specs.Heaps.{HeapState}
 use Rattle.dym_base.specs.Origins.{Origin}
 use Rattle.dym_base.specs.declared.command.Version.{Version}
 use Rattle.dym_base.specs.declared.command.Version.TheVariants.{One}
-use Rattle.dym_chain.specs.Keeps.{Numbered, KeepMeaning}
+use Rattle.dym_slots.specs.Meanings.{Numbered, KeepMeaning}
 use Rattle.dym_chain.specs.Chains.{ChainMeaning, Belongs, StandsForCopies}
 use Rattle.dym_chain.specs.Lawful.{IsLawful, entry_of}
 use Rattle.dym_chain.specs.Told.{Told}

@@ -2,7 +2,7 @@
 use Rattle.std.proofs.Common.{◌≡◌, ℕ, ◌+◌, ◌-◌, ◌<◌, ◌≤◌, List, [], ◌∷◌, ◌++◌, length, map, take, drop, get_or, sym, ap, subst, ◌∙◌, arith, length-append}
 use Rattle.std.proofs.lemmas.List.{length-map, drop-map}
 use Rattle.dym_base.specs.Objects.{LogEntry, record_of, slots}
-use Rattle.dym_chain.specs.Keeps.{Numbered, KeepMeaning, from}
+use Rattle.dym_slots.specs.Meanings.{Numbered, KeepMeaning, from}
 use Rattle.dym_base.specs.Below.{oldest_depth}
 use Rattle.dym_chain.specs.Chains.{ChainMeaning, all_logs, log_at}
 use Rattle.dym_chain.specs.Lawful.{IsLawful, entry_of}

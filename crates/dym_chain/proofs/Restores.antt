@@ -13,7 +13,8 @@ use Rattle.dym_pack.specs.Reading.{OfLog}
 use Rattle.dym_heap.specs.Loading.{HaveOneSetOfHandles}
 use Rattle.dym_heap.specs.Meaning.{HeapMeaning}
 use Rattle.dym_region.specs.declared.segment.SegmentId.{SegmentId}
-use Rattle.dym_chain.specs.Keeps.{Numbered, KeepMeaning, no_record, record_at, bytes_of, up_to}
+use Rattle.dym_slots.specs.Meanings.{Numbered, KeepMeaning, no_record, record_at, up_to}
+use Rattle.dym_chain.specs.Keeps.{bytes_of}
 use Rattle.dym_chain.specs.Chains.{ChainMeaning, all_logs, no_entry, log_at, object_of}
 use Rattle.dym_chain.specs.Lawful.{IsLawful, entry_of, logged_of}
 use Rattle.dym_chain.specs.Loads.{AreLoaded, HaveVersion}

@@ -6,7 +6,7 @@ use Rattle.std.proofs.Math.ListN.{get_or-append}
 use Rattle.std.proofs.lemmas.Bool.{cases_eq, cases_lt, true≢false}
 use Rattle.std.proofs.lemmas.Option.{same_Some, none-some}
 use Rattle.std.proofs.lemmas.List.{length-take, length-drop, get_or-take, get_or-drop, get_or-set_same, get_or-set_other, map-append, take-map, drop-map}
-use Rattle.dym_chain.specs.Keeps.{Numbered, first_number, NumbersRise}
+use Rattle.dym_slots.specs.Meanings.{Numbered, first_number, NumbersRise}
 use Rattle.dym_chain.specs.VecKeeps.{shown, bytes_out, place_out, no_slot, IsKept}
 use Rattle.dym_chain.specs.declared.vec_keep.Slot.{Slot}
 use Rattle.dym_chain.specs.declared.vec_keep.Lifted.{Lifted}

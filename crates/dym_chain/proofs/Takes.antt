@@ -8,7 +8,7 @@ use Rattle.dym_base.specs.declared.command.Version.{Version}
 use Rattle.dym_base.specs.declared.command.Kind.{Kind}
 use Rattle.dym_base.specs.declared.command.Kind.TheVariants.{Full, Inc}
 use Rattle.dym_base.specs.declared.reply.Reply.TheVariants as reply
-use Rattle.dym_chain.specs.Keeps.{KeepMeaning, with_record}
+use Rattle.dym_slots.specs.Meanings.{KeepMeaning, with_record}
 use Rattle.dym_base.specs.Below.{oldest_depth}
 use Rattle.dym_chain.specs.Chains.{ChainMeaning, logged, object_of}
 use Rattle.dym_chain.specs.Lawful.{IsLawful, entry_of}

@@ -11,7 +11,8 @@ use Rattle.dym_base.specs.Objects.{LogEntry, ObjectState, record_of, newest, rea
 use Rattle.dym_base.specs.Origins.{Origin}
 use Rattle.dym_base.specs.StandsFor.{StandsFor}
 use Rattle.dym_base.specs.declared.command.Version.{Version}
-use Rattle.dym_chain.specs.Keeps.{Numbered, bytes_of}
+use Rattle.dym_slots.specs.Meanings.{Numbered}
+use Rattle.dym_chain.specs.Keeps.{bytes_of}
 
 -- a chain: the logs before the oldest kept one that later restores read, the kept logs, oldest first, the records of all of
 -- them, the number that the next record gets, the place whose record is out, and where the records have their room

@@ -2,7 +2,7 @@
 use Rattle.std.specs.Prelude.{◌≡◌, ℕ, ◌<◌, ◌≤◌, List, [], map, length, slice_index_or, unwrap_or, option_map, Option, None, Some, IsSome}
 use Rattle.dym_base.specs.Origins.{own}
 use Rattle.dym_base.specs.declared.limits.TheConstants.{RECORD_ROOM}
-use Rattle.dym_chain.specs.Keeps.{Numbered, KeepMeaning, NumbersRise}
+use Rattle.dym_slots.specs.Meanings.{Numbered, KeepMeaning, NumbersRise}
 use Rattle.dym_chain.specs.declared.vec_keep.Slot.{Slot}
 use Rattle.dym_chain.specs.declared.vec_keep.Lifted.{Lifted}
 use Rattle.dym_chain.specs.declared.vec_keep.VecKeep.TheInside.{Inside}

@@ -1,7 +1,7 @@
 //! What every keep of records can do.
 ghost use Rattle.std.specs.Prelude.{◌≡◌, ℕ, ◌+◌, ◌^◌, ◌<◌, None, Some, length};
 ghost use Rattle.dym_base.specs.declared.limits.TheConstants.{RECORD_ROOM};
-ghost use Rattle.dym_chain.specs.Keeps.{KeepMeaning, NumbersRise, record_at, with_record, up_to, from};
+ghost use Rattle.dym_slots.specs.Meanings.{KeepMeaning, NumbersRise, record_at, with_record, up_to, from};
 
 use dym_base::limits::RECORD_ROOM;
 use dym_pack::Record;

@@ -2,7 +2,7 @@
 ghost use Rattle.std.specs.Prelude.{◌≡◌, ◌<◌, None, Some, length};
 ghost use Rattle.dym_base.specs.Objects as Objects;
 ghost use Rattle.dym_chain.specs.Chains.{ChainMeaning, log_at};
-ghost use Rattle.dym_chain.specs.Keeps.{record_at};
+ghost use Rattle.dym_slots.specs.Meanings.{record_at};
 ghost use Rattle.dym_chain.specs.Kept.{AreKept};
 ghost use Rattle.dym_chain.specs.Lawful.{entry_of};
 

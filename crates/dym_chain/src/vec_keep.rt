@@ -32,7 +32,7 @@ pub struct VecKeep {
 }
 
 impl Model for VecKeep {
-    ghost use Rattle.dym_chain.specs.Keeps.{KeepMeaning};
+    ghost use Rattle.dym_slots.specs.Meanings.{KeepMeaning};
 
     ghost Value = { KeepMeaning };
 

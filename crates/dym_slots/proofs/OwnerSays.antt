@@ -15,7 +15,7 @@ use Rattle.dym_slots.specs.Shown.{Held, Knowing}
 use Rattle.atomic_table.specs.Seated.{TableId}
 use Rattle.dym_slots.specs.Owners.{OutIs}
 use Rattle.dym_slots.specs.Moves.{SitsAt, IsIdleOwner, SameList, IsUnlisted, HasEntry, IsBytesOf}
-use Rattle.dym_slots.specs.Meanings.{Numbered, OwnerMeaning, no_record, record_at, NumbersRise}
+use Rattle.dym_slots.specs.Meanings.{Numbered, KeepMeaning, no_record, record_at, NumbersRise}
 use Rattle.dym_slots.specs.Orders.{IsOrder, no_entry, slot_at, numbered, entry_of, Stands, HasLeft, IsNewest}
 use Rattle.dym_slots.proofs.Rising.{below_made, one_place, rise_push, rise_drop, rise_take}
 use Rattle.dym_slots.proofs.Places.{order_swap, order_numbered, EntryAt, entry_at, list_size, spare_slot, bytes_at, differ}
@@ -289,11 +289,11 @@ raised_records list kept place is = ap (map numbered) is ∙ sym (drop-map numbe
 
 -- The list behind the meaning
 
-pub in_list : (v m : OwnerMeaning) (len place : ℕ) → v ≡ m → length v.records ≡ len → place < length m.records → place < len
-in_list v m len place e n lt = let k = ap (λ (o : OwnerMeaning). length o.records) e in omega arith
+pub in_list : (v m : KeepMeaning) (len place : ℕ) → v ≡ m → length v.records ≡ len → place < length m.records → place < len
+in_list v m len place e n lt = let k = ap (λ (o : KeepMeaning). length o.records) e in omega arith
 
-pub put_room : (v m : OwnerMeaning) (len : ℕ) → v ≡ m → length v.records ≡ len → length m.records < RECORD_ROOM → len < RECORD_ROOM
-put_room v m len e n lt = let k = ap (λ (o : OwnerMeaning). length o.records) e in omega arith
+pub put_room : (v m : KeepMeaning) (len : ℕ) → v ≡ m → length v.records ≡ len → length m.records < RECORD_ROOM → len < RECORD_ROOM
+put_room v m len e n lt = let k = ap (λ (o : KeepMeaning). length o.records) e in omega arith
 
 -- What the fields say
 

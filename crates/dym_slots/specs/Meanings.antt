@@ -20,9 +20,9 @@ pub record Numbered : Type 0 where
   pub number : ℕ
   pub bytes : List ℕ
 
--- the owner: its records, oldest first, numbers rising; the number that the next record gets; the place whose record is out;
--- the log table
-pub record OwnerMeaning : Type 0 where
+-- a keep of records, as the owner is one: the records, oldest first, numbers rising; the number that the next record gets; the
+-- place whose record is out; where the keep has its room, which for an owner is its log table
+pub record KeepMeaning : Type 0 where
   pub records : List Numbered
   pub made : ℕ
   pub lifted : Option ℕ
@@ -44,19 +44,19 @@ no_record = record { number = 0; bytes = [] }
 abbrev pub record_at : List Numbered → ℕ → Numbered
 record_at records place = slice_index_or records place no_record
 
--- the owner with one record more, under the number that was next
-abbrev pub with_record : OwnerMeaning → List ℕ → OwnerMeaning
-with_record owner bytes = record owner {
-  records = owner.records ++ record { number = owner.made; bytes = bytes } ∷ [];
-  made = owner.made + 1;
+-- the keep with one record more, under the number that was next
+abbrev pub with_record : KeepMeaning → List ℕ → KeepMeaning
+with_record keep bytes = record keep {
+  records = keep.records ++ record { number = keep.made; bytes = bytes } ∷ [];
+  made = keep.made + 1;
 }
 
--- the owner without the records after a place, and without those before it
-abbrev pub up_to : OwnerMeaning → ℕ → OwnerMeaning
-up_to owner place = record owner { records = take (place + 1) owner.records }
+-- the keep without the records after a place, and without those before it
+abbrev pub up_to : KeepMeaning → ℕ → KeepMeaning
+up_to keep place = record keep { records = take (place + 1) keep.records }
 
-abbrev pub from : OwnerMeaning → ℕ → OwnerMeaning
-from owner place = record owner { records = drop place owner.records }
+abbrev pub from : KeepMeaning → ℕ → KeepMeaning
+from keep place = record keep { records = drop place keep.records }
 
 -- the number of the first record, or else the next one
 abbrev pub first_number : List Numbered → ℕ → ℕ

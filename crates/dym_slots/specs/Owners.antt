@@ -6,7 +6,7 @@ use Rattle.dym_slots.specs.declared.owner.Owner.TheInside.{Inside}
 use Rattle.dym_slots.specs.Seats.{owner_of}
 use Rattle.dym_slots.specs.Shown.{Knowing}
 use Rattle.dym_slots.specs.Moves.{SitsAt}
-use Rattle.dym_slots.specs.Meanings.{OwnerMeaning, name_of}
+use Rattle.dym_slots.specs.Meanings.{KeepMeaning, name_of}
 use Rattle.dym_slots.specs.Orders.{slot_at, numbered, Stands}
 
 -- the slot whose record is out, if any, has nothing at home
@@ -14,7 +14,7 @@ abbrev pub OutIs : List Entry → Option ℕ → Knowing → Type 0
 OutIs order None me = ((owner_of me.0).out ≡ None) × (me.1 ≡ [])
 OutIs order (Some place) me = ((owner_of me.0).out ≡ Some (slot_at order place)) × (me.1 ≡ (slot_at order place, None) ∷ [])
 
-abbrev pub owner_meaning : Inside → OwnerMeaning
+abbrev pub owner_meaning : Inside → KeepMeaning
 owner_meaning i = record {
   records = map numbered (owner_of i.seat.me.0).list;
   made = i.made;

@@ -20,9 +20,9 @@ pub struct Owner {
 }
 
 impl Model for Owner {
-    ghost use Rattle.dym_slots.specs.Meanings.{OwnerMeaning};
+    ghost use Rattle.dym_slots.specs.Meanings.{KeepMeaning};
 
-    ghost Value = { OwnerMeaning };
+    ghost Value = { KeepMeaning };
 
     ghost use Rattle.dym_slots.specs.Owners.{owner_meaning, IsOwned};
 

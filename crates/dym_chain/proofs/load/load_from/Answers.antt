@@ -2,7 +2,7 @@ use Rattle.std.proofs.Common.{arith, ◌≡◌, ℕ, Option, None, Some, length,
 use Rattle.dym_base.specs.declared.command.Version.{Version}
 use Rattle.dym_pack.specs.Reading.{OfLog}
 use Rattle.dym_heap.specs.Meaning.{HeapMeaning}
-use Rattle.dym_chain.specs.Keeps.{KeepMeaning, record_at}
+use Rattle.dym_slots.specs.Meanings.{KeepMeaning, record_at}
 use Rattle.dym_chain.proofs.Loading.{version_at, loaded_step, loaded_end}
 use Rattle.dym_chain.proofs.load.load_from.Goals as goal
 

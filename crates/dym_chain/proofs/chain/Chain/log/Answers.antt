@@ -10,7 +10,7 @@ use Rattle.dym_heap.specs.Loading.{areas_of}
 use Rattle.dym_heap.specs.Meaning.{HeapMeaning}
 use Rattle.dym_pack.specs.Areas.{logged}
 use Rattle.dym_base.specs.Packed.{packed}
-use Rattle.dym_chain.specs.Keeps.{KeepMeaning}
+use Rattle.dym_slots.specs.Meanings.{KeepMeaning}
 use Rattle.dym_chain.specs.Chains.{ChainMeaning, Belongs, StandsForCopies, object_of}
 use Rattle.dym_chain.specs.Chains as chains
 use Rattle.dym_chain.specs.Answers.{log_refusal}

@@ -2,7 +2,7 @@ use Rattle.std.proofs.Common.{arith, ◌≡◌, ℕ, ◌-◌, ◌<◌, length, s
 use Rattle.dym_base.specs.Below.{dropped_below}
 use Rattle.dym_base.specs.Objects.{reached}
 use Rattle.dym_base.specs.declared.reply.Reply.TheVariants as reply
-use Rattle.dym_chain.specs.Keeps.{KeepMeaning}
+use Rattle.dym_slots.specs.Meanings.{KeepMeaning}
 use Rattle.dym_chain.specs.Chains.{ChainMeaning, Belongs, StandsForCopies, pruned}
 use Rattle.dym_chain.specs.Told.{Told}
 use Rattle.dym_chain.specs.Whole.{chain_of}

@@ -7,7 +7,8 @@ use Rattle.dym_base.specs.declared.command.Version.{Version}
 use Rattle.dym_base.specs.declared.reply.Reply.TheVariants as reply
 use Rattle.dym_heap.specs.Meaning.{HeapMeaning}
 use Rattle.dym_heap.specs.Loading.{HaveOneSetOfHandles}
-use Rattle.dym_chain.specs.Keeps.{KeepMeaning, record_at, bytes_of, up_to}
+use Rattle.dym_slots.specs.Meanings.{KeepMeaning, record_at, up_to}
+use Rattle.dym_chain.specs.Keeps.{bytes_of}
 use Rattle.dym_chain.specs.Chains.{ChainMeaning, Belongs, StandsForCopies, all_logs, log_at, object_of}
 use Rattle.dym_chain.specs.Lawful.{IsLawful, logged_of}
 use Rattle.dym_chain.specs.Loads.{HaveVersion}

@@ -3,7 +3,7 @@ use Rattle.std.proofs.Math.ListN.{set}
 use Rattle.std.proofs.lemmas.List.{length-map}
 use Rattle.std.proofs.lemmas.Option.{none-some}
 use Rattle.dym_base.specs.Origins.{own}
-use Rattle.dym_chain.specs.Keeps.{Numbered, KeepMeaning}
+use Rattle.dym_slots.specs.Meanings.{Numbered, KeepMeaning}
 use Rattle.dym_chain.specs.VecKeeps.{shown, bytes_out, place_out, no_slot, IsKept}
 use Rattle.dym_chain.specs.declared.vec_keep.Slot.{Slot}
 use Rattle.dym_chain.specs.declared.vec_keep.Lifted.{Lifted}

@@ -1,7 +1,7 @@
 use Rattle.std.proofs.Common.{◌≡◌, ℕ, ◌<◌, Some, None, List, [], length, get_or, ap, sym, ◌∙◌}
 use Rattle.std.proofs.lemmas.List.{get_or-map}
 use Rattle.dym_base.specs.Origins.{own}
-use Rattle.dym_chain.specs.Keeps.{Numbered, KeepMeaning, no_record}
+use Rattle.dym_slots.specs.Meanings.{Numbered, KeepMeaning, no_record}
 use Rattle.dym_chain.specs.VecKeeps.{shown, bytes_out, place_out, no_slot, keep_of}
 use Rattle.dym_chain.specs.declared.vec_keep.Slot.{Slot}
 use Rattle.dym_chain.specs.declared.vec_keep.VecKeep.TheInside.{Inside}

@@ -1,7 +1,7 @@
 use Rattle.std.proofs.Common.{arith, ◌+◌, ◌<◌, length, ap, sym, subst}
 use Rattle.std.proofs.lemmas.List.{length-map}
 use Rattle.std.specs.Vec.{vec_capacity}
-use Rattle.dym_chain.specs.Keeps.{KeepMeaning}
+use Rattle.dym_slots.specs.Meanings.{KeepMeaning}
 use Rattle.dym_chain.specs.VecKeeps.{shown, bytes_out, IsKept}
 use Rattle.dym_chain.proofs.Slots.{kept_push}
 use Rattle.dym_chain.proofs.vec_keep.VecKeepLogKeep.put.Goals as goal

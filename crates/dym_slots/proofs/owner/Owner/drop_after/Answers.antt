@@ -1,7 +1,7 @@
 use Rattle.std.proofs.Common.{map, ap, ◌∙◌, arith, ◌+◌}
 use Rattle.dym_base.specs.Origins.{shared}
 use Rattle.dym_slots.specs.Seats.{owner_of}
-use Rattle.dym_slots.specs.Meanings.{OwnerMeaning, up_to, name_of}
+use Rattle.dym_slots.specs.Meanings.{KeepMeaning, up_to, name_of}
 use Rattle.dym_slots.specs.Orders.{numbered}
 use Rattle.dym_slots.proofs.OwnerSays.{count_of_records, in_list, cut_stands, cut_records, sits_still, idle_out, never_inside}
 use Rattle.dym_slots.proofs.owner.Owner.drop_after.Goals as goal
@@ -18,7 +18,7 @@ invariant_of-self c =
     let inv = c.self.invariant in
     let s = inv.stands in
     let lt = in_list _ _ _ c.args.place c.self.view_is (count_of_records _ _ _ _ s) c.requires.place in
-    let quiet = ap (λ (m : OwnerMeaning). m.lifted) c.self.view_is ∙ c.requires.idle in
+    let quiet = ap (λ (m : KeepMeaning). m.lifted) c.self.view_is ∙ c.requires.idle in
     let left = c.drop_down.ensures.after in
     record {
       seated = sits_still _ _ _ c.drop_down.ensures.table inv.seated;
@@ -34,5 +34,5 @@ returns c =
     let records = ap (map numbered) left.list_is ∙ cut_records (owner_of i.seat.me.0).list (c.args.place + 1) in
     record {
       after = (λ j. record { records = records j; made = i.made; lifted = i.lifted; origin = shared (name_of (c.drop_down.ensures.table j)) })
-          ∙ ap (λ (m : OwnerMeaning). up_to m c.args.place) c.self.view_is;
+          ∙ ap (λ (m : KeepMeaning). up_to m c.args.place) c.self.view_is;
     }

@@ -4,7 +4,7 @@ use Rattle.dym_slotlaw.specs.declared.slots.Entry.{Entry}
 use Rattle.dym_slotlaw.specs.declared.slots.TheConstants.{RECORD_NUMBERS}
 use Rattle.dym_slots.specs.Seats.{owner_of}
 use Rattle.dym_slots.specs.Moves.{HasEntry, IsBytesOf}
-use Rattle.dym_slots.specs.Meanings.{OwnerMeaning, record_at}
+use Rattle.dym_slots.specs.Meanings.{KeepMeaning, record_at}
 use Rattle.dym_slots.specs.Orders.{no_entry}
 use Rattle.dym_slots.proofs.OwnerSays.{fits, count_of_records, has_entry, number_fits, in_list, bytes_here}
 use Rattle.dym_slots.proofs.owner.Owner.lift.Goals as goal
@@ -32,4 +32,4 @@ returns-clause-bytes c =
     let f = fits _ _ _ _ s in
     let e = get_or_read c.self.inside.order.items c.args.place c.index.result.now (omega arith) c.index.ensures no_entry in
     let own = subst (λ (x : Entry). IsBytesOf x.slot x.number (owner_of c.self.inside.seat.me.0) c.take_out-rec.result) e c.take_out-rec.ensures.bytes in
-    bytes_here _ _ _ _ c.args.place _ _ s lt own ∙ ap (λ (m : OwnerMeaning). (record_at m.records c.args.place).bytes) c.self.view_is
+    bytes_here _ _ _ _ c.args.place _ _ s lt own ∙ ap (λ (m : KeepMeaning). (record_at m.records c.args.place).bytes) c.self.view_is

@@ -1,7 +1,7 @@
 use Rattle.std.proofs.Common.{ap, ◌∙◌, arith}
 use Rattle.std.proofs.lemmas.List.{get_or_read}
 use Rattle.dym_slotlaw.specs.declared.slots.Entry.{Entry}
-use Rattle.dym_slots.specs.Meanings.{OwnerMeaning, record_at}
+use Rattle.dym_slots.specs.Meanings.{KeepMeaning, record_at}
 use Rattle.dym_slots.specs.Orders.{no_entry}
 use Rattle.dym_slots.proofs.OwnerSays.{fits, count_of_records, number_here, in_list}
 use Rattle.dym_slots.proofs.owner.Owner.number_at.Goals as goal
@@ -13,4 +13,4 @@ returns c =
     let f = fits _ _ _ _ s in
     ap (λ (e : Entry). e.number) (get_or_read c.self.inside.order.items c.args.place c.index.result.now (omega arith) c.index.ensures no_entry)
     ∙ number_here _ _ _ _ c.args.place s lt
-    ∙ ap (λ (m : OwnerMeaning). (record_at m.records c.args.place).number) c.self.view_is
+    ∙ ap (λ (m : KeepMeaning). (record_at m.records c.args.place).number) c.self.view_is

@@ -5,7 +5,7 @@ use Rattle.dym_slotlaw.specs.declared.slots.TheConstants.{RECORD_NUMBERS}
 use Rattle.dym_slotlaw.specs.Slots.{entry}
 use Rattle.dym_slots.specs.Seats.{owner_of}
 use Rattle.dym_slots.specs.Shown.{Knowing}
-use Rattle.dym_slots.specs.Meanings.{OwnerMeaning}
+use Rattle.dym_slots.specs.Meanings.{KeepMeaning}
 use Rattle.dym_slots.specs.Moves.{IsUnlisted}
 use Rattle.dym_slots.specs.Orders.{no_entry}
 use Rattle.dym_slots.proofs.OwnerSays.{fits, count_of_records, unlisted_here, put_after, put_room, sits_still, idle_out, never_inside}
@@ -26,8 +26,8 @@ invariant_of-self c =
     let h = c.hold_spare-slot.ensures in
     let order = c.hold_spare-slot.new.order.items in
     let f = fits _ _ _ _ h.stands in
-    let quiet = ap (λ (m : OwnerMeaning). m.lifted) c.self.view_is ∙ c.requires.idle in
-    let left : i.made < RECORD_NUMBERS = let e = ap (λ (m : OwnerMeaning). m.made) c.self.view_is in let r = c.requires.made in omega arith in
+    let quiet = ap (λ (m : KeepMeaning). m.lifted) c.self.view_is ∙ c.requires.idle in
+    let left : i.made < RECORD_NUMBERS = let e = ap (λ (m : KeepMeaning). m.made) c.self.view_is in let r = c.requires.made in omega arith in
     let room = put_room _ _ _ c.self.view_is (count_of_records _ _ _ _ inv.stands) c.requires.room in
     let e = get_or_read order i.len c.index_mut.result.now (omega arith) c.index_mut.ensures.value no_entry in
     let items = ap (λ (s : ℕ). set order i.len (entry s i.made)) (ap (λ (x : Entry). x.slot) e) in

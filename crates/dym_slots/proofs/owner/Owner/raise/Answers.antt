@@ -6,7 +6,7 @@ use Rattle.dym_base.specs.Origins.{shared}
 use Rattle.dym_slots.specs.declared.view.SeatView.TheVariants.{Owns}
 use Rattle.dym_slots.specs.Seats.{with_raised}
 use Rattle.dym_slots.specs.Shown.{Knowing}
-use Rattle.dym_slots.specs.Meanings.{OwnerMeaning, from, name_of}
+use Rattle.dym_slots.specs.Meanings.{KeepMeaning, from, name_of}
 use Rattle.dym_slots.specs.Orders.{IsOrder, Stands, no_entry}
 use Rattle.dym_slots.proofs.OwnerSays.{fits, count_of_records, raise_parts, in_list, kept_is, raised_stands, raised_records, sits_still, out_idle, idle_out, never_inside}
 use Rattle.dym_slots.proofs.Places.{order_permutation}
@@ -29,7 +29,7 @@ invariant_of-self c =
     let order = i.order.items in
     let lt = in_list _ _ _ c.args.place c.self.view_is (count_of_records _ _ _ _ s) c.requires.place in
     let f = fits _ _ _ _ s in
-    let quiet = ap (λ (m : OwnerMeaning). m.lifted) c.self.view_is ∙ c.requires.idle in
+    let quiet = ap (λ (m : KeepMeaning). m.lifted) c.self.view_is ∙ c.requires.idle in
     let idle = out_idle _ _ _ quiet inv.out in
     let e = get_or_read order c.args.place c.index.result.now (omega arith) c.index.ensures no_entry in
     let a = c.raise_root.ensures.after in
@@ -57,5 +57,5 @@ returns c =
     let records = raised_records (owner_of i.seat.me.0).list _ c.args.place list in
     record {
       after = (λ j. record { records = records j; made = i.made; lifted = i.lifted; origin = shared (name_of (c.raise_root.ensures.table j)) })
-          ∙ ap (λ (m : OwnerMeaning). from m c.args.place) c.self.view_is;
+          ∙ ap (λ (m : KeepMeaning). from m c.args.place) c.self.view_is;
     }
