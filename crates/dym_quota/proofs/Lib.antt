@@ -5,3 +5,4 @@ pub mod KeepsRule
 pub mod Queued
 pub mod Orders
 pub mod Runs
+pub mod Ends

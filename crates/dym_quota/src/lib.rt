@@ -13,6 +13,8 @@ mod longest_run;
 mod opening;
 mod own_supply;
 mod pass_view;
+#[cfg(test)]
+mod queue_tests;
 mod quota_queue;
 mod rule;
 mod steps;
