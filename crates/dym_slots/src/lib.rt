@@ -13,6 +13,8 @@ mod rule;
 mod sweeper;
 mod sweeper_steps;
 mod sweeping;
+#[cfg(test)]
+mod tests;
 mod view;
 
 pub use log_slots::LogSlots;
