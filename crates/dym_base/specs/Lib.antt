@@ -4,8 +4,12 @@ pub mod BadKinds
 pub mod Heaps
 pub mod HeapStep
 pub mod Packed
+pub mod Recorded
 pub mod StandsFor
 pub mod Objects
+pub mod Below
+pub mod LawfulLists
+pub mod Files
 pub mod Origins
 pub mod Laws
 pub mod RunLaws
