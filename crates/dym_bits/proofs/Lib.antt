@@ -2,3 +2,4 @@ pub mod BitmapLemmas
 pub mod ByteBits
 pub mod Counts
 pub mod Searches
+pub mod Subsets

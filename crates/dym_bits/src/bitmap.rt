@@ -5,7 +5,7 @@ ghost use Rattle.dym_base.specs.Packed.{bitmap, bitmap_byte};
 ghost use Rattle.dym_bits.specs.Bits.{digits, bit_in, bits_of_bytes, bytes_of_bits, clear_bits, set_count, IsSet, IsClear, IsFirstClear, IsNextSet, IsNextClear, IsNextClearInWord, IsTopSet};
 
 use crate::bytes::{BITMAP_BYTES, WORD_BITS, WORDS, bytes_fit, bytes_of, padded, word_at};
-use crate::scan::next_set_in;
+use crate::scan::{next_set_in, words_within};
 use dym_base::limits::MOST_CHUNKS;
 use std::marker::Model;
 
@@ -189,6 +189,14 @@ impl Bits {
         None
     }
 
+    /// Whether each bit that is set is set in `other` too.
+    pub fn is_within(&self, other: &Bits) -> bool
+        ensures within { result ≡ true → (k : ℕ) → IsSet self.now k → IsSet other.now k }
+        ensures outside { result ≡ false → (k : ℕ) × IsSet self.now k × IsClear other.now k }
+    {
+        words_within(&self.words, &other.words)
+    }
+
     /// Bits `8 * k` to `8 * k + 7` as a byte, the first of them lowest.
     pub fn byte(&self, k: u32) -> u8
         requires { 8 * k < MOST_CHUNKS }
@@ -214,7 +222,11 @@ impl Bits {
         ensures after { self.new ≡ bits_of_bytes bytes.now ++ clear_bits (MOST_CHUNKS - 8 * length bytes.now) }
         ensures len { length self.new ≡ MOST_CHUNKS }
         ensures bits { (i : ℕ) → bit_in self.new i ≡ bit_in (bits_of_bytes bytes.now) i }
+
+        // Where no bit from n on is set, the bytes are the bitmap of n bits.
+        ensures whole { (n : ℕ) → length bytes.now ≡ max 1 (n / 8) → ((i : ℕ) → n ≤ i → IsClear self.new i) → bytes.now ≡ bitmap n (bit_in self.new) }
     {
+        bytes_fit(bytes);
         let padded = padded(bytes);
         for q in 0..WORDS {
             self.words[q] = word_at(&padded, 8 * q);
@@ -267,6 +279,12 @@ mod tests {
                 (again.count(), again.next_set(64), again.top_set()),
                 (2, next, top)
             );
+            assert_eq!(rt;
+                (again.is_within(&bits), Bits::new().is_within(&bits)),
+                (true, true)
+            );
+            again.set(1024);
+            assert_eq!(rt; again.is_within(&bits), false);
         }
     }
 }

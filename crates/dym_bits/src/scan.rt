@@ -1,7 +1,7 @@
 //! Searches in the words of a bitmap.
 
-ghost use Rattle.std.specs.Prelude.{◌≡◌, ℕ, ◌≤◌, MatchOption};
-ghost use Rattle.dym_bits.specs.Bits.{bits_of, IsClear, IsNextSet};
+ghost use Rattle.std.specs.Prelude.{◌≡◌, ℕ, ◌≤◌, true, false, MatchOption};
+ghost use Rattle.dym_bits.specs.Bits.{bits_of, IsSet, IsClear, IsNextSet};
 
 use crate::bytes::{WORD_BITS, WORDS};
 use dym_base::limits::MOST_CHUNKS;
@@ -28,4 +28,17 @@ pub(crate) fn next_set_in(words: &[u64; WORDS], from: u32, limit: u32) -> Option
         }
     }
     None
+}
+
+/// Whether each bit that is set in the words is set in the others too.
+pub(crate) fn words_within(words: &[u64; WORDS], others: &[u64; WORDS]) -> bool
+    ensures within { result ≡ true → (k : ℕ) → IsSet (bits_of 64 words.now) k → IsSet (bits_of 64 others.now) k }
+    ensures outside { result ≡ false → (k : ℕ) × IsSet (bits_of 64 words.now) k × IsClear (bits_of 64 others.now) k }
+{
+    for q in 0..WORDS {
+        if words[q] & !others[q] != 0 {
+            return false;
+        }
+    }
+    true
 }

@@ -1,7 +1,9 @@
 use Rattle.std.proofs.Common.{◌≡◌, ◌-◌, ◌*◌, ◌++◌, length, get_or, refl, ◌∙◌, ap, sym, arith, false}
+use mathlib.Core.Path.{fun_ext}
+use Rattle.dym_base.specs.Packed.{bitmap}
 use Rattle.dym_bits.specs.Bits.{bits_of, clear_bits}
 use Rattle.dym_bits.proofs.BitmapLemmas.{length_of_words, get_or-clear_after}
-use Rattle.dym_bits.proofs.ByteBits.{word_from_bytes}
+use Rattle.dym_bits.proofs.ByteBits.{word_from_bytes, bytes_from_bits, bitmap_from_bits}
 use Rattle.std.proofs.lemmas.List.{take_all, length-set}
 use Rattle.dym_bits.proofs.bitmap.Bits.set_bytes.Goals as goal
 
@@ -30,3 +32,11 @@ returns-clause-bits c i = ap (λ bits. get_or bits i false) (all_bits c) ∙ get
 
 pub returns-clause-len : goal.returns-clause-len
 returns-clause-len c = length_of_words c.loop-q.self-inside.words c.loop-q.invariant.long
+
+pub returns-clause-whole : goal.returns-clause-whole
+returns-clause-whole c = λ n long clear.
+    let bytes = c.args.bytes.now in
+    sym (take_all (length bytes) bytes (omega arith))
+    ∙ bytes_from_bits bytes (length bytes) (omega arith) c.bytes_fit.ensures
+    ∙ bitmap_from_bits (bits_of 8 bytes) (length bytes) n long (λ i past. sym (returns-clause-bits c i) ∙ clear i past)
+    ∙ ap (bitmap n) (fun_ext (λ i. sym (returns-clause-bits c i)))
