@@ -4,6 +4,7 @@ use Rattle.std.specs.List.{AllByRecursion}
 use Rattle.std.specs.FinMap.{get, contains_key}
 use Rattle.dym_base.specs.Heaps.{Live}
 use Rattle.dym_base.specs.Packed.{Logged, packs_by, packed}
+use Rattle.dym_base.specs.Recorded.{IsRecorded}
 use Rattle.dym_base.specs.declared.command.Kind.TheVariants.{Full, Inc}
 
 -- the bytes of the chunk of number k, where the log packs it
@@ -37,8 +38,10 @@ pub record LogsStandFor (logs : List Logged) (copy : Live) : Type 0 where
   pub handles : UsesLast logs copy
   pub bytes : (k : ℕ) → contains_key copy k ≡ true → newest_packed logs k ≡ get copy k
 
--- what records stand for: what logs of those bytes do
+-- what records stand for: what logs of those bytes do. The logs are such as a record can hold, so that no records stand for two
+-- maps
 pub record StandsFor (records : List (List ℕ)) (copy : Live) : Type 0 where
   pub logs : List Logged
+  pub recorded : AllByRecursion IsRecorded logs
   pub are : map packed logs ≡ records
   pub stand : LogsStandFor logs copy

@@ -1,11 +1,14 @@
 -- What is true of every chain stays true as logs are added, and as those at either end are dropped.
 use Rattle.std.proofs.Common.{◌≡◌, ℕ, ◌+◌, ◌-◌, ◌<◌, List, [], ◌∷◌, length, map, take, drop, refl, sym, ap, subst, ◌∙◌, arith, length-append}
+use Rattle.std.specs.List.{AllByRecursion}
 use Rattle.std.proofs.Math.Seq.{get_or-append-add}
 use Rattle.std.proofs.lemmas.List.{take-map, drop-map}
 use Rattle.dym_base.specs.Objects.{LogEntry, record_of}
-use Rattle.dym_base.specs.Packed.{packed}
+use Rattle.dym_base.specs.Packed.{Logged, packed}
+use Rattle.dym_base.specs.Recorded.{IsRecorded}
 use Rattle.dym_base.specs.StandsFor.{LogsStandFor}
 use Rattle.dym_base.specs.declared.command.Version.{Version}
+use Rattle.dym_base.proofs.Runs.{all_take, all_drop}
 use Rattle.dym_chain.specs.Keeps.{bytes_of}
 use Rattle.dym_chain.specs.Chains.{ChainMeaning, all_logs, no_entry, log_at, oldest_depth, StandsForCopies}
 use Rattle.dym_chain.specs.Lawful.{IsLawful, logged_of}
@@ -16,6 +19,10 @@ use Rattle.dym_chain.proofs.Stands.{stands_at}
 pub packed_of : (v : Version) (logs : List LogEntry) → map packed (map (logged_of v) logs) ≡ map (record_of v) logs
 packed_of v [] = refl
 packed_of v (e ∷ logs) = ap (λ l. record_of v e ∷ l) (packed_of v logs)
+
+pub logged_all : (v : Version) (logs : List LogEntry) → AllByRecursion (λ (e : LogEntry). IsRecorded (logged_of v e)) logs → AllByRecursion IsRecorded (map (logged_of v) logs)
+logged_all v [] all = tt
+logged_all v (e ∷ logs) all = (all.0, logged_all v logs all.1)
 
 pub at_place : (c : ChainMeaning) (k : ℕ) → log_at (all_logs c) (length c.below + k) ≡ log_at c.logs k
 at_place c k = get_or-append-add c.below c.logs k no_entry
@@ -32,8 +39,10 @@ stands c law k within =
     let base : length c.below + k - d ≡ oldest_depth c.logs + k - d = ap (λ n. n + k - d) law.base in
     let stand : LogsStandFor (map (logged_of v) part) (log_at c.logs k).copy =
     subst (λ (f : LogEntry). LogsStandFor (map (logged_of v) (take (f.depth + 1) (drop (i - f.depth) (all_logs c)))) f.copy) is (stands_at v (all_logs c) law.follows law.keeps law.full i inside) in
+    let R : LogEntry → Type 0 = λ f. IsRecorded (logged_of v f) in
     record {
       logs = map (logged_of v) part;
+      recorded = logged_all v part (all_take R (d + 1) (drop (i - d) (all_logs c)) (all_drop R (i - d) (all_logs c) law.recorded));
       are = packed_of v part
           ∙ sym (take-map (record_of v) (d + 1) (drop (i - d) (all_logs c)))
           ∙ ap (λ l. take (d + 1) l) (sym (drop-map (record_of v) (i - d) (all_logs c)))

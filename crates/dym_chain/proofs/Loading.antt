@@ -7,7 +7,8 @@ use Rattle.dym_base.specs.Heaps.{Live}
 use Rattle.dym_base.specs.Packed.{Logged, packed}
 use Rattle.dym_base.specs.declared.command.Version.{Version}
 use Rattle.dym_base.specs.declared.command.Version.TheVariants.{One}
-use Rattle.dym_pack.specs.Reading.{IsRecorded, OfLog}
+use Rattle.dym_base.specs.Recorded.{IsRecorded}
+use Rattle.dym_pack.specs.Reading.{OfLog}
 use Rattle.dym_heap.specs.Loading.{IsLoaded}
 use Rattle.dym_chain.specs.Keeps.{Numbered, no_record, record_at, bytes_of}
 use Rattle.dym_chain.specs.Chains.{no_entry}

@@ -112,10 +112,7 @@ comes_next c v quota s t kind law belongs packable fits free =
     let Small : LogEntry → Type 0 = λ f. f.depth ≤ 31 in
     let small : e.depth ≤ 31 = depth_small kind (newest c.logs) (λ f is. all_newest Small c.logs f law.list.1 is) in
     record {
-      recorded = record {
-        packable = record { sized = packable.sized; touched_live = found_live s.live e.depth s.touched packable.touched_live; few = packable.few };
-        time = fits;
-      };
+      recorded = record { sized = packable.sized; found_live = found_live s.live e.depth s.touched packable.touched_live; few = packable.few; time = fits };
       list = (rw length-append (omega (arith, room, law.list.0)), all_push Small c.logs e law.list.1 small, follows_push c.logs e law.list.2 before);
       before = before;
       keeps = λ f is deep. subst (λ (found : Touched). KeepsUntouched s.live found f.copy) (sym (found_deep e.depth s.touched deep)) (keeps_by s f (newest c.logs) is belongs.untouched);

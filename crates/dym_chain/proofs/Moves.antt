@@ -9,7 +9,7 @@ use Rattle.dym_base.specs.Objects.{LogEntry, record_of, newest}
 use Rattle.dym_base.specs.RunLaws.{EachFollows, IsLogList}
 use Rattle.dym_base.specs.declared.command.Version.{Version}
 use Rattle.dym_base.proofs.Runs.{NewestBefore, all_push, all_take, all_drop, follows_push, follows_take, follows_drop}
-use Rattle.dym_pack.specs.Reading.{IsRecorded}
+use Rattle.dym_base.specs.Recorded.{IsRecorded}
 use Rattle.dym_chain.specs.Keeps.{Numbered, bytes_of}
 use Rattle.dym_chain.specs.Chains.{ChainMeaning, all_logs, log_at, oldest_depth, KeepsFromBefore, KeepsFromNewest, Belongs, logged}
 use Rattle.dym_chain.specs.Lawful.{IsLawful, EachKeeps, logged_of}

@@ -12,7 +12,7 @@ use Rattle.dym_base.specs.declared.command.Version.{Version}
 use Rattle.dym_base.specs.declared.command.Version.TheVariants.{One, Two}
 use Rattle.dym_base.specs.declared.command.Kind.{Kind}
 use Rattle.dym_base.specs.declared.command.Kind.TheVariants.{Full, Inc}
-use Rattle.dym_pack.specs.Reading.{IsRecorded}
+use Rattle.dym_base.specs.Recorded.{IsRecorded}
 use Rattle.dym_chain.specs.Lawful.{logged_of}
 
 -- the version that a first byte tells
@@ -54,8 +54,8 @@ areas_are log few =
 
 pub held_same : (a b : Logged) → IsRecorded a → IsRecorded b → packed a ≡ packed b → held a.copy ≡ held b.copy
 held_same a b ra rb same =
-    let fewa : held a.copy < 2 ^ 32 = omega (arith, ra.packable.few) in
-    let fewb : held b.copy < 2 ^ 32 = omega (arith, rb.packable.few) in
+    let fewa : held a.copy < 2 ^ 32 = omega (arith, ra.few) in
+    let fewb : held b.copy < 2 ^ 32 = omega (arith, rb.few) in
     sym (areas_are a fewa) ∙ ap areas_by same ∙ areas_are b fewb
 
 -- logs whose records are those of logs of another version

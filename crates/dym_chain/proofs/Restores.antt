@@ -8,7 +8,8 @@ use Rattle.dym_base.specs.Objects.{LogEntry, record_of, newest, reached, restore
 use Rattle.dym_base.specs.Packed.{Logged, packed}
 use Rattle.dym_base.specs.StandsFor.{LogsStandFor}
 use Rattle.dym_base.specs.declared.command.Version.{Version}
-use Rattle.dym_pack.specs.Reading.{IsRecorded, OfLog}
+use Rattle.dym_base.specs.Recorded.{IsRecorded}
+use Rattle.dym_pack.specs.Reading.{OfLog}
 use Rattle.dym_heap.specs.Loading.{HaveOneSetOfHandles}
 use Rattle.dym_heap.specs.Meaning.{HeapMeaning}
 use Rattle.dym_region.specs.declared.segment.SegmentId.{SegmentId}
@@ -23,7 +24,7 @@ use Rattle.dym_base.proofs.Runs.{all_take, all_drop}
 use Rattle.dym_chain.proofs.Places.{first_depth, depth_within, newest_there}
 use Rattle.dym_chain.proofs.Stands.{stands_at, loaded_is}
 use Rattle.dym_chain.proofs.Records.{version_same, held_same, recorded_at}
-use Rattle.dym_chain.proofs.Lawfuls.{at_place, packed_of}
+use Rattle.dym_chain.proofs.Lawfuls.{at_place, packed_of, logged_all}
 use Rattle.dym_chain.proofs.Moves.{lawful_take}
 use Rattle.dym_chain.proofs.Finds.{all_at, entry_at, count_same}
 use Rattle.dym_chain.proofs.Prunes.{records_count, base_is}
@@ -125,10 +126,6 @@ part_records c v a b are =
 
 pub part_version : (c : ChainMeaning) (v : Version) (a b : ℕ) → bytes_of c.records ≡ map (record_of v) (all_logs c) → HaveVersion v (take a (drop b (bytes_of c.records)))
 part_version c v a b are = subst (HaveVersion v) (part_records c v a b are) (have_version v (take a (drop b (all_logs c))))
-
-logged_all : (v : Version) (logs : List LogEntry) → AllByRecursion (λ (e : LogEntry). IsRecorded (logged_of v e)) logs → AllByRecursion IsRecorded (map (logged_of v) logs)
-logged_all v [] all = tt
-logged_all v (e ∷ logs) all = (all.0, logged_all v logs all.1)
 
 -- what is loaded is the copy
 pub restored_live : (c : ChainMeaning) (v : Version) (i depth : ℕ) (shaped live : Live) → IsLawful c → bytes_of c.records ≡ map (record_of v) (all_logs c) → i < length (all_logs c) → depth ≡ (log_at (all_logs c) i).depth → HaveOneSetOfHandles shaped (log_at (all_logs c) i).copy → ((logs : List Logged) → AllByRecursion IsRecorded logs → map packed logs ≡ take (depth + 1) (drop (i - depth) (bytes_of c.records)) → AreLoaded logs shaped live) → live ≡ (log_at (all_logs c) i).copy

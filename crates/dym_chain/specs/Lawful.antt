@@ -6,7 +6,7 @@ use Rattle.dym_base.specs.Packed.{Logged}
 use Rattle.dym_base.specs.RunLaws.{IsLogList, EachFollows}
 use Rattle.dym_base.specs.declared.command.Version.{Version}
 use Rattle.dym_base.specs.declared.limits.TheConstants.{MOST_KEPT_LOGS}
-use Rattle.dym_pack.specs.Reading.{IsRecorded}
+use Rattle.dym_base.specs.Recorded.{IsRecorded}
 use Rattle.dym_chain.specs.Keeps.{KeepMeaning, bytes_of}
 use Rattle.dym_chain.specs.Chains.{ChainMeaning, all_logs, KeepsFromBefore, oldest_depth}
 use Rattle.dym_chain.specs.declared.entry.Entry.{Entry}

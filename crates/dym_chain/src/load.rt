@@ -2,7 +2,7 @@
 ghost use Rattle.std.specs.Prelude.{◌≡◌, ℕ, ◌+◌, ◌<◌, ◌≤◌, None, List, length, map, take, drop};
 ghost use Rattle.std.specs.List.{AllByRecursion};
 ghost use Rattle.dym_base.specs.Packed.{Logged, packed};
-ghost use Rattle.dym_pack.specs.Reading.{IsRecorded};
+ghost use Rattle.dym_base.specs.Recorded.{IsRecorded};
 ghost use Rattle.dym_heap.specs.Meaning.{IsSound};
 ghost use Rattle.dym_chain.specs.Keeps.{bytes_of};
 ghost use Rattle.dym_chain.specs.Loads.{AreLoaded, HaveVersion};

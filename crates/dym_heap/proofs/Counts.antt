@@ -8,7 +8,8 @@ use Rattle.dym_base.specs.Numbers.{per}
 use Rattle.dym_base.specs.Heaps.{areas, held}
 use Rattle.dym_base.specs.Packed.{Logged, packed}
 use Rattle.dym_pack.specs.Areas.{AreaName, area_at}
-use Rattle.dym_pack.specs.Reading.{IsRecorded, IsRecord, OfLog}
+use Rattle.dym_base.specs.Recorded.{IsRecorded}
+use Rattle.dym_pack.specs.Reading.{IsRecord, OfLog}
 use Rattle.dym_heap.specs.Table.{Row, row_at}
 use Rattle.dym_heap.specs.Shape.{areas_in}
 use Rattle.dym_heap.specs.Shelves.{ShelfMeaning, IsKept}

@@ -15,7 +15,8 @@ use Rattle.dym_base.specs.declared.command.Version.TheVariants.{One, Two}
 use Rattle.dym_base.specs.declared.command.Kind.TheVariants.{Full, Inc}
 use Rattle.dym_bits.specs.Bits.{bit_in, IsSet}
 use Rattle.dym_pack.specs.Areas.{area_at, chunks_of, chunk_number, bytes_at}
-use Rattle.dym_pack.specs.Reading.{IsRecorded, packs_at, body_from}
+use Rattle.dym_base.specs.Recorded.{IsRecorded}
+use Rattle.dym_pack.specs.Reading.{packs_at, body_from}
 use Rattle.dym_heap.specs.Loading.{loaded_at, IsLoaded}
 use Rattle.dym_heap.specs.Meaning.{IsSizeOf}
 use Rattle.dym_heap.specs.Table.{row_at, chunk_at, live_of, touched_of}
@@ -42,7 +43,7 @@ packs_live : (log : Logged) → IsRecorded log → (q : ℕ) → packs_by log.ki
 packs_live log is q h =
     elim log.kind as (λ k. packs_by k log.copy log.found q ≡ true → contains_key log.copy q ≡ true) [
       | Full ↦ λ e. e
-      | Inc ↦ λ e. is.packable.touched_live q e
+      | Inc ↦ λ e. is.found_live q e
     ] h
 
 some_bytes : (o : Option (List ℕ)) → is_some o ≡ true → o ≡ Some (unwrap_or o [])
@@ -98,7 +99,7 @@ module _ (log : Logged) (is : IsRecorded log) (k : ℕ) (l : k < held log.copy) 
   class_high = let e = exponent_k in let a = area_k.most in omega arith
 
   index_small : (i : ℕ) → i < per area_k.e → area_k.o * per area_k.e + i < 2 ^ 32
-  index_small i b = small_k log.copy k i area_k is.packable.few l b
+  index_small i b = small_k log.copy k i area_k is.few l b
 
   pub body_k : (v : Version) (e : ℕ) (bits : List Bool) (body : List ℕ) → log.version ≡ v → e ≡ (area_at log.copy k).exponent → ((i : ℕ) → bit_in bits i ≡ (ltb i (chunks_of log.copy k) && packs_at log k i))
       → body ≡ body_from log k 0 → IsBodyOf v e bits body (bytes_at log.copy k)
@@ -117,7 +118,7 @@ module _ (log : Logged) (is : IsRecorded log) (k : ℕ) (l : k < held log.copy) 
             let inside : i < per area_k.e = (let m = b.0 in let x = ap per e_is in omega arith) in
             let q : ℕ = chunk_number log.copy k i in
             let some = some_bytes (get log.copy q) (packs_live log is q b.1) in
-            let fits = is.packable.sized q (unwrap_or (get log.copy q) []) some in
+            let fits = is.sized q (unwrap_or (get log.copy q) []) some in
             let same : exponent_of q ≡ e = ap exponent_of (number_k log.copy k i area_k) ∙ (let s = index_small i inside in let x : exponent_of (number area_k.e (area_k.o * per area_k.e + i)) ≡ area_k.e = omega arith in x) ∙ sym e_is in
             subst (λ w. IsSizeOf w e (length (bytes_at log.copy k i))) version
             (subst (λ x. IsSizeOf log.version x (length (bytes_at log.copy k i))) same (length_of log.version (exponent_of q) (length (bytes_at log.copy k i)) fits.2));
@@ -148,7 +149,7 @@ upto_all log old new n is all each q =
           elim (contains_key log.copy q) as (λ b. contains_key log.copy q ≡ b → get new q ≡ loaded_at log old q) [
             | false ↦ λ gone. rest.0 ∙ sym (unpacked log is q old gone)
             | true ↦ λ h.
-                let fits = is.packable.sized q (unwrap_or (get log.copy q) []) (some_bytes (get log.copy q) h) in
+                let fits = is.sized q (unwrap_or (get log.copy q) []) (some_bytes (get log.copy q) h) in
                 let lies = lies_in log.copy q fits.0 fits.1 h in
                 absurd (rest.1 lies.k lies.i (let w = lies.within in omega arith) lies.inside lies.is)
           ] refl
@@ -180,7 +181,7 @@ module _ (log : Logged) (is : IsRecorded log) (k : ℕ) (l : k < held log.copy) 
 
   small_n : (i : ℕ) → i < per e → o * per e + i < 2 ^ 32
   small_n i b =
-      let x = small_k log.copy k i area_n is.packable.few l (let y = ap per e_n in omega arith) in
+      let x = small_k log.copy k i area_n is.few l (let y = ap per e_n in omega arith) in
       let z : o * per e ≡ area_n.o * per area_n.e = ap (λ a. a * per e) o_n ∙ ap (λ a. area_n.o * per a) e_n in
       omega arith
 

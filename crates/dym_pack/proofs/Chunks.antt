@@ -16,6 +16,7 @@ use Rattle.dym_base.specs.declared.command.Version.{Version}
 use Rattle.dym_base.specs.declared.command.Version.TheVariants.{One, Two}
 use Rattle.dym_base.specs.declared.command.Kind.TheVariants.{Full, Inc}
 use Rattle.dym_base.proofs.Classes.{cls_class}
+use Rattle.dym_base.specs.Recorded.{IsRecorded}
 use Rattle.dym_pack.specs.Areas.{AreasMeaning, IsPackable, area_at, chunks_of, chunk_number, is_used_at, bytes_at}
 use Rattle.dym_pack.specs.Reading.{packs_at, packed_from, body_from, IsNth}
 use Rattle.dym_pack.proofs.Ranges.{passing, passing_from, passing_one, passing_none, passing_run, length_each, length_most, filter_none, filter_all, filter_same, filter_split, count_is_filter}
@@ -26,6 +27,10 @@ use Rattle.dym_pack.proofs.Named.{area_is, exponent_at, few_chunks, whole_area}
 -- what a log packs of, as what was lent to be packed
 abbrev pub parts : Logged → AreasMeaning
 parts log = record { version = log.version; live = log.copy; touched = log.found }
+
+-- a log that a record can hold is such as can be packed
+pub packable : (log : Logged) → IsRecorded log → IsPackable (parts log)
+packable log is = record { sized = is.sized; touched_live = is.found_live; few = is.few }
 
 pub chunk_fits : (m : AreasMeaning) → IsPackable m → (k i : ℕ) → k < held m.live → i < chunks_of m.live k → is_used_at m.live k i ≡ true → IsLengthOf m.version (area_at m.live k).exponent (length (bytes_at m.live k i))
 chunk_fits m ok k i within inside used =

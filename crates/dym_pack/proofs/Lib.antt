@@ -5,6 +5,7 @@ pub mod Heads
 pub mod Logs
 pub mod Named
 pub mod Ranges
+pub mod Single
 pub mod Slices
 pub mod Tells
 pub mod Unique

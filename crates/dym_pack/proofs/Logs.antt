@@ -7,7 +7,7 @@ use Rattle.std.proofs.lemmas.Bool.{true≢false}
 use Rattle.dym_base.specs.declared.command.Kind.{Kind}
 use Rattle.dym_base.specs.declared.command.Kind.TheVariants.{Full, Inc}
 use Rattle.dym_pack.specs.Areas.{AreasMeaning, IsPackable, found_by, logged}
-use Rattle.dym_pack.specs.Reading.{IsRecorded}
+use Rattle.dym_base.specs.Recorded.{IsRecorded}
 use Rattle.dym_pack.proofs.Chunks.{parts}
 
 pub lent : (m : AreasMeaning) (kind : Kind) (time : ℕ) → IsPackable m → IsPackable (parts (logged m kind time))
@@ -21,4 +21,6 @@ lent m kind time ok = record {
 }
 
 pub recorded : (m : AreasMeaning) (kind : Kind) (time : ℕ) → IsPackable m → time < 2 ^ 64 → IsRecorded (logged m kind time)
-recorded m kind time ok short = record { packable = lent m kind time ok; time = short }
+recorded m kind time ok short =
+    let lends = lent m kind time ok in
+    record { sized = lends.sized; found_live = lends.touched_live; few = lends.few; time = short }

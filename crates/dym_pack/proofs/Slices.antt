@@ -9,12 +9,13 @@ use Rattle.dym_base.specs.Heaps.{held}
 use Rattle.dym_base.specs.Packed.{Logged, bitmap, packed, kind_byte, packs_by}
 use Rattle.dym_base.specs.declared.command.Kind.TheVariants.{Inc}
 use Rattle.dym_pack.specs.Areas.{area_at, chunks_of, chunk_number, is_used_at}
-use Rattle.dym_pack.specs.Reading.{IsRecorded, body_from, packs_at}
+use Rattle.dym_base.specs.Recorded.{IsRecorded}
+use Rattle.dym_pack.specs.Reading.{body_from, packs_at}
 use Rattle.dym_pack.specs.Places.{start_of, starts_of, use_map, touched_map, area_head, name_bytes}
 use Rattle.dym_pack.proofs.Bitmaps.{length_bitmap, bitmap_same}
 use Rattle.dym_pack.proofs.Heads.{head_len, maps_least, maps_len_inc}
 use Rattle.dym_pack.proofs.Named.{ordinal_small}
-use Rattle.dym_pack.proofs.Chunks.{parts}
+use Rattle.dym_pack.proofs.Chunks.{parts, packable}
 use Rattle.dym_pack.proofs.Fronts.{packed_is, area_is_parts, area_len_is, at_area, rest_from, start_none, start_more, start_within}
 
 -- ---- the starts
@@ -60,7 +61,7 @@ exponent_read log k within =
 pub ordinal_read : (log : Logged) → IsRecorded log → (k : ℕ) → k < held log.copy → from_le_bytes w32 (take 4 (drop (start_of log k + 1) (packed log))) ≡ (area_at log.copy k).ordinal
 ordinal_read log ok k within =
     ap (λ bytes. from_le_bytes w32 (take 4 bytes)) (sym (drop-drop 1 (start_of log k) (packed log)) ∙ ap (drop 1) (area_parts_at log k within))
-    ∙ from_le_bytes-to_le_bytes_4 (area_at log.copy k).ordinal (omega (arith, ordinal_small (parts log) ok.packable k within))
+    ∙ from_le_bytes-to_le_bytes_4 (area_at log.copy k).ordinal (omega (arith, ordinal_small (parts log) (packable log ok) k within))
 
 after_name : (log : Logged) (k : ℕ) → k < held log.copy → drop (start_of log k + 5) (packed log) ≡ use_map log k ++ (touched_map log k ++ (body_from log k 0 ++ rest_from log (k + 1)))
 after_name log k within = sym (drop-drop 5 (start_of log k) (packed log)) ∙ ap (drop 5) (area_parts_at log k within)

@@ -9,7 +9,7 @@ use Rattle.dym_base.specs.Packed.{Logged}
 use Rattle.dym_base.specs.StandsFor.{packed_by}
 use Rattle.dym_pack.specs.Areas.{AreaName, area_list, area_at, IsPackable}
 use Rattle.dym_pack.specs.Laws.{RecordTellsLog}
-use Rattle.dym_pack.proofs.Chunks.{parts}
+use Rattle.dym_pack.proofs.Chunks.{parts, packable}
 use Rattle.dym_pack.proofs.Named.{named, length_areas}
 use Rattle.dym_pack.proofs.Unique.{num, packs_of, packs_has, SameArea, alike}
 
@@ -23,7 +23,7 @@ get_same m n q here there same =
       | None ↦ λ has alike. absurd (true≢false (sym has))
     ] here same
 
-packed_same : (a b : Logged) → IsPackable (parts a) → IsPackable (parts b) → (x : AreaName) → SameArea a b x → (i : ℕ) → i < per x.exponent → packed_by a (num x i) ≡ packed_by b (num x i)
+pub packed_same : (a b : Logged) → IsPackable (parts a) → IsPackable (parts b) → (x : AreaName) → SameArea a b x → (i : ℕ) → i < per x.exponent → packed_by a (num x i) ≡ packed_by b (num x i)
 packed_same a b ok also x is i inside =
     elim (cases_Bool (packs_of a x i)) as (λ _. packed_by a (num x i) ≡ packed_by b (num x i)) [
       | inl packs ↦ (
@@ -45,5 +45,5 @@ record_tells a b ok also same =
       time = is.time;
       areas = is.names;
       handles = λ k i within inside. (each k within).used i inside;
-      chunks = λ k i within inside. packed_same a b ok.packable also.packable (area_at a.copy k) (each k within) i inside;
+      chunks = λ k i within inside. packed_same a b (packable a ok) (packable b also) (area_at a.copy k) (each k within) i inside;
     }

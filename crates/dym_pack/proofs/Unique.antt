@@ -21,10 +21,10 @@ use Rattle.dym_base.proofs.Heaps.{areas_held}
 use Rattle.dym_base.proofs.Classes.{cls_class}
 use Rattle.dym_base.proofs.Sizes.{exponent_of_number}
 use Rattle.dym_pack.specs.Areas.{AreaName, area_list, IsPackable}
-use Rattle.dym_pack.specs.Reading.{IsRecorded}
+use Rattle.dym_base.specs.Recorded.{IsRecorded}
 use Rattle.dym_pack.specs.Places.{header, area_bytes, front, start_of, starts_of}
 use Rattle.dym_pack.proofs.Bitmaps.{length_bitmap, bitmap_tells}
-use Rattle.dym_pack.proofs.Chunks.{parts}
+use Rattle.dym_pack.proofs.Chunks.{parts, packable}
 use Rattle.dym_pack.proofs.Fronts.{packed_is}
 use Rattle.dym_pack.proofs.Named.{named, IsArea, each_area, area_list_is, length_areas, index_small, most_per}
 use Rattle.dym_pack.proofs.Ranges.{filter_same}
@@ -274,8 +274,8 @@ alike a b ok also same =
     let first = split_same (kind_byte a.version a.kind ∷ []) (kind_byte b.version b.kind ∷ []) (to_le_bytes w64 a.time ++ to_le_bytes w32 (held a.copy)) (to_le_bytes w64 b.time ++ to_le_bytes w32 (held b.copy)) refl headed.0 in
     let kinds = kinds_same a.version b.version a.kind b.kind (ap (λ es. get_or es 0 0) first.0) in
     let second = split_same (to_le_bytes w64 a.time) (to_le_bytes w64 b.time) (to_le_bytes w32 (held a.copy)) (to_le_bytes w32 (held b.copy)) refl first.1 in
-    let count = four_same (held a.copy) (held b.copy) (held_small a ok.packable) (held_small b also.packable) second.1 in
-    let areas = areas_same a b kinds.0 kinds.1 (area_list a.copy) (area_list b.copy) (length_areas a.copy ∙ count ∙ sym (length_areas b.copy)) (all_sound a ok.packable) (all_sound b also.packable) headed.1 in
+    let count = four_same (held a.copy) (held b.copy) (held_small a (packable a ok)) (held_small b (packable b also)) second.1 in
+    let areas = areas_same a b kinds.0 kinds.1 (area_list a.copy) (area_list b.copy) (length_areas a.copy ∙ count ∙ sym (length_areas b.copy)) (all_sound a (packable a ok)) (all_sound b (packable b also)) headed.1 in
     record {
       version = kinds.0;
       kind = kinds.1;

@@ -2,13 +2,9 @@
 use Rattle.std.specs.Prelude.{◌≡◌, ℕ, ◌-◌, ◌<◌, ◌^◌, Bool, List, ◌++◌, length}
 use Rattle.std.specs.List.{flat_map, filter, range_with_len, AllByRecursion}
 use Rattle.dym_base.specs.Packed.{Logged, packed, packs_by, packed_chunk}
+use Rattle.dym_base.specs.Recorded.{IsRecorded}
 use Rattle.dym_base.specs.declared.command.Version.TheVariants.{Two}
-use Rattle.dym_pack.specs.Areas.{IsPackable, chunks_of, chunk_number, bytes_at}
-
--- a log that a record can hold
-pub record IsRecorded (log : Logged) : Type 0 where
-  pub packable : IsPackable (record { version = log.version; live = log.copy; touched = log.found })
-  pub time : log.time < 2 ^ 64
+use Rattle.dym_pack.specs.Areas.{chunks_of, chunk_number, bytes_at}
 
 -- what is true of each log that has these bytes
 abbrev pub OfLog : List ℕ → (Logged → Type 0) → Type 0

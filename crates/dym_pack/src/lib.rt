@@ -15,6 +15,6 @@ mod record;
 mod walk;
 
 pub use areas::Areas;
-pub use laws::records_tell_logs;
+pub use laws::{records_stand_for_one, records_tell_logs};
 pub use packing::{pack, packed_len};
 pub use record::{AreaHead, Record};

@@ -1,7 +1,7 @@
 use Rattle.std.proofs.Common.{◌≡◌, ◌-◌, List, map, take, drop}
 use Rattle.std.specs.List.{AllByRecursion}
 use Rattle.dym_base.specs.Packed.{Logged, packed}
-use Rattle.dym_pack.specs.Reading.{IsRecorded}
+use Rattle.dym_base.specs.Recorded.{IsRecorded}
 use Rattle.dym_heap.specs.Meaning.{IsSound}
 use Rattle.dym_chain.specs.Keeps.{bytes_of}
 use Rattle.dym_chain.specs.Loads.{AreLoaded}

@@ -1,6 +1,6 @@
 use Rattle.std.proofs.Common.{◌≡◌, ℕ}
 use Rattle.dym_base.specs.Packed.{Logged, packed}
-use Rattle.dym_pack.specs.Reading.{IsRecorded}
+use Rattle.dym_base.specs.Recorded.{IsRecorded}
 use Rattle.dym_heap.specs.Table.{live_of, touched_of}
 use Rattle.dym_heap.specs.Shelves.{IsTidy}
 use Rattle.dym_heap.proofs.RecordLoads.{LoadedUpTo}

@@ -40,7 +40,7 @@ overflow_add-ordinal c =
     let o = c.area-exp.ensures.ordinal has.0 has.1 has.2 in
     let is = ap (λ (a : AreaName). a.ordinal) n.is in
     let low = n.below in
-    let few = has.1.packable.few in
+    let few = has.1.few in
     let l : c.loop-k.k < held has.0.copy = (let n = c.area_count-k-end.ensures.count has.0 has.1 has.2 in let t = c.loop-k-test.true in omega arith) in
     omega arith
 

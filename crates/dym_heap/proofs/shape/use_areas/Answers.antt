@@ -55,14 +55,14 @@ loop-k-preserved g c =
 
 pub returns-clause-handles : goal.returns-clause-handles
 returns-clause-handles g c = λ log is e.
-    bits.handles _ log.copy c.loop-k.shelf is.packable.sized c.loop-k.invariant.kept (c.loop-k.invariant.are log is e) (subst (ShapedTo log.copy c.loop-k.shelf.rows) (let n = c.area_count-k-end.ensures.count log is e in let t = c.loop-k-test.false in let m = c.loop-k.auto.k-end in omega arith) (c.loop-k.invariant.shaped log is e))
+    bits.handles _ log.copy c.loop-k.shelf is.sized c.loop-k.invariant.kept (c.loop-k.invariant.are log is e) (subst (ShapedTo log.copy c.loop-k.shelf.rows) (let n = c.area_count-k-end.ensures.count log is e in let t = c.loop-k-test.false in let m = c.loop-k.auto.k-end in omega arith) (c.loop-k.invariant.shaped log is e))
 
 pub returns-clause-touched : goal.returns-clause-touched
 returns-clause-touched g c =
     let has = c.area_count-k-end.ensures.recorded in
-    bits.untouched _ has.0.copy c.loop-k.shelf has.1.packable.sized c.loop-k.invariant.kept (c.loop-k.invariant.are has.0 has.1 has.2) (subst (ShapedTo has.0.copy c.loop-k.shelf.rows) (let n = c.area_count-k-end.ensures.count has.0 has.1 has.2 in let t = c.loop-k-test.false in let m = c.loop-k.auto.k-end in omega arith) (c.loop-k.invariant.shaped has.0 has.1 has.2))
+    bits.untouched _ has.0.copy c.loop-k.shelf has.1.sized c.loop-k.invariant.kept (c.loop-k.invariant.are has.0 has.1 has.2) (subst (ShapedTo has.0.copy c.loop-k.shelf.rows) (let n = c.area_count-k-end.ensures.count has.0 has.1 has.2 in let t = c.loop-k-test.false in let m = c.loop-k.auto.k-end in omega arith) (c.loop-k.invariant.shaped has.0 has.1 has.2))
 
 pub returns-clause-tidy : goal.returns-clause-tidy
 returns-clause-tidy g c =
     let has = c.area_count-k-end.ensures.recorded in
-    bits.tidy _ has.0.copy c.loop-k.shelf has.1.packable.sized c.loop-k.invariant.kept (c.loop-k.invariant.are has.0 has.1 has.2) (subst (ShapedTo has.0.copy c.loop-k.shelf.rows) (let n = c.area_count-k-end.ensures.count has.0 has.1 has.2 in let t = c.loop-k-test.false in let m = c.loop-k.auto.k-end in omega arith) (c.loop-k.invariant.shaped has.0 has.1 has.2))
+    bits.tidy _ has.0.copy c.loop-k.shelf has.1.sized c.loop-k.invariant.kept (c.loop-k.invariant.are has.0 has.1 has.2) (subst (ShapedTo has.0.copy c.loop-k.shelf.rows) (let n = c.area_count-k-end.ensures.count has.0 has.1 has.2 in let t = c.loop-k-test.false in let m = c.loop-k.auto.k-end in omega arith) (c.loop-k.invariant.shaped has.0 has.1 has.2))

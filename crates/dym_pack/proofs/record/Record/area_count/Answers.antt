@@ -23,4 +23,4 @@ overflow_cast-result c =
     let log = c.self.invariant.is.0 in
     let rec = c.self.invariant.is.1 in
     let placed = ap length (c.self.invariant.placed log rec c.self.invariant.is.2) in
-    omega (arith, length_starts log, rec.packable.few)
+    omega (arith, length_starts log, rec.few)

@@ -2,7 +2,7 @@ use Rattle.std.proofs.Common.{◌≡◌, ◌+◌, ◌-◌, ◌*◌, ◌≤◌, l
 use Rattle.dym_base.specs.Numbers.{size}
 use Rattle.dym_pack.specs.Areas.{area_at, bytes_at}
 use Rattle.dym_pack.specs.Reading.{IsNth}
-use Rattle.dym_pack.proofs.Chunks.{before_chunk, nth_room_one, nth_read_one, nth_two}
+use Rattle.dym_pack.proofs.Chunks.{packable, before_chunk, nth_room_one, nth_read_one, nth_two}
 use Rattle.dym_pack.proofs.record.Record.nth_packed.Goals as goal
 
 pub slice_bounds-result-end : goal.slice_bounds-result-end
@@ -13,7 +13,7 @@ slice_bounds-result-end c =
     let one = sym (c.version.ensures log rec same) ∙ c.in-One.is in
     let size_is : c.size_of_class-size.result ≡ size (area_at log.copy c.args.k).exponent = c.size_of_class-size.ensures ∙ ap size (c.area_exp.ensures.is log rec same) in
     let at_is : c.args.n * c.size_of_class-size.result ≡ length (before_chunk log c.args.k c.args.i) * size (area_at log.copy c.args.k).exponent = ap (λ n. n * c.size_of_class-size.result) (c.requires.count log rec same) ∙ ap (λ s. length (before_chunk log c.args.k c.args.i) * s) size_is in
-    let room = nth_room_one log rec.packable one c.args.k c.args.i (c.requires.area log rec same) (c.requires.chunk log rec same) (c.requires.packs log rec same) in
+    let room = nth_room_one log (packable log rec) one c.args.k c.args.i (c.requires.area log rec same) (c.requires.chunk log rec same) (c.requires.packs log rec same) in
     let short : c.args.n * c.size_of_class-size.result + c.size_of_class-size.result ≤ length c.body-body.result.now = omega (arith, ap length (c.body-body.ensures log rec same)) in
     short
 
@@ -23,7 +23,7 @@ chunk_after-requires c =
     let rec = c.requires.is.1 in
     let same = c.requires.is.2 in
     let two = sym (c.version.ensures log rec same) ∙ c.in-Two.is in
-    (bytes_at log.copy c.args.k c.args.i, subst (λ bytes. IsNth bytes c.args.n (bytes_at log.copy c.args.k c.args.i)) (sym (c.body-body.ensures log rec same)) (nth_two log rec.packable two c.args.k c.args.i c.args.n (c.requires.area log rec same) (c.requires.chunk log rec same) (c.requires.packs log rec same) (c.requires.count log rec same)))
+    (bytes_at log.copy c.args.k c.args.i, subst (λ bytes. IsNth bytes c.args.n (bytes_at log.copy c.args.k c.args.i)) (sym (c.body-body.ensures log rec same)) (nth_two log (packable log rec) two c.args.k c.args.i c.args.n (c.requires.area log rec same) (c.requires.chunk log rec same) (c.requires.packs log rec same) (c.requires.count log rec same)))
 
 pub returns-in-One : goal.returns-in-One
 returns-in-One c log rec same =
@@ -34,10 +34,10 @@ returns-in-One c log rec same =
     let len = at + c.size_of_class-size.result - at in
     let len_is : len ≡ size (area_at log.copy c.args.k).exponent = omega arith in
     ap (λ bytes. take len (drop at bytes)) (c.body-body.ensures log rec same)
-    ∙ nth_read_one log rec.packable one c.args.k c.args.i at len (c.requires.area log rec same) (c.requires.chunk log rec same) (c.requires.packs log rec same) at_is len_is
+    ∙ nth_read_one log (packable log rec) one c.args.k c.args.i at len (c.requires.area log rec same) (c.requires.chunk log rec same) (c.requires.packs log rec same) at_is len_is
 
 pub returns-in-Two : goal.returns-in-Two
 returns-in-Two c log rec same =
     let two = sym (c.version.ensures log rec same) ∙ c.in-Two.is in
     c.chunk_after.ensures (bytes_at log.copy c.args.k c.args.i)
-    (subst (λ bytes. IsNth bytes c.args.n (bytes_at log.copy c.args.k c.args.i)) (sym (c.body-body.ensures log rec same)) (nth_two log rec.packable two c.args.k c.args.i c.args.n (c.requires.area log rec same) (c.requires.chunk log rec same) (c.requires.packs log rec same) (c.requires.count log rec same)))
+    (subst (λ bytes. IsNth bytes c.args.n (bytes_at log.copy c.args.k c.args.i)) (sym (c.body-body.ensures log rec same)) (nth_two log (packable log rec) two c.args.k c.args.i c.args.n (c.requires.area log rec same) (c.requires.chunk log rec same) (c.requires.packs log rec same) (c.requires.count log rec same)))
