@@ -89,7 +89,7 @@ chunk_same Two e x y r t long short same =
 
 -- ---- the chunks of an area
 
-abbrev chunks : Version → (ℕ → Bool) → (ℕ → List ℕ) → ℕ → ℕ → List ℕ
+abbrev pub chunks : Version → (ℕ → Bool) → (ℕ → List ℕ) → ℕ → ℕ → List ℕ
 chunks v p f from d = flat_map (λ i. packed_chunk v (f i)) (filter p (range_with_len from d))
 
 chunks_yes : (v : Version) (p : ℕ → Bool) (f : ℕ → List ℕ) (from d : ℕ) (r : List ℕ) → p from ≡ true → chunks v p f from (suc d) ++ r ≡ packed_chunk v (f from) ++ (chunks v p f (from + 1) d ++ r)
@@ -170,16 +170,16 @@ pub record SameArea (a b : Logged) (x : AreaName) : Type 0 where
   pub bytes : (i : ℕ) → i < per x.exponent → packs_of a x i ≡ true → bytes_of a x i ≡ bytes_of b x i
   pub whole : area_bytes a x ≡ area_bytes b x
 
-abbrev used_bits : Logged → AreaName → List ℕ
+abbrev pub used_bits : Logged → AreaName → List ℕ
 used_bits log x = bitmap (per x.exponent) (λ i. contains_key log.copy (num x i))
 
-abbrev found_bits : Logged → AreaName → List ℕ
+abbrev pub found_bits : Logged → AreaName → List ℕ
 found_bits log x = touched_bits log.kind (per x.exponent) (λ i. contains log.found (num x i))
 
-abbrev body_of : Logged → AreaName → List ℕ
+abbrev pub body_of : Logged → AreaName → List ℕ
 body_of log x = chunks log.version (packs_of log x) (bytes_of log x) 0 (per x.exponent)
 
-area_parts : (log : Logged) (x : AreaName) (r : List ℕ) → area_bytes log x ++ r ≡ x.exponent ∷ (to_le_bytes w32 x.ordinal ++ (used_bits log x ++ (found_bits log x ++ (body_of log x ++ r))))
+pub area_parts : (log : Logged) (x : AreaName) (r : List ℕ) → area_bytes log x ++ r ≡ x.exponent ∷ (to_le_bytes w32 x.ordinal ++ (used_bits log x ++ (found_bits log x ++ (body_of log x ++ r))))
 unfolding packed_area
 area_parts log x r =
     let name = to_le_bytes w32 x.ordinal in

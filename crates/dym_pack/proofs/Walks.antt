@@ -17,7 +17,7 @@ length_read x rest small =
 after_length : (x rest : List ℕ) → drop 4 (packed_chunk Two x ++ rest) ≡ x ++ rest
 after_length x rest = ap (drop 4) (append_assoc (to_le_bytes w32 (length x)) x rest)
 
-chunk_long : (x rest : List ℕ) → length (packed_chunk Two x ++ rest) ≡ 4 + length x + length rest
+pub chunk_long : (x rest : List ℕ) → length (packed_chunk Two x ++ rest) ≡ 4 + length x + length rest
 chunk_long x rest = ap length (append_assoc (to_le_bytes w32 (length x)) x rest) ∙ omega (arith, length-append x rest)
 
 -- what a chunk in its place says

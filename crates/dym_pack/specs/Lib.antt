@@ -2,3 +2,4 @@ pub mod Areas
 pub mod Laws
 pub mod Places
 pub mod Reading
+pub mod Contents

@@ -10,11 +10,14 @@ mod areas;
 mod areas_out;
 mod laws;
 mod layout;
+mod of_bytes;
 mod packing;
+mod reading;
 mod record;
 mod walk;
 
 pub use areas::Areas;
 pub use laws::{records_stand_for_one, records_tell_logs};
+pub use of_bytes::RecordFail;
 pub use packing::{pack, packed_len};
 pub use record::{AreaHead, Record};

@@ -19,7 +19,7 @@ use smallvec::SmallVec;
 use std::marker::Model;
 
 /// How many places are kept in the record itself: as many as three areas have, with the end of the last.
-const FEW_STARTS: usize = 4;
+pub(crate) const FEW_STARTS: usize = 4;
 
 /// An area of a record: its class exponent, its ordinal, and how many chunks the record packs for it.
 pub struct AreaHead {

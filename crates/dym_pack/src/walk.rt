@@ -20,7 +20,7 @@ pub(crate) fn chunk_after(bytes: &[u8], n: u32) -> &[u8]
 }
 
 /// The length of the chunk whose length stands at `at`.
-fn length_at(bytes: &[u8], at: usize) -> u32
+pub(crate) fn length_at(bytes: &[u8], at: usize) -> u32
     requires { at + 4 ≤ length bytes.now }
     ensures { result ≡ from_le_bytes w32 (take 4 (drop at bytes.now)) }
 {
