@@ -100,13 +100,37 @@ fn put_many(rt: &impl Abort, alloc: Global, owner: &mut Owner, count: u32) -> Re
     Ok(())
 }
 
+/// Lets go of the records before a place.
+fn let_go(owner: &mut Owner, place: u32)
+    requires place { place < length owner.old.records }
+    requires idle { owner.old.lifted ≡ None }
+    ensures idle { owner.new.lifted ≡ None }
+    ensures origin { owner.new.origin ≡ owner.old.origin }
+    ensures made { owner.new.made ≡ owner.old.made }
+    ensures len { length owner.new.records + place ≡ length owner.old.records }
+{
+    owner.raise(place);
+}
+
+/// Removes the records after a place.
+fn cut(owner: &mut Owner, place: u32)
+    requires place { place < length owner.old.records }
+    requires idle { owner.old.lifted ≡ None }
+    ensures idle { owner.new.lifted ≡ None }
+    ensures origin { owner.new.origin ≡ owner.old.origin }
+    ensures made { owner.new.made ≡ owner.old.made }
+    ensures len { length owner.new.records ≡ place + 1 }
+{
+    owner.drop_after(place);
+}
+
 #[test]
 fn a_full_list_is_let_go_and_filled_again(rt: HostRuntime) -> Result<(), Fail> {
     let alloc = rt.alloc();
     let (mut owner, sweeper) = LogSlots::open(alloc)?;
     put_many(&rt, alloc, &mut owner, 287)?;
     assert_eq!(rt; owner.number_at(0), 0);
-    owner.raise(286);
+    let_go(&mut owner, 286);
     assert_eq!(rt; (owner.len(), owner.number_at(0)), (1, 286));
     put_many(&rt, alloc, &mut owner, 286)?;
     assert_eq!(rt; owner.number_at(286), 572);
@@ -123,10 +147,13 @@ fn a_sweep_takes_back_what_was_let_go(rt: HostRuntime) -> Result<(), Fail> {
     let (mut owner, mut sweeper) = LogSlots::open(alloc)?;
     put_many(&rt, alloc, &mut owner, 20)?;
     assert_eq!(rt; sweeper.sweep(), 0);
-    owner.raise(15);
+    let_go(&mut owner, 15);
     assert_eq!(rt; sweeper.sweep(), 15);
-    owner.drop_after(1);
-    assert_eq!(rt; (owner.len(), owner.number_at(1), owner.made()), (2, 16, 20));
+    cut(&mut owner, 1);
+    assert_eq!(rt;
+        (owner.len(), owner.number_at(1), owner.made()),
+        (2, 16, 20)
+    );
     assert_eq!(rt; sweeper.sweep(), 0);
     put_many(&rt, alloc, &mut owner, 1)?;
     assert_eq!(rt; (owner.number_at(1), owner.number_at(2)), (16, 20));
