@@ -21,3 +21,6 @@ pub use laws::{records_stand_for_one, records_tell_logs};
 pub use of_bytes::RecordFail;
 pub use packing::{pack, packed_len};
 pub use record::{AreaHead, Record};
+
+#[cfg(test)]
+mod tests;
