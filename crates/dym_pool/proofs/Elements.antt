@@ -1,0 +1,80 @@
+-- Which elements a list has, when lists are joined and changed.
+use Rattle.std.proofs.Common.{◌≡◌, ℕ, zero, suc, ◌<◌, ◌⊎◌, inl, inr, ⊎_elim, List, [], ◌∷◌, ◌++◌, length, set, get_or, sym, refl, ap, ◌∙◌, subst, arith}
+use Rattle.std.specs.List.{flat_map}
+use Rattle.dym_pool.specs.Shares.{Has, Within, SameElements}
+
+module _ {A : Type 0} where
+  pub has-left : (xs ys : List A) (x : A) → Has xs x → Has (xs ++ ys) x
+  has-left [] ys x h = absurd h
+  has-left (z ∷ xs) ys x h = ⊎_elim (λ (e : z ≡ x). inl e) (λ (t : Has xs x). inr (has-left xs ys x t)) h
+
+  pub has-right : (xs ys : List A) (x : A) → Has ys x → Has (xs ++ ys) x
+  has-right [] ys x h = h
+  has-right (z ∷ xs) ys x h = inr (has-right xs ys x h)
+
+  pub has-split : (xs ys : List A) (x : A) → Has (xs ++ ys) x → Has xs x ⊎ Has ys x
+  has-split [] ys x h = inr h
+  has-split (z ∷ xs) ys x h =
+      ⊎_elim (λ (e : z ≡ x). inl (inl e))
+      (λ (t : Has (xs ++ ys) x). ⊎_elim (λ (l : Has xs x). inl (inr l)) (λ (r : Has ys x). inr r) (has-split xs ys x t)) h
+
+  module _ {X : Type 0} (f : X → List A) where
+    -- an element joins the list of the place i, whose other elements stay
+    pub has-joined : (xs : List X) (i : ℕ) (s d : X) (a x : A) → i < length xs → f s ≡ f (get_or xs i d) ++ a ∷ [] → Has (flat_map f (set xs i s)) x → (a ≡ x) ⊎ Has (flat_map f xs) x
+    has-joined [] i s d a x l e h = absurd h
+    has-joined (y ∷ ys) zero s d a x l e h =
+        ⊎_elim
+        (λ (t : Has (f s) x).
+        ⊎_elim (λ (o : Has (f y) x). inr (has-left (f y) (flat_map f ys) x o)) (λ (n : Has (a ∷ []) x). ⊎_elim (λ (q : a ≡ x). inl q) (λ (z : ⊥). absurd z) n)
+        (has-split (f y) (a ∷ []) x (subst (λ (zs : List A). Has zs x) e t)))
+        (λ (t : Has (flat_map f ys) x). inr (has-right (f y) (flat_map f ys) x t)) (has-split (f s) (flat_map f ys) x h)
+    has-joined (y ∷ ys) (suc i) s d a x l e h =
+        ⊎_elim (λ (t : Has (f y) x). inr (has-left (f y) (flat_map f ys) x t))
+        (λ (t : Has (flat_map f (set ys i s)) x).
+        ⊎_elim (λ (q : a ≡ x). inl q) (λ (o : Has (flat_map f ys) x). inr (has-right (f y) (flat_map f ys) x o)) (has-joined ys i s d a x (omega arith) e t))
+        (has-split (f y) (flat_map f (set ys i s)) x h)
+
+    pub has-kept : (xs : List X) (i : ℕ) (s d : X) (a x : A) → i < length xs → f s ≡ f (get_or xs i d) ++ a ∷ [] → (a ≡ x) ⊎ Has (flat_map f xs) x → Has (flat_map f (set xs i s)) x
+    has-kept [] i s d a x l e h = absurd (omega arith)
+    has-kept (y ∷ ys) zero s d a x l e h =
+        let whole : Has (f y ++ a ∷ []) x → Has (f s ++ flat_map f ys) x = λ t. has-left (f s) (flat_map f ys) x (subst (λ (zs : List A). Has zs x) (sym e) t) in
+        ⊎_elim (λ (q : a ≡ x). whole (has-right (f y) (a ∷ []) x (inl q)))
+        (λ (o : Has (f y ++ flat_map f ys) x).
+        ⊎_elim (λ (t : Has (f y) x). whole (has-left (f y) (a ∷ []) x t)) (λ (t : Has (flat_map f ys) x). has-right (f s) (flat_map f ys) x t) (has-split (f y) (flat_map f ys) x o))
+        h
+    has-kept (y ∷ ys) (suc i) s d a x l e h =
+        ⊎_elim (λ (q : a ≡ x). has-right (f y) (flat_map f (set ys i s)) x (has-kept ys i s d a x (omega arith) e (inl q)))
+        (λ (o : Has (f y ++ flat_map f ys) x).
+        ⊎_elim (λ (t : Has (f y) x). has-left (f y) (flat_map f (set ys i s)) x t)
+        (λ (t : Has (flat_map f ys) x). has-right (f y) (flat_map f (set ys i s)) x (has-kept ys i s d a x (omega arith) e (inr t)))
+        (has-split (f y) (flat_map f ys) x o))
+        h
+
+    -- the last of the rest joins the list of the place i
+    pub dealt_back : (xs : List X) (i : ℕ) (s d : X) (a : A) (rest : List A) → i < length xs → f s ≡ f (get_or xs i d) ++ a ∷ [] → Within (flat_map f xs ++ (rest ++ a ∷ [])) (flat_map f (set xs i s) ++ rest)
+    dealt_back xs i s d a rest l e x h =
+        ⊎_elim
+        (λ (t : Has (flat_map f (set xs i s)) x).
+        ⊎_elim (λ (q : a ≡ x). has-right (flat_map f xs) (rest ++ a ∷ []) x (has-right rest (a ∷ []) x (inl q))) (λ (o : Has (flat_map f xs) x). has-left (flat_map f xs) (rest ++ a ∷ []) x o)
+        (has-joined xs i s d a x l e t))
+        (λ (t : Has rest x). has-right (flat_map f xs) (rest ++ a ∷ []) x (has-left rest (a ∷ []) x t)) (has-split (flat_map f (set xs i s)) rest x h)
+
+    pub dealt_forth : (xs : List X) (i : ℕ) (s d : X) (a : A) (rest : List A) → i < length xs → f s ≡ f (get_or xs i d) ++ a ∷ [] → Within (flat_map f (set xs i s) ++ rest) (flat_map f xs ++ (rest ++ a ∷ []))
+    dealt_forth xs i s d a rest l e x h =
+        let at : (a ≡ x) ⊎ Has (flat_map f xs) x → Has (flat_map f (set xs i s) ++ rest) x = λ t. has-left (flat_map f (set xs i s)) rest x (has-kept xs i s d a x l e t) in
+        ⊎_elim (λ (o : Has (flat_map f xs) x). at (inr o))
+        (λ (t : Has (rest ++ a ∷ []) x).
+        ⊎_elim (λ (o : Has rest x). has-right (flat_map f (set xs i s)) rest x o) (λ (n : Has (a ∷ []) x). ⊎_elim (λ (q : a ≡ x). at (inl q)) (λ (z : ⊥). absurd z) n) (has-split rest (a ∷ []) x t))
+        (has-split (flat_map f xs) (rest ++ a ∷ []) x h)
+
+    pub dealt_one : (xs : List X) (i : ℕ) (s d : X) (a : A) (rest all : List A) → i < length xs → f s ≡ f (get_or xs i d) ++ a ∷ []
+        → SameElements (flat_map f xs ++ (rest ++ a ∷ [])) all → SameElements (flat_map f (set xs i s) ++ rest) all
+    dealt_one xs i s d a rest all l e same = ((λ x h. dealt_forth xs i s d a rest l e x (same.0 x h)), λ x h. same.1 x (dealt_back xs i s d a rest l e x h))
+
+    flat-none : (xs : List X) → ((k : ℕ) (d : X) → k < length xs → f (get_or xs k d) ≡ []) → flat_map f xs ≡ []
+    flat-none [] none = refl
+    flat-none (x ∷ xs) none = ap {B = List A} (λ l. l ++ flat_map f xs) (none 0 x (omega arith)) ∙ flat-none xs (λ k d l. none (suc k) d (omega arith))
+
+    -- before the first is dealt, no place has anything
+    pub dealt_none : (xs : List X) (all : List A) → ((k : ℕ) (d : X) → k < length xs → f (get_or xs k d) ≡ []) → SameElements (flat_map f xs ++ all) all
+    dealt_none xs all none = subst (λ (l : List A). SameElements (l ++ all) all) (sym (flat-none xs none)) ((λ x h. h), λ x h. h)
