@@ -59,5 +59,6 @@ pub step_belongs : (v : Version) (quota : ℕ) (s : HeapState) (command : Comman
 step_belongs v quota s command c belongs = record {
   records = belongs.records;
   untouched = newest_keeps v quota s command (newest c.logs) belongs.untouched;
+  keeps = belongs.keeps;
   within = belongs.within;
 }

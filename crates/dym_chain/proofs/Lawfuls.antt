@@ -4,13 +4,14 @@ use Rattle.std.specs.List.{AllByRecursion}
 use Rattle.std.proofs.Math.Seq.{get_or-append-add}
 use Rattle.std.proofs.lemmas.List.{take-map, drop-map}
 use Rattle.dym_base.specs.Objects.{LogEntry, record_of}
-use Rattle.dym_base.specs.Packed.{Logged, packed}
+use Rattle.dym_base.specs.Packed.{packed}
 use Rattle.dym_base.specs.Recorded.{IsRecorded}
 use Rattle.dym_base.specs.StandsFor.{LogsStandFor}
 use Rattle.dym_base.specs.declared.command.Version.{Version}
 use Rattle.dym_base.proofs.Runs.{all_take, all_drop}
 use Rattle.dym_chain.specs.Keeps.{bytes_of}
-use Rattle.dym_chain.specs.Chains.{ChainMeaning, all_logs, no_entry, log_at, oldest_depth, StandsForCopies}
+use Rattle.dym_base.specs.Below.{oldest_depth}
+use Rattle.dym_chain.specs.Chains.{ChainMeaning, all_logs, no_entry, log_at, StandsForCopies}
 use Rattle.dym_chain.specs.Lawful.{IsLawful, logged_of}
 use Rattle.dym_chain.proofs.Stands.{stands_at}
 

@@ -11,4 +11,6 @@ pub mod Logs
 pub mod Prunes
 pub mod Takes
 pub mod Restores
+pub mod Belows
 pub mod Opens
+pub mod KeptLists

@@ -11,8 +11,9 @@ use Rattle.dym_base.specs.declared.command.Version.{Version}
 use Rattle.dym_base.proofs.Runs.{NewestBefore, all_push, all_take, all_drop, follows_push, follows_take, follows_drop}
 use Rattle.dym_base.specs.Recorded.{IsRecorded}
 use Rattle.dym_chain.specs.Keeps.{Numbered, bytes_of}
-use Rattle.dym_chain.specs.Chains.{ChainMeaning, all_logs, log_at, oldest_depth, KeepsFromBefore, KeepsFromNewest, Belongs, logged}
-use Rattle.dym_chain.specs.Lawful.{IsLawful, EachKeeps, logged_of}
+use Rattle.dym_base.specs.Below.{oldest_depth}
+use Rattle.dym_chain.specs.Chains.{ChainMeaning, all_logs, log_at, KeepsFromBefore, EachKeeps, KeepsFromNewest, Belongs, logged}
+use Rattle.dym_chain.specs.Lawful.{IsLawful, logged_of}
 use Rattle.dym_chain.proofs.Places.{depth_within, base_is_full, keeps_take, keeps_drop, keeps_push, newest_push, newest_append}
 use Rattle.dym_chain.proofs.Records.{recorded_at}
 use Rattle.dym_chain.proofs.Lawfuls.{at_place}
@@ -74,8 +75,8 @@ lawful_push c v e law are next =
       base = base_push (length c.below) c.logs e law.base next.first;
     }
 
-pub belongs_push : (c : ChainMeaning) (v : Version) (quota : ℕ) (s : HeapState) (e : LogEntry) → Belongs v quota s c → e.copy ≡ s.live → held s.live ≤ quota → Belongs v quota (record { live = s.live; touched = set.empty }) (logged v e c)
-belongs_push c v quota s e belongs copy within =
+pub belongs_push : (c : ChainMeaning) (v : Version) (quota : ℕ) (s : HeapState) (e : LogEntry) → Belongs v quota s c → ComesNext c v e → e.copy ≡ s.live → held s.live ≤ quota → Belongs v quota (record { live = s.live; touched = set.empty }) (logged v e c)
+belongs_push c v quota s e belongs next copy within =
     let Within : LogEntry → Type 0 = λ f. held f.copy ≤ quota in
     record {
       records = map-append (λ (r : Numbered). r.bytes) c.records (record { number = c.made; bytes = record_of v e } ∷ [])
@@ -83,6 +84,7 @@ belongs_push c v quota s e belongs copy within =
           ∙ sym (map-append (record_of v) (all_logs c) (e ∷ []))
           ∙ ap (map (record_of v)) (append_assoc c.below c.logs (e ∷ []));
       untouched = subst (λ o. KeepsFromNewest (record { live = s.live; touched = set.empty }) o) (sym (newest_push c.logs e)) (λ k has untouched. ap (λ (m : Live). Rattle.std.specs.FinMap.get m k) copy);
+      keeps = keeps_push c.logs e belongs.keeps next.keeps;
       within = all_push Within c.logs e belongs.within (subst (λ (m : Live). held m ≤ quota) (sym copy) within);
     }
 
@@ -131,6 +133,7 @@ pub belongs_take : (c : ChainMeaning) (v : Version) (quota n : ℕ) (s : HeapSta
 belongs_take c v quota n s e belongs last = record {
   records = records_take c v n belongs.records;
   untouched = subst (λ o. KeepsFromNewest (record { live = e.copy; touched = set.empty }) o) (sym last) (λ k has untouched. refl);
+  keeps = keeps_take n c.logs belongs.keeps;
   within = all_take (λ (f : LogEntry). held f.copy ≤ quota) n c.logs belongs.within;
 }
 
@@ -166,6 +169,7 @@ without n c =
       logs = drop n c.logs;
       records = drop gone c.records;
       made = c.made;
+      lifted = c.lifted;
       origin = c.origin;
     }
 
@@ -219,5 +223,6 @@ pub belongs_drop : (c : ChainMeaning) (v : Version) (quota n : ℕ) (s : HeapSta
 belongs_drop c v quota n s within law belongs = record {
   records = records_drop c v n within law belongs.records;
   untouched = subst (KeepsFromNewest s) (sym (newest_drop n c.logs within)) belongs.untouched;
+  keeps = keeps_drop n c.logs belongs.keeps;
   within = all_drop (λ (f : LogEntry). held f.copy ≤ quota) n c.logs belongs.within;
 }

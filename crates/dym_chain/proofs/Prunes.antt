@@ -3,7 +3,8 @@ use Rattle.std.proofs.Common.{◌≡◌, ℕ, ◌+◌, ◌-◌, ◌<◌, ◌≤�
 use Rattle.std.proofs.lemmas.List.{length-map, drop-map}
 use Rattle.dym_base.specs.Objects.{LogEntry, record_of, slots}
 use Rattle.dym_chain.specs.Keeps.{Numbered, KeepMeaning, from}
-use Rattle.dym_chain.specs.Chains.{ChainMeaning, all_logs, log_at, oldest_depth}
+use Rattle.dym_base.specs.Below.{oldest_depth}
+use Rattle.dym_chain.specs.Chains.{ChainMeaning, all_logs, log_at}
 use Rattle.dym_chain.specs.Lawful.{IsLawful, entry_of}
 use Rattle.dym_chain.specs.Told.{Told}
 use Rattle.dym_chain.specs.Whole.{chain_of, IsChain}
@@ -74,6 +75,7 @@ without_is keep told n base depth is =
       logs = drop n told.logs;
       records = drop (b + n - d) keep.records;
       made = keep.made;
+      lifted = keep.lifted;
       origin = keep.origin;
     } in
     ap (λ b. F b depth) is.base_is ∙ ap (F (length told.below)) is.depth_is
@@ -84,7 +86,6 @@ chain_drop kept kept' capacity capacity' keep keep' told told' n base depth chai
       shows = record {
         entries = entries ∙ ap (drop n) chain.shows.entries ∙ drop-map entry_of n told.logs ∙ ap (λ (t : Told). map entry_of t.logs) (sym told_is);
         room = omega (arith, chain.shows.room, room);
-        idle = ap (λ (k : KeepMeaning). k.lifted) keep_is ∙ chain.shows.idle;
       };
       lawful = subst (λ (t : Told). IsLawful (chain_of t keep')) (sym told_is)
           (subst (λ (k : KeepMeaning). IsLawful (chain_of (record { below = take depth (drop (length told.below + n - depth) (told.below ++ told.logs)); logs = drop n told.logs }) k)) (sym keep_is)
@@ -104,7 +105,7 @@ take_front below logs = Rattle.std.proofs.Math.Seq.take-append_seam below logs
 
 pub without_none : (c : ChainMeaning) → IsLawful c → without 0 c ≡ c
 without_none c law =
-    let F : ℕ → ℕ → ChainMeaning = λ d gone. record { below = take d (drop gone (all_logs c)); logs = c.logs; records = drop gone c.records; made = c.made; origin = c.origin } in
+    let F : ℕ → ℕ → ChainMeaning = λ d gone. record { below = take d (drop gone (all_logs c)); logs = c.logs; records = drop gone c.records; made = c.made; lifted = c.lifted; origin = c.origin } in
     let gone : length c.below + 0 - oldest_depth c.logs ≡ 0 = omega (arith, law.base) in
     ap (F (oldest_depth c.logs)) gone ∙ ap (λ d. F d 0) (sym law.base)
-    ∙ ap (λ (l : List LogEntry). record { below = l; logs = c.logs; records = c.records; made = c.made; origin = c.origin }) (take_front c.below c.logs)
+    ∙ ap (λ (l : List LogEntry). record { below = l; logs = c.logs; records = c.records; made = c.made; lifted = c.lifted; origin = c.origin }) (take_front c.below c.logs)

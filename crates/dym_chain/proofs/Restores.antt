@@ -150,14 +150,13 @@ first_is keep keep' told told' n base some base_is keep_is told_is =
     let sum : base + (n - 1) + 1 ≡ length told.below + n = omega (arith, some, base_is) in
     ap (λ (x : Told). chain_of x keep') told_is
     ∙ ap (chain_of (record { below = told.below; logs = take n told.logs })) keep_is
-    ∙ ap (λ m. record { below = told.below; logs = take n told.logs; records = take m keep.records; made = keep.made; origin = keep.origin }) sum
+    ∙ ap (λ m. record { below = told.below; logs = take n told.logs; records = take m keep.records; made = keep.made; lifted = keep.lifted; origin = keep.origin }) sum
 
 pub chain_first : (kept kept' : List Entry) (capacity capacity' : ℕ) (keep keep' : KeepMeaning) (told told' : Told) (n base : ℕ) → IsChain kept capacity keep told → 0 < n → base ≡ length told.below → kept' ≡ take n kept → capacity' ≡ capacity → keep' ≡ up_to keep (base + (n - 1)) → told' ≡ record { below = told.below; logs = take n told.logs } → IsChain kept' capacity' keep' told'
 chain_first kept kept' capacity capacity' keep keep' told told' n base chain some base_is entries room keep_is told_is = record {
   shows = record {
     entries = entries ∙ ap (take n) chain.shows.entries ∙ take-map entry_of n told.logs ∙ ap (λ (t : Told). map entry_of t.logs) (sym told_is);
     room = omega (arith, chain.shows.room, room);
-    idle = ap (λ (k : KeepMeaning). k.lifted) keep_is ∙ chain.shows.idle;
   };
   lawful = subst IsLawful (sym (first_is keep keep' told told' n base some base_is keep_is told_is)) (lawful_take (chain_of told keep) n some chain.lawful);
 }

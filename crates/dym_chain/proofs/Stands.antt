@@ -16,8 +16,9 @@ use Rattle.dym_base.specs.declared.command.Kind.{Kind}
 use Rattle.dym_base.specs.declared.command.Kind.TheVariants.{Full, Inc}
 use Rattle.dym_base.proofs.Standing.{full_stands_alone}
 use Rattle.dym_heap.specs.Loading.{IsLoaded, HaveOneSetOfHandles}
-use Rattle.dym_chain.specs.Chains.{KeepsUntouched, log_at, oldest_depth}
-use Rattle.dym_chain.specs.Lawful.{EachKeeps, logged_of}
+use Rattle.dym_base.specs.Below.{oldest_depth}
+use Rattle.dym_chain.specs.Chains.{KeepsUntouched, EachKeeps, log_at}
+use Rattle.dym_chain.specs.Lawful.{logged_of}
 use Rattle.dym_chain.specs.Loads.{AreLoaded}
 use Rattle.dym_chain.proofs.Places.{follows_at, keeps_at, first_depth, depth_within, part_more}
 
@@ -78,10 +79,10 @@ stands_push logs before l stand inc keeps = record {
 
 -- the logs from the last full one up to log i stand for its copy
 
-kind_full : (e : LogEntry) → e.depth ≡ 0 → kind_of e ≡ Full
+pub kind_full : (e : LogEntry) → e.depth ≡ 0 → kind_of e ≡ Full
 kind_full e none = cond-true (e.depth == 0) Full Inc (eq-eqb e.depth 0 none)
 
-kind_inc : (e : LogEntry) (d : ℕ) → e.depth ≡ d + 1 → kind_of e ≡ Inc
+pub kind_inc : (e : LogEntry) (d : ℕ) → e.depth ≡ d + 1 → kind_of e ≡ Inc
 kind_inc e d some = cond-false (e.depth == 0) Full Inc (ne_eqb e.depth 0 (λ none. (let no_such : ⊥ = omega (arith, some, none) in no_such)))
 
 alone_at : (v : Version) (logs : List LogEntry) (i : ℕ) → i < length logs → (log_at logs i).depth ≡ 0 → LogsStandFor (map (logged_of v) (take ((log_at logs i).depth + 1) (drop (i - (log_at logs i).depth) logs))) (log_at logs i).copy

@@ -9,7 +9,8 @@ use Rattle.dym_base.specs.declared.command.Kind.{Kind}
 use Rattle.dym_base.specs.declared.command.Kind.TheVariants.{Full, Inc}
 use Rattle.dym_base.specs.declared.reply.Reply.TheVariants as reply
 use Rattle.dym_chain.specs.Keeps.{KeepMeaning, with_record}
-use Rattle.dym_chain.specs.Chains.{ChainMeaning, oldest_depth, logged, object_of}
+use Rattle.dym_base.specs.Below.{oldest_depth}
+use Rattle.dym_chain.specs.Chains.{ChainMeaning, logged, object_of}
 use Rattle.dym_chain.specs.Lawful.{IsLawful, entry_of}
 use Rattle.dym_chain.specs.Answers.{log_refusal, IsLogged}
 use Rattle.dym_chain.specs.Told.{Told}
@@ -50,7 +51,6 @@ chain_taken kept kept' capacity capacity' keep keep' told told' v s t depth want
   shows = record {
     entries = entries ∙ ap (λ (l : List Entry). l ++ record { time = t; depth = depth } ∷ []) chain.shows.entries ∙ sym (map-append entry_of told.logs (log_of s t depth ∷ [])) ∙ ap (λ (x : Told). map entry_of x.logs) (sym told_is);
     room = omega (arith, chain.shows.room, room);
-    idle = ap (λ (k : KeepMeaning). k.lifted) keep_is ∙ chain.shows.idle;
   };
   lawful = subst IsLawful (sym (taken_view keep keep' told told' v s t depth want rec depth_is rec_is keep_is told_is))
       (lawful_push (chain_of told keep) v (new_entry (object_of s (chain_of told keep)) t want) chain.lawful are next);

@@ -1,5 +1,5 @@
 -- What keeps a chain with its heap.
-use Rattle.std.specs.Prelude.{ℕ, []}
+use Rattle.std.specs.Prelude.{ℕ, [], None}
 use Rattle.dym_base.specs.Origins.{Origin}
 use Rattle.dym_base.specs.Heaps.{HeapState}
 use Rattle.dym_base.specs.HeapStep.{heap_step}
@@ -13,4 +13,4 @@ HeapStepsKeepBelonging = (v : Version) (quota : ℕ) (s : HeapState) (command : 
 
 -- a chain with no log belongs to every heap
 abbrev pub NoLogsBelong : Type 0
-NoLogsBelong = (v : Version) (quota : ℕ) (s : HeapState) (made : ℕ) (origin : Origin) → Belongs v quota s (record { below = []; logs = []; records = []; made = made; origin = origin })
+NoLogsBelong = (v : Version) (quota : ℕ) (s : HeapState) (made : ℕ) (origin : Origin) → Belongs v quota s (record { below = []; logs = []; records = []; made = made; lifted = None; origin = origin })

@@ -6,6 +6,7 @@ use Rattle.std.specs.FinMap as map
 use Rattle.std.specs.FinSet.{contains}
 use Rattle.std.specs.FinSet as set
 use Rattle.dym_base.specs.Heaps.{Live, Touched, HeapState, held}
+use Rattle.dym_base.specs.Below.{oldest_depth}
 use Rattle.dym_base.specs.Objects.{LogEntry, ObjectState, record_of, newest, reached}
 use Rattle.dym_base.specs.Origins.{Origin}
 use Rattle.dym_base.specs.StandsFor.{StandsFor}
@@ -13,12 +14,13 @@ use Rattle.dym_base.specs.declared.command.Version.{Version}
 use Rattle.dym_chain.specs.Keeps.{Numbered, bytes_of}
 
 -- a chain: the logs before the oldest kept one that later restores read, the kept logs, oldest first, the records of all of
--- them, the number that the next record gets, and where the records have their room
+-- them, the number that the next record gets, the place whose record is out, and where the records have their room
 pub record ChainMeaning : Type 0 where
   pub below : List LogEntry
   pub logs : List LogEntry
   pub records : List Numbered
   pub made : ℕ
+  pub lifted : Option ℕ
   pub origin : Origin
 
 -- the logs whose records stand
@@ -42,15 +44,19 @@ KeepsUntouched live touched before =
 abbrev pub KeepsFromBefore : LogEntry → LogEntry → Type 0
 KeepsFromBefore before entry = 0 < entry.depth → KeepsUntouched entry.copy entry.found before.copy
 
+-- each log that is neither the first nor full keeps what it didn't find touched from the log before it
+abbrev pub FirstKeeps : LogEntry → List LogEntry → Type 0
+FirstKeeps e [] = ⊤
+FirstKeeps e (f ∷ fs) = KeepsFromBefore e f
+
+abbrev pub EachKeeps : List LogEntry → Type 0
+EachKeeps [] = ⊤
+EachKeeps (e ∷ es) = FirstKeeps e es × EachKeeps es
+
 -- whatever newest log there is, live has what wasn't touched since
 abbrev pub KeepsFromNewest : HeapState → Option LogEntry → Type 0
 KeepsFromNewest s None = ⊤
 KeepsFromNewest s (Some entry) = KeepsUntouched s.live s.touched entry.copy
-
--- the depth of the oldest log: how many records before its own later restores read
-abbrev pub oldest_depth : List LogEntry → ℕ
-oldest_depth [] = 0
-oldest_depth (e ∷ logs) = e.depth
 
 -- the records from the last full one up to that of kept log k
 abbrev pub records_to : ChainMeaning → ℕ → List (List ℕ)
@@ -68,6 +74,9 @@ pub record Belongs (v : Version) (quota : ℕ) (s : HeapState) (c : ChainMeaning
   pub records : bytes_of c.records ≡ map (record_of v) (all_logs c)
   -- each handle of live that isn't touched has the newest copy's bytes
   pub untouched : KeepsFromNewest s (newest c.logs)
+  -- each handle of a kept copy, but for the oldest and the full ones, that its log didn't find touched has the bytes that it had in
+  -- the copy before
+  pub keeps : EachKeeps c.logs
   -- each kept copy is within the quota
   pub within : AllByRecursion (λ (e : LogEntry). held e.copy ≤ quota) c.logs
 
@@ -82,6 +91,7 @@ logged v entry c = record {
   logs = c.logs ++ entry ∷ [];
   records = c.records ++ record { number = c.made; bytes = record_of v entry } ∷ [];
   made = c.made + 1;
+  lifted = c.lifted;
   origin = c.origin;
 }
 
@@ -99,5 +109,6 @@ pruned c g = record {
   logs = left_by g c.logs;
   records = drop (gone_by g c) c.records;
   made = c.made;
+  lifted = c.lifted;
   origin = c.origin;
 }

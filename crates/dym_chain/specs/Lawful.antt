@@ -1,5 +1,5 @@
 -- What is true of every chain.
-use Rattle.std.specs.Prelude.{⊤, ◌≡◌, ℕ, ◌≤◌, List, [], ◌∷◌, length, map, None}
+use Rattle.std.specs.Prelude.{◌≡◌, ℕ, ◌≤◌, List, length, map}
 use Rattle.std.specs.List.{AllByRecursion}
 use Rattle.dym_base.specs.Objects.{LogEntry, record_of, kind_of}
 use Rattle.dym_base.specs.Packed.{Logged}
@@ -7,22 +7,14 @@ use Rattle.dym_base.specs.RunLaws.{IsLogList, EachFollows}
 use Rattle.dym_base.specs.declared.command.Version.{Version}
 use Rattle.dym_base.specs.declared.limits.TheConstants.{MOST_KEPT_LOGS}
 use Rattle.dym_base.specs.Recorded.{IsRecorded}
-use Rattle.dym_chain.specs.Keeps.{KeepMeaning, bytes_of}
-use Rattle.dym_chain.specs.Chains.{ChainMeaning, all_logs, KeepsFromBefore, oldest_depth}
+use Rattle.dym_chain.specs.Keeps.{bytes_of}
+use Rattle.dym_base.specs.Below.{oldest_depth}
+use Rattle.dym_chain.specs.Chains.{ChainMeaning, all_logs, EachKeeps}
 use Rattle.dym_chain.specs.declared.entry.Entry.{Entry}
 
 -- a log as its record has it
 abbrev pub logged_of : Version → LogEntry → Logged
 logged_of v e = record { version = v; kind = kind_of e; time = e.time; copy = e.copy; found = e.found }
-
--- each log keeps what it didn't find touched from the one before it, which is the oldest only where it is full
-abbrev pub FirstKeeps : LogEntry → List LogEntry → Type 0
-FirstKeeps e [] = ⊤
-FirstKeeps e (f ∷ fs) = KeepsFromBefore e f
-
-abbrev pub EachKeeps : List LogEntry → Type 0
-EachKeeps [] = ⊤
-EachKeeps (e ∷ es) = FirstKeeps e es × EachKeeps es
 
 -- what is true of every chain
 pub record IsLawful (c : ChainMeaning) : Type 0 where
@@ -43,8 +35,7 @@ pub record IsLawful (c : ChainMeaning) : Type 0 where
 abbrev pub entry_of : LogEntry → Entry
 entry_of e = record { time = e.time; depth = e.depth }
 
--- what the fields of a chain show: the logs' times and depths, and a keep from which nothing is out
-pub record Shows (kept : List Entry) (capacity : ℕ) (keep : KeepMeaning) (logs : List LogEntry) : Type 0 where
+-- what the fields of a chain show: the logs' times and depths
+pub record Shows (kept : List Entry) (capacity : ℕ) (logs : List LogEntry) : Type 0 where
   pub entries : kept ≡ map entry_of logs
   pub room : MOST_KEPT_LOGS ≤ capacity
-  pub idle : keep.lifted ≡ None

@@ -6,4 +6,5 @@ pub mod Lawful
 pub mod Whole
 pub mod Answers
 pub mod Loads
+pub mod Kept
 pub mod ChainLaws

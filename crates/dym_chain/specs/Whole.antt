@@ -12,10 +12,11 @@ chain_of told keep = record {
   logs = told.logs;
   records = keep.records;
   made = keep.made;
+  lifted = keep.lifted;
   origin = keep.origin;
 }
 
 -- what is true of the fields of every chain
 pub record IsChain (kept : List Entry) (capacity : ℕ) (keep : KeepMeaning) (told : Told) : Type 0 where
-  pub shows : Shows kept capacity keep told.logs
+  pub shows : Shows kept capacity told.logs
   pub lawful : IsLawful (chain_of told keep)

@@ -1,5 +1,6 @@
 //! The logs of one object.
-ghost use Rattle.std.specs.Prelude.{◌≡◌, ℕ, ◌+◌, ◌^◌, ◌<◌, None, [], ◌∷◌, ◌++◌, length, option_map, OnOk, OnErr, IfOk, IfErr};
+ghost use Rattle.std.specs.Prelude.{◌≡◌, ℕ, ◌+◌, ◌-◌, ◌^◌, ◌<◌, None, [], ◌∷◌, ◌++◌, length, option_map, OnOk, OnErr, IfOk, IfErr};
+ghost use Rattle.dym_base.specs.Below.{dropped_below};
 ghost use Rattle.dym_base.specs.Heaps.{HeapState};
 ghost use Rattle.dym_base.specs.Objects as Objects;
 ghost use Rattle.dym_base.specs.Objects.{LogEntry, record_of};
@@ -7,11 +8,12 @@ ghost use Rattle.dym_base.specs.declared.command.Version.{Version};
 ghost use Rattle.dym_base.specs.declared.reply.Reply.TheVariants as reply;
 ghost use Rattle.dym_heap.specs.Meaning.{IsSound};
 ghost use Rattle.dym_chain.specs.Chains.{ChainMeaning, Belongs, StandsForCopies, object_of, log_at, logged, pruned};
+ghost use Rattle.dym_chain.specs.Kept.{AreKept};
 ghost use Rattle.dym_chain.specs.Lawful.{entry_of};
 ghost use Rattle.dym_chain.specs.Answers.{IsLogAnswer, restored_reply};
 
 use crate::entry::Entry;
-use crate::find::{depth_of_next, drop_first, kind_at, newest_of, reached, refusal_of};
+use crate::find::{depth_of_next, drop_first, dropped_by, kind_at, newest_of, reached, refusal_of};
 use crate::keep::LogKeep;
 use crate::ledger::Ledger;
 use crate::load::load_from;
@@ -27,10 +29,10 @@ use std::marker::Model;
 /// The logs of one object, over a keep of their records.
 ///
 /// Contracts see the kept logs as whole copies, with those before the oldest that later restores read. A refusal and want of
-/// memory change nothing. Only `open` and `log` take memory.
+/// memory change nothing. Only `open` and `log` take memory. While a record is out (`KeptLogs`) only readers may be called.
 pub struct Chain<K: LogKeep> {
     entries: Vec<Entry>,
-    keep: K,
+    pub(crate) keep: K,
     ledger: Ledger,
 }
 
@@ -58,7 +60,7 @@ impl<K: LogKeep> Chain<K> {
         requires empty { (K.meaning keep).records ≡ [] }
         requires made { (K.meaning keep).made ≡ 0 }
         requires idle { (K.meaning keep).lifted ≡ None }
-        ensures opened { IfOk result (λ c. c ≡ record { below = []; logs = []; records = []; made = 0; origin = (K.meaning keep).origin }) }
+        ensures opened { IfOk result (λ c. c ≡ record { below = []; logs = []; records = []; made = 0; lifted = None; origin = (K.meaning keep).origin }) }
         ensures belongs { IfOk result (λ c. (v : Version) (quota : ℕ) (s : HeapState) → Belongs v quota s c) }
         ensures stands { IfOk result StandsForCopies }
         ensures back { IfErr result (λ e. e.1 ≡ keep) }
@@ -84,6 +86,7 @@ impl<K: LogKeep> Chain<K> {
         requires belongs { Belongs heap.old.version heap.old.quota heap.old.state self.old }
         requires sound { IsSound heap.old }
         requires made { self.old.made < 2 ^ 60 }
+        requires idle { self.old.lifted ≡ None }
         ensures answer { IsLogAnswer result (Objects.log heap.old.version (object_of heap.old.state self.old) time want).reply }
         ensures after { OnOk result (object_of heap.new.state self.new ≡ (Objects.log heap.old.version (object_of heap.old.state self.old) time want).object) }
         ensures put { OnOk result (self.new ≡ logged heap.old.version (Objects.new_entry (object_of heap.old.state self.old) time want) self.old) }
@@ -91,6 +94,7 @@ impl<K: LogKeep> Chain<K> {
         ensures unchanged { OnErr result ((self.new ≡ self.old) × (heap.new ≡ heap.old)) }
         ensures belongs { Belongs heap.new.version heap.new.quota heap.new.state self.new }
         ensures stands { StandsForCopies self.new }
+        ensures idle { self.new.lifted ≡ None }
         ensures sound { IsSound heap.new }
     {
         let newest = newest_of(&self.entries);
@@ -120,6 +124,7 @@ impl<K: LogKeep> Chain<K> {
     ) -> Result<u64, Refusal>
         requires belongs { Belongs heap.old.version heap.old.quota heap.old.state self.old }
         requires sound { IsSound heap.old }
+        requires idle { self.old.lifted ≡ None }
         ensures answer { restored_reply result ≡ (Objects.restore (object_of heap.old.state self.old) time).reply }
         ensures after { object_of heap.new.state self.new ≡ (Objects.restore (object_of heap.old.state self.old) time).object }
         ensures chain { self.new ≡ record self.old { logs = self.new.logs; records = self.new.records } }
@@ -127,6 +132,7 @@ impl<K: LogKeep> Chain<K> {
         ensures refused { OnErr result ((self.new ≡ self.old) × (heap.new ≡ heap.old)) }
         ensures belongs { Belongs heap.new.version heap.new.quota heap.new.state self.new }
         ensures stands { StandsForCopies self.new }
+        ensures idle { self.new.lifted ≡ None }
         ensures sound { IsSound heap.new }
     {
         let kept = reached(&self.entries, time);
@@ -150,12 +156,15 @@ impl<K: LogKeep> Chain<K> {
     /// Drops the logs before the last one at or before a bound, and answers how many. The records that the oldest kept log
     /// needs stay.
     pub fn prune(&mut self, bound: u64) -> u32
+        requires idle { self.old.lifted ≡ None }
         ensures answer { (s : HeapState) → reply.Dropped result ≡ (Objects.prune (object_of s self.old) bound).reply }
         ensures after { self.new ≡ pruned self.old bound }
+        ensures below { self.new.below ≡ dropped_below self.old.below self.old.logs (Objects.reached bound self.old.logs - 1) }
         ensures belongs { (v : Version) (quota : ℕ) (s : HeapState) → Belongs v quota s self.old → Belongs v quota s self.new }
         ensures stands { StandsForCopies self.new }
+        ensures idle { self.new.lifted ≡ None }
     {
-        let dropped = reached(&self.entries, bound).saturating_sub(1);
+        let dropped = dropped_by(&self.entries, bound);
         if dropped == 0 {
             return 0;
         }
@@ -178,6 +187,7 @@ impl<K: LogKeep> Chain<K> {
     pub fn slots(&self) -> u32
         ensures slots { result ≡ Objects.slots self.now.logs }
         ensures records { result ≡ length self.now.records }
+        ensures kept { AreKept self.now }
     {
         match self.entries.first() {
             None => 0,
@@ -212,6 +222,7 @@ impl<K: LogKeep> Chain<K> {
 
     /// Gives up the chain, and answers its keep.
     pub fn into_keep(self) -> K
+        requires idle { self.lifted ≡ None }
         ensures keep { K.meaning result ≡ record { records = self.records; made = self.made; lifted = None; origin = self.origin } }
         ensures slots { length self.records ≡ Objects.slots self.logs }
     {

@@ -1,5 +1,5 @@
 //! Places in the list of kept logs.
-ghost use Rattle.std.specs.Prelude.{◌≡◌, ◌==◌, if◌then◌else◌, ◌<◌, ◌≤◌, Option, List, map, length, drop, option_map, vec_len, vec_capacity};
+ghost use Rattle.std.specs.Prelude.{◌≡◌, ◌==◌, if◌then◌else◌, ◌-◌, ◌<◌, ◌≤◌, Option, List, map, length, drop, option_map, vec_len, vec_capacity};
 ghost use Rattle.dym_base.specs.Objects as Objects;
 ghost use Rattle.dym_base.specs.Objects.{LogEntry, next_depth};
 ghost use Rattle.dym_chain.specs.Answers.{log_refusal};
@@ -17,6 +17,14 @@ pub(crate) fn reached(entries: &[Entry], time: u64) -> usize
     ensures reached { (logs : List LogEntry) → entries.now ≡ map entry_of logs → EachFollows logs → result ≡ Objects.reached time logs }
 {
     entries.partition_point(|entry| entry.time <= time)
+}
+
+/// How many logs a prune at a bound drops: those before the last one at or before it.
+pub(crate) fn dropped_by(entries: &[Entry], bound: u64) -> usize
+    ensures within { result ≤ length entries.now - 1 }
+    ensures dropped { (logs : List LogEntry) → entries.now ≡ map entry_of logs → EachFollows logs → result ≡ Objects.reached bound logs - 1 }
+{
+    reached(entries, bound).saturating_sub(1)
 }
 
 /// The entry of the newest log.

@@ -10,6 +10,7 @@ mod chain;
 mod entry;
 mod find;
 mod keep;
+mod kept_logs;
 pub mod laws;
 mod ledger;
 mod load;
@@ -19,6 +20,7 @@ mod vec_keep;
 pub use chain::Chain;
 pub use entry::Entry;
 pub use keep::LogKeep;
+pub use kept_logs::KeptLogs;
 pub use log_error::LogError;
 pub use vec_keep::VecKeep;
 

@@ -1,9 +1,10 @@
 //! What no clause says: that memory is given, and that a chain over a real heap answers what a person worked out by hand.
-ghost use Rattle.std.specs.Prelude.{◌≡◌, ◌≤◌, ◌<◌};
+ghost use Rattle.std.specs.Prelude.{◌≡◌, ◌≤◌, ◌<◌, None};
 ghost use Rattle.dym_heap.specs.Meaning.{IsSound};
 ghost use Rattle.dym_chain.specs.Chains.{Belongs};
 
 use crate::chain::Chain;
+use crate::kept_logs::KeptLogs;
 use crate::laws::heap_steps_keep_belonging;
 use crate::log_error::LogError;
 use crate::vec_keep::VecKeep;
@@ -43,8 +44,10 @@ fn logs(
 ) -> Result<bool, AllocError>
     requires belongs { Belongs heap.old.version heap.old.quota heap.old.state chain.old }
     requires sound { IsSound heap.old }
+    requires idle { chain.old.lifted ≡ None }
     ensures belongs { Belongs heap.new.version heap.new.quota heap.new.state chain.new }
     ensures sound { IsSound heap.new }
+    ensures idle { chain.new.lifted ≡ None }
 {
     if chain.made() >= 100 {
         return Ok(false);
@@ -64,18 +67,36 @@ fn restores(
 ) -> bool
     requires belongs { Belongs heap.old.version heap.old.quota heap.old.state chain.old }
     requires sound { IsSound heap.old }
+    requires idle { chain.old.lifted ≡ None }
     ensures belongs { Belongs heap.new.version heap.new.quota heap.new.state chain.new }
     ensures sound { IsSound heap.new }
+    ensures idle { chain.new.lifted ≡ None }
 {
     chain.restore(&(), heap, time) == answer
 }
 
 fn prunes(heap: &Heap<OwnSupply>, chain: &mut Chain<VecKeep>, bound: u64) -> u32
-    requires { Belongs heap.now.version heap.now.quota heap.now.state chain.old }
-    ensures { Belongs heap.now.version heap.now.quota heap.now.state chain.new }
+    requires belongs { Belongs heap.now.version heap.now.quota heap.now.state chain.old }
+    requires idle { chain.old.lifted ≡ None }
+    ensures belongs { Belongs heap.now.version heap.now.quota heap.now.state chain.new }
+    ensures idle { chain.new.lifted ≡ None }
 {
     let _ = heap;
     chain.prune(bound)
+}
+
+/// How long the first of the records is, which is taken out for this and brought back.
+fn oldest_record_len<L: KeptLogs>(logs: &mut L) -> u64
+    requires { (L.meaning logs.old).lifted ≡ None }
+    ensures { (L.meaning logs.new).lifted ≡ None }
+{
+    if logs.slots() == 0 {
+        return 0;
+    }
+    let rec = logs.lift(0);
+    let len = rec.len();
+    logs.lower(0, rec);
+    len
 }
 
 fn has_answers(
@@ -84,7 +105,9 @@ fn has_answers(
     chain: &mut Chain<VecKeep>,
     alloc: Global,
 ) -> Result<(), AllocError>
-    requires { Belongs heap.old.version heap.old.quota heap.old.state chain.old }
+    requires belongs { Belongs heap.old.version heap.old.quota heap.old.state chain.old }
+    requires idle { chain.old.lifted ≡ None }
+    ensures idle { chain.new.lifted ≡ None }
 {
     assert!(rt; allocates(heap, chain));
     assert!(rt; logs(heap, chain, alloc, 10, Kind::Full, (Kind::Full, 210))?);
@@ -102,6 +125,7 @@ fn has_answers(
     let mut bytes = [0];
     assert!(rt; heap.read(H64, 0, &mut bytes) == Ok(()));
     assert_eq!(rt; bytes[0], 0x2a);
+    assert_eq!(rt; oldest_record_len(chain), 210);
     Ok(())
 }
 

@@ -58,6 +58,7 @@ steps_keep law o heap c is after sound whole = (
     sound = sound;
     belongs = still_belongs law o.heap heap o.chain c after whole.belongs;
     stands = whole.stands;
+    idle = whole.idle;
     counted = (let made = whole.counted in omega (arith, made));
   },
 )

@@ -1,5 +1,5 @@
 -- What an object stands for, as its callers see it.
-use Rattle.std.specs.Prelude.{◌≡◌, ℕ, ◌+◌, ◌≤◌}
+use Rattle.std.specs.Prelude.{◌≡◌, ℕ, ◌+◌, ◌≤◌, None}
 use Rattle.dym_base.specs.Objects.{ObjectState, ObjectAnswer, object_step}
 use Rattle.dym_base.specs.declared.command.Command.{Command}
 use Rattle.dym_heap.specs.Meaning.{HeapMeaning, IsSound}
@@ -31,10 +31,11 @@ pub record IsStep (old new : ObjectMeaning) (command : Command) : Type 0 where
   pub heap : new.heap ≡ record old.heap { state = new.heap.state; held_ids = new.heap.held_ids }
   pub origin : new.chain.origin ≡ old.chain.origin
 
--- what is true of every object: its heap is sound, the chain belongs to it and stands for the copies of its logs, and no
--- more records were made than commands were run
+-- what is true of every object: its heap is sound, the chain belongs to it and stands for the copies of its logs, none of its
+-- records is out, and no more records were made than commands were run
 pub record IsWhole (o : ObjectMeaning) : Type 0 where
   pub sound : IsSound o.heap
   pub belongs : Belongs o.heap.version o.heap.quota o.heap.state o.chain
   pub stands : StandsForCopies o.chain
+  pub idle : o.chain.lifted ≡ None
   pub counted : o.chain.made ≤ o.ran

@@ -47,7 +47,7 @@ impl<S: Supply, K: LogKeep> Object<S, K> {
         requires empty { (K.meaning keep).records ≡ [] }
         requires made { (K.meaning keep).made ≡ 0 }
         requires idle { (K.meaning keep).lifted ≡ None }
-        ensures opened { IfOk result (λ o. o ≡ record { heap = record { version = One; quota = S.quota_of supply; state = empty_heap; held_ids = []; origin = S.origin supply; applied = 0 }; chain = record { below = []; logs = []; records = []; made = 0; origin = (K.meaning keep).origin }; ran = 0 }) }
+        ensures opened { IfOk result (λ o. o ≡ record { heap = record { version = One; quota = S.quota_of supply; state = empty_heap; held_ids = []; origin = S.origin supply; applied = 0 }; chain = record { below = []; logs = []; records = []; made = 0; lifted = None; origin = (K.meaning keep).origin }; ran = 0 }) }
         ensures whole { IfOk result IsWhole }
         ensures supply { IfErr result (λ e. e.1 ≡ supply) }
         ensures keep { IfErr result (λ e. K.meaning e.2 ≡ K.meaning keep) }
@@ -68,7 +68,7 @@ impl<S: Supply, K: LogKeep> Object<S, K> {
         requires empty { (K.meaning keep).records ≡ [] }
         requires made { (K.meaning keep).made ≡ 0 }
         requires idle { (K.meaning keep).lifted ≡ None }
-        ensures opened { IfOk result (λ o. o ≡ record { heap = record { version = version; quota = S.quota_of supply; state = empty_heap; held_ids = []; origin = S.origin supply; applied = 0 }; chain = record { below = []; logs = []; records = []; made = 0; origin = (K.meaning keep).origin }; ran = 0 }) }
+        ensures opened { IfOk result (λ o. o ≡ record { heap = record { version = version; quota = S.quota_of supply; state = empty_heap; held_ids = []; origin = S.origin supply; applied = 0 }; chain = record { below = []; logs = []; records = []; made = 0; lifted = None; origin = (K.meaning keep).origin }; ran = 0 }) }
         ensures whole { IfOk result IsWhole }
         ensures supply { IfErr result (λ e. e.1 ≡ supply) }
         ensures keep { IfErr result (λ e. K.meaning e.2 ≡ K.meaning keep) }

@@ -1,5 +1,5 @@
 use Rattle.std.proofs.Common.{[], ◌∷◌, sym, subst}
-use Rattle.dym_base.specs.declared.command.Command.TheVariants.{Malloc, Write}
+use Rattle.dym_base.specs.declared.command.Command.TheVariants.{Write}
 use Rattle.dym_heap.specs.Meaning.{HeapMeaning}
 use Rattle.dym_chain.specs.Chains.{Belongs}
 use Rattle.dym_chain.proofs.tests.writes.Goals as goal

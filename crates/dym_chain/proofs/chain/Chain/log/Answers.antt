@@ -122,7 +122,7 @@ put-requires-clause-made g c =
 
 pub put-requires-clause-idle : goal.put-requires-clause-idle
 put-requires-clause-idle g c =
-    c.self.invariant.shows.idle
+    (ap (λ (x : ChainMeaning). x.lifted) c.self.view_is ∙ c.requires.idle)
 
 pub push_reserved-requires : goal.push_reserved-requires
 push_reserved-requires g c =
@@ -242,7 +242,7 @@ returns-clause-belongs g c =
     let next : ComesNext C v (new_entry (object_of s C) t c.args.want) = comes_next C v c.args.heap.now.quota s t c.args.want c.self.invariant.lawful belongs (c.heaps_are_packable.ensures c.args.heap.now c.requires.sound) c.ranges.time.fits free in
     let view : chain_of c.logged.result.told (g.K.LogKeep.meaning c.put.new.self) ≡ chains.logged v (new_entry (object_of s C) t c.args.want) C = taken_view keep (g.K.LogKeep.meaning c.put.new.self) told c.logged.result.told v s t c.depth_of_next-depth.result c.args.want rec depth_is rec_is c.put.ensures.after c.logged.ensures in
     subst (λ (h : HeapMeaning). Belongs h.version h.quota h.state (chain_of c.logged.result.told (g.K.LogKeep.meaning c.put.new.self))) (sym c.clear_dirty.ensures.cleared)
-    (subst (Belongs v c.args.heap.now.quota (record { live = s.live; touched = set.empty })) (sym view) (belongs_push C v c.args.heap.now.quota s (new_entry (object_of s C) t c.args.want) belongs refl c.requires.sound.within))
+    (subst (Belongs v c.args.heap.now.quota (record { live = s.live; touched = set.empty })) (sym view) (belongs_push C v c.args.heap.now.quota s (new_entry (object_of s C) t c.args.want) belongs next refl c.requires.sound.within))
 
 pub returns-clause-stands : goal.returns-clause-stands
 returns-clause-stands g c =

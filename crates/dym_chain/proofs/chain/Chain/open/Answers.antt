@@ -10,13 +10,13 @@ pub invariant_of-result : goal.invariant_of-result
 invariant_of-result g c = chain_open c.in-Ok.entries.items c.in-Ok.entries.cap (g.K.LogKeep.meaning c.args.keep) c.open.result.told c.in-Ok.ensures.items c.in-Ok.ensures.capacity c.requires.empty c.requires.made c.requires.idle c.open.ensures
 
 pub returns-in-Ok-clause-opened : goal.returns-in-Ok-clause-opened
-returns-in-Ok-clause-opened g c = opened (g.K.LogKeep.meaning c.args.keep) c.open.result.told c.requires.empty c.requires.made c.open.ensures
+returns-in-Ok-clause-opened g c = opened (g.K.LogKeep.meaning c.args.keep) c.open.result.told c.requires.empty c.requires.made c.requires.idle c.open.ensures
 
 pub returns-in-Ok-clause-belongs : goal.returns-in-Ok-clause-belongs
-returns-in-Ok-clause-belongs g c v quota s = subst (Belongs v quota s) (sym (opened (g.K.LogKeep.meaning c.args.keep) c.open.result.told c.requires.empty c.requires.made c.open.ensures)) (belongs_open v quota s (g.K.LogKeep.meaning c.args.keep).origin)
+returns-in-Ok-clause-belongs g c v quota s = subst (Belongs v quota s) (sym (opened (g.K.LogKeep.meaning c.args.keep) c.open.result.told c.requires.empty c.requires.made c.requires.idle c.open.ensures)) (belongs_open v quota s (g.K.LogKeep.meaning c.args.keep).origin)
 
 pub returns-in-Ok-clause-stands : goal.returns-in-Ok-clause-stands
-returns-in-Ok-clause-stands g c = subst StandsForCopies (sym (opened (g.K.LogKeep.meaning c.args.keep) c.open.result.told c.requires.empty c.requires.made c.open.ensures)) (stands_open (g.K.LogKeep.meaning c.args.keep).origin)
+returns-in-Ok-clause-stands g c = subst StandsForCopies (sym (opened (g.K.LogKeep.meaning c.args.keep) c.open.result.told c.requires.empty c.requires.made c.requires.idle c.open.ensures)) (stands_open (g.K.LogKeep.meaning c.args.keep).origin)
 
 pub returns-in-Err-clause-back : goal.returns-in-Err-clause-back
 returns-in-Err-clause-back g c = refl

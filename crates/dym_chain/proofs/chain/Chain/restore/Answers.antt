@@ -149,7 +149,7 @@ drop_after-requires-clause-place g c =
 
 pub drop_after-requires-clause-idle : goal.drop_after-requires-clause-idle
 drop_after-requires-clause-idle g c =
-    c.self.invariant.shows.idle
+    (ap (λ (x : ChainMeaning). x.lifted) c.self.view_is ∙ c.requires.idle)
 
 pub lift-rec-requires-clause-place : goal.lift-rec-requires-clause-place
 lift-rec-requires-clause-place g c =
@@ -171,7 +171,7 @@ lift-rec-requires-clause-place g c =
 
 pub lift-rec-requires-clause-idle : goal.lift-rec-requires-clause-idle
 lift-rec-requires-clause-idle g c =
-    ap (λ (k : KeepMeaning). k.lifted) c.drop_after.ensures.after ∙ c.self.invariant.shows.idle
+    ap (λ (k : KeepMeaning). k.lifted) c.drop_after.ensures.after ∙ (ap (λ (x : ChainMeaning). x.lifted) c.self.view_is ∙ c.requires.idle)
 
 pub shape_to-requires-clause-version : goal.shape_to-requires-clause-version
 shape_to-requires-clause-version g c =
@@ -275,8 +275,8 @@ load_from-requires-clause-idle g c =
     let depth : ℕ = c.from-depth.result in
     let place : ℕ = base + (n - 1) in
     let e : LogEntry = log_at told.logs (n - 1) in
-    let low : g.K.LogKeep.meaning c.lower.new.self ≡ up_to keep place = lowered keep (g.K.LogKeep.meaning c.drop_after.new.self) (g.K.LogKeep.meaning c.lift-rec.new.self) (g.K.LogKeep.meaning c.lower.new.self) place c.drop_after.ensures.after c.lift-rec.ensures.after c.lower.ensures.after c.self.invariant.shows.idle in
-    ap (λ (k : KeepMeaning). k.lifted) low ∙ c.self.invariant.shows.idle
+    let low : g.K.LogKeep.meaning c.lower.new.self ≡ up_to keep place = lowered keep (g.K.LogKeep.meaning c.drop_after.new.self) (g.K.LogKeep.meaning c.lift-rec.new.self) (g.K.LogKeep.meaning c.lower.new.self) place c.drop_after.ensures.after c.lift-rec.ensures.after c.lower.ensures.after (ap (λ (x : ChainMeaning). x.lifted) c.self.view_is ∙ c.requires.idle) in
+    ap (λ (k : KeepMeaning). k.lifted) low ∙ (ap (λ (x : ChainMeaning). x.lifted) c.self.view_is ∙ c.requires.idle)
 
 pub load_from-requires-clause-within : goal.load_from-requires-clause-within
 load_from-requires-clause-within g c =
@@ -294,7 +294,7 @@ load_from-requires-clause-within g c =
     let depth : ℕ = c.from-depth.result in
     let place : ℕ = base + (n - 1) in
     let e : LogEntry = log_at told.logs (n - 1) in
-    let low : g.K.LogKeep.meaning c.lower.new.self ≡ up_to keep place = lowered keep (g.K.LogKeep.meaning c.drop_after.new.self) (g.K.LogKeep.meaning c.lift-rec.new.self) (g.K.LogKeep.meaning c.lower.new.self) place c.drop_after.ensures.after c.lift-rec.ensures.after c.lower.ensures.after c.self.invariant.shows.idle in
+    let low : g.K.LogKeep.meaning c.lower.new.self ≡ up_to keep place = lowered keep (g.K.LogKeep.meaning c.drop_after.new.self) (g.K.LogKeep.meaning c.lift-rec.new.self) (g.K.LogKeep.meaning c.lower.new.self) place c.drop_after.ensures.after c.lift-rec.ensures.after c.lower.ensures.after (ap (λ (x : ChainMeaning). x.lifted) c.self.view_is ∙ c.requires.idle) in
     (let len = length-take (place + 1) keep.records in let same = ap (λ (k : KeepMeaning). length k.records) low in omega (arith, len, same, is.inside, is.fits))
 
 pub load_from-requires-clause-few : goal.load_from-requires-clause-few
@@ -332,7 +332,7 @@ load_from-requires-clause-version g c =
     let place : ℕ = base + (n - 1) in
     let e : LogEntry = log_at told.logs (n - 1) in
     let belongs : Belongs v c.args.heap.now.quota s C = subst (Belongs v c.args.heap.now.quota s) (sym c.self.view_is) c.requires.belongs in
-    let low : g.K.LogKeep.meaning c.lower.new.self ≡ up_to keep place = lowered keep (g.K.LogKeep.meaning c.drop_after.new.self) (g.K.LogKeep.meaning c.lift-rec.new.self) (g.K.LogKeep.meaning c.lower.new.self) place c.drop_after.ensures.after c.lift-rec.ensures.after c.lower.ensures.after c.self.invariant.shows.idle in
+    let low : g.K.LogKeep.meaning c.lower.new.self ≡ up_to keep place = lowered keep (g.K.LogKeep.meaning c.drop_after.new.self) (g.K.LogKeep.meaning c.lift-rec.new.self) (g.K.LogKeep.meaning c.lower.new.self) place c.drop_after.ensures.after c.lift-rec.ensures.after c.lower.ensures.after (ap (λ (x : ChainMeaning). x.lifted) c.self.view_is ∙ c.requires.idle) in
     let R : ChainMeaning = first_logs n C in
     let lawful : IsLawful R = lawful_take C n is.some c.self.invariant.lawful in
     let own : Belongs v c.args.heap.now.quota (record { live = e.copy; touched = set.empty }) R = belongs_take C v c.args.heap.now.quota n s e belongs (last_of_first told.logs n is.some is.within) in
@@ -361,7 +361,7 @@ invariant_of-self g c =
     let depth : ℕ = c.from-depth.result in
     let place : ℕ = base + (n - 1) in
     let e : LogEntry = log_at told.logs (n - 1) in
-    let low : g.K.LogKeep.meaning c.lower.new.self ≡ up_to keep place = lowered keep (g.K.LogKeep.meaning c.drop_after.new.self) (g.K.LogKeep.meaning c.lift-rec.new.self) (g.K.LogKeep.meaning c.lower.new.self) place c.drop_after.ensures.after c.lift-rec.ensures.after c.lower.ensures.after c.self.invariant.shows.idle in
+    let low : g.K.LogKeep.meaning c.lower.new.self ≡ up_to keep place = lowered keep (g.K.LogKeep.meaning c.drop_after.new.self) (g.K.LogKeep.meaning c.lift-rec.new.self) (g.K.LogKeep.meaning c.lower.new.self) place c.drop_after.ensures.after c.lift-rec.ensures.after c.lower.ensures.after (ap (λ (x : ChainMeaning). x.lifted) c.self.view_is ∙ c.requires.idle) in
     chain_first c.self.inside.entries.items c.truncate.new.self.items c.self.inside.entries.cap c.truncate.new.self.cap keep (g.K.LogKeep.meaning c.load_from.new.keep) told c.cut.result.told n base c.self.invariant is.some is.base_is c.truncate.ensures.items c.truncate.ensures.capacity (c.load_from.ensures.keep ∙ low) c.cut.ensures
 
 pub returns-clause-answer : goal.returns-clause-answer
@@ -404,7 +404,7 @@ returns-clause-after g c =
     let belongs : Belongs v c.args.heap.now.quota s C = subst (Belongs v c.args.heap.now.quota s) (sym c.self.view_is) c.requires.belongs in
     let rec_is : c.lift-rec.result ≡ record_of v e = c.lift-rec.ensures.bytes ∙ ap (λ (k : KeepMeaning). (record_at k.records place).bytes) c.drop_after.ensures.after ∙ target_record C v n base belongs.records is.some is.within is.base_is is.inside in
     let recorded = target_recorded C v n c.self.invariant.lawful belongs.records is.some is.within in
-    let low : g.K.LogKeep.meaning c.lower.new.self ≡ up_to keep place = lowered keep (g.K.LogKeep.meaning c.drop_after.new.self) (g.K.LogKeep.meaning c.lift-rec.new.self) (g.K.LogKeep.meaning c.lower.new.self) place c.drop_after.ensures.after c.lift-rec.ensures.after c.lower.ensures.after c.self.invariant.shows.idle in
+    let low : g.K.LogKeep.meaning c.lower.new.self ≡ up_to keep place = lowered keep (g.K.LogKeep.meaning c.drop_after.new.self) (g.K.LogKeep.meaning c.lift-rec.new.self) (g.K.LogKeep.meaning c.lower.new.self) place c.drop_after.ensures.after c.lift-rec.ensures.after c.lower.ensures.after (ap (λ (x : ChainMeaning). x.lifted) c.self.view_is ∙ c.requires.idle) in
     let R : ChainMeaning = first_logs n C in
     let lawful : IsLawful R = lawful_take C n is.some c.self.invariant.lawful in
     let own : Belongs v c.args.heap.now.quota (record { live = e.copy; touched = set.empty }) R = belongs_take C v c.args.heap.now.quota n s e belongs (last_of_first told.logs n is.some is.within) in
@@ -441,7 +441,7 @@ returns-clause-chain g c =
     let depth : ℕ = c.from-depth.result in
     let place : ℕ = base + (n - 1) in
     let e : LogEntry = log_at told.logs (n - 1) in
-    let low : g.K.LogKeep.meaning c.lower.new.self ≡ up_to keep place = lowered keep (g.K.LogKeep.meaning c.drop_after.new.self) (g.K.LogKeep.meaning c.lift-rec.new.self) (g.K.LogKeep.meaning c.lower.new.self) place c.drop_after.ensures.after c.lift-rec.ensures.after c.lower.ensures.after c.self.invariant.shows.idle in
+    let low : g.K.LogKeep.meaning c.lower.new.self ≡ up_to keep place = lowered keep (g.K.LogKeep.meaning c.drop_after.new.self) (g.K.LogKeep.meaning c.lift-rec.new.self) (g.K.LogKeep.meaning c.lower.new.self) place c.drop_after.ensures.after c.lift-rec.ensures.after c.lower.ensures.after (ap (λ (x : ChainMeaning). x.lifted) c.self.view_is ∙ c.requires.idle) in
     let view : chain_of c.cut.result.told (g.K.LogKeep.meaning c.load_from.new.keep) ≡ first_logs n C = first_is keep (g.K.LogKeep.meaning c.load_from.new.keep) told c.cut.result.told n base is.some is.base_is (c.load_from.ensures.keep ∙ low) c.cut.ensures in
     keeps_rest (chain_of c.cut.result.told (g.K.LogKeep.meaning c.load_from.new.keep)) C c.args.self.now n view c.self.view_is
 
@@ -469,7 +469,7 @@ returns-clause-belongs g c =
     let belongs : Belongs v c.args.heap.now.quota s C = subst (Belongs v c.args.heap.now.quota s) (sym c.self.view_is) c.requires.belongs in
     let rec_is : c.lift-rec.result ≡ record_of v e = c.lift-rec.ensures.bytes ∙ ap (λ (k : KeepMeaning). (record_at k.records place).bytes) c.drop_after.ensures.after ∙ target_record C v n base belongs.records is.some is.within is.base_is is.inside in
     let recorded = target_recorded C v n c.self.invariant.lawful belongs.records is.some is.within in
-    let low : g.K.LogKeep.meaning c.lower.new.self ≡ up_to keep place = lowered keep (g.K.LogKeep.meaning c.drop_after.new.self) (g.K.LogKeep.meaning c.lift-rec.new.self) (g.K.LogKeep.meaning c.lower.new.self) place c.drop_after.ensures.after c.lift-rec.ensures.after c.lower.ensures.after c.self.invariant.shows.idle in
+    let low : g.K.LogKeep.meaning c.lower.new.self ≡ up_to keep place = lowered keep (g.K.LogKeep.meaning c.drop_after.new.self) (g.K.LogKeep.meaning c.lift-rec.new.self) (g.K.LogKeep.meaning c.lower.new.self) place c.drop_after.ensures.after c.lift-rec.ensures.after c.lower.ensures.after (ap (λ (x : ChainMeaning). x.lifted) c.self.view_is ∙ c.requires.idle) in
     let R : ChainMeaning = first_logs n C in
     let lawful : IsLawful R = lawful_take C n is.some c.self.invariant.lawful in
     let own : Belongs v c.args.heap.now.quota (record { live = e.copy; touched = set.empty }) R = belongs_take C v c.args.heap.now.quota n s e belongs (last_of_first told.logs n is.some is.within) in
@@ -506,7 +506,7 @@ returns-clause-stands g c =
     let depth : ℕ = c.from-depth.result in
     let place : ℕ = base + (n - 1) in
     let e : LogEntry = log_at told.logs (n - 1) in
-    let low : g.K.LogKeep.meaning c.lower.new.self ≡ up_to keep place = lowered keep (g.K.LogKeep.meaning c.drop_after.new.self) (g.K.LogKeep.meaning c.lift-rec.new.self) (g.K.LogKeep.meaning c.lower.new.self) place c.drop_after.ensures.after c.lift-rec.ensures.after c.lower.ensures.after c.self.invariant.shows.idle in
+    let low : g.K.LogKeep.meaning c.lower.new.self ≡ up_to keep place = lowered keep (g.K.LogKeep.meaning c.drop_after.new.self) (g.K.LogKeep.meaning c.lift-rec.new.self) (g.K.LogKeep.meaning c.lower.new.self) place c.drop_after.ensures.after c.lift-rec.ensures.after c.lower.ensures.after (ap (λ (x : ChainMeaning). x.lifted) c.self.view_is ∙ c.requires.idle) in
     let view : chain_of c.cut.result.told (g.K.LogKeep.meaning c.load_from.new.keep) ≡ first_logs n C = first_is keep (g.K.LogKeep.meaning c.load_from.new.keep) told c.cut.result.told n base is.some is.base_is (c.load_from.ensures.keep ∙ low) c.cut.ensures in
     subst StandsForCopies (sym view) (stands (first_logs n C) (lawful_take C n is.some c.self.invariant.lawful))
 

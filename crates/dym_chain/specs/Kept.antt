@@ -1,0 +1,19 @@
+-- What is true of kept logs whose records can be read.
+use Rattle.std.specs.Prelude.{◌≡◌, length, map}
+use Rattle.dym_base.specs.Below.{oldest_depth}
+use Rattle.dym_base.specs.LawfulLists.{IsLawfulList}
+use Rattle.dym_base.specs.Objects.{record_of}
+use Rattle.dym_base.specs.RunLaws.{IsLogList}
+use Rattle.dym_base.specs.declared.command.Version.{Version}
+use Rattle.dym_chain.specs.Keeps.{bytes_of}
+use Rattle.dym_chain.specs.Chains.{ChainMeaning, all_logs, StandsForCopies}
+
+-- the records are those of the logs below and then of the kept ones, in one version; they are a lawful list with the oldest kept
+-- log's depth, as many logs stand below it as that, and for each kept log the records from the last full one on stand for its copy
+pub record AreKept (c : ChainMeaning) : Type 0 where
+  pub version : Version
+  pub records : bytes_of c.records ≡ map (record_of version) (all_logs c)
+  pub lawful : IsLawfulList version (oldest_depth c.logs) (bytes_of c.records)
+  pub list : IsLogList c.logs
+  pub base : length c.below ≡ oldest_depth c.logs
+  pub stands : StandsForCopies c
