@@ -1,19 +1,17 @@
--- Which reply takes memory, and what holds at a refusal.
-use Rattle.std.specs.Prelude.{⊤, ℕ, Result, Ok, Err}
+-- Which reply takes memory, and what a log's answer leaves.
+use Rattle.std.specs.Prelude.{⊤, ℕ, Result, Err}
+use Rattle.dym_base.specs.declared.command.Kind.{Kind}
+use Rattle.dym_base.specs.declared.command.Kind.TheVariants.{Full, Inc}
 use Rattle.dym_base.specs.declared.command.Command.{Command}
 use Rattle.dym_base.specs.declared.command.Command.TheVariants.{Read, Log, Ilog}
 use Rattle.dym_base.specs.declared.reply.Reply.{Reply}
-use Rattle.dym_base.specs.declared.reply.Reply.TheVariants.{Total, Refused}
-use Rattle.dym_base.specs.declared.reply.Refusal.{Refusal}
+use Rattle.dym_base.specs.declared.reply.Reply.TheVariants as reply
+use Rattle.dym_chain.specs.declared.log_error.LogError.{LogError}
+use Rattle.dym_chain.specs.declared.log_error.LogError.TheVariants.{Refused, Memory}
 
 abbrev pub IsNotRefused : Reply → Type 0
-IsNotRefused (Refused why) = ⊥
+IsNotRefused (reply.Refused why) = ⊥
 IsNotRefused _ = ⊤
-
--- a fact that holds where the reply is a refusal
-abbrev pub OnRefusal : Reply → Type 0 → Type 0
-OnRefusal (Refused why) P = P
-OnRefusal _ P = ⊤
 
 -- a command whose reply takes memory: a read that isn't refused for its bytes, a log that isn't refused for its record
 abbrev pub TakesMemory : Command → Reply → Type 0
@@ -22,7 +20,24 @@ TakesMemory (Log t) reply = IsNotRefused reply
 TakesMemory (Ilog t) reply = IsNotRefused reply
 TakesMemory _ reply = ⊥
 
--- the answer of a sum as a reply
-abbrev pub total_reply : Result ℕ Refusal → Reply
-total_reply (Ok n) = Total n
-total_reply (Err why) = Refused why
+-- the command that logs, for the kind that is wanted
+abbrev pub log_command : Kind → ℕ → Command
+log_command Full t = Log t
+log_command Inc t = Ilog t
+
+-- facts that hold where a log was taken or refused; where it was refused; where memory was wanting
+abbrev pub OnReplied : Result (Kind × ℕ) LogError → Type 0 → Type 0
+OnReplied (Err Memory) P = ⊤
+OnReplied _ P = P
+
+abbrev pub OnRefused : Result (Kind × ℕ) LogError → Type 0 → Type 0
+OnRefused (Err (Refused why)) P = P
+OnRefused _ P = ⊤
+
+abbrev pub OnMemory : Result (Kind × ℕ) LogError → Type 0 → Type 0
+OnMemory (Err Memory) P = P
+OnMemory _ P = ⊤
+
+-- the answer of the count of the logs as a reply
+abbrev pub slots_reply : ℕ × ℕ → Reply
+slots_reply answer = reply.Slots answer.0 answer.1

@@ -1,5 +1,5 @@
 -- What an object stands for, as its callers see it.
-use Rattle.std.specs.Prelude.{◌≡◌, ℕ, ◌≤◌, None}
+use Rattle.std.specs.Prelude.{◌≡◌, ℕ, ◌+◌, ◌≤◌, None}
 use Rattle.dym_base.specs.Objects.{ObjectState, ObjectAnswer, object_step}
 use Rattle.dym_base.specs.declared.command.Command.{Command}
 use Rattle.dym_heap.specs.Meaning.{HeapMeaning, IsSound}
@@ -18,6 +18,18 @@ state_of o = object_of o.heap.state o.chain
 -- the step of an object by a command
 abbrev pub step_by : ObjectMeaning → Command → ObjectAnswer
 step_by o command = object_step o.heap.version o.heap.quota (state_of o) command
+
+-- the object with one command more run, and else unchanged
+abbrev pub counted : ObjectMeaning → ObjectMeaning
+counted o = record o { ran = o.ran + 1 }
+
+-- the object ran this command: it is that of the step, one command more was run, and of the heap and the chain no more changed
+-- than a step changes
+pub record IsStep (old new : ObjectMeaning) (command : Command) : Type 0 where
+  pub object : state_of new ≡ (step_by old command).object
+  pub ran : new.ran ≡ old.ran + 1
+  pub heap : new.heap ≡ record old.heap { state = new.heap.state; held_ids = new.heap.held_ids }
+  pub origin : new.chain.origin ≡ old.chain.origin
 
 -- what is true of every object: its heap is sound, the chain belongs to it and stands for the copies of its logs, none of its
 -- records is out, and no more records were made than commands were run

@@ -1,13 +1,14 @@
 //! One simulation object: its heap, the chain of its logs, and how many commands it ran. Below stand the heap with the supply
 //! that its segments come from, and the chain with the keep of its records; above stands whatever runs the commands of a
-//! script. Its one contract: each command that is run gets the reply of one step of the definition, and leaves the object of
-//! that step.
+//! script. Its one contract: each method for a command answers as one step of the definition replies, and leaves the object of that
+//! step; `run` does the same for a command that is a value.
 #![tactic(auto)]
 
-mod answer;
-mod logs;
+mod heap_calls;
+mod laws;
+mod log_calls;
 mod object;
-mod sum;
+mod run;
 
 pub use object::Object;
 

@@ -1,16 +1,14 @@
 //! A simulation object.
-ghost use Rattle.std.specs.Prelude.{◌≡◌, ℕ, ◌+◌, ◌^◌, ◌<◌, ◌≤◌, None, [], length, OnOk, OnErr, IfOk, IfErr};
+ghost use Rattle.std.specs.Prelude.{◌≡◌, ℕ, ◌≤◌, None, [], length, IfOk, IfErr};
 ghost use Rattle.dym_base.specs.Objects as Objects;
 ghost use Rattle.dym_base.specs.Objects.{empty_heap};
 ghost use Rattle.dym_base.specs.declared.command.Version.TheVariants.{One};
 ghost use Rattle.dym_base.specs.declared.limits.TheConstants.{MOST_QUOTA};
 ghost use Rattle.dym_heap.specs.Meaning.{IsSound};
-ghost use Rattle.dym_object.specs.Commands.{TakesMemory, OnRefusal};
-ghost use Rattle.dym_object.specs.Meaning.{ObjectMeaning, IsWhole, state_of, step_by};
+ghost use Rattle.dym_object.specs.Meaning.{ObjectMeaning, IsWhole};
 
-use crate::logs::answer_to;
+use dym_base::Version;
 use dym_base::limits::MOST_QUOTA;
-use dym_base::{Command, Reply, Version};
 use dym_chain::{Chain, LogKeep};
 use dym_heap::Heap;
 use dym_quota::Supply;
@@ -21,9 +19,9 @@ use std::marker::Model;
 ///
 /// Only opening, and a log or a read that isn't refused, take memory. A refusal changes nothing of the heap and its logs.
 pub struct Object<S: Supply, K: LogKeep> {
-    heap: Heap<S>,
-    chain: Chain<K>,
-    ran: u64,
+    pub(crate) heap: Heap<S>,
+    pub(crate) chain: Chain<K>,
+    pub(crate) ran: u64,
 }
 
 impl<S: Supply, K: LogKeep> Model for Object<S, K> {
@@ -87,57 +85,6 @@ impl<S: Supply, K: LogKeep> Object<S, K> {
             }),
             Err((error, supply)) => Err((error, supply, chain.into_keep())),
         }
-    }
-
-    /// Runs one command, and answers its reply. Only a log or a read that isn't refused can answer that memory is wanting: it
-    /// then wasn't run.
-    pub fn run(
-        &mut self,
-        way: &S::Way,
-        alloc: Global,
-        command: &Command,
-    ) -> Result<Reply, AllocError>
-        requires ran { self.old.ran < 2 ^ 60 }
-        ensures reply { IfOk result (λ r. r ≡ (step_by self.old command.now).reply) }
-        ensures after { OnOk result (state_of self.new ≡ (step_by self.old command.now).object) }
-        ensures ran { OnOk result (self.new.ran ≡ self.old.ran + 1) }
-        ensures memory { IfErr result (λ _. TakesMemory command.now (step_by self.old command.now).reply) }
-        ensures unchanged { OnErr result (self.new ≡ self.old) }
-        ensures refused { IfOk result (λ r. OnRefusal r (self.new ≡ record self.old { ran = self.old.ran + 1 })) }
-        ensures heap { self.new.heap ≡ record self.old.heap { state = self.new.heap.state; held_ids = self.new.heap.held_ids } }
-        ensures origin { self.new.chain.origin ≡ self.old.chain.origin }
-        ensures whole { IsWhole self.new }
-    {
-        let mut reply = Reply::Done;
-        self.run_into(way, alloc, command, &mut reply)?;
-        Ok(reply)
-    }
-
-    /// Runs one command as `run` does, and writes its reply into a place, so that no reply is moved. Where memory is wanting the
-    /// place keeps the reply that it had. Where the caller knows which command it is, only that one's code is left of the call.
-    #[inline(always)]
-    pub fn run_into(
-        &mut self,
-        way: &S::Way,
-        alloc: Global,
-        command: &Command,
-        reply: &mut Reply,
-    ) -> Result<(), AllocError>
-        requires ran { self.old.ran < 2 ^ 60 }
-        ensures reply { OnOk result (reply.new ≡ (step_by self.old command.now).reply) }
-        ensures after { OnOk result (state_of self.new ≡ (step_by self.old command.now).object) }
-        ensures ran { OnOk result (self.new.ran ≡ self.old.ran + 1) }
-        ensures memory { IfErr result (λ _. TakesMemory command.now (step_by self.old command.now).reply) }
-        ensures unchanged { OnErr result (self.new ≡ self.old) }
-        ensures kept { OnErr result (reply.new ≡ reply.old) }
-        ensures refused { OnOk result (OnRefusal reply.new (self.new ≡ record self.old { ran = self.old.ran + 1 })) }
-        ensures heap { self.new.heap ≡ record self.old.heap { state = self.new.heap.state; held_ids = self.new.heap.held_ids } }
-        ensures origin { self.new.chain.origin ≡ self.old.chain.origin }
-        ensures whole { IsWhole self.new }
-    {
-        answer_to(&mut self.heap, &mut self.chain, way, alloc, command, reply)?;
-        self.ran += 1;
-        Ok(())
     }
 
     /// How many commands were run.

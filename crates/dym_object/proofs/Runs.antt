@@ -1,0 +1,58 @@
+-- A call of an object as the run of a command that is a value.
+use Rattle.std.proofs.Common.{◌≡◌, ℕ, ◌+◌, Result, Ok, Err, OnErr, Option, None, Some, sym, ap, subst, ◌∙◌}
+use Rattle.dym_base.specs.declared.handle.Handle.{Handle}
+use Rattle.dym_base.specs.declared.command.Command.{Command}
+use Rattle.dym_base.specs.declared.reply.Refusal.{Refusal}
+use Rattle.dym_base.specs.declared.reply.Reply.{Reply}
+use Rattle.dym_heap.specs.declared.found.Found.{Found}
+use Rattle.dym_heap.specs.declared.found.Found.TheVariants as found
+use Rattle.dym_heap.specs.Replies.{OnRefusal, chunk_reply, moved_reply, done_reply, found_reply, total_reply}
+use Rattle.dym_chain.specs.Answers.{restored_reply}
+use Rattle.dym_object.specs.Meaning.{ObjectMeaning, IsStep, counted, state_of, step_by}
+
+-- the object ran the command, which got this reply
+pub record Ran (old new : ObjectMeaning) (command : Command) (reply : Reply) : Type 0 where
+  pub replied : reply ≡ (step_by old command).reply
+  pub after : state_of new ≡ (step_by old command).object
+  pub ran : new.ran ≡ old.ran + 1
+  pub refused : OnRefusal reply (new ≡ counted old)
+  pub heap : new.heap ≡ record old.heap { state = new.heap.state; held_ids = new.heap.held_ids }
+  pub origin : new.chain.origin ≡ old.chain.origin
+
+pub ran_by : (old new : ObjectMeaning) (command c : Command) (reply r : Reply) → command ≡ c → reply ≡ r → r ≡ (step_by old c).reply → IsStep old new c → OnRefusal r (new ≡ counted old) → Ran old new command reply
+ran_by old new command c reply r is same replied step refused = record {
+  replied = same ∙ replied ∙ sym (ap (λ (k : Command). (step_by old k).reply) is);
+  after = step.object ∙ sym (ap (λ (k : Command). (step_by old k).object) is);
+  ran = step.ran;
+  refused = subst (λ (x : Reply). OnRefusal x (new ≡ counted old)) (sym same) refused;
+  heap = step.heap;
+  origin = step.origin;
+}
+
+-- what holds where an answer is a refusal, at its reply
+pub at_chunk : (r : Result Handle Refusal) (P : Type 0) → OnErr r P → OnRefusal (chunk_reply r) P
+at_chunk (Ok h) P p = tt
+at_chunk (Err why) P p = p
+
+pub at_moved : (r : Result (Option Handle) Refusal) (P : Type 0) → OnErr r P → OnRefusal (moved_reply r) P
+at_moved (Ok None) P p = tt
+at_moved (Ok (Some h)) P p = tt
+at_moved (Err why) P p = p
+
+pub at_done : (r : Result (Unit {0}) Refusal) (P : Type 0) → OnErr r P → OnRefusal (done_reply r) P
+at_done (Ok u) P p = tt
+at_done (Err why) P p = p
+
+pub at_found : (r : Result Found Refusal) (P : Type 0) → OnErr r P → OnRefusal (found_reply r) P
+at_found (Ok found.Nil) P p = tt
+at_found (Ok (found.Live h)) P p = tt
+at_found (Ok (found.Loose n)) P p = tt
+at_found (Err why) P p = p
+
+pub at_total : (r : Result ℕ Refusal) (P : Type 0) → OnErr r P → OnRefusal (total_reply r) P
+at_total (Ok n) P p = tt
+at_total (Err why) P p = p
+
+pub at_restored : (r : Result ℕ Refusal) (P : Type 0) → OnErr r P → OnRefusal (restored_reply r) P
+at_restored (Ok t) P p = tt
+at_restored (Err why) P p = p
