@@ -1,11 +1,11 @@
 use Rattle.std.proofs.Common.{ap, arith, length, ◌+◌}
 use Rattle.std.proofs.lemmas.List.{length-take}
-use Rattle.dym_slots.specs.Meanings.{OwnerMeaning}
+use Rattle.dym_slots.specs.Meanings.{KeepMeaning}
 use Rattle.dym_slots.proofs.tests.cut.Goals as goal
 
 pub returns-clause-len : goal.returns-clause-len
 returns-clause-len c =
-    let e = ap (λ (m : OwnerMeaning). length m.records) c.drop_after.ensures.after in
+    let e = ap (λ (m : KeepMeaning). length m.records) c.drop_after.ensures.after in
     let d = length-take (c.args.place + 1) c.args.owner.now.records in
     let p = c.requires.place in
     omega arith
