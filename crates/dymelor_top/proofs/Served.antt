@@ -29,7 +29,7 @@ use Rattle.dymelor_top.specs.declared.stop.Stop.TheVariants as stop
 use Rattle.dymelor_top.specs.Stops.{stop_status, of_write}
 use Rattle.dymelor_top.specs.Report.{report_text}
 use Rattle.dymelor_top.specs.Summary.{summary_of}
-use Rattle.dymelor_top.specs.Answers.{Answer, fault_answer, of_script, counts_of, of_verdict, IsJudged, IsTraceAnswer, IsRead, IsAnswer, reads}
+use Rattle.dymelor_top.specs.Answers.{Answer, fault_answer, of_script, counts_of, of_verdict, IsJudged, IsTraceAnswer, IsRead, IsAnswer, made_answer, usage_answer, reads}
 use Rattle.dymelor_top.specs.Headline.{Input, WroteFront, WroteAll, WasRead, Serves, Writes, WritesSo, WritesAnswer, PlanHeadline}
 
 -- What was written
@@ -387,6 +387,46 @@ given_stopped p old a b x unread one front rose = record {
   sink_stands = λ other. absurd (other refl);
   known = omega arith;
 }
+
+-- a script that a seed makes was written whole
+pub script_whole : (seed objects commands : ℕ) (old : Input) (a b : Output) (status : ℕ)
+    → (x : Answer) × (x ≡ made_answer seed objects commands) × (status ≡ x.status) × WroteAll a b x.text
+    → b.faults ≡ a.faults → PlanHeadline (plan.Make seed objects commands) old old a b status
+script_whole seed objects commands old a b status served calm =
+    let x : Answer = made_answer seed objects commands in
+    let all : WroteAll a b x.text = subst (λ (y : Answer). WroteAll a b y.text) served.1 served.3 in
+    let zero : status ≡ x.status = served.2 ∙ ap (λ (y : Answer). y.status) served.1 in
+    subst (PlanHeadline (plan.Make seed objects commands) old old a b) (sym zero)
+    (given_whole (plan.Make seed objects commands) old a b x refl (λ bytes y of_y. sym of_y) (λ bytes. refl) (λ one. absurd (omega (arith, one))) (λ is. absurd (cc)) (λ s o c is. refl) (omega arith) all calm)
+
+-- or in part
+pub script_stopped : (seed objects commands : ℕ) (old : Input) (a b : Output) (stopped : WriteFail)
+    → ((x : Answer) → x ≡ made_answer seed objects commands → WroteFront a b x.text)
+    → (stopped ≡ fail.Sink) × RoseOnce a.faults b.faults → PlanHeadline (plan.Make seed objects commands) old old a b (stop_status (of_write stopped))
+script_stopped seed objects commands old a b stopped front cause =
+    let x : Answer = made_answer seed objects commands in
+    let four : stop_status (of_write stopped) ≡ 4 = ap (λ (f : WriteFail). stop_status (of_write f)) cause.0 in
+    subst (PlanHeadline (plan.Make seed objects commands) old old a b) (sym four)
+    (given_stopped (plan.Make seed objects commands) old a b x refl (λ bytes y of_y. sym of_y) (front x refl) cause.1)
+
+-- words of no order were answered whole
+pub usage_whole : (old : Input) (a b : Output) (status : ℕ)
+    → (x : Answer) × (x ≡ usage_answer) × (status ≡ x.status) × WroteAll a b x.text
+    → b.faults ≡ a.faults → PlanHeadline plan.Usage old old a b status
+usage_whole old a b status served calm =
+    let all : WroteAll a b usage_answer.text = subst (λ (y : Answer). WroteAll a b y.text) served.1 served.3 in
+    let one : status ≡ usage_answer.status = served.2 ∙ ap (λ (y : Answer). y.status) served.1 in
+    subst (PlanHeadline plan.Usage old old a b) (sym one)
+    (given_whole plan.Usage old a b usage_answer refl (λ bytes y of_y. sym of_y) (λ bytes. refl) (λ is. refl) (λ is. refl) (λ s o c is. absurd (cc)) (omega arith) all calm)
+
+-- or in part
+pub usage_stopped : (old : Input) (a b : Output) (stopped : WriteFail)
+    → ((x : Answer) → x ≡ usage_answer → WroteFront a b x.text)
+    → (stopped ≡ fail.Sink) × RoseOnce a.faults b.faults → PlanHeadline plan.Usage old old a b (stop_status (of_write stopped))
+usage_stopped old a b stopped front cause =
+    let four : stop_status (of_write stopped) ≡ 4 = ap (λ (f : WriteFail). stop_status (of_write f)) cause.0 in
+    subst (PlanHeadline plan.Usage old old a b) (sym four)
+    (given_stopped plan.Usage old a b usage_answer refl (λ bytes y of_y. sym of_y) (front usage_answer refl) cause.1)
 
 -- Traces
 

@@ -140,6 +140,7 @@ fn serve_read<R: Source, W: Sink>(
     source: &mut R,
     sink: &mut W,
 ) -> Result<u8, Stop>
+    requires { R.goes_on source.old }
     ensures served { (bytes : List ℕ) → R.left source.old ≡ Some bytes → Serves (IsRead reading bytes) (W.output sink.old) (W.output sink.new) result }
     ensures read { (bytes : List ℕ) → R.left source.old ≡ Some bytes → OnOk result (R.left source.new ≡ Some (drop (MOST_INPUT_BYTES + 1) bytes)) }
     ensures status { IfOk result (λ status. (status ≡ 0) ⊎ (status ≡ 2)) }
