@@ -1,8 +1,7 @@
 -- An error that is passed on, of whatever cause.
 use Rattle.std.proofs.Common.{◌≡◌, ℕ, suc, ◌+◌, ◌<◌, List, ◌∷◌, ◌++◌, length, take, drop, get_or, flat_map, Result, Ok, Err, IsErrAnd, sym, ap, subst, ◌∙◌, add-one, drop-cons, take-append-drop}
 use Rattle.std.proofs.lemmas.Grind.{flat_map-append}
-use Rattle.dym_io.specs.Faults.{Rose}
-use Rattle.dym_io.specs.Sink.{Output, Appended, AppendedFront, WritesOr}
+use Rattle.dym_io.specs.Sink.{Output, Appended, AppendedFront, Blames, WritesOr}
 use Rattle.dym_io.specs.Laws.{front_after, front_within}
 use Rattle.dymelor_top.specs.declared.stop.WriteFail.{WriteFail}
 use Rattle.dymelor_top.specs.declared.stop.WriteFail.TheVariants as fail
@@ -11,9 +10,9 @@ use Rattle.dymelor_top.specs.Headline.{WritesAnswer}
 
 -- the same error, where it may be the sink's
 pub writes_or_passed : {T E : Type 0} → (IsSinks : E → Type 0) (a b : Output) (t : List ℕ) (r : Result T E) (e : E) → IsErrAnd r (λ x. x ≡ e)
-    → AppendedFront a b t → (IsSinks e → Rose a.faults b.faults) → WritesOr IsSinks a b t r
-writes_or_passed IsSinks a b t (Ok x) e is front rose = absurd is
-writes_or_passed IsSinks a b t (Err x) e is front rose = (front, λ h. rose (subst IsSinks is h))
+    → AppendedFront a b t → Blames (IsSinks e) a b → WritesOr IsSinks a b t r
+writes_or_passed IsSinks a b t (Ok x) e is front blames = absurd is
+writes_or_passed IsSinks a b t (Err x) e is front blames = (front, subst (λ x. Blames (IsSinks x) a b) (sym is) blames)
 
 -- of the texts of some items those of the first i are written, and the front of the next
 pub each_front_item : {X : Type 0} → (f : X → List ℕ) (items : List X) (i : ℕ) (x : X) (a b c : Output) → i < length items → x ≡ get_or items i x
@@ -26,6 +25,6 @@ each_front_item f items i x a b c within is p q =
 
 -- the same of an answer that is given
 pub answer_passed : (defined : Answer) (a b : Output) (r : Result ℕ WriteFail) (e : WriteFail) → IsErrAnd r (λ x. x ≡ e)
-    → AppendedFront a b defined.text → (e ≡ fail.Sink → Rose a.faults b.faults) → WritesAnswer defined a b r
-answer_passed defined a b (Ok x) e is front rose = absurd is
-answer_passed defined a b (Err x) e is front rose = (front, λ h. rose (sym is ∙ h))
+    → AppendedFront a b defined.text → Blames (e ≡ fail.Sink) a b → WritesAnswer defined a b r
+answer_passed defined a b (Ok x) e is front blames = absurd is
+answer_passed defined a b (Err x) e is front blames = (front, subst (λ x. Blames (x ≡ fail.Sink) a b) (sym is) blames)

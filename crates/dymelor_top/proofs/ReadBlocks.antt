@@ -1,15 +1,15 @@
 -- What holds while a source is read and its script with it, and what is known at the end.
-use Rattle.std.proofs.Common.{◌≡◌, ℕ, ◌+◌, ◌-◌, ◌<◌, ◌≤◌, inl, inr, List, [], ◌++◌, length, take, drop, Option, Some, None, Result, Ok, Err, IfOk, OnOk, sym, ap, subst, ◌∙◌, append_assoc, append-nil, length-append, length-take, length-drop, take-append-drop, zero-add, arith}
+use Rattle.std.proofs.Common.{◌≡◌, ℕ, ◌+◌, ◌-◌, ◌<◌, ◌≤◌, inl, inr, List, [], ◌++◌, length, take, drop, Option, Some, None, Result, Ok, Err, IfOk, OnOk, sym, ap, subst, ◌∙◌, append_assoc, append-nil, length-append, length-take, length-drop, take-append-drop, zero-add, refl, arith}
 use Rattle.std.specs.List.{copy_within}
 use Rattle.std.proofs.Math.Seq.{paste, take-add}
 use Rattle.std.proofs.lemmas.List.{drop-take}
 use Rattle.std.proofs.lemmas.List.Edits.{take-paste}
-use Rattle.std.specs.Io.KnownBytes.{Consumes}
-use Rattle.std.proofs.KnownBytes.{Consumes-nil, Consumes-trans}
+use Rattle.std.specs.Io.KnownBytes.{Consumes, Keeps}
+use Rattle.std.proofs.KnownBytes.{Consumes-nil, Consumes-trans, Consumes-kept}
 use Rattle.dym_base.specs.declared.limits.TheConstants.{MOST_INPUT_BYTES}
 use Rattle.dym_base.specs.declared.bad_kind.BadKind.{BadKind}
 use Rattle.dym_base.specs.declared.bad_kind.BadKind.TheVariants as bad
-use Rattle.dym_io.specs.Source.{IsEmptyAtEnd}
+use Rattle.dym_io.specs.Source.{IsEmptyAtEnd, TookAtMost}
 use Rattle.dym_script.specs.declared.script.ScriptFail.{ScriptFail}
 use Rattle.dym_script.specs.declared.script.ScriptFail.TheVariants as fail
 use Rattle.dym_script.specs.Scripts.{Said, Fault, script_of}
@@ -21,26 +21,28 @@ use Rattle.dymelor_top.proofs.Served.{too_long, read_so, SameVerdict}
 
 -- ---- a source that is read
 
--- so many bytes were pulled before and so many in all, and the count of faults didn't fall
-pub record DrainedSoFar (pulled : ℕ) (old new : Option (List ℕ)) (faults_old faults_new all : ℕ) : Type 0 where
+-- so many bytes were pulled before and so many in all, no call failed, and another may follow
+pub record DrainedSoFar (pulled : ℕ) (old new : Option (List ℕ)) (faults_old faults_new : ℕ) (goes_on : Type 0) (all : ℕ) : Type 0 where
   pub got : List ℕ
   pub taken : Consumes old new got
   pub count : pulled + length got ≡ all
   pub within : all ≤ MOST_INPUT_BYTES + 1
-  pub faults : faults_old ≤ faults_new
+  pub faults : faults_new ≡ faults_old
+  pub more : goes_on
 
-pub drained_none : (pulled : ℕ) (s : Option (List ℕ)) (faults : ℕ) → pulled ≤ MOST_INPUT_BYTES → DrainedSoFar pulled s s faults faults pulled
-drained_none pulled s faults within = record { got = []; taken = Consumes-nil s; count = omega arith; within = omega (arith, within); faults = omega arith }
+pub drained_none : (pulled : ℕ) (s : Option (List ℕ)) (faults : ℕ) (G : Type 0) → pulled ≤ MOST_INPUT_BYTES → G → DrainedSoFar pulled s s faults faults G pulled
+drained_none pulled s faults G within on = record { got = []; taken = Consumes-nil s; count = omega arith; within = omega (arith, within); faults = refl; more = on }
 
 -- a pull took more
-pub drained_more : (pulled : ℕ) (a b c : Option (List ℕ)) (f g h all n : ℕ) (out : List ℕ) → DrainedSoFar pulled a b f g all → Consumes b c (take n out) → n ≤ length out → all + n ≤ MOST_INPUT_BYTES + 1 → g ≤ h
-    → DrainedSoFar pulled a c f h (all + n)
-drained_more pulled a b c f g h all n out so taken enough within more = record {
+pub drained_more : (pulled : ℕ) (a b c : Option (List ℕ)) (f g h : ℕ) (G H : Type 0) (all n : ℕ) (out : List ℕ) → DrainedSoFar pulled a b f g G all → Consumes b c (take n out) → n ≤ length out → all + n ≤ MOST_INPUT_BYTES + 1 → h ≡ g → H
+    → DrainedSoFar pulled a c f h H (all + n)
+drained_more pulled a b c f g h G H all n out so taken enough within calm on = record {
   got = so.got ++ take n out;
   taken = Consumes-trans a b c so.got (take n out) so.taken taken;
   count = omega (arith, so.count, length-append so.got (take n out), length-take n out);
   within = within;
-  faults = omega (arith, so.faults, more);
+  faults = calm ∙ so.faults;
+  more = on;
 }
 
 -- a pull gave nothing, since nothing was left
@@ -50,8 +52,8 @@ out_at_end n all (Some xs) None c got out before at_end none taken = absurd befo
 out_at_end n all (Some xs) (Some ys) None got out before at_end none taken = absurd taken
 out_at_end n all (Some xs) (Some ys) (Some zs) got out before at_end none taken = inl (sym (taken ∙ ap (λ k. take k out ++ zs) none) ∙ at_end.0 none)
 
-pub drained_end : (pulled : ℕ) (a b c : Option (List ℕ)) (f g all n : ℕ) (out : List ℕ) → DrainedSoFar pulled a b f g all → IsEmptyAtEnd b n → n ≡ 0 → Consumes b c (take n out) → IsDrained pulled a c all
-drained_end pulled a b c f g all n out so at_end none taken = record {
+pub drained_end : (pulled : ℕ) (a b c : Option (List ℕ)) (f g : ℕ) (G : Type 0) (all n : ℕ) (out : List ℕ) → DrainedSoFar pulled a b f g G all → IsEmptyAtEnd b n → n ≡ 0 → Consumes b c (take n out) → IsDrained pulled a c all
+drained_end pulled a b c f g G all n out so at_end none taken = record {
   got = so.got ++ take n out;
   taken = Consumes-trans a b c so.got (take n out) so.taken taken;
   count = omega (arith, so.count, length-append so.got (take n out), length-take n out, none);
@@ -65,14 +67,34 @@ out_at_limit all None b full = tt
 out_at_limit all (Some xs) None full = tt
 out_at_limit all (Some xs) (Some ys) full = inr full
 
-pub drained_full : (pulled : ℕ) (a b : Option (List ℕ)) (f g all : ℕ) → DrainedSoFar pulled a b f g all → MOST_INPUT_BYTES < all → IsDrained pulled a b all
-drained_full pulled a b f g all so long = record {
+pub drained_full : (pulled : ℕ) (a b : Option (List ℕ)) (f g : ℕ) (G : Type 0) (all : ℕ) → DrainedSoFar pulled a b f g G all → MOST_INPUT_BYTES < all → IsDrained pulled a b all
+drained_full pulled a b f g G all so long = record {
   got = so.got;
   taken = so.taken;
   count = so.count;
   within = so.within;
   out = out_at_limit all a b (omega (arith, so.within, long));
 }
+
+-- whatever the call answers, so many bytes at most were taken
+
+-- it failed after these bytes
+pub took_before : (most n : ℕ) (a b c : Option (List ℕ)) (got : List ℕ) → Consumes a b got → length got ≡ n → n ≤ most → Keeps b c → TookAtMost most a c
+took_before most n a b c got taken len few kept = record { got = got; taken = Consumes-kept a b c got taken kept; few = omega (arith, len, few) }
+
+-- it took these bytes, and so many at most behind them
+pub took_both : (most n more : ℕ) (a b c : Option (List ℕ)) (got : List ℕ) → Consumes a b got → length got ≡ n → n + more ≤ most → TookAtMost more b c → TookAtMost most a c
+took_both most n more a b c got taken len few then = record {
+  got = got ++ then.got;
+  taken = Consumes-trans a b c got then.got taken then.taken;
+  few = omega (arith, len, few, then.few, length-append got then.got);
+}
+
+pub told_few : (old new : Option (List ℕ)) (Gives : Result Said Fault → Type 0) → Tells [] old new Gives → TookAtMost (MOST_INPUT_BYTES + 1) old new
+told_few old new Gives tells = record { got = tells.got; taken = tells.taken; few = tells.within }
+
+pub drained_few : (pulled all most : ℕ) (old new : Option (List ℕ)) → IsDrained pulled old new all → most ≡ MOST_INPUT_BYTES + 1 - pulled → TookAtMost most old new
+drained_few pulled all most old new drained is = record { got = drained.got; taken = drained.taken; few = omega (arith, drained.count, drained.within, is) }
 
 -- ---- what the bytes that were read say
 
@@ -115,7 +137,7 @@ pub record ReadSoFar (old new : Option (List ℕ)) (faults_old faults_new : ℕ)
   pub consumed : Consumes old new (taken ++ left)
   pub count : length taken + length left ≡ pulled
   pub within : pulled ≤ MOST_INPUT_BYTES
-  pub faults : faults_old ≤ faults_new
+  pub faults : faults_new ≡ faults_old
 
 pub read_none : (Takes : List ℕ → Type 0) (s : Option (List ℕ)) (faults : ℕ) (left : List ℕ) → left ≡ [] → Takes [] → ReadSoFar s s faults faults Takes left 0
 read_none Takes s faults left none took = record {
@@ -124,7 +146,7 @@ read_none Takes s faults left none took = record {
   consumed = subst (Consumes s s) (sym none) (Consumes-nil s);
   count = omega (arith, ap length none);
   within = omega arith;
-  faults = omega arith;
+  faults = refl;
 }
 
 -- the source has no more: what is left is the last piece
@@ -174,7 +196,7 @@ pulled_long a c Takes text pulled so big within =
     }
 
 -- the ended lines of the text were read
-pub read_more : (a c : Option (List ℕ)) (f g : ℕ) (Takes TakesNow : List ℕ → Type 0) (text left : List ℕ) (n pulled : ℕ) → PulledBehind a c Takes text pulled → pulled ≤ MOST_INPUT_BYTES → f ≤ g → TakesPiece Takes TakesNow text (Ok n) → left ≡ drop (length text - n) text
+pub read_more : (a c : Option (List ℕ)) (f g : ℕ) (Takes TakesNow : List ℕ → Type 0) (text left : List ℕ) (n pulled : ℕ) → PulledBehind a c Takes text pulled → pulled ≤ MOST_INPUT_BYTES → g ≡ f → TakesPiece Takes TakesNow text (Ok n) → left ≡ drop (length text - n) text
     → ReadSoFar a c f g TakesNow left pulled
 read_more a c f g Takes TakesNow text left n pulled so within faults takes is =
     let front = take (length text - n) text in

@@ -1,17 +1,17 @@
 -- From what the parts of a top call do to the headline.
-use Rattle.std.proofs.Common.{◌≡◌, ℕ, ◌+◌, ◌<◌, ◌≤◌, ◌⊎◌, inl, inr, Bool, true, false, cond, List, [], ◌++◌, length, drop, nat_lt, Option, Some, None, IfSome, Result, Ok, Err, IsErr, MatchBool, refl, sym, ap, subst, ◌∙◌, append-nil, length-append, arith}
+use Rattle.std.proofs.Common.{◌≡◌, ℕ, ◌+◌, ◌<◌, ◌≤◌, ◌⊎◌, inl, inr, Bool, true, false, cond, List, [], ◌++◌, length, drop, nat_lt, Option, Some, None, IfSome, Result, Ok, Err, IsErr, IsErrAnd, IsErrOf, MatchBool, refl, sym, ap, subst, ◌∙◌, append-nil, length-append, arith}
 use Rattle.std.specs.Option.{OnSome}
 use Rattle.std.proofs.Math.ListN.{drop_of_length-le}
 use Rattle.std.proofs.Math.Seq.{drop-append_seam}
 use Rattle.std.proofs.lemmas.Bool.Decides.{nat_tests}
 use Rattle.std.specs.Io.KnownBytes.{Consumes, Keeps}
-use Rattle.std.proofs.KnownBytes.{Appends-nil, Keeps-refl}
+use Rattle.std.proofs.KnownBytes.{Consumes-nil, Keeps-refl}
 use Rattle.dym_base.specs.declared.limits.TheConstants.{MOST_INPUT_BYTES}
 use Rattle.dym_base.specs.declared.bad_kind.BadKind.TheVariants as bad
-use Rattle.dym_io.specs.Faults.{Rose}
-use Rattle.dym_io.specs.Source.{IsEndOrLimit}
-use Rattle.dym_io.specs.Sink.{Output, Appended, AppendedFront, Stopped, AllFlushed}
-use Rattle.dym_io.specs.Laws.{appends_kept}
+use Rattle.dym_io.specs.Faults.{RoseOnce}
+use Rattle.dym_io.specs.Source.{IsEndOrLimit, TookAtMost}
+use Rattle.dym_io.specs.Sink.{Output, Appended, AppendedFront, Stopped, Blames, AllFlushed}
+use Rattle.dym_io.specs.Laws.{appends_kept, appended_nothing, once_rose}
 use Rattle.dym_gen.specs.Scripts.{generated}
 use Rattle.dym_script.specs.Lines.{lines_of}
 use Rattle.dym_script.specs.Scripts.{Said, script_of, read_lines, start}
@@ -29,8 +29,8 @@ use Rattle.dymelor_top.specs.declared.stop.Stop.TheVariants as stop
 use Rattle.dymelor_top.specs.Stops.{stop_status, of_write}
 use Rattle.dymelor_top.specs.Report.{report_text}
 use Rattle.dymelor_top.specs.Summary.{summary_of}
-use Rattle.dymelor_top.specs.Answers.{Answer, fault_answer, of_script, counts_of, of_verdict, IsJudged, IsTraceAnswer, IsRead, IsAnswer, reads}
-use Rattle.dymelor_top.specs.Headline.{Input, WroteFront, WroteAll, Serves, Writes, WritesSo, WritesAnswer, PlanHeadline}
+use Rattle.dymelor_top.specs.Answers.{Answer, fault_answer, of_script, counts_of, of_verdict, IsJudged, IsTraceAnswer, IsRead, IsAnswer, made_answer, usage_answer, reads}
+use Rattle.dymelor_top.specs.Headline.{Input, WroteFront, WroteAll, WasRead, Serves, Writes, WritesSo, WritesAnswer, PlanHeadline}
 
 -- What was written
 
@@ -47,13 +47,10 @@ wrote_all a b c t p keeps flushed = record {
 }
 
 pub front_wrote : (a b : Output) (t : List ℕ) → AppendedFront a b t → WroteFront a b t
-front_wrote a b t p = record { front = p.front; rest = p.rest; whole = p.whole; written = p.appended.written }
+front_wrote a b t p = record { front = p.front; rest = p.rest; whole = p.whole; written = p.written }
 
 pub front_kept : (a b c : Output) (t : List ℕ) → Appended a b t → Keeps b.written c.written → WroteFront a c t
 front_kept a b c t p keeps = record { front = t; rest = []; whole = sym (append-nil t); written = appends_kept a.written b.written c.written t p.written keeps }
-
-nothing_wrote : (a : Output) (t : List ℕ) → WroteFront a a t
-nothing_wrote a t = record { front = []; rest = t; whole = refl; written = Appends-nil a.written }
 
 pub serves_front : {E : Type 0} → (Is : Answer → Type 0) (a b : Output) (r : Result ℕ E) → IsErr r → ((answer : Answer) → Is answer → WroteFront a b answer.text) → Serves Is a b r
 serves_front Is a b (Ok status) is front = absurd (cc)
@@ -186,12 +183,17 @@ whole_front : (r : Reading) (bytes : List ℕ) (a b : Output) (status : ℕ) →
 whole_front r bytes a b status w answer is =
     subst (λ (x : Answer). WroteFront a b x.text) (one_read r bytes w.0 answer w.1 is) (all_is_front a b w.0.text w.3)
 
+-- nothing was taken of a source that isn't read
+took_nothing : (most : ℕ) (left : Option (List ℕ)) → TookAtMost most left left
+took_nothing most left = record { got = []; taken = Consumes-nil left; few = omega arith }
+
 -- an answer was written whole
 pub read_whole : (r : Reading) (old new : Input) (a b : Output) (status : ℕ)
     → ((bytes : List ℕ) → old.left ≡ Some bytes → (x : Answer) × IsRead r bytes x × (status ≡ x.status) × WroteAll a b x.text)
     → ((bytes : List ℕ) → old.left ≡ Some bytes → new.left ≡ Some (drop (MOST_INPUT_BYTES + 1) bytes))
+    → TookAtMost (MOST_INPUT_BYTES + 1) old.left new.left → new.faults ≡ old.faults → b.faults ≡ a.faults
     → (status ≡ 0) ⊎ (status ≡ 2) → PlanHeadline (plan.Read r) old new a b status
-read_whole r old new a b status served read zero_or_two =
+read_whole r old new a b status served read bounded source_calm sink_calm zero_or_two =
     let low : status ≤ 2 = small status zero_or_two in
     record {
       answered = λ bytes known. record {
@@ -199,6 +201,7 @@ read_whole r old new a b status served read zero_or_two =
         whole = λ le. served bytes known;
         complete = λ source sink. inl low;
       };
+      bounded = bounded;
       read = λ le. read;
       unread = λ is. no_source r is;
       usage = λ is. no_usage status zero_or_two is;
@@ -206,39 +209,71 @@ read_whole r old new a b status served read zero_or_two =
       made = λ seed objects commands is. no_make r seed objects commands is;
       source = λ is. absurd (omega (arith, low, is));
       sink = λ is. absurd (omega (arith, low, is));
+      source_stands = λ other. source_calm;
+      sink_stands = λ other. sink_calm;
       known = omega (arith, low);
     }
+
+-- what the counts tell of why a call that reads its source stopped
+pub record StopCauses (old new : Input) (a b : Output) (stopped : Stop) : Type 0 where
+  pub source : stopped ≡ stop.Source → RoseOnce old.faults new.faults × (b ≡ a)
+  pub source_stands : ¬ (stopped ≡ stop.Source) → new.faults ≡ old.faults
+  pub sink : stopped ≡ stop.Sink → RoseOnce a.faults b.faults
+  pub sink_stands : ¬ (stopped ≡ stop.Sink) → b.faults ≡ a.faults
+
+err_of : Result ℕ Stop → Stop
+err_of (Ok status) = stop.Memory
+err_of (Err stopped) = stopped
+
+pub stop_causes : (old new : Input) (a b : Output) (r : Result ℕ Stop) (stopped : Stop) → r ≡ Err stopped
+    → (IsErrOf r stop.Source → RoseOnce old.faults new.faults × (b ≡ a)) → (¬ IsErrOf r stop.Source → new.faults ≡ old.faults)
+    → (IsErrOf r stop.Sink → RoseOnce a.faults b.faults) → (¬ IsErrOf r stop.Sink → b.faults ≡ a.faults) → StopCauses old new a b stopped
+unfolding err_of
+stop_causes old new a b r stopped is source source_stands sink sink_stands = record {
+  source = λ s. source (is ∙ ap Err s);
+  source_stands = λ other. source_stands (λ e. other (ap err_of (sym is ∙ e)));
+  sink = λ s. sink (is ∙ ap Err s);
+  sink_stands = λ other. sink_stands (λ e. other (ap err_of (sym is ∙ e)));
+}
 
 -- a call that reads its source stopped
 pub read_stopped : (r : Reading) (old new : Input) (a b : Output) (stopped : Stop)
     → ((bytes : List ℕ) → old.left ≡ Some bytes → (x : Answer) → IsRead r bytes x → WroteFront a b x.text)
-    → (stopped ≡ stop.Source → Rose old.faults new.faults × (b ≡ a)) → (stopped ≡ stop.Sink → Rose a.faults b.faults) → PlanHeadline (plan.Read r) old new a b (stop_status stopped)
-read_stopped r old new a b stop.Source front source sink =
-    let why = source refl in
+    → TookAtMost (MOST_INPUT_BYTES + 1) old.left new.left → StopCauses old new a b stopped → PlanHeadline (plan.Read r) old new a b (stop_status stopped)
+read_stopped r old new a b stop.Source front bounded causes =
+    let why = causes.source refl in
+    let still : b.faults ≡ a.faults = ap (λ o. o.faults) why.1 in
     record {
-      answered = λ bytes known. record { prefix = front bytes known; whole = λ le. absurd (omega (arith, le)); complete = λ calm still. absurd (calm why.0) };
+      answered = λ bytes known. record { prefix = front bytes known; whole = λ le. absurd (omega (arith, le)); complete = λ calm still. absurd (calm (once_rose old.faults new.faults why.0)) };
+      bounded = bounded;
       read = λ le. absurd (omega (arith, le));
       unread = λ is. no_source r is;
       usage = λ is. absurd (omega (arith, is));
       only_usage = λ is. no_plan r is;
       made = λ seed objects commands is. no_make r seed objects commands is;
-      source = λ is. (why.0, subst (λ o. WroteFront a o []) (sym why.1) (nothing_wrote a []));
+      source = λ is. (why.0, subst (λ o. Appended a o []) (sym why.1) (appended_nothing a));
       sink = λ is. absurd (omega (arith, is));
+      source_stands = λ other. absurd (other refl);
+      sink_stands = λ other. still;
       known = omega arith;
     }
-read_stopped r old new a b stop.Sink front source sink = record {
-  answered = λ bytes known. record { prefix = front bytes known; whole = λ le. absurd (omega (arith, le)); complete = λ calm still. absurd (still (sink refl)) };
+read_stopped r old new a b stop.Sink front bounded causes = record {
+  answered = λ bytes known. record { prefix = front bytes known; whole = λ le. absurd (omega (arith, le)); complete = λ calm still. absurd (still (once_rose a.faults b.faults (causes.sink refl))) };
+  bounded = bounded;
   read = λ le. absurd (omega (arith, le));
   unread = λ is. no_source r is;
   usage = λ is. absurd (omega (arith, is));
   only_usage = λ is. no_plan r is;
   made = λ seed objects commands is. no_make r seed objects commands is;
   source = λ is. absurd (omega (arith, is));
-  sink = λ is. sink refl;
+  sink = λ is. causes.sink refl;
+  source_stands = λ other. causes.source_stands (λ is. absurd (cc));
+  sink_stands = λ other. absurd (other refl);
   known = omega arith;
 }
-read_stopped r old new a b stop.Memory front source sink = record {
+read_stopped r old new a b stop.Memory front bounded causes = record {
   answered = λ bytes known. record { prefix = front bytes known; whole = λ le. absurd (omega (arith, le)); complete = λ calm still. inr refl };
+  bounded = bounded;
   read = λ le. absurd (omega (arith, le));
   unread = λ is. no_source r is;
   usage = λ is. absurd (omega (arith, is));
@@ -246,14 +281,16 @@ read_stopped r old new a b stop.Memory front source sink = record {
   made = λ seed objects commands is. no_make r seed objects commands is;
   source = λ is. absurd (omega (arith, is));
   sink = λ is. absurd (omega (arith, is));
+  source_stands = λ other. causes.source_stands (λ is. absurd (cc));
+  sink_stands = λ other. causes.sink_stands (λ is. absurd (cc));
   known = omega arith;
 }
 
 -- a made script was answered whole
 pub made_whole : (r : Reading) (seed objects commands : ℕ) (old : Input) (a b : Output) (status : ℕ)
     → (x : Answer) × IsRead r (generated seed objects commands) x × (status ≡ x.status) × WroteAll a b x.text
-    → (status ≡ 0) ⊎ (status ≡ 2) → PlanHeadline (plan.ReadMade r seed objects commands) old old a b status
-made_whole r seed objects commands old a b status served zero_or_two =
+    → b.faults ≡ a.faults → (status ≡ 0) ⊎ (status ≡ 2) → PlanHeadline (plan.ReadMade r seed objects commands) old old a b status
+made_whole r seed objects commands old a b status served calm zero_or_two =
     let low : status ≤ 2 = small status zero_or_two in
     record {
       answered = λ bytes known. record {
@@ -261,6 +298,7 @@ made_whole r seed objects commands old a b status served zero_or_two =
         whole = λ le. served;
         complete = λ source sink. inl low;
       };
+      bounded = took_nothing (MOST_INPUT_BYTES + 1) old.left;
       read = λ le. tt;
       unread = λ is. (Keeps-refl old.left, refl);
       usage = λ is. no_usage status zero_or_two is;
@@ -268,26 +306,32 @@ made_whole r seed objects commands old a b status served zero_or_two =
       made = λ s o c is. absurd (cc);
       source = λ is. absurd (omega (arith, low, is));
       sink = λ is. absurd (omega (arith, low, is));
+      source_stands = λ other. refl;
+      sink_stands = λ other. calm;
       known = omega (arith, low);
     }
 
 -- and where that stopped
 pub made_stopped : (r : Reading) (seed objects commands : ℕ) (old : Input) (a b : Output) (stopped : WriteFail)
     → ((x : Answer) → IsRead r (generated seed objects commands) x → WroteFront a b x.text)
-    → (stopped ≡ fail.Sink → Rose a.faults b.faults) → PlanHeadline (plan.ReadMade r seed objects commands) old old a b (stop_status (of_write stopped))
-made_stopped r seed objects commands old a b fail.Sink front sink = record {
-  answered = λ bytes known. record { prefix = front; whole = λ le. absurd (omega (arith, le)); complete = λ calm still. absurd (still (sink refl)) };
+    → Blames (stopped ≡ fail.Sink) a b → PlanHeadline (plan.ReadMade r seed objects commands) old old a b (stop_status (of_write stopped))
+made_stopped r seed objects commands old a b fail.Sink front blames = record {
+  answered = λ bytes known. record { prefix = front; whole = λ le. absurd (omega (arith, le)); complete = λ calm still. absurd (still (once_rose a.faults b.faults (blames.0 refl))) };
+  bounded = took_nothing (MOST_INPUT_BYTES + 1) old.left;
   read = λ le. absurd (omega (arith, le));
   unread = λ is. (Keeps-refl old.left, refl);
   usage = λ is. absurd (omega (arith, is));
   only_usage = λ is. absurd (cc);
   made = λ s o c is. absurd (cc);
   source = λ is. absurd (omega (arith, is));
-  sink = λ is. sink refl;
+  sink = λ is. blames.0 refl;
+  source_stands = λ other. refl;
+  sink_stands = λ other. absurd (other refl);
   known = omega arith;
 }
-made_stopped r seed objects commands old a b fail.Memory front sink = record {
+made_stopped r seed objects commands old a b fail.Memory front blames = record {
   answered = λ bytes known. record { prefix = front; whole = λ le. absurd (omega (arith, le)); complete = λ calm still. inr refl };
+  bounded = took_nothing (MOST_INPUT_BYTES + 1) old.left;
   read = λ le. absurd (omega (arith, le));
   unread = λ is. (Keeps-refl old.left, refl);
   usage = λ is. absurd (omega (arith, is));
@@ -295,8 +339,94 @@ made_stopped r seed objects commands old a b fail.Memory front sink = record {
   made = λ s o c is. absurd (cc);
   source = λ is. absurd (omega (arith, is));
   sink = λ is. absurd (omega (arith, is));
+  source_stands = λ other. refl;
+  sink_stands = λ other. blames.1 (λ is. absurd (cc));
   known = omega arith;
 }
+
+-- a text that takes no memory was written whole, or in part: a made script, or what words of no order get
+pub given_whole : (p : Plan) (old : Input) (a b : Output) (x : Answer) → reads p ≡ false → ((bytes : List ℕ) → (y : Answer) → IsAnswer p bytes y → x ≡ y) → ((bytes : List ℕ) → IsAnswer p bytes x)
+    → (x.status ≡ 1 → p ≡ plan.Usage) → (p ≡ plan.Usage → x.status ≡ 1) → ((seed objects commands : ℕ) → p ≡ plan.Make seed objects commands → x.status ≡ 0) → x.status ≤ 2
+    → WroteAll a b x.text → b.faults ≡ a.faults → PlanHeadline p old old a b x.status
+given_whole p old a b x unread one is usage only made low whole calm = record {
+  answered = λ bytes known. record {
+    prefix = λ y of_y. subst (λ (z : Answer). WroteFront a b z.text) (one bytes y of_y) (all_is_front a b x.text whole);
+    whole = λ le. (x, is bytes, refl, whole);
+    complete = λ source sink. inl low;
+  };
+  bounded = took_nothing (MOST_INPUT_BYTES + 1) old.left;
+  read = λ le. subst (λ b. WasRead b old old) (sym unread) tt;
+  unread = λ is. (Keeps-refl old.left, refl);
+  usage = usage;
+  only_usage = λ is. inl (only is);
+  made = λ seed objects commands is. inl (made seed objects commands is);
+  source = λ is. absurd (omega (arith, low, is));
+  sink = λ is. absurd (omega (arith, low, is));
+  source_stands = λ other. refl;
+  sink_stands = λ other. calm;
+  known = omega (arith, low);
+}
+
+pub given_stopped : (p : Plan) (old : Input) (a b : Output) (x : Answer) → reads p ≡ false → ((bytes : List ℕ) → (y : Answer) → IsAnswer p bytes y → x ≡ y)
+    → WroteFront a b x.text → RoseOnce a.faults b.faults → PlanHeadline p old old a b 4
+given_stopped p old a b x unread one front rose = record {
+  answered = λ bytes known. record {
+    prefix = λ y of_y. subst (λ (z : Answer). WroteFront a b z.text) (one bytes y of_y) front;
+    whole = λ le. absurd (omega (arith, le));
+    complete = λ calm still. absurd (still (once_rose a.faults b.faults rose));
+  };
+  bounded = took_nothing (MOST_INPUT_BYTES + 1) old.left;
+  read = λ le. absurd (omega (arith, le));
+  unread = λ is. (Keeps-refl old.left, refl);
+  usage = λ is. absurd (omega (arith, is));
+  only_usage = λ is. inr refl;
+  made = λ seed objects commands is. inr refl;
+  source = λ is. absurd (omega (arith, is));
+  sink = λ is. rose;
+  source_stands = λ other. refl;
+  sink_stands = λ other. absurd (other refl);
+  known = omega arith;
+}
+
+-- a script that a seed makes was written whole
+pub script_whole : (seed objects commands : ℕ) (old : Input) (a b : Output) (status : ℕ)
+    → (x : Answer) × (x ≡ made_answer seed objects commands) × (status ≡ x.status) × WroteAll a b x.text
+    → b.faults ≡ a.faults → PlanHeadline (plan.Make seed objects commands) old old a b status
+script_whole seed objects commands old a b status served calm =
+    let x : Answer = made_answer seed objects commands in
+    let all : WroteAll a b x.text = subst (λ (y : Answer). WroteAll a b y.text) served.1 served.3 in
+    let zero : status ≡ x.status = served.2 ∙ ap (λ (y : Answer). y.status) served.1 in
+    subst (PlanHeadline (plan.Make seed objects commands) old old a b) (sym zero)
+    (given_whole (plan.Make seed objects commands) old a b x refl (λ bytes y of_y. sym of_y) (λ bytes. refl) (λ one. absurd (omega (arith, one))) (λ is. absurd (cc)) (λ s o c is. refl) (omega arith) all calm)
+
+-- or in part
+pub script_stopped : (seed objects commands : ℕ) (old : Input) (a b : Output) (stopped : WriteFail)
+    → ((x : Answer) → x ≡ made_answer seed objects commands → WroteFront a b x.text)
+    → (stopped ≡ fail.Sink) × RoseOnce a.faults b.faults → PlanHeadline (plan.Make seed objects commands) old old a b (stop_status (of_write stopped))
+script_stopped seed objects commands old a b stopped front cause =
+    let x : Answer = made_answer seed objects commands in
+    let four : stop_status (of_write stopped) ≡ 4 = ap (λ (f : WriteFail). stop_status (of_write f)) cause.0 in
+    subst (PlanHeadline (plan.Make seed objects commands) old old a b) (sym four)
+    (given_stopped (plan.Make seed objects commands) old a b x refl (λ bytes y of_y. sym of_y) (front x refl) cause.1)
+
+-- words of no order were answered whole
+pub usage_whole : (old : Input) (a b : Output) (status : ℕ)
+    → (x : Answer) × (x ≡ usage_answer) × (status ≡ x.status) × WroteAll a b x.text
+    → b.faults ≡ a.faults → PlanHeadline plan.Usage old old a b status
+usage_whole old a b status served calm =
+    let all : WroteAll a b usage_answer.text = subst (λ (y : Answer). WroteAll a b y.text) served.1 served.3 in
+    let one : status ≡ usage_answer.status = served.2 ∙ ap (λ (y : Answer). y.status) served.1 in
+    subst (PlanHeadline plan.Usage old old a b) (sym one)
+    (given_whole plan.Usage old a b usage_answer refl (λ bytes y of_y. sym of_y) (λ bytes. refl) (λ is. refl) (λ is. refl) (λ s o c is. absurd (cc)) (omega arith) all calm)
+
+-- or in part
+pub usage_stopped : (old : Input) (a b : Output) (stopped : WriteFail)
+    → ((x : Answer) → x ≡ usage_answer → WroteFront a b x.text)
+    → (stopped ≡ fail.Sink) × RoseOnce a.faults b.faults → PlanHeadline plan.Usage old old a b (stop_status (of_write stopped))
+usage_stopped old a b stopped front cause =
+    let four : stop_status (of_write stopped) ≡ 4 = ap (λ (f : WriteFail). stop_status (of_write f)) cause.0 in
+    subst (PlanHeadline plan.Usage old old a b) (sym four)
+    (given_stopped plan.Usage old a b usage_answer refl (λ bytes y of_y. sym of_y) (front usage_answer refl) cause.1)
 
 -- Traces
 
@@ -318,9 +448,9 @@ trace_written bytes a b status v x short right is same done =
     (x, subst (IsTraceAnswer bytes) is (judged_trace bytes v short right), same, done)
 
 pub trace_stopped : (bytes : List ℕ) (a b : Output) (r : Result ℕ WriteFail) (v : TraceAnswer) (x : Answer) → length bytes ≤ MOST_INPUT_BYTES → IsVerdict bytes v → of_verdict v ≡ x
-    → IsErr r → Stopped a b x.text → Writes (IsTraceAnswer bytes) a b r
-trace_stopped bytes a b (Ok status) v x short right is err stopped = absurd (cc)
+    → IsErrAnd r (λ e. e ≡ fail.Sink) → Stopped a b x.text → Writes (IsTraceAnswer bytes) a b r
+trace_stopped bytes a b (Ok status) v x short right is err stopped = absurd err
 trace_stopped bytes a b (Err e) v x short right is err stopped = (
   λ y of_y. subst (λ (z : Answer). AppendedFront a b z.text) (one_read reading.Trace bytes x y (subst (IsTraceAnswer bytes) is (judged_trace bytes v short right)) of_y) stopped.front,
-  λ _. stopped.rose,
+  subst (λ x. Blames (x ≡ fail.Sink) a b) (sym err) (λ _. stopped.rose, λ other. absurd (other refl)),
 )

@@ -4,8 +4,9 @@ use Rattle.std.specs.Prelude.{◌≡◌, ℕ, ◌+◌, ◌≤◌, ◌⊎◌, Boo
 use Rattle.std.specs.Bool.{OnTrue}
 use Rattle.std.specs.Io.KnownBytes.{Appends, Keeps}
 use Rattle.dym_base.specs.declared.limits.TheConstants.{MOST_INPUT_BYTES}
-use Rattle.dym_io.specs.Faults.{Rose}
-use Rattle.dym_io.specs.Sink.{Output, AllFlushed, Appended, AppendedFront}
+use Rattle.dym_io.specs.Faults.{Rose, RoseOnce}
+use Rattle.dym_io.specs.Source.{TookAtMost}
+use Rattle.dym_io.specs.Sink.{Output, AllFlushed, Appended, AppendedFront, Blames}
 use Rattle.dym_words.specs.declared.order.Order.{Order}
 use Rattle.dym_words.specs.declared.order.Usage.{Usage}
 use Rattle.dymelor_top.specs.declared.stop.WriteFail.{WriteFail}
@@ -52,6 +53,8 @@ pub record Answered (Is : Answer → Type 0) (old new : Output) (source_rose : T
 -- what holds of a call that had this plan
 pub record PlanHeadline (p : Plan) (old new : Input) (sink_old sink_new : Output) (status : ℕ) : Type 0 where
   pub answered : (bytes : List ℕ) → IsInput (reads p) old bytes → Answered (IsAnswer p bytes) sink_old sink_new (Rose old.faults new.faults) status
+  -- of the source no more was taken than tells that the input is too long, whatever the status
+  pub bounded : TookAtMost (MOST_INPUT_BYTES + 1) old.left new.left
   -- 0 and 2: the input was read
   pub read : status ≤ 2 → WasRead (reads p) old new
   -- where the plan reads nothing, the source stays as it was
@@ -61,10 +64,13 @@ pub record PlanHeadline (p : Plan) (old new : Input) (sink_old sink_new : Output
   pub only_usage : p ≡ plan.Usage → (status ≡ 1) ⊎ (status ≡ 4)
   -- to make a script takes no memory: such an order gets 0, or 4
   pub made : (seed objects commands : ℕ) → p ≡ plan.Make seed objects commands → (status ≡ 0) ⊎ (status ≡ 4)
-  -- 3: the source failed in this call, and nothing was written
-  pub source : status ≡ 3 → Rose old.faults new.faults × WroteFront sink_old sink_new []
-  -- 4: the sink failed in this call
-  pub sink : status ≡ 4 → Rose sink_old.faults sink_new.faults
+  -- 3: one call on the source failed, and nothing was written
+  pub source : status ≡ 3 → RoseOnce old.faults new.faults × Appended sink_old sink_new []
+  -- 4: one call on the sink failed
+  pub sink : status ≡ 4 → RoseOnce sink_old.faults sink_new.faults
+  -- at every other status no call on the source failed, and at every other than 4 none on the sink: so 0, 1, 2 and 5 are no fault's
+  pub source_stands : ¬ (status ≡ 3) → new.faults ≡ old.faults
+  pub sink_stands : ¬ (status ≡ 4) → sink_new.faults ≡ sink_old.faults
   -- there is no other status
   pub known : status ≤ 5
 
@@ -82,7 +88,7 @@ Serves Is old new result =
 abbrev pub Writes : (Answer → Type 0) → Output → Output → Result ℕ WriteFail → Type 0
 Writes Is old new result =
     MatchResult result (λ status. (answer : Answer) × Is answer × (status ≡ answer.status) × Appended old new answer.text)
-    (λ failed. ((answer : Answer) → Is answer → AppendedFront old new answer.text) × (failed ≡ fail.Sink → Rose old.faults new.faults))
+    (λ failed. ((answer : Answer) → Is answer → AppendedFront old new answer.text) × Blames (failed ≡ fail.Sink) old new)
 
 -- the same whatever stops the call
 abbrev pub WritesSo : {E : Type 0} → (Answer → Type 0) → Output → Output → Result ℕ E → Type 0
@@ -94,4 +100,8 @@ WritesSo Is old new result =
 abbrev pub WritesAnswer : Answer → Output → Output → Result ℕ WriteFail → Type 0
 WritesAnswer defined old new result =
     MatchResult result (λ status. (status ≡ defined.status) × Appended old new defined.text)
-    (λ failed. AppendedFront old new defined.text × (failed ≡ fail.Sink → Rose old.faults new.faults))
+    (λ failed. AppendedFront old new defined.text × Blames (failed ≡ fail.Sink) old new)
+
+-- what the sink's count tells of such a call: no call on the sink failed, or one did and is the cause
+abbrev pub Counted : {T : Type 0} → Output → Output → Result T WriteFail → Type 0
+Counted old new result = MatchResult result (λ _. new.faults ≡ old.faults) (λ failed. Blames (failed ≡ fail.Sink) old new)

@@ -1,16 +1,15 @@
 //! What is made of an input that was read.
 ghost use Rattle.std.specs.Prelude.{◌≡◌, ◌≤◌, ◌⊎◌, ◌+◌, ℕ, List, Some, drop, Result, IfOk, OnOk, IsErrOf};
 ghost use Rattle.dym_base.specs.declared.limits.TheConstants.{MOST_INPUT_BYTES};
-ghost use Rattle.dym_io.specs.Faults.{Rose};
-ghost use Rattle.dym_io.specs.Sink.{Output};
+ghost use Rattle.dym_io.specs.Faults.{RoseOnce};
+ghost use Rattle.dym_io.specs.Source.{TookAtMost};
 ghost use Rattle.dym_script.specs.Scripts.{Said, Fault, script_of};
 ghost use Rattle.dym_script.specs.Answers.{GivesCounts};
 ghost use Rattle.dym_script.specs.Held.{GivesParts};
 ghost use Rattle.dymelor_top.specs.Report.{report_text};
 ghost use Rattle.dymelor_top.specs.Summary.{summary_of};
 ghost use Rattle.dymelor_top.specs.Answers.{of_script, counts_of, IsRead, IsTraceAnswer};
-ghost use Rattle.dymelor_top.specs.Headline.{Writes, WritesSo, WritesAnswer};
-ghost use Rattle.dymelor_top.specs.declared.stop.WriteFail.TheVariants.{Sink as SinkFailed};
+ghost use Rattle.dymelor_top.specs.Headline.{Writes, WritesSo, WritesAnswer, Counted};
 ghost use Rattle.dymelor_top.specs.declared.stop.Stop.TheVariants.{Source as SourceStopped, Sink as SinkStopped};
 
 use crate::blocks::read_source;
@@ -51,12 +50,15 @@ pub fn answer_source<R: Source, W: Sink>(
     source: &mut R,
     sink: &mut W,
 ) -> Result<u8, Stop>
+    requires { R.goes_on source.old }
     ensures answered { (bytes : List ℕ) → R.left source.old ≡ Some bytes → WritesSo (IsRead reading bytes) (W.output sink.old) (W.output sink.new) result }
     ensures read { (bytes : List ℕ) → R.left source.old ≡ Some bytes → OnOk result (R.left source.new ≡ Some (drop (MOST_INPUT_BYTES + 1) bytes)) }
     ensures status { IfOk result (λ status. (status ≡ 0) ⊎ (status ≡ 2)) }
-    ensures count { OnOk result ((W.output sink.old).faults ≤ (W.output sink.new).faults) }
-    ensures source_fault { IsErrOf result SourceStopped → Rose (R.faults source.old) (R.faults source.new) × (W.output sink.new ≡ W.output sink.old) }
-    ensures sink_fault { IsErrOf result SinkStopped → Rose (W.output sink.old).faults (W.output sink.new).faults }
+    ensures bounded { TookAtMost (MOST_INPUT_BYTES + 1) (R.left source.old) (R.left source.new) }
+    ensures source_fault { IsErrOf result SourceStopped → RoseOnce (R.faults source.old) (R.faults source.new) × (W.output sink.new ≡ W.output sink.old) }
+    ensures source_stands { ¬ IsErrOf result SourceStopped → R.faults source.new ≡ R.faults source.old }
+    ensures sink_fault { IsErrOf result SinkStopped → RoseOnce (W.output sink.old).faults (W.output sink.new).faults }
+    ensures sink_stands { ¬ IsErrOf result SinkStopped → (W.output sink.new).faults ≡ (W.output sink.old).faults }
 {
     match reading {
         Reading::Report => {
@@ -94,8 +96,7 @@ fn answer_report<W: Sink>(
     requires made { (read : Result Said Fault) × GivesParts script read }
     ensures answered { (read : Result Said Fault) → GivesParts script read → WritesAnswer (of_script report_text read) (W.output sink.old) (W.output sink.new) result }
     ensures status { IfOk result (λ status. (status ≡ 0) ⊎ (status ≡ 2)) }
-    ensures count { (W.output sink.old).faults ≤ (W.output sink.new).faults }
-    ensures fault { IsErrOf result SinkFailed → Rose (W.output sink.old).faults (W.output sink.new).faults }
+    ensures counted { Counted (W.output sink.old) (W.output sink.new) result }
 {
     match script {
         Ok(script) => {
@@ -119,8 +120,7 @@ fn answer_summary<W: Sink>(
     requires made { (read : Result Said Fault) × GivesParts script read }
     ensures answered { (read : Result Said Fault) → GivesParts script read → WritesAnswer (of_script summary_of read) (W.output sink.old) (W.output sink.new) result }
     ensures status { IfOk result (λ status. (status ≡ 0) ⊎ (status ≡ 2)) }
-    ensures count { (W.output sink.old).faults ≤ (W.output sink.new).faults }
-    ensures fault { IsErrOf result SinkFailed → Rose (W.output sink.old).faults (W.output sink.new).faults }
+    ensures counted { Counted (W.output sink.old) (W.output sink.new) result }
 {
     match script {
         Ok(script) => {
@@ -151,8 +151,7 @@ fn answer_counted<W: Sink>(
 ) -> Result<u8, WriteFail>
     ensures answered { (read : Result Said Fault) → GivesCounts counted read → WritesAnswer (of_script counts_of read) (W.output sink.old) (W.output sink.new) result }
     ensures status { IfOk result (λ status. (status ≡ 0) ⊎ (status ≡ 2)) }
-    ensures count { (W.output sink.old).faults ≤ (W.output sink.new).faults }
-    ensures fault { IsErrOf result SinkFailed → Rose (W.output sink.old).faults (W.output sink.new).faults }
+    ensures counted { Counted (W.output sink.old) (W.output sink.new) result }
 {
     match counted {
         Ok(Counts { objects, commands }) => {

@@ -1,8 +1,8 @@
 //! Reads the script that a source gives, block by block, so that no input is kept whole.
 ghost use Rattle.std.specs.Prelude.{◌≡◌, ◌+◌, ◌-◌, ◌<◌, ◌≤◌, ℕ, List, [], ◌++◌, Some, take, drop, length, IfOk, OnOk, OnErr, IsErrOf};
-ghost use Rattle.std.specs.Io.KnownBytes.{Consumes};
-ghost use Rattle.dym_io.specs.Faults.{Rose};
-ghost use Rattle.dym_io.specs.Source.{IsEmptyAtEnd};
+ghost use Rattle.std.specs.Io.KnownBytes.{Consumes, Keeps};
+ghost use Rattle.dym_io.specs.Faults.{RoseOnce};
+ghost use Rattle.dym_io.specs.Source.{IsEmptyAtEnd, TookAtMost};
 ghost use Rattle.dym_script.specs.Scripts.{script_of};
 ghost use Rattle.dym_script.specs.Answers.{FailsSo, GivesBy};
 ghost use Rattle.dym_script.specs.declared.script.ScriptFail.TheVariants.{Bad};
@@ -24,15 +24,18 @@ const BLOCK_ROOM: usize = 4_194_304;
 
 /// Reads the script that a source gives, and answers what a reader of lines makes of it, which is that of the source's bytes.
 /// The source is read to its end, or for as many bytes as tell that the input is too long. The outer error: the source
-/// failed, or memory ran out before all was read.
+/// failed, or memory ran out before all was read. Whatever it answers, no more bytes are taken than tell of a too long input.
 pub fn read_source<K: LineReader + Drop, R: Source>(
     alloc: Global,
     source: &mut R,
 ) -> Result<Result<K::Made, ScriptFail>, ReadFail>
+    requires { R.goes_on source.old }
     ensures some { IfOk result (λ made. (bytes : List ℕ) × GivesBy K.tells made (script_of bytes)) }
     ensures gives { (bytes : List ℕ) → R.left source.old ≡ Some bytes → IfOk result (λ made. GivesBy K.tells made (script_of bytes)) }
     ensures read { (bytes : List ℕ) → R.left source.old ≡ Some bytes → OnOk result (R.left source.new ≡ Some (drop (MOST_INPUT_BYTES + 1) bytes)) }
-    ensures failed { IsErrOf result ReadFail.Source → Rose (R.faults source.old) (R.faults source.new) }
+    ensures bounded { TookAtMost (MOST_INPUT_BYTES + 1) (R.left source.old) (R.left source.new) }
+    ensures failed { IsErrOf result ReadFail.Source → RoseOnce (R.faults source.old) (R.faults source.new) }
+    ensures count { ¬ IsErrOf result ReadFail.Source → R.faults source.new ≡ R.faults source.old }
 {
     let mut block = Vec::with_capacity(alloc, BLOCK_ROOM)?;
     block.resize(BLOCK, 0)?;
@@ -45,9 +48,12 @@ fn read_blocks<K: LineReader + Drop, R: Source>(
     source: &mut R,
     block: &mut [u8],
 ) -> Result<Result<K::Made, ScriptFail>, ReadFail>
-    requires { MOST_LINE_BYTES < length block.old }
+    requires long { MOST_LINE_BYTES < length block.old }
+    requires goes_on { R.goes_on source.old }
     ensures told { IfOk result (λ made. Tells [] (R.left source.old) (R.left source.new) (GivesBy K.tells made)) }
-    ensures failed { IsErrOf result ReadFail.Source → Rose (R.faults source.old) (R.faults source.new) }
+    ensures bounded { TookAtMost (MOST_INPUT_BYTES + 1) (R.left source.old) (R.left source.new) }
+    ensures failed { IsErrOf result ReadFail.Source → RoseOnce (R.faults source.old) (R.faults source.new) }
+    ensures count { ¬ IsErrOf result ReadFail.Source → R.faults source.new ≡ R.faults source.old }
 {
     let mut script = Pieces::<K>::new(alloc);
     let mut left = 0;
@@ -85,12 +91,15 @@ fn pull_behind<R: Source>(
 ) -> Result<usize, Failed>
     requires some { 0 < room }
     requires fits { left + room ≤ length block.old }
+    requires goes_on { R.goes_on source.old }
     ensures amount { IfOk result (λ n. n ≤ room) }
     ensures kept { OnOk result (take left block.new ≡ take left block.old) }
     ensures taken { IfOk result (λ n. Consumes (R.left source.old) (R.left source.new) (take n (drop left block.new))) }
     ensures end { IfOk result (IsEmptyAtEnd (R.left source.old)) }
-    ensures count { R.faults source.old ≤ R.faults source.new }
-    ensures failed { OnErr result (Rose (R.faults source.old) (R.faults source.new)) }
+    ensures more { IfOk result (λ n. 0 < n → R.goes_on source.new) }
+    ensures count { OnOk result (R.faults source.new ≡ R.faults source.old) }
+    ensures stays { OnErr result (Keeps (R.left source.old) (R.left source.new)) }
+    ensures failed { OnErr result (RoseOnce (R.faults source.old) (R.faults source.new)) }
 {
     source.pull(&mut block[left..left + room])
 }
@@ -115,8 +124,11 @@ fn fault<R: Source>(
 ) -> Result<ScriptFail, Failed>
     requires some { 0 < length block.old }
     requires within { pulled ≤ MOST_INPUT_BYTES }
+    requires goes_on { R.goes_on source.old }
     ensures told { (front : List ℕ) → length front ≡ pulled → IsFaultOf front line kind → IfOk result (λ fail. Tells front (R.left source.old) (R.left source.new) (FailsSo fail)) }
-    ensures failed { OnErr result (Rose (R.faults source.old) (R.faults source.new)) }
+    ensures bounded { TookAtMost (MOST_INPUT_BYTES + 1 - pulled) (R.left source.old) (R.left source.new) }
+    ensures count { OnOk result (R.faults source.new ≡ R.faults source.old) }
+    ensures failed { OnErr result (RoseOnce (R.faults source.old) (R.faults source.new)) }
 {
     let all = drain(source, block, pulled)?;
     if all > MOST_INPUT_BYTES {
@@ -130,8 +142,11 @@ fn fault<R: Source>(
 fn drain<R: Source>(source: &mut R, block: &mut [u8], pulled: usize) -> Result<usize, Failed>
     requires some { 0 < length block.old }
     requires within { pulled ≤ MOST_INPUT_BYTES }
+    requires goes_on { R.goes_on source.old }
     ensures drained { IfOk result (IsDrained pulled (R.left source.old) (R.left source.new)) }
-    ensures failed { OnErr result (Rose (R.faults source.old) (R.faults source.new)) }
+    ensures bounded { TookAtMost (MOST_INPUT_BYTES + 1 - pulled) (R.left source.old) (R.left source.new) }
+    ensures count { OnOk result (R.faults source.new ≡ R.faults source.old) }
+    ensures failed { OnErr result (RoseOnce (R.faults source.old) (R.faults source.new)) }
 {
     let mut all = pulled;
     'pieces: while all <= MOST_INPUT_BYTES {

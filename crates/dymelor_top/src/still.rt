@@ -1,13 +1,14 @@
 //! The top call that starts no thread.
 ghost use Rattle.std.specs.Prelude.{◌≡◌, ◌<◌, ◌≤◌, ◌⊎◌, ◌+◌, ℕ, List, Some, drop, map, string_bytes, IfOk, IfErr, OnOk, IsErrOf};
 ghost use Rattle.dym_base.specs.declared.limits.TheConstants.{MOST_INPUT_BYTES, MOST_OBJECTS, MOST_MADE_COMMANDS};
-ghost use Rattle.dym_io.specs.Faults.{Rose};
+ghost use Rattle.dym_io.specs.Faults.{RoseOnce};
 ghost use Rattle.std.specs.Io.KnownBytes.{Keeps};
-ghost use Rattle.dym_io.specs.Sink.{Output, AllFlushed};
+ghost use Rattle.dym_io.specs.Sink.{AllFlushed, Blames};
+ghost use Rattle.dym_io.specs.Source.{TookAtMost};
 ghost use Rattle.dym_gen.specs.Scripts.{generated};
 ghost use Rattle.dym_words.specs.Orders.{order};
 ghost use Rattle.dymelor_top.specs.Answers.{made_answer, usage_answer, IsRead};
-ghost use Rattle.dymelor_top.specs.Headline.{Headline, Serves};
+ghost use Rattle.dymelor_top.specs.Headline.{Headline, Serves, Counted};
 ghost use Rattle.dymelor_top.specs.declared.stop.Stop.TheVariants.{Source as SourceStopped, Sink as SinkStopped};
 ghost use Rattle.dymelor_top.specs.declared.stop.WriteFail.TheVariants.{Sink as SinkFailed};
 
@@ -32,6 +33,7 @@ pub fn dymelor_still<R: Source, W: Sink>(
     source: &mut R,
     sink: &mut W,
 ) -> u8
+    requires { R.goes_on source.old }
     ensures { Headline (order (map string_bytes words.now))
         (record { left = R.left source.old; faults = R.faults source.old }) (record { left = R.left source.new; faults = R.faults source.new })
         (W.output sink.old) (W.output sink.new) result }
@@ -68,7 +70,8 @@ pub fn dymelor_still<R: Source, W: Sink>(
 /// Answers words of no order.
 fn serve_usage<W: Sink>(sink: &mut W) -> Result<u8, WriteFail>
     ensures served { Serves (λ a. a ≡ usage_answer) (W.output sink.old) (W.output sink.new) result }
-    ensures fault { IfErr result (λ fail. (fail ≡ SinkFailed) × Rose (W.output sink.old).faults (W.output sink.new).faults) }
+    ensures count { OnOk result ((W.output sink.new).faults ≡ (W.output sink.old).faults) }
+    ensures fault { IfErr result (λ fail. (fail ≡ SinkFailed) × RoseOnce (W.output sink.old).faults (W.output sink.new).faults) }
 {
     write_usage(sink)?;
     flush(sink)?;
@@ -86,7 +89,8 @@ fn serve_made<W: Sink>(
     requires objects { objects ≤ MOST_OBJECTS }
     requires commands { commands ≤ MOST_MADE_COMMANDS }
     ensures served { Serves (λ a. a ≡ made_answer seed objects commands) (W.output sink.old) (W.output sink.new) result }
-    ensures fault { IfErr result (λ fail. (fail ≡ SinkFailed) × Rose (W.output sink.old).faults (W.output sink.new).faults) }
+    ensures count { OnOk result ((W.output sink.new).faults ≡ (W.output sink.old).faults) }
+    ensures fault { IfErr result (λ fail. (fail ≡ SinkFailed) × RoseOnce (W.output sink.old).faults (W.output sink.new).faults) }
 {
     gen_script(sink, seed, objects, commands)?;
     flush(sink)?;
@@ -107,7 +111,7 @@ fn serve_read_made<W: Sink>(
     requires commands { commands ≤ MOST_MADE_COMMANDS }
     ensures served { Serves (IsRead reading (generated seed objects commands)) (W.output sink.old) (W.output sink.new) result }
     ensures status { IfOk result (λ status. (status ≡ 0) ⊎ (status ≡ 2)) }
-    ensures fault { IsErrOf result SinkFailed → Rose (W.output sink.old).faults (W.output sink.new).faults }
+    ensures counted { Counted (W.output sink.old) (W.output sink.new) result }
 {
     let made = made_script(alloc, seed, objects, commands)?;
     let status = answer(alloc, reading, made, sink)?;
@@ -136,11 +140,15 @@ fn serve_read<R: Source, W: Sink>(
     source: &mut R,
     sink: &mut W,
 ) -> Result<u8, Stop>
+    requires { R.goes_on source.old }
     ensures served { (bytes : List ℕ) → R.left source.old ≡ Some bytes → Serves (IsRead reading bytes) (W.output sink.old) (W.output sink.new) result }
     ensures read { (bytes : List ℕ) → R.left source.old ≡ Some bytes → OnOk result (R.left source.new ≡ Some (drop (MOST_INPUT_BYTES + 1) bytes)) }
     ensures status { IfOk result (λ status. (status ≡ 0) ⊎ (status ≡ 2)) }
-    ensures source_fault { IsErrOf result SourceStopped → Rose (R.faults source.old) (R.faults source.new) × (W.output sink.new ≡ W.output sink.old) }
-    ensures sink_fault { IsErrOf result SinkStopped → Rose (W.output sink.old).faults (W.output sink.new).faults }
+    ensures bounded { TookAtMost (MOST_INPUT_BYTES + 1) (R.left source.old) (R.left source.new) }
+    ensures source_fault { IsErrOf result SourceStopped → RoseOnce (R.faults source.old) (R.faults source.new) × (W.output sink.new ≡ W.output sink.old) }
+    ensures source_stands { ¬ IsErrOf result SourceStopped → R.faults source.new ≡ R.faults source.old }
+    ensures sink_fault { IsErrOf result SinkStopped → RoseOnce (W.output sink.old).faults (W.output sink.new).faults }
+    ensures sink_stands { ¬ IsErrOf result SinkStopped → (W.output sink.new).faults ≡ (W.output sink.old).faults }
 {
     let status = answer_source(alloc, reading, source, sink)?;
     flush(sink)?;
@@ -151,8 +159,8 @@ fn serve_read<R: Source, W: Sink>(
 fn flush<W: Sink>(sink: &mut W) -> Result<(), WriteFail>
     ensures written { Keeps (W.output sink.old).written (W.output sink.new).written }
     ensures flushed { OnOk result (AllFlushed (W.output sink.old) (W.output sink.new)) }
-    ensures count { (W.output sink.old).faults ≤ (W.output sink.new).faults }
-    ensures fault { IfErr result (λ fail. (fail ≡ SinkFailed) × Rose (W.output sink.old).faults (W.output sink.new).faults) }
+    ensures count { OnOk result ((W.output sink.new).faults ≡ (W.output sink.old).faults) }
+    ensures fault { IfErr result (λ fail. (fail ≡ SinkFailed) × RoseOnce (W.output sink.old).faults (W.output sink.new).faults) }
 {
     match sink.flush() {
         Ok(()) => Ok(()),

@@ -1,10 +1,11 @@
-use Rattle.std.proofs.Common.{◌≡◌, ℕ, ◌+◌, ◌-◌, ◌≤◌, [], ◌++◌, length, length-take, take, drop, Err, sym, ap, subst, ◌∙◌, arith}
+use Rattle.std.proofs.Common.{◌≡◌, ℕ, ◌+◌, ◌-◌, ◌≤◌, [], ◌++◌, length, length-append, length-take, take, drop, Err, sym, ap, subst, ◌∙◌, arith}
 use Rattle.dym_base.specs.declared.bad_kind.BadKind.{BadKind}
+use Rattle.dym_base.specs.declared.limits.TheConstants.{MOST_INPUT_BYTES}
 use Rattle.dym_script.specs.declared.script.ScriptFail.TheVariants as fail
 use Rattle.dym_script.specs.Answers.{FailsSo, GivesBy}
 use Rattle.dym_script.specs.Pieces.{says, Took, TakesPiece}
 use Rattle.dymelor_top.specs.Blocks.{IsFaultOf, Tells}
-use Rattle.dymelor_top.proofs.ReadBlocks.{read_end, pulled_behind, pulled_long, read_more, read_bad}
+use Rattle.dymelor_top.proofs.ReadBlocks.{read_end, pulled_behind, pulled_long, read_more, read_bad, took_both, told_few}
 use Rattle.dymelor_top.proofs.blocks.read_blocks.Goals as goal
 
 pub returns-then-amount-eq0-clause-told : goal.returns-then-amount-eq0-clause-told
@@ -45,8 +46,9 @@ pieces-preserved g c =
     let behind = pulled_behind a b after (g.R.Source.faults c.args.source.now) (g.R.Source.faults l.source) n l.left l.pulled before l.block c.pull_behind.new.block l.invariant.read pulled.kept pulled.taken fits in
     record {
       short = c.in-Ok.ensures.short;
+      more = pulled.more (omega (arith, c.if-amount-eq0.false));
       read = read_more a after (g.R.Source.faults c.args.source.now) (g.R.Source.faults c.pull_behind.new.source) before now text (take c.in-Ok.rest c.keep_end.new.block) c.in-Ok.rest (l.pulled + n) behind
-          c.if-pulled-gt-MOST_INPUT_BYTES.false (omega (arith, l.invariant.read.faults, pulled.count)) c.in-Ok.ensures.took (c.keep_end.ensures ∙ ap (λ k. drop (k - c.in-Ok.rest) text) long);
+          c.if-pulled-gt-MOST_INPUT_BYTES.false (pulled.count ∙ l.invariant.read.faults) c.in-Ok.ensures.took (c.keep_end.ensures ∙ ap (λ k. drop (k - c.in-Ok.rest) text) long);
     }
 
 pub returns-in-Err-Bad-clause-told : goal.returns-in-Err-Bad-clause-told
@@ -67,3 +69,42 @@ returns-in-Err-Bad-clause-told g c =
     let named : ◌≡◌ {A = ℕ × BadKind} _ (c.in-Err-Bad.line, c.in-Err-Bad.kind) = λ i. (c.in-Err-Bad.line-is i, c.in-Err-Bad.kind-is i) in
     read_bad a middle after before now text (l.pulled + n) c.in-Err-Bad.line c.in-Err-Bad.kind c.in_ok-fault-in-Err-Bad.field-0 behind takes
     (λ front len faulty. c.in_ok-fault-in-Err-Bad.ensures.told front len (let P : ℕ × BadKind → Type 0 = λ x. IsFaultOf front x.0 x.1 in subst P (sym named) faulty))
+
+-- However the call ends, no more was taken than tells that the input is too long.
+
+pub returns-then-pulled-gt-MOST_INPUT_BYTES-clause-bounded : goal.returns-then-pulled-gt-MOST_INPUT_BYTES-clause-bounded
+returns-then-pulled-gt-MOST_INPUT_BYTES-clause-bounded g c = told_few _ _ _ (returns-then-pulled-gt-MOST_INPUT_BYTES-clause-told g c)
+
+pub returns-in-Err-Bad-clause-bounded : goal.returns-in-Err-Bad-clause-bounded
+returns-in-Err-Bad-clause-bounded g c = told_few _ _ _ (returns-in-Err-Bad-clause-told g c)
+
+pub returns-in_err-fault-in-Err-Bad-clause-bounded : goal.returns-in_err-fault-in-Err-Bad-clause-bounded
+returns-in_err-fault-in-Err-Bad-clause-bounded g c =
+    let l = c.pieces in
+    let pulled = c.in_ok-amount.ensures in
+    let n = c.in_ok-amount.amount in
+    let before = Took (g.K.LineReader.fits l.script.lines) (g.K.LineReader.stands l.script.lines) l.script.number in
+    let a = g.R.Source.left c.args.source.now in
+    let b = g.R.Source.left l.source in
+    let middle = g.R.Source.left c.pull_behind.new.source in
+    let fits : l.left + n ≤ length c.pull_behind.new.block = omega (arith, pulled.amount, c.min-room.ensures, l.invariant.short, c.pull_behind.auto.block) in
+    let text = take (l.left + n) c.pull_behind.new.block in
+    let behind = pulled_behind a b middle (g.R.Source.faults c.args.source.now) (g.R.Source.faults l.source) n l.left l.pulled before l.block c.pull_behind.new.block l.invariant.read pulled.kept pulled.taken fits in
+    let len : length (behind.taken ++ text) ≡ l.pulled + n = omega (arith, behind.count, length-append behind.taken text) in
+    took_both (MOST_INPUT_BYTES + 1) (l.pulled + n) (MOST_INPUT_BYTES + 1 - (l.pulled + n)) a middle (g.R.Source.left c.fault.new.source) (behind.taken ++ text) behind.consumed len
+    (omega (arith, c.if-pulled-gt-MOST_INPUT_BYTES.false)) c.in_err-fault-in-Err-Bad.ensures.bounded
+
+pub returns-in-Err-Memory-clause-bounded : goal.returns-in-Err-Memory-clause-bounded
+returns-in-Err-Memory-clause-bounded g c =
+    let l = c.pieces in
+    let pulled = c.in_ok-amount.ensures in
+    let n = c.in_ok-amount.amount in
+    let before = Took (g.K.LineReader.fits l.script.lines) (g.K.LineReader.stands l.script.lines) l.script.number in
+    let a = g.R.Source.left c.args.source.now in
+    let b = g.R.Source.left l.source in
+    let after = g.R.Source.left c.pull_behind.new.source in
+    let fits : l.left + n ≤ length c.pull_behind.new.block = omega (arith, pulled.amount, c.min-room.ensures, l.invariant.short, c.pull_behind.auto.block) in
+    let text = take (l.left + n) c.pull_behind.new.block in
+    let behind = pulled_behind a b after (g.R.Source.faults c.args.source.now) (g.R.Source.faults l.source) n l.left l.pulled before l.block c.pull_behind.new.block l.invariant.read pulled.kept pulled.taken fits in
+    let len : length (behind.taken ++ text) ≡ l.pulled + n = omega (arith, behind.count, length-append behind.taken text) in
+    record { got = behind.taken ++ text; taken = behind.consumed; few = omega (arith, len, c.if-pulled-gt-MOST_INPUT_BYTES.false) }

@@ -7,6 +7,7 @@ use Rattle.dymelor_top.proofs.blocks.read_blocks.Given as goal
 abbrev pub invariant-pieces : goal.invariant-pieces
 invariant-pieces g l = record {
   short : l.left ≤ MOST_LINE_BYTES;
+  more : g.R.Source.goes_on l.source;
   read : ReadSoFar (g.R.Source.left l.initial.source) (g.R.Source.left l.source) (g.R.Source.faults l.initial.source) (g.R.Source.faults l.source) (Took (g.K.LineReader.fits l.script.lines) (g.K.LineReader.stands l.script.lines) l.script.number) (take l.left l.block) l.pulled;
 }
 

@@ -9,7 +9,7 @@ use Rattle.dymelor_top.proofs.plain.run_and_write.Goals as goal
 
 pub returns-in_err-add-clause-replies : goal.returns-in_err-add-clause-replies
 returns-in_err-add-clause-replies g c =
-    writes_or_stopped (λ failed. failed ≡ fail.Sink) _ _ _ _ c.from_residual-in_err-add.ensures.0
+    writes_or_stopped (λ failed. failed ≡ fail.Sink) _ _ _ _ c.from_residual-in_err-add.ensures.1
     (kept_cut c.args.tables.now c.args.kept.now c.loop-one.one-index _ c.args.object.now c.loop-one.object c.loop-one.page c.run_kept.new.reply
     (g.W.Sink.output c.args.sink.now) (g.W.Sink.output c.loop-one.sink) (g.W.Sink.output c.add.new.sink) c.requires.found c.loop-one-test.true c.loop-one.invariant.written
     c.in_ok-run_kept.ensures.reply c.in_err-add.ensures.stopped)
@@ -25,7 +25,7 @@ loop-one-preserved g c = record {
 pub returns-in_err-write-clause-replies : goal.returns-in_err-write-clause-replies
 returns-in_err-write-clause-replies g c =
     let none = none_behind c.args.tables.now c.args.kept.now c.loop-one.one-index c.requires.found (omega (arith, c.loop-one-test.false)) in
-    writes_or_stopped (λ failed. failed ≡ fail.Sink) _ _ _ _ c.from_residual-in_err-write.ensures.0
+    writes_or_stopped (λ failed. failed ≡ fail.Sink) _ _ _ _ c.from_residual-in_err-write.ensures.1
     (written_last_cut c.args.object.now c.loop-one.object (kept_commands c.args.tables.now c.args.kept.now) _ c.loop-one.page (g.W.Sink.output c.args.sink.now) (g.W.Sink.output c.loop-one.sink) c.loop-one.invariant.written none
     (g.W.Sink.output c.write.new.sink) c.in_err-write.ensures.written)
 

@@ -1,5 +1,5 @@
 use Rattle.std.proofs.Common.{◌≡◌, ℕ, List}
-use Rattle.dym_io.specs.Laws.{rose_later}
+use Rattle.dym_io.specs.Laws.{blames_later}
 use Rattle.dym_script.specs.declared.parts.KeptPart.{KeptPart}
 use Rattle.dymelor_top.specs.declared.stop.WriteFail.TheVariants as fail
 use Rattle.dymelor_top.specs.Parts.{own_of}
@@ -15,4 +15,4 @@ returns-in_err-write_part g c =
     let after = g.W.Sink.output c.write_part.new.sink in
     writes_or_passed (λ failed. failed ≡ fail.Sink) start after _ _ c.in_err-write_part.field-0.0 c.from_residual.ensures.1
     (each_front_item text c.args.parts.now c.loop-part.part-index c.part-item.result start before after c.loop-part-test.true c.part-item.is c.loop-part.invariant c.in_err-write_part.ensures.0)
-    (λ is. rose_later start.faults before.faults after.faults c.loop-part.invariant.faults (c.in_err-write_part.ensures.1 is))
+    (blames_later _ start before after _ c.loop-part.invariant c.in_err-write_part.ensures.1)

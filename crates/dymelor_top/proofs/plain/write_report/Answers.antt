@@ -37,7 +37,7 @@ returns-in_err-write_end g c s are =
     let whole = report_of_parts c.args.script.now s are in
     let done : Appended start middle (text parts) = subst (λ ps. Appended start middle (text ps)) c.deref.ensures.value c.in_ok-write_parts.ensures in
     let stopped = stopped_after start middle after (text parts) end_text done c.in_err-write_end.ensures in
-    writes_or_stopped (λ failed. failed ≡ fail.Sink) start after (report_text s) _ c.from_residual-in_err-write_end.ensures.0
+    writes_or_stopped (λ failed. failed ≡ fail.Sink) start after (report_text s) _ c.from_residual-in_err-write_end.ensures.1
     (subst (Stopped start after) (sym whole) stopped)
 
 pub returns : goal.returns

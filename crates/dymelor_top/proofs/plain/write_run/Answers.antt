@@ -2,7 +2,7 @@ use Rattle.std.proofs.Common.{◌≡◌, ◌++◌, flat_map, sym, ap, subst, ◌
 use Rattle.dym_base.specs.Objects.{replies_from, object_after}
 use Rattle.dym_object.specs.Meaning.{state_of}
 use Rattle.dym_io.specs.Sink.{Appended, AppendedFront, Stopped}
-use Rattle.dym_io.specs.Laws.{appended_both, front_after, front_within, rose_later, stopped_within, stopped_after, writes_or_stopped}
+use Rattle.dym_io.specs.Laws.{appended_both, front_after, blames_later, front_within, stopped_within, stopped_after, writes_or_stopped}
 use Rattle.dym_report.specs.Objects.{heading, state_text}
 use Rattle.dym_report.specs.Replies.{reply_line}
 use Rattle.dym_script.specs.Kept.{kept_commands}
@@ -16,7 +16,7 @@ returns-in_err-write_heading g c =
     let before = g.W.Sink.output c.args.sink.now in
     let after = g.W.Sink.output c.write_heading.new.sink in
     let whole = part_pieces c.args.tables.now c.args.object.now.heap.version c.args.part.now in
-    writes_or_stopped (λ failed. failed ≡ fail.Sink) before after _ _ c.from_residual.ensures.0
+    writes_or_stopped (λ failed. failed ≡ fail.Sink) before after _ _ c.from_residual.ensures.1
     (subst (Stopped before after) (sym whole.1) (stopped_within before after (heading c.args.part.now.decl.name) whole.0 c.in_err-write_heading.ensures))
 
 pub returns-in_err-run_and_write : goal.returns-in_err-run_and_write
@@ -31,7 +31,7 @@ returns-in_err-run_and_write g c =
     let front = front_after before middle after name replies c.in_ok-write_heading.ensures c.in_err-run_and_write.ensures.replies.0 in
     writes_or_passed (λ failed. failed ≡ fail.Sink) before after _ _ c.in_err-run_and_write.field-0.0 c.from_residual-in_err-run_and_write.ensures.1
     (subst (AppendedFront before after) (sym whole) (front_within before after (name ++ replies) _ front))
-    (λ is. rose_later before.faults middle.faults after.faults c.in_ok-write_heading.ensures.faults (c.in_err-run_and_write.ensures.replies.1 is))
+    (blames_later _ before middle after name c.in_ok-write_heading.ensures c.in_err-run_and_write.ensures.replies.1)
 
 pub returns-in_err-write_state : goal.returns-in_err-write_state
 returns-in_err-write_state g c =
@@ -55,7 +55,7 @@ returns-in_err-write_state g c =
     let whole = part_shown c.args.tables.now c.args.part.now start commands (ap (kept_commands c.args.tables.now) c.deref.ensures.value) c.requires.quota c.requires.start
     ∙ ap (λ s. (name ++ replies) ++ behind v s) ends ∙ ap (λ t. (name ++ replies) ++ t) shown in
     let done = appended_both before first second name replies c.in_ok-write_heading.ensures c.in_ok-run_and_write.ensures.replies in
-    writes_or_stopped (λ failed. failed ≡ fail.Sink) before after _ _ c.from_residual-in_err-write_state.ensures.0
+    writes_or_stopped (λ failed. failed ≡ fail.Sink) before after _ _ c.from_residual-in_err-write_state.ensures.1
     (subst (Stopped before after) (sym whole) (stopped_after before second after (name ++ replies) written done c.in_err-write_state.ensures))
 
 pub returns : goal.returns

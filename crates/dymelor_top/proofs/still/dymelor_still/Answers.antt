@@ -1,11 +1,11 @@
-use Rattle.std.proofs.Common.{◌≡◌, map, string_bytes, subst, sym, ap, ◌∙◌, Err}
+use Rattle.std.proofs.Common.{◌≡◌, map, string_bytes, subst, sym, ap, ◌∙◌, Err, refl}
 use Rattle.dym_words.proofs.Within.{orders_are_within}
 use Rattle.dymelor_top.specs.declared.plan.Plan.TheVariants as plan
 use Rattle.dymelor_top.specs.Stops.{stop_status, of_write}
 use Rattle.dymelor_top.specs.Plans.{plan_of}
 use Rattle.dymelor_top.specs.Headline.{Input, PlanHeadline}
 use Rattle.dymelor_top.proofs.MadePlans.{can_be_made, can_be_read}
-use Rattle.dymelor_top.proofs.Served.{read_whole, read_stopped, made_whole, made_stopped}
+use Rattle.dymelor_top.proofs.Served.{read_whole, read_stopped, stop_causes, made_whole, made_stopped, script_whole, script_stopped, usage_whole, usage_stopped}
 use Rattle.dymelor_top.proofs.still.dymelor_still.Goals as goal
 
 pub returns-in-Ok : goal.returns-in-Ok
@@ -15,7 +15,7 @@ returns-in-Ok g c =
     let a = g.W.Sink.output c.args.sink.now in
     let b = g.W.Sink.output c.serve_read.new.sink in
     let planned : plan.Read c.in-Read.reading ≡ plan_of _ = sym c.in-Read.is ∙ c.plan_for.ensures ∙ ap plan_of c.read_words.ensures in
-    subst (λ p. PlanHeadline p old new a b c.in-Ok.status) planned (read_whole c.in-Read.reading old new a b c.in-Ok.status c.in-Ok.ensures.served c.in-Ok.ensures.read c.in-Ok.ensures.status)
+    subst (λ p. PlanHeadline p old new a b c.in-Ok.status) planned (read_whole c.in-Read.reading old new a b c.in-Ok.status c.in-Ok.ensures.served c.in-Ok.ensures.read c.in-Ok.ensures.bounded (c.in-Ok.ensures.source_stands (λ is. absurd (cc))) (c.in-Ok.ensures.sink_stands (λ is. absurd (cc))) c.in-Ok.ensures.status)
 
 pub returns-in-Err : goal.returns-in-Err
 returns-in-Err g c =
@@ -26,7 +26,7 @@ returns-in-Err g c =
     let planned : plan.Read c.in-Read.reading ≡ plan_of _ = sym c.in-Read.is ∙ c.plan_for.ensures ∙ ap plan_of c.read_words.ensures in
     let stopped = c.in-Err.stop in
     let headline : PlanHeadline (plan.Read c.in-Read.reading) old new a b (stop_status stopped) =
-    read_stopped c.in-Read.reading old new a b stopped c.in-Err.ensures.served (λ is. c.in-Err.ensures.source_fault (ap Err is)) (λ is. c.in-Err.ensures.sink_fault (ap Err is)) in
+    read_stopped c.in-Read.reading old new a b stopped c.in-Err.ensures.served c.in-Err.ensures.bounded (stop_causes old new a b (Err stopped) stopped refl c.in-Err.ensures.source_fault c.in-Err.ensures.source_stands c.in-Err.ensures.sink_fault c.in-Err.ensures.sink_stands) in
     subst (λ p. PlanHeadline p old new a b c.status.result) planned (subst (PlanHeadline (plan.Read c.in-Read.reading) old new a b) (sym c.status.ensures) headline)
 
 pub serve_made-requires-clause-some : goal.serve_made-requires-clause-some
@@ -61,7 +61,7 @@ returns-in-Ok-serve_read_made g c =
     let made = c.in-ReadMade in
     let planned : plan.ReadMade made.reading made.seed made.objects made.commands ≡ plan_of _ = sym made.is ∙ c.plan_for.ensures ∙ ap plan_of c.read_words.ensures in
     let ok = c.in-Ok-serve_read_made in
-    subst (λ p. PlanHeadline p old old a b ok.status) planned (made_whole made.reading made.seed made.objects made.commands old a b ok.status ok.ensures.served ok.ensures.status)
+    subst (λ p. PlanHeadline p old old a b ok.status) planned (made_whole made.reading made.seed made.objects made.commands old a b ok.status ok.ensures.served ok.ensures.counted ok.ensures.status)
 
 pub returns-in-Err-serve_read_made : goal.returns-in-Err-serve_read_made
 returns-in-Err-serve_read_made g c =
@@ -71,6 +71,50 @@ returns-in-Err-serve_read_made g c =
     let made = c.in-ReadMade in
     let planned : plan.ReadMade made.reading made.seed made.objects made.commands ≡ plan_of _ = sym made.is ∙ c.plan_for.ensures ∙ ap plan_of c.read_words.ensures in
     let headline : PlanHeadline (plan.ReadMade made.reading made.seed made.objects made.commands) old old a b (stop_status (of_write c.in-Err-serve_read_made.fail)) =
-    made_stopped made.reading made.seed made.objects made.commands old a b c.in-Err-serve_read_made.fail c.in-Err-serve_read_made.ensures.served (λ is. c.in-Err-serve_read_made.ensures.fault (ap Err is)) in
+    made_stopped made.reading made.seed made.objects made.commands old a b c.in-Err-serve_read_made.fail c.in-Err-serve_read_made.ensures.served c.in-Err-serve_read_made.ensures.counted in
     subst (λ p. PlanHeadline p old old a b c.status-in-Err-serve_read_made.result) planned
     (subst (PlanHeadline (plan.ReadMade made.reading made.seed made.objects made.commands) old old a b) (sym (c.status-in-Err-serve_read_made.ensures ∙ ap stop_status c.from.ensures)) headline)
+
+pub returns-in-Ok-serve_made : goal.returns-in-Ok-serve_made
+returns-in-Ok-serve_made g c =
+    let old : Input = record { left = g.R.Source.left c.args.source.now; faults = g.R.Source.faults c.args.source.now } in
+    let a = g.W.Sink.output c.args.sink.now in
+    let b = g.W.Sink.output c.serve_made.new.sink in
+    let make = c.in-Make in
+    let planned : plan.Make make.seed make.objects make.commands ≡ plan_of _ = sym make.is ∙ c.plan_for.ensures ∙ ap plan_of c.read_words.ensures in
+    let ok = c.in-Ok-serve_made in
+    subst (λ p. PlanHeadline p old old a b ok.status) planned (script_whole make.seed make.objects make.commands old a b ok.status ok.ensures.served ok.ensures.count)
+
+pub returns-in-Err-serve_made : goal.returns-in-Err-serve_made
+returns-in-Err-serve_made g c =
+    let old : Input = record { left = g.R.Source.left c.args.source.now; faults = g.R.Source.faults c.args.source.now } in
+    let a = g.W.Sink.output c.args.sink.now in
+    let b = g.W.Sink.output c.serve_made.new.sink in
+    let make = c.in-Make in
+    let planned : plan.Make make.seed make.objects make.commands ≡ plan_of _ = sym make.is ∙ c.plan_for.ensures ∙ ap plan_of c.read_words.ensures in
+    let err = c.in-Err-serve_made in
+    let headline : PlanHeadline (plan.Make make.seed make.objects make.commands) old old a b (stop_status (of_write err.fail)) =
+    script_stopped make.seed make.objects make.commands old a b err.fail err.ensures.served err.ensures.fault in
+    subst (λ p. PlanHeadline p old old a b c.status-in-Err-serve_made.result) planned
+    (subst (PlanHeadline (plan.Make make.seed make.objects make.commands) old old a b) (sym (c.status-in-Err-serve_made.ensures ∙ ap stop_status c.from-in-Err-serve_made.ensures)) headline)
+
+pub returns-in-Ok-serve_usage : goal.returns-in-Ok-serve_usage
+returns-in-Ok-serve_usage g c =
+    let old : Input = record { left = g.R.Source.left c.args.source.now; faults = g.R.Source.faults c.args.source.now } in
+    let a = g.W.Sink.output c.args.sink.now in
+    let b = g.W.Sink.output c.serve_usage.new.sink in
+    let planned : plan.Usage ≡ plan_of _ = sym c.in-Usage.is ∙ c.plan_for.ensures ∙ ap plan_of c.read_words.ensures in
+    let ok = c.in-Ok-serve_usage in
+    subst (λ p. PlanHeadline p old old a b ok.status) planned (usage_whole old a b ok.status ok.ensures.served ok.ensures.count)
+
+pub returns-in-Err-serve_usage : goal.returns-in-Err-serve_usage
+returns-in-Err-serve_usage g c =
+    let old : Input = record { left = g.R.Source.left c.args.source.now; faults = g.R.Source.faults c.args.source.now } in
+    let a = g.W.Sink.output c.args.sink.now in
+    let b = g.W.Sink.output c.serve_usage.new.sink in
+    let planned : plan.Usage ≡ plan_of _ = sym c.in-Usage.is ∙ c.plan_for.ensures ∙ ap plan_of c.read_words.ensures in
+    let err = c.in-Err-serve_usage in
+    let headline : PlanHeadline plan.Usage old old a b (stop_status (of_write err.fail)) =
+    usage_stopped old a b err.fail err.ensures.served err.ensures.fault in
+    subst (λ p. PlanHeadline p old old a b c.status-in-Err-serve_usage.result) planned
+    (subst (PlanHeadline plan.Usage old old a b) (sym (c.status-in-Err-serve_usage.ensures ∙ ap stop_status c.from-in-Err-serve_usage.ensures)) headline)
