@@ -3,7 +3,7 @@ ghost use Rattle.std.specs.Prelude.{◌≤◌};
 
 use crate::found::Found;
 use crate::heap::Heap;
-use dym_base::{Blob, Command, Handle, Refusal, Reply, Version};
+use dym_base::{Handle, Refusal, Version};
 use dym_quota::OwnSupply;
 use std::alloc::{AllocError, Global};
 use std::test::Fail;
@@ -83,40 +83,6 @@ fn handles_in_bytes_are_followed(rt: HostRuntime) -> Result<(), Fail> {
     assert_eq!(rt; heap.free(&(), Some(chunk(6, 0))), Ok(()));
     assert_eq!(rt; heap.follow(chunk(5, 0), 24), Ok(Found::Loose(number)));
     assert_eq!(rt; heap.free(&(), Some(chunk(6, 0))), Err(Refusal::Dead));
-    heap.end(&());
-    Ok(())
-}
-
-#[test]
-fn applied_commands_are_counted(rt: HostRuntime) -> Result<(), Fail> {
-    let bytes = Blob::new(rt.alloc(), &[1, 2, 3])?;
-    let mut heap = heap_of(rt.alloc(), 1, Version::One)?;
-    let h = chunk(5, 0);
-    let made = heap.apply(&(), &Command::Malloc { len: 20 });
-    let written = heap.apply(&(), &Command::Write { h, at: 8, bytes });
-    let linked = heap.apply(
-        &(),
-        &Command::Link {
-            h,
-            at: 24,
-            to: Some(h),
-        },
-    );
-    let found = heap.apply(&(), &Command::Follow { h, at: 24 });
-    let summed = heap.apply(&(), &Command::Sum { h });
-    let late = heap.apply(
-        &(),
-        &Command::Free {
-            h: Some(chunk(5, 1)),
-        },
-    );
-    assert!(rt; matches!(made, Reply::Chunk(fresh) if fresh == h));
-    assert!(rt; matches!(written, Reply::Done));
-    assert!(rt; matches!(linked, Reply::Done));
-    assert!(rt; matches!(found, Reply::Chunk(named) if named == h));
-    assert!(rt; matches!(summed, Reply::Total(11)));
-    assert!(rt; matches!(late, Reply::Refused(Refusal::Dead)));
-    assert_eq!(rt; (heap.applied(), heap.sum(h)), (6, Ok(11)));
     heap.end(&());
     Ok(())
 }
