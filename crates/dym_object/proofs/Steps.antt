@@ -1,7 +1,8 @@
 -- A command to the heap of an object: the step of the object is that of its heap.
-use Rattle.std.proofs.Common.{◌≡◌, ℕ, refl, ap, sym, subst, ◌∙◌, arith}
+use Rattle.std.proofs.Common.{◌≡◌, ℕ, List, refl, ap, sym, subst, ◌∙◌, arith}
 use Rattle.dym_base.specs.HeapStep.{heap_step, IsHeapCommand}
-use Rattle.dym_base.specs.Objects.{ObjectState, ObjectAnswer, of_heap, object_step}
+use Rattle.dym_base.specs.Below.{below_step}
+use Rattle.dym_base.specs.Objects.{LogEntry, ObjectState, ObjectAnswer, of_heap, object_step}
 use Rattle.dym_base.specs.declared.command.Version.{Version}
 use Rattle.dym_base.specs.declared.command.Command.{Command}
 use Rattle.dym_base.specs.declared.command.Command.TheVariants.{Malloc, Calloc, Realloc, Free, Write, Fill, Read, Link, Follow, Sum, Log, Ilog, Restore, Prune, Logs}
@@ -29,6 +30,24 @@ step_is v quota s (Restore t) is = absurd is
 step_is v quota s (Prune g) is = absurd is
 step_is v quota s Logs is = absurd is
 
+-- a command to the heap leaves what stands below the kept logs
+pub below_is : (below : List LogEntry) (s : ObjectState) (c : Command) → IsHeapCommand c → below ≡ below_step below s c
+below_is below s (Malloc n) is = refl
+below_is below s (Calloc m n) is = refl
+below_is below s (Realloc h n) is = refl
+below_is below s (Free h) is = refl
+below_is below s (Write h at bytes) is = refl
+below_is below s (Fill h at n byte) is = refl
+below_is below s (Read h at n) is = refl
+below_is below s (Link h at to) is = refl
+below_is below s (Follow h at) is = refl
+below_is below s (Sum h) is = refl
+below_is below s (Log t) is = absurd is
+below_is below s (Ilog t) is = absurd is
+below_is below s (Restore t) is = absurd is
+below_is below s (Prune g) is = absurd is
+below_is below s Logs is = absurd is
+
 -- the object after, where its heap is that of the step
 object_is : (h new : HeapMeaning) (chain : ChainMeaning) (c : Command) → IsHeapCommand c → new ≡ record (stepped h c) { held_ids = new.held_ids } → object_of new.state chain ≡ (object_step h.version h.quota (object_of h.state chain) c).object
 object_is h new chain c is after =
@@ -50,6 +69,7 @@ pub steps_keep : HeapStepsKeepBelonging → StepsKeepWhole
 steps_keep law o heap c is after sound whole = (
   record {
     object = object_is o.heap heap o.chain c is after;
+    below = below_is o.chain.below (object_of o.heap.state o.chain) c is;
     ran = refl;
     heap = rest_stays o.heap heap c after;
     origin = refl;

@@ -1,6 +1,7 @@
 -- What an object stands for, as its callers see it.
-use Rattle.std.specs.Prelude.{◌≡◌, ℕ, ◌+◌, ◌≤◌, None}
-use Rattle.dym_base.specs.Objects.{ObjectState, ObjectAnswer, object_step}
+use Rattle.std.specs.Prelude.{◌≡◌, ℕ, ◌+◌, ◌≤◌, List, None}
+use Rattle.dym_base.specs.Below.{below_step, run_below}
+use Rattle.dym_base.specs.Objects.{ObjectState, ObjectAnswer, object_step, run_end}
 use Rattle.dym_base.specs.declared.command.Command.{Command}
 use Rattle.dym_heap.specs.Meaning.{HeapMeaning, IsSound}
 use Rattle.dym_chain.specs.Chains.{ChainMeaning, Belongs, StandsForCopies, object_of}
@@ -23,10 +24,11 @@ step_by o command = object_step o.heap.version o.heap.quota (state_of o) command
 abbrev pub counted : ObjectMeaning → ObjectMeaning
 counted o = record o { ran = o.ran + 1 }
 
--- the object ran this command: it is that of the step, one command more was run, and of the heap and the chain no more changed
--- than a step changes
+-- the object ran this command: it is that of the step, below its kept logs stand those that the step leaves there, one command more
+-- was run, and of the heap and the chain no more changed than a step changes
 pub record IsStep (old new : ObjectMeaning) (command : Command) : Type 0 where
   pub object : state_of new ≡ (step_by old command).object
+  pub below : new.chain.below ≡ below_step old.chain.below (state_of old) command
   pub ran : new.ran ≡ old.ran + 1
   pub heap : new.heap ≡ record old.heap { state = new.heap.state; held_ids = new.heap.held_ids }
   pub origin : new.chain.origin ≡ old.chain.origin
@@ -39,3 +41,16 @@ pub record IsWhole (o : ObjectMeaning) : Type 0 where
   pub stands : StandsForCopies o.chain
   pub idle : o.chain.lifted ≡ None
   pub counted : o.chain.made ≤ o.ran
+
+-- what stays true of an object while one of its records may be out
+pub record IsLent (o : ObjectMeaning) : Type 0 where
+  pub sound : IsSound o.heap
+  pub belongs : Belongs o.heap.version o.heap.quota o.heap.state o.chain
+  pub stands : StandsForCopies o.chain
+  pub counted : o.chain.made ≤ o.ran
+
+-- the object is one that ran these commands from its start: its heap and its kept logs are those at the run's end, and so is what
+-- stands below them
+pub record HasRun (commands : List Command) (o : ObjectMeaning) : Type 0 where
+  pub object : state_of o ≡ run_end o.heap.version o.heap.quota commands
+  pub below : o.chain.below ≡ run_below o.heap.version o.heap.quota commands

@@ -5,11 +5,13 @@
 #![tactic(auto)]
 
 mod heap_calls;
-mod laws;
+pub mod laws;
+mod lent;
 mod log_calls;
 mod object;
 mod run;
 
+pub use lent::LentObject;
 pub use object::Object;
 
 #[cfg(test)]

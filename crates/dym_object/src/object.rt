@@ -7,6 +7,7 @@ ghost use Rattle.dym_base.specs.declared.limits.TheConstants.{MOST_QUOTA};
 ghost use Rattle.dym_heap.specs.Meaning.{IsSound};
 ghost use Rattle.dym_object.specs.Meaning.{ObjectMeaning, IsWhole};
 
+use crate::lent::LentObject;
 use dym_base::Version;
 use dym_base::limits::MOST_QUOTA;
 use dym_chain::{Chain, LogKeep};
@@ -87,6 +88,23 @@ impl<S: Supply, K: LogKeep> Object<S, K> {
         }
     }
 
+    /// The object of a heap and of the chain of its logs, after so many commands.
+    pub fn of_parts(heap: Heap<S>, chain: Chain<K>, ran: u64) -> Object<S, K>
+        requires { IsWhole (record { heap = heap; chain = chain; ran = ran }) }
+        ensures { result ≡ record { heap = heap; chain = chain; ran = ran } }
+    {
+        Object { heap, chain, ran }
+    }
+
+    /// Takes the object apart into its heap, the chain of its logs, and how many commands it ran, for `of_parts`.
+    pub fn into_parts(self) -> (Heap<S>, Chain<K>, u64)
+        ensures parts { self ≡ record { heap = result.0; chain = result.1; ran = result.2 } }
+        ensures whole { IsWhole self }
+    {
+        let Object { heap, chain, ran } = self;
+        (heap, chain, ran)
+    }
+
     /// How many commands were run.
     pub fn ran(&self) -> u64
         ensures { result ≡ self.now.ran }
@@ -115,6 +133,15 @@ impl<S: Supply, K: LogKeep> Object<S, K> {
         ensures records { result ≡ length self.now.chain.records }
     {
         self.chain.slots()
+    }
+
+    /// The object, as one whose records are lent: it has no command until it is taken back. Nothing is copied.
+    pub fn lend(self) -> LentObject<S, K>
+        ensures lent { result ≡ self }
+        ensures whole { IsWhole self }
+    {
+        let Object { heap, chain, ran } = self;
+        LentObject { heap, chain, ran }
     }
 
     /// Gives up the object, and answers its heap as it stands and the keep of its records.

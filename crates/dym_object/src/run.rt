@@ -1,5 +1,6 @@
 //! Commands to an object as values: each is run by the object's call of its kind, and its answer is a reply.
 ghost use Rattle.std.specs.Prelude.{◌≡◌, ℕ, ◌+◌, ◌^◌, ◌<◌, OnOk, OnErr, IfOk, IfErr};
+ghost use Rattle.dym_base.specs.Below.{below_step};
 ghost use Rattle.dym_base.specs.declared.command.Command.TheVariants.{Read};
 ghost use Rattle.dym_heap.specs.Replies.{OnRefusal};
 ghost use Rattle.dym_chain.specs.Answers.{restored_reply};
@@ -25,6 +26,7 @@ impl<S: Supply, K: LogKeep> Object<S, K> {
         requires ran { self.old.ran < 2 ^ 60 }
         ensures reply { IfOk result (λ r. r ≡ (step_by self.old command.now).reply) }
         ensures after { OnOk result (state_of self.new ≡ (step_by self.old command.now).object) }
+        ensures below { OnOk result (self.new.chain.below ≡ below_step self.old.chain.below (state_of self.old) command.now) }
         ensures ran { OnOk result (self.new.ran ≡ self.old.ran + 1) }
         ensures memory { IfErr result (λ _. TakesMemory command.now (step_by self.old command.now).reply) }
         ensures unchanged { OnErr result (self.new ≡ self.old) }
@@ -51,6 +53,7 @@ impl<S: Supply, K: LogKeep> Object<S, K> {
         requires ran { self.old.ran < 2 ^ 60 }
         ensures reply { OnOk result (reply.new ≡ (step_by self.old command.now).reply) }
         ensures after { OnOk result (state_of self.new ≡ (step_by self.old command.now).object) }
+        ensures below { OnOk result (self.new.chain.below ≡ below_step self.old.chain.below (state_of self.old) command.now) }
         ensures ran { OnOk result (self.new.ran ≡ self.old.ran + 1) }
         ensures memory { IfErr result (λ _. TakesMemory command.now (step_by self.old command.now).reply) }
         ensures unchanged { OnErr result (self.new ≡ self.old) }
@@ -128,6 +131,7 @@ impl<S: Supply, K: LogKeep> Object<S, K> {
         requires { self.old.ran < 2 ^ 60 }
         ensures reply { OnOk result (reply.new ≡ (step_by self.old (Read h at len)).reply) }
         ensures after { OnOk result (state_of self.new ≡ (step_by self.old (Read h at len)).object) }
+        ensures below { OnOk result (self.new.chain.below ≡ below_step self.old.chain.below (state_of self.old) (Read h at len)) }
         ensures ran { OnOk result (self.new.ran ≡ self.old.ran + 1) }
         ensures memory { IfErr result (λ _. TakesMemory (Read h at len) (step_by self.old (Read h at len)).reply) }
         ensures unchanged { OnErr result (self.new ≡ self.old) }
@@ -165,6 +169,7 @@ impl<S: Supply, K: LogKeep> Object<S, K> {
         requires { self.old.ran < 2 ^ 60 }
         ensures reply { OnOk result (reply.new ≡ (step_by self.old (log_command want time)).reply) }
         ensures after { OnOk result (state_of self.new ≡ (step_by self.old (log_command want time)).object) }
+        ensures below { OnOk result (self.new.chain.below ≡ below_step self.old.chain.below (state_of self.old) (log_command want time)) }
         ensures ran { OnOk result (self.new.ran ≡ self.old.ran + 1) }
         ensures heap { self.new.heap ≡ record self.old.heap { state = self.new.heap.state; held_ids = self.new.heap.held_ids } }
         ensures origin { self.new.chain.origin ≡ self.old.chain.origin }

@@ -4,7 +4,7 @@ ghost use Rattle.std.specs.Prelude.{◌≤◌, ◌<◌, ◌^◌};
 
 use crate::object::Object;
 use dym_base::{Blob, Command, Handle, Kind, Refusal, Reply, Version};
-use dym_chain::{LogKeep, VecKeep};
+use dym_chain::{KeptLogs, LogKeep, VecKeep};
 use dym_quota::OwnSupply;
 use std::alloc::{AllocError, Global};
 use std::process::Abort;
@@ -265,6 +265,43 @@ fn logs_of_exact_sizes_and_a_pruned_base(rt: HostRuntime) -> Result<(), AllocErr
         (Step::Read(H64, 0, 1), Want::Bytes(b"\x2a")),
     ];
     answers(&rt, rt.alloc(), 1, Version::One, &rows)
+}
+
+/// How long the first of the records is, which the object lends for this.
+fn first_record_len(object: Object<OwnSupply, VecKeep>) -> (Object<OwnSupply, VecKeep>, u64) {
+    let mut lent = object.lend();
+    if lent.slots() == 0 {
+        return (lent.take_back(), 0);
+    }
+    let rec = lent.lift(0);
+    let len = rec.len();
+    lent.lower(0, rec);
+    (lent.take_back(), len)
+}
+
+#[test]
+fn lends_its_records(rt: HostRuntime) -> Result<(), AllocError> {
+    let before = [
+        (Step::Malloc(40), Want::Chunk(H64)),
+        (Step::Log(10), Want::Logged(Kind::Full, 210)),
+        (Step::Write(H64, 0, b"\x2a"), Want::Done),
+        (Step::Ilog(20), Want::Logged(Kind::Inc, 338)),
+        (Step::Prune(20), Want::Dropped(1)),
+        (Step::Fill(H64, 0, 40, 7), Want::Done),
+    ];
+    let after = [
+        (Step::Logs, Want::Slots(1, 2)),
+        (Step::Restore(25), Want::At(20)),
+        (Step::Read(H64, 0, 2), Want::Bytes(b"\x2a\0")),
+    ];
+    let mut object = opened(rt.alloc(), 1, Version::One)?;
+    let logged = have_replies(&rt, &mut object, rt.alloc(), &before);
+    let (mut object, len) = first_record_len(object);
+    let restored = have_replies(&rt, &mut object, rt.alloc(), &after);
+    object.end(&());
+    logged?;
+    assert_eq!(rt; len, 210);
+    restored
 }
 
 #[test]

@@ -1,4 +1,5 @@
 use Rattle.std.proofs.Common.{◌≡◌, OnOk, IfErr, refl, sym, ap, subst, ◌∙◌}
+use Rattle.dym_base.specs.Below.{below_step}
 use Rattle.dym_base.specs.declared.command.Command.{Command}
 use Rattle.dym_base.specs.declared.command.Command.TheVariants.{Malloc, Calloc, Realloc, Free, Write, Fill, Link, Follow, Sum, Restore, Prune, Logs}
 use Rattle.dym_base.specs.declared.reply.Reply.TheVariants as reply
@@ -15,7 +16,7 @@ returns-in-Malloc g c =
     let new : ObjectMeaning = c.malloc.new.self in
     let k = c.in-Malloc in
     let t = ran_by old new c.args.command.now (Malloc k.len) c.of_chunk.result (chunk_reply c.malloc.result) k.is c.of_chunk.ensures c.malloc.ensures.reply c.malloc.ensures.step (at_chunk c.malloc.result (new ≡ counted old) c.malloc.ensures.refused) in
-    record { reply = t.replied; after = t.after; ran = t.ran; memory = tt; unchanged = tt; kept = tt; refused = t.refused; heap = t.heap; origin = t.origin; whole = c.malloc.ensures.whole }
+    record { reply = t.replied; after = t.after; below = t.below; ran = t.ran; memory = tt; unchanged = tt; kept = tt; refused = t.refused; heap = t.heap; origin = t.origin; whole = c.malloc.ensures.whole }
 
 pub returns-in-Calloc : goal.returns-in-Calloc
 returns-in-Calloc g c =
@@ -23,7 +24,7 @@ returns-in-Calloc g c =
     let new : ObjectMeaning = c.calloc.new.self in
     let k = c.in-Calloc in
     let t = ran_by old new c.args.command.now (Calloc k.n k.len) c.of_chunk-in-Calloc.result (chunk_reply c.calloc.result) k.is c.of_chunk-in-Calloc.ensures c.calloc.ensures.reply c.calloc.ensures.step (at_chunk c.calloc.result (new ≡ counted old) c.calloc.ensures.refused) in
-    record { reply = t.replied; after = t.after; ran = t.ran; memory = tt; unchanged = tt; kept = tt; refused = t.refused; heap = t.heap; origin = t.origin; whole = c.calloc.ensures.whole }
+    record { reply = t.replied; after = t.after; below = t.below; ran = t.ran; memory = tt; unchanged = tt; kept = tt; refused = t.refused; heap = t.heap; origin = t.origin; whole = c.calloc.ensures.whole }
 
 pub returns-in-Realloc : goal.returns-in-Realloc
 returns-in-Realloc g c =
@@ -31,7 +32,7 @@ returns-in-Realloc g c =
     let new : ObjectMeaning = c.realloc.new.self in
     let k = c.in-Realloc in
     let t = ran_by old new c.args.command.now (Realloc k.h k.len) c.of_moved.result (moved_reply c.realloc.result) k.is c.of_moved.ensures c.realloc.ensures.reply c.realloc.ensures.step (at_moved c.realloc.result (new ≡ counted old) c.realloc.ensures.refused) in
-    record { reply = t.replied; after = t.after; ran = t.ran; memory = tt; unchanged = tt; kept = tt; refused = t.refused; heap = t.heap; origin = t.origin; whole = c.realloc.ensures.whole }
+    record { reply = t.replied; after = t.after; below = t.below; ran = t.ran; memory = tt; unchanged = tt; kept = tt; refused = t.refused; heap = t.heap; origin = t.origin; whole = c.realloc.ensures.whole }
 
 pub returns-in-Free : goal.returns-in-Free
 returns-in-Free g c =
@@ -39,7 +40,7 @@ returns-in-Free g c =
     let new : ObjectMeaning = c.free.new.self in
     let k = c.in-Free in
     let t = ran_by old new c.args.command.now (Free k.h) c.of_done.result (done_reply c.free.result) k.is c.of_done.ensures c.free.ensures.reply c.free.ensures.step (at_done c.free.result (new ≡ counted old) c.free.ensures.refused) in
-    record { reply = t.replied; after = t.after; ran = t.ran; memory = tt; unchanged = tt; kept = tt; refused = t.refused; heap = t.heap; origin = t.origin; whole = c.free.ensures.whole }
+    record { reply = t.replied; after = t.after; below = t.below; ran = t.ran; memory = tt; unchanged = tt; kept = tt; refused = t.refused; heap = t.heap; origin = t.origin; whole = c.free.ensures.whole }
 
 pub returns-in-Write : goal.returns-in-Write
 returns-in-Write g c =
@@ -47,7 +48,7 @@ returns-in-Write g c =
     let new : ObjectMeaning = c.write.new.self in
     let k = c.in-Write in
     let t = ran_by old new c.args.command.now (Write k.h k.at c.bytes.result.now) c.of_done-in-Write.result (done_reply c.write.result) (k.is ∙ ap (Write k.h k.at) (sym c.bytes.ensures)) c.of_done-in-Write.ensures c.write.ensures.reply c.write.ensures.step (at_done c.write.result (new ≡ counted old) c.write.ensures.refused) in
-    record { reply = t.replied; after = t.after; ran = t.ran; memory = tt; unchanged = tt; kept = tt; refused = t.refused; heap = t.heap; origin = t.origin; whole = c.write.ensures.whole }
+    record { reply = t.replied; after = t.after; below = t.below; ran = t.ran; memory = tt; unchanged = tt; kept = tt; refused = t.refused; heap = t.heap; origin = t.origin; whole = c.write.ensures.whole }
 
 pub returns-in-Fill : goal.returns-in-Fill
 returns-in-Fill g c =
@@ -55,7 +56,7 @@ returns-in-Fill g c =
     let new : ObjectMeaning = c.fill.new.self in
     let k = c.in-Fill in
     let t = ran_by old new c.args.command.now (Fill k.h k.at k.len k.byte) c.of_done-in-Fill.result (done_reply c.fill.result) k.is c.of_done-in-Fill.ensures c.fill.ensures.reply c.fill.ensures.step (at_done c.fill.result (new ≡ counted old) c.fill.ensures.refused) in
-    record { reply = t.replied; after = t.after; ran = t.ran; memory = tt; unchanged = tt; kept = tt; refused = t.refused; heap = t.heap; origin = t.origin; whole = c.fill.ensures.whole }
+    record { reply = t.replied; after = t.after; below = t.below; ran = t.ran; memory = tt; unchanged = tt; kept = tt; refused = t.refused; heap = t.heap; origin = t.origin; whole = c.fill.ensures.whole }
 
 pub returns-in-Link : goal.returns-in-Link
 returns-in-Link g c =
@@ -63,7 +64,7 @@ returns-in-Link g c =
     let new : ObjectMeaning = c.link.new.self in
     let k = c.in-Link in
     let t = ran_by old new c.args.command.now (Link k.h k.at k.to) c.of_done-in-Link.result (done_reply c.link.result) k.is c.of_done-in-Link.ensures c.link.ensures.reply c.link.ensures.step (at_done c.link.result (new ≡ counted old) c.link.ensures.refused) in
-    record { reply = t.replied; after = t.after; ran = t.ran; memory = tt; unchanged = tt; kept = tt; refused = t.refused; heap = t.heap; origin = t.origin; whole = c.link.ensures.whole }
+    record { reply = t.replied; after = t.after; below = t.below; ran = t.ran; memory = tt; unchanged = tt; kept = tt; refused = t.refused; heap = t.heap; origin = t.origin; whole = c.link.ensures.whole }
 
 pub returns-in-Follow : goal.returns-in-Follow
 returns-in-Follow g c =
@@ -71,7 +72,7 @@ returns-in-Follow g c =
     let new : ObjectMeaning = c.follow.new.self in
     let k = c.in-Follow in
     let t = ran_by old new c.args.command.now (Follow k.h k.at) c.of_found.result (found_reply c.follow.result) k.is c.of_found.ensures c.follow.ensures.reply c.follow.ensures.step (at_found c.follow.result (new ≡ counted old) c.follow.ensures.refused) in
-    record { reply = t.replied; after = t.after; ran = t.ran; memory = tt; unchanged = tt; kept = tt; refused = t.refused; heap = t.heap; origin = t.origin; whole = c.follow.ensures.whole }
+    record { reply = t.replied; after = t.after; below = t.below; ran = t.ran; memory = tt; unchanged = tt; kept = tt; refused = t.refused; heap = t.heap; origin = t.origin; whole = c.follow.ensures.whole }
 
 pub returns-in-Sum : goal.returns-in-Sum
 returns-in-Sum g c =
@@ -79,7 +80,7 @@ returns-in-Sum g c =
     let new : ObjectMeaning = c.sum.new.self in
     let k = c.in-Sum in
     let t = ran_by old new c.args.command.now (Sum k.h) c.of_total.result (total_reply c.sum.result) k.is c.of_total.ensures c.sum.ensures.reply c.sum.ensures.step (at_total c.sum.result (new ≡ counted old) c.sum.ensures.refused) in
-    record { reply = t.replied; after = t.after; ran = t.ran; memory = tt; unchanged = tt; kept = tt; refused = t.refused; heap = t.heap; origin = t.origin; whole = c.sum.ensures.whole }
+    record { reply = t.replied; after = t.after; below = t.below; ran = t.ran; memory = tt; unchanged = tt; kept = tt; refused = t.refused; heap = t.heap; origin = t.origin; whole = c.sum.ensures.whole }
 
 pub returns-in-Restore : goal.returns-in-Restore
 returns-in-Restore g c =
@@ -87,7 +88,7 @@ returns-in-Restore g c =
     let new : ObjectMeaning = c.restore.new.self in
     let k = c.in-Restore in
     let t = ran_by old new c.args.command.now (Restore k.time) c.of_restored.result (restored_reply c.restore.result) k.is c.of_restored.ensures c.restore.ensures.reply c.restore.ensures.step (at_restored c.restore.result (new ≡ counted old) c.restore.ensures.refused) in
-    record { reply = t.replied; after = t.after; ran = t.ran; memory = tt; unchanged = tt; kept = tt; refused = t.refused; heap = t.heap; origin = t.origin; whole = c.restore.ensures.whole }
+    record { reply = t.replied; after = t.after; below = t.below; ran = t.ran; memory = tt; unchanged = tt; kept = tt; refused = t.refused; heap = t.heap; origin = t.origin; whole = c.restore.ensures.whole }
 
 pub returns-in-Prune : goal.returns-in-Prune
 returns-in-Prune g c =
@@ -96,14 +97,14 @@ returns-in-Prune g c =
     let k = c.in-Prune in
     let r = reply.Dropped c.prune.result in
     let t = ran_by old new c.args.command.now (Prune k.bound) r r k.is refl c.prune.ensures.reply c.prune.ensures.step tt in
-    record { reply = t.replied; after = t.after; ran = t.ran; memory = tt; unchanged = tt; kept = tt; refused = t.refused; heap = t.heap; origin = t.origin; whole = c.prune.ensures.whole }
+    record { reply = t.replied; after = t.after; below = t.below; ran = t.ran; memory = tt; unchanged = tt; kept = tt; refused = t.refused; heap = t.heap; origin = t.origin; whole = c.prune.ensures.whole }
 
 pub returns-in-Logs : goal.returns-in-Logs
 returns-in-Logs g c =
     let old : ObjectMeaning = c.args.self.now in
     let new : ObjectMeaning = c.logs.new.self in
     let t = ran_by old new c.args.command.now Logs c.of_slots.result (slots_reply c.logs.result) c.in-Logs.is c.of_slots.ensures c.logs.ensures.reply c.logs.ensures.step tt in
-    record { reply = t.replied; after = t.after; ran = t.ran; memory = tt; unchanged = tt; kept = tt; refused = t.refused; heap = t.heap; origin = t.origin; whole = c.logs.ensures.whole }
+    record { reply = t.replied; after = t.after; below = t.below; ran = t.ran; memory = tt; unchanged = tt; kept = tt; refused = t.refused; heap = t.heap; origin = t.origin; whole = c.logs.ensures.whole }
 
 pub returns-in-Read : goal.returns-in-Read
 returns-in-Read g c =
@@ -113,6 +114,7 @@ returns-in-Read g c =
     record {
       reply = subst (λ (x : Command). OnOk c.read_into.result (c.read_into.new.reply ≡ (step_by old x).reply)) (sym k.is) e.reply;
       after = subst (λ (x : Command). OnOk c.read_into.result (state_of c.read_into.new.self ≡ (step_by old x).object)) (sym k.is) e.after;
+      below = subst (λ (x : Command). OnOk c.read_into.result (c.read_into.new.self.chain.below ≡ below_step old.chain.below (state_of old) x)) (sym k.is) e.below;
       ran = e.ran;
       memory = subst (λ (x : Command). IfErr c.read_into.result (λ _. TakesMemory x (step_by old x).reply)) (sym k.is) e.memory;
       unchanged = e.unchanged;
@@ -131,6 +133,7 @@ returns-in-Log g c =
     record {
       reply = subst (λ (x : Command). OnOk c.log_into.result (c.log_into.new.reply ≡ (step_by old x).reply)) (sym k.is) e.reply;
       after = subst (λ (x : Command). OnOk c.log_into.result (state_of c.log_into.new.self ≡ (step_by old x).object)) (sym k.is) e.after;
+      below = subst (λ (x : Command). OnOk c.log_into.result (c.log_into.new.self.chain.below ≡ below_step old.chain.below (state_of old) x)) (sym k.is) e.below;
       ran = e.ran;
       memory = subst (λ (x : Command). IfErr c.log_into.result (λ _. TakesMemory x (step_by old x).reply)) (sym k.is) e.memory;
       unchanged = e.unchanged;
@@ -149,6 +152,7 @@ returns-in-Ilog g c =
     record {
       reply = subst (λ (x : Command). OnOk c.log_into-in-Ilog.result (c.log_into-in-Ilog.new.reply ≡ (step_by old x).reply)) (sym k.is) e.reply;
       after = subst (λ (x : Command). OnOk c.log_into-in-Ilog.result (state_of c.log_into-in-Ilog.new.self ≡ (step_by old x).object)) (sym k.is) e.after;
+      below = subst (λ (x : Command). OnOk c.log_into-in-Ilog.result (c.log_into-in-Ilog.new.self.chain.below ≡ below_step old.chain.below (state_of old) x)) (sym k.is) e.below;
       ran = e.ran;
       memory = subst (λ (x : Command). IfErr c.log_into-in-Ilog.result (λ _. TakesMemory x (step_by old x).reply)) (sym k.is) e.memory;
       unchanged = e.unchanged;

@@ -1,0 +1,11 @@
+//! An object whose commands are run as they are kept. Below stand `dym_commands`, which tells a runner what each command is, and
+//! `dym_object`, which runs it; above stand whoever runs an object's own commands: one object after another, or as jobs of workers.
+//! Its one contract: each command is one step of the object's definition, and its reply stands in one place.
+#![tactic(auto)]
+
+mod turn;
+
+pub use turn::Turn;
+
+#[cfg(test)]
+mod tests;
