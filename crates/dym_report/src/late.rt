@@ -1,13 +1,17 @@
 //! What the orders `views` and `late` print besides.
 ghost use Rattle.std.specs.Prelude.{◌≡◌, ◌++◌, codes, decimal};
+ghost use Rattle.dym_heap.specs.Meaning.{IsSound};
 ghost use Rattle.dym_io.specs.Sink.{Writes};
 ghost use Rattle.dym_report.specs.declared.late.ViewLine.{ViewLine};
-ghost use Rattle.dym_report.specs.Late.{view_line, late_line, replayed_line};
+ghost use Rattle.dym_report.specs.Late.{view_line, late_line, late_end};
 
 use crate::line::Line;
+use crate::live::{write_heap, write_images};
 use crate::reply::{write_number, write_reply};
 use dym_base::Reply;
+use dym_heap::Heap;
 use dym_io::{Sink, SinkFault, push_all};
+use dym_quota::Supply;
 
 /// What is seen of a log: its time, how many chunks it has, and the sum of their bytes.
 #[derive(Clone, Copy, Debug, PartialEq, Eq)]
@@ -64,9 +68,17 @@ pub fn write_late_line<W: Sink>(sink: &mut W, line: LateOut) -> Result<(), SinkF
     }
 }
 
-/// Writes how many events were run again. Its only error is that of the sink.
-pub fn write_replayed<W: Sink>(sink: &mut W, replayed: u64) -> Result<(), SinkFault>
-    ensures { Writes (W.output sink.old) (W.output sink.new) (replayed_line replayed) result }
+/// Writes the end of what a heap of late events gets: its counts, its live chunks, and how many commands were run for its
+/// events. Its only error is that of the sink.
+pub fn write_late_end<W: Sink, S: Supply>(
+    sink: &mut W,
+    heap: &Heap<S>,
+    replayed: u64,
+) -> Result<(), SinkFault>
+    requires sound { IsSound heap.now }
+    ensures { Writes (W.output sink.old) (W.output sink.new) (late_end heap.now.version heap.now.state.live replayed) result }
 {
+    write_heap(sink, heap)?;
+    write_images(sink, heap)?;
     write_number(sink, b"replayed ", replayed)
 }

@@ -15,7 +15,7 @@ pub mod reply;
 pub mod totals;
 
 pub use hex_text::write_hex_line;
-pub use late::{LateOut, ViewLine, write_late_line, write_replayed, write_view};
+pub use late::{LateOut, ViewLine, write_late_end, write_late_line, write_view};
 pub use line::Line;
 pub use live::{live_chunks, write_object, write_state};
 pub use object::{write_heading, write_heap_line, write_image, write_logs};

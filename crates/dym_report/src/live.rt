@@ -50,7 +50,7 @@ pub fn write_state<W: Sink, S: Supply>(
 }
 
 /// Writes how many chunks of a heap are live, and how many segments they need.
-fn write_heap<W: Sink, S: Supply>(sink: &mut W, heap: &Heap<S>) -> Result<(), SinkFault>
+pub(crate) fn write_heap<W: Sink, S: Supply>(sink: &mut W, heap: &Heap<S>) -> Result<(), SinkFault>
     requires sound { IsSound heap.now }
     ensures { Writes (W.output sink.old) (W.output sink.new) (heap_line (len heap.now.state.live) (held heap.now.state.live)) result }
 {
@@ -73,7 +73,10 @@ pub fn live_chunks<S: Supply>(heap: &Heap<S>) -> u64
 }
 
 /// Writes a line for each live chunk of a heap, in the order of their handles.
-fn write_images<W: Sink, S: Supply>(sink: &mut W, heap: &Heap<S>) -> Result<(), SinkFault>
+pub(crate) fn write_images<W: Sink, S: Supply>(
+    sink: &mut W,
+    heap: &Heap<S>,
+) -> Result<(), SinkFault>
     requires sound { IsSound heap.now }
     ensures { Writes (W.output sink.old) (W.output sink.new) (images_text heap.now.version heap.now.state.live) result }
 {

@@ -2,8 +2,9 @@
 ghost use Rattle.dym_heap.specs.Meaning.{IsSound};
 
 use crate::{
-    Totals, write_counts, write_end, write_error, write_events, write_heading, write_heap_line,
-    write_image, write_logs, write_object, write_replies, write_summary, write_usage,
+    LateOut, Totals, ViewLine, write_counts, write_end, write_error, write_events, write_heading,
+    write_heap_line, write_image, write_late_end, write_late_line, write_logs, write_object,
+    write_replies, write_summary, write_usage, write_view,
 };
 use dym_base::{BadKind, Blob, Handle, Kind, Name, Refusal, Reply, Version};
 use dym_heap::Heap;
@@ -24,6 +25,13 @@ fn write_part(sink: &mut MemSink, name: &Name, replies: &[Reply]) -> Result<(), 
 }
 
 fn write_others(sink: &mut MemSink, totals: &Totals) -> Result<(), SinkFault> {
+    let view = ViewLine {
+        time: 9,
+        chunks: 2,
+        total: 510,
+    };
+    write_view(sink, Some(view))?;
+    write_view(sink, None)?;
     write_summary(sink, totals)?;
     write_counts(sink, 3, 40)?;
     write_events(sink, 0)?;
@@ -81,6 +89,38 @@ fn lengths_are_printed_in_version_2(rt: HostRuntime) -> Result<(), AllocError> {
     assert!(rt; print_filled(rt.alloc(), Version::Two, &name, &mut sink)?);
     let text = b"object b\nok\nok nil\nheap 4 3\n\
         32:0 1 -\n64:0 40 0000ab\n64:1 64 000000ff0010\n4096:0 4000 0102\nlogs 2 3\n";
+    assert_eq!(rt; sink.bytes(), text.as_slice());
+    Ok(())
+}
+
+/// Prints what an object of late events with such a heap gets.
+fn print_late(alloc: Global, sink: &mut MemSink) -> Result<bool, AllocError> {
+    let supply = OwnSupply::open(alloc, 4)?;
+    let mut heap = match Heap::open(alloc, supply) {
+        Ok(heap) => heap,
+        Err((error, _)) => return Err(error),
+    };
+    let filled = fill(&mut heap).is_ok();
+    let lines = [
+        LateOut::Reply(&Reply::Chunk(CHUNK)),
+        LateOut::Early { bound: 15 },
+        LateOut::Committed,
+    ];
+    let mut printed = true;
+    for line in lines {
+        printed &= write_late_line(sink, line).is_ok();
+    }
+    printed &= write_late_end(sink, &heap, 13).is_ok();
+    let _ = heap.end(&());
+    Ok(filled && printed)
+}
+
+#[test]
+fn late_events_are_printed_in_their_form(rt: HostRuntime) -> Result<(), AllocError> {
+    let mut sink = MemSink::new(rt.alloc(), 1_000, 7, Vec::new(rt.alloc()))?;
+    assert!(rt; print_late(rt.alloc(), &mut sink)?);
+    let text = b"ok 65536:7\nearly 15\nok\nheap 4 3\n\
+        32:0 -\n64:0 0000ab\n64:1 000000ff0010\n4096:0 0102\nreplayed 13\n";
     assert_eq!(rt; sink.bytes(), text.as_slice());
     Ok(())
 }
@@ -148,7 +188,8 @@ fn the_other_lines_have_their_forms(rt: HostRuntime) -> Result<(), AllocError> {
     };
     let mut sink = MemSink::new(rt.alloc(), 1_000, 1_000, Vec::new(rt.alloc()))?;
     assert!(rt; write_others(&mut sink, &totals).is_ok());
-    let text = b"summary objects 1 commands 2 ok 3 refused 4 chunks 5 segments 6 kept 7 slots 8\n\
+    let text =
+        b"view 9 2 510\nview none\nsummary objects 1 commands 2 ok 3 refused 4 chunks 5 segments 6 kept 7 slots 8\n\
         ok 3 40\nok 0\nerror line 17: quota\nusage\n";
     assert_eq!(rt; sink.bytes(), text.as_slice());
     Ok(())

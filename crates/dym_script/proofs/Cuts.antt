@@ -7,7 +7,7 @@ use Rattle.dym_script.specs.Lines.{lines_of, words_of, is_space, is_word}
 use Rattle.dym_script.specs.Scripts.{is_printable}
 use Rattle.dym_script.specs.Plain.{is_plain}
 
-both_true : (a b : Bool) → (a && b) ≡ true → (a ≡ true) × (b ≡ true)
+pub both_true : (a b : Bool) → (a && b) ≡ true → (a ≡ true) × (b ≡ true)
 both_true true b both = (refl, both)
 both_true false b both = absurd (cc)
 

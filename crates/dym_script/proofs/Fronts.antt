@@ -13,7 +13,7 @@ use Rattle.dym_script.proofs.Numbers.{digit_is, digit_small}
 use Rattle.dym_script.specs.Quick.{Counts}
 use Rattle.dym_script.specs.Fronts.{IsFront}
 use Rattle.dym_script.proofs.Cuts.{take_rest}
-use Rattle.dym_script.proofs.Hexes.{both_true}
+use Rattle.dym_script.proofs.Cuts.{both_true}
 
 -- the number whose bytes these are, the lowest first
 abbrev word_of : List ℕ → ℕ

@@ -1,5 +1,5 @@
 -- Lines in the usual spelling.
-use Rattle.std.proofs.Common.{◌≡◌, ℕ, suc, ◌+◌, ◌-◌, ◌^◌, ◌%◌, ◌≤◌, ◌==◌, Bool, true, false, not, ◌&&◌, ◌||◌, List, [], ◌∷◌, ◌++◌, length, take, drop, filter, codes, Option, Some, None, Ok, is_some, is_none, if◌then◌else◌, nat_le, nat_lt, refl, sym, ap, subst, ◌∙◌, arith, append-nil, append_assoc, eq-eqb, drop-cons, take-append-drop, length-append}
+use Rattle.std.proofs.Common.{◌≡◌, ℕ, suc, ◌+◌, ◌-◌, ◌^◌, ◌≤◌, ◌==◌, Bool, true, false, not, ◌&&◌, ◌||◌, List, [], ◌∷◌, ◌++◌, length, take, drop, filter, codes, Some, None, Ok, is_none, if◌then◌else◌, nat_le, nat_lt, refl, sym, ap, subst, ◌∙◌, arith, append-nil, append_assoc, eq-eqb, drop-cons, take-append-drop, length-append}
 use Rattle.std.proofs.Math.Seq.{take-append_seam, drop-append-add}
 use Rattle.std.proofs.lemmas.Slice.Eq.{HasBytesAt}
 use Rattle.std.proofs.lemmas.List.Folds.{list_all-append}
@@ -13,16 +13,16 @@ use Rattle.hex.specs.Hex.{is_hex_digit}
 use Rattle.dym_base.specs.declared.handle.Handle.{Handle}
 use Rattle.dym_script.specs.declared.verb.Verb.{Verb}
 use Rattle.dym_script.specs.declared.verb.Verb.TheVariants as verb
-use Rattle.dym_script.specs.declared.asked.Asked.{Asked}
+use Rattle.dym_commands.specs.declared.asked.Asked.{Asked}
 use Rattle.dym_script.specs.Lines.{lines_of, words_of, is_space, is_word}
 use Rattle.dym_script.specs.Scripts.{is_printable}
 use Rattle.dym_script.specs.Plain.{is_plain}
-use Rattle.dym_script.specs.Asks.{asks, bytes_or_none}
-use Rattle.dym_script.specs.Words.{is_digits, number_to, exponent_of, colon_at, handle_of, handle_or_nil_of, hex_of}
+use Rattle.dym_commands.specs.Asks.{asks}
+use Rattle.dym_commands.specs.Hexes.{hex_of, IsAtFront}
+use Rattle.dym_script.specs.Words.{is_digits, number_to, exponent_of, colon_at, handle_of, handle_or_nil_of}
 use Rattle.dym_script.specs.Table.{Place, Value, Values, value_of, values_of, both, row, verb_of, command_of, wrong, is_number, is_handle, is_hex}
 use Rattle.dym_script.specs.Quick.{is_bare, is_bare_word, spelled, Counts, Sizes, Begins, Spells, Demands}
-use Rattle.dym_script.proofs.Cuts.{take_rest}
-use Rattle.dym_script.proofs.Hexes.{both_true, hex_some}
+use Rattle.dym_script.proofs.Cuts.{both_true, take_rest}
 
 pub no_more : (b : Bool) → not b ≡ true → b ≡ false
 no_more true is = absurd (cc)
@@ -295,23 +295,14 @@ begins_nil text rest at = record {
 hex_bare : (c : ℕ) → is_hex_digit c ≡ true → is_bare c ≡ true
 hex_bare c digit = grind (arith, nat_tests)
 
-no_dash : (word : List ℕ) → 2 ≤ length word → bytes_eq word (codes "-") ≡ false
-no_dash [] long = absurd (omega arith)
-no_dash (x ∷ []) long = absurd (omega arith)
-no_dash (x ∷ y ∷ ys) long = elim (x == 45) as (λ b. (b && false) ≡ false) [ true ↦ refl | false ↦ refl ]
-
-some_bytes : (o : Option (List ℕ)) → is_some o ≡ true → o ≡ Some (bytes_or_none o)
-some_bytes None some = absurd (cc)
-some_bytes (Some bytes) some = refl
-
 bare_long : (word : List ℕ) → 2 ≤ length word → list_all is_bare word ≡ true → is_bare_word word ≡ true
 bare_long [] long bare = absurd (omega arith)
 bare_long (x ∷ xs) long bare = bare
 
-pub begins_hex : (text more word rest : List ℕ) (n : ℕ) → text ≡ 32 ∷ more → 2 ≤ length word → length word % 2 ≡ 0 → list_all is_hex_digit word ≡ true → word ≡ take n more → rest ≡ drop n more → Begins hex_of text (bytes_or_none (hex_of word)) rest
-begins_hex text more word rest n at long even digits front back = record {
-  word = word;
-  is = at ∙ ap (λ t. 32 ∷ t) (sym (take-append-drop n more) ∙ rw (front, back) refl);
-  bare = bare_long word long (all_weaker is_hex_digit is_bare hex_bare word digits);
-  reads = some_bytes (hex_of word) (hex_some word (no_dash word long) long even ∙ digits);
+pub begins_hex : (text more bytes rest : List ℕ) → text ≡ 32 ∷ more → IsAtFront more bytes rest → Begins hex_of text bytes rest
+begins_hex text more bytes rest at front = record {
+  word = front.word;
+  is = at ∙ ap (λ t. 32 ∷ t) front.is;
+  bare = bare_long front.word front.some (all_weaker is_hex_digit is_bare hex_bare front.word front.digits);
+  reads = front.writes;
 }

@@ -10,18 +10,18 @@ use Rattle.dym_base.specs.declared.bad_kind.BadKind.{BadKind}
 use Rattle.dym_base.specs.declared.command.Command.{Command}
 use Rattle.dym_base.specs.declared.limits.TheConstants.{MOST_NAME_BYTES, MOST_LINE_BYTES}
 use Rattle.dym_script.specs.declared.verb.Verb.{Verb}
-use Rattle.dym_script.specs.declared.asked.Asked.{Asked}
-use Rattle.dym_script.specs.declared.asked.Ask.{Ask}
+use Rattle.dym_commands.specs.declared.asked.Asked.{Asked}
+use Rattle.dym_script.specs.declared.reader.Ask.{Ask}
 use Rattle.dym_script.specs.declared.reader.Reader.{Reader}
 use Rattle.dym_script.specs.Lines.{lines_of, words_of}
 use Rattle.dym_script.specs.Scripts.{Said, Reading, object_of, ask_at, is_version, begin, is_printable, read_line}
 use Rattle.dym_script.specs.Plain.{is_plain}
-use Rattle.dym_script.specs.Asks.{asks}
+use Rattle.dym_commands.specs.Asks.{asks}
 use Rattle.dym_script.specs.Table.{verb_of, command_of}
 use Rattle.dym_script.specs.Readers.{IsKept, seen, reading, IsNamed, IsNext}
 use Rattle.dym_script.specs.Quick.{is_bare, is_bare_word, spelled, Demands}
 use Rattle.dym_script.proofs.Index.{object_of_name, object_of_within}
-use Rattle.dym_script.proofs.Hexes.{both_true}
+use Rattle.dym_script.proofs.Cuts.{both_true}
 use Rattle.dym_script.proofs.Spelled.{no_more, all_weaker, words_of_spelled, no_end, lines_of_front, plain_front}
 
 -- a verb and its words in the usual spelling stand after a name

@@ -5,7 +5,6 @@ use Rattle.dym_base.specs.declared.limits.TheConstants.{MOST_OBJECTS, MOST_COMMA
 use Rattle.dym_base.specs.declared.bad_kind.BadKind.{BadKind}
 use Rattle.dym_script.specs.declared.line_fail.LineFail.{LineFail}
 use Rattle.dym_script.specs.declared.line_fail.LineFail.TheVariants as line
-use Rattle.dym_script.specs.declared.script.Counts.{Counts}
 use Rattle.dym_script.specs.declared.script.Script.{Script}
 use Rattle.dym_script.specs.declared.script.ScriptFail.{ScriptFail}
 use Rattle.dym_script.specs.declared.script.ScriptFail.TheVariants as fail
@@ -32,17 +31,6 @@ FailsSo fail.Memory read = Unit {0}
 abbrev pub GivesBy : {M : Type 0} → (M → Said → Type 0) → Result M ScriptFail → Result Said Fault → Type 0
 GivesBy tells (Ok made) read = (s : Said) × (read ≡ Ok s) × tells made s
 GivesBy tells (Err failed) read = FailsSo failed read
-
--- how much is said
-abbrev pub counted : Result Said Fault → Result Counts Fault
-counted (Ok s) = Ok (record { objects = length s.objects; commands = length s.lines })
-counted (Err fault) = Err fault
-
--- the answer of the counter of scripts is what the grammar gives, unless memory ran out
-abbrev pub GivesCounts : Result Counts ScriptFail → Result Said Fault → Type 0
-GivesCounts (Ok counts) read = counted read ≡ Ok counts
-GivesCounts (Err (fail.Bad line kind)) read = read ≡ Err (record { line = line; kind = kind })
-GivesCounts (Err fail.Memory) read = Unit {0}
 
 -- what holds of each script that is read
 pub record IsLawful (s : Said) : Type 0 where

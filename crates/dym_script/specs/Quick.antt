@@ -3,9 +3,9 @@ use Rattle.std.specs.Prelude.{◌≡◌, ◌&&◌, ◌||◌, ◌==◌, ℕ, Bool
 use Rattle.std.specs.List.{list_all}
 use Rattle.std.specs.Str.Parse.{digits_value}
 use Rattle.dym_script.specs.declared.verb.Verb.{Verb}
-use Rattle.dym_script.specs.declared.asked.Asked.{Asked}
+use Rattle.dym_commands.specs.declared.asked.Asked.{Asked}
 use Rattle.dym_script.specs.Lines.{is_word}
-use Rattle.dym_script.specs.Asks.{asks}
+use Rattle.dym_commands.specs.Asks.{asks}
 use Rattle.dym_script.specs.Words.{is_digits, exponent_of}
 use Rattle.dym_script.specs.Table.{Place, Values, values_of, verb_of, command_of}
 

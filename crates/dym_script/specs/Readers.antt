@@ -1,5 +1,5 @@
 -- What the reader of lines keeps between two lines, and what it hands on of one.
-use Rattle.std.specs.Prelude.{◌≡◌, ◌<◌, ℕ, Bool, true, List, [], ◌∷◌, ◌++◌, length, slice_index_or, Option, None, Some, Result, Ok, Err, IsTrue}
+use Rattle.std.specs.Prelude.{◌≡◌, ◌<◌, ◌⊎◌, ℕ, Bool, true, List, [], ◌∷◌, ◌++◌, length, slice_index_or, Option, None, Some, Result, Ok, Err, IsTrue}
 use Rattle.std.specs.List.{list_all}
 use Rattle.std.specs.Str.{bytes_eq}
 use Rattle.std.specs.HashMap.{get_by}
@@ -9,13 +9,13 @@ use Rattle.dym_script.specs.declared.line_fail.LineFail.{LineFail}
 use Rattle.dym_script.specs.declared.line_fail.LineFail.TheVariants as line
 use Rattle.dym_script.specs.declared.script.Decl.{Decl}
 use Rattle.dym_script.specs.declared.script.Line.{Line}
-use Rattle.dym_script.specs.declared.asked.Ask.{Ask}
+use Rattle.dym_script.specs.declared.reader.Ask.{Ask}
 use Rattle.dym_script.specs.declared.reader.Next.{Next}
 use Rattle.dym_script.specs.declared.reader.Reader.{Reader}
 use Rattle.dym_script.specs.Lines.{lines_of}
 use Rattle.dym_script.specs.Plain.{is_plain}
 use Rattle.dym_script.specs.Scripts.{Said, Reading, object_of, ask_at, name_fault, read_line}
-use Rattle.dym_script.specs.Asks.{asks}
+use Rattle.dym_commands.specs.Asks.{asks}
 use Rattle.dym_script.specs.Answers.{IsLawful}
 
 -- what was read so far, where these are the lines that ask something
@@ -27,6 +27,10 @@ pub record IsKept (r : Reader) : Type 0 where
   pub indexed : (name : List ℕ) → get_by (λ key. bytes_eq name key.items) r.names ≡ object_of r.objects.items name
   pub first : (k : ℕ) (d : Decl) → k < length r.objects.items → object_of r.objects.items (slice_index_or r.objects.items k d).name ≡ Some k
   pub lawful : IsLawful (seen r []).said
+
+-- the declarations are the same, or one more
+abbrev pub Grows : List Decl → List Decl → Type 0
+Grows old new = (new ≡ old) ⊎ ((decl : Decl) × (new ≡ old ++ decl ∷ []))
 
 -- what is asked is asked of a declared object
 abbrev pub IsWithin : Reader → Option Ask → Type 0

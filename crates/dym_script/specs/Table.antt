@@ -10,7 +10,8 @@ use Rattle.dym_base.specs.declared.command.Command.{Command}
 use Rattle.dym_base.specs.declared.command.Command.TheVariants as command
 use Rattle.dym_script.specs.declared.verb.Verb.{Verb}
 use Rattle.dym_script.specs.declared.verb.Verb.TheVariants as verb
-use Rattle.dym_script.specs.Words.{number_to, handle_of, handle_or_nil_of, hex_of}
+use Rattle.dym_script.specs.Words.{number_to, handle_of, handle_or_nil_of}
+use Rattle.dym_commands.specs.Hexes.{hex_of}
 
 -- what may stand in the place of a word. At, Len, Byte and ReadLen are numbers up to a bound of their own
 pub data Place : Type 0 where

@@ -1,11 +1,9 @@
 -- What single words stand for.
-use Rattle.std.specs.Prelude.{ℕ, ◌+◌, ◌-◌, ◌^◌, Bool, not, ◌&&◌, ◌==◌, nat_le, nat_lt, if◌then◌else◌, List, [], length, take, drop, codes, Option, None, Some}
+use Rattle.std.specs.Prelude.{ℕ, ◌+◌, ◌-◌, ◌^◌, Bool, not, ◌&&◌, ◌==◌, nat_le, nat_lt, if◌then◌else◌, List, length, take, drop, codes, Option, None, Some}
 use Rattle.std.specs.List.{list_all, prefix_len}
 use Rattle.std.specs.Char.{is_ascii_digit}
 use Rattle.std.specs.Str.{bytes_eq}
 use Rattle.std.specs.Str.Parse.{digits_value}
-use Rattle.std.specs.Result.{result_ok}
-use Rattle.hex.specs.Hex.{decode_of}
 use Rattle.dym_base.specs.declared.handle.Handle.{Handle}
 
 -- 1 to 20 digits. Leading zeros are allowed
@@ -59,10 +57,3 @@ some_handle (Some h) = Some (Some h)
 -- a handle, or the word for nil
 unfoldable pub handle_or_nil_of : List ℕ → Option (Option Handle)
 handle_or_nil_of word = if bytes_eq word (codes "nil") then Some None else some_handle (handle_of word)
-
--- the bytes that a word writes: a dash for none, or an even number of at least two hexadecimal digits
-unfoldable pub hex_of : List ℕ → Option (List ℕ)
-hex_of word =
-    if bytes_eq word (codes "-") then Some []
-    else if nat_lt (length word) 2 then None
-    else result_ok (decode_of word)

@@ -1,17 +1,17 @@
 //! The reader of scripts: it turns bytes into declarations and commands, or names the first bad line. It stands on
-//! `dym_base`; the top call, which runs what was read, stands above it. Its one contract: what is read is what the
-//! grammar in `specs/` gives for the same bytes, and each object's commands are those of its own lines, in order. Commands are
-//! kept as they are, or in 16 bytes each, of which `kept_command` says which command each keeps.
+//! `dym_base` and `dym_commands`; the top call, which runs what was read, stands above it. Its one contract: what is read is what
+//! the grammar in `specs/` gives for the same bytes, and a `Keeper`, to which each declaration and what each line asks is handed,
+//! keeps what it needs of just these. `Holding` keeps each object's commands, `Counting` nothing. Scripts of late events have a
+//! grammar and a reader of their own over the same words, `read_late`.
 #![tactic(auto)]
 
-mod asked;
 mod counting;
-mod hex_digits;
-mod holding;
-mod kept;
+mod keeper;
+mod late;
+pub mod late_script;
+mod late_words;
 mod laws;
 mod line_fail;
-mod line_reader;
 mod line_tests;
 mod lines;
 mod near;
@@ -30,16 +30,18 @@ mod sizes;
 mod verb;
 
 pub use counting::Counting;
-pub use holding::{Holding, read_parts};
-pub use kept::{Kept, Long, Tables, handle};
-pub use laws::first_fault;
-pub use line_reader::LineReader;
-pub use own::{Part, apart, own_commands};
-pub use parts::{KeptPart, Parts};
-pub use pieces::Pieces;
-pub use read::{count_script, read_script};
-pub use script::{Counts, Decl, Line, Script, ScriptFail};
+pub use keeper::Keeper;
+pub use late::read_late;
+pub use late_script::{LateAct, LateLine, LateScript, MOST_LATE_EVENTS, MOST_LATE_LINES};
+pub use laws::{first_fault, no_more_are_accepted};
+pub use own::own_commands;
+pub use parts::{Holding, Part};
+pub use pieces::{Pieces, Whole};
+pub use read::read_script;
+pub use script::{Decl, Line, Script, ScriptFail};
 
+#[cfg(test)]
+mod late_tests;
 #[cfg(test)]
 mod quick_tests;
 #[cfg(test)]

@@ -1,34 +1,60 @@
 //! Reads a script that comes piece by piece.
-ghost use Rattle.std.specs.Prelude.{◌≡◌, ◌+◌, ◌≤◌, ℕ, List, [], ◌++◌, take, drop, length, IfOk, OnOk};
+ghost use Rattle.std.specs.Prelude.{◌≡◌, ◌+◌, ◌≤◌, ◌<◌, ℕ, List, [], ◌++◌, true, Some, take, drop, length, IfOk, OnOk};
+ghost use Rattle.std.specs.List.{list_all};
 ghost use Rattle.dym_base.specs.declared.limits.TheConstants.{MOST_INPUT_BYTES};
-ghost use Rattle.dym_script.specs.Answers.{GivesBy};
-ghost use Rattle.dym_script.specs.Pieces.{says, IsEnded, IsOpen, Took, TakesPiece, ReadsText};
+ghost use Rattle.dym_commands.specs.Asks.{asks};
+ghost use Rattle.dym_script.specs.declared.script.Decl.{Decl};
+ghost use Rattle.dym_script.specs.declared.script.Line.{Line};
+ghost use Rattle.dym_script.specs.Wholes.{GivesWhole};
+ghost use Rattle.dym_script.specs.Keeping.{Holds, Stands, IsReady, TookBy, HoldsLine};
+ghost use Rattle.dym_script.specs.Pieces.{says, IsEnded, IsOpen, TakesPiece, ReadsText, ReadsNext};
+ghost use Rattle.dym_script.specs.Plain.{is_plain};
+ghost use Rattle.dym_script.specs.Readers.{IsKept, seen, reading, Grows};
+ghost use Rattle.dym_script.specs.Scripts.{ask_at};
 
+use crate::keeper::Keeper;
 use crate::line_fail::LineFail;
-use crate::line_reader::LineReader;
 use crate::line_tests::is_plain;
-use crate::script::ScriptFail;
-use dym_base::BadKind;
-use dym_base::limits::MOST_LINE_BYTES;
+use crate::reader::{Ask, Next, Reader};
+use crate::script::{Decl, ScriptFail};
+use dym_base::limits::{MOST_COMMANDS, MOST_LINE_BYTES};
+use dym_base::{BadKind, Version};
+use dym_commands::Asked;
 use memchr::memrchr;
-use std::alloc::Global;
+use std::alloc::{AllocError, Global};
+
+/// What was read of a whole script.
+#[derive(Drop)]
+pub struct Whole<K> {
+    pub version: Version,
+    /// The declarations, in the order of their lines.
+    pub objects: Vec<Decl>,
+    /// How many lines ask something of an object.
+    pub commands: u32,
+    /// What was kept of the declarations and of these lines.
+    pub kept: K,
+}
 
 /// A script that is read piece by piece, so that it needs not be kept whole.
 #[derive(Drop)]
-pub struct Pieces<K: LineReader> {
-    /// What reads its lines.
-    lines: K,
+pub struct Pieces<K: Keeper> {
+    reader: Reader,
+    keeper: K,
+    /// How many lines asked something.
+    commands: u32,
     /// How many lines were read.
     number: u32,
 }
 
-impl<K: LineReader + Drop> Pieces<K> {
+impl<K: Keeper + Drop> Pieces<K> {
     /// Nothing is read yet.
     pub fn new(alloc: Global) -> Pieces<K>
-        ensures { Took (K.fits result.lines) (K.stands result.lines) result.number [] }
+        ensures { TookBy (K.keeps result.keeper) result.reader result.commands result.number [] }
     {
         Pieces {
-            lines: K::new(alloc),
+            reader: Reader::new(alloc),
+            keeper: K::new(alloc),
+            commands: 0,
             number: 0,
         }
     }
@@ -37,10 +63,14 @@ impl<K: LineReader + Drop> Pieces<K> {
     /// at the piece's end. They are not read: the next piece begins with them. The error is the first bad line, which a
     /// line that is too long already is, or want of memory.
     pub fn take(&mut self, alloc: Global, text: &[u8]) -> Result<usize, ScriptFail>
-        requires { (taken : List ℕ) × Took (K.fits self.old.lines) (K.stands self.old.lines) self.old.number taken × (length taken + length text.now ≤ MOST_INPUT_BYTES) }
+        requires { (taken : List ℕ) × TookBy (K.keeps self.old.keeper) self.old.reader self.old.commands self.old.number taken
+            × (length taken + length text.now ≤ MOST_INPUT_BYTES) }
         ensures short { IfOk result (λ left. left ≤ MOST_LINE_BYTES) }
         ensures within { IfOk result (λ left. left ≤ length text.now) }
-        ensures took { TakesPiece (Took (K.fits self.old.lines) (K.stands self.old.lines) self.old.number) (Took (K.fits self.new.lines) (K.stands self.new.lines) self.new.number) text.now result }
+        ensures took { TakesPiece
+            (TookBy (K.keeps self.old.keeper) self.old.reader self.old.commands self.old.number)
+            (TookBy (K.keeps self.new.keeper) self.new.reader self.new.commands self.new.number)
+            text.now result }
     {
         let (lines, last) = text.split_at(ended_bytes(text));
         self.read_all(alloc, lines)?;
@@ -53,44 +83,154 @@ impl<K: LineReader + Drop> Pieces<K> {
         Ok(last.len())
     }
 
-    /// Reads the last piece, whose last line may lack its end, and answers what is made of the whole script.
-    pub fn finish(mut self, alloc: Global, last: &[u8]) -> Result<K::Made, ScriptFail>
-        requires { (taken : List ℕ) × Took (K.fits self.lines) (K.stands self.lines) self.number taken × (length taken + length last.now ≤ MOST_INPUT_BYTES) }
-        ensures { (taken : List ℕ) → Took (K.fits self.lines) (K.stands self.lines) self.number taken → GivesBy K.tells result (says (taken ++ last.now)) }
+    /// Reads the last piece, whose last line may lack its end, and answers what was read of the whole script.
+    pub fn finish(mut self, alloc: Global, last: &[u8]) -> Result<Whole<K>, ScriptFail>
+        requires { (taken : List ℕ) × TookBy (K.keeps self.keeper) self.reader self.commands self.number taken × (length taken + length last.now ≤ MOST_INPUT_BYTES) }
+        ensures { (taken : List ℕ) → TookBy (K.keeps self.keeper) self.reader self.commands self.number taken
+            → GivesWhole K.keeps result (says (taken ++ last.now)) }
     {
         self.read_all(alloc, last)?;
-        let Pieces { lines, .. } = self;
-        match lines.made(alloc) {
-            Ok(made) => Ok(made),
-            Err(_) => Err(ScriptFail::Memory),
-        }
+        let Pieces {
+            reader,
+            keeper,
+            commands,
+            ..
+        } = self;
+        let Reader {
+            version,
+            objects,
+            ..
+        } = reader;
+        Ok(Whole {
+            version,
+            objects,
+            commands,
+            kept: keeper,
+        })
     }
 
     /// Reads all lines of a text, whose last line may lack its end.
     fn read_all(&mut self, alloc: Global, text: &[u8]) -> Result<(), ScriptFail>
-        requires fits { K.fits self.old.lines }
+        requires ready { IsReady (K.keeps self.old.keeper) self.old.reader self.old.commands }
         requires room { self.old.number + length text.now ≤ MOST_INPUT_BYTES }
-        ensures fits { OnOk result (K.fits self.new.lines) }
+        ensures ready { OnOk result (IsReady (K.keeps self.new.keeper) self.new.reader self.new.commands) }
         ensures number { OnOk result (self.new.number ≤ self.old.number + length text.now) }
-        ensures read { ReadsText (K.stands self.old.lines) (K.stands self.new.lines) self.old.number self.new.number text.now result }
+        ensures read { ReadsText
+            (Stands (K.keeps self.old.keeper) self.old.reader self.old.commands) (Stands (K.keeps self.new.keeper) self.new.reader self.new.commands)
+            self.old.number self.new.number text.now result }
     {
         let plain = is_plain(text);
         let mut rest = text;
+        let mut number = self.number;
         while !rest.is_empty() {
-            self.number += 1;
-            match self.lines.read_next(alloc, self.number, rest, plain) {
+            number += 1;
+            match self.read_next(alloc, number, rest, plain) {
                 Ok(after) => rest = after,
-                Err(LineFail::Bad(kind)) => {
-                    return Err(ScriptFail::Bad {
-                        line: self.number,
-                        kind,
-                    });
-                }
+                Err(LineFail::Bad(kind)) => return Err(ScriptFail::Bad { line: number, kind }),
                 Err(LineFail::Memory) => return Err(ScriptFail::Memory),
             }
         }
+        self.number = number;
         Ok(())
     }
+
+    /// Reads the first line of a text, which has this number, and hands on what it says. The text after the line is left.
+    #[inline(always)]
+    fn read_next<'a>(
+        &mut self,
+        alloc: Global,
+        number: u32,
+        text: &'a [u8],
+        plain: bool,
+    ) -> Result<&'a [u8], LineFail>
+        requires ready { IsReady (K.keeps self.old.keeper) self.old.reader self.old.commands }
+        requires some { 0 < length text.now }
+        requires plain { plain ≡ true → list_all is_plain text.now ≡ true }
+        ensures ready { OnOk result (IsReady (K.keeps self.new.keeper) self.new.reader self.new.commands) }
+        ensures shorter { IfOk result (λ rest. length rest.now < length text.now) }
+        ensures plain { IfOk result (λ rest. plain ≡ true → list_all is_plain rest.now ≡ true) }
+        ensures read { ReadsNext
+            (Stands (K.keeps self.old.keeper) self.old.reader self.old.commands) (Stands (K.keeps self.new.keeper) self.new.reader self.new.commands)
+            number text.now result }
+    {
+        if plain {
+            let mut asked = Asked::Logs;
+            if let Some((object, rest)) = self.reader.next_quickly(text, &mut asked) {
+                self.reader.begun = true;
+                self.reader.last = object;
+                return match self.ask(alloc, object, &asked) {
+                    Ok(()) => Ok(rest),
+                    Err(fail) => Err(fail),
+                };
+            }
+        }
+        self.read_exactly(alloc, number, text, plain)
+    }
+
+    /// The same of a line in any spelling.
+    #[inline(never)]
+    fn read_exactly<'a>(
+        &mut self,
+        alloc: Global,
+        number: u32,
+        text: &'a [u8],
+        plain: bool,
+    ) -> Result<&'a [u8], LineFail>
+        requires ready { IsReady (K.keeps self.old.keeper) self.old.reader self.old.commands }
+        requires some { 0 < length text.now }
+        requires plain { plain ≡ true → list_all is_plain text.now ≡ true }
+        ensures ready { OnOk result (IsReady (K.keeps self.new.keeper) self.new.reader self.new.commands) }
+        ensures shorter { IfOk result (λ rest. length rest.now < length text.now) }
+        ensures plain { IfOk result (λ rest. plain ≡ true → list_all is_plain rest.now ≡ true) }
+        ensures read { ReadsNext
+            (Stands (K.keeps self.old.keeper) self.old.reader self.old.commands) (Stands (K.keeps self.new.keeper) self.new.reader self.new.commands)
+            number text.now result }
+    {
+        let before = self.reader.objects.len();
+        let Next { ask, rest } = self.reader.read_exactly(alloc, number, text, plain)?;
+        tell_declared(alloc, &self.reader, &mut self.keeper, before)?;
+        match ask {
+            Some(Ask { object, asked }) => match self.ask(alloc, object, &asked) {
+                Ok(()) => Ok(rest),
+                Err(fail) => Err(fail),
+            },
+            None => Ok(rest),
+        }
+    }
+
+    /// Hands on what a line asks of a declared object.
+    #[inline(always)]
+    fn ask(&mut self, alloc: Global, object: u32, asked: &Asked<'_>) -> Result<(), LineFail>
+        requires ready { IsReady (K.keeps self.old.keeper) self.old.reader self.old.commands }
+        requires within { object < length self.old.reader.objects.items }
+        ensures ready { OnOk result (IsReady (K.keeps self.new.keeper) self.new.reader self.new.commands) }
+        ensures holds { HoldsLine (Holds (K.keeps self.old.keeper) self.old.reader self.old.commands) (Holds (K.keeps self.new.keeper) self.new.reader self.new.commands)
+            (seen self.new.reader) result (λ lines. reading self.old.reader.begun (ask_at (seen self.old.reader lines).said (asks asked.now) (Some object))) }
+    {
+        if self.commands as usize == MOST_COMMANDS {
+            return Err(LineFail::Bad(BadKind::Many));
+        }
+        self.keeper.ask(alloc, object, asked)?;
+        self.commands += 1;
+        Ok(())
+    }
+}
+
+/// Hands a keeper the declaration that came after so many, where there is one.
+fn tell_declared<K: Keeper>(
+    alloc: Global,
+    reader: &Reader,
+    keeper: &mut K,
+    before: usize,
+) -> Result<(), AllocError>
+    requires { IsKept reader.now }
+    ensures { OnOk result ((objects : List Decl) (lines : List Line) → length objects ≡ before → Grows objects reader.now.objects.items
+        → K.keeps keeper.old objects lines → K.keeps keeper.new reader.now.objects.items lines) }
+{
+    if reader.objects.len() > before {
+        keeper.declare(alloc, &reader.objects[before])?;
+    }
+    Ok(())
 }
 
 /// How many bytes of a text stand before its last line, where that isn't ended.

@@ -2,16 +2,10 @@
 ghost use Rattle.std.specs.Prelude.{◌≡◌, true, ◌≤◌, ◌<◌, length, ◌-◌, ◌*◌, ◌%◌, ◌^◌, ◌==◌, not, is_some, codes, IfSome, IfOk};
 ghost use Rattle.std.specs.Str.{bytes_eq};
 ghost use Rattle.std.specs.List.{list_all, prefix_len};
-ghost use Rattle.dym_script.specs.Words.{number_to, exponent_of, handle_of, handle_or_nil_of, hex_of};
-ghost use Rattle.dym_script.specs.Asks.{bytes_or_none};
-ghost use Rattle.hex.specs.Hex.{is_hex_digit, decode_of};
+ghost use Rattle.dym_script.specs.Words.{number_to, exponent_of, handle_of, handle_or_nil_of};
 
+use dym_base::Handle;
 use dym_base::limits::MOST_READ_BYTES;
-use dym_base::{Blob, Handle};
-use std::alloc::{AllocError, Global};
-
-/// So many bytes are made without memory of their own.
-const FEW_BYTES: usize = 16;
 
 /// The number that a word writes, where it writes one of at most 20 digits and that is at most `most`.
 pub fn number_to(most: u64, word: &[u8]) -> Option<u64>
@@ -169,77 +163,4 @@ pub fn handle_or_nil_of(word: &[u8]) -> Option<Option<Handle>>
     }
     let handle = handle_of(word)?;
     Some(Some(handle))
-}
-
-/// Whether a word is the dash that writes no bytes.
-pub fn is_dash(word: &[u8]) -> bool
-    ensures { result ≡ bytes_eq word.now (codes "-") }
-{
-    word == b"-".as_slice()
-}
-
-/// Whether a word writes bytes.
-#[tactic(auto, unfolding(crate::specs::Words::hex_of))]
-pub fn is_hex(word: &[u8]) -> bool
-    ensures { result ≡ is_some (hex_of word.now) }
-{
-    if is_dash(word) {
-        return true;
-    }
-    if word.len() < 2 || word.len() % 2 != 0 {
-        return false;
-    }
-    are_hex_digits(word)
-}
-
-/// Whether each byte is a hexadecimal digit. No byte ends the walk, so that many are tested at once.
-pub fn are_hex_digits(word: &[u8]) -> bool
-    ensures { result ≡ list_all is_hex_digit word.now }
-{
-    let mut all = true;
-    for byte in word {
-        all &= is_hex_digit(*byte);
-    }
-    all
-}
-
-/// Whether this is a hexadecimal digit, in either case. All tests are made, since which of them holds can't be foretold.
-fn is_hex_digit(byte: u8) -> bool
-    ensures { result ≡ is_hex_digit byte }
-{
-    let is_digit = (b'0' <= byte) & (byte <= b'9');
-    let is_small = (b'a' <= byte) & (byte <= b'f');
-    let is_capital = (b'A' <= byte) & (byte <= b'F');
-    is_digit | is_small | is_capital
-}
-
-/// The bytes that a word writes, where it writes some. Want of memory is the one failure then.
-#[tactic(auto, unfolding(crate::specs::Words::hex_of))]
-pub fn bytes_of(alloc: Global, word: &[u8]) -> Result<Blob, AllocError>
-    ensures { IfOk result (λ bytes. bytes ≡ bytes_or_none (hex_of word.now)) }
-{
-    if is_dash(word) || word.len() < 2 {
-        return Ok(Blob::of_vec(Vec::new(alloc)));
-    }
-    if word.len() % 2 == 0 && word.len() <= 2 * FEW_BYTES {
-        return few_bytes_of(alloc, word);
-    }
-    match hex::decode(alloc, word) {
-        Ok(bytes) => Ok(Blob::of_vec(bytes)),
-        Err(_) => Err(AllocError),
-    }
-}
-
-/// The few bytes that an even number of digits writes.
-fn few_bytes_of(alloc: Global, digits: &[u8]) -> Result<Blob, AllocError>
-    requires even { length digits.now % 2 ≡ 0 }
-    requires few { length digits.now ≤ 2 * FEW_BYTES }
-    ensures { IfOk result (λ bytes. decode_of digits.now ≡ Ok bytes) }
-{
-    let mut room = [0; FEW_BYTES];
-    let bytes = &mut room[..digits.len() / 2];
-    match hex::decode_to_slice(digits, bytes) {
-        Ok(()) => Blob::new(alloc, bytes),
-        Err(_) => Err(AllocError),
-    }
 }

@@ -2,7 +2,6 @@
 ghost use Rattle.std.specs.Prelude.{◌≡◌, ◌≤◌, ◌++◌, length, drop, IfSome};
 ghost use Rattle.dym_script.specs.Quick.{Demands};
 
-use crate::asked::Asked;
 use crate::near::{key_of, key_of_word};
 use crate::numerals::{HIGHEST, first_word};
 use crate::quick_verbs::{
@@ -10,6 +9,7 @@ use crate::quick_verbs::{
     write,
 };
 use crate::verb::Verb;
+use dym_commands::Asked;
 
 /// Eight spaces, as the bytes of a word.
 const SPACES: u64 = 0x2020_2020_2020_2020;

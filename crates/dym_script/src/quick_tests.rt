@@ -1,9 +1,9 @@
 //! What no clause shows: that the guesses of the quick reader are right, so that a line in the usual spelling isn't read twice.
-use crate::asked::Asked;
 use crate::near::key_of;
 use crate::numerals::few_digits;
 use crate::quick::{front_name, quick_rest};
 use crate::sizes::guessed_size;
+use dym_commands::Asked;
 
 #[test]
 fn few_digits_at_once(rt: HostRuntime) {

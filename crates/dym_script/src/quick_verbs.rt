@@ -3,11 +3,11 @@
 ghost use Rattle.std.specs.Prelude.{IfSome};
 ghost use Rattle.dym_script.specs.Quick.{Demands};
 
-use crate::asked::Asked;
 use crate::quick_words::{
     after_byte, after_line, after_verb, byte_value, handle, handle_or_nil, hex, number, number_32,
     read_len,
 };
+use dym_commands::Asked;
 
 /// Of a length.
 #[inline(always)]
@@ -68,9 +68,9 @@ pub fn write<'a>(text: &'a [u8], asked: &mut Asked<'a>) -> Option<&'a [u8]>
     let rest = after_verb(text, b"\0\0 write", 6)?;
     let (h, rest) = handle(rest)?;
     let (at, rest) = number_32(rest)?;
-    let (hex, rest) = hex(rest)?;
+    let (bytes, rest) = hex(rest)?;
     let after = after_line(rest)?;
-    *asked = Asked::Write { h, at, hex };
+    *asked = Asked::Write { h, at, bytes };
     Some(after)
 }
 

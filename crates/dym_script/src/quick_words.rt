@@ -1,14 +1,14 @@
 //! The operands of a line in the usual spelling, each read off at the front of a text.
 ghost use Rattle.std.specs.Prelude.{◌≡◌, ℕ, get_or, ◌<◌, ◌≤◌, ◌-◌, ◌*◌, ◌^◌, ◌∷◌, ◌++◌, length, drop, IfSome};
 ghost use Rattle.dym_script.specs.Quick.{Counts, Sizes, Begins};
-ghost use Rattle.dym_script.specs.Words.{number_to, handle_of, handle_or_nil_of, hex_of};
-ghost use Rattle.dym_script.specs.Asks.{bytes_or_none};
+ghost use Rattle.dym_script.specs.Words.{number_to, handle_of, handle_or_nil_of};
+ghost use Rattle.dym_commands.specs.Hexes.{hex_of};
 
-use crate::hex_digits::digits_at_front;
 use crate::numerals::{digits, digits_32, first_word};
 use crate::sizes::size;
 use dym_base::Handle;
 use dym_base::limits::MOST_READ_BYTES;
+use dym_commands::HexBytes;
 
 /// The text after a space.
 #[inline(always)]
@@ -151,14 +151,10 @@ fn nil(text: &[u8]) -> Option<(Option<Handle>, &[u8])>
 
 /// A word that writes bytes.
 #[inline(always)]
-pub fn hex(text: &[u8]) -> Option<(&[u8], &[u8])>
-    ensures { IfSome result (λ cut. Begins hex_of text.now (bytes_or_none (hex_of cut.0.now)) cut.1.now) }
+pub fn hex(text: &[u8]) -> Option<(HexBytes<'_>, &[u8])>
+    ensures { IfSome result (λ cut. Begins hex_of text.now cut.0 cut.1.now) }
 {
     let word = after_space(text)?;
-    let count = digits_at_front(word)?;
-    let (digits, rest) = word.split_at(count);
-    if digits.len() < 2 || digits.len() % 2 != 0 {
-        return None;
-    }
-    Some((digits, rest))
+    let (bytes, rest) = HexBytes::at_front(word)?;
+    Some((bytes, rest))
 }

@@ -1,7 +1,6 @@
 //! Reads a script line by line.
 ghost use Rattle.std.specs.Prelude.{◌≡◌, ◌+◌, ◌<◌, ◌≤◌, [], ◌∷◌, ◌++◌, true, length, OnOk, IfOk, IfSome};
 
-use crate::asked::{Ask, Asked};
 use crate::line_fail::LineFail;
 use crate::line_tests::{is_printable_line, is_version, unknown};
 use crate::lines::{next_line, next_word, two_words};
@@ -12,10 +11,19 @@ use crate::script::Decl;
 use crate::verb::Verb;
 use dym_base::limits::{MOST_LINE_BYTES, MOST_OBJECTS, MOST_QUOTA};
 use dym_base::{BadKind, Name, Version};
+use dym_commands::Asked;
 use std::alloc::{AllocError, Global};
 use std::collections::HashMap;
 
+/// What a line asks of the object in a place.
+#[derive(Drop)]
+pub struct Ask<'a> {
+    pub object: u32,
+    pub asked: Asked<'a>,
+}
+
 /// What the first line of a text asks, and the text after the line.
+#[derive(Drop)]
 pub struct Next<'a> {
     pub ask: Option<Ask<'a>>,
     pub rest: &'a [u8],
@@ -42,7 +50,7 @@ impl Reader {
     ghost use Rattle.dym_base.specs.Names.{is_name};
     ghost use Rattle.dym_script.specs.Lines.{words_of, lines_of};
     ghost use Rattle.dym_script.specs.Plain.{is_plain};
-    ghost use Rattle.dym_script.specs.Readers.{IsKept, seen, IsWithin, GivesReading, GivesSaid, Declares, Finds, IsNamed, IsNext, GivesNext};
+    ghost use Rattle.dym_script.specs.Readers.{IsKept, seen, IsWithin, GivesReading, GivesSaid, Declares, Finds, IsNamed, IsNext, GivesNext, Grows};
 
     /// A reader that has read nothing.
     pub fn new(alloc: Global) -> Reader
@@ -72,8 +80,7 @@ impl Reader {
         requires some { 0 < length text.now }
         requires plain { plain ≡ true → list_all is_plain text.now ≡ true }
         ensures kept { OnOk result (IsKept self.new) }
-        ensures grown { OnOk result (length self.old.objects.items ≤ length self.new.objects.items) }
-        ensures by_one { OnOk result (length self.new.objects.items ≤ length self.old.objects.items + 1) }
+        ensures grows { OnOk result (Grows self.old.objects.items self.new.objects.items) }
         ensures within { IfOk result (λ next. IsWithin self.new next.ask) }
         ensures shorter { IfOk result (λ next. length next.rest.now < length text.now) }
         ensures plain { IfOk result (λ next. plain ≡ true → list_all is_plain next.rest.now ≡ true) }
@@ -158,8 +165,7 @@ impl Reader {
         requires kept { IsKept self.old }
         requires plain { plain ≡ true → list_all is_printable line.now ≡ true }
         ensures kept { OnOk result (IsKept self.new) }
-        ensures grown { OnOk result (length self.old.objects.items ≤ length self.new.objects.items) }
-        ensures by_one { OnOk result (length self.new.objects.items ≤ length self.old.objects.items + 1) }
+        ensures grows { OnOk result (Grows self.old.objects.items self.new.objects.items) }
         ensures within { IfOk result (IsWithin self.new) }
         ensures read { GivesReading (seen self.new) result (λ lines. read_line (seen self.old lines) number line.now) }
     {
@@ -185,8 +191,7 @@ impl Reader {
     ) -> Result<Option<Ask<'a>>, LineFail>
         requires { IsKept self.old }
         ensures kept { OnOk result (IsKept self.new) }
-        ensures grown { OnOk result (length self.old.objects.items ≤ length self.new.objects.items) }
-        ensures by_one { OnOk result (length self.new.objects.items ≤ length self.old.objects.items + 1) }
+        ensures grows { OnOk result (Grows self.old.objects.items self.new.objects.items) }
         ensures within { IfOk result (IsWithin self.new) }
         ensures read { GivesReading (seen self.new) result (λ lines. read_words (seen self.old lines) number (first.now ∷ words_of words.now)) }
     {
@@ -213,8 +218,7 @@ impl Reader {
     ) -> Result<Option<Ask<'a>>, LineFail>
         requires { IsKept self.old }
         ensures kept { OnOk result (IsKept self.new) }
-        ensures grown { OnOk result (length self.old.objects.items ≤ length self.new.objects.items) }
-        ensures by_one { OnOk result (length self.new.objects.items ≤ length self.old.objects.items + 1) }
+        ensures grows { OnOk result (Grows self.old.objects.items self.new.objects.items) }
         ensures within { IfOk result (IsWithin self.new) }
         ensures read { GivesSaid (λ lines. (seen self.new lines).said) result (λ lines. say (seen self.old lines).said number first.now (words_of words.now)) }
     {
@@ -234,7 +238,7 @@ impl Reader {
     }
 
     /// Reads a declaration.
-    fn declare(
+    pub fn declare(
         &mut self,
         alloc: Global,
         number: u32,
@@ -243,8 +247,9 @@ impl Reader {
     ) -> Result<(), LineFail>
         requires { IsKept self.old }
         ensures kept { OnOk result (IsKept self.new) }
-        ensures grown { OnOk result (length self.old.objects.items ≤ length self.new.objects.items) }
-        ensures by_one { OnOk result (length self.new.objects.items ≤ length self.old.objects.items + 1) }
+        ensures grows { OnOk result (Grows self.old.objects.items self.new.objects.items) }
+        ensures more { OnOk result (length self.new.objects.items ≡ length self.old.objects.items + 1) }
+        ensures version { self.new.version ≡ self.old.version }
         ensures read { Declares (λ lines. (seen self.new lines).said) result (λ lines. declare (seen self.old lines).said number name.now (Some quota)) }
     {
         let declared = Name::new(name).ok_or(LineFail::Bad(BadKind::Name))?;
@@ -287,7 +292,7 @@ impl Reader {
     }
 
     /// The place of the object that a command names.
-    fn asked_of(&self, name: &[u8]) -> Result<u32, LineFail>
+    pub fn asked_of(&self, name: &[u8]) -> Result<u32, LineFail>
         requires { IsKept self.now }
         ensures within { IfOk result (λ object. object < length self.now.objects.items) }
         ensures found { Finds result self.now.objects.items name.now }

@@ -28,15 +28,6 @@ pub struct Script {
     pub lines: Vec<Line>,
 }
 
-/// How much a good script says.
-#[derive(Clone, Copy, Debug, PartialEq, Eq)]
-pub struct Counts {
-    /// How many lines declare an object.
-    pub objects: u32,
-    /// How many lines ask something of an object.
-    pub commands: u32,
-}
-
 /// Why no script was read.
 #[derive(Debug, Drop)]
 pub enum ScriptFail {

@@ -1,5 +1,6 @@
 //! What no clause shows: that good scripts are read, and that the kinds of bad lines are those of the format.
-use crate::{Counts, ScriptFail, apart, count_script, own_commands, read_parts, read_script};
+use crate::read::read_kept;
+use crate::{Counting, Holding, ScriptFail, own_commands, read_script};
 use dym_base::{BadKind, Blob, Command, Handle, Version};
 use std::alloc::{AllocError, Global};
 use std::test::Fail;
@@ -37,30 +38,16 @@ fn good_script(rt: HostRuntime) -> Result<(), Fail> {
     assert_eq!(rt; script.objects[1].line, 4);
     let own = own_commands(rt.alloc(), &script, 0)?;
     assert_eq!(rt; lengths(rt.alloc(), &own)?.as_slice(), [4, 7].as_slice());
-    let counts = count_script(rt.alloc(), GOOD)?;
-    assert_eq!(rt;
-        counts,
-        Counts {
-            objects: 2,
-            commands: 3
-        }
-    );
-    let read = read_parts(rt.alloc(), GOOD)?;
+    let counted = read_kept::<Counting>(rt.alloc(), GOOD)?;
+    assert_eq!(rt; counted.objects.len(), 2);
+    assert_eq!(rt; counted.commands, 3);
+    let read = read_kept::<Holding>(rt.alloc(), GOOD)?;
     assert_eq!(rt; read.version, Version::One);
-    assert_eq!(rt; read.parts.len(), 2);
-    assert_eq!(rt; read.parts[1].decl.line, 4);
-    assert_eq!(rt; read.parts[0].commands.len(), 2);
-    assert_eq!(rt; read.parts[1].commands.len(), 1);
-    let parts = apart(rt.alloc(), script)?;
+    let parts = &read.kept.parts;
     assert_eq!(rt; parts.len(), 2);
-    assert_eq!(rt;
-        lengths(rt.alloc(), &parts[0].commands)?.as_slice(),
-        [4, 7].as_slice()
-    );
-    assert_eq!(rt;
-        lengths(rt.alloc(), &parts[1].commands)?.as_slice(),
-        [u64::MAX].as_slice()
-    );
+    assert_eq!(rt; parts[1].decl.line, 4);
+    assert_eq!(rt; parts[0].commands.len(), 2);
+    assert_eq!(rt; parts[1].commands.len(), 1);
     Ok(())
 }
 
@@ -294,7 +281,7 @@ fn each_command(rt: HostRuntime) -> Result<(), Fail> {
 }
 
 /// So many copies of a byte.
-fn copies(alloc: Global, byte: u8, count: usize) -> Result<Vec<u8>, AllocError> {
+pub fn copies(alloc: Global, byte: u8, count: usize) -> Result<Vec<u8>, AllocError> {
     vec![in alloc; byte; count]
 }
 
@@ -312,7 +299,7 @@ fn lengths_of_lines_and_inputs(rt: HostRuntime) -> Result<(), Fail> {
 }
 
 /// A script of so many declarations.
-fn declarations(alloc: Global, count: u32) -> Result<String, AllocError> {
+pub fn declarations(alloc: Global, count: u32) -> Result<String, AllocError> {
     let mut text = String::new(alloc);
     for n in 0..count {
         let line = format!(in alloc; "object o{n} 1\n")?;

@@ -3,15 +3,13 @@ ghost use Rattle.std.specs.Prelude.{◌≡◌};
 ghost use Rattle.dym_script.specs.Table.{command_of, verb_of};
 ghost use Rattle.dym_script.specs.Lines.{words_of};
 ghost use Rattle.dym_script.specs.Answers.{GivesLine};
-ghost use Rattle.dym_script.specs.Asks.{asks};
+ghost use Rattle.dym_commands.specs.Asks.{asks};
 
-use crate::asked::Asked;
 use crate::line_fail::LineFail;
 use crate::lines::{four_words, next_word, one_word, three_words, two_words};
-use crate::places::{
-    byte_value, handle_of, handle_or_nil_of, is_hex, number_32, number_to, read_len,
-};
+use crate::places::{byte_value, handle_of, handle_or_nil_of, number_32, number_to, read_len};
 use dym_base::BadKind;
+use dym_commands::{Asked, HexBytes};
 
 /// What a command line asks.
 #[derive(Clone, Copy)]
@@ -148,10 +146,8 @@ fn write(words: &[u8]) -> Result<Asked<'_>, LineFail>
     let (h, at, hex) = three_words(words).ok_or(LineFail::Bad(BadKind::Command))?;
     let at = number_32(at).ok_or(LineFail::Bad(BadKind::Number))?;
     let h = handle_of(h).ok_or(LineFail::Bad(BadKind::Handle))?;
-    if !is_hex(hex) {
-        return Err(LineFail::Bad(BadKind::Hex));
-    }
-    Ok(Asked::Write { h, at, hex })
+    let bytes = HexBytes::of_word(hex).ok_or(LineFail::Bad(BadKind::Hex))?;
+    Ok(Asked::Write { h, at, bytes })
 }
 
 /// Of a handle, a place, a length and a byte.

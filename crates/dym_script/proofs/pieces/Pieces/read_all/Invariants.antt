@@ -2,15 +2,16 @@ use Rattle.std.proofs.Common.{◌≡◌, ◌+◌, ◌≤◌, ◌++◌, true, Lis
 use Rattle.std.specs.List.{list_all}
 use Rattle.dym_script.specs.Lines.{lines_of}
 use Rattle.dym_script.specs.Scripts.{Reading, read_lines}
+use Rattle.dym_script.specs.Keeping.{Stands, IsReady}
 use Rattle.dym_script.specs.Plain.{is_plain}
 use Rattle.dym_script.proofs.pieces.Pieces.read_all.Given as goal
 
 abbrev pub invariant-loop-rest : goal.invariant-loop-rest
 invariant-loop-rest g l = record {
-  fits : g.K.LineReader.fits l.self.lines;
-  short : l.self.number + length l.rest ≤ l.initial.self.number + length l.text;
+  ready : IsReady (g.K.Keeper.keeps l.self.keeper) l.self.reader l.self.commands;
+  short : l.number + length l.rest ≤ l.initial.self.number + length l.text;
   plain : l.plain ≡ true → list_all is_plain l.rest ≡ true;
-  read : (old : Reading) → g.K.LineReader.stands l.initial.self.lines old → (new : Reading) × g.K.LineReader.stands l.self.lines new × ((others : List (List ℕ)) → read_lines old (l.initial.self.number + 1) (lines_of l.text ++ others) ≡ read_lines new (l.self.number + 1) (lines_of l.rest ++ others));
+  read : (old : Reading) → Stands (g.K.Keeper.keeps l.initial.self.keeper) l.initial.self.reader l.initial.self.commands old → (new : Reading) × Stands (g.K.Keeper.keeps l.self.keeper) l.self.reader l.self.commands new × ((others : List (List ℕ)) → read_lines old (l.initial.self.number + 1) (lines_of l.text ++ others) ≡ read_lines new (l.number + 1) (lines_of l.rest ++ others));
 }
 
 abbrev pub decreases-loop-rest : goal.decreases-loop-rest

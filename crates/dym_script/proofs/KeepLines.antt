@@ -1,0 +1,244 @@
+-- How what is kept of a script goes on line by line.
+use Rattle.std.proofs.Common.{◌≡◌, ℕ, ◌+◌, ◌<◌, ◌≤◌, ◌==◌, inl, inr, true, false, List, [], ◌∷◌, ◌++◌, length, get_or, refl, sym, ap, ◌∙◌, arith, length-append, eq-eqb, Option, Some, None, Ok, Err, subst}
+use Rattle.std.proofs.Math.Seq.{get_or-append_seam}
+use Rattle.std.proofs.lemmas.List.Elements.{All-push, All-weaker}
+use Rattle.std.proofs.lemmas.Bool.Decides.{nat_tests}
+use Rattle.dym_base.specs.declared.bad_kind.BadKind.{BadKind}
+use Rattle.dym_base.specs.declared.bad_kind.BadKind.TheVariants as bad
+use Rattle.dym_base.specs.declared.limits.TheConstants.{MOST_COMMANDS}
+use Rattle.dym_base.specs.declared.command.Command.{Command}
+use Rattle.dym_commands.specs.Asks.{asks}
+use Rattle.dym_script.specs.declared.line_fail.LineFail.{LineFail}
+use Rattle.dym_script.specs.declared.line_fail.LineFail.TheVariants as fail
+use Rattle.dym_script.specs.declared.reader.Ask.{Ask}
+use Rattle.dym_script.specs.declared.reader.Reader.{Reader}
+use Rattle.dym_script.specs.declared.script.Decl.{Decl}
+use Rattle.dym_script.specs.declared.script.Line.{Line}
+use Rattle.dym_script.specs.Lines.{lines_of}
+use Rattle.dym_script.specs.Scripts.{Reading, ask_at, read_line, read_lines, start}
+use Rattle.dym_script.specs.Keeping.{Asks, Declares, CanAsk, Holds, Stands, IsReady, HoldsLine, IsWhole}
+use Rattle.dym_script.specs.Pieces.{ReadsNext}
+use Rattle.dym_script.specs.Readers.{IsKept, IsNext, Grows, seen, reading, with_ask}
+use Rattle.dym_script.proofs.PiecesRead.{lines_next}
+
+-- nothing is read yet
+pub stands_start : (P : List Decl → List Line → Type 0) (r : Reader) → IsKept r → seen r [] ≡ start → P [] [] → Stands P r 0 start
+stands_start P r kept is nothing = record {
+  lines = [];
+  holds = record {
+    count = refl;
+    keeps = subst (λ os. P os []) (sym (ap (λ (x : Reading). x.said.objects) is)) nothing;
+    lawful = kept.lawful;
+  };
+  is = sym is;
+}
+
+-- a command more
+pub holds_asked : (P Q : List Decl → List Line → Type 0) (r : Reader) (n : ℕ) (object : ℕ) (command : Command) (lines : List Line) → object < length r.objects.items → n < MOST_COMMANDS → Asks P Q object command
+    → Holds P r n lines → Holds Q r (n + 1) (lines ++ record { object = object; command = command } ∷ [])
+holds_asked P Q r n object command lines within room asks holds =
+    let line : Line = record { object = object; command = command } in
+    record {
+      count = omega (arith, length-append lines (line ∷ []), holds.count);
+      keeps = asks r.objects.items lines holds.keeps;
+      lawful = record {
+        objects = holds.lawful.objects;
+        lines = omega (arith, length-append lines (line ∷ []), holds.count, room);
+        names = holds.lawful.names;
+        quotas = holds.lawful.quotas;
+        declared = All-push (λ l. l.object < length r.objects.items) lines line holds.lawful.declared within;
+      };
+    }
+
+-- what the grammar says of it where there is room, and where there is none
+pub asked_room : (r : Reader) (n : ℕ) (object : ℕ) (command : Command) (lines : List Line) → length lines ≡ n → n < MOST_COMMANDS
+    → reading r.begun (ask_at (seen r lines).said command (Some object)) ≡ Ok (seen r (lines ++ record { object = object; command = command } ∷ []))
+asked_room r n object command lines count room =
+    let free : (length lines == MOST_COMMANDS) ≡ false = grind (arith, nat_tests) in
+    rw free refl
+
+pub asked_full : (r : Reader) (object : ℕ) (command : Command) (lines : List Line) → length lines ≡ MOST_COMMANDS → reading r.begun (ask_at (seen r lines).said command (Some object)) ≡ Err bad.Many
+asked_full r object command lines full =
+    let same : (length lines == MOST_COMMANDS) ≡ true = eq-eqb (length lines) MOST_COMMANDS full in
+    rw same refl
+
+-- there is room for one more
+pub below_most : (n : ℕ) → n ≤ MOST_COMMANDS → ¬ (n ≡ MOST_COMMANDS) → n < MOST_COMMANDS
+below_most n within other = grind (arith, nat_tests)
+
+-- there is room for what is asked
+pub can_ask : (P : List Decl → List Line → Type 0) (r : Reader) (n object : ℕ) → IsReady P r n → object < length r.objects.items → n < MOST_COMMANDS → CanAsk P object
+can_ask P r n object ready within room =
+    let (now, stands) = ready.some in
+    let lines = stands.lines in
+    let holds = stands.holds in
+    let is = stands.is in
+    record { objects = r.objects.items; lines = lines; keeps = holds.keeps; within = within; room = omega (arith, holds.count, room) }
+
+grown_long : (old new : List Decl) → Grows old new → length old ≤ length new
+grown_long old new (inl same) = rw same (omega arith)
+grown_long old new (inr more) = rw more.1 (omega (arith, length-append old (more.0 ∷ [])))
+
+-- what was declared is lawful with the lines so far
+pub holds_declared : (P Q : List Decl → List Line → Type 0) (r s : Reader) (n : ℕ) (lines : List Line) → IsKept s → Grows r.objects.items s.objects.items
+    → ((objects : List Decl) (ls : List Line) → length objects ≡ length r.objects.items → Grows objects s.objects.items → P objects ls → Q s.objects.items ls)
+    → Holds P r n lines → Holds Q s n lines
+holds_declared P Q r s n lines kept grows told holds = record {
+  count = holds.count;
+  keeps = told r.objects.items lines refl grows holds.keeps;
+  lawful = record {
+    objects = kept.lawful.objects;
+    lines = holds.lawful.lines;
+    names = kept.lawful.names;
+    quotas = kept.lawful.quotas;
+    declared = All-weaker (λ line. line.object < length r.objects.items) (λ line. line.object < length s.objects.items) (λ line below. omega (arith, below, grown_long r.objects.items s.objects.items grows)) lines holds.lawful.declared;
+  };
+}
+
+-- a line more may be read after a command
+pub ready_asked : (P Q : List Decl → List Line → Type 0) (r : Reader) (n object : ℕ) (command : Command) → IsReady P r n → object < length r.objects.items → n < MOST_COMMANDS → Asks P Q object command → IsReady Q r (n + 1)
+ready_asked P Q r n object command ready within room asks =
+    let (now, stands) = ready.some in
+    let lines = stands.lines in
+    let holds = stands.holds in
+    let is = stands.is in
+    let line : Line = record { object = object; command = command } in
+    record {
+      kept = ready.kept;
+      few = omega (arith, room);
+      some = (seen r (lines ++ line ∷ []), record { lines = lines ++ line ∷ []; holds = holds_asked P Q r n object command lines within room asks holds; is = refl });
+    }
+
+-- after a declaration
+pub ready_declared : (P Q : List Decl → List Line → Type 0) (r s : Reader) (n : ℕ) → IsReady P r n → IsKept s → Grows r.objects.items s.objects.items
+    → ((objects : List Decl) (ls : List Line) → length objects ≡ length r.objects.items → Grows objects s.objects.items → P objects ls → Q s.objects.items ls)
+    → IsReady Q s n
+ready_declared P Q r s n ready kept grows told =
+    let (now, stands) = ready.some in
+    let lines = stands.lines in
+    let holds = stands.holds in
+    let is = stands.is in
+    record { kept = kept; few = ready.few; some = (seen s lines, record { lines = lines; holds = holds_declared P Q r s n lines kept grows told holds; is = refl }) }
+
+-- and after the name and the words of a line in the usual spelling
+abbrev pub quickly : Reader → ℕ → Reader
+quickly r object = record r { begun = true; last = object }
+
+holds_quickly : (P : List Decl → List Line → Type 0) (r : Reader) (n object : ℕ) (lines : List Line) → Holds P r n lines → Holds P (quickly r object) n lines
+holds_quickly P r n object lines holds = record { count = holds.count; keeps = holds.keeps; lawful = holds.lawful }
+
+pub ready_quickly : (P : List Decl → List Line → Type 0) (r : Reader) (n object : ℕ) → IsReady P r n → IsReady P (quickly r object) n
+ready_quickly P r n object ready =
+    let (now, stands) = ready.some in
+    let lines = stands.lines in
+    let holds = stands.holds in
+    let is = stands.is in
+    record {
+      kept = record { indexed = ready.kept.indexed; first = ready.kept.first; lawful = ready.kept.lawful };
+      few = ready.few;
+      some = (seen (quickly r object) lines, record { lines = lines; holds = holds_quickly P r n object lines holds; is = refl });
+    }
+
+-- the grammar says of a line in the usual spelling what is held with it
+pub quick_next : (P Q : List Decl → List Line → Type 0) (r s : Reader) (ask : Ask) (n m number : ℕ) (text rest : List ℕ) → IsNext r text ask rest
+    → HoldsLine (Holds P (quickly r ask.object) n) (Holds Q s m) (seen s) (Ok tt) (λ lines. reading true (ask_at (seen (quickly r ask.object) lines).said (asks ask.asked) (Some ask.object)))
+    → (old : Reading) → Stands P r n old → (new : Reading) × Stands Q s m new × ((others : List (List ℕ)) → read_lines old number (lines_of text ++ others) ≡ read_lines new (number + 1) (lines_of rest ++ others))
+quick_next P Q r s ask n m number text rest next takes old stands =
+    let lines = stands.lines in
+    let holds = stands.holds in
+    let is = stands.is in
+    let (more, held, good) = takes lines (holds_quickly P r n ask.object lines holds) in
+    let (line, cut, gives) = next.first in
+    (seen s more, record { lines = more; holds = held; is = refl }, λ others. ap (λ x. read_lines x number (lines_of text ++ others)) is ∙ lines_next (seen r lines) number text line (lines_of rest) others (Ok (seen s more)) cut (gives number lines ∙ good))
+
+-- and where it is bad, the text is
+pub quick_fails : (P Q : List Decl → List Line → Type 0) (r s : Reader) (ask : Ask) (n m number : ℕ) (text rest : List ℕ) (failed : LineFail) → IsNext r text ask rest
+    → HoldsLine (Holds P (quickly r ask.object) n) (Holds Q s m) (seen s) (Err failed) (λ lines. reading true (ask_at (seen (quickly r ask.object) lines).said (asks ask.asked) (Some ask.object)))
+    → ReadsNext (Stands P r n) (Stands Q s m) number text (Err failed)
+quick_fails P Q r s ask n m number text rest (fail.Bad kind) next takes = λ old stands others.
+    let lines = stands.lines in
+    let holds = stands.holds in
+    let is = stands.is in
+    let (line, cut, gives) = next.first in
+    ap (λ x. read_lines x number (lines_of text ++ others)) is ∙ lines_next (seen r lines) number text line (lines_of rest) others (Err kind) cut (gives number lines ∙ takes lines (holds_quickly P r n ask.object lines holds))
+quick_fails P Q r s ask n m number text rest fail.Memory next takes = tt
+
+-- the same of a line in any spelling, that asks nothing
+pub exact_none : (P Q : List Decl → List Line → Type 0) (r s : Reader) (ask : Option Ask) (n number : ℕ) (text rest line : List ℕ) → ask ≡ None → lines_of text ≡ line ∷ lines_of rest
+    → ((lines : List Line) → read_line (seen r lines) number line ≡ reading s.begun (with_ask (seen s lines).said ask))
+    → ((lines : List Line) → Holds P r n lines → Holds Q s n lines)
+    → (old : Reading) → Stands P r n old → (new : Reading) × Stands Q s n new × ((others : List (List ℕ)) → read_lines old number (lines_of text ++ others) ≡ read_lines new (number + 1) (lines_of rest ++ others))
+exact_none P Q r s ask n number text rest line none cut gives declared old stands =
+    let lines = stands.lines in
+    let holds = stands.holds in
+    let is = stands.is in
+    let good : read_line (seen r lines) number line ≡ Ok (seen s lines) = gives lines ∙ ap (λ a. reading s.begun (with_ask (seen s lines).said a)) none in
+    (seen s lines, record { lines = lines; holds = declared lines holds; is = refl }, λ others. ap (λ x. read_lines x number (lines_of text ++ others)) is ∙ lines_next (seen r lines) number text line (lines_of rest) others (Ok (seen s lines)) cut good)
+
+-- that asks something
+pub exact_some : (P O Q : List Decl → List Line → Type 0) (r s t : Reader) (ask : Option Ask) (one : Ask) (n m number : ℕ) (text rest line : List ℕ) → ask ≡ Some one → lines_of text ≡ line ∷ lines_of rest
+    → ((lines : List Line) → read_line (seen r lines) number line ≡ reading s.begun (with_ask (seen s lines).said ask))
+    → ((lines : List Line) → Holds P r n lines → Holds O s n lines)
+    → HoldsLine (Holds O s n) (Holds Q t m) (seen t) (Ok tt) (λ lines. reading s.begun (ask_at (seen s lines).said (asks one.asked) (Some one.object)))
+    → (old : Reading) → Stands P r n old → (new : Reading) × Stands Q t m new × ((others : List (List ℕ)) → read_lines old number (lines_of text ++ others) ≡ read_lines new (number + 1) (lines_of rest ++ others))
+exact_some P O Q r s t ask one n m number text rest line some cut gives declared takes old stands =
+    let lines = stands.lines in
+    let holds = stands.holds in
+    let is = stands.is in
+    let (more, held, good) = takes lines (declared lines holds) in
+    let read : read_line (seen r lines) number line ≡ Ok (seen t more) = gives lines ∙ ap (λ a. reading s.begun (with_ask (seen s lines).said a)) some ∙ good in
+    (seen t more, record { lines = more; holds = held; is = refl }, λ others. ap (λ x. read_lines x number (lines_of text ++ others)) is ∙ lines_next (seen r lines) number text line (lines_of rest) others (Ok (seen t more)) cut read)
+
+-- or that is bad for what it asks
+pub exact_fails : (P O Q : List Decl → List Line → Type 0) (r s t : Reader) (ask : Option Ask) (one : Ask) (n m number : ℕ) (text rest line : List ℕ) (failed : LineFail) → ask ≡ Some one → lines_of text ≡ line ∷ lines_of rest
+    → ((lines : List Line) → read_line (seen r lines) number line ≡ reading s.begun (with_ask (seen s lines).said ask))
+    → ((lines : List Line) → Holds P r n lines → Holds O s n lines)
+    → HoldsLine (Holds O s n) (Holds Q t m) (seen t) (Err failed) (λ lines. reading s.begun (ask_at (seen s lines).said (asks one.asked) (Some one.object)))
+    → ReadsNext (Stands P r n) (Stands Q t m) number text (Err failed)
+exact_fails P O Q r s t ask one n m number text rest line (fail.Bad kind) some cut gives declared takes = λ old stands others.
+    let lines = stands.lines in
+    let holds = stands.holds in
+    let is = stands.is in
+    let read : read_line (seen r lines) number line ≡ Err kind = gives lines ∙ ap (λ a. reading s.begun (with_ask (seen s lines).said a)) some ∙ takes lines (declared lines holds) in
+    ap (λ x. read_lines x number (lines_of text ++ others)) is ∙ lines_next (seen r lines) number text line (lines_of rest) others (Err kind) cut read
+exact_fails P O Q r s t ask one n m number text rest line fail.Memory some cut gives declared takes = tt
+
+-- when all lines are read, the whole script is
+pub whole_told : (P : List Decl → List Line → Type 0) (r : Reader) (n : ℕ) (now : Reading) → Stands P r n now → IsWhole P r.version r.objects.items n now.said
+whole_told P r n now stands =
+    let lines = stands.lines in
+    let holds = stands.holds in
+    let is = stands.is in
+    let whole : IsWhole P r.version r.objects.items n (seen r lines).said = record {
+      version = refl;
+      objects = refl;
+      commands = holds.count;
+      keeps = holds.keeps;
+      lawful = holds.lawful;
+    } in
+    subst (λ (x : Reading). IsWhole P r.version r.objects.items n x.said) (sym is) whole
+
+-- the declaration that came last
+pub told_last : (P Q : List Decl → List Line → Type 0) (decls : List Decl) (n : ℕ) (decl : Decl) → n < length decls → decl ≡ get_or decls n decl → Declares P Q decl
+    → (objects : List Decl) (lines : List Line) → length objects ≡ n → Grows objects decls → P objects lines → Q decls lines
+told_last P Q decls n decl more at declares objects lines len (inl same) keeps = absurd (omega (arith, more, len, ap length same))
+told_last P Q decls n decl more at declares objects lines len (inr (last, is)) keeps =
+    let here : decl ≡ last = at ∙ ap (λ ds. get_or ds n decl) is ∙ ap (λ k. get_or (objects ++ last ∷ []) k decl) (sym len) ∙ get_or-append_seam objects last [] decl in
+    subst (λ ds. Q ds lines) (sym is) (subst (λ d. Q (objects ++ d ∷ []) lines) here (declares objects lines keeps))
+
+-- no declaration came
+pub told_none : (P : List Decl → List Line → Type 0) (decls : List Decl) (n : ℕ) → length decls ≤ n → (objects : List Decl) (lines : List Line) → length objects ≡ n → Grows objects decls → P objects lines → P decls lines
+told_none P decls n few objects lines len (inl same) keeps = subst (λ ds. P ds lines) (sym same) keeps
+told_none P decls n few objects lines len (inr (last, is)) keeps = absurd (omega (arith, few, len, ap length is, length-append objects (last ∷ [])))
+
+-- the bad line is named
+pub next_bad : (Before After : Reading → Type 0) (number : ℕ) (text : List ℕ) (failed : LineFail) (kind told : BadKind) → failed ≡ fail.Bad kind → told ≡ kind → ReadsNext Before After number text (Err failed)
+    → (old : Reading) → Before old → (others : List (List ℕ)) → read_lines old number (lines_of text ++ others) ≡ Err (record { line = number; kind = told })
+next_bad Before After number text failed kind told is same reads old stands others =
+    let bad : ReadsNext Before After number text (Err (fail.Bad kind)) = subst (λ e. ReadsNext Before After number text (Err e)) is reads in
+    subst (λ k. read_lines old number (lines_of text ++ others) ≡ Err (record { line = number; kind = k })) (sym same) (bad old stands others)
+
+-- no byte is left
+pub empty_is : (xs : List ℕ) → length xs ≡ 0 → xs ≡ []
+empty_is [] none = refl
+empty_is (x ∷ xs) none = absurd (omega (arith, none))

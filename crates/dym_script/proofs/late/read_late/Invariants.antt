@@ -1,0 +1,14 @@
+use Rattle.std.proofs.Common.{◌+◌, ◌≤◌, length}
+use Rattle.dym_script.specs.LateAnswers.{IsLateKept, late_seen}
+use Rattle.dym_script.proofs.LateRead.{ReadTo}
+use Rattle.dym_script.proofs.late.read_late.Given as goal
+
+abbrev pub invariant-loop-line : goal.invariant-loop-line
+invariant-loop-line l = record {
+  kept : IsLateKept l.reader;
+  short : l.number + length l.rest ≤ length l.bytes;
+  read : ReadTo l.bytes (late_seen l.reader) l.number l.rest;
+}
+
+abbrev pub decreases-loop-line : goal.decreases-loop-line
+decreases-loop-line l = length l.rest

@@ -1,0 +1,36 @@
+use Rattle.std.proofs.Common.{◌≡◌, ◌+◌, ◌++◌, ◌∙◌, [], ap, length, arith}
+use Rattle.std.proofs.lemmas.Bool.Decides.{nat_tests}
+use Rattle.dym_script.specs.Keeping.{Stands}
+use Rattle.dym_script.specs.Lines.{lines_of}
+use Rattle.dym_script.specs.Scripts.{read_lines}
+use Rattle.dym_script.proofs.KeepLines.{next_bad, empty_is}
+use Rattle.dym_script.proofs.pieces.Pieces.read_all.Goals as goal
+
+pub loop-rest-preserved : goal.loop-rest-preserved
+loop-rest-preserved g c = record {
+  ready = c.in-Ok.ensures.ready;
+  short = omega (arith, c.in-Ok.ensures.shorter, c.loop-rest.invariant.short);
+  plain = c.in-Ok.ensures.plain;
+  read = λ old stands.
+      let (mid, between, reads) = c.loop-rest.invariant.read old stands in
+      let (new, after, more) = c.in-Ok.ensures.read mid between in
+      (new, after, λ others. reads others ∙ more others);
+}
+
+pub returns-in-Err-Bad-clause-read : goal.returns-in-Err-Bad-clause-read
+returns-in-Err-Bad-clause-read g c old stands others =
+    let l = c.loop-rest in
+    let now = l.self in
+    let new = c.read_next.new.self in
+    let (mid, between, reads) = l.invariant.read old stands in
+    reads others
+    ∙ next_bad (Stands (g.K.Keeper.keeps now.keeper) now.reader now.commands) (Stands (g.K.Keeper.keeps new.keeper) new.reader new.commands) (l.number + 1) l.rest.now c.in-Err-Bad.field-0 c.in-Err-Bad.kind _ c.in-Err-Bad.field-0-is c.in-Err-Bad.kind-is c.in-Err-Bad.ensures.read
+    mid between others
+
+pub returns-clause-read : goal.returns-clause-read
+returns-clause-read g c old stands =
+    let l = c.loop-rest in
+    let zero : length l.rest.now ≡ 0 = grind (arith, nat_tests, c.is_empty.ensures, c.loop-rest-test.false) in
+    let none : l.rest.now ≡ [] = empty_is l.rest.now zero in
+    let (new, after, reads) = l.invariant.read old stands in
+    (new, after, λ others. reads others ∙ ap (λ t. read_lines new (l.number + 1) (lines_of t ++ others)) none)

@@ -1,0 +1,34 @@
+//! What a script of late events says.
+
+use crate::script::Decl;
+use dym_base::Command;
+
+/// The most lines of a script of late events that aren't declarations.
+pub const MOST_LATE_LINES: usize = 65_536;
+
+/// The most lines of one object that have an event.
+pub const MOST_LATE_EVENTS: u32 = 4_096;
+
+/// What a line of late events says of its object.
+#[derive(Drop)]
+pub enum LateAct {
+    /// An event: a command at a time.
+    At { time: u64, command: Command },
+    /// No event before this time is accepted any more.
+    Commit { time: u64 },
+}
+
+/// A line that says something of an object.
+#[derive(Drop)]
+pub struct LateLine {
+    /// The place of the object's declaration, from 0 on.
+    pub object: u32,
+    pub act: LateAct,
+}
+
+/// A good script of late events: its declarations and its other lines, each in the order of the input.
+#[derive(Drop)]
+pub struct LateScript {
+    pub objects: Vec<Decl>,
+    pub lines: Vec<LateLine>,
+}
