@@ -7,30 +7,18 @@ use Rattle.std.specs.List.{flat_map}
 use Rattle.std.specs.declared.boxed.Box.{Box}
 use Rattle.std.specs.declared.alloc.Global.{Global}
 use Rattle.dym_pool.specs.Jobs.{boxed_labels, unboxed, AllBoxedEnded, Numbered, EveryJobBack}
-use Rattle.dym_pool.specs.Shares.{Has, SameElements, placed, standing, NumbersBelow, Gathered}
+use Rattle.std.specs.List.{AllZip}
+use Rattle.dym_pool.specs.Deques.{HasAll}
+use Rattle.dym_pool.specs.Holdings.{Holding, IsFinished}
+use Rattle.dym_pool.specs.Shares.{Has, SameElements, placed, standing, NumbersBelow, Gathered, PlacesEnded}
 use Rattle.dym_pool.proofs.Elements.{has-left, has-right, has-split}
-use Rattle.dym_pool.proofs.Places.{placed-length, placed-right, placed-there, all-standing, Right}
+use Rattle.dym_pool.proofs.Places.{placed-append, placed-length, placed-right, placed-there, all-standing, Right}
 
 module _ {X A : Type 0} (f : X → List A) where
   pub has-flat : (xs : List X) (i : ℕ) (d : X) (x : A) → i < length xs → Has (f (get_or xs i d)) x → Has (flat_map f xs) x
   has-flat [] i d x l h = absurd (omega arith)
   has-flat (y ∷ ys) zero d x l h = has-left (f y) (flat_map f ys) x h
   has-flat (y ∷ ys) (suc i) d x l h = has-right (f y) (flat_map f ys) x (has-flat ys i d x (omega arith) h)
-
-  pub all-flat : (P : A → Type 0) (xs : List X) → ((i : ℕ) (d : X) → i < length xs → All P (f (get_or xs i d))) → All P (flat_map f xs)
-  all-flat P [] each = λ k d l. absurd (omega arith)
-  all-flat P (y ∷ ys) each = All-append P (f y) (flat_map f ys) (each 0 y (omega arith)) (all-flat P ys (λ i d l. each (suc i) d (omega arith)))
-
-  pub map-flat : {C : Type 0} (h : A → C) (xs : List X) → map h (flat_map f xs) ≡ flat_map (λ x. map h (f x)) xs
-  map-flat {C} h [] = refl
-  map-flat {C} h (y ∷ ys) = map-append h (f y) (flat_map f ys) ∙ ap {B = List C} (λ l. map h (f y) ++ l) (map-flat h ys)
-
-  pub flat-same : (xs ys : List X) → length ys ≡ length xs → ((k : ℕ) (d : X) → k < length xs → f (get_or ys k d) ≡ f (get_or xs k d)) → flat_map f ys ≡ flat_map f xs
-  flat-same [] [] e same = refl
-  flat-same [] (y ∷ ys) e same = absurd (omega arith)
-  flat-same (x ∷ xs) [] e same = absurd (omega arith)
-  flat-same (x ∷ xs) (y ∷ ys) e same =
-      ap {B = List A} (λ l. l ++ flat_map f ys) (same 0 x (omega arith)) ∙ ap {B = List A} (λ l. f x ++ l) (flat-same xs ys (omega arith) (λ k d l. same (suc k) d (omega arith)))
 
 module _ {A C : Type 0} (h : A → C) where
   pub has-at : (xs : List A) (k : ℕ) (d : A) → k < length xs → Has (map h xs) (h (get_or xs k d))
@@ -59,41 +47,80 @@ none_there zero k b e = absurd (none-some b e)
 none_there (suc n) zero b e = absurd (none-some b e)
 none_there (suc n) (suc k) b e = none_there n k b e
 
-module _ {J O X : Type 0} (number left : J → ℕ) (origin : J → O) (boxes : X → List (Box J Global)) where
-  abbrev labels_of : X → List (ℕ × O)
-  labels_of x = boxed_labels number origin (boxes x)
+module _ {A : Type 0} where
+  pub has-here : (xs : List A) (k : ℕ) (d : A) → k < length xs → Has xs (get_or xs k d)
+  has-here [] k d l = absurd (omega arith)
+  has-here (y ∷ ys) zero d l = inl refl
+  has-here (y ∷ ys) (suc k) d l = inr (has-here ys k d (omega arith))
 
+module _ {J O : Type 0} (number left : J → ℕ) (origin : J → O) where
   abbrev label : Box J Global → ℕ × O
   label b = (number b.value, origin b.value)
 
-  pub numbers_fit : (xs : List X) (n : ℕ) → NumbersBelow n (flat_map labels_of xs) → (k : ℕ) (d : X) → k < length xs → (j : ℕ) (e : Box J Global) → j < length (boxes (get_or xs k d)) → number (get_or (boxes (get_or xs k d)) j e).value < n
-  numbers_fit xs n names k d l j e m = names.0 (label (get_or (boxes (get_or xs k d)) j e)) (has-flat labels_of xs k d _ l (has-at label (boxes (get_or xs k d)) j e m))
+  -- boxes with these labels fit
+  pub boxes_fit : (bs : List (Box J Global)) (labels : List (ℕ × O)) (n : ℕ) → boxed_labels number origin bs ≡ labels → All (λ x. x.0 < n) labels → All (λ b. number b.value < n) bs
+  boxes_fit bs labels n is all k d l =
+      let there = subst (All (λ (x : ℕ × O). x.0 < n)) (sym is) all k (label d) (omega (arith, length-map bs label)) in
+      subst (λ (x : ℕ × O). x.0 < n) (map_at label bs k (label d) d l) there
+
+  -- one share's boxes more
+  pub places_more : (labels hand : List (ℕ × O)) (before between after : List (Option (Box J Global))) (bs : List (Box J Global)) → PlacesEnded number left origin labels before between
+      → boxed_labels number origin bs ≡ hand → AllBoxedEnded left bs → after ≡ placed (λ b. number b.value) bs between → PlacesEnded number left origin (labels ++ hand) before after
+  places_more labels hand before between after bs p is ended then = (
+    p.0 ++ bs,
+    map-append label p.0 bs ∙ ap {B = List (ℕ × O)} (λ l. l ++ boxed_labels number origin bs) p.1 ∙ ap {B = List (ℕ × O)} (λ l. labels ++ l) is,
+    All-append (λ b. left b.value ≡ 0) p.0 bs p.2 ended,
+    then ∙ ap (placed (λ (b : Box J Global). number b.value) bs) p.3 ∙ sym (placed-append (λ (b : Box J Global). number b.value) p.0 bs before),
+  )
 
   number_of_label : (bs : List (Box J Global)) (k : ℕ) (o : O) → Has (boxed_labels number origin bs) (k, o) → Has (map (λ b. number b.value) bs) k
   number_of_label [] k o h = h
   number_of_label (b ∷ bs) k o h = ⊎_elim (λ (e : label b ≡ (k, o)). inl (ap (λ (p : ℕ × O). p.0) e)) (λ (t : Has (boxed_labels number origin bs) (k, o)). inr (number_of_label bs k o t)) h
 
-  pub gathered : (xs : List X) (n : ℕ) → NumbersBelow n (flat_map labels_of xs) → ((k : ℕ) (d : X) → k < length xs → AllBoxedEnded left (boxes (get_or xs k d)))
-      → Gathered number left origin n (flat_map labels_of xs) (unboxed (standing (placed (λ b. number b.value) (flat_map boxes xs) (replicate n None))))
-  gathered xs n names ended =
-      let flat = flat_map boxes xs in
-      let all = flat_map labels_of xs in
+  pub gathered : (bs : List (Box J Global)) (all : List (ℕ × O)) (n : ℕ) → boxed_labels number origin bs ≡ all → NumbersBelow n all → AllBoxedEnded left bs
+      → Gathered number left origin n all (unboxed (standing (placed (λ b. number b.value) bs (replicate n None))))
+  gathered bs all n same names ended =
       let nothing : Option (Box J Global) = None in
       let Fits : Box J Global → Type 0 = λ b. Has all (label b) × (left b.value ≡ 0) in
-      let slots = placed (λ (b : Box J Global). number b.value) flat (replicate n None) in
-      let same : boxed_labels number origin flat ≡ all = map-flat boxes label xs in
-      let fits : All Fits flat = λ k d l. (subst (λ (ls : List (ℕ × O)). Has ls (label (get_or flat k d))) same (has-at label flat k d l), all-flat boxes (λ b. left b.value ≡ 0) xs ended k d l) in
-      let right : Right (λ (b : Box J Global). number b.value) Fits slots = placed-right (λ (b : Box J Global). number b.value) Fits flat (replicate n None) fits (λ k b e. absurd (none_there n k b e)) in
-      let long : length slots ≡ n = placed-length (λ (b : Box J Global). number b.value) flat (replicate n None) ∙ length-replicate n None in
+      let slots = placed (λ (b : Box J Global). number b.value) bs (replicate n None) in
+      let fits : All Fits bs = λ k d l. (subst (λ (ls : List (ℕ × O)). Has ls (label (get_or bs k d))) same (has-at label bs k d l), ended k d l) in
+      let right : Right (λ (b : Box J Global). number b.value) Fits slots = placed-right (λ (b : Box J Global). number b.value) Fits bs (replicate n None) fits (λ k b e. absurd (none_there n k b e)) in
+      let long : length slots ≡ n = placed-length (λ (b : Box J Global). number b.value) bs (replicate n None) ∙ length-replicate n None in
       let there : (k : ℕ) → k < length slots → (b : Box J Global) × (get_or slots k None ≡ Some b) × ((number b.value ≡ k) × Fits b) = λ k l.
       let named = names.1 k (omega (arith, long)) in
-      let t = placed-there (λ (b : Box J Global). number b.value) flat (replicate n None) k (omega (arith, long, length-replicate n nothing)) (inl (number_of_label flat k named.0 (subst (λ (ls : List (ℕ × O)). Has ls (k, named.0)) (sym same) named.1))) in
+      let t = placed-there (λ (b : Box J Global). number b.value) bs (replicate n None) k (omega (arith, long, length-replicate n nothing)) (inl (number_of_label bs k named.0 (subst (λ (ls : List (ℕ × O)). Has ls (k, named.0)) (sym same) named.1))) in
       (t.0, t.1, right k t.0 t.1) in
       let stand = all-standing (λ k b. (number b.value ≡ k) × Fits b) slots there in (
         length-map (standing slots) (λ b. b.value) ∙ stand.0 ∙ long,
         map-each (λ (b : Box J Global). b.value) (λ k j. (number j ≡ k) × Has all (number j, origin j) × (left j ≡ 0)) (standing slots) n (omega (arith, stand.0, long))
             (λ k d l. let it = stand.1 k d (omega (arith, long)) in (it.0, it.1.0, it.1.1)),
       )
+
+module _ {O : Type 0} where
+  -- each share has all its jobs, so all shares have all
+  pub all_finished : (dealt finished : List (Holding O)) → AllZip IsFinished dealt finished → HasAll (flat_map (λ s. s.list) dealt) (flat_map (λ s. s.hand) finished)
+  all_finished [] [] h = record { within = λ x h. h; each = λ x h. absurd h }
+  all_finished [] (y ∷ ys) h = absurd h
+  all_finished (x ∷ xs) [] h = absurd h
+  all_finished (x ∷ xs) (y ∷ ys) h =
+      let rest = all_finished xs ys h.1 in
+      let lists = flat_map (λ (s : Holding O). s.list) xs in
+      let hands = flat_map (λ (s : Holding O). s.hand) ys in
+      let same : y.list ≡ x.list = h.0.list in
+      record {
+        within = λ z t.
+            ⊎_elim (λ (a : Has y.hand z). has-left x.list lists z (subst (λ (l : List (ℕ × O)). Has l z) same (h.0.all.within z a))) (λ (b : Has hands z). has-right x.list lists z (rest.within z b))
+            (has-split y.hand hands z t);
+        each = λ z t.
+            ⊎_elim (λ (a : Has x.list z). let r = h.0.all.each z (subst (λ (l : List (ℕ × O)). Has l z) (sym same) a) in (r.0, has-left y.hand hands (z.0, r.0) r.1)) (λ (b : Has lists z). let r = rest.each z b in (r.0, has-right y.hand hands (z.0, r.0) r.1))
+            (has-split x.list lists z t);
+      }
+
+  pub names_ended : (n : ℕ) (dealt ended : List (ℕ × O)) → HasAll dealt ended → NumbersBelow n dealt → NumbersBelow n ended
+  names_ended n dealt ended has names = ((λ x h. names.0 x (has.within x h)), λ k l. let it = names.1 k l in has.each (k, it.0) it.1)
+
+  pub gathered_dealt : {J : Type 0} (number left : J → ℕ) (origin : J → O) (n : ℕ) (dealt ended : List (ℕ × O)) (jobs : List J) → HasAll dealt ended → Gathered number left origin n ended jobs → Gathered number left origin n dealt jobs
+  gathered_dealt number left origin n dealt ended jobs has g = (g.0, λ k d l. let it = g.1 k d l in (it.0, has.within _ it.1, it.2))
 
 module _ {A : Type 0} where
   has-reversed : (xs : List A) (x : A) → Has (reverse xs) x → Has xs x

@@ -1,5 +1,9 @@
+pub mod Carrying
 pub mod Elements
 pub mod Gathering
-pub mod Lists
+pub mod Keeping
+pub mod Moves
 pub mod Places
 pub mod Rounds
+pub mod Views
+pub mod Zips

@@ -27,10 +27,6 @@ module _ {B : Type 0} (number : B → ℕ) where
   pub placed-push : (bs : List B) (b : B) (from slots : List (Option B)) (n : ℕ) → slots ≡ placed number bs from → n ≡ number b → set slots n (Some b) ≡ placed number (bs ++ b ∷ []) from
   placed-push bs b from slots n is at = ap (λ (s : List (Option B)). set s n (Some b)) is ∙ ap (λ (k : ℕ). set (placed number bs from) k (Some b)) at ∙ sym (placed-append bs (b ∷ []) from)
 
-  pub placed-flat : {X : Type 0} (f : X → List B) (xs : List X) (x : X) (from slots after : List (Option B)) → slots ≡ placed number (flat_map f xs) from → after ≡ placed number (f x) slots → after ≡ placed number (flat_map f (xs ++ x ∷ [])) from
-  placed-flat f xs x from slots after is then =
-      then ∙ ap (placed number (f x)) is ∙ sym (placed-append (flat_map f xs) (f x) from) ∙ ap (λ (bs : List B). placed number bs from) (sym (flat-push f xs x))
-
   module _ (Fits : B → Type 0) where
     -- what stands at a place has its number
     abbrev pub Right : List (Option B) → Type 0

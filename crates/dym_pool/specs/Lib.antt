@@ -1,2 +1,5 @@
+pub mod Carried
+pub mod Deques
+pub mod Holdings
 pub mod Jobs
 pub mod Shares

@@ -2,6 +2,9 @@
 use Rattle.std.specs.Prelude.{◌≡◌, ℕ, ◌<◌, ◌⊎◌, Option, Some, List, [], ◌∷◌, length, slice_index_or, slice_set}
 use Rattle.std.specs.List.{flat_map}
 use Rattle.std.specs.Option.{option_to_list}
+use Rattle.std.specs.declared.boxed.Box.{Box}
+use Rattle.std.specs.declared.alloc.Global.{Global}
+use Rattle.dym_pool.specs.Jobs.{boxed_labels, AllBoxedEnded}
 
 module _ {A : Type 0} where
   -- x is one of the list
@@ -22,6 +25,11 @@ module _ {B : Type 0} (number : B → ℕ) where
   abbrev pub placed : List B → List (Option B) → List (Option B)
   placed [] slots = slots
   placed (b ∷ bs) slots = placed bs (slice_set slots (number b) (Some b))
+
+-- boxes with these labels, whose jobs have ended, were put at the places of their numbers
+abbrev pub PlacesEnded : {J O : Type 0} → (J → ℕ) → (J → ℕ) → (J → O) → List (ℕ × O) → List (Option (Box J Global)) → List (Option (Box J Global)) → Type 0
+PlacesEnded {J} number left origin labels before after =
+    (boxes : List (Box J Global)) × (boxed_labels number origin boxes ≡ labels) × AllBoxedEnded left boxes × (after ≡ placed (λ b. number b.value) boxes before)
 
 -- what stands at the places, in order
 abbrev pub standing : {B : Type 0} → List (Option B) → List B

@@ -1,23 +1,24 @@
 //! Jobs that are run by workers side by side.
-ghost use Rattle.std.specs.Prelude.{◌≡◌, ◌<◌, ◌≤◌, All, IfErr, IfOk, OnErr, OnOk, length, slice_index_or, vec_len, ℕ};
-ghost use Rattle.dym_pool.specs.Jobs.{boxed_labels, AllBoxedEnded, EveryJobBack, Numbered};
+ghost use Rattle.std.specs.Prelude.{◌≡◌, ◌<◌, ◌≤◌, IfErr, IfOk, OnErr, OnOk};
+ghost use Rattle.dym_pool.specs.Jobs.{EveryJobBack, Numbered};
 
 use crate::boxes::pack;
+use crate::carried::{carry_all, give_back};
+use crate::crew::{open_rows, open_shares, run_crew};
 use crate::deal::deal;
 use crate::gate::Gate;
 use crate::job::Job;
-use crate::share::{Share, open_shares};
 use crate::slots::{gather, open_slots};
 use std::alloc::{AllocError, Global};
 use std::sync::Wait;
-use std::thread;
 use std::thread::Threads;
 
 /// Runs all jobs to their ends, with at most so many workers side by side, and gives them back in order.
 ///
 /// Each turn is behind a call of the gate. Workers have the numbers from 0 on, and `workers` is that of the caller, where it
-/// runs a job itself. AllocError is free, and comes only before the first turn; the jobs then come back as they were.
-pub fn run_jobs<R: Threads + Wait + Send + Sync, J: Job<R> + Drop, G: Gate>(
+/// runs a job itself. A job need not be one that may be let go: none is lost. AllocError is free, and comes only before the first
+/// turn; the jobs then come back as they were.
+pub fn run_jobs<R: Threads + Wait + Send + Sync, J: Job<R>, G: Gate>(
     rt: &R,
     alloc: Global,
     mut jobs: Vec<J>,
@@ -34,51 +35,44 @@ pub fn run_jobs<R: Threads + Wait + Send + Sync, J: Job<R> + Drop, G: Gate>(
     if started == 0 {
         return Ok(jobs);
     }
-    match run_with(rt, alloc, &mut jobs, started, gate) {
+    let mut carried = match Vec::with_capacity(alloc, jobs.len()) {
+        Ok(carried) => carried,
+        Err(error) => return Err((error, jobs)),
+    };
+    carry_all(&mut jobs, &mut carried);
+    let ran = run_with(rt, alloc, &mut carried, started, workers, gate);
+    give_back(carried, &mut jobs);
+    match ran {
         Ok(()) => Ok(jobs),
-        Err(refused) => Err((refused, jobs)),
+        Err(error) => Err((error, jobs)),
     }
 }
 
-/// The same for at least one job, by exactly so many workers.
+/// The same for at least one job, by exactly so many workers and the caller, whose number at the gate is given.
 fn run_with<R: Threads + Wait + Send + Sync, J: Job<R> + Drop, G: Gate>(
     rt: &R,
     alloc: Global,
     jobs: &mut Vec<J>,
     workers: u32,
+    caller: u32,
     gate: &G,
 ) -> Result<(), AllocError>
     requires numbered { Numbered J.number_of jobs.old.items }
     requires some { 0 < workers }
+    requires most { workers ≤ 64 }
     ensures back { OnOk result (EveryJobBack J.number_of J.left_of J.origin_of jobs.old.items jobs.new.items) }
     ensures unchanged { OnErr result (jobs.new.items ≡ jobs.old.items) }
 {
     let count = jobs.len();
+    let room = count / workers as usize + 1;
     let mut boxes = Vec::with_capacity(alloc, count)?;
     let slots = open_slots(alloc, count)?;
-    let mut shares = open_shares(alloc, workers, count / workers as usize + 1)?;
+    let mut shares = open_shares(alloc, workers, room)?;
+    let rows = open_rows(alloc, &shares, room)?;
+    let staff = Vec::with_capacity(alloc, workers as usize)?;
     pack(alloc, jobs, &mut boxes)?;
     deal(&mut shares, &mut boxes);
-    run_shares(rt, gate, &mut shares, workers);
+    run_crew(rt, gate, &mut shares, rows, staff, caller);
     gather(jobs, slots, shares);
     Ok(())
-}
-
-/// Runs each share by a worker of its own.
-fn run_shares<R: Threads + Wait + Send + Sync, J: Job<R> + Drop, G: Gate>(
-    rt: &R,
-    gate: &G,
-    shares: &mut [Share<R, J>],
-    workers: u32,
-)
-    requires { 0 < workers }
-    ensures labels { (k : ℕ) (d : _) → k < length shares.old → boxed_labels J.number_of J.origin_of (slice_index_or shares.new k d).jobs.items ≡ boxed_labels J.number_of J.origin_of (slice_index_or shares.old k d).jobs.items }
-    ensures ended { All (λ s. AllBoxedEnded J.left_of s.jobs.items) shares.new }
-{
-    thread::for_each_mut(
-        rt,
-        shares,
-        workers as usize,
-        &|_, share| share.run(rt, gate),
-    );
 }

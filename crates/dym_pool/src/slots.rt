@@ -1,11 +1,11 @@
 //! The places to which jobs come back, one for each number.
 ghost use Rattle.std.specs.Prelude.{◌≡◌, ◌+◌, ◌<◌, [], ◌≤◌, ◌++◌, All, IfOk, length, replicate, vec_len, vec_capacity};
 ghost use Rattle.std.specs.List.{flat_map};
-ghost use Rattle.dym_pool.specs.Jobs.{boxed_labels, unboxed, AllBoxedEnded};
-ghost use Rattle.dym_pool.specs.Shares.{placed, standing, Gathered, NumbersBelow};
+ghost use Rattle.dym_pool.specs.Jobs.{unboxed};
+ghost use Rattle.dym_pool.specs.Shares.{placed, standing, Gathered, NumbersBelow, PlacesEnded};
 
 use crate::job::Job;
-use crate::share::Share;
+use crate::own_share::OwnShare;
 use std::alloc::{AllocError, Global};
 
 /// So many places where nothing stands.
@@ -30,13 +30,13 @@ fn place<R, J: Job<R> + Drop>(slots: &mut [Option<Box<J>>], boxes: Vec<Box<J>>)
     }
 }
 
-/// Puts each job of each share at the place of its number.
-fn place_shares<R, J: Job<R> + Drop>(slots: &mut [Option<Box<J>>], shares: Vec<Share<R, J>>)
-    requires { All (λ s. All (λ b. J.number_of b.value < length slots.old) s.jobs.items) shares.items }
-    ensures { slots.new ≡ placed (λ b. J.number_of b.value) (flat_map (λ s. s.jobs.items) shares.items) slots.old }
+/// Puts each job that ended in a share at the place of its number.
+fn place_shares<R, J: Job<R> + Drop>(slots: &mut [Option<Box<J>>], shares: Vec<OwnShare<R, J>>)
+    requires { All (λ s. All (λ x. x.0 < length slots.old) s.hand) shares.items }
+    ensures { PlacesEnded J.number_of J.left_of J.origin_of (flat_map (λ s. s.hand) shares.items) slots.old slots.new }
 {
     for share in shares {
-        place::<R, J>(slots, share.jobs);
+        place::<R, J>(slots, share.into_ended());
     }
 }
 
@@ -56,14 +56,13 @@ fn take_standing<J: Drop>(jobs: &mut Vec<J>, slots: Vec<Option<Box<J>>>)
 pub(crate) fn gather<R, J: Job<R> + Drop>(
     jobs: &mut Vec<J>,
     mut slots: Vec<Option<Box<J>>>,
-    shares: Vec<Share<R, J>>,
+    shares: Vec<OwnShare<R, J>>,
 )
     requires empty { jobs.old.items ≡ [] }
     requires room { vec_len slots ≤ vec_capacity jobs.old }
     requires slots { slots.items ≡ replicate (vec_len slots) None }
-    requires numbers { NumbersBelow (vec_len slots) (flat_map (λ s. boxed_labels J.number_of J.origin_of s.jobs.items) shares.items) }
-    requires ended { All (λ s. AllBoxedEnded J.left_of s.jobs.items) shares.items }
-    ensures back { Gathered J.number_of J.left_of J.origin_of (vec_len slots) (flat_map (λ s. boxed_labels J.number_of J.origin_of s.jobs.items) shares.items) jobs.new.items }
+    requires numbers { NumbersBelow (vec_len slots) (flat_map (λ s. s.hand) shares.items) }
+    ensures back { Gathered J.number_of J.left_of J.origin_of (vec_len slots) (flat_map (λ s. s.hand) shares.items) jobs.new.items }
 {
     place_shares(&mut slots, shares);
     take_standing(jobs, slots);

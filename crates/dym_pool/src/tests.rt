@@ -1,4 +1,4 @@
-//! What no clause says: that memory is given, and that several workers run at once.
+//! What no clause says: that memory is given, that several workers run at once, and that they steal.
 ghost use Rattle.std.specs.Prelude.{◌≡◌, ◌<◌, ◌≤◌, All, ℕ, IfOk, length, slice_index_or, vec_len};
 ghost use Rattle.dym_pool.specs.Jobs.{Numbered};
 
@@ -64,6 +64,17 @@ fn counts(alloc: Global, jobs: u32, turns: u32) -> Result<Vec<Count>, AllocError
     Ok(counts)
 }
 
+/// Waits until a flag is set, but not for ever.
+fn is_set_in_time(flag: &AtomicU64) -> bool {
+    for _ in 0..PATIENCE {
+        if flag.load(Ordering::SeqCst) == 1 {
+            return true;
+        }
+        thread::yield_now();
+    }
+    false
+}
+
 /// A gate at which job 0 waits until job 1 has entered.
 #[derive(Drop)]
 struct FirstWaits {
@@ -77,12 +88,8 @@ impl Gate for FirstWaits {
             self.second_entered.store(1, Ordering::SeqCst);
             return;
         }
-        for _ in 0..PATIENCE {
-            if self.second_entered.load(Ordering::SeqCst) == 1 {
-                self.first_saw_it.store(1, Ordering::SeqCst);
-                return;
-            }
-            thread::yield_now();
+        if is_set_in_time(&self.second_entered) {
+            self.first_saw_it.store(1, Ordering::SeqCst);
         }
     }
 
@@ -98,6 +105,85 @@ fn two_workers_run_at_once(rt: HostRuntime) -> Result<(), Fail> {
     let jobs = counts(rt.alloc(), 2, 1)?;
     let ran = run_jobs(&rt, rt.alloc(), jobs, 2, &gate).is_ok();
     assert_eq!(rt; (ran, gate.first_saw_it.load(Ordering::SeqCst)), (true, 1));
+    Ok(())
+}
+
+/// A gate at which worker 1 waits until worker 0 has entered job 0, and worker 0 waits there until worker 1 has entered job 2.
+#[derive(Drop)]
+struct SecondSteals {
+    first_entered: AtomicU64,
+    second_stole: AtomicU64,
+}
+
+impl Gate for SecondSteals {
+    fn enter(&self, worker: u32, job: u32) {
+        if worker == 1 && job == 2 {
+            self.second_stole.store(1, Ordering::SeqCst);
+        }
+        if worker == 0 && job == 0 {
+            self.first_entered.store(1, Ordering::SeqCst);
+            is_set_in_time(&self.second_stole);
+        }
+        if worker == 1 {
+            is_set_in_time(&self.first_entered);
+        }
+    }
+
+    fn wave(&self, _jobs: u32) {}
+}
+
+#[test]
+fn a_worker_steals(rt: HostRuntime) -> Result<(), Fail> {
+    let gate = SecondSteals {
+        first_entered: AtomicU64::new(0),
+        second_stole: AtomicU64::new(0),
+    };
+    let jobs = counts(rt.alloc(), 4, 2)?;
+    let ran = run_jobs(&rt, rt.alloc(), jobs, 2, &gate).is_ok();
+    assert_eq!(rt; (ran, gate.second_stole.load(Ordering::SeqCst)), (true, 1));
+    Ok(())
+}
+
+/// A gate at which workers 0 and 2 wait in their first jobs until worker 1 has entered job 3, and worker 1 in its own until they do.
+#[derive(Drop)]
+struct MiddleLooksAround {
+    first_entered: AtomicU64,
+    last_entered: AtomicU64,
+    middle_stole: AtomicU64,
+}
+
+impl Gate for MiddleLooksAround {
+    fn enter(&self, worker: u32, job: u32) {
+        if worker == 1 && job == 3 {
+            self.middle_stole.store(1, Ordering::SeqCst);
+        }
+        if worker == 0 && job == 0 {
+            self.first_entered.store(1, Ordering::SeqCst);
+            is_set_in_time(&self.middle_stole);
+        }
+        if worker == 2 && job == 2 {
+            self.last_entered.store(1, Ordering::SeqCst);
+            is_set_in_time(&self.middle_stole);
+        }
+        if worker == 1 {
+            is_set_in_time(&self.first_entered);
+            is_set_in_time(&self.last_entered);
+        }
+    }
+
+    fn wave(&self, _jobs: u32) {}
+}
+
+#[test]
+fn a_worker_looks_at_all_shares(rt: HostRuntime) -> Result<(), Fail> {
+    let gate = MiddleLooksAround {
+        first_entered: AtomicU64::new(0),
+        last_entered: AtomicU64::new(0),
+        middle_stole: AtomicU64::new(0),
+    };
+    let jobs = counts(rt.alloc(), 4, 2)?;
+    let ran = run_jobs(&rt, rt.alloc(), jobs, 3, &gate).is_ok();
+    assert_eq!(rt; (ran, gate.middle_stole.load(Ordering::SeqCst)), (true, 1));
     Ok(())
 }
 

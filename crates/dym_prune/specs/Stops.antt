@@ -5,6 +5,10 @@ use lib.ListN.{get_elem?}
 use Rattle.atomic_table.specs.Table.{State, Me}
 use Rattle.dym_prune.specs.declared.stop_view.StopView.{StopView}
 
+-- what contracts see of the end that asks: whether it has asked, and so whether the word is 1
+pub record AskerMeaning : Type 0 where
+  pub asked : Bool
+
 -- what contracts see of an end that listens: whether it has heard, and how often it found that nobody had asked
 pub record EarMeaning : Type 0 where
   pub heard : Bool

@@ -1,6 +1,6 @@
 //! A stop: one shared word, by which one thread asks another to end.
 ghost use Rattle.std.specs.Prelude.{◌≡◌, ◌+◌, true, false, IfOk, ◌↔◌, IsTrue, IsFalse};
-ghost use Rattle.dym_prune.specs.Stops.{EarMeaning, stop_view};
+ghost use Rattle.dym_prune.specs.Stops.{AskerMeaning, EarMeaning, stop_view};
 
 use crate::stop_view::StopView;
 use atomic_table::{Play, Seat, Split, Table, TableRule};
@@ -57,13 +57,21 @@ type Board = Table<(), StopView, (), StopRule, Global>;
 
 type End = Seat<(), StopView>;
 
-/// The end of a stop that asks for it.
+/// The end of a stop that asks for it. Contracts see whether it has asked.
 #[derive(Drop)]
 pub struct Asker {
     board: Arc<Board, Global>,
     seat: End,
     ghost seated: { (seat.table_id ≡ board.value.shared.table_id) × (board.value.shared.table_id.words ≡ 1) },
     ghost asks: { seat.me.0.asks ≡ true },
+}
+
+impl Model for Asker {
+    ghost use Rattle.dym_prune.specs.Stops.{AskerMeaning};
+
+    ghost Value = { AskerMeaning };
+
+    ghost view = { λ a. record { asked = a.seat.me.0.asked } };
 }
 
 /// The end of a stop that hears of it. Contracts see whether it has heard, and how often it listened and found nothing.
@@ -87,7 +95,8 @@ impl Model for Ear {
 impl Stop {
     /// A stop that nobody has asked for.
     pub fn open(alloc: Global) -> Result<(Asker, Ear), AllocError>
-        ensures { IfOk result (λ ends. ends.1 ≡ record { heard = false; misses = 0 }) }
+        ensures asker { IfOk result (λ ends. ends.0 ≡ record { asked = false }) }
+        ensures ear { IfOk result (λ ends. ends.1 ≡ record { heard = false; misses = 0 }) }
     {
         let (table, mut seat) = Board::of_words(alloc, &[0], &())?;
         let board = Arc::new(alloc, table)?;
@@ -107,7 +116,9 @@ impl Stop {
 
 impl Asker {
     /// Asks for the stop. It may be asked for again.
-    pub fn ask(&mut self) {
+    pub fn ask(&mut self)
+        ensures { self.new ≡ record { asked = true } }
+    {
         self.board.shared.store::<Ask>(&mut self.seat, 0, 1);
     }
 }

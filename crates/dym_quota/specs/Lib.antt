@@ -1,5 +1,6 @@
 pub mod Berths
 pub mod HeldIds
+pub mod OwnSegments
 pub mod QueueShape
 pub mod SegmentRule
 pub mod SegmentSteps

@@ -11,6 +11,7 @@ mod berth_supply;
 mod closing;
 mod longest_run;
 mod opening;
+mod own;
 mod own_supply;
 mod pass_view;
 #[cfg(test)]
@@ -24,6 +25,6 @@ mod tests;
 
 pub use berth::Berth;
 pub use longest_run::waves;
-pub use own_supply::OwnSupply;
+pub use own::OwnSupply;
 pub use quota_queue::QuotaQueue;
 pub use supply::Supply;

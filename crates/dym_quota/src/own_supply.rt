@@ -1,29 +1,21 @@
-//! A supply that owns all its segments.
-ghost use Rattle.std.specs.Prelude.{◌≡◌, ◌+◌, ◌-◌, ◌≤◌, [], IfOk, OnOk, replicate, vec_len, vec_capacity};
+//! How a supply with segments of its own is made, and that it is a supply.
+ghost use Rattle.std.specs.Prelude.{◌≡◌, ◌+◌, ◌-◌, ◌≤◌, max, [], IfOk, IfErr, OnOk, OnErr, replicate, vec_len, vec_capacity};
 ghost use Rattle.dym_base.specs.Origins.{Origin, own};
 ghost use Rattle.dym_base.specs.declared.limits.TheConstants.{MOST_QUOTA};
 ghost use Rattle.dym_region.specs.Identity.{lone_id};
+ghost use Rattle.dym_quota.specs.OwnSegments.{owned};
 
+use crate::own::OwnSupply;
 use crate::supply::Supply;
 use dym_base::limits::MOST_QUOTA;
 use dym_region::VecSegment;
 use std::alloc::{AllocError, Global};
 
-/// A supply whose segments are made when it opens, and wait in a list.
-#[derive(Drop)]
-pub struct OwnSupply {
-    quota: u32,
-    spare: Vec<VecSegment>,
-    /// Segments above the quota. They wait for a greater one.
-    aside: Vec<VecSegment>,
-    ghost within: { vec_len spare ≤ quota },
-    ghost room: { quota ≤ vec_capacity spare },
-}
-
 impl OwnSupply {
     /// A supply with no segment, for one that gets its quota later.
     pub fn empty(alloc: Global) -> OwnSupply
         ensures nothing_held { ⟦<OwnSupply as Supply>⟧.held_ids result ≡ [] }
+        ensures owned { owned result ≡ 0 }
     {
         OwnSupply {
             quota: 0,
@@ -39,71 +31,116 @@ impl OwnSupply {
         ensures quota { IfOk result (λ s. ⟦<OwnSupply as Supply>⟧.quota_of s ≡ quota) }
         ensures nothing_held { IfOk result (λ s. ⟦<OwnSupply as Supply>⟧.held_ids s ≡ []) }
         ensures origin { IfOk result (λ s. ⟦<OwnSupply as Supply>⟧.origin s ≡ own) }
+        ensures owned { IfOk result (λ s. owned s ≡ quota) }
     {
-        OwnSupply::empty(alloc).with_quota(alloc, quota)
+        match OwnSupply::empty(alloc).with_quota(alloc, quota) {
+            Ok(supply) => Ok(supply),
+            Err((error, _)) => Err(error),
+        }
     }
 
     /// The same supply with another quota, while no segment is out. Its segments serve again: only those that are wanting are
-    /// made. An `AllocError` comes where there is no memory for them.
-    pub fn with_quota(self, alloc: Global, quota: u32) -> Result<OwnSupply, AllocError>
+    /// made, and those above the quota wait for a greater one.
+    ///
+    /// An `AllocError` comes where there is no memory for them; the supply then comes back with its quota and all its segments.
+    pub fn with_quota(self, alloc: Global, quota: u32) -> Result<OwnSupply, (AllocError, OwnSupply)>
         requires least { 1 ≤ quota }
         requires most { quota ≤ MOST_QUOTA }
         requires nothing_held { ⟦<OwnSupply as Supply>⟧.held_ids self ≡ [] }
         ensures quota { IfOk result (λ s. ⟦<OwnSupply as Supply>⟧.quota_of s ≡ quota) }
         ensures nothing_held { IfOk result (λ s. ⟦<OwnSupply as Supply>⟧.held_ids s ≡ []) }
         ensures origin { IfOk result (λ s. ⟦<OwnSupply as Supply>⟧.origin s ≡ own) }
+        ensures owned { IfOk result (λ s. owned s ≡ max quota (owned self)) }
+        ensures old_quota { IfErr result (λ e. ⟦<OwnSupply as Supply>⟧.quota_of e.1 ≡ ⟦<OwnSupply as Supply>⟧.quota_of self) }
+        ensures still_nothing_held { IfErr result (λ e. ⟦<OwnSupply as Supply>⟧.held_ids e.1 ≡ []) }
+        ensures still_owned { IfErr result (λ e. owned self ≤ owned e.1) }
     {
         let OwnSupply {
-            quota: _,
+            quota: before,
             mut spare,
             mut aside,
         } = self;
-        lay_aside(&mut spare, &mut aside, quota as usize)?;
-        fill_up(alloc, &mut spare, &mut aside, quota as usize)?;
-        Ok(OwnSupply {
-            quota,
-            spare,
-            aside,
-        })
-    }
-}
-
-/// Lays aside the segments after the first `count`.
-fn lay_aside(
-    spare: &mut Vec<VecSegment>,
-    aside: &mut Vec<VecSegment>,
-    count: usize,
-) -> Result<(), AllocError>
-    ensures { OnOk result (vec_len spare.new ≤ count) }
-{
-    while spare.len() > count {
-        if let Some(segment) = spare.pop() {
-            aside.push(segment)?;
+        match fit(alloc, &mut spare, &mut aside, quota as usize) {
+            Ok(()) => Ok(OwnSupply {
+                quota,
+                spare,
+                aside,
+            }),
+            Err(error) => Err((
+                error,
+                OwnSupply {
+                    quota: before,
+                    spare,
+                    aside,
+                },
+            )),
         }
     }
-    Ok(())
 }
 
-/// Fills a list up to `count` segments, first with those that were laid aside.
-fn fill_up(
+/// Leaves just `count` segments in the first list: others go to the second list, and come from it. Those that both lack are made.
+fn fit(
     alloc: Global,
     spare: &mut Vec<VecSegment>,
     aside: &mut Vec<VecSegment>,
     count: usize,
 ) -> Result<(), AllocError>
-    requires { vec_len spare.old ≤ count }
-    ensures whole { OnOk result (vec_len spare.new ≡ count) }
-    ensures room { OnOk result (count ≤ vec_capacity spare.new) }
+    ensures count { OnOk result (vec_len spare.new ≡ count) }
+    ensures all { OnOk result (vec_len spare.new + vec_len aside.new
+        ≡ max count (vec_len spare.old + vec_len aside.old)) }
+    ensures same { OnErr result (vec_len spare.new ≡ vec_len spare.old) }
+    ensures more { OnErr result (vec_len aside.old ≤ vec_len aside.new) }
+    ensures room { vec_capacity spare.old ≤ vec_capacity spare.new }
 {
-    spare.reserve(count - spare.len())?;
-    while spare.len() < count {
-        let segment = match aside.pop() {
-            Some(segment) => segment,
-            None => VecSegment::new(alloc)?,
-        };
-        spare.push_reserved(segment);
+    let ready = spare.len();
+    if count <= ready {
+        aside.reserve(ready - count)?;
+        lay_aside(spare, aside, count);
+    } else {
+        spare.reserve(count - ready)?;
+        stock_up(alloc, aside, count - ready)?;
+        fill_up(spare, aside, count);
     }
     Ok(())
+}
+
+/// Lays aside the segments after the first `count`.
+fn lay_aside(spare: &mut Vec<VecSegment>, aside: &mut Vec<VecSegment>, count: usize)
+    requires count { count ≤ vec_len spare.old }
+    requires room { vec_len aside.old + vec_len spare.old ≤ count + vec_capacity aside.old }
+    ensures count { vec_len spare.new ≡ count }
+    ensures all { vec_len aside.new + count ≡ vec_len aside.old + vec_len spare.old }
+    ensures room { vec_capacity spare.new ≡ vec_capacity spare.old }
+{
+    while spare.len() > count {
+        aside.push_reserved(spare.take_last());
+    }
+}
+
+/// Makes segments until a list has `count`.
+fn stock_up(alloc: Global, segments: &mut Vec<VecSegment>, count: usize) -> Result<(), AllocError>
+    ensures count { OnOk result (vec_len segments.new ≡ max count (vec_len segments.old)) }
+    ensures more { vec_len segments.old ≤ vec_len segments.new }
+{
+    while segments.len() < count {
+        let segment = VecSegment::new(alloc)?;
+        segments.push(segment)?;
+    }
+    Ok(())
+}
+
+/// Fills a list up to `count` segments from those that were laid aside.
+fn fill_up(spare: &mut Vec<VecSegment>, aside: &mut Vec<VecSegment>, count: usize)
+    requires few { vec_len spare.old ≤ count }
+    requires enough { count ≤ vec_len spare.old + vec_len aside.old }
+    requires room { count ≤ vec_capacity spare.old }
+    ensures count { vec_len spare.new ≡ count }
+    ensures all { vec_len aside.new + count ≡ vec_len aside.old + vec_len spare.old }
+    ensures room { vec_capacity spare.new ≡ vec_capacity spare.old }
+{
+    while spare.len() < count {
+        spare.push_reserved(aside.take_last());
+    }
 }
 
 impl Supply for OwnSupply {

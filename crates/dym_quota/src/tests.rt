@@ -1,9 +1,10 @@
 //! What no clause says: that memory is given, and that each segment has bytes of its own.
-ghost use Rattle.std.specs.Prelude.{◌≡◌, ◌+◌, ◌<◌, length};
+ghost use Rattle.std.specs.Prelude.{◌≡◌, ◌+◌, ◌<◌, ◌≤◌, [], IfOk, length};
 
-use crate::own_supply::OwnSupply;
+use crate::own::OwnSupply;
 use crate::supply::Supply;
 use dym_region::{Segment, VecSegment};
+use std::alloc::{AllocError, Global};
 use std::test::Fail;
 
 fn take_marked(supply: &mut OwnSupply, mark: u8) -> VecSegment
@@ -67,12 +68,26 @@ fn a_quota_of_one(rt: HostRuntime) -> Result<(), Fail> {
     Ok(())
 }
 
+/// The supply with another quota.
+fn changed(alloc: Global, supply: OwnSupply, quota: u32) -> Result<OwnSupply, AllocError>
+    requires least { 1 ≤ quota }
+    requires most { quota ≤ 1024 }
+    requires nothing_held { ⟦<OwnSupply as Supply>⟧.held_ids supply ≡ [] }
+    ensures quota { IfOk result (λ s. ⟦<OwnSupply as Supply>⟧.quota_of s ≡ quota) }
+    ensures nothing_held { IfOk result (λ s. ⟦<OwnSupply as Supply>⟧.held_ids s ≡ []) }
+{
+    match supply.with_quota(alloc, quota) {
+        Ok(supply) => Ok(supply),
+        Err((error, _)) => Err(error),
+    }
+}
+
 #[test]
 fn another_quota(rt: HostRuntime) -> Result<(), Fail> {
     let supply = OwnSupply::open(rt.alloc(), 3)?;
-    let supply = supply.with_quota(rt.alloc(), 1)?;
+    let supply = changed(rt.alloc(), supply, 1)?;
     assert_eq!(rt; (supply.quota(), supply.held()), (1, 0));
-    let mut supply = supply.with_quota(rt.alloc(), 4)?;
+    let mut supply = changed(rt.alloc(), supply, 4)?;
     assert_eq!(rt; (supply.quota(), supply.held()), (4, 0));
     let first = take_marked(&mut supply, 1);
     let second = take_marked(&mut supply, 2);

@@ -1,16 +1,16 @@
--- What the round over all slots keeps.
+-- What the walk over all slots keeps.
 use Rattle.std.proofs.Common.{◌≡◌, ℕ, ◌+◌, ◌≤◌}
 use Rattle.dym_slotlaw.specs.declared.slots.TheConstants.{RECORD_NUMBERS}
 use Rattle.dym_slots.specs.Seats.{sweeper_of}
 use Rattle.dym_slots.specs.Shown.{Knowing}
 use Rattle.dym_slots.specs.Moves.{IsIdleSweeper}
 
--- after the slots below one, with so many records taken back, where the root was read at this number
+-- after the slots below one, with so many records taken back, where the root was last read at this number
 pub record Round (root slot taken : ℕ) (before me : Knowing) : Type 0 where
   pub idle : IsIdleSweeper me
   pub root_is : root ≡ (sweeper_of me.0).root_seen
   pub numbered : root ≤ RECORD_NUMBERS
   pub clean : (sweeper_of me.0).clean ≡ slot
-  pub rounds : (sweeper_of me.0).rounds ≡ (sweeper_of before.0).rounds + 1
+  pub rounds : (sweeper_of me.0).rounds ≡ (sweeper_of before.0).rounds
   pub count : (sweeper_of me.0).taken_back ≡ (sweeper_of before.0).taken_back + taken
   pub few : taken ≤ slot

@@ -51,7 +51,7 @@ impl Play<Option<Record>, SeatView> for Frees {
 }
 
 /// Reads the root.
-fn read_root(table: &Slots, seat: &mut LogSeat) -> u64
+pub(crate) fn read_root(table: &Slots, seat: &mut LogSeat) -> u64
     requires table { SitsAt table.now.table_id seat.old.table_id }
     requires idle { IsIdleSweeper seat.old.me }
     ensures table { seat.new.table_id ≡ seat.old.table_id }
@@ -141,6 +141,28 @@ fn sweep_slot(table: &Slots, seat: &mut LogSeat, slot: u32, root: u64) -> bool
     }
 }
 
+/// Takes back each record at rest below the root that was read last, and answers how many.
+pub(crate) fn walk(table: &Slots, seat: &mut LogSeat, root: u64) -> u32
+    requires table { SitsAt table.now.table_id seat.old.table_id }
+    requires idle { IsIdleSweeper seat.old.me }
+    requires turn { (sweeper_of seat.old.me.0).clean ≡ 0 }
+    requires root { root ≡ (sweeper_of seat.old.me.0).root_seen }
+    requires number { root ≤ RECORD_NUMBERS }
+    ensures table { seat.new.table_id ≡ seat.old.table_id }
+    ensures idle { IsIdleSweeper seat.new.me }
+    ensures rounds { (sweeper_of seat.new.me.0).rounds ≡ (sweeper_of seat.old.me.0).rounds }
+    ensures clean { (sweeper_of seat.new.me.0).clean ≡ LOG_SLOTS }
+    ensures taken { (sweeper_of seat.new.me.0).taken_back ≡ (sweeper_of seat.old.me.0).taken_back + result }
+{
+    let mut taken = 0;
+    for slot in 0..LOG_SLOTS {
+        if sweep_slot(table, seat, slot, root) {
+            taken += 1;
+        }
+    }
+    taken
+}
+
 /// Reads the root, and takes back each record below it that is at rest. The answer is how many.
 pub(crate) fn sweep_all(table: &Slots, seat: &mut LogSeat) -> u32
     requires table { SitsAt table.now.table_id seat.old.table_id }
@@ -152,11 +174,5 @@ pub(crate) fn sweep_all(table: &Slots, seat: &mut LogSeat) -> u32
     ensures taken { (sweeper_of seat.new.me.0).taken_back ≡ (sweeper_of seat.old.me.0).taken_back + result }
 {
     let root = read_root(table, seat);
-    let mut taken = 0;
-    for slot in 0..LOG_SLOTS {
-        if sweep_slot(table, seat, slot, root) {
-            taken += 1;
-        }
-    }
-    taken
+    walk(table, seat, root)
 }

@@ -5,6 +5,7 @@ ghost use Rattle.dym_base.specs.declared.limits.TheConstants.{MOST_RECORDS};
 use crate::log_slots::LogSlots;
 use crate::owner::Owner;
 use crate::sweeper::Sweeper;
+use crate::sweeper_steps::{read_root, walk};
 use dym_base::{Kind, Version};
 use dym_bits::Bits;
 use dym_pack::{Areas, Record, pack};
@@ -179,6 +180,43 @@ fn put_and_raise(alloc: Global, owner: &mut Owner, times: u32) -> Result<bool, A
         owner.raise(1);
     }
     Ok(found)
+}
+
+/// Reads the root, lets the owner put and let go so many times, and then walks over the slots. How many records the walk took back,
+/// and whether the owner found each of its own.
+fn swept_around(
+    alloc: Global,
+    sweeper: &mut Sweeper,
+    owner: &mut Owner,
+    times: u32,
+) -> Result<(u32, bool), AllocError>
+    requires idle { owner.old.lifted ≡ None }
+    requires two { length owner.old.records ≡ 2 }
+    requires made { owner.old.made + times < 2 ^ 60 }
+    ensures idle { IfOk result (λ _. owner.new.lifted ≡ None) }
+    ensures origin { IfOk result (λ _. owner.new.origin ≡ owner.old.origin) }
+    ensures two { IfOk result (λ _. length owner.new.records ≡ 2) }
+    ensures table { IfOk result (λ _. sweeper.new.table ≡ sweeper.old.table) }
+{
+    let root = read_root(&sweeper.table.shared, &mut sweeper.seat);
+    let found = put_and_raise(alloc, owner, times)?;
+    let taken = walk(&sweeper.table.shared, &mut sweeper.seat, root);
+    Ok((taken, found))
+}
+
+#[test]
+fn a_walk_takes_back_nothing_that_came_after_its_root(rt: HostRuntime) -> Result<(), Fail> {
+    let alloc = rt.alloc();
+    let (mut owner, mut sweeper) = LogSlots::open(alloc)?;
+    put_many(&rt, alloc, &mut owner, 20)?;
+    let_go(&mut owner, 18);
+    let (taken, found) = swept_around(alloc, &mut sweeper, &mut owner, 5_000)?;
+    assert_eq!(rt; (taken, found), (0, true));
+    assert_eq!(rt; (owner.number_at(0), owner.number_at(1)), (5_018, 5_019));
+    assert_eq!(rt; sweeper.sweep(), 318);
+    assert_eq!(rt; sweeper.sweep(), 0);
+    assert_eq!(rt; sweeper.finish(owner), 2);
+    Ok(())
 }
 
 fn kept_busy(alloc: Global, mut owner: Owner, times: u32) -> Result<(Owner, bool), AllocError>

@@ -1,16 +1,19 @@
-use Rattle.std.proofs.Common.{◌++◌, vec_len, vec_capacity}
-use Rattle.std.specs.List.{flat_map}
+use Rattle.std.proofs.Common.{◌≡◌, ◌++◌, All, length, vec_len}
+use Rattle.std.specs.List.{AllZip, flat_map}
+use Rattle.dym_pool.specs.Holdings.{Holding, KeepsWay}
 use Rattle.dym_pool.specs.Jobs.{boxed_labels}
 use Rattle.dym_pool.specs.Shares.{SameElements}
-use Rattle.dym_pool.specs.declared.share.Share.{Share}
 use Rattle.dym_pool.proofs.Rounds.{Rounds}
 use Rattle.dym_pool.proofs.deal.deal.Given as goal
 
 -- in this round the shares before the next one have had a job already
 abbrev pub invariant-loop-boxed : goal.invariant-loop-boxed
-invariant-loop-boxed g l =
-    SameElements (flat_map (λ (s : Share g.row.R.Denot g.row.J.Denot g.row.J-Origin.Denot). boxed_labels g.J.Job.number_of g.J.Job.origin_of s.jobs.items) l.shares ++ boxed_labels g.J.Job.number_of g.J.Job.origin_of l.boxes.items) (boxed_labels g.J.Job.number_of g.J.Job.origin_of l.initial.boxes.items)
-    × Rounds (λ (s : Share g.row.R.Denot g.row.J.Denot g.row.J-Origin.Denot). vec_len s.jobs) (λ s. vec_capacity s.jobs) l.shares l.next (vec_len l.boxes)
+invariant-loop-boxed g l = record {
+  same : SameElements (flat_map (λ (s : Holding g.row.J-Origin.Denot). s.list) l.shares.items ++ boxed_labels g.J.Job.number_of g.J.Job.origin_of l.boxes.items) (boxed_labels g.J.Job.number_of g.J.Job.origin_of l.initial.boxes.items);
+  rounds : Rounds (λ (s : Holding g.row.J-Origin.Denot). s.pushed) (λ s. s.room) l.shares.items l.next (vec_len l.boxes);
+  ways : AllZip KeepsWay l.initial.shares.items l.shares.items;
+  loads : All (λ (s : Holding g.row.J-Origin.Denot). (s.pushed ≡ length s.list) × (s.part ≡ 65)) l.shares.items;
+}
 
 abbrev pub decreases-loop-boxed : goal.decreases-loop-boxed
 decreases-loop-boxed g l = vec_len l.boxes

@@ -1,10 +1,11 @@
-use Rattle.std.proofs.Common.{◌≡◌}
+use Rattle.std.proofs.Common.{◌<◌, ℕ, All, length}
 use Rattle.std.specs.List.{flat_map}
-use Rattle.std.specs.declared.boxed.Box.{Box}
-use Rattle.std.specs.declared.alloc.Global.{Global}
-use Rattle.dym_pool.specs.Shares.{placed}
-use Rattle.dym_pool.specs.declared.share.Share.{Share}
+use Rattle.dym_pool.specs.Holdings.{Holding}
+use Rattle.dym_pool.specs.Shares.{PlacesEnded}
 use Rattle.dym_pool.proofs.slots.place_shares.Given as goal
 
 abbrev pub invariant-loop-share : goal.invariant-loop-share
-invariant-loop-share g l = l.slots ≡ placed (λ (b : Box g.row.J.Denot Global). g.J.Job.number_of b.value) (flat_map (λ (s : Share g.row.R.Denot g.row.J.Denot g.row.J-Origin.Denot). s.jobs.items) l.yielded) l.initial.slots
+invariant-loop-share g l = record {
+  places : PlacesEnded g.J.Job.number_of g.J.Job.left_of g.J.Job.origin_of (flat_map (λ (s : Holding g.row.J-Origin.Denot). s.hand) l.yielded) l.initial.slots l.slots;
+  fits : All (λ (s : Holding g.row.J-Origin.Denot). All (λ (x : ℕ × g.row.J-Origin.Denot). x.0 < length l.initial.slots) s.hand) l.share-iterator.rest.items;
+}

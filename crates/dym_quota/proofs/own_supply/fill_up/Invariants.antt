@@ -1,11 +1,12 @@
-use Rattle.std.proofs.Common.{◌≤◌, ◌-◌, vec_len, vec_capacity}
+use Rattle.std.proofs.Common.{◌≡◌, ◌+◌, ◌≤◌, vec_len, vec_capacity}
 use Rattle.dym_quota.proofs.own_supply.fill_up.Given as goal
 
-abbrev pub invariant-loop-alloc : goal.invariant-loop-alloc
-invariant-loop-alloc l = record {
-  within : vec_len l.spare ≤ l.count;
-  room : l.count ≤ vec_capacity l.spare;
+abbrev pub invariant-loop-spare : goal.invariant-loop-spare
+invariant-loop-spare l = record {
+  few : vec_len l.spare ≤ l.count;
+  all : vec_len l.aside + vec_len l.spare ≡ vec_len l.initial.aside + vec_len l.initial.spare;
+  room : vec_capacity l.spare ≡ vec_capacity l.initial.spare;
 }
 
-abbrev pub decreases-loop-alloc : goal.decreases-loop-alloc
-decreases-loop-alloc l = l.count - vec_len l.spare
+abbrev pub decreases-loop-spare : goal.decreases-loop-spare
+decreases-loop-spare l = goal.left-loop-spare l

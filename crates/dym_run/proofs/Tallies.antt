@@ -1,0 +1,154 @@
+-- What objects come to, put together.
+use Rattle.std.proofs.Common.{◌≡◌, ℕ, suc, ◌+◌, ◌^◌, ◌≤◌, ◌<◌, true, false, not, cond, Bool, List, [], ◌∷◌, ◌++◌, length, map, count_by, sum_by, refl, sym, ap, subst, ◌∙◌, ◌-◌, add-zero, arith, length-append, get_or, take}
+use Rattle.std.proofs.lemmas.List.{length-map, length-take-le, map_more}
+use Rattle.std.proofs.lemmas.List.Sums.{sum_by-cons, sum_by-append, sum_by_more_le}
+use Rattle.dym_base.specs.Objects.{ObjectState, object_start, object_step, replies_from}
+use Rattle.dym_base.specs.declared.command.Version.{Version}
+use Rattle.dym_base.specs.declared.command.Command.{Command}
+use Rattle.dym_base.specs.declared.limits.TheConstants.{MOST_OBJECTS, MOST_COMMANDS}
+use Rattle.dym_base.specs.declared.reply.Reply.{Reply}
+use Rattle.dym_script.specs.declared.parts.Part.{Part}
+use Rattle.dym_run.specs.declared.tally.Tally.{Tally}
+use Rattle.dym_run.specs.Ends.{Shown, own_shown, parts_shown, shown_tally, tally_shown, IsTallyOf, EndedMeaning}
+use Rattle.dym_run.specs.Parts.{own_of}
+use Rattle.dym_run.specs.Summary.{is_refusal, tally_of, no_tally, both_tallies, tally_all}
+
+tally_none : (t : Tally) → both_tallies no_tally t ≡ t
+tally_none t = λ i. record { ok = zero_add t.ok i; refused = zero_add t.refused i; chunks = zero_add t.chunks i; segments = zero_add t.segments i; kept = zero_add t.kept i; slots = zero_add t.slots i }
+  where
+    zero_add : (n : ℕ) → 0 + n ≡ n
+    zero_add n = omega arith
+
+tally_last : (t : Tally) → both_tallies t no_tally ≡ t
+tally_last t = λ i. record { ok = add-zero t.ok i; refused = add-zero t.refused i; chunks = add-zero t.chunks i; segments = add-zero t.segments i; kept = add-zero t.kept i; slots = add-zero t.slots i }
+
+tally_regroup : (a b c : Tally) → both_tallies (both_tallies a b) c ≡ both_tallies a (both_tallies b c)
+tally_regroup a b c = λ i. record { ok = regroup a.ok b.ok c.ok i; refused = regroup a.refused b.refused c.refused i; chunks = regroup a.chunks b.chunks c.chunks i; segments = regroup a.segments b.segments c.segments i; kept = regroup a.kept b.kept c.kept i; slots = regroup a.slots b.slots c.slots i }
+  where
+    regroup : (x y z : ℕ) → (x + y) + z ≡ x + (y + z)
+    regroup x y z = omega arith
+
+shown_both : (xs ys : List Shown) → tally_shown (xs ++ ys) ≡ both_tallies (tally_shown xs) (tally_shown ys)
+shown_both [] ys = sym (tally_none (tally_shown ys))
+shown_both (x ∷ xs) ys = ap (both_tallies (shown_tally x)) (shown_both xs ys) ∙ sym (tally_regroup (shown_tally x) (tally_shown xs) (tally_shown ys))
+
+abbrev pub replies_in : List Shown → ℕ
+replies_in objects = sum_by (λ s. length s.replies) objects
+
+-- no object comes to nothing
+pub tally_of_none : IsTallyOf no_tally []
+tally_of_none = record { counted = refl; replies = refl; chunks = omega arith; segments = omega arith; kept = omega arith; slots = omega arith }
+
+-- two sets of objects come to the sum
+pub tally_of_both : (a b c : Tally) (xs ys : List Shown) → IsTallyOf a xs → IsTallyOf b ys → c ≡ both_tallies a b → IsTallyOf c (xs ++ ys)
+tally_of_both a b c xs ys p q is =
+    let long : length (xs ++ ys) ≡ length xs + length ys = length-append xs ys in
+    let said : replies_in (xs ++ ys) ≡ replies_in xs + replies_in ys = sum_by-append (λ s. length s.replies) xs ys in
+    record {
+      counted = is ∙ (λ i. both_tallies (p.counted i) (q.counted i)) ∙ sym (shown_both xs ys);
+      replies = omega (arith, said, p.replies, q.replies, ap (λ (t : Tally). t.ok) is, ap (λ (t : Tally). t.refused) is);
+      chunks = omega (arith, long, p.chunks, q.chunks, ap (λ (t : Tally). t.chunks) is);
+      segments = omega (arith, long, p.segments, q.segments, ap (λ (t : Tally). t.segments) is);
+      kept = omega (arith, long, p.kept, q.kept, ap (λ (t : Tally). t.kept) is);
+      slots = omega (arith, long, p.slots, q.slots, ap (λ (t : Tally). t.slots) is);
+    }
+
+-- one object
+pub tally_of_one : (t : Tally) (s : Shown) → t ≡ shown_tally s → t.ok + t.refused ≡ length s.replies
+    → t.chunks ≤ 2 ^ 37 → t.segments ≤ 2 ^ 32 → t.kept ≤ 2 ^ 32 → t.slots ≤ 2 ^ 32 → IsTallyOf t (s ∷ [])
+tally_of_one t s is replies chunks segments kept slots = record {
+  counted = is ∙ sym (tally_last (shown_tally s));
+  replies = omega (arith, replies, sum_by-cons (λ (s : Shown). length s.replies) s []);
+  chunks = omega (arith, chunks);
+  segments = omega (arith, segments);
+  kept = omega (arith, kept);
+  slots = omega (arith, slots);
+}
+
+-- what is printed of a part comes to what the part comes to
+part_tally : (v : Version) (p : Part) → shown_tally (own_shown v (own_of p)) ≡ tally_of v (own_of p)
+unfolding tally_of
+part_tally v p = refl
+
+pub tally_of_parts : (v : Version) (parts : List Part) → tally_shown (parts_shown v parts) ≡ tally_all v (map own_of parts)
+tally_of_parts v [] = refl
+tally_of_parts v (p ∷ parts) = λ i. both_tallies (part_tally v p i) (tally_of_parts v parts i)
+
+length_replies : (v : Version) (quota : ℕ) (s : ObjectState) (commands : List Command) → length (replies_from v quota s commands) ≡ length commands
+length_replies v quota s [] = refl
+length_replies v quota s (c ∷ cs) = ap suc (length_replies v quota (object_step v quota s c).object cs)
+
+pub replies_of_parts : (v : Version) (parts : List Part) → replies_in (parts_shown v parts) ≡ sum_by (λ part. length part.commands) parts
+replies_of_parts v [] = refl
+replies_of_parts v (p ∷ parts) =
+    omega (
+      arith,
+      replies_of_parts v parts,
+      length_replies v p.decl.quota object_start p.commands,
+      sum_by-cons (λ (s : Shown). length s.replies) (own_shown v (own_of p)) (parts_shown v parts),
+      sum_by-cons (λ (part : Part). length part.commands) p parts,
+    )
+
+-- of the replies of an object those that are no refusals and those that are make all
+pub count_not : (replies : List Reply) → count_by (λ r. not (is_refusal r)) replies + count_by is_refusal replies ≡ length replies
+count_not [] = refl
+count_not (r ∷ rs) =
+    omega (arith, one (is_refusal r), count_not rs, sum_by-cons (λ (r : Reply). cond (not (is_refusal r)) 1 0) r rs, sum_by-cons (λ (r : Reply). cond (is_refusal r) 1 0) r rs)
+  where
+    one : (b : Bool) → cond (not b) 1 0 + cond b 1 0 ≡ 1
+    one true = refl
+    one false = refl
+
+pub not_refused : (replies : List Reply) (n refused : ℕ) → n ≡ length replies → refused ≡ count_by is_refusal replies → n - refused ≡ count_by (λ r. not (is_refusal r)) replies
+not_refused replies n refused all is = omega (arith, all, is, count_not replies)
+
+-- ---- a list of ended objects, counted one after another
+
+-- two tallies that can be put together
+pub record Fits (a b : Tally) : Type 0 where
+  pub ok : a.ok + b.ok < 2 ^ 32
+  pub refused : a.refused + b.refused < 2 ^ 32
+  pub chunks : a.chunks + b.chunks < 2 ^ 64
+  pub segments : a.segments + b.segments < 2 ^ 64
+  pub kept : a.kept + b.kept < 2 ^ 64
+  pub slots : a.slots + b.slots < 2 ^ 64
+
+pub fits_both : (a b : Tally) (xs ys : List Shown) → IsTallyOf a xs → IsTallyOf b ys → length xs + length ys ≤ MOST_OBJECTS
+    → replies_in xs + replies_in ys ≤ MOST_COMMANDS → Fits a b
+fits_both a b xs ys p q few little = record {
+  ok = omega (arith, p.replies, q.replies, little);
+  refused = omega (arith, p.replies, q.replies, little);
+  chunks = omega (arith, p.chunks, q.chunks, few);
+  segments = omega (arith, p.segments, q.segments, few);
+  kept = omega (arith, p.kept, q.kept, few);
+  slots = omega (arith, p.slots, q.slots, few);
+}
+
+abbrev pub shown_of : List EndedMeaning → List Shown
+shown_of ended = map (λ (e : EndedMeaning). e.shown) ended
+
+pub replies_of_ended : (ended : List EndedMeaning) → replies_in (shown_of ended) ≡ sum_by (λ (e : EndedMeaning). length e.shown.replies) ended
+replies_of_ended [] = refl
+replies_of_ended (e ∷ ended) =
+    omega (arith, replies_of_ended ended, sum_by-cons (λ (s : Shown). length s.replies) e.shown (shown_of ended), sum_by-cons (λ (e : EndedMeaning). length e.shown.replies) e ended)
+
+module _ (ended : List EndedMeaning) (i : ℕ) (e : EndedMeaning) (a b : Tally) (within : i < length ended) (is : e ≡ get_or ended i e)
+    (p : IsTallyOf a (shown_of (take i ended))) (q : IsTallyOf b (e.shown ∷ [])) where
+  pub item_fits : length ended ≤ MOST_OBJECTS → sum_by (λ (e : EndedMeaning). length e.shown.replies) ended ≤ MOST_COMMANDS → Fits a b
+  item_fits few little =
+      let said : ℕ = length (get_or ended i e).shown.replies in
+      fits_both a b (shown_of (take i ended)) (e.shown ∷ []) p q
+      (omega (arith, few, within, length-map (take i ended) (λ (e : EndedMeaning). e.shown), length-take-le i ended (omega (arith, within))))
+      (omega (
+        arith,
+        little,
+        replies_of_ended (take i ended),
+        sum_by_more_le (λ (e : EndedMeaning). length e.shown.replies) ended i e within,
+        sum_by-cons (λ (s : Shown). length s.replies) e.shown [],
+        ap (λ (e : EndedMeaning). length e.shown.replies) is,
+      ))
+
+  pub item_more : (c : Tally) → c ≡ both_tallies a b → IsTallyOf c (shown_of (take (i + 1) ended))
+  item_more c sum =
+      subst (IsTallyOf c) (ap (λ (x : EndedMeaning). shown_of (take i ended) ++ x.shown ∷ []) is ∙ sym (map_more (λ (e : EndedMeaning). e.shown) ended i e within))
+      (tally_of_both a b c (shown_of (take i ended)) (e.shown ∷ []) p q sum)

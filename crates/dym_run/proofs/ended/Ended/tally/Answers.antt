@@ -1,0 +1,33 @@
+use Rattle.std.proofs.Common.{◌-◌, [], ◌∷◌, ap, subst, ◌∙◌, arith, count_by}
+use Rattle.dym_run.specs.declared.tally.Tally.{Tally}
+use Rattle.dym_run.specs.Ends.{EndedMeaning, IsTallyOf}
+use Rattle.dym_run.specs.Summary.{is_refusal}
+use Rattle.dym_run.proofs.Tallies.{tally_of_one, not_refused, count_not}
+use Rattle.dym_run.proofs.ended.Ended.tally.Goals as goal
+
+pub returns : goal.returns
+returns g c =
+    let replies = c.self.inside.replies.items in
+    let refused = c.refusals-refused.ensures.counted ∙ ap (count_by is_refusal) c.deref.ensures.value in
+    let all = c.len.ensures ∙ c.self.inside.replies.ok.0 in
+    let ok = not_refused replies c.len.result c.refusals-refused.result all refused in
+    let tally : Tally = record {
+      ok = c.len.result - c.refusals-refused.result;
+      refused = c.refusals-refused.result;
+      chunks = c.live_chunks.result;
+      segments = c.wide.result;
+      kept = c.wide-2.result;
+      slots = c.wide-3.result;
+    } in
+    subst (λ (e : EndedMeaning). IsTallyOf tally (e.shown ∷ [])) c.self.view_is
+    (tally_of_one tally _
+    (λ i. record {
+      ok = ok i;
+      refused = refused i;
+      chunks = c.live_chunks.ensures.counted i;
+      segments = (c.wide.ensures.is ∙ c.held.ensures ∙ c.self.invariant.holds) i;
+      kept = c.wide-2.ensures.is i;
+      slots = c.wide-3.ensures.is i;
+    })
+    (omega (arith, ok, refused, count_not replies))
+    c.live_chunks.ensures.few c.wide.ensures.small c.wide-2.ensures.small c.wide-3.ensures.small)

@@ -1,0 +1,17 @@
+use Rattle.std.proofs.Common.{◌≡◌, ◌≤◌, map, vec_len, IsPermutation}
+use Rattle.dym_region.specs.Identity.{AreDistinct}
+use Rattle.dym_region.specs.contracts.raw_segment.RawSegmentSegment.TheImpl.{ghosts}
+use Rattle.dym_run.proofs.Progress.{Counted}
+use Rattle.dym_run.proofs.total.tally_all.Given as goal
+
+abbrev pub invariant-loop-alloc : goal.invariant-loop-alloc
+invariant-loop-alloc g l = record {
+  version : l.roster.version ≡ l.initial.roster.version;
+  enough : l.roster.most ≤ vec_len l.segments;
+  distinct : AreDistinct (map ghosts.id l.segments.items);
+  segments : IsPermutation (map ghosts.id l.initial.segments.items) (map ghosts.id l.segments.items);
+  counted : Counted l.initial.roster.version l.initial.roster.parts.items l.roster.parts.items l.tally;
+}
+
+abbrev pub decreases-loop-alloc : goal.decreases-loop-alloc
+decreases-loop-alloc g l = l.roster.parts.len

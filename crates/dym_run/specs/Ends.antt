@@ -1,0 +1,140 @@
+-- What is left of an object that has run: what is printed of it, and whose its segments are.
+use Rattle.std.specs.Prelude.{◌≡◌, ⊤, ℕ, ◌+◌, ◌*◌, ◌^◌, ◌<◌, ◌≤◌, not, List, [], ◌∷◌, ◌++◌, length, map, flat_map, sum_by, count_by, Result, MatchResult}
+use Rattle.std.specs.FinMap.{len}
+use Rattle.dym_base.specs.Heaps.{HeapState, held}
+use Rattle.dym_base.specs.Objects.{run_replies, run_end, slots}
+use Rattle.dym_base.specs.Origins.{Origin}
+use Rattle.dym_base.specs.declared.command.Version.{Version}
+use Rattle.dym_base.specs.declared.command.Command.{Command}
+use Rattle.dym_base.specs.declared.reply.Reply.{Reply}
+use Rattle.dym_heap.specs.Meaning.{HeapMeaning}
+use Rattle.dym_io.specs.Sink.{Output, Appended, AppendedFront, Blames}
+use Rattle.dym_report.specs.Objects.{object_text}
+use Rattle.dym_script.specs.declared.parts.Part.{Part}
+use Rattle.dym_wave.specs.Works.{OriginMeaning, WorkMeaning}
+use Rattle.dym_run.specs.declared.tally.Tally.{Tally}
+use Rattle.dym_run.specs.Report.{Own, part_text}
+use Rattle.dym_run.specs.declared.write_fail.WriteFail.{WriteFail}
+use Rattle.dym_run.specs.declared.write_fail.WriteFail.TheVariants.{Sink as SinkFailed}
+use Rattle.dym_run.specs.Parts.{own_of}
+use Rattle.dym_run.specs.Summary.{is_refusal, no_tally, both_tallies}
+
+-- what is printed of an object: its name, its version, its replies, its heap, how many logs it keeps and how many records these take
+pub record Shown : Type 0 where
+  pub name : List ℕ
+  pub version : Version
+  pub replies : List Reply
+  pub heap : HeapState
+  pub kept : ℕ
+  pub slots : ℕ
+
+-- an ended object: what is printed of it, its quota, and the origin of its supply
+pub record EndedMeaning : Type 0 where
+  pub shown : Shown
+  pub quota : ℕ
+  pub supply : Origin
+
+-- what is left of an object of this name, with these replies, this heap, so many logs, and so many records that these take
+abbrev pub ended_with : List ℕ → List Reply → HeapMeaning → ℕ → ℕ → EndedMeaning
+ended_with name replies heap kept slots = record {
+  shown = record { name = name; version = heap.version; replies = replies; heap = heap.state; kept = kept; slots = slots };
+  quota = heap.quota;
+  supply = heap.origin;
+}
+
+-- what is left of a work under a name
+abbrev pub outcome : List ℕ → WorkMeaning → EndedMeaning
+outcome name w = ended_with name w.replies w.object.heap (length w.object.chain.logs) (slots w.object.chain.logs)
+
+-- what is printed of an object of this name, quota and version that ran these commands
+abbrev pub run_shown : List ℕ → Version → ℕ → List Command → Shown
+run_shown name version quota commands =
+    let s = run_end version quota commands in
+    record {
+      name = name;
+      version = version;
+      replies = run_replies version quota commands;
+      heap = s.heap;
+      kept = length s.logs;
+      slots = slots s.logs;
+    }
+
+-- the same of a declared object and its own commands, and of a work's origin under a name
+abbrev pub own_shown : Version → Own → Shown
+own_shown version o = run_shown o.decl.name version o.decl.quota o.commands
+
+abbrev pub origin_shown : List ℕ → OriginMeaning → Shown
+origin_shown name o = run_shown name o.version o.quota o.commands
+
+-- the works of these origins, each under its name
+abbrev pub all_shown : List (List ℕ) → List OriginMeaning → List Shown
+all_shown [] origins = []
+all_shown (n ∷ names) [] = []
+all_shown (n ∷ names) (o ∷ origins) = origin_shown n o ∷ all_shown names origins
+
+-- its text
+abbrev pub shown_text : Shown → List ℕ
+shown_text s = object_text s.version s.name s.replies s.heap.live s.kept s.slots
+
+-- what it comes to
+abbrev pub shown_tally : Shown → Tally
+shown_tally s = record {
+  ok = count_by (λ r. not (is_refusal r)) s.replies;
+  refused = count_by is_refusal s.replies;
+  chunks = len s.heap.live;
+  segments = held s.heap.live;
+  kept = s.kept;
+  slots = s.slots;
+}
+
+-- what is printed of works, each under its name, once they have run all their commands
+abbrev pub works_shown : List (List ℕ) → List WorkMeaning → List Shown
+works_shown names works = all_shown names (map (λ (w : WorkMeaning). w.origin) works)
+
+-- the share of a work, and of an ended object, in the segments: its quota, and the origin of its supply
+abbrev pub work_share : WorkMeaning → ℕ × Origin
+work_share w = (w.origin.quota, w.origin.supply)
+
+abbrev pub ended_share : EndedMeaning → ℕ × Origin
+ended_share e = (e.quota, e.supply)
+
+-- a list of parts lost its first ones, so many, and what is printed of these came behind what was printed before
+pub record Boarded (version : Version) (count : ℕ) (before after : List Part) (shown_before shown_after : List Shown) : Type 0 where
+  pub done : List Part
+  pub counted : length done ≡ count
+  pub taken : before ≡ done ++ after
+  pub shown : shown_after ≡ shown_before ++ map (λ p. own_shown version (own_of p)) done
+
+-- the texts of parts
+abbrev pub parts_text : Version → List Part → List ℕ
+parts_text version parts = flat_map (λ part. part_text version (own_of part)) parts
+
+-- the texts of the first parts of a list were written, which then lost them: at least one, at Ok; at an error a front of all of them
+abbrev pub WritesFirst : Version → List Part → List Part → Output → Output → Result ⊤ WriteFail → Type 0
+WritesFirst version before after old new result =
+    MatchResult result
+    (λ _. (done : List Part) × (0 < length done) × (before ≡ done ++ after) × Appended old new (parts_text version done))
+    (λ fail. AppendedFront old new (parts_text version before) × Blames (fail ≡ SinkFailed) old new)
+
+-- what objects come to together
+abbrev pub tally_shown : List Shown → Tally
+tally_shown [] = no_tally
+tally_shown (s ∷ rest) = both_tallies (shown_tally s) (tally_shown rest)
+
+-- this is what objects come to, and its numbers are as small as those of so many objects are
+pub record IsTallyOf (tally : Tally) (objects : List Shown) : Type 0 where
+  pub counted : tally ≡ tally_shown objects
+  pub replies : tally.ok + tally.refused ≡ sum_by (λ s. length s.replies) objects
+  pub chunks : tally.chunks ≤ length objects * 2 ^ 37
+  pub segments : tally.segments ≤ length objects * 2 ^ 32
+  pub kept : tally.kept ≤ length objects * 2 ^ 32
+  pub slots : tally.slots ≤ length objects * 2 ^ 32
+
+-- what is printed of parts that ran all their commands
+abbrev pub parts_shown : Version → List Part → List Shown
+parts_shown version parts = map (λ p. own_shown version (own_of p)) parts
+
+-- the first parts of a list, at least one, were counted, and it lost them
+abbrev pub TalliesFirst : Version → List Part → List Part → Tally → Type 0
+TalliesFirst version before after tally =
+    (done : List Part) × (0 < length done) × (before ≡ done ++ after) × IsTallyOf tally (parts_shown version done)

@@ -1,0 +1,68 @@
+-- The summary of a script: what all its objects come to.
+use Rattle.std.specs.Prelude.{ℕ, ◌+◌, Bool, true, false, not, List, [], ◌∷◌, length, count_by}
+use Rattle.std.specs.FinMap.{len}
+use Rattle.dym_base.specs.Heaps.{held}
+use Rattle.dym_base.specs.Objects.{slots}
+use Rattle.dym_base.specs.declared.command.Version.{Version}
+use Rattle.dym_base.specs.declared.reply.Reply.{Reply}
+use Rattle.dym_base.specs.declared.reply.Reply.TheVariants.{Refused}
+use Rattle.dym_script.specs.Scripts.{Said}
+use Rattle.dym_report.specs.declared.totals.Totals.{Totals}
+use Rattle.dym_report.specs.Orders.{summary_text}
+use Rattle.dym_run.specs.declared.tally.Tally.{Tally}
+use Rattle.dym_run.specs.Report.{Own, objects_of, replies_of, end_of}
+
+abbrev pub is_refusal : Reply → Bool
+is_refusal (Refused why) = true
+is_refusal _ = false
+
+-- what one object comes to: its replies that are no refusals and those that are, its live chunks, the segments that they need,
+-- its kept logs, and the records that these take
+unfoldable pub tally_of : Version → Own → Tally
+tally_of version o =
+    let s = end_of version o in
+    record {
+      ok = count_by (λ r. not (is_refusal r)) (replies_of version o);
+      refused = count_by is_refusal (replies_of version o);
+      chunks = len s.heap.live;
+      segments = held s.heap.live;
+      kept = length s.logs;
+      slots = slots s.logs;
+    }
+
+abbrev pub no_tally : Tally
+no_tally = record { ok = 0; refused = 0; chunks = 0; segments = 0; kept = 0; slots = 0 }
+
+abbrev pub both_tallies : Tally → Tally → Tally
+both_tallies a b = record {
+  ok = a.ok + b.ok;
+  refused = a.refused + b.refused;
+  chunks = a.chunks + b.chunks;
+  segments = a.segments + b.segments;
+  kept = a.kept + b.kept;
+  slots = a.slots + b.slots;
+}
+
+-- what objects come to together
+abbrev pub tally_all : Version → List Own → Tally
+tally_all version [] = no_tally
+tally_all version (o ∷ os) = both_tallies (tally_of version o) (tally_all version os)
+
+-- the eight numbers of a summary
+abbrev pub totals_of : Said → Totals
+totals_of said =
+    let all = tally_all said.version (objects_of said) in
+    record {
+      objects = length said.objects;
+      commands = length said.lines;
+      ok = all.ok;
+      refused = all.refused;
+      chunks = all.chunks;
+      segments = all.segments;
+      kept = all.kept;
+      slots = all.slots;
+    }
+
+-- the line of a summary
+abbrev pub summary_of : Said → List ℕ
+summary_of said = summary_text (totals_of said)

@@ -1,0 +1,123 @@
+//! The works of a wave with their sweepers.
+ghost use Rattle.std.specs.Prelude.{◌≡◌, ◌≤◌, false, [], IfOk, IfErr, OnOk, map, vec_len, All};
+ghost use Rattle.dym_base.specs.Objects.{object_start};
+ghost use Rattle.dym_base.specs.Origins.{shared};
+ghost use Rattle.dym_base.specs.declared.limits.TheConstants.{MOST_OBJECTS, MOST_QUANTUM, MOST_QUOTA, MOST_WORKERS};
+ghost use Rattle.dym_pool.specs.Jobs.{AllEnded, Numbered};
+ghost use Rattle.dym_wave.specs.Waves.{AreSweptBy, OfOneQueue};
+ghost use Rattle.dym_wave.specs.Works.{left_of, number_of, origin_of};
+
+use dym_base::Version;
+use dym_base::limits::{MOST_OBJECTS, MOST_QUANTUM, MOST_QUOTA, MOST_WORKERS};
+use dym_chain::SlotKeep;
+use dym_commands::Commands;
+use dym_object::Object;
+use dym_pool::Gate;
+use dym_quota::{Berth, Supply};
+use dym_slots::{LogSlots, Sweeper};
+use dym_wave::{Work, run_wave};
+use std::alloc::{AllocError, Global};
+use std::sync::Wait;
+use std::thread::Threads;
+
+/// Works that were run, their sweepers, and whether all of them ran all their commands.
+pub(crate) struct Crew<R: Wait> {
+    pub(crate) works: Vec<Work<R>>,
+    pub(crate) sweepers: Vec<Sweeper>,
+    pub(crate) ran: Result<(), AllocError>,
+}
+
+/// Opens an object over a berth, with a log table of its own, as a work with these commands. At an `AllocError` the berth comes back as
+/// it was.
+pub(crate) fn open_work<R: Wait>(
+    rt: &R,
+    alloc: Global,
+    version: Version,
+    number: u32,
+    quantum: u32,
+    commands: Commands,
+    berth: Berth<R>,
+) -> Result<(Work<R>, Sweeper), (AllocError, Berth<R>)>
+    requires nothing_held { ⟦<Berth<R> as Supply>⟧.held_ids berth ≡ [] }
+    requires quota_least { 1 ≤ ⟦<Berth<R> as Supply>⟧.quota_of berth }
+    requires quota_most { ⟦<Berth<R> as Supply>⟧.quota_of berth ≤ MOST_QUOTA }
+    requires least { 1 ≤ quantum }
+    requires most { quantum ≤ MOST_QUANTUM }
+    ensures origin { IfOk result (λ r. r.0.origin ≡ record {
+      number = number;
+      quota = ⟦<Berth<R> as Supply>⟧.quota_of berth;
+      version = version;
+      commands = commands;
+      supply = ⟦<Berth<R> as Supply>⟧.origin berth;
+      keep = shared r.1.table;
+    }) }
+    ensures nothing_held { IfErr result (λ e. ⟦<Berth<R> as Supply>⟧.held_ids e.1 ≡ []) }
+    ensures quota { IfErr result (λ e. ⟦<Berth<R> as Supply>⟧.quota_of e.1 ≡ ⟦<Berth<R> as Supply>⟧.quota_of berth) }
+    ensures supply { IfErr result (λ e. ⟦<Berth<R> as Supply>⟧.origin e.1 ≡ ⟦<Berth<R> as Supply>⟧.origin berth) }
+{
+    let (owner, sweeper) = match LogSlots::open(alloc) {
+        Ok(ends) => ends,
+        Err(error) => return Err((error, berth)),
+    };
+    let object = match Object::open_as(alloc, berth, SlotKeep::new(owner), version) {
+        Ok(object) => object,
+        Err((error, berth, _)) => return Err((error, berth)),
+    };
+    match Work::open(alloc, number, quantum, commands, object) {
+        Ok(work) => Ok((work, sweeper)),
+        Err((error, _, object)) => {
+            let (berth, _) = object.end(rt);
+            Err((error, berth))
+        }
+    }
+}
+
+/// Runs works to their ends, while their log tables are swept. Only memory can be wanting; the works then stand as they came, or a work
+/// found no memory for one of its commands.
+pub(crate) fn run_crew<R: Threads + Wait + Send + Sync, G: Gate>(
+    rt: &R,
+    alloc: Global,
+    works: Vec<Work<R>>,
+    sweepers: Vec<Sweeper>,
+    workers: u32,
+    gate: &G,
+) -> Crew<R>
+    requires few { vec_len works ≤ MOST_OBJECTS }
+    requires numbered { Numbered number_of works.items }
+    requires queue { OfOneQueue works.items }
+    requires swept { AreSweptBy works.items sweepers.items }
+    requires some { 1 ≤ workers }
+    requires most { workers ≤ MOST_WORKERS }
+    ensures origins { map origin_of result.works.items ≡ map origin_of works.items }
+    ensures swept { AreSweptBy result.works.items result.sweepers.items }
+    ensures ended { OnOk result.ran (AllEnded left_of result.works.items) }
+    ensures long { OnOk result.ran (All (λ w. w.short ≡ false) result.works.items) }
+{
+    match run_wave(rt, alloc, works, sweepers, workers, gate) {
+        Ok((works, sweepers, _)) => {
+            let ran = all_ran(&works);
+            Crew {
+                works,
+                sweepers,
+                ran,
+            }
+        }
+        Err((error, works, sweepers)) => Crew {
+            works,
+            sweepers,
+            ran: Err(error),
+        },
+    }
+}
+
+/// Whether no work found its memory wanting.
+fn all_ran<R: Wait>(works: &[Work<R>]) -> Result<(), AllocError>
+    ensures { OnOk result (All (λ w. w.short ≡ false) works.now) }
+{
+    for work in works {
+        if work.short() {
+            return Err(AllocError);
+        }
+    }
+    Ok(())
+}

@@ -1,0 +1,134 @@
+//! An object that has run.
+ghost use Rattle.std.specs.Prelude.{◌≡◌, ◌^◌, ◌≤◌, false, [], ◌∷◌, length, count_by};
+ghost use Rattle.dym_base.specs.Origins.{shared};
+ghost use Rattle.dym_base.specs.declared.limits.TheConstants.{MOST_COMMANDS};
+ghost use Rattle.dym_io.specs.Sink.{Writes};
+ghost use Rattle.dym_wave.specs.Works.{left_of};
+ghost use Rattle.dym_run.specs.Ends.{outcome, origin_shown, shown_text, IsTallyOf};
+ghost use Rattle.dym_run.specs.Summary.{is_refusal};
+
+use crate::tally::Tally;
+use dym_base::{Name, Reply};
+use dym_heap::Heap;
+use dym_io::{Sink, SinkFault};
+use dym_quota::{Berth, Supply};
+use dym_report::{live_chunks, write_object};
+use dym_slots::Sweeper;
+use dym_wave::Work;
+use std::marker::Model;
+use std::sync::Wait;
+
+/// What is left of an object once its table of logs was given up: all that is printed of it, and its heap, which holds its segments.
+pub(crate) struct Ended<R: Wait> {
+    name: Name,
+    replies: Vec<Reply>,
+    heap: Heap<Berth<R>>,
+    kept: u32,
+    slots: u32,
+}
+
+impl<R: Wait> Model for Ended<R> {
+    ghost use Rattle.std.specs.Coded.{codes};
+    ghost use Rattle.dym_heap.specs.Meaning.{IsSound, live_code, touched_code};
+    ghost use Rattle.dym_run.specs.Ends.{EndedMeaning, ended_with};
+
+    ghost Value = { EndedMeaning };
+
+    ghost coded = { Prim.hlevel (codes, live_code, touched_code) };
+
+    ghost view = { λ e. ended_with e.name e.replies.items e.heap e.kept e.slots };
+
+    ghost invariant = { λ e. IsSound e.heap };
+}
+
+impl<R: Wait> Ended<R> {
+    /// Splits a work into its replies, its heap and its records, which its sweeper counts as it gives their table up.
+    pub(crate) fn of(name: Name, work: Work<R>, sweeper: Sweeper) -> Ended<R>
+        requires table { work.origin.keep ≡ shared sweeper.table }
+        ensures is { result ≡ outcome name work }
+        ensures whole { left_of work ≡ 0 → work.short ≡ false → result.shown ≡ origin_shown name work.origin }
+        ensures quota { result.quota ≡ work.origin.quota }
+        ensures supply { result.supply ≡ work.origin.supply }
+    {
+        let (replies, object) = work.split();
+        let kept = object.kept();
+        let (heap, keep) = object.split();
+        let slots = sweeper.finish(keep.into_owner());
+        Ended {
+            name,
+            replies,
+            heap,
+            kept,
+            slots,
+        }
+    }
+
+    /// Writes the object's part. The only error is that of the sink.
+    pub(crate) fn write<W: Sink>(&self, sink: &mut W) -> Result<(), SinkFault>
+        ensures { Writes (W.output sink.old) (W.output sink.new) (shown_text self.now.shown) result }
+    {
+        write_object(
+            sink,
+            &self.name,
+            &self.replies,
+            &self.heap,
+            self.kept,
+            self.slots,
+        )
+    }
+
+    /// What the object comes to.
+    pub(crate) fn tally(&self) -> Tally
+        requires few { length self.now.shown.replies ≤ MOST_COMMANDS }
+        ensures { IsTallyOf result (self.now.shown ∷ []) }
+    {
+        let refused = refusals(&self.replies);
+        Tally {
+            ok: (self.replies.len() - refused) as u32,
+            refused: refused as u32,
+            chunks: live_chunks(&self.heap),
+            segments: wide(self.heap.held()),
+            kept: wide(self.kept),
+            slots: wide(self.slots),
+        }
+    }
+
+    /// Gives all segments back, and answers the berth.
+    pub(crate) fn end(self, rt: &R) -> Berth<R>
+        ensures nothing_held { ⟦<Berth<R> as Supply>⟧.held_ids result ≡ [] }
+        ensures quota { ⟦<Berth<R> as Supply>⟧.quota_of result ≡ self.quota }
+        ensures supply { ⟦<Berth<R> as Supply>⟧.origin result ≡ self.supply }
+    {
+        let Ended {
+            name: _,
+            replies: _,
+            heap,
+            kept: _,
+            slots: _,
+        } = self;
+        heap.end(rt)
+    }
+}
+
+/// The same number.
+fn wide(number: u32) -> u64
+    ensures is { result ≡ number }
+    ensures small { result ≤ 2 ^ 32 }
+{
+    u64::from(number)
+}
+
+/// How many replies are refusals.
+fn refusals(replies: &[Reply]) -> usize
+    ensures counted { result ≡ count_by is_refusal replies.now }
+    ensures within { result ≤ length replies.now }
+{
+    replies.iter().filter(|reply| is_refusal(reply)).count()
+}
+
+/// Whether a reply is a refusal.
+fn is_refusal(reply: &Reply) -> bool
+    ensures { result ≡ is_refusal reply.now }
+{
+    matches!(reply, Reply::Refused(_))
+}

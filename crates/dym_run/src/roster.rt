@@ -1,0 +1,110 @@
+//! The objects that have yet to run.
+ghost use Rattle.std.specs.Prelude.{◌≡◌, ℕ, ◌<◌, ◌≤◌, [], ◌++◌, IfOk, IfErr, length, map, drop, vec_len, All, IsPermutation};
+ghost use Rattle.dym_base.specs.declared.limits.TheConstants.{MOST_OBJECTS, MOST_SEGMENTS};
+ghost use Rattle.dym_region.specs.Identity.{AreDistinct};
+ghost use Rattle.dym_run.specs.Ends.{Boarded};
+ghost use Rattle.dym_run.specs.Parts.{quota_of, IsRunnable, IsShape};
+
+use crate::quotas::{largest_wave, quotas_of};
+use crate::settled::Settled;
+use crate::shape::Shape;
+use crate::wave::Wave;
+use dym_base::Version;
+use dym_base::limits::{MOST_OBJECTS, MOST_SEGMENTS};
+use dym_pool::Gate;
+use dym_quota::waves;
+use dym_region::{RawSegment, Segment};
+use dym_script::Part;
+use std::alloc::{AllocError, Global};
+use std::collections::VecDeque;
+use std::sync::Wait;
+use std::thread::Threads;
+
+/// Objects in the order of their declarations, of which the first ones ran. What has yet to run leaves from the front, wave by wave.
+#[derive(Drop)]
+pub(crate) struct Roster {
+    pub(crate) version: Version,
+    pub(crate) shape: Shape,
+    pub(crate) parts: VecDeque<Part>,
+    pub(crate) most: u32,
+    quotas: Vec<u32>,
+    from: usize,
+    ghost runnable: { All IsRunnable parts.items },
+    ghost shaped: { IsShape shape },
+    ghost lined: { map quota_of parts.items ≡ drop from quotas.items },
+    ghost inside: { from ≤ vec_len quotas },
+    ghost fits: { All (λ q. q ≤ most) quotas.items },
+    ghost few: { vec_len quotas ≤ MOST_OBJECTS },
+}
+
+impl Roster {
+    /// All of some objects.
+    pub(crate) fn of(
+        alloc: Global,
+        version: Version,
+        parts: Vec<Part>,
+        shape: Shape,
+    ) -> Result<Roster, AllocError>
+        requires runnable { All IsRunnable parts.items }
+        requires shape { IsShape shape }
+        requires fits { All (λ part. part.decl.quota ≤ shape.segments) parts.items }
+        requires some { 0 < vec_len parts }
+        requires objects { vec_len parts ≤ MOST_OBJECTS }
+        ensures version { IfOk result (λ r. r.version ≡ version) }
+        ensures parts { IfOk result (λ r. r.parts.items ≡ parts.items) }
+        ensures least { IfOk result (λ r. 1 ≤ r.most) }
+        ensures most { IfOk result (λ r. r.most ≤ MOST_SEGMENTS) }
+    {
+        let quotas = quotas_of(alloc, &parts)?;
+        let most = largest_wave(&quotas, shape.segments);
+        Ok(Roster {
+            version,
+            shape,
+            parts: VecDeque::from_vec(parts),
+            most,
+            quotas,
+            from: 0,
+        })
+    }
+
+    /// Runs the objects of the next wave, over these segments. At an `AllocError` all segments come back, and the run is
+    /// over.
+    pub(crate) fn run_next<R: Threads + Wait + Send + Sync, G: Gate>(
+        &mut self,
+        rt: &R,
+        alloc: Global,
+        segments: Vec<RawSegment>,
+        gate: &G,
+    ) -> Result<Settled<R>, (AllocError, Vec<RawSegment>)>
+        requires some { 0 < length self.old.parts.items }
+        requires enough { self.old.most ≤ vec_len segments }
+        requires distinct { AreDistinct (map ⟦<RawSegment as Segment>⟧.id segments.items) }
+        ensures version { self.new.version ≡ self.old.version }
+        ensures most { self.new.most ≡ self.old.most }
+        ensures ran { IfOk result (λ s. (count : ℕ) × (0 < count)
+            × Boarded self.old.version count self.old.parts.items self.new.parts.items [] (map (λ e. e.shown) s.ended.items)) }
+        ensures segments { IfOk result (λ s. s.queue.stocked ++ s.queue.aside ≡ map ⟦<RawSegment as Segment>⟧.id segments.items) }
+        ensures back { IfErr result (λ e. IsPermutation (map ⟦<RawSegment as Segment>⟧.id segments.items) (map ⟦<RawSegment as Segment>⟧.id e.1.items)) }
+        ensures distinct { IfErr result (λ e. AreDistinct (map ⟦<RawSegment as Segment>⟧.id e.1.items)) }
+    {
+        let end = waves(&self.quotas, self.most, self.from);
+        let wave = Wave::open(rt, alloc, segments, &self.quotas[self.from..end])?;
+        self.from = end;
+        let (settled, ran) = wave.run_all(
+            rt,
+            alloc,
+            self.version,
+            self.shape,
+            &mut self.parts,
+            gate,
+        );
+        match ran {
+            Ok(()) => Ok(settled),
+            Err(error) => {
+                self.parts.clear();
+                self.from = self.quotas.len();
+                Err((error, settled.close(rt)))
+            }
+        }
+    }
+}

@@ -1,0 +1,74 @@
+//! A wave whose objects have run.
+ghost use Rattle.std.specs.Prelude.{◌≡◌, ◌+◌, ◌≤◌, false, [], ◌++◌, length, map, sum_by, vec_len, vec_capacity, All, IsPermutation};
+ghost use Rattle.dym_base.specs.Origins.{shared};
+ghost use Rattle.dym_pool.specs.Jobs.{AllEnded};
+ghost use Rattle.dym_quota.specs.Berths.{IsIdleBerth};
+ghost use Rattle.dym_region.specs.Identity.{AreDistinct};
+ghost use Rattle.dym_wave.specs.Waves.{AreSweptBy};
+ghost use Rattle.dym_wave.specs.Works.{left_of};
+ghost use Rattle.dym_run.specs.Ends.{works_shown, work_share, ended_share};
+
+use crate::ended::Ended;
+use crate::reversed::reversed;
+use dym_base::Name;
+use dym_quota::{Berth, QuotaQueue, Supply};
+use dym_region::{RawSegment, Segment};
+use dym_slots::Sweeper;
+use dym_wave::Work;
+use std::sync::Wait;
+
+/// The objects of a wave that have run, in order, and the berths over which no object stands. Their queue has all segments once the
+/// objects are ended.
+pub(crate) struct Settled<R: Wait> {
+    pub(crate) queue: QuotaQueue,
+    pub(crate) berths: Vec<Berth<R>>,
+    pub(crate) ended: Vec<Ended<R>>,
+    ghost idle: { All (IsIdleBerth queue.name) berths.items },
+    ghost ended_of_queue: { All (λ e. e.supply ≡ shared queue.name) ended.items },
+    ghost all: { sum_by (λ b. b.quota) berths.items + sum_by (λ e. e.quota) ended.items ≡ length queue.stocked },
+    ghost room: { vec_len berths + vec_len ended ≤ vec_capacity berths },
+}
+
+impl<R: Wait> Settled<R> {
+    /// Ends all objects, and answers all segments, in any order.
+    pub(crate) fn close(self, rt: &R) -> Vec<RawSegment>
+        ensures all { IsPermutation (self.queue.stocked ++ self.queue.aside) (map ⟦<RawSegment as Segment>⟧.id result.items) }
+        ensures distinct { AreDistinct (map ⟦<RawSegment as Segment>⟧.id result.items) }
+    {
+        let Settled {
+            queue,
+            mut berths,
+            mut ended,
+        } = self;
+        while let Some(object) = ended.pop() {
+            berths.push_reserved(object.end(rt));
+        }
+        ended.destroy_empty();
+        queue.close(rt, berths)
+    }
+}
+
+/// Splits works, each under its name, and counts their records. What is left of them comes in the same order, into an empty list with
+/// room for it.
+pub(crate) fn settle<R: Wait>(
+    mut names: Vec<Name>,
+    mut works: Vec<Work<R>>,
+    mut sweepers: Vec<Sweeper>,
+    mut ended: Vec<Ended<R>>,
+) -> Vec<Ended<R>>
+    requires names { length names.items ≡ length works.items }
+    requires swept { AreSweptBy works.items sweepers.items }
+    requires none { ended.items ≡ [] }
+    requires room { vec_len works ≤ vec_capacity ended }
+    ensures shares { map ended_share result.items ≡ map work_share works.items }
+    ensures shown { AllEnded left_of works.items → All (λ w. w.short ≡ false) works.items
+        → map (λ e. e.shown) result.items ≡ works_shown names.items works.items }
+{
+    while let Some(work) = works.pop() {
+        let name = names.take_last();
+        let sweeper = sweepers.take_last();
+        ended.push_reserved(Ended::of(name, work, sweeper));
+    }
+    works.destroy_empty();
+    reversed(ended)
+}

@@ -1,0 +1,118 @@
+//! What objects that run in waves come to.
+ghost use Rattle.std.specs.Prelude.{◌≡◌, ◌+◌, ◌≤◌, ◌<◌, IfOk, length, map, sum_by, vec_len, All, IsPermutation};
+ghost use Rattle.dym_base.specs.declared.limits.TheConstants.{MOST_OBJECTS, MOST_COMMANDS};
+ghost use Rattle.dym_region.specs.Identity.{AreDistinct};
+ghost use Rattle.dym_run.specs.Ends.{parts_shown, IsTallyOf, TalliesFirst};
+ghost use Rattle.dym_run.specs.Parts.{own_of, IsRunnable, IsShape};
+ghost use Rattle.dym_run.specs.Summary.{tally_all};
+
+use crate::ended::Ended;
+use crate::roster::Roster;
+use crate::shape::Shape;
+use crate::tally::Tally;
+use dym_base::Version;
+use dym_base::limits::{MOST_COMMANDS, MOST_OBJECTS};
+use dym_pool::Gate;
+use dym_region::{RawSegment, Region, Segment};
+use dym_script::Part;
+use std::alloc::{AllocError, Global};
+use std::mem;
+use std::sync::Wait;
+use std::thread::Threads;
+
+/// What objects come to together. They run in waves, as where their parts are written.
+///
+/// The gate is told of each wave and each turn. A call may wait for other threads.
+pub fn tally_waves<R: Threads + Wait + Send + Sync, G: Gate>(
+    rt: &R,
+    alloc: Global,
+    version: Version,
+    parts: Vec<Part>,
+    shape: Shape,
+    gate: &G,
+) -> Result<Tally, AllocError>
+    requires runnable { All IsRunnable parts.items }
+    requires shape { IsShape shape }
+    requires fits { All (λ part. part.decl.quota ≤ shape.segments) parts.items }
+    requires objects { vec_len parts ≤ MOST_OBJECTS }
+    requires commands { sum_by (λ part. length part.commands) parts.items ≤ MOST_COMMANDS }
+    ensures counted { IfOk result (λ tally. tally ≡ tally_all version (map own_of parts.items)) }
+    ensures replies { IfOk result (λ tally. tally.ok + tally.refused ≡ sum_by (λ part. length part.commands) parts.items) }
+{
+    if parts.is_empty() {
+        return Ok(Tally::none());
+    }
+    let mut roster = Roster::of(alloc, version, parts, shape)?;
+    let (region, mut segments) = Region::new(alloc, roster.most)?;
+    let tally = tally_all(rt, alloc, &mut roster, &mut segments, gate);
+    region.close(segments);
+    tally
+}
+
+/// What all objects that have yet to run come to, wave by wave.
+fn tally_all<R: Threads + Wait + Send + Sync, G: Gate>(
+    rt: &R,
+    alloc: Global,
+    roster: &mut Roster,
+    segments: &mut Vec<RawSegment>,
+    gate: &G,
+) -> Result<Tally, AllocError>
+    requires enough { roster.old.most ≤ vec_len segments.old }
+    requires distinct { AreDistinct (map ⟦<RawSegment as Segment>⟧.id segments.old.items) }
+    requires objects { length roster.old.parts.items ≤ MOST_OBJECTS }
+    requires commands { sum_by (λ part. length part.commands) roster.old.parts.items ≤ MOST_COMMANDS }
+    ensures segments { IsPermutation (map ⟦<RawSegment as Segment>⟧.id segments.old.items) (map ⟦<RawSegment as Segment>⟧.id segments.new.items) }
+    ensures counted { IfOk result (λ tally. IsTallyOf tally (parts_shown roster.old.version roster.old.parts.items)) }
+{
+    let mut tally = Tally::none();
+    while !roster.parts.is_empty() {
+        tally = tally.and(tally_wave(rt, alloc, roster, segments, gate)?);
+    }
+    Ok(tally)
+}
+
+/// Runs the next wave, and counts what its objects come to. All segments are back when the call returns.
+fn tally_wave<R: Threads + Wait + Send + Sync, G: Gate>(
+    rt: &R,
+    alloc: Global,
+    roster: &mut Roster,
+    segments: &mut Vec<RawSegment>,
+    gate: &G,
+) -> Result<Tally, AllocError>
+    requires some { 0 < length roster.old.parts.items }
+    requires enough { roster.old.most ≤ vec_len segments.old }
+    requires distinct { AreDistinct (map ⟦<RawSegment as Segment>⟧.id segments.old.items) }
+    requires objects { length roster.old.parts.items ≤ MOST_OBJECTS }
+    requires commands { sum_by (λ part. length part.commands) roster.old.parts.items ≤ MOST_COMMANDS }
+    ensures version { roster.new.version ≡ roster.old.version }
+    ensures most { roster.new.most ≡ roster.old.most }
+    ensures segments { IsPermutation (map ⟦<RawSegment as Segment>⟧.id segments.old.items) (map ⟦<RawSegment as Segment>⟧.id segments.new.items) }
+    ensures distinct { AreDistinct (map ⟦<RawSegment as Segment>⟧.id segments.new.items) }
+    ensures counted { IfOk result (λ tally. TalliesFirst roster.old.version roster.old.parts.items roster.new.parts.items tally) }
+{
+    let taken = mem::replace(segments, Vec::new(alloc));
+    match roster.run_next(rt, alloc, taken, gate) {
+        Ok(settled) => {
+            let tally = tally_ended(&settled.ended);
+            *segments = settled.close(rt);
+            Ok(tally)
+        }
+        Err((error, back)) => {
+            *segments = back;
+            Err(error)
+        }
+    }
+}
+
+/// What objects that have run come to together.
+fn tally_ended<R: Wait>(ended: &[Ended<R>]) -> Tally
+    requires objects { length ended.now ≤ MOST_OBJECTS }
+    requires replies { sum_by (λ e. length e.shown.replies) ended.now ≤ MOST_COMMANDS }
+    ensures { IsTallyOf result (map (λ e. e.shown) ended.now) }
+{
+    let mut tally = Tally::none();
+    for object in ended {
+        tally = tally.and(object.tally());
+    }
+    tally
+}

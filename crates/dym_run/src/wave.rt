@@ -1,0 +1,263 @@
+//! A wave: objects that run side by side over one queue of segments.
+ghost use Rattle.std.specs.Prelude.{◌≡◌, ℕ, ◌+◌, ◌<◌, ◌≤◌, List, false, [], ◌++◌, IfOk, IfErr, OnOk, length, map, reverse, sum, sum_by, vec_len, vec_capacity, All};
+ghost use Rattle.dym_base.specs.Origins.{shared};
+ghost use Rattle.dym_base.specs.declared.limits.TheConstants.{MOST_OBJECTS, MOST_QUANTUM, MOST_QUOTA, MOST_WORKERS};
+ghost use Rattle.dym_pool.specs.Jobs.{AllEnded, Numbered};
+ghost use Rattle.dym_quota.specs.Berths.{IsIdleBerth};
+ghost use Rattle.dym_region.specs.Identity.{AreDistinct};
+ghost use Rattle.dym_wave.specs.Waves.{AreSweptBy};
+ghost use Rattle.dym_wave.specs.Works.{left_of, number_of};
+ghost use Rattle.dym_run.specs.Ends.{works_shown, Boarded};
+ghost use Rattle.dym_run.specs.Parts.{IsShape, StandInLine};
+
+use crate::crew::{Crew, open_work, run_crew};
+use crate::ended::Ended;
+use crate::reversed::reversed;
+use crate::room::Room;
+use crate::settled::{Settled, settle};
+use crate::shape::Shape;
+use dym_base::limits::{MOST_OBJECTS, MOST_QUANTUM, MOST_QUOTA, MOST_WORKERS};
+use dym_base::{Name, Version};
+use dym_pool::Gate;
+use dym_quota::{Berth, QuotaQueue, Supply};
+use dym_region::{RawSegment, Segment};
+use dym_script::{Decl, Part};
+use dym_slots::Sweeper;
+use dym_wave::Work;
+use std::alloc::{AllocError, Global};
+use std::collections::VecDeque;
+use std::sync::Wait;
+use std::thread::Threads;
+
+/// Objects over one queue of segments, and the berths, last one first, over which no object stands yet.
+pub(crate) struct Wave<R: Wait> {
+    pub(crate) queue: QuotaQueue,
+    pub(crate) berths: Vec<Berth<R>>,
+    pub(crate) names: Vec<Name>,
+    pub(crate) works: Vec<Work<R>>,
+    pub(crate) sweepers: Vec<Sweeper>,
+    ended: Vec<Ended<R>>,
+    ghost idle: { All (IsIdleBerth queue.name) berths.items },
+    ghost some_quota: { All (λ b. (1 ≤ b.quota) × (b.quota ≤ MOST_QUOTA)) berths.items },
+    ghost works_of_queue: { All (λ w. w.origin.supply ≡ shared queue.name) works.items },
+    ghost all: { sum_by (λ b. b.quota) berths.items + sum_by (λ w. w.origin.quota) works.items ≡ length queue.stocked },
+    ghost named: { length names.items ≡ length works.items },
+    ghost swept: { AreSweptBy works.items sweepers.items },
+    ghost numbered: { Numbered number_of works.items },
+    ghost few: { vec_len berths + vec_len works ≤ MOST_OBJECTS },
+    ghost none_ended: { ended.items ≡ [] },
+    ghost room: { vec_len berths + vec_len works ≤ vec_capacity berths },
+    ghost room_for_ended: { vec_len berths + vec_len works ≤ vec_capacity ended },
+}
+
+impl<R: Wait> Wave<R> {
+    /// Puts the segments into a queue, with a berth for each quota. All room of the wave is taken here; its objects take their own.
+    pub(crate) fn open(
+        rt: &R,
+        alloc: Global,
+        segments: Vec<RawSegment>,
+        quotas: &[u32],
+    ) -> Result<Wave<R>, (AllocError, Vec<RawSegment>)>
+        requires some { 0 < length quotas.now }
+        requires few { length quotas.now ≤ MOST_OBJECTS }
+        requires each_quota { All (λ q. (1 ≤ q) × (q ≤ MOST_QUOTA)) quotas.now }
+        requires enough { sum quotas.now ≤ vec_len segments }
+        requires distinct { AreDistinct (map ⟦<RawSegment as Segment>⟧.id segments.items) }
+        ensures quotas { IfOk result (λ w. map ⟦<Berth<R> as Supply>⟧.quota_of w.berths.items ≡ reverse quotas.now) }
+        ensures none { IfOk result (λ w. (w.names.items ≡ []) × (w.works.items ≡ [])) }
+        ensures room { IfOk result (λ w. (length quotas.now ≤ vec_capacity w.names)
+            × (length quotas.now ≤ vec_capacity w.works) × (length quotas.now ≤ vec_capacity w.sweepers)) }
+        ensures segments { IfOk result (λ w. w.queue.stocked ++ w.queue.aside ≡ map ⟦<RawSegment as Segment>⟧.id segments.items) }
+        ensures back { IfErr result (λ e. e.1 ≡ segments) }
+    {
+        let Room {
+            names,
+            works,
+            sweepers,
+            ended,
+        } = match Room::open(alloc, quotas.len()) {
+            Ok(room) => room,
+            Err(error) => return Err((error, segments)),
+        };
+        match QuotaQueue::open(rt, alloc, segments, quotas) {
+            Ok((queue, berths)) => Ok(Wave {
+                queue,
+                berths: reversed(berths),
+                names,
+                works,
+                sweepers,
+                ended,
+            }),
+            Err(refused) => {
+                works.destroy_empty();
+                ended.destroy_empty();
+                Err(refused)
+            }
+        }
+    }
+
+    /// Opens an object over each berth, with the parts that come next. The first that finds no memory ends it: what was opened stays.
+    pub(crate) fn board_all(
+        &mut self,
+        rt: &R,
+        alloc: Global,
+        version: Version,
+        quantum: u32,
+        parts: &mut VecDeque<Part>,
+    ) -> Result<(), AllocError>
+        requires least { 1 ≤ quantum }
+        requires most { quantum ≤ MOST_QUANTUM }
+        requires lined { StandInLine parts.old.items (map ⟦<Berth<R> as Supply>⟧.quota_of self.old.berths.items) }
+        requires room { (vec_len self.old.berths + vec_len self.old.works ≤ vec_capacity self.old.names)
+            × (vec_len self.old.berths + vec_len self.old.works ≤ vec_capacity self.old.works)
+            × (vec_len self.old.berths + vec_len self.old.works ≤ vec_capacity self.old.sweepers) }
+        ensures queue { self.new.queue ≡ self.old.queue }
+        ensures boarded { OnOk result (Boarded version (vec_len self.old.berths) parts.old.items parts.new.items
+            (works_shown self.old.names.items self.old.works.items) (works_shown self.new.names.items self.new.works.items)) }
+    {
+        while !self.berths.is_empty() {
+            self.board(rt, alloc, version, quantum, parts)?;
+        }
+        Ok(())
+    }
+
+    /// Opens an object over the next berth, with the part that comes next. Where it finds no memory the berth stands as it was.
+    fn board(
+        &mut self,
+        rt: &R,
+        alloc: Global,
+        version: Version,
+        quantum: u32,
+        parts: &mut VecDeque<Part>,
+    ) -> Result<(), AllocError>
+        requires some { 0 < vec_len self.old.berths }
+        requires least { 1 ≤ quantum }
+        requires most { quantum ≤ MOST_QUANTUM }
+        requires lined { StandInLine parts.old.items (map ⟦<Berth<R> as Supply>⟧.quota_of self.old.berths.items) }
+        requires room { (vec_len self.old.works < vec_capacity self.old.names)
+            × (vec_len self.old.works < vec_capacity self.old.works) × (vec_len self.old.works < vec_capacity self.old.sweepers) }
+        ensures queue { self.new.queue ≡ self.old.queue }
+        ensures fewer { OnOk result (vec_len self.new.berths + 1 ≡ vec_len self.old.berths) }
+        ensures more { OnOk result (vec_len self.new.works ≡ vec_len self.old.works + 1) }
+        ensures lined { OnOk result (StandInLine parts.new.items (map ⟦<Berth<R> as Supply>⟧.quota_of self.new.berths.items)) }
+        ensures boarded { OnOk result (Boarded version 1 parts.old.items parts.new.items
+            (works_shown self.old.names.items self.old.works.items) (works_shown self.new.names.items self.new.works.items)) }
+        ensures room { (vec_capacity self.new.names ≡ vec_capacity self.old.names)
+            × (vec_capacity self.new.works ≡ vec_capacity self.old.works) × (vec_capacity self.new.sweepers ≡ vec_capacity self.old.sweepers) }
+    {
+        let Some(Part { decl, commands }) = parts.pop_front() else {
+            unreachable!();
+        };
+        let Decl {
+            name,
+            quota: _,
+            line: _,
+        } = decl;
+        let berth = self.berths.take_last();
+        let number = self.works.len() as u32;
+        match open_work(rt, alloc, version, number, quantum, commands, berth) {
+            Ok((work, sweeper)) => {
+                self.names.push_reserved(name);
+                self.works.push_reserved(work);
+                self.sweepers.push_reserved(sweeper);
+                Ok(())
+            }
+            Err((error, berth)) => {
+                self.berths.push_reserved(berth);
+                Err(error)
+            }
+        }
+    }
+
+    /// Opens an object over each berth, runs all of them, and splits them. Only memory can be wanting: what was opened is then split as it
+    /// stands.
+    pub(crate) fn run_all<G: Gate>(
+        mut self,
+        rt: &R,
+        alloc: Global,
+        version: Version,
+        shape: Shape,
+        parts: &mut VecDeque<Part>,
+        gate: &G,
+    ) -> (Settled<R>, Result<(), AllocError>)
+    where
+        R: Threads + Send + Sync,
+        requires shape { IsShape shape }
+        requires none { (self.names.items ≡ []) × (self.works.items ≡ []) }
+        requires lined { StandInLine parts.old.items (map ⟦<Berth<R> as Supply>⟧.quota_of self.berths.items) }
+        requires room { (vec_len self.berths ≤ vec_capacity self.names)
+            × (vec_len self.berths ≤ vec_capacity self.works) × (vec_len self.berths ≤ vec_capacity self.sweepers) }
+        ensures queue { result.0.queue ≡ self.queue }
+        ensures ran { OnOk result.1 (Boarded version (vec_len self.berths) parts.old.items parts.new.items [] (map (λ e. e.shown) result.0.ended.items)) }
+    {
+        if let Err(error) = self.board_all(rt, alloc, version, shape.quantum, parts) {
+            return (self.settle(), Err(error));
+        }
+        let (wave, ran) = self.run(rt, alloc, shape.workers, gate);
+        (wave.settle(), ran)
+    }
+
+    /// Runs all works to their ends. Only memory can be wanting: the wave then stands as it came, or some of its works ran a part of their
+    /// commands.
+    pub(crate) fn run<G: Gate>(
+        self,
+        rt: &R,
+        alloc: Global,
+        workers: u32,
+        gate: &G,
+    ) -> (Wave<R>, Result<(), AllocError>)
+    where
+        R: Threads + Send + Sync,
+        requires least { 1 ≤ workers }
+        requires most { workers ≤ MOST_WORKERS }
+        ensures queue { result.0.queue ≡ self.queue }
+        ensures shown { works_shown result.0.names.items result.0.works.items ≡ works_shown self.names.items self.works.items }
+        ensures ended { OnOk result.1 (AllEnded left_of result.0.works.items) }
+        ensures long { OnOk result.1 (All (λ w. w.short ≡ false) result.0.works.items) }
+    {
+        let Wave {
+            queue,
+            berths,
+            names,
+            works,
+            sweepers,
+            ended,
+        } = self;
+        let Crew {
+            works,
+            sweepers,
+            ran,
+        } = run_crew(rt, alloc, works, sweepers, workers, gate);
+        let wave = Wave {
+            queue,
+            berths,
+            names,
+            works,
+            sweepers,
+            ended,
+        };
+        (wave, ran)
+    }
+
+    /// Splits the works, and counts their records.
+    pub(crate) fn settle(self) -> Settled<R>
+        ensures queue { result.queue ≡ self.queue }
+        ensures shown { AllEnded left_of self.works.items → All (λ w. w.short ≡ false) self.works.items
+            → map (λ e. e.shown) result.ended.items ≡ works_shown self.names.items self.works.items }
+    {
+        let Wave {
+            queue,
+            berths,
+            names,
+            works,
+            sweepers,
+            ended,
+        } = self;
+        let ended = settle(names, works, sweepers, ended);
+        Settled {
+            queue,
+            berths,
+            ended,
+        }
+    }
+}

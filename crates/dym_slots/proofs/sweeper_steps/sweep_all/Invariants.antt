@@ -1,6 +1,0 @@
-use Rattle.std.proofs.Common.{◌≡◌}
-use Rattle.dym_slots.proofs.Rounds.{Round}
-use Rattle.dym_slots.proofs.sweeper_steps.sweep_all.Given as goal
-
-abbrev pub invariant-loop-slot : goal.invariant-loop-slot
-invariant-loop-slot l = (l.seat.table_id ≡ l.fn.seat.table_id) × (l.table ≡ l.fn.table) × Round l.root l.slot l.taken l.fn.seat.me l.seat.me

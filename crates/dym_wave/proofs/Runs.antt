@@ -1,0 +1,92 @@
+-- One command more of a work.
+use Rattle.std.proofs.Common.{◌≡◌, ℕ, zero, suc, ◌<◌, ◌-◌, true, false, Bool, List, [], ◌∷◌, ◌++◌, length, take, get_or, refl, sym, ap, subst, ◌∙◌, arith, length-append}
+use Rattle.std.proofs.Math.Seq.{take-suc}
+use Rattle.std.specs.Prelude.{slice_get, IfSome, if◌then◌else◌}
+use Rattle.dym_base.specs.Objects.{ObjectState, object_start, object_step, replies_from, object_after, run_replies, run_end}
+use Rattle.dym_base.specs.declared.command.Version.{Version}
+use Rattle.dym_base.specs.declared.command.Command.{Command}
+use Rattle.dym_base.specs.declared.command.Command.TheVariants.{Logs}
+use Rattle.dym_base.specs.declared.reply.Reply.{Reply}
+use Rattle.dym_object.specs.Meaning.{ObjectMeaning, IsStep, state_of}
+use Rattle.dym_turn.specs.Turns.{Ran}
+use Rattle.dym_wave.specs.Works.{WorkMeaning, JobMeaning, origin_with, work_with, ran, left_of}
+
+module _ (v : Version) (quota : ℕ) where
+  replies_more : (s : ObjectState) (xs : List Command) (c : Command) → replies_from v quota s (xs ++ c ∷ []) ≡ replies_from v quota s xs ++ (object_step v quota (object_after v quota s xs) c).reply ∷ []
+  replies_more s [] c = refl
+  replies_more s (x ∷ xs) c = ap {B = List Reply} (λ l. (object_step v quota s x).reply ∷ l) (replies_more (object_step v quota s x).object xs c)
+
+  after_more : (s : ObjectState) (xs : List Command) (c : Command) → object_after v quota s (xs ++ c ∷ []) ≡ (object_step v quota (object_after v quota s xs) c).object
+  after_more s [] c = refl
+  after_more s (x ∷ xs) c = after_more (object_step v quota s x).object xs c
+
+if_at : {A : Type 0} (P : A → Type 0) (xs : List A) (k : ℕ) (d : A) → k < length xs → IfSome (slice_get xs k) P → P (get_or xs k d)
+if_at P [] k d l h = absurd (omega arith)
+if_at P (x ∷ xs) zero d l h = h
+if_at P (x ∷ xs) (suc k) d l h = if_at P xs k d (omega arith) h
+
+-- a step of the object keeps the origin
+pub same_origin : (number : ℕ) (commands : List Command) (old new : ObjectMeaning) (c : Command) → IsStep old new c → origin_with number commands new ≡ origin_with number commands old
+same_origin number commands old new c step =
+    λ i. record { number = number; quota = (step.heap i).quota; version = (step.heap i).version; commands = commands; supply = (step.heap i).origin; keep = step.origin i }
+
+-- the command that is next was run, and its reply joins the others
+module _ (number quantum : ℕ) (commands : List Command) (replies : List Reply) (old new : ObjectMeaning) (short : Bool) (said : Reply) where
+  abbrev next : Command
+  next = get_or commands (length replies) Logs
+
+  run_as : length replies < length commands → IfSome (slice_get commands (length replies)) (λ c. Ran old c new said) → Ran old next new said
+  run_as l did = if_at (λ c. Ran old c new said) commands (length replies) Logs l did
+
+  one_origin : length replies < length commands → IfSome (slice_get commands (length replies)) (λ c. Ran old c new said) → origin_with number commands new ≡ origin_with number commands old
+  one_origin l did = same_origin number commands old new next (run_as l did).step
+
+  one_job : length replies < length commands → IfSome (slice_get commands (length replies)) (λ c. Ran old c new said) → JobMeaning (work_with number quantum commands replies old short)
+      → JobMeaning (work_with number quantum commands (replies ++ said ∷ []) new short)
+  one_job l did job =
+      let done = take (length replies) commands in
+      let v = old.heap.version in
+      let q = old.heap.quota in
+      let it = run_as l did in
+      let long : length (replies ++ said ∷ []) ≡ suc (length replies) = omega (arith, length-append replies (said ∷ [])) in
+      let cut : take (length (replies ++ said ∷ [])) commands ≡ done ++ next ∷ [] = ap (λ (n : ℕ). take n commands) long ∙ take-suc commands (length replies) Logs l in
+      let same = one_origin l did in
+      let reply : said ≡ (object_step v q (run_end v q done) next).reply = it.reply ∙ ap (λ (s : ObjectState). (object_step v q s next).reply) job.object in
+      let object : state_of new ≡ (object_step v q (run_end v q done) next).object = it.step.object ∙ ap (λ (s : ObjectState). (object_step v q s next).object) job.object in
+      record {
+        within = omega (arith, l, long);
+        replies = (λ i. job.replies i ++ reply i ∷ []) ∙ sym (replies_more v q object_start done next) ∙ ap (run_replies v q) (sym cut)
+            ∙ (λ i. run_replies (sym same i).version (sym same i).quota (take (length (replies ++ said ∷ [])) commands));
+        object = object ∙ sym (after_more v q object_start done next) ∙ ap (run_end v q) (sym cut)
+            ∙ (λ i. run_end (sym same i).version (sym same i).quota (take (length (replies ++ said ∷ [])) commands));
+        counted = omega (arith, it.step.ran, job.counted, long);
+        whole = it.whole;
+        of_origin = refl;
+        few = job.few;
+        some_quantum = job.some_quantum;
+        most_quantum = job.most_quantum;
+      }
+
+-- the same where the replies are told by equations
+pub more_job : (number quantum : ℕ) (commands : List Command) (replies after : List Reply) (old new : ObjectMeaning) (short : Bool) (said told : Reply) (k : ℕ) → k ≡ length replies → after ≡ replies ++ told ∷ [] → told ≡ said
+    → length replies < length commands → IfSome (slice_get commands k) (λ c. Ran old c new said) → JobMeaning (work_with number quantum commands replies old short)
+    → JobMeaning (work_with number quantum commands after new short)
+more_job number quantum commands replies after old new short said told k at is same l did job =
+    subst (λ (rs : List Reply). JobMeaning (work_with number quantum commands rs new short)) (sym (is ∙ ap {B = List Reply} (λ (r : Reply). replies ++ r ∷ []) same))
+    (one_job number quantum commands replies old new short said l (subst (λ (n : ℕ). IfSome (slice_get commands n) (λ c. Ran old c new said)) at did) job)
+
+pub more_origin : (number : ℕ) (commands : List Command) (replies : List Reply) (old new : ObjectMeaning) (said : Reply) (k : ℕ) → k ≡ length replies → length replies < length commands → IfSome (slice_get commands k) (λ c. Ran old c new said)
+    → origin_with number commands new ≡ origin_with number commands old
+more_origin number commands replies old new said k at l did =
+    one_origin number 0 commands replies old new false said l (subst (λ (n : ℕ). IfSome (slice_get commands n) (λ c. Ran old c new said)) at did)
+
+open_by : (short : Bool) (n : ℕ) → 0 < (if short then 0 else n) → short ≡ false
+open_by true n l = absurd (omega arith)
+open_by false n l = refl
+
+-- how much is left of a work
+pub open_while_left : (w : WorkMeaning) → 0 < left_of w → w.short ≡ false
+open_while_left w l = open_by w.short (length w.origin.commands - ran w) l
+
+pub left_while_open : (w : WorkMeaning) → w.short ≡ false → left_of w ≡ length w.origin.commands - ran w
+left_while_open w is = ap (λ (b : Bool). if b then 0 else length w.origin.commands - ran w) is

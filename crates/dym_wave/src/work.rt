@@ -1,0 +1,123 @@
+//! An object with its commands, which is run turn by turn.
+ghost use Rattle.std.specs.Prelude.{◌≡◌, ◌≤◌, IfOk, IfErr};
+ghost use Rattle.dym_base.specs.Objects.{object_start};
+ghost use Rattle.dym_base.specs.declared.limits.TheConstants.{MOST_QUANTUM};
+ghost use Rattle.dym_object.specs.Meaning.{IsWhole, state_of};
+ghost use Rattle.dym_wave.specs.Works.{JobMeaning, EndsWhole, opened};
+
+use dym_base::Reply;
+use dym_base::limits::MOST_QUANTUM;
+use dym_chain::SlotKeep;
+use dym_commands::Commands;
+use dym_object::Object;
+use dym_quota::Berth;
+use dym_turn::Turn;
+use std::alloc::{AllocError, Global};
+use std::marker::Model;
+use std::sync::Wait;
+
+/// An object whose segments are from a queue and whose records are in log slots, with its own commands and the replies so far.
+///
+/// It is a job of a pool: a turn runs up to `quantum` commands. Only `open` takes memory of its own. Where a command finds none, the
+/// work keeps that fact and is left as it is; that command wasn't run. Whoever has a work splits it at the end, so that no object is
+/// lost.
+pub struct Work<R: Wait> {
+    pub(crate) number: u32,
+    pub(crate) quantum: u32,
+    pub(crate) commands: Commands,
+    pub(crate) replies: Vec<Reply>,
+    pub(crate) turn: Turn<Berth<R>, SlotKeep>,
+    pub(crate) short: bool,
+}
+
+impl<R: Wait> Model for Work<R> {
+    ghost use Rattle.std.specs.Prelude.{◌≤◌, length, vec_capacity};
+    ghost use Rattle.std.specs.Coded.{codes};
+    ghost use Rattle.dym_heap.specs.Meaning.{live_code, touched_code};
+    ghost use Rattle.dym_wave.specs.Works.{WorkMeaning, JobMeaning, work_with};
+
+    ghost Value = { WorkMeaning };
+
+    ghost coded = { Prim.hlevel (codes, live_code, touched_code) };
+
+    ghost view = { λ w. work_with w.number w.quantum w.commands w.replies.items w.turn.object w.short };
+
+    // There is room for all replies.
+    ghost invariant = { λ w. JobMeaning (work_with w.number w.quantum w.commands w.replies.items w.turn.object w.short)
+        × (length w.commands ≤ vec_capacity w.replies) };
+}
+
+impl<R: Wait> Work<R> {
+    /// A work with nothing run yet. `number` is the object's place in its wave, and `quantum` the most commands of a turn. Room for
+    /// all replies is taken here.
+    pub fn open(
+        alloc: Global,
+        number: u32,
+        quantum: u32,
+        commands: Commands,
+        object: Object<Berth<R>, SlotKeep>,
+    ) -> Result<Work<R>, (AllocError, Commands, Object<Berth<R>, SlotKeep>)>
+        requires start { state_of object ≡ object_start }
+        requires fresh { object.ran ≡ 0 }
+        requires whole { IsWhole object }
+        requires least { 1 ≤ quantum }
+        requires most { quantum ≤ MOST_QUANTUM }
+        ensures opened { IfOk result (λ w. w ≡ opened number quantum commands object) }
+        ensures commands { IfErr result (λ e. e.1 ≡ commands) }
+        ensures object { IfErr result (λ e. e.2 ≡ object) }
+    {
+        match Vec::with_capacity(alloc, commands.len()) {
+            Ok(replies) => Ok(Work {
+                number,
+                quantum,
+                commands,
+                replies,
+                turn: Turn::new(alloc, object),
+                short: false,
+            }),
+            Err(error) => Err((error, commands, object)),
+        }
+    }
+
+    /// The replies to the commands that have run, in order.
+    pub fn replies(&self) -> &[Reply]
+        ensures replies { result.now ≡ self.now.replies }
+        ensures job { JobMeaning self.now }
+        ensures whole { EndsWhole self.now }
+    {
+        &self.replies
+    }
+
+    /// The object as it stands.
+    pub fn object(&self) -> &Object<Berth<R>, SlotKeep>
+        ensures object { result.now ≡ self.now.object }
+        ensures job { JobMeaning self.now }
+    {
+        &self.turn.object
+    }
+
+    /// Whether a command found no memory, so that it and those after it weren't run.
+    pub fn short(&self) -> bool
+        ensures { result ≡ self.now.short }
+    {
+        self.short
+    }
+
+    /// Gives up the work, and answers the replies and the object as it stands.
+    pub fn split(self) -> (Vec<Reply>, Object<Berth<R>, SlotKeep>)
+        ensures replies { result.0.items ≡ self.replies }
+        ensures object { result.1 ≡ self.object }
+        ensures job { JobMeaning self }
+        ensures whole { EndsWhole self }
+    {
+        let Work {
+            number: _,
+            quantum: _,
+            commands: _,
+            replies,
+            turn,
+            short: _,
+        } = self;
+        (replies, turn.into_object())
+    }
+}

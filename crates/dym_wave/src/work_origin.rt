@@ -1,0 +1,13 @@
+//! Where a work came from.
+use std::marker::Model;
+
+/// Where a work came from, as contracts see it. No value of it is made.
+pub struct WorkOrigin;
+
+impl Model for WorkOrigin {
+    ghost use Rattle.dym_wave.specs.Works.{OriginMeaning, no_origin};
+
+    ghost Value = { OriginMeaning };
+
+    ghost view = { λ _. no_origin };
+}
