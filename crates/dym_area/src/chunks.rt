@@ -239,6 +239,23 @@ impl<G: Segment> Area<G> {
         self.dirty.clear_all();
     }
 
+    /// Makes these used chunks the dirty ones.
+    pub fn set_dirty(&mut self, dirty: Bits)
+        requires len { length dirty ≡ MOST_CHUNKS }
+        requires used { (i : ℕ) → IsSet dirty i → IsSet self.old.used i }
+        ensures after { self.new ≡ record self.old { dirty = dirty } }
+        ensures lawful { IsLawful self.new }
+    {
+        self.dirty = dirty;
+    }
+
+    /// The least dirty index, and None where no chunk is dirty. Only the bits of the class's chunks are read.
+    pub fn first_dirty(&self) -> Option<u32>
+        ensures { MatchOption result ((i : ℕ) → 0 ≤ i → IsClear self.now.dirty i) (IsNextSet self.now.dirty 0) }
+    {
+        self.dirty.next_set_within(0, per_area(self.exp))
+    }
+
     /// Takes the use bits from a bitmap of `max(1, per_area / 8)` bytes and marks no chunk dirty. The bytes stay.
     pub fn set_from(&mut self, use_bytes: &[u8])
         requires len { length use_bytes.now ≡ max 1 (per self.old.exponent / 8) }

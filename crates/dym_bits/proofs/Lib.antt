@@ -3,3 +3,4 @@ pub mod ByteBits
 pub mod Counts
 pub mod Searches
 pub mod Subsets
+pub mod WordByWord

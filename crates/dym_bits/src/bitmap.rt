@@ -1,11 +1,11 @@
 //! The bitmap, its searches, and its bytes.
 
-ghost use Rattle.std.specs.Prelude.{◌≡◌, ℕ, ◌+◌, ◌-◌, ◌*◌, ◌/◌, ◌<◌, ◌≤◌, max, true, false, ◌++◌, length, take, drop, slice_set, MatchOption};
+ghost use Rattle.std.specs.Prelude.{◌≡◌, ℕ, ◌+◌, ◌-◌, ◌*◌, ◌/◌, ◌<◌, ◌≤◌, max, true, false, not, ◌&&◌, ◌||◌, ◌++◌, length, take, drop, slice_set, MatchOption};
 ghost use Rattle.dym_base.specs.Packed.{bitmap, bitmap_byte};
 ghost use Rattle.dym_bits.specs.Bits.{digits, bit_in, bits_of_bytes, bytes_of_bits, clear_bits, set_count, IsSet, IsClear, IsFirstClear, IsNextSet, IsNextClear, IsNextClearInWord, IsTopSet};
 
 use crate::bytes::{BITMAP_BYTES, WORD_BITS, WORDS, bytes_fit, bytes_of, padded, word_at};
-use crate::scan::{next_set_in, words_within};
+use crate::scan::{next_set_in, words_difference, words_intersection, words_union, words_within};
 use dym_base::limits::MOST_CHUNKS;
 use std::marker::Model;
 
@@ -169,6 +169,7 @@ impl Bits {
         requires set { IsSet self.now first }
         ensures after { first < result }
         ensures run { (j : ℕ) → first ≤ j → j < result → IsSet self.now j }
+        ensures stops { result < MOST_CHUNKS → IsClear self.now result }
     {
         match self.next_clear(first) {
             Some(end) => end,
@@ -195,6 +196,36 @@ impl Bits {
         ensures outside { result ≡ false → (k : ℕ) × IsSet self.now k × IsClear other.now k }
     {
         words_within(&self.words, &other.words)
+    }
+
+    /// The bits that are set here or in `other`.
+    pub fn union(&self, other: &Bits) -> Bits
+        ensures bits { (i : ℕ) → bit_in result i ≡ (bit_in self.now i || bit_in other.now i) }
+        ensures len { length result ≡ MOST_CHUNKS }
+    {
+        Bits {
+            words: words_union(&self.words, &other.words),
+        }
+    }
+
+    /// The bits that are set both here and in `other`.
+    pub fn intersection(&self, other: &Bits) -> Bits
+        ensures bits { (i : ℕ) → bit_in result i ≡ (bit_in self.now i && bit_in other.now i) }
+        ensures len { length result ≡ MOST_CHUNKS }
+    {
+        Bits {
+            words: words_intersection(&self.words, &other.words),
+        }
+    }
+
+    /// The bits that are set here and not in `other`.
+    pub fn difference(&self, other: &Bits) -> Bits
+        ensures bits { (i : ℕ) → bit_in result i ≡ (bit_in self.now i && not (bit_in other.now i)) }
+        ensures len { length result ≡ MOST_CHUNKS }
+    {
+        Bits {
+            words: words_difference(&self.words, &other.words),
+        }
     }
 
     /// Bits `8 * k` to `8 * k + 7` as a byte, the first of them lowest.
@@ -285,6 +316,14 @@ mod tests {
             );
             again.set(1024);
             assert_eq!(rt; again.is_within(&bits), false);
+            assert_eq!(rt;
+                (
+                    again.union(&bits).count(),
+                    again.intersection(&bits).count(),
+                    again.difference(&bits).top_set()
+                ),
+                (3, 2, Some(1024))
+            );
         }
     }
 }

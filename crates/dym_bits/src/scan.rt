@@ -1,7 +1,7 @@
 //! Searches in the words of a bitmap.
 
-ghost use Rattle.std.specs.Prelude.{◌≡◌, ℕ, ◌≤◌, true, false, MatchOption};
-ghost use Rattle.dym_bits.specs.Bits.{bits_of, IsSet, IsClear, IsNextSet};
+ghost use Rattle.std.specs.Prelude.{◌≡◌, ℕ, ◌≤◌, true, false, not, ◌&&◌, ◌||◌, MatchOption};
+ghost use Rattle.dym_bits.specs.Bits.{bits_of, bit_in, IsSet, IsClear, IsNextSet};
 
 use crate::bytes::{WORD_BITS, WORDS};
 use dym_base::limits::MOST_CHUNKS;
@@ -41,4 +41,37 @@ pub(crate) fn words_within(words: &[u64; WORDS], others: &[u64; WORDS]) -> bool
         }
     }
     true
+}
+
+/// The words of the bits that are set in the words or in the others.
+pub(crate) fn words_union(words: &[u64; WORDS], others: &[u64; WORDS]) -> [u64; WORDS]
+    ensures { (k : ℕ) → bit_in (bits_of 64 result) k ≡ (bit_in (bits_of 64 words.now) k || bit_in (bits_of 64 others.now) k) }
+{
+    let mut joined = [0; WORDS];
+    for q in 0..WORDS {
+        joined[q] = words[q] | others[q];
+    }
+    joined
+}
+
+/// The words of the bits that are set in the words and in the others.
+pub(crate) fn words_intersection(words: &[u64; WORDS], others: &[u64; WORDS]) -> [u64; WORDS]
+    ensures { (k : ℕ) → bit_in (bits_of 64 result) k ≡ (bit_in (bits_of 64 words.now) k && bit_in (bits_of 64 others.now) k) }
+{
+    let mut joined = [0; WORDS];
+    for q in 0..WORDS {
+        joined[q] = words[q] & others[q];
+    }
+    joined
+}
+
+/// The words of the bits that are set in the words and not in the others.
+pub(crate) fn words_difference(words: &[u64; WORDS], others: &[u64; WORDS]) -> [u64; WORDS]
+    ensures { (k : ℕ) → bit_in (bits_of 64 result) k ≡ (bit_in (bits_of 64 words.now) k && not (bit_in (bits_of 64 others.now) k)) }
+{
+    let mut joined = [0; WORDS];
+    for q in 0..WORDS {
+        joined[q] = words[q] & !others[q];
+    }
+    joined
 }

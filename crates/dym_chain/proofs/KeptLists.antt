@@ -68,7 +68,7 @@ are_based v below (e ∷ logs) each full base =
     (ap (λ n. (log_at (below ++ (e ∷ logs)) n).depth) (sym place) ∙ ap (λ (f : LogEntry). f.depth) at)
 
 -- the depth of a log that may stand after one of depth n
-depth_is : (e : LogEntry) (n : ℕ) → (e.depth ≡ 0) ⊎ (e.depth ≡ n + 1) → lawful.depth_after n (kind_of e) ≡ e.depth
+pub depth_is : (e : LogEntry) (n : ℕ) → (e.depth ≡ 0) ⊎ (e.depth ≡ n + 1) → lawful.depth_after n (kind_of e) ≡ e.depth
 depth_is e n (inl none) = ap (lawful.depth_after n) (kind_full e none) ∙ sym none
 depth_is e n (inr one) = ap (lawful.depth_after n) (kind_inc e n one) ∙ (let same : suc n ≡ e.depth = omega (arith, one) in same)
 
@@ -140,7 +140,7 @@ each_may_follow v (e ∷ es) follows keeps = (first_may_follow v e es follows.0 
 
 -- ---- a lawful chain
 
-lawful_logs : (c : ChainMeaning) (law : IsLawful c) → lawful.IsLawful law.version (oldest_depth c.logs) (map (logged_of law.version) (all_logs c))
+pub lawful_logs : (c : ChainMeaning) (law : IsLawful c) → lawful.IsLawful law.version (oldest_depth c.logs) (map (logged_of law.version) (all_logs c))
 lawful_logs c law =
     let v = law.version in
     let few : length c.below ≤ 31 = omega (arith, law.base, oldest_small c.logs law.list.1) in
@@ -166,4 +166,8 @@ are_kept c law = record {
   list = law.list;
   base = law.base;
   stands = stands c law;
+  recorded = law.recorded;
+  full = law.full;
+  follows = law.follows;
+  keeps = law.keeps;
 }

@@ -1,6 +1,8 @@
 pub mod Slots
 pub mod Places
 pub mod Stands
+pub mod Fetches
+pub mod Besides
 pub mod Belonging
 pub mod Records
 pub mod Lawfuls
@@ -14,3 +16,11 @@ pub mod Restores
 pub mod Belows
 pub mod Opens
 pub mod KeptLists
+pub mod SameBytes
+pub mod StoodFor
+pub mod Said
+pub mod OneReading
+pub mod SaidLists
+pub mod SaidAgain
+pub mod Readings
+pub mod Adopts

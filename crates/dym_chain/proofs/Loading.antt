@@ -1,21 +1,21 @@
--- Records that are loaded one after the other.
-use Rattle.std.proofs.Common.{◌≡◌, ℕ, zero, suc, ◌+◌, ◌-◌, ◌<◌, ◌≤◌, List, [], ◌∷◌, ◌++◌, length, map, take, drop, get_or, sym, ap, subst, ◌∙◌, arith}
+-- Records that are fetched one after the other.
+use Rattle.std.proofs.Common.{◌≡◌, ℕ, zero, suc, ◌+◌, ◌-◌, ◌<◌, ◌≤◌, List, [], ◌∷◌, length, map, take, drop, get_or, sym, ap, subst, ◌∙◌, arith, drop-cons}
 use Rattle.std.specs.List.{AllByRecursion}
-use Rattle.std.proofs.Math.Seq.{take-suc, take-length}
-use Rattle.std.proofs.lemmas.List.{length-take, length-drop, length-map, get_or-take, get_or-drop, get_or-map}
-use Rattle.dym_base.specs.Heaps.{Live}
+use Rattle.std.proofs.lemmas.List.{length-take, length-drop, length-map, get_or-take, get_or-drop, get_or-map, drop_all}
+use Rattle.dym_base.specs.Heaps.{HeapState}
 use Rattle.dym_base.specs.Packed.{Logged, packed}
 use Rattle.dym_base.specs.declared.command.Version.{Version}
 use Rattle.dym_base.specs.declared.command.Version.TheVariants.{One}
 use Rattle.dym_base.specs.Recorded.{IsRecorded}
 use Rattle.dym_pack.specs.Reading.{OfLog}
-use Rattle.dym_heap.specs.Loading.{IsLoaded}
+use Rattle.dym_heap.specs.Wanted.{heap_chunk, fetched}
+use Rattle.dym_base.specs.StandsFor.{packed_by}
 use Rattle.dym_slots.specs.Meanings.{Numbered, no_record, record_at}
 use Rattle.dym_chain.specs.Keeps.{bytes_of}
 use Rattle.dym_chain.specs.Chains.{no_entry}
 use Rattle.dym_chain.specs.Lawful.{logged_of}
-use Rattle.dym_chain.specs.Loads.{AreLoaded, HaveVersion}
-use Rattle.dym_chain.proofs.Stands.{loaded_push}
+use Rattle.dym_chain.specs.Loads.{AreFetched, HaveVersion}
+use Rattle.dym_chain.proofs.Fetches.{fetched_cons, fetched_nothing}
 
 module _ {X : Type 0} (P : X → Type 0) where
   each_at : (xs : List X) (k : ℕ) (d : X) → AllByRecursion P xs → k < length xs → P (get_or xs k d)
@@ -47,22 +47,38 @@ version_at v records first count place rec low high within is all =
 some_log : Logged
 some_log = logged_of One no_entry
 
-pub loaded_step : (records : List Numbered) (first count place : ℕ) (rec : List ℕ) (logs : List Logged) (old mid new : Live) → first ≤ place → place < first + count → first + count ≤ length records → rec ≡ (record_at records place).bytes → AllByRecursion IsRecorded logs → map packed logs ≡ take count (drop first (bytes_of records)) → AreLoaded (take (place - first) logs) old mid → OfLog rec (λ log. IsLoaded log mid new) → AreLoaded (take (place + 1 - first) logs) old new
-loaded_step records first count place rec logs old mid new low high within is all are loaded next =
+-- the log of a record that stands in a part
+log_at_part : (records : List Numbered) (first count place : ℕ) (rec : List ℕ) (logs : List Logged) → first ≤ place → place < first + count → first + count ≤ length records → rec ≡ (record_at records place).bytes → map packed logs ≡ take count (drop first (bytes_of records))
+    → place - first < length logs → packed (get_or logs (place - first) some_log) ≡ rec
+log_at_part records first count place rec logs low high within is are inside =
+    sym (get_or-map packed logs (place - first) some_log [] inside) ∙ ap (λ (parts : List (List ℕ)). get_or parts (place - first) []) are ∙ part_at records first count place low high within ∙ sym is
+
+logs_len : (records : List Numbered) (first count : ℕ) (logs : List Logged) → first + count ≤ length records → map packed logs ≡ take count (drop first (bytes_of records)) → length logs ≡ count
+logs_len records first count logs within are = sym (length-map logs packed) ∙ ap length are ∙ part_len records first count within
+
+-- one record further down
+pub fetched_step : (records : List Numbered) (last count back : ℕ) (rec : List ℕ) (logs : List Logged) (old mid new : HeapState) → last < length records → count ≤ last + 1 → back < count → rec ≡ (record_at records (last - back)).bytes
+    → AllByRecursion IsRecorded logs → map packed logs ≡ take count (drop (last + 1 - count) (bytes_of records)) → AreFetched (drop (count - back) logs) old mid
+    → OfLog rec (λ log. (k : ℕ) → heap_chunk new k ≡ fetched (packed_by log k) (heap_chunk mid k)) → AreFetched (drop (count - (back + 1)) logs) old new
+fetched_step records last count back rec logs old mid new inside_last there below is all are before next =
+    let first : ℕ = last + 1 - count in
+    let place : ℕ = last - back in
     let n : ℕ = place - first in
-    let len : length logs ≡ count = sym (length-map logs packed) ∙ ap length are ∙ part_len records first count within in
+    let within : first + count ≤ length records = omega (arith, inside_last, there) in
+    let low : first ≤ place = omega (arith, there, below) in
+    let high : place < first + count = omega (arith, there, below) in
+    let len = logs_len records first count logs within are in
     let inside : n < length logs = omega (arith, len, low, high) in
     let l : Logged = get_or logs n some_log in
-    let bytes : packed l ≡ rec =
-    sym (get_or-map packed logs n some_log [] inside) ∙ ap (λ (parts : List (List ℕ)). get_or parts n []) are ∙ part_at records first count place low high within ∙ sym is in
-    let more : take (suc n) logs ≡ take n logs ++ l ∷ [] = take-suc logs n some_log inside in
-    let n_is : suc n ≡ place + 1 - first = omega (arith, low) in
-    subst (λ k. AreLoaded (take k logs) old new) n_is
-    (subst (λ part. AreLoaded part old new) (sym more)
-    (loaded_push (take n logs) l old mid new loaded (next l (each_at IsRecorded logs n some_log all inside) bytes)))
+    let bytes : packed l ≡ rec = log_at_part records first count place rec logs low high within is are inside in
+    let at : count - (back + 1) ≡ n = omega (arith, there, below) in
+    let behind : suc n ≡ count - back = omega (arith, there, below) in
+    let split : drop n logs ≡ l ∷ drop (suc n) logs = drop-cons logs n some_log inside in
+    subst (λ k. AreFetched (drop k logs) old new) (sym at)
+    (subst (λ p. AreFetched p old new) (sym split)
+    (fetched_cons (drop (suc n) logs) l old mid new (subst (λ k. AreFetched (drop k logs) old mid) (sym behind) before) (next l (each_at IsRecorded logs n some_log all inside) bytes)))
 
-pub loaded_end : (records : List Numbered) (first count place : ℕ) (logs : List Logged) (old new : Live) → first + count ≤ place → place ≤ first + count → first + count ≤ length records → map packed logs ≡ take count (drop first (bytes_of records)) → AreLoaded (take (place - first) logs) old new → AreLoaded logs old new
-loaded_end records first count place logs old new low high within are loaded =
-    let len : length logs ≡ count = sym (length-map logs packed) ∙ ap length are ∙ part_len records first count within in
-    let n_is : place - first ≡ length logs = omega (arith, len, low, high) in
-    subst (λ part. AreLoaded part old new) (ap (λ k. take k logs) n_is ∙ take-length logs) loaded
+pub fetched_start : (records : List Numbered) (last count : ℕ) (logs : List Logged) (s : HeapState) → last < length records → count ≤ last + 1 → map packed logs ≡ take count (drop (last + 1 - count) (bytes_of records)) → AreFetched (drop (count - 0) logs) s s
+fetched_start records last count logs s inside there are =
+    let len = logs_len records (last + 1 - count) count logs (omega (arith, inside, there)) are in
+    subst (λ (p : List Logged). AreFetched p s s) (sym (drop_all (count - 0) logs (omega (arith, len)))) (fetched_nothing s)

@@ -99,7 +99,7 @@ found_live live depth touched each k =
 found_deep : (depth : ℕ) (touched : Touched) → 0 < depth → found_touched depth touched ≡ touched
 found_deep depth touched deep = cond_both (depth == 0) set.empty touched (λ (t : Touched). t ≡ touched) (λ none. (let zero_depth = Rattle.std.proofs.lemmas.Bool.eqb-true depth 0 none in absurd (omega (arith, zero_depth, deep)))) (λ _. refl)
 
-keeps_by : (s : HeapState) (f : LogEntry) (o : Option LogEntry) → o ≡ Some f → KeepsFromNewest s o → KeepsUntouched s.live s.touched f.copy
+pub keeps_by : (s : HeapState) (f : LogEntry) (o : Option LogEntry) → o ≡ Some f → KeepsFromNewest s o → KeepsUntouched s.live s.touched f.copy
 keeps_by s f None is keeps = absurd (none-some f is)
 keeps_by s f (Some e) is keeps = subst (λ (x : LogEntry). KeepsUntouched s.live s.touched x.copy) (same_Some e f is) keeps
 

@@ -104,7 +104,7 @@ oldest_take_full (suc n) (e ∷ logs) full = full
 pub all_take_is : (c : ChainMeaning) (n : ℕ) → c.below ++ take n c.logs ≡ take (length c.below + n) (all_logs c)
 all_take_is c n = sym (take-append-add c.below c.logs n)
 
-records_take : (c : ChainMeaning) (v : Version) (n : ℕ) → bytes_of c.records ≡ map (record_of v) (all_logs c) → bytes_of (take (length c.below + n) c.records) ≡ map (record_of v) (c.below ++ take n c.logs)
+pub records_take : (c : ChainMeaning) (v : Version) (n : ℕ) → bytes_of c.records ≡ map (record_of v) (all_logs c) → bytes_of (take (length c.below + n) c.records) ≡ map (record_of v) (c.below ++ take n c.logs)
 records_take c v n are =
     sym (take-map (λ (r : Numbered). r.bytes) (length c.below + n) c.records)
     ∙ ap (take (length c.below + n)) are

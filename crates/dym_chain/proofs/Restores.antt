@@ -1,32 +1,36 @@
 -- The fields of a chain and a heap as a log is restored.
-use Rattle.std.proofs.Common.{◌≡◌, ℕ, ◌+◌, ◌-◌, ◌<◌, ◌≤◌, Option, Some, None, List, [], ◌∷◌, length, map, take, drop, get_or, refl, sym, ap, subst, ◌∙◌, arith, length-append}
+use Rattle.std.proofs.Common.{◌≡◌, ℕ, ◌+◌, ◌-◌, ◌<◌, ◌≤◌, true, unwrap_or, Option, Some, None, List, [], ◌∷◌, length, map, take, drop, get_or, refl, sym, ap, subst, ◌∙◌, arith, length-append}
 use Rattle.std.specs.List.{AllByRecursion}
 use Rattle.std.specs.FinSet as set
 use Rattle.std.proofs.lemmas.List.{length-take, take-map, drop-map, get_or-take, get_or-map}
-use Rattle.dym_base.specs.Heaps.{Live, Touched, HeapState, held}
+use Rattle.std.specs.FinMap.{get, contains_key}
+use Rattle.dym_base.specs.Heaps.{HeapState, held}
 use Rattle.dym_base.specs.Objects.{LogEntry, record_of, newest, reached, restore, restore_to}
 use Rattle.dym_base.specs.Packed.{Logged, packed}
 use Rattle.dym_base.specs.StandsFor.{LogsStandFor}
 use Rattle.dym_base.specs.declared.command.Version.{Version}
 use Rattle.dym_base.specs.Recorded.{IsRecorded}
 use Rattle.dym_pack.specs.Reading.{OfLog}
-use Rattle.dym_heap.specs.Loading.{HaveOneSetOfHandles}
+use Rattle.dym_heap.specs.Wanted.{heap_chunk, is_settled, IsReshaped}
 use Rattle.dym_heap.specs.Meaning.{HeapMeaning}
 use Rattle.dym_region.specs.declared.segment.SegmentId.{SegmentId}
 use Rattle.dym_slots.specs.Meanings.{Numbered, KeepMeaning, no_record, record_at, up_to}
 use Rattle.dym_chain.specs.Keeps.{bytes_of}
-use Rattle.dym_chain.specs.Chains.{ChainMeaning, all_logs, no_entry, log_at, object_of}
+use Rattle.dym_chain.specs.Chains.{ChainMeaning, Belongs, all_logs, no_entry, log_at, object_of}
 use Rattle.dym_chain.specs.Lawful.{IsLawful, entry_of, logged_of}
-use Rattle.dym_chain.specs.Loads.{AreLoaded, HaveVersion}
+use Rattle.dym_chain.specs.Loads.{AreFetched, HaveVersion, KeepsSettled, PacksTouched}
+use Rattle.dym_chain.specs.Beside.{AreBeside, beside_at}
 use Rattle.dym_chain.specs.Told.{Told}
 use Rattle.dym_chain.specs.Whole.{chain_of, IsChain}
 use Rattle.dym_chain.specs.declared.entry.Entry.{Entry}
 use Rattle.dym_base.proofs.Runs.{all_take, all_drop}
 use Rattle.dym_chain.proofs.Places.{first_depth, depth_within, newest_there}
-use Rattle.dym_chain.proofs.Stands.{stands_at, loaded_is}
+use Rattle.dym_chain.proofs.Stands.{stands_at}
+use Rattle.dym_chain.proofs.Fetches.{restored_state}
+use Rattle.dym_chain.proofs.Besides.{settled_back}
 use Rattle.dym_chain.proofs.Records.{version_same, held_same, recorded_at}
 use Rattle.dym_chain.proofs.Lawfuls.{at_place, packed_of, logged_all}
-use Rattle.dym_chain.proofs.Moves.{lawful_take}
+use Rattle.dym_chain.proofs.Moves.{lawful_take, records_take}
 use Rattle.dym_chain.proofs.Finds.{all_at, entry_at, count_same}
 use Rattle.dym_chain.proofs.Prunes.{records_count, base_is}
 
@@ -128,17 +132,6 @@ part_records c v a b are =
 pub part_version : (c : ChainMeaning) (v : Version) (a b : ℕ) → bytes_of c.records ≡ map (record_of v) (all_logs c) → HaveVersion v (take a (drop b (bytes_of c.records)))
 part_version c v a b are = subst (HaveVersion v) (part_records c v a b are) (have_version v (take a (drop b (all_logs c))))
 
--- what is loaded is the copy
-pub restored_live : (c : ChainMeaning) (v : Version) (i depth : ℕ) (shaped live : Live) → IsLawful c → bytes_of c.records ≡ map (record_of v) (all_logs c) → i < length (all_logs c) → depth ≡ (log_at (all_logs c) i).depth → HaveOneSetOfHandles shaped (log_at (all_logs c) i).copy → ((logs : List Logged) → AllByRecursion IsRecorded logs → map packed logs ≡ take (depth + 1) (drop (i - depth) (bytes_of c.records)) → AreLoaded logs shaped live) → live ≡ (log_at (all_logs c) i).copy
-restored_live c v i depth shaped live law are within depth_is handles loaded =
-    let part : List LogEntry = take (depth + 1) (drop (i - depth) (all_logs c)) in
-    let R : LogEntry → Type 0 = λ e. IsRecorded (logged_of v e) in
-    let recorded : AllByRecursion R (all_logs c) = recorded_at (all_logs c) v law.version (sym law.records ∙ are) law.recorded in
-    let all : AllByRecursion IsRecorded (map (logged_of v) part) = logged_all v part (all_take R (depth + 1) (drop (i - depth) (all_logs c)) (all_drop R (i - depth) (all_logs c) recorded)) in
-    let stand : LogsStandFor (map (logged_of v) part) (log_at (all_logs c) i).copy =
-    subst (λ d. LogsStandFor (map (logged_of v) (take (d + 1) (drop (i - d) (all_logs c)))) (log_at (all_logs c) i).copy) (sym depth_is) (stands_at v (all_logs c) law.follows law.keeps law.full i within) in
-    loaded_is (map (logged_of v) part) (log_at (all_logs c) i).copy shaped live stand handles (loaded (map (logged_of v) part) all (packed_of v part ∙ part_records c v (depth + 1) (i - depth) are))
-
 -- the keep, after its later records were dropped and one was out and back
 pub lowered : (k k1 k2 k3 : KeepMeaning) (place : ℕ) → k1 ≡ up_to k place → k2 ≡ record k1 { lifted = Some place } → k3 ≡ record k2 { lifted = None } → k.lifted ≡ None → k3 ≡ up_to k place
 lowered k k1 k2 k3 place dropped out back idle =
@@ -179,14 +172,53 @@ keeps_rest x c now n is same =
     is ∙ ap (λ (y : ChainMeaning). record y { logs = take n c.logs; records = take (length c.below + n) c.records }) same
     ∙ ap (λ (y : ChainMeaning). record now { logs = y.logs; records = y.records }) (sym is)
 
-pub heap_rest : (h h1 h2 : HeapMeaning) → h1 ≡ record h { state = h1.state; held_ids = h1.held_ids } → h2 ≡ record h1 { state = record { live = h2.state.live; touched = h1.state.touched } } → h2 ≡ record h { state = h2.state; held_ids = h2.held_ids }
-heap_rest h h1 h2 shaped loaded =
-    loaded ∙ ap (λ (x : HeapMeaning). record x { state = record { live = h2.state.live; touched = h1.state.touched } }) shaped
-    ∙ ap (λ (x : HeapState). record h { state = x; held_ids = h1.held_ids }) (sym (ap (λ (x : HeapMeaning). x.state) loaded))
-    ∙ ap (λ (x : List SegmentId). record h { state = h2.state; held_ids = x }) (sym (ap (λ (x : HeapMeaning). x.held_ids) loaded))
+pub heap_rest : (h h1 h2 h3 : HeapMeaning) → h1 ≡ record h { state = h1.state } → h2 ≡ record h1 { state = h2.state; held_ids = h2.held_ids } → h3 ≡ record h2 { state = h3.state } → h3 ≡ record h { state = h3.state; held_ids = h3.held_ids }
+heap_rest h h1 h2 h3 marked shaped fetched =
+    fetched ∙ ap (λ (x : HeapMeaning). record x { state = h3.state }) shaped
+    ∙ ap (λ (x : HeapMeaning). record x { state = h3.state; held_ids = h2.held_ids }) marked
+    ∙ ap (λ (x : List SegmentId). record h { state = h3.state; held_ids = x }) (sym (ap (λ (x : HeapMeaning). x.held_ids) fetched))
 
-pub state_is : (h1 h2 : HeapMeaning) (copy : Live) → h1.state.touched ≡ set.empty → h2 ≡ record h1 { state = record { live = h2.state.live; touched = h1.state.touched } } → h2.state.live ≡ copy → h2.state ≡ record { live = copy; touched = set.empty }
-state_is h1 h2 copy clean loaded live =
-    ap (λ (x : HeapMeaning). x.state) loaded
-    ∙ ap (λ (m : Live). record { live = m; touched = h1.state.touched }) live
-    ∙ ap (λ (t : Touched). record { live = copy; touched = t }) clean
+-- the record of a kept log
+pub log_record : (c : ChainMeaning) (v : Version) (i : ℕ) → IsLawful c → bytes_of c.records ≡ map (record_of v) (all_logs c) → i < length c.logs → (record_at c.records (length c.below + i)).bytes ≡ record_of v (log_at c.logs i)
+log_record c v i law are within =
+    let place : ℕ = length c.below + i in
+    let there : place < length (all_logs c) = omega (arith, length-append c.below c.logs, within) in
+    let count = records_count c law in
+    sym (get_or-map (λ (r : Numbered). r.bytes) c.records place no_record [] (omega (arith, count, within)))
+    ∙ ap (λ (l : List (List ℕ)). get_or l place []) are
+    ∙ get_or-map (record_of v) (all_logs c) place no_entry [] there
+    ∙ ap (record_of v) (at_place c i)
+
+pub log_recorded : (c : ChainMeaning) (v : Version) (i : ℕ) → IsLawful c → bytes_of c.records ≡ map (record_of v) (all_logs c) → i < length c.logs → IsRecorded (logged_of v (log_at c.logs i))
+log_recorded c v i law are within =
+    let R : LogEntry → Type 0 = λ e. IsRecorded (logged_of v e) in
+    subst R (at_place c i) (all_at R (all_logs c) (length c.below + i) (recorded_at (all_logs c) v law.version (sym law.records ∙ are) law.recorded) (omega (arith, length-append c.below c.logs, within)))
+
+-- where what the dropped logs changed is touched, what is fetched from those that stand for the copy leaves the copy
+pub restored_all : (c : ChainMeaning) (v : Version) (quota n depth : ℕ) (beside : List (Option (List ℕ))) (s m r f : HeapState) → IsLawful c → Belongs v quota s c → AreBeside c.logs beside → 0 < n → n ≤ length c.logs → depth ≡ (log_at c.logs (n - 1)).depth
+    → ((i : ℕ) → n ≤ i → i < length c.logs → OfLog (unwrap_or (beside_at beside i) (record_at c.records (length c.below + i)).bytes) (PacksTouched m)) → KeepsSettled s m
+    → ((k : ℕ) → IsReshaped (contains_key (log_at c.logs (n - 1)).copy k) (heap_chunk m k) (heap_chunk r k))
+    → ((logs : List Logged) → AllByRecursion IsRecorded logs → map packed logs ≡ take (depth + 1) (drop (length c.below + (n - 1) - depth) (bytes_of (first_logs n c).records)) → AreFetched logs r f)
+    → f ≡ record { live = (log_at c.logs (n - 1)).copy; touched = set.empty }
+restored_all c v quota n depth beside s m r f law belongs sides some within depth_is marked settles shaped fetched =
+    let R : LogEntry → Type 0 = λ x. IsRecorded (logged_of v x) in
+    let e : LogEntry = log_at c.logs (n - 1) in
+    let settled : (k : ℕ) → is_settled (heap_chunk m k) ≡ true → get e.copy k ≡ get m.live k = λ k was.
+    settled_back v c.logs beside c.records (length c.below) n s m belongs.keeps belongs.untouched sides (λ i l. log_recorded c v i law belongs.records l) (λ i l. log_record c v i law belongs.records l) marked settles k was some within in
+    -- those that stand for the copy
+    let first : ChainMeaning = first_logs n c in
+    let first_law : IsLawful first = lawful_take c n some law in
+    let i : ℕ = length c.below + (n - 1) in
+    let inside : i < length (all_logs first) = first_inside c n (length c.below) some within refl in
+    let at : log_at (all_logs first) i ≡ e = at_first c n (length c.below) some refl in
+    let deep : depth ≡ (log_at (all_logs first) i).depth = depth_is ∙ ap (λ (x : LogEntry). x.depth) (sym at) in
+    let own : bytes_of first.records ≡ map (record_of v) (all_logs first) =
+    records_take c v n belongs.records in
+    let part : List LogEntry = take (depth + 1) (drop (i - depth) (all_logs first)) in
+    let part_recorded : AllByRecursion IsRecorded (map (logged_of v) part) =
+    logged_all v part (all_take R (depth + 1) (drop (i - depth) (all_logs first)) (all_drop R (i - depth) (all_logs first) (recorded_at (all_logs first) v first_law.version (sym first_law.records ∙ own) first_law.recorded))) in
+    let stand : LogsStandFor (map (logged_of v) part) e.copy =
+    subst (λ (x : LogEntry). LogsStandFor (map (logged_of v) part) x.copy) at
+    (subst (λ d. LogsStandFor (map (logged_of v) (take (d + 1) (drop (i - d) (all_logs first)))) (log_at (all_logs first) i).copy) (sym deep) (stands_at v (all_logs first) first_law.follows first_law.keeps first_law.full i inside)) in
+    restored_state m r f e.copy (map (logged_of v) part) settled shaped stand
+    (fetched (map (logged_of v) part) part_recorded (packed_of v part ∙ part_records first v (depth + 1) (i - depth) own))

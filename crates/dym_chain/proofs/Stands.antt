@@ -1,8 +1,7 @@
 -- What a list of logs stands for as it grows, and what it leaves in a heap that it is loaded into.
 use Rattle.std.proofs.Common.{◌≡◌, ℕ, zero, suc, ◌+◌, ◌-◌, ◌<◌, ◌≤◌, inl, inr, true, false, cond, is_some, ⊎_elim, ◌==◌, Option, Some, None, List, [], ◌∷◌, ◌++◌, length, map, take, drop, refl, sym, ap, subst, ◌∙◌, arith}
-use Rattle.std.specs.Cmp.{nat_cmp_total}
 use Rattle.std.specs.List.{AllByRecursion}
-use Rattle.std.specs.FinMap.{get, contains_key, same_map, nat_cmp-IsAntisymmetric}
+use Rattle.std.specs.FinMap.{get}
 use Rattle.std.specs.FinSet.{contains}
 use Rattle.std.proofs.lemmas.Bool.{cases_Bool, cond-true, cond-false, true≢false, eq-eqb, ne_eqb}
 use Rattle.std.proofs.lemmas.List.{map-append}
@@ -15,11 +14,9 @@ use Rattle.dym_base.specs.declared.command.Version.{Version}
 use Rattle.dym_base.specs.declared.command.Kind.{Kind}
 use Rattle.dym_base.specs.declared.command.Kind.TheVariants.{Full, Inc}
 use Rattle.dym_base.proofs.Standing.{full_stands_alone}
-use Rattle.dym_heap.specs.Loading.{IsLoaded, HaveOneSetOfHandles}
 use Rattle.dym_base.specs.Below.{oldest_depth}
 use Rattle.dym_chain.specs.Chains.{KeepsUntouched, EachKeeps, log_at}
 use Rattle.dym_chain.specs.Lawful.{logged_of}
-use Rattle.dym_chain.specs.Loads.{AreLoaded}
 use Rattle.dym_chain.proofs.Places.{follows_at, keeps_at, first_depth, depth_within, part_more}
 
 -- the first of two, or else the second
@@ -32,15 +29,15 @@ or_assoc : (a b c : Option (List ℕ)) → or_else (or_else a b) c ≡ or_else a
 or_assoc None b c = refl
 or_assoc (Some x) b c = refl
 
-or_some : (o other : Option (List ℕ)) → is_some o ≡ true → or_else o other ≡ o
+pub or_some : (o other : Option (List ℕ)) → is_some o ≡ true → or_else o other ≡ o
 or_some None other has = absurd (true≢false (sym has))
 or_some (Some x) other has = refl
 
-some_or : (o other : Option (List ℕ)) → is_some other ≡ true → is_some (or_else o other) ≡ true
+pub some_or : (o other : Option (List ℕ)) → is_some other ≡ true → is_some (or_else o other) ≡ true
 some_or None other has = has
 some_or (Some x) other has = refl
 
-none_of : (o : Option (List ℕ)) → is_some o ≡ false → o ≡ None
+pub none_of : (o : Option (List ℕ)) → is_some o ≡ false → o ≡ None
 none_of None gone = refl
 none_of (Some x) gone = absurd (true≢false gone)
 
@@ -114,42 +111,3 @@ stands_at v logs follows keeps full (suc i) within =
           (subst (λ at. Stand (take (suc (e.depth + 1)) (drop at logs))) b_is
           (subst Stand (sym more) (subst (λ l. LogsStandFor l f.copy) (sym (map-append (logged_of v) (take (e.depth + 1) (drop b logs)) (f ∷ []))) grown))))
     ]
-
--- what loading leaves
-
-pub loaded_none : (live : Live) → AreLoaded [] live live
-loaded_none live k =
-    ⊎_elim
-    (λ has. sym (cond-true (contains_key live k) (get live k) None has))
-    (λ gone. none_of (get live k) gone ∙ sym (cond-false (contains_key live k) (get live k) None gone))
-    (cases_Bool (contains_key live k))
-
-pub loaded_push : (logs : List Logged) (l : Logged) (old mid new : Live) → AreLoaded logs old mid → IsLoaded l mid new → AreLoaded (logs ++ l ∷ []) old new
-loaded_push logs l old mid new loaded next k =
-    ⊎_elim
-    (λ has. (
-    let mid_is : get mid k ≡ or_else (newest_packed logs k) (get old k) = loaded k ∙ cond-true (contains_key old k) (or_else (newest_packed logs k) (get old k)) None has in
-    let there : contains_key mid k ≡ true = ap is_some mid_is ∙ some_or (newest_packed logs k) (get old k) has in
-    next k ∙ cond-true (contains_key mid k) (or_else (packed_by l k) (get mid k)) None there
-    ∙ ap (λ o. or_else (packed_by l k) o) mid_is
-    ∙ sym (or_assoc (packed_by l k) (newest_packed logs k) (get old k))
-    ∙ ap (λ o. or_else o (get old k)) (sym (packed_push logs l k))
-    ∙ sym (cond-true (contains_key old k) (or_else (newest_packed (logs ++ l ∷ []) k) (get old k)) None has)))
-    (λ gone. (
-    let mid_is : get mid k ≡ None = loaded k ∙ cond-false (contains_key old k) (or_else (newest_packed logs k) (get old k)) None gone in
-    next k ∙ cond-false (contains_key mid k) (or_else (packed_by l k) (get mid k)) None (ap is_some mid_is)
-    ∙ sym (cond-false (contains_key old k) (or_else (newest_packed (logs ++ l ∷ []) k) (get old k)) None gone)))
-    (cases_Bool (contains_key old k))
-
--- logs that stand for a map bring it into a heap that has its handles
-pub loaded_is : (logs : List Logged) (copy old new : Live) → LogsStandFor logs copy → HaveOneSetOfHandles old copy → AreLoaded logs old new → new ≡ copy
-loaded_is logs copy old new stand same loaded =
-    same_map nat_cmp_total nat_cmp-IsAntisymmetric new copy (λ k.
-    ⊎_elim
-    (λ has. (let there : contains_key copy k ≡ true = sym (same k) ∙ has in
-    loaded k ∙ cond-true (contains_key old k) (or_else (newest_packed logs k) (get old k)) None has
-    ∙ ap (λ o. or_else o (get old k)) (stand.bytes k there)
-    ∙ or_some (get copy k) (get old k) there))
-    (λ gone. loaded k ∙ cond-false (contains_key old k) (or_else (newest_packed logs k) (get old k)) None gone
-    ∙ sym (none_of (get copy k) (sym (same k) ∙ gone)))
-    (cases_Bool (contains_key old k)))

@@ -6,5 +6,7 @@ pub mod Lawful
 pub mod Whole
 pub mod Answers
 pub mod Loads
+pub mod Beside
 pub mod Kept
+pub mod Adopted
 pub mod ChainLaws

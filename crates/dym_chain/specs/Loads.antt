@@ -1,20 +1,25 @@
 -- What records bring into a heap, one after the other.
-use Rattle.std.specs.Prelude.{◌≡◌, ℕ, if◌then◌else◌, List, Option, None}
+use Rattle.std.specs.Prelude.{◌≡◌, ℕ, true, None, List}
 use Rattle.std.specs.List.{AllByRecursion}
-use Rattle.std.specs.FinMap.{get, contains_key}
-use Rattle.dym_base.specs.Heaps.{Live}
+use Rattle.dym_base.specs.Heaps.{HeapState}
 use Rattle.dym_base.specs.Packed.{Logged}
-use Rattle.dym_base.specs.StandsFor.{or_else, newest_packed}
+use Rattle.dym_base.specs.StandsFor.{newest_packed, packed_by}
 use Rattle.dym_base.specs.declared.command.Version.{Version}
+use Rattle.dym_heap.specs.Wanted.{heap_chunk, fetched, is_settled}
 use Rattle.dym_pack.specs.Reading.{OfLog}
 
 -- the records are of one version
 abbrev pub HaveVersion : Version → List (List ℕ) → Type 0
 HaveVersion v records = AllByRecursion (λ (bytes : List ℕ). OfLog bytes (λ log. log.version ≡ v)) records
 
--- the bytes of the chunk of number k after logs were loaded in their order: where it is live, those of the newest that packs it
-abbrev pub all_loaded_at : List Logged → Live → ℕ → Option (List ℕ)
-all_loaded_at logs live k = if contains_key live k then or_else (newest_packed logs k) (get live k) else None
+-- the log packs no chunk that is live and not touched
+abbrev pub PacksTouched : HeapState → Logged → Type 0
+PacksTouched s log = (k : ℕ) → is_settled (heap_chunk s k) ≡ true → packed_by log k ≡ None
 
-abbrev pub AreLoaded : List Logged → Live → Live → Type 0
-AreLoaded logs old new = (k : ℕ) → get new k ≡ all_loaded_at logs old k
+-- what is live and not touched is as it was
+abbrev pub KeepsSettled : HeapState → HeapState → Type 0
+KeepsSettled old new = (k : ℕ) → is_settled (heap_chunk new k) ≡ true → heap_chunk new k ≡ heap_chunk old k
+
+-- each touched chunk has the bytes of the newest log that packs it, and is touched no more where there is one
+abbrev pub AreFetched : List Logged → HeapState → HeapState → Type 0
+AreFetched logs old new = (k : ℕ) → heap_chunk new k ≡ fetched (newest_packed logs k) (heap_chunk old k)

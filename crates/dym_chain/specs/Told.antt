@@ -1,8 +1,25 @@
 -- What clauses alone know of a chain: the whole copies.
-use Rattle.std.specs.Prelude.{List}
+use Rattle.std.specs.Prelude.{◌≡◌, ℕ, List, map, take, drop}
+use Rattle.dym_base.specs.LawfulLists.{IsLawful}
 use Rattle.dym_base.specs.Objects.{LogEntry}
+use Rattle.dym_base.specs.Packed.{Logged, packed}
+use Rattle.dym_base.specs.declared.command.Version.{Version}
+use Rattle.dym_chain.specs.Adopted.{entries_of}
 
 -- the logs before the oldest kept one that later restores read, and the kept ones
 pub record Told : Type 0 where
   pub below : List LogEntry
   pub logs : List LogEntry
+
+-- records from which logs are read, and the place of the first that is kept
+pub record Said : Type 0 where
+  pub first : ℕ
+  pub records : List (List ℕ)
+
+-- what the logs of a lawful list are told to be
+abbrev pub told_of : ℕ → List Logged → Told
+told_of first logs = record { below = take first (entries_of logs); logs = drop first (entries_of logs) }
+
+-- this is what records say, read as the logs of some lawful list of them
+abbrev pub IsToldBy : Said → Told → Type 0
+IsToldBy said told = (v : Version) × (logs : List Logged) × IsLawful v said.first logs × (map packed logs ≡ said.records) × (told ≡ told_of said.first logs)

@@ -1,5 +1,5 @@
 //! The logs of one object.
-ghost use Rattle.std.specs.Prelude.{◌≡◌, ℕ, ◌+◌, ◌-◌, ◌^◌, ◌<◌, None, [], ◌∷◌, ◌++◌, length, option_map, OnOk, OnErr, IfOk, IfErr};
+ghost use Rattle.std.specs.Prelude.{◌≡◌, ℕ, ◌+◌, ◌-◌, ◌^◌, ◌<◌, ◌≤◌, None, [], ◌∷◌, ◌++◌, length, option_map, OnOk, OnErr, IfOk, IfErr};
 ghost use Rattle.dym_base.specs.Below.{dropped_below};
 ghost use Rattle.dym_base.specs.Heaps.{HeapState};
 ghost use Rattle.dym_base.specs.Objects as Objects;
@@ -7,21 +7,26 @@ ghost use Rattle.dym_base.specs.Objects.{LogEntry, record_of};
 ghost use Rattle.dym_base.specs.declared.command.Version.{Version};
 ghost use Rattle.dym_base.specs.declared.reply.Reply.TheVariants as reply;
 ghost use Rattle.dym_heap.specs.Meaning.{IsSound};
+ghost use Rattle.dym_chain.specs.Adopted.{AreEntriesOf, AreLawful, BelongsByRecords};
 ghost use Rattle.dym_chain.specs.Chains.{ChainMeaning, Belongs, StandsForCopies, object_of, log_at, logged, pruned};
+ghost use Rattle.dym_chain.specs.Keeps.{bytes_of};
 ghost use Rattle.dym_chain.specs.Kept.{AreKept};
 ghost use Rattle.dym_chain.specs.Lawful.{entry_of};
 ghost use Rattle.dym_chain.specs.Answers.{IsLogAnswer, restored_reply};
+ghost use Rattle.dym_chain.specs.Whole.{chain_of};
 
+use crate::beside::{drop_beside, keep_beside};
 use crate::entry::Entry;
 use crate::find::{depth_of_next, drop_first, dropped_by, kind_at, newest_of, reached, refusal_of};
 use crate::keep::LogKeep;
 use crate::ledger::Ledger;
-use crate::load::load_from;
+use crate::load::{fetch_down, mark_logs};
 use crate::log_error::LogError;
+use crate::read::read_entries;
 use dym_base::limits::MOST_KEPT_LOGS;
 use dym_base::{Kind, Refusal};
 use dym_heap::Heap;
-use dym_pack::pack;
+use dym_pack::{Record, pack};
 use dym_quota::Supply;
 use std::alloc::{AllocError, Global};
 use std::marker::Model;
@@ -29,9 +34,11 @@ use std::marker::Model;
 /// The logs of one object, over a keep of their records.
 ///
 /// Contracts see the kept logs as whole copies, with those before the oldest that later restores read. A refusal and want of
-/// memory change nothing. Only `open` and `log` take memory. While a record is out (`KeptLogs`) only readers may be called.
+/// memory change nothing. Only `open`, `adopt` and `log` take memory. While a record is out (`KeptLogs`) only readers may be called.
 pub struct Chain<K: LogKeep> {
     entries: Vec<Entry>,
+    /// For each log the record that stands beside its own, as far as there are such. A missing one costs time alone.
+    beside: Vec<Option<Record>>,
     pub(crate) keep: K,
     ledger: Ledger,
 }
@@ -47,11 +54,11 @@ impl<K: LogKeep> Model for Chain<K> {
     ghost coded = { Prim.hlevel (codes, live_code, touched_code) };
 
     ghost use Rattle.std.specs.Prelude.{vec_capacity};
-    ghost use Rattle.dym_chain.specs.Whole.{chain_of, IsChain};
+    ghost use Rattle.dym_chain.specs.Whole.{chain_of, IsChainBeside};
 
     ghost view = { λ c. chain_of c.ledger.told (K.meaning c.keep) };
 
-    ghost invariant = { λ c. IsChain c.entries.items (vec_capacity c.entries) (K.meaning c.keep) c.ledger.told };
+    ghost invariant = { λ c. IsChainBeside c.entries.items (vec_capacity c.entries) c.beside.items (K.meaning c.keep) c.ledger.told };
 }
 
 impl<K: LogKeep> Chain<K> {
@@ -68,9 +75,41 @@ impl<K: LogKeep> Chain<K> {
         match Vec::with_capacity(alloc, MOST_KEPT_LOGS as usize) {
             Ok(entries) => Ok(Chain {
                 entries,
+                beside: Vec::new(alloc),
                 keep,
                 ledger: Ledger::open(),
             }),
+            Err(error) => Err((error, keep)),
+        }
+    }
+
+    /// A chain of logs that are read from their records: those from place `first` on are kept, and those before it stand below.
+    /// Records are such as later ones may stand on, whoever made their bytes. Room for all entries is taken here.
+    pub fn adopt(alloc: Global, keep: K, first: u8) -> Result<Chain<K>, (AllocError, K)>
+        requires idle { (K.meaning keep).lifted ≡ None }
+        requires lawful { AreLawful first (bytes_of (K.meaning keep).records) }
+        requires kept { length (K.meaning keep).records ≤ first + MOST_KEPT_LOGS }
+        requires none { length (K.meaning keep).records ≡ 0 → first ≡ 0 }
+        requires some { 0 < length (K.meaning keep).records → first < length (K.meaning keep).records }
+        ensures adopted { IfOk result (λ c. c ≡ chain_of (record { below = c.below; logs = c.logs }) (K.meaning keep)) }
+        ensures entries { IfOk result (λ c. AreEntriesOf first (bytes_of (K.meaning keep).records) c.below c.logs) }
+        ensures kept { IfOk result AreKept }
+        ensures stands { IfOk result StandsForCopies }
+        ensures belongs { IfOk result BelongsByRecords }
+        ensures back { IfErr result (λ e. e.1 ≡ keep) }
+    {
+        match Vec::with_capacity(alloc, MOST_KEPT_LOGS as usize) {
+            Ok(room) => {
+                let mut keep = keep;
+                let entries = read_entries(room, &mut keep, first);
+                let ledger = Ledger::read(&keep, first);
+                Ok(Chain {
+                    entries,
+                    beside: Vec::new(alloc),
+                    keep,
+                    ledger,
+                })
+            }
             Err(error) => Err((error, keep)),
         }
     }
@@ -107,6 +146,10 @@ impl<K: LogKeep> Chain<K> {
         let Ok(rec) = pack(alloc, heap, kind, time) else {
             return Err(LogError::Memory);
         };
+        let count = self.entries.len();
+        let Ok(()) = keep_beside(&mut self.beside, alloc, heap, time, depth, count) else {
+            return Err(LogError::Memory);
+        };
         let len = rec.len();
         self.ledger = self.ledger.logged(heap, time, depth);
         self.keep.put(rec);
@@ -115,7 +158,8 @@ impl<K: LogKeep> Chain<K> {
         Ok((kind, len))
     }
 
-    /// Restores the last log at or before a time. It becomes the newest, and the answer is its time.
+    /// Restores the last log at or before a time. It becomes the newest, and the answer is its time. Copied back are only the chunks
+    /// that may have changed since: those that are touched, and those that a dropped log found touched.
     pub fn restore<S: Supply>(
         &mut self,
         way: &S::Way,
@@ -143,13 +187,16 @@ impl<K: LogKeep> Chain<K> {
         let target = self.entries[kept - 1];
         let depth = u32::from(target.depth);
         let place = base + (kept - 1) as u32;
+        let count = self.entries.len();
+        mark_logs(&mut self.keep, &self.beside, heap, base, kept, count);
         self.entries.truncate(kept);
+        self.beside.truncate(kept);
         self.keep.drop_after(place);
         self.ledger = self.ledger.cut(0, kept);
         let rec = self.keep.lift(place);
-        heap.shape_to(way, &rec);
+        heap.reshape(way, &rec);
         self.keep.lower(place, rec);
-        load_from(&mut self.keep, heap, place - depth, depth + 1);
+        fetch_down(&mut self.keep, heap, place, depth + 1);
         Ok(target.time)
     }
 
@@ -172,6 +219,7 @@ impl<K: LogKeep> Chain<K> {
         let depth = u32::from(self.entries[dropped].depth);
         self.keep.raise(base + dropped as u32 - depth);
         drop_first(&mut self.entries, dropped);
+        drop_beside(&mut self.beside, dropped);
         self.ledger = self.ledger.cut(dropped, depth as usize);
         dropped as u32
     }
@@ -228,6 +276,7 @@ impl<K: LogKeep> Chain<K> {
     {
         let Chain {
             entries: _,
+            beside: _,
             keep,
             ledger: _,
         } = self;

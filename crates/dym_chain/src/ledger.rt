@@ -2,9 +2,10 @@
 ghost use Rattle.std.specs.Prelude.{◌≡◌};
 ghost use Rattle.std.specs.Coded.{codes};
 ghost use Rattle.dym_heap.specs.Meaning.{live_code, touched_code};
-ghost use Rattle.dym_chain.specs.Told.{Told};
+ghost use Rattle.dym_chain.specs.Told.{Told, Said, IsToldBy};
 ghost use base.Fml.{ftrue};
 
+use crate::keep::LogKeep;
 use dym_heap::Heap;
 use dym_quota::Supply;
 use std::marker::{Model, PhantomData, Send};
@@ -36,6 +37,28 @@ impl Ledger {
         ensures { result.told ≡ whole }
     {
         Ledger::telling()
+    }
+
+    /// A ledger that tells what records say, where they say anything.
+    fn saying() -> Ledger
+        ghost said: { Said }
+        requires { (told : Told) × IsToldBy said told }
+        ensures { IsToldBy said result.told }
+    {
+        Ledger {
+            marker: PhantomData,
+        }
+    }
+
+    /// The ledger of a chain whose logs are read from the records of a keep, those from place `first` on being kept.
+    pub(crate) fn read<K: LogKeep>(keep: &K, first: u8) -> Ledger
+        ghost said: { Said }
+        requires { (told : Told) × IsToldBy said told }
+        ensures { IsToldBy said result.told }
+    {
+        let _ = keep;
+        let _ = first;
+        Ledger::saying()
     }
 
     /// The ledger after a log was taken of a heap.

@@ -7,6 +7,7 @@
 //! full one up to that of a log stand for its copy.
 #![tactic(auto)]
 
+mod beside;
 mod chain;
 mod entry;
 mod find;
@@ -16,6 +17,7 @@ pub mod laws;
 mod ledger;
 mod load;
 mod log_error;
+mod read;
 mod slot_keep;
 mod vec_keep;
 

@@ -1,36 +1,108 @@
 //! Records that are read back into a heap.
-ghost use Rattle.std.specs.Prelude.{◌≡◌, ℕ, ◌+◌, ◌<◌, ◌≤◌, None, List, length, map, take, drop};
+ghost use Rattle.std.specs.Prelude.{◌≡◌, ℕ, ◌+◌, ◌-◌, ◌<◌, ◌≤◌, None, Some, List, MatchOption, length, map, take, drop, unwrap_or};
 ghost use Rattle.std.specs.List.{AllByRecursion};
 ghost use Rattle.dym_base.specs.Packed.{Logged, packed};
 ghost use Rattle.dym_base.specs.Recorded.{IsRecorded};
 ghost use Rattle.dym_heap.specs.Meaning.{IsSound};
 ghost use Rattle.dym_chain.specs.Keeps.{bytes_of};
-ghost use Rattle.dym_chain.specs.Loads.{AreLoaded, HaveVersion};
+ghost use Rattle.dym_chain.specs.Beside.{beside_at};
+ghost use Rattle.dym_chain.specs.Loads.{AreFetched, HaveVersion, KeepsSettled, PacksTouched};
+ghost use Rattle.dym_pack.specs.Reading.{IsRecord, OfLog};
+ghost use Rattle.dym_slots.specs.Meanings.{record_at};
 
 use crate::keep::LogKeep;
 use dym_heap::Heap;
+use dym_pack::Record;
 use dym_quota::Supply;
 
-/// Loads `count` records from a place on, in their order.
-pub(crate) fn load_from<S: Supply, K: LogKeep>(
+/// Each chunk is touched, or has in the heap the bytes that it has in the logs from `kept` up to `count`: what one of their records
+/// packs is touched, or what the record beside it packs.
+pub(crate) fn mark_logs<S: Supply, K: LogKeep>(
+    keep: &mut K,
+    beside: &[Option<Record>],
+    heap: &mut Heap<S>,
+    base: u32,
+    kept: usize,
+    count: usize,
+)
+    requires idle { (K.meaning keep.old).lifted ≡ None }
+    requires within { base + count ≤ length (K.meaning keep.old).records }
+    requires few { base + count < 65536 }
+    requires recorded { (i : ℕ) → kept ≤ i → i < count → IsRecord (unwrap_or (beside_at beside.now i) (record_at (K.meaning keep.old).records (base + i)).bytes) }
+    requires sound { IsSound heap.old }
+    ensures marked { (i : ℕ) → kept ≤ i → i < count → OfLog (unwrap_or (beside_at beside.now i) (record_at (K.meaning keep.old).records (base + i)).bytes) (PacksTouched heap.new.state) }
+    ensures settled { KeepsSettled heap.old.state heap.new.state }
+    ensures keep { K.meaning keep.new ≡ K.meaning keep.old }
+    ensures same { heap.new ≡ record heap.old { state = heap.new.state } }
+    ensures sound { IsSound heap.new }
+{
+    for i in kept..count {
+        mark_log(keep, beside, heap, base, i);
+    }
+}
+
+/// Each live chunk that the record of log `i` packs, or the one beside it, is touched.
+fn mark_log<S: Supply, K: LogKeep>(
+    keep: &mut K,
+    beside: &[Option<Record>],
+    heap: &mut Heap<S>,
+    base: u32,
+    i: usize,
+)
+    requires idle { (K.meaning keep.old).lifted ≡ None }
+    requires within { base + i < length (K.meaning keep.old).records }
+    requires few { base + i < 65536 }
+    requires recorded { IsRecord (unwrap_or (beside_at beside.now i) (record_at (K.meaning keep.old).records (base + i)).bytes) }
+    ensures marked { OfLog (unwrap_or (beside_at beside.now i) (record_at (K.meaning keep.old).records (base + i)).bytes) (PacksTouched heap.new.state) }
+    ensures settled { KeepsSettled heap.old.state heap.new.state }
+    ensures keep { K.meaning keep.new ≡ K.meaning keep.old }
+    ensures same { heap.new ≡ record heap.old { state = heap.new.state } }
+    ensures sound { IsSound heap.new }
+{
+    let place = base + i as u32;
+    match side_of(beside, i) {
+        Some(rec) => heap.mark(rec),
+        None => {
+            let rec = keep.lift(place);
+            heap.mark(&rec);
+            keep.lower(place, rec);
+        }
+    }
+}
+
+/// The record that stands beside that of log `i`.
+fn side_of(beside: &[Option<Record>], i: usize) -> Option<&Record>
+    ensures { MatchOption result (beside_at beside.now i ≡ None) (λ rec. beside_at beside.now i ≡ Some rec.now) }
+{
+    match beside.get(i) {
+        Some(Some(rec)) => Some(rec),
+        Some(None) => None,
+        None => None,
+    }
+}
+
+/// Fetches the touched chunks from `count` records, beginning with that at place `last` and going down, so that each comes from
+/// the newest record that packs it.
+pub(crate) fn fetch_down<S: Supply, K: LogKeep>(
     keep: &mut K,
     heap: &mut Heap<S>,
-    first: u32,
+    last: u32,
     count: u32,
 )
     requires idle { (K.meaning keep.old).lifted ≡ None }
-    requires within { first + count ≤ length (K.meaning keep.old).records }
-    requires few { first + count < 65536 }
-    requires version { HaveVersion heap.old.version (take count (drop first (bytes_of (K.meaning keep.old).records))) }
+    requires within { last < length (K.meaning keep.old).records }
+    requires there { count ≤ last + 1 }
+    requires version { HaveVersion heap.old.version (take count (drop (last + 1 - count) (bytes_of (K.meaning keep.old).records))) }
     requires sound { IsSound heap.old }
-    ensures loaded { (logs : List Logged) → AllByRecursion IsRecorded logs → map packed logs ≡ take count (drop first (bytes_of (K.meaning keep.old).records)) → AreLoaded logs heap.old.state.live heap.new.state.live }
+    ensures fetched { (logs : List Logged) → AllByRecursion IsRecorded logs → map packed logs ≡ take count (drop (last + 1 - count) (bytes_of (K.meaning keep.old).records)) → AreFetched logs heap.old.state heap.new.state }
     ensures keep { K.meaning keep.new ≡ K.meaning keep.old }
-    ensures same { heap.new ≡ record heap.old { state = record { live = heap.new.state.live; touched = heap.old.state.touched } } }
+    ensures same { heap.new ≡ record heap.old { state = heap.new.state } }
     ensures sound { IsSound heap.new }
 {
-    for place in first..first + count {
+    for back in 0..count {
+        let place = last - back;
         let rec = keep.lift(place);
-        heap.load(&rec);
+        heap.fetch(&rec);
         keep.lower(place, rec);
     }
 }

@@ -1,13 +1,16 @@
 -- The last area of a class, after no chunk of it is in use.
-use Rattle.std.proofs.Common.{◌≡◌, ℕ, ◌+◌, ◌-◌, ◌*◌, ◌<◌, ◌≤◌, inl, inr, false, is_some, Option, Some, None, List, length, take, replicate, refl, sym, ap, ◌∙◌, arith}
-use Rattle.std.proofs.lemmas.Bool.{cases_lt, true≢false}
+use Rattle.std.proofs.Common.{◌≡◌, ℕ, ◌+◌, ◌-◌, ◌*◌, ◌<◌, ◌≤◌, inl, inr, false, is_some, Option, Some, None, List, length, get_or, take, replicate, refl, sym, ap, subst, ◌∙◌, arith, length-take, get_or-take, get_or-set_same, get_or-set_other}
+use Rattle.std.proofs.lemmas.Bool.{cases_eq, cases_lt, true≢false}
+use Rattle.std.proofs.lemmas.Nat.{div_below}
 use Rattle.std.proofs.lemmas.List.{get_or_past, take-replicate}
 use Rattle.std.proofs.Math.Nat.{add-mul}
 use Rattle.dym_base.specs.Numbers.{per}
 use Rattle.dym_bits.specs.Bits.{bit_in, bits_of_bytes, IsSet}
-use Rattle.dym_heap.specs.Table.{Row, row_at, chunk_at}
+use Rattle.dym_region.specs.declared.segment.SegmentId.{SegmentId}
+use Rattle.dym_heap.specs.Table.{Row, empty_row, row_at, chunk_at}
 use Rattle.dym_heap.specs.Shelves.{EndsFree}
-use Rattle.dym_heap.specs.Shaping.{IsShapedArea}
+use Rattle.dym_heap.specs.Shelves.{ShelfMeaning, IsKept, shorter, without_last}
+use Rattle.dym_heap.specs.Wanted.{ChunkMeaning, row_chunk, IsReshaped, IsChangedArea}
 use Rattle.dym_heap.proofs.PlaceShapes.{zero_bits}
 
 none_of : (o : Option (List ℕ)) → is_some o ≡ false → o ≡ None
@@ -43,7 +46,7 @@ module _ (rows : List Row) (e r : ℕ) (low : 5 ≤ e) (high : e ≤ 16) (many :
   pub last_inside : 0 < per e → (r - 1) * per e < length (row_at rows (e - 5)).chunks
   last_inside positive = let l = last_start positive in omega arith
 
-  pub emptied : (new : List Row) (n m : ℕ) → 0 < per e → n ≤ m → IsShapedArea rows new (e - 5) (r - 1) (bit_in (bits_of_bytes (take n (replicate m 0)))) → length (row_at new (e - 5)).chunks ≡ length (row_at rows (e - 5)).chunks
+  pub emptied : (new : List Row) (n m : ℕ) → 0 < per e → n ≤ m → IsChangedArea rows new (e - 5) (r - 1) (λ i old now. IsReshaped (bit_in (bits_of_bytes (take n (replicate m 0))) i) old now) → length (row_at new (e - 5)).chunks ≡ length (row_at rows (e - 5)).chunks
       → EndsFree new (e - 5) (per e)
   emptied new n m positive fits shaped long =
       let start = last_start positive in
@@ -56,6 +59,44 @@ module _ (rows : List Row) (e r : ℕ) (low : 5 ≤ e) (high : e ≤ 16) (many :
                   let j : ℕ = i - (r - 1) * per e in
                   let below : j < per (e - 5 + 5) = (let p = per_is in omega arith) in
                   let split : (r - 1) * per (e - 5 + 5) + j ≡ i = (let p : (r - 1) * per (e - 5 + 5) ≡ (r - 1) * per e = ap (λ k. (r - 1) * k) per_is in omega arith) in
-                  none_of (chunk_at new (e - 5) i) (ap (λ k. is_some (chunk_at new (e - 5) k)) (sym split) ∙ shaped.used j below ∙ no_chunk n m j fits)
+                  none_of (chunk_at new (e - 5) i) (ap (λ k. is_some (chunk_at new (e - 5) k)) (sym split) ∙ (shaped.here j below).used ∙ no_chunk n m j fits)
             ];
       }
+
+-- the chunks before the last area stay as they are
+module _ (old mid new : ShelfMeaning) (ids : List SegmentId) (e r : ℕ) (low : 5 ≤ e) (high : e ≤ 16) (many : length (row_at old.rows (e - 5)).chunks ≡ r * per (e - 5 + 5)) (some : per e ≤ length (row_at old.rows (e - 5)).chunks)
+    (Change : ℕ → ChunkMeaning → ChunkMeaning → Type 0) (shaped : IsChangedArea old.rows mid.rows (e - 5) (r - 1) Change) (long : length (row_at mid.rows (e - 5)).chunks ≡ length (row_at old.rows (e - 5)).chunks) (kept : IsKept mid)
+    (dropped : new ≡ without_last mid (e - 5) (per e) ids) (positive : 0 < per e) where
+  abbrev left : ℕ
+  left = length (row_at mid.rows (e - 5)).chunks - per e
+
+  row_there : row_at new.rows (e - 5) ≡ shorter left (row_at mid.rows (e - 5))
+  row_there =
+      ap (λ (s : ShelfMeaning). row_at s.rows (e - 5)) dropped
+      ∙ get_or-set_same mid.rows (e - 5) (shorter left (row_at mid.rows (e - 5))) empty_row (let n = kept.classes in omega arith)
+
+  row_other : (d : ℕ) → (d ≡ e - 5 → ⊥) → row_at new.rows d ≡ row_at mid.rows d
+  row_other d ne = ap (λ (s : ShelfMeaning). row_at s.rows d) dropped ∙ get_or-set_other mid.rows (e - 5) d (shorter left (row_at mid.rows (e - 5))) empty_row ne
+
+  before : (i : ℕ) → i < left → row_chunk new.rows (e - 5) i ≡ row_chunk mid.rows (e - 5) i
+  before i l =
+      let there = row_there in
+      (λ j. record { bytes = get_or (there j).chunks i None; touched = get_or (there j).touched i false })
+      ∙ (λ j. record { bytes = get_or-take left (row_at mid.rows (e - 5)).chunks i None l j; touched = get_or-take left (row_at mid.rows (e - 5)).touched i false l j })
+
+  pub last_rows : (d i : ℕ) → (d ≡ e - 5 → i < length (row_at new.rows d).chunks) → row_chunk new.rows d i ≡ row_chunk old.rows d i
+  last_rows d i inside =
+      elim (cases_eq d (e - 5)) as (λ _. row_chunk new.rows d i ≡ row_chunk old.rows d i) [
+        | inr ne ↦
+            let other = row_other d ne in
+            (λ j. record { bytes = get_or (other j).chunks i None; touched = get_or (other j).touched i false }) ∙ shaped.others d i (λ x y. ne x)
+        | inl one ↦
+            let count = ap (λ x. length (row_at new.rows x).chunks) one ∙ ap (λ (x : Row). length x.chunks) row_there in
+            let room = length-take left (row_at mid.rows (e - 5)).chunks in
+            let l : i < left = (let h = inside one in omega arith) in
+            let start = last_start old.rows e r low high many some positive in
+            let row : (r - 1) * per (e - 5 + 5) ≡ (r - 1) * per e = ap (λ k. (r - 1) * k) (per_is old.rows e r low high many some) in
+            let full : 0 < per (e - 5 + 5) = (let x = per_is old.rows e r low high many some in omega arith) in
+            let area = div_below i (per (e - 5 + 5)) (r - 1) full (omega arith) in
+            ap (λ x. row_chunk new.rows x i) one ∙ before i l ∙ shaped.others (e - 5) i (λ x y. omega arith) ∙ sym (ap (λ x. row_chunk old.rows x i) one)
+      ]

@@ -1,7 +1,7 @@
 -- Rows that get areas until each class has as many as it should.
-use Rattle.std.proofs.Common.{◌≡◌, ℕ, ◌+◌, ◌-◌, ◌*◌, ◌/◌, ◌<◌, ◌≤◌, ◌&&◌, inl, inr, Bool, true, false, Option, None, List, length, get_or, ltb, max, refl, sym, ap, subst, ◌∙◌, arith, replicate, length-append, get_or-set_same, get_or-set_other}
+use Rattle.std.proofs.Common.{◌≡◌, ℕ, ◌+◌, ◌-◌, ◌*◌, ◌/◌, ◌<◌, ◌≤◌, ◌&&◌, inl, inr, Bool, true, false, Option, None, List, ◌++◌, length, get_or, ltb, max, refl, sym, ap, subst, ◌∙◌, arith, replicate, length-append, get_or-set_same, get_or-set_other}
 use Rattle.std.proofs.lemmas.Bool.{cases_eq, cases_lt, ltb-true}
-use Rattle.std.proofs.lemmas.List.{length-replicate}
+use Rattle.std.proofs.lemmas.List.{length-replicate, get_or-replicate, get_or_past, get_or_append_left, get_or-append_right}
 use Rattle.std.proofs.lemmas.List.FromFn.{length-map-range_with_len}
 use Rattle.std.proofs.lemmas.Nat.{mul-le, pow_pos}
 use Rattle.std.proofs.Math.Nat.{add-mul}
@@ -11,7 +11,8 @@ use Rattle.dym_base.specs.Packed.{bitmap}
 use Rattle.dym_pack.specs.Areas.{AreaName, area_at}
 use Rattle.dym_heap.specs.Table.{Row, empty_row, row_at}
 use Rattle.dym_heap.specs.Shelves.{ShelfMeaning, IsKept, Keeps, with_row, longer}
-use Rattle.dym_heap.specs.Shaping.{HasAreas, HasAtMost}
+use Rattle.dym_heap.specs.Shaping.{HasAreas, HasAtMost, AgreeTo}
+use Rattle.dym_heap.specs.Wanted.{row_chunk}
 use Rattle.dym_heap.proofs.AreaLists.{named}
 
 -- a class has one area more
@@ -38,6 +39,52 @@ longer_is old new e kept low high added =
         origin = ap (λ (s : ShelfMeaning). s.origin) added;
       };
     }
+
+-- a chunk behind others that is in no list
+get_behind : {A : Type 0} (xs : List A) (n i : ℕ) (d : A) → get_or (xs ++ replicate n d) i d ≡ get_or xs i d
+get_behind {A = A} xs n i d =
+    elim (cases_lt i (length xs)) as (λ _. get_or (xs ++ replicate n d) i d ≡ get_or xs i d) [
+      | inl l ↦ get_or_append_left xs (replicate n d) d i l
+      | inr past ↦
+          get_or-append_right xs (replicate n d) (length xs) i d refl past
+          ∙ elim (cases_lt (i - length xs) n) as (λ _. get_or (replicate n d) (i - length xs) d ≡ get_or xs i d) [
+            | inl l ↦ get_or-replicate n (i - length xs) d d l ∙ sym (get_or_past xs i d past)
+            | inr far ↦ get_or_past (replicate n d) (i - length xs) d (omega (arith, length-replicate {A = A} n d)) ∙ sym (get_or_past xs i d past)
+          ]
+    ]
+
+-- the chunks that were there stay
+pub longer_rows : (old new : ShelfMeaning) (e : ℕ) → IsKept old → 5 ≤ e → e ≤ 16 → new ≡ record (with_row old (e - 5) (longer (per e) (row_at old.rows (e - 5)))) { held_ids = new.held_ids } → (d i : ℕ) → row_chunk new.rows d i ≡ row_chunk old.rows d i
+longer_rows old new e kept low high added d i =
+    let classes = kept.classes in
+    let row : Row = row_at old.rows (e - 5) in
+    elim (cases_eq d (e - 5)) as (λ _. row_chunk new.rows d i ≡ row_chunk old.rows d i) [
+      | inr ne ↦
+          let other : row_at new.rows d ≡ row_at old.rows d = ap (λ (s : ShelfMeaning). row_at s.rows d) added ∙ get_or-set_other old.rows (e - 5) d (longer (per e) row) empty_row ne in
+          λ j. record { bytes = get_or (other j).chunks i None; touched = get_or (other j).touched i false }
+      | inl same ↦
+          let here : row_at new.rows (e - 5) ≡ longer (per e) row = ap (λ (s : ShelfMeaning). row_at s.rows (e - 5)) added ∙ get_or-set_same old.rows (e - 5) (longer (per e) row) empty_row (omega arith) in
+          ap (λ x. row_chunk new.rows x i) same
+          ∙ (λ j. record { bytes = get_or (here j).chunks i None; touched = get_or (here j).touched i false })
+          ∙ (λ j. record { bytes = get_behind row.chunks (per e) i None j; touched = get_behind row.touched (per e) i false j })
+          ∙ sym (ap (λ x. row_chunk old.rows x i) same)
+    ]
+
+-- the last area of a class goes, and the ones that should stay do
+pub agree_less : (old mid new : List Row) (counts : List ℕ) (e n x : ℕ) → 5 ≤ e → e ≤ 16 → ((d i : ℕ) → (d ≡ e - 5 → i < length (row_at new d).chunks) → row_chunk new d i ≡ row_chunk mid d i)
+    → length (row_at new (e - 5)).chunks + per e ≡ length (row_at mid (e - 5)).chunks → HasAreas mid (e - 5) n → x ≡ get_or counts (e - 5) 0 → x < n
+    → ((c : ℕ) → c < 12 → AgreeTo old mid c (get_or counts c 0)) → (c : ℕ) → c < 12 → AgreeTo old new c (get_or counts c 0)
+agree_less old mid new counts e n x low high rows fewer many x_is more agree c l i within =
+    rows c i
+    (λ same.
+    let row : e - 5 + 5 ≡ e = omega arith in
+    let p : n * per (e - 5 + 5) ≡ n * per e = ap (λ z. n * per z) row in
+    let m = mul-le (x + 1) (per e) n (per e) (omega arith) (omega arith) in
+    let s = add-mul x 1 (per e) in
+    let y : get_or counts c 0 * per (c + 5) ≡ x * per e = ap (λ z. get_or counts z 0 * per (z + 5)) same ∙ ap (λ z. z * per (e - 5 + 5)) (sym x_is) ∙ ap (λ z. x * per z) row in
+    let room : i < length (row_at new (e - 5)).chunks = omega arith in
+    subst (λ z. i < length (row_at new z).chunks) (sym same) room)
+    ∙ agree c l i within
 
 pub keeps_trans : (a b c : ShelfMeaning) → Keeps a b → Keeps b c → Keeps a c
 keeps_trans a b c x y = record { version = y.version ∙ x.version; quota = y.quota ∙ x.quota; origin = y.origin ∙ x.origin }

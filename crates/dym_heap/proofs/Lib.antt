@@ -41,8 +41,12 @@ pub mod AreaLists
 pub mod RecordLoads
 pub mod PlaceShapes
 pub mod ShelfShapes
+pub mod ShelfChanges
 pub mod Counts
 pub mod Emptied
-pub mod UseBits
+pub mod Wants
+pub mod AreaSteps
+pub mod Reshapes
+pub mod Fetches
 pub mod Fitting
 pub mod Sums

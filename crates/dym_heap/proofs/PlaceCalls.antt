@@ -208,7 +208,7 @@ shrunk area ls i n old is chunk less sized lawful' reaches =
 
 -- ---- no chunk is touched
 
-chunks_clean : (area : AreaMeaning) (dirty : List Bool) (ls : Option (List ℕ)) → chunks_in (record area { dirty = dirty }) ls ≡ chunks_in area ls
+pub chunks_clean : (area : AreaMeaning) (dirty : List Bool) (ls : Option (List ℕ)) → chunks_in (record area { dirty = dirty }) ls ≡ chunks_in area ls
 unfolding chunks_in
 chunks_clean area dirty ls = refl
 

@@ -18,13 +18,13 @@ pub record LensLoaded (area : AreaMeaning) (ls ls' : Option (List ℕ)) (bits : 
   pub loaded : (i : ℕ) → IsSet bits i → len_of area.exponent ls' i ≡ length (f i)
   pub kept : (i : ℕ) → IsClear bits i → len_of area.exponent ls' i ≡ len_of area.exponent ls i
 
-pub lens_one : (area : AreaMeaning) (bits : List Bool) (body : List ℕ) (f : ℕ → List ℕ) → IsBodyOf One area.exponent bits body f → LensLoaded area None None bits f
-lens_one area bits body f is = record { version = refl; loaded = λ i h. sym (is.sized i h); kept = λ i h. refl }
+pub lens_one : (area : AreaMeaning) (packed bits : List Bool) (body : List ℕ) (f : ℕ → List ℕ) → ((i : ℕ) → IsSet bits i → IsSet packed i) → IsBodyOf One area.exponent packed body f → LensLoaded area None None bits f
+lens_one area packed bits body f sub is = record { version = refl; loaded = λ i h. sym (is.sized i (sub i h)); kept = λ i h. refl }
 
 pub lens_two : (area : AreaMeaning) (ns ns' : List ℕ) (bits : List Bool) (f : ℕ → List ℕ) → NotesLoaded ns ns' bits f → LensLoaded area (Some ns) (Some ns') bits f
 lens_two area ns ns' bits f notes = record { version = refl; loaded = notes.noted; kept = notes.kept }
 
-module _ (area : AreaMeaning) (ls ls' : Option (List ℕ)) (content : List ℕ) (bits : List Bool) (body : List ℕ) (f : ℕ → List ℕ) (m : IsMeasured area ls) (is : IsBodyOf (version_by ls) area.exponent bits body f)
+module _ (area : AreaMeaning) (ls ls' : Option (List ℕ)) (content : List ℕ) (packed bits : List Bool) (body : List ℕ) (f : ℕ → List ℕ) (m : IsMeasured area ls) (sub : (i : ℕ) → IsSet bits i → IsSet packed i) (is : IsBodyOf (version_by ls) area.exponent packed body f)
     (holds : HoldsLoaded area (record area { content = content }) bits f) (lens : LensLoaded area ls ls' bits f) (lawful' : IsLawful (record area { content = content })) where
   abbrev new : AreaMeaning
   new = record area { content = content }
@@ -52,7 +52,7 @@ module _ (area : AreaMeaning) (ls ls' : Option (List ℕ)) (content : List ℕ) 
     lawful = lawful';
     fits = λ i h. subst (λ v. IsSizeOf v area.exponent (len_of area.exponent ls' i)) (sym lens.version)
         (elim (bit_in bits i) as (λ b. bit_in bits i ≡ b → IsSizeOf (version_by ls) area.exponent (len_of area.exponent ls' i)) [
-          | true ↦ λ p. subst (IsSizeOf (version_by ls) area.exponent) (sym (lens.loaded i p)) (is.sized i p)
+          | true ↦ λ p. subst (IsSizeOf (version_by ls) area.exponent) (sym (lens.loaded i p)) (is.sized i (sub i p))
           | false ↦ λ p. subst (IsSizeOf (version_by ls) area.exponent) (sym (lens.kept i p)) (m.fits i h)
         ] refl);
   }
@@ -69,34 +69,34 @@ pub record Loads (area' : AreaMeaning) (ls' : Option (List ℕ)) (p : PlaceMeani
   pub measured : IsMeasured area' ls'
   pub loaded : IsLoadedPlace p (place_of area' ls') bits f
 
-pub loads_p : (area : AreaMeaning) (ls : Option (List ℕ)) (p : PlaceMeaning) (v : place_of area ls ≡ p) (m : IsMeasured area ls) (area' : AreaMeaning) (ls' : Option (List ℕ)) (bits : List Bool) (body : List ℕ) (f : ℕ → List ℕ)
-    → IsBodyOf (version_by ls) area.exponent bits body f → HoldsLoaded area area' bits f → LensLoaded area ls ls' bits f → IsLawful area' → Loads area' ls' p bits f
-loads_p area ls p v m area' ls' bits body f is holds lens lawful' =
+pub loads_p : (area : AreaMeaning) (ls : Option (List ℕ)) (p : PlaceMeaning) (v : place_of area ls ≡ p) (m : IsMeasured area ls) (area' : AreaMeaning) (ls' : Option (List ℕ)) (packed bits : List Bool) (body : List ℕ) (f : ℕ → List ℕ)
+    → ((i : ℕ) → IsSet bits i → IsSet packed i) → IsBodyOf (version_by ls) area.exponent packed body f → HoldsLoaded area area' bits f → LensLoaded area ls ls' bits f → IsLawful area' → Loads area' ls' p bits f
+loads_p area ls p v m area' ls' packed bits body f sub is holds lens lawful' =
     let holds' : HoldsLoaded area (record area { content = area'.content }) bits f = subst (λ a. HoldsLoaded area a bits f) holds.same holds in
     let lawful'' : IsLawful (record area { content = area'.content }) = subst IsLawful holds.same lawful' in
     subst (λ a. Loads a ls' p bits f) (sym holds.same)
     (record {
-      measured = measured_new area ls ls' area'.content bits body f m is holds' lens lawful'';
-      loaded = subst (λ q. IsLoadedPlace q (place_of (record area { content = area'.content }) ls') bits f) v (loaded_new area ls ls' area'.content bits body f m is holds' lens lawful'');
+      measured = measured_new area ls ls' area'.content packed bits body f m sub is holds' lens lawful'';
+      loaded = subst (λ q. IsLoadedPlace q (place_of (record area { content = area'.content }) ls') bits f) v (loaded_new area ls ls' area'.content packed bits body f m sub is holds' lens lawful'');
     })
 
 pub body_p : (area : AreaMeaning) (ls : Option (List ℕ)) (p : PlaceMeaning) → place_of area ls ≡ p → (w : Version) → version_by ls ≡ w → (bits : List Bool) (body : List ℕ) (f : ℕ → List ℕ) → IsBodyOf p.version p.exponent bits body f
     → IsBodyOf w area.exponent bits body f
 body_p area ls p v w is_w bits body f is = subst (λ x. IsBodyOf x area.exponent bits body f) is_w (subst (λ (q : PlaceMeaning). IsBodyOf q.version q.exponent bits body f) (sym v) is)
 
-module _ (area : AreaMeaning) (ls : Option (List ℕ)) (p : PlaceMeaning) (v : place_of area ls ≡ p) (m : IsMeasured area ls) (area' : AreaMeaning) (bits : List Bool) (body : List ℕ) (f : ℕ → List ℕ) (is : IsBodyOf p.version p.exponent bits body f)
-    (lawful' : IsLawful area') where
-  pub loads_one : ls ≡ None → ((f : ℕ → List ℕ) → IsBodyOf One area.exponent bits body f → HoldsLoaded area area' bits f) → Loads area' ls p bits f
+module _ (area : AreaMeaning) (ls : Option (List ℕ)) (p : PlaceMeaning) (v : place_of area ls ≡ p) (m : IsMeasured area ls) (area' : AreaMeaning) (packed bits : List Bool) (body : List ℕ) (sub : (i : ℕ) → IsSet bits i → IsSet packed i) (f : ℕ → List ℕ)
+    (is : IsBodyOf p.version p.exponent packed body f) (lawful' : IsLawful area') where
+  pub loads_one : ls ≡ None → ((f : ℕ → List ℕ) → IsBodyOf One area.exponent packed body f → HoldsLoaded area area' bits f) → Loads area' ls p bits f
   loads_one e holds =
-      let one : IsBodyOf One area.exponent bits body f = body_p area ls p v One (ap version_by e) bits body f is in
-      loads_p area ls p v m area' ls bits body f (body_p area ls p v (version_by ls) refl bits body f is) (holds f one)
-      (subst (λ x. LensLoaded area x x bits f) (sym e) (lens_one area bits body f one)) lawful'
+      let one : IsBodyOf One area.exponent packed body f = body_p area ls p v One (ap version_by e) packed body f is in
+      loads_p area ls p v m area' ls packed bits body f sub (body_p area ls p v (version_by ls) refl packed body f is) (holds f one)
+      (subst (λ x. LensLoaded area x x bits f) (sym e) (lens_one area packed bits body f sub one)) lawful'
 
-  pub loads_two : (ns ns' : List ℕ) → ls ≡ Some ns → ((f : ℕ → List ℕ) → IsBodyOf Two area.exponent bits body f → HoldsLoaded area area' bits f)
-      → ((f : ℕ → List ℕ) → IsBodyOf Two area.exponent bits body f → NotesLoaded ns ns' bits f) → Loads area' (Some ns') p bits f
+  pub loads_two : (ns ns' : List ℕ) → ls ≡ Some ns → ((f : ℕ → List ℕ) → IsBodyOf Two area.exponent packed body f → HoldsLoaded area area' bits f)
+      → ((f : ℕ → List ℕ) → IsBodyOf Two area.exponent packed body f → NotesLoaded ns ns' bits f) → Loads area' (Some ns') p bits f
   loads_two ns ns' e holds notes =
-      let two : IsBodyOf Two area.exponent bits body f = body_p area ls p v Two (ap version_by e) bits body f is in
-      loads_p area ls p v m area' (Some ns') bits body f (body_p area ls p v (version_by ls) refl bits body f is) (holds f two)
+      let two : IsBodyOf Two area.exponent packed body f = body_p area ls p v Two (ap version_by e) packed body f is in
+      loads_p area ls p v m area' (Some ns') packed bits body f sub (body_p area ls p v (version_by ls) refl packed body f is) (holds f two)
       (subst (λ x. LensLoaded area x (Some ns') bits f) (sym e) (lens_two area ns ns' bits f (notes f two))) lawful'
 
 -- ---- a shelf's area

@@ -39,18 +39,18 @@ length_of Two e n is = is
 
 -- ---- what a log packs is live in its copy
 
-packs_live : (log : Logged) → IsRecorded log → (q : ℕ) → packs_by log.kind log.copy log.found q ≡ true → contains_key log.copy q ≡ true
+pub packs_live : (log : Logged) → IsRecorded log → (q : ℕ) → packs_by log.kind log.copy log.found q ≡ true → contains_key log.copy q ≡ true
 packs_live log is q h =
     elim log.kind as (λ k. packs_by k log.copy log.found q ≡ true → contains_key log.copy q ≡ true) [
       | Full ↦ λ e. e
       | Inc ↦ λ e. is.found_live q e
     ] h
 
-some_bytes : (o : Option (List ℕ)) → is_some o ≡ true → o ≡ Some (unwrap_or o [])
+pub some_bytes : (o : Option (List ℕ)) → is_some o ≡ true → o ≡ Some (unwrap_or o [])
 some_bytes None h = absurd cc
 some_bytes (Some x) h = refl
 
-packed_is : (log : Logged) → IsRecorded log → (q : ℕ) (b : Bool) → packs_by log.kind log.copy log.found q ≡ b → packed_by log q ≡ cond b (Some (unwrap_or (get log.copy q) [])) None
+pub packed_is : (log : Logged) → IsRecorded log → (q : ℕ) (b : Bool) → packs_by log.kind log.copy log.found q ≡ b → packed_by log q ≡ cond b (Some (unwrap_or (get log.copy q) [])) None
 packed_is log is q true h = ap (λ b. cond b (get log.copy q) None) h ∙ some_bytes (get log.copy q) (packs_live log is q h)
 packed_is log is q false h = ap (λ b. cond b (get log.copy q) None) h
 

@@ -1,5 +1,5 @@
 -- A shelf after one of its areas got the use bits of a bitmap.
-use Rattle.std.proofs.Common.{◌≡◌, ℕ, ◌+◌, ◌-◌, ◌*◌, ◌/◌, ◌<◌, ◌≤◌, inl, inr, Bool, true, false, is_some, IsTrue, List, [], length, get_or, set, max, length-set, get_or-set_same, get_or-set_other, ◌↔◌, sym, ap, subst, ◌∙◌, arith}
+use Rattle.std.proofs.Common.{◌≡◌, ℕ, ◌+◌, ◌-◌, ◌*◌, ◌/◌, ◌<◌, ◌≤◌, inl, inr, Bool, true, false, IsTrue, List, [], length, get_or, set, max, length-set, get_or-set_same, get_or-set_other, ◌↔◌, sym, ap, subst, ◌∙◌, arith}
 use Rattle.std.proofs.lemmas.Bool.{cases_eq, cases_lt, true≢false}
 use Rattle.std.proofs.lemmas.Nat.{mul-le}
 use Rattle.dym_base.specs.Numbers.{per}
@@ -11,7 +11,7 @@ use Rattle.dym_heap.specs.Shelves.{ShelfMeaning, IsKept}
 use Rattle.dym_heap.specs.Places.{PlaceMeaning, IsPlace}
 use Rattle.dym_heap.specs.Arrangement.{IsPlaced, IsFullPlace, HasFree, IsArranged, IsShelf, shelf_of, rows_upto, marks_of_class}
 use Rattle.dym_base.specs.declared.limits.TheConstants.{MOST_CHUNKS}
-use Rattle.dym_heap.specs.Shaping.{IsShapedPlace, IsShapedArea}
+use Rattle.dym_heap.specs.Wanted.{place_chunk, IsReshaped, IsChangedArea}
 use Rattle.dym_heap.proofs.Rows.{class_end, count_c, count_is, whole_row}
 use Rattle.dym_heap.proofs.RowSteps.{Remarks}
 use Rattle.dym_heap.proofs.ShelfFacts.{row_s}
@@ -116,10 +116,10 @@ module _ (v : Version) (quota : ℕ) (ids : List SegmentId) (origin : Origin) (s
       pub below_q : (i : ℕ) → i < per e → i < per q.exponent
       below_q i b = let x = ap per exponent_q in omega arith
 
-      module _ (p : PlaceMeaning) (lawful : IsPlace p) (is_set : ℕ → Bool) (loads : IsShapedPlace q p is_set) (b : Bool) (filled : IsTrue b ↔ IsFullPlace p) (full' : List (List Bool))
+      module _ (p : PlaceMeaning) (lawful : IsPlace p) (is_set : ℕ → Bool) (same_place : p ≡ record q { chunks = p.chunks; touched = p.touched }) (shaped : (i : ℕ) → IsReshaped (is_set i) (place_chunk q i) (place_chunk p i)) (b : Bool) (filled : IsTrue b ↔ IsFullPlace p) (full' : List (List Bool))
           (after : full' ≡ set full k (set (marks_of_class full k) o b)) where
         exponent_p : p.exponent ≡ q.exponent
-        exponent_p = ap (λ (x : PlaceMeaning). x.exponent) loads.same
+        exponent_p = ap (λ (x : PlaceMeaning). x.exponent) same_place
 
         long_p : length p.chunks ≡ length q.chunks
         long_p = lawful.whole ∙ ap per exponent_p ∙ sym placed_q.place.whole
@@ -127,9 +127,9 @@ module _ (v : Version) (quota : ℕ) (ids : List SegmentId) (origin : Origin) (s
         placed_p : IsPlaced v (e - 5 + 5) o p
         placed_p = record {
           place = lawful;
-          version = ap (λ (x : PlaceMeaning). x.version) loads.same ∙ placed_q.version;
+          version = ap (λ (x : PlaceMeaning). x.version) same_place ∙ placed_q.version;
           exponent = exponent_p ∙ placed_q.exponent;
-          ordinal = ap (λ (x : PlaceMeaning). x.ordinal) loads.same ∙ placed_q.ordinal;
+          ordinal = ap (λ (x : PlaceMeaning). x.ordinal) same_place ∙ placed_q.ordinal;
         }
 
         marks : Remarks full full' (e - 5) o p
@@ -137,7 +137,7 @@ module _ (v : Version) (quota : ℕ) (ids : List SegmentId) (origin : Origin) (s
             (remarks_set v starts places full (e - 5) o p b is.arranged class_in ordinal_small (λ h. filled.0 h) (λ h. free_from p (λ all. (let t = filled.1 all in absurd (true≢false (sym t ∙ h))))))
 
         same_id : p.identity ≡ q.identity
-        same_id = ap (λ (x : PlaceMeaning). x.identity) loads.same
+        same_id = ap (λ (x : PlaceMeaning). x.identity) same_place
 
         pub shape_shelf : IsShelf v quota ids starts (set places (get_or starts k 0 + o) p) full' room spare spare_room
         shape_shelf = swaps.swap_shelf v quota ids origin starts places full room spare spare_room s view is (e - 5) o (get_or starts k 0 + o) class_in within at q p here placed_p same_id full' marks
@@ -151,14 +151,5 @@ module _ (v : Version) (quota : ℕ) (ids : List SegmentId) (origin : Origin) (s
         pub shape_long : (d : ℕ) → length (row_at (rows_upto 12 starts (set places (get_or starts k 0 + o) p)) d).chunks ≡ length (row_at s.rows d).chunks
         shape_long = swaps.swap_long v quota ids origin starts places full room spare spare_room s view is (e - 5) o (get_or starts k 0 + o) class_in within at q p here placed_p same_id full' marks
 
-        pub shape_area : IsShapedArea s.rows (rows_upto 12 starts (set places (get_or starts k 0 + o) p)) (e - 5) o is_set
-        shape_area = record {
-          used = λ i b.
-              ap is_some (swaps.swap_here v quota ids origin starts places full room spare spare_room s view is (e - 5) o (get_or starts k 0 + o) class_in within at q p here placed_p same_id full' marks i b)
-              ∙ loads.used i;
-          clear = λ i b.
-              swaps.marks_here v quota ids origin starts places full room spare spare_room s view is (e - 5) o (get_or starts k 0 + o) class_in within at q p here placed_p same_id full' marks i b
-              ∙ loads.clear i;
-          others = swaps.swap_other v quota ids origin starts places full room spare spare_room s view is (e - 5) o (get_or starts k 0 + o) class_in within at q p here placed_p same_id full' marks;
-          marks = swaps.marks_other v quota ids origin starts places full room spare spare_room s view is (e - 5) o (get_or starts k 0 + o) class_in within at q p here placed_p same_id full' marks;
-        }
+        pub shape_area : IsChangedArea s.rows (rows_upto 12 starts (set places (get_or starts k 0 + o) p)) (e - 5) o (λ i old new. IsReshaped (is_set i) old new)
+        shape_area = swaps.swap_changes v quota ids origin starts places full room spare spare_room s view is (e - 5) o (get_or starts k 0 + o) class_in within at q p here placed_p same_id full' marks (λ i old new. IsReshaped (is_set i) old new) (λ i b. shaped i)

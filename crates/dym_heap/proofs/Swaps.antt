@@ -1,5 +1,5 @@
 -- A shelf after one of its areas was replaced.
-use Rattle.std.proofs.Common.{◌≡◌, ℕ, ◌+◌, ◌-◌, ◌*◌, ◌/◌, ◌%◌, ◌<◌, ◌≤◌, inl, inr, Bool, false, None, List, length, get_or, set, refl, sym, ap, ◌∙◌, arith, get_or-set_same, get_or-set_other}
+use Rattle.std.proofs.Common.{◌≡◌, ℕ, ◌+◌, ◌-◌, ◌*◌, ◌/◌, ◌%◌, ◌<◌, ◌≤◌, inl, inr, Bool, false, None, List, length, get_or, set, refl, sym, ap, subst, ◌∙◌, arith, get_or-set_same, get_or-set_other}
 use Rattle.std.proofs.lemmas.Bool.{cases_lt}
 use Rattle.std.proofs.lemmas.List.{get_or_past}
 use Rattle.std.proofs.lemmas.Nat.{pow_pos, div-add-mod', mod_below, div_below}
@@ -10,6 +10,7 @@ use Rattle.dym_region.specs.declared.segment.SegmentId.{SegmentId}
 use Rattle.dym_heap.specs.Table.{Row, empty_row, row_at, chunk_at, touch_at}
 use Rattle.dym_heap.specs.Shelves.{ShelfMeaning, IsKept}
 use Rattle.dym_heap.specs.Places.{PlaceMeaning}
+use Rattle.dym_heap.specs.Wanted.{ChunkMeaning, row_chunk, place_chunk, IsChangedArea}
 use Rattle.dym_heap.specs.Arrangement.{row_of, class_places, rows_upto, IsPlaced, IsShelf, shelf_of}
 use Rattle.dym_heap.proofs.Rows.{class_end, length-rows, count_c, count_is, whole_row, whole_marks, mark-row, is_kept}
 use Rattle.dym_heap.proofs.RowSteps.{apart, Remarks, arranged-put}
@@ -160,3 +161,13 @@ module _ (v : Version) (quota : ℕ) (ids : List SegmentId) (origin : Origin) (s
                   ∙ past_marks (row_of (class_places starts places d)).touched (count_c v starts places full is.arranged d l) (per (d + 5)) i (positive d) (whole_marks v starts places full is.arranged d l) (omega arith))
             ]
       ]
+
+  -- ---- both
+
+  pub swap_changes : (Change : ℕ → ChunkMeaning → ChunkMeaning → Type 0) → ((j : ℕ) → j < per (c + 5) → Change j (place_chunk q j) (place_chunk p j)) → IsChangedArea s.rows (rows_upto 12 starts (set places k p)) c o Change
+  swap_changes Change each = record {
+    here = λ j below.
+        subst (λ x. Change j x (row_chunk (rows_upto 12 starts (set places k p)) c (o * per (c + 5) + j))) (λ i. record { bytes = sym (swap_was j below) i; touched = sym (marks_was j below) i })
+        (subst (Change j (place_chunk q j)) (λ i. record { bytes = sym (swap_here j below) i; touched = sym (marks_here j below) i }) (each j below));
+    others = λ d j ne. λ i. record { bytes = swap_other d j ne i; touched = marks_other d j ne i };
+  }

@@ -10,3 +10,4 @@ pub mod Lending
 pub mod Loading
 pub mod Bodies
 pub mod Shaping
+pub mod Wanted

@@ -1,5 +1,5 @@
 //! The heap.
-ghost use Rattle.std.specs.Prelude.{◌≡◌, ℕ, ◌+◌, ◌-◌, ◌^◌, false, ◌≤◌, ◌<◌, true, false, None, Some, [], List, length, replicate, IsSome, IsTrue, MatchOption, OnErr, IfOk, IfErr, option_map};
+ghost use Rattle.std.specs.Prelude.{◌≡◌, ℕ, ◌+◌, ◌-◌, ◌^◌, false, ◌≤◌, ◌<◌, true, false, None, Some, [], List, length, replicate, IsSome, IsTrue, MatchOption, OnErr, IfOk, IfErr, is_some, option_map};
 ghost use Rattle.std.specs.FinMap.{get, contains_key};
 ghost use Rattle.std.specs.FinSet as FinSet;
 ghost use Rattle.dym_base.specs.HeapStep.{key};
@@ -8,15 +8,18 @@ ghost use Rattle.dym_base.specs.declared.command.Version.TheVariants.{One};
 ghost use Rattle.dym_base.specs.declared.command.Command.TheVariants.{Malloc, Calloc, Realloc, Free, Write, Fill, Read, Link, Follow, Sum};
 ghost use Rattle.dym_base.specs.declared.limits.TheConstants.{MOST_QUOTA};
 ghost use Rattle.dym_base.specs.Heaps.{held};
+ghost use Rattle.dym_base.specs.StandsFor.{packed_by};
 ghost use Rattle.dym_pack.specs.Reading.{OfLog};
 ghost use Rattle.dym_heap.specs.Loading.{HaveOneSetOfHandles, IsLoaded};
 ghost use Rattle.dym_heap.specs.Meaning.{HeapMeaning, IsSound};
+ghost use Rattle.dym_heap.specs.Wanted.{heap_chunk, marked, fetched, IsReshaped};
 ghost use Rattle.dym_heap.specs.Replies.{step_of, stepped, done_reply, chunk_reply, moved_reply, bytes_reply, found_reply, total_reply, after_key, IsNextLive};
 
 use crate::chunk::{
     bytes_of_handle, fill_chunk, find_number, free_handle, len_of_handle, move_chunk, resize_chunk,
     write_chunk,
 };
+use crate::fetching::{fetch_record, mark_record};
 use crate::found::Found;
 use crate::fresh::take_fresh;
 use crate::loading::load_record;
@@ -351,6 +354,7 @@ impl<S: Supply> Heap<S> {
         ensures sound { IsSound self.new }
     {
         shape_shelf(&mut self.shelf, way, rec);
+        self.shelf.clear_touched();
     }
 
     /// Writes the bytes, and in version 2 the length, of each chunk that the record packs and that is live now. What is
@@ -362,6 +366,36 @@ impl<S: Supply> Heap<S> {
         ensures sound { IsSound self.new }
     {
         load_record(&mut self.shelf, rec);
+    }
+
+    /// Each chunk that is live and that the record packs is touched, besides those that are.
+    pub fn mark(&mut self, rec: &Record)
+        ensures marked { OfLog rec.now (λ log. (k : ℕ) → heap_chunk self.new.state k ≡ marked (is_some (packed_by log k)) (heap_chunk self.old.state k)) }
+        ensures same { self.new ≡ record self.old { state = self.new.state } }
+        ensures sound { IsSound self.new }
+    {
+        mark_record(&mut self.shelf, rec);
+    }
+
+    /// Shapes the heap to a record's areas and use bits, as `shape_to`. A chunk that was live and not touched keeps its bytes;
+    /// each other one that is live then is touched, and no clause tells its bytes.
+    pub fn reshape(&mut self, way: &S::Way, rec: &Record)
+        requires within { OfLog rec.now (λ log. held log.copy ≤ self.old.quota) }
+        ensures shaped { OfLog rec.now (λ log. (k : ℕ) → IsReshaped (contains_key log.copy k) (heap_chunk self.old.state k) (heap_chunk self.new.state k)) }
+        ensures same { self.new ≡ record self.old { state = self.new.state; held_ids = self.new.held_ids } }
+        ensures sound { IsSound self.new }
+    {
+        shape_shelf(&mut self.shelf, way, rec);
+    }
+
+    /// Writes the bytes, and in version 2 the length, of each touched chunk that the record packs. It is touched no more.
+    pub fn fetch(&mut self, rec: &Record)
+        requires version { OfLog rec.now (λ log. log.version ≡ self.old.version) }
+        ensures fetched { OfLog rec.now (λ log. (k : ℕ) → heap_chunk self.new.state k ≡ fetched (packed_by log k) (heap_chunk self.old.state k)) }
+        ensures same { self.new ≡ record self.old { state = self.new.state } }
+        ensures sound { IsSound self.new }
+    {
+        fetch_record(&mut self.shelf, rec);
     }
 
     /// Gives all segments back, and answers the supply.

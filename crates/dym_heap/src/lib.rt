@@ -7,6 +7,7 @@
 mod apply;
 mod areas;
 mod chunk;
+mod fetching;
 mod found;
 mod fresh;
 mod heap;

@@ -6,7 +6,7 @@ ghost use Rattle.dym_heap.specs.Table.{live_of, touched_of};
 ghost use Rattle.dym_heap.specs.Shelves.{IsTidy};
 
 use crate::shelf::Shelf;
-use dym_pack::{AreaHead, Record};
+use dym_pack::Record;
 use dym_quota::Supply;
 
 /// Writes the bytes, and in version 2 the length, of each chunk that the record packs and that is in use.
@@ -19,11 +19,8 @@ pub(crate) fn load_record<S: Supply>(shelf: &mut Shelf<S>, rec: &Record)
     ensures tidy { IsTidy shelf.new }
 {
     for k in 0..rec.area_count() {
-        let AreaHead {
-            exp,
-            ordinal,
-            packed: _,
-        } = rec.area(k);
+        let exp = rec.area_exp(k);
+        let ordinal = rec.area_ordinal(k);
         let packed = rec.packed_bits(k);
         shelf.load_area(exp, ordinal, &packed, rec.body(k));
     }

@@ -5,12 +5,12 @@ ghost use Rattle.dym_base.specs.Numbers.{size, per};
 ghost use Rattle.dym_base.specs.HeapStep.{splice, fitted};
 ghost use Rattle.dym_base.specs.declared.limits.TheConstants.{MOST_CHUNKS, SEGMENT_BYTES};
 ghost use Rattle.dym_base.specs.declared.command.Version.TheVariants.{One, Two};
-ghost use Rattle.dym_bits.specs.Bits.{bit_in, bits_of_bytes, IsSet};
+ghost use Rattle.dym_bits.specs.Bits.{bit_in, bits_of_bytes, IsSet, IsClear};
 ghost use Rattle.dym_heap.specs.Meaning.{IsSizeOf};
 ghost use Rattle.dym_heap.specs.Lengths.{version_of, numbers_of};
 ghost use Rattle.dym_heap.specs.Shelves.{FitsIn};
 ghost use Rattle.dym_heap.specs.Bodies.{IsBodyOf, IsBody, IsLoadedPlace};
-ghost use Rattle.dym_heap.specs.Shaping.{IsShapedPlace};
+ghost use Rattle.dym_heap.specs.Wanted.{place_chunk, marked, fetched, packed_at, IsReshaped};
 ghost use Rattle.dym_heap.specs.Lending.{IsUsedRun};
 ghost use Rattle.dym_heap.specs.Places.{PlaceMeaning, IsPlace, IsFreeIn, IsUsedFrom, IsRepeated, place_put, noted, len_of};
 
@@ -295,31 +295,73 @@ impl<G: Segment> Place<G> {
         self.area.clear_dirty();
     }
 
-    /// Puts the chunks that a body packs over those in use, in version 2 with their lengths. What is touched stays.
-    pub(crate) fn load(&mut self, packed: &Bits, body: &[u8])
-        requires { IsBody self.old.version self.old.exponent packed.now body.now }
-        ensures loaded { (f : ℕ → List ℕ) → IsBodyOf self.old.version self.old.exponent packed.now body.now f → IsLoadedPlace self.old self.new packed.now f }
+    /// Makes these chunks, which are in use, the touched ones.
+    pub(crate) fn set_touched(&mut self, touched: Bits)
+        requires len { length touched ≡ MOST_CHUNKS }
+        requires used { (i : ℕ) → IsSet touched i → IsSome (slice_index_or self.old.chunks i None) }
+        ensures same { self.new ≡ record self.old { touched = self.new.touched } }
+        ensures touched { (i : ℕ) → slice_index_or self.new.touched i false ≡ bit_in touched i }
+        ensures lawful { IsPlace self.new }
+    {
+        self.area.set_dirty(touched);
+    }
+
+    /// The chunks in use among these are touched besides.
+    pub(crate) fn mark(&mut self, packed: &Bits)
+        ensures same { self.new ≡ record self.old { touched = self.new.touched } }
+        ensures marked { (i : ℕ) → place_chunk self.new i ≡ marked (bit_in packed.now i) (place_chunk self.old i) }
+        ensures lawful { IsPlace self.new }
+    {
+        let packed = self.area.used().intersection(packed);
+        let touched = self.area.dirty().union(&packed);
+        self.area.set_dirty(touched);
+    }
+
+    /// Puts the wanted ones of the chunks that a body packs over those in use, in version 2 with their lengths. What is touched
+    /// stays.
+    pub(crate) fn load(&mut self, packed: &Bits, wanted: &Bits, body: &[u8])
+        requires body { IsBody self.old.version self.old.exponent packed.now body.now }
+        requires wanted { (i : ℕ) → IsSet wanted.now i → IsSet packed.now i }
+        ensures loaded { (f : ℕ → List ℕ) → IsBodyOf self.old.version self.old.exponent packed.now body.now f → IsLoadedPlace self.old self.new wanted.now f }
         ensures lawful { IsPlace self.new }
     {
         match &mut self.lengths {
-            None => load_runs(&mut self.area, packed, body),
-            Some(lengths) => load_sized(&mut self.area, lengths, packed, body),
+            None => load_runs(&mut self.area, packed, wanted, body),
+            Some(lengths) => load_sized(&mut self.area, lengths, packed, wanted, body),
         }
     }
 
-    /// Takes the use bits from a bitmap, marks no chunk as touched, and in version 2 gives each chunk all bytes of its class. The
-    /// bytes stay.
+    /// Puts the touched ones of the chunks that a body packs over those in use, in version 2 with their lengths. They are touched
+    /// no more.
+    pub(crate) fn fetch(&mut self, packed: &Bits, body: &[u8])
+        requires body { IsBody self.old.version self.old.exponent packed.now body.now }
+        ensures same { self.new ≡ record self.old { chunks = self.new.chunks; touched = self.new.touched } }
+        ensures fetched { (f : ℕ → List ℕ) → IsBodyOf self.old.version self.old.exponent packed.now body.now f → (i : ℕ) → place_chunk self.new i ≡ fetched (packed_at packed.now f i) (place_chunk self.old i) }
+        ensures lawful { IsPlace self.new }
+    {
+        let wanted = self.dirty_bits().intersection(packed);
+        self.load(packed, &wanted, body);
+        let left = self.dirty_bits().difference(packed);
+        self.set_touched(left);
+    }
+
+    /// Takes the use bits from a bitmap. A chunk that was in use and not touched keeps its bytes; each other one in use is touched,
+    /// and has in version 2 all bytes of its class.
     pub(crate) fn shape(&mut self, use_bytes: &[u8])
         requires len { length use_bytes.now ≡ max 1 (per self.old.exponent / 8) }
         requires below { (i : ℕ) → IsSet (bits_of_bytes use_bytes.now) i → i < per self.old.exponent }
-        ensures shaped { IsShapedPlace self.old self.new (bit_in (bits_of_bytes use_bytes.now)) }
+        ensures same { self.new ≡ record self.old { chunks = self.new.chunks; touched = self.new.touched } }
+        ensures shaped { (i : ℕ) → IsReshaped (bit_in (bits_of_bytes use_bytes.now) i) (place_chunk self.old i) (place_chunk self.new i) }
         ensures lawful { IsPlace self.new }
     {
+        let settled = self.area.used().difference(self.area.dirty());
         self.area.set_from(use_bytes);
+        let wanted = self.area.used().difference(&settled);
+        self.area.set_dirty(wanted);
         let size = size_of_class(self.area.exp());
         match &mut self.lengths {
             None => {}
-            Some(lengths) => lengths.fill(size),
+            Some(lengths) => note_all(lengths, self.area.dirty(), size),
         }
     }
 
@@ -330,6 +372,19 @@ impl<G: Segment> Place<G> {
     {
         let Place { area, lengths } = self;
         (area.into_segment(), lengths)
+    }
+}
+
+/// Notes `len` as the length of each of these chunks.
+fn note_all(lengths: &mut Lengths, chunks: &Bits, len: u32)
+    requires { length chunks.now ≡ MOST_CHUNKS }
+    ensures noted { (i : ℕ) → IsSet chunks.now i → slice_index lengths.new.table.items i ≡ len }
+    ensures kept { (i : ℕ) → IsClear chunks.now i → slice_index lengths.new.table.items i ≡ slice_index lengths.old.table.items i }
+{
+    let mut from = 0;
+    while let Some(i) = chunks.next_set(from) {
+        lengths.set(i, len);
+        from = i + 1;
     }
 }
 

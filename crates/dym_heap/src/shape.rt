@@ -1,25 +1,25 @@
 //! A shelf gets the areas and the use bits of a record.
-ghost use Rattle.std.specs.Prelude.{◌≡◌, ℕ, ◌+◌, ◌≤◌, ◌<◌, slice_index, sum};
-ghost use Rattle.std.specs.FinSet as FinSet;
+ghost use Rattle.std.specs.Prelude.{◌≡◌, ℕ, ◌+◌, ◌≤◌, ◌<◌, length, slice_index, sum};
+ghost use Rattle.std.specs.FinMap.{contains_key};
 ghost use Rattle.dym_base.specs.Heaps.{areas, held};
-ghost use Rattle.dym_pack.specs.Reading.{OfLog};
-ghost use Rattle.dym_heap.specs.Loading.{HaveOneSetOfHandles};
-ghost use Rattle.dym_heap.specs.Table.{live_of, touched_of};
+ghost use Rattle.dym_pack.specs.Reading.{OfLog, IsRecord};
+ghost use Rattle.dym_heap.specs.Table.{row_at, state_of};
 ghost use Rattle.dym_heap.specs.Shelves.{IsKept, IsTidy, Keeps};
-ghost use Rattle.dym_heap.specs.Shaping.{HasAreas, HasAtMost};
+ghost use Rattle.dym_heap.specs.Shaping.{HasAreas, HasAtMost, AgreeTo};
+ghost use Rattle.dym_heap.specs.Wanted.{heap_chunk, row_chunk, IsReshaped, IsAreaChange};
 
 use crate::shelf::Shelf;
 use crate::spot::class_index;
 use dym_base::limits::{GREATEST_EXPONENT, LEAST_EXPONENT};
-use dym_pack::{AreaHead, Record};
+use dym_pack::Record;
 use dym_quota::Supply;
 
-/// Gives back the areas that a record lacks, takes those that are missing, and takes the use bits from the record.
+/// Gives back the areas that a record lacks, takes those that are missing, and takes the use bits from the record. Chunks that were
+/// live and not touched keep their bytes; each other live one is touched.
 pub(crate) fn shape_shelf<S: Supply>(shelf: &mut Shelf<S>, way: &S::Way, rec: &Record)
     requires tidy { IsTidy shelf.old }
     requires within { OfLog rec.now (λ log. held log.copy ≤ shelf.old.quota) }
-    ensures handles { OfLog rec.now (λ log. HaveOneSetOfHandles (live_of shelf.new.rows) log.copy) }
-    ensures touched { touched_of shelf.new.rows ≡ FinSet.empty }
+    ensures shaped { OfLog rec.now (λ log. (k : ℕ) → IsReshaped (contains_key log.copy k) (heap_chunk (state_of shelf.old.rows) k) (heap_chunk (state_of shelf.new.rows) k)) }
     ensures keeps { Keeps shelf.old shelf.new }
     ensures tidy { IsTidy shelf.new }
 {
@@ -36,13 +36,8 @@ fn count_areas(rec: &Record) -> [u32; 12]
 {
     let mut counts = [0; 12];
     for k in 0..rec.area_count() {
-        let AreaHead {
-            exp,
-            ordinal,
-            packed: _,
-        } = rec.area(k);
-        let class = class_index(exp);
-        counts[class] = counts[class].max(ordinal + 1);
+        let class = class_index(rec.area_exp(k));
+        counts[class] = counts[class].max(rec.area_ordinal(k) + 1);
     }
     counts
 }
@@ -51,6 +46,7 @@ fn count_areas(rec: &Record) -> [u32; 12]
 fn give_areas<S: Supply>(shelf: &mut Shelf<S>, way: &S::Way, counts: &[u32; 12])
     requires kept { IsKept shelf.old }
     ensures most { (c : ℕ) → c < 12 → HasAtMost shelf.new.rows c (slice_index counts.now c) }
+    ensures agree { (c : ℕ) → c < 12 → AgreeTo shelf.old.rows shelf.new.rows c (slice_index counts.now c) }
     ensures keeps { Keeps shelf.old shelf.new }
     ensures kept { IsKept shelf.new }
 {
@@ -68,6 +64,7 @@ fn take_areas<S: Supply>(shelf: &mut Shelf<S>, way: &S::Way, counts: &[u32; 12])
     requires most { (c : ℕ) → c < 12 → HasAtMost shelf.old.rows c (slice_index counts.now c) }
     requires within { sum counts.now ≤ shelf.old.quota }
     ensures are { (c : ℕ) → c < 12 → HasAreas shelf.new.rows c (slice_index counts.now c) }
+    ensures rows { (c i : ℕ) → row_chunk shelf.new.rows c i ≡ row_chunk shelf.old.rows c i }
     ensures keeps { Keeps shelf.old shelf.new }
     ensures kept { IsKept shelf.new }
 {
@@ -83,17 +80,24 @@ fn take_areas<S: Supply>(shelf: &mut Shelf<S>, way: &S::Way, counts: &[u32; 12])
 fn use_areas<S: Supply>(shelf: &mut Shelf<S>, rec: &Record)
     requires kept { IsKept shelf.old }
     requires are { OfLog rec.now (λ log. (c : ℕ) → c < 12 → HasAreas shelf.old.rows c (areas log.copy (c + 5))) }
-    ensures handles { OfLog rec.now (λ log. HaveOneSetOfHandles (live_of shelf.new.rows) log.copy) }
-    ensures touched { touched_of shelf.new.rows ≡ FinSet.empty }
+    ensures shaped { OfLog rec.now (λ log. (k : ℕ) → IsReshaped (contains_key log.copy k) (heap_chunk (state_of shelf.old.rows) k) (heap_chunk (state_of shelf.new.rows) k)) }
     ensures same { shelf.new ≡ record shelf.old { rows = shelf.new.rows } }
     ensures tidy { IsTidy shelf.new }
 {
     for k in 0..rec.area_count() {
-        let AreaHead {
-            exp,
-            ordinal,
-            packed: _,
-        } = rec.area(k);
-        shelf.shape_area(exp, ordinal, rec.use_bytes(k));
+        use_area(shelf, rec, k);
     }
+}
+
+/// Takes the use bits of area `k` from the record.
+fn use_area<S: Supply>(shelf: &mut Shelf<S>, rec: &Record, k: u32)
+    requires area { OfLog rec.now (λ log. k < held log.copy) }
+    requires recorded { IsRecord rec.now }
+    requires are { OfLog rec.now (λ log. (c : ℕ) → c < 12 → HasAreas shelf.old.rows c (areas log.copy (c + 5))) }
+    ensures shaped { OfLog rec.now (λ log. IsAreaChange log k shelf.old.rows shelf.new.rows (λ q old new. IsReshaped (contains_key log.copy q) old new)) }
+    ensures long { (d : ℕ) → length (row_at shelf.new.rows d).chunks ≡ length (row_at shelf.old.rows d).chunks }
+    ensures same { shelf.new ≡ record shelf.old { rows = shelf.new.rows } }
+    ensures kept { IsKept shelf.new }
+{
+    shelf.shape_area(rec.area_exp(k), rec.area_ordinal(k), rec.use_bytes(k));
 }

@@ -10,7 +10,8 @@ ghost use Rattle.dym_heap.specs.Table.{row_at, chunk_at, live_of, touched_of};
 ghost use Rattle.dym_heap.specs.Shape.{IsTrimmed};
 ghost use Rattle.dym_heap.specs.Places.{clean};
 ghost use Rattle.dym_heap.specs.Bodies.{IsBodyOf, IsBody, IsLoadedArea};
-ghost use Rattle.dym_heap.specs.Shaping.{IsShapedArea, HasAreas};
+ghost use Rattle.dym_heap.specs.Shaping.{HasAreas};
+ghost use Rattle.dym_heap.specs.Wanted.{row_chunk, marked, fetched, packed_at, IsReshaped, IsChangedArea};
 ghost use Rattle.dym_heap.specs.Lending.{IsAreaOf};
 ghost use Rattle.dym_heap.specs.Arrangement.{AreClear, HasTables, Owns};
 ghost use Rattle.dym_heap.specs.Shelves.{ShelfMeaning, IsKept, IsTidy, IsFirstFree, IsNextUsed, Keeps, with_row, with_put, longer, Trims, EndsFree, without_last, FitsIn, empty_rows, untouched_rows};
@@ -385,7 +386,7 @@ impl<S: Supply> Shelf<S> {
             return;
         }
         let place = &mut self.places[(first + ordinal) as usize];
-        place.load(packed, body);
+        place.load(packed, packed, body);
     }
 
     /// How many areas a class has.
@@ -398,14 +399,15 @@ impl<S: Supply> Shelf<S> {
         self.starts[class + 1] - self.starts[class]
     }
 
-    /// Takes the use bits of an area from a bitmap. No chunk of it is touched, and no clause tells its bytes.
+    /// Takes the use bits of an area from a bitmap. A chunk that was in use and not touched keeps its bytes, and each other one in
+    /// use is touched.
     pub(crate) fn shape_area(&mut self, exp: u8, ordinal: u32, use_bytes: &[u8])
         requires least { 5 ≤ exp }
         requires most { exp ≤ 16 }
         requires area { ordinal * per exp < length (row_at self.old.rows (exp - 5)).chunks }
         requires len { length use_bytes.now ≡ max 1 (per exp / 8) }
         requires below { (i : ℕ) → IsSet (bits_of_bytes use_bytes.now) i → i < per exp }
-        ensures shaped { IsShapedArea self.old.rows self.new.rows (exp - 5) ordinal (bit_in (bits_of_bytes use_bytes.now)) }
+        ensures shaped { IsChangedArea self.old.rows self.new.rows (exp - 5) ordinal (λ i old new. IsReshaped (bit_in (bits_of_bytes use_bytes.now) i) old new) }
         ensures long { (d : ℕ) → length (row_at self.new.rows d).chunks ≡ length (row_at self.old.rows d).chunks }
         ensures same { self.new ≡ record self.old { rows = self.new.rows } }
         ensures kept { IsKept self.new }
@@ -417,6 +419,44 @@ impl<S: Supply> Shelf<S> {
         set_mark(&mut self.full, class, ordinal, is_full);
     }
 
+    /// The chunks in use among these of an area of a class are touched besides, where the class has that area.
+    pub(crate) fn mark_area(&mut self, exp: u8, ordinal: u32, packed: &Bits)
+        requires least { 5 ≤ exp }
+        requires most { exp ≤ 16 }
+        ensures marked { IsChangedArea self.old.rows self.new.rows (exp - 5) ordinal (λ i old new. new ≡ marked (bit_in packed.now i) old) }
+        ensures long { (d : ℕ) → length (row_at self.new.rows d).chunks ≡ length (row_at self.old.rows d).chunks }
+        ensures same { self.new ≡ record self.old { rows = self.new.rows } }
+        ensures kept { IsKept self.new }
+    {
+        let class = class_index(exp);
+        let first = self.starts[class];
+        if ordinal >= self.starts[class + 1] - first {
+            return;
+        }
+        let place = &mut self.places[(first + ordinal) as usize];
+        place.mark(packed);
+    }
+
+    /// Puts the touched ones of the chunks that a body packs over those in use of an area of a class, where the class has that
+    /// area. They are touched no more.
+    pub(crate) fn fetch_area(&mut self, exp: u8, ordinal: u32, packed: &Bits, body: &[u8])
+        requires least { 5 ≤ exp }
+        requires most { exp ≤ 16 }
+        requires body { IsBody self.old.version exp packed.now body.now }
+        ensures fetched { (f : ℕ → List ℕ) → IsBodyOf self.old.version exp packed.now body.now f → IsChangedArea self.old.rows self.new.rows (exp - 5) ordinal (λ i old new. new ≡ fetched (packed_at packed.now f i) old) }
+        ensures long { (d : ℕ) → length (row_at self.new.rows d).chunks ≡ length (row_at self.old.rows d).chunks }
+        ensures same { self.new ≡ record self.old { rows = self.new.rows } }
+        ensures kept { IsKept self.new }
+    {
+        let class = class_index(exp);
+        let first = self.starts[class];
+        if ordinal >= self.starts[class + 1] - first {
+            return;
+        }
+        let place = &mut self.places[(first + ordinal) as usize];
+        place.fetch(packed, body);
+    }
+
     /// Gives back the last area of a class, whatever its chunks are.
     pub(crate) fn give_last(&mut self, way: &S::Way, exp: u8)
         requires least { 5 ≤ exp }
@@ -425,6 +465,7 @@ impl<S: Supply> Shelf<S> {
         requires kept { IsKept self.old }
         ensures fewer { length (row_at self.new.rows (exp - 5)).chunks + per exp ≡ length (row_at self.old.rows (exp - 5)).chunks }
         ensures others { (d : ℕ) → (d ≡ exp - 5 → ⊥) → length (row_at self.new.rows d).chunks ≡ length (row_at self.old.rows d).chunks }
+        ensures rows { (d i : ℕ) → (d ≡ exp - 5 → i < length (row_at self.new.rows d).chunks) → row_chunk self.new.rows d i ≡ row_chunk self.old.rows d i }
         ensures keeps { Keeps self.old self.new }
         ensures kept { IsKept self.new }
     {

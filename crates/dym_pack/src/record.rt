@@ -209,8 +209,8 @@ impl Record {
         }
     }
 
-    /// The ordinal of area `k`.
-    fn area_ordinal(&self, k: u32) -> u32
+    /// The place of area `k` among those of its class.
+    pub fn area_ordinal(&self, k: u32) -> u32
         requires { OfLog self.now (λ log. k < held log.copy) }
         ensures { OfLog self.now (λ log. result ≡ (area_at log.copy k).ordinal) }
     {
@@ -227,7 +227,7 @@ impl Record {
     }
 
     /// The class exponent of area `k`.
-    fn area_exp(&self, k: u32) -> u8
+    pub fn area_exp(&self, k: u32) -> u8
         requires { OfLog self.now (λ log. k < held log.copy) }
         ensures is { OfLog self.now (λ log. result ≡ (area_at log.copy k).exponent) }
         ensures least { 5 ≤ result }

@@ -8,4 +8,4 @@ pub returns-clause-belongs : goal.returns-clause-belongs
 returns-clause-belongs c =
     let h = c.args.heap.now in
     let k = c.write.ensures.after in
-    subst (λ (x : HeapMeaning). Belongs x.version x.quota x.state c.args.chain.now) (sym c.write.ensures.after) (c.heap_steps_keep_belonging.ensures.step h.version h.quota h.state (Write (record { exp = 6; index = 0 }) 0 (42 ∷ [])) c.args.chain.now c.requires)
+    subst (λ (x : HeapMeaning). Belongs x.version x.quota x.state c.args.chain.now) (sym c.write.ensures.after) (c.heap_steps_keep_belonging.ensures.step h.version h.quota h.state (Write (record { exp = 6; index = 0 }) 0 (c.args.byte ∷ [])) c.args.chain.now c.requires)

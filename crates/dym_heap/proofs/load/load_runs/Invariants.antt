@@ -11,7 +11,7 @@ invariant-loop-start g l = record {
   small : l.from ≤ per l.fn.area.exponent;
   within : l.at ≤ length l.body;
   lawful : IsLawful l.area;
-  loaded : (f : ℕ → List ℕ) → IsBodyOf One l.fn.area.exponent l.packed l.body f → LoadedTo One l.fn.area l.packed l.body f l.area l.from l.at;
+  loaded : (f : ℕ → List ℕ) → IsBodyOf One l.fn.area.exponent l.packed l.body f → LoadedTo One l.fn.area l.packed l.wanted l.body f l.area l.from l.at;
 }
 
 abbrev pub decreases-loop-start : goal.decreases-loop-start

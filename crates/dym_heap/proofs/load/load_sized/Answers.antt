@@ -1,4 +1,5 @@
-use Rattle.std.proofs.Common.{◌+◌, ◌-◌, subst, sym, length, take, drop, arith, length-take}
+use Rattle.std.proofs.Common.{◌+◌, ◌-◌, ap, subst, sym, length, take, drop, arith, length-take}
+use Rattle.dym_base.specs.Numbers.{per}
 use Rattle.dym_heap.proofs.Sizes.{per_fits}
 use Rattle.dym_heap.proofs.Loads as loads
 use Rattle.dym_heap.proofs.load.load_sized.Goals as goal
@@ -7,36 +8,36 @@ pub next_set-requires : goal.next_set-requires
 next_set-requires g c = let small = c.loop-i.invariant.small in let most = per_fits _ c.requires.lawful.least in omega arith
 
 pub slice_bounds-number_in-end : goal.slice_bounds-number_in-end
-slice_bounds-number_in-end g c = let fits = loads.two_four c.args.area.now c.args.packed.now c.args.body.now c.requires.lawful c.requires.body c.loop-i.area c.loop-i.from c.loop-i.at c.loop-i.invariant.loaded c.in-Some.i c.in-Some.ensures c.loop-i.invariant.within in omega arith
+slice_bounds-number_in-end g c = let fits = loads.two_four c.args.area.now c.args.packed.now c.args.wanted.now c.args.body.now c.requires.wanted c.requires.lawful c.requires.body c.loop-i.area c.loop-i.from c.loop-i.at c.loop-i.invariant.loaded c.in-Some.i c.in-Some.ensures c.loop-i.invariant.within in omega arith
 
-pub set-requires : goal.set-requires
-set-requires g c = loads.first_below _ _ _ _ _ c.requires.lawful.least c.requires.body c.in-Some.ensures.is_set
+pub slice_bounds-load_chunk-end : goal.slice_bounds-load_chunk-end
+slice_bounds-load_chunk-end g c = let fits = loads.two_whole c.args.area.now c.args.packed.now c.args.wanted.now c.args.body.now c.requires.wanted c.requires.lawful c.requires.body c.loop-i.area c.loop-i.from c.loop-i.at c.loop-i.invariant.loaded c.in-Some.i c.in-Some.ensures _ c.number_in-len.ensures c.loop-i.invariant.within in omega arith
 
-pub slice_bounds-load_run-end : goal.slice_bounds-load_run-end
-slice_bounds-load_run-end g c = let fits = loads.two_whole c.args.area.now c.args.packed.now c.args.body.now c.requires.lawful c.requires.body c.loop-i.area c.loop-i.from c.loop-i.at c.loop-i.invariant.loaded c.in-Some.i c.in-Some.ensures _ c.number_in-len.ensures c.loop-i.invariant.within in omega arith
+pub load_chunk-requires-clause-chunk : goal.load_chunk-requires-clause-chunk
+load_chunk-requires-clause-chunk g c =
+    let top = loads.two_end c.args.area.now c.args.packed.now c.args.wanted.now c.args.body.now c.requires.wanted c.requires.lawful c.requires.body c.loop-i.area c.loop-i.from c.loop-i.at c.loop-i.invariant.loaded c.in-Some.i c.in-Some.ensures in
+    let same = ap per (loads.two_exponent c.args.area.now c.args.packed.now c.args.wanted.now c.args.body.now c.requires.wanted c.requires.lawful c.requires.body c.loop-i.area c.loop-i.from c.loop-i.at c.loop-i.invariant.loaded c.in-Some.i c.in-Some.ensures) in
+    omega arith
 
-pub load_run-requires : goal.load_run-requires
-load_run-requires g c =
-    loads.two_room c.args.area.now c.args.packed.now c.args.body.now c.requires.lawful c.requires.body c.loop-i.area c.loop-i.from c.loop-i.at c.loop-i.invariant.loaded c.in-Some.i c.in-Some.ensures c.number_in-len.result (length (take (c.loop-i.at + 4 + c.number_in-len.result - (c.loop-i.at + 4)) (drop (c.loop-i.at + 4) c.args.body.now))) c.number_in-len.ensures
-    (omega (arith, length-take (c.loop-i.at + 4 + c.number_in-len.result - (c.loop-i.at + 4)) (drop (c.loop-i.at + 4) c.args.body.now)))
+pub load_chunk-requires-clause-fits : goal.load_chunk-requires-clause-fits
+load_chunk-requires-clause-fits g c = loads.two_room c.args.area.now c.args.packed.now c.args.wanted.now c.args.body.now c.requires.wanted c.requires.lawful c.requires.body c.loop-i.area c.loop-i.from c.loop-i.at c.loop-i.invariant.loaded c.in-Some.i c.in-Some.ensures _ c.number_in-len.ensures
 
 pub loop-i-preserved : goal.loop-i-preserved
 loop-i-preserved g c = record {
-  small = loads.two_end c.args.area.now c.args.packed.now c.args.body.now c.requires.lawful c.requires.body c.loop-i.area c.loop-i.from c.loop-i.at c.loop-i.invariant.loaded c.in-Some.i c.in-Some.ensures;
-  within = loads.two_whole c.args.area.now c.args.packed.now c.args.body.now c.requires.lawful c.requires.body c.loop-i.area c.loop-i.from c.loop-i.at c.loop-i.invariant.loaded c.in-Some.i c.in-Some.ensures _ c.number_in-len.ensures c.loop-i.invariant.within;
-  lawful = c.load_run.ensures.lawful;
-  loaded = loads.two_more c.args.area.now c.args.packed.now c.args.body.now c.requires.lawful c.requires.body c.loop-i.area c.loop-i.from c.loop-i.at c.loop-i.invariant.loaded c.in-Some.i c.in-Some.ensures _ _ c.number_in-len.ensures c.loop-i.invariant.lawful c.load_run.ensures.after;
+  small = loads.two_end c.args.area.now c.args.packed.now c.args.wanted.now c.args.body.now c.requires.wanted c.requires.lawful c.requires.body c.loop-i.area c.loop-i.from c.loop-i.at c.loop-i.invariant.loaded c.in-Some.i c.in-Some.ensures;
+  within = loads.two_whole c.args.area.now c.args.packed.now c.args.wanted.now c.args.body.now c.requires.wanted c.requires.lawful c.requires.body c.loop-i.area c.loop-i.from c.loop-i.at c.loop-i.invariant.loaded c.in-Some.i c.in-Some.ensures _ c.number_in-len.ensures c.loop-i.invariant.within;
+  lawful = c.load_chunk.ensures.lawful;
+  loaded = loads.two_more c.args.area.now c.args.packed.now c.args.wanted.now c.args.body.now c.requires.wanted c.requires.lawful c.requires.body c.loop-i.area c.loop-i.from c.loop-i.at c.loop-i.invariant.loaded c.in-Some.i c.in-Some.ensures _ _ c.number_in-len.ensures c.load_chunk.ensures.loaded;
   noted = λ f is.
       let below = loads.first_below _ _ _ _ _ c.requires.lawful.least c.requires.body c.in-Some.ensures.is_set in
       let whole = c.loop-i.lengths.whole in
-      subst (λ ls. loads.NotedTo c.args.lengths.now.table.items ls c.args.packed.now f (c.in-Some.i + 1)) (sym c.set.ensures)
-      (loads.two_noted c.args.area.now c.args.packed.now c.args.body.now c.requires.lawful c.requires.body c.loop-i.area c.loop-i.from c.loop-i.at c.loop-i.invariant.loaded c.in-Some.i c.in-Some.ensures c.number_in-len.result c.loop-i.lengths.table.items c.args.lengths.now.table.items (omega arith) c.number_in-len.ensures f is (c.loop-i.invariant.noted f is));
+      loads.two_noted c.args.area.now c.args.packed.now c.args.wanted.now c.args.body.now c.requires.wanted c.requires.lawful c.requires.body c.loop-i.area c.loop-i.from c.loop-i.at c.loop-i.invariant.loaded c.in-Some.i c.in-Some.ensures c.number_in-len.result _ c.loop-i.lengths.table.items c.load_chunk.new.lengths.table.items c.args.lengths.now.table.items (omega arith) c.number_in-len.ensures (loads.two_bytes c.args.area.now c.args.packed.now c.args.wanted.now c.args.body.now c.requires.wanted c.requires.lawful c.requires.body c.loop-i.area c.loop-i.from c.loop-i.at c.loop-i.invariant.loaded c.in-Some.i c.in-Some.ensures _ c.number_in-len.ensures) c.load_chunk.ensures.noted f is (c.loop-i.invariant.noted f is);
 }
 
 pub returns-clause-loaded : goal.returns-clause-loaded
 returns-clause-loaded g c = λ f is.
-    loads.loaded_all _ c.args.area.now c.args.packed.now c.args.body.now f is c.requires.lawful c.loop-i.area c.loop-i.from c.loop-i.at (c.loop-i.invariant.loaded f is) c.in_default.ensures
+    loads.loaded_all _ c.args.area.now c.args.packed.now c.args.wanted.now c.args.body.now f is c.requires.wanted c.requires.lawful c.loop-i.area c.loop-i.from c.loop-i.at (c.loop-i.invariant.loaded f is) c.in_default.ensures
 
 pub returns-clause-noted : goal.returns-clause-noted
 returns-clause-noted g c = λ f is.
-    loads.noted_all c.args.lengths.now.table.items c.loop-i.lengths.table.items c.args.packed.now f c.loop-i.from (c.loop-i.invariant.noted f is) c.in_default.ensures
+    loads.noted_all c.args.lengths.now.table.items c.loop-i.lengths.table.items c.args.packed.now c.args.wanted.now f c.loop-i.from c.requires.wanted (c.loop-i.invariant.noted f is) c.in_default.ensures

@@ -11,8 +11,8 @@ invariant-loop-i g l = record {
   small : l.from ≤ per l.fn.area.exponent;
   within : l.at ≤ length l.body;
   lawful : IsLawful l.area;
-  loaded : (f : ℕ → List ℕ) → IsBodyOf Two l.fn.area.exponent l.packed l.body f → LoadedTo Two l.fn.area l.packed l.body f l.area l.from l.at;
-  noted : (f : ℕ → List ℕ) → IsBodyOf Two l.fn.area.exponent l.packed l.body f → NotedTo l.fn.lengths.table.items l.lengths.table.items l.packed f l.from;
+  loaded : (f : ℕ → List ℕ) → IsBodyOf Two l.fn.area.exponent l.packed l.body f → LoadedTo Two l.fn.area l.packed l.wanted l.body f l.area l.from l.at;
+  noted : (f : ℕ → List ℕ) → IsBodyOf Two l.fn.area.exponent l.packed l.body f → NotedTo l.fn.lengths.table.items l.lengths.table.items l.wanted f l.from;
 }
 
 abbrev pub decreases-loop-i : goal.decreases-loop-i

@@ -14,30 +14,30 @@ greater x a b is = search rules
 pub class_index-class-requires-clause-least : goal.class_index-class-requires-clause-least
 class_index-class-requires-clause-least c =
     let has = c.area_count-k-end.ensures.recorded in
-    let e = c.area-exp.ensures.exp has.0 has.1 has.2 in
+    let e = c.area_exp.ensures.is has.0 has.1 has.2 in
     let low = class_low has.0 has.1 c.loop-k.k (let n = c.area_count-k-end.ensures.count has.0 has.1 has.2 in let t = c.loop-k-test.true in omega arith) in
     omega arith
 
 pub class_index-class-requires-clause-most : goal.class_index-class-requires-clause-most
 class_index-class-requires-clause-most c =
     let has = c.area_count-k-end.ensures.recorded in
-    let e = c.area-exp.ensures.exp has.0 has.1 has.2 in
+    let e = c.area_exp.ensures.is has.0 has.1 has.2 in
     let high = class_high has.0 has.1 c.loop-k.k (let n = c.area_count-k-end.ensures.count has.0 has.1 has.2 in let t = c.loop-k-test.true in omega arith) in
     omega arith
 
 pub bounds-counts-class : goal.bounds-counts-class
 bounds-counts-class c =
     let has = c.area_count-k-end.ensures.recorded in
-    let e = c.area-exp.ensures.exp has.0 has.1 has.2 in
+    let e = c.area_exp.ensures.is has.0 has.1 has.2 in
     let high = class_high has.0 has.1 c.loop-k.k (let n = c.area_count-k-end.ensures.count has.0 has.1 has.2 in let t = c.loop-k-test.true in omega arith) in
     let i = c.class_index-class.ensures in
     omega arith
 
-pub overflow_add-ordinal : goal.overflow_add-ordinal
-overflow_add-ordinal c =
+pub overflow_add-area_ordinal : goal.overflow_add-area_ordinal
+overflow_add-area_ordinal c =
     let has = c.area_count-k-end.ensures.recorded in
     let n = named has.0.copy c.loop-k.k (let n = c.area_count-k-end.ensures.count has.0 has.1 has.2 in let t = c.loop-k-test.true in omega arith) in
-    let o = c.area-exp.ensures.ordinal has.0 has.1 has.2 in
+    let o = c.area_ordinal.ensures has.0 has.1 has.2 in
     let is = ap (λ (a : AreaName). a.ordinal) n.is in
     let low = n.below in
     let few = has.1.few in
@@ -47,15 +47,15 @@ overflow_add-ordinal c =
 pub bounds-counts-class-in-loop-k : goal.bounds-counts-class-in-loop-k
 bounds-counts-class-in-loop-k c =
     let has = c.area_count-k-end.ensures.recorded in
-    let e = c.area-exp.ensures.exp has.0 has.1 has.2 in
+    let e = c.area_exp.ensures.is has.0 has.1 has.2 in
     let high = class_high has.0 has.1 c.loop-k.k (let n = c.area_count-k-end.ensures.count has.0 has.1 has.2 in let t = c.loop-k-test.true in omega arith) in
     let i = c.class_index-class.ensures in
     omega arith
 
 pub loop-k-preserved : goal.loop-k-preserved
 loop-k-preserved c = record {
-  counted = counts.counted_more c.args.rec.now c.loop-k.counts c.loop-k.k c.class_index-class.result c.area-exp.result.exp c.area-exp.result.ordinal c.max.result c.loop-k.invariant.counted c.area_count-k-end.ensures.recorded
-      (λ log is e. (let n = c.area_count-k-end.ensures.count log is e in let t = c.loop-k-test.true in omega arith)) c.area-exp.ensures.exp c.area-exp.ensures.ordinal c.class_index-class.ensures (greater _ _ _ c.max.ensures);
+  counted = counts.counted_more c.args.rec.now c.loop-k.counts c.loop-k.k c.class_index-class.result c.area_exp.result c.area_ordinal.result c.max.result c.loop-k.invariant.counted c.area_count-k-end.ensures.recorded
+      (λ log is e. (let n = c.area_count-k-end.ensures.count log is e in let t = c.loop-k-test.true in omega arith)) c.area_exp.ensures.is c.area_ordinal.ensures c.class_index-class.ensures (greater _ _ _ c.max.ensures);
 }
 
 pub returns-clause-are : goal.returns-clause-are

@@ -1,13 +1,14 @@
 use Rattle.std.proofs.Common.{ℕ, ◌+◌, ◌-◌, ◌≤◌, ◌<◌, length, get_or}
 use Rattle.dym_heap.specs.Table.{row_at}
 use Rattle.dym_heap.specs.Shelves.{IsKept, Keeps}
-use Rattle.dym_heap.specs.Shaping.{HasAtMost}
+use Rattle.dym_heap.specs.Shaping.{HasAtMost, AgreeTo}
 use Rattle.dym_heap.proofs.shape.give_areas.Given as goal
 
 abbrev pub invariant-loop-exp : goal.invariant-loop-exp
 invariant-loop-exp g l = record {
   low : 5 ≤ l.exp;
   done : (c : ℕ) → c + 5 < l.exp → HasAtMost l.shelf.rows c (get_or l.counts c 0);
+  agree : (c : ℕ) → c < 12 → AgreeTo l.fn.shelf.rows l.shelf.rows c (get_or l.counts c 0);
   keeps : Keeps l.fn.shelf l.shelf;
   kept : IsKept l.shelf;
 }
@@ -15,6 +16,7 @@ invariant-loop-exp g l = record {
 abbrev pub invariant-loop-count : goal.invariant-loop-count
 invariant-loop-count g l = record {
   done : (c : ℕ) → c + 5 < l.exp → HasAtMost l.shelf.rows c (get_or l.counts c 0);
+  agree : (c : ℕ) → c < 12 → AgreeTo l.fn.shelf.rows l.shelf.rows c (get_or l.counts c 0);
   keeps : Keeps l.fn.shelf l.shelf;
   kept : IsKept l.shelf;
 }

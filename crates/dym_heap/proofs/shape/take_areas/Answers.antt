@@ -1,4 +1,4 @@
-use Rattle.std.proofs.Common.{arith, ap, get_or, ◌-◌}
+use Rattle.std.proofs.Common.{arith, ap, get_or, ◌-◌, ◌∙◌}
 use Rattle.std.proofs.lemmas.Nat.{pow_pos}
 use Rattle.dym_heap.proofs.Counts.{room_left}
 use Rattle.dym_heap.proofs.Fitting as fit
@@ -23,6 +23,7 @@ pub loop-count-preserved : goal.loop-count-preserved
 loop-count-preserved g c = record {
   done = fit.longer_done c.loop-count.shelf c.add_area.new.self c.args.counts.now c.loop-exp.exp c.areas.result (get_or c.args.counts.now c.class_index.result 0) c.loop-exp.invariant.low (let l = c.loop-exp-test.true in omega arith) (fit.longer_is c.loop-count.shelf c.add_area.new.self c.loop-exp.exp c.loop-count.invariant.kept c.loop-exp.invariant.low (let l = c.loop-exp-test.true in omega arith) c.add_area.ensures.added) c.areas.ensures (ap (λ k. get_or c.args.counts.now k 0) c.class_index.ensures) c.loop-count-test.true c.loop-count.invariant.done;
   most = fit.longer_most c.loop-count.shelf c.add_area.new.self c.args.counts.now c.loop-exp.exp c.areas.result (get_or c.args.counts.now c.class_index.result 0) c.loop-exp.invariant.low (let l = c.loop-exp-test.true in omega arith) (fit.longer_is c.loop-count.shelf c.add_area.new.self c.loop-exp.exp c.loop-count.invariant.kept c.loop-exp.invariant.low (let l = c.loop-exp-test.true in omega arith) c.add_area.ensures.added) c.areas.ensures (ap (λ k. get_or c.args.counts.now k 0) c.class_index.ensures) c.loop-count-test.true c.loop-count.invariant.most;
+  rows = λ d i. fit.longer_rows c.loop-count.shelf c.add_area.new.self c.loop-exp.exp c.loop-count.invariant.kept c.loop-exp.invariant.low (let l = c.loop-exp-test.true in omega arith) c.add_area.ensures.added d i ∙ c.loop-count.invariant.rows d i;
   keeps = fit.keeps_trans _ _ _ c.loop-count.invariant.keeps (fit.longer_is c.loop-count.shelf c.add_area.new.self c.loop-exp.exp c.loop-count.invariant.kept c.loop-exp.invariant.low (let l = c.loop-exp-test.true in omega arith) c.add_area.ensures.added).keeps;
   kept = c.add_area.ensures.kept;
 }
@@ -32,6 +33,7 @@ loop-exp-preserved g c = record {
   low = (let l = c.loop-exp.invariant.low in omega arith);
   done = fit.full_class c.loop-count.shelf c.args.counts.now c.loop-exp.exp c.areas.result (get_or c.args.counts.now c.class_index.result 0) c.loop-exp.invariant.low (let l = c.loop-exp-test.true in omega arith) c.areas.ensures (ap (λ k. get_or c.args.counts.now k 0) c.class_index.ensures) c.loop-count-test.false c.loop-count.invariant.most c.loop-count.invariant.done;
   most = c.loop-count.invariant.most;
+  rows = c.loop-count.invariant.rows;
   keeps = c.loop-count.invariant.keeps;
   kept = c.loop-count.invariant.kept;
 }

@@ -1,8 +1,9 @@
-use Rattle.std.proofs.Common.{ℕ, ◌+◌, ◌-◌, ◌*◌, ◌≤◌, ◌<◌, length, get_or}
+use Rattle.std.proofs.Common.{◌≡◌, ℕ, ◌+◌, ◌-◌, ◌*◌, ◌≤◌, ◌<◌, length, get_or}
 use Rattle.dym_base.specs.Numbers.{per}
 use Rattle.dym_heap.specs.Table.{row_at}
 use Rattle.dym_heap.specs.Shelves.{IsKept, Keeps}
 use Rattle.dym_heap.specs.Shaping.{HasAreas, HasAtMost}
+use Rattle.dym_heap.specs.Wanted.{row_chunk}
 use Rattle.dym_heap.proofs.shape.take_areas.Given as goal
 
 abbrev pub invariant-loop-exp : goal.invariant-loop-exp
@@ -10,6 +11,7 @@ invariant-loop-exp g l = record {
   low : 5 ≤ l.exp;
   done : (c : ℕ) → c + 5 < l.exp → HasAreas l.shelf.rows c (get_or l.counts c 0);
   most : (c : ℕ) → c < 12 → HasAtMost l.shelf.rows c (get_or l.counts c 0);
+  rows : (c i : ℕ) → row_chunk l.shelf.rows c i ≡ row_chunk l.fn.shelf.rows c i;
   keeps : Keeps l.fn.shelf l.shelf;
   kept : IsKept l.shelf;
 }
@@ -18,6 +20,7 @@ abbrev pub invariant-loop-count : goal.invariant-loop-count
 invariant-loop-count g l = record {
   done : (c : ℕ) → c + 5 < l.exp → HasAreas l.shelf.rows c (get_or l.counts c 0);
   most : (c : ℕ) → c < 12 → HasAtMost l.shelf.rows c (get_or l.counts c 0);
+  rows : (c i : ℕ) → row_chunk l.shelf.rows c i ≡ row_chunk l.fn.shelf.rows c i;
   keeps : Keeps l.fn.shelf l.shelf;
   kept : IsKept l.shelf;
 }

@@ -3,7 +3,9 @@ use Rattle.dym_base.specs.Heaps.{areas}
 use Rattle.dym_pack.specs.Reading.{OfLog}
 use Rattle.dym_heap.specs.Shelves.{IsKept}
 use Rattle.dym_heap.specs.Shaping.{HasAreas}
-use Rattle.dym_heap.proofs.UseBits.{ShapedTo}
+use Rattle.dym_heap.specs.Table.{state_of}
+use Rattle.dym_heap.proofs.AreaSteps.{UpTo}
+use Rattle.dym_heap.proofs.Reshapes.{Reshaped}
 use Rattle.dym_heap.proofs.shape.use_areas.Given as goal
 
 abbrev pub invariant-loop-k : goal.invariant-loop-k
@@ -11,5 +13,5 @@ invariant-loop-k g l = record {
   same : l.shelf ≡ record l.fn.shelf { rows = l.shelf.rows };
   kept : IsKept l.shelf;
   are : OfLog l.rec (λ log. (c : ℕ) → c < 12 → HasAreas l.shelf.rows c (areas log.copy (c + 5)));
-  shaped : OfLog l.rec (λ log. ShapedTo log.copy l.shelf.rows l.k);
+  upto : OfLog l.rec (λ log. (q : ℕ) → UpTo (Reshaped log.copy) log.copy (state_of l.fn.shelf.rows) (state_of l.shelf.rows) l.k q);
 }

@@ -6,4 +6,4 @@ use Rattle.dym_chain.proofs.Prunes.{slots_are}
 use Rattle.dym_chain.proofs.chain.Chain.into_keep.Goals as goal
 
 pub returns-clause-slots : goal.returns-clause-slots
-returns-clause-slots g c = subst (λ (x : ChainMeaning). length x.records ≡ slots x.logs) c.self.view_is (slots_are _ c.self.invariant.lawful)
+returns-clause-slots g c = subst (λ (x : ChainMeaning). length x.records ≡ slots x.logs) c.self.view_is (slots_are _ c.self.invariant.chain.lawful)

@@ -1,4 +1,4 @@
-use Rattle.std.proofs.Common.{arith, rules, ◌≡◌, ℕ, ◌≤◌, None, List, length, map, option_map, refl, sym, ap, subst, ◌∙◌}
+use Rattle.std.proofs.Common.{arith, rules, ◌≡◌, ℕ, ◌≤◌, None, Some, List, length, map, option_map, refl, sym, ap, subst, ◌∙◌}
 use Rattle.std.specs.FinSet as set
 use Rattle.dym_base.specs.Heaps.{HeapState}
 use Rattle.dym_base.specs.Objects.{LogEntry, ObjectAnswer, newest, next_depth, new_entry, record_of, log}
@@ -20,8 +20,11 @@ use Rattle.dym_chain.specs.Whole.{chain_of}
 use Rattle.dym_chain.proofs.Lawfuls.{stands}
 use Rattle.dym_chain.proofs.Moves.{ComesNext, lawful_push, belongs_push}
 use Rattle.dym_chain.proofs.Finds.{count_same}
-use Rattle.dym_chain.proofs.Logs.{refused_is, taken_is, has_room, comes_next, record_is}
+use Rattle.dym_chain.proofs.Logs.{refused_is, taken_is, has_room, comes_next, record_is, keeps_by}
 use Rattle.dym_chain.proofs.Takes.{log_of, room_left, taken_view, chain_taken, taken_reply, may_be_short}
+use Rattle.dym_base.specs.declared.command.Kind.TheVariants.{Inc}
+use Rattle.dym_chain.specs.Beside.{AreBeside, HasOneMore, TellsChanges}
+use Rattle.dym_chain.proofs.Besides.{beside_push, beside_same, tells_found}
 use Rattle.dym_chain.proofs.chain.Chain.log.Goals as goal
 
 pub returns-in-Some-clause-heap : goal.returns-in-Some-clause-heap
@@ -38,7 +41,7 @@ returns-in-Some-clause-belongs g c =
 
 pub returns-in-Some-clause-stands : goal.returns-in-Some-clause-stands
 returns-in-Some-clause-stands g c =
-    subst StandsForCopies c.self.view_is (stands (chain_of c.self.inside.ledger.told (g.K.LogKeep.meaning c.self.inside.keep)) c.self.invariant.lawful)
+    subst StandsForCopies c.self.view_is (stands (chain_of c.self.inside.ledger.told (g.K.LogKeep.meaning c.self.inside.keep)) c.self.invariant.chain.lawful)
 
 pub returns-in-Some-clause-sound : goal.returns-in-Some-clause-sound
 returns-in-Some-clause-sound g c =
@@ -58,7 +61,7 @@ returns-in_default-pack-clause-belongs g c =
 
 pub returns-in_default-pack-clause-stands : goal.returns-in_default-pack-clause-stands
 returns-in_default-pack-clause-stands g c =
-    subst StandsForCopies c.self.view_is (stands (chain_of c.self.inside.ledger.told (g.K.LogKeep.meaning c.self.inside.keep)) c.self.invariant.lawful)
+    subst StandsForCopies c.self.view_is (stands (chain_of c.self.inside.ledger.told (g.K.LogKeep.meaning c.self.inside.keep)) c.self.invariant.chain.lawful)
 
 pub returns-in_default-pack-clause-sound : goal.returns-in_default-pack-clause-sound
 returns-in_default-pack-clause-sound g c =
@@ -72,11 +75,30 @@ returns-in-Some-clause-answer g c =
     let v : Version = c.args.heap.now.version in
     let t : ℕ = c.args.time in
     let C : ChainMeaning = chain_of told keep in
-    let are : c.deref.result.now ≡ map entry_of told.logs = c.deref.ensures.value ∙ c.self.invariant.shows.entries in
+    let are : c.deref.result.now ≡ map entry_of told.logs = c.deref.ensures.value ∙ c.self.invariant.chain.shows.entries in
     let last : c.newest_of-newest.result ≡ option_map entry_of (newest told.logs) = c.newest_of-newest.ensures told.logs are in
     let count : c.len.result ≡ length told.logs = c.len.ensures ∙ sym c.deref.ensures.len ∙ count_same told.logs c.deref.result.now are in
     let refusal : c.refusal_of.result ≡ log_refusal t told.logs = c.refusal_of.ensures told.logs last count in
     ap (λ (a : ObjectAnswer). a.reply) (refused_is v (object_of s c.args.self.now) t c.args.want c.in-Some.why (ap (λ (x : ChainMeaning). log_refusal t x.logs) (sym c.self.view_is) ∙ sym refusal ∙ c.in-Some.is))
+
+pub keep_beside-requires-clause-few : goal.keep_beside-requires-clause-few
+keep_beside-requires-clause-few g c =
+    let told : Told = c.self.inside.ledger.told in
+    let counted : c.len-count.result ≡ length told.logs = c.len-count.ensures ∙ sym c.deref.ensures.len ∙ count_same told.logs c.deref.result.now (c.deref.ensures.value ∙ c.self.invariant.chain.shows.entries) in
+    omega (arith, counted, c.self.invariant.beside.few)
+
+pub returns-in_default-keep_beside-clause-stands : goal.returns-in_default-keep_beside-clause-stands
+returns-in_default-keep_beside-clause-stands g c =
+    stands (chain_of c.self.inside.ledger.told (g.K.LogKeep.meaning c.self.inside.keep)) c.self.invariant.chain.lawful
+
+pub invariant_of-self : goal.invariant_of-self
+invariant_of-self g c =
+    let told : Told = c.self.inside.ledger.told in
+    let counted : c.len-count.result ≡ length told.logs = c.len-count.ensures ∙ sym c.deref.ensures.len ∙ count_same told.logs c.deref.result.now (c.deref.ensures.value ∙ c.self.invariant.chain.shows.entries) in
+    record {
+      chain = c.self.invariant.chain;
+      beside = beside_same told.logs c.self.inside.beside.items c.keep_beside.new.beside.items c.self.invariant.beside (let few = c.in_default-keep_beside.ensures.few in omega (arith, counted, few)) c.in_default-keep_beside.ensures.same;
+    }
 
 pub pack-requires : goal.pack-requires
 pack-requires g c =
@@ -90,7 +112,7 @@ returns-in_default-pack-clause-answer g c =
     let v : Version = c.args.heap.now.version in
     let t : ℕ = c.args.time in
     let C : ChainMeaning = chain_of told keep in
-    let are : c.deref.result.now ≡ map entry_of told.logs = c.deref.ensures.value ∙ c.self.invariant.shows.entries in
+    let are : c.deref.result.now ≡ map entry_of told.logs = c.deref.ensures.value ∙ c.self.invariant.chain.shows.entries in
     let last : c.newest_of-newest.result ≡ option_map entry_of (newest told.logs) = c.newest_of-newest.ensures told.logs are in
     let count : c.len.result ≡ length told.logs = c.len.ensures ∙ sym c.deref.ensures.len ∙ count_same told.logs c.deref.result.now are in
     let refusal : c.refusal_of.result ≡ log_refusal t told.logs = c.refusal_of.ensures told.logs last count in
@@ -109,12 +131,12 @@ put-requires-clause-room g c =
     let v : Version = c.args.heap.now.version in
     let t : ℕ = c.args.time in
     let C : ChainMeaning = chain_of told keep in
-    let are : c.deref.result.now ≡ map entry_of told.logs = c.deref.ensures.value ∙ c.self.invariant.shows.entries in
+    let are : c.deref.result.now ≡ map entry_of told.logs = c.deref.ensures.value ∙ c.self.invariant.chain.shows.entries in
     let last : c.newest_of-newest.result ≡ option_map entry_of (newest told.logs) = c.newest_of-newest.ensures told.logs are in
     let count : c.len.result ≡ length told.logs = c.len.ensures ∙ sym c.deref.ensures.len ∙ count_same told.logs c.deref.result.now are in
     let refusal : c.refusal_of.result ≡ log_refusal t told.logs = c.refusal_of.ensures told.logs last count in
     let free : log_refusal t told.logs ≡ None = sym refusal ∙ c.in_default.is in
-    room_left C c.self.invariant.lawful (has_room t told.logs free)
+    room_left C c.self.invariant.chain.lawful (has_room t told.logs free)
 
 pub put-requires-clause-made : goal.put-requires-clause-made
 put-requires-clause-made g c =
@@ -132,32 +154,40 @@ push_reserved-requires g c =
     let v : Version = c.args.heap.now.version in
     let t : ℕ = c.args.time in
     let C : ChainMeaning = chain_of told keep in
-    let are : c.deref.result.now ≡ map entry_of told.logs = c.deref.ensures.value ∙ c.self.invariant.shows.entries in
+    let are : c.deref.result.now ≡ map entry_of told.logs = c.deref.ensures.value ∙ c.self.invariant.chain.shows.entries in
     let last : c.newest_of-newest.result ≡ option_map entry_of (newest told.logs) = c.newest_of-newest.ensures told.logs are in
     let count : c.len.result ≡ length told.logs = c.len.ensures ∙ sym c.deref.ensures.len ∙ count_same told.logs c.deref.result.now are in
     let refusal : c.refusal_of.result ≡ log_refusal t told.logs = c.refusal_of.ensures told.logs last count in
     let free : log_refusal t told.logs ≡ None = sym refusal ∙ c.in_default.is in
-    (let room = has_room t told.logs free in let vec = count_same told.logs c.deref.result.now are in omega (arith, room, vec, c.deref.ensures.len, c.self.invariant.lawful.list.0, c.self.invariant.shows.room))
+    (let room = has_room t told.logs free in let vec = count_same told.logs c.deref.result.now are in omega (arith, room, vec, c.deref.ensures.len, c.self.invariant.chain.lawful.list.0, c.self.invariant.chain.shows.room))
 
-pub invariant_of-self : goal.invariant_of-self
-invariant_of-self g c =
+pub invariant_of-self-2 : goal.invariant_of-self-2
+invariant_of-self-2 g c =
     let keep : KeepMeaning = g.K.LogKeep.meaning c.self.inside.keep in
     let told : Told = c.self.inside.ledger.told in
     let s : HeapState = c.args.heap.now.state in
     let v : Version = c.args.heap.now.version in
     let t : ℕ = c.args.time in
     let C : ChainMeaning = chain_of told keep in
-    let are : c.deref.result.now ≡ map entry_of told.logs = c.deref.ensures.value ∙ c.self.invariant.shows.entries in
+    let are : c.deref.result.now ≡ map entry_of told.logs = c.deref.ensures.value ∙ c.self.invariant.chain.shows.entries in
     let last : c.newest_of-newest.result ≡ option_map entry_of (newest told.logs) = c.newest_of-newest.ensures told.logs are in
     let count : c.len.result ≡ length told.logs = c.len.ensures ∙ sym c.deref.ensures.len ∙ count_same told.logs c.deref.result.now are in
     let refusal : c.refusal_of.result ≡ log_refusal t told.logs = c.refusal_of.ensures told.logs last count in
     let free : log_refusal t told.logs ≡ None = sym refusal ∙ c.in_default.is in
-    let depth_is : c.depth_of_next-depth.result ≡ next_depth c.args.want (newest told.logs) = c.depth_of_next-depth.ensures (newest told.logs) last (λ e is. all_newest (λ (f : LogEntry). f.depth ≤ 31) told.logs e c.self.invariant.lawful.list.1 is) in
+    let depth_is : c.depth_of_next-depth.result ≡ next_depth c.args.want (newest told.logs) = c.depth_of_next-depth.ensures (newest told.logs) last (λ e is. all_newest (λ (f : LogEntry). f.depth ≤ 31) told.logs e c.self.invariant.chain.lawful.list.1 is) in
     let rec : List ℕ = c.in-Ok.rec in
     let rec_is : rec ≡ record_of v (log_of s t c.depth_of_next-depth.result) = c.in-Ok.ensures ∙ ap (λ (k : Kind). packed (logged (areas_of c.args.heap.now) k t)) c.kind_at-kind.ensures ∙ record_is (areas_of c.args.heap.now) t c.depth_of_next-depth.result in
     let belongs : Belongs v c.args.heap.now.quota s C = subst (Belongs v c.args.heap.now.quota s) (sym c.self.view_is) c.requires.belongs in
-    let next : ComesNext C v (new_entry (object_of s C) t c.args.want) = comes_next C v c.args.heap.now.quota s t c.args.want c.self.invariant.lawful belongs (c.heaps_are_packable.ensures c.args.heap.now c.requires.sound) c.ranges.time.fits free in
-    chain_taken c.self.inside.entries.items c.push_reserved.new.self.items c.self.inside.entries.cap c.push_reserved.new.self.cap keep (g.K.LogKeep.meaning c.put.new.self) told c.logged.result.told v s t c.depth_of_next-depth.result c.args.want rec c.self.invariant next belongs.records c.push_reserved.ensures.items c.push_reserved.ensures.capacity depth_is rec_is c.put.ensures.after c.logged.ensures
+    let next : ComesNext C v (new_entry (object_of s C) t c.args.want) = comes_next C v c.args.heap.now.quota s t c.args.want c.self.invariant.chain.lawful belongs (c.heaps_are_packable.ensures c.args.heap.now c.requires.sound) c.ranges.time.fits free in
+    let counted : c.len-count.result ≡ length told.logs = c.len-count.ensures ∙ sym c.deref.ensures.len ∙ count_same told.logs c.deref.result.now (c.deref.ensures.value ∙ c.self.invariant.chain.shows.entries) in
+    let bytes : List ℕ = packed (logged (areas_of c.args.heap.now) Inc t) in
+    let more : HasOneMore c.self.inside.beside.items c.keep_beside.new.beside.items (length told.logs) bytes = subst (λ m. HasOneMore c.self.inside.beside.items c.keep_beside.new.beside.items m bytes) counted c.in-Ok-keep_beside.ensures.more in
+    let tells : (before : LogEntry) → newest told.logs ≡ Some before → TellsChanges before (log_of s t c.depth_of_next-depth.result) bytes = λ before is.
+    tells_found v s t before (log_of s t c.depth_of_next-depth.result) (keeps_by s before (newest told.logs) is belongs.untouched) (c.heaps_are_packable.ensures c.args.heap.now c.requires.sound) c.ranges.time.fits refl in
+    record {
+      chain = chain_taken c.self.inside.entries.items c.push_reserved.new.self.items c.self.inside.entries.cap c.push_reserved.new.self.cap keep (g.K.LogKeep.meaning c.put.new.self) told c.logged.result.told v s t c.depth_of_next-depth.result c.args.want rec c.self.invariant.chain next belongs.records c.push_reserved.ensures.items c.push_reserved.ensures.capacity depth_is rec_is c.put.ensures.after c.logged.ensures;
+      beside = subst (λ (x : Told). AreBeside x.logs c.keep_beside.new.beside.items) (sym c.logged.ensures) (beside_push told.logs c.self.inside.beside.items c.keep_beside.new.beside.items (log_of s t c.depth_of_next-depth.result) bytes c.self.invariant.beside more tells);
+    }
 
 pub returns-clause-answer : goal.returns-clause-answer
 returns-clause-answer g c =
@@ -167,12 +197,12 @@ returns-clause-answer g c =
     let v : Version = c.args.heap.now.version in
     let t : ℕ = c.args.time in
     let C : ChainMeaning = chain_of told keep in
-    let are : c.deref.result.now ≡ map entry_of told.logs = c.deref.ensures.value ∙ c.self.invariant.shows.entries in
+    let are : c.deref.result.now ≡ map entry_of told.logs = c.deref.ensures.value ∙ c.self.invariant.chain.shows.entries in
     let last : c.newest_of-newest.result ≡ option_map entry_of (newest told.logs) = c.newest_of-newest.ensures told.logs are in
     let count : c.len.result ≡ length told.logs = c.len.ensures ∙ sym c.deref.ensures.len ∙ count_same told.logs c.deref.result.now are in
     let refusal : c.refusal_of.result ≡ log_refusal t told.logs = c.refusal_of.ensures told.logs last count in
     let free : log_refusal t told.logs ≡ None = sym refusal ∙ c.in_default.is in
-    let depth_is : c.depth_of_next-depth.result ≡ next_depth c.args.want (newest told.logs) = c.depth_of_next-depth.ensures (newest told.logs) last (λ e is. all_newest (λ (f : LogEntry). f.depth ≤ 31) told.logs e c.self.invariant.lawful.list.1 is) in
+    let depth_is : c.depth_of_next-depth.result ≡ next_depth c.args.want (newest told.logs) = c.depth_of_next-depth.ensures (newest told.logs) last (λ e is. all_newest (λ (f : LogEntry). f.depth ≤ 31) told.logs e c.self.invariant.chain.lawful.list.1 is) in
     let rec : List ℕ = c.in-Ok.rec in
     let rec_is : rec ≡ record_of v (log_of s t c.depth_of_next-depth.result) = c.in-Ok.ensures ∙ ap (λ (k : Kind). packed (logged (areas_of c.args.heap.now) k t)) c.kind_at-kind.ensures ∙ record_is (areas_of c.args.heap.now) t c.depth_of_next-depth.result in
     subst (λ (x : ChainMeaning). (log v (object_of s x) t c.args.want).reply ≡ reply.Logged c.kind_at-kind.result c.len-len.result) c.self.view_is (taken_reply v s C t c.depth_of_next-depth.result c.len-len.result c.args.want c.kind_at-kind.result rec free depth_is c.kind_at-kind.ensures rec_is c.len-len.ensures)
@@ -185,12 +215,12 @@ returns-clause-after g c =
     let v : Version = c.args.heap.now.version in
     let t : ℕ = c.args.time in
     let C : ChainMeaning = chain_of told keep in
-    let are : c.deref.result.now ≡ map entry_of told.logs = c.deref.ensures.value ∙ c.self.invariant.shows.entries in
+    let are : c.deref.result.now ≡ map entry_of told.logs = c.deref.ensures.value ∙ c.self.invariant.chain.shows.entries in
     let last : c.newest_of-newest.result ≡ option_map entry_of (newest told.logs) = c.newest_of-newest.ensures told.logs are in
     let count : c.len.result ≡ length told.logs = c.len.ensures ∙ sym c.deref.ensures.len ∙ count_same told.logs c.deref.result.now are in
     let refusal : c.refusal_of.result ≡ log_refusal t told.logs = c.refusal_of.ensures told.logs last count in
     let free : log_refusal t told.logs ≡ None = sym refusal ∙ c.in_default.is in
-    let depth_is : c.depth_of_next-depth.result ≡ next_depth c.args.want (newest told.logs) = c.depth_of_next-depth.ensures (newest told.logs) last (λ e is. all_newest (λ (f : LogEntry). f.depth ≤ 31) told.logs e c.self.invariant.lawful.list.1 is) in
+    let depth_is : c.depth_of_next-depth.result ≡ next_depth c.args.want (newest told.logs) = c.depth_of_next-depth.ensures (newest told.logs) last (λ e is. all_newest (λ (f : LogEntry). f.depth ≤ 31) told.logs e c.self.invariant.chain.lawful.list.1 is) in
     let rec : List ℕ = c.in-Ok.rec in
     let rec_is : rec ≡ record_of v (log_of s t c.depth_of_next-depth.result) = c.in-Ok.ensures ∙ ap (λ (k : Kind). packed (logged (areas_of c.args.heap.now) k t)) c.kind_at-kind.ensures ∙ record_is (areas_of c.args.heap.now) t c.depth_of_next-depth.result in
     let view : chain_of c.logged.result.told (g.K.LogKeep.meaning c.put.new.self) ≡ chains.logged v (new_entry (object_of s C) t c.args.want) C = taken_view keep (g.K.LogKeep.meaning c.put.new.self) told c.logged.result.told v s t c.depth_of_next-depth.result c.args.want rec depth_is rec_is c.put.ensures.after c.logged.ensures in
@@ -207,12 +237,12 @@ returns-clause-put g c =
     let v : Version = c.args.heap.now.version in
     let t : ℕ = c.args.time in
     let C : ChainMeaning = chain_of told keep in
-    let are : c.deref.result.now ≡ map entry_of told.logs = c.deref.ensures.value ∙ c.self.invariant.shows.entries in
+    let are : c.deref.result.now ≡ map entry_of told.logs = c.deref.ensures.value ∙ c.self.invariant.chain.shows.entries in
     let last : c.newest_of-newest.result ≡ option_map entry_of (newest told.logs) = c.newest_of-newest.ensures told.logs are in
     let count : c.len.result ≡ length told.logs = c.len.ensures ∙ sym c.deref.ensures.len ∙ count_same told.logs c.deref.result.now are in
     let refusal : c.refusal_of.result ≡ log_refusal t told.logs = c.refusal_of.ensures told.logs last count in
     let free : log_refusal t told.logs ≡ None = sym refusal ∙ c.in_default.is in
-    let depth_is : c.depth_of_next-depth.result ≡ next_depth c.args.want (newest told.logs) = c.depth_of_next-depth.ensures (newest told.logs) last (λ e is. all_newest (λ (f : LogEntry). f.depth ≤ 31) told.logs e c.self.invariant.lawful.list.1 is) in
+    let depth_is : c.depth_of_next-depth.result ≡ next_depth c.args.want (newest told.logs) = c.depth_of_next-depth.ensures (newest told.logs) last (λ e is. all_newest (λ (f : LogEntry). f.depth ≤ 31) told.logs e c.self.invariant.chain.lawful.list.1 is) in
     let rec : List ℕ = c.in-Ok.rec in
     let rec_is : rec ≡ record_of v (log_of s t c.depth_of_next-depth.result) = c.in-Ok.ensures ∙ ap (λ (k : Kind). packed (logged (areas_of c.args.heap.now) k t)) c.kind_at-kind.ensures ∙ record_is (areas_of c.args.heap.now) t c.depth_of_next-depth.result in
     let view : chain_of c.logged.result.told (g.K.LogKeep.meaning c.put.new.self) ≡ chains.logged v (new_entry (object_of s C) t c.args.want) C = taken_view keep (g.K.LogKeep.meaning c.put.new.self) told c.logged.result.told v s t c.depth_of_next-depth.result c.args.want rec depth_is rec_is c.put.ensures.after c.logged.ensures in
@@ -230,16 +260,16 @@ returns-clause-belongs g c =
     let v : Version = c.args.heap.now.version in
     let t : ℕ = c.args.time in
     let C : ChainMeaning = chain_of told keep in
-    let are : c.deref.result.now ≡ map entry_of told.logs = c.deref.ensures.value ∙ c.self.invariant.shows.entries in
+    let are : c.deref.result.now ≡ map entry_of told.logs = c.deref.ensures.value ∙ c.self.invariant.chain.shows.entries in
     let last : c.newest_of-newest.result ≡ option_map entry_of (newest told.logs) = c.newest_of-newest.ensures told.logs are in
     let count : c.len.result ≡ length told.logs = c.len.ensures ∙ sym c.deref.ensures.len ∙ count_same told.logs c.deref.result.now are in
     let refusal : c.refusal_of.result ≡ log_refusal t told.logs = c.refusal_of.ensures told.logs last count in
     let free : log_refusal t told.logs ≡ None = sym refusal ∙ c.in_default.is in
-    let depth_is : c.depth_of_next-depth.result ≡ next_depth c.args.want (newest told.logs) = c.depth_of_next-depth.ensures (newest told.logs) last (λ e is. all_newest (λ (f : LogEntry). f.depth ≤ 31) told.logs e c.self.invariant.lawful.list.1 is) in
+    let depth_is : c.depth_of_next-depth.result ≡ next_depth c.args.want (newest told.logs) = c.depth_of_next-depth.ensures (newest told.logs) last (λ e is. all_newest (λ (f : LogEntry). f.depth ≤ 31) told.logs e c.self.invariant.chain.lawful.list.1 is) in
     let rec : List ℕ = c.in-Ok.rec in
     let rec_is : rec ≡ record_of v (log_of s t c.depth_of_next-depth.result) = c.in-Ok.ensures ∙ ap (λ (k : Kind). packed (logged (areas_of c.args.heap.now) k t)) c.kind_at-kind.ensures ∙ record_is (areas_of c.args.heap.now) t c.depth_of_next-depth.result in
     let belongs : Belongs v c.args.heap.now.quota s C = subst (Belongs v c.args.heap.now.quota s) (sym c.self.view_is) c.requires.belongs in
-    let next : ComesNext C v (new_entry (object_of s C) t c.args.want) = comes_next C v c.args.heap.now.quota s t c.args.want c.self.invariant.lawful belongs (c.heaps_are_packable.ensures c.args.heap.now c.requires.sound) c.ranges.time.fits free in
+    let next : ComesNext C v (new_entry (object_of s C) t c.args.want) = comes_next C v c.args.heap.now.quota s t c.args.want c.self.invariant.chain.lawful belongs (c.heaps_are_packable.ensures c.args.heap.now c.requires.sound) c.ranges.time.fits free in
     let view : chain_of c.logged.result.told (g.K.LogKeep.meaning c.put.new.self) ≡ chains.logged v (new_entry (object_of s C) t c.args.want) C = taken_view keep (g.K.LogKeep.meaning c.put.new.self) told c.logged.result.told v s t c.depth_of_next-depth.result c.args.want rec depth_is rec_is c.put.ensures.after c.logged.ensures in
     subst (λ (h : HeapMeaning). Belongs h.version h.quota h.state (chain_of c.logged.result.told (g.K.LogKeep.meaning c.put.new.self))) (sym c.clear_dirty.ensures.cleared)
     (subst (Belongs v c.args.heap.now.quota (record { live = s.live; touched = set.empty })) (sym view) (belongs_push C v c.args.heap.now.quota s (new_entry (object_of s C) t c.args.want) belongs next refl c.requires.sound.within))
@@ -252,18 +282,18 @@ returns-clause-stands g c =
     let v : Version = c.args.heap.now.version in
     let t : ℕ = c.args.time in
     let C : ChainMeaning = chain_of told keep in
-    let are : c.deref.result.now ≡ map entry_of told.logs = c.deref.ensures.value ∙ c.self.invariant.shows.entries in
+    let are : c.deref.result.now ≡ map entry_of told.logs = c.deref.ensures.value ∙ c.self.invariant.chain.shows.entries in
     let last : c.newest_of-newest.result ≡ option_map entry_of (newest told.logs) = c.newest_of-newest.ensures told.logs are in
     let count : c.len.result ≡ length told.logs = c.len.ensures ∙ sym c.deref.ensures.len ∙ count_same told.logs c.deref.result.now are in
     let refusal : c.refusal_of.result ≡ log_refusal t told.logs = c.refusal_of.ensures told.logs last count in
     let free : log_refusal t told.logs ≡ None = sym refusal ∙ c.in_default.is in
-    let depth_is : c.depth_of_next-depth.result ≡ next_depth c.args.want (newest told.logs) = c.depth_of_next-depth.ensures (newest told.logs) last (λ e is. all_newest (λ (f : LogEntry). f.depth ≤ 31) told.logs e c.self.invariant.lawful.list.1 is) in
+    let depth_is : c.depth_of_next-depth.result ≡ next_depth c.args.want (newest told.logs) = c.depth_of_next-depth.ensures (newest told.logs) last (λ e is. all_newest (λ (f : LogEntry). f.depth ≤ 31) told.logs e c.self.invariant.chain.lawful.list.1 is) in
     let rec : List ℕ = c.in-Ok.rec in
     let rec_is : rec ≡ record_of v (log_of s t c.depth_of_next-depth.result) = c.in-Ok.ensures ∙ ap (λ (k : Kind). packed (logged (areas_of c.args.heap.now) k t)) c.kind_at-kind.ensures ∙ record_is (areas_of c.args.heap.now) t c.depth_of_next-depth.result in
     let belongs : Belongs v c.args.heap.now.quota s C = subst (Belongs v c.args.heap.now.quota s) (sym c.self.view_is) c.requires.belongs in
-    let next : ComesNext C v (new_entry (object_of s C) t c.args.want) = comes_next C v c.args.heap.now.quota s t c.args.want c.self.invariant.lawful belongs (c.heaps_are_packable.ensures c.args.heap.now c.requires.sound) c.ranges.time.fits free in
+    let next : ComesNext C v (new_entry (object_of s C) t c.args.want) = comes_next C v c.args.heap.now.quota s t c.args.want c.self.invariant.chain.lawful belongs (c.heaps_are_packable.ensures c.args.heap.now c.requires.sound) c.ranges.time.fits free in
     let view : chain_of c.logged.result.told (g.K.LogKeep.meaning c.put.new.self) ≡ chains.logged v (new_entry (object_of s C) t c.args.want) C = taken_view keep (g.K.LogKeep.meaning c.put.new.self) told c.logged.result.told v s t c.depth_of_next-depth.result c.args.want rec depth_is rec_is c.put.ensures.after c.logged.ensures in
-    subst StandsForCopies (sym view) (stands (chains.logged v (new_entry (object_of s C) t c.args.want) C) (lawful_push C v (new_entry (object_of s C) t c.args.want) c.self.invariant.lawful belongs.records next))
+    subst StandsForCopies (sym view) (stands (chains.logged v (new_entry (object_of s C) t c.args.want) C) (lawful_push C v (new_entry (object_of s C) t c.args.want) c.self.invariant.chain.lawful belongs.records next))
 
 pub returns-clause-sound : goal.returns-clause-sound
 returns-clause-sound g c =

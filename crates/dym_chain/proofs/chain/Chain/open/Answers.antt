@@ -1,13 +1,18 @@
 use Rattle.std.proofs.Common.{arith, refl, sym, subst}
 use Rattle.dym_chain.specs.Chains.{Belongs, StandsForCopies}
 use Rattle.dym_chain.proofs.Opens.{opened, chain_open, belongs_open, stands_open}
+use Rattle.dym_chain.specs.Beside.{AreBeside}
+use Rattle.dym_chain.proofs.Besides.{beside_none}
 use Rattle.dym_chain.proofs.chain.Chain.open.Goals as goal
 
 pub overflow_cast-with_capacity : goal.overflow_cast-with_capacity
 overflow_cast-with_capacity g c = record { fits = omega arith }
 
 pub invariant_of-result : goal.invariant_of-result
-invariant_of-result g c = chain_open c.in-Ok.entries.items c.in-Ok.entries.cap (g.K.LogKeep.meaning c.args.keep) c.open.result.told c.in-Ok.ensures.items c.in-Ok.ensures.capacity c.requires.empty c.requires.made c.requires.idle c.open.ensures
+invariant_of-result g c = record {
+  chain = chain_open c.in-Ok.entries.items c.in-Ok.entries.cap (g.K.LogKeep.meaning c.args.keep) c.open.result.told c.in-Ok.ensures.items c.in-Ok.ensures.capacity c.requires.empty c.requires.made c.requires.idle c.open.ensures;
+  beside = subst (AreBeside c.open.result.told.logs) (sym c.new.ensures.items) (beside_none c.open.result.told.logs);
+}
 
 pub returns-in-Ok-clause-opened : goal.returns-in-Ok-clause-opened
 returns-in-Ok-clause-opened g c = opened (g.K.LogKeep.meaning c.args.keep) c.open.result.told c.requires.empty c.requires.made c.requires.idle c.open.ensures

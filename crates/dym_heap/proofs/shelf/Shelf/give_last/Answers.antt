@@ -21,3 +21,8 @@ pub drop_area-requires-clause-free : goal.drop_area-requires-clause-free
 drop_area-requires-clause-free g c =
     emptied.emptied _ c.args.exp c.areas-last.result c.requires.least c.requires.most c.areas-last.ensures c.requires.some _ c.max.result 256 (pow_pos _)
     (small c.args.exp c.max.result c.per_area.result c.requires.least c.per_area.ensures c.max.ensures) c.shape_area.ensures.shaped (c.shape_area.ensures.long _)
+
+pub returns-clause-rows : goal.returns-clause-rows
+returns-clause-rows g c =
+    emptied.last_rows c.args.self.now c.shape_area.new.self c.drop_area.new.self c.drop_area.new.self.held_ids c.args.exp c.areas-last.result c.requires.least c.requires.most c.areas-last.ensures c.requires.some _ c.shape_area.ensures.shaped (c.shape_area.ensures.long _)
+    c.shape_area.ensures.kept c.drop_area.ensures.dropped (pow_pos _)

@@ -13,8 +13,8 @@ returns-then-ordinal-self-clause-kept g c = kept_s _ _ _ _ _ _ _ _ _ _ _ c.self.
 pub index_mut-place-requires : goal.index_mut-place-requires
 index_mut-place-requires g c = let l = loads.place_in _ _ _ _ _ _ _ _ _ _ _ c.self.view_is c.self.invariant c.args.exp c.requires.least c.requires.most c.class_index-class.result c.args.ordinal c.class_index-class.ensures c.if-ordinal-self.false in omega arith
 
-pub load-requires : goal.load-requires
-load-requires g c = loads.has_q _ _ _ _ _ _ _ _ _ _ _ c.self.view_is c.self.invariant c.args.exp c.requires.least c.requires.most c.class_index-class.result c.args.ordinal c.class_index-class.ensures c.if-ordinal-self.false c.index_mut-place.result.now c.index_mut-place.ensures.value c.args.packed.now c.args.body.now c.requires.body
+pub load-requires-clause-body : goal.load-requires-clause-body
+load-requires-clause-body g c = loads.has_q _ _ _ _ _ _ _ _ _ _ _ c.self.view_is c.self.invariant c.args.exp c.requires.least c.requires.most c.class_index-class.result c.args.ordinal c.class_index-class.ensures c.if-ordinal-self.false c.index_mut-place.result.now c.index_mut-place.ensures.value c.args.packed.now c.args.body.now c.requires.body
 
 pub invariant_of-self : goal.invariant_of-self
 invariant_of-self g c = loads.load_shelf _ _ _ _ _ _ _ _ _ _ _ c.self.view_is c.self.invariant c.args.exp c.requires.least c.requires.most c.class_index-class.result c.args.ordinal c.class_index-class.ensures c.if-ordinal-self.false c.index_mut-place.result.now c.index_mut-place.ensures.value c.load.new.self c.load.ensures.lawful c.args.packed.now c.requires.body.0 (c.load.ensures.loaded c.requires.body.0 (loads.body_q _ _ _ _ _ _ _ _ _ _ _ c.self.view_is c.self.invariant c.args.exp c.requires.least c.requires.most c.class_index-class.result c.args.ordinal c.class_index-class.ensures c.if-ordinal-self.false c.index_mut-place.result.now c.index_mut-place.ensures.value c.args.packed.now c.args.body.now c.requires.body.0 c.requires.body.1))

@@ -22,16 +22,16 @@ pub set_mark-requires-clause-ordinal : goal.set_mark-requires-clause-ordinal
 set_mark-requires-clause-ordinal g c = shapes.ordinal_small _ _ _ _ _ _ _ _ _ _ _ c.self.view_is c.self.invariant c.args.exp c.requires.least c.requires.most c.class_index-class.result c.args.ordinal c.class_index-class.ensures (shapes.area_in _ _ _ _ _ _ _ _ _ _ _ c.self.view_is c.self.invariant c.args.exp c.requires.least c.requires.most c.class_index-class.result c.args.ordinal c.class_index-class.ensures c.requires.area) c.index_mut-place.result.now c.index_mut-place.ensures.value
 
 pub invariant_of-self : goal.invariant_of-self
-invariant_of-self g c = shapes.shape_shelf _ _ _ _ _ _ _ _ _ _ _ c.self.view_is c.self.invariant c.args.exp c.requires.least c.requires.most c.class_index-class.result c.args.ordinal c.class_index-class.ensures (shapes.area_in _ _ _ _ _ _ _ _ _ _ _ c.self.view_is c.self.invariant c.args.exp c.requires.least c.requires.most c.class_index-class.result c.args.ordinal c.class_index-class.ensures c.requires.area) c.index_mut-place.result.now c.index_mut-place.ensures.value c.shape.new.self c.shape.ensures.lawful _ c.shape.ensures.shaped c.is_full-is_full.result c.is_full-is_full.ensures _ c.set_mark.ensures
+invariant_of-self g c = shapes.shape_shelf _ _ _ _ _ _ _ _ _ _ _ c.self.view_is c.self.invariant c.args.exp c.requires.least c.requires.most c.class_index-class.result c.args.ordinal c.class_index-class.ensures (shapes.area_in _ _ _ _ _ _ _ _ _ _ _ c.self.view_is c.self.invariant c.args.exp c.requires.least c.requires.most c.class_index-class.result c.args.ordinal c.class_index-class.ensures c.requires.area) c.index_mut-place.result.now c.index_mut-place.ensures.value c.shape.new.self c.shape.ensures.lawful _ c.shape.ensures.same c.shape.ensures.shaped c.is_full-is_full.result c.is_full-is_full.ensures _ c.set_mark.ensures
 
 pub returns-clause-shaped : goal.returns-clause-shaped
-returns-clause-shaped g c = shapes.shape_area _ _ _ _ _ _ _ _ _ _ _ c.self.view_is c.self.invariant c.args.exp c.requires.least c.requires.most c.class_index-class.result c.args.ordinal c.class_index-class.ensures (shapes.area_in _ _ _ _ _ _ _ _ _ _ _ c.self.view_is c.self.invariant c.args.exp c.requires.least c.requires.most c.class_index-class.result c.args.ordinal c.class_index-class.ensures c.requires.area) c.index_mut-place.result.now c.index_mut-place.ensures.value c.shape.new.self c.shape.ensures.lawful _ c.shape.ensures.shaped c.is_full-is_full.result c.is_full-is_full.ensures _ c.set_mark.ensures
+returns-clause-shaped g c = shapes.shape_area _ _ _ _ _ _ _ _ _ _ _ c.self.view_is c.self.invariant c.args.exp c.requires.least c.requires.most c.class_index-class.result c.args.ordinal c.class_index-class.ensures (shapes.area_in _ _ _ _ _ _ _ _ _ _ _ c.self.view_is c.self.invariant c.args.exp c.requires.least c.requires.most c.class_index-class.result c.args.ordinal c.class_index-class.ensures c.requires.area) c.index_mut-place.result.now c.index_mut-place.ensures.value c.shape.new.self c.shape.ensures.lawful _ c.shape.ensures.same c.shape.ensures.shaped c.is_full-is_full.result c.is_full-is_full.ensures _ c.set_mark.ensures
 
 pub returns-clause-long : goal.returns-clause-long
-returns-clause-long g c = shapes.shape_long _ _ _ _ _ _ _ _ _ _ _ c.self.view_is c.self.invariant c.args.exp c.requires.least c.requires.most c.class_index-class.result c.args.ordinal c.class_index-class.ensures (shapes.area_in _ _ _ _ _ _ _ _ _ _ _ c.self.view_is c.self.invariant c.args.exp c.requires.least c.requires.most c.class_index-class.result c.args.ordinal c.class_index-class.ensures c.requires.area) c.index_mut-place.result.now c.index_mut-place.ensures.value c.shape.new.self c.shape.ensures.lawful _ c.shape.ensures.shaped c.is_full-is_full.result c.is_full-is_full.ensures _ c.set_mark.ensures
+returns-clause-long g c = shapes.shape_long _ _ _ _ _ _ _ _ _ _ _ c.self.view_is c.self.invariant c.args.exp c.requires.least c.requires.most c.class_index-class.result c.args.ordinal c.class_index-class.ensures (shapes.area_in _ _ _ _ _ _ _ _ _ _ _ c.self.view_is c.self.invariant c.args.exp c.requires.least c.requires.most c.class_index-class.result c.args.ordinal c.class_index-class.ensures c.requires.area) c.index_mut-place.result.now c.index_mut-place.ensures.value c.shape.new.self c.shape.ensures.lawful _ c.shape.ensures.same c.shape.ensures.shaped c.is_full-is_full.result c.is_full-is_full.ensures _ c.set_mark.ensures
 
 pub returns-clause-same : goal.returns-clause-same
-returns-clause-same g c = shapes.shape_same _ _ _ _ _ _ _ _ _ _ _ c.self.view_is c.self.invariant c.args.exp c.requires.least c.requires.most c.class_index-class.result c.args.ordinal c.class_index-class.ensures (shapes.area_in _ _ _ _ _ _ _ _ _ _ _ c.self.view_is c.self.invariant c.args.exp c.requires.least c.requires.most c.class_index-class.result c.args.ordinal c.class_index-class.ensures c.requires.area) c.index_mut-place.result.now c.index_mut-place.ensures.value c.shape.new.self c.shape.ensures.lawful _ c.shape.ensures.shaped c.is_full-is_full.result c.is_full-is_full.ensures _ c.set_mark.ensures
+returns-clause-same g c = shapes.shape_same _ _ _ _ _ _ _ _ _ _ _ c.self.view_is c.self.invariant c.args.exp c.requires.least c.requires.most c.class_index-class.result c.args.ordinal c.class_index-class.ensures (shapes.area_in _ _ _ _ _ _ _ _ _ _ _ c.self.view_is c.self.invariant c.args.exp c.requires.least c.requires.most c.class_index-class.result c.args.ordinal c.class_index-class.ensures c.requires.area) c.index_mut-place.result.now c.index_mut-place.ensures.value c.shape.new.self c.shape.ensures.lawful _ c.shape.ensures.same c.shape.ensures.shaped c.is_full-is_full.result c.is_full-is_full.ensures _ c.set_mark.ensures
 
 pub returns-clause-kept : goal.returns-clause-kept
-returns-clause-kept g c = shapes.shape_kept _ _ _ _ _ _ _ _ _ _ _ c.self.view_is c.self.invariant c.args.exp c.requires.least c.requires.most c.class_index-class.result c.args.ordinal c.class_index-class.ensures (shapes.area_in _ _ _ _ _ _ _ _ _ _ _ c.self.view_is c.self.invariant c.args.exp c.requires.least c.requires.most c.class_index-class.result c.args.ordinal c.class_index-class.ensures c.requires.area) c.index_mut-place.result.now c.index_mut-place.ensures.value c.shape.new.self c.shape.ensures.lawful _ c.shape.ensures.shaped c.is_full-is_full.result c.is_full-is_full.ensures _ c.set_mark.ensures
+returns-clause-kept g c = shapes.shape_kept _ _ _ _ _ _ _ _ _ _ _ c.self.view_is c.self.invariant c.args.exp c.requires.least c.requires.most c.class_index-class.result c.args.ordinal c.class_index-class.ensures (shapes.area_in _ _ _ _ _ _ _ _ _ _ _ c.self.view_is c.self.invariant c.args.exp c.requires.least c.requires.most c.class_index-class.result c.args.ordinal c.class_index-class.ensures c.requires.area) c.index_mut-place.result.now c.index_mut-place.ensures.value c.shape.new.self c.shape.ensures.lawful _ c.shape.ensures.same c.shape.ensures.shaped c.is_full-is_full.result c.is_full-is_full.ensures _ c.set_mark.ensures

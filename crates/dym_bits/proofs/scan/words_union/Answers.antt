@@ -1,0 +1,17 @@
+use Rattle.std.proofs.Common.{◌≡◌, ℕ, ◌<◌, length, get_or, ap, refl, ◌∙◌, arith, bit_or, ◌||◌}
+use Rattle.std.proofs.lemmas.List.{length-set}
+use Rattle.dym_bits.specs.Bits.{digit}
+use Rattle.dym_bits.proofs.WordByWord.{digit_or, each_more, bits_by}
+use Rattle.dym_bits.proofs.scan.words_union.Goals as goal
+
+pub loop-q-preserved : goal.loop-q-preserved
+loop-q-preserved c = record {
+  long = length-set c.loop-q.joined _ _ ∙ c.loop-q.invariant.long;
+  each = let long = c.loop-q.invariant.long in each_more (λ a b. bit_or a b) c.args.words.now c.args.others.now c.loop-q.joined c.loop-q.q _ (omega arith) refl c.loop-q.invariant.each;
+}
+
+pub returns : goal.returns
+returns c =
+    let long = c.loop-q.invariant.long in
+    bits_by (λ a b. a || b) refl c.args.words.now c.args.others.now c.loop-q.joined (omega arith) (omega arith)
+    (λ p r within short. ap (λ n. digit n r) (c.loop-q.invariant.each p (omega arith)) ∙ digit_or (get_or c.args.words.now p 0) (get_or c.args.others.now p 0) r)

@@ -1,0 +1,232 @@
+-- What the records beside full logs tell, and what is touched where a restore read them.
+use Rattle.std.proofs.Common.{◌≡◌, ℕ, zero, suc, ◌+◌, ◌-◌, ◌<◌, ◌≤◌, ◌^◌, inl, inr, Bool, true, false, cond, not, ◌&&◌, ◌||◌, is_some, unwrap_or, Option, Some, None, List, [], ◌∷◌, ◌++◌, length, take, drop, get_or, min, refl, sym, ap, subst, ◌∙◌, arith, ◌==◌, length-append}
+use Rattle.std.specs.Prelude.{slice_index_or}
+use Rattle.std.proofs.Math.Dec.{ltb}
+use Rattle.std.specs.FinMap.{get, contains_key}
+use Rattle.std.specs.FinSet.{contains}
+use Rattle.std.proofs.lemmas.Bool.{cases_lt, cond-true, cond-false, true≢false, ne_eqb, ltb-true, ltb-false}
+use Rattle.std.proofs.lemmas.List.{length-take, length-drop, get_or-take, get_or-drop, get_or_past, get_or_append_left, get_or-append_right}
+use Rattle.dym_base.specs.Heaps.{Live, HeapState}
+use Rattle.dym_base.specs.Objects.{LogEntry, newest, kind_of, record_of}
+use Rattle.dym_base.specs.Packed.{Logged, packs_by, packed}
+use Rattle.dym_base.specs.Recorded.{IsRecorded}
+use Rattle.dym_base.specs.StandsFor.{packed_by}
+use Rattle.dym_base.specs.declared.command.Kind.TheVariants.{Full, Inc}
+use Rattle.dym_base.specs.declared.command.Version.{Version}
+use Rattle.dym_pack.specs.Areas.{IsPackable}
+use Rattle.dym_pack.specs.Reading.{IsRecord, OfLog}
+use Rattle.dym_heap.specs.Wanted.{ChunkMeaning, heap_chunk, marked, is_settled}
+use Rattle.dym_slots.specs.Meanings.{Numbered, record_at}
+use Rattle.dym_chain.specs.Beside.{TellsChanges, IsBeside, AreBeside, HasOneMore, beside_at}
+use Rattle.dym_chain.specs.Chains.{EachKeeps, KeepsUntouched, KeepsFromBefore, KeepsFromNewest, no_entry, log_at}
+use Rattle.dym_chain.specs.Lawful.{logged_of}
+use Rattle.dym_chain.specs.Loads.{PacksTouched, KeepsSettled}
+use Rattle.dym_chain.proofs.Places.{keeps_at, newest_there}
+use Rattle.dym_chain.proofs.Stands.{kind_full}
+
+-- ---- a look at what stands beside
+
+any_default : (beside : List (Option (List ℕ))) (i : ℕ) (a b : Option (List ℕ)) → i < length beside → get_or beside i a ≡ get_or beside i b
+any_default [] i a b h = absurd (omega (arith, h))
+any_default (x ∷ beside) zero a b h = refl
+any_default (x ∷ beside) (suc i) a b h = any_default beside i a b (omega (arith, h))
+
+pub looked : (beside : List (Option (List ℕ))) (i : ℕ) (o : Option (List ℕ)) → true ≡ ltb i (length beside) → o ≡ slice_index_or beside i o → beside_at beside i ≡ o
+looked beside i o there is = any_default beside i None o (ltb-true i (length beside) (sym there)) ∙ sym is
+
+pub looked_past : (beside : List (Option (List ℕ))) (i : ℕ) → false ≡ ltb i (length beside) → beside_at beside i ≡ None
+looked_past beside i past = get_or_past beside i None (ltb-false i (length beside) (sym past))
+
+side_recorded : (v : Version) (before e : LogEntry) (o : Option (List ℕ)) (bytes : List ℕ) → IsBeside before e o → IsRecorded (logged_of v e) → record_of v e ≡ bytes → IsRecord (unwrap_or o bytes)
+side_recorded v before e None bytes side recorded is = (logged_of v e, recorded, is)
+side_recorded v before e (Some x) bytes side recorded is = (side.log, side.recorded, side.are)
+
+pub are_recorded : (v : Version) (logs : List LogEntry) (beside : List (Option (List ℕ))) (i : ℕ) (bytes : List ℕ) → AreBeside logs beside → 0 < i → i < length logs → IsRecorded (logged_of v (log_at logs i)) → bytes ≡ record_of v (log_at logs i) → IsRecord (unwrap_or (beside_at beside i) bytes)
+are_recorded v logs beside zero bytes sides some within recorded is = absurd (omega (arith, some))
+are_recorded v logs beside (suc i) bytes sides some within recorded is = side_recorded v (log_at logs i) (log_at logs (suc i)) (beside_at beside (suc i)) bytes (sides.each i within) recorded (sym is)
+
+-- ---- one log that is marked
+
+settled_parts : (t s p : Bool) → (s && not (t || (s && p))) ≡ true → (s ≡ true) × (t ≡ false) × (p ≡ false)
+settled_parts t false p h = absurd cc
+settled_parts true true p h = absurd cc
+settled_parts false true true h = absurd cc
+settled_parts false true false h = (refl, refl, refl)
+
+none_packs : (o : Option (List ℕ)) → is_some o ≡ false → o ≡ None
+none_packs None h = refl
+none_packs (Some x) h = absurd cc
+
+unmarked : (t s : Bool) → (t || (s && false)) ≡ t
+unmarked true s = refl
+unmarked false true = refl
+unmarked false false = refl
+
+abbrev pub IsMarked : Logged → HeapState → HeapState → Type 0
+IsMarked log s m = (k : ℕ) → heap_chunk m k ≡ marked (is_some (packed_by log k)) (heap_chunk s k)
+
+pub mark_touches : (log : Logged) (s m : HeapState) → IsMarked log s m → PacksTouched m log
+mark_touches log s m is k was =
+    let parts = settled_parts (contains s.touched k) (is_some (get s.live k)) (is_some (packed_by log k)) (sym (ap is_settled (is k)) ∙ was) in
+    none_packs (packed_by log k) parts.2
+
+pub mark_settles : (log : Logged) (s m : HeapState) → IsMarked log s m → KeepsSettled s m
+mark_settles log s m is k was =
+    let parts = settled_parts (contains s.touched k) (is_some (get s.live k)) (is_some (packed_by log k)) (sym (ap is_settled (is k)) ∙ was) in
+    is k ∙ ap (λ b. marked b (heap_chunk s k)) parts.2 ∙ (λ i. record { bytes = get s.live k; touched = unmarked (contains s.touched k) (is_some (get s.live k)) i })
+
+pub settles_on : (s m n : HeapState) → KeepsSettled s m → KeepsSettled m n → KeepsSettled s n
+settles_on s m n first second k was = let same = second k was in same ∙ first k (ap is_settled (sym same) ∙ was)
+
+pub touches_on : (m n : HeapState) (log : Logged) → PacksTouched m log → KeepsSettled m n → PacksTouched n log
+touches_on m n log touched second k was = touched k (ap is_settled (sym (second k was)) ∙ was)
+
+and_none : (s t : Bool) → (s && not (t || (s && false))) ≡ (s && not t)
+and_none true true = refl
+and_none true false = refl
+and_none false t = refl
+
+both_first : (a b : Bool) → (a && b) ≡ true → a ≡ true
+both_first true b h = refl
+both_first false b h = h
+
+-- ---- down the logs
+
+-- a log's own record tells of the changes since the log before
+own_tells : (v : Version) (before e : LogEntry) → KeepsFromBefore before e → (k : ℕ) → contains_key e.copy k ≡ true → packed_by (logged_of v e) k ≡ None → get before.copy k ≡ get e.copy k
+own_tells v before e keeps k there none =
+    elim (cases_lt 0 e.depth) as (λ _. get before.copy k ≡ get e.copy k) [
+      | inl deep ↦
+          let inc : kind_of e ≡ Inc = cond-false (e.depth == 0) Full Inc (ne_eqb e.depth 0 (λ z. (let no_such : ⊥ = omega (arith, deep, z) in no_such))) in
+          let found : cond (contains e.found k) (get e.copy k) None ≡ None = sym (ap (λ kind. cond (packs_by kind e.copy e.found k) (get e.copy k) None) inc) ∙ none in
+          elim (contains e.found k) as (λ b. contains e.found k ≡ b → get before.copy k ≡ get e.copy k) [
+            | true ↦ λ h. absurd (true≢false (sym there ∙ ap is_some (sym (cond-true (contains e.found k) (get e.copy k) None h) ∙ found)))
+            | false ↦ λ h. keeps deep k there h
+          ] refl
+      | inr none_deep ↦
+          let full : kind_of e ≡ Full = kind_full e (omega (arith, none_deep)) in
+          let all : cond (contains_key e.copy k) (get e.copy k) None ≡ None = sym (ap (λ kind. cond (packs_by kind e.copy e.found k) (get e.copy k) None) full) ∙ none in
+          absurd (true≢false (sym there ∙ ap is_some (sym (cond-true (contains_key e.copy k) (get e.copy k) None there) ∙ all)))
+    ]
+
+beside_tells : (v : Version) (before e : LogEntry) (o : Option (List ℕ)) (bytes : List ℕ) (m : HeapState) → KeepsFromBefore before e → IsRecorded (logged_of v e) → bytes ≡ record_of v e → IsBeside before e o
+    → OfLog (unwrap_or o bytes) (PacksTouched m) → (k : ℕ) → is_settled (heap_chunk m k) ≡ true → contains_key e.copy k ≡ true → get before.copy k ≡ get e.copy k
+beside_tells v before e None bytes m keeps recorded is side touched k was there = own_tells v before e keeps k there (touched (logged_of v e) recorded (sym is) k was)
+beside_tells v before e (Some found) bytes m keeps recorded is side touched k was there = side.keeps k there (touched side.log side.recorded side.are k was)
+
+module _ (v : Version) (logs : List LogEntry) (beside : List (Option (List ℕ))) (records : List Numbered) (base n : ℕ) (s m : HeapState) (keeps : EachKeeps logs) (untouched : KeepsFromNewest s (newest logs)) (sides : AreBeside logs beside)
+    (recorded : (i : ℕ) → i < length logs → IsRecorded (logged_of v (log_at logs i))) (bytes : (i : ℕ) → i < length logs → (record_at records (base + i)).bytes ≡ record_of v (log_at logs i))
+    (marks : (i : ℕ) → n ≤ i → i < length logs → OfLog (unwrap_or (beside_at beside i) (record_at records (base + i)).bytes) (PacksTouched m)) (settles : KeepsSettled s m) where
+  -- what isn't touched then has in each log from the one before n on the bytes that it has in the heap
+  same_down : (k : ℕ) → is_settled (heap_chunk m k) ≡ true → (d i : ℕ) → n ≤ suc i → suc (i + d) ≡ length logs → get (log_at logs i).copy k ≡ get m.live k
+  same_down k was zero i low here =
+      let last : newest logs ≡ Some (log_at logs i) = newest_there logs i (omega arith) in
+      let same = settles k was in
+      let parts = settled_parts (contains s.touched k) (is_some (get s.live k)) false (and_none (is_some (get s.live k)) (contains s.touched k) ∙ ap is_settled (sym same) ∙ was) in
+      (subst (KeepsFromNewest s) last untouched) k parts.0 parts.1 ∙ sym (ap (λ (c : ChunkMeaning). c.bytes) same)
+  same_down k was (suc d) i low here =
+      let within : suc i < length logs = omega arith in
+      let above : get (log_at logs (suc i)).copy k ≡ get m.live k = same_down k was d (suc i) (omega arith) (omega arith) in
+      let live : is_some (get m.live k) ≡ true = both_first (is_some (get m.live k)) (not (contains m.touched k)) was in
+      beside_tells v (log_at logs i) (log_at logs (suc i)) (beside_at beside (suc i)) (record_at records (base + suc i)).bytes m (keeps_at logs i keeps within) (recorded (suc i) within) (bytes (suc i) within) (sides.each i within)
+      (marks (suc i) low within) k was (ap is_some above ∙ live)
+      ∙ above
+
+  pub settled_back : (k : ℕ) → is_settled (heap_chunk m k) ≡ true → 0 < n → n ≤ length logs → get (log_at logs (n - 1)).copy k ≡ get m.live k
+  settled_back k was some within = same_down k was (length logs - n) (n - 1) (omega arith) (omega arith)
+
+-- ---- what stands beside the logs after a step
+
+pub beside_none : (logs : List LogEntry) → AreBeside logs []
+beside_none logs = record { few = omega arith; each = λ k l. tt }
+
+pub beside_take : (n : ℕ) (logs : List LogEntry) (beside : List (Option (List ℕ))) → AreBeside logs beside → AreBeside (take n logs) (take n beside)
+beside_take n logs beside is = record {
+  few = (let a = length-take n logs in let b = length-take n beside in let f = is.few in omega arith);
+  each = λ k l.
+      let a = length-take n logs in
+      let below : suc k < n = omega arith in
+      let e : log_at (take n logs) k ≡ log_at logs k = get_or-take n logs k no_entry (omega arith) in
+      let f : log_at (take n logs) (suc k) ≡ log_at logs (suc k) = get_or-take n logs (suc k) no_entry below in
+      let o : beside_at (take n beside) (suc k) ≡ beside_at beside (suc k) = get_or-take n beside (suc k) None below in
+      subst (λ x. IsBeside x (log_at (take n logs) (suc k)) (beside_at (take n beside) (suc k))) (sym e)
+      (subst (λ x. IsBeside (log_at logs k) x (beside_at (take n beside) (suc k))) (sym f)
+      (subst (IsBeside (log_at logs k) (log_at logs (suc k))) (sym o) (is.each k (omega arith))));
+}
+
+pub beside_drop : (n : ℕ) (logs : List LogEntry) (beside : List (Option (List ℕ))) → AreBeside logs beside → AreBeside (drop n logs) (drop n beside)
+beside_drop n logs beside is = record {
+  few = (let a = length-drop n logs in let b = length-drop n beside in let f = is.few in omega arith);
+  each = λ k l.
+      let a = length-drop n logs in
+      let at : n + suc k ≡ suc (n + k) = omega arith in
+      let e : log_at (drop n logs) k ≡ log_at logs (n + k) = get_or-drop n logs k no_entry in
+      let f : log_at (drop n logs) (suc k) ≡ log_at logs (suc (n + k)) = get_or-drop n logs (suc k) no_entry ∙ ap (log_at logs) at in
+      let o : beside_at (drop n beside) (suc k) ≡ beside_at beside (suc (n + k)) = get_or-drop n beside (suc k) None ∙ ap (beside_at beside) at in
+      subst (λ x. IsBeside x (log_at (drop n logs) (suc k)) (beside_at (drop n beside) (suc k))) (sym e)
+      (subst (λ x. IsBeside (log_at logs (n + k)) x (beside_at (drop n beside) (suc k))) (sym f)
+      (subst (IsBeside (log_at logs (n + k)) (log_at logs (suc (n + k)))) (sym o) (is.each (n + k) (omega arith))));
+}
+
+pub beside_same : (logs : List LogEntry) (old new : List (Option (List ℕ))) → AreBeside logs old → length new ≤ length logs → ((k : ℕ) → beside_at new k ≡ beside_at old k) → AreBeside logs new
+beside_same logs old new is few same = record {
+  few = few;
+  each = λ k l. subst (IsBeside (log_at logs k) (log_at logs (suc k))) (sym (same (suc k))) (is.each k l);
+}
+
+-- an incremental record of a heap tells what may be other in it than in the newest log
+pub tells_found : (v : Version) (s : HeapState) (t : ℕ) (before e : LogEntry) → KeepsUntouched s.live s.touched before.copy → IsPackable (record { version = v; live = s.live; touched = s.touched }) → t < 2 ^ 64 → e.copy ≡ s.live
+    → TellsChanges before e (packed (record { version = v; kind = Inc; time = t; copy = s.live; found = s.touched }))
+tells_found v s t before e keeps packable fits is =
+    let log : Logged = record { version = v; kind = Inc; time = t; copy = s.live; found = s.touched } in
+    record {
+      log = log;
+      recorded = record { sized = packable.sized; found_live = packable.touched_live; few = packable.few; time = fits };
+      are = refl;
+      keeps = λ k there none.
+          let live : contains_key s.live k ≡ true = sym (ap (λ (l : Live). contains_key l k) is) ∙ there in
+          elim (contains s.touched k) as (λ b. contains s.touched k ≡ b → get before.copy k ≡ get e.copy k) [
+            | true ↦ λ h. absurd (true≢false (sym live ∙ ap is_some (sym (cond-true (contains s.touched k) (get s.live k) None h) ∙ none)))
+            | false ↦ λ h. keeps k live h ∙ sym (ap (λ (l : Live). get l k) is)
+          ] refl;
+    }
+
+-- a log of a heap is taken, and the record of what it found touched may stand beside it
+pub beside_push : (logs : List LogEntry) (old new : List (Option (List ℕ))) (e : LogEntry) (bytes : List ℕ) → AreBeside logs old → HasOneMore old new (length logs) bytes → ((before : LogEntry) → newest logs ≡ Some before → TellsChanges before e bytes)
+    → AreBeside (logs ++ e ∷ []) new
+beside_push logs old new e bytes is more tells = record {
+  few = (let f = more.few in let a = length-append logs (e ∷ []) in omega arith);
+  each = λ k l.
+      let a = length-append logs (e ∷ []) in
+      let first : log_at (logs ++ e ∷ []) k ≡ log_at logs k = get_or_append_left logs (e ∷ []) no_entry k (omega arith) in
+      elim (cases_lt (suc k) (length logs)) as (λ _. IsBeside (log_at (logs ++ e ∷ []) k) (log_at (logs ++ e ∷ []) (suc k)) (beside_at new (suc k))) [
+        | inl below ↦
+            let second : log_at (logs ++ e ∷ []) (suc k) ≡ log_at logs (suc k) = get_or_append_left logs (e ∷ []) no_entry (suc k) below in
+            subst (λ x. IsBeside x (log_at (logs ++ e ∷ []) (suc k)) (beside_at new (suc k))) (sym first)
+            (subst (λ x. IsBeside (log_at logs k) x (beside_at new (suc k))) (sym second)
+            (subst (IsBeside (log_at logs k) (log_at logs (suc k))) (sym (more.same (suc k) below)) (is.each k below)))
+        | inr past ↦
+            let at : suc k ≡ length logs = omega arith in
+            let last : newest logs ≡ Some (log_at logs k) = newest_there logs k (sym at) in
+            let second : log_at (logs ++ e ∷ []) (suc k) ≡ e = ap (log_at (logs ++ e ∷ [])) at ∙ get_or-append_right logs (e ∷ []) (length logs) (length logs) no_entry refl (omega arith) ∙ (let z : length logs - length logs ≡ 0 = omega arith in ap (λ i. log_at (e ∷ []) i) z) in
+            subst (λ x. IsBeside x (log_at (logs ++ e ∷ []) (suc k)) (beside_at new (suc k))) (sym first)
+            (subst (λ x. IsBeside (log_at logs k) x (beside_at new (suc k))) (sym second)
+            (subst (λ i. IsBeside (log_at logs k) e (beside_at new i)) (sym at)
+            (elim more.last as (λ _. IsBeside (log_at logs k) e (beside_at new (length logs))) [
+              | inl none ↦ subst (IsBeside (log_at logs k) e) (sym none) tt
+              | inr some ↦ subst (IsBeside (log_at logs k) e) (sym some) (tells (log_at logs k) last)
+            ])))
+      ];
+}
+
+drop_nil : {A : Type 0} (n : ℕ) → drop {A = A} n [] ≡ []
+drop_nil {A = A} zero = refl
+drop_nil {A = A} (suc n) = refl
+
+-- where the first ones are dropped, as many as there are
+pub drop_least : {A : Type 0} (n m : ℕ) (xs : List A) → m ≡ min n (length xs) → drop m xs ≡ drop n xs
+drop_least {A = A} n m [] is = drop_nil m ∙ sym (drop_nil n)
+drop_least {A = A} zero m (x ∷ xs) is = (let z : m ≡ 0 = omega arith in ap (λ k. drop k (x ∷ xs)) z)
+drop_least {A = A} (suc n) m (x ∷ xs) is =
+    let z : m ≡ suc (min n (length xs)) = omega arith in
+    ap (λ k. drop k (x ∷ xs)) z ∙ drop_least n (min n (length xs)) xs refl

@@ -1,0 +1,98 @@
+-- What fetching records leaves in a heap.
+use Rattle.std.proofs.Common.{◌≡◌, ℕ, Bool, true, false, cond, not, ◌&&◌, is_some, Option, Some, None, List, [], ◌∷◌, refl, sym, ap, subst, ◌∙◌, nat_cmp}
+use Rattle.std.specs.Cmp.{nat_cmp_total}
+use Rattle.std.specs.FinMap.{get, contains_key, same_map, nat_cmp-IsAntisymmetric}
+use Rattle.std.specs.FinSet as set
+use Rattle.std.specs.FinSet.{contains, contains-empty, same_set}
+use Rattle.std.proofs.lemmas.Bool.{cond-true, cond-false}
+use Rattle.dym_base.specs.Heaps.{Live, HeapState}
+use Rattle.dym_base.specs.Packed.{Logged}
+use Rattle.dym_base.specs.StandsFor.{packed_by, or_else, newest_packed, LogsStandFor}
+use Rattle.dym_heap.specs.Wanted.{ChunkMeaning, heap_chunk, fetched, is_settled, IsReshaped}
+use Rattle.dym_chain.specs.Loads.{AreFetched}
+use Rattle.dym_chain.proofs.Stands.{or_some}
+
+-- ---- one log more
+
+fetch_mark : (t : Bool) (p q : Option (List ℕ)) → ((t && not (is_some q)) && not (is_some p)) ≡ (t && not (is_some (or_else q p)))
+fetch_mark false p q = refl
+fetch_mark true p None = refl
+fetch_mark true None (Some y) = refl
+fetch_mark true (Some x) (Some y) = refl
+
+fetch_bytes : (t : Bool) (p q b : Option (List ℕ)) → cond (t && not (is_some q)) (or_else p (cond t (or_else q b) b)) (cond t (or_else q b) b) ≡ cond t (or_else (or_else q p) b) b
+fetch_bytes false p q b = refl
+fetch_bytes true p None b = refl
+fetch_bytes true p (Some y) b = refl
+
+same_bytes : (t : Bool) (b : Option (List ℕ)) → b ≡ cond t (or_else None b) b
+same_bytes true b = refl
+same_bytes false b = refl
+
+same_mark : (t : Bool) → t ≡ (t && true)
+same_mark true = refl
+same_mark false = refl
+
+pub fetched_nothing : (s : HeapState) → AreFetched [] s s
+fetched_nothing s k = λ i. record { bytes = same_bytes (contains s.touched k) (get s.live k) i; touched = same_mark (contains s.touched k) i }
+
+-- the log before those that were fetched
+pub fetched_cons : (logs : List Logged) (l : Logged) (old mid new : HeapState) → AreFetched logs old mid → ((k : ℕ) → heap_chunk new k ≡ fetched (packed_by l k) (heap_chunk mid k)) → AreFetched (l ∷ logs) old new
+fetched_cons logs l old mid new before next k =
+    let a : ChunkMeaning = heap_chunk old k in
+    let p : Option (List ℕ) = packed_by l k in
+    let q : Option (List ℕ) = newest_packed logs k in
+    next k ∙ ap (fetched p) (before k) ∙ (λ i. record { bytes = fetch_bytes a.touched p q a.bytes i; touched = fetch_mark a.touched p q i })
+
+-- ---- the heap at the end of a restore
+
+none_packs : (o : Option (List ℕ)) → is_some o ≡ false → o ≡ None
+none_packs None h = refl
+none_packs (Some x) h = absurd cc
+
+unwanted : (s : Bool) → not s ≡ false → s ≡ true
+unwanted true h = refl
+unwanted false h = absurd cc
+
+-- a handle of the copy
+chunk_back : (copy : Live) (k : ℕ) (np : Option (List ℕ)) (m r f : ChunkMeaning) → contains_key copy k ≡ true → np ≡ get copy k → IsReshaped true m r → f ≡ fetched np r → (is_settled m ≡ true → get copy k ≡ m.bytes)
+    → f ≡ record { bytes = get copy k; touched = false }
+chunk_back copy k np m r f has packed shaped fetch settled =
+    elim r.touched as (λ b. r.touched ≡ b → f ≡ record { bytes = get copy k; touched = false }) [
+      | true ↦ λ t.
+          let some : is_some np ≡ true = ap is_some packed ∙ has in
+          let bytes : cond r.touched (or_else np r.bytes) r.bytes ≡ get copy k = cond-true r.touched (or_else np r.bytes) r.bytes t ∙ or_some np r.bytes some ∙ packed in
+          let mark : (r.touched && not (is_some np)) ≡ false = (λ i. t i && not (some i)) in
+          fetch ∙ (λ i. record { bytes = bytes i; touched = mark i })
+      | false ↦ λ t.
+          let was : is_settled m ≡ true = unwanted (is_settled m) (sym shaped.wanted ∙ t) in
+          let bytes : cond r.touched (or_else np r.bytes) r.bytes ≡ get copy k = cond-false r.touched (or_else np r.bytes) r.bytes t ∙ shaped.kept refl t ∙ sym (settled was) in
+          let mark : (r.touched && not (is_some np)) ≡ false = (λ i. t i && not (is_some np)) in
+          fetch ∙ (λ i. record { bytes = bytes i; touched = mark i })
+    ] refl
+
+-- a number that is none
+chunk_gone : (np : Option (List ℕ)) (m r f : ChunkMeaning) → IsReshaped false m r → f ≡ fetched np r → f ≡ record { bytes = None; touched = false }
+chunk_gone np m r f shaped fetch =
+    let quiet : r.touched ≡ false = shaped.wanted in
+    let none : r.bytes ≡ None = none_packs r.bytes shaped.used in
+    let bytes : cond r.touched (or_else np r.bytes) r.bytes ≡ None = cond-false r.touched (or_else np r.bytes) r.bytes quiet ∙ none in
+    let mark : (r.touched && not (is_some np)) ≡ false = (λ i. quiet i && not (is_some np)) in
+    fetch ∙ (λ i. record { bytes = bytes i; touched = mark i })
+
+-- the heap was shaped to the copy, and what it wants was fetched from the logs that stand for it
+pub restored_state : (m r f : HeapState) (copy : Live) (logs : List Logged) → ((k : ℕ) → is_settled (heap_chunk m k) ≡ true → get copy k ≡ get m.live k)
+    → ((k : ℕ) → IsReshaped (contains_key copy k) (heap_chunk m k) (heap_chunk r k)) → LogsStandFor logs copy → AreFetched logs r f → f ≡ record { live = copy; touched = set.empty }
+restored_state m r f copy logs settled shaped stand fetch =
+    let each : (k : ℕ) → heap_chunk f k ≡ record { bytes = get copy k; touched = false } = λ k.
+    elim (contains_key copy k) as (λ b. contains_key copy k ≡ b → heap_chunk f k ≡ record { bytes = get copy k; touched = false }) [
+      | true ↦ λ has.
+          chunk_back copy k (newest_packed logs k) (heap_chunk m k) (heap_chunk r k) (heap_chunk f k) has (stand.bytes k has) (subst (λ b. IsReshaped b (heap_chunk m k) (heap_chunk r k)) has (shaped k)) (fetch k) (settled k)
+      | false ↦ λ gone.
+          chunk_gone (newest_packed logs k) (heap_chunk m k) (heap_chunk r k) (heap_chunk f k) (subst (λ b. IsReshaped b (heap_chunk m k) (heap_chunk r k)) gone (shaped k)) (fetch k)
+          ∙ (λ i. record { bytes = sym (none_packs (get copy k) gone) i; touched = false })
+    ] refl in
+    let live : f.live ≡ copy = same_map nat_cmp_total nat_cmp-IsAntisymmetric f.live copy (λ k. ap (λ (c : ChunkMeaning). c.bytes) (each k)) in
+    let touched : f.touched ≡ set.empty {R = nat_cmp} =
+    same_set nat_cmp_total nat_cmp-IsAntisymmetric f.touched (set.empty {R = nat_cmp}) (λ k. ap (λ (c : ChunkMeaning). c.touched) (each k) ∙ sym (contains-empty nat_cmp k)) in
+    λ i. record { live = live i; touched = touched i }
