@@ -1,0 +1,11 @@
+pub mod Based
+pub mod Coverings
+pub mod Headers
+pub mod ListedRecords
+pub mod Lists
+pub mod RecordLengths
+pub mod SavedFiles
+pub mod FileReadings
+pub mod OneReading
+pub mod Restored
+pub mod SavedAgain

@@ -1,0 +1,11 @@
+pub mod Lives
+pub mod Counts
+pub mod Places
+pub mod Folds
+pub mod Marked
+pub mod Searches
+pub mod Runs
+pub mod Replays
+pub mod Accepts
+pub mod Wholes
+pub mod Ordered

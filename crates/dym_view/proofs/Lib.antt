@@ -1,0 +1,9 @@
+pub mod Beginnings
+pub mod Adding
+pub mod Names
+pub mod Tables
+pub mod Entries
+pub mod Found
+pub mod Loadings
+pub mod Oldest
+pub mod Walks

@@ -1,0 +1,77 @@
+-- What seats know of what is published: its history's name.
+use Rattle.std.proofs.Common.{◌≡◌, ◌≢◌, ℕ, List, [], ◌∷◌, ◌++◌, Result, Ok, Err, MatchResult, IfOk, fold, set, sym, refl, ap, subst, ◌∙◌, ⊎_elim, Option, None, Some}
+use mathlib.Core.Option.{some}
+use lib.ListN.{get_elem?}
+use Rattle.left_right.specs.Register.{Admits, TurnsAt, Forks, Merges}
+use Rattle.atomic_table.proofs.Lists.{at_set, at_snoc}
+use Rattle.dym_view.specs.Histories.{HistoryName, Beginning}
+use Rattle.dym_view.specs.Rules.{AreOfPublished, Takes, HasSeen, AreOf}
+
+-- a seat that comes has seen nothing
+pub admits : Admits AreOfPublished None
+admits x views h seat seen at = ⊎_elim (h seat seen) (λ (e : None ≡ Some seen). absurd cc) (at_snoc views None (Some seen) seat at)
+
+-- a seat takes what is published, or publishes another beginning of the same history
+pub takes : (seat : ℕ) (v : Option Beginning) (x y : Beginning) → y.history ≡ x.history → TurnsAt AreOfPublished seat v x y Takes
+takes seat v x y same views h at = (
+  Some y,
+  (λ j seen e. ⊎_elim
+      (λ (t : (j ≡ seat) × (Some y ≡ Some seen)). let one : y ≡ seen = cc (t.1) in ap (λ (b : Beginning). b.history) (sym one))
+      (λ (t : (j ≢ seat) × (get_elem? views j ≡ some (Some seen))). h j seen t.1 ∙ sym same)
+      (at_set views seat j (Some y) (Some seen) e)),
+  (refl, λ seen is. h seat seen (at ∙ ap some is)),
+)
+
+-- a view that is cut in two leaves what each knows
+pub forks : (seat : ℕ) (v : Option Beginning) → Forks AreOfPublished seat v v v
+forks seat v x views h at j seen e =
+    ⊎_elim
+    (λ (k : get_elem? (set views seat v) j ≡ some (Some seen)). ⊎_elim (λ (t : (j ≡ seat) × (v ≡ Some seen)). h seat seen (at ∙ ap some t.1)) (λ (t : (j ≢ seat) × (get_elem? views j ≡ some (Some seen))). h j seen t.1) (at_set views seat j v (Some seen) k))
+    (λ (same : v ≡ Some seen). h seat seen (at ∙ ap some same))
+    (at_snoc (set views seat v) v (Some seen) j e)
+
+-- a view that takes in another's knows what that one knew
+pub merges : (seat : ℕ) (v : Option Beginning) (other : ℕ) (w : Option Beginning) → Merges AreOfPublished seat v other w w None
+merges seat v other w x views h at apart there j seen e =
+    ⊎_elim
+    (λ (t : (j ≡ other) × (None ≡ Some seen)). absurd (cc (t.1)))
+    (λ (t : (j ≢ other) × (get_elem? (set views seat w) j ≡ some (Some seen))).
+    let was : (other ≢ seat) → get_elem? views other ≡ some w = λ ne. ⊎_elim (λ (u : (other ≡ seat) × (w ≡ w)). absurd (apart u.0)) (λ (u : (other ≢ seat) × (get_elem? views other ≡ some w)). u.1) (at_set views seat other w w there) in
+    ⊎_elim
+    (λ (u : (j ≡ seat) × (w ≡ Some seen)). h other seen (was apart ∙ ap some u.1))
+    (λ (u : (j ≢ seat) × (get_elem? views j ≡ some (Some seen))). h j seen u.1)
+    (at_set views seat j w (Some seen) t.1))
+    (at_set (set views seat w) other j None (Some seen) e)
+
+-- what is published in the end is of the history of what stood and of all that waited
+pub published_of : (name : HistoryName) (shown : Beginning) (waiting : List Beginning) → shown.history ≡ name → AreOf name waiting → (fold (λ (before front : Beginning). front) shown waiting).history ≡ name
+published_of name shown [] is all = is
+published_of name shown (front ∷ waiting) is all = published_of name front waiting all.0 all.1
+
+-- what stands after a publication, and what then waits
+module _ {E : Type 0} (shown shown' : Beginning) (waiting waiting' : List Beginning) where
+  abbrev pub Published : Result (Unit {0}) E → Type 0
+  Published r = MatchResult r (λ _. (shown' ≡ fold (λ (before front : Beginning). front) shown waiting) × (waiting' ≡ [])) (λ _. (shown' ≡ shown) × (waiting' ≡ waiting))
+
+  pub shown_kept : (r : Result (Unit {0}) E) → AreOf shown.history waiting → Published r → shown'.history ≡ shown.history
+  shown_kept (Ok u) all is = ap (λ (b : Beginning). b.history) is.0 ∙ published_of shown.history shown waiting refl all
+  shown_kept (Err e) all is = ap (λ (b : Beginning). b.history) is.0
+
+  pub waiting_kept : (r : Result (Unit {0}) E) → AreOf shown.history waiting → Published r → AreOf shown.history waiting'
+  waiting_kept (Ok u) all is = subst (AreOf shown.history) (sym is.1) tt
+  waiting_kept (Err e) all is = subst (AreOf shown.history) (sym is.1) all
+
+  pub seen_after : (r : Result (Unit {0}) E) (v v' : Option Beginning) → AreOf shown.history waiting → Published r → MatchResult r (λ _. Takes v shown shown' v') (λ _. v' ≡ v) → IfOk r (λ _. HasSeen shown.history v')
+  seen_after (Ok u) v v' all is rule = subst (HasSeen shown.history) (sym rule.0) (shown_kept (Ok u) all is)
+  seen_after (Err e) v v' all is rule = tt
+
+-- what waits with one more of the same history
+pub waiting_more : (name : HistoryName) (waiting : List Beginning) (b : Beginning) → AreOf name waiting → b.history ≡ name → AreOf name (waiting ++ b ∷ [])
+waiting_more name [] b all is = (is, tt)
+waiting_more name (front ∷ waiting) b all is = (all.0, waiting_more name waiting b all.1 is)
+
+-- and where it was appended, or came back
+pub waiting_after : (name : HistoryName) (waiting waiting' : List Beginning) (b : Beginning) (r : Result (Unit {0}) Beginning) → AreOf name waiting → b.history ≡ name
+    → MatchResult r (λ _. waiting' ≡ waiting ++ b ∷ []) (λ x. (x ≡ b) × (waiting' ≡ waiting)) → AreOf name waiting'
+waiting_after name waiting waiting' b (Ok u) all is e = subst (AreOf name) (sym e) (waiting_more name waiting b all is)
+waiting_after name waiting waiting' b (Err x) all is e = subst (AreOf name) (sym e.1) all

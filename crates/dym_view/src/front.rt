@@ -1,0 +1,213 @@
+//! A beginning of a history, with the last commit of it.
+ghost use Rattle.std.specs.Prelude.{◌≡◌, ◌+◌, ◌^◌, ◌<◌, ◌≤◌, ◌⊎◌, [], ◌∷◌, ◌++◌, length, Option, option_map, IfOk, IfSome};
+ghost use mathlib.Core.List.{IsPrefix};
+ghost use Rattle.std.specs.Arc.{arc_value};
+ghost use Rattle.std.specs.Option.{option_copied};
+ghost use Rattle.std.specs.Bool.{OnTrue};
+ghost use Rattle.dym_view.specs.Histories.{Beginning, IsHistory, last_commit, last_time, MayFollow};
+ghost use Rattle.dym_view.specs.Rules.{head_of};
+
+use crate::commit::Commit;
+use crate::law::{Add, Head, Law, Nothing, Reached};
+use logbook::Offer;
+use std::alloc::{AllocError, Global};
+use std::marker::Model;
+use std::sync::Arc;
+
+/// A commit that is shared and not copied.
+pub(crate) type Shared = Arc<Commit, Global>;
+
+/// A beginning of a history: how many commits it has, and the last of them.
+#[derive(Drop)]
+pub(crate) struct Front {
+    number: u64,
+    last: Option<Shared>,
+    reached: Reached,
+}
+
+impl Model for Front {
+    ghost use Rattle.std.specs.Prelude.{◌≡◌, length, option_map};
+    ghost use Rattle.std.specs.Coded.{codes};
+    ghost use Rattle.std.specs.Arc.{arc_value};
+    ghost use Rattle.logbook.specs.Pages.{book_coded};
+    ghost use Rattle.dym_heap.specs.Meaning.{live_code};
+    ghost use Rattle.dym_view.specs.Histories.{Beginning, IsHistory, last_commit};
+
+    ghost Value = { Beginning };
+
+    ghost coded = { Prim.hlevel (codes, live_code, book_coded) };
+
+    ghost view = { λ f. record { history = f.reached.book; commits = f.reached.log } };
+
+    ghost invariant = { λ f. (f.number ≡ length f.reached.log) × (option_map arc_value f.last ≡ last_commit f.reached.log) × IsHistory f.reached.log };
+}
+
+impl Front {
+    /// The beginning with no commit.
+    pub(crate) fn start(reached: Reached) -> Front
+        requires { reached.log ≡ [] }
+        ensures { result ≡ record { history = reached.book; commits = [] } }
+    {
+        Front {
+            number: 0,
+            last: None,
+            reached,
+        }
+    }
+
+    /// How many commits it has.
+    pub(crate) fn number(&self) -> u64
+        ensures number { result ≡ length self.now.commits }
+        ensures history { IsHistory self.now.commits }
+    {
+        self.number
+    }
+
+    /// The last commit.
+    pub(crate) fn last(&self) -> Option<&Commit>
+        ensures { option_copied result ≡ last_commit self.now.commits }
+    {
+        match &self.last {
+            Some(commit) => Some(&**commit),
+            None => None,
+        }
+    }
+
+    /// The time of the last commit.
+    pub(crate) fn last_time(&self) -> Option<u64>
+        ensures { result ≡ last_time self.now.commits }
+    {
+        match self.last() {
+            Some(commit) => Some(commit.time()),
+            None => None,
+        }
+    }
+
+    /// The same beginning once more. An `AllocError` comes where the last commit can't be shared.
+    pub(crate) fn again(&self) -> Result<Front, AllocError>
+        ensures { IfOk result (λ front. front ≡ self.now) }
+    {
+        let last = match &self.last {
+            Some(commit) => Some(Arc::try_clone(commit)?),
+            None => None,
+        };
+        Ok(self.sharing(last))
+    }
+
+    /// The same beginning, with a last commit that is shared already.
+    pub(crate) fn sharing(&self, last: Option<Shared>) -> Front
+        requires { option_map arc_value last ≡ last_commit self.now.commits }
+        ensures { result ≡ self.now }
+    {
+        Front {
+            number: self.number,
+            last,
+            reached: self.reached.again(),
+        }
+    }
+
+    /// Of two beginnings of one history the shorter begins the longer.
+    fn begins(&self, other: &Front)
+        requires history { other.now.history ≡ self.now.history }
+        requires shorter { length self.now.commits ≤ length other.now.commits }
+        ensures { IsPrefix self.now.commits other.now.commits }
+    {
+        let mut both = self.reached.again();
+        both.learn(&other.reached);
+    }
+
+    /// Another beginning of the same history, where it is longer and can be shared.
+    pub(crate) fn longer(&self, other: &Front) -> Option<Front>
+        requires { other.now.history ≡ self.now.history }
+        ensures same { IfSome result (λ front. front ≡ other.now) }
+        ensures begins { IfSome result (λ front. IsPrefix self.now.commits front.commits) }
+    {
+        if other.number <= self.number {
+            return None;
+        }
+        self.begins(other);
+        other.again().ok()
+    }
+
+    /// Becomes the longer one of itself and another beginning of the same history, which the other one begins.
+    pub(crate) fn learn(&mut self, other: Front)
+        requires { other.history ≡ self.old.history }
+        ensures history { self.new.history ≡ self.old.history }
+        ensures one { (self.new.commits ≡ self.old.commits) ⊎ (self.new.commits ≡ other.commits) }
+        ensures this { IsPrefix self.old.commits self.new.commits }
+        ensures that { IsPrefix other.commits self.new.commits }
+        ensures rising { IsHistory self.new.commits }
+    {
+        if self.number < other.number {
+            self.begins(&other);
+            *self = other;
+        } else {
+            other.begins(self);
+        }
+    }
+
+    /// The beginning with one commit more, which the history has from then on, and the same once more.
+    ///
+    /// All memory is taken before the history has the commit.
+    pub(crate) fn follow(
+        &self,
+        head: &Head,
+        alloc: Global,
+        commit: Commit,
+    ) -> Result<(Front, Front), AllocError>
+        requires head { head.now ≡ head_of self.now.history }
+        requires room { length self.now.commits < 2 ^ 60 }
+        requires later { MayFollow self.now.commits commit.time }
+        ensures one { IfOk result (λ both. both.0 ≡ record { history = self.now.history; commits = self.now.commits ++ commit ∷ [] }) }
+        ensures other { IfOk result (λ both. both.1 ≡ both.0) }
+        ensures history { IfOk result (λ both. IsHistory both.0.commits) }
+    {
+        let commit = Arc::new(alloc, commit)?;
+        let again = Arc::try_clone(&commit)?;
+        match self.add(head, commit) {
+            Some(front) => {
+                let shown = front.sharing(Some(again));
+                Ok((front, shown))
+            }
+            None => Err(AllocError),
+        }
+    }
+
+    /// The beginning with one commit more, which the history has from then on.
+    ///
+    /// It is None where the history is longer than this beginning.
+    fn add(&self, head: &Head, commit: Shared) -> Option<Front>
+        requires head { head.now ≡ head_of self.now.history }
+        requires room { length self.now.commits < 2 ^ 60 }
+        requires later { MayFollow self.now.commits (arc_value commit).time }
+        ensures more { IfSome result (λ front. front ≡ record { history = self.now.history; commits = self.now.commits ++ arc_value commit ∷ [] }) }
+        ensures history { IfSome result (λ front. IsHistory front.commits) }
+    {
+        let number = self.number;
+        let mut reached = self.reached.again();
+        if !add_commit(head, &mut reached, number, &commit) {
+            return None;
+        }
+        Some(Front {
+            number: number + 1,
+            last: Some(commit),
+            reached,
+        })
+    }
+}
+
+/// Adds a commit to the history, if nothing was added since it was seen.
+fn add_commit(head: &Head, reached: &mut Reached, number: u64, commit: &Commit) -> bool
+    requires head { head.now ≡ head_of reached.old.book }
+    requires number { number ≡ length reached.old.log }
+    requires room { number < 2 ^ 60 }
+    requires history { IsHistory reached.old.log }
+    requires later { MayFollow reached.old.log commit.now.time }
+    ensures book { reached.new.book ≡ reached.old.book }
+    ensures added { OnTrue result ((reached.new.log ≡ reached.old.log ++ commit.now ∷ []) × IsHistory reached.new.log) }
+{
+    let mut offer: Offer<Commit, u64, Law, Nothing> = reached.plain::<Nothing, Commit, Add>(commit);
+    let mut pen = reached.no_pen();
+    head.compare_exchange::<Add, Nothing>(number, number + 1, reached, &mut offer, &mut pen)
+        == number
+}

@@ -1,0 +1,102 @@
+//! The publisher of a history.
+ghost use Rattle.std.specs.Prelude.{◌≡◌, ◌^◌, ◌<◌, [], ◌∷◌, ◌++◌, length, IfOk, OnOk, OnErr};
+ghost use Rattle.dym_view.specs.Histories.{IsHistory, last_time, MayFollow};
+
+use crate::commit::Commit;
+use crate::front::Front;
+use crate::law::{Head, open_history};
+use crate::opening::open_both;
+use crate::show::{Pen, show};
+use crate::told::Told;
+use crate::viewer::Viewer;
+use std::alloc::{AllocError, Global};
+use std::marker::Model;
+use std::sync::Wait;
+
+/// Publishes commits, each of which its history then has for good.
+///
+/// Contracts see the name of the history, which no call changes, and its commits. A publisher can't be let go: `end` gives it up.
+pub struct Publisher {
+    head: Head,
+    front: Front,
+    pen: Pen,
+}
+
+impl Model for Publisher {
+    ghost use Rattle.std.specs.Prelude.{◌≡◌, drop};
+    ghost use Rattle.std.specs.Coded.{codes};
+    ghost use Rattle.logbook.specs.Pages.{book_coded};
+    ghost use Rattle.dym_heap.specs.Meaning.{live_code};
+    ghost use Rattle.dym_view.specs.Histories.{Beginning, IsHistory};
+    ghost use Rattle.dym_view.specs.Rules.{head_of, AreOf};
+
+    ghost Value = { Beginning };
+
+    ghost coded = { Prim.hlevel (codes, live_code, book_coded) };
+
+    ghost view = { λ p. p.front };
+
+    ghost invariant = { λ p. IsHistory p.front.commits × (p.head ≡ head_of p.front.history) × (p.pen.desk.shown.value.history ≡ p.front.history) × AreOf p.front.history (drop p.pen.behind p.pen.log.items) };
+}
+
+/// A history with no commit: its publisher, and its viewer, which may go to another thread.
+pub fn open_view<R: Wait>(rt: &R, alloc: Global) -> Result<(Publisher, Viewer), AllocError>
+    ensures publisher { IfOk result (λ both. both.0.commits ≡ []) }
+    ensures viewer { IfOk result (λ both. both.1 ≡ both.0) }
+{
+    let (head, reached) = open_history();
+    let front = Front::start(reached);
+    let known = front.again()?;
+    let (pen, eye) = open_both(rt, alloc, &front)?;
+    Ok((Publisher { head, front, pen }, Viewer { eye, front: known }))
+}
+
+impl Publisher {
+    /// The time of the last commit.
+    pub fn last_time(&self) -> Option<u64>
+        ensures time { result ≡ last_time self.now.commits }
+    {
+        self.front.last_time()
+    }
+
+    /// Appends a commit to the history and shows it to the viewer. It waits for a viewer that still reads what was shown before.
+    ///
+    /// An `AllocError` comes where there is no memory for it. The commit is then gone, and nothing else changed.
+    pub fn publish<R: Wait>(
+        &mut self,
+        rt: &R,
+        alloc: Global,
+        commit: Commit,
+    ) -> Result<(), AllocError>
+        requires room { length self.old.commits < 2 ^ 60 }
+        requires later { MayFollow self.old.commits commit.time }
+        ensures published { OnOk result (self.new ≡ record { history = self.old.history; commits = self.old.commits ++ commit ∷ [] }) }
+        ensures refused { OnErr result (self.new ≡ self.old) }
+        ensures history { IsHistory self.new.commits }
+    {
+        let (front, shown) = self.front.follow(&self.head, alloc, commit)?;
+        show(&mut self.pen, rt, shown)?;
+        self.front = front;
+        Ok(())
+    }
+
+    /// The whole history as it is now, for a viewer to learn. An `AllocError` comes where its last commit can't be shared.
+    pub fn tell(&mut self) -> Result<Told, AllocError>
+        ensures told { IfOk result (λ told. told ≡ self.old) }
+        ensures same { self.new ≡ self.old }
+    {
+        Ok(Told {
+            front: self.front.again()?,
+        })
+    }
+
+    /// Gives the publisher up. Its viewer keeps the last commit that it knows.
+    pub fn end<R: Wait>(self, rt: &R) {
+        let Publisher {
+            head: _,
+            front: _,
+            pen,
+        } = self;
+        drop(pen.take(rt));
+    }
+}

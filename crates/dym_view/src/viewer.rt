@@ -1,0 +1,104 @@
+//! The viewer of a history.
+ghost use Rattle.std.specs.Prelude.{◌≡◌, ◌⊎◌, length};
+ghost use mathlib.Core.List.{IsPrefix};
+ghost use Rattle.dym_view.specs.Answers.{glance_of, seen_of, read_of};
+ghost use Rattle.dym_view.specs.Histories.{IsHistory};
+
+use crate::front::Front;
+use crate::glance::{Glance, Seen};
+use crate::show::{Eye, look_through};
+use crate::told::Told;
+use core::mem::replace_with;
+use dym_base::Handle;
+use std::marker::Model;
+
+/// Sees the last commit of a history that it knows of, in any thread.
+///
+/// Contracts see the name of the history, which no call changes, and the commits that are known: a beginning of the history, which only
+/// grows. No call takes memory or waits. Where what is published can't be read or shared, what is known stays.
+#[derive(Drop)]
+pub struct Viewer {
+    pub(crate) eye: Eye,
+    pub(crate) front: Front,
+}
+
+impl Model for Viewer {
+    ghost use Rattle.std.specs.Coded.{codes};
+    ghost use Rattle.logbook.specs.Pages.{book_coded};
+    ghost use Rattle.left_right.specs.Sides.{view as view_of};
+    ghost use Rattle.dym_heap.specs.Meaning.{live_code};
+    ghost use Rattle.dym_view.specs.Histories.{Beginning};
+    ghost use Rattle.dym_view.specs.Rules.{HasSeen};
+
+    ghost Value = { Beginning };
+
+    ghost coded = { Prim.hlevel (codes, live_code, book_coded) };
+
+    ghost view = { λ v. v.front };
+
+    ghost invariant = { λ v. HasSeen v.front.history (view_of v.eye.place) };
+}
+
+impl Viewer {
+    /// Knows from now on what was told, too.
+    pub fn learn(&mut self, told: Told)
+        requires { told.history ≡ self.old.history }
+        ensures name { self.new.history ≡ self.old.history }
+        ensures one { (self.new.commits ≡ self.old.commits) ⊎ (self.new.commits ≡ told.commits) }
+        ensures known { IsPrefix self.old.commits self.new.commits }
+        ensures told { IsPrefix told.commits self.new.commits }
+        ensures history { IsHistory self.new.commits }
+    {
+        let Told { front } = told;
+        self.front.learn(front);
+    }
+
+    /// The last commit that is known, after a look at what is published.
+    pub fn look(&mut self) -> Option<Glance>
+        ensures name { self.new.history ≡ self.old.history }
+        ensures known { IsPrefix self.old.commits self.new.commits }
+        ensures history { IsHistory self.new.commits }
+        ensures glance { result ≡ glance_of self.new.commits }
+    {
+        self.refresh();
+        let last = self.front.number();
+        match self.front.last() {
+            Some(commit) => Some(Glance {
+                number: last,
+                time: commit.time(),
+                chunks: commit.chunks(),
+                total: commit.total(),
+            }),
+            None => None,
+        }
+    }
+
+    /// Copies the bytes of a chunk of the last commit that is known, from its place `at` on, after a look at what is published. Where the
+    /// copy hasn't these bytes, `out` stays.
+    pub fn read(&mut self, h: Handle, at: u32, out: &mut [u8]) -> Seen
+        ensures name { self.new.history ≡ self.old.history }
+        ensures known { IsPrefix self.old.commits self.new.commits }
+        ensures history { IsHistory self.new.commits }
+        ensures seen { result ≡ seen_of self.new.commits h at (length out.old) }
+        ensures out { out.new ≡ read_of self.new.commits h at out.old }
+    {
+        self.refresh();
+        let number = self.front.number();
+        match self.front.last() {
+            Some(commit) if commit.read(h, at, out) => Seen::Bytes { number },
+            Some(_) => Seen::Missing { number },
+            None => Seen::Nothing,
+        }
+    }
+
+    /// Knows from now on what is published, where it goes further and can be shared.
+    fn refresh(&mut self)
+        ensures name { self.new.history ≡ self.old.history }
+        ensures known { IsPrefix self.old.commits self.new.commits }
+    {
+        let newer = replace_with(&mut self.eye, &self.front, look_through);
+        if let Some(front) = newer {
+            self.front = front;
+        }
+    }
+}
