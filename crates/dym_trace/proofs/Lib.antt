@@ -6,3 +6,6 @@ pub mod Reading
 pub mod Takes
 pub mod Runs
 pub mod Once
+pub mod Decided
+pub mod Guessed
+pub mod Judged

@@ -194,7 +194,7 @@ swap_tail (SweeperGrab s) is in_range = absurd (omega arith)
 swap_tail (SweeperEmpty s) is in_range = absurd (omega arith)
 swap_tail (SweeperFree s) is in_range = absurd (omega arith)
 
-no_space_in_decimal : (s : ℕ) → s < 2 ^ 64 → All (λ x. x ≢ 32) (decimal s)
+pub no_space_in_decimal : (s : ℕ) → s < 2 ^ 64 → All (λ x. x ≢ 32) (decimal s)
 no_space_in_decimal s small = All-from_get_or (λ x. x ≢ 32) (decimal s) 0 (λ i within space. let byte = decimal_byte s i small within in omega arith)
 
 -- the words of a swap have a space

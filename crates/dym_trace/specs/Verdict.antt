@@ -48,6 +48,6 @@ abbrev pub IsVerdict : List ℕ → TraceAnswer → Type 0
 IsVerdict bytes (Good events) = IsGood (lines_of bytes) events
 IsVerdict bytes (Bad line) = IsBad (lines_of bytes) line
 
--- a trace has one verdict
+-- a trace has exactly one verdict
 abbrev pub OneVerdict : Type 0
-OneVerdict = (bytes : List ℕ) (x y : TraceAnswer) → IsVerdict bytes x → IsVerdict bytes y → x ≡ y
+OneVerdict = (bytes : List ℕ) → (x : TraceAnswer) × IsVerdict bytes x × ((y : TraceAnswer) → IsVerdict bytes y → y ≡ x)

@@ -51,7 +51,7 @@ pub fn one_reading()
     ensures { OneReading }
 {}
 
-/// A trace has one verdict.
+/// A trace has exactly one verdict.
 pub fn one_verdict()
     ensures { OneVerdict }
 {}
