@@ -1,0 +1,2 @@
+pub mod ObjectSteps
+pub mod Sent

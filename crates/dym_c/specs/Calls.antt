@@ -1,0 +1,48 @@
+-- What a call from C that asks for a command does: the status, the reply and the object after it. A command that can't be asked,
+-- since an argument is bad, is None.
+use Rattle.std.specs.Prelude.{◌≡◌, ℕ, ◌^◌, Bool, nat_lt, ◌==◌, if◌then◌else◌, Option, None, Some}
+use Rattle.std.specs.Bool.{MatchBool}
+use Rattle.dym_base.specs.declared.command.Command.{Command}
+use Rattle.dym_base.specs.declared.reply.Reply.{Reply}
+use Rattle.dym_heap.specs.Replies.{OnRefusal}
+use Rattle.dym_chain.specs.Answers.{IsLogged}
+use Rattle.dym_object.specs.Meaning.{ObjectMeaning, IsStep, counted, step_by}
+use Rattle.dym_c.specs.Statuses.{reply_status}
+
+-- the object may run a command more
+abbrev pub has_left : ObjectMeaning → Bool
+has_left o = nat_lt o.ran (2 ^ 60)
+
+-- the status where no command can be run: 9 for a closed object, 10 for one that ran as many as it may
+abbrev pub status_unready : Option ObjectMeaning → Option ℕ
+status_unready None = Some 9
+status_unready (Some o) = if has_left o then None else Some 10
+
+abbrev pub status_of : Option ObjectMeaning → Option Command → ℕ
+status_of (Some o) (Some command) = if has_left o then reply_status (step_by o command).reply else 10
+status_of _ _ = 9
+
+-- the reply of a command that was run
+abbrev pub reply_of : Option ObjectMeaning → Option Command → Option Reply
+reply_of (Some o) (Some command) = if has_left o then Some (step_by o command).reply else None
+reply_of _ _ = None
+
+-- the object ran the command; a refused one changed nothing but the count
+pub record HasRun (old new : ObjectMeaning) (command : Command) : Type 0 where
+  pub step : IsStep old new command
+  pub refused : OnRefusal (step_by old command).reply (new ≡ counted old)
+
+-- the object after the call
+abbrev pub IsAfter : Option ObjectMeaning → Option Command → Option ObjectMeaning → Type 0
+IsAfter (Some o) (Some command) (Some new) = MatchBool (has_left o) (HasRun o new command) (new ≡ o)
+IsAfter (Some o) (Some command) None = ⊥
+IsAfter old _ new = new ≡ old
+
+-- a call that takes memory: what holds where memory was wanting, and what holds else
+abbrev pub Wanting : ℕ → Type 0 → Type 0 → Type 0
+Wanting status = MatchBool (status == 8)
+
+-- the reply says that a log was taken: only then is memory asked for
+abbrev pub IsTaken : Option Reply → Type 0
+IsTaken (Some reply) = IsLogged reply
+IsTaken None = ⊥

@@ -1,0 +1,9 @@
+pub mod Asked
+pub mod Calls
+pub mod Handles
+pub mod Looks
+pub mod Opened
+pub mod Outs
+pub mod Owned
+pub mod Saving
+pub mod Statuses

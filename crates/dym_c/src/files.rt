@@ -1,0 +1,151 @@
+//! An object as a checkpoint file, and back.
+ghost use Rattle.std.specs.Prelude.{◌≡◌, None, length, IfOk, IfErr, IsTrue};
+ghost use Rattle.dym_base.specs.Names.{is_name};
+ghost use Rattle.dym_ckpt.specs.Loadings.{IsLoaded};
+ghost use Rattle.dym_ckpt.specs.Readings.{FailsAs};
+ghost use Rattle.dym_ckpt.specs.declared.loading.Loaded.{Loaded as LoadedFile};
+ghost use Rattle.dym_ckpt.specs.Saved.{AreOf, file_of_logs};
+ghost use Rattle.dym_object.specs.Meaning.{IsWhole};
+ghost use Rattle.dym_c.specs.Saving.{IsSaving, IsLoading, IsCopied, file_of_object, object_of};
+
+use crate::inside::{Inside, Process};
+use crate::object::DymObject;
+use crate::status::{BAD, DONE, MEMORY, refusal_number};
+use core::mem::replace_with;
+use dym_base::{Name, Refusal, Version};
+use dym_chain::{Chain, VecKeep};
+use dym_ckpt::{FileFail, Loaded, load_file, save, saved_len};
+use dym_io::MemSink;
+use dym_object::Object;
+use std::alloc::{AllocError, Global};
+
+/// Writes the checkpoint file of an object's kept logs, under a name, to where the bytes begin. How long it is is told also where it
+/// has no room there.
+#[unsafe(no_mangle)]
+pub extern "C" fn dym_save(
+    alloc: Global,
+    object: &mut DymObject,
+    name: &[u8],
+    bytes: &mut [u8],
+    len: &mut u64,
+) -> u32
+    ensures saving { IsSaving object.old.value name.now result bytes.old bytes.new len.old len.new }
+    ensures same { object.new.value ≡ object.old.value }
+{
+    let Some(name) = Name::new(name) else {
+        return BAD;
+    };
+    let Some(mut inside) = object.take(alloc) else {
+        return BAD;
+    };
+    let file = file_of_process(alloc, &mut inside.object, &name);
+    object.put(alloc, inside);
+    match file {
+        Ok(file) => {
+            *len = file.len() as u64;
+            copy_to_front(&file, bytes)
+        }
+        Err(_) => MEMORY,
+    }
+}
+
+/// Copies a file to where bytes begin, where it has room there.
+fn copy_to_front(file: &[u8], bytes: &mut [u8]) -> u32
+    ensures { IsCopied file.now result bytes.old bytes.new (length file.now) }
+{
+    if bytes.len() < file.len() {
+        return refusal_number(Refusal::Range);
+    }
+    bytes[..file.len()].copy_from_slice(file);
+    DONE
+}
+
+/// The checkpoint file of an object's kept logs.
+fn file_of_process(alloc: Global, object: &mut Process, name: &Name) -> Result<Vec<u8>, AllocError>
+    requires { IsTrue (is_name name.now) }
+    ensures file { IfOk result (λ file. file.items ≡ file_of_object name.now object.old) }
+    ensures same { object.new ≡ object.old }
+{
+    replace_with(object, name, |object: Process, name: &Name| {
+        apart(alloc, object, name)
+    })
+}
+
+/// The file of an object that is taken apart for it, and the object again.
+fn apart(alloc: Global, object: Process, name: &Name) -> (Process, Result<Vec<u8>, AllocError>)
+    requires { IsTrue (is_name name.now) }
+    ensures file { IfOk result.1 (λ file. file.items ≡ file_of_object name.now object) }
+    ensures same { result.0 ≡ object }
+{
+    let (heap, mut chain, ran) = object.into_parts();
+    let file = file_of_chain(alloc, &mut chain, name, heap.quota(), heap.version());
+    (Object::of_parts(heap, chain, ran), file)
+}
+
+/// The file of the logs of a chain.
+fn file_of_chain(
+    alloc: Global,
+    chain: &mut Chain<VecKeep>,
+    name: &Name,
+    quota: u32,
+    version: Version,
+) -> Result<Vec<u8>, AllocError>
+    requires named { IsTrue (is_name name.now) }
+    requires idle { chain.old.lifted ≡ None }
+    requires records { AreOf version chain.old }
+    ensures file { IfOk result (λ file. file.items ≡ file_of_logs name.now quota version chain.old) }
+    ensures same { chain.new ≡ chain.old }
+{
+    let len = saved_len(chain, name);
+    let mut sink = MemSink::new(alloc, len as usize, usize::MAX, Vec::new(alloc))?;
+    match save(chain, name, quota, version, &mut sink) {
+        Ok(()) => Ok(sink.into_bytes()),
+        Err(_) => Err(AllocError),
+    }
+}
+
+/// Opens a closed object as the newest log of a checkpoint file has it, with all its logs. Where the bytes are no file, the first part
+/// that fails is told.
+#[unsafe(no_mangle)]
+pub extern "C" fn dym_load(
+    alloc: Global,
+    object: &mut DymObject,
+    bytes: &[u8],
+    part: &mut u32,
+) -> u32
+    ensures { IsLoading object.old.value bytes.now result object.new.value part.old part.new }
+{
+    if let Some(inside) = object.take(alloc) {
+        object.put(alloc, inside);
+        return BAD;
+    }
+    match loaded(alloc, bytes) {
+        Ok(inside) => {
+            object.put(alloc, inside);
+            DONE
+        }
+        Err(FileFail::Bad { part: failing }) => {
+            *part = failing;
+            BAD
+        }
+        Err(FileFail::Memory) => MEMORY,
+    }
+}
+
+/// The object of a file.
+fn loaded(alloc: Global, bytes: &[u8]) -> Result<Box<Inside>, FileFail>
+    ensures loaded { IfOk result (λ inside. (loaded : LoadedFile) × IsLoaded bytes.now loaded × (inside.value ≡ object_of loaded)) }
+    ensures fails { IfErr result (FailsAs bytes.now) }
+{
+    let Loaded {
+        name: _,
+        heap,
+        chain,
+    } = load_file(alloc, bytes)?;
+    let ran = chain.made();
+    let object = Object::of_parts(heap, chain, ran);
+    match Box::new(alloc, Inside { object }) {
+        Ok(inside) => Ok(inside),
+        Err(_) => Err(FileFail::Memory),
+    }
+}

@@ -1,0 +1,280 @@
+//! Commands to the heap of an object. Each status of a command that isn't run, and of one that is refused, leaves the object's
+//! chunks and what the last parameters point to as they were.
+ghost use Rattle.std.specs.Prelude.{◌≡◌, Some, length};
+ghost use Rattle.dym_base.specs.declared.command.Command.TheVariants.{Malloc, Calloc};
+ghost use Rattle.dym_c.specs.Asked.{asked_realloc, asked_free, asked_write, asked_fill, asked_read, asked_link, asked_follow, asked_sum};
+ghost use Rattle.dym_c.specs.Calls.{status_of, reply_of, IsAfter};
+ghost use Rattle.dym_c.specs.Outs.{chunk_told, found_told, bytes_told, total_told};
+
+use crate::handle::{DymHandle, crossing_chunk, crossing_place, named_chunk, named_place};
+use crate::object::DymObject;
+use crate::outs::{DymFound, crossing_found};
+use crate::status::{BAD, DONE, done_number, refusal_number};
+use std::alloc::Global;
+
+/// A fresh chunk of `len` zero bytes.
+#[unsafe(no_mangle)]
+pub extern "C" fn dym_malloc(
+    alloc: Global,
+    object: &mut DymObject,
+    len: u64,
+    chunk: &mut DymHandle,
+) -> u32
+    ensures status { result ≡ status_of object.old.value (Some (Malloc len)) }
+    ensures after { IsAfter object.old.value (Some (Malloc len)) object.new.value }
+    ensures told { chunk.new ≡ chunk_told (reply_of object.old.value (Some (Malloc len))) chunk.old }
+{
+    let mut inside = match object.ready(alloc) {
+        Ok(inside) => inside,
+        Err(status) => return status,
+    };
+    let answer = inside.object.malloc(&(), len);
+    object.put(alloc, inside);
+    match answer {
+        Ok(h) => {
+            *chunk = crossing_chunk(h);
+            DONE
+        }
+        Err(why) => refusal_number(why),
+    }
+}
+
+/// A fresh chunk of `n * len` zero bytes.
+#[unsafe(no_mangle)]
+pub extern "C" fn dym_calloc(
+    alloc: Global,
+    object: &mut DymObject,
+    n: u64,
+    len: u64,
+    chunk: &mut DymHandle,
+) -> u32
+    ensures status { result ≡ status_of object.old.value (Some (Calloc n len)) }
+    ensures after { IsAfter object.old.value (Some (Calloc n len)) object.new.value }
+    ensures told { chunk.new ≡ chunk_told (reply_of object.old.value (Some (Calloc n len))) chunk.old }
+{
+    let mut inside = match object.ready(alloc) {
+        Ok(inside) => inside,
+        Err(status) => return status,
+    };
+    let answer = inside.object.calloc(&(), n, len);
+    object.put(alloc, inside);
+    match answer {
+        Ok(h) => {
+            *chunk = crossing_chunk(h);
+            DONE
+        }
+        Err(why) => refusal_number(why),
+    }
+}
+
+/// A chunk of `len` bytes with the old bytes up to the smaller length, then zeros. What is told is where the chunk now is, and nil where
+/// it was freed.
+#[unsafe(no_mangle)]
+pub extern "C" fn dym_realloc(
+    alloc: Global,
+    object: &mut DymObject,
+    h: DymHandle,
+    len: u64,
+    chunk: &mut DymHandle,
+) -> u32
+    ensures status { result ≡ status_of object.old.value (asked_realloc h len) }
+    ensures after { IsAfter object.old.value (asked_realloc h len) object.new.value }
+    ensures told { chunk.new ≡ chunk_told (reply_of object.old.value (asked_realloc h len)) chunk.old }
+{
+    let Some(place) = named_place(h) else {
+        return BAD;
+    };
+    let mut inside = match object.ready(alloc) {
+        Ok(inside) => inside,
+        Err(status) => return status,
+    };
+    let answer = inside.object.realloc(&(), place, len);
+    object.put(alloc, inside);
+    match answer {
+        Ok(place) => {
+            *chunk = crossing_place(place);
+            DONE
+        }
+        Err(why) => refusal_number(why),
+    }
+}
+
+/// Frees a chunk. Nil does nothing.
+#[unsafe(no_mangle)]
+pub extern "C" fn dym_free(alloc: Global, object: &mut DymObject, h: DymHandle) -> u32
+    ensures status { result ≡ status_of object.old.value (asked_free h) }
+    ensures after { IsAfter object.old.value (asked_free h) object.new.value }
+{
+    let Some(place) = named_place(h) else {
+        return BAD;
+    };
+    let mut inside = match object.ready(alloc) {
+        Ok(inside) => inside,
+        Err(status) => return status,
+    };
+    let answer = inside.object.free(&(), place);
+    object.put(alloc, inside);
+    done_number(answer)
+}
+
+/// Writes the bytes into a chunk, from its place `at` on.
+#[unsafe(no_mangle)]
+pub extern "C" fn dym_write(
+    alloc: Global,
+    object: &mut DymObject,
+    h: DymHandle,
+    at: u32,
+    bytes: &[u8],
+) -> u32
+    ensures status { result ≡ status_of object.old.value (asked_write h at bytes.now) }
+    ensures after { IsAfter object.old.value (asked_write h at bytes.now) object.new.value }
+{
+    let Some(chunk) = named_chunk(h) else {
+        return BAD;
+    };
+    let mut inside = match object.ready(alloc) {
+        Ok(inside) => inside,
+        Err(status) => return status,
+    };
+    let answer = inside.object.write(chunk, at, bytes);
+    object.put(alloc, inside);
+    done_number(answer)
+}
+
+/// Makes `len` bytes of a chunk from its place `at` on `byte`.
+#[unsafe(no_mangle)]
+pub extern "C" fn dym_fill(
+    alloc: Global,
+    object: &mut DymObject,
+    h: DymHandle,
+    at: u32,
+    len: u32,
+    byte: u8,
+) -> u32
+    ensures status { result ≡ status_of object.old.value (asked_fill h at len byte) }
+    ensures after { IsAfter object.old.value (asked_fill h at len byte) object.new.value }
+{
+    let Some(chunk) = named_chunk(h) else {
+        return BAD;
+    };
+    let mut inside = match object.ready(alloc) {
+        Ok(inside) => inside,
+        Err(status) => return status,
+    };
+    let answer = inside.object.fill(chunk, at, len, byte);
+    object.put(alloc, inside);
+    done_number(answer)
+}
+
+/// Copies the bytes of a chunk from its place `at` on into `out`.
+#[unsafe(no_mangle)]
+pub extern "C" fn dym_read(
+    alloc: Global,
+    object: &mut DymObject,
+    h: DymHandle,
+    at: u32,
+    out: &mut [u8],
+) -> u32
+    ensures status { result ≡ status_of object.old.value (asked_read h at (length out.old)) }
+    ensures after { IsAfter object.old.value (asked_read h at (length out.old)) object.new.value }
+    ensures told { out.new ≡ bytes_told (reply_of object.old.value (asked_read h at (length out.old))) out.old }
+{
+    let Some(chunk) = named_chunk(h) else {
+        return BAD;
+    };
+    let mut inside = match object.ready(alloc) {
+        Ok(inside) => inside,
+        Err(status) => return status,
+    };
+    let answer = inside.object.read(chunk, at, out);
+    object.put(alloc, inside);
+    done_number(answer)
+}
+
+/// Writes the number of a handle into a chunk, from its place `at` on, in eight bytes, or 0 for nil.
+#[unsafe(no_mangle)]
+pub extern "C" fn dym_link(
+    alloc: Global,
+    object: &mut DymObject,
+    h: DymHandle,
+    at: u32,
+    to: DymHandle,
+) -> u32
+    ensures status { result ≡ status_of object.old.value (asked_link h at to) }
+    ensures after { IsAfter object.old.value (asked_link h at to) object.new.value }
+{
+    let Some(chunk) = named_chunk(h) else {
+        return BAD;
+    };
+    let Some(place) = named_place(to) else {
+        return BAD;
+    };
+    let mut inside = match object.ready(alloc) {
+        Ok(inside) => inside,
+        Err(status) => return status,
+    };
+    let answer = inside.object.link(chunk, at, place);
+    object.put(alloc, inside);
+    done_number(answer)
+}
+
+/// What the eight bytes of a chunk from its place `at` on name.
+#[unsafe(no_mangle)]
+pub extern "C" fn dym_follow(
+    alloc: Global,
+    object: &mut DymObject,
+    h: DymHandle,
+    at: u32,
+    found: &mut DymFound,
+) -> u32
+    ensures status { result ≡ status_of object.old.value (asked_follow h at) }
+    ensures after { IsAfter object.old.value (asked_follow h at) object.new.value }
+    ensures told { found.new ≡ found_told (reply_of object.old.value (asked_follow h at)) found.old }
+{
+    let Some(chunk) = named_chunk(h) else {
+        return BAD;
+    };
+    let mut inside = match object.ready(alloc) {
+        Ok(inside) => inside,
+        Err(status) => return status,
+    };
+    let answer = inside.object.follow(chunk, at);
+    object.put(alloc, inside);
+    match answer {
+        Ok(what) => {
+            *found = crossing_found(what);
+            DONE
+        }
+        Err(why) => refusal_number(why),
+    }
+}
+
+/// The sum of a chunk's bytes as numbers.
+#[unsafe(no_mangle)]
+pub extern "C" fn dym_sum(
+    alloc: Global,
+    object: &mut DymObject,
+    h: DymHandle,
+    total: &mut u64,
+) -> u32
+    ensures status { result ≡ status_of object.old.value (asked_sum h) }
+    ensures after { IsAfter object.old.value (asked_sum h) object.new.value }
+    ensures told { total.new ≡ total_told (reply_of object.old.value (asked_sum h)) total.old }
+{
+    let Some(chunk) = named_chunk(h) else {
+        return BAD;
+    };
+    let mut inside = match object.ready(alloc) {
+        Ok(inside) => inside,
+        Err(status) => return status,
+    };
+    let answer = inside.object.sum(chunk);
+    object.put(alloc, inside);
+    match answer {
+        Ok(sum) => {
+            *total = sum;
+            DONE
+        }
+        Err(why) => refusal_number(why),
+    }
+}

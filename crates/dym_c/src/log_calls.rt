@@ -1,0 +1,117 @@
+//! Commands about the logs of an object.
+ghost use Rattle.std.specs.Prelude.{◌≡◌, Some};
+ghost use Rattle.dym_base.specs.declared.command.Command.TheVariants.{Restore, Prune, Logs};
+ghost use Rattle.dym_c.specs.Asked.{asked_log};
+ghost use Rattle.dym_c.specs.Calls.{status_of, reply_of, IsAfter, Wanting, IsTaken};
+ghost use Rattle.dym_c.specs.Outs.{logged_told, time_told, dropped_told, slots_told};
+
+use crate::object::DymObject;
+use crate::outs::{DymLogged, DymSlots, crossing_kind, named_kind};
+use crate::status::{BAD, DONE, MEMORY, refusal_number};
+use dym_base::Kind;
+use dym_chain::LogError;
+use std::alloc::Global;
+
+/// Logs the heap at a time, the whole of it for kind 0 and what changed for kind 1.
+#[unsafe(no_mangle)]
+pub extern "C" fn dym_log(
+    alloc: Global,
+    object: &mut DymObject,
+    kind: u32,
+    time: u64,
+    logged: &mut DymLogged,
+) -> u32
+    ensures status { Wanting result
+        (IsTaken (reply_of object.old.value (asked_log kind time)))
+        (result ≡ status_of object.old.value (asked_log kind time)) }
+    ensures after { Wanting result
+        (object.new.value ≡ object.old.value)
+        (IsAfter object.old.value (asked_log kind time) object.new.value) }
+    ensures told { Wanting result
+        (logged.new ≡ logged.old)
+        (logged.new ≡ logged_told (reply_of object.old.value (asked_log kind time)) logged.old) }
+{
+    let Some(want) = named_kind(kind) else {
+        return BAD;
+    };
+    let mut inside = match object.ready(alloc) {
+        Ok(inside) => inside,
+        Err(status) => return status,
+    };
+    let answer = match want {
+        Kind::Full => inside.object.log(alloc, time),
+        Kind::Inc => inside.object.ilog(alloc, time),
+    };
+    object.put(alloc, inside);
+    match answer {
+        Ok((kind, len)) => {
+            *logged = DymLogged {
+                kind: crossing_kind(kind),
+                len,
+            };
+            DONE
+        }
+        Err(LogError::Refused(why)) => refusal_number(why),
+        Err(LogError::Memory) => MEMORY,
+    }
+}
+
+/// Restores the last log at or before a time, and tells its time; the later logs leave.
+#[unsafe(no_mangle)]
+pub extern "C" fn dym_restore(alloc: Global, object: &mut DymObject, time: u64, at: &mut u64) -> u32
+    ensures status { result ≡ status_of object.old.value (Some (Restore time)) }
+    ensures after { IsAfter object.old.value (Some (Restore time)) object.new.value }
+    ensures told { at.new ≡ time_told (reply_of object.old.value (Some (Restore time))) at.old }
+{
+    let mut inside = match object.ready(alloc) {
+        Ok(inside) => inside,
+        Err(status) => return status,
+    };
+    let answer = inside.object.restore(&(), time);
+    object.put(alloc, inside);
+    match answer {
+        Ok(time) => {
+            *at = time;
+            DONE
+        }
+        Err(why) => refusal_number(why),
+    }
+}
+
+/// Drops the logs before the last one at or before a bound, and tells how many.
+#[unsafe(no_mangle)]
+pub extern "C" fn dym_prune(
+    alloc: Global,
+    object: &mut DymObject,
+    bound: u64,
+    dropped: &mut u32,
+) -> u32
+    ensures status { result ≡ status_of object.old.value (Some (Prune bound)) }
+    ensures after { IsAfter object.old.value (Some (Prune bound)) object.new.value }
+    ensures told { dropped.new ≡ dropped_told (reply_of object.old.value (Some (Prune bound))) dropped.old }
+{
+    let mut inside = match object.ready(alloc) {
+        Ok(inside) => inside,
+        Err(status) => return status,
+    };
+    *dropped = inside.object.prune(bound);
+    object.put(alloc, inside);
+    DONE
+}
+
+/// How many logs are kept, and how many records they take.
+#[unsafe(no_mangle)]
+pub extern "C" fn dym_logs(alloc: Global, object: &mut DymObject, logs: &mut DymSlots) -> u32
+    ensures status { result ≡ status_of object.old.value (Some Logs) }
+    ensures after { IsAfter object.old.value (Some Logs) object.new.value }
+    ensures told { logs.new ≡ slots_told (reply_of object.old.value (Some Logs)) logs.old }
+{
+    let mut inside = match object.ready(alloc) {
+        Ok(inside) => inside,
+        Err(status) => return status,
+    };
+    let (kept, slots) = inside.object.logs();
+    object.put(alloc, inside);
+    *logs = DymSlots { kept, slots };
+    DONE
+}

@@ -1,0 +1,204 @@
+/*
+ * dymelor.h: heaps that can be logged at simulation times and rolled back, for C and C++.
+ *
+ * An object is the heap of one logical process. Its chunks are named by handles, which stay valid over rollbacks; the bytes of a
+ * chunk are written and read by calls, so that the object knows what changed. A log keeps the heap at a simulation time, the whole of
+ * it or what changed since the log before; a restore brings back the newest log at or before a time; a prune drops the logs that a
+ * commit bound makes useless.
+ *
+ * Every call answers a status. The calls are proved: whatever numbers are handed in, each does what stands beside it here and touches no
+ * memory but the object's own and what its parameters point to. What C owes, and nothing checks:
+ *
+ *   - a dym_object is zeroed before its first use, and then written by these calls alone. It is not copied while it is open: a copy and
+ *     the original are never both used;
+ *   - a pointer to an object is that of such a dym_object; each other pointer is that of a whole value of its type, which the caller may
+ *     write. No two parameters of one call overlap;
+ *   - bytes that are handed in or out are at a pointer that isn't null, also where there are none;
+ *   - one call at a time on an object. It may be another thread's than the call before: a lock, a thread's start or join, or a
+ *     sequentially consistent atomic then stands between the two. Calls on different objects need no order;
+ *   - no call from a signal handler, nor from the forked child of a process that has threads.
+ *
+ * An object takes memory by malloc, and gives it back by free, when it is opened, logged, pruned, restored, saved, loaded and closed. Its
+ * segments of 64 KiB, as many as its quota says, are all taken when it is opened.
+ *
+ * All parameters that a call writes stay as they were unless the text beside the call says what they hold.
+ */
+#ifndef DYMELOR_H
+#define DYMELOR_H
+
+#include <stddef.h>
+#include <stdint.h>
+
+#ifdef __cplusplus
+extern "C" {
+#endif
+
+/* What a call answers. A refused command changes nothing but the count of commands; a status from 8 on changes nothing at all. */
+typedef uint32_t dym_status;
+
+enum {
+    DYM_DONE = 0,      /* the call did what it says */
+    DYM_TOO_LARGE = 1, /* refused: no class has chunks of that length; the greatest is 65,536 bytes */
+    DYM_QUOTA = 2,     /* refused: the heap would hold more segments than its quota */
+    DYM_DEAD = 3,      /* refused: no chunk with this handle is live */
+    DYM_RANGE = 4,     /* refused: the bytes that were named pass the end of the chunk */
+    DYM_NOT_AFTER = 5, /* refused: the newest log has this time or a later one, and a new one must come after it */
+    DYM_LOGS_FULL = 6, /* refused: 256 logs are kept, the most that an object keeps */
+    DYM_NO_LOG = 7,    /* refused: no log has a time at or before the one asked for */
+    DYM_MEMORY = 8,    /* memory was wanting */
+    DYM_BAD = 9,       /* an argument was bad, or the object closed (for dym_open: open) */
+    DYM_SPENT = 10     /* the object has run 2^60 commands, the most that it may */
+};
+
+/* An object: closed where it is zero. */
+typedef struct dym_object {
+    void *inside;
+} dym_object;
+
+/* The name of a chunk: the exponent of its class, from 5 (32 bytes) to 16 (65,536 bytes), and its index in that class. Nil is zero. */
+typedef struct dym_handle {
+    uint8_t exponent;
+    uint32_t index;
+} dym_handle;
+
+static const dym_handle dym_nil = {0, 0};
+
+/* Whether two handles name the same. */
+static inline int dym_same(dym_handle a, dym_handle b)
+{
+    return a.exponent == b.exponent && a.index == b.index;
+}
+
+/* The kinds of log. */
+enum {
+    DYM_FULL = 0,       /* the whole heap */
+    DYM_INCREMENTAL = 1 /* what was written, taken or freed since the newest log */
+};
+
+/* A log that was taken: its kind, and the bytes of its record. */
+typedef struct dym_logged {
+    uint32_t kind;
+    uint64_t length;
+} dym_logged;
+
+/* What eight bytes of a chunk name. */
+enum {
+    DYM_FOUND_NIL = 0,  /* nothing: they are zero */
+    DYM_FOUND_LIVE = 1, /* a live chunk */
+    DYM_FOUND_LOOSE = 2 /* no live chunk */
+};
+
+typedef struct dym_found {
+    uint32_t kind;
+    dym_handle chunk; /* the live chunk, else nil */
+    uint64_t number;  /* the number that the eight bytes are, the least byte first: for a handle exponent * 2^32 + index */
+} dym_found;
+
+/* How many logs are kept, and how many records they take: theirs, and those before the oldest log that it stands on. */
+typedef struct dym_slots {
+    uint32_t kept;
+    uint32_t slots;
+} dym_slots;
+
+/* ---- objects */
+
+/*
+ * Opens a closed object with an empty heap and no log. The quota is the most segments of 64 KiB that it may hold, 1 to 1,024. In version 1
+ * a chunk is as long as its class, in version 2 as long as was asked.
+ * DYM_BAD: the object is open, the quota is 0 or above 1,024, or the version is neither 1 nor 2. DYM_MEMORY: it stays closed.
+ */
+dym_status dym_open(dym_object *object, uint32_t quota, uint32_t version);
+
+/* Closes an open object, and frees all its memory. DYM_BAD: it was closed. */
+dym_status dym_close(dym_object *object);
+
+/* ---- chunks
+ * Each of these answers DYM_BAD where the object is closed or a handle's exponent is that of no class (nil is allowed where it is said),
+ * and DYM_SPENT. */
+
+/* A fresh chunk of zero bytes: the free one with the least index in the class of the length. *chunk is its handle.
+ * DYM_TOO_LARGE, DYM_QUOTA. */
+dym_status dym_malloc(dym_object *object, uint64_t length, dym_handle *chunk);
+
+/* The same for count * length bytes. */
+dym_status dym_calloc(dym_object *object, uint64_t count, uint64_t length, dym_handle *chunk);
+
+/*
+ * Gives a chunk another length: its bytes stay up to the smaller length, and zeros follow. *moved is its handle then, which is the same
+ * where the class is. For nil this is dym_malloc; a length of 0 frees the chunk, and *moved is nil.
+ * DYM_DEAD, DYM_TOO_LARGE, DYM_QUOTA.
+ */
+dym_status dym_realloc(dym_object *object, dym_handle chunk, uint64_t length, dym_handle *moved);
+
+/* Frees a chunk; for nil does nothing. DYM_DEAD. */
+dym_status dym_free(dym_object *object, dym_handle chunk);
+
+/* Writes bytes into a chunk, from its place `at` on. DYM_DEAD, DYM_RANGE. */
+dym_status dym_write(dym_object *object, dym_handle chunk, uint32_t at, const uint8_t *bytes, size_t length);
+
+/* Makes `length` bytes of a chunk from its place `at` on `byte`. DYM_DEAD, DYM_RANGE. */
+dym_status dym_fill(dym_object *object, dym_handle chunk, uint32_t at, uint32_t length, uint8_t byte);
+
+/* Copies bytes of a chunk, from its place `at` on, to `bytes`. DYM_DEAD, DYM_RANGE. */
+dym_status dym_read(dym_object *object, dym_handle chunk, uint32_t at, uint8_t *bytes, size_t length);
+
+/* Writes the number of a handle, which may be nil and needn't be live, into eight bytes of a chunk from its place `at` on.
+ * DYM_DEAD, DYM_RANGE. */
+dym_status dym_link(dym_object *object, dym_handle chunk, uint32_t at, dym_handle to);
+
+/* *found is what eight bytes of a chunk from its place `at` on name. DYM_DEAD, DYM_RANGE. */
+dym_status dym_follow(dym_object *object, dym_handle chunk, uint32_t at, dym_found *found);
+
+/* *total is the sum of a chunk's bytes as numbers. DYM_DEAD. */
+dym_status dym_sum(dym_object *object, dym_handle chunk, uint64_t *total);
+
+/* *length is a chunk's length in bytes. This is no command: it isn't counted, and never answers DYM_SPENT. DYM_DEAD. */
+dym_status dym_size(dym_object *object, dym_handle chunk, uint32_t *length);
+
+/* *next is the first live chunk after `after`, which needn't be live, in the order of exponents and then of indices; after nil it is the
+ * first of all; where there is none it is nil. This is no command either. */
+dym_status dym_next(dym_object *object, dym_handle after, dym_handle *next);
+
+/* ---- logs
+ * Each of these answers DYM_BAD where the object is closed, and DYM_SPENT. */
+
+/*
+ * Logs the heap at a simulation time. A log is full, whatever kind is asked, where there is none before it or 31 incremental ones stand
+ * behind the last full one. *logged says what was taken.
+ * DYM_BAD: the kind is neither 0 nor 1. DYM_NOT_AFTER, DYM_LOGS_FULL. DYM_MEMORY: nothing was logged.
+ */
+dym_status dym_log(dym_object *object, uint32_t kind, uint64_t time, dym_logged *logged);
+
+/* Brings the heap back to the newest log at or before a time, drops the logs after it, and writes its time to *restored. DYM_NO_LOG. */
+dym_status dym_restore(dym_object *object, uint64_t time, uint64_t *restored);
+
+/* Drops the logs before the newest one at or before a bound, so that this one can still be restored. *dropped is how many. */
+dym_status dym_prune(dym_object *object, uint64_t bound, uint32_t *dropped);
+
+/* *slots says how many logs are kept. */
+dym_status dym_logs(dym_object *object, dym_slots *slots);
+
+/* ---- checkpoint files
+ * A file has the kept logs of an object, with its quota and version, under a name of 1 to 32 characters A-Z a-z 0-9 _ that isn't
+ * the word object. It is the file that the program dymelor saves and loads. */
+
+/*
+ * Writes the file to where `bytes` begins. *length is how long it is, also where it is longer than `room`, and the bytes then stay as they
+ * were: a room of 0 asks for the length. This is no command.
+ * DYM_BAD: the object is closed, or the name is none. DYM_RANGE: the file is longer than the room. DYM_MEMORY.
+ */
+dym_status dym_save(dym_object *object, const uint8_t *name, size_t name_length, uint8_t *bytes, size_t room, uint64_t *length);
+
+/*
+ * Opens a closed object as the newest log of a file has it, with all its logs. Any bytes may be handed in: an object comes of them exactly
+ * where they are a file. The name that the file has isn't told.
+ * DYM_BAD: the object is open, or the bytes are no file; *part is then the first part that fails, 0 for the header, k for record k, and one
+ * more than there are records for what follows them. DYM_MEMORY.
+ */
+dym_status dym_load(dym_object *object, const uint8_t *bytes, size_t length, uint32_t *part);
+
+#ifdef __cplusplus
+}
+#endif
+
+#endif
