@@ -3,16 +3,16 @@ use Rattle.std.proofs.Common.{◌≡◌, ℕ, ◌≤◌, Bool, true, false, List
 use Rattle.std.specs.Prelude.{⊤, nat_le, ◌&&◌, option_and_then, if◌then◌else◌}
 use Rattle.std.specs.Option.{option_map, ok_or}
 use Rattle.std.proofs.lemmas.Bool.Decides.{nat_tests}
-use Rattle.dym_base.specs.declared.limits.TheConstants.{MOST_OBJECTS, MOST_MADE_COMMANDS}
+use Rattle.dym_base.specs.declared.limits.TheConstants.{MOST_OBJECTS, MOST_MADE_COMMANDS, MOST_WORKERS, DEFAULT_WORKERS, MOST_SEGMENTS, DEFAULT_SEGMENTS, MOST_QUANTUM, DEFAULT_QUANTUM}
 use Rattle.dym_base.specs.Names.{is_name}
 use Rattle.dym_words.specs.Numbers.{number_of, number_within, if_within}
-use Rattle.dym_words.specs.Options.{is_text, are_options, values_of}
+use Rattle.dym_words.specs.Options.{is_text, are_options, values_of, number_or}
 use Rattle.dym_words.specs.declared.made.Made.{Made}
 use Rattle.dym_words.specs.declared.order.Order.{Order}
 use Rattle.dym_words.specs.declared.order.Order.TheVariants.{Check, Trace, Save, Late}
 use Rattle.dym_words.specs.declared.order.Usage.{Usage}
 use Rattle.dym_words.specs.Orders.{made_of, alone, input_or, input_of, summary_of, workers_of, segments_of, quantum_of, plain_options, run_options, views_options, plain, run, views, save, load, form_of}
-use Rattle.dym_words.specs.Laws.{CanBeMade, IsInputWithin, IsWithin, MadeOrdersAreWithin}
+use Rattle.dym_words.specs.Laws.{CanBeMade, CanRun, IsInputWithin, IsWithin, MadeOrdersAreWithin}
 
 -- what holds of each value that a step gives holds of what the steps give
 and_then : {X Y : Type 0} (P : X → Type 0) (Q : Y → Type 0) (f : X → Option Y) (o : Option X) → IfSome o P → ((x : X) → P x → IfSome (f x) Q) → IfSome (option_and_then f o) Q
@@ -63,20 +63,41 @@ plain_fits ws = chosen IsWithin (are_options plain_options ws) _ None
     mapped (λ _. ⊤) IsWithin _ (summary_of ws) (any (summary_of ws)) (λ s _. fit)))
     tt
 
+abbrev FitNumber : ℕ → ℕ → Type 0
+FitNumber most n = (1 ≤ n) × (n ≤ most)
+
+option_fits : (most default : ℕ) (v : Option (List (List ℕ))) → 1 ≤ default → default ≤ most → IfSome (number_or most default v) (FitNumber most)
+option_fits most default None least fit = (least, fit)
+option_fits most default (Some []) least fit = tt
+option_fits most default (Some (v ∷ [])) least fit = number_fits 1 most v
+option_fits most default (Some (v ∷ w ∷ ws)) least fit = tt
+
+can_run : (w s q : ℕ) → FitNumber MOST_WORKERS w → FitNumber MOST_SEGMENTS s → FitNumber MOST_QUANTUM q → CanRun w s q
+can_run w s q a b c = record { workers_least = a.0; workers_most = a.1; segments_least = b.0; segments_most = b.1; quantum_least = c.0; quantum_most = c.1 }
+
+workers_fit : (ws : List (List ℕ)) → IfSome (workers_of ws) (FitNumber MOST_WORKERS)
+workers_fit ws = option_fits MOST_WORKERS DEFAULT_WORKERS (values_of (codes "--workers") ws) (omega arith) (omega arith)
+
+segments_fit : (ws : List (List ℕ)) → IfSome (segments_of ws) (FitNumber MOST_SEGMENTS)
+segments_fit ws = option_fits MOST_SEGMENTS DEFAULT_SEGMENTS (values_of (codes "--segments") ws) (omega arith) (omega arith)
+
+quantum_fits : (ws : List (List ℕ)) → IfSome (quantum_of ws) (FitNumber MOST_QUANTUM)
+quantum_fits ws = option_fits MOST_QUANTUM DEFAULT_QUANTUM (values_of (codes "--quantum") ws) (omega arith) (omega arith)
+
 run_fits : (ws : List (List ℕ)) → IfSome (run ws) IsWithin
 run_fits ws = chosen IsWithin (are_options run_options ws) _ None
-    (and_then (λ _. ⊤) IsWithin _ (workers_of ws) (any (workers_of ws)) (λ n _.
-    and_then (λ _. ⊤) IsWithin _ (segments_of ws) (any (segments_of ws)) (λ s _.
-    and_then (λ _. ⊤) IsWithin _ (quantum_of ws) (any (quantum_of ws)) (λ q _.
+    (and_then (FitNumber MOST_WORKERS) IsWithin _ (workers_of ws) (workers_fit ws) (λ n a.
+    and_then (FitNumber MOST_SEGMENTS) IsWithin _ (segments_of ws) (segments_fit ws) (λ s b.
+    and_then (FitNumber MOST_QUANTUM) IsWithin _ (quantum_of ws) (quantum_fits ws) (λ q c.
     and_then IsInputWithin IsWithin _ (input_of ws) (input_fits (values_of (codes "--gen") ws)) (λ i fit.
-    mapped (λ _. ⊤) IsWithin _ (summary_of ws) (any (summary_of ws)) (λ sum _. fit))))))
+    mapped (λ _. ⊤) IsWithin _ (summary_of ws) (any (summary_of ws)) (λ sum _. (can_run n s q a b c, fit)))))))
     tt
 
 views_fit : (ws : List (List ℕ)) → IfSome (views ws) IsWithin
 views_fit ws = chosen IsWithin (are_options views_options ws) _ None
-    (and_then (λ _. ⊤) IsWithin _ (workers_of ws) (any (workers_of ws)) (λ n _.
-    and_then (λ _. ⊤) IsWithin _ (segments_of ws) (any (segments_of ws)) (λ s _.
-    mapped (λ _. ⊤) IsWithin _ (quantum_of ws) (any (quantum_of ws)) (λ q _. tt))))
+    (and_then (FitNumber MOST_WORKERS) IsWithin _ (workers_of ws) (workers_fit ws) (λ n a.
+    and_then (FitNumber MOST_SEGMENTS) IsWithin _ (segments_of ws) (segments_fit ws) (λ s b.
+    mapped (FitNumber MOST_QUANTUM) IsWithin _ (quantum_of ws) (quantum_fits ws) (λ q c. can_run n s q a b c))))
     tt
 
 alone_fits : (o : Order) (ws : List (List ℕ)) → IsWithin o → IfSome (alone o ws) IsWithin

@@ -3,7 +3,8 @@
 #![tactic(auto)]
 
 use dym_io::{StdSink, StdSource};
-use dymelor_top::dymelor_still;
+use dym_pool::FreeGate;
+use dymelor_top::dymelor;
 use std::env;
 use std::io::{self, BufWriter, ErrorKind};
 use std::process::ExitCode;
@@ -31,7 +32,8 @@ fn main(rt: HostRuntime) -> ExitCode {
         Err(_) => return ExitCode::from(MEMORY),
     };
     let mut sink = StdSink::new(writer);
-    ExitCode::from(dymelor_still(alloc, &words, &mut source, &mut sink))
+    let status = dymelor(&rt, alloc, &words, &mut source, &mut sink, &FreeGate);
+    ExitCode::from(status)
 }
 
 /// The words after the program's name.

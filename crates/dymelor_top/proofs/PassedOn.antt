@@ -1,10 +1,10 @@
 -- An error that is passed on, of whatever cause.
-use Rattle.std.proofs.Common.{◌≡◌, ℕ, suc, ◌+◌, ◌<◌, List, ◌∷◌, ◌++◌, length, take, drop, get_or, flat_map, Result, Ok, Err, IsErrAnd, sym, ap, subst, ◌∙◌, add-one, drop-cons, take-append-drop}
+use Rattle.std.proofs.Common.{◌≡◌, ℕ, suc, ◌+◌, ◌<◌, List, ◌∷◌, ◌++◌, length, take, drop, get_or, flat_map, Result, Ok, Err, IsErrAnd, refl, sym, ap, subst, ◌∙◌, add-one, drop-cons, take-append-drop}
 use Rattle.std.proofs.lemmas.Grind.{flat_map-append}
-use Rattle.dym_io.specs.Sink.{Output, Appended, AppendedFront, Blames, WritesOr}
+use Rattle.dym_io.specs.Sink.{Output, Appended, AppendedFront, Stopped, Blames, WritesOr}
 use Rattle.dym_io.specs.Laws.{front_after, front_within}
-use Rattle.dymelor_top.specs.declared.stop.WriteFail.{WriteFail}
-use Rattle.dymelor_top.specs.declared.stop.WriteFail.TheVariants as fail
+use Rattle.dym_run.specs.declared.write_fail.WriteFail.{WriteFail}
+use Rattle.dym_run.specs.declared.write_fail.WriteFail.TheVariants as fail
 use Rattle.dymelor_top.specs.Answers.{Answer}
 use Rattle.dymelor_top.specs.Headline.{WritesAnswer}
 
@@ -22,6 +22,11 @@ each_front_item f items i x a b c within is p q =
     let whole : flat_map f items ≡ flat_map f (take i items) ++ (f x ++ flat_map f (drop (i + 1) items)) =
     ap (flat_map f) (sym (take-append-drop i items)) ∙ flat_map-append f (take i items) (drop i items) ∙ ap (λ l. flat_map f (take i items) ++ flat_map f l) cut in
     subst (AppendedFront a c) (sym whole) (front_after a b c (flat_map f (take i items)) (f x ++ flat_map f (drop (i + 1) items)) p (front_within b c (f x) (flat_map f (drop (i + 1) items)) q))
+
+-- where the sink stopped a call, a front of the answer that is given was written
+pub answer_stopped : (defined : Answer) (a b : Output) (r : Result ℕ WriteFail) → IsErrAnd r (λ e. e ≡ fail.Sink) → Stopped a b defined.text → WritesAnswer defined a b r
+answer_stopped defined a b (Ok status) is stopped = absurd is
+answer_stopped defined a b (Err e) is stopped = (stopped.front, subst (λ x. Blames (x ≡ fail.Sink) a b) (sym is) (λ _. stopped.rose, λ other. absurd (other refl)))
 
 -- the same of an answer that is given
 pub answer_passed : (defined : Answer) (a b : Output) (r : Result ℕ WriteFail) (e : WriteFail) → IsErrAnd r (λ x. x ≡ e)

@@ -14,7 +14,8 @@ use Rattle.dym_io.specs.Sink.{Output, Appended, AppendedFront, Stopped, Blames, 
 use Rattle.dym_io.specs.Laws.{appends_kept, appended_nothing, once_rose}
 use Rattle.dym_gen.specs.Scripts.{generated}
 use Rattle.dym_script.specs.Lines.{lines_of}
-use Rattle.dym_script.specs.Scripts.{Said, script_of, read_lines, start}
+use Rattle.dym_script.specs.Late.{late_of, late_lines, late_start}
+use Rattle.dym_script.specs.Scripts.{Said, Fault, script_of, read_lines, start}
 use Rattle.dym_trace.specs.declared.answer.TraceAnswer.{TraceAnswer}
 use Rattle.dym_trace.specs.Verdict.{IsVerdict}
 use Rattle.dym_trace.proofs.Once.{one_verdict}
@@ -22,15 +23,16 @@ use Rattle.dymelor_top.specs.declared.plan.Reading.{Reading}
 use Rattle.dymelor_top.specs.declared.plan.Reading.TheVariants as reading
 use Rattle.dymelor_top.specs.declared.plan.Plan.{Plan}
 use Rattle.dymelor_top.specs.declared.plan.Plan.TheVariants as plan
-use Rattle.dymelor_top.specs.declared.stop.WriteFail.{WriteFail}
-use Rattle.dymelor_top.specs.declared.stop.WriteFail.TheVariants as fail
+use Rattle.dym_run.specs.declared.write_fail.WriteFail.{WriteFail}
+use Rattle.dym_run.specs.declared.write_fail.WriteFail.TheVariants as fail
 use Rattle.dymelor_top.specs.declared.stop.Stop.{Stop}
 use Rattle.dymelor_top.specs.declared.stop.Stop.TheVariants as stop
 use Rattle.dymelor_top.specs.Stops.{stop_status, of_write}
-use Rattle.dymelor_top.specs.Report.{report_text}
-use Rattle.dymelor_top.specs.Summary.{summary_of}
-use Rattle.dymelor_top.specs.Answers.{Answer, fault_answer, of_script, counts_of, of_verdict, IsJudged, IsTraceAnswer, IsRead, IsAnswer, made_answer, usage_answer, reads}
-use Rattle.dymelor_top.specs.Headline.{Input, WroteFront, WroteAll, WasRead, Serves, Writes, WritesSo, WritesAnswer, PlanHeadline}
+use Rattle.dym_run.specs.Report.{report_text}
+use Rattle.dym_run.specs.Summary.{summary_of}
+use Rattle.dymelor_top.specs.Answers.{Answer, fault_answer, of_script, waves_text, of_waves, counts_of, of_verdict, IsJudged, IsTraceAnswer, saved_answer, IsLoadedText, IsPartFault, of_late, IsRead, IsAnswer, made_answer, usage_answer, reads}
+use Rattle.dymelor_top.specs.Headline.{Input, WroteFront, WroteAll, WasRead, Serves, Writes, WritesSo, PlanHeadline}
+use Rattle.dymelor_top.proofs.FileAnswers.{one_loaded}
 
 -- What was written
 
@@ -60,11 +62,6 @@ serves_front Is a b (Err e) is front = front
 pub stopped_front : {E : Type 0} → (Is : Answer → Type 0) (a b : Output) (r : Result ℕ E) → IsErr r → ((answer : Answer) → Is answer → AppendedFront a b answer.text) → WritesSo Is a b r
 stopped_front Is a b (Ok status) is front = absurd (cc)
 stopped_front Is a b (Err e) is front = front
-
--- an answer that is given
-pub writes_of : (f : Answer) (a b : Output) (r : Result ℕ WriteFail) → WritesAnswer f a b r → Writes (λ x. x ≡ f) a b r
-writes_of f a b (Ok status) w = (f, refl, w.0, w.1)
-writes_of f a b (Err e) w = (λ x is. subst (λ y. AppendedFront a b y.text) (sym is) w.0, w.1)
 
 -- What was read
 
@@ -111,14 +108,27 @@ test_long : (bytes : List ℕ) → MOST_INPUT_BYTES < length bytes → nat_lt MO
 test_long bytes long = grind (arith, nat_tests)
 
 -- so both have the same answers
-same_script : (f : Said → List ℕ) (read all : List ℕ) (answer : Answer) → SameVerdict read all → answer ≡ of_script f (script_of read) → answer ≡ of_script f (script_of all)
-same_script f read all answer (inl same) is = is ∙ ap (λ l. of_script f (script_of l)) same
-same_script f read all answer (inr long) is = is ∙ ap (of_script f) (too_long read long.0 ∙ sym (too_long all long.1))
+same_script : (f : Result Said Fault → Answer) (read all : List ℕ) (answer : Answer) → SameVerdict read all → answer ≡ f (script_of read) → answer ≡ f (script_of all)
+same_script f read all answer (inl same) is = is ∙ ap (λ l. f (script_of l)) same
+same_script f read all answer (inr long) is = is ∙ ap f (too_long read long.0 ∙ sym (too_long all long.1))
 
-same_trace : (read all : List ℕ) (answer : Answer) → SameVerdict read all → IsTraceAnswer read answer → IsTraceAnswer all answer
-same_trace read all answer (inl same) is = subst (λ l. IsTraceAnswer l answer) same is
-same_trace read all answer (inr long) is =
-    let P : List ℕ → Bool → Type 0 = λ l b. MatchBool b (answer ≡ fault_answer 0 bad.TooLong) (IsJudged l answer) in
+-- also of late events
+too_long_late : (bytes : List ℕ) → MOST_INPUT_BYTES < length bytes → late_of bytes ≡ Err (record { line = 0; kind = bad.TooLong })
+unfolding late_of
+too_long_late bytes long =
+    cut_true (nat_lt MOST_INPUT_BYTES (length bytes)) (Err (record { line = 0; kind = bad.TooLong })) (late_lines late_start 1 (lines_of bytes)) (test_long bytes long)
+
+same_late : (read all : List ℕ) (answer : Answer) → SameVerdict read all → answer ≡ of_late (late_of read) → answer ≡ of_late (late_of all)
+same_late read all answer (inl same) is = is ∙ ap (λ l. of_late (late_of l)) same
+same_late read all answer (inr long) is = is ∙ ap of_late (too_long_late read long.0 ∙ sym (too_long_late all long.1))
+
+-- also where the length is tested first
+same_tested : (Is : List ℕ → Type 0) (read all : List ℕ) (answer : Answer) → SameVerdict read all
+    → MatchBool (nat_lt MOST_INPUT_BYTES (length read)) (answer ≡ fault_answer 0 bad.TooLong) (Is read)
+    → MatchBool (nat_lt MOST_INPUT_BYTES (length all)) (answer ≡ fault_answer 0 bad.TooLong) (Is all)
+same_tested Is read all answer (inl same) is = subst (λ l. MatchBool (nat_lt MOST_INPUT_BYTES (length l)) (answer ≡ fault_answer 0 bad.TooLong) (Is l)) same is
+same_tested Is read all answer (inr long) is =
+    let P : List ℕ → Bool → Type 0 = λ l b. MatchBool b (answer ≡ fault_answer 0 bad.TooLong) (Is l) in
     let named : answer ≡ fault_answer 0 bad.TooLong = subst (P read) (test_long read long.0) is in
     subst (P all) (sym (test_long all long.1)) named
 
@@ -127,10 +137,14 @@ turned read all (inl same) = inl (sym same)
 turned read all (inr long) = inr (long.1, long.0)
 
 pub same_answer : (r : Reading) (read all : List ℕ) (answer : Answer) → SameVerdict read all → IsRead r read answer → IsRead r all answer
-same_answer reading.Report read all answer same is = same_script report_text read all answer same is
-same_answer reading.Summary read all answer same is = same_script summary_of read all answer same is
-same_answer reading.Counts read all answer same is = same_script counts_of read all answer same is
-same_answer reading.Trace read all answer same is = same_trace read all answer same is
+same_answer reading.Report read all answer same is = same_script (of_script report_text) read all answer same is
+same_answer reading.Summary read all answer same is = same_script (of_script summary_of) read all answer same is
+same_answer reading.Counts read all answer same is = same_script (of_script counts_of) read all answer same is
+same_answer reading.Trace read all answer same is = same_tested (λ l. IsJudged l answer) read all answer same is
+same_answer (reading.File name) read all answer same is = same_script (saved_answer name) read all answer same is
+same_answer (reading.Loaded time) read all answer same is = same_tested (λ l. IsLoadedText time l answer ⊎ IsPartFault l answer) read all answer same is
+same_answer reading.Late read all answer same is = same_late read all answer same is
+same_answer (reading.Waves n summary) read all answer same is = same_script (of_waves n (waves_text summary)) read all answer same is
 
 pub same_back : (r : Reading) (read all : List ℕ) (answer : Answer) → SameVerdict read all → IsRead r all answer → IsRead r read answer
 same_back r read all answer same is = same_answer r all read answer (turned read all same) is
@@ -149,15 +163,21 @@ small status (inr two) = omega arith
 one_judged : (bytes : List ℕ) (x y : Answer) → IsJudged bytes x → IsJudged bytes y → x ≡ y
 one_judged bytes x y p q = p.is ∙ ap of_verdict (one_verdict bytes p.verdict q.verdict p.right q.right) ∙ sym q.is
 
-one_trace : (bytes : List ℕ) (b : Bool) (x y : Answer) → MatchBool b (x ≡ fault_answer 0 bad.TooLong) (IsJudged bytes x) → MatchBool b (y ≡ fault_answer 0 bad.TooLong) (IsJudged bytes y) → x ≡ y
-one_trace bytes true x y p q = p ∙ sym q
-one_trace bytes false x y p q = one_judged bytes x y p q
+one_tested : (Is : Answer → Type 0) → ((x y : Answer) → Is x → Is y → x ≡ y) → (b : Bool) (x y : Answer)
+    → MatchBool b (x ≡ fault_answer 0 bad.TooLong) (Is x) → MatchBool b (y ≡ fault_answer 0 bad.TooLong) (Is y) → x ≡ y
+one_tested Is one true x y p q = p ∙ sym q
+one_tested Is one false x y p q = one x y p q
 
 pub one_read : (r : Reading) (bytes : List ℕ) (x y : Answer) → IsRead r bytes x → IsRead r bytes y → x ≡ y
 one_read reading.Report bytes x y p q = p ∙ sym q
 one_read reading.Summary bytes x y p q = p ∙ sym q
 one_read reading.Counts bytes x y p q = p ∙ sym q
-one_read reading.Trace bytes x y p q = one_trace bytes (nat_lt MOST_INPUT_BYTES (length bytes)) x y p q
+one_read reading.Trace bytes x y p q = one_tested (IsJudged bytes) (one_judged bytes) (nat_lt MOST_INPUT_BYTES (length bytes)) x y p q
+one_read (reading.File name) bytes x y p q = p ∙ sym q
+one_read (reading.Loaded time) bytes x y p q =
+    one_tested (λ a. IsLoadedText time bytes a ⊎ IsPartFault bytes a) (one_loaded time bytes) (nat_lt MOST_INPUT_BYTES (length bytes)) x y p q
+one_read reading.Late bytes x y p q = p ∙ sym q
+one_read (reading.Waves n summary) bytes x y p q = p ∙ sym q
 
 pub one_answer : (p : Plan) (bytes : List ℕ) (x y : Answer) → IsAnswer p bytes x → IsAnswer p bytes y → x ≡ y
 one_answer (plan.Read r) bytes x y p q = one_read r bytes x y p q
@@ -286,6 +306,11 @@ read_stopped r old new a b stop.Memory front bounded causes = record {
   known = omega arith;
 }
 
+-- a count that stays at 0 didn't rise
+pub never_once : ¬ RoseOnce 0 0
+never_once (inl e) = omega (arith, e)
+never_once (inr e) = omega (arith, e.0)
+
 -- a made script was answered whole
 pub made_whole : (r : Reading) (seed objects commands : ℕ) (old : Input) (a b : Output) (status : ℕ)
     → (x : Answer) × IsRead r (generated seed objects commands) x × (status ≡ x.status) × WroteAll a b x.text
@@ -311,12 +336,14 @@ made_whole r seed objects commands old a b status served calm zero_or_two =
       known = omega (arith, low);
     }
 
--- and where that stopped
-pub made_stopped : (r : Reading) (seed objects commands : ℕ) (old : Input) (a b : Output) (stopped : WriteFail)
+-- and where that stopped, which no source does
+pub made_stopped : (r : Reading) (seed objects commands : ℕ) (old : Input) (a b : Output) (stopped : Stop)
     → ((x : Answer) → IsRead r (generated seed objects commands) x → WroteFront a b x.text)
-    → Blames (stopped ≡ fail.Sink) a b → PlanHeadline (plan.ReadMade r seed objects commands) old old a b (stop_status (of_write stopped))
-made_stopped r seed objects commands old a b fail.Sink front blames = record {
-  answered = λ bytes known. record { prefix = front; whole = λ le. absurd (omega (arith, le)); complete = λ calm still. absurd (still (once_rose a.faults b.faults (blames.0 refl))) };
+    → ¬ (stopped ≡ stop.Source) → (stopped ≡ stop.Sink → RoseOnce a.faults b.faults) → (¬ (stopped ≡ stop.Sink) → b.faults ≡ a.faults)
+    → PlanHeadline (plan.ReadMade r seed objects commands) old old a b (stop_status stopped)
+made_stopped r seed objects commands old a b stop.Source front none rose stands = absurd (none refl)
+made_stopped r seed objects commands old a b stop.Sink front none rose stands = record {
+  answered = λ bytes known. record { prefix = front; whole = λ le. absurd (omega (arith, le)); complete = λ calm still. absurd (still (once_rose a.faults b.faults (rose refl))) };
   bounded = took_nothing (MOST_INPUT_BYTES + 1) old.left;
   read = λ le. absurd (omega (arith, le));
   unread = λ is. (Keeps-refl old.left, refl);
@@ -324,12 +351,12 @@ made_stopped r seed objects commands old a b fail.Sink front blames = record {
   only_usage = λ is. absurd (cc);
   made = λ s o c is. absurd (cc);
   source = λ is. absurd (omega (arith, is));
-  sink = λ is. blames.0 refl;
+  sink = λ is. rose refl;
   source_stands = λ other. refl;
   sink_stands = λ other. absurd (other refl);
   known = omega arith;
 }
-made_stopped r seed objects commands old a b fail.Memory front blames = record {
+made_stopped r seed objects commands old a b stop.Memory front none rose stands = record {
   answered = λ bytes known. record { prefix = front; whole = λ le. absurd (omega (arith, le)); complete = λ calm still. inr refl };
   bounded = took_nothing (MOST_INPUT_BYTES + 1) old.left;
   read = λ le. absurd (omega (arith, le));
@@ -340,7 +367,7 @@ made_stopped r seed objects commands old a b fail.Memory front blames = record {
   source = λ is. absurd (omega (arith, is));
   sink = λ is. absurd (omega (arith, is));
   source_stands = λ other. refl;
-  sink_stands = λ other. blames.1 (λ is. absurd (cc));
+  sink_stands = λ other. stands (λ is. absurd (cc));
   known = omega arith;
 }
 
@@ -447,10 +474,16 @@ pub trace_written : (bytes : List ℕ) (a b : Output) (status : ℕ) (v : TraceA
 trace_written bytes a b status v x short right is same done =
     (x, subst (IsTraceAnswer bytes) is (judged_trace bytes v short right), same, done)
 
-pub trace_stopped : (bytes : List ℕ) (a b : Output) (r : Result ℕ WriteFail) (v : TraceAnswer) (x : Answer) → length bytes ≤ MOST_INPUT_BYTES → IsVerdict bytes v → of_verdict v ≡ x
-    → IsErrAnd r (λ e. e ≡ fail.Sink) → Stopped a b x.text → Writes (IsTraceAnswer bytes) a b r
-trace_stopped bytes a b (Ok status) v x short right is err stopped = absurd err
-trace_stopped bytes a b (Err e) v x short right is err stopped = (
-  λ y of_y. subst (λ (z : Answer). AppendedFront a b z.text) (one_read reading.Trace bytes x y (subst (IsTraceAnswer bytes) is (judged_trace bytes v short right)) of_y) stopped.front,
+-- where the call stopped, a front of the one answer was written
+pub one_stopped : (Is : Answer → Type 0) → ((x y : Answer) → Is x → Is y → x ≡ y) → (a b : Output) (r : Result ℕ WriteFail) (x : Answer) → Is x
+    → IsErrAnd r (λ e. e ≡ fail.Sink) → Stopped a b x.text → Writes Is a b r
+one_stopped Is one a b (Ok status) x is err stopped = absurd err
+one_stopped Is one a b (Err e) x is err stopped = (
+  λ y of_y. subst (λ (z : Answer). AppendedFront a b z.text) (one x y is of_y) stopped.front,
   subst (λ x. Blames (x ≡ fail.Sink) a b) (sym err) (λ _. stopped.rose, λ other. absurd (other refl)),
 )
+
+pub trace_stopped : (bytes : List ℕ) (a b : Output) (r : Result ℕ WriteFail) (v : TraceAnswer) (x : Answer) → length bytes ≤ MOST_INPUT_BYTES → IsVerdict bytes v → of_verdict v ≡ x
+    → IsErrAnd r (λ e. e ≡ fail.Sink) → Stopped a b x.text → Writes (IsTraceAnswer bytes) a b r
+trace_stopped bytes a b r v x short right is err stopped =
+    one_stopped (IsTraceAnswer bytes) (one_read reading.Trace bytes) a b r x (subst (IsTraceAnswer bytes) is (judged_trace bytes v short right)) err stopped

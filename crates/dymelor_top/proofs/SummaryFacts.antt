@@ -1,5 +1,5 @@
 -- What objects come to, counted one after another.
-use Rattle.std.proofs.Common.{◌≡◌, ℕ, suc, ◌+◌, ◌<◌, ◌≤◌, true, false, not, cond, List, [], ◌∷◌, All, IsSome, IfSome, length, map, filter, drop, get_or, count_by, sum_by, refl, subst, sym, ap, ◌∙◌, ◌-◌, add-one, add-zero, drop-cons, le_of_eq, Bool, ◌⊎◌, inl, inr, arith, ◌==◌}
+use Rattle.std.proofs.Common.{◌≡◌, ℕ, suc, ◌+◌, ◌<◌, ◌≤◌, true, false, not, cond, List, [], ◌∷◌, All, IfSome, length, map, filter, drop, get_or, slice_get, count_by, sum_by, refl, subst, sym, ap, ◌∙◌, ◌-◌, add-one, add-zero, drop-cons, le_of_eq, Bool, ◌⊎◌, inl, inr, arith, ◌==◌}
 use Rattle.std.specs.Prelude.{nat_le}
 use Rattle.std.specs.FinMap.{len}
 use Rattle.std.proofs.lemmas.Bool.{cases_order, cond-true, cond-false, eq-eqb, ne_eqb, le-leb, lt-leb}
@@ -13,22 +13,22 @@ use Rattle.dym_base.specs.Objects.{LogEntry, ObjectState, ObjectAnswer, object_s
 use Rattle.dym_base.specs.declared.command.Version.{Version}
 use Rattle.dym_base.specs.declared.command.Command.{Command}
 use Rattle.dym_base.specs.declared.reply.Reply.{Reply}
+use Rattle.dym_heap.specs.Meaning.{HeapMeaning}
 use Rattle.dym_object.specs.Meaning.{ObjectMeaning, state_of, step_by}
-use Rattle.dym_script.specs.declared.kept.Kept.{Kept}
-use Rattle.dym_script.specs.declared.kept.Tables.{Tables}
 use Rattle.dym_script.specs.declared.script.Line.{Line}
-use Rattle.dym_script.specs.declared.parts.KeptPart.{KeptPart}
-use Rattle.dym_script.specs.declared.parts.Parts.{Parts}
-use Rattle.dym_script.specs.Held.{ArePartsOf}
+use Rattle.dym_script.specs.declared.parts.Holding.{Holding}
+use Rattle.dym_script.specs.declared.parts.Part.{Part}
+use Rattle.dym_script.specs.declared.pieces.Whole.{Whole}
+use Rattle.dym_script.specs.ByObjects.{IsByObjects}
 use Rattle.dym_script.specs.Scripts.{Said, own}
-use Rattle.dym_script.specs.Kept.{kept_command, kept_commands}
-use Rattle.dym_script.specs.Parts.{EachKeepsOwn}
-use Rattle.dymelor_top.specs.declared.tally.Tally.{Tally}
-use Rattle.dymelor_top.specs.Parts.{own_of}
-use Rattle.dymelor_top.specs.Report.{objects_of}
-use Rattle.dymelor_top.proofs.KeptFacts.{are_length, command_at, kept_fact}
+use Rattle.dym_script.specs.Parts.{EachHas}
+use Rattle.dym_run.specs.declared.tally.Tally.{Tally}
+use Rattle.dym_run.specs.Parts.{own_of}
+use Rattle.dym_run.specs.Report.{objects_of}
+use Rattle.dym_turn.specs.Turns.{Ran}
+use Rattle.dymelor_top.proofs.CommandFacts.{command_at, command_fact}
 use Rattle.dymelor_top.proofs.PartFacts.{OwnsFrom, owns_first, owns_later, owns_all, parts_are_objects}
-use Rattle.dymelor_top.specs.Summary.{is_refusal, tally_of, no_tally, both_tallies, tally_all, totals_of}
+use Rattle.dym_run.specs.Summary.{is_refusal, tally_of, no_tally, both_tallies, tally_all, totals_of}
 
 -- ---- the commands of all objects are those of the lines
 
@@ -76,33 +76,33 @@ reach_all [] = refl
 reach_all (x ∷ xs) =
     omega (arith, sum_by-cons (λ (line : Line). cond (nat_le 0 line.object) 1 0) x xs, cond-true {A = ℕ} (nat_le 0 x.object) 1 0 (le-leb 0 x.object (omega arith)), reach_all xs)
 
-commands_from : (tables : Tables) (s : Said) (k : ℕ) (parts : List KeptPart) → OwnsFrom tables s k parts → All (λ line. line.object < k + length parts) s.lines → sum_by (λ part. length part.commands.items) parts ≡ reach k s.lines
-commands_from tables s k [] owns all = sym (reach_none k s.lines (All-weaker (λ line. line.object < k + 0) (λ line. line.object < k) (λ line below. omega (arith, below)) s.lines all))
-commands_from tables s k (p ∷ ps) owns all =
+commands_from : (s : Said) (k : ℕ) (parts : List Part) → OwnsFrom s k parts → All (λ line. line.object < k + length parts) s.lines → sum_by (λ part. length part.commands) parts ≡ reach k s.lines
+commands_from s k [] owns all = sym (reach_none k s.lines (All-weaker (λ line. line.object < k + 0) (λ line. line.object < k) (λ line below. omega (arith, below)) s.lines all))
+commands_from s k (p ∷ ps) owns all =
     let within : All (λ line. line.object < (k + 1) + length ps) s.lines =
     All-weaker (λ line. line.object < k + suc (length ps)) (λ line. line.object < (k + 1) + length ps) (λ line below. omega (arith, below)) s.lines all in
     omega (
       arith,
-      sum_by-cons (λ (part : KeptPart). length part.commands.items) p ps,
-      are_length tables p.commands.items (own s k) (owns_first tables s k p ps owns),
+      sum_by-cons (λ (part : Part). length part.commands) p ps,
+      ap length (owns_first s k p ps owns),
       own_length s k,
       split_reach k s.lines,
-      commands_from tables s (k + 1) ps (owns_later tables s k p ps owns) within,
+      commands_from s (k + 1) ps (owns_later s k p ps owns) within,
     )
 
 -- together the parts have as many commands as the script has lines
-pub commands_all : (tables : Tables) (s : Said) (parts : List KeptPart) → EachKeepsOwn tables parts s → length parts ≡ length s.objects → All (λ line. line.object < length s.objects) s.lines
-    → sum_by (λ part. length part.commands.items) parts ≡ length s.lines
-commands_all tables s parts owns same declared =
+pub commands_all : (s : Said) (parts : List Part) → EachHas parts s.lines → length parts ≡ length s.objects → All (λ line. line.object < length s.objects) s.lines
+    → sum_by (λ part. length part.commands) parts ≡ length s.lines
+commands_all s parts owns same declared =
     let all : All (λ line. line.object < 0 + length parts) s.lines =
     All-weaker (λ line. line.object < length s.objects) (λ line. line.object < 0 + length parts) (λ line below. omega (arith, below, same)) s.lines declared in
-    commands_from tables s 0 parts (owns_all tables s parts owns) all ∙ reach_all s.lines
+    commands_from s 0 parts (owns_all s parts owns) all ∙ reach_all s.lines
 
-pub objects_of_parts : (parts : Parts) (s : Said) → ArePartsOf parts s → length parts.parts.items ≡ length s.objects
-objects_of_parts parts s are = sym (length-map parts.parts.items (λ (p : KeptPart). p.decl)) ∙ ap length are.decls
+pub objects_of_parts : (script : Whole Holding) (s : Said) → IsByObjects script s → length script.kept.parts.items ≡ length s.objects
+objects_of_parts script s are = sym (length-map script.kept.parts.items (λ (p : Part). p.decl)) ∙ ap length are.keeps.decls
 
-pub commands_of_parts : (parts : Parts) (s : Said) → ArePartsOf parts s → sum_by (λ part. length part.commands.items) parts.parts.items ≡ length s.lines
-commands_of_parts parts s are = commands_all parts.tables s parts.parts.items are.commands (objects_of_parts parts s are) are.lawful.declared
+pub commands_of_parts : (script : Whole Holding) (s : Said) → IsByObjects script s → sum_by (λ part. length part.commands) script.kept.parts.items ≡ length s.lines
+commands_of_parts script s are = commands_all s script.kept.parts.items are.keeps.commands (objects_of_parts script s are) are.lawful.declared
 
 -- ---- sums of tallies
 
@@ -122,34 +122,34 @@ tally_regroup a b c = λ i. record { ok = regroup a.ok b.ok c.ok i; refused = re
     regroup x y z = omega arith
 
 -- after the first i parts were counted, what they come to with the others is what all come to
-abbrev pub Counted : Tables → Version → List KeptPart → ℕ → Tally → Type 0
-Counted tables v parts i tally = both_tallies tally (tally_all v (map (own_of tables) (drop i parts))) ≡ tally_all v (map (own_of tables) parts)
+abbrev pub Counted : Version → List Part → ℕ → Tally → Type 0
+Counted v parts i tally = both_tallies tally (tally_all v (map own_of (drop i parts))) ≡ tally_all v (map own_of parts)
 
-pub counted_more : (tables : Tables) (v : Version) (parts : List KeptPart) (i : ℕ) (p : KeptPart) (tally more new : Tally) → i < length parts → p ≡ get_or parts i p
-    → Counted tables v parts i tally → more ≡ tally_of v (own_of tables p) → new ≡ both_tallies tally more → Counted tables v parts (i + 1) new
-counted_more tables v parts i p tally more new within at counted is sum =
-    let rest : List KeptPart = drop (i + 1) parts in
+pub counted_more : (v : Version) (parts : List Part) (i : ℕ) (p : Part) (tally more new : Tally) → i < length parts → p ≡ get_or parts i p
+    → Counted v parts i tally → more ≡ tally_of v (own_of p) → new ≡ both_tallies tally more → Counted v parts (i + 1) new
+counted_more v parts i p tally more new within at counted is sum =
+    let rest : List Part = drop (i + 1) parts in
     let cut : drop i parts ≡ p ∷ rest = rw (add-one, drop-cons parts i p within) (λ j. sym at j ∷ drop (suc i) parts) in
-    ap (λ t. both_tallies t (tally_all v (map (own_of tables) rest))) sum
-    ∙ tally_regroup tally more (tally_all v (map (own_of tables) rest))
-    ∙ ap (λ t. both_tallies tally (both_tallies t (tally_all v (map (own_of tables) rest)))) is
-    ∙ ap (λ ps. both_tallies tally (tally_all v (map (own_of tables) ps))) (sym cut)
+    ap (λ t. both_tallies t (tally_all v (map own_of rest))) sum
+    ∙ tally_regroup tally more (tally_all v (map own_of rest))
+    ∙ ap (λ t. both_tallies tally (both_tallies t (tally_all v (map own_of rest)))) is
+    ∙ ap (λ ps. both_tallies tally (tally_all v (map own_of ps))) (sym cut)
     ∙ counted
 
-pub counted_all : (tables : Tables) (v : Version) (parts : List KeptPart) (i : ℕ) (tally : Tally) → length parts ≡ i → Counted tables v parts i tally → tally ≡ tally_all v (map (own_of tables) parts)
-counted_all tables v parts i tally all counted =
+pub counted_all : (v : Version) (parts : List Part) (i : ℕ) (tally : Tally) → length parts ≡ i → Counted v parts i tally → tally ≡ tally_all v (map own_of parts)
+counted_all v parts i tally all counted =
     let none : drop i parts ≡ [] = drop_of_length-le parts (le_of_eq all) in
-    sym (tally_last tally) ∙ ap (λ ps. both_tallies tally (tally_all v (map (own_of tables) ps))) (sym none) ∙ counted
+    sym (tally_last tally) ∙ ap (λ ps. both_tallies tally (tally_all v (map own_of ps))) (sym none) ∙ counted
 
 -- the totals of a script's parts
-pub total_is : (parts : Parts) (s : Said) (tally : Tally) (objects : ℕ) → ArePartsOf parts s → tally ≡ tally_all parts.version (map (own_of parts.tables) parts.parts.items)
-    → tally.ok + tally.refused ≡ sum_by (λ part. length part.commands.items) parts.parts.items → objects ≡ length parts.parts.items
+pub total_is : (script : Whole Holding) (s : Said) (tally : Tally) (objects : ℕ) → IsByObjects script s → tally ≡ tally_all script.version (map own_of script.kept.parts.items)
+    → tally.ok + tally.refused ≡ sum_by (λ part. length part.commands) script.kept.parts.items → objects ≡ length script.kept.parts.items
     → record { objects = objects; commands = tally.ok + tally.refused; ok = tally.ok; refused = tally.refused; chunks = tally.chunks; segments = tally.segments; kept = tally.kept; slots = tally.slots } ≡ totals_of s
-total_is parts s tally objects are is replies len =
-    let ps : List KeptPart = parts.parts.items in
-    let all : tally ≡ tally_all s.version (objects_of s) = is ∙ (λ i. tally_all (sym are.version i) (parts_are_objects parts.tables s ps are.decls are.commands i)) in
-    let count : objects ≡ length s.objects = len ∙ objects_of_parts parts s are in
-    let commands : tally.ok + tally.refused ≡ length s.lines = replies ∙ commands_of_parts parts s are in
+total_is script s tally objects are is replies len =
+    let ps : List Part = script.kept.parts.items in
+    let all : tally ≡ tally_all s.version (objects_of s) = is ∙ (λ i. tally_all (sym are.version i) (parts_are_objects s ps are.keeps.decls are.keeps.commands i)) in
+    let count : objects ≡ length s.objects = len ∙ objects_of_parts script s are in
+    let commands : tally.ok + tally.refused ≡ length s.lines = replies ∙ commands_of_parts script s are in
     λ i. record {
       objects = count i;
       commands = commands i;
@@ -205,15 +205,13 @@ refusing_more start now next commands rest after c reply refused more r cut repl
       ends = ap (λ s. object_after v q s after) state ∙ ap (object_after v q (state_of now)) (sym cut) ∙ r.ends;
     }
 
--- one command more of those that are kept was run
-pub refusing_kept : (tables : Tables) (kepts : List Kept) (i : ℕ) (d : Kept) (start now next : ObjectMeaning) (reply : Reply) (refused more : ℕ) → All (λ kept. IsSome (kept_command tables kept)) kepts → i < length kepts
-    → Refusing start now (kept_commands tables kepts) (drop i (kept_commands tables kepts)) refused
-    → IfSome (kept_command tables (get_or kepts i d)) (λ c. reply ≡ (step_by now c).reply) → IfSome (kept_command tables (get_or kepts i d)) (λ c. state_of next ≡ (step_by now c).object)
-    → next.heap.version ≡ now.heap.version → next.heap.quota ≡ now.heap.quota → more ≡ refused + cond (is_refusal reply) 1 0
-    → Refusing start next (kept_commands tables kepts) (drop (i + 1) (kept_commands tables kepts)) more
-refusing_kept tables kepts i d start now next reply refused more found within r replied after version quota counts =
-    let one = command_at tables kepts i d found within in
-    refusing_more start now next (kept_commands tables kepts) _ _ one.command reply refused more r one.cut (kept_fact _ _ _ one.is replied) (kept_fact _ _ _ one.is after) version quota counts
+-- the ith command was run
+pub refusing_ran : (commands : List Command) (i : ℕ) (start now next : ObjectMeaning) (reply : Reply) (refused more : ℕ) → i < length commands → Refusing start now commands (drop i commands) refused
+    → IfSome (slice_get commands i) (λ c. Ran now c next reply) → more ≡ refused + cond (is_refusal reply) 1 0 → Refusing start next commands (drop (i + 1) commands) more
+refusing_ran commands i start now next reply refused more within r ran counts =
+    let at = command_at commands i within in
+    let did : Ran now at.one next reply = command_fact (λ c. Ran now c next reply) (slice_get commands i) at.one at.is ran in
+    refusing_more start now next commands _ _ at.one reply refused more r at.cut did.reply did.step.object (ap (λ (h : HeapMeaning). h.version) did.step.heap) (ap (λ (h : HeapMeaning). h.quota) did.step.heap) counts
 
 -- all commands were run
 pub refusing_all : (start now : ObjectMeaning) (commands rest : List Command) (refused : ℕ) → Refusing start now commands rest refused → rest ≡ []
@@ -236,10 +234,10 @@ counted replies s = record {
   slots = slots s.logs;
 }
 
-tally_is : (tables : Tables) (v : Version) (part : KeptPart)
-    → tally_of v (own_of tables part) ≡ counted (replies_from v part.decl.quota object_start (kept_commands tables part.commands.items)) (object_after v part.decl.quota object_start (kept_commands tables part.commands.items))
+tally_is : (v : Version) (part : Part)
+    → tally_of v (own_of part) ≡ counted (replies_from v part.decl.quota object_start part.commands) (object_after v part.decl.quota object_start part.commands)
 unfolding tally_of
-tally_is tables v part = refl
+tally_is v part = refl
 
 -- few logs are kept, and they take few records
 pub slots_few : (logs : List LogEntry) → IsLogList logs → slots logs ≤ 287
@@ -253,9 +251,9 @@ log_list keep start now commands begun ends =
     subst (λ (s : ObjectState). IsLogList s.logs) (sym (ends ∙ ap (λ s. object_after start.heap.version start.heap.quota s commands) begun)) (keep start.heap.version start.heap.quota commands)
 
 -- those of a run are what the part comes to
-pub tally_shown : (tables : Tables) (part : KeptPart) (start : ObjectMeaning) (commands : List Command)
-    → commands ≡ kept_commands tables part.commands.items → start.heap.quota ≡ part.decl.quota → state_of start ≡ object_start
-    → counted (replies_from start.heap.version start.heap.quota (state_of start) commands) (object_after start.heap.version start.heap.quota (state_of start) commands) ≡ tally_of start.heap.version (own_of tables part)
-tally_shown tables part start commands same quota begun =
+pub tally_shown : (part : Part) (start : ObjectMeaning) (commands : List Command)
+    → commands ≡ part.commands → start.heap.quota ≡ part.decl.quota → state_of start ≡ object_start
+    → counted (replies_from start.heap.version start.heap.quota (state_of start) commands) (object_after start.heap.version start.heap.quota (state_of start) commands) ≡ tally_of start.heap.version (own_of part)
+tally_shown part start commands same quota begun =
     let v : Version = start.heap.version in
-    (λ i. counted (replies_from v (quota i) (begun i) (same i)) (object_after v (quota i) (begun i) (same i))) ∙ sym (tally_is tables v part)
+    (λ i. counted (replies_from v (quota i) (begun i) (same i)) (object_after v (quota i) (begun i) (same i))) ∙ sym (tally_is v part)

@@ -1,18 +1,17 @@
 -- Replies whose lines are written, or wait on a page.
-use Rattle.std.proofs.Common.{◌≡◌, ℕ, ◌+◌, ◌<◌, All, IsSome, IfSome, length, drop, get_or, List, [], ◌∷◌, ◌++◌, flat_map, refl, sym, ap, ◌∙◌, append_assoc, append-nil}
+use Rattle.std.proofs.Common.{◌≡◌, ℕ, ◌+◌, ◌<◌, IfSome, length, drop, slice_get, List, [], ◌∷◌, ◌++◌, flat_map, refl, sym, ap, ◌∙◌, append_assoc, append-nil}
 use Rattle.dym_base.specs.Objects.{ObjectState, ObjectAnswer, object_step, replies_from, object_after}
 use Rattle.dym_base.specs.declared.command.Version.{Version}
 use Rattle.dym_base.specs.declared.command.Command.{Command}
 use Rattle.dym_base.specs.declared.reply.Reply.{Reply}
+use Rattle.dym_heap.specs.Meaning.{HeapMeaning}
 use Rattle.dym_object.specs.Meaning.{ObjectMeaning, state_of, step_by}
 use Rattle.dym_io.specs.Sink.{Output, Appended, Stopped, Leaves}
 use Rattle.dym_io.specs.Laws.{leaves_all, leaves_same, leaves_cut, leaves_more, leaves_nothing}
 use Rattle.dym_report.specs.Replies.{reply_line}
 use Rattle.dym_report.proofs.PageLines.{leaves_within}
-use Rattle.dym_script.specs.declared.kept.Kept.{Kept}
-use Rattle.dym_script.specs.declared.kept.Tables.{Tables}
-use Rattle.dym_script.specs.Kept.{kept_command, kept_commands}
-use Rattle.dymelor_top.proofs.KeptFacts.{CommandAt, command_at, kept_fact}
+use Rattle.dym_turn.specs.Turns.{Ran}
+use Rattle.dymelor_top.proofs.CommandFacts.{CommandAt, command_at, command_fact}
 
 -- the lines of the replies to commands
 abbrev pub lines_of : Version → ℕ → ObjectState → List Command → List ℕ
@@ -81,19 +80,17 @@ module _ (start now : ObjectMeaning) (commands rest : List Command) (page : List
   pub ended : state_of now ≡ object_after start.heap.version start.heap.quota (state_of start) commands
   ended = ap (object_after start.heap.version start.heap.quota (state_of now)) (sym none) ∙ w.ends
 
--- one command of those that are kept was run
-module _ (tables : Tables) (kepts : List Kept) (i : ℕ) (d : Kept) (start now : ObjectMeaning) (page : List ℕ) (reply : Reply) (old mid new : Output)
-    (found : All (λ kept. IsSome (kept_command tables kept)) kepts) (within : i < length kepts)
-    (w : Written start now (kept_commands tables kepts) (drop i (kept_commands tables kepts)) page old mid)
-    (replied : IfSome (kept_command tables (get_or kepts i d)) (λ c. reply ≡ (step_by now c).reply)) where
-  one : CommandAt tables kepts i d
-  one = command_at tables kepts i d found within
+-- one command more was run
+module _ (commands : List Command) (i : ℕ) (start now next : ObjectMeaning) (page : List ℕ) (reply : Reply) (old mid new : Output) (within : i < length commands)
+    (w : Written start now commands (drop i commands) page old mid) (ran : IfSome (slice_get commands i) (λ c. Ran now c next reply)) where
+  at : CommandAt commands i
+  at = command_at commands i within
 
-  pub kept_more : (next : ObjectMeaning) (left : List ℕ) → IfSome (kept_command tables (get_or kepts i d)) (λ c. state_of next ≡ (step_by now c).object)
-      → next.heap.version ≡ now.heap.version → next.heap.quota ≡ now.heap.quota → Leaves mid new (page ++ reply_line reply) left
-      → Written start next (kept_commands tables kepts) (drop (i + 1) (kept_commands tables kepts)) left old new
-  kept_more next left after version quota added =
-      written_more start now (kept_commands tables kepts) _ _ one.command page reply old mid new w one.cut (kept_fact _ _ _ one.is replied) next left (kept_fact _ _ _ one.is after) version quota added
+  did : Ran now at.one next reply
+  did = command_fact (λ c. Ran now c next reply) (slice_get commands i) at.one at.is ran
 
-  pub kept_cut : Stopped mid new (page ++ reply_line reply) → Stopped old new (lines_of start.heap.version start.heap.quota (state_of start) (kept_commands tables kepts))
-  kept_cut stopped = written_cut start now (kept_commands tables kepts) _ _ one.command page reply old mid new w one.cut (kept_fact _ _ _ one.is replied) stopped
+  pub ran_more : (left : List ℕ) → Leaves mid new (page ++ reply_line reply) left → Written start next commands (drop (i + 1) commands) left old new
+  ran_more left added = written_more start now commands _ _ at.one page reply old mid new w at.cut did.reply next left did.step.object (ap (λ (h : HeapMeaning). h.version) did.step.heap) (ap (λ (h : HeapMeaning). h.quota) did.step.heap) added
+
+  pub ran_cut : Stopped mid new (page ++ reply_line reply) → Stopped old new (lines_of start.heap.version start.heap.quota (state_of start) commands)
+  ran_cut stopped = written_cut start now commands _ _ at.one page reply old mid new w at.cut did.reply stopped

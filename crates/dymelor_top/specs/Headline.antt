@@ -9,10 +9,10 @@ use Rattle.dym_io.specs.Source.{TookAtMost}
 use Rattle.dym_io.specs.Sink.{Output, AllFlushed, Appended, AppendedFront, Blames}
 use Rattle.dym_words.specs.declared.order.Order.{Order}
 use Rattle.dym_words.specs.declared.order.Usage.{Usage}
-use Rattle.dymelor_top.specs.declared.stop.WriteFail.{WriteFail}
-use Rattle.dymelor_top.specs.declared.stop.WriteFail.TheVariants as fail
+use Rattle.dym_run.specs.declared.write_fail.WriteFail.{WriteFail}
+use Rattle.dym_run.specs.declared.write_fail.WriteFail.TheVariants as fail
 use Rattle.dymelor_top.specs.declared.plan.Plan.{Plan}
-use Rattle.dymelor_top.specs.Plans.{plan_of}
+use Rattle.dymelor_top.specs.Plans.{plan_of, whole_plan_of}
 use Rattle.dymelor_top.specs.declared.plan.Plan.TheVariants as plan
 use Rattle.dymelor_top.specs.Answers.{Answer, IsAnswer, reads}
 
@@ -74,9 +74,13 @@ pub record PlanHeadline (p : Plan) (old new : Input) (sink_old sink_new : Output
   -- there is no other status
   pub known : status ≤ 5
 
--- what holds of a call that was given this order
+-- what holds of a call that starts no thread and was given this order
 abbrev pub Headline : Result Order Usage → Input → Input → Output → Output → ℕ → Type 0
 Headline order old new sink_old sink_new status = PlanHeadline (plan_of order) old new sink_old sink_new status
+
+-- the same of a call that may start threads
+abbrev pub WholeHeadline : Result Order Usage → Input → Input → Output → Output → ℕ → Type 0
+WholeHeadline order old new sink_old sink_new status = PlanHeadline (whole_plan_of order) old new sink_old sink_new status
 
 -- what a call that answers for a known input does: the whole answer at Ok, and else the front of it
 abbrev pub Serves : {E : Type 0} → (Answer → Type 0) → Output → Output → Result ℕ E → Type 0

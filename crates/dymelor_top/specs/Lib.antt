@@ -1,8 +1,8 @@
 pub mod Stops
-pub mod Report
-pub mod Summary
+pub mod Checkpoints
+pub mod LateReport
+pub mod LateParts
 pub mod Plans
 pub mod Answers
 pub mod Headline
-pub mod Parts
 pub mod Blocks

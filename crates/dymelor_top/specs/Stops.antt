@@ -2,8 +2,8 @@
 use Rattle.std.specs.Prelude.{ℕ}
 use Rattle.dym_io.specs.declared.read.ReadFail.{ReadFail}
 use Rattle.dym_io.specs.declared.read.ReadFail.TheVariants as read
-use Rattle.dymelor_top.specs.declared.stop.WriteFail.{WriteFail}
-use Rattle.dymelor_top.specs.declared.stop.WriteFail.TheVariants as write
+use Rattle.dym_run.specs.declared.write_fail.WriteFail.{WriteFail}
+use Rattle.dym_run.specs.declared.write_fail.WriteFail.TheVariants as write
 use Rattle.dymelor_top.specs.declared.stop.Stop.{Stop}
 use Rattle.dymelor_top.specs.declared.stop.Stop.TheVariants as stop
 

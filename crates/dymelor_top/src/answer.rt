@@ -4,53 +4,42 @@ ghost use Rattle.dym_base.specs.declared.limits.TheConstants.{MOST_INPUT_BYTES};
 ghost use Rattle.dym_io.specs.Faults.{RoseOnce};
 ghost use Rattle.dym_io.specs.Source.{TookAtMost};
 ghost use Rattle.dym_script.specs.Scripts.{Said, Fault, script_of};
-ghost use Rattle.dym_script.specs.Answers.{GivesCounts};
-ghost use Rattle.dym_script.specs.Held.{GivesParts};
-ghost use Rattle.dymelor_top.specs.Report.{report_text};
-ghost use Rattle.dymelor_top.specs.Summary.{summary_of};
-ghost use Rattle.dymelor_top.specs.Answers.{of_script, counts_of, IsRead, IsTraceAnswer};
+ghost use Rattle.dym_script.specs.Answers.{GivesBy};
+ghost use Rattle.dym_script.specs.ByObjects.{GivesParts, GivesCounts};
+ghost use Rattle.dym_script.specs.Keeping.{IsWhole};
+ghost use Rattle.dym_run.specs.Report.{report_text};
+ghost use Rattle.dym_run.specs.Summary.{summary_of};
+ghost use Rattle.dymelor_top.specs.Answers.{of_script, counts_of, IsRead, IsStill, IsTraceAnswer};
 ghost use Rattle.dymelor_top.specs.Headline.{Writes, WritesSo, WritesAnswer, Counted};
 ghost use Rattle.dymelor_top.specs.declared.stop.Stop.TheVariants.{Source as SourceStopped, Sink as SinkStopped};
 
 use crate::blocks::read_source;
+use crate::late::answer_late;
+use crate::loaded::answer_loaded;
 use crate::plain::write_report;
 use crate::plan::Reading;
-use crate::stop::{Stop, WriteFail};
+use crate::saved::answer_saved;
+use crate::stop::Stop;
 use crate::total::total;
 use dym_base::BadKind;
 use dym_base::limits::MOST_INPUT_BYTES;
 use dym_io::{Sink, Source, read_whole};
 use dym_report::{write_counts, write_error, write_events, write_summary};
-use dym_script::{Counting, Counts, Holding, Parts, ScriptFail, count_script, read_parts};
+use dym_run::WriteFail;
+use dym_script::{Counting, Holding, ScriptFail, Whole};
 use dym_trace::{TraceAnswer, check_trace};
 use std::alloc::Global;
 
-/// Writes what is made of an input, and answers the status.
-pub fn answer<W: Sink>(
-    alloc: Global,
-    reading: Reading,
-    bytes: Vec<u8>,
-    sink: &mut W,
-) -> Result<u8, WriteFail>
-    ensures answered { Writes (IsRead reading bytes.items) (W.output sink.old) (W.output sink.new) result }
-    ensures status { IfOk result (λ status. (status ≡ 0) ⊎ (status ≡ 2)) }
-{
-    match reading {
-        Reading::Report => answer_report(alloc, read_made_script(alloc, bytes), sink),
-        Reading::Summary => answer_summary(alloc, read_made_script(alloc, bytes), sink),
-        Reading::Counts => answer_counts(alloc, bytes, sink),
-        Reading::Trace => answer_trace(alloc, bytes, sink),
-    }
-}
-
-/// Reads the source, and writes what is made of it. Only a trace is kept whole.
+/// Reads the source, writes what is made of it, and answers the status. Only a trace, a file and a script of late events
+/// are kept whole.
 pub fn answer_source<R: Source, W: Sink>(
     alloc: Global,
     reading: Reading,
     source: &mut R,
     sink: &mut W,
 ) -> Result<u8, Stop>
-    requires { R.goes_on source.old }
+    requires goes_on { R.goes_on source.old }
+    requires still { IsStill reading }
     ensures answered { (bytes : List ℕ) → R.left source.old ≡ Some bytes → WritesSo (IsRead reading bytes) (W.output sink.old) (W.output sink.new) result }
     ensures read { (bytes : List ℕ) → R.left source.old ≡ Some bytes → OnOk result (R.left source.new ≡ Some (drop (MOST_INPUT_BYTES + 1) bytes)) }
     ensures status { IfOk result (λ status. (status ≡ 0) ⊎ (status ≡ 2)) }
@@ -77,20 +66,26 @@ pub fn answer_source<R: Source, W: Sink>(
             let bytes = read_whole(alloc, source, MOST_INPUT_BYTES + 1)?;
             Ok(answer_trace(alloc, bytes, sink)?)
         }
+        Reading::File { name } => {
+            let script = read_source::<Holding, R>(alloc, source)?;
+            Ok(answer_saved(alloc, &name, script, sink)?)
+        }
+        Reading::Loaded { time } => {
+            let file = read_whole(alloc, source, MOST_INPUT_BYTES + 1)?;
+            Ok(answer_loaded(alloc, time, file, sink)?)
+        }
+        Reading::Late => {
+            let late = read_whole(alloc, source, MOST_INPUT_BYTES + 1)?;
+            Ok(answer_late(alloc, &late, sink)?)
+        }
+        Reading::Waves { .. } => unreachable!(),
     }
-}
-
-/// Reads a script into its parts, and gives its input up, whose memory then serves the run.
-fn read_made_script(alloc: Global, bytes: Vec<u8>) -> Result<Parts, ScriptFail>
-    ensures { GivesParts result (script_of bytes.items) }
-{
-    read_parts(alloc, &bytes)
 }
 
 /// Writes the report of a script that was read, or the line of its first fault.
 fn answer_report<W: Sink>(
     alloc: Global,
-    script: Result<Parts, ScriptFail>,
+    script: Result<Whole<Holding>, ScriptFail>,
     sink: &mut W,
 ) -> Result<u8, WriteFail>
     requires made { (read : Result Said Fault) × GivesParts script read }
@@ -114,7 +109,7 @@ fn answer_report<W: Sink>(
 /// Writes the summary of a script that was read, or the line of its first fault.
 fn answer_summary<W: Sink>(
     alloc: Global,
-    script: Result<Parts, ScriptFail>,
+    script: Result<Whole<Holding>, ScriptFail>,
     sink: &mut W,
 ) -> Result<u8, WriteFail>
     requires made { (read : Result Said Fault) × GivesParts script read }
@@ -136,26 +131,25 @@ fn answer_summary<W: Sink>(
     }
 }
 
-/// Writes how many objects and commands a script has, or the line of its first fault.
-fn answer_counts<W: Sink>(alloc: Global, bytes: Vec<u8>, sink: &mut W) -> Result<u8, WriteFail>
-    ensures answered { WritesAnswer (of_script counts_of (script_of bytes.items)) (W.output sink.old) (W.output sink.new) result }
-    ensures status { IfOk result (λ status. (status ≡ 0) ⊎ (status ≡ 2)) }
-{
-    answer_counted(count_script(alloc, &bytes), sink)
-}
-
 /// Writes how much a script says that was counted, or the line of its first fault.
 fn answer_counted<W: Sink>(
-    counted: Result<Counts, ScriptFail>,
+    counted: Result<Whole<Counting>, ScriptFail>,
     sink: &mut W,
 ) -> Result<u8, WriteFail>
+    requires made { (read : Result Said Fault) × GivesCounts counted read }
     ensures answered { (read : Result Said Fault) → GivesCounts counted read → WritesAnswer (of_script counts_of read) (W.output sink.old) (W.output sink.new) result }
     ensures status { IfOk result (λ status. (status ≡ 0) ⊎ (status ≡ 2)) }
     ensures counted { Counted (W.output sink.old) (W.output sink.new) result }
 {
     match counted {
-        Ok(Counts { objects, commands }) => {
-            write_counts(sink, objects, commands)?;
+        Ok(
+            Whole {
+                objects,
+                commands,
+                ..
+            },
+        ) => {
+            write_counts(sink, objects.len() as u32, commands)?;
             Ok(0)
         }
         Err(ScriptFail::Bad { line, kind }) => {

@@ -4,7 +4,8 @@ ghost use Rattle.std.specs.Io.KnownBytes.{Consumes, Keeps};
 ghost use Rattle.dym_io.specs.Faults.{RoseOnce};
 ghost use Rattle.dym_io.specs.Source.{IsEmptyAtEnd, TookAtMost};
 ghost use Rattle.dym_script.specs.Scripts.{script_of};
-ghost use Rattle.dym_script.specs.Answers.{FailsSo, GivesBy};
+ghost use Rattle.dym_script.specs.Answers.{FailsSo};
+ghost use Rattle.dym_script.specs.Wholes.{GivesWhole};
 ghost use Rattle.dym_script.specs.declared.script.ScriptFail.TheVariants.{Bad};
 ghost use Rattle.dym_base.specs.declared.bad_kind.BadKind.TheVariants.{TooLong};
 ghost use Rattle.dymelor_top.specs.Blocks.{IsFaultOf, Tells, IsDrained};
@@ -12,7 +13,7 @@ ghost use Rattle.dymelor_top.specs.Blocks.{IsFaultOf, Tells, IsDrained};
 use dym_base::BadKind;
 use dym_base::limits::{MOST_INPUT_BYTES, MOST_LINE_BYTES};
 use dym_io::{Failed, ReadFail, Source};
-use dym_script::{LineReader, Pieces, ScriptFail};
+use dym_script::{Keeper, Pieces, ScriptFail, Whole};
 use std::alloc::{AllocError, Global};
 
 /// The bytes of a block, which is little enough to stay in a cache.
@@ -25,13 +26,13 @@ const BLOCK_ROOM: usize = 4_194_304;
 /// Reads the script that a source gives, and answers what a reader of lines makes of it, which is that of the source's bytes.
 /// The source is read to its end, or for as many bytes as tell that the input is too long. The outer error: the source
 /// failed, or memory ran out before all was read. Whatever it answers, no more bytes are taken than tell of a too long input.
-pub fn read_source<K: LineReader + Drop, R: Source>(
+pub fn read_source<K: Keeper + Drop, R: Source>(
     alloc: Global,
     source: &mut R,
-) -> Result<Result<K::Made, ScriptFail>, ReadFail>
+) -> Result<Result<Whole<K>, ScriptFail>, ReadFail>
     requires { R.goes_on source.old }
-    ensures some { IfOk result (λ made. (bytes : List ℕ) × GivesBy K.tells made (script_of bytes)) }
-    ensures gives { (bytes : List ℕ) → R.left source.old ≡ Some bytes → IfOk result (λ made. GivesBy K.tells made (script_of bytes)) }
+    ensures some { IfOk result (λ made. (bytes : List ℕ) × GivesWhole K.keeps made (script_of bytes)) }
+    ensures gives { (bytes : List ℕ) → R.left source.old ≡ Some bytes → IfOk result (λ made. GivesWhole K.keeps made (script_of bytes)) }
     ensures read { (bytes : List ℕ) → R.left source.old ≡ Some bytes → OnOk result (R.left source.new ≡ Some (drop (MOST_INPUT_BYTES + 1) bytes)) }
     ensures bounded { TookAtMost (MOST_INPUT_BYTES + 1) (R.left source.old) (R.left source.new) }
     ensures failed { IsErrOf result ReadFail.Source → RoseOnce (R.faults source.old) (R.faults source.new) }
@@ -43,14 +44,14 @@ pub fn read_source<K: LineReader + Drop, R: Source>(
 }
 
 /// Reads the script that a source gives. What is pulled stands in the block behind the bytes of a line that wasn't ended.
-fn read_blocks<K: LineReader + Drop, R: Source>(
+fn read_blocks<K: Keeper + Drop, R: Source>(
     alloc: Global,
     source: &mut R,
     block: &mut [u8],
-) -> Result<Result<K::Made, ScriptFail>, ReadFail>
+) -> Result<Result<Whole<K>, ScriptFail>, ReadFail>
     requires long { MOST_LINE_BYTES < length block.old }
     requires goes_on { R.goes_on source.old }
-    ensures told { IfOk result (λ made. Tells [] (R.left source.old) (R.left source.new) (GivesBy K.tells made)) }
+    ensures told { IfOk result (λ made. Tells [] (R.left source.old) (R.left source.new) (GivesWhole K.keeps made)) }
     ensures bounded { TookAtMost (MOST_INPUT_BYTES + 1) (R.left source.old) (R.left source.new) }
     ensures failed { IsErrOf result ReadFail.Source → RoseOnce (R.faults source.old) (R.faults source.new) }
     ensures count { ¬ IsErrOf result ReadFail.Source → R.faults source.new ≡ R.faults source.old }
@@ -125,7 +126,8 @@ fn fault<R: Source>(
     requires some { 0 < length block.old }
     requires within { pulled ≤ MOST_INPUT_BYTES }
     requires goes_on { R.goes_on source.old }
-    ensures told { (front : List ℕ) → length front ≡ pulled → IsFaultOf front line kind → IfOk result (λ fail. Tells front (R.left source.old) (R.left source.new) (FailsSo fail)) }
+    ensures told { (front : List ℕ) → length front ≡ pulled → IsFaultOf front line kind
+        → IfOk result (λ fail. Tells front (R.left source.old) (R.left source.new) (FailsSo fail)) }
     ensures bounded { TookAtMost (MOST_INPUT_BYTES + 1 - pulled) (R.left source.old) (R.left source.new) }
     ensures count { OnOk result (R.faults source.new ≡ R.faults source.old) }
     ensures failed { OnErr result (RoseOnce (R.faults source.old) (R.faults source.new)) }

@@ -30,7 +30,13 @@ impl Lender {
         ensures nothing_held { IfOk result (λ s. ⟦<OwnSupply as Supply>⟧.held_ids s ≡ []) }
     {
         let supply = mem::replace(&mut self.supply, OwnSupply::empty(alloc));
-        supply.with_quota(alloc, quota)
+        match supply.with_quota(alloc, quota) {
+            Ok(supply) => Ok(supply),
+            Err((error, supply)) => {
+                self.supply = supply;
+                Err(error)
+            }
+        }
     }
 
     /// Takes the supply back, of which no segment is out.

@@ -5,17 +5,29 @@
 
 mod answer;
 mod blocks;
+mod late;
+mod late_parts;
+mod late_run;
+#[cfg(test)]
+mod late_tests;
+mod late_told;
 mod laws;
 mod lender;
+mod loaded;
+mod made;
 mod plain;
 mod plan;
+#[cfg(test)]
+mod run_tests;
+mod saved;
 mod still;
 mod stop;
-mod tally;
 #[cfg(test)]
 mod tests;
 mod total;
-mod turn;
+mod waves;
+mod whole;
 
 pub use laws::one_answer;
 pub use still::dymelor_still;
+pub use whole::dymelor;

@@ -1,34 +1,38 @@
 //! The order `plain`: one object after another, each part written as its object ends.
-ghost use Rattle.std.specs.Prelude.{◌≡◌, ◌≤◌, ◌^◌, length, flat_map, IsSome, IfOk, OnOk, All};
+ghost use Rattle.std.specs.Prelude.{◌≡◌, ◌≤◌, ◌^◌, [], length, flat_map, IfOk, OnOk, All};
 ghost use Rattle.dym_base.specs.Objects.{object_start, replies_from, object_after};
 ghost use Rattle.dym_io.specs.Sink.{WritesOr};
 ghost use Rattle.dym_object.specs.Meaning.{state_of};
 ghost use Rattle.dym_report.specs.Replies.{reply_line};
 ghost use Rattle.dym_script.specs.Scripts.{Said};
-ghost use Rattle.dym_script.specs.Held.{ArePartsOf};
-ghost use Rattle.dym_script.specs.Kept.{kept_command, kept_commands};
-ghost use Rattle.dymelor_top.specs.Parts.{IsRunnable, own_of};
-ghost use Rattle.dymelor_top.specs.Report.{part_text, report_text};
-ghost use Rattle.dymelor_top.specs.declared.stop.WriteFail.TheVariants.{Sink as SinkFailed};
+ghost use Rattle.dym_script.specs.ByObjects.{IsByObjects};
+ghost use Rattle.dym_run.specs.Parts.{IsRunnable, own_of};
+ghost use Rattle.dym_run.specs.Report.{part_text, report_text};
+ghost use Rattle.dym_run.specs.declared.write_fail.WriteFail.TheVariants.{Sink as SinkFailed};
 
 use crate::lender::Lender;
-use crate::stop::WriteFail;
-use crate::turn::run_kept;
-use dym_base::{Reply, Version};
+use dym_base::Version;
 use dym_chain::VecKeep;
+use dym_commands::Commands;
 use dym_io::Sink;
 use dym_object::Object;
 use dym_quota::OwnSupply;
 use dym_report::{Page, write_end, write_heading, write_state};
-use dym_script::{Kept, KeptPart, Parts, Tables};
+use dym_run::WriteFail;
+use dym_script::{Holding, Part, Whole};
+use dym_turn::Turn;
 use std::alloc::{AllocError, Global};
 
 /// Writes the report of a script, one object after another.
-pub fn write_report<W: Sink>(alloc: Global, script: &Parts, sink: &mut W) -> Result<(), WriteFail>
-    requires made { (s : Said) × ArePartsOf script.now s }
-    ensures { (s : Said) → ArePartsOf script.now s → WritesOr (λ fail. fail ≡ SinkFailed) (W.output sink.old) (W.output sink.new) (report_text s) result }
+pub fn write_report<W: Sink>(
+    alloc: Global,
+    script: &Whole<Holding>,
+    sink: &mut W,
+) -> Result<(), WriteFail>
+    requires made { (s : Said) × IsByObjects script.now s }
+    ensures { (s : Said) → IsByObjects script.now s → WritesOr (λ fail. fail ≡ SinkFailed) (W.output sink.old) (W.output sink.new) (report_text s) result }
 {
-    write_parts(alloc, script.version, &script.tables, &script.parts, sink)?;
+    write_parts(alloc, script.version, &script.kept.parts, sink)?;
     write_end(sink)?;
     Ok(())
 }
@@ -37,16 +41,15 @@ pub fn write_report<W: Sink>(alloc: Global, script: &Parts, sink: &mut W) -> Res
 fn write_parts<W: Sink>(
     alloc: Global,
     version: Version,
-    tables: &Tables,
-    parts: &[KeptPart],
+    parts: &[Part],
     sink: &mut W,
 ) -> Result<(), WriteFail>
-    requires { All (IsRunnable tables.now) parts.now }
-    ensures { WritesOr (λ fail. fail ≡ SinkFailed) (W.output sink.old) (W.output sink.new) (flat_map (λ part. part_text version (own_of tables.now part)) parts.now) result }
+    requires { All IsRunnable parts.now }
+    ensures { WritesOr (λ fail. fail ≡ SinkFailed) (W.output sink.old) (W.output sink.new) (flat_map (λ part. part_text version (own_of part)) parts.now) result }
 {
     let mut lender = Lender::new(alloc);
     for part in parts {
-        write_part(alloc, version, tables, part, &mut lender, sink)?;
+        write_part(alloc, version, part, &mut lender, sink)?;
     }
     Ok(())
 }
@@ -55,17 +58,17 @@ fn write_parts<W: Sink>(
 fn write_part<W: Sink>(
     alloc: Global,
     version: Version,
-    tables: &Tables,
-    part: &KeptPart,
+    part: &Part,
     lender: &mut Lender,
     sink: &mut W,
 ) -> Result<(), WriteFail>
-    requires { IsRunnable tables.now part.now }
-    ensures { WritesOr (λ fail. fail ≡ SinkFailed) (W.output sink.old) (W.output sink.new) (part_text version (own_of tables.now part.now)) result }
+    requires { IsRunnable part.now }
+    ensures { WritesOr (λ fail. fail ≡ SinkFailed) (W.output sink.old) (W.output sink.new) (part_text version (own_of part.now)) result }
 {
-    let mut object = open_object(alloc, version, lender, part.decl.quota)?;
-    let written = write_run(alloc, &mut object, tables, part, sink);
-    let (supply, _) = object.end(&());
+    let object = open_object(alloc, version, lender, part.decl.quota)?;
+    let mut turn = Turn::new(alloc, object);
+    let written = write_run(&mut turn, part, sink);
+    let (supply, _) = turn.into_object().end(&());
     lender.take_back(supply);
     written
 }
@@ -82,6 +85,7 @@ pub fn open_object(
     ensures version { IfOk result (λ o. o.heap.version ≡ version) }
     ensures quota { IfOk result (λ o. o.heap.quota ≡ quota) }
     ensures start { IfOk result (λ o. state_of o ≡ object_start) }
+    ensures below { IfOk result (λ o. o.chain.below ≡ []) }
     ensures ran { IfOk result (λ o. o.ran ≡ 0) }
 {
     let supply = lender.lend(alloc, quota)?;
@@ -94,45 +98,42 @@ pub fn open_object(
 
 /// Runs the commands of an object that was just opened, and writes its part.
 fn write_run<W: Sink>(
-    alloc: Global,
-    object: &mut Object<OwnSupply, VecKeep>,
-    tables: &Tables,
-    part: &KeptPart,
+    turn: &mut Turn<OwnSupply, VecKeep>,
+    part: &Part,
     sink: &mut W,
 ) -> Result<(), WriteFail>
-    requires runnable { IsRunnable tables.now part.now }
-    requires quota { object.old.heap.quota ≡ part.now.decl.quota }
-    requires start { state_of object.old ≡ object_start }
-    requires ran { object.old.ran ≡ 0 }
-    ensures { WritesOr (λ fail. fail ≡ SinkFailed) (W.output sink.old) (W.output sink.new) (part_text object.old.heap.version (own_of tables.now part.now)) result }
+    requires runnable { IsRunnable part.now }
+    requires quota { turn.old.object.heap.quota ≡ part.now.decl.quota }
+    requires start { state_of turn.old.object ≡ object_start }
+    requires ran { turn.old.object.ran ≡ 0 }
+    ensures { WritesOr (λ fail. fail ≡ SinkFailed) (W.output sink.old) (W.output sink.new) (part_text turn.old.object.heap.version (own_of part.now)) result }
 {
     write_heading(sink, &part.decl.name)?;
-    run_and_write(alloc, object, tables, &part.commands, sink)?;
+    run_and_write(turn, &part.commands, sink)?;
+    let object = &turn.object;
     write_state(sink, object.heap(), object.kept(), object.slots())?;
     Ok(())
 }
 
-/// Runs commands that are kept, and writes their replies, as many together as a page has room for.
+/// Runs commands, and writes their replies, as many together as a page has room for.
 fn run_and_write<W: Sink>(
-    alloc: Global,
-    object: &mut Object<OwnSupply, VecKeep>,
-    tables: &Tables,
-    kept: &[Kept],
+    turn: &mut Turn<OwnSupply, VecKeep>,
+    commands: &Commands,
     sink: &mut W,
 ) -> Result<(), WriteFail>
-    requires few { length kept.now ≤ 2 ^ 20 }
-    requires found { All (λ one. IsSome (kept_command tables.now one)) kept.now }
-    requires ran { object.old.ran ≡ 0 }
+    requires few { length commands.now ≤ 2 ^ 20 }
+    requires ran { turn.old.object.ran ≡ 0 }
     ensures replies { WritesOr (λ fail. fail ≡ SinkFailed) (W.output sink.old) (W.output sink.new)
-        (flat_map reply_line (replies_from object.old.heap.version object.old.heap.quota (state_of object.old) (kept_commands tables.now kept.now))) result }
-    ensures state { OnOk result (state_of object.new ≡ object_after object.old.heap.version object.old.heap.quota (state_of object.old) (kept_commands tables.now kept.now)) }
-    ensures version { OnOk result (object.new.heap.version ≡ object.old.heap.version) }
+        (flat_map reply_line (replies_from turn.old.object.heap.version turn.old.object.heap.quota (state_of turn.old.object) commands.now))
+        result }
+    ensures state { OnOk result (state_of turn.new.object
+        ≡ object_after turn.old.object.heap.version turn.old.object.heap.quota (state_of turn.old.object) commands.now) }
+    ensures version { OnOk result (turn.new.object.heap.version ≡ turn.old.object.heap.version) }
 {
     let mut page = Page::new();
-    for one in kept {
-        let mut reply = Reply::Done;
-        run_kept::<Page>(alloc, object, tables, one, &mut reply)?;
-        page.add(sink, &reply)?;
+    for k in 0..commands.len() {
+        commands.run(k, &(), turn)?;
+        page.add(sink, &turn.reply)?;
     }
     page.write(sink)?;
     Ok(())

@@ -2,10 +2,11 @@
 ghost use Rattle.std.specs.Prelude.{◌≡◌};
 ghost use Rattle.dymelor_top.specs.Plans.{plan_of, plain_plan};
 
+use dym_base::Name;
 use dym_words::{Input, Order, Usage};
 
 /// What is made of an input that is read.
-#[derive(Clone, Copy, Debug, PartialEq, Eq)]
+#[derive(Drop)]
 pub enum Reading {
     /// The report of a script.
     Report,
@@ -15,10 +16,18 @@ pub enum Reading {
     Counts,
     /// The verdict on a trace.
     Trace,
+    /// The checkpoint file of the object of this name.
+    File { name: Name },
+    /// What a checkpoint file holds, restored to this time where there is one.
+    Loaded { time: Option<u64> },
+    /// The report of a script of late events.
+    Late,
+    /// The report of a script whose objects run in waves, or its summary. All that run at a time have so many segments.
+    Waves { segments: u32, is_summary: bool },
 }
 
 /// What is to be done for the words of a command line.
-#[derive(Clone, Copy, Debug, PartialEq, Eq)]
+#[derive(Drop)]
 pub enum Plan {
     /// Read the source, and write what is made of it.
     Read(Reading),
@@ -40,11 +49,11 @@ pub enum Plan {
 }
 
 /// What is to be done for an order.
-pub fn plan_for(order: &Result<Order, Usage>) -> Plan
-    ensures { result ≡ plan_of order.now }
+pub fn plan_for(order: Result<Order, Usage>) -> Plan
+    ensures { result ≡ plan_of order }
 {
     match order {
-        Ok(Order::Plain { input, summary }) => plan_for_plain(input, *summary),
+        Ok(Order::Plain { input, summary }) => plan_for_plain(input, summary),
         Ok(Order::Run { .. }) => Plan::Usage,
         Ok(Order::Check) => Plan::Read(Reading::Counts),
         Ok(
@@ -54,21 +63,21 @@ pub fn plan_for(order: &Result<Order, Usage>) -> Plan
                 commands,
             },
         ) => Plan::Make {
-            seed: *seed,
-            objects: *objects,
-            commands: *commands,
+            seed,
+            objects,
+            commands,
         },
         Ok(Order::Trace) => Plan::Read(Reading::Trace),
-        Ok(Order::Save { .. }) => Plan::Usage,
-        Ok(Order::Load { .. }) => Plan::Usage,
+        Ok(Order::Save { name }) => Plan::Read(Reading::File { name }),
+        Ok(Order::Load { time }) => Plan::Read(Reading::Loaded { time }),
         Ok(Order::Views { .. }) => Plan::Usage,
-        Ok(Order::Late) => Plan::Usage,
+        Ok(Order::Late) => Plan::Read(Reading::Late),
         Err(_) => Plan::Usage,
     }
 }
 
-fn plan_for_plain(input: &Input, summary: bool) -> Plan
-    ensures { result ≡ plain_plan input.now summary }
+fn plan_for_plain(input: Input, summary: bool) -> Plan
+    ensures { result ≡ plain_plan input summary }
 {
     let reading = if summary {
         Reading::Summary
@@ -83,9 +92,9 @@ fn plan_for_plain(input: &Input, summary: bool) -> Plan
             commands,
         } => Plan::ReadMade {
             reading,
-            seed: *seed,
-            objects: *objects,
-            commands: *commands,
+            seed,
+            objects,
+            commands,
         },
     }
 }

@@ -7,25 +7,24 @@ ghost use Rattle.dym_io.specs.Sink.{AllFlushed, Blames};
 ghost use Rattle.dym_io.specs.Source.{TookAtMost};
 ghost use Rattle.dym_gen.specs.Scripts.{generated};
 ghost use Rattle.dym_words.specs.Orders.{order};
-ghost use Rattle.dymelor_top.specs.Answers.{made_answer, usage_answer, IsRead};
-ghost use Rattle.dymelor_top.specs.Headline.{Headline, Serves, Counted};
+ghost use Rattle.dymelor_top.specs.Answers.{made_answer, usage_answer, IsRead, IsStill};
+ghost use Rattle.dymelor_top.specs.Headline.{Headline, Serves};
 ghost use Rattle.dymelor_top.specs.declared.stop.Stop.TheVariants.{Source as SourceStopped, Sink as SinkStopped};
-ghost use Rattle.dymelor_top.specs.declared.stop.WriteFail.TheVariants.{Sink as SinkFailed};
+ghost use Rattle.dym_run.specs.declared.write_fail.WriteFail.TheVariants.{Sink as SinkFailed};
 
-use crate::answer::{answer, answer_source};
+use crate::answer::answer_source;
+use crate::made::{MadeSource, made_script};
 use crate::plan::{Plan, Reading, plan_for};
-use crate::stop::{Stop, WriteFail};
+use crate::stop::Stop;
 use dym_gen::gen_script;
-use dym_io::{MemSink, Sink, Source};
+use dym_io::{Sink, Source};
 use dym_report::write_usage;
+use dym_run::WriteFail;
 use dym_words::read_words;
-use std::alloc::{AllocError, Global};
-
-/// The bytes of room that the longest made script fits in.
-const MADE_ROOM: usize = 6_600_000;
+use std::alloc::Global;
 
 /// Serves the words of a command line that start no thread, and answers the status: 0 and the whole answer, 1 for words of
-/// no order, 2 and the line of the first fault of a bad script, 3 and 4 where the source or the sink failed, 5 where memory
+/// no order, 2 and the line of the first fault of a bad input, 3 and 4 where the source or the sink failed, 5 where memory
 /// ran out. It always returns.
 pub fn dymelor_still<R: Source, W: Sink>(
     alloc: Global,
@@ -38,7 +37,7 @@ pub fn dymelor_still<R: Source, W: Sink>(
         (record { left = R.left source.old; faults = R.faults source.old }) (record { left = R.left source.new; faults = R.faults source.new })
         (W.output sink.old) (W.output sink.new) result }
 {
-    match plan_for(&read_words(words)) {
+    match plan_for(read_words(words)) {
         Plan::Read(reading) => match serve_read(alloc, reading, source, sink) {
             Ok(status) => status,
             Err(stop) => stop.status(),
@@ -50,7 +49,7 @@ pub fn dymelor_still<R: Source, W: Sink>(
             commands,
         } => match serve_read_made(alloc, reading, seed, objects, commands, sink) {
             Ok(status) => status,
-            Err(fail) => Stop::from(fail).status(),
+            Err(stop) => stop.status(),
         },
         Plan::Make {
             seed,
@@ -97,7 +96,7 @@ fn serve_made<W: Sink>(
     Ok(0)
 }
 
-/// Writes what is made of the script that a seed makes.
+/// Writes what is made of the script that a seed makes, which is read as any input is.
 fn serve_read_made<W: Sink>(
     alloc: Global,
     reading: Reading,
@@ -105,32 +104,20 @@ fn serve_read_made<W: Sink>(
     objects: u32,
     commands: u32,
     sink: &mut W,
-) -> Result<u8, WriteFail>
+) -> Result<u8, Stop>
     requires some { 0 < objects }
     requires objects { objects ≤ MOST_OBJECTS }
     requires commands { commands ≤ MOST_MADE_COMMANDS }
+    requires still { IsStill reading }
     ensures served { Serves (IsRead reading (generated seed objects commands)) (W.output sink.old) (W.output sink.new) result }
     ensures status { IfOk result (λ status. (status ≡ 0) ⊎ (status ≡ 2)) }
-    ensures counted { Counted (W.output sink.old) (W.output sink.new) result }
+    ensures no_source { ¬ IsErrOf result SourceStopped }
+    ensures sink_fault { IsErrOf result SinkStopped → RoseOnce (W.output sink.old).faults (W.output sink.new).faults }
+    ensures sink_stands { ¬ IsErrOf result SinkStopped → (W.output sink.new).faults ≡ (W.output sink.old).faults }
 {
     let made = made_script(alloc, seed, objects, commands)?;
-    let status = answer(alloc, reading, made, sink)?;
-    flush(sink)?;
-    Ok(status)
-}
-
-/// The script that a seed makes. A sink of this room takes the longest one.
-fn made_script(alloc: Global, seed: u64, objects: u32, commands: u32) -> Result<Vec<u8>, AllocError>
-    requires some { 0 < objects }
-    requires objects { objects ≤ MOST_OBJECTS }
-    requires commands { commands ≤ MOST_MADE_COMMANDS }
-    ensures { IfOk result (λ made. made.items ≡ generated seed objects commands) }
-{
-    let mut made = MemSink::new(alloc, MADE_ROOM, MADE_ROOM, Vec::new(alloc))?;
-    match gen_script(&mut made, seed, objects, commands) {
-        Ok(()) => Ok(made.into_bytes()),
-        Err(_) => Err(AllocError),
-    }
+    let mut source = MadeSource { rest: &made };
+    serve_read(alloc, reading, &mut source, sink)
 }
 
 /// Reads the source, and writes what is made of it.
@@ -140,7 +127,8 @@ fn serve_read<R: Source, W: Sink>(
     source: &mut R,
     sink: &mut W,
 ) -> Result<u8, Stop>
-    requires { R.goes_on source.old }
+    requires goes_on { R.goes_on source.old }
+    requires still { IsStill reading }
     ensures served { (bytes : List ℕ) → R.left source.old ≡ Some bytes → Serves (IsRead reading bytes) (W.output sink.old) (W.output sink.new) result }
     ensures read { (bytes : List ℕ) → R.left source.old ≡ Some bytes → OnOk result (R.left source.new ≡ Some (drop (MOST_INPUT_BYTES + 1) bytes)) }
     ensures status { IfOk result (λ status. (status ≡ 0) ⊎ (status ≡ 2)) }
@@ -156,7 +144,7 @@ fn serve_read<R: Source, W: Sink>(
 }
 
 /// Flushes all that was written.
-fn flush<W: Sink>(sink: &mut W) -> Result<(), WriteFail>
+pub(crate) fn flush<W: Sink>(sink: &mut W) -> Result<(), WriteFail>
     ensures written { Keeps (W.output sink.old).written (W.output sink.new).written }
     ensures flushed { OnOk result (AllFlushed (W.output sink.old) (W.output sink.new)) }
     ensures count { OnOk result ((W.output sink.new).faults ≡ (W.output sink.old).faults) }

@@ -1,34 +1,9 @@
 //! Why a top call stops before it has written its whole answer.
 ghost use Rattle.std.specs.Prelude.{◌≡◌};
-ghost use Rattle.dymelor_top.specs.declared.stop.WriteFail.TheVariants.{Sink, Memory};
 
-use dym_io::{ReadFail, SinkFault};
+use dym_io::ReadFail;
+use dym_run::WriteFail;
 use std::alloc::AllocError;
-
-/// Why an answer was not written whole.
-#[derive(Clone, Copy, Debug, PartialEq, Eq)]
-pub enum WriteFail {
-    /// The sink failed.
-    Sink,
-    /// Memory ran out.
-    Memory,
-}
-
-impl From<SinkFault> for WriteFail {
-    ghost from_gives = { λ _ fail. fail ≡ Sink };
-
-    fn from(_: SinkFault) -> WriteFail {
-        WriteFail::Sink
-    }
-}
-
-impl From<AllocError> for WriteFail {
-    ghost from_gives = { λ _ fail. fail ≡ Memory };
-
-    fn from(_: AllocError) -> WriteFail {
-        WriteFail::Memory
-    }
-}
 
 /// Why a top call stops before it has written its whole answer.
 #[derive(Clone, Copy, Debug, PartialEq, Eq)]
@@ -53,6 +28,16 @@ impl Stop {
             Stop::Sink => 4,
             Stop::Memory => 5,
         }
+    }
+}
+
+impl From<AllocError> for Stop {
+    ghost use Rattle.dymelor_top.specs.declared.stop.Stop.TheVariants as stop;
+
+    ghost from_gives = { λ _ stopped. stopped ≡ stop.Memory };
+
+    fn from(_: AllocError) -> Stop {
+        Stop::Memory
     }
 }
 

@@ -7,24 +7,24 @@ use std::test::Fail;
 
 /// What a source or a sink in memory gives or takes.
 #[derive(Clone, Copy)]
-struct Calls {
+pub(crate) struct Calls {
     /// The most bytes of one call.
-    piece: usize,
+    pub piece: usize,
     /// The most bytes in all, of a sink.
-    room: usize,
+    pub room: usize,
     /// The call that fails.
-    fails: Option<u32>,
+    pub fails: Option<u32>,
 }
 
 /// A source or a sink whose calls don't fail.
-const WHOLE: Calls = Calls {
+pub(crate) const WHOLE: Calls = Calls {
     piece: 65_536,
     room: 65_536,
     fails: None,
 };
 
 /// The calls that fail, as a list.
-fn failing(alloc: Global, calls: Calls) -> Result<Vec<u32>, Fail> {
+pub(crate) fn failing(alloc: Global, calls: Calls) -> Result<Vec<u32>, Fail> {
     let mut fails = Vec::new(alloc);
     if let Some(call) = calls.fails {
         fails.push(call)?;
@@ -33,7 +33,7 @@ fn failing(alloc: Global, calls: Calls) -> Result<Vec<u32>, Fail> {
 }
 
 /// The status and the bytes that the words give for an input.
-fn served(
+pub(crate) fn served(
     alloc: Global,
     words: &[&str],
     input: &[u8],
@@ -52,9 +52,9 @@ fn served(
 }
 
 /// The input and the report of the first path.
-const FIRST: &str = "object a 1\na malloc 40\n";
+pub(crate) const FIRST: &str = "object a 1\na malloc 40\n";
 
-const FIRST_REPORT: &str = "object a\nok 64:0\nheap 1 1\n64:0 -\nlogs 0 0\nend\n";
+pub(crate) const FIRST_REPORT: &str = "object a\nok 64:0\nheap 1 1\n64:0 -\nlogs 0 0\nend\n";
 
 #[test]
 fn answers_worked_rows(rt: HostRuntime) -> Result<(), Fail> {
@@ -631,5 +631,170 @@ fn tells_of_calls_that_fail(rt: HostRuntime) -> Result<(), Fail> {
     let (status, written) = served(alloc, &[], b"", WHOLE, three)?;
     assert_eq!(rt; status, 4);
     assert_eq!(rt; written.as_slice(), b"usa".as_slice());
+    Ok(())
+}
+
+/// The file of an object `a` of one segment, with one log at time 10 of its empty heap; and the same of version 2.
+const EMPTY_LOG: &[u8] =
+    b"DYMCKPT1\x01a\x01\0\0\0\x01\x01\0\0\0\0\x0d\0\0\0F\x0a\0\0\0\0\0\0\0\0\0\0\0";
+
+const EMPTY_LOG_2: &[u8] =
+    b"DYMCKPT1\x01a\x01\0\0\0\x02\x01\0\0\0\0\x0d\0\0\0f\x0a\0\0\0\0\0\0\0\0\0\0\0";
+
+#[test]
+fn saves_files(rt: HostRuntime) -> Result<(), Fail> {
+    let alloc = rt.alloc();
+    let a = ["save", "a"].as_slice();
+    let b = ["save", "b"].as_slice();
+    let rows: [(&[&str], &str, u8, &[u8]); 12] = [
+        (a, "object a 1\na log 10\n", 0, EMPTY_LOG),
+        (a, "version 2\nobject a 1\na log 10\n", 0, EMPTY_LOG_2),
+        (
+            a,
+            "object b 2\nobject a 1\nb log 3\nb log 4\na log 10\na malloc 1\n",
+            0,
+            EMPTY_LOG,
+        ),
+        (a, FIRST, 0, b"DYMCKPT1\x01a\x01\0\0\0\x01\0\0\0\0\0"),
+        (b, FIRST, 2, b"error line 0: undeclared\n"),
+        (b, "", 2, b"error line 0: undeclared\n"),
+        (b, "object a 1\na mallok 4\n", 2, b"error line 2: command\n"),
+        (a, "b log 10\n", 2, b"error line 1: undeclared\n"),
+        (&["save"], FIRST, 1, b"usage\n"),
+        (&["save", "a-b"], FIRST, 1, b"usage\n"),
+        (&["save", "object"], FIRST, 1, b"usage\n"),
+        (&["save", "a", "a"], FIRST, 1, b"usage\n"),
+    ];
+    for (words, input, status, text) in rows {
+        let (found, bytes) = served(alloc, words, input.as_bytes(), WHOLE, WHOLE)?;
+        assert_eq!(rt; found, status, "of {input}");
+        assert_eq!(rt; bytes.as_slice(), text, "of {input}");
+    }
+    Ok(())
+}
+
+#[test]
+fn saves_no_file_that_is_too_long(rt: HostRuntime) -> Result<(), Fail> {
+    let alloc = rt.alloc();
+    let roomy = Calls {
+        room: 16_777_216,
+        ..WHOLE
+    };
+    for (until, wanted, len) in [(257, 2, 22), (256, 0, 16_717_565)] {
+        let mut input = String::from_str(alloc, "object a 1\na malloc 65536\n")?;
+        input.push_str(&logs(alloc, "log", 1, until)?)?;
+        let (status, bytes) = served(alloc, &["save", "a"], input.as_bytes(), WHOLE, roomy)?;
+        assert_eq!(rt; status, wanted, "of logs below {until}");
+        assert_eq!(rt; bytes.len(), len, "of logs below {until}");
+        if status == 2 {
+            assert_eq!(rt; bytes.as_slice(), b"error line 0: toolong\n".as_slice());
+        }
+    }
+    Ok(())
+}
+
+#[test]
+fn loads_files(rt: HostRuntime) -> Result<(), Fail> {
+    let alloc = rt.alloc();
+    let load = ["load"].as_slice();
+    let at_9 = ["load", "9"].as_slice();
+    let mut longer = EMPTY_LOG.to_vec(alloc)?;
+    longer.push(0)?;
+    let zeros = vec![in alloc; 0; 16_777_217]?;
+    let rows: [(&[&str], &[u8], u8, &str); 14] = [
+        (load, EMPTY_LOG, 0, "object a\nheap 0 0\nlogs 1 1\nend\n"),
+        (load, EMPTY_LOG_2, 0, "object a\nheap 0 0\nlogs 1 1\nend\n"),
+        (
+            at_9,
+            EMPTY_LOG,
+            0,
+            "object a\nnolog\nheap 0 0\nlogs 1 1\nend\n",
+        ),
+        (
+            &["load", "10"],
+            EMPTY_LOG_2,
+            0,
+            "object a\nok 10\nheap 0 0\nlogs 1 1\nend\n",
+        ),
+        (
+            at_9,
+            b"DYMCKPT1\x01a\x01\0\0\0\x01\0\0\0\0\0",
+            0,
+            "object a\nnolog\nheap 0 0\nlogs 0 0\nend\n",
+        ),
+        (load, b"", 2, "error line 0: file\n"),
+        (load, &EMPTY_LOG[1..], 2, "error line 0: file\n"),
+        (load, &EMPTY_LOG[..36], 2, "error line 1: file\n"),
+        (at_9, &EMPTY_LOG[..20], 2, "error line 1: file\n"),
+        (at_9, &longer, 2, "error line 2: file\n"),
+        (load, &zeros[1..], 2, "error line 0: file\n"),
+        (load, &zeros, 2, "error line 0: toolong\n"),
+        (&["load", "-1"], EMPTY_LOG, 1, "usage\n"),
+        (&["load", "9", "9"], EMPTY_LOG, 1, "usage\n"),
+    ];
+    for (words, input, status, text) in rows {
+        let (found, bytes) = served(alloc, words, input, WHOLE, WHOLE)?;
+        assert_eq!(rt; found, status, "at {text}");
+        assert_eq!(rt; bytes.as_slice(), text.as_bytes(), "at {text}");
+    }
+    Ok(())
+}
+
+/// An object whose oldest kept log stands on one below it.
+const PRUNED: &str =
+    "object a 1\na malloc 40\na log 10\na write 64:0 0 2a\na ilog 20\na ilog 30\na restore 25\na ilog 26\na restore 5\na prune 5\na prune 22\na restore 15\na logs\n";
+
+#[test]
+fn loads_what_was_saved(rt: HostRuntime) -> Result<(), Fail> {
+    let alloc = rt.alloc();
+    let rows = [("", 854, "64:0 2a\n"), ("version 2\n", 814, "64:0 40 2a\n")];
+    for (head, len, image) in rows {
+        let input = format!(in alloc; "{head}{PRUNED}")?;
+        let (status, file) = served(alloc, &["save", "a"], input.as_bytes(), WHOLE, WHOLE)?;
+        assert_eq!(rt; status, 0);
+        assert_eq!(rt; file.len(), len);
+        let text = format!(in alloc; "object a\nok 20\nheap 1 1\n{image}logs 1 2\nend\n")?;
+        let (status, found) = served(alloc, &["load", "22"], &file, WHOLE, WHOLE)?;
+        assert_eq!(rt; status, 0);
+        assert_eq!(rt; found.as_slice(), text.as_bytes());
+        let text = format!(in alloc; "object a\nheap 1 1\n{image}logs 2 3\nend\n")?;
+        let (status, found) = served(alloc, &["load"], &file, WHOLE, WHOLE)?;
+        assert_eq!(rt; status, 0);
+        assert_eq!(rt; found.as_slice(), text.as_bytes());
+    }
+    Ok(())
+}
+
+#[test]
+fn tells_of_calls_that_fail_at_files(rt: HostRuntime) -> Result<(), Fail> {
+    let alloc = rt.alloc();
+    let script = b"object a 1\na log 10\n".as_slice();
+    let text = b"object a\nheap 0 0\nlogs 1 1\nend\n".as_slice();
+    let rows: [(&[&str], &[u8], &[u8]); 2] = [
+        (&["save", "a"], script, EMPTY_LOG),
+        (&["load"], EMPTY_LOG, text),
+    ];
+    for (words, input, output) in rows {
+        for call in [0, 1, 7] {
+            let from = Calls {
+                piece: 1,
+                fails: Some(call),
+                ..WHOLE
+            };
+            let (status, written) = served(alloc, words, input, from, WHOLE)?;
+            assert_eq!(rt; status, 3, "at source call {call}");
+            assert_eq!(rt; written.len(), 0, "at source call {call}");
+        }
+        for room in [0, 1, 7, 23] {
+            let to = Calls { room, ..WHOLE };
+            let (status, written) = served(alloc, words, input, WHOLE, to)?;
+            assert_eq!(rt; status, 4, "at room {room}");
+            assert_eq!(rt;
+                written.as_slice(),
+                &output[..room.min(output.len())],
+                "at room {room}"
+            );
+        }
+    }
     Ok(())
 }

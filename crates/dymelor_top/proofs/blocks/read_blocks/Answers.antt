@@ -3,9 +3,11 @@ use Rattle.dym_base.specs.declared.bad_kind.BadKind.{BadKind}
 use Rattle.dym_base.specs.declared.limits.TheConstants.{MOST_INPUT_BYTES}
 use Rattle.dym_script.specs.declared.script.ScriptFail.TheVariants as fail
 use Rattle.dym_script.specs.Answers.{FailsSo, GivesBy}
-use Rattle.dym_script.specs.Pieces.{says, Took, TakesPiece}
+use Rattle.dym_script.specs.Pieces.{says, TakesPiece}
+use Rattle.dym_script.specs.declared.pieces.Whole.{Whole}
+use Rattle.dym_script.specs.Keeping.{TookBy, IsWhole}
 use Rattle.dymelor_top.specs.Blocks.{IsFaultOf, Tells}
-use Rattle.dymelor_top.proofs.ReadBlocks.{read_end, pulled_behind, pulled_long, read_more, read_bad, took_both, told_few}
+use Rattle.dymelor_top.proofs.ReadBlocks.{read_end, pulled_behind, pulled_long, read_more, read_bad, took_before, took_both, told_few}
 use Rattle.dymelor_top.proofs.blocks.read_blocks.Goals as goal
 
 pub returns-then-amount-eq0-clause-told : goal.returns-then-amount-eq0-clause-told
@@ -13,15 +15,15 @@ returns-then-amount-eq0-clause-told g c =
     let l = c.pieces in
     let pulled = c.in_ok-amount.ensures in
     read_end (g.R.Source.left c.args.source.now) (g.R.Source.left l.source) (g.R.Source.left c.pull_behind.new.source) (g.R.Source.faults c.args.source.now) (g.R.Source.faults l.source)
-    c.in_ok-amount.amount l.pulled (Took (g.K.LineReader.fits l.script.lines) (g.K.LineReader.stands l.script.lines) l.script.number) (take l.left l.block) (drop l.left c.pull_behind.new.block) (GivesBy g.K.LineReader.tells c.finish.result) l.invariant.read pulled.end c.if-amount-eq0.true pulled.taken
-    (λ taken took. subst (λ t. GivesBy g.K.LineReader.tells c.finish.result (says (taken ++ t))) pulled.kept (c.finish.ensures taken took))
+    c.in_ok-amount.amount l.pulled (TookBy (g.K.Keeper.keeps l.script.keeper) l.script.reader l.script.commands l.script.number) (take l.left l.block) (drop l.left c.pull_behind.new.block) (GivesBy (λ (whole : Whole g.row.K.Denot). IsWhole (g.K.Keeper.keeps whole.kept) whole.version whole.objects.items whole.commands) c.finish.result) l.invariant.read pulled.end c.if-amount-eq0.true pulled.taken
+    (λ taken took. subst (λ t. GivesBy (λ (whole : Whole g.row.K.Denot). IsWhole (g.K.Keeper.keeps whole.kept) whole.version whole.objects.items whole.commands) c.finish.result (says (taken ++ t))) pulled.kept (c.finish.ensures taken took))
 
 pub returns-then-pulled-gt-MOST_INPUT_BYTES-clause-told : goal.returns-then-pulled-gt-MOST_INPUT_BYTES-clause-told
 returns-then-pulled-gt-MOST_INPUT_BYTES-clause-told g c =
     let l = c.pieces in
     let pulled = c.in_ok-amount.ensures in
     let n = c.in_ok-amount.amount in
-    let before = Took (g.K.LineReader.fits l.script.lines) (g.K.LineReader.stands l.script.lines) l.script.number in
+    let before = TookBy (g.K.Keeper.keeps l.script.keeper) l.script.reader l.script.commands l.script.number in
     let a = g.R.Source.left c.args.source.now in
     let b = g.R.Source.left l.source in
     let after = g.R.Source.left c.pull_behind.new.source in
@@ -35,8 +37,8 @@ pieces-preserved g c =
     let l = c.pieces in
     let pulled = c.in_ok-amount.ensures in
     let n = c.in_ok-amount.amount in
-    let before = Took (g.K.LineReader.fits l.script.lines) (g.K.LineReader.stands l.script.lines) l.script.number in
-    let now = Took (g.K.LineReader.fits c.take.new.self.lines) (g.K.LineReader.stands c.take.new.self.lines) c.take.new.self.number in
+    let before = TookBy (g.K.Keeper.keeps l.script.keeper) l.script.reader l.script.commands l.script.number in
+    let now = TookBy (g.K.Keeper.keeps c.take.new.self.keeper) c.take.new.self.reader c.take.new.self.commands c.take.new.self.number in
     let a = g.R.Source.left c.args.source.now in
     let b = g.R.Source.left l.source in
     let after = g.R.Source.left c.pull_behind.new.source in
@@ -56,8 +58,8 @@ returns-in-Err-Bad-clause-told g c =
     let l = c.pieces in
     let pulled = c.in_ok-amount.ensures in
     let n = c.in_ok-amount.amount in
-    let before = Took (g.K.LineReader.fits l.script.lines) (g.K.LineReader.stands l.script.lines) l.script.number in
-    let now = Took (g.K.LineReader.fits c.take.new.self.lines) (g.K.LineReader.stands c.take.new.self.lines) c.take.new.self.number in
+    let before = TookBy (g.K.Keeper.keeps l.script.keeper) l.script.reader l.script.commands l.script.number in
+    let now = TookBy (g.K.Keeper.keeps c.take.new.self.keeper) c.take.new.self.reader c.take.new.self.commands c.take.new.self.number in
     let a = g.R.Source.left c.args.source.now in
     let b = g.R.Source.left l.source in
     let middle = g.R.Source.left c.pull_behind.new.source in
@@ -72,6 +74,17 @@ returns-in-Err-Bad-clause-told g c =
 
 -- However the call ends, no more was taken than tells that the input is too long.
 
+pub returns-in_err-amount-clause-bounded : goal.returns-in_err-amount-clause-bounded
+returns-in_err-amount-clause-bounded g c =
+    let l = c.pieces in
+    let so = l.invariant.read in
+    let left = take l.left l.block in
+    took_before (MOST_INPUT_BYTES + 1) l.pulled (g.R.Source.left c.args.source.now) (g.R.Source.left l.source) (g.R.Source.left c.pull_behind.new.source) (so.taken ++ left) so.consumed
+    (omega (arith, so.count, length-append so.taken left)) (omega (arith, so.within)) c.in_err-amount.ensures.stays
+
+pub returns-then-amount-eq0-clause-bounded : goal.returns-then-amount-eq0-clause-bounded
+returns-then-amount-eq0-clause-bounded g c = told_few _ _ _ (returns-then-amount-eq0-clause-told g c)
+
 pub returns-then-pulled-gt-MOST_INPUT_BYTES-clause-bounded : goal.returns-then-pulled-gt-MOST_INPUT_BYTES-clause-bounded
 returns-then-pulled-gt-MOST_INPUT_BYTES-clause-bounded g c = told_few _ _ _ (returns-then-pulled-gt-MOST_INPUT_BYTES-clause-told g c)
 
@@ -83,7 +96,7 @@ returns-in_err-fault-in-Err-Bad-clause-bounded g c =
     let l = c.pieces in
     let pulled = c.in_ok-amount.ensures in
     let n = c.in_ok-amount.amount in
-    let before = Took (g.K.LineReader.fits l.script.lines) (g.K.LineReader.stands l.script.lines) l.script.number in
+    let before = TookBy (g.K.Keeper.keeps l.script.keeper) l.script.reader l.script.commands l.script.number in
     let a = g.R.Source.left c.args.source.now in
     let b = g.R.Source.left l.source in
     let middle = g.R.Source.left c.pull_behind.new.source in
@@ -99,7 +112,7 @@ returns-in-Err-Memory-clause-bounded g c =
     let l = c.pieces in
     let pulled = c.in_ok-amount.ensures in
     let n = c.in_ok-amount.amount in
-    let before = Took (g.K.LineReader.fits l.script.lines) (g.K.LineReader.stands l.script.lines) l.script.number in
+    let before = TookBy (g.K.Keeper.keeps l.script.keeper) l.script.reader l.script.commands l.script.number in
     let a = g.R.Source.left c.args.source.now in
     let b = g.R.Source.left l.source in
     let after = g.R.Source.left c.pull_behind.new.source in

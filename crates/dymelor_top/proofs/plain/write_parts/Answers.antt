@@ -1,15 +1,15 @@
 use Rattle.std.proofs.Common.{◌≡◌, ℕ, List}
 use Rattle.dym_io.specs.Laws.{blames_later}
-use Rattle.dym_script.specs.declared.parts.KeptPart.{KeptPart}
-use Rattle.dymelor_top.specs.declared.stop.WriteFail.TheVariants as fail
-use Rattle.dymelor_top.specs.Parts.{own_of}
-use Rattle.dymelor_top.specs.Report.{part_text}
+use Rattle.dym_script.specs.declared.parts.Part.{Part}
+use Rattle.dym_run.specs.declared.write_fail.WriteFail.TheVariants as fail
+use Rattle.dym_run.specs.Parts.{own_of}
+use Rattle.dym_run.specs.Report.{part_text}
 use Rattle.dymelor_top.proofs.PassedOn.{writes_or_passed, each_front_item}
 use Rattle.dymelor_top.proofs.plain.write_parts.Goals as goal
 
 pub returns-in_err-write_part : goal.returns-in_err-write_part
 returns-in_err-write_part g c =
-    let text : KeptPart → List ℕ = λ part. part_text c.args.version (own_of c.args.tables.now part) in
+    let text : Part → List ℕ = λ part. part_text c.args.version (own_of part) in
     let start = g.W.Sink.output c.args.sink.now in
     let before = g.W.Sink.output c.loop-part.sink in
     let after = g.W.Sink.output c.write_part.new.sink in

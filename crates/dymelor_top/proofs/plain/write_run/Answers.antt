@@ -1,12 +1,11 @@
-use Rattle.std.proofs.Common.{◌≡◌, ◌++◌, flat_map, sym, ap, subst, ◌∙◌}
+use Rattle.std.proofs.Common.{◌≡◌, ◌++◌, flat_map, refl, sym, ap, subst, ◌∙◌}
 use Rattle.dym_base.specs.Objects.{replies_from, object_after}
 use Rattle.dym_object.specs.Meaning.{state_of}
 use Rattle.dym_io.specs.Sink.{Appended, AppendedFront, Stopped}
 use Rattle.dym_io.specs.Laws.{appended_both, front_after, blames_later, front_within, stopped_within, stopped_after, writes_or_stopped}
 use Rattle.dym_report.specs.Objects.{heading, state_text}
 use Rattle.dym_report.specs.Replies.{reply_line}
-use Rattle.dym_script.specs.Kept.{kept_commands}
-use Rattle.dymelor_top.specs.declared.stop.WriteFail.TheVariants as fail
+use Rattle.dym_run.specs.declared.write_fail.WriteFail.TheVariants as fail
 use Rattle.dymelor_top.proofs.PassedOn.{writes_or_passed}
 use Rattle.dymelor_top.proofs.ObjectText.{behind, part_pieces, part_shown}
 use Rattle.dymelor_top.proofs.plain.write_run.Goals as goal
@@ -15,7 +14,7 @@ pub returns-in_err-write_heading : goal.returns-in_err-write_heading
 returns-in_err-write_heading g c =
     let before = g.W.Sink.output c.args.sink.now in
     let after = g.W.Sink.output c.write_heading.new.sink in
-    let whole = part_pieces c.args.tables.now c.args.object.now.heap.version c.args.part.now in
+    let whole = part_pieces c.args.turn.now.object.heap.version c.args.part.now in
     writes_or_stopped (λ failed. failed ≡ fail.Sink) before after _ _ c.from_residual.ensures.1
     (subst (Stopped before after) (sym whole.1) (stopped_within before after (heading c.args.part.now.decl.name) whole.0 c.in_err-write_heading.ensures))
 
@@ -24,10 +23,10 @@ returns-in_err-run_and_write g c =
     let before = g.W.Sink.output c.args.sink.now in
     let middle = g.W.Sink.output c.write_heading.new.sink in
     let after = g.W.Sink.output c.run_and_write.new.sink in
-    let start = c.args.object.now in
-    let whole = part_shown c.args.tables.now c.args.part.now start (kept_commands c.args.tables.now c.deref.result.now) (ap (kept_commands c.args.tables.now) c.deref.ensures.value) c.requires.quota c.requires.start in
+    let start = c.args.turn.now.object in
+    let whole = part_shown c.args.part.now start c.args.part.now.commands refl c.requires.quota c.requires.start in
     let name = heading c.args.part.now.decl.name in
-    let replies = flat_map reply_line (replies_from start.heap.version start.heap.quota (state_of start) (kept_commands c.args.tables.now c.deref.result.now)) in
+    let replies = flat_map reply_line (replies_from start.heap.version start.heap.quota (state_of start) c.args.part.now.commands) in
     let front = front_after before middle after name replies c.in_ok-write_heading.ensures c.in_err-run_and_write.ensures.replies.0 in
     writes_or_passed (λ failed. failed ≡ fail.Sink) before after _ _ c.in_err-run_and_write.field-0.0 c.from_residual-in_err-run_and_write.ensures.1
     (subst (AppendedFront before after) (sym whole) (front_within before after (name ++ replies) _ front))
@@ -39,9 +38,9 @@ returns-in_err-write_state g c =
     let first = g.W.Sink.output c.write_heading.new.sink in
     let second = g.W.Sink.output c.run_and_write.new.sink in
     let after = g.W.Sink.output c.write_state.new.sink in
-    let start = c.args.object.now in
-    let now = c.run_and_write.new.object in
-    let commands = kept_commands c.args.tables.now c.deref.result.now in
+    let start = c.args.turn.now.object in
+    let now = c.run_and_write.new.turn.object in
+    let commands = c.args.part.now.commands in
     let v = start.heap.version in
     let q = start.heap.quota in
     let name = heading c.args.part.now.decl.name in
@@ -52,7 +51,7 @@ returns-in_err-write_state g c =
     let shown : behind v (state_of now) ≡ written =
     (λ i. state_text (sym c.in_ok-run_and_write.ensures.version i) now.heap.state.live (sym c.kept.ensures i) (sym c.slots.ensures.slots i))
     ∙ (λ i. state_text (sym heap i).version (sym heap i).state.live c.kept.result c.slots.result) in
-    let whole = part_shown c.args.tables.now c.args.part.now start commands (ap (kept_commands c.args.tables.now) c.deref.ensures.value) c.requires.quota c.requires.start
+    let whole = part_shown c.args.part.now start commands refl c.requires.quota c.requires.start
     ∙ ap (λ s. (name ++ replies) ++ behind v s) ends ∙ ap (λ t. (name ++ replies) ++ t) shown in
     let done = appended_both before first second name replies c.in_ok-write_heading.ensures c.in_ok-run_and_write.ensures.replies in
     writes_or_stopped (λ failed. failed ≡ fail.Sink) before after _ _ c.from_residual-in_err-write_state.ensures.1
@@ -64,9 +63,9 @@ returns g c =
     let first = g.W.Sink.output c.write_heading.new.sink in
     let second = g.W.Sink.output c.run_and_write.new.sink in
     let after = g.W.Sink.output c.write_state.new.sink in
-    let start = c.args.object.now in
-    let now = c.run_and_write.new.object in
-    let commands = kept_commands c.args.tables.now c.deref.result.now in
+    let start = c.args.turn.now.object in
+    let now = c.run_and_write.new.turn.object in
+    let commands = c.args.part.now.commands in
     let v = start.heap.version in
     let q = start.heap.quota in
     let name = heading c.args.part.now.decl.name in
@@ -77,7 +76,7 @@ returns g c =
     let shown : behind v (state_of now) ≡ written =
     (λ i. state_text (sym c.in_ok-run_and_write.ensures.version i) now.heap.state.live (sym c.kept.ensures i) (sym c.slots.ensures.slots i))
     ∙ (λ i. state_text (sym heap i).version (sym heap i).state.live c.kept.result c.slots.result) in
-    let whole = part_shown c.args.tables.now c.args.part.now start commands (ap (kept_commands c.args.tables.now) c.deref.ensures.value) c.requires.quota c.requires.start
+    let whole = part_shown c.args.part.now start commands refl c.requires.quota c.requires.start
     ∙ ap (λ s. (name ++ replies) ++ behind v s) ends ∙ ap (λ t. (name ++ replies) ++ t) shown in
     let done = appended_both before first second name replies c.in_ok-write_heading.ensures c.in_ok-run_and_write.ensures.replies in
     subst (Appended before after) (sym whole) (appended_both before second after (name ++ replies) written done c.in_ok-write_state.ensures)

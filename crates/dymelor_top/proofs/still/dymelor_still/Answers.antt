@@ -5,6 +5,7 @@ use Rattle.dymelor_top.specs.Stops.{stop_status, of_write}
 use Rattle.dymelor_top.specs.Plans.{plan_of}
 use Rattle.dymelor_top.specs.Headline.{Input, PlanHeadline}
 use Rattle.dymelor_top.proofs.MadePlans.{can_be_made, can_be_read}
+use Rattle.dymelor_top.proofs.StillPlans.{read_is_still, made_is_still}
 use Rattle.dymelor_top.proofs.Served.{read_whole, read_stopped, stop_causes, made_whole, made_stopped, script_whole, script_stopped, usage_whole, usage_stopped}
 use Rattle.dymelor_top.proofs.still.dymelor_still.Goals as goal
 
@@ -61,7 +62,7 @@ returns-in-Ok-serve_read_made g c =
     let made = c.in-ReadMade in
     let planned : plan.ReadMade made.reading made.seed made.objects made.commands ≡ plan_of _ = sym made.is ∙ c.plan_for.ensures ∙ ap plan_of c.read_words.ensures in
     let ok = c.in-Ok-serve_read_made in
-    subst (λ p. PlanHeadline p old old a b ok.status) planned (made_whole made.reading made.seed made.objects made.commands old a b ok.status ok.ensures.served ok.ensures.counted ok.ensures.status)
+    subst (λ p. PlanHeadline p old old a b ok.status) planned (made_whole made.reading made.seed made.objects made.commands old a b ok.status ok.ensures.served (ok.ensures.sink_stands (λ is. absurd (cc))) ok.ensures.status)
 
 pub returns-in-Err-serve_read_made : goal.returns-in-Err-serve_read_made
 returns-in-Err-serve_read_made g c =
@@ -70,10 +71,12 @@ returns-in-Err-serve_read_made g c =
     let b = g.W.Sink.output c.serve_read_made.new.sink in
     let made = c.in-ReadMade in
     let planned : plan.ReadMade made.reading made.seed made.objects made.commands ≡ plan_of _ = sym made.is ∙ c.plan_for.ensures ∙ ap plan_of c.read_words.ensures in
-    let headline : PlanHeadline (plan.ReadMade made.reading made.seed made.objects made.commands) old old a b (stop_status (of_write c.in-Err-serve_read_made.fail)) =
-    made_stopped made.reading made.seed made.objects made.commands old a b c.in-Err-serve_read_made.fail c.in-Err-serve_read_made.ensures.served c.in-Err-serve_read_made.ensures.counted in
+    let err = c.in-Err-serve_read_made in
+    let causes = stop_causes old old a b (Err err.stop) err.stop refl (λ is. absurd (err.ensures.no_source is)) (λ other. refl) err.ensures.sink_fault err.ensures.sink_stands in
+    let headline : PlanHeadline (plan.ReadMade made.reading made.seed made.objects made.commands) old old a b (stop_status err.stop) =
+    made_stopped made.reading made.seed made.objects made.commands old a b err.stop err.ensures.served (λ is. err.ensures.no_source (ap Err is)) causes.sink causes.sink_stands in
     subst (λ p. PlanHeadline p old old a b c.status-in-Err-serve_read_made.result) planned
-    (subst (PlanHeadline (plan.ReadMade made.reading made.seed made.objects made.commands) old old a b) (sym (c.status-in-Err-serve_read_made.ensures ∙ ap stop_status c.from.ensures)) headline)
+    (subst (PlanHeadline (plan.ReadMade made.reading made.seed made.objects made.commands) old old a b) (sym c.status-in-Err-serve_read_made.ensures) headline)
 
 pub returns-in-Ok-serve_made : goal.returns-in-Ok-serve_made
 returns-in-Ok-serve_made g c =
@@ -96,7 +99,7 @@ returns-in-Err-serve_made g c =
     let headline : PlanHeadline (plan.Make make.seed make.objects make.commands) old old a b (stop_status (of_write err.fail)) =
     script_stopped make.seed make.objects make.commands old a b err.fail err.ensures.served err.ensures.fault in
     subst (λ p. PlanHeadline p old old a b c.status-in-Err-serve_made.result) planned
-    (subst (PlanHeadline (plan.Make make.seed make.objects make.commands) old old a b) (sym (c.status-in-Err-serve_made.ensures ∙ ap stop_status c.from-in-Err-serve_made.ensures)) headline)
+    (subst (PlanHeadline (plan.Make make.seed make.objects make.commands) old old a b) (sym (c.status-in-Err-serve_made.ensures ∙ ap stop_status c.from.ensures)) headline)
 
 pub returns-in-Ok-serve_usage : goal.returns-in-Ok-serve_usage
 returns-in-Ok-serve_usage g c =
@@ -118,3 +121,10 @@ returns-in-Err-serve_usage g c =
     usage_stopped old a b err.fail err.ensures.served err.ensures.fault in
     subst (λ p. PlanHeadline p old old a b c.status-in-Err-serve_usage.result) planned
     (subst (PlanHeadline plan.Usage old old a b) (sym (c.status-in-Err-serve_usage.ensures ∙ ap stop_status c.from-in-Err-serve_usage.ensures)) headline)
+
+pub serve_read-requires-clause-still : goal.serve_read-requires-clause-still
+serve_read-requires-clause-still g c = read_is_still _ c.in-Read.reading (sym c.in-Read.is ∙ c.plan_for.ensures ∙ ap plan_of c.read_words.ensures)
+
+pub serve_read_made-requires-clause-still : goal.serve_read_made-requires-clause-still
+serve_read_made-requires-clause-still g c =
+    made_is_still _ c.in-ReadMade.reading c.in-ReadMade.seed c.in-ReadMade.objects c.in-ReadMade.commands (sym c.in-ReadMade.is ∙ c.plan_for.ensures ∙ ap plan_of c.read_words.ensures)

@@ -4,8 +4,8 @@ use Rattle.dymelor_top.proofs.total.tally_parts.Given as goal
 
 abbrev pub invariant-loop-part : goal.invariant-loop-part
 invariant-loop-part l = record {
-  counted : Counted l.tables l.version l.parts l.part-index l.tally;
-  replies : l.tally.ok + l.tally.refused ≡ sum_by (λ part. length part.commands.items) (take l.part-index l.parts);
+  counted : Counted l.version l.parts l.part-index l.tally;
+  replies : l.tally.ok + l.tally.refused ≡ sum_by (λ part. length part.commands) (take l.part-index l.parts);
   chunks : l.tally.chunks ≤ l.part-index * 2 ^ 37;
   segments : l.tally.segments ≤ l.part-index * 1024;
   kept : l.tally.kept ≤ l.part-index * 256;

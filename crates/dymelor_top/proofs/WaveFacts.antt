@@ -1,0 +1,74 @@
+-- Objects that run in waves: the first that may hold more than there is room for, or that all of them fit; and which orders run so.
+use Rattle.std.proofs.Common.{◌≡◌, ℕ, ◌≤◌, Bool, true, false, cond, List, [], ◌∷◌, All, map, nat_lt, Option, Some, None, option_map, refl, sym, ap, ◌∙◌, arith}
+use Rattle.std.specs.List.{find}
+use Rattle.std.proofs.lemmas.Bool.Decides.{nat_tests}
+use Rattle.std.proofs.lemmas.List.Elements.{All-nil, All-cons}
+use Rattle.dym_base.specs.declared.bad_kind.BadKind.TheVariants as bad
+use Rattle.dym_script.specs.ByObjects.{IsByObjects}
+use Rattle.dym_script.specs.Scripts.{Said}
+use Rattle.dym_script.specs.declared.parts.Holding.{Holding}
+use Rattle.dym_script.specs.declared.parts.Part.{Part}
+use Rattle.dym_script.specs.declared.pieces.Whole.{Whole}
+use Rattle.dymelor_top.specs.Answers.{fault_answer, first_above, unless_above}
+
+-- ---- objects that may hold too much
+
+fits_not_above : (segments quota : ℕ) → nat_lt segments quota ≡ false → quota ≤ segments
+fits_not_above segments quota is = grind (arith, nat_tests)
+
+module _ (segments : ℕ) where
+  -- the part's object may hold more
+  abbrev pub is_above : Part → Bool
+  is_above part = nat_lt segments part.decl.quota
+
+  above_decl : (parts : List Part) → first_above segments (map (λ (p : Part). p.decl) parts) ≡ option_map (λ (p : Part). p.decl) (find is_above parts)
+  above_decl [] = refl
+  above_decl (p ∷ ps) =
+      elim (is_above p) as (λ b. cond b (Some p.decl) (first_above segments (map (λ (p : Part). p.decl) ps)) ≡ option_map (λ (p : Part). p.decl) (cond b (Some p) (find is_above ps))) [
+        | true ↦ refl
+        | false ↦ above_decl ps
+      ]
+
+  first_fits : (p : Part) (ps : List Part) (b : Bool) → is_above p ≡ b → cond b (Some p) (find is_above ps) ≡ None
+      → (find is_above ps ≡ None → All (λ (p : Part). p.decl.quota ≤ segments) ps) → All (λ (p : Part). p.decl.quota ≤ segments) (p ∷ ps)
+  first_fits p ps true is found others = absurd (cc)
+  first_fits p ps false is found others = All-cons (λ (p : Part). p.decl.quota ≤ segments) p ps (fits_not_above segments p.decl.quota is) (others found)
+
+  none_above : (parts : List Part) → find is_above parts ≡ None → All (λ (p : Part). p.decl.quota ≤ segments) parts
+  none_above [] none = All-nil (λ (p : Part). p.decl.quota ≤ segments)
+  none_above (p ∷ ps) none = first_fits p ps (is_above p) refl none (none_above ps)
+
+no_part : (o : Option Part) → None ≡ option_map (λ (p : Part). p.decl.line) o → o ≡ None
+no_part None is = refl
+no_part (Some p) is = absurd (cc)
+
+-- where no line was found, all objects fit
+pub all_fit : (segments : ℕ) (parts : List Part) → None ≡ option_map (λ (p : Part). p.decl.line) (find (is_above segments) parts) → All (λ (p : Part). p.decl.quota ≤ segments) parts
+all_fit segments parts none = none_above segments parts (no_part (find (is_above segments) parts) none)
+
+module _ (segments : ℕ) (text : List ℕ) where
+  told_line : (o : Option Part) (line : ℕ) → Some line ≡ option_map (λ (p : Part). p.decl.line) o → unless_above text (option_map (λ (p : Part). p.decl) o) ≡ fault_answer line bad.QuotaRange
+  told_line None line is = absurd (cc)
+  told_line (Some p) line is =
+      let same : p.decl.line ≡ line = cc in
+      ap (λ n. fault_answer n bad.QuotaRange) same
+
+  above_of_parts : (script : Whole Holding) (s : Said) → IsByObjects script s
+      → unless_above text (first_above segments s.objects) ≡ unless_above text (option_map (λ (p : Part). p.decl) (find (is_above segments) script.kept.parts.items))
+  above_of_parts script s are =
+      ap (λ ds. unless_above text (first_above segments ds)) (sym are.keeps.decls) ∙ ap (unless_above text) (above_decl segments script.kept.parts.items)
+
+  -- the answer where a line was found
+  pub above_answer : (script : Whole Holding) (s : Said) (line : ℕ) → IsByObjects script s
+      → Some line ≡ option_map (λ (p : Part). p.decl.line) (find (is_above segments) script.kept.parts.items)
+      → unless_above text (first_above segments s.objects) ≡ fault_answer line bad.QuotaRange
+  above_answer script s line are found =
+      above_of_parts script s are ∙ told_line (find (is_above segments) script.kept.parts.items) line found
+
+  -- and where none was
+  pub fitting_answer : (script : Whole Holding) (s : Said) → IsByObjects script s
+      → None ≡ option_map (λ (p : Part). p.decl.line) (find (is_above segments) script.kept.parts.items)
+      → unless_above text (first_above segments s.objects) ≡ record { status = 0; text = text }
+  fitting_answer script s are none =
+      above_of_parts script s are
+      ∙ ap (λ o. unless_above text (option_map (λ (p : Part). p.decl) o)) (no_part (find (is_above segments) script.kept.parts.items) none)

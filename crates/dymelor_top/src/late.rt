@@ -1,0 +1,65 @@
+//! The order `late`: events that come in any order of their times, one object after another.
+ghost use Rattle.std.specs.Prelude.{◌≡◌, ◌⊎◌, All, IfOk, flat_map};
+ghost use Rattle.dym_io.specs.Sink.{WritesOr};
+ghost use Rattle.dym_script.specs.Late.{late_of, late_said};
+ghost use Rattle.dym_script.specs.LateArrivals.{IsLawfulLate};
+ghost use Rattle.dymelor_top.specs.LateReport.{late_text};
+ghost use Rattle.dymelor_top.specs.LateParts.{IsLatePart, late_part_text};
+ghost use Rattle.dymelor_top.specs.Answers.{of_late};
+ghost use Rattle.dymelor_top.specs.Headline.{WritesAnswer, Counted};
+ghost use Rattle.dym_run.specs.declared.write_fail.WriteFail.TheVariants.{Sink as SinkFailed};
+
+use crate::late_parts::{LatePart, late_parts};
+use crate::late_run::write_late_part;
+use crate::lender::Lender;
+use dym_io::Sink;
+use dym_report::{write_end, write_error};
+use dym_run::WriteFail;
+use dym_script::{LateScript, ScriptFail, read_late};
+use std::alloc::Global;
+
+/// Writes the report of a script of late events, or the line of its first fault.
+pub fn answer_late<W: Sink>(alloc: Global, bytes: &[u8], sink: &mut W) -> Result<u8, WriteFail>
+    ensures answered { WritesAnswer (of_late (late_of bytes.now)) (W.output sink.old) (W.output sink.new) result }
+    ensures status { IfOk result (λ status. (status ≡ 0) ⊎ (status ≡ 2)) }
+    ensures counted { Counted (W.output sink.old) (W.output sink.new) result }
+{
+    match read_late(alloc, bytes) {
+        Ok(script) => {
+            write_late(alloc, script, sink)?;
+            Ok(0)
+        }
+        Err(ScriptFail::Bad { line, kind }) => {
+            write_error(sink, line, kind)?;
+            Ok(2)
+        }
+        Err(ScriptFail::Memory) => Err(WriteFail::Memory),
+    }
+}
+
+/// Writes the report of a good script of late events.
+fn write_late<W: Sink>(alloc: Global, script: LateScript, sink: &mut W) -> Result<(), WriteFail>
+    requires { IsLawfulLate (late_said script) }
+    ensures { WritesOr (λ fail. fail ≡ SinkFailed) (W.output sink.old) (W.output sink.new) (late_text (late_said script)) result }
+{
+    let parts = late_parts(alloc, script)?;
+    write_late_parts(alloc, parts, sink)?;
+    write_end(sink)?;
+    Ok(())
+}
+
+/// Writes the parts of objects, in their order.
+fn write_late_parts<W: Sink>(
+    alloc: Global,
+    parts: Vec<LatePart>,
+    sink: &mut W,
+) -> Result<(), WriteFail>
+    requires { All IsLatePart parts.items }
+    ensures { WritesOr (λ fail. fail ≡ SinkFailed) (W.output sink.old) (W.output sink.new) (flat_map late_part_text parts.items) result }
+{
+    let mut lender = Lender::new(alloc);
+    for part in parts {
+        write_late_part(alloc, part, &mut lender, sink)?;
+    }
+    Ok(())
+}

@@ -1,0 +1,214 @@
+//! The order `run`: the objects of a script run in waves of workers.
+ghost use Rattle.std.specs.Prelude.{◌≡◌, ◌⊎◌, ◌+◌, ◌≤◌, ℕ, List, Some, drop, nat_lt, All, option_map, Result, IfOk, OnOk, IsErrOf};
+ghost use Rattle.std.specs.List.{find};
+ghost use Rattle.dym_base.specs.declared.limits.TheConstants.{MOST_INPUT_BYTES};
+ghost use Rattle.dym_io.specs.Faults.{RoseOnce};
+ghost use Rattle.dym_io.specs.Sink.{WritesOr};
+ghost use Rattle.dym_io.specs.Source.{TookAtMost};
+ghost use Rattle.dym_run.specs.Parts.{IsShape};
+ghost use Rattle.dym_run.specs.Report.{report_text};
+ghost use Rattle.dym_run.specs.Summary.{summary_of, totals_of};
+ghost use Rattle.dym_run.specs.declared.write_fail.WriteFail.TheVariants.{Sink as SinkFailed};
+ghost use Rattle.dym_script.specs.Scripts.{Said, Fault};
+ghost use Rattle.dym_script.specs.ByObjects.{GivesParts, IsByObjects};
+ghost use Rattle.dymelor_top.specs.Answers.{first_above, of_waves, unless_above, waves_text, IsRead};
+ghost use Rattle.dymelor_top.specs.Headline.{Serves, WritesAnswer, Counted};
+ghost use Rattle.dymelor_top.specs.declared.plan.Reading.TheVariants.{Waves};
+ghost use Rattle.dymelor_top.specs.declared.stop.Stop.TheVariants.{Source as SourceStopped, Sink as SinkStopped};
+
+use crate::blocks::read_source;
+use crate::still::flush;
+use crate::stop::Stop;
+use dym_base::BadKind;
+use dym_io::{Sink, Source};
+use dym_pool::Gate;
+use dym_report::{Totals, write_end, write_error, write_summary};
+use dym_run::{Shape, WriteFail, tally_waves, write_waves};
+use dym_script::{Holding, Part, ScriptFail, Whole};
+use std::alloc::{AllocError, Global};
+use std::sync::Wait;
+use std::thread::Threads;
+
+/// Reads a script, runs its objects in waves, and writes their report or their summary.
+pub fn serve_waves<R: Threads + Wait + Send + Sync, S: Source, W: Sink, G: Gate>(
+    rt: &R,
+    alloc: Global,
+    shape: Shape,
+    is_summary: bool,
+    source: &mut S,
+    sink: &mut W,
+    gate: &G,
+) -> Result<u8, Stop>
+    requires goes_on { S.goes_on source.old }
+    requires shape { IsShape shape }
+    ensures served { (bytes : List ℕ) → S.left source.old ≡ Some bytes
+        → Serves (IsRead (Waves shape.segments is_summary) bytes) (W.output sink.old) (W.output sink.new) result }
+    ensures read { (bytes : List ℕ) → S.left source.old ≡ Some bytes → OnOk result (S.left source.new ≡ Some (drop (MOST_INPUT_BYTES + 1) bytes)) }
+    ensures status { IfOk result (λ status. (status ≡ 0) ⊎ (status ≡ 2)) }
+    ensures bounded { TookAtMost (MOST_INPUT_BYTES + 1) (S.left source.old) (S.left source.new) }
+    ensures source_fault { IsErrOf result SourceStopped → RoseOnce (S.faults source.old) (S.faults source.new) × (W.output sink.new ≡ W.output sink.old) }
+    ensures source_stands { ¬ IsErrOf result SourceStopped → S.faults source.new ≡ S.faults source.old }
+    ensures sink_fault { IsErrOf result SinkStopped → RoseOnce (W.output sink.old).faults (W.output sink.new).faults }
+    ensures sink_stands { ¬ IsErrOf result SinkStopped → (W.output sink.new).faults ≡ (W.output sink.old).faults }
+{
+    let script = read_source::<Holding, S>(alloc, source)?;
+    let status = answer_waves(rt, alloc, shape, is_summary, script, sink, gate)?;
+    flush(sink)?;
+    Ok(status)
+}
+
+/// Writes what is asked for of a script that was read, or the line of its first fault.
+fn answer_waves<R: Threads + Wait + Send + Sync, W: Sink, G: Gate>(
+    rt: &R,
+    alloc: Global,
+    shape: Shape,
+    is_summary: bool,
+    script: Result<Whole<Holding>, ScriptFail>,
+    sink: &mut W,
+    gate: &G,
+) -> Result<u8, WriteFail>
+    requires made { (read : Result Said Fault) × GivesParts script read }
+    requires shape { IsShape shape }
+    ensures answered { (read : Result Said Fault) → GivesParts script read
+        → WritesAnswer (of_waves shape.segments (waves_text is_summary) read) (W.output sink.old) (W.output sink.new) result }
+    ensures status { IfOk result (λ status. (status ≡ 0) ⊎ (status ≡ 2)) }
+    ensures counted { Counted (W.output sink.old) (W.output sink.new) result }
+{
+    match script {
+        Ok(script) => run_script(rt, alloc, shape, is_summary, script, sink, gate),
+        Err(ScriptFail::Bad { line, kind }) => {
+            write_error(sink, line, kind)?;
+            Ok(2)
+        }
+        Err(ScriptFail::Memory) => Err(WriteFail::Memory),
+    }
+}
+
+/// Runs the objects of a good script and writes what is asked for, or the line of the first object that may hold too much.
+fn run_script<R: Threads + Wait + Send + Sync, W: Sink, G: Gate>(
+    rt: &R,
+    alloc: Global,
+    shape: Shape,
+    is_summary: bool,
+    script: Whole<Holding>,
+    sink: &mut W,
+    gate: &G,
+) -> Result<u8, WriteFail>
+    requires made { (s : Said) × IsByObjects script s }
+    requires shape { IsShape shape }
+    ensures answered { (s : Said) → IsByObjects script s
+        → WritesAnswer (unless_above (waves_text is_summary s) (first_above shape.segments s.objects)) (W.output sink.old) (W.output sink.new) result }
+    ensures status { IfOk result (λ status. (status ≡ 0) ⊎ (status ≡ 2)) }
+    ensures counted { Counted (W.output sink.old) (W.output sink.new) result }
+{
+    match line_above(&script.kept.parts, shape.segments) {
+        Some(line) => {
+            write_error(sink, line, BadKind::QuotaRange)?;
+            Ok(2)
+        }
+        None => {
+            run_fitting(rt, alloc, shape, is_summary, script, sink, gate)?;
+            Ok(0)
+        }
+    }
+}
+
+/// The line of the first object that may hold more than so many segments.
+fn line_above(parts: &[Part], segments: u32) -> Option<u32>
+    ensures { result ≡ option_map (λ part. part.decl.line) (find (λ part. nat_lt segments part.decl.quota) parts.now) }
+{
+    parts
+        .iter()
+        .find(|part| part.decl.quota > segments)
+        .map(|part| part.decl.line)
+}
+
+/// Writes what is asked for of a script whose objects fit.
+fn run_fitting<R: Threads + Wait + Send + Sync, W: Sink, G: Gate>(
+    rt: &R,
+    alloc: Global,
+    shape: Shape,
+    is_summary: bool,
+    script: Whole<Holding>,
+    sink: &mut W,
+    gate: &G,
+) -> Result<(), WriteFail>
+    requires made { (s : Said) × IsByObjects script s }
+    requires shape { IsShape shape }
+    requires fits { All (λ part. part.decl.quota ≤ shape.segments) script.kept.parts.items }
+    ensures { (s : Said) → IsByObjects script s
+        → WritesOr (λ fail. fail ≡ SinkFailed) (W.output sink.old) (W.output sink.new) (waves_text is_summary s) result }
+{
+    if is_summary {
+        summarize(rt, alloc, shape, script, sink, gate)
+    } else {
+        report(rt, alloc, shape, script, sink, gate)
+    }
+}
+
+/// Writes the report of a script whose objects fit.
+fn report<R: Threads + Wait + Send + Sync, W: Sink, G: Gate>(
+    rt: &R,
+    alloc: Global,
+    shape: Shape,
+    script: Whole<Holding>,
+    sink: &mut W,
+    gate: &G,
+) -> Result<(), WriteFail>
+    requires made { (s : Said) × IsByObjects script s }
+    requires shape { IsShape shape }
+    requires fits { All (λ part. part.decl.quota ≤ shape.segments) script.kept.parts.items }
+    ensures { (s : Said) → IsByObjects script s → WritesOr (λ fail. fail ≡ SinkFailed) (W.output sink.old) (W.output sink.new) (report_text s) result }
+{
+    let Whole { version, kept, .. } = script;
+    write_waves(rt, alloc, version, kept.parts, shape, gate, sink)?;
+    write_end(sink)?;
+    Ok(())
+}
+
+/// Writes the summary of a script whose objects fit.
+fn summarize<R: Threads + Wait + Send + Sync, W: Sink, G: Gate>(
+    rt: &R,
+    alloc: Global,
+    shape: Shape,
+    script: Whole<Holding>,
+    sink: &mut W,
+    gate: &G,
+) -> Result<(), WriteFail>
+    requires made { (s : Said) × IsByObjects script s }
+    requires shape { IsShape shape }
+    requires fits { All (λ part. part.decl.quota ≤ shape.segments) script.kept.parts.items }
+    ensures { (s : Said) → IsByObjects script s → WritesOr (λ fail. fail ≡ SinkFailed) (W.output sink.old) (W.output sink.new) (summary_of s) result }
+{
+    let totals = total(rt, alloc, shape, script, gate)?;
+    write_summary(sink, &totals)?;
+    Ok(())
+}
+
+/// What the objects of such a script come to.
+fn total<R: Threads + Wait + Send + Sync, G: Gate>(
+    rt: &R,
+    alloc: Global,
+    shape: Shape,
+    script: Whole<Holding>,
+    gate: &G,
+) -> Result<Totals, AllocError>
+    requires made { (s : Said) × IsByObjects script s }
+    requires shape { IsShape shape }
+    requires fits { All (λ part. part.decl.quota ≤ shape.segments) script.kept.parts.items }
+    ensures { IfOk result (λ totals. (s : Said) → IsByObjects script s → totals ≡ totals_of s) }
+{
+    let Whole { version, kept, .. } = script;
+    let objects = kept.parts.len() as u32;
+    let tally = tally_waves(rt, alloc, version, kept.parts, shape, gate)?;
+    Ok(Totals {
+        objects,
+        commands: tally.ok + tally.refused,
+        ok: tally.ok,
+        refused: tally.refused,
+        chunks: tally.chunks,
+        segments: tally.segments,
+        kept: tally.kept,
+        slots: tally.slots,
+    })
+}
