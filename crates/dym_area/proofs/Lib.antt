@@ -1,3 +1,4 @@
 pub mod Classes
 pub mod Taken
 pub mod Rooms
+pub mod Reach

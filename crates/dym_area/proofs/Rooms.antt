@@ -10,7 +10,7 @@ use Rattle.std.proofs.lemmas.Nat.Bits.{bit_at-lt, bit_at_and, bit_at-zero, bit_a
 use Rattle.dym_bits.specs.Bits.{bit_in, IsSet, IsClear, IsFirstClear, IsNextClearInWord}
 use Rattle.dym_area.specs.Area.{HasRoom, IsSummary}
 
-true_is_not_false : (b : Bool) → b ≡ true → b ≡ false → ⊥
+pub true_is_not_false : (b : Bool) → b ≡ true → b ≡ false → ⊥
 true_is_not_false b is_true is_false = grind arith
 
 one_is_not_none : (a : ℕ) → a ≡ 1 → a ≡ 0 → ⊥

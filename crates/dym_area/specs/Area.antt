@@ -38,15 +38,21 @@ pub record IsSummary (used : List Bool) (count room : ℕ) : Type 0 where
   pub found : (q : ℕ) → bit_at room q ≡ 1 → HasRoom used count q
   pub marked : (i : ℕ) → i < count → IsClear used i → bit_at room (i / 64) ≡ 1
 
--- what an area keeps: a summary of its use bits
-pub record IsKept (area : AreaMeaning) (room : ℕ) : Type 0 where
-  pub lawful : IsLawful area
-  pub summed : IsSummary area.used (per area.exponent) room
-  pub fits : room < 2 ^ 32
-
 -- where the bytes of chunk i begin
 abbrev pub chunk_start : AreaMeaning → ℕ → ℕ
 chunk_start area i = i * size area.exponent
+
+-- the used chunks lie within the first `filled` bytes
+abbrev pub AreFilled : List Bool → ℕ → ℕ → Type 0
+AreFilled used exponent filled = (i : ℕ) → IsSet used i → i * size exponent + size exponent ≤ filled
+
+-- what an area keeps: a summary of its use bits, and that the bytes of its used chunks are real, as the first `filled` bytes of
+-- its segment are
+pub record IsKept (area : AreaMeaning) (room filled : ℕ) : Type 0 where
+  pub lawful : IsLawful area
+  pub summed : IsSummary area.used (per area.exponent) room
+  pub fits : room < 2 ^ 32
+  pub real : AreFilled area.used area.exponent filled
 
 -- the dirty bits after n bytes of chunk i were written
 abbrev pub dirty_after : List Bool → ℕ → ℕ → List Bool

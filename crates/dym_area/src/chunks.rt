@@ -1,10 +1,11 @@
 //! One segment cut into chunks.
-ghost use Rattle.std.specs.Prelude.{◌≡◌, ℕ, ◌+◌, ◌/◌, ◌<◌, ◌≤◌, ◌↔◌, max, length, replicate, IsTrue, MatchOption};
+ghost use Rattle.std.specs.Prelude.{◌≡◌, ℕ, ◌+◌, ◌*◌, ◌/◌, ◌<◌, ◌≤◌, ◌↔◌, max, length, replicate, IsTrue, MatchOption};
 ghost use Rattle.dym_base.specs.Numbers.{size, per};
 ghost use Rattle.dym_bits.specs.Bits.{bit_in, bits_of_bytes, clear_bits, IsSet, IsClear, IsFirstClear, IsNextSet, IsTopSet};
 ghost use Rattle.dym_region.specs.Content.{part_of};
 ghost use Rattle.dym_area.specs.Area.{IsLawful, chunk_start, with_taken, with_released, with_written, with_loaded, with_clean, with_used_bytes};
 
+use crate::ends::end_of;
 use crate::summary::{WORD_CHUNKS, after_take, all_words, summary_of, with_room};
 use dym_base::class::{per_area, size_of_class};
 use dym_base::limits::{MOST_CHUNKS, SEGMENT_BYTES};
@@ -30,7 +31,7 @@ impl<G: Segment> Model for Area<G> {
 
     ghost view = { λ a. record { exponent = a.exp; ordinal = a.ordinal; used = a.used; dirty = a.dirty; content = G.content a.segment; identity = G.id a.segment } };
 
-    ghost invariant = { λ a. IsKept (record { exponent = a.exp; ordinal = a.ordinal; used = a.used; dirty = a.dirty; content = G.content a.segment; identity = G.id a.segment }) a.room };
+    ghost invariant = { λ a. IsKept (record { exponent = a.exp; ordinal = a.ordinal; used = a.used; dirty = a.dirty; content = G.content a.segment; identity = G.id a.segment }) a.room (G.filled a.segment) };
 }
 
 impl<G: Segment> Area<G> {
@@ -155,12 +156,16 @@ impl<G: Segment> Area<G> {
         self.segment.read(start, out);
     }
 
-    /// The `len` bytes of the chunks from chunk `from` on, used or not, one chunk after the other.
-    pub fn run_bytes(&self, from: u32, len: u32) -> &[u8]
-        requires { chunk_start self.now from + len ≤ SEGMENT_BYTES }
-        ensures { result.now ≡ part_of self.now.content (chunk_start self.now from) len }
+    /// The bytes of the `count` chunks from chunk `from` on, which are used, one chunk after the other.
+    pub fn run_bytes(&self, from: u32, count: u32) -> &[u8]
+        requires { (i : ℕ) → from ≤ i → i < from + count → IsSet self.now.used i }
+        ensures { result.now ≡ part_of self.now.content (chunk_start self.now from) (count * size self.now.exponent) }
     {
-        self.segment.bytes(from * size_of_class(self.exp), len)
+        if count == 0 {
+            return self.segment.bytes(0, 0);
+        }
+        let size = size_of_class(self.exp);
+        self.segment.bytes(from * size, count * size)
     }
 
     /// Puts the bytes over those of the chunks from chunk `from` on. All bits stay as they are.
@@ -249,13 +254,6 @@ impl<G: Segment> Area<G> {
         self.dirty = dirty;
     }
 
-    /// The least dirty index, and None where no chunk is dirty. Only the bits of the class's chunks are read.
-    pub fn first_dirty(&self) -> Option<u32>
-        ensures { MatchOption result ((i : ℕ) → 0 ≤ i → IsClear self.now.dirty i) (IsNextSet self.now.dirty 0) }
-    {
-        self.dirty.next_set_within(0, per_area(self.exp))
-    }
-
     /// Takes the use bits from a bitmap of `max(1, per_area / 8)` bytes and marks no chunk dirty. The bytes stay.
     pub fn set_from(&mut self, use_bytes: &[u8])
         requires len { length use_bytes.now ≡ max 1 (per self.old.exponent / 8) }
@@ -267,6 +265,7 @@ impl<G: Segment> Area<G> {
         self.used.set_bytes(use_bytes);
         self.dirty = Bits::new();
         self.room = summary_of(&self.used, self.exp);
+        self.segment.fill(end_of(&self.used, self.exp));
     }
 
     /// The segment, with the bytes as they stand.

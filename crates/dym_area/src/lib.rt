@@ -9,6 +9,7 @@
 #![tactic(auto)]
 
 mod chunks;
+mod ends;
 mod summary;
 
 pub use chunks::Area;

@@ -1,6 +1,5 @@
--- Zero bytes and places, as a block is cut from its front and joined from its end.
-use Rattle.std.proofs.Common.{◌≡◌, ℕ, ◌+◌, ◌-◌, ◌*◌, ◌<◌, ◌≤◌, List, ◌++◌, length, take, drop, replicate, sym, ap, ◌∙◌, arith, length-append}
-use Rattle.std.proofs.lemmas.List.{length-replicate, take-replicate, drop-replicate}
+-- Room and places, as a block is cut from its front and joined from its end.
+use Rattle.std.proofs.Common.{◌≡◌, ℕ, ◌+◌, ◌-◌, ◌*◌, ◌<◌, ◌≤◌, sym, ap, ◌∙◌, arith}
 use denote.RawPtr.{Ptr, block_ptr, block_of, ◌+ₚ◌}
 
 -- the bytes of one more segment
@@ -13,17 +12,13 @@ left_over n k s below =
     let more : n - k ≡ n - (k + 1) + 1 = omega arith in
     ap (λ j. j * s) more ∙ one_more (n - (k + 1)) s
 
-module _ (xs : List ℕ) (n k s : ℕ) (below : k < n) (zeros : xs ≡ replicate ((n - k) * s) 0) where
-  pub left_enough : s ≤ length xs
-  left_enough = omega (arith, ap length zeros ∙ length-replicate ((n - k) * s) 0, left_over n k s below)
+-- so that there is room for one
+pub left_enough : (room n k s : ℕ) → k < n → room ≡ (n - k) * s → s ≤ room
+left_enough room n k s below is = omega (arith, is, left_over n k s below)
 
-  pub front_zeros : take s xs ≡ replicate s 0
-  front_zeros = ap (take s) zeros ∙ take-replicate s ((n - k) * s) 0 (omega (arith, left_over n k s below))
-
-  pub back_zeros : drop s xs ≡ replicate ((n - (k + 1)) * s) 0
-  back_zeros =
-      let rest : (n - k) * s - s ≡ (n - (k + 1)) * s = omega (arith, left_over n k s below) in
-      ap (drop s) zeros ∙ drop-replicate s ((n - k) * s) 0 ∙ ap (λ m. replicate m 0) rest
+-- and this is left behind it
+pub left_behind : (room behind n k s : ℕ) → k < n → room ≡ (n - k) * s → behind ≡ room - s → behind ≡ (n - (k + 1)) * s
+left_behind room behind n k s below is cut = omega (arith, is, cut, left_over n k s below)
 
 -- a pointer at a place of a block
 pub placed : (p : Ptr) (b at : ℕ) → p ≡ block_ptr b at → p ≡ block_ptr (block_of p) at
@@ -34,11 +29,10 @@ pub next_place : (p q : Ptr) (b k s : ℕ) → p ≡ block_ptr b (k * s) → q �
 next_place p q b k s here there = there ∙ ap (λ r. r +ₚ s) here ∙ ap (block_ptr b) (sym (one_more k s))
 
 -- what lies behind the segment k begins where that segment ends
-pub lies_behind : (p q : Ptr) (b k n s len : ℕ) → p ≡ block_ptr b (k * s) → q ≡ block_ptr b (n * s) → k + 1 ≡ n → len ≡ s → q ≡ p +ₚ len
-lies_behind p q b k n s len here there next size =
-    there ∙ ap (λ m. block_ptr b (m * s)) (sym next) ∙ ap (block_ptr b) (one_more k s ∙ ap (λ m. k * s + m) (sym size)) ∙ ap (λ r. r +ₚ len) (sym here)
+pub lies_behind : (p q : Ptr) (b k n s room : ℕ) → p ≡ block_ptr b (k * s) → q ≡ block_ptr b (n * s) → k + 1 ≡ n → room ≡ s → q ≡ p +ₚ room
+lies_behind p q b k n s room here there next size =
+    there ∙ ap (λ m. block_ptr b (m * s)) (sym next) ∙ ap (block_ptr b) (one_more k s ∙ ap (λ m. k * s + m) (sym size)) ∙ ap (λ r. r +ₚ room) (sym here)
 
--- the bytes that are back, and those that are not yet
-pub size_back : (front back : List ℕ) (k n s whole : ℕ) → length front ≡ s → length back + n * s ≡ whole → k + 1 ≡ n → length (front ++ back) + k * s ≡ whole
-size_back front back k n s whole one before next =
-    omega (arith, length-append front back, one, before, ap (λ m. m * s) next, one_more k s)
+-- the room that is back, and that which is not yet
+pub size_back : (front back joined k n s whole : ℕ) → joined ≡ front + back → front ≡ s → back + n * s ≡ whole → k + 1 ≡ n → joined + k * s ≡ whole
+size_back front back joined k n s whole all one before next = omega (arith, all, one, before, ap (λ m. m * s) next, one_more k s)

@@ -4,3 +4,4 @@ mod Claims
 mod Cutting
 mod LodgeCalls
 mod Numbering
+mod Zeros

@@ -1,5 +1,5 @@
--- `dislodge` and `lodge` at bytes of a block, as steps of a walk. Assumes `Logic`.
-use Rattle.std.proofs.Common.{◌≡◌, ℕ, ◌*◌, ◌<◌, ◌≤◌, ◌^◌, List, [], ◌∷◌, length, refl, sym, ap, ◌∙◌, subst, arith}
+-- `dislodge` and `lodge` at room of a block, as steps of a walk. Assumes `Logic`.
+use Rattle.std.proofs.Common.{◌≡◌, ℕ, ◌*◌, ◌<◌, ◌≤◌, ◌^◌, List, [], ◌∷◌, length, refl, ap, ◌∙◌, subst, arith}
 use seplogic.Ra.Ura.{Ura}
 use mir.Syntax.{w64, Callee, Place, Opd as Operand, Body, seq, call}
 use mir.Val.{Val, vint, vptr}
@@ -32,9 +32,9 @@ use Rattle.std.specs.Allocator.{block_with_items}
 use Rattle.std_alloc.specs.Vec.Ownership.{lodged, owns_if, has_block}
 use Rattle.std_alloc.specs.contracts.vec.lodge as L
 use Rattle.std_alloc.specs.contracts.vec.lodged.Vec+T+Lodged.dislodge as D
-use Rattle.dym_region.specs.Block.{bytes_in}
+use Rattle.dym_region.specs.Block.{room_in}
 use Rattle.dym_region.proofs.Arguments.{suits, so, lasting}
-use Rattle.dym_region.proofs.ByteVecs.{in_part, vector, as_handed, filled, freed}
+use Rattle.dym_region.proofs.ByteVecs.{in_part, vector, as_handed, laid_out, freed}
 
 module _ {M : Type 1} {𝓤 : Ura M} (𝓛 : Logic 𝓤) (at_mem : Memory → SProp 𝓤) (run : Routine → Fun 𝓤) where
   open 𝓛 use {H}
@@ -46,9 +46,9 @@ module _ {M : Type 1} {𝓤 : Ura M} (𝓛 : Logic 𝓤) (at_mem : Memory → SP
   dislodge_at it = ((([], tt), (full_share, tt), tt, (it.0, tt), (it.1 ∷ [], tt)), tt)
 
   abbrev lifted : (vector in_part).Denot → Val → Item 𝓤
-  lifted d v = later (some (λ (at : ℕ × ℕ). given ((d.ptr ≡ block_ptr at.0 at.1) × (v ≡ vint w64 d.len) × (d.len < 2 ^ 64)) (‵ (bytes_in at.0 at.1 d.items))))
+  lifted d v = later (some (λ (at : ℕ × ℕ). given ((d.ptr ≡ block_ptr at.0 at.1) × (v ≡ vint w64 d.len) × (d.len < 2 ^ 64)) (‵ (room_in at.0 at.1 d.cap))))
 
-  -- `dislodge` as it is used here: a vector goes in, and its bytes come out, with the place where they lie
+  -- `dislodge` as it is used here: a vector goes in, and its room comes out, with the place where it lies
   abbrev pub Lift : Contract 𝓤
   Lift = record {
     Ghost = (vector in_part).Denot × Val;
@@ -68,22 +68,20 @@ module _ {M : Type 1} {𝓤 : Ura M} (𝓛 : Logic 𝓤) (at_mem : Memory → SP
       use1 𝓛 (later (some (λ (r : ℕ). (raw (alive 𝓛 (D.signature u8) y.0.0 y.0.1) ⊛ ‵ (usize.own_val r (v ∷ [])))
       ⊛ some (λ (ws : Lasts (D.ended u8) y.0.0 y.0.3). ‵ (lasts (D.ended u8) y.0.0 y.0.3 ws) ⊛ raw (fact 𝓤 (r ≡ d.len)) ⊛ ‵ (lodged u8 d.ptr d.len d.cap d.items))))) (id⊢ 𝓤 _) $
       await ! tt $ pick ! (λ r. split ! $ split ! $ drop ! $ fsplit ! $ feq_l ! (λ one. flt_l ! (λ fits. pick ! (λ ws. split ! $ drop ! $ split ! $ heard ! _ (λ is. fsplit ! $ drop ! $
-      in_a_block ! d.ptr Block (id⊢ 𝓤 (never 𝓤)) (λ b o there. freed ! d.len d.cap b o d.items d.ok.0 d.ok.1 $ now ! $
-      show ! (λ (at : ℕ × ℕ). mean 𝓛 (given ((d.ptr ≡ block_ptr at.0 at.1) × (v ≡ vint w64 d.len) × (d.len < 2 ^ 64)) (‵ (bytes_in at.0 at.1 d.items)))) (b, o) $
+      in_a_block ! d.ptr Block (id⊢ 𝓤 (never 𝓤)) (λ b o there. freed ! d.len d.cap b o d.items d.ok.1 $ now ! $
+      show ! (λ (at : ℕ × ℕ). mean 𝓛 (given ((d.ptr ≡ block_ptr at.0 at.1) × (v ≡ vint w64 d.len) × (d.len < 2 ^ 64)) (‵ (room_in at.0 at.1 d.cap)))) (b, o) $
       check ! (there, ap only one ∙ ap (vint w64) is, subst (λ k. k < 2 ^ 64) is fits) $ done !)))))))) C fm met
 
--- bytes of a block, and their number as a word of the machine
+-- room in a block, for a number of bytes that is a word of the machine
 pub record Piece : Type 0 where
   pub block : ℕ
   pub at : ℕ
   pub size : ℕ
-  pub items : List ℕ
-  pub counted : length items ≡ size
   pub small : size < 2 ^ 63
 
--- a vector that is just that piece
+-- an empty vector that has just that room
 abbrev pub IsPiece : Piece → (vector in_part).Denot → Type 0
-IsPiece s r = (r.items ≡ s.items) × (r.cap ≡ s.size) × (r.ptr ≡ block_ptr s.block s.at)
+IsPiece s r = (r.items ≡ []) × (r.cap ≡ s.size) × (r.ptr ≡ block_ptr s.block s.at)
 
 module _ {M : Type 1} {𝓤 : Ura M} (𝓛 : Logic 𝓤) (at_mem : Memory → SProp 𝓤) (run : Routine → Fun 𝓤) where
   open 𝓛 use {H}
@@ -92,17 +90,17 @@ module _ {M : Type 1} {𝓤 : Ura M} (𝓛 : Logic 𝓤) (at_mem : Memory → SP
   OfLodge = triple_of 𝓛 (L.signature u8) (L.spec u8 𝓛 at_mem run)
 
   abbrev lodge_at : Piece → OfLodge.Ghost
-  lodge_at s = ((([], tt), (full_share, tt), tt, (block_ptr s.block s.at, (s.size, (s.size, tt))), (vptr s.block s.at ∷ [], (vint w64 s.size ∷ [], (vint w64 s.size ∷ [], tt)))), s.items)
+  lodge_at s = ((([], tt), (full_share, tt), tt, (block_ptr s.block s.at, (0, (s.size, tt))), (vptr s.block s.at ∷ [], (vint w64 0 ∷ [], (vint w64 s.size ∷ [], tt)))), [])
 
   abbrev laid : Piece → Val → Item 𝓤
   laid s v = later (some (λ (r : (vector in_part).Denot). given (IsPiece s r × Fits (as_handed in_part) v) (‵ ((vector in_part).own_val r (v ∷ [])))))
 
-  -- `lodge` as it is used here: the bytes of a piece go in, and a vector of them comes out
+  -- `lodge` as it is used here: a piece goes in, and an empty vector that has it comes out
   abbrev pub Lay : Contract 𝓤
   Lay = record {
     Ghost = Piece;
     args = λ s. OfLodge.args (lodge_at s);
-    pre = λ s. sem 𝓛 (bytes_in s.block s.at s.items);
+    pre = λ s. sem 𝓛 (room_in s.block s.at s.size);
     post = λ s v. mean 𝓛 (laid s v);
   }
 
@@ -111,14 +109,14 @@ module _ {M : Type 1} {𝓤 : Ura M} (𝓛 : Logic 𝓤) (at_mem : Memory → SP
       let y = lodge_at s in
       let n = s.size in
       let params = types_at (L.signature u8).params y.0.0 in
-      qed 𝓛 (‵ (bytes_in s.block s.at s.items) ∷ []) ∵ suffices ! _ (ask_at 𝓤 OfLodge y (λ v. mean 𝓛 (laid s v))) $
-      filled ! n s.block s.at s.items s.counted $ flt_i ! (n * 1) (2 ^ 63) (omega (arith, s.small)) $ fjoin ! $
-      so ! ((n ≡ length s.items) × (n ≤ n) × (n < 2 ^ 63)) (sym s.counted, omega arith, s.small) $ so ! ([] ⊑ []) (⊑_refl []) $ group ! 3 $
-      use0 𝓛 (‵ (owns params y.0.3 y.0.4)) (owns_make 𝓛 params _ (rawptr_Makes 𝓛, (uint_Makes 𝓛 w64, (uint_Makes 𝓛 w64, tt))) y.0.3 y.0.4 (refl, ((refl, omega (arith, s.small)), ((refl, omega (arith, s.small)), tt)))) $
+      qed 𝓛 (‵ (room_in s.block s.at s.size) ∷ []) ∵ suffices ! _ (ask_at 𝓤 OfLodge y (λ v. mean 𝓛 (laid s v))) $
+      laid_out ! n s.block s.at $ flt_i ! (n * 1) (2 ^ 63) (omega (arith, s.small)) $ fjoin ! $
+      so ! ((0 ≡ length {A = ℕ} []) × (0 ≤ n) × (n < 2 ^ 63)) (refl, omega arith, s.small) $ so ! ([] ⊑ []) (⊑_refl []) $ group ! 3 $
+      use0 𝓛 (‵ (owns params y.0.3 y.0.4)) (owns_make 𝓛 params _ (rawptr_Makes 𝓛, (uint_Makes 𝓛 w64, (uint_Makes 𝓛 w64, tt))) y.0.3 y.0.4 (refl, ((refl, omega arith), ((refl, omega (arith, s.small)), tt)))) $
       lasting ! $ join ! $ join ! $ frame ! $
       each ! (λ v. wand 𝓤 (OfLodge.post y v) (mean 𝓛 (laid s v))) (λ v. assume ! (raw (OfLodge.post y v)) $ updating ! $
       use1 𝓛 (later (some (λ (r : (vector in_part).Denot). (raw (alive 𝓛 (L.signature u8) y.0.0 y.0.1) ⊛ ‵ ((vector in_part).own_val r (v ∷ [])))
-      ⊛ some (λ (ws : Lasts (L.ended u8) y.0.0 y.0.3). ‵ (lasts (L.ended u8) y.0.0 y.0.3 ws) ⊛ raw (fact 𝓤 ((r.items ≡ s.items) × (r.len ≡ n) × (r.cap ≡ n) × (r.ptr ≡ block_ptr s.block s.at))))))) (id⊢ 𝓤 _) $
+      ⊛ some (λ (ws : Lasts (L.ended u8) y.0.0 y.0.3). ‵ (lasts (L.ended u8) y.0.0 y.0.3 ws) ⊛ raw (fact 𝓤 ((r.items ≡ []) × (r.len ≡ 0) × (r.cap ≡ n) × (r.ptr ≡ block_ptr s.block s.at))))))) (id⊢ 𝓤 _) $
       await ! tt $ pick ! (λ r. split ! $ split ! $ drop ! $ suits (as_handed in_part) r ! v (λ fits. move ! (1 ∷ []) $ pick ! (λ ws. split ! $ drop ! $ heard ! _ (λ is. now ! $
       show ! (λ g. mean 𝓛 (given (IsPiece s g × Fits (as_handed in_part) v) (‵ ((vector in_part).own_val g (v ∷ []))))) r $ check ! ((is.0, is.2, is.3), fits) $ done !)))))) C fm met
 
@@ -126,18 +124,18 @@ module _ {M : Type 1} {𝓤 : Ura M} (𝓛 : Logic 𝓤) (at_mem : Memory → SP
 module _ {M : Type 1} {𝓤 : Ura M} {𝓛 : Logic 𝓤} {K : Type 0} {Γ : List (Item 𝓤)} {E : Env 𝓤 𝓛.H} {C : Calls 𝓤 𝓛.H} {f : Callee} {xs : List Operand} {Λ : Loops 𝓤 𝓛.H} {q : Post 𝓤 𝓛.H} {to : Place} {rest : Body}
     (at_mem : Memory → SProp 𝓤) (run : Routine → Fun 𝓤) where
   pub lifts : K → FmC 𝓤 𝓛.H 𝓛.laws C → Triple 𝓤 (C f) (OfDislodge 𝓛 at_mem run) → (d : (vector in_part).Denot) (u : Val) → Opds K 𝓛 (‵ ((vector in_part).own_val d (u ∷ [])) ∷ Γ) E xs (u ∷ [])
-      → ((b o : ℕ) → d.ptr ≡ block_ptr b o → d.len < 2 ^ 64 → Seq K 𝓛 (‵ (bytes_in b o d.items) ∷ Γ) (lands C Λ E to (vint w64 d.len) rest q))
+      → ((b o : ℕ) → d.ptr ≡ block_ptr b o → d.len < 2 ^ 64 → Seq K 𝓛 (‵ (room_in b o d.cap) ∷ Γ) (lands C Λ E to (vint w64 d.len) rest q))
       → Seq K 𝓛 (‵ ((vector in_part).own_val d (u ∷ [])) ∷ Γ) (runs C Λ E (seq (call f xs to) rest) q)
   lifts t fm met d u args then =
       calls_from t fm (‵ ((vector in_part).own_val d (u ∷ []))) (u ∷ []) ((Lift 𝓛 at_mem run).post (d, u)) (lift_meets 𝓛 at_mem run (C f) (fm f) met (d, u)) args (λ v.
       use1 𝓛 (lifted 𝓛 at_mem run d v) (id⊢ 𝓤 _) $ await t tt $ pick t (λ at. learn t (λ is. regoal t (λ w. lands C Λ E to w rest q) is.1 refl $ then at.0 at.1 is.0 is.2)))
 
   pub lays : K → FmC 𝓤 𝓛.H 𝓛.laws C → Triple 𝓤 (C f) (OfLodge 𝓛 at_mem run) → (s : Piece) (p : Ptr) → p ≡ block_ptr s.block s.at
-      → Opds K 𝓛 (‵ (bytes_in s.block s.at s.items) ∷ Γ) E xs (ptr_val p ∷ vint w64 s.size ∷ vint w64 s.size ∷ [])
+      → Opds K 𝓛 (‵ (room_in s.block s.at s.size) ∷ Γ) E xs (ptr_val p ∷ vint w64 0 ∷ vint w64 s.size ∷ [])
       → ((v : Val) (r : (vector in_part).Denot) → IsPiece s r → Fits (as_handed in_part) v → Seq K 𝓛 (‵ ((vector in_part).own_val r (v ∷ [])) ∷ Γ) (lands C Λ E to v rest q))
-      → Seq K 𝓛 (‵ (bytes_in s.block s.at s.items) ∷ Γ) (runs C Λ E (seq (call f xs to) rest) q)
+      → Seq K 𝓛 (‵ (room_in s.block s.at s.size) ∷ Γ) (runs C Λ E (seq (call f xs to) rest) q)
   lays t fm met s p there args then =
-      let Bytes = ‵ (bytes_in s.block s.at s.items) in
-      let args' = subst (λ z. Opds K 𝓛 (Bytes ∷ Γ) E xs (ptr_val z ∷ vint w64 s.size ∷ vint w64 s.size ∷ [])) there args in
-      calls_from t fm Bytes ((Lay 𝓛 at_mem run).args s) ((Lay 𝓛 at_mem run).post s) (lay_meets 𝓛 at_mem run (C f) (fm f) met s) args' (λ v.
+      let Room = ‵ (room_in s.block s.at s.size) in
+      let args' = subst (λ z. Opds K 𝓛 (Room ∷ Γ) E xs (ptr_val z ∷ vint w64 0 ∷ vint w64 s.size ∷ [])) there args in
+      calls_from t fm Room ((Lay 𝓛 at_mem run).args s) ((Lay 𝓛 at_mem run).post s) (lay_meets 𝓛 at_mem run (C f) (fm f) met s) args' (λ v.
       use1 𝓛 (laid 𝓛 at_mem run s v) (id⊢ 𝓤 _) $ await t tt $ pick t (λ r. learn t (λ is. then v r is.0 is.1)))

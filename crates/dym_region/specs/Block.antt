@@ -1,11 +1,10 @@
--- Bytes of one allocation, by their places in it, and what is seen of the right to free it.
-use Rattle.std.specs.Prelude.{ℕ, List, refl}
+-- Room in one allocation, and what is seen of the right to free it.
+use Rattle.std.specs.Prelude.{ℕ, refl}
 use Rattle.std.specs.Coded.{Coded, code_by, coded×, coded_ℕ}
-use base.Fraction.{full_share}
-use base.Fml.{Fml}
-use denote.RawPtr.Bytes.{bytes}
+use mir.Syntax.{w8, ty_int, ty_array}
+use base.Fml.{Fml, froom}
 
--- an allocation by its number, and the bytes that its vector had
+-- an allocation by its number, and how many bytes it has
 pub record Allocation : Type 0 where
   pub block : ℕ
   pub size : ℕ
@@ -14,6 +13,6 @@ pub record Allocation : Type 0 where
 abbrev pub allocation_code : Coded Allocation
 allocation_code = code_by (ℕ × ℕ) (coded× coded_ℕ coded_ℕ) (λ it. (it.block, it.size)) (λ two. record { block = two.0; size = two.1 }) (λ _. refl)
 
--- the bytes `xs` lie from the place `at` of the allocation `block` on, and nothing else can reach them
-abbrev pub bytes_in : ℕ → ℕ → List ℕ → Fml
-bytes_in block at xs = bytes full_share xs block at
+-- `n` bytes from the place `at` of the allocation `block` on, whatever they hold, and nothing else can reach them
+abbrev pub room_in : ℕ → ℕ → ℕ → Fml
+room_in block at n = froom (ty_array (ty_int w8) n) block at

@@ -1,9 +1,10 @@
 //! A segment that was cut from a region.
-ghost use Rattle.std.specs.Prelude.{◌≡◌, ◌*◌, length};
-ghost use Rattle.std.specs.Vec.{vec_capacity};
+ghost use Rattle.std.specs.Prelude.{◌≡◌, ◌*◌, vec_len, vec_capacity};
 ghost use denote.RawPtr.{block_of, block_ptr};
 ghost use Rattle.dym_base.specs.declared.limits.TheConstants.{SEGMENT_BYTES};
+ghost use Rattle.dym_region.specs.Content.{zeros_behind, length-zeros_behind};
 
+use crate::front::{bytes_at, fill_to, read_at, write_at, zero_at};
 use crate::segment::Segment;
 use dym_base::limits::SEGMENT_BYTES;
 use std_alloc::vec::Lodged;
@@ -13,8 +14,7 @@ use std_alloc::vec::Lodged;
 pub struct RawSegment {
     pub(crate) bytes: Vec<u8, Lodged>,
     pub(crate) number: u32,
-    ghost whole: { length bytes.items ≡ SEGMENT_BYTES },
-    ghost alone: { vec_capacity bytes ≡ SEGMENT_BYTES },
+    ghost room: { vec_capacity bytes ≡ SEGMENT_BYTES },
     ghost placed: { bytes.ptr ≡ block_ptr (block_of bytes.ptr) (number * SEGMENT_BYTES) },
 }
 
@@ -26,7 +26,7 @@ impl RawSegment {
         self.number
     }
 
-    /// The segment's bytes, to be joined with those of its neighbours.
+    /// The segment's bytes, whose room is to be joined with that of its neighbours.
     pub(crate) fn into_bytes(self) -> Vec<u8, Lodged>
         ensures { result ≡ self.bytes }
     {
@@ -36,29 +36,31 @@ impl RawSegment {
 }
 
 impl Segment for RawSegment {
-    ghost content = { λ s. s.bytes.items };
+    ghost content = { λ s. zeros_behind (vec_capacity s.bytes) s.bytes.items };
 
     ghost id = { λ s. record { region = block_of s.bytes.ptr; number = s.number } };
 
-    ghost content_is_whole = { λ s. s.whole };
+    ghost filled = { λ s. vec_len s.bytes };
+
+    ghost content_is_whole = { λ s. length-zeros_behind (vec_capacity s.bytes) SEGMENT_BYTES (vec_len s.bytes) s.bytes.items s.bytes.ok s.room };
 
     fn bytes(&self, at: u32, len: u32) -> &[u8] {
-        let start = at as usize;
-        &self.bytes[start..start + len as usize]
+        bytes_at(&self.bytes, at as usize, len as usize)
+    }
+
+    fn fill(&mut self, to: u32) {
+        fill_to(&mut self.bytes, to as usize);
     }
 
     fn read(&self, at: u32, out: &mut [u8]) {
-        let start = at as usize;
-        out.copy_from_slice(&self.bytes[start..start + out.len()]);
+        read_at(&self.bytes, at as usize, out);
     }
 
     fn write(&mut self, at: u32, bytes: &[u8]) {
-        let start = at as usize;
-        self.bytes[start..start + bytes.len()].copy_from_slice(bytes);
+        write_at(&mut self.bytes, at as usize, bytes);
     }
 
     fn zero(&mut self, at: u32, len: u32) {
-        let start = at as usize;
-        self.bytes[start..start + len as usize].fill(0);
+        zero_at(&mut self.bytes, at as usize, len as usize);
     }
 }

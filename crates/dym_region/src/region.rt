@@ -1,5 +1,5 @@
 //! One raw allocation that is cut into segments, and freed when all of them are back.
-ghost use Rattle.std.specs.Prelude.{◌≡◌, ◌*◌, ◌≤◌, IfOk, map, replicate, vec_len};
+ghost use Rattle.std.specs.Prelude.{◌≡◌, ◌*◌, ◌≤◌, IfOk, map, replicate, vec_len, vec_capacity};
 ghost use Rattle.std.specs.List.{All};
 ghost use Rattle.std.specs.List.Sorted.{IsPermutation};
 ghost use Rattle.dym_base.specs.declared.limits.TheConstants.{MOST_SEGMENTS, SEGMENT_BYTES};
@@ -21,7 +21,7 @@ pub struct Region {
 }
 
 impl Model for Region {
-    ghost use Rattle.std.specs.Prelude.{◌≡◌, ◌*◌, ◌≤◌, []};
+    ghost use Rattle.std.specs.Prelude.{◌≡◌, ◌*◌, ◌≤◌};
     ghost use denote.RawPtr.{block_ptr};
     ghost use Rattle.dym_base.specs.declared.limits.TheConstants.{MOST_SEGMENTS, SEGMENT_BYTES};
     ghost use Rattle.dym_region.specs.Identity.{RegionShape};
@@ -30,9 +30,9 @@ impl Model for Region {
 
     ghost view = { λ r. record { id = r.claim.block; count = r.count } };
 
-    // The claim waits for the bytes of all segments, and the end lies behind the last of them.
+    // The claim waits for the room of all segments, and the end lies behind the last of them.
     ghost invariant = { λ r. (r.claim.size ≡ r.count * SEGMENT_BYTES)
-        × (r.count ≤ MOST_SEGMENTS) × (r.end.items ≡ [])
+        × (r.count ≤ MOST_SEGMENTS) × (r.end.cap ≡ 0)
         × (r.end.ptr ≡ block_ptr r.claim.block (r.count * SEGMENT_BYTES)) };
 }
 
@@ -50,7 +50,7 @@ impl Region {
         ensures zero { IfOk result (λ r.
             All (λ s. ⟦<RawSegment as Segment>⟧.content s ≡ replicate SEGMENT_BYTES 0) r.1.items) }
     {
-        let whole = vec![in alloc; 0; count as usize * SEGMENT_BYTES as usize]?;
+        let whole = Vec::with_capacity(alloc, count as usize * SEGMENT_BYTES as usize)?;
         let mut segments = Vec::with_capacity(alloc, count as usize)?;
         let (mut rest, claim) = take_out(whole);
         for number in 0..count {
@@ -78,7 +78,7 @@ impl Region {
     fn reunited(self, mut segments: Vec<RawSegment>) -> Vec<u8>
         requires { IsPermutation (ids_of self.id self.count)
             (map ⟦<RawSegment as Segment>⟧.id segments.items) }
-        ensures { vec_len result ≡ self.count * SEGMENT_BYTES }
+        ensures { vec_capacity result ≡ self.count * SEGMENT_BYTES }
     {
         segments.sort_unstable_by_key(|segment| segment.number);
         let Region {

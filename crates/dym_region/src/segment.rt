@@ -14,16 +14,28 @@ pub struct SegmentId {
     pub number: u32,
 }
 
-/// 65,536 bytes with one owner.
+/// 65,536 bytes with one owner. Memory is touched only as far as bytes were used: those behind are zero, and are made real
+/// when they are first written, or by `fill`.
 pub trait Segment {
     ghost content: { Self → List ℕ };
 
     ghost id: { Self → SegmentId };
 
-    /// The `len` bytes from place `at` on.
+    // How many bytes are real, from the first on.
+    ghost filled: { Self → ℕ };
+
+    /// The `len` bytes from place `at` on, which are real.
     fn bytes(&self, at: u32, len: u32) -> &[u8]
-        requires { at + len ≤ SEGMENT_BYTES }
+        requires { at + len ≤ filled self.now }
         ensures { result.now ≡ part_of (content self.now) at len };
+
+    /// Makes at least the first `to` bytes real.
+    fn fill(&mut self, to: u32)
+        requires { to ≤ SEGMENT_BYTES }
+        ensures reached { to ≤ filled self.new }
+        ensures more { filled self.old ≤ filled self.new }
+        ensures content { content self.new ≡ content self.old }
+        ensures same { id self.new ≡ id self.old };
 
     /// Copies the bytes from place `at` on into `out`.
     fn read(&self, at: u32, out: &mut [u8])
@@ -34,12 +46,16 @@ pub trait Segment {
     fn write(&mut self, at: u32, bytes: &[u8])
         requires { at + length bytes.now ≤ SEGMENT_BYTES }
         ensures written { content self.new ≡ with_part (content self.old) at bytes.now }
+        ensures reached { at + length bytes.now ≤ filled self.new }
+        ensures more { filled self.old ≤ filled self.new }
         ensures same { id self.new ≡ id self.old };
 
     /// Makes the `len` bytes from place `at` on zero.
     fn zero(&mut self, at: u32, len: u32)
         requires { at + len ≤ SEGMENT_BYTES }
         ensures zeroed { content self.new ≡ with_part (content self.old) at (replicate len 0) }
+        ensures reached { at + len ≤ filled self.new }
+        ensures more { filled self.old ≤ filled self.new }
         ensures same { id self.new ≡ id self.old };
 
     ghost content_is_whole: { (s : Self) → length (content s) ≡ SEGMENT_BYTES };

@@ -1,5 +1,6 @@
-//! What no clause says: that memory is given, and that the bytes of one segment are not those of another.
-ghost use Rattle.std.specs.Prelude.{◌≡◌, IfOk, length, vec_len};
+//! What no clause says: that memory is given, that the bytes of one segment are not those of another, and that bytes which were
+//! never used are read as zeros.
+ghost use Rattle.std.specs.Prelude.{◌≡◌, ◌+◌, ◌≤◌, IfOk, length, vec_len};
 ghost use Rattle.dym_base.specs.declared.limits.TheConstants.{SEGMENT_BYTES};
 
 use crate::raw_segment::RawSegment;
@@ -33,6 +34,36 @@ fn written(mut segment: RawSegment, page: &[u8]) -> RawSegment
     segment
 }
 
+fn assert_shows<S: Segment>(rt: &impl Abort, segment: &S, at: u32, want: &[u8; 8])
+    requires { at + 8 ≤ SEGMENT_BYTES }
+{
+    let mut seen = [9; 8];
+    segment.read(at, &mut seen);
+    assert!(rt; seen == *want, "what the segment shows from {at} on");
+}
+
+// Goes through a segment of zeros: below, across and above the end of what was used.
+fn walked<S: Segment>(rt: &impl Abort, mut segment: S) -> S
+    ensures { S.id result ≡ S.id segment }
+{
+    segment.write(96, b"abcd");
+    assert_shows(rt, &segment, 88, b"\0\0\0\0\0\0\0\0");
+    assert_shows(rt, &segment, 92, b"\0\0\0\0abcd");
+    assert_shows(rt, &segment, 94, b"\0\0abcd\0\0");
+    assert_shows(rt, &segment, 99, b"d\0\0\0\0\0\0\0");
+    assert_shows(rt, &segment, 100, b"\0\0\0\0\0\0\0\0");
+    assert_shows(rt, &segment, 4_096, b"\0\0\0\0\0\0\0\0");
+    assert_shows(rt, &segment, 65_528, b"\0\0\0\0\0\0\0\0");
+    segment.zero(98, 4);
+    assert_shows(rt, &segment, 96, b"ab\0\0\0\0\0\0");
+    segment.write(100, b"e");
+    segment.zero(4_096, 32);
+    segment.fill(8_192);
+    assert_eq!(rt; segment.bytes(96, 8), b"ab\0\0e\0\0\0".as_slice());
+    assert_eq!(rt; segment.bytes(8_184, 8), [0; 8].as_slice());
+    segment
+}
+
 #[test]
 fn segments_of_one_region_keep_apart(rt: HostRuntime) -> Result<(), Fail> {
     let alloc = rt.alloc();
@@ -46,7 +77,7 @@ fn segments_of_one_region_keep_apart(rt: HostRuntime) -> Result<(), Fail> {
         segments.take_last(),
     );
     assert_holds(&rt, &third, &zeros, &mut seen);
-    let first = written(first, &ones);
+    let first = written(walked(&rt, first), &ones);
     let third = written(third, &threes);
     let (second, ()) = thread::join(&rt, || written(second, &twos), || ());
     assert_holds(&rt, &first, &ones, &mut seen);
@@ -67,8 +98,9 @@ fn segments_of_one_region_keep_apart(rt: HostRuntime) -> Result<(), Fail> {
 fn a_lone_segment_reads_back(rt: HostRuntime) -> Result<(), Fail> {
     let zeros = page_of(rt.alloc(), 0)?;
     let mut seen = page_of(rt.alloc(), 9)?;
-    let mut segment = VecSegment::new(rt.alloc())?;
+    let segment = VecSegment::new(rt.alloc())?;
     assert_holds(&rt, &segment, &zeros, &mut seen);
+    let mut segment = walked(&rt, segment);
     segment.write(65_533, b"abc");
     segment.zero(65_534, 1);
     let mut end = *b"....";

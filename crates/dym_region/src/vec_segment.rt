@@ -1,8 +1,10 @@
 //! A segment in a vector of its own.
-ghost use Rattle.std.specs.Prelude.{◌≡◌, IfOk, length, replicate};
+ghost use Rattle.std.specs.Prelude.{◌≡◌, IfOk, replicate, vec_len, vec_capacity};
 ghost use Rattle.dym_base.specs.declared.limits.TheConstants.{SEGMENT_BYTES};
+ghost use Rattle.dym_region.specs.Content.{zeros_behind, length-zeros_behind};
 ghost use Rattle.dym_region.specs.Identity.{lone_id};
 
+use crate::front::{bytes_at, fill_to, read_at, write_at, zero_at};
 use crate::segment::Segment;
 use dym_base::limits::SEGMENT_BYTES;
 use std::alloc::{AllocError, Global};
@@ -11,7 +13,7 @@ use std::alloc::{AllocError, Global};
 #[derive(Drop)]
 pub struct VecSegment {
     bytes: Vec<u8>,
-    ghost whole: { length bytes.items ≡ SEGMENT_BYTES },
+    ghost room: { vec_capacity bytes ≡ SEGMENT_BYTES },
 }
 
 impl VecSegment {
@@ -19,35 +21,37 @@ impl VecSegment {
     pub fn new(alloc: Global) -> Result<VecSegment, AllocError>
         ensures { IfOk result (λ s. ⟦<VecSegment as Segment>⟧.content s ≡ replicate SEGMENT_BYTES 0) }
     {
-        let bytes = vec![in alloc; 0; SEGMENT_BYTES as usize]?;
+        let bytes = Vec::with_capacity(alloc, SEGMENT_BYTES as usize)?;
         Ok(VecSegment { bytes })
     }
 }
 
 impl Segment for VecSegment {
-    ghost content = { λ s. s.bytes.items };
+    ghost content = { λ s. zeros_behind (vec_capacity s.bytes) s.bytes.items };
 
     ghost id = { λ _. lone_id };
 
-    ghost content_is_whole = { λ s. s.whole };
+    ghost filled = { λ s. vec_len s.bytes };
+
+    ghost content_is_whole = { λ s. length-zeros_behind (vec_capacity s.bytes) SEGMENT_BYTES (vec_len s.bytes) s.bytes.items s.bytes.ok s.room };
 
     fn bytes(&self, at: u32, len: u32) -> &[u8] {
-        let start = at as usize;
-        &self.bytes[start..start + len as usize]
+        bytes_at(&self.bytes, at as usize, len as usize)
+    }
+
+    fn fill(&mut self, to: u32) {
+        fill_to(&mut self.bytes, to as usize);
     }
 
     fn read(&self, at: u32, out: &mut [u8]) {
-        let start = at as usize;
-        out.copy_from_slice(&self.bytes[start..start + out.len()]);
+        read_at(&self.bytes, at as usize, out);
     }
 
     fn write(&mut self, at: u32, bytes: &[u8]) {
-        let start = at as usize;
-        self.bytes[start..start + bytes.len()].copy_from_slice(bytes);
+        write_at(&mut self.bytes, at as usize, bytes);
     }
 
     fn zero(&mut self, at: u32, len: u32) {
-        let start = at as usize;
-        self.bytes[start..start + len as usize].fill(0);
+        zero_at(&mut self.bytes, at as usize, len as usize);
     }
 }

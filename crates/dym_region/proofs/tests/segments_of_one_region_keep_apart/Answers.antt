@@ -29,5 +29,5 @@ close-requires g c =
     let second : ghosts.id c.join-second.result.0 ≡ ghosts.id c.take_last-second.result = search rules in
     let region = c.in_ok-region.region in
     rw c.in_ok-region.ensures.count (three_back ghosts.id region.id c.in_ok-region.segments.items _ _ _ _ c.take_last-third.result c.take_last-second.result c.take_last-first.result c.written-third.result c.join-second.result.0 c.written-first.result
-    c.in_ok-region.ensures.numbered c.take_last-third.ensures.items c.take_last-second.ensures.items c.take_last-first.ensures.items c.written-third.ensures second c.written-first.ensures
+    c.in_ok-region.ensures.numbered c.take_last-third.ensures.items c.take_last-second.ensures.items c.take_last-first.ensures.items c.written-third.ensures second (c.written-first.ensures ∙ c.walked.ensures)
     (c.push_reserved-3.ensures.items ∙ ap (λ l. l ++ c.written-third.result ∷ []) (c.push_reserved-2.ensures.items ∙ ap (λ l. l ++ c.written-first.result ∷ []) c.push_reserved.ensures.items)))

@@ -1,8 +1,9 @@
 use Rattle.std.proofs.Common.{◌<◌, arith, subst, sym, rules, length}
 use Rattle.dym_base.specs.Numbers.{per}
 use Rattle.dym_bits.specs.Bits.{IsSet}
-use Rattle.dym_area.specs.Area.{AreaMeaning, IsSummary}
+use Rattle.dym_area.specs.Area.{AreaMeaning, IsSummary, AreFilled}
 use Rattle.dym_area.proofs.Classes.{per_small}
+use Rattle.dym_area.proofs.Reach.{filled_released}
 use Rattle.dym_area.proofs.Rooms.{summary_released}
 use Rattle.dym_area.proofs.chunks.Area.release.Goals as goal
 
@@ -16,4 +17,5 @@ invariant_of-self g c =
       summed = subst (λ bits. IsSummary bits (per c.self.inside.exp) c.with_room-self-inside.result) (sym c.clear.ensures.after)
           (summary_released c.self.inside.used (per c.self.inside.exp) c.self.inside.room c.with_room-self-inside.result c.args.i within below c.self.invariant.summed c.with_room-self-inside.ensures.same c.with_room-self-inside.ensures.others);
       fits = search rules;
+      real = subst (λ bits. AreFilled bits c.self.inside.exp (g.G.Segment.filled c.self.inside.segment)) (sym c.clear.ensures.after) (filled_released c.self.inside.used c.self.inside.exp _ c.args.i within c.self.invariant.real);
     }

@@ -1,8 +1,9 @@
-use Rattle.std.proofs.Common.{◌≡◌, ℕ, ◌*◌, ◌<◌, length, ap, sym, subst, rules, arith}
+use Rattle.std.proofs.Common.{◌≡◌, ℕ, ◌+◌, ◌*◌, ◌<◌, ◌≤◌, length, ap, sym, subst, rules, arith}
 use Rattle.dym_base.specs.Numbers.{size, per}
-use Rattle.dym_area.specs.Area.{AreaMeaning}
+use Rattle.dym_area.specs.Area.{AreaMeaning, AreFilled}
 use Rattle.dym_bits.specs.Bits.{IsSet}
 use Rattle.dym_area.proofs.Classes.{per_small, chunk_fits}
+use Rattle.dym_area.proofs.Reach.{filled_taken}
 use Rattle.dym_area.proofs.Taken.{set_below, used_below_taken, dirty_used_taken}
 use Rattle.dym_area.proofs.chunks.Area.take_first.Goals as goal
 
@@ -49,6 +50,8 @@ invariant_of-self g c =
     let same : per c.self.inside.exp ≡ per c.args.self.now.exponent = ap (λ (a : AreaMeaning). per a.exponent) c.self.view_is in
     let within : i < per c.self.inside.exp = omega (arith, same, c.in_ok-i.ensures.below) in
     let there : i < length c.self.inside.used = omega (arith, within, per_small c.self.inside.exp c.self.invariant.lawful.least, c.self.invariant.lawful.used_len) in
+    let start : i * c.size_of_class-size.result ≡ i * size c.self.inside.exp = ap (λ s. i * s) c.size_of_class-size.ensures in
+    let reached : i * size c.self.inside.exp + size c.self.inside.exp ≤ g.G.Segment.filled c.zero.new.self = omega (arith, start, c.size_of_class-size.ensures, c.zero.ensures.reached) in
     record {
       lawful = record {
         least = c.self.invariant.lawful.least;
@@ -63,6 +66,7 @@ invariant_of-self g c =
       };
       summed = c.after_take-self-inside.ensures;
       fits = search rules;
+      real = subst (λ bits. AreFilled bits c.self.inside.exp (g.G.Segment.filled c.zero.new.self)) (sym c.set.ensures.after) (filled_taken c.self.inside.used c.self.inside.exp _ _ i c.zero.ensures.more reached c.self.invariant.real);
     }
 
 pub returns-clause-lawful : goal.returns-clause-lawful

@@ -1,23 +1,22 @@
-use Rattle.std.proofs.Common.{◌≡◌, ◌+◌, length, sym, ap, ◌∙◌, length-take-le, replicate, subst, map}
+use Rattle.std.proofs.Common.{◌≡◌, ◌+◌, sym, ap, ◌∙◌, replicate, subst, map}
 use denote.RawPtr.{block_of}
 use Rattle.dym_base.specs.declared.limits.TheConstants.{SEGMENT_BYTES}
 use Rattle.std.proofs.lemmas.List.Elements.{All-push, All-same}
 use Rattle.dym_region.specs.Identity.{AreDistinct}
 use Rattle.dym_region.specs.contracts.raw_segment.RawSegmentSegment.TheImpl.{ghosts}
-use Rattle.dym_region.proofs.Cutting.{left_enough, front_zeros, back_zeros, placed, next_place}
+use Rattle.dym_region.proofs.Cutting.{left_enough, left_behind, placed, next_place}
 use Rattle.dym_region.proofs.Numbering.{numbered_push, ids_of-distinct, id_at}
+use Rattle.dym_region.proofs.Zeros.{none_used}
 use Rattle.dym_region.proofs.region.Region.new.Goals as goal
 
+pub split-bytes-requires : goal.split-bytes-requires
+split-bytes-requires c = left_enough c.loop-number.rest.cap c.args.count c.loop-number.number SEGMENT_BYTES c.loop-number-test.true c.loop-number.invariant.rest_room
+
 pub invariant_of-push_reserved : goal.invariant_of-push_reserved
-invariant_of-push_reserved c =
-    let n = c.args.count in
-    let k = c.loop-number.number in
-    let enough = left_enough c.loop-number.rest.items n k SEGMENT_BYTES c.loop-number-test.true c.loop-number.invariant.rest_zero in
-    record {
-      whole = ap length c.split-bytes.ensures.front ∙ length-take-le SEGMENT_BYTES c.loop-number.rest.items enough;
-      alone = c.split-bytes.ensures.front_room;
-      placed = placed c.split-bytes.result.0.ptr _ _ (c.split-bytes.ensures.front_place ∙ c.loop-number.invariant.rest_place);
-    }
+invariant_of-push_reserved c = record {
+  room = c.split-bytes.ensures.front_room;
+  placed = placed c.split-bytes.result.0.ptr _ _ (c.split-bytes.ensures.front_place ∙ c.loop-number.invariant.rest_place);
+}
 
 pub loop-number-preserved : goal.loop-number-preserved
 loop-number-preserved c =
@@ -32,8 +31,8 @@ loop-number-preserved c =
       numbered = ap (map ghosts.id) pushed.items ∙ numbered_push ghosts.id c.loop-number.segments.items _ c.take_out-rest.result.1.block k before.numbered
           (ap (λ b. id_at b k) (ap block_of (c.split-bytes.ensures.front_place ∙ before.rest_place)));
       zero = All-same (λ s. ghosts.content s ≡ replicate SEGMENT_BYTES 0) _ _ pushed.items
-          (All-push (λ s. ghosts.content s ≡ replicate SEGMENT_BYTES 0) _ _ before.zero (c.split-bytes.ensures.front ∙ front_zeros _ n k SEGMENT_BYTES below before.rest_zero));
-      rest_zero = c.split-bytes.ensures.back ∙ back_zeros _ n k SEGMENT_BYTES below before.rest_zero;
+          (All-push (λ s. ghosts.content s ≡ replicate SEGMENT_BYTES 0) _ _ before.zero (none_used _ SEGMENT_BYTES c.split-bytes.result.0.items c.split-bytes.ensures.front c.split-bytes.ensures.front_room));
+      rest_room = left_behind c.loop-number.rest.cap _ n k SEGMENT_BYTES below before.rest_room c.split-bytes.ensures.back_room;
       rest_place = next_place c.loop-number.rest.ptr _ _ k SEGMENT_BYTES before.rest_place c.split-bytes.ensures.back_place;
     }
 

@@ -12,6 +12,6 @@ invariant-loop-number l = record {
   room : vec_capacity l.segments ≡ l.count;
   numbered : map ghosts.id l.segments.items ≡ ids_of l.claim.block l.number;
   zero : All (λ s. ghosts.content s ≡ replicate SEGMENT_BYTES 0) l.segments.items;
-  rest_zero : l.rest.items ≡ replicate ((l.count - l.number) * SEGMENT_BYTES) 0;
+  rest_room : vec_capacity l.rest ≡ (l.count - l.number) * SEGMENT_BYTES;
   rest_place : l.rest.ptr ≡ block_ptr l.claim.block (l.number * SEGMENT_BYTES);
 }
