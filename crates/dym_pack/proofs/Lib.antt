@@ -5,6 +5,7 @@ pub mod Chunks
 pub mod Contained
 pub mod Fronts
 pub mod Heads
+pub mod Laying
 pub mod Logs
 pub mod Made
 pub mod MapsRead

@@ -1,9 +1,10 @@
 -- The parts of a log's bytes by their places.
-use Rattle.std.proofs.Common.{◌≡◌, ℕ, ◌+◌, ◌/◌, ◌^◌, ◌<◌, ◌≤◌, max, ◌∷◌, ◌++◌, length, take, drop, get_or, refl, sym, ap, ◌∙◌, arith}
+use Rattle.std.proofs.Common.{◌≡◌, ℕ, ◌+◌, ◌/◌, ◌^◌, ◌<◌, ◌≤◌, max, [], ◌∷◌, ◌++◌, length, map, take, drop, get_or, refl, sym, ap, ◌∙◌, arith}
 use Rattle.std.specs.Int.{w32, w64, to_le_bytes, from_le_bytes}
+use Rattle.std.specs.List.{range_with_len}
 use Rattle.std.specs.FinSet.{contains}
 use Rattle.std.proofs.lemmas.List.{take_at, drop_at, drop-drop, append_assoc, get_or-drop, get_or_append_left}
-use Rattle.std.proofs.lemmas.List.FromFn.{length-map-range_with_len, get_or-map-range_with_len}
+use Rattle.std.proofs.lemmas.List.FromFn.{length-map-range_with_len, get_or-map-range_with_len, map-range_with_len_more}
 use Rattle.std.proofs.lemmas.Nat.{from_le_bytes-to_le_bytes_4, from_le_bytes-to_le_bytes_8}
 use Rattle.dym_base.specs.Heaps.{held}
 use Rattle.dym_base.specs.Packed.{Logged, bitmap, packed, kind_byte, packs_by}
@@ -16,7 +17,7 @@ use Rattle.dym_pack.proofs.Bitmaps.{length_bitmap, bitmap_same}
 use Rattle.dym_pack.proofs.Heads.{head_len, maps_least, maps_len_inc}
 use Rattle.dym_pack.proofs.Named.{ordinal_small}
 use Rattle.dym_pack.proofs.Chunks.{parts, packable}
-use Rattle.dym_pack.proofs.Fronts.{packed_is, area_is_parts, area_len_is, at_area, rest_from, start_none, start_more, start_within}
+use Rattle.dym_pack.proofs.Fronts.{packed_is, area_is_parts, area_len_is, at_area, rest_from, start_none, start_more, start_within, start_last}
 
 -- ---- the starts
 
@@ -27,6 +28,13 @@ length_starts log = length-map-range_with_len (start_of log) 0 (held log.copy + 
 pub starts_at : (log : Logged) (k : ℕ) → k ≤ held log.copy → get_or (starts_of log) k 0 ≡ start_of log k
 unfolding starts_of
 starts_at log k within = get_or-map-range_with_len (start_of log) 0 (held log.copy + 1) k k 0 (omega arith) (omega arith)
+
+-- the last of them is where the bytes end
+pub starts_end : (log : Logged) → starts_of log ≡ map (start_of log) (range_with_len 0 (held log.copy)) ++ length (packed log) ∷ []
+unfolding starts_of
+starts_end log =
+    map-range_with_len_more (start_of log) 0 (held log.copy) (held log.copy) (omega arith)
+    ∙ ap (λ n. map (start_of log) (range_with_len 0 (held log.copy)) ++ n ∷ []) (start_last log (held log.copy) (omega arith))
 
 -- ---- the header
 

@@ -3,3 +3,4 @@ pub mod Laws
 pub mod Places
 pub mod Reading
 pub mod Contents
+pub mod Laid

@@ -12,6 +12,7 @@ mod laws;
 mod layout;
 mod of_bytes;
 mod packing;
+mod placed;
 mod reading;
 mod record;
 mod walk;

@@ -9,8 +9,10 @@ ghost use Rattle.dym_pack.specs.declared.of_bytes.RecordFail.TheVariants.{Bad};
 ghost use Rattle.smallvec.specs.SmallVec.{HasRoomFor};
 
 use crate::layout::{HEADER_BYTES, byte_of_kind};
+use crate::packing::FEW_STARTS;
+use crate::placed::PlacedBytes;
 use crate::reading::{area_in, rest_from};
-use crate::record::{FEW_STARTS, Record};
+use crate::record::Record;
 use crate::walk::length_at;
 use dym_base::limits::{LEAST_EXPONENT, MOST_QUOTA};
 use dym_base::{Kind, Version};
@@ -71,8 +73,8 @@ fn record_in(
     if places_in(bytes, version, kind, count, &mut starts).is_none() {
         return Err(RecordFail::Bad);
     }
-    match Vec::from_slice(alloc, bytes) {
-        Ok(bytes) => Ok(Record { bytes, starts }),
+    match PlacedBytes::copied(alloc, bytes, starts.as_slice()) {
+        Ok(placed) => Ok(Record { placed }),
         Err(_) => Err(RecordFail::Memory),
     }
 }

@@ -8,10 +8,14 @@ ghost use Rattle.dym_pack.specs.Places.{area_bytes};
 use crate::areas::Areas;
 use crate::areas_out::{area_len, put_area};
 use crate::layout::{HEADER_BYTES, put_header};
+use crate::placed::{PlacedBytes, with_room};
 use crate::record::Record;
 use dym_base::Kind;
 use smallvec::SmallVec;
 use std::alloc::{AllocError, Global};
+
+/// How many places are gathered with no allocation: as many as fifteen areas have, with the end of the last.
+pub(crate) const FEW_STARTS: usize = 16;
 
 /// The length of the record that packing areas gives, at whatever time.
 pub fn packed_len<A: Areas>(areas: &A, kind: Kind) -> u64
@@ -31,13 +35,15 @@ pub fn pack<A: Areas>(alloc: Global, areas: &A, kind: Kind, time: u64) -> Result
     ensures { IfOk result (λ r. r ≡ packed (logged (A.meaning areas.now) kind time)) }
 {
     let count = areas.area_count();
-    let mut bytes = Vec::with_capacity(alloc, packed_len(areas, kind) as usize)?;
-    let mut starts = SmallVec::with_capacity(alloc, count as usize + 1)?;
+    let places = count as usize + 1;
+    let mut bytes = with_room(alloc, packed_len(areas, kind) as usize, places)?;
+    let mut starts = SmallVec::<usize, FEW_STARTS>::with_capacity(alloc, places)?;
     put_header(areas.version(), kind, time, count, &mut bytes)?;
     for k in 0..count {
         starts.push_reserved(bytes.len());
         put_area(areas, kind, k, &mut bytes)?;
     }
     starts.push_reserved(bytes.len());
-    Ok(Record { bytes, starts })
+    let placed = PlacedBytes::of(bytes, starts.as_slice())?;
+    Ok(Record { placed })
 }

@@ -11,15 +11,12 @@ ghost use Rattle.dym_pack.specs.Areas.{area_at, bytes_at, chunks_of, chunk_numbe
 ghost use Rattle.dym_pack.specs.Reading.{IsRecord, OfLog, packs_at, packed_from, body_from};
 ghost use Rattle.dym_pack.specs.Places.{area_head, start_of};
 
-use crate::layout::{HEADER_BYTES, NAME_BYTES, is_bit, kind_of, map_bytes, version_of};
+use crate::layout::{NAME_BYTES, is_bit, kind_of, map_bytes, version_of};
+use crate::placed::{PlacedBytes, word_at};
 use crate::walk::chunk_after;
 use dym_base::{Kind, Version, size_of_class};
 use dym_bits::Bits;
-use smallvec::SmallVec;
 use std::marker::Model;
-
-/// How many places are kept in the record itself: as many as three areas have, with the end of the last.
-pub(crate) const FEW_STARTS: usize = 4;
 
 /// An area of a record: its class exponent, its ordinal, and how many chunks the record packs for it.
 pub struct AreaHead {
@@ -30,11 +27,10 @@ pub struct AreaHead {
 
 /// A heap at a time, as packed bytes. It shares nothing with the heap that it was packed from. No reader takes memory.
 ///
-/// The bytes lie in one allocation, and where each area begins, in the record itself if there are few areas.
+/// The bytes lie in one allocation, and behind them where each area begins and where the last one ends.
 #[derive(Drop)]
 pub struct Record {
-    pub(crate) bytes: Vec<u8>,
-    pub(crate) starts: SmallVec<usize, FEW_STARTS>,
+    pub(crate) placed: PlacedBytes,
 }
 
 impl Model for Record {
@@ -43,9 +39,9 @@ impl Model for Record {
 
     ghost Value = { List ℕ };
 
-    ghost view = { λ r. r.bytes.items };
+    ghost view = { λ r. r.placed.bytes };
 
-    ghost invariant = { λ r. IsRecordAt r.bytes.items r.starts.items };
+    ghost invariant = { λ r. IsRecordAt r.placed.bytes r.placed.places };
 }
 
 impl Record {
@@ -53,7 +49,7 @@ impl Record {
     pub fn bytes(&self) -> &[u8]
         ensures { result.now ≡ self.now }
     {
-        &self.bytes
+        self.placed.bytes()
     }
 
     /// The version of the heap.
@@ -74,7 +70,7 @@ impl Record {
     pub fn time(&self) -> u64
         ensures { OfLog self.now (λ log. result ≡ log.time) }
     {
-        time_in(self.whole())
+        word_at(self.whole(), 1)
     }
 
     /// How many bytes the record has.
@@ -89,7 +85,7 @@ impl Record {
         ensures count { OfLog self.now (λ log. result ≡ held log.copy) }
         ensures recorded { IsRecord self.now }
     {
-        (self.starts.len() - 1) as u32
+        (self.placed.place_count() - 1) as u32
     }
 
     /// Area `k`.
@@ -193,7 +189,7 @@ impl Record {
         ensures same { result.now ≡ self.now }
         ensures is { IsRecord result.now }
     {
-        &self.bytes
+        self.placed.bytes()
     }
 
     /// How many bytes stand before the packed chunks of area `k`.
@@ -223,7 +219,7 @@ impl Record {
         ensures at { OfLog self.now (λ log. result ≡ start_of log k) }
         ensures within { result ≤ length self.now }
     {
-        self.starts.as_slice()[k as usize]
+        self.placed.place(k as usize)
     }
 
     /// The class exponent of area `k`.
@@ -273,17 +269,6 @@ impl Record {
         let at = self.start(k) + NAME_BYTES + map;
         &bytes[at..at + map]
     }
-}
-
-/// The time in a record's bytes.
-fn time_in(bytes: &[u8]) -> u64
-    requires { HEADER_BYTES ≤ length bytes.now }
-    ensures { result ≡ from_le_bytes w64 (take 8 (drop 1 bytes.now)) }
-{
-    let eight = &bytes[1..9];
-    u64::from_le_bytes([
-        eight[0], eight[1], eight[2], eight[3], eight[4], eight[5], eight[6], eight[7],
-    ])
 }
 
 /// The ordinal of the area that begins at `start`.

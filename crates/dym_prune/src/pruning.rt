@@ -5,15 +5,22 @@ ghost use Rattle.dym_prune.specs.Sweeps.{Pruned};
 use crate::stop::Ear;
 use dym_slots::Sweeper;
 use std::sync::Wait;
-use std::thread;
+use std::time::Duration;
+
+/// The microseconds of the shortest rest.
+const LEAST_REST: u64 = 1_000;
+
+/// The microseconds of rest for each table, many times what its 320 looks take.
+const REST_FOR_A_TABLE: u64 = 8;
 
 /// Sweeps all log tables in turn, again and again, until the stop was asked for, and answers how many records it took back, or the
-/// greatest u64 where there were more. Each sweeper has ended one sweep at least. Where a whole round took nothing back, it leaves
-/// the processor to other threads before it goes on.
+/// greatest u64 where there were more. Each sweeper has ended one sweep at least. Between two rounds it rests, so that it takes
+/// a small part of a processor.
 pub fn pruner<R: Wait>(rt: &R, sweepers: &mut [Sweeper], ear: &mut Ear) -> u64
     ensures heard { ear.new.heard ≡ true }
     ensures pruned { Pruned sweepers.old sweepers.new result }
 {
+    let rest = rest_after(sweepers.len());
     let mut total: u64 = 0;
     for _ in rt.forever() {
         let taken = sweep_round(sweepers);
@@ -21,11 +28,15 @@ pub fn pruner<R: Wait>(rt: &R, sweepers: &mut [Sweeper], ear: &mut Ear) -> u64
         if ear.asked() {
             return total;
         }
-        if taken == 0 {
-            thread::yield_now();
-        }
+        ear.rest(rt, rest);
     }
     unreachable!()
+}
+
+/// How long the rest after a round of so many tables is.
+fn rest_after(tables: usize) -> Duration {
+    let micros = REST_FOR_A_TABLE.saturating_mul(tables as u64);
+    Duration::from_micros(micros.max(LEAST_REST))
 }
 
 /// Sweeps each table once, and answers how many records were taken back.

@@ -6,7 +6,8 @@ use crate::stop_view::StopView;
 use atomic_table::{Play, Seat, Split, Table, TableRule};
 use std::alloc::{AllocError, Global};
 use std::marker::Model;
-use std::sync::Arc;
+use std::sync::{Arc, Wait};
+use std::time::Duration;
 
 /// A stop, which is two ends of one word.
 pub struct Stop;
@@ -115,11 +116,12 @@ impl Stop {
 }
 
 impl Asker {
-    /// Asks for the stop. It may be asked for again.
+    /// Asks for the stop, and wakes the end that rests. It may be asked for again.
     pub fn ask(&mut self)
         ensures { self.new ≡ record { asked = true } }
     {
         self.board.shared.store::<Ask>(&mut self.seat, 0, 1);
+        self.board.shared.wake_one(0);
     }
 }
 
@@ -136,6 +138,11 @@ impl Ear {
         }
         self.heard = true;
         true
+    }
+
+    /// Sleeps until the stop is asked for, but no longer than this. It may also end early.
+    pub(crate) fn rest<R: Wait>(&self, rt: &R, longest: Duration) {
+        self.board.shared.park_timeout(rt, 0, 0, longest);
     }
 
     /// Whether this end has heard.

@@ -4,6 +4,7 @@ use Rattle.std.specs.List.{range_with_len}
 use Rattle.std.proofs.lemmas.List.FromFn.{map-range_with_len_more, length-map-range_with_len}
 use Rattle.dym_base.specs.Packed.{packed, kind_byte}
 use Rattle.dym_pack.specs.Areas.{logged, area_at}
+use Rattle.dym_pack.specs.Laid.{Placed}
 use Rattle.dym_pack.specs.Places.{front, start_of, starts_of, area_bytes}
 use Rattle.dym_pack.proofs.Fronts.{front_none, front_more, front_all, area_at_any_time}
 use Rattle.dym_pack.proofs.Logs.{recorded}
@@ -15,7 +16,7 @@ loop-k-init g c =
     let m = g.A.Areas.meaning c.args.areas.now in
     record {
       done = c.in_ok-put_header.ensures
-          ∙ ap (λ bytes. bytes ++ (kind_byte c.version.result c.args.kind ∷ to_le_bytes w64 c.args.time ++ to_le_bytes w32 c.area_count-count.result)) c.in_ok-bytes.ensures.items
+          ∙ ap (λ bytes. bytes ++ (kind_byte c.version.result c.args.kind ∷ to_le_bytes w64 c.args.time ++ to_le_bytes w32 c.area_count-count.result)) c.in_ok-bytes.ensures
           ∙ ap (λ v. kind_byte v c.args.kind ∷ to_le_bytes w64 c.args.time ++ to_le_bytes w32 c.area_count-count.result) c.version.ensures
           ∙ ap (λ n. kind_byte m.version c.args.kind ∷ to_le_bytes w64 c.args.time ++ to_le_bytes w32 n) c.area_count-count.ensures
           ∙ sym (front_none (logged m c.args.kind c.args.time));
@@ -53,6 +54,21 @@ loop-k-preserved g c =
       room = omega (arith, c.push_reserved.ensures.capacity, c.loop-k.invariant.room);
     }
 
+pub of-requires : goal.of-requires
+of-requires g c =
+    let log = logged (g.A.Areas.meaning c.args.areas.now) c.args.kind c.args.time in
+    let firsts = map (start_of log) (range_with_len 0 c.loop-k.k) in
+    let long : c.len-2.result ≡ length c.loop-k.bytes.items = omega (arith, c.len-2.ensures) in
+    record {
+      end = (
+        firsts,
+        c.as_slice.ensures
+            ∙ c.push_reserved-2.ensures.items
+            ∙ ap (λ xs. xs ++ c.len-2.result ∷ []) c.loop-k.invariant.placed
+            ∙ ap (λ n. firsts ++ n ∷ []) long,
+      );
+    }
+
 pub invariant_of-result : goal.invariant_of-result
 unfolding starts_of
 invariant_of-result g c =
@@ -69,11 +85,15 @@ invariant_of-result g c =
     ∙ ap (λ n. map (start_of log) (range_with_len 0 k) ++ n ∷ []) long
     ∙ sym (map-range_with_len_more (start_of log) 0 k k (zero-add k))
     ∙ ap (λ n. map (start_of log) (range_with_len 0 (n + 1))) all in
+    let of_bytes = ap (λ (p : Placed). p.bytes) c.in_ok-placed.ensures ∙ bytes in
+    let of_starts = ap (λ (p : Placed). p.places) c.in_ok-placed.ensures ∙ c.as_slice.ensures ∙ starts in
     record {
-      is = (log, ok, sym bytes);
-      placed = λ other rec same. starts ∙ same_starts log other ok rec (sym bytes ∙ sym same);
+      is = (log, ok, sym of_bytes);
+      placed = λ other rec same. of_starts ∙ same_starts log other ok rec (sym of_bytes ∙ sym same);
     }
 
 pub returns : goal.returns
 returns g c =
-    c.loop-k.invariant.done ∙ front_all (logged (g.A.Areas.meaning c.args.areas.now) c.args.kind c.args.time) c.loop-k.k (omega arith)
+    ap (λ (p : Placed). p.bytes) c.in_ok-placed.ensures
+    ∙ c.loop-k.invariant.done
+    ∙ front_all (logged (g.A.Areas.meaning c.args.areas.now) c.args.kind c.args.time) c.loop-k.k (omega arith)

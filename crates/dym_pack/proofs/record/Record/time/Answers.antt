@@ -3,8 +3,8 @@ use Rattle.std.specs.Int.{w64, from_le_bytes}
 use Rattle.dym_pack.proofs.Slices.{packed_least, time_bytes}
 use Rattle.dym_pack.proofs.record.Record.time.Goals as goal
 
-pub time_in-requires : goal.time_in-requires
-time_in-requires c =
+pub word_at-requires : goal.word_at-requires
+word_at-requires c =
     let log = c.whole.ensures.is.0 in
     let rec = c.whole.ensures.is.1 in
     let same = c.whole.ensures.is.2 ∙ c.whole.ensures.same in
@@ -13,6 +13,6 @@ time_in-requires c =
 
 pub returns : goal.returns
 returns c log rec same =
-    c.time_in.ensures
+    c.word_at.ensures
     ∙ ap (λ bytes. from_le_bytes w64 (take 8 (drop 1 bytes))) (c.whole.ensures.same ∙ sym same)
     ∙ time_bytes log rec.time

@@ -1,12 +1,14 @@
-use Rattle.std.proofs.Common.{ap, ◌∙◌, sym, subst, arith, ◌<◌}
+use Rattle.std.proofs.Common.{ap, ◌∙◌, sym, subst, arith, ◌<◌, [], ◌∷◌, None, Some}
 use Rattle.std.proofs.lemmas.List.{get_or_read}
+use Rattle.std.proofs.lemmas.Option.{same_Some}
 use Rattle.dym_slotlaw.specs.declared.slots.Entry.{Entry}
 use Rattle.dym_slotlaw.specs.declared.slots.TheConstants.{RECORD_NUMBERS}
 use Rattle.dym_slots.specs.Seats.{owner_of}
+use Rattle.dym_slots.specs.Shown.{Knowing}
 use Rattle.dym_slots.specs.Moves.{HasEntry, IsBytesOf}
 use Rattle.dym_slots.specs.Meanings.{KeepMeaning, record_at}
 use Rattle.dym_slots.specs.Orders.{no_entry}
-use Rattle.dym_slots.proofs.OwnerSays.{fits, count_of_records, has_entry, number_fits, in_list, bytes_here}
+use Rattle.dym_slots.proofs.OwnerSays.{fits, count_of_records, has_entry, number_fits, in_list, bytes_here, held_stands, sits_still}
 use Rattle.dym_slots.proofs.owner.Owner.lift.Goals as goal
 
 pub take_out-rec-requires-clause-listed : goal.take_out-rec-requires-clause-listed
@@ -24,6 +26,26 @@ take_out-rec-requires-clause-number c =
     let f = fits _ _ _ _ s in
     let e = get_or_read c.self.inside.order.items c.args.place c.index.result.now (omega arith) c.index.ensures no_entry in
     subst (λ (x : Entry). x.number < RECORD_NUMBERS) (sym e) (number_fits _ _ _ _ c.args.place s lt)
+
+pub invariant_of-self : goal.invariant_of-self
+invariant_of-self c =
+    let i = c.self.inside in
+    let inv = c.self.invariant in
+    let s = inv.stands in
+    let place = c.args.place in
+    let lt = in_list _ _ _ place c.self.view_is (count_of_records _ _ _ _ s) c.requires.place in
+    let f = fits _ _ _ _ s in
+    let e = get_or_read i.order.items place c.index.result.now (omega arith) c.index.ensures no_entry in
+    let after = c.take_out-rec.ensures.after in
+    record {
+      seated = sits_still _ _ _ c.take_out-rec.ensures.table inv.seated;
+      stands = held_stands i.order.items i.len i.made c.index.result.now.slot i.seat.me c.take_out-rec.new.seat.me None s after;
+      inside = λ p is. subst (λ q. q < i.len) (same_Some place p is) lt;
+      out = (
+        ap (λ (m : Knowing). (owner_of m.0).out) after ∙ ap (λ (x : Entry). Some x.slot) e,
+        ap (λ (m : Knowing). m.1) after ∙ ap (λ (x : Entry). (x.slot, None) ∷ []) e,
+      );
+    }
 
 pub returns-clause-bytes : goal.returns-clause-bytes
 returns-clause-bytes c =
