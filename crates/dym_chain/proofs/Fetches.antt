@@ -1,5 +1,5 @@
 -- What fetching records leaves in a heap.
-use Rattle.std.proofs.Common.{◌≡◌, ℕ, Bool, true, false, cond, not, ◌&&◌, is_some, Option, Some, None, List, [], ◌∷◌, refl, sym, ap, subst, ◌∙◌, nat_cmp}
+use Rattle.std.proofs.Common.{◌≡◌, ℕ, zero, suc, drop, Bool, true, false, cond, not, ◌&&◌, is_some, Option, Some, None, List, [], ◌∷◌, refl, sym, ap, subst, ◌∙◌, nat_cmp}
 use Rattle.std.specs.Cmp.{nat_cmp_total}
 use Rattle.std.specs.FinMap.{get, contains_key, same_map, nat_cmp-IsAntisymmetric}
 use Rattle.std.specs.FinSet as set
@@ -43,6 +43,19 @@ fetched_cons logs l old mid new before next k =
     let p : Option (List ℕ) = packed_by l k in
     let q : Option (List ℕ) = newest_packed logs k in
     next k ∙ ap (fetched p) (before k) ∙ (λ i. record { bytes = fetch_bytes a.touched p q a.bytes i; touched = fetch_mark a.touched p q i })
+
+-- ---- where nothing is touched any more, the logs that are left would fetch nothing
+
+quiet_chunk : (p : Option (List ℕ)) (t : Bool) (b : Option (List ℕ)) → t ≡ false → record { bytes = b; touched = t } ≡ fetched p (record { bytes = b; touched = t })
+quiet_chunk p false b h = refl
+quiet_chunk p true b h = absurd cc
+
+pub settled_all : (s t : HeapState) → t.touched ≡ set.empty {R = nat_cmp} → (n : ℕ) (logs : List Logged) → AreFetched (drop n logs) s t → AreFetched logs s t
+settled_all s t none zero logs h = h
+settled_all s t none (suc n) [] h = h
+settled_all s t none (suc n) (l ∷ logs) h =
+    fetched_cons logs l s t t (settled_all s t none n logs h)
+    (λ k. quiet_chunk (packed_by l k) (contains t.touched k) (get t.live k) (ap (λ x. contains x k) none ∙ contains-empty nat_cmp k))
 
 -- ---- the heap at the end of a restore
 

@@ -82,7 +82,8 @@ fn side_of(beside: &[Option<Record>], i: usize) -> Option<&Record>
 }
 
 /// Fetches the touched chunks from `count` records, beginning with that at place `last` and going down, so that each comes from
-/// the newest record that packs it.
+/// the newest record that packs it. Whether nothing is touched any more is looked at before the first few of them and then ever more
+/// seldom, since a look may go over all areas.
 pub(crate) fn fetch_down<S: Supply, K: LogKeep>(
     keep: &mut K,
     heap: &mut Heap<S>,
@@ -100,6 +101,9 @@ pub(crate) fn fetch_down<S: Supply, K: LogKeep>(
     ensures sound { IsSound heap.new }
 {
     for back in 0..count {
+        if (back == 0 || back.is_power_of_two()) && heap.is_settled() {
+            return;
+        }
         let place = last - back;
         let rec = keep.lift(place);
         heap.fetch(&rec);

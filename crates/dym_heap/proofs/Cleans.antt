@@ -1,5 +1,5 @@
 -- A shelf of which no chunk is touched any more.
-use Rattle.std.proofs.Common.{◌≡◌, ℕ, ◌+◌, ◌-◌, ◌<◌, inl, inr, Bool, false, None, List, [], ◌∷◌, ◌++◌, length, get_or, take, drop, map, replicate, refl, sym, ap, subst, ◌∙◌, arith, sum_by, length-append}
+use Rattle.std.proofs.Common.{◌≡◌, ℕ, suc, ◌+◌, ◌-◌, ◌<◌, inl, inr, Bool, false, None, List, [], ◌∷◌, ◌++◌, length, get_or, take, drop, map, replicate, refl, sym, ap, subst, ◌∙◌, arith, sum_by, length-append}
 use Rattle.std.specs.List.{flat_map}
 use Rattle.std.proofs.lemmas.Bool.{cases_lt, true≢false}
 use Rattle.std.proofs.lemmas.List.{length-map, length-replicate, ext_get_or, get_or-map, take-map, drop-map, replicate-append-replicate, get_or_past, get_or-replicate}
@@ -41,6 +41,22 @@ clean_place p is = record {
 
 at_clean : (places : List PlaceMeaning) (k : ℕ) (d : PlaceMeaning) → k < length places → get_or (map clean places) k d ≡ clean (get_or places k d)
 at_clean places k d l = get_or-map clean places k d d l
+
+-- ---- a place of which nothing is touched is as it would be cleared
+
+pub settled_place : (p : PlaceMeaning) → ((i : ℕ) → get_or p.touched i false ≡ false) → clean p ≡ p
+settled_place p none =
+    let same : replicate (length p.touched) false ≡ p.touched =
+    ext_get_or false (replicate (length p.touched) false) p.touched (length-replicate {A = Bool} (length p.touched) false) (λ i l. no_mark (length p.touched) i ∙ sym (none i)) in
+    λ j. record p { touched = same j }
+
+-- all of them
+pub settled_places : (places : List PlaceMeaning) → ((k : ℕ) (d : PlaceMeaning) → k < length places → clean (get_or places k d) ≡ get_or places k d) → map clean places ≡ places
+settled_places [] each = refl
+settled_places (p ∷ ps) each =
+    let first : clean p ≡ p = each 0 p (omega arith) in
+    let others : map clean ps ≡ ps = settled_places ps (λ k d l. each (suc k) d (omega (arith, l))) in
+    λ j. first j ∷ others j
 
 -- ---- rows
 

@@ -398,6 +398,13 @@ impl<S: Supply> Heap<S> {
         fetch_record(&mut self.shelf, rec);
     }
 
+    /// Whether nothing is touched. Where the answer is no, no clause tells that something is.
+    pub fn is_settled(&self) -> bool
+        ensures { IsTrue result → self.now.state.touched ≡ FinSet.empty }
+    {
+        self.shelf.is_settled()
+    }
+
     /// Gives all segments back, and answers the supply.
     pub fn end(self, way: &S::Way) -> S
         ensures nothing_held { S.held_ids result ≡ [] }

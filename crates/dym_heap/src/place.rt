@@ -1,5 +1,5 @@
 //! An area with the lengths of its chunks.
-ghost use Rattle.std.specs.Prelude.{◌≡◌, ℕ, ◌+◌, ◌-◌, ◌≤◌, ◌<◌, ◌*◌, ◌/◌, max, ◌↔◌, true, false, None, Some, [], List, length, take, drop, replicate, slice_index, slice_index_or, IsSome, is_some, IsTrue, MatchBool, MatchOption, option_map, unwrap_or};
+ghost use Rattle.std.specs.Prelude.{◌≡◌, ℕ, ◌+◌, ◌-◌, ◌≤◌, ◌<◌, ◌*◌, ◌/◌, max, ◌↔◌, true, false, None, Some, [], List, length, take, drop, replicate, slice_index, slice_index_or, IsSome, is_some, IsTrue, MatchBool, MatchOption, option_map, unwrap_or, ◌&&◌};
 ghost use Rattle.std.specs.List.{flat_map, range_with_len};
 ghost use Rattle.dym_base.specs.Numbers.{size, per};
 ghost use Rattle.dym_base.specs.HeapStep.{splice, fitted};
@@ -12,7 +12,7 @@ ghost use Rattle.dym_heap.specs.Shelves.{FitsIn};
 ghost use Rattle.dym_heap.specs.Bodies.{IsBodyOf, IsBody, IsLoadedPlace};
 ghost use Rattle.dym_heap.specs.Wanted.{place_chunk, marked, fetched, packed_at, IsReshaped};
 ghost use Rattle.dym_heap.specs.Lending.{IsUsedRun};
-ghost use Rattle.dym_heap.specs.Places.{PlaceMeaning, IsPlace, IsFreeIn, IsUsedFrom, IsRepeated, place_put, noted, len_of};
+ghost use Rattle.dym_heap.specs.Places.{PlaceMeaning, IsPlace, clean, IsFreeIn, IsUsedFrom, IsRepeated, place_put, noted, len_of};
 
 use crate::lengths::Lengths;
 use crate::load::{load_runs, load_sized};
@@ -180,15 +180,13 @@ impl<G: Segment> Place<G> {
         Some(self.used_bytes(i))
     }
 
-    /// The bytes of `count` chunks from chunk `from` on, each as long as its class allows: in version 1 those of the chunks,
-    /// where all are in use.
+    /// The bytes of `count` chunks in use from chunk `from` on, each as long as its class allows: in version 1 those of the chunks.
     pub(crate) fn run_bytes(&self, from: u32, count: u32) -> &[u8]
-        requires { from * size self.now.exponent + count * size self.now.exponent ≤ SEGMENT_BYTES }
-        ensures { self.now.version ≡ One → IsUsedRun self.now.chunks from count
-            → result.now ≡ flat_map (λ i. unwrap_or (slice_index_or self.now.chunks i None) []) (range_with_len from count) }
+        requires within { from * size self.now.exponent + count * size self.now.exponent ≤ SEGMENT_BYTES }
+        requires used { IsUsedRun self.now.chunks from count }
+        ensures { self.now.version ≡ One → result.now ≡ flat_map (λ i. unwrap_or (slice_index_or self.now.chunks i None) []) (range_with_len from count) }
     {
-        self.area
-            .run_bytes(from, count * size_of_class(self.area.exp()))
+        self.area.run_bytes(from, count)
     }
 
     /// Chunk `i` is free from now on.
@@ -339,10 +337,31 @@ impl<G: Segment> Place<G> {
         ensures fetched { (f : ℕ → List ℕ) → IsBodyOf self.old.version self.old.exponent packed.now body.now f → (i : ℕ) → place_chunk self.new i ≡ fetched (packed_at packed.now f i) (place_chunk self.old i) }
         ensures lawful { IsPlace self.new }
     {
-        let wanted = self.dirty_bits().intersection(packed);
+        let wanted = self.wanted_of(packed);
+        if wanted.next_set(0).is_none() {
+            return;
+        }
         self.load(packed, &wanted, body);
         let left = self.dirty_bits().difference(packed);
         self.set_touched(left);
+    }
+
+    /// Whether no chunk is touched. Where the answer is no, no clause tells that one is.
+    pub(crate) fn is_settled(&self) -> bool
+        ensures { IsTrue result → clean self.now ≡ self.now }
+    {
+        match self.area.dirty().next_set(0) {
+            None => true,
+            Some(_) => false,
+        }
+    }
+
+    /// The touched ones among these chunks.
+    fn wanted_of(&self, packed: &Bits) -> Bits
+        ensures bits { (i : ℕ) → bit_in result i ≡ (slice_index_or self.now.touched i false && bit_in packed.now i) }
+        ensures lawful { IsPlace self.now }
+    {
+        self.area.dirty().intersection(packed)
     }
 
     /// Takes the use bits from a bitmap. A chunk that was in use and not touched keeps its bytes; each other one in use is touched,

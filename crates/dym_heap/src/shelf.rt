@@ -1,5 +1,5 @@
 //! The areas of a heap, class by class.
-ghost use Rattle.std.specs.Prelude.{◌≡◌, ℕ, ◌+◌, ◌-◌, ◌*◌, ◌/◌, max, ◌≤◌, ◌<◌, true, false, None, Some, [], List, map, length, take, drop, replicate, slice_index_or, IsSome, MatchBool, MatchOption, OnOk, OnErr, IfOk, IfErr, is_some, option_map, vec_len, vec_capacity};
+ghost use Rattle.std.specs.Prelude.{◌≡◌, ℕ, ◌+◌, ◌-◌, ◌*◌, ◌/◌, max, ◌≤◌, ◌<◌, true, false, None, Some, [], List, map, length, take, drop, replicate, slice_index_or, IsSome, IsTrue, MatchBool, MatchOption, OnOk, OnErr, IfOk, IfErr, is_some, option_map, vec_len, vec_capacity};
 ghost use Rattle.dym_base.specs.Numbers.{per};
 ghost use Rattle.dym_base.specs.HeapStep.{splice, fitted};
 ghost use Rattle.dym_base.specs.declared.command.Version.TheVariants.{Two};
@@ -482,6 +482,14 @@ impl<S: Supply> Shelf<S> {
         clear_places(&mut self.places);
     }
 
+    /// Whether no chunk is touched. Where the answer is no, no clause tells that one is.
+    pub(crate) fn is_settled(&self) -> bool
+        ensures settled { IsTrue result → self.now ≡ record self.now { rows = untouched_rows self.now.rows } }
+        ensures kept { IsKept self.now }
+    {
+        are_settled(&self.places)
+    }
+
     /// Gives all segments back.
     pub(crate) fn close(self, way: &S::Way) -> S
         requires { IsKept self }
@@ -546,6 +554,18 @@ fn give_all<S: Supply>(mut supply: S, way: &S::Way, mut places: Vec<Place<S::Seg
     }
     places.destroy_empty();
     supply
+}
+
+/// Whether no chunk of these areas is touched.
+fn are_settled<G: Segment>(places: &Vec<Place<G>>) -> bool
+    ensures { IsTrue result → map clean places.now.items ≡ places.now.items }
+{
+    for i in 0..places.len() {
+        if !places[i].is_settled() {
+            return false;
+        }
+    }
+    true
 }
 
 /// No chunk of these areas is touched.

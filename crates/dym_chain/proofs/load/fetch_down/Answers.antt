@@ -3,6 +3,7 @@ use Rattle.dym_base.specs.declared.command.Version.{Version}
 use Rattle.dym_pack.specs.Reading.{OfLog}
 use Rattle.dym_heap.specs.Meaning.{HeapMeaning}
 use Rattle.dym_slots.specs.Meanings.{KeepMeaning, record_at}
+use Rattle.dym_chain.proofs.Fetches.{settled_all}
 use Rattle.dym_chain.proofs.Loading.{version_at, fetched_start, fetched_step}
 use Rattle.dym_chain.specs.Loads.{AreFetched}
 use Rattle.dym_chain.proofs.load.fetch_down.Goals as goal
@@ -57,3 +58,7 @@ returns-clause-fetched g c logs all are =
     let past = c.loop-back-test.false in
     let none : c.args.count - c.loop-back.back ≡ 0 = omega arith in
     subst (λ n. AreFetched (drop n logs) c.args.heap.now.state c.loop-back.heap.state) none (c.loop-back.invariant.fetched logs all are)
+
+pub returns-then-is_settled-clause-fetched : goal.returns-then-is_settled-clause-fetched
+returns-then-is_settled-clause-fetched g c logs all are =
+    settled_all c.args.heap.now.state c.loop-back.heap.state (c.is_settled.ensures c.if-is_settled.true) (c.args.count - c.loop-back.back) logs (c.loop-back.invariant.fetched logs all are)

@@ -100,6 +100,21 @@ invariant_of-self g c =
       beside = beside_same told.logs c.self.inside.beside.items c.keep_beside.new.beside.items c.self.invariant.beside (let few = c.in_default-keep_beside.ensures.few in omega (arith, counted, few)) c.in_default-keep_beside.ensures.same;
     }
 
+pub returns-in_default-keep_beside-clause-answer : goal.returns-in_default-keep_beside-clause-answer
+returns-in_default-keep_beside-clause-answer g c =
+    let keep : KeepMeaning = g.K.LogKeep.meaning c.self.inside.keep in
+    let told : Told = c.self.inside.ledger.told in
+    let s : HeapState = c.args.heap.now.state in
+    let v : Version = c.args.heap.now.version in
+    let t : ℕ = c.args.time in
+    let C : ChainMeaning = chain_of told keep in
+    let are : c.deref.result.now ≡ map entry_of told.logs = c.deref.ensures.value ∙ c.self.invariant.chain.shows.entries in
+    let last : c.newest_of-newest.result ≡ option_map entry_of (newest told.logs) = c.newest_of-newest.ensures told.logs are in
+    let count : c.len.result ≡ length told.logs = c.len.ensures ∙ sym c.deref.ensures.len ∙ count_same told.logs c.deref.result.now are in
+    let refusal : c.refusal_of.result ≡ log_refusal t told.logs = c.refusal_of.ensures told.logs last count in
+    let free : log_refusal t told.logs ≡ None = sym refusal ∙ c.in_default.is in
+    may_be_short v s c.args.self.now t c.args.want (ap (λ (x : ChainMeaning). log_refusal t x.logs) (sym c.self.view_is) ∙ free)
+
 pub pack-requires : goal.pack-requires
 pack-requires g c =
     record { packable = c.heaps_are_packable.ensures c.args.heap.now c.requires.sound }

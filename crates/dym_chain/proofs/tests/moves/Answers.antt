@@ -1,0 +1,10 @@
+use Rattle.std.proofs.Common.{Some, sym, subst}
+use Rattle.dym_base.specs.declared.command.Command.TheVariants.{Realloc}
+use Rattle.dym_heap.specs.Meaning.{HeapMeaning}
+use Rattle.dym_chain.specs.Chains.{Belongs}
+use Rattle.dym_chain.proofs.tests.moves.Goals as goal
+
+pub returns-clause-belongs : goal.returns-clause-belongs
+returns-clause-belongs c =
+    let h = c.args.heap.now in
+    subst (λ (x : HeapMeaning). Belongs x.version x.quota x.state c.args.chain.now) (sym c.realloc.ensures.after) (c.heap_steps_keep_belonging.ensures.step h.version h.quota h.state (Realloc (Some c.args.h) c.args.len) c.args.chain.now c.requires)
