@@ -1,12 +1,16 @@
 -- Lists of kept commands, and tables that grow.
-use Rattle.std.proofs.Common.{◌≡◌, ◌+◌, ◌≤◌, ◌<◌, List, [], ◌∷◌, ◌++◌, All, length, refl, ◌∙◌, arith, length-append, OnErr, Result, Ok, Err}
+use Rattle.std.proofs.Common.{◌≡◌, ℕ, ◌+◌, ◌*◌, ◌≤◌, ◌<◌, true, false, nat_le, if◌then◌else◌, List, [], ◌∷◌, ◌++◌, All, length, get_or, sum_by, refl, sym, ap, ◌∙◌, arith, length-append, OnErr, Result, Ok, Err}
 use Rattle.std.proofs.lemmas.List.{map-append}
+use Rattle.std.proofs.lemmas.Bool.Decides.{nat_tests}
+use Rattle.std.proofs.lemmas.List.Sums.{sum_by_push, sum_by-le}
 use Rattle.std.proofs.lemmas.List.Elements.{All-head, All-tail, All-push, All-weaker}
 use Rattle.std.specs.declared.alloc.AllocError.{AllocError}
 use Rattle.dym_base.specs.declared.limits.TheConstants.{MOST_COMMANDS}
 use Rattle.dym_base.specs.declared.command.Command.{Command}
+use Rattle.dym_base.specs.declared.command.Command.TheVariants.{Read}
 use Rattle.dym_commands.specs.declared.kept.Kept.{Kept}
 use Rattle.dym_commands.specs.declared.kept.Tables.{Tables}
+use Rattle.dym_commands.specs.Reads.{read_room}
 use Rattle.dym_commands.specs.Kept.{kept_command, kept_commands, IsFit, AreFit, Still}
 
 -- what is kept stays the same
@@ -24,12 +28,35 @@ more_commands t u kepts kept command still fit is =
     map-append (kept_command u) kepts (kept ∷ []) ∙ (λ i. same i ++ is i ∷ [])
 
 -- and it fits
-pub more_fit : (t u : Tables) (kepts : List Kept) (kept : Kept) → Still t u → length kepts < MOST_COMMANDS → length u.wide.items ≤ length t.wide.items + 1 → IsFit u kept → AreFit t kepts → AreFit u (kepts ++ kept ∷ [])
-more_fit t u kepts kept still room rows is fit = record {
+pub more_fit : (t u : Tables) (kepts : List Kept) (kept : Kept) (command : Command) (bytes : ℕ) → Still t u → length kepts < MOST_COMMANDS → length u.wide.items ≤ length t.wide.items + 1 → IsFit u kept → kept_command u kept ≡ command
+    → AreFit t kepts bytes → AreFit u (kepts ++ kept ∷ []) (bytes + read_room command)
+more_fit t u kepts kept command bytes still room rows is same fit = record {
   few = omega (arith, length-append kepts (kept ∷ []), room);
   rows = omega (arith, length-append kepts (kept ∷ []), rows, fit.rows);
   fit = All-push (IsFit u) kepts kept (All-weaker (IsFit t) (IsFit u) (λ k old. (still k old).0) kepts fit.fit) is;
+  reads = ap (λ (n : ℕ). n + read_room command) fit.reads ∙ sym (sum_by_push read_room (kept_commands t kepts) command) ∙ ap (sum_by read_room) (sym (more_commands t u kepts kept command still fit.fit same));
 }
+
+-- no command more
+pub same_fit : (t u : Tables) (kepts : List Kept) (bytes : ℕ) → Still t u → length u.wide.items ≡ length t.wide.items → AreFit t kepts bytes → AreFit u kepts bytes
+same_fit t u kepts bytes still rows fit = record {
+  few = fit.few;
+  rows = omega (arith, rows, fit.rows);
+  fit = All-weaker (IsFit t) (IsFit u) (λ k old. (still k old).0) kepts fit.fit;
+  reads = fit.reads ∙ ap (sum_by read_room) (sym (same_commands t u kepts still fit.fit));
+}
+
+-- what the reply to one command tells is no more than a chunk has
+read_room_few : (command : Command) → read_room command ≤ 65536
+read_room_few (Read h at n) = elim (nat_le n 65536) as (λ b. nat_le n 65536 ≡ b → (if b then n else 0) ≤ 65536) [
+  | true ↦ λ is. grind (arith, nat_tests)
+  | false ↦ λ is. omega arith
+] refl
+read_room_few command = omega arith
+
+-- and of many commands
+pub read_bytes_few : (commands : List Command) → sum_by read_room commands ≤ length commands * 65536
+read_bytes_few commands = sum_by-le read_room 65536 commands (λ k d inside. read_room_few (get_or commands k d))
 
 -- a fact that holds anyway
 pub on_err : (r : Result Unit AllocError) (P : Type 0) → P → OnErr r P

@@ -1,9 +1,10 @@
 -- Commands that are kept in little memory, and what they mean.
-use Rattle.std.specs.Prelude.{◌≡◌, ◌+◌, ◌*◌, ◌^◌, ◌≤◌, ◌<◌, ℕ, List, length, take, drop, map, All, slice_index_or, None, Some}
+use Rattle.std.specs.Prelude.{◌≡◌, ◌+◌, ◌*◌, ◌^◌, ◌≤◌, ◌<◌, ℕ, List, length, take, drop, map, sum_by, All, slice_index_or, None, Some}
 use Rattle.dym_base.specs.declared.limits.TheConstants.{MOST_COMMANDS}
 use Rattle.dym_base.specs.declared.handle.Handle.{Handle}
 use Rattle.dym_base.specs.declared.command.Command.{Command}
 use Rattle.dym_base.specs.declared.command.Command.TheVariants as command
+use Rattle.dym_commands.specs.Reads.{read_room}
 use Rattle.dym_commands.specs.declared.kept.Long.{Long}
 use Rattle.dym_commands.specs.declared.kept.Wide.{Wide}
 use Rattle.dym_commands.specs.declared.kept.Kept.{Kept}
@@ -64,8 +65,10 @@ Still tables more = (k : Kept) → IsFit tables k → IsFit more k × (kept_comm
 abbrev pub kept_commands : Tables → List Kept → List Command
 kept_commands tables kepts = map (kept_command tables) kepts
 
--- they are no more than a script has, with no more rows, and the tables have what they need
-pub record AreFit (tables : Tables) (kepts : List Kept) : Type 0 where
+-- they are no more than a script has, with no more rows, the tables have what they need, and so many bytes are the most that
+-- their replies tell
+pub record AreFit (tables : Tables) (kepts : List Kept) (read_bytes : ℕ) : Type 0 where
   pub few : length kepts ≤ MOST_COMMANDS
   pub rows : length tables.wide.items ≤ length kepts
   pub fit : All (IsFit tables) kepts
+  pub reads : read_bytes ≡ sum_by read_room (kept_commands tables kepts)

@@ -1,3 +1,4 @@
-pub mod Hexes
 pub mod Asks
+pub mod Hexes
 pub mod Kept
+pub mod Reads

@@ -1,8 +1,11 @@
 //! What a command line asks, before the bytes of a write are made.
-ghost use Rattle.std.specs.Prelude.{◌≡◌, IfOk};
+ghost use Rattle.std.specs.Prelude.{◌≡◌, ◌≤◌, IfOk};
+ghost use Rattle.dym_base.specs.declared.limits.TheConstants.{SEGMENT_BYTES};
 ghost use Rattle.dym_commands.specs.Asks.{asks};
+ghost use Rattle.dym_commands.specs.Reads.{read_room};
 
 use crate::hex_bytes::HexBytes;
+use dym_base::limits::SEGMENT_BYTES;
 use dym_base::{Command, Handle};
 use std::alloc::{AllocError, Global};
 
@@ -106,5 +109,23 @@ impl<'a> Asked<'a> {
             Asked::Logs => Command::Logs,
         };
         Ok(command)
+    }
+
+    /// How many bytes the reply tells at most.
+    #[inline(always)]
+    pub(crate) fn read_room(&self) -> usize
+        ensures room { result ≡ read_room (asks self.now) }
+        ensures small { result ≤ SEGMENT_BYTES }
+    {
+        match self {
+            Asked::Read { len, .. } => {
+                if *len <= SEGMENT_BYTES {
+                    *len as usize
+                } else {
+                    0
+                }
+            }
+            _ => 0,
+        }
     }
 }

@@ -1,7 +1,8 @@
 //! The commands of one object.
-ghost use Rattle.std.specs.Prelude.{◌≡◌, ◌<◌, ◌≤◌, [], ◌∷◌, ◌++◌, length, slice_get, IfSome, OnOk, OnErr};
+ghost use Rattle.std.specs.Prelude.{◌≡◌, ◌<◌, ◌≤◌, [], ◌∷◌, ◌++◌, length, sum_by, slice_get, IfSome, OnOk, OnErr};
 ghost use Rattle.dym_base.specs.declared.limits.TheConstants.{MOST_COMMANDS};
 ghost use Rattle.dym_commands.specs.Asks.{asks};
+ghost use Rattle.dym_commands.specs.Reads.{read_room};
 
 use crate::asked::Asked;
 use crate::kept::{Kept, Tables};
@@ -15,6 +16,7 @@ use std::marker::Model;
 pub struct Commands {
     kept: Vec<Kept>,
     tables: Tables,
+    read_bytes: usize,
 }
 
 impl Model for Commands {
@@ -26,7 +28,7 @@ impl Model for Commands {
 
     ghost view = { λ c. kept_commands c.tables c.kept.items };
 
-    ghost invariant = { λ c. AreFit c.tables c.kept.items };
+    ghost invariant = { λ c. AreFit c.tables c.kept.items c.read_bytes };
 }
 
 impl Commands {
@@ -37,6 +39,7 @@ impl Commands {
         Commands {
             kept: Vec::new(alloc),
             tables: Tables::new(alloc),
+            read_bytes: 0,
         }
     }
 
@@ -46,6 +49,13 @@ impl Commands {
         ensures few { result ≤ MOST_COMMANDS }
     {
         self.kept.len()
+    }
+
+    /// How many bytes the replies to its reads have at most, all together.
+    pub fn read_bytes(&self) -> usize
+        ensures { result ≡ sum_by read_room self.now }
+    {
+        self.read_bytes
     }
 
     /// Appends what a line asks. Only memory can be wanting.
@@ -58,6 +68,7 @@ impl Commands {
         self.kept.reserve(1)?;
         let kept = self.tables.keep(asked)?;
         self.kept.push(kept)?;
+        self.read_bytes += asked.read_room();
         Ok(())
     }
 

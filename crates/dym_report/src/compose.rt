@@ -2,6 +2,7 @@
 //! here takes where that text ends, and answers where it ends then.
 ghost use Rattle.std.specs.Prelude.{◌≡◌, ◌+◌, ◌*◌, ◌<◌, ◌≤◌, ◌^◌, ◌++◌, true, length, take, decimal, codes};
 ghost use Rattle.hex.specs.Hex.{encode_lower};
+ghost use Rattle.dym_base.specs.declared.reply.Reply.TheVariants.{Bytes};
 ghost use Rattle.dym_report.specs.Replies.{reply_line, reply_text, kind_text, refusal_text, line_room};
 ghost use Rattle.dym_report.specs.Handles.{handle_text};
 ghost use Rattle.dym_report.specs.Hex.{hex_text};
@@ -21,6 +22,14 @@ pub(crate) fn has_room(room: usize, reply: &Reply) -> bool
             Reply::Bytes(bytes) => bytes.bytes().len() <= (room - LINE_ROOM) / 2,
             _ => true,
         }
+}
+
+/// The same of bytes that were read.
+#[inline(always)]
+pub(crate) fn has_bytes_room(room: usize, bytes: &[u8]) -> bool
+    ensures { (result ≡ true) → line_room (Bytes bytes.now) ≤ room }
+{
+    room >= LINE_ROOM && bytes.len() <= (room - LINE_ROOM) / 2
 }
 
 /// Puts the line of a reply.
@@ -43,6 +52,17 @@ pub(crate) fn put_line(buffer: &mut [u8], start: usize, reply: &Reply) -> usize
         Reply::Slots { kept, slots } => put_slots(buffer, start, *kept, *slots),
         Reply::Refused(refusal) => put_refusal(buffer, start, *refusal),
     };
+    put_text(buffer, end, b"\n")
+}
+
+/// Puts the line of bytes that were read.
+#[inline(always)]
+pub(crate) fn put_bytes_line(buffer: &mut [u8], start: usize, bytes: &[u8]) -> usize
+    requires { start + line_room (Bytes bytes.now) ≤ length buffer.old }
+    ensures end { result ≤ length buffer.new }
+    ensures text { take result buffer.new ≡ take start buffer.old ++ reply_line (Bytes bytes.now) }
+{
+    let end = put_bytes(buffer, start, bytes);
     put_text(buffer, end, b"\n")
 }
 

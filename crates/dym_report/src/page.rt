@@ -1,10 +1,12 @@
 //! Lines that wait until they are written together.
 ghost use Rattle.std.specs.Prelude.{◌≡◌, ◌≤◌, [], ◌++◌, OnOk, OnErr};
+ghost use Rattle.dym_base.specs.declared.reply.Reply.TheVariants.{Bytes};
 ghost use Rattle.dym_io.specs.Sink.{Writes, Leaves, Stopped};
 ghost use Rattle.dym_report.specs.Replies.{reply_line};
 ghost use Rattle.dym_report.specs.declared.page.TheConstants.{PAGE_ROOM};
 
-use crate::compose::{has_room, put_line};
+use crate::compose::{has_bytes_room, has_room, put_bytes_line, put_line};
+use crate::hex_text::write_hex_line;
 use crate::reply::write_reply;
 use dym_base::Reply;
 use dym_io::{Sink, SinkFault, push_all};
@@ -67,6 +69,33 @@ impl Page {
             return write_reply(sink, reply);
         }
         self.end = put_line(&mut self.bytes, 0, reply);
+        Ok(())
+    }
+
+    /// Adds the line of bytes that were read, as `add` does that of a reply that tells them.
+    #[inline(always)]
+    pub fn add_bytes<W: Sink>(&mut self, sink: &mut W, bytes: &[u8]) -> Result<(), SinkFault>
+        ensures added { OnOk result (Leaves (W.output sink.old) (W.output sink.new) (self.old ++ reply_line (Bytes bytes.now)) self.new) }
+        ensures stopped { OnErr result (Stopped (W.output sink.old) (W.output sink.new) (self.old ++ reply_line (Bytes bytes.now))) }
+    {
+        if !has_bytes_room(PAGE_ROOM - self.end, bytes) {
+            return self.add_bytes_behind(sink, bytes);
+        }
+        self.end = put_bytes_line(&mut self.bytes, self.end, bytes);
+        Ok(())
+    }
+
+    /// Writes the lines, and then adds the line of bytes, or writes it too where it is longer than a page.
+    #[inline(never)]
+    fn add_bytes_behind<W: Sink>(&mut self, sink: &mut W, bytes: &[u8]) -> Result<(), SinkFault>
+        ensures added { OnOk result (Leaves (W.output sink.old) (W.output sink.new) (self.old ++ reply_line (Bytes bytes.now)) self.new) }
+        ensures stopped { OnErr result (Stopped (W.output sink.old) (W.output sink.new) (self.old ++ reply_line (Bytes bytes.now))) }
+    {
+        self.write(sink)?;
+        if !has_bytes_room(PAGE_ROOM, bytes) {
+            return write_hex_line(sink, b"ok ", bytes);
+        }
+        self.end = put_bytes_line(&mut self.bytes, 0, bytes);
         Ok(())
     }
 

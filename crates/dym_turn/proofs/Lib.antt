@@ -1,0 +1,2 @@
+pub mod KeptReplies
+pub mod ReadRoom

@@ -1,4 +1,4 @@
-use crate::Turn;
+use crate::{Replies, Turn};
 use dym_base::{Blob, Handle, Kind, Refusal, Reply, Version};
 use dym_chain::VecKeep;
 use dym_commands::{Asked, Commands, HexBytes};
@@ -83,6 +83,60 @@ fn commands_get_their_replies(rt: HostRuntime) -> Result<(), Fail> {
     assert_eq!(rt; replies.len(), wanted.len());
     for (at, (reply, want)) in replies.iter().zip(wanted.iter()).enumerate() {
         assert!(rt; *reply == *want, "at command {at}");
+    }
+    Ok(())
+}
+
+/// A reply of each kind, two of them with bytes that were read.
+fn every_kind(some: Blob, none: Blob) -> [Reply; 19] {
+    let handle = Handle { exp: 16, index: 7 };
+    [
+        Reply::Done,
+        Reply::Chunk(handle),
+        Reply::Bytes(some),
+        Reply::Nil,
+        Reply::Loose(u64::MAX),
+        Reply::Bytes(none),
+        Reply::Total(1 << 40),
+        Reply::Logged {
+            kind: Kind::Inc,
+            len: 1 << 33,
+        },
+        Reply::At(9),
+        Reply::Dropped(u32::MAX),
+        Reply::Slots { kept: 2, slots: 3 },
+        Reply::Refused(Refusal::TooLarge),
+        Reply::Refused(Refusal::Quota),
+        Reply::Refused(Refusal::Dead),
+        Reply::Refused(Refusal::Range),
+        Reply::Refused(Refusal::NotAfter { newest: 1 << 50 }),
+        Reply::Refused(Refusal::LogsFull),
+        Reply::Refused(Refusal::NoLog),
+        Reply::Done,
+    ]
+}
+
+#[test]
+fn every_kind_of_reply_comes_back(rt: HostRuntime) -> Result<(), Fail> {
+    let alloc = rt.alloc();
+    let some = Blob::new(alloc, &[7; 20])?;
+    let none = Blob::new(alloc, &[])?;
+    let wanted = every_kind(some, none);
+    let mut replies = Replies::with_room(alloc, wanted.len(), 20)?;
+    for reply in &wanted {
+        assert!(rt; replies.has_room_for(reply));
+        replies.push(reply);
+    }
+    assert!(rt; !replies.has_room_for(&Reply::Done));
+    assert_eq!(rt; replies.refusals(), 7);
+    assert_eq!(rt; replies.len(), wanted.len());
+    let mut place = Reply::Done;
+    for (k, want) in wanted.iter().enumerate() {
+        assert!(rt; k < replies.len());
+        match (replies.tell(k, &mut place), want) {
+            (Some(told), Reply::Bytes(bytes)) => assert!(rt; told == bytes.bytes(), "reply {k}"),
+            (told, _) => assert!(rt; told.is_none() && place == *want, "reply {k}"),
+        }
     }
     Ok(())
 }
