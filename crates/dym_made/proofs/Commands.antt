@@ -1,4 +1,4 @@
--- Each command of a made script is good: a verb, and a word for each of its places.
+-- Each command of a made script is good: a verb, and a word for each of its operands.
 use Rattle.std.proofs.Common.{◌≡◌, ℕ, zero, suc, ◌-◌, ◌%◌, ◌^◌, ◌<◌, ◌≤◌, ◌==◌, Bool, true, false, cond, ◌&&◌, List, [], ◌∷◌, ◌++◌, length, codes, Option, Some, None, refl, sym, ap, ◌∙◌, arith, append_assoc, append-nil}
 use Rattle.std.specs.Prelude.{decimal}
 use Rattle.std.specs.List.{list_all}
@@ -6,57 +6,57 @@ use Rattle.std.specs.Str.{bytes_eq}
 use Rattle.std.specs.Cmp.Lexicographic.{bytes_decides}
 use Rattle.hex.specs.Hex.{decode_pairs}
 use Rattle.dym_base.specs.declared.handle.Handle.{Handle}
-use Rattle.dym_script.specs.declared.verb.Verb.{Verb}
-use Rattle.dym_script.specs.declared.verb.Verb.TheVariants as verb
-use Rattle.dym_script.specs.Words.{number_to, handle_of, handle_or_nil_of}
-use Rattle.dym_script.specs.Table.{Place, Num, OneHandle, HandleOrNil, At, Len, Byte, ReadLen, Hex, Value, Values, value_of, values_of, row}
-use Rattle.dym_script.specs.Quick.{spelled}
+use Rattle.dym_lines.specs.declared.verb.Verb.{Verb}
+use Rattle.dym_lines.specs.declared.verb.Verb.TheVariants as verb
+use Rattle.dym_lines.specs.Words.{number_to, handle_of, handle_or_nil_of}
+use Rattle.dym_lines.specs.Table.{Operand, Num, Num32, OneHandle, HandleOrNil, Byte, ReadLen, Hex, Value, Values, value_of, values_of, row}
+use Rattle.dym_quick.specs.Quick.{spelled}
 use Rattle.dym_commands.specs.Hexes.{hex_of}
 use Rattle.dym_gen.specs.Draws.{next, below, size_at, text_from}
 use Rattle.dym_gen.specs.Commands.{drawn_command, fixed_command, goes_back, command_text}
 use Rattle.dym_made.proofs.Words.{is_seen_word, decimal_seen, decimal_read, IsSize, size_read, chunk, chunk_seen, chunk_read}
 
--- the word stands for something in the place
-pub record Fills (place : Place) (word : List ℕ) : Type 0 where
-  pub value : Value place
-  pub reads : value_of place word ≡ Some value
+-- the word is one for the operand
+pub record Fills (operand : Operand) (word : List ℕ) : Type 0 where
+  pub value : Value operand
+  pub reads : value_of operand word ≡ Some value
   pub seen : is_seen_word word ≡ true
 
--- each word does in its place
-pub record FillAll (places : List Place) (words : List (List ℕ)) : Type 0 where
-  pub values : Values places
-  pub reads : values_of places words ≡ Some values
-  pub count : length words ≡ length places
+-- each word is one for its operand
+pub record FillAll (operands : List Operand) (words : List (List ℕ)) : Type 0 where
+  pub values : Values operands
+  pub reads : values_of operands words ≡ Some values
+  pub count : length words ≡ length operands
   pub seen : list_all is_seen_word words ≡ true
 
-no_places : FillAll [] []
-no_places = record { values = tt; reads = refl; count = refl; seen = refl }
+no_operands : FillAll [] []
+no_operands = record { values = tt; reads = refl; count = refl; seen = refl }
 
-one_more : (place : Place) (places : List Place) (first : List ℕ) (words : List (List ℕ)) → Fills place first → FillAll places words
-    → FillAll (place ∷ places) (first ∷ words)
-one_more place places first words one all = record {
+one_more : (operand : Operand) (operands : List Operand) (first : List ℕ) (words : List (List ℕ)) → Fills operand first → FillAll operands words
+    → FillAll (operand ∷ operands) (first ∷ words)
+one_more operand operands first words one all = record {
   values = (one.value, all.values);
   reads = rw (one.reads, all.reads) refl;
   count = ap suc all.count;
   seen = rw (one.seen, all.seen) refl;
 }
 
--- the text is a verb and words that fill its places, in the usual spelling
+-- the text is a verb and words for its operands, in the usual spelling
 pub record IsCommand (text : List ℕ) : Type 0 where
   pub verb : Verb
   pub words : List (List ℕ)
   pub is : 32 ∷ text ≡ spelled ((row verb).word ∷ words)
-  pub fill : FillAll (row verb).places words
+  pub fill : FillAll (row verb).operands words
 
--- Words in places
+-- Words for operands
 
 number_fills : (n : ℕ) → n < 1000000 → Fills Num (decimal n)
 number_fills n small = record { value = n; reads = decimal_read (2 ^ 64 - 1) n small (omega arith); seen = decimal_seen n small }
 
-at_fills : (n : ℕ) → n < 1000 → Fills At (decimal n)
+at_fills : (n : ℕ) → n < 1000 → Fills Num32 (decimal n)
 at_fills n small = record { value = n; reads = decimal_read (2 ^ 32 - 1) n (omega arith) (omega arith); seen = decimal_seen n (omega arith) }
 
-len_fills : (n : ℕ) → n < 1000 → Fills Len (decimal n)
+len_fills : (n : ℕ) → n < 1000 → Fills Num32 (decimal n)
 len_fills n small = record { value = n; reads = decimal_read (2 ^ 32 - 1) n (omega arith) (omega arith); seen = decimal_seen n (omega arith) }
 
 byte_fills : (n : ℕ) → n < 256 → Fills Byte (decimal n)
@@ -88,7 +88,7 @@ some_fills size n is small = record {
   seen = chunk_seen size n is (omega arith);
 }
 
-nought_fills : Fills At (codes "0")
+nought_fills : Fills Num32 (codes "0")
 unfolding number_to
 nought_fills = record { value = 0; reads = refl; seen = refl }
 
@@ -135,7 +135,7 @@ some_drawn x = some_fills (drawn_size x) (drawn_index x) (size_drawn x) (index_d
 number_drawn : (limit x : ℕ) → 0 < limit → limit ≤ 1000 → Fills Num (decimal (below limit x))
 number_drawn limit x some most = let lt : below limit x < limit = below_lt limit x some in number_fills (below limit x) (omega arith)
 
-at_drawn : (x : ℕ) → Fills At (decimal (below 40 x))
+at_drawn : (x : ℕ) → Fills Num32 (decimal (below 40 x))
 at_drawn x = let lt : below 40 x < 40 = below_lt 40 x (omega arith) in at_fills (below 40 x) (omega arith)
 
 -- words behind the first, which is a chunk
@@ -147,7 +147,7 @@ is_malloc x = record {
   verb = verb.Malloc;
   words = decimal (below 200 (next x)) ∷ [];
   is = refl;
-  fill = one_more Num [] _ [] (number_drawn 200 (next x) (omega arith) (omega arith)) no_places;
+  fill = one_more Num [] _ [] (number_drawn 200 (next x) (omega arith) (omega arith)) no_operands;
 }
 
 is_calloc : (x : ℕ) → IsCommand (text_from x (drawn_command 1))
@@ -158,7 +158,7 @@ is_calloc x =
       words = decimal (below 4 (next x)) ∷ last;
       is = refl;
       fill = one_more Num (Num ∷ []) _ last (number_drawn 4 (next x) (omega arith) (omega arith))
-          (one_more Num [] _ [] (number_drawn 100 (next (next x)) (omega arith) (omega arith)) no_places);
+          (one_more Num [] _ [] (number_drawn 100 (next (next x)) (omega arith) (omega arith)) no_operands);
     }
 
 is_free : (x : ℕ) → IsCommand (text_from x (drawn_command 2))
@@ -166,7 +166,7 @@ is_free x = record {
   verb = verb.Free;
   words = drawn_chunk x ∷ [];
   is = ap (λ t. codes " free" ++ t) (spelled_chunk x []);
-  fill = one_more HandleOrNil [] _ [] (some_drawn x) no_places;
+  fill = one_more HandleOrNil [] _ [] (some_drawn x) no_operands;
 }
 
 is_write : (x : ℕ) → IsCommand (text_from x (drawn_command 3))
@@ -176,8 +176,8 @@ is_write x =
       verb = verb.Write;
       words = drawn_chunk x ∷ decimal at ∷ codes "01ff" ∷ [];
       is = ap (λ t. codes " write" ++ t) (spelled_chunk x (decimal at ∷ codes "01ff" ∷ []));
-      fill = one_more OneHandle (At ∷ Hex ∷ []) _ _ (chunk_drawn x)
-          (one_more At (Hex ∷ []) _ _ (at_drawn (next (next (next x)))) (one_more Hex [] _ [] hex_fills no_places));
+      fill = one_more OneHandle (Num32 ∷ Hex ∷ []) _ _ (chunk_drawn x)
+          (one_more Num32 (Hex ∷ []) _ _ (at_drawn (next (next (next x)))) (one_more Hex [] _ [] hex_fills no_operands));
     }
 
 is_fill : (x : ℕ) → IsCommand (text_from x (drawn_command 4))
@@ -189,9 +189,9 @@ is_fill x =
       verb = verb.Fill;
       words = drawn_chunk x ∷ words;
       is = ap (λ t. codes " fill" ++ t) (spelled_chunk x words);
-      fill = one_more OneHandle (At ∷ Len ∷ Byte ∷ []) _ _ (chunk_drawn x) (one_more At (Len ∷ Byte ∷ []) _ _ (at_drawn y)
-          (one_more Len (Byte ∷ []) _ _ (len_fills (below 20 (next y)) (omega arith))
-          (one_more Byte [] _ [] (byte_fills (below 256 (next (next y))) (below_lt 256 (next (next y)) (omega arith))) no_places)));
+      fill = one_more OneHandle (Num32 ∷ Num32 ∷ Byte ∷ []) _ _ (chunk_drawn x) (one_more Num32 (Num32 ∷ Byte ∷ []) _ _ (at_drawn y)
+          (one_more Num32 (Byte ∷ []) _ _ (len_fills (below 20 (next y)) (omega arith))
+          (one_more Byte [] _ [] (byte_fills (below 256 (next (next y))) (below_lt 256 (next (next y)) (omega arith))) no_operands)));
     }
 
 is_link : (x : ℕ) → IsCommand (text_from x (drawn_command 5))
@@ -202,8 +202,8 @@ is_link x =
       words = drawn_chunk x ∷ decimal (below 40 y) ∷ drawn_chunk y ∷ [];
       is = ap (λ t. codes " link " ++ (drawn_size x ++ 58 ∷ (decimal (drawn_index x) ++ 32 ∷ (decimal (below 40 y) ++ t)))) (spelled_chunk y [])
           ∙ ap (λ t. codes " link" ++ t) (spelled_chunk x (decimal (below 40 y) ∷ drawn_chunk y ∷ []));
-      fill = one_more OneHandle (At ∷ HandleOrNil ∷ []) _ _ (chunk_drawn x)
-          (one_more At (HandleOrNil ∷ []) _ _ (at_drawn y) (one_more HandleOrNil [] _ [] (some_drawn y) no_places));
+      fill = one_more OneHandle (Num32 ∷ HandleOrNil ∷ []) _ _ (chunk_drawn x)
+          (one_more Num32 (HandleOrNil ∷ []) _ _ (at_drawn y) (one_more HandleOrNil [] _ [] (some_drawn y) no_operands));
     }
 
 is_follow : (x : ℕ) → IsCommand (text_from x (drawn_command 6))
@@ -213,7 +213,7 @@ is_follow x =
       verb = verb.Follow;
       words = drawn_chunk x ∷ decimal (below 40 y) ∷ [];
       is = ap (λ t. codes " follow" ++ t) (spelled_chunk x (decimal (below 40 y) ∷ []));
-      fill = one_more OneHandle (At ∷ []) _ _ (chunk_drawn x) (one_more At [] _ [] (at_drawn y) no_places);
+      fill = one_more OneHandle (Num32 ∷ []) _ _ (chunk_drawn x) (one_more Num32 [] _ [] (at_drawn y) no_operands);
     }
 
 is_read : (x : ℕ) → IsCommand (text_from x (drawn_command 7))
@@ -221,7 +221,7 @@ is_read x = record {
   verb = verb.Read;
   words = drawn_chunk x ∷ codes "0" ∷ codes "16" ∷ [];
   is = ap (λ t. codes " read" ++ t) (spelled_chunk x (codes "0" ∷ codes "16" ∷ []));
-  fill = one_more OneHandle (At ∷ ReadLen ∷ []) _ _ (chunk_drawn x) (one_more At (ReadLen ∷ []) _ _ nought_fills (one_more ReadLen [] _ [] sixteen_fills no_places));
+  fill = one_more OneHandle (Num32 ∷ ReadLen ∷ []) _ _ (chunk_drawn x) (one_more Num32 (ReadLen ∷ []) _ _ nought_fills (one_more ReadLen [] _ [] sixteen_fills no_operands));
 }
 
 is_realloc : (x : ℕ) → IsCommand (text_from x (drawn_command 8))
@@ -231,7 +231,7 @@ is_realloc x =
       verb = verb.Realloc;
       words = drawn_chunk x ∷ decimal (below 200 y) ∷ [];
       is = ap (λ t. codes " realloc" ++ t) (spelled_chunk x (decimal (below 200 y) ∷ []));
-      fill = one_more HandleOrNil (Num ∷ []) _ _ (some_drawn x) (one_more Num [] _ [] (number_drawn 200 y (omega arith) (omega arith)) no_places);
+      fill = one_more HandleOrNil (Num ∷ []) _ _ (some_drawn x) (one_more Num [] _ [] (number_drawn 200 y (omega arith) (omega arith)) no_operands);
     }
 
 is_sum : (x : ℕ) → IsCommand (text_from x (drawn_command 9))
@@ -239,7 +239,7 @@ is_sum x = record {
   verb = verb.Sum;
   words = drawn_chunk x ∷ [];
   is = ap (λ t. codes " sum" ++ t) (spelled_chunk x []);
-  fill = one_more OneHandle [] _ [] (chunk_drawn x) no_places;
+  fill = one_more OneHandle [] _ [] (chunk_drawn x) no_operands;
 }
 
 is_drawn : (c x : ℕ) → c < 10 → IsCommand (text_from x (drawn_command c))
@@ -265,12 +265,12 @@ either true o p x first second = first
 either false o p x first second = second
 
 -- a verb and a number
-named : (v : Verb) (n : ℕ) → (row v).places ≡ Num ∷ [] → n < 1000000 → IsCommand ((row v).word ++ 32 ∷ decimal n)
-named v n places small = record {
+named : (v : Verb) (n : ℕ) → (row v).operands ≡ Num ∷ [] → n < 1000000 → IsCommand ((row v).word ++ 32 ∷ decimal n)
+named v n operands small = record {
   verb = v;
   words = decimal n ∷ [];
   is = ap (λ t. 32 ∷ (row v).word ++ 32 ∷ t) (sym (append-nil (decimal n)));
-  fill = rw places (one_more Num [] (decimal n) [] (number_fills n small) no_places);
+  fill = rw operands (one_more Num [] (decimal n) [] (number_fills n small) no_operands);
 }
 
 forty : Fills Num (codes "40")
@@ -282,10 +282,10 @@ unfolding number_to
 segment = record { value = 65536; reads = refl; seen = refl }
 
 is_first : IsCommand (codes "malloc 40")
-is_first = record { verb = verb.Malloc; words = codes "40" ∷ []; is = refl; fill = one_more Num [] _ [] forty no_places }
+is_first = record { verb = verb.Malloc; words = codes "40" ∷ []; is = refl; fill = one_more Num [] _ [] forty no_operands }
 
 is_second : IsCommand (codes "malloc 65536")
-is_second = record { verb = verb.Malloc; words = codes "65536" ∷ []; is = refl; fill = one_more Num [] _ [] segment no_places }
+is_second = record { verb = verb.Malloc; words = codes "65536" ∷ []; is = refl; fill = one_more Num [] _ [] segment no_operands }
 
 abbrev ilogs : ℕ → Option (List ℕ)
 ilogs j = cond (j % 4 == 2) (Some (codes "ilog " ++ decimal j)) None

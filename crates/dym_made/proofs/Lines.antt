@@ -8,13 +8,14 @@ use Rattle.std.proofs.lemmas.List.Folds.{list_all-append}
 use Rattle.dym_base.specs.Names.{is_name}
 use Rattle.dym_base.specs.declared.command.Command.{Command}
 use Rattle.dym_base.specs.declared.limits.TheConstants.{MOST_LINE_BYTES, MOST_OBJECTS, MOST_COMMANDS, MOST_QUOTA}
-use Rattle.dym_script.specs.declared.verb.Verb.{Verb}
-use Rattle.dym_script.specs.declared.verb.Verb.TheVariants as verb
-use Rattle.dym_script.specs.Lines.{lines_of, words_of}
-use Rattle.dym_script.specs.Table.{row, verb_of}
-use Rattle.dym_script.specs.Scripts.{Reading, object_of, is_version, is_printable, read_line}
-use Rattle.dym_script.specs.Quick.{is_bare_word, spelled}
-use Rattle.dym_script.proofs.Spelled.{words_of_spelled, no_end, lines_of_front, command_good}
+use Rattle.dym_lines.specs.declared.verb.Verb.{Verb}
+use Rattle.dym_lines.specs.declared.verb.Verb.TheVariants as verb
+use Rattle.dym_lines.specs.Lines.{lines_of, words_of, is_printable}
+use Rattle.dym_lines.specs.Table.{row, verb_of}
+use Rattle.dym_script.specs.Scripts.{Reading, object_of, is_version, read_line}
+use Rattle.dym_quick.specs.Quick.{is_bare_word, spelled}
+use Rattle.dym_quick.proofs.Spelled.{words_of_spelled, no_end, lines_of_front}
+use Rattle.dym_lines.proofs.Rows.{command_good}
 use Rattle.dym_made.proofs.Words.{is_seen_word, word_bare, word_printable, decimal_read, name_of, no_object, name_good, name_seen}
 use Rattle.dym_made.proofs.Commands.{IsCommand}
 

@@ -14,11 +14,10 @@ use Rattle.std.proofs.lemmas.Fmt.{digits_decimal, digits_value-decimal, decimal_
 use Rattle.dym_base.specs.Names.{is_name, is_name_byte}
 use Rattle.dym_base.specs.declared.limits.TheConstants.{MOST_NAME_BYTES}
 use Rattle.dym_base.specs.declared.handle.Handle.{Handle}
-use Rattle.dym_script.specs.Lines.{is_word}
-use Rattle.dym_script.specs.Words.{is_digits, number_to, exponent_of, handle_of}
-use Rattle.dym_script.specs.Scripts.{is_printable}
-use Rattle.dym_script.specs.Quick.{is_bare, is_bare_word, Counts, Sizes, Begins}
-use Rattle.dym_script.proofs.Spelled.{all_weaker, begins_handle}
+use Rattle.dym_lines.specs.Lines.{is_word, is_printable}
+use Rattle.dym_lines.specs.Words.{is_digits, number_to, exponent_of, handle_of}
+use Rattle.dym_quick.specs.Quick.{is_bare, is_bare_word, Counts, Sizes, Begins}
+use Rattle.dym_quick.proofs.Spelled.{all_weaker, begins_handle}
 
 -- a byte that can be seen, so that it may stand in a word of a line
 abbrev pub is_seen : ℕ → Bool

@@ -1,14 +1,8 @@
-pub mod Cuts
 pub mod Index
 pub mod KeptReader
-pub mod Numbers
 pub mod Moves
 pub mod Faults
-pub mod Spelled
 pub mod SpelledLines
-pub mod Fronts
-pub mod Rows
-pub mod VerbFronts
 pub mod PiecesRead
 pub mod KeepLines
 pub mod KeptParts

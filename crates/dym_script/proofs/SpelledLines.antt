@@ -1,6 +1,5 @@
 -- What the grammar says of a line in the usual spelling.
 use Rattle.std.proofs.Common.{◌≡◌, ℕ, ◌+◌, ◌-◌, ◌<◌, ◌≤◌, ◌==◌, Bool, true, false, cond, not, ◌&&◌, List, [], ◌∷◌, ◌++◌, length, drop, get_or, codes, Some, None, Result, Ok, Err, nat_le, nat_lt, refl, sym, ap, subst, ◌∙◌, arith, rules, append_assoc, length-append}
-use Rattle.std.proofs.Math.Seq.{drop-append_seam}
 use Rattle.std.proofs.lemmas.Bool.Decides.{nat_tests}
 use Rattle.std.specs.List.{list_all, onto_first}
 use Rattle.std.specs.Str.{bytes_eq}
@@ -9,20 +8,19 @@ use Rattle.dym_base.specs.Names.{is_name, is_name_byte}
 use Rattle.dym_base.specs.declared.bad_kind.BadKind.{BadKind}
 use Rattle.dym_base.specs.declared.command.Command.{Command}
 use Rattle.dym_base.specs.declared.limits.TheConstants.{MOST_NAME_BYTES, MOST_LINE_BYTES}
-use Rattle.dym_script.specs.declared.verb.Verb.{Verb}
+use Rattle.dym_lines.specs.declared.verb.Verb.{Verb}
 use Rattle.dym_commands.specs.declared.asked.Asked.{Asked}
 use Rattle.dym_script.specs.declared.reader.Ask.{Ask}
 use Rattle.dym_script.specs.declared.reader.Reader.{Reader}
-use Rattle.dym_script.specs.Lines.{lines_of, words_of}
-use Rattle.dym_script.specs.Scripts.{Said, Reading, object_of, ask_at, is_version, begin, is_printable, read_line}
-use Rattle.dym_script.specs.Plain.{is_plain}
+use Rattle.dym_lines.specs.Lines.{lines_of, words_of, is_plain, is_printable}
+use Rattle.dym_script.specs.Scripts.{Said, Reading, object_of, ask_at, is_version, begin, read_line}
 use Rattle.dym_commands.specs.Asks.{asks}
-use Rattle.dym_script.specs.Table.{verb_of, command_of}
+use Rattle.dym_lines.specs.Table.{verb_of, command_of}
 use Rattle.dym_script.specs.Readers.{IsKept, seen, reading, IsNamed, IsNext}
-use Rattle.dym_script.specs.Quick.{is_bare, is_bare_word, spelled, Demands}
+use Rattle.dym_quick.specs.Quick.{is_bare, is_bare_word, spelled, Demands}
 use Rattle.dym_script.proofs.Index.{object_of_name, object_of_within}
-use Rattle.dym_script.proofs.Cuts.{both_true}
-use Rattle.dym_script.proofs.Spelled.{no_more, all_weaker, words_of_spelled, no_end, lines_of_front, plain_front}
+use Rattle.dym_lines.proofs.Cuts.{both_true}
+use Rattle.dym_quick.proofs.Spelled.{no_more, all_weaker, words_of_spelled, no_end, lines_of_front, plain_front}
 
 -- a verb and its words in the usual spelling stand after a name
 pub record DemandsOf (name text : List ℕ) (asked : Asked) (after : List ℕ) : Type 0 where
@@ -123,13 +121,6 @@ some_line (b ∷ bytes) some none = elim (b == 10) as (λ t. cond t ([] ∷ line
   | false ↦ λ e. first_stays b (lines_of bytes) e
 ] none
 
--- a line takes some bytes
-pub demands_shorter : (text after : List ℕ) (asked : Asked) → Demands text asked after → length after < length text
-demands_shorter text after asked d = omega (arith, ap length d.is, length-append (spelled (d.word ∷ d.words)) (10 ∷ after))
-
-pub demands_of_shorter : (name text after : List ℕ) (asked : Asked) → DemandsOf name text asked after → length after < length text
-demands_of_shorter name text after asked whole = omega (arith, ap length whole.is, length-append name whole.line, demands_shorter whole.line after asked whole.demands)
-
 -- a line in the usual spelling that names a declared object is the next to be read
 pub next_asked : (r : Reader) (text words rest : List ℕ) (taken : ℕ) (ask : Ask) → IsKept r → IsNamed r text ask.object words → Demands words ask.asked (drop taken words) → rest ≡ drop taken words → length text - length rest ≤ MOST_LINE_BYTES + 1 → list_all is_plain text ≡ true → IsNext r text ask rest
 next_asked r text words rest taken ask kept names demands left short good =
@@ -147,12 +138,3 @@ next_asked r text words rest taken ask kept names demands left short good =
       plain = after.0;
       first = (line, cut, λ number lines. read (seen r lines) number ask.object names.found);
     }
-
--- what stands behind a line is what is left without it
-pub demands_taken : (text after : List ℕ) (asked : Asked) → Demands text asked after → (length after ≤ length text) × (drop (length text - length after) text ≡ after)
-demands_taken text after asked demands =
-    let front = spelled (demands.word ∷ demands.words) ++ 10 ∷ [] in
-    let is : text ≡ front ++ after = demands.is ∙ sym (append_assoc (spelled (demands.word ∷ demands.words)) (10 ∷ []) after) in
-    let long : length text ≡ length front + length after = ap length is ∙ length-append front after in
-    let taken : length text - length after ≡ length front = omega (arith, long) in
-    (omega (arith, long), ap (λ t. drop (length text - length after) t) is ∙ ap (λ n. drop n (front ++ after)) taken ∙ drop-append_seam front after)

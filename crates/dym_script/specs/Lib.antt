@@ -1,8 +1,4 @@
-pub mod Lines
-pub mod Words
-pub mod Table
 pub mod Scripts
-pub mod Plain
 pub mod Answers
 pub mod Readers
 pub mod Keeping
@@ -11,8 +7,6 @@ pub mod Wholes
 pub mod Parts
 pub mod ByObjects
 pub mod Laws
-pub mod Quick
-pub mod Fronts
 pub mod Late
 pub mod LateArrivals
 pub mod LateAnswers

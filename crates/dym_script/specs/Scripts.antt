@@ -13,10 +13,10 @@ use Rattle.dym_base.specs.declared.command.Command.{Command}
 use Rattle.dym_script.specs.declared.script.Decl.{Decl}
 use Rattle.dym_script.specs.declared.script.Line.{Line}
 use Rattle.dym_script.specs.declared.script.Script.{Script}
-use Rattle.dym_script.specs.declared.verb.Verb.{Verb}
-use Rattle.dym_script.specs.Lines.{lines_of, words_of}
-use Rattle.dym_script.specs.Words.{number_to}
-use Rattle.dym_script.specs.Table.{verb_of, command_of}
+use Rattle.dym_lines.specs.declared.verb.Verb.{Verb}
+use Rattle.dym_lines.specs.Lines.{lines_of, words_of, is_printable}
+use Rattle.dym_lines.specs.Words.{number_to}
+use Rattle.dym_lines.specs.Table.{verb_of, command_of}
 
 -- what a script says: its version, and the lists of its declarations and of its other lines
 pub record Said : Type 0 where
@@ -104,10 +104,6 @@ read_words r number (first ∷ words) =
     if slice_index first 0 == 35 then Ok r
     else if not r.begun && is_version first words then Ok (record { begun = true; said = record r.said { version = Two } })
     else begin (say r.said number first words)
-
--- what may stand in a line
-abbrev pub is_printable : ℕ → Bool
-is_printable b = nat_le 0x20 b && nat_le b 0x7e
 
 -- what is said with one line more
 unfoldable pub read_line : Reading → ℕ → List ℕ → Result Reading BadKind

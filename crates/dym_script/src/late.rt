@@ -3,19 +3,18 @@ ghost use Rattle.std.specs.Prelude.{◌≡◌, ◌<◌, ◌∷◌, length, Some,
 ghost use Rattle.dym_script.specs.Late.{act_on, late_line, late_of, late_said, late_start, late_words, late_declared, declaring};
 ghost use Rattle.dym_script.specs.LateArrivals.{IsLawfulLate, MayAct};
 ghost use Rattle.dym_script.specs.LateAnswers.{GivesLate, GivesLateLine, IsLateKept, late_seen};
-ghost use Rattle.dym_script.specs.Lines.{words_of};
+ghost use Rattle.dym_lines.specs.Lines.{words_of};
 ghost use Rattle.dym_script.specs.Scripts.{declare_words};
 
 use crate::late_script::{LateAct, LateLine, LateScript, MOST_LATE_EVENTS, MOST_LATE_LINES};
 use crate::late_words::act_of;
 use crate::line_fail::LineFail;
 use crate::line_tests::is_printable_line;
-use crate::lines::{next_line, next_word, two_words};
-use crate::places::number_to;
 use crate::reader::Reader;
 use crate::script::ScriptFail;
 use dym_base::BadKind;
 use dym_base::limits::{MOST_INPUT_BYTES, MOST_LINE_BYTES};
+use dym_lines::{next_line, next_word, number_of, two_words};
 use std::alloc::Global;
 
 /// What was read so far of a script of late events.
@@ -90,8 +89,8 @@ impl LateReader {
         ensures read { GivesLateLine (late_seen self.new) result
             (late_declared (late_seen self.old) (declare_words (declaring (late_seen self.old).objects) number (words_of words.now))) }
     {
-        let (name, quota) = two_words(words).ok_or(LineFail::Bad(BadKind::Command))?;
-        let quota = number_to(u64::MAX, quota).ok_or(LineFail::Bad(BadKind::Number))?;
+        let (name, quota) = two_words(words)?;
+        let quota = number_of(quota)?;
         self.declared.declare(alloc, number, name, quota)?;
         self.events.push(0)?;
         Ok(())

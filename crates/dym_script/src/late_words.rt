@@ -1,17 +1,15 @@
 //! What a line of late events says of its object, by its words.
 ghost use Rattle.std.specs.Prelude.{◌≡◌, true, IfOk};
-ghost use Rattle.dym_script.specs.Lines.{words_of};
+ghost use Rattle.dym_lines.specs.Lines.{words_of};
 ghost use Rattle.dym_script.specs.Late.{act_of, at_words, commit_words, event_at, event_fault, is_event, is_event_verb, time_of};
 ghost use Rattle.dym_script.specs.LateArrivals.{MayAct};
-ghost use Rattle.dym_script.specs.Table.{command_of};
+ghost use Rattle.dym_lines.specs.Table.{command_of};
 ghost use Rattle.dym_script.specs.Answers.{GivesLine};
 
 use crate::late_script::LateAct;
 use crate::line_fail::LineFail;
-use crate::lines::{next_word, one_word};
-use crate::places::number_to;
-use crate::verb::Verb;
 use dym_base::BadKind;
+use dym_lines::{Verb, next_word, number_of, number_to, one_word};
 use std::alloc::Global;
 
 impl LateAct {
@@ -32,7 +30,7 @@ pub fn act_of(alloc: Global, words: &[u8]) -> Result<LateAct, LineFail>
     ensures read { GivesLine (λ act. act) result (act_of (words_of words.now)) }
     ensures may { IfOk result MayAct }
 {
-    let (word, words) = next_word(words).ok_or(LineFail::Bad(BadKind::Command))?;
+    let (word, words) = next_word(words).ok_or(BadKind::Command)?;
     if word == b"at".as_slice() {
         at_words(alloc, words)
     } else if word == b"commit".as_slice() {
@@ -47,8 +45,7 @@ fn commit_words(words: &[u8]) -> Result<LateAct, LineFail>
     ensures read { GivesLine (λ act. act) result (commit_words (words_of words.now)) }
     ensures may { IfOk result MayAct }
 {
-    let time = one_word(words).ok_or(LineFail::Bad(BadKind::Command))?;
-    let time = number_to(u64::MAX, time).ok_or(LineFail::Bad(BadKind::Number))?;
+    let time = number_of(one_word(words)?)?;
     Ok(LateAct::Commit { time })
 }
 
@@ -57,9 +54,9 @@ fn at_words(alloc: Global, words: &[u8]) -> Result<LateAct, LineFail>
     ensures read { GivesLine (λ act. act) result (at_words (words_of words.now)) }
     ensures may { IfOk result MayAct }
 {
-    let (time, words) = next_word(words).ok_or(LineFail::Bad(BadKind::Command))?;
-    let (word, words) = next_word(words).ok_or(LineFail::Bad(BadKind::Command))?;
-    let verb = Verb::of(word).ok_or(LineFail::Bad(BadKind::Command))?;
+    let (time, words) = next_word(words).ok_or(BadKind::Command)?;
+    let (word, words) = next_word(words).ok_or(BadKind::Command)?;
+    let verb = Verb::of(word).ok_or(BadKind::Command)?;
     if !is_event_verb(verb) {
         return Err(LineFail::Bad(BadKind::Command));
     }
@@ -74,12 +71,11 @@ fn event_at(alloc: Global, time: &[u8], verb: Verb, words: &[u8]) -> Result<Late
 {
     match verb.asked(words) {
         Ok(asked) => {
-            let time = number_to(u64::MAX, time).ok_or(LineFail::Bad(BadKind::Number))?;
+            let time = number_of(time)?;
             let command = asked.command(alloc)?;
             Ok(LateAct::At { time, command })
         }
-        Err(LineFail::Bad(kind)) => Err(LineFail::Bad(event_fault(time, kind))),
-        Err(LineFail::Memory) => Err(LineFail::Memory),
+        Err(kind) => Err(LineFail::Bad(event_fault(time, kind))),
     }
 }
 

@@ -1,6 +1,6 @@
 //! The reader of scripts: it turns bytes into declarations and commands, or names the first bad line. It stands on
-//! `dym_base` and `dym_commands`; the top call, which runs what was read, stands above it. Its one contract: what is read is what
-//! the grammar in `specs/` gives for the same bytes, and a `Keeper`, to which each declaration and what each line asks is handed,
+//! `dym_base`, `dym_commands`, `dym_lines` and `dym_quick`; the top call, which runs what was read, stands above it. Its one
+//! contract: what is read is what the grammar in `specs/` gives for the same bytes, and a `Keeper`, to which each declaration and what each line asks is handed,
 //! keeps what it needs of just these. `Holding` keeps each object's commands, `Counting` nothing. Scripts of late events have a
 //! grammar and a reader of their own over the same words, `read_late`.
 #![tactic(auto)]
@@ -13,21 +13,13 @@ mod late_words;
 mod laws;
 mod line_fail;
 mod line_tests;
-mod lines;
 mod near;
-mod numerals;
 mod own;
 mod parts;
 mod pieces;
-mod places;
-mod quick;
-mod quick_verbs;
-mod quick_words;
 mod read;
 mod reader;
 pub mod script;
-mod sizes;
-mod verb;
 
 pub use counting::Counting;
 pub use keeper::Keeper;
@@ -43,6 +35,6 @@ pub use script::{Decl, Line, Script, ScriptFail};
 #[cfg(test)]
 mod late_tests;
 #[cfg(test)]
-mod quick_tests;
+mod near_tests;
 #[cfg(test)]
 mod tests;

@@ -12,6 +12,17 @@ pub enum LineFail {
     Memory,
 }
 
+impl From<BadKind> for LineFail {
+    ghost use Rattle.std.specs.Prelude.{◌≡◌};
+    ghost use Rattle.dym_script.specs.declared.line_fail.LineFail.TheVariants.{Bad};
+
+    ghost from_gives = { λ kind fail. fail ≡ Bad kind };
+
+    fn from(kind: BadKind) -> LineFail {
+        LineFail::Bad(kind)
+    }
+}
+
 impl From<AllocError> for LineFail {
     ghost use Rattle.std.specs.Prelude.{◌≡◌};
     ghost use Rattle.dym_script.specs.declared.line_fail.LineFail.TheVariants.{Memory};

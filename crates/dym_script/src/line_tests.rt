@@ -1,12 +1,11 @@
 //! Tests of a line that need nothing but the line.
 ghost use Rattle.std.specs.Prelude.{◌≡◌};
 ghost use Rattle.std.specs.List.{list_all};
-ghost use Rattle.dym_script.specs.Lines.{words_of};
-ghost use Rattle.dym_script.specs.Scripts.{is_printable, is_version, name_fault};
-ghost use Rattle.dym_script.specs.Plain.{is_plain};
+ghost use Rattle.dym_lines.specs.Lines.{words_of, is_plain, is_printable};
+ghost use Rattle.dym_script.specs.Scripts.{is_version, name_fault};
 
-use crate::lines::one_word;
 use dym_base::{BadKind, is_name};
+use dym_lines::one_word;
 
 /// Whether each byte of an input is a line end or one that a line may have. No byte ends the walk, so that many are tested
 /// at once.
@@ -45,7 +44,7 @@ fn is_printable(byte: &u8) -> bool
 pub fn is_version(first: &[u8], words: &[u8]) -> bool
     ensures { result ≡ is_version first.now (words_of words.now) }
 {
-    first == b"version".as_slice() && one_word(words) == Some(b"2".as_slice())
+    first == b"version".as_slice() && one_word(words).ok() == Some(b"2".as_slice())
 }
 
 /// What is wrong with a name that isn't declared.

@@ -8,7 +8,7 @@ ghost use Rattle.dym_script.specs.declared.script.Line.{Line};
 ghost use Rattle.dym_script.specs.Wholes.{GivesWhole};
 ghost use Rattle.dym_script.specs.Keeping.{Holds, Stands, IsReady, TookBy, HoldsLine};
 ghost use Rattle.dym_script.specs.Pieces.{says, IsEnded, IsOpen, TakesPiece, ReadsText, ReadsNext};
-ghost use Rattle.dym_script.specs.Plain.{is_plain};
+ghost use Rattle.dym_lines.specs.Lines.{is_plain};
 ghost use Rattle.dym_script.specs.Readers.{IsKept, seen, reading, Grows};
 ghost use Rattle.dym_script.specs.Scripts.{ask_at};
 

@@ -3,15 +3,13 @@ ghost use Rattle.std.specs.Prelude.{◌≡◌, ◌+◌, ◌<◌, ◌≤◌, [], 
 
 use crate::line_fail::LineFail;
 use crate::line_tests::{is_printable_line, is_version, unknown};
-use crate::lines::{next_line, next_word, two_words};
-use crate::near::{Near, key_of};
-use crate::places::number_to;
-use crate::quick::{front_name, quick_rest};
+use crate::near::{Near, front_name, key_of};
 use crate::script::Decl;
-use crate::verb::Verb;
 use dym_base::limits::{MOST_LINE_BYTES, MOST_OBJECTS, MOST_QUOTA};
 use dym_base::{BadKind, Name, Version};
 use dym_commands::Asked;
+use dym_lines::{Verb, next_line, next_word, number_of, two_words};
+use dym_quick::quick_rest;
 use std::alloc::{AllocError, Global};
 use std::collections::HashMap;
 
@@ -45,11 +43,10 @@ pub struct Reader {
 }
 
 impl Reader {
-    ghost use Rattle.dym_script.specs.Scripts.{start, read_lines, read_line, read_words, say, declare, object_of, is_printable};
+    ghost use Rattle.dym_script.specs.Scripts.{start, read_lines, read_line, read_words, say, declare, object_of};
     ghost use Rattle.std.specs.List.{list_all};
     ghost use Rattle.dym_base.specs.Names.{is_name};
-    ghost use Rattle.dym_script.specs.Lines.{words_of, lines_of};
-    ghost use Rattle.dym_script.specs.Plain.{is_plain};
+    ghost use Rattle.dym_lines.specs.Lines.{words_of, lines_of, is_plain, is_printable};
     ghost use Rattle.dym_script.specs.Readers.{IsKept, seen, IsWithin, GivesReading, GivesSaid, Declares, Finds, IsNamed, IsNext, GivesNext, Grows};
 
     /// A reader that has read nothing.
@@ -223,13 +220,13 @@ impl Reader {
         ensures read { GivesSaid (λ lines. (seen self.new lines).said) result (λ lines. say (seen self.old lines).said number first.now (words_of words.now)) }
     {
         if first == b"object".as_slice() {
-            let (name, quota) = two_words(words).ok_or(LineFail::Bad(BadKind::Command))?;
-            let quota = number_to(u64::MAX, quota).ok_or(LineFail::Bad(BadKind::Number))?;
+            let (name, quota) = two_words(words)?;
+            let quota = number_of(quota)?;
             self.declare(alloc, number, name, quota)?;
             Ok(None)
         } else {
-            let (word, operands) = next_word(words).ok_or(LineFail::Bad(BadKind::Command))?;
-            let verb = Verb::of(word).ok_or(LineFail::Bad(BadKind::Command))?;
+            let (word, operands) = next_word(words).ok_or(BadKind::Command)?;
+            let verb = Verb::of(word).ok_or(BadKind::Command)?;
             let asked = verb.asked(operands)?;
             let object = self.asked_of(first)?;
             self.last = object;
@@ -252,7 +249,7 @@ impl Reader {
         ensures version { self.new.version ≡ self.old.version }
         ensures read { Declares (λ lines. (seen self.new lines).said) result (λ lines. declare (seen self.old lines).said number name.now (Some quota)) }
     {
-        let declared = Name::new(name).ok_or(LineFail::Bad(BadKind::Name))?;
+        let declared = Name::new(name).ok_or(BadKind::Name)?;
         if self.place_of(name).is_some() {
             return Err(LineFail::Bad(BadKind::Twice));
         }

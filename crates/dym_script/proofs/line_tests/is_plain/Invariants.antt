@@ -1,6 +1,6 @@
 use Rattle.std.proofs.Common.{◌≡◌, take}
 use Rattle.std.specs.List.{list_all}
-use Rattle.dym_script.specs.Plain.{is_plain}
+use Rattle.dym_lines.specs.Lines.{is_plain}
 use Rattle.dym_script.proofs.line_tests.is_plain.Given as goal
 
 abbrev pub invariant-loop-byte : goal.invariant-loop-byte

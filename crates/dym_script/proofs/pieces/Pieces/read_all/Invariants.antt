@@ -1,9 +1,9 @@
 use Rattle.std.proofs.Common.{◌≡◌, ◌+◌, ◌≤◌, ◌++◌, true, List, ℕ, length}
 use Rattle.std.specs.List.{list_all}
-use Rattle.dym_script.specs.Lines.{lines_of}
+use Rattle.dym_lines.specs.Lines.{lines_of}
 use Rattle.dym_script.specs.Scripts.{Reading, read_lines}
 use Rattle.dym_script.specs.Keeping.{Stands, IsReady}
-use Rattle.dym_script.specs.Plain.{is_plain}
+use Rattle.dym_lines.specs.Lines.{is_plain}
 use Rattle.dym_script.proofs.pieces.Pieces.read_all.Given as goal
 
 abbrev pub invariant-loop-rest : goal.invariant-loop-rest

@@ -1,0 +1,4 @@
+pub mod Spelled
+pub mod Fronts
+pub mod Rows
+pub mod VerbFronts

@@ -1,0 +1,68 @@
+//! Which verb stands at the front of a line's words, and what they ask.
+ghost use Rattle.std.specs.Prelude.{◌≤◌, length, drop, IfSome};
+ghost use Rattle.dym_quick.specs.Quick.{Demands};
+
+use crate::numerals::first_word;
+use crate::verbs::{bytes_verb, chunk_verb, link_verb, log_verb};
+use dym_commands::Asked;
+use dym_lines::Verb;
+
+/// How many rows the table of verbs has. Fifteen are in use, and the other repeats a verb.
+const VERB_ROWS: usize = 16;
+
+/// A multiple of a space and the four bytes after it, with which a verb begins, tells the row, by four of its bits. This is the least
+/// factor by which the fifteen verbs, `sum` and `log` with the space behind them, have rows of their own: each from 1 on was tried.
+const VERB_SPREAD: u64 = 411_353;
+
+/// The verb of each row.
+const VERBS: [Verb; VERB_ROWS] = [
+    Verb::Realloc,
+    Verb::Write,
+    Verb::Calloc,
+    Verb::Malloc,
+    Verb::Restore,
+    Verb::Fill,
+    Verb::Logs,
+    Verb::Logs,
+    Verb::Read,
+    Verb::Link,
+    Verb::Follow,
+    Verb::Sum,
+    Verb::Log,
+    Verb::Prune,
+    Verb::Free,
+    Verb::Ilog,
+];
+
+/// What a line asks of which the name was read goes into a place. Answers how many bytes of the text the line has. It has several
+/// callers: a place takes what is asked without a copy.
+#[inline(never)]
+pub fn quick_rest<'a>(text: &'a [u8], asked: &mut Asked<'a>) -> Option<usize>
+    ensures within { IfSome result (λ taken. taken ≤ length text.now) }
+    ensures asked { IfSome result (λ taken. Demands text.now asked.new (drop taken text.now)) }
+{
+    let after = after_verb_line(text, asked)?;
+    Some(text.len() - after.len())
+}
+
+/// What such a line asks goes into a place, and the text after the line is left.
+#[inline(always)]
+fn after_verb_line<'a>(text: &'a [u8], asked: &mut Asked<'a>) -> Option<&'a [u8]>
+    ensures { IfSome result (λ after. Demands text.now asked.new after.now) }
+{
+    let word = first_word(text)?;
+    let verb = guessed_verb(word);
+    match verb {
+        Verb::Malloc | Verb::Calloc | Verb::Realloc | Verb::Free => chunk_verb(verb, text, asked),
+        Verb::Write | Verb::Fill | Verb::Read => bytes_verb(verb, text, asked),
+        Verb::Link | Verb::Follow | Verb::Sum => link_verb(verb, text, asked),
+        _ => log_verb(verb, text, asked),
+    }
+}
+
+/// The verb with which a word seems to begin, after a space. Whoever reads the line compares the whole verb, so that nothing but
+/// time rests on it.
+#[inline(always)]
+fn guessed_verb(word: u64) -> Verb {
+    VERBS[(word.wrapping_mul(VERB_SPREAD) >> 32) as usize % VERB_ROWS]
+}

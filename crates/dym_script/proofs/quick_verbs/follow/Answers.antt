@@ -1,8 +1,0 @@
-use Rattle.std.proofs.Common.{refl}
-use Rattle.dym_script.specs.declared.verb.Verb.TheVariants as verb
-use Rattle.dym_script.specs.Table.{Place}
-use Rattle.dym_script.proofs.Spelled.{demands, spells_end, spells_more}
-use Rattle.dym_script.proofs.quick_verbs.follow.Goals as goal
-
-pub returns : goal.returns
-returns c = demands verb.Follow _ _ _ _ (c.in_ok-h.h, (c.in_ok-at.at, tt)) c.in_ok-rest.ensures (spells_more Place.OneHandle _ _ _ _ _ _ c.in_ok-h.ensures (spells_more Place.At _ _ _ _ _ _ c.in_ok-at.ensures (spells_end _ _ c.in_ok-after.ensures))) refl

@@ -1,8 +1,0 @@
-use Rattle.std.proofs.Common.{refl}
-use Rattle.dym_script.specs.declared.verb.Verb.TheVariants as verb
-use Rattle.dym_script.specs.Table.{Place}
-use Rattle.dym_script.proofs.Spelled.{demands, spells_end, spells_more}
-use Rattle.dym_script.proofs.quick_verbs.prune.Goals as goal
-
-pub returns : goal.returns
-returns c = demands verb.Prune _ _ _ _ (c.in_ok-bound.bound, tt) c.in_ok-rest.ensures (spells_more Place.Num _ _ _ _ _ _ c.in_ok-bound.ensures (spells_end _ _ c.in_ok-after.ensures)) refl

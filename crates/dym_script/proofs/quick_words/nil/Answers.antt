@@ -1,6 +1,0 @@
-use Rattle.std.proofs.Common.{codes, refl, rules, arith}
-use Rattle.dym_script.proofs.Spelled.{starts, begins_nil}
-use Rattle.dym_script.proofs.quick_words.nil.Goals as goal
-
-pub returns-in-32 : goal.returns-in-32
-returns-in-32 c = begins_nil _ _ (starts _ (codes " nil") _ (omega arith) (search rules) refl)

@@ -1,6 +1,0 @@
-use Rattle.std.proofs.Common.{◌-◌, ◌^◌, arith}
-use Rattle.dym_script.proofs.Spelled.{begins_number}
-use Rattle.dym_script.proofs.quick_words.number.Goals as goal
-
-pub returns : goal.returns
-returns c = begins_number (2 ^ 64 - 1) _ _ _ _ c.in_ok-word.ensures c.in_ok-number.ensures.counts (omega (arith, c.in_ok-number.ensures.within))
