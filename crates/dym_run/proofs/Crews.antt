@@ -1,12 +1,12 @@
 -- Works with their names and their sweepers, in lists of one length.
-use Rattle.std.proofs.Common.{◌≡◌, ℕ, ◌+◌, ◌<◌, ◌⊎◌, inl, inr, List, [], ◌∷◌, ◌++◌, length, map, reverse, sum_by, All, refl, sym, ap, subst, ◌∙◌, arith, append-nil, append_assoc, length-append, get_or}
+use Rattle.std.proofs.Common.{◌≡◌, Bool, ℕ, ◌+◌, ◌<◌, ◌⊎◌, inl, inr, List, [], ◌∷◌, ◌++◌, length, map, reverse, sum_by, All, refl, sym, ap, subst, ◌∙◌, arith, append-nil, append_assoc, length-append, get_or}
 use Rattle.std.specs.Prelude.{slice_index_or}
 use Rattle.std.proofs.lemmas.List.{get_or_append_left, get_or-map, map-append, map_push, length-map, reverse-append}
 use Rattle.std.proofs.lemmas.List.Elements.{All-map, All-same}
 use Rattle.std.proofs.lemmas.List.Sums.{sum_by-cons}
 use Rattle.std.proofs.Math.Seq.{get_or-append_seam}
 use Rattle.dym_base.specs.Origins.{Origin, TableName, shared}
-use Rattle.dym_base.specs.declared.command.Version.{Version}
+use Rattle.dym_run.specs.declared.telling.Telling.{Telling}
 use Rattle.dym_slots.specs.Meanings.{SweeperMeaning}
 use Rattle.dym_pool.specs.Jobs.{Numbered, labels}
 use Rattle.dym_script.specs.declared.parts.Part.{Part}
@@ -21,18 +21,18 @@ none_left [] none = refl
 none_left (x ∷ xs) none = absurd (omega (arith, none))
 
 -- one more at the end of both lists
-all_more : (names : List (List ℕ)) (origins : List OriginMeaning) (n : List ℕ) (o : OriginMeaning) → length names ≡ length origins
-    → all_shown (names ++ n ∷ []) (origins ++ o ∷ []) ≡ all_shown names origins ++ origin_shown n o ∷ []
-all_more [] [] n o same = refl
-all_more [] (x ∷ origins) n o same = absurd (omega (arith, same))
-all_more (m ∷ names) [] n o same = absurd (omega (arith, same))
-all_more (m ∷ names) (x ∷ origins) n o same = ap (λ l. origin_shown m x ∷ l) (all_more names origins n o (omega (arith, same)))
+all_more : (views : Bool) (names : List (List ℕ)) (origins : List OriginMeaning) (n : List ℕ) (o : OriginMeaning) → length names ≡ length origins
+    → all_shown views (names ++ n ∷ []) (origins ++ o ∷ []) ≡ all_shown views names origins ++ origin_shown views n o ∷ []
+all_more views [] [] n o same = refl
+all_more views [] (x ∷ origins) n o same = absurd (omega (arith, same))
+all_more views (m ∷ names) [] n o same = absurd (omega (arith, same))
+all_more views (m ∷ names) (x ∷ origins) n o same = ap (λ l. origin_shown views m x ∷ l) (all_more views names origins n o (omega (arith, same)))
 
-pub shown_more : (names : List (List ℕ)) (works : List WorkMeaning) (n : List ℕ) (w : WorkMeaning) → length names ≡ length works
-    → works_shown (names ++ n ∷ []) (works ++ w ∷ []) ≡ works_shown names works ++ origin_shown n w.origin ∷ []
-shown_more names works n w same =
-    ap (all_shown (names ++ n ∷ [])) (map_push (λ (w : WorkMeaning). w.origin) works w)
-    ∙ all_more names (map (λ (w : WorkMeaning). w.origin) works) n w.origin (same ∙ sym (length-map works (λ (w : WorkMeaning). w.origin)))
+pub shown_more : (views : Bool) (names : List (List ℕ)) (works : List WorkMeaning) (n : List ℕ) (w : WorkMeaning) → length names ≡ length works
+    → works_shown views (names ++ n ∷ []) (works ++ w ∷ []) ≡ works_shown views names works ++ origin_shown views n w.origin ∷ []
+shown_more views names works n w same =
+    ap (all_shown views (names ++ n ∷ [])) (map_push (λ (w : WorkMeaning). w.origin) works w)
+    ∙ all_more views names (map (λ (w : WorkMeaning). w.origin) works) n w.origin (same ∙ sym (length-map works (λ (w : WorkMeaning). w.origin)))
 
 -- a place of a list with one more is one of the list, or the last
 last_or_before : (k n m : ℕ) → k < m → m ≡ n + 1 → (k < n) ⊎ (k ≡ n)
@@ -93,17 +93,17 @@ numbered_same before after same numbered k d within =
     ∙ numbered k d in'
 
 -- the first part is printed behind what was printed before
-pub boarded_one : (version : Version) (part : Part) (before after : List Part) (shown_before shown_after : List Shown)
-    → before ≡ part ∷ after → shown_after ≡ shown_before ++ own_shown version (own_of part) ∷ [] → Boarded version 1 before after shown_before shown_after
-boarded_one version part before after shown_before shown_after taken shown = record { done = part ∷ []; counted = refl; taken = taken; shown = shown }
+pub boarded_one : (telling : Telling) (part : Part) (before after : List Part) (shown_before shown_after : List Shown)
+    → before ≡ part ∷ after → shown_after ≡ shown_before ++ own_shown telling (own_of part) ∷ [] → Boarded telling 1 before after shown_before shown_after
+boarded_one telling part before after shown_before shown_after taken shown = record { done = part ∷ []; counted = refl; taken = taken; shown = shown }
 
-pub boarded_none : (version : Version) (parts : List Part) (shown : List Shown) → Boarded version 0 parts parts shown shown
-boarded_none version parts shown = record { done = []; counted = refl; taken = refl; shown = sym (append-nil shown) }
+pub boarded_none : (telling : Telling) (parts : List Part) (shown : List Shown) → Boarded telling 0 parts parts shown shown
+boarded_none telling parts shown = record { done = []; counted = refl; taken = refl; shown = sym (append-nil shown) }
 
-pub boarded_more : (version : Version) (n m : ℕ) (a b c : List Part) (p q r : List Shown)
-    → Boarded version n a b p q → Boarded version 1 b c q r → m ≡ n + 1 → Boarded version m a c p r
-boarded_more version n m a b c p q r first next is =
-    let shows : Part → Shown = λ x. own_shown version (own_of x) in
+pub boarded_more : (telling : Telling) (n m : ℕ) (a b c : List Part) (p q r : List Shown)
+    → Boarded telling n a b p q → Boarded telling 1 b c q r → m ≡ n + 1 → Boarded telling m a c p r
+boarded_more telling n m a b c p q r first next is =
+    let shows : Part → Shown = λ x. own_shown telling (own_of x) in
     record {
       done = first.done ++ next.done;
       counted = length-append first.done next.done ∙ omega (arith, first.counted, next.counted, is);
@@ -113,26 +113,26 @@ boarded_more version n m a b c p q r first next is =
 
 -- ---- works that leave their lists at the end
 
-all_last_two : (names : List (List ℕ)) (origins : List OriginMeaning) (n : List ℕ) (o : OriginMeaning) (shown rest : List Shown) → length names ≡ length origins
-    → rest ≡ origin_shown n o ∷ shown → all_shown names origins ++ rest ≡ all_shown (names ++ n ∷ []) (origins ++ o ∷ []) ++ shown
-all_last_two names origins n o shown rest same is =
-    ap (λ l. all_shown names origins ++ l) is ∙ sym (append_assoc (all_shown names origins) (origin_shown n o ∷ []) shown) ∙ ap (λ l. l ++ shown) (sym (all_more names origins n o same))
+all_last_two : (views : Bool) (names : List (List ℕ)) (origins : List OriginMeaning) (n : List ℕ) (o : OriginMeaning) (shown rest : List Shown) → length names ≡ length origins
+    → rest ≡ origin_shown views n o ∷ shown → all_shown views names origins ++ rest ≡ all_shown views (names ++ n ∷ []) (origins ++ o ∷ []) ++ shown
+all_last_two views names origins n o shown rest same is =
+    ap (λ l. all_shown views names origins ++ l) is ∙ sym (append_assoc (all_shown views names origins) (origin_shown views n o ∷ []) shown) ∙ ap (λ l. l ++ shown) (sym (all_more views names origins n o same))
 
 reverse_more : {X Y : Type 0} → (f : X → Y) (xs all : List X) (x : X) → all ≡ xs ++ x ∷ [] → reverse (map f all) ≡ f x ∷ reverse (map f xs)
 reverse_more f xs all x is = ap (λ l. reverse (map f l)) is ∙ ap reverse (map_push f xs x) ∙ reverse-append (map f xs) (f x ∷ [])
 
 -- what was printed of the works that are left, and of those that were settled, the last one first
-pub settled_more : (names all_names : List (List ℕ)) (works all_works : List WorkMeaning) (settled more : List EndedMeaning) (n : List ℕ) (w : WorkMeaning) (e : EndedMeaning) (whole : List Shown)
-    → all_names ≡ names ++ n ∷ [] → all_works ≡ works ++ w ∷ [] → length names ≡ length works → more ≡ settled ++ e ∷ [] → e.shown ≡ origin_shown n w.origin
-    → works_shown all_names all_works ++ reverse (map (λ (e : EndedMeaning). e.shown) settled) ≡ whole
-    → works_shown names works ++ reverse (map (λ (e : EndedMeaning). e.shown) more) ≡ whole
-settled_more names all_names works all_works settled more n w e whole of_names of_works same of_more shown before =
+pub settled_more : (views : Bool) (names all_names : List (List ℕ)) (works all_works : List WorkMeaning) (settled more : List EndedMeaning) (n : List ℕ) (w : WorkMeaning) (e : EndedMeaning) (whole : List Shown)
+    → all_names ≡ names ++ n ∷ [] → all_works ≡ works ++ w ∷ [] → length names ≡ length works → more ≡ settled ++ e ∷ [] → e.shown ≡ origin_shown views n w.origin
+    → works_shown views all_names all_works ++ reverse (map (λ (e : EndedMeaning). e.shown) settled) ≡ whole
+    → works_shown views names works ++ reverse (map (λ (e : EndedMeaning). e.shown) more) ≡ whole
+settled_more views names all_names works all_works settled more n w e whole of_names of_works same of_more shown before =
     let origins = map (λ (w : WorkMeaning). w.origin) works in
-    all_last_two names origins n w.origin (reverse (map (λ (e : EndedMeaning). e.shown) settled)) (reverse (map (λ (e : EndedMeaning). e.shown) more))
+    all_last_two views names origins n w.origin (reverse (map (λ (e : EndedMeaning). e.shown) settled)) (reverse (map (λ (e : EndedMeaning). e.shown) more))
     (same ∙ sym (length-map works (λ (w : WorkMeaning). w.origin)))
     (reverse_more (λ (e : EndedMeaning). e.shown) settled more e of_more ∙ ap (λ x. x ∷ reverse (map (λ (e : EndedMeaning). e.shown) settled)) shown)
-    ∙ ap (λ l. all_shown (names ++ n ∷ []) l ++ reverse (map (λ (e : EndedMeaning). e.shown) settled)) (sym (map_push (λ (w : WorkMeaning). w.origin) works w))
-    ∙ (λ i. works_shown (sym of_names i) (sym of_works i) ++ reverse (map (λ (e : EndedMeaning). e.shown) settled))
+    ∙ ap (λ l. all_shown views (names ++ n ∷ []) l ++ reverse (map (λ (e : EndedMeaning). e.shown) settled)) (sym (map_push (λ (w : WorkMeaning). w.origin) works w))
+    ∙ (λ i. works_shown views (sym of_names i) (sym of_works i) ++ reverse (map (λ (e : EndedMeaning). e.shown) settled))
     ∙ before
 
 pub shares_more : (works all_works : List WorkMeaning) (settled more : List EndedMeaning) (w : WorkMeaning) (e : EndedMeaning) (whole : List (ℕ × Origin))
@@ -159,11 +159,11 @@ pub shares_all : (works : List WorkMeaning) (settled turned : List EndedMeaning)
 shares_all works settled turned whole none is before =
     reverse_all ended_share settled turned is ∙ ap (λ l. map work_share l ++ reverse (map ended_share settled)) (sym none) ∙ before
 
-pub settled_all : (names : List (List ℕ)) (works : List WorkMeaning) (settled turned : List EndedMeaning) (whole : List Shown) → length names ≡ length works → works ≡ [] → turned ≡ reverse settled
-    → works_shown names works ++ reverse (map (λ (e : EndedMeaning). e.shown) settled) ≡ whole → map (λ (e : EndedMeaning). e.shown) turned ≡ whole
-settled_all names works settled turned whole same none is before =
+pub settled_all : (views : Bool) (names : List (List ℕ)) (works : List WorkMeaning) (settled turned : List EndedMeaning) (whole : List Shown) → length names ≡ length works → works ≡ [] → turned ≡ reverse settled
+    → works_shown views names works ++ reverse (map (λ (e : EndedMeaning). e.shown) settled) ≡ whole → map (λ (e : EndedMeaning). e.shown) turned ≡ whole
+settled_all views names works settled turned whole same none is before =
     reverse_all (λ (e : EndedMeaning). e.shown) settled turned is
-    ∙ (λ i. works_shown (sym (none_left names (same ∙ ap length none)) i) (sym none i) ++ reverse (map (λ (e : EndedMeaning). e.shown) settled))
+    ∙ (λ i. works_shown views (sym (none_left names (same ∙ ap length none)) i) (sym none i) ++ reverse (map (λ (e : EndedMeaning). e.shown) settled))
     ∙ before
 
 -- the numbers of the names, the works and the ended objects of a wave
@@ -242,7 +242,7 @@ swept_put works all sweepers swept w s is are by of = subst (AreSweptBy all) (sy
 pub numbered_put : (works all : List WorkMeaning) (w : WorkMeaning) → all ≡ works ++ w ∷ [] → Numbered number_of works → w.origin.number ≡ length works → Numbered number_of all
 numbered_put works all w is numbered of = subst (Numbered number_of) (sym is) (numbered_more works w numbered of)
 
-pub shown_put : (names all_names : List (List ℕ)) (works all : List WorkMeaning) (n : List ℕ) (w : WorkMeaning) (s : Shown) → all_names ≡ names ++ n ∷ [] → all ≡ works ++ w ∷ []
-    → length names ≡ length works → origin_shown n w.origin ≡ s → works_shown all_names all ≡ works_shown names works ++ s ∷ []
-shown_put names all_names works all n w s are is same shown =
-    (λ i. works_shown (are i) (is i)) ∙ shown_more names works n w same ∙ ap (λ x. works_shown names works ++ x ∷ []) shown
+pub shown_put : (views : Bool) (names all_names : List (List ℕ)) (works all : List WorkMeaning) (n : List ℕ) (w : WorkMeaning) (s : Shown) → all_names ≡ names ++ n ∷ [] → all ≡ works ++ w ∷ []
+    → length names ≡ length works → origin_shown views n w.origin ≡ s → works_shown views all_names all ≡ works_shown views names works ++ s ∷ []
+shown_put views names all_names works all n w s are is same shown =
+    (λ i. works_shown views (are i) (is i)) ∙ shown_more views names works n w same ∙ ap (λ x. works_shown views names works ++ x ∷ []) shown

@@ -9,6 +9,7 @@ use Rattle.dym_base.specs.declared.limits.TheConstants.{MOST_OBJECTS, MOST_COMMA
 use Rattle.dym_base.specs.declared.reply.Reply.{Reply}
 use Rattle.dym_script.specs.declared.parts.Part.{Part}
 use Rattle.dym_run.specs.declared.tally.Tally.{Tally}
+use Rattle.dym_run.specs.declared.telling.Telling.{Telling}
 use Rattle.dym_run.specs.Ends.{Shown, own_shown, parts_shown, shown_tally, tally_shown, IsTallyOf, EndedMeaning}
 use Rattle.dym_run.specs.Parts.{own_of}
 use Rattle.dym_run.specs.Summary.{is_refusal, tally_of, no_tally, both_tallies, tally_all}
@@ -66,11 +67,11 @@ tally_of_one t s is replies chunks segments kept slots = record {
 }
 
 -- what is printed of a part comes to what the part comes to
-part_tally : (v : Version) (p : Part) → shown_tally (own_shown v (own_of p)) ≡ tally_of v (own_of p)
+part_tally : (v : Telling) (p : Part) → shown_tally (own_shown v (own_of p)) ≡ tally_of v.version (own_of p)
 unfolding tally_of
 part_tally v p = refl
 
-pub tally_of_parts : (v : Version) (parts : List Part) → tally_shown (parts_shown v parts) ≡ tally_all v (map own_of parts)
+pub tally_of_parts : (v : Telling) (parts : List Part) → tally_shown (parts_shown v parts) ≡ tally_all v.version (map own_of parts)
 tally_of_parts v [] = refl
 tally_of_parts v (p ∷ parts) = λ i. both_tallies (part_tally v p i) (tally_of_parts v parts i)
 
@@ -78,13 +79,13 @@ length_replies : (v : Version) (quota : ℕ) (s : ObjectState) (commands : List 
 length_replies v quota s [] = refl
 length_replies v quota s (c ∷ cs) = ap suc (length_replies v quota (object_step v quota s c).object cs)
 
-pub replies_of_parts : (v : Version) (parts : List Part) → replies_in (parts_shown v parts) ≡ sum_by (λ part. length part.commands) parts
+pub replies_of_parts : (v : Telling) (parts : List Part) → replies_in (parts_shown v parts) ≡ sum_by (λ part. length part.commands) parts
 replies_of_parts v [] = refl
 replies_of_parts v (p ∷ parts) =
     omega (
       arith,
       replies_of_parts v parts,
-      length_replies v p.decl.quota object_start p.commands,
+      length_replies v.version p.decl.quota object_start p.commands,
       sum_by-cons (λ (s : Shown). length s.replies) (own_shown v (own_of p)) (parts_shown v parts),
       sum_by-cons (λ (part : Part). length part.commands) p parts,
     )

@@ -1,5 +1,5 @@
 -- What is left of an object that has run: what is printed of it, and whose its segments are.
-use Rattle.std.specs.Prelude.{◌≡◌, ⊤, ℕ, ◌+◌, ◌*◌, ◌^◌, ◌<◌, ◌≤◌, not, List, [], ◌∷◌, ◌++◌, length, map, flat_map, sum_by, count_by, Result, MatchResult}
+use Rattle.std.specs.Prelude.{◌≡◌, ⊤, Bool, true, false, ℕ, ◌+◌, ◌*◌, ◌^◌, ◌<◌, ◌≤◌, not, List, [], ◌∷◌, ◌++◌, length, map, flat_map, sum_by, count_by, Option, Result, MatchResult}
 use Rattle.std.specs.FinMap.{len}
 use Rattle.dym_base.specs.Heaps.{HeapState, held}
 use Rattle.dym_base.specs.Objects.{run_replies, run_end, slots}
@@ -12,14 +12,19 @@ use Rattle.dym_io.specs.Sink.{Output, Appended, AppendedFront, Blames}
 use Rattle.dym_report.specs.Objects.{object_text}
 use Rattle.dym_script.specs.declared.parts.Part.{Part}
 use Rattle.dym_wave.specs.Works.{OriginMeaning, WorkMeaning}
+use Rattle.dym_report.specs.declared.late.ViewLine.{ViewLine}
+use Rattle.dym_views.specs.Watches.{end_view}
+use Rattle.dym_run.specs.declared.telling.Telling.{Telling}
 use Rattle.dym_run.specs.declared.tally.Tally.{Tally}
-use Rattle.dym_run.specs.Report.{Own, part_text}
+use Rattle.dym_run.specs.Report.{Own}
+use Rattle.dym_run.specs.Views.{told_view, told_line, told_part}
 use Rattle.dym_run.specs.declared.write_fail.WriteFail.{WriteFail}
 use Rattle.dym_run.specs.declared.write_fail.WriteFail.TheVariants.{Sink as SinkFailed}
 use Rattle.dym_run.specs.Parts.{own_of}
 use Rattle.dym_run.specs.Summary.{is_refusal, no_tally, both_tallies}
 
--- what is printed of an object: its name, its version, its replies, its heap, how many logs it keeps and how many records these take
+-- what is printed of an object: its name, its version, its replies, its heap, how many logs it keeps, how many records these take, and
+-- its view where views are told
 pub record Shown : Type 0 where
   pub name : List ℕ
   pub version : Version
@@ -27,6 +32,7 @@ pub record Shown : Type 0 where
   pub heap : HeapState
   pub kept : ℕ
   pub slots : ℕ
+  pub view : Option (Option ViewLine)
 
 -- an ended object: what is printed of it, its quota, and the origin of its supply
 pub record EndedMeaning : Type 0 where
@@ -34,21 +40,21 @@ pub record EndedMeaning : Type 0 where
   pub quota : ℕ
   pub supply : Origin
 
--- what is left of an object of this name, with these replies, this heap, so many logs, and so many records that these take
-abbrev pub ended_with : List ℕ → List Reply → HeapMeaning → ℕ → ℕ → EndedMeaning
-ended_with name replies heap kept slots = record {
-  shown = record { name = name; version = heap.version; replies = replies; heap = heap.state; kept = kept; slots = slots };
+-- what is left of an object of this name, with these replies, this heap, so many logs, so many records that these take, and this view
+abbrev pub ended_with : List ℕ → List Reply → HeapMeaning → ℕ → ℕ → Option (Option ViewLine) → EndedMeaning
+ended_with name replies heap kept slots view = record {
+  shown = record { name = name; version = heap.version; replies = replies; heap = heap.state; kept = kept; slots = slots; view = view };
   quota = heap.quota;
   supply = heap.origin;
 }
 
--- what is left of a work under a name
-abbrev pub outcome : List ℕ → WorkMeaning → EndedMeaning
-outcome name w = ended_with name w.replies w.object.heap (length w.object.chain.logs) (slots w.object.chain.logs)
+-- what is left of a work under a name, with what is told of its view
+abbrev pub outcome : List ℕ → WorkMeaning → Option (Option ViewLine) → EndedMeaning
+outcome name w view = ended_with name w.replies w.object.heap (length w.object.chain.logs) (slots w.object.chain.logs) view
 
--- what is printed of an object of this name, quota and version that ran these commands
-abbrev pub run_shown : List ℕ → Version → ℕ → List Command → Shown
-run_shown name version quota commands =
+-- what is printed of an object of this name, quota and version that ran these commands, with its view or without
+abbrev pub run_shown : Bool → List ℕ → Version → ℕ → List Command → Shown
+run_shown views name version quota commands =
     let s = run_end version quota commands in
     record {
       name = name;
@@ -57,24 +63,25 @@ run_shown name version quota commands =
       heap = s.heap;
       kept = length s.logs;
       slots = slots s.logs;
+      view = told_view views s;
     }
 
 -- the same of a declared object and its own commands, and of a work's origin under a name
-abbrev pub own_shown : Version → Own → Shown
-own_shown version o = run_shown o.decl.name version o.decl.quota o.commands
+abbrev pub own_shown : Telling → Own → Shown
+own_shown t o = run_shown t.views o.decl.name t.version o.decl.quota o.commands
 
-abbrev pub origin_shown : List ℕ → OriginMeaning → Shown
-origin_shown name o = run_shown name o.version o.quota o.commands
+abbrev pub origin_shown : Bool → List ℕ → OriginMeaning → Shown
+origin_shown views name o = run_shown views name o.version o.quota o.commands
 
 -- the works of these origins, each under its name
-abbrev pub all_shown : List (List ℕ) → List OriginMeaning → List Shown
-all_shown [] origins = []
-all_shown (n ∷ names) [] = []
-all_shown (n ∷ names) (o ∷ origins) = origin_shown n o ∷ all_shown names origins
+abbrev pub all_shown : Bool → List (List ℕ) → List OriginMeaning → List Shown
+all_shown views [] origins = []
+all_shown views (n ∷ names) [] = []
+all_shown views (n ∷ names) (o ∷ origins) = origin_shown views n o ∷ all_shown views names origins
 
 -- its text
 abbrev pub shown_text : Shown → List ℕ
-shown_text s = object_text s.version s.name s.replies s.heap.live s.kept s.slots
+shown_text s = object_text s.version s.name s.replies s.heap.live s.kept s.slots ++ told_line s.view
 
 -- what it comes to
 abbrev pub shown_tally : Shown → Tally
@@ -88,8 +95,17 @@ shown_tally s = record {
 }
 
 -- what is printed of works, each under its name, once they have run all their commands
-abbrev pub works_shown : List (List ℕ) → List WorkMeaning → List Shown
-works_shown names works = all_shown names (map (λ (w : WorkMeaning). w.origin) works)
+abbrev pub works_shown : Bool → List (List ℕ) → List WorkMeaning → List Shown
+works_shown views names works = all_shown views names (map (λ (w : WorkMeaning). w.origin) works)
+
+-- a work that has run nothing yet
+abbrev pub IsFresh : WorkMeaning → Type 0
+IsFresh w = w.replies ≡ []
+
+-- what is seen of works in the end: the view of each, where views are told
+abbrev pub AreSeen : Bool → List (Option ViewLine) → List WorkMeaning → Type 0
+AreSeen true lines works = lines ≡ map (λ (w : WorkMeaning). end_view w.origin) works
+AreSeen false lines works = lines ≡ []
 
 -- the share of a work, and of an ended object, in the segments: its quota, and the origin of its supply
 abbrev pub work_share : WorkMeaning → ℕ × Origin
@@ -99,22 +115,22 @@ abbrev pub ended_share : EndedMeaning → ℕ × Origin
 ended_share e = (e.quota, e.supply)
 
 -- a list of parts lost its first ones, so many, and what is printed of these came behind what was printed before
-pub record Boarded (version : Version) (count : ℕ) (before after : List Part) (shown_before shown_after : List Shown) : Type 0 where
+pub record Boarded (telling : Telling) (count : ℕ) (before after : List Part) (shown_before shown_after : List Shown) : Type 0 where
   pub done : List Part
   pub counted : length done ≡ count
   pub taken : before ≡ done ++ after
-  pub shown : shown_after ≡ shown_before ++ map (λ p. own_shown version (own_of p)) done
+  pub shown : shown_after ≡ shown_before ++ map (λ p. own_shown telling (own_of p)) done
 
 -- the texts of parts
-abbrev pub parts_text : Version → List Part → List ℕ
-parts_text version parts = flat_map (λ part. part_text version (own_of part)) parts
+abbrev pub parts_text : Telling → List Part → List ℕ
+parts_text telling parts = flat_map (λ part. told_part telling (own_of part)) parts
 
 -- the texts of the first parts of a list were written, which then lost them: at least one, at Ok; at an error a front of all of them
-abbrev pub WritesFirst : Version → List Part → List Part → Output → Output → Result ⊤ WriteFail → Type 0
-WritesFirst version before after old new result =
+abbrev pub WritesFirst : Telling → List Part → List Part → Output → Output → Result ⊤ WriteFail → Type 0
+WritesFirst telling before after old new result =
     MatchResult result
-    (λ _. (done : List Part) × (0 < length done) × (before ≡ done ++ after) × Appended old new (parts_text version done))
-    (λ fail. AppendedFront old new (parts_text version before) × Blames (fail ≡ SinkFailed) old new)
+    (λ _. (done : List Part) × (0 < length done) × (before ≡ done ++ after) × Appended old new (parts_text telling done))
+    (λ fail. AppendedFront old new (parts_text telling before) × Blames (fail ≡ SinkFailed) old new)
 
 -- what objects come to together
 abbrev pub tally_shown : List Shown → Tally
@@ -131,10 +147,10 @@ pub record IsTallyOf (tally : Tally) (objects : List Shown) : Type 0 where
   pub slots : tally.slots ≤ length objects * 2 ^ 32
 
 -- what is printed of parts that ran all their commands
-abbrev pub parts_shown : Version → List Part → List Shown
-parts_shown version parts = map (λ p. own_shown version (own_of p)) parts
+abbrev pub parts_shown : Telling → List Part → List Shown
+parts_shown telling parts = map (λ p. own_shown telling (own_of p)) parts
 
 -- the first parts of a list, at least one, were counted, and it lost them
-abbrev pub TalliesFirst : Version → List Part → List Part → Tally → Type 0
-TalliesFirst version before after tally =
-    (done : List Part) × (0 < length done) × (before ≡ done ++ after) × IsTallyOf tally (parts_shown version done)
+abbrev pub TalliesFirst : Telling → List Part → List Part → Tally → Type 0
+TalliesFirst telling before after tally =
+    (done : List Part) × (0 < length done) × (before ≡ done ++ after) × IsTallyOf tally (parts_shown telling done)

@@ -1,4 +1,5 @@
 pub mod Report
 pub mod Summary
 pub mod Parts
+pub mod Views
 pub mod Ends

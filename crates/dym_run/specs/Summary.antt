@@ -1,20 +1,15 @@
 -- The summary of a script: what all its objects come to.
-use Rattle.std.specs.Prelude.{ℕ, ◌+◌, Bool, true, false, not, List, [], ◌∷◌, length, count_by}
+use Rattle.std.specs.Prelude.{ℕ, ◌+◌, not, List, [], ◌∷◌, length, count_by}
 use Rattle.std.specs.FinMap.{len}
 use Rattle.dym_base.specs.Heaps.{held}
 use Rattle.dym_base.specs.Objects.{slots}
 use Rattle.dym_base.specs.declared.command.Version.{Version}
-use Rattle.dym_base.specs.declared.reply.Reply.{Reply}
-use Rattle.dym_base.specs.declared.reply.Reply.TheVariants.{Refused}
+pub use Rattle.dym_turn.specs.Replies.{is_refusal}
 use Rattle.dym_script.specs.Scripts.{Said}
 use Rattle.dym_report.specs.declared.totals.Totals.{Totals}
 use Rattle.dym_report.specs.Orders.{summary_text}
 use Rattle.dym_run.specs.declared.tally.Tally.{Tally}
 use Rattle.dym_run.specs.Report.{Own, objects_of, replies_of, end_of}
-
-abbrev pub is_refusal : Reply → Bool
-is_refusal (Refused why) = true
-is_refusal _ = false
 
 -- what one object comes to: its replies that are no refusals and those that are, its live chunks, the segments that they need,
 -- its kept logs, and the records that these take

@@ -6,6 +6,7 @@ ghost use Rattle.dym_base.specs.declared.limits.TheConstants.{MOST_OBJECTS, MOST
 ghost use Rattle.dym_pool.specs.Jobs.{AllEnded, Numbered};
 ghost use Rattle.dym_wave.specs.Waves.{AreSweptBy, OfOneQueue};
 ghost use Rattle.dym_wave.specs.Works.{left_of, number_of, origin_of};
+ghost use Rattle.dym_run.specs.Ends.{AreSeen, IsFresh};
 
 use dym_base::Version;
 use dym_base::limits::{MOST_OBJECTS, MOST_QUANTUM, MOST_QUOTA, MOST_WORKERS};
@@ -14,18 +15,13 @@ use dym_commands::Commands;
 use dym_object::Object;
 use dym_pool::Gate;
 use dym_quota::{Berth, Supply};
+use dym_report::ViewLine;
 use dym_slots::{LogSlots, Sweeper};
+use dym_views::{Seen, run_viewed};
 use dym_wave::{Work, run_wave};
 use std::alloc::{AllocError, Global};
 use std::sync::Wait;
 use std::thread::Threads;
-
-/// Works that were run, their sweepers, and whether all of them ran all their commands.
-pub(crate) struct Crew<R: Wait> {
-    pub(crate) works: Vec<Work<R>>,
-    pub(crate) sweepers: Vec<Sweeper>,
-    pub(crate) ran: Result<(), AllocError>,
-}
 
 /// Opens an object over a berth, with a log table of its own, as a work with these commands. At an `AllocError` the berth comes back as
 /// it was.
@@ -51,6 +47,7 @@ pub(crate) fn open_work<R: Wait>(
       supply = ⟦<Berth<R> as Supply>⟧.origin berth;
       keep = shared r.1.table;
     }) }
+    ensures fresh { IfOk result (λ r. IsFresh r.0) }
     ensures nothing_held { IfErr result (λ e. ⟦<Berth<R> as Supply>⟧.held_ids e.1 ≡ []) }
     ensures quota { IfErr result (λ e. ⟦<Berth<R> as Supply>⟧.quota_of e.1 ≡ ⟦<Berth<R> as Supply>⟧.quota_of berth) }
     ensures supply { IfErr result (λ e. ⟦<Berth<R> as Supply>⟧.origin e.1 ≡ ⟦<Berth<R> as Supply>⟧.origin berth) }
@@ -72,16 +69,46 @@ pub(crate) fn open_work<R: Wait>(
     }
 }
 
-/// Runs works to their ends, while their log tables are swept. Only memory can be wanting; the works then stand as they came, or a work
-/// found no memory for one of its commands.
+/// Runs works that have run nothing to their ends, while their log tables are swept, and looks at their views where these are told. Only
+/// memory can be wanting; the works then stand as they came, or a work found no memory for one of its commands or its view.
 pub(crate) fn run_crew<R: Threads + Wait + Send + Sync, G: Gate>(
+    rt: &R,
+    alloc: Global,
+    views: bool,
+    works: Vec<Work<R>>,
+    sweepers: Vec<Sweeper>,
+    workers: u32,
+    gate: &G,
+) -> Seen<R>
+    requires few { vec_len works ≤ MOST_OBJECTS }
+    requires numbered { Numbered number_of works.items }
+    requires fresh { All IsFresh works.items }
+    requires queue { OfOneQueue works.items }
+    requires swept { AreSweptBy works.items sweepers.items }
+    requires some { 1 ≤ workers }
+    requires most { workers ≤ MOST_WORKERS }
+    ensures origins { map origin_of result.works.items ≡ map origin_of works.items }
+    ensures swept { AreSweptBy result.works.items result.sweepers.items }
+    ensures ended { OnOk result.lines (AllEnded left_of result.works.items) }
+    ensures long { OnOk result.lines (All (λ w. w.short ≡ false) result.works.items) }
+    ensures seen { IfOk result.lines (λ lines. AreSeen views lines.items works.items) }
+{
+    if views {
+        run_viewed(rt, alloc, works, sweepers, workers, gate)
+    } else {
+        run_plain(rt, alloc, works, sweepers, workers, gate)
+    }
+}
+
+/// The same where no view is told.
+fn run_plain<R: Threads + Wait + Send + Sync, G: Gate>(
     rt: &R,
     alloc: Global,
     works: Vec<Work<R>>,
     sweepers: Vec<Sweeper>,
     workers: u32,
     gate: &G,
-) -> Crew<R>
+) -> Seen<R>
     requires few { vec_len works ≤ MOST_OBJECTS }
     requires numbered { Numbered number_of works.items }
     requires queue { OfOneQueue works.items }
@@ -90,34 +117,36 @@ pub(crate) fn run_crew<R: Threads + Wait + Send + Sync, G: Gate>(
     requires most { workers ≤ MOST_WORKERS }
     ensures origins { map origin_of result.works.items ≡ map origin_of works.items }
     ensures swept { AreSweptBy result.works.items result.sweepers.items }
-    ensures ended { OnOk result.ran (AllEnded left_of result.works.items) }
-    ensures long { OnOk result.ran (All (λ w. w.short ≡ false) result.works.items) }
+    ensures ended { OnOk result.lines (AllEnded left_of result.works.items) }
+    ensures long { OnOk result.lines (All (λ w. w.short ≡ false) result.works.items) }
+    ensures none { IfOk result.lines (λ lines. lines.items ≡ []) }
 {
     match run_wave(rt, alloc, works, sweepers, workers, gate) {
         Ok((works, sweepers, _)) => {
-            let ran = all_ran(&works);
-            Crew {
+            let lines = all_ran(alloc, &works);
+            Seen {
                 works,
                 sweepers,
-                ran,
+                lines,
             }
         }
-        Err((error, works, sweepers)) => Crew {
+        Err((error, works, sweepers)) => Seen {
             works,
             sweepers,
-            ran: Err(error),
+            lines: Err(error),
         },
     }
 }
 
-/// Whether no work found its memory wanting.
-fn all_ran<R: Wait>(works: &[Work<R>]) -> Result<(), AllocError>
-    ensures { OnOk result (All (λ w. w.short ≡ false) works.now) }
+/// No line, where no work found its memory wanting.
+fn all_ran<R: Wait>(alloc: Global, works: &[Work<R>]) -> Result<Vec<Option<ViewLine>>, AllocError>
+    ensures long { OnOk result (All (λ w. w.short ≡ false) works.now) }
+    ensures none { IfOk result (λ lines. lines.items ≡ []) }
 {
     for work in works {
         if work.short() {
             return Err(AllocError);
         }
     }
-    Ok(())
+    Ok(Vec::new(alloc))
 }

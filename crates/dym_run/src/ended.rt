@@ -1,19 +1,22 @@
 //! An object that has run.
-ghost use Rattle.std.specs.Prelude.{◌≡◌, ◌^◌, ◌≤◌, false, [], ◌∷◌, length, count_by};
+ghost use Rattle.std.specs.Prelude.{◌≡◌, ◌^◌, ◌≤◌, Bool, false, [], ◌∷◌, length};
+ghost use Rattle.dym_base.specs.Objects.{run_end};
 ghost use Rattle.dym_base.specs.Origins.{shared};
 ghost use Rattle.dym_base.specs.declared.limits.TheConstants.{MOST_COMMANDS};
 ghost use Rattle.dym_io.specs.Sink.{Writes};
 ghost use Rattle.dym_wave.specs.Works.{left_of};
 ghost use Rattle.dym_run.specs.Ends.{outcome, origin_shown, shown_text, IsTallyOf};
-ghost use Rattle.dym_run.specs.Summary.{is_refusal};
+ghost use Rattle.dym_run.specs.Views.{told_line, told_view};
 
+use crate::printed::write_part;
 use crate::tally::Tally;
-use dym_base::{Name, Reply};
+use dym_base::Name;
 use dym_heap::Heap;
 use dym_io::{Sink, SinkFault};
 use dym_quota::{Berth, Supply};
-use dym_report::{live_chunks, write_object};
+use dym_report::{ViewLine, live_chunks, write_view};
 use dym_slots::Sweeper;
+use dym_turn::Replies;
 use dym_wave::Work;
 use std::marker::Model;
 use std::sync::Wait;
@@ -21,10 +24,11 @@ use std::sync::Wait;
 /// What is left of an object once its table of logs was given up: all that is printed of it, and its heap, which holds its segments.
 pub(crate) struct Ended<R: Wait> {
     name: Name,
-    replies: Vec<Reply>,
+    replies: Replies,
     heap: Heap<Berth<R>>,
     kept: u32,
     slots: u32,
+    view: Option<Option<ViewLine>>,
 }
 
 impl<R: Wait> Model for Ended<R> {
@@ -36,17 +40,24 @@ impl<R: Wait> Model for Ended<R> {
 
     ghost coded = { Prim.hlevel (codes, live_code, touched_code) };
 
-    ghost view = { λ e. ended_with e.name e.replies.items e.heap e.kept e.slots };
+    ghost view = { λ e. ended_with e.name e.replies.replies e.heap e.kept e.slots e.view };
 
     ghost invariant = { λ e. IsSound e.heap };
 }
 
 impl<R: Wait> Ended<R> {
-    /// Splits a work into its replies, its heap and its records, which its sweeper counts as it gives their table up.
-    pub(crate) fn of(name: Name, work: Work<R>, sweeper: Sweeper) -> Ended<R>
+    /// Splits a work into its replies, its heap and its records, which its sweeper counts as it gives their table up. Its view is told
+    /// where there is one.
+    pub(crate) fn of(
+        name: Name,
+        work: Work<R>,
+        sweeper: Sweeper,
+        view: Option<Option<ViewLine>>,
+    ) -> Ended<R>
         requires table { work.origin.keep ≡ shared sweeper.table }
-        ensures is { result ≡ outcome name work }
-        ensures whole { left_of work ≡ 0 → work.short ≡ false → result.shown ≡ origin_shown name work.origin }
+        ensures is { result ≡ outcome name work view }
+        ensures whole { (views : Bool) → left_of work ≡ 0 → work.short ≡ false
+            → view ≡ told_view views (run_end work.origin.version work.origin.quota work.origin.commands) → result.shown ≡ origin_shown views name work.origin }
         ensures quota { result.quota ≡ work.origin.quota }
         ensures supply { result.supply ≡ work.origin.supply }
     {
@@ -60,21 +71,23 @@ impl<R: Wait> Ended<R> {
             heap,
             kept,
             slots,
+            view,
         }
     }
 
-    /// Writes the object's part. The only error is that of the sink.
+    /// Writes the object's part, and its view where that is told. The only error is that of the sink.
     pub(crate) fn write<W: Sink>(&self, sink: &mut W) -> Result<(), SinkFault>
         ensures { Writes (W.output sink.old) (W.output sink.new) (shown_text self.now.shown) result }
     {
-        write_object(
+        write_part(
             sink,
             &self.name,
             &self.replies,
             &self.heap,
             self.kept,
             self.slots,
-        )
+        )?;
+        write_told(sink, self.view)
     }
 
     /// What the object comes to.
@@ -82,7 +95,7 @@ impl<R: Wait> Ended<R> {
         requires few { length self.now.shown.replies ≤ MOST_COMMANDS }
         ensures { IsTallyOf result (self.now.shown ∷ []) }
     {
-        let refused = refusals(&self.replies);
+        let refused = self.replies.refusals();
         Tally {
             ok: (self.replies.len() - refused) as u32,
             refused: refused as u32,
@@ -105,8 +118,19 @@ impl<R: Wait> Ended<R> {
             heap,
             kept: _,
             slots: _,
+            view: _,
         } = self;
         heap.end(rt)
+    }
+}
+
+/// Writes the line of a view, where one is told.
+fn write_told<W: Sink>(sink: &mut W, view: Option<Option<ViewLine>>) -> Result<(), SinkFault>
+    ensures { Writes (W.output sink.old) (W.output sink.new) (told_line view) result }
+{
+    match view {
+        Some(line) => write_view(sink, line),
+        None => Ok(()),
     }
 }
 
@@ -116,19 +140,4 @@ fn wide(number: u32) -> u64
     ensures small { result ≤ 2 ^ 32 }
 {
     u64::from(number)
-}
-
-/// How many replies are refusals.
-fn refusals(replies: &[Reply]) -> usize
-    ensures counted { result ≡ count_by is_refusal replies.now }
-    ensures within { result ≤ length replies.now }
-{
-    replies.iter().filter(|reply| is_refusal(reply)).count()
-}
-
-/// Whether a reply is a refusal.
-fn is_refusal(reply: &Reply) -> bool
-    ensures { result ≡ is_refusal reply.now }
-{
-    matches!(reply, Reply::Refused(_))
 }

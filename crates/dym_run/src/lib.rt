@@ -1,13 +1,15 @@
 //! Objects that run in waves of workers: each wave is opened over one queue of segments, run, and closed, and the objects' parts are
 //! written, or counted, in the order of their declarations.
 //!
-//! Below stand `dym_wave`, which runs a wave, `dym_quota` and `dym_region`, which have the segments, and `dym_report`, which writes;
+//! Below stand `dym_wave`, which runs a wave, `dym_views`, which runs one whose objects are looked at, `dym_quota` and `dym_region`, which
+//! have the segments, and `dym_report`, which writes;
 //! above stands the top call. Its one contract: whatever the workers, the segments and the quantum, the text is that of the objects' own
 //! commands, the same that one object after another would give.
 #![tactic(auto)]
 
 mod crew;
 mod ended;
+mod printed;
 mod quotas;
 mod reversed;
 mod room;
@@ -15,6 +17,7 @@ mod roster;
 mod settled;
 mod shape;
 mod tally;
+mod telling;
 #[cfg(test)]
 mod tests;
 mod total;
@@ -26,4 +29,4 @@ pub use shape::Shape;
 pub use tally::Tally;
 pub use total::tally_waves;
 pub use write_fail::WriteFail;
-pub use writing::write_waves;
+pub use writing::{write_views, write_waves};

@@ -8,8 +8,8 @@ ghost use Rattle.dym_run.specs.Parts.{quota_of, IsRunnable, IsShape};
 use crate::quotas::{largest_wave, quotas_of};
 use crate::settled::Settled;
 use crate::shape::Shape;
+use crate::telling::Telling;
 use crate::wave::Wave;
-use dym_base::Version;
 use dym_base::limits::{MOST_OBJECTS, MOST_SEGMENTS};
 use dym_pool::Gate;
 use dym_quota::waves;
@@ -23,7 +23,7 @@ use std::thread::Threads;
 /// Objects in the order of their declarations, of which the first ones ran. What has yet to run leaves from the front, wave by wave.
 #[derive(Drop)]
 pub(crate) struct Roster {
-    pub(crate) version: Version,
+    pub(crate) telling: Telling,
     pub(crate) shape: Shape,
     pub(crate) parts: VecDeque<Part>,
     pub(crate) most: u32,
@@ -41,7 +41,7 @@ impl Roster {
     /// All of some objects.
     pub(crate) fn of(
         alloc: Global,
-        version: Version,
+        telling: Telling,
         parts: Vec<Part>,
         shape: Shape,
     ) -> Result<Roster, AllocError>
@@ -50,7 +50,7 @@ impl Roster {
         requires fits { All (λ part. part.decl.quota ≤ shape.segments) parts.items }
         requires some { 0 < vec_len parts }
         requires objects { vec_len parts ≤ MOST_OBJECTS }
-        ensures version { IfOk result (λ r. r.version ≡ version) }
+        ensures telling { IfOk result (λ r. r.telling ≡ telling) }
         ensures parts { IfOk result (λ r. r.parts.items ≡ parts.items) }
         ensures least { IfOk result (λ r. 1 ≤ r.most) }
         ensures most { IfOk result (λ r. r.most ≤ MOST_SEGMENTS) }
@@ -58,7 +58,7 @@ impl Roster {
         let quotas = quotas_of(alloc, &parts)?;
         let most = largest_wave(&quotas, shape.segments);
         Ok(Roster {
-            version,
+            telling,
             shape,
             parts: VecDeque::from_vec(parts),
             most,
@@ -79,10 +79,10 @@ impl Roster {
         requires some { 0 < length self.old.parts.items }
         requires enough { self.old.most ≤ vec_len segments }
         requires distinct { AreDistinct (map ⟦<RawSegment as Segment>⟧.id segments.items) }
-        ensures version { self.new.version ≡ self.old.version }
+        ensures telling { self.new.telling ≡ self.old.telling }
         ensures most { self.new.most ≡ self.old.most }
         ensures ran { IfOk result (λ s. (count : ℕ) × (0 < count)
-            × Boarded self.old.version count self.old.parts.items self.new.parts.items [] (map (λ e. e.shown) s.ended.items)) }
+            × Boarded self.old.telling count self.old.parts.items self.new.parts.items [] (map (λ e. e.shown) s.ended.items)) }
         ensures segments { IfOk result (λ s. s.queue.stocked ++ s.queue.aside ≡ map ⟦<RawSegment as Segment>⟧.id segments.items) }
         ensures back { IfErr result (λ e. IsPermutation (map ⟦<RawSegment as Segment>⟧.id segments.items) (map ⟦<RawSegment as Segment>⟧.id e.1.items)) }
         ensures distinct { IfErr result (λ e. AreDistinct (map ⟦<RawSegment as Segment>⟧.id e.1.items)) }
@@ -93,7 +93,7 @@ impl Roster {
         let (settled, ran) = wave.run_all(
             rt,
             alloc,
-            self.version,
+            self.telling,
             self.shape,
             &mut self.parts,
             gate,

@@ -1,18 +1,19 @@
 //! A wave whose objects have run.
-ghost use Rattle.std.specs.Prelude.{◌≡◌, ◌+◌, ◌≤◌, false, [], ◌++◌, length, map, sum_by, vec_len, vec_capacity, All, IsPermutation};
+ghost use Rattle.std.specs.Prelude.{◌≡◌, ◌+◌, ◌≤◌, Bool, false, [], ◌++◌, length, map, sum_by, vec_len, vec_capacity, All, IsPermutation};
 ghost use Rattle.dym_base.specs.Origins.{shared};
 ghost use Rattle.dym_pool.specs.Jobs.{AllEnded};
 ghost use Rattle.dym_quota.specs.Berths.{IsIdleBerth};
 ghost use Rattle.dym_region.specs.Identity.{AreDistinct};
 ghost use Rattle.dym_wave.specs.Waves.{AreSweptBy};
 ghost use Rattle.dym_wave.specs.Works.{left_of};
-ghost use Rattle.dym_run.specs.Ends.{works_shown, work_share, ended_share};
+ghost use Rattle.dym_run.specs.Ends.{works_shown, work_share, ended_share, AreSeen};
 
 use crate::ended::Ended;
 use crate::reversed::reversed;
 use dym_base::Name;
 use dym_quota::{Berth, QuotaQueue, Supply};
 use dym_region::{RawSegment, Segment};
+use dym_report::ViewLine;
 use dym_slots::Sweeper;
 use dym_wave::Work;
 use std::sync::Wait;
@@ -48,12 +49,13 @@ impl<R: Wait> Settled<R> {
     }
 }
 
-/// Splits works, each under its name, and counts their records. What is left of them comes in the same order, into an empty list with
-/// room for it.
+/// Splits works, each under its name and with its line where there are lines, and counts their records. What is left of them comes in
+/// the same order, into an empty list with room for it.
 pub(crate) fn settle<R: Wait>(
     mut names: Vec<Name>,
     mut works: Vec<Work<R>>,
     mut sweepers: Vec<Sweeper>,
+    mut lines: Vec<Option<ViewLine>>,
     mut ended: Vec<Ended<R>>,
 ) -> Vec<Ended<R>>
     requires names { length names.items ≡ length works.items }
@@ -61,13 +63,14 @@ pub(crate) fn settle<R: Wait>(
     requires none { ended.items ≡ [] }
     requires room { vec_len works ≤ vec_capacity ended }
     ensures shares { map ended_share result.items ≡ map work_share works.items }
-    ensures shown { AllEnded left_of works.items → All (λ w. w.short ≡ false) works.items
-        → map (λ e. e.shown) result.items ≡ works_shown names.items works.items }
+    ensures shown { (views : Bool) → AllEnded left_of works.items → All (λ w. w.short ≡ false) works.items → AreSeen views lines.items works.items
+        → map (λ e. e.shown) result.items ≡ works_shown views names.items works.items }
 {
     while let Some(work) = works.pop() {
         let name = names.take_last();
         let sweeper = sweepers.take_last();
-        ended.push_reserved(Ended::of(name, work, sweeper));
+        let line = lines.pop();
+        ended.push_reserved(Ended::of(name, work, sweeper, line));
     }
     works.destroy_empty();
     reversed(ended)

@@ -10,6 +10,7 @@ use crate::ended::Ended;
 use crate::roster::Roster;
 use crate::shape::Shape;
 use crate::tally::Tally;
+use crate::telling::Telling;
 use dym_base::Version;
 use dym_base::limits::{MOST_COMMANDS, MOST_OBJECTS};
 use dym_pool::Gate;
@@ -42,7 +43,11 @@ pub fn tally_waves<R: Threads + Wait + Send + Sync, G: Gate>(
     if parts.is_empty() {
         return Ok(Tally::none());
     }
-    let mut roster = Roster::of(alloc, version, parts, shape)?;
+    let telling = Telling {
+        version,
+        views: false,
+    };
+    let mut roster = Roster::of(alloc, telling, parts, shape)?;
     let (region, mut segments) = Region::new(alloc, roster.most)?;
     let tally = tally_all(rt, alloc, &mut roster, &mut segments, gate);
     region.close(segments);
@@ -62,7 +67,7 @@ fn tally_all<R: Threads + Wait + Send + Sync, G: Gate>(
     requires objects { length roster.old.parts.items ≤ MOST_OBJECTS }
     requires commands { sum_by (λ part. length part.commands) roster.old.parts.items ≤ MOST_COMMANDS }
     ensures segments { IsPermutation (map ⟦<RawSegment as Segment>⟧.id segments.old.items) (map ⟦<RawSegment as Segment>⟧.id segments.new.items) }
-    ensures counted { IfOk result (λ tally. IsTallyOf tally (parts_shown roster.old.version roster.old.parts.items)) }
+    ensures counted { IfOk result (λ tally. IsTallyOf tally (parts_shown roster.old.telling roster.old.parts.items)) }
 {
     let mut tally = Tally::none();
     while !roster.parts.is_empty() {
@@ -84,11 +89,11 @@ fn tally_wave<R: Threads + Wait + Send + Sync, G: Gate>(
     requires distinct { AreDistinct (map ⟦<RawSegment as Segment>⟧.id segments.old.items) }
     requires objects { length roster.old.parts.items ≤ MOST_OBJECTS }
     requires commands { sum_by (λ part. length part.commands) roster.old.parts.items ≤ MOST_COMMANDS }
-    ensures version { roster.new.version ≡ roster.old.version }
+    ensures telling { roster.new.telling ≡ roster.old.telling }
     ensures most { roster.new.most ≡ roster.old.most }
     ensures segments { IsPermutation (map ⟦<RawSegment as Segment>⟧.id segments.old.items) (map ⟦<RawSegment as Segment>⟧.id segments.new.items) }
     ensures distinct { AreDistinct (map ⟦<RawSegment as Segment>⟧.id segments.new.items) }
-    ensures counted { IfOk result (λ tally. TalliesFirst roster.old.version roster.old.parts.items roster.new.parts.items tally) }
+    ensures counted { IfOk result (λ tally. TalliesFirst roster.old.telling roster.old.parts.items roster.new.parts.items tally) }
 {
     let taken = mem::replace(segments, Vec::new(alloc));
     match roster.run_next(rt, alloc, taken, gate) {

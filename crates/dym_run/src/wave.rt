@@ -1,5 +1,5 @@
 //! A wave: objects that run side by side over one queue of segments.
-ghost use Rattle.std.specs.Prelude.{◌≡◌, ℕ, ◌+◌, ◌<◌, ◌≤◌, List, false, [], ◌++◌, IfOk, IfErr, OnOk, length, map, reverse, sum, sum_by, vec_len, vec_capacity, All};
+ghost use Rattle.std.specs.Prelude.{◌≡◌, ℕ, ◌+◌, ◌<◌, ◌≤◌, List, Bool, false, [], ◌++◌, IfOk, IfErr, OnOk, length, map, reverse, sum, sum_by, vec_len, vec_capacity, All};
 ghost use Rattle.dym_base.specs.Origins.{shared};
 ghost use Rattle.dym_base.specs.declared.limits.TheConstants.{MOST_OBJECTS, MOST_QUANTUM, MOST_QUOTA, MOST_WORKERS};
 ghost use Rattle.dym_pool.specs.Jobs.{AllEnded, Numbered};
@@ -7,22 +7,25 @@ ghost use Rattle.dym_quota.specs.Berths.{IsIdleBerth};
 ghost use Rattle.dym_region.specs.Identity.{AreDistinct};
 ghost use Rattle.dym_wave.specs.Waves.{AreSweptBy};
 ghost use Rattle.dym_wave.specs.Works.{left_of, number_of};
-ghost use Rattle.dym_run.specs.Ends.{works_shown, Boarded};
+ghost use Rattle.dym_run.specs.Ends.{works_shown, AreSeen, Boarded, IsFresh};
 ghost use Rattle.dym_run.specs.Parts.{IsShape, StandInLine};
 
-use crate::crew::{Crew, open_work, run_crew};
+use crate::crew::{open_work, run_crew};
 use crate::ended::Ended;
 use crate::reversed::reversed;
 use crate::room::Room;
 use crate::settled::{Settled, settle};
 use crate::shape::Shape;
+use crate::telling::Telling;
+use dym_base::Name;
 use dym_base::limits::{MOST_OBJECTS, MOST_QUANTUM, MOST_QUOTA, MOST_WORKERS};
-use dym_base::{Name, Version};
 use dym_pool::Gate;
 use dym_quota::{Berth, QuotaQueue, Supply};
 use dym_region::{RawSegment, Segment};
+use dym_report::ViewLine;
 use dym_script::{Decl, Part};
 use dym_slots::Sweeper;
+use dym_views::Seen;
 use dym_wave::Work;
 use std::alloc::{AllocError, Global};
 use std::collections::VecDeque;
@@ -101,7 +104,7 @@ impl<R: Wait> Wave<R> {
         &mut self,
         rt: &R,
         alloc: Global,
-        version: Version,
+        telling: Telling,
         quantum: u32,
         parts: &mut VecDeque<Part>,
     ) -> Result<(), AllocError>
@@ -112,11 +115,12 @@ impl<R: Wait> Wave<R> {
             × (vec_len self.old.berths + vec_len self.old.works ≤ vec_capacity self.old.works)
             × (vec_len self.old.berths + vec_len self.old.works ≤ vec_capacity self.old.sweepers) }
         ensures queue { self.new.queue ≡ self.old.queue }
-        ensures boarded { OnOk result (Boarded version (vec_len self.old.berths) parts.old.items parts.new.items
-            (works_shown self.old.names.items self.old.works.items) (works_shown self.new.names.items self.new.works.items)) }
+        ensures boarded { OnOk result (Boarded telling (vec_len self.old.berths) parts.old.items parts.new.items
+            (works_shown telling.views self.old.names.items self.old.works.items) (works_shown telling.views self.new.names.items self.new.works.items)) }
+        ensures fresh { OnOk result (All IsFresh self.old.works.items → All IsFresh self.new.works.items) }
     {
         while !self.berths.is_empty() {
-            self.board(rt, alloc, version, quantum, parts)?;
+            self.board(rt, alloc, telling, quantum, parts)?;
         }
         Ok(())
     }
@@ -126,7 +130,7 @@ impl<R: Wait> Wave<R> {
         &mut self,
         rt: &R,
         alloc: Global,
-        version: Version,
+        telling: Telling,
         quantum: u32,
         parts: &mut VecDeque<Part>,
     ) -> Result<(), AllocError>
@@ -140,8 +144,9 @@ impl<R: Wait> Wave<R> {
         ensures fewer { OnOk result (vec_len self.new.berths + 1 ≡ vec_len self.old.berths) }
         ensures more { OnOk result (vec_len self.new.works ≡ vec_len self.old.works + 1) }
         ensures lined { OnOk result (StandInLine parts.new.items (map ⟦<Berth<R> as Supply>⟧.quota_of self.new.berths.items)) }
-        ensures boarded { OnOk result (Boarded version 1 parts.old.items parts.new.items
-            (works_shown self.old.names.items self.old.works.items) (works_shown self.new.names.items self.new.works.items)) }
+        ensures boarded { OnOk result (Boarded telling 1 parts.old.items parts.new.items
+            (works_shown telling.views self.old.names.items self.old.works.items) (works_shown telling.views self.new.names.items self.new.works.items)) }
+        ensures fresh { OnOk result (All IsFresh self.old.works.items → All IsFresh self.new.works.items) }
         ensures room { (vec_capacity self.new.names ≡ vec_capacity self.old.names)
             × (vec_capacity self.new.works ≡ vec_capacity self.old.works) × (vec_capacity self.new.sweepers ≡ vec_capacity self.old.sweepers) }
     {
@@ -155,7 +160,7 @@ impl<R: Wait> Wave<R> {
         } = decl;
         let berth = self.berths.take_last();
         let number = self.works.len() as u32;
-        match open_work(rt, alloc, version, number, quantum, commands, berth) {
+        match open_work(rt, alloc, telling.version, number, quantum, commands, berth) {
             Ok((work, sweeper)) => {
                 self.names.push_reserved(name);
                 self.works.push_reserved(work);
@@ -175,7 +180,7 @@ impl<R: Wait> Wave<R> {
         mut self,
         rt: &R,
         alloc: Global,
-        version: Version,
+        telling: Telling,
         shape: Shape,
         parts: &mut VecDeque<Part>,
         gate: &G,
@@ -188,32 +193,38 @@ impl<R: Wait> Wave<R> {
         requires room { (vec_len self.berths ≤ vec_capacity self.names)
             × (vec_len self.berths ≤ vec_capacity self.works) × (vec_len self.berths ≤ vec_capacity self.sweepers) }
         ensures queue { result.0.queue ≡ self.queue }
-        ensures ran { OnOk result.1 (Boarded version (vec_len self.berths) parts.old.items parts.new.items [] (map (λ e. e.shown) result.0.ended.items)) }
+        ensures ran { OnOk result.1 (Boarded telling (vec_len self.berths) parts.old.items parts.new.items [] (map (λ e. e.shown) result.0.ended.items)) }
     {
-        if let Err(error) = self.board_all(rt, alloc, version, shape.quantum, parts) {
-            return (self.settle(), Err(error));
+        if let Err(error) = self.board_all(rt, alloc, telling, shape.quantum, parts) {
+            return (self.settle(Vec::new(alloc)), Err(error));
         }
-        let (wave, ran) = self.run(rt, alloc, shape.workers, gate);
-        (wave.settle(), ran)
+        let (wave, ran) = self.run(rt, alloc, telling.views, shape.workers, gate);
+        match ran {
+            Ok(lines) => (wave.settle(lines), Ok(())),
+            Err(error) => (wave.settle(Vec::new(alloc)), Err(error)),
+        }
     }
 
-    /// Runs all works to their ends. Only memory can be wanting: the wave then stands as it came, or some of its works ran a part of their
-    /// commands.
+    /// Runs all works to their ends, and answers what is seen of them where views are told. Only memory can be wanting: the wave then
+    /// stands as it came, or some of its works ran a part of their commands.
     pub(crate) fn run<G: Gate>(
         self,
         rt: &R,
         alloc: Global,
+        views: bool,
         workers: u32,
         gate: &G,
-    ) -> (Wave<R>, Result<(), AllocError>)
+    ) -> (Wave<R>, Result<Vec<Option<ViewLine>>, AllocError>)
     where
         R: Threads + Send + Sync,
         requires least { 1 ≤ workers }
         requires most { workers ≤ MOST_WORKERS }
+        requires fresh { All IsFresh self.works.items }
         ensures queue { result.0.queue ≡ self.queue }
-        ensures shown { works_shown result.0.names.items result.0.works.items ≡ works_shown self.names.items self.works.items }
+        ensures shown { works_shown views result.0.names.items result.0.works.items ≡ works_shown views self.names.items self.works.items }
         ensures ended { OnOk result.1 (AllEnded left_of result.0.works.items) }
         ensures long { OnOk result.1 (All (λ w. w.short ≡ false) result.0.works.items) }
+        ensures seen { IfOk result.1 (λ lines. AreSeen views lines.items result.0.works.items) }
     {
         let Wave {
             queue,
@@ -223,11 +234,11 @@ impl<R: Wait> Wave<R> {
             sweepers,
             ended,
         } = self;
-        let Crew {
+        let Seen {
             works,
             sweepers,
-            ran,
-        } = run_crew(rt, alloc, works, sweepers, workers, gate);
+            lines,
+        } = run_crew(rt, alloc, views, works, sweepers, workers, gate);
         let wave = Wave {
             queue,
             berths,
@@ -236,14 +247,14 @@ impl<R: Wait> Wave<R> {
             sweepers,
             ended,
         };
-        (wave, ran)
+        (wave, lines)
     }
 
-    /// Splits the works, and counts their records.
-    pub(crate) fn settle(self) -> Settled<R>
+    /// Splits the works, each with its line where there are lines, and counts their records.
+    pub(crate) fn settle(self, lines: Vec<Option<ViewLine>>) -> Settled<R>
         ensures queue { result.queue ≡ self.queue }
-        ensures shown { AllEnded left_of self.works.items → All (λ w. w.short ≡ false) self.works.items
-            → map (λ e. e.shown) result.ended.items ≡ works_shown self.names.items self.works.items }
+        ensures shown { (views : Bool) → AllEnded left_of self.works.items → All (λ w. w.short ≡ false) self.works.items → AreSeen views lines.items self.works.items
+            → map (λ e. e.shown) result.ended.items ≡ works_shown views self.names.items self.works.items }
     {
         let Wave {
             queue,
@@ -253,7 +264,7 @@ impl<R: Wait> Wave<R> {
             sweepers,
             ended,
         } = self;
-        let ended = settle(names, works, sweepers, ended);
+        let ended = settle(names, works, sweepers, lines, ended);
         Settled {
             queue,
             berths,

@@ -3,14 +3,16 @@ ghost use Rattle.std.specs.Prelude.{◌≡◌, ◌≤◌, ◌<◌, length, map, 
 ghost use Rattle.dym_base.specs.declared.limits.TheConstants.{MOST_OBJECTS};
 ghost use Rattle.dym_io.specs.Sink.{Writes, WritesOr};
 ghost use Rattle.dym_region.specs.Identity.{AreDistinct};
-ghost use Rattle.dym_run.specs.Ends.{shown_text, WritesFirst};
+ghost use Rattle.dym_run.specs.Ends.{parts_text, shown_text, WritesFirst};
 ghost use Rattle.dym_run.specs.Parts.{own_of, IsRunnable, IsShape};
 ghost use Rattle.dym_run.specs.Report.{part_text};
+ghost use Rattle.dym_run.specs.Views.{viewed_part};
 ghost use Rattle.dym_run.specs.declared.write_fail.WriteFail.TheVariants.{Sink as SinkFailed};
 
 use crate::ended::Ended;
 use crate::roster::Roster;
 use crate::shape::Shape;
+use crate::telling::Telling;
 use crate::write_fail::WriteFail;
 use dym_base::Version;
 use dym_base::limits::MOST_OBJECTS;
@@ -42,10 +44,60 @@ pub fn write_waves<R: Threads + Wait + Send + Sync, G: Gate, W: Sink>(
     requires objects { vec_len parts ≤ MOST_OBJECTS }
     ensures { WritesOr (λ fail. fail ≡ SinkFailed) (W.output sink.old) (W.output sink.new) (flat_map (λ part. part_text version (own_of part)) parts.items) result }
 {
+    let telling = Telling {
+        version,
+        views: false,
+    };
+    write_told(rt, alloc, telling, parts, shape, gate, sink)
+}
+
+/// Writes the parts of objects, in their order, and behind each the line of its view: what a viewer sees, in the end, of the oldest log
+/// that the object keeps. The objects run in waves, as where their parts alone are written; while they run, each publishes its oldest
+/// kept log, and a thread looks at all of them.
+///
+/// The gate is told of each wave and each turn. A call may wait for other threads.
+pub fn write_views<R: Threads + Wait + Send + Sync, G: Gate, W: Sink>(
+    rt: &R,
+    alloc: Global,
+    version: Version,
+    parts: Vec<Part>,
+    shape: Shape,
+    gate: &G,
+    sink: &mut W,
+) -> Result<(), WriteFail>
+    requires runnable { All IsRunnable parts.items }
+    requires shape { IsShape shape }
+    requires fits { All (λ part. part.decl.quota ≤ shape.segments) parts.items }
+    requires objects { vec_len parts ≤ MOST_OBJECTS }
+    ensures { WritesOr (λ fail. fail ≡ SinkFailed) (W.output sink.old) (W.output sink.new) (flat_map (λ part. viewed_part version (own_of part)) parts.items) result }
+{
+    let telling = Telling {
+        version,
+        views: true,
+    };
+    write_told(rt, alloc, telling, parts, shape, gate, sink)
+}
+
+/// Writes what is told of objects, which run in waves.
+fn write_told<R: Threads + Wait + Send + Sync, G: Gate, W: Sink>(
+    rt: &R,
+    alloc: Global,
+    telling: Telling,
+    parts: Vec<Part>,
+    shape: Shape,
+    gate: &G,
+    sink: &mut W,
+) -> Result<(), WriteFail>
+    requires runnable { All IsRunnable parts.items }
+    requires shape { IsShape shape }
+    requires fits { All (λ part. part.decl.quota ≤ shape.segments) parts.items }
+    requires objects { vec_len parts ≤ MOST_OBJECTS }
+    ensures { WritesOr (λ fail. fail ≡ SinkFailed) (W.output sink.old) (W.output sink.new) (parts_text telling parts.items) result }
+{
     if parts.is_empty() {
         return Ok(());
     }
-    let mut roster = Roster::of(alloc, version, parts, shape)?;
+    let mut roster = Roster::of(alloc, telling, parts, shape)?;
     let (region, mut segments) = Region::new(alloc, roster.most)?;
     let written = write_all(rt, alloc, &mut roster, &mut segments, gate, sink);
     region.close(segments);
@@ -65,7 +117,7 @@ fn write_all<R: Threads + Wait + Send + Sync, G: Gate, W: Sink>(
     requires distinct { AreDistinct (map ⟦<RawSegment as Segment>⟧.id segments.old.items) }
     ensures segments { IsPermutation (map ⟦<RawSegment as Segment>⟧.id segments.old.items) (map ⟦<RawSegment as Segment>⟧.id segments.new.items) }
     ensures written { WritesOr (λ fail. fail ≡ SinkFailed) (W.output sink.old) (W.output sink.new)
-        (flat_map (λ part. part_text roster.old.version (own_of part)) roster.old.parts.items) result }
+        (parts_text roster.old.telling roster.old.parts.items) result }
 {
     while !roster.parts.is_empty() {
         write_wave(rt, alloc, roster, segments, gate, sink)?;
@@ -85,11 +137,11 @@ fn write_wave<R: Threads + Wait + Send + Sync, G: Gate, W: Sink>(
     requires some { 0 < length roster.old.parts.items }
     requires enough { roster.old.most ≤ vec_len segments.old }
     requires distinct { AreDistinct (map ⟦<RawSegment as Segment>⟧.id segments.old.items) }
-    ensures version { roster.new.version ≡ roster.old.version }
+    ensures telling { roster.new.telling ≡ roster.old.telling }
     ensures most { roster.new.most ≡ roster.old.most }
     ensures segments { IsPermutation (map ⟦<RawSegment as Segment>⟧.id segments.old.items) (map ⟦<RawSegment as Segment>⟧.id segments.new.items) }
     ensures distinct { AreDistinct (map ⟦<RawSegment as Segment>⟧.id segments.new.items) }
-    ensures written { WritesFirst roster.old.version roster.old.parts.items roster.new.parts.items (W.output sink.old) (W.output sink.new) result }
+    ensures written { WritesFirst roster.old.telling roster.old.parts.items roster.new.parts.items (W.output sink.old) (W.output sink.new) result }
 {
     let taken = mem::replace(segments, Vec::new(alloc));
     match roster.run_next(rt, alloc, taken, gate) {

@@ -1,3 +1,4 @@
+pub mod Oldests
 pub mod Runs
 pub mod Tables
 pub mod Waved

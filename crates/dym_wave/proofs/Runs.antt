@@ -1,15 +1,19 @@
 -- One command more of a work.
-use Rattle.std.proofs.Common.{◌≡◌, ℕ, zero, suc, ◌<◌, ◌-◌, true, false, Bool, List, [], ◌∷◌, ◌++◌, length, take, get_or, refl, sym, ap, subst, ◌∙◌, arith, length-append}
+use Rattle.std.proofs.Common.{◌≡◌, ℕ, zero, suc, ◌+◌, ◌<◌, ◌≤◌, ◌^◌, ◌-◌, true, false, Bool, List, [], ◌∷◌, ◌++◌, length, take, drop, get_or, sum_by, refl, sym, ap, subst, ◌∙◌, arith, length-append}
 use Rattle.std.proofs.Math.Seq.{take-suc}
+use Rattle.std.proofs.lemmas.List.Sums.{sum_by-drop_more}
 use Rattle.std.specs.Prelude.{slice_get, IfSome, if◌then◌else◌}
 use Rattle.dym_base.specs.Objects.{ObjectState, object_start, object_step, replies_from, object_after, run_replies, run_end}
 use Rattle.dym_base.specs.declared.command.Version.{Version}
 use Rattle.dym_base.specs.declared.command.Command.{Command}
 use Rattle.dym_base.specs.declared.command.Command.TheVariants.{Logs}
 use Rattle.dym_base.specs.declared.reply.Reply.{Reply}
-use Rattle.dym_object.specs.Meaning.{ObjectMeaning, IsStep, state_of}
+use Rattle.dym_commands.specs.Reads.{read_room}
+use Rattle.dym_object.specs.Meaning.{ObjectMeaning, IsStep, IsWhole, state_of}
 use Rattle.dym_turn.specs.Turns.{Ran}
-use Rattle.dym_wave.specs.Works.{WorkMeaning, JobMeaning, origin_with, work_with, ran, left_of}
+use Rattle.dym_turn.specs.Replies.{RepliesMeaning, bytes_of}
+use Rattle.dym_turn.proofs.ReadRoom.{reply_room, room_small}
+use Rattle.dym_wave.specs.Works.{WorkMeaning, JobMeaning, HasRoom, origin_with, work_with, ran, left_of}
 
 module _ (v : Version) (quota : ℕ) where
   replies_more : (s : ObjectState) (xs : List Command) (c : Command) → replies_from v quota s (xs ++ c ∷ []) ≡ replies_from v quota s xs ++ (object_step v quota (object_after v quota s xs) c).reply ∷ []
@@ -79,6 +83,35 @@ pub more_origin : (number : ℕ) (commands : List Command) (replies : List Reply
     → origin_with number commands new ≡ origin_with number commands old
 more_origin number commands replies old new said k at l did =
     one_origin number 0 commands replies old new false said l (subst (λ (n : ℕ). IfSome (slice_get commands n) (λ c. Ran old c new said)) at did)
+
+-- what the reply tells has room, and there is room for the others behind it
+module _ (commands : List Command) (kept : RepliesMeaning) (old new : ObjectMeaning) (said : Reply) (k : ℕ) (at : k ≡ length kept.replies) (l : length kept.replies < length commands)
+    (did : IfSome (slice_get commands k) (λ c. Ran old c new said)) (whole : IsWhole old) (room : HasRoom commands kept) where
+  abbrev following : Command
+  following = get_or commands (length kept.replies) Logs
+
+  told_few : length (bytes_of said) ≤ read_room following
+  told_few = reply_room old following new said whole (run_as 0 0 commands kept.replies old new false said l (subst (λ (n : ℕ). IfSome (slice_get commands n) (λ c. Ran old c new said)) at did))
+
+  abbrev rest_is : sum_by read_room (drop (length kept.replies) commands) ≡ read_room following + sum_by read_room (drop (length kept.replies + 1) commands)
+  rest_is = sum_by-drop_more read_room commands (length kept.replies) Logs l
+
+  pub told_fits : length (bytes_of said) ≤ kept.byte_room
+  told_fits = omega (arith, told_few, rest_is, room.bytes)
+
+  pub told_short : length (bytes_of said) < 2 ^ 32
+  told_short = omega (arith, told_few, room_small following)
+
+  pub room_behind : 0 < kept.room
+  room_behind = omega (arith, l, room.replies)
+
+  pub still_room : (after : RepliesMeaning) → after.replies ≡ kept.replies ++ said ∷ [] → after.room + 1 ≡ kept.room → kept.byte_room ≤ after.byte_room + length (bytes_of said) → HasRoom commands after
+  still_room after is less bytes =
+      let long : length after.replies ≡ length kept.replies + 1 = ap length is ∙ length-append kept.replies (said ∷ []) in
+      record {
+        replies = omega (arith, l, long, less, room.replies);
+        bytes = omega (arith, told_few, rest_is, room.bytes, bytes, ap (λ (n : ℕ). sum_by read_room (drop n commands)) long);
+      }
 
 open_by : (short : Bool) (n : ℕ) → 0 < (if short then 0 else n) → short ≡ false
 open_by true n l = absurd (omega arith)

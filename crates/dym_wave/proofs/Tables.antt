@@ -1,5 +1,5 @@
 -- Sweepers and works that come back still belong together.
-use Rattle.std.proofs.Common.{◌≡◌, ℕ, zero, suc, List, [], ◌∷◌, length, map, get_or, refl, sym, ap, ◌∙◌, arith}
+use Rattle.std.proofs.Common.{◌≡◌, ℕ, zero, suc, Result, Ok, Err, IfOk, List, [], ◌∷◌, length, map, get_or, refl, sym, ap, ◌∙◌, arith}
 use Rattle.std.proofs.lemmas.List.{length-map}
 use Rattle.dym_base.specs.Origins.{Origin, shared}
 use Rattle.dym_slots.specs.Meanings.{SweeperMeaning}
@@ -35,3 +35,10 @@ module _ (works after : List WorkMeaning) (same : labels number_of origin_of aft
 pub promised : (works after : List WorkMeaning) (sweepers swept : List SweeperMeaning) (taken : ℕ) → EveryJobBack number_of left_of origin_of works after → AreSweptBy works sweepers → Pruned sweepers swept taken
     → WavePromise works after sweepers swept taken
 promised works after sweepers swept taken back of pruned = record { back = back; tables = still_swept works after back.0 sweepers swept taken of pruned; sweeps = pruned }
+
+-- the same of a call's answer, where it is one
+pub promised_both : {A E : Type 0} (works_in : A → List WorkMeaning) (sweepers_in : A → List SweeperMeaning) (taken_in : A → ℕ) (works : List WorkMeaning) (sweepers : List SweeperMeaning) (r : Result A E)
+    → IfOk r (λ a. EveryJobBack number_of left_of origin_of works (works_in a)) → IfOk r (λ a. Pruned sweepers (sweepers_in a) (taken_in a)) → AreSweptBy works sweepers
+    → IfOk r (λ a. WavePromise works (works_in a) sweepers (sweepers_in a) (taken_in a))
+promised_both works_in sweepers_in taken_in works sweepers (Ok a) back pruned of = promised works (works_in a) sweepers (sweepers_in a) (taken_in a) back of pruned
+promised_both works_in sweepers_in taken_in works sweepers (Err e) back pruned of = tt

@@ -1,5 +1,5 @@
 -- An object with its commands as a job: where it came from, and what it has done.
-use Rattle.std.specs.Prelude.{◌≡◌, ℕ, ◌-◌, ◌≤◌, Bool, false, if◌then◌else◌, List, [], length, take}
+use Rattle.std.specs.Prelude.{◌≡◌, ℕ, ◌+◌, ◌-◌, ◌≤◌, Bool, false, if◌then◌else◌, List, [], length, take, drop, sum_by}
 use Rattle.dym_base.specs.Objects.{run_replies, run_end}
 use Rattle.dym_base.specs.Origins.{Origin, own}
 use Rattle.dym_base.specs.declared.command.Version.{Version}
@@ -7,7 +7,9 @@ use Rattle.dym_base.specs.declared.command.Version.TheVariants.{One}
 use Rattle.dym_base.specs.declared.command.Command.{Command}
 use Rattle.dym_base.specs.declared.limits.TheConstants.{MOST_COMMANDS, MOST_QUANTUM}
 use Rattle.dym_base.specs.declared.reply.Reply.{Reply}
+use Rattle.dym_commands.specs.Reads.{read_room}
 use Rattle.dym_object.specs.Meaning.{ObjectMeaning, IsWhole, state_of}
+use Rattle.dym_turn.specs.Replies.{RepliesMeaning}
 
 -- where a work came from, which no turn changes: the object's place in its wave, its quota, the version of its heap, its own
 -- commands, the origin of its supply, and the origin of its keep
@@ -87,6 +89,11 @@ pub record JobMeaning (w : WorkMeaning) : Type 0 where
   pub few : length w.origin.commands ≤ MOST_COMMANDS
   pub some_quantum : 1 ≤ w.quantum
   pub most_quantum : w.quantum ≤ MOST_QUANTUM
+
+-- there is room for a reply to each command that is left, and for all that the reads among them are told
+pub record HasRoom (commands : List Command) (kept : RepliesMeaning) : Type 0 where
+  pub replies : length commands ≤ length kept.replies + kept.room
+  pub bytes : sum_by read_room (drop (length kept.replies) commands) ≤ kept.byte_room
 
 -- the replies and the object are those of a run of all its commands
 pub record RanAll (w : WorkMeaning) : Type 0 where

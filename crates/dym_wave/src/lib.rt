@@ -6,11 +6,14 @@
 //! order, with its origin, and its replies and its object are those of a run of its own commands.
 #![tactic(auto)]
 
+mod logs;
+mod swept;
 mod turns;
 mod wave;
 mod work;
 mod work_origin;
 
+pub use swept::run_swept;
 pub use wave::run_wave;
 pub use work::Work;
 pub use work_origin::WorkOrigin;

@@ -17,6 +17,7 @@ use dym_pool::{FreeGate, Gate};
 use dym_quota::{Berth, QuotaQueue, Supply};
 use dym_region::{RawSegment, Region};
 use dym_slots::{LogSlots, Sweeper};
+use dym_turn::Replies;
 use std::alloc::{AllocError, Global};
 use std::process::Abort;
 use std::sync::Wait;
@@ -82,6 +83,24 @@ fn open_all<R: Wait + Abort>(
     (works, sweepers)
 }
 
+/// The replies are these.
+fn told(rt: &impl Abort, replies: &Replies, wanted: &[Reply]) {
+    assert_eq!(rt; replies.len(), wanted.len());
+    let mut reply = Reply::Done;
+    for (k, want) in wanted.iter().enumerate() {
+        assert!(rt; k < replies.len());
+        match replies.tell(k, &mut reply) {
+            Some(bytes) => {
+                assert!(rt;
+                    matches!(want, Reply::Bytes(blob) if blob.bytes() == bytes),
+                    "reply {k}"
+                );
+            }
+            None => assert!(rt; reply == *want, "reply {k}"),
+        }
+    }
+}
+
 /// The berths of works that have ended, each with the replies that were wanted of it.
 fn end_all<R: Wait + Abort>(
     rt: &R,
@@ -99,7 +118,7 @@ fn end_all<R: Wait + Abort>(
     while let Some(work) = works.pop() {
         assert!(rt; !work.short());
         if let Some(wanted) = wanted.pop() {
-            assert!(rt; *work.replies() == *wanted, "work {}", works.len());
+            told(rt, work.replies(), &wanted);
         }
         let (_, object) = work.split();
         let (berth, _) = object.end(rt);
@@ -218,6 +237,7 @@ fn three_works_in_one_wave(rt: HostRuntime) -> Result<(), Fail> {
             Asked::Restore { time: 15 },
             Asked::Sum { h },
             Asked::Logs,
+            Asked::Read { h, at: 0, len: 3 },
         ],
     );
     let segments = script(
@@ -258,6 +278,7 @@ fn three_works_in_one_wave(rt: HostRuntime) -> Result<(), Fail> {
         Reply::At(10),
         Reply::Total(0),
         Reply::Slots { kept: 1, slots: 1 },
+        Reply::Bytes(Blob::new(alloc, &[0, 0, 0])?),
     ]?;
     let wanted_of_segments = vec![in alloc;
         Reply::Chunk(chunk(16, 0)),
@@ -311,10 +332,10 @@ impl Gate for Yields {
 fn the_pruner_sweeps_while_a_worker_runs(rt: HostRuntime) -> Result<(), Fail> {
     let alloc = rt.alloc();
     let mut commands = Commands::new(alloc);
-    for time in 1..20_001 {
-        assert!(rt; commands.len() < 100_000);
+    for time in 1..200_001 {
+        assert!(rt; commands.len() < 400_000);
         commands.push(&Asked::Log { time })?;
-        assert!(rt; commands.len() < 100_000);
+        assert!(rt; commands.len() < 400_000);
         commands.push(&Asked::Prune { bound: time })?;
     }
     let scripts = vec![in alloc; commands]?;

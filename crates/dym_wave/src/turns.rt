@@ -4,10 +4,8 @@ ghost use Rattle.dym_wave.specs.Works.{left_of, number_of, origin_of, ran};
 
 use crate::work::Work;
 use crate::work_origin::WorkOrigin;
-use dym_base::Reply;
 use dym_pool::Job;
 use std::alloc::AllocError;
-use std::mem;
 use std::sync::Wait;
 
 impl<R: Wait + Send + Sync> Job<R> for Work<R> {
@@ -38,6 +36,7 @@ impl<R: Wait + Send + Sync> Job<R> for Work<R> {
         ensures origin { origin_of self.new ≡ origin_of self.old }
         ensures left { left_of self.new < left_of self.old }
         ensures quantum { self.new.quantum ≡ self.old.quantum }
+        ensures grown { ran self.old ≤ ran self.new }
         ensures ran { self.new.short ≡ false → ran self.new ≡ ran self.old + min self.old.quantum (left_of self.old) }
     {
         let count = self.quantum.min(self.left());
@@ -53,6 +52,7 @@ impl<R: Wait> Work<R> {
         ensures origin { self.new.origin ≡ self.old.origin }
         ensures quantum { self.new.quantum ≡ self.old.quantum }
         ensures all { self.new.short ≡ false → ran self.new ≡ ran self.old + count }
+        ensures grown { ran self.old ≤ ran self.new }
         ensures left { left_of self.new < left_of self.old }
     {
         for _ in 0..count {
@@ -73,8 +73,7 @@ impl<R: Wait> Work<R> {
         ensures unchanged { OnErr result (self.new ≡ self.old) }
     {
         self.commands.run(self.replies.len(), rt, &mut self.turn)?;
-        let reply = mem::replace(&mut self.turn.reply, Reply::Done);
-        self.replies.push_reserved(reply);
+        self.replies.push(&self.turn.reply);
         Ok(())
     }
 }

@@ -5,13 +5,12 @@ ghost use Rattle.dym_base.specs.declared.limits.TheConstants.{MOST_QUANTUM};
 ghost use Rattle.dym_object.specs.Meaning.{IsWhole, state_of};
 ghost use Rattle.dym_wave.specs.Works.{JobMeaning, EndsWhole, opened};
 
-use dym_base::Reply;
 use dym_base::limits::MOST_QUANTUM;
 use dym_chain::SlotKeep;
 use dym_commands::Commands;
 use dym_object::Object;
 use dym_quota::Berth;
-use dym_turn::Turn;
+use dym_turn::{Replies, Turn};
 use std::alloc::{AllocError, Global};
 use std::marker::Model;
 use std::sync::Wait;
@@ -25,31 +24,29 @@ pub struct Work<R: Wait> {
     pub(crate) number: u32,
     pub(crate) quantum: u32,
     pub(crate) commands: Commands,
-    pub(crate) replies: Vec<Reply>,
+    pub(crate) replies: Replies,
     pub(crate) turn: Turn<Berth<R>, SlotKeep>,
     pub(crate) short: bool,
 }
 
 impl<R: Wait> Model for Work<R> {
-    ghost use Rattle.std.specs.Prelude.{◌≤◌, length, vec_capacity};
     ghost use Rattle.std.specs.Coded.{codes};
     ghost use Rattle.dym_heap.specs.Meaning.{live_code, touched_code};
-    ghost use Rattle.dym_wave.specs.Works.{WorkMeaning, JobMeaning, work_with};
+    ghost use Rattle.dym_wave.specs.Works.{WorkMeaning, JobMeaning, HasRoom, work_with};
 
     ghost Value = { WorkMeaning };
 
     ghost coded = { Prim.hlevel (codes, live_code, touched_code) };
 
-    ghost view = { λ w. work_with w.number w.quantum w.commands w.replies.items w.turn.object w.short };
+    ghost view = { λ w. work_with w.number w.quantum w.commands w.replies.replies w.turn.object w.short };
 
-    // There is room for all replies.
-    ghost invariant = { λ w. JobMeaning (work_with w.number w.quantum w.commands w.replies.items w.turn.object w.short)
-        × (length w.commands ≤ vec_capacity w.replies) };
+    ghost invariant = { λ w. JobMeaning (work_with w.number w.quantum w.commands w.replies.replies w.turn.object w.short)
+        × HasRoom w.commands w.replies };
 }
 
 impl<R: Wait> Work<R> {
     /// A work with nothing run yet. `number` is the object's place in its wave, and `quantum` the most commands of a turn. Room for
-    /// all replies is taken here.
+    /// all replies, and for all that reads are told, is taken here.
     pub fn open(
         alloc: Global,
         number: u32,
@@ -66,7 +63,7 @@ impl<R: Wait> Work<R> {
         ensures commands { IfErr result (λ e. e.1 ≡ commands) }
         ensures object { IfErr result (λ e. e.2 ≡ object) }
     {
-        match Vec::with_capacity(alloc, commands.len()) {
+        match Replies::with_room(alloc, commands.len(), commands.read_bytes()) {
             Ok(replies) => Ok(Work {
                 number,
                 quantum,
@@ -80,8 +77,8 @@ impl<R: Wait> Work<R> {
     }
 
     /// The replies to the commands that have run, in order.
-    pub fn replies(&self) -> &[Reply]
-        ensures replies { result.now ≡ self.now.replies }
+    pub fn replies(&self) -> &Replies
+        ensures replies { result.now.replies ≡ self.now.replies }
         ensures job { JobMeaning self.now }
         ensures whole { EndsWhole self.now }
     {
@@ -98,14 +95,16 @@ impl<R: Wait> Work<R> {
 
     /// Whether a command found no memory, so that it and those after it weren't run.
     pub fn short(&self) -> bool
-        ensures { result ≡ self.now.short }
+        ensures short { result ≡ self.now.short }
+        ensures job { JobMeaning self.now }
+        ensures whole { EndsWhole self.now }
     {
         self.short
     }
 
     /// Gives up the work, and answers the replies and the object as it stands.
-    pub fn split(self) -> (Vec<Reply>, Object<Berth<R>, SlotKeep>)
-        ensures replies { result.0.items ≡ self.replies }
+    pub fn split(self) -> (Replies, Object<Berth<R>, SlotKeep>)
+        ensures replies { result.0.replies ≡ self.replies }
         ensures object { result.1 ≡ self.object }
         ensures job { JobMeaning self }
         ensures whole { EndsWhole self }

@@ -1,7 +1,9 @@
-use Rattle.std.proofs.Common.{◌≡◌, false, arith}
+use Rattle.std.proofs.Common.{◌≡◌, ◌+◌, Bool, false, vec_len, arith}
 use Rattle.dym_wave.specs.Works.{WorkMeaning, left_of}
 use Rattle.dym_run.proofs.Berths.{all_front, all_last}
 use Rattle.dym_run.proofs.Crews.{swept_front, swept_last, named_fewer, settled_more, shares_more, settled_all, shares_all, none_left}
+use Rattle.dym_run.specs.Ends.{AreSeen}
+use Rattle.dym_run.proofs.Seen.{told_of, seen_fewer}
 use Rattle.dym_run.proofs.settled.settle.Goals as goal
 
 pub of-requires : goal.of-requires
@@ -14,6 +16,9 @@ loop-work-preserved g c =
     let works = c.pop.new.self.items in
     let names = c.take_last-name.new.self.items in
     let was = c.in-Some.ensures.items in
+    let less : (views : Bool) → AreSeen views c.args.lines.items c.args.works.items → (c.pop-line.result ≡ told_of views c.in-Some.work) × AreSeen views c.pop-line.new.self.items works =
+    λ views seen. seen_fewer (vec_len c.pop-line.new.self ≡ 0) (vec_len c.pop-line.new.self + 1 ≡ vec_len c.loop-work.lines) views c.loop-work.lines.items c.pop-line.new.self.items c.pop-line.result
+    works c.loop-work.works.items c.in-Some.work (vec_len c.loop-work.lines) c.loop-work.lines.ok.0 c.pop-line.ensures.cases c.pop-line.ensures.items was (c.loop-work.invariant.seen views seen) in
     let named = named_fewer names _ works _ c.take_last-name.result c.in-Some.work c.take_last-name.ensures.items was c.loop-work.invariant.named in
     record {
       named = named;
@@ -22,10 +27,11 @@ loop-work-preserved g c =
       shares = shares_more works _ c.loop-work.ended.items _ c.in-Some.work c.of.result _ was c.push_reserved.ensures.items c.of.ensures.quota c.of.ensures.supply c.loop-work.invariant.shares;
       ended = λ all. all_front (λ (w : WorkMeaning). left_of w ≡ 0) works _ c.in-Some.work was (c.loop-work.invariant.ended all);
       long = λ all. all_front (λ (w : WorkMeaning). w.short ≡ false) works _ c.in-Some.work was (c.loop-work.invariant.long all);
-      shown = λ ended long.
-          settled_more names _ works _ c.loop-work.ended.items _ c.take_last-name.result c.in-Some.work c.of.result _ c.take_last-name.ensures.items was named c.push_reserved.ensures.items
-          (c.of.ensures.whole (all_last (λ (w : WorkMeaning). left_of w ≡ 0) works _ c.in-Some.work was (c.loop-work.invariant.ended ended)) (all_last (λ (w : WorkMeaning). w.short ≡ false) works _ c.in-Some.work was (c.loop-work.invariant.long long)))
-          (c.loop-work.invariant.shown ended long);
+      seen = λ views seen. (less views seen).1;
+      shown = λ views ended long seen.
+          settled_more views names _ works _ c.loop-work.ended.items _ c.take_last-name.result c.in-Some.work c.of.result _ c.take_last-name.ensures.items was named c.push_reserved.ensures.items
+          (c.of.ensures.whole views (all_last (λ (w : WorkMeaning). left_of w ≡ 0) works _ c.in-Some.work was (c.loop-work.invariant.ended ended)) (all_last (λ (w : WorkMeaning). w.short ≡ false) works _ c.in-Some.work was (c.loop-work.invariant.long long)) (less views seen).0)
+          (c.loop-work.invariant.shown views ended long seen);
     }
 
 pub returns-clause-shares : goal.returns-clause-shares
@@ -33,5 +39,5 @@ returns-clause-shares g c =
     shares_all c.loop-work.works.items c.loop-work.ended.items c.reversed.result.items _ (none_left c.loop-work.works.items (omega (arith, c.in_default.ensures.cases.0, c.loop-work.works.ok.0))) c.reversed.ensures.items c.loop-work.invariant.shares
 
 pub returns-clause-shown : goal.returns-clause-shown
-returns-clause-shown g c ended long =
-    settled_all c.loop-work.names.items c.loop-work.works.items c.loop-work.ended.items c.reversed.result.items _ c.loop-work.invariant.named (none_left c.loop-work.works.items (omega (arith, c.in_default.ensures.cases.0, c.loop-work.works.ok.0))) c.reversed.ensures.items (c.loop-work.invariant.shown ended long)
+returns-clause-shown g c views ended long seen =
+    settled_all views c.loop-work.names.items c.loop-work.works.items c.loop-work.ended.items c.reversed.result.items _ c.loop-work.invariant.named (none_left c.loop-work.works.items (omega (arith, c.in_default.ensures.cases.0, c.loop-work.works.ok.0))) c.reversed.ensures.items (c.loop-work.invariant.shown views ended long seen)

@@ -8,7 +8,7 @@ use Rattle.dym_run.proofs.total.tally_all.Goals as goal
 pub and-tally-requires : goal.and-tally-requires
 and-tally-requires g c =
     let start = c.args.roster.now in
-    let it = wave_fits start.version c.loop-alloc.roster.version c.loop-alloc.invariant.version start.parts.items c.loop-alloc.roster.parts.items c.tally_wave.new.roster.parts.items
+    let it = wave_fits start.telling c.loop-alloc.roster.telling c.loop-alloc.invariant.telling start.parts.items c.loop-alloc.roster.parts.items c.tally_wave.new.roster.parts.items
     c.loop-alloc.tally c.in_ok-tally_wave.field-0 c.loop-alloc.invariant.counted c.in_ok-tally_wave.ensures.counted c.requires.objects c.requires.commands in
     record { ok = it.ok; refused = it.refused; chunks = it.chunks; segments = it.segments; kept = it.kept; slots = it.slots }
 
@@ -17,7 +17,7 @@ loop-alloc-preserved g c =
     let inv = c.loop-alloc.invariant in
     let it = c.tally_wave.ensures in
     record {
-      version = it.version ∙ inv.version;
+      telling = it.telling ∙ inv.telling;
       enough = omega (
         arith,
         inv.enough,
@@ -30,7 +30,7 @@ loop-alloc-preserved g c =
       );
       distinct = it.distinct;
       segments = IsPermutation-trans (map ghosts.id c.args.segments.now.items) (map ghosts.id c.loop-alloc.segments.items) (map ghosts.id c.tally_wave.new.segments.items) inv.segments it.segments;
-      counted = wave_counted c.args.roster.now.version c.loop-alloc.roster.version inv.version c.args.roster.now.parts.items c.loop-alloc.roster.parts.items c.tally_wave.new.roster.parts.items
+      counted = wave_counted c.args.roster.now.telling c.loop-alloc.roster.telling inv.telling c.args.roster.now.parts.items c.loop-alloc.roster.parts.items c.tally_wave.new.roster.parts.items
           c.loop-alloc.tally c.in_ok-tally_wave.field-0 inv.counted c.in_ok-tally_wave.ensures.counted _ c.and-tally.ensures;
     }
 

@@ -6,11 +6,11 @@ use Rattle.dym_run.proofs.total.tally_all.Given as goal
 
 abbrev pub invariant-loop-alloc : goal.invariant-loop-alloc
 invariant-loop-alloc g l = record {
-  version : l.roster.version ≡ l.initial.roster.version;
+  telling : l.roster.telling ≡ l.initial.roster.telling;
   enough : l.roster.most ≤ vec_len l.segments;
   distinct : AreDistinct (map ghosts.id l.segments.items);
   segments : IsPermutation (map ghosts.id l.initial.segments.items) (map ghosts.id l.segments.items);
-  counted : Counted l.initial.roster.version l.initial.roster.parts.items l.roster.parts.items l.tally;
+  counted : Counted l.initial.roster.telling l.initial.roster.parts.items l.roster.parts.items l.tally;
 }
 
 abbrev pub decreases-loop-alloc : goal.decreases-loop-alloc

@@ -12,7 +12,7 @@ loop-alloc-preserved g c =
     let inv = c.loop-alloc.invariant in
     let it = c.write_wave.ensures in
     record {
-      version = it.version ∙ inv.version;
+      telling = it.telling ∙ inv.telling;
       enough = omega (
         arith,
         inv.enough,
@@ -25,7 +25,7 @@ loop-alloc-preserved g c =
       );
       distinct = it.distinct;
       segments = IsPermutation-trans (map ghosts.id c.args.segments.now.items) (map ghosts.id c.loop-alloc.segments.items) (map ghosts.id c.write_wave.new.segments.items) inv.segments it.segments;
-      written = wave_more c.args.roster.now.version c.loop-alloc.roster.version inv.version c.args.roster.now.parts.items c.loop-alloc.roster.parts.items c.write_wave.new.roster.parts.items
+      written = wave_more c.args.roster.now.telling c.loop-alloc.roster.telling inv.telling c.args.roster.now.parts.items c.loop-alloc.roster.parts.items c.write_wave.new.roster.parts.items
           (g.W.Sink.output c.args.sink.now) (g.W.Sink.output c.loop-alloc.sink) (g.W.Sink.output c.write_wave.new.sink) inv.written c.in_ok-write_wave.ensures.written;
     }
 
@@ -41,5 +41,5 @@ returns-in_err-write_wave-clause-written g c =
     let end = g.W.Sink.output c.write_wave.new.sink in
     let it = c.in_err-write_wave.ensures.written in
     writes_or_passed (λ fail. fail ≡ SinkFailed) start end _ _ c.in_err-write_wave.field-0.0 c.from_residual.ensures.1
-    (wave_cut c.args.roster.now.version c.loop-alloc.roster.version inv.version c.args.roster.now.parts.items c.loop-alloc.roster.parts.items [] start mid end inv.written it.0)
+    (wave_cut c.args.roster.now.telling c.loop-alloc.roster.telling inv.telling c.args.roster.now.parts.items c.loop-alloc.roster.parts.items [] start mid end inv.written it.0)
     (blames_later _ start mid end _ inv.written.written it.1)

@@ -6,11 +6,11 @@ use Rattle.dym_run.proofs.writing.write_all.Given as goal
 
 abbrev pub invariant-loop-alloc : goal.invariant-loop-alloc
 invariant-loop-alloc g l = record {
-  version : l.roster.version ≡ l.initial.roster.version;
+  telling : l.roster.telling ≡ l.initial.roster.telling;
   enough : l.roster.most ≤ vec_len l.segments;
   distinct : AreDistinct (map ghosts.id l.segments.items);
   segments : IsPermutation (map ghosts.id l.initial.segments.items) (map ghosts.id l.segments.items);
-  written : Written l.initial.roster.version l.initial.roster.parts.items l.roster.parts.items (g.W.Sink.output l.initial.sink) (g.W.Sink.output l.sink);
+  written : Written l.initial.roster.telling l.initial.roster.parts.items l.roster.parts.items (g.W.Sink.output l.initial.sink) (g.W.Sink.output l.sink);
 }
 
 abbrev pub decreases-loop-alloc : goal.decreases-loop-alloc

@@ -1,6 +1,6 @@
-use Rattle.std.proofs.Common.{rules}
-use Rattle.dym_wave.proofs.Tables.{promised}
+use Rattle.std.proofs.Common.{IfOk, Result, Ok, Err}
+use Rattle.dym_wave.proofs.Tables.{promised_both}
 use Rattle.dym_wave.proofs.wave.run_wave.Goals as goal
 
-pub returns-in-Ok-ran-clause-wave : goal.returns-in-Ok-ran-clause-wave
-returns-in-Ok-ran-clause-wave g c = promised _ _ _ _ _ (search rules) c.requires.tables (search rules)
+pub returns-clause-wave : goal.returns-clause-wave
+returns-clause-wave g c = promised_both (λ w. w.0.items) (λ w. w.1.items) (λ w. w.2) c.args.works.items c.args.sweepers.items c.run_swept.result c.run_swept.ensures.back c.run_swept.ensures.swept c.requires.tables

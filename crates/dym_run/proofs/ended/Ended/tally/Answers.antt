@@ -1,15 +1,14 @@
-use Rattle.std.proofs.Common.{◌-◌, [], ◌∷◌, ap, subst, ◌∙◌, arith, count_by}
+use Rattle.std.proofs.Common.{◌-◌, [], ◌∷◌, subst, ◌∙◌, arith}
 use Rattle.dym_run.specs.declared.tally.Tally.{Tally}
 use Rattle.dym_run.specs.Ends.{EndedMeaning, IsTallyOf}
-use Rattle.dym_run.specs.Summary.{is_refusal}
 use Rattle.dym_run.proofs.Tallies.{tally_of_one, not_refused, count_not}
 use Rattle.dym_run.proofs.ended.Ended.tally.Goals as goal
 
 pub returns : goal.returns
 returns g c =
-    let replies = c.self.inside.replies.items in
-    let refused = c.refusals-refused.ensures.counted ∙ ap (count_by is_refusal) c.deref.ensures.value in
-    let all = c.len.ensures ∙ c.self.inside.replies.ok.0 in
+    let replies = c.self.inside.replies.replies in
+    let refused = c.refusals-refused.ensures in
+    let all = c.len.ensures in
     let ok = not_refused replies c.len.result c.refusals-refused.result all refused in
     let tally : Tally = record {
       ok = c.len.result - c.refusals-refused.result;

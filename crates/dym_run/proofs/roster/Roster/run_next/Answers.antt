@@ -21,7 +21,7 @@ invariant_of-self g c =
     let same = c.deref-2.ensures.value in
     let inside = c.waves-end.ensures.longest.inside in
     let order = c.waves-end.ensures.some in
-    let ran = subst (λ r. OnOk r (Boarded old.version (vec_len c.in_ok-wave.wave.berths) old.parts.items c.run_all-settled.new.parts.items [] (map (λ (e : EndedMeaning). e.shown) c.run_all-settled.result.0.ended.items))) c.in-Ok.is c.run_all-settled.ensures.ran in
+    let ran = subst (λ r. OnOk r (Boarded old.telling (vec_len c.in_ok-wave.wave.berths) old.parts.items c.run_all-settled.new.parts.items [] (map (λ (e : EndedMeaning). e.shown) c.run_all-settled.result.0.ended.items))) c.in-Ok.is c.run_all-settled.ensures.ran in
     let count = run_count (λ b. b.quota) c.in_ok-wave.wave.berths.items quotas old.from c.waves-end.result (omega (arith, order)) (omega (arith, inside, ap length c.deref.ensures.value, ap length same)) c.in_ok-wave.ensures.quotas in
     record {
       runnable = all_back IsRunnable ran.done c.run_all-settled.new.parts.items old.parts.items ran.taken old.runnable;

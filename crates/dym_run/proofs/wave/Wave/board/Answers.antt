@@ -4,7 +4,7 @@ use Rattle.dym_base.specs.Origins.{shared}
 use Rattle.dym_base.specs.declared.limits.TheConstants.{MOST_QUOTA}
 use Rattle.dym_quota.specs.Berths.{IsIdleBerth}
 use Rattle.dym_wave.specs.Works.{WorkMeaning, OriginMeaning}
-use Rattle.dym_run.specs.Ends.{run_shown}
+use Rattle.dym_run.specs.Ends.{run_shown, IsFresh}
 use Rattle.dym_run.proofs.Berths.{all_front, all_last, one_name, sum_last, still_lined, next_quota}
 use Rattle.dym_run.proofs.Crews.{named_more, boarded_one, swept_put, numbered_put, shown_put}
 use Rattle.dym_run.proofs.wave.Wave.board.Goals as goal
@@ -84,6 +84,11 @@ returns-in-Ok-clause-boarded g c =
     let w = c.in-Ok.work in
     let next = next_quota (λ b. b.quota) c.take_last-berth.new.self.items old.berths.items c.take_last-berth.result c.args.parts.now.items c.pop_front.new.self.items
     part c.requires.lined.0 c.take_last-berth.ensures.items c.in-Some.ensures.items c.requires.lined.1 in
-    boarded_one c.args.version part c.args.parts.now.items c.pop_front.new.self.items _ _ c.in-Some.ensures.items
-    (shown_put old.names.items c.push_reserved.new.self.items old.works.items c.push_reserved-in-Ok.new.self.items part.decl.name w _ c.push_reserved.ensures.items c.push_reserved-in-Ok.ensures.items old.named
-    (ap (λ (o : OriginMeaning). run_shown part.decl.name o.version o.quota o.commands) c.in-Ok.ensures.origin ∙ ap (λ q. run_shown part.decl.name c.args.version q part.commands) (sym next)))
+    boarded_one c.args.telling part c.args.parts.now.items c.pop_front.new.self.items _ _ c.in-Some.ensures.items
+    (shown_put c.args.telling.views old.names.items c.push_reserved.new.self.items old.works.items c.push_reserved-in-Ok.new.self.items part.decl.name w _ c.push_reserved.ensures.items c.push_reserved-in-Ok.ensures.items old.named
+    (ap (λ (o : OriginMeaning). run_shown c.args.telling.views part.decl.name o.version o.quota o.commands) c.in-Ok.ensures.origin ∙ ap (λ q. run_shown c.args.telling.views part.decl.name c.args.telling.version q part.commands) (sym next)))
+
+pub returns-in-Ok-clause-fresh : goal.returns-in-Ok-clause-fresh
+returns-in-Ok-clause-fresh g c fresh =
+    All-same IsFresh c.push_reserved-in-Ok.new.self.items (c.args.self.now.works.items ++ c.in-Ok.work ∷ []) c.push_reserved-in-Ok.ensures.items
+    (All-push IsFresh c.args.self.now.works.items c.in-Ok.work fresh c.in-Ok.ensures.fresh)

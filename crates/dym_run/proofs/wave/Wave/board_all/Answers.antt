@@ -13,5 +13,6 @@ loop-alloc-preserved g c =
       sweepers = omega (arith, inv.sweepers, it.fewer, it.more, it.room.2);
       queue = it.queue ∙ inv.queue;
       fewer = omega (arith, inv.fewer, it.fewer);
-      boarded = boarded_more c.args.version _ _ _ _ _ _ _ _ inv.boarded it.boarded (omega (arith, inv.fewer, it.fewer));
+      boarded = boarded_more c.args.telling _ _ _ _ _ _ _ _ inv.boarded it.boarded (omega (arith, inv.fewer, it.fewer));
+      fresh = λ first. it.fresh (inv.fresh first);
     }

@@ -1,6 +1,7 @@
 use Rattle.std.proofs.Common.{arith, sym, ◌∙◌}
 use Rattle.dym_base.specs.Origins.{shared}
 use Rattle.dym_run.proofs.Crews.{quotas_same, supplies_same, length_same, numbered_same}
+use Rattle.dym_run.proofs.Seen.{seen_back}
 use Rattle.dym_run.proofs.wave.Wave.run.Goals as goal
 
 pub run_crew-works-requires-clause-queue : goal.run_crew-works-requires-clause-queue
@@ -26,3 +27,7 @@ invariant_of-wave g c =
       room = omega (arith, old.room, long, ok, old.works.ok.0);
       room_for_ended = omega (arith, old.room_for_ended, long, ok, old.works.ok.0);
     }
+
+pub returns-clause-seen : goal.returns-clause-seen
+returns-clause-seen g c =
+    seen_back (λ lines. lines.items) c.args.views c.run_crew-works.result.lines c.args.self.works.items c.run_crew-works.result.works.items c.run_crew-works.ensures.origins c.run_crew-works.ensures.seen

@@ -1,0 +1,33 @@
+-- The views of a script's objects: behind the part of each stands what its oldest kept log tells.
+use Rattle.std.specs.Prelude.{ℕ, Bool, true, false, List, [], ◌++◌, flat_map, Option, None, Some}
+use Rattle.dym_base.specs.Objects.{ObjectState}
+use Rattle.dym_base.specs.declared.command.Version.{Version}
+use Rattle.dym_script.specs.Scripts.{Said}
+use Rattle.dym_report.specs.Late.{view_line}
+use Rattle.dym_report.specs.Orders.{end_text}
+use Rattle.dym_report.specs.declared.late.ViewLine.{ViewLine}
+use Rattle.dym_views.specs.Lines.{oldest_view}
+use Rattle.dym_run.specs.declared.telling.Telling.{Telling}
+use Rattle.dym_run.specs.Report.{Own, objects_of, part_text, end_of}
+
+-- what is told of the view of an object, where views are
+abbrev pub told_view : Bool → ObjectState → Option (Option ViewLine)
+told_view true s = Some (oldest_view s)
+told_view false s = None
+
+-- its line, where it is told
+abbrev pub told_line : Option (Option ViewLine) → List ℕ
+told_line None = []
+told_line (Some view) = view_line view
+
+-- the part of a declared object, and the line of its view where views are told
+abbrev pub told_part : Telling → Own → List ℕ
+told_part t o = part_text t.version o ++ told_line (told_view t.views (end_of t.version o))
+
+-- the part of a declared object, and the line of its view
+abbrev pub viewed_part : Version → Own → List ℕ
+viewed_part version o = part_text version o ++ view_line (oldest_view (end_of version o))
+
+-- the report of a script with the line of each object's view, and the last line
+unfoldable pub views_text : Said → List ℕ
+views_text said = flat_map (viewed_part said.version) (objects_of said) ++ end_text

@@ -1,0 +1,7 @@
+pub mod Alone
+pub mod Going
+pub mod Jobs
+pub mod Moves
+pub mod Onward
+pub mod Sights
+pub mod Turns
