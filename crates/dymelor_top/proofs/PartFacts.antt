@@ -14,6 +14,7 @@ use Rattle.dym_script.specs.Parts.{EachHas}
 use Rattle.dym_run.specs.Parts.{own_of, IsRunnable}
 use Rattle.dym_run.specs.Report.{own_from, objects_of, part_text, report_text}
 use Rattle.dym_report.specs.Orders.{end_text}
+use Rattle.dym_run.specs.Views.{viewed_part, views_text}
 
 -- the commands of the parts from the k-th object on
 abbrev pub OwnsFrom : Said → ℕ → List Part → Type 0
@@ -88,3 +89,15 @@ report_of_parts script s are =
     let ps : List Part = script.kept.parts.items in
     ap (λ l. l ++ end_text) (ap (flat_map (part_text s.version)) (sym (parts_are_objects s ps are.keeps.decls are.keeps.commands)) ∙ sym (texts_of_parts s.version ps))
     ∙ ap (λ v. flat_map (λ part. part_text v (own_of part)) ps ++ end_text) are.version
+
+-- the same with the views
+viewed_of_parts : (v : Version) (parts : List Part) → flat_map (λ part. viewed_part v (own_of part)) parts ≡ flat_map (viewed_part v) (map own_of parts)
+viewed_of_parts v [] = refl
+viewed_of_parts v (p ∷ ps) = ap (λ l. viewed_part v (own_of p) ++ l) (viewed_of_parts v ps)
+
+pub views_of_parts : (script : Whole Holding) (s : Said) → IsByObjects script s → views_text s ≡ flat_map (λ part. viewed_part script.version (own_of part)) script.kept.parts.items ++ end_text
+unfolding views_text
+views_of_parts script s are =
+    let ps : List Part = script.kept.parts.items in
+    ap (λ l. l ++ end_text) (ap (flat_map (viewed_part s.version)) (sym (parts_are_objects s ps are.keeps.decls are.keeps.commands)) ∙ sym (viewed_of_parts s.version ps))
+    ∙ ap (λ v. flat_map (λ part. viewed_part v (own_of part)) ps ++ end_text) are.version

@@ -13,7 +13,7 @@ use Rattle.dym_io.specs.Source.{IsEndOrLimit, TookAtMost}
 use Rattle.dym_io.specs.Sink.{Output, Appended, AppendedFront, Stopped, Blames, AllFlushed}
 use Rattle.dym_io.specs.Laws.{appends_kept, appended_nothing, once_rose}
 use Rattle.dym_gen.specs.Scripts.{generated}
-use Rattle.dym_script.specs.Lines.{lines_of}
+use Rattle.dym_lines.specs.Lines.{lines_of}
 use Rattle.dym_script.specs.Late.{late_of, late_lines, late_start}
 use Rattle.dym_script.specs.Scripts.{Said, Fault, script_of, read_lines, start}
 use Rattle.dym_trace.specs.declared.answer.TraceAnswer.{TraceAnswer}
@@ -144,7 +144,7 @@ same_answer reading.Trace read all answer same is = same_tested (λ l. IsJudged 
 same_answer (reading.File name) read all answer same is = same_script (saved_answer name) read all answer same is
 same_answer (reading.Loaded time) read all answer same is = same_tested (λ l. IsLoadedText time l answer ⊎ IsPartFault l answer) read all answer same is
 same_answer reading.Late read all answer same is = same_late read all answer same is
-same_answer (reading.Waves n summary) read all answer same is = same_script (of_waves n (waves_text summary)) read all answer same is
+same_answer (reading.Waves n text) read all answer same is = same_script (of_waves n (waves_text text)) read all answer same is
 
 pub same_back : (r : Reading) (read all : List ℕ) (answer : Answer) → SameVerdict read all → IsRead r all answer → IsRead r read answer
 same_back r read all answer same is = same_answer r all read answer (turned read all same) is
@@ -177,7 +177,7 @@ one_read (reading.File name) bytes x y p q = p ∙ sym q
 one_read (reading.Loaded time) bytes x y p q =
     one_tested (λ a. IsLoadedText time bytes a ⊎ IsPartFault bytes a) (one_loaded time bytes) (nat_lt MOST_INPUT_BYTES (length bytes)) x y p q
 one_read reading.Late bytes x y p q = p ∙ sym q
-one_read (reading.Waves n summary) bytes x y p q = p ∙ sym q
+one_read (reading.Waves n text) bytes x y p q = p ∙ sym q
 
 pub one_answer : (p : Plan) (bytes : List ℕ) (x y : Answer) → IsAnswer p bytes x → IsAnswer p bytes y → x ≡ y
 one_answer (plan.Read r) bytes x y p q = one_read r bytes x y p q

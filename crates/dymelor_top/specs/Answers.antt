@@ -17,12 +17,15 @@ use Rattle.dym_gen.specs.Scripts.{generated}
 use Rattle.dym_report.specs.Orders.{counts_text, events_text, error_text, usage_text}
 use Rattle.dymelor_top.specs.declared.plan.Reading.{Reading}
 use Rattle.dymelor_top.specs.declared.plan.Reading.TheVariants as reading
+use Rattle.dymelor_top.specs.declared.plan.WaveText.{WaveText}
+use Rattle.dymelor_top.specs.declared.plan.WaveText.TheVariants as wave
 use Rattle.dymelor_top.specs.declared.plan.Plan.{Plan}
 use Rattle.dymelor_top.specs.declared.plan.Plan.TheVariants as plan
 use Rattle.dymelor_top.specs.Checkpoints.{HoldsLogs, own_named, own_file, loaded_text}
 use Rattle.dymelor_top.specs.LateReport.{late_text}
 use Rattle.dym_run.specs.Report.{Own, report_text}
 use Rattle.dym_run.specs.Summary.{summary_of}
+use Rattle.dym_run.specs.Views.{views_text}
 
 pub record Answer : Type 0 where
   pub status : ℕ
@@ -37,10 +40,11 @@ abbrev pub of_script : (Said → List ℕ) → Result Said Fault → Answer
 of_script text (Ok said) = record { status = 0; text = text said }
 of_script text (Err fault) = fault_answer fault.line fault.kind
 
--- the summary of a script, or its report
-abbrev pub waves_text : Bool → Said → List ℕ
-waves_text true said = summary_of said
-waves_text false said = report_text said
+-- the report of a script, or its summary, or its report with the view of each object
+abbrev pub waves_text : WaveText → Said → List ℕ
+waves_text wave.Report said = report_text said
+waves_text wave.Summary said = summary_of said
+waves_text wave.Views said = views_text said
 
 -- the first declared object that may hold more than so many segments
 abbrev pub first_above : ℕ → List Decl → Option Decl
@@ -122,11 +126,11 @@ IsRead reading.Trace bytes answer = IsTraceAnswer bytes answer
 IsRead (reading.File name) bytes answer = answer ≡ saved_answer name (script_of bytes)
 IsRead (reading.Loaded time) bytes answer = IsLoadAnswer time bytes answer
 IsRead reading.Late bytes answer = answer ≡ of_late (late_of bytes)
-IsRead (reading.Waves segments is_summary) bytes answer = answer ≡ of_waves segments (waves_text is_summary) (script_of bytes)
+IsRead (reading.Waves segments text) bytes answer = answer ≡ of_waves segments (waves_text text) (script_of bytes)
 
 -- a reading that starts no thread
 abbrev pub IsStill : Reading → Type 0
-IsStill (reading.Waves segments is_summary) = ⊥
+IsStill (reading.Waves segments text) = ⊥
 IsStill r = ⊤
 
 -- the answer to an order to make a script: its text

@@ -9,6 +9,8 @@ use Rattle.dymelor_top.specs.declared.plan.Plan.{Plan}
 use Rattle.dymelor_top.specs.declared.plan.Plan.TheVariants as plan
 use Rattle.dymelor_top.specs.declared.plan.Reading.{Reading}
 use Rattle.dymelor_top.specs.declared.plan.Reading.TheVariants as reading
+use Rattle.dymelor_top.specs.declared.plan.WaveText.{WaveText}
+use Rattle.dymelor_top.specs.declared.plan.WaveText.TheVariants as wave
 
 abbrev pub report_or_summary : Bool → Reading
 report_or_summary true = reading.Summary
@@ -18,10 +20,14 @@ abbrev pub plain_plan : Input → Bool → Plan
 plain_plan Script summary = plan.Read (report_or_summary summary)
 plain_plan (Made seed objects commands) summary = plan.ReadMade (report_or_summary summary) seed objects commands
 
--- an order to run a script in waves, where all objects that run at a time have so many segments
-abbrev pub waves_plan : ℕ → Input → Bool → Plan
-waves_plan segments Script summary = plan.Read (reading.Waves segments summary)
-waves_plan segments (Made seed objects commands) summary = plan.ReadMade (reading.Waves segments summary) seed objects commands
+-- an order to run a script in waves and write this of it, where all objects that run at a time have so many segments
+abbrev pub waves_plan : ℕ → Input → WaveText → Plan
+waves_plan segments Script text = plan.Read (reading.Waves segments text)
+waves_plan segments (Made seed objects commands) text = plan.ReadMade (reading.Waves segments text) seed objects commands
+
+abbrev pub run_text : Bool → WaveText
+run_text true = wave.Summary
+run_text false = wave.Report
 
 -- what is done by a call that starts no thread
 abbrev pub plan_of : Result Order Usage → Plan
@@ -36,7 +42,8 @@ plan_of (Ok (Views workers segments quantum)) = plan.Usage
 plan_of (Ok Late) = plan.Read reading.Late
 plan_of (Err usage) = plan.Usage
 
--- what is done by a call that may start threads: it runs scripts in waves too
+-- what is done by a call that may start threads: it runs scripts in waves too, and shows the views of their objects
 abbrev pub whole_plan_of : Result Order Usage → Plan
-whole_plan_of (Ok (Run workers segments quantum input summary)) = waves_plan segments input summary
+whole_plan_of (Ok (Run workers segments quantum input summary)) = waves_plan segments input (run_text summary)
+whole_plan_of (Ok (Views workers segments quantum)) = waves_plan segments Script wave.Views
 whole_plan_of order = plan_of order

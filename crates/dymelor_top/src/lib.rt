@@ -25,6 +25,8 @@ mod stop;
 #[cfg(test)]
 mod tests;
 mod total;
+#[cfg(test)]
+mod view_tests;
 mod waves;
 mod whole;
 

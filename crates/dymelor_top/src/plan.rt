@@ -22,8 +22,19 @@ pub enum Reading {
     Loaded { time: Option<u64> },
     /// The report of a script of late events.
     Late,
-    /// The report of a script whose objects run in waves, or its summary. All that run at a time have so many segments.
-    Waves { segments: u32, is_summary: bool },
+    /// What is written of a script whose objects run in waves. All that run at a time have so many segments.
+    Waves { segments: u32, text: WaveText },
+}
+
+/// What is written of a script whose objects run in waves.
+#[derive(Clone, Copy, Debug, PartialEq, Eq)]
+pub enum WaveText {
+    /// Its report.
+    Report,
+    /// Its summary.
+    Summary,
+    /// Its report, with the view of each object.
+    Views,
 }
 
 /// What is to be done for the words of a command line.

@@ -14,7 +14,7 @@ use std::thread::{self, Threads};
 const PATIENCE: u64 = 20_000_000;
 
 /// The status and the bytes that the words give for an input, with a gate that is told of waves and turns.
-fn run_by<R: Threads + Wait + Send + Sync, G: Gate>(
+pub fn run_by<R: Threads + Wait + Send + Sync, G: Gate>(
     rt: &R,
     alloc: Global,
     words: &[&str],
@@ -35,7 +35,7 @@ fn run_by<R: Threads + Wait + Send + Sync, G: Gate>(
 }
 
 /// Three objects whose quotas are 2 each.
-const THREE: &str =
+pub const THREE: &str =
     "object a 2\nobject b 2\nobject c 2\na malloc 65536\nb malloc 32\nc malloc 64\na malloc 1\nb malloc 65536\nc log 1\na log 5\nc free 64:0\na free 32:0\nc restore 1\nb malloc 128\na restore 9\n";
 
 const THREE_REPORT: &str =

@@ -1,4 +1,4 @@
-//! The order `run`: the objects of a script run in waves of workers.
+//! The orders `run` and `views`: the objects of a script run in waves of workers.
 ghost use Rattle.std.specs.Prelude.{◌≡◌, ◌⊎◌, ◌+◌, ◌≤◌, ℕ, List, Some, drop, nat_lt, All, option_map, Result, IfOk, OnOk, IsErrOf};
 ghost use Rattle.std.specs.List.{find};
 ghost use Rattle.dym_base.specs.declared.limits.TheConstants.{MOST_INPUT_BYTES};
@@ -11,30 +11,32 @@ ghost use Rattle.dym_run.specs.Summary.{summary_of, totals_of};
 ghost use Rattle.dym_run.specs.declared.write_fail.WriteFail.TheVariants.{Sink as SinkFailed};
 ghost use Rattle.dym_script.specs.Scripts.{Said, Fault};
 ghost use Rattle.dym_script.specs.ByObjects.{GivesParts, IsByObjects};
+ghost use Rattle.dym_run.specs.Views.{views_text};
 ghost use Rattle.dymelor_top.specs.Answers.{first_above, of_waves, unless_above, waves_text, IsRead};
 ghost use Rattle.dymelor_top.specs.Headline.{Serves, WritesAnswer, Counted};
 ghost use Rattle.dymelor_top.specs.declared.plan.Reading.TheVariants.{Waves};
 ghost use Rattle.dymelor_top.specs.declared.stop.Stop.TheVariants.{Source as SourceStopped, Sink as SinkStopped};
 
 use crate::blocks::read_source;
+use crate::plan::WaveText;
 use crate::still::flush;
 use crate::stop::Stop;
 use dym_base::BadKind;
 use dym_io::{Sink, Source};
 use dym_pool::Gate;
 use dym_report::{Totals, write_end, write_error, write_summary};
-use dym_run::{Shape, WriteFail, tally_waves, write_waves};
+use dym_run::{Shape, WriteFail, tally_waves, write_views, write_waves};
 use dym_script::{Holding, Part, ScriptFail, Whole};
 use std::alloc::{AllocError, Global};
 use std::sync::Wait;
 use std::thread::Threads;
 
-/// Reads a script, runs its objects in waves, and writes their report or their summary.
+/// Reads a script, runs its objects in waves, and writes what is asked for of them.
 pub fn serve_waves<R: Threads + Wait + Send + Sync, S: Source, W: Sink, G: Gate>(
     rt: &R,
     alloc: Global,
     shape: Shape,
-    is_summary: bool,
+    text: WaveText,
     source: &mut S,
     sink: &mut W,
     gate: &G,
@@ -42,7 +44,7 @@ pub fn serve_waves<R: Threads + Wait + Send + Sync, S: Source, W: Sink, G: Gate>
     requires goes_on { S.goes_on source.old }
     requires shape { IsShape shape }
     ensures served { (bytes : List ℕ) → S.left source.old ≡ Some bytes
-        → Serves (IsRead (Waves shape.segments is_summary) bytes) (W.output sink.old) (W.output sink.new) result }
+        → Serves (IsRead (Waves shape.segments text) bytes) (W.output sink.old) (W.output sink.new) result }
     ensures read { (bytes : List ℕ) → S.left source.old ≡ Some bytes → OnOk result (S.left source.new ≡ Some (drop (MOST_INPUT_BYTES + 1) bytes)) }
     ensures status { IfOk result (λ status. (status ≡ 0) ⊎ (status ≡ 2)) }
     ensures bounded { TookAtMost (MOST_INPUT_BYTES + 1) (S.left source.old) (S.left source.new) }
@@ -52,7 +54,7 @@ pub fn serve_waves<R: Threads + Wait + Send + Sync, S: Source, W: Sink, G: Gate>
     ensures sink_stands { ¬ IsErrOf result SinkStopped → (W.output sink.new).faults ≡ (W.output sink.old).faults }
 {
     let script = read_source::<Holding, S>(alloc, source)?;
-    let status = answer_waves(rt, alloc, shape, is_summary, script, sink, gate)?;
+    let status = answer_waves(rt, alloc, shape, text, script, sink, gate)?;
     flush(sink)?;
     Ok(status)
 }
@@ -62,7 +64,7 @@ fn answer_waves<R: Threads + Wait + Send + Sync, W: Sink, G: Gate>(
     rt: &R,
     alloc: Global,
     shape: Shape,
-    is_summary: bool,
+    text: WaveText,
     script: Result<Whole<Holding>, ScriptFail>,
     sink: &mut W,
     gate: &G,
@@ -70,12 +72,12 @@ fn answer_waves<R: Threads + Wait + Send + Sync, W: Sink, G: Gate>(
     requires made { (read : Result Said Fault) × GivesParts script read }
     requires shape { IsShape shape }
     ensures answered { (read : Result Said Fault) → GivesParts script read
-        → WritesAnswer (of_waves shape.segments (waves_text is_summary) read) (W.output sink.old) (W.output sink.new) result }
+        → WritesAnswer (of_waves shape.segments (waves_text text) read) (W.output sink.old) (W.output sink.new) result }
     ensures status { IfOk result (λ status. (status ≡ 0) ⊎ (status ≡ 2)) }
     ensures counted { Counted (W.output sink.old) (W.output sink.new) result }
 {
     match script {
-        Ok(script) => run_script(rt, alloc, shape, is_summary, script, sink, gate),
+        Ok(script) => run_script(rt, alloc, shape, text, script, sink, gate),
         Err(ScriptFail::Bad { line, kind }) => {
             write_error(sink, line, kind)?;
             Ok(2)
@@ -89,7 +91,7 @@ fn run_script<R: Threads + Wait + Send + Sync, W: Sink, G: Gate>(
     rt: &R,
     alloc: Global,
     shape: Shape,
-    is_summary: bool,
+    text: WaveText,
     script: Whole<Holding>,
     sink: &mut W,
     gate: &G,
@@ -97,7 +99,7 @@ fn run_script<R: Threads + Wait + Send + Sync, W: Sink, G: Gate>(
     requires made { (s : Said) × IsByObjects script s }
     requires shape { IsShape shape }
     ensures answered { (s : Said) → IsByObjects script s
-        → WritesAnswer (unless_above (waves_text is_summary s) (first_above shape.segments s.objects)) (W.output sink.old) (W.output sink.new) result }
+        → WritesAnswer (unless_above (waves_text text s) (first_above shape.segments s.objects)) (W.output sink.old) (W.output sink.new) result }
     ensures status { IfOk result (λ status. (status ≡ 0) ⊎ (status ≡ 2)) }
     ensures counted { Counted (W.output sink.old) (W.output sink.new) result }
 {
@@ -107,7 +109,7 @@ fn run_script<R: Threads + Wait + Send + Sync, W: Sink, G: Gate>(
             Ok(2)
         }
         None => {
-            run_fitting(rt, alloc, shape, is_summary, script, sink, gate)?;
+            run_fitting(rt, alloc, shape, text, script, sink, gate)?;
             Ok(0)
         }
     }
@@ -128,7 +130,7 @@ fn run_fitting<R: Threads + Wait + Send + Sync, W: Sink, G: Gate>(
     rt: &R,
     alloc: Global,
     shape: Shape,
-    is_summary: bool,
+    text: WaveText,
     script: Whole<Holding>,
     sink: &mut W,
     gate: &G,
@@ -137,12 +139,12 @@ fn run_fitting<R: Threads + Wait + Send + Sync, W: Sink, G: Gate>(
     requires shape { IsShape shape }
     requires fits { All (λ part. part.decl.quota ≤ shape.segments) script.kept.parts.items }
     ensures { (s : Said) → IsByObjects script s
-        → WritesOr (λ fail. fail ≡ SinkFailed) (W.output sink.old) (W.output sink.new) (waves_text is_summary s) result }
+        → WritesOr (λ fail. fail ≡ SinkFailed) (W.output sink.old) (W.output sink.new) (waves_text text s) result }
 {
-    if is_summary {
-        summarize(rt, alloc, shape, script, sink, gate)
-    } else {
-        report(rt, alloc, shape, script, sink, gate)
+    match text {
+        WaveText::Report => report(rt, alloc, shape, script, sink, gate),
+        WaveText::Summary => summarize(rt, alloc, shape, script, sink, gate),
+        WaveText::Views => show_views(rt, alloc, shape, script, sink, gate),
     }
 }
 
@@ -162,6 +164,26 @@ fn report<R: Threads + Wait + Send + Sync, W: Sink, G: Gate>(
 {
     let Whole { version, kept, .. } = script;
     write_waves(rt, alloc, version, kept.parts, shape, gate, sink)?;
+    write_end(sink)?;
+    Ok(())
+}
+
+/// Writes the report of a script whose objects fit, with the view of each object.
+fn show_views<R: Threads + Wait + Send + Sync, W: Sink, G: Gate>(
+    rt: &R,
+    alloc: Global,
+    shape: Shape,
+    script: Whole<Holding>,
+    sink: &mut W,
+    gate: &G,
+) -> Result<(), WriteFail>
+    requires made { (s : Said) × IsByObjects script s }
+    requires shape { IsShape shape }
+    requires fits { All (λ part. part.decl.quota ≤ shape.segments) script.kept.parts.items }
+    ensures { (s : Said) → IsByObjects script s → WritesOr (λ fail. fail ≡ SinkFailed) (W.output sink.old) (W.output sink.new) (views_text s) result }
+{
+    let Whole { version, kept, .. } = script;
+    write_views(rt, alloc, version, kept.parts, shape, gate, sink)?;
     write_end(sink)?;
     Ok(())
 }

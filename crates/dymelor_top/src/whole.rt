@@ -7,11 +7,12 @@ ghost use Rattle.dym_words.specs.Laws.{CanBeMade, IsInputWithin, IsWithin};
 ghost use Rattle.dym_words.specs.Orders.{order};
 ghost use Rattle.dymelor_top.specs.Answers.{IsRead};
 ghost use Rattle.dymelor_top.specs.Headline.{PlanHeadline, Serves, WholeHeadline};
-ghost use Rattle.dymelor_top.specs.Plans.{plan_of, waves_plan, whole_plan_of};
+ghost use Rattle.dymelor_top.specs.Plans.{plan_of, run_text, waves_plan, whole_plan_of};
 ghost use Rattle.dymelor_top.specs.declared.plan.Reading.TheVariants.{Waves};
 ghost use Rattle.dymelor_top.specs.declared.stop.Stop.TheVariants.{Source as SourceStopped, Sink as SinkStopped};
 
 use crate::made::{MadeSource, made_script};
+use crate::plan::WaveText;
 use crate::still::dymelor_still;
 use crate::stop::Stop;
 use crate::waves::serve_waves;
@@ -51,14 +52,14 @@ pub fn dymelor<R: Threads + Wait + Send + Sync, S: Source, W: Sink, G: Gate>(
 #[derive(Clone, Copy, Debug, PartialEq, Eq)]
 struct Run {
     shape: Shape,
-    is_summary: bool,
+    text: WaveText,
     input: Input,
 }
 
 /// The order to run a script in waves, where it is one.
 fn run_of(order: Result<Order, Usage>) -> Option<Run>
     ensures other { IfNone result (whole_plan_of order ≡ plan_of order) }
-    ensures plan { IfSome result (λ run. whole_plan_of order ≡ waves_plan run.shape.segments run.input run.is_summary) }
+    ensures plan { IfSome result (λ run. whole_plan_of order ≡ waves_plan run.shape.segments run.input run.text) }
     ensures within { IfOk order IsWithin → IfSome result (λ run. IsShape run.shape × IsInputWithin run.input) }
 {
     match order {
@@ -76,7 +77,7 @@ fn run_of(order: Result<Order, Usage>) -> Option<Run>
                 segments,
                 quantum,
             },
-            is_summary: summary,
+            text: run_text(summary),
             input,
         }),
         Ok(Order::Plain { .. }) => None,
@@ -85,9 +86,34 @@ fn run_of(order: Result<Order, Usage>) -> Option<Run>
         Ok(Order::Trace) => None,
         Ok(Order::Save { .. }) => None,
         Ok(Order::Load { .. }) => None,
-        Ok(Order::Views { .. }) => None,
+        Ok(
+            Order::Views {
+                workers,
+                segments,
+                quantum,
+            },
+        ) => Some(Run {
+            shape: Shape {
+                workers,
+                segments,
+                quantum,
+            },
+            text: WaveText::Views,
+            input: Input::Script,
+        }),
         Ok(Order::Late) => None,
         Err(_) => None,
+    }
+}
+
+/// What the order `run` writes.
+fn run_text(is_summary: bool) -> WaveText
+    ensures { result ≡ run_text is_summary }
+{
+    if is_summary {
+        WaveText::Summary
+    } else {
+        WaveText::Report
     }
 }
 
@@ -103,13 +129,13 @@ fn serve_run<R: Threads + Wait + Send + Sync, S: Source, W: Sink, G: Gate>(
     requires goes_on { S.goes_on source.old }
     requires shape { IsShape run.shape }
     requires input { IsInputWithin run.input }
-    ensures { PlanHeadline (waves_plan run.shape.segments run.input run.is_summary)
+    ensures { PlanHeadline (waves_plan run.shape.segments run.input run.text)
         (record { left = S.left source.old; faults = S.faults source.old }) (record { left = S.left source.new; faults = S.faults source.new })
         (W.output sink.old) (W.output sink.new) result }
 {
     match run.input {
         Input::Script => {
-            match serve_waves(rt, alloc, run.shape, run.is_summary, source, sink, gate) {
+            match serve_waves(rt, alloc, run.shape, run.text, source, sink, gate) {
                 Ok(status) => status,
                 Err(stop) => stop.status(),
             }
@@ -120,15 +146,7 @@ fn serve_run<R: Threads + Wait + Send + Sync, S: Source, W: Sink, G: Gate>(
             commands,
         } => {
             match serve_made_waves(
-                rt,
-                alloc,
-                run.shape,
-                run.is_summary,
-                seed,
-                objects,
-                commands,
-                sink,
-                gate,
+                rt, alloc, run.shape, run.text, seed, objects, commands, sink, gate,
             ) {
                 Ok(status) => status,
                 Err(stop) => stop.status(),
@@ -142,7 +160,7 @@ fn serve_made_waves<R: Threads + Wait + Send + Sync, W: Sink, G: Gate>(
     rt: &R,
     alloc: Global,
     shape: Shape,
-    is_summary: bool,
+    text: WaveText,
     seed: u64,
     objects: u32,
     commands: u32,
@@ -151,7 +169,7 @@ fn serve_made_waves<R: Threads + Wait + Send + Sync, W: Sink, G: Gate>(
 ) -> Result<u8, Stop>
     requires shape { IsShape shape }
     requires made { CanBeMade objects commands }
-    ensures served { Serves (IsRead (Waves shape.segments is_summary) (generated seed objects commands)) (W.output sink.old) (W.output sink.new) result }
+    ensures served { Serves (IsRead (Waves shape.segments text) (generated seed objects commands)) (W.output sink.old) (W.output sink.new) result }
     ensures status { IfOk result (λ status. (status ≡ 0) ⊎ (status ≡ 2)) }
     ensures no_source { ¬ IsErrOf result SourceStopped }
     ensures sink_fault { IsErrOf result SinkStopped → RoseOnce (W.output sink.old).faults (W.output sink.new).faults }
@@ -159,5 +177,5 @@ fn serve_made_waves<R: Threads + Wait + Send + Sync, W: Sink, G: Gate>(
 {
     let made = made_script(alloc, seed, objects, commands)?;
     let mut source = MadeSource { rest: &made };
-    serve_waves(rt, alloc, shape, is_summary, &mut source, sink, gate)
+    serve_waves(rt, alloc, shape, text, &mut source, sink, gate)
 }

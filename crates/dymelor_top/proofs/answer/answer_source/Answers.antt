@@ -1,6 +1,7 @@
-use Rattle.std.proofs.Common.{◌≡◌, ◌+◌, refl, subst, sym}
+use Rattle.std.proofs.Common.{◌≡◌, ◌+◌, [], refl, subst, sym}
 use Rattle.dym_base.specs.declared.limits.TheConstants.{MOST_INPUT_BYTES}
 use Rattle.dym_io.specs.Sink.{Appended, AppendedFront}
+use Rattle.dym_io.specs.Laws.{appended_nothing, front_of_appended}
 use Rattle.dym_script.specs.Late.{late_of}
 use Rattle.dym_script.specs.Scripts.{script_of}
 use Rattle.dymelor_top.specs.declared.plan.Reading.TheVariants as reading
@@ -72,6 +73,11 @@ returns-in_ok-answer_saved-in-File-clause-answered g c bytes known =
     let whole : Answer = saved_answer c.in-File.name (script_of bytes) in
     let w = c.in_ok-answer_saved-in-File.ensures.answered (script_of bytes) (c.in_ok-script-in-File.ensures.gives bytes known) in
     subst (λ r. (x : Answer) × IsRead r bytes x × (c.in_ok-answer_saved-in-File.field-0 ≡ x.status) × Appended a b x.text) (sym c.in-File.is) (whole, refl, w.0, w.1)
+
+pub returns-in_err-file-in-Loaded-clause-answered : goal.returns-in_err-file-in-Loaded-clause-answered
+returns-in_err-file-in-Loaded-clause-answered g c bytes known =
+    let a = g.W.Sink.output c.args.sink.now in
+    stopped_front (IsRead c.args.reading bytes) a a _ c.from_residual-in_err-file-in-Loaded.ensures.0 (λ answer is. front_of_appended a a [] answer.text (appended_nothing a))
 
 pub returns-in_err-answer_loaded-in-Loaded-clause-answered : goal.returns-in_err-answer_loaded-in-Loaded-clause-answered
 returns-in_err-answer_loaded-in-Loaded-clause-answered g c bytes known =

@@ -14,7 +14,7 @@ returns-in_err-write_error-in-Some-clause-answered g c s are =
     let n = c.args.shape.segments in
     let found : Some c.in-Some.line ≡ option_map (λ (p : Part). p.decl.line) (find (is_above n) c.args.script.kept.parts.items) =
     sym c.in-Some.is ∙ c.line_above.ensures ∙ ap (λ ps. option_map (λ (p : Part). p.decl.line) (find (is_above n) ps)) c.deref.ensures.value in
-    let is = above_answer n (waves_text c.args.is_summary s) c.args.script s c.in-Some.line are found in
+    let is = above_answer n (waves_text c.args.text s) c.args.script s c.in-Some.line are found in
     answer_stopped _ a b _ c.from_residual.ensures.1 (subst (λ (x : Answer). Stopped a b x.text) (sym is) c.in_err-write_error-in-Some.ensures)
 
 pub returns-in_ok-write_error-in-Some-clause-answered : goal.returns-in_ok-write_error-in-Some-clause-answered
@@ -24,7 +24,7 @@ returns-in_ok-write_error-in-Some-clause-answered g c s are =
     let n = c.args.shape.segments in
     let found : Some c.in-Some.line ≡ option_map (λ (p : Part). p.decl.line) (find (is_above n) c.args.script.kept.parts.items) =
     sym c.in-Some.is ∙ c.line_above.ensures ∙ ap (λ ps. option_map (λ (p : Part). p.decl.line) (find (is_above n) ps)) c.deref.ensures.value in
-    let is = above_answer n (waves_text c.args.is_summary s) c.args.script s c.in-Some.line are found in
+    let is = above_answer n (waves_text c.args.text s) c.args.script s c.in-Some.line are found in
     subst (λ (x : Answer). (2 ≡ x.status) × Appended a b x.text) (sym is) (refl, c.in_ok-write_error-in-Some.ensures)
 
 pub run_fitting-requires-clause-fits : goal.run_fitting-requires-clause-fits
@@ -40,7 +40,7 @@ returns-in_err-run_fitting-in-None-clause-answered g c s are =
     let n = c.args.shape.segments in
     let none : None ≡ option_map (λ (p : Part). p.decl.line) (find (is_above n) c.args.script.kept.parts.items) =
     sym c.in-None.is ∙ c.line_above.ensures ∙ ap (λ ps. option_map (λ (p : Part). p.decl.line) (find (is_above n) ps)) c.deref.ensures.value in
-    let is = fitting_answer n (waves_text c.args.is_summary s) c.args.script s are none in
+    let is = fitting_answer n (waves_text c.args.text s) c.args.script s are none in
     let written = c.in_err-run_fitting-in-None.ensures s are in
     answer_passed _ a b _ c.in_err-run_fitting-in-None.field-0.0 c.from_residual-in_err-run_fitting-in-None.ensures.1
     (subst (λ (x : Answer). AppendedFront a b x.text) (sym is) written.0) written.1
@@ -52,5 +52,5 @@ returns-in_ok-run_fitting-in-None-clause-answered g c s are =
     let n = c.args.shape.segments in
     let none : None ≡ option_map (λ (p : Part). p.decl.line) (find (is_above n) c.args.script.kept.parts.items) =
     sym c.in-None.is ∙ c.line_above.ensures ∙ ap (λ ps. option_map (λ (p : Part). p.decl.line) (find (is_above n) ps)) c.deref.ensures.value in
-    let is = fitting_answer n (waves_text c.args.is_summary s) c.args.script s are none in
+    let is = fitting_answer n (waves_text c.args.text s) c.args.script s are none in
     subst (λ (x : Answer). (0 ≡ x.status) × Appended a b x.text) (sym is) (refl, c.in_ok-run_fitting-in-None.ensures s are)

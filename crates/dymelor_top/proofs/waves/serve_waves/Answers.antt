@@ -12,9 +12,9 @@ returns-in_err-flush-clause-served g c bytes known =
     let start = g.W.Sink.output c.args.sink.now in
     let middle = g.W.Sink.output c.answer_waves.new.sink in
     let after = g.W.Sink.output c.flush.new.sink in
-    let whole : Answer = of_waves c.args.shape.segments (waves_text c.args.is_summary) (script_of bytes) in
+    let whole : Answer = of_waves c.args.shape.segments (waves_text c.args.text) (script_of bytes) in
     let w = c.in_ok-status.ensures.answered (script_of bytes) (c.in_ok-script.ensures.gives bytes known) in
-    serves_front (IsRead (reading.Waves c.args.shape.segments c.args.is_summary) bytes) start after _ c.from_residual-in_err-flush.ensures.0
+    serves_front (IsRead (reading.Waves c.args.shape.segments c.args.text) bytes) start after _ c.from_residual-in_err-flush.ensures.0
     (λ answer is. subst (λ (x : Answer). WroteFront start after x.text) (sym is) (front_kept start middle after whole.text w.1 c.in_err-flush.ensures.written))
 
 pub returns-clause-served : goal.returns-clause-served
@@ -22,6 +22,6 @@ returns-clause-served g c bytes known =
     let start = g.W.Sink.output c.args.sink.now in
     let middle = g.W.Sink.output c.answer_waves.new.sink in
     let after = g.W.Sink.output c.flush.new.sink in
-    let whole : Answer = of_waves c.args.shape.segments (waves_text c.args.is_summary) (script_of bytes) in
+    let whole : Answer = of_waves c.args.shape.segments (waves_text c.args.text) (script_of bytes) in
     let w = c.in_ok-status.ensures.answered (script_of bytes) (c.in_ok-script.ensures.gives bytes known) in
     (whole, refl, w.0, wrote_all start middle after whole.text w.1 c.in_ok-flush.ensures.written c.in_ok-flush.ensures.flushed)
