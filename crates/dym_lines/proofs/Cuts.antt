@@ -1,9 +1,9 @@
 -- Where an input is cut into lines, and a line into words.
-use Rattle.std.proofs.Common.{◌≡◌, ℕ, zero, suc, ◌+◌, ◌-◌, ◌<◌, Bool, true, false, cond, not, eqb, ◌&&◌, ◌||◌, List, [], ◌∷◌, length, take, drop, get_or, get_or-drop, refl, sym, ap, ◌∙◌, arith, one-add, length-drop, take_all, add-zero}
+use Rattle.std.proofs.Common.{◌≡◌, ℕ, zero, suc, ◌+◌, ◌-◌, ◌<◌, Bool, true, false, cond, not, eqb, ◌&&◌, List, [], ◌∷◌, length, take, drop, get_or, get_or-drop, refl, sym, ap, ◌∙◌, arith, one-add, length-drop, take_all, add-zero}
 use Rattle.std.proofs.lemmas.List.Sums.{prefix_len_stops}
 use Rattle.std.proofs.lemmas.Bool.{false_from_ne_true}
-use Rattle.std.specs.List.{prefix_len, slice_split, onto_first, filter, list_all}
-use Rattle.dym_lines.specs.Lines.{lines_of, words_of, is_space, is_word, is_printable, is_plain}
+use Rattle.std.specs.List.{prefix_len, slice_split, onto_first, filter}
+use Rattle.dym_lines.specs.Lines.{lines_of, words_of, is_space, is_word}
 
 pub both_true : (a b : Bool) → (a && b) ≡ true → (a ≡ true) × (b ≡ true)
 both_true true b both = (refl, both)
@@ -28,27 +28,6 @@ lines_of_last (x ∷ y ∷ ys) some none =
     let first : eqb x 10 ≡ false = none 0 (omega arith) in
     let rest = lines_of_last (y ∷ ys) (omega arith) (λ k h. none (suc k) (omega arith)) in
     rw (first, rest) refl
-
--- the line before the first line end has only good bytes where the input does, and so has the rest
-pub plain_cut : (xs : List ℕ) (n : ℕ) → n < length xs → ((k : ℕ) → k < n → eqb (get_or xs k 0) 10 ≡ false) → list_all is_plain xs ≡ true
-    → (list_all is_printable (take n xs) ≡ true) × (list_all is_plain (drop (suc n) xs) ≡ true)
-plain_cut [] n inside before good = absurd (omega arith)
-plain_cut (x ∷ xs) zero inside before good = (refl, (both_true (is_plain x) (list_all is_plain xs) good).1)
-plain_cut (x ∷ xs) (suc n) inside before good =
-    let both = both_true (is_plain x) (list_all is_plain xs) good in
-    let other : eqb x 10 ≡ false = before 0 (omega arith) in
-    let first : is_printable x ≡ true = ap (λ b. b || is_printable x) (sym other) ∙ both.0 in
-    let rest = plain_cut xs n (omega arith) (λ k h. before (suc k) (omega arith)) both.1 in
-    (ap (λ b. b && list_all is_printable (take n xs)) first ∙ rest.0, rest.1)
-
--- and so has a last line without an end
-pub plain_last : (xs : List ℕ) → ((k : ℕ) → k < length xs → eqb (get_or xs k 0) 10 ≡ false) → list_all is_plain xs ≡ true → list_all is_printable xs ≡ true
-plain_last [] none good = refl
-plain_last (x ∷ xs) none good =
-    let both = both_true (is_plain x) (list_all is_plain xs) good in
-    let other : eqb x 10 ≡ false = none 0 (omega arith) in
-    let first : is_printable x ≡ true = ap (λ b. b || is_printable x) (sym other) ∙ both.0 in
-    ap (λ b. b && list_all is_printable xs) first ∙ plain_last xs (λ k h. none (suc k) (omega arith)) both.1
 
 pub words_of_nothing : words_of [] ≡ []
 unfolding words_of

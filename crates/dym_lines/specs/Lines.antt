@@ -1,5 +1,5 @@
 -- How an input is cut into lines, and a line into words.
-use Rattle.std.specs.Prelude.{ℕ, Bool, true, false, ◌&&◌, ◌||◌, ◌==◌, nat_le, if◌then◌else◌, List, [], ◌∷◌}
+use Rattle.std.specs.Prelude.{ℕ, Bool, true, false, ◌&&◌, ◌==◌, nat_le, if◌then◌else◌, List, [], ◌∷◌}
 use Rattle.std.specs.List.{slice_split, onto_first, filter}
 
 -- the lines of an input, which is cut at each line end. A last piece without one is a line where it isn't empty
@@ -10,10 +10,6 @@ lines_of (b ∷ bytes) = if b == 10 then [] ∷ lines_of bytes else onto_first b
 -- what may stand in a line
 abbrev pub is_printable : ℕ → Bool
 is_printable b = nat_le 0x20 b && nat_le b 0x7e
-
--- a line end, or a byte that may stand in a line
-abbrev pub is_plain : ℕ → Bool
-is_plain b = b == 10 || is_printable b
 
 -- the byte that stands between words
 abbrev pub is_space : ℕ → Bool

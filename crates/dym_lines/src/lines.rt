@@ -1,8 +1,8 @@
 //! Lines of an input and words of a line, cut off at the front one by one.
-ghost use Rattle.std.specs.Prelude.{◌≡◌, ◌≢◌, ◌<◌, [], ◌∷◌, not, true, length, ◌≤◌, ◌+◌, IfSome, MatchOption, MatchResult};
-ghost use Rattle.std.specs.List.{prefix_len, list_all};
+ghost use Rattle.std.specs.Prelude.{◌≡◌, ◌≢◌, ◌<◌, [], ◌∷◌, not, length, ◌≤◌, ◌+◌, IfSome, MatchOption, MatchResult};
+ghost use Rattle.std.specs.List.{prefix_len};
 ghost use Rattle.dym_base.specs.declared.bad_kind.BadKind.TheVariants.{Command};
-ghost use Rattle.dym_lines.specs.Lines.{lines_of, words_of, is_space, is_printable, is_plain};
+ghost use Rattle.dym_lines.specs.Lines.{lines_of, words_of, is_space};
 
 use dym_base::BadKind;
 use memchr::memchr;
@@ -12,7 +12,6 @@ pub fn next_line(text: &[u8]) -> Option<(&[u8], &[u8])>
     ensures cut { MatchOption result (lines_of text.now ≡ []) (λ cut. lines_of text.now ≡ cut.0.now ∷ lines_of cut.1.now) }
     ensures shorter { IfSome result (λ cut. length cut.1.now < length text.now) }
     ensures within { IfSome result (λ cut. length cut.0.now + length cut.1.now ≤ length text.now) }
-    ensures plain { IfSome result (λ cut. list_all is_plain text.now ≡ true → (list_all is_printable cut.0.now ≡ true) × (list_all is_plain cut.1.now ≡ true)) }
 {
     if text.is_empty() {
         return None;

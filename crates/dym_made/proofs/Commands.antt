@@ -10,27 +10,27 @@ use Rattle.dym_lines.specs.declared.verb.Verb.{Verb}
 use Rattle.dym_lines.specs.declared.verb.Verb.TheVariants as verb
 use Rattle.dym_lines.specs.Words.{number_to, handle_of, handle_or_nil_of}
 use Rattle.dym_lines.specs.Table.{Operand, Num, Num32, OneHandle, HandleOrNil, Byte, ReadLen, Hex, Value, Values, value_of, values_of, row}
-use Rattle.dym_quick.specs.Quick.{spelled}
+use Rattle.dym_quick.specs.Quick.{is_bare_word, spelled}
 use Rattle.dym_commands.specs.Hexes.{hex_of}
 use Rattle.dym_gen.specs.Draws.{next, below, size_at, text_from}
 use Rattle.dym_gen.specs.Commands.{drawn_command, fixed_command, goes_back, command_text}
-use Rattle.dym_made.proofs.Words.{is_seen_word, decimal_seen, decimal_read, IsSize, size_read, chunk, chunk_seen, chunk_read}
+use Rattle.dym_made.proofs.Words.{decimal_bare, decimal_read, IsSize, size_read, chunk, chunk_bare, chunk_read}
 
 -- the word is one for the operand
 pub record Fills (operand : Operand) (word : List ℕ) : Type 0 where
   pub value : Value operand
   pub reads : value_of operand word ≡ Some value
-  pub seen : is_seen_word word ≡ true
+  pub bare : is_bare_word word ≡ true
 
 -- each word is one for its operand
 pub record FillAll (operands : List Operand) (words : List (List ℕ)) : Type 0 where
   pub values : Values operands
   pub reads : values_of operands words ≡ Some values
   pub count : length words ≡ length operands
-  pub seen : list_all is_seen_word words ≡ true
+  pub bare : list_all is_bare_word words ≡ true
 
 no_operands : FillAll [] []
-no_operands = record { values = tt; reads = refl; count = refl; seen = refl }
+no_operands = record { values = tt; reads = refl; count = refl; bare = refl }
 
 one_more : (operand : Operand) (operands : List Operand) (first : List ℕ) (words : List (List ℕ)) → Fills operand first → FillAll operands words
     → FillAll (operand ∷ operands) (first ∷ words)
@@ -38,7 +38,7 @@ one_more operand operands first words one all = record {
   values = (one.value, all.values);
   reads = rw (one.reads, all.reads) refl;
   count = ap suc all.count;
-  seen = rw (one.seen, all.seen) refl;
+  bare = rw (one.bare, all.bare) refl;
 }
 
 -- the text is a verb and words for its operands, in the usual spelling
@@ -51,19 +51,19 @@ pub record IsCommand (text : List ℕ) : Type 0 where
 -- Words for operands
 
 number_fills : (n : ℕ) → n < 1000000 → Fills Num (decimal n)
-number_fills n small = record { value = n; reads = decimal_read (2 ^ 64 - 1) n small (omega arith); seen = decimal_seen n small }
+number_fills n small = record { value = n; reads = decimal_read (2 ^ 64 - 1) n small (omega arith); bare = decimal_bare n small }
 
 at_fills : (n : ℕ) → n < 1000 → Fills Num32 (decimal n)
-at_fills n small = record { value = n; reads = decimal_read (2 ^ 32 - 1) n (omega arith) (omega arith); seen = decimal_seen n (omega arith) }
+at_fills n small = record { value = n; reads = decimal_read (2 ^ 32 - 1) n (omega arith) (omega arith); bare = decimal_bare n (omega arith) }
 
 len_fills : (n : ℕ) → n < 1000 → Fills Num32 (decimal n)
-len_fills n small = record { value = n; reads = decimal_read (2 ^ 32 - 1) n (omega arith) (omega arith); seen = decimal_seen n (omega arith) }
+len_fills n small = record { value = n; reads = decimal_read (2 ^ 32 - 1) n (omega arith) (omega arith); bare = decimal_bare n (omega arith) }
 
 byte_fills : (n : ℕ) → n < 256 → Fills Byte (decimal n)
-byte_fills n small = record { value = n; reads = decimal_read 255 n (omega arith) (omega arith); seen = decimal_seen n (omega arith) }
+byte_fills n small = record { value = n; reads = decimal_read 255 n (omega arith) (omega arith); bare = decimal_bare n (omega arith) }
 
 chunk_fills : (size : List ℕ) (n : ℕ) → IsSize size → n < 1000 → Fills OneHandle (chunk size n)
-chunk_fills size n is small = record { value = record { exp = is.exp; index = n }; reads = chunk_read size n is (omega arith); seen = chunk_seen size n is (omega arith) }
+chunk_fills size n is small = record { value = record { exp = is.exp; index = n }; reads = chunk_read size n is (omega arith); bare = chunk_bare size n is (omega arith) }
 
 nil_no_chunk : handle_of (codes "nil") ≡ None
 unfolding handle_of
@@ -85,20 +85,20 @@ some_fills : (size : List ℕ) (n : ℕ) → IsSize size → n < 1000 → Fills 
 some_fills size n is small = record {
   value = Some (record { exp = is.exp; index = n });
   reads = some_read (chunk size n) (record { exp = is.exp; index = n }) (chunk_read size n is (omega arith));
-  seen = chunk_seen size n is (omega arith);
+  bare = chunk_bare size n is (omega arith);
 }
 
 nought_fills : Fills Num32 (codes "0")
 unfolding number_to
-nought_fills = record { value = 0; reads = refl; seen = refl }
+nought_fills = record { value = 0; reads = refl; bare = refl }
 
 sixteen_fills : Fills ReadLen (codes "16")
 unfolding number_to
-sixteen_fills = record { value = 16; reads = refl; seen = refl }
+sixteen_fills = record { value = 16; reads = refl; bare = refl }
 
 hex_fills : Fills Hex (codes "01ff")
 unfolding hex_of decode_pairs
-hex_fills = record { value = 1 ∷ 255 ∷ []; reads = refl; seen = refl }
+hex_fills = record { value = 1 ∷ 255 ∷ []; reads = refl; bare = refl }
 
 -- Commands that are drawn
 
@@ -275,11 +275,11 @@ named v n operands small = record {
 
 forty : Fills Num (codes "40")
 unfolding number_to
-forty = record { value = 40; reads = refl; seen = refl }
+forty = record { value = 40; reads = refl; bare = refl }
 
 segment : Fills Num (codes "65536")
 unfolding number_to
-segment = record { value = 65536; reads = refl; seen = refl }
+segment = record { value = 65536; reads = refl; bare = refl }
 
 is_first : IsCommand (codes "malloc 40")
 is_first = record { verb = verb.Malloc; words = codes "40" ∷ []; is = refl; fill = one_more Num [] _ [] forty no_operands }

@@ -14,47 +14,30 @@ use Rattle.dym_lines.specs.Lines.{lines_of, words_of, is_printable}
 use Rattle.dym_lines.specs.Table.{row, verb_of}
 use Rattle.dym_script.specs.Scripts.{Reading, object_of, is_version, read_line}
 use Rattle.dym_quick.specs.Quick.{is_bare_word, spelled}
-use Rattle.dym_quick.proofs.Spelled.{words_of_spelled, no_end, lines_of_front}
+use Rattle.dym_quick.proofs.Spelled.{words_of_spelled, lines_of_front, line_printable}
 use Rattle.dym_lines.proofs.Rows.{command_good}
-use Rattle.dym_made.proofs.Words.{is_seen_word, word_bare, word_printable, decimal_read, name_of, no_object, name_good, name_seen}
+use Rattle.dym_made.proofs.Words.{decimal_read, name_of, no_object, name_good, name_bare}
 use Rattle.dym_made.proofs.Commands.{IsCommand}
 
 -- Lines in the usual spelling
 
-words_bare : (words : List (List ℕ)) → list_all is_seen_word words ≡ true → list_all is_bare_word words ≡ true
-words_bare [] seen = refl
-words_bare (w ∷ ws) seen = elim (is_seen_word w) as (λ b. is_seen_word w ≡ b → (b && list_all is_seen_word ws) ≡ true
-    → (is_bare_word w && list_all is_bare_word ws) ≡ true) [
-      | true ↦ λ one all. rw (word_bare w one, words_bare ws all) refl
-      | false ↦ λ none clash. absurd (cc)
-    ] refl seen
-
-words_printable : (words : List (List ℕ)) → list_all is_seen_word words ≡ true → list_all is_printable (spelled words) ≡ true
-words_printable [] seen = refl
-words_printable (w ∷ ws) seen = elim (is_seen_word w) as (λ b. is_seen_word w ≡ b → (b && list_all is_seen_word ws) ≡ true
-    → list_all is_printable (w ++ spelled ws) ≡ true) [
-      | true ↦ λ one all. list_all-append is_printable w (spelled ws) ∙ rw (word_printable w one, words_printable ws all) refl
-      | false ↦ λ none clash. absurd (cc)
-    ] refl seen
-
--- a line of such words
+-- a line of words that may stand in one
 pub record IsLine (line first : List ℕ) (words : List (List ℕ)) : Type 0 where
   pub is : line ≡ first ++ spelled words
-  pub first_seen : is_seen_word first ≡ true
-  pub words_seen : list_all is_seen_word words ≡ true
+  pub first_bare : is_bare_word first ≡ true
+  pub words_bare : list_all is_bare_word words ≡ true
   pub short : length line ≤ MOST_LINE_BYTES
 
 -- it is cut from the text, may stand in a script, and has these words
 pub line_cut : (line first : List ℕ) (words : List (List ℕ)) → IsLine line first words → (after : List ℕ) → lines_of (line ++ 10 ∷ after) ≡ line ∷ lines_of after
 line_cut line first words l after = rw l.is (lines_of_front (first ++ spelled words) after
-    (no_end first words (word_bare first l.first_seen) (words_bare words l.words_seen)))
+    (line_printable first words l.first_bare l.words_bare))
 
 line_words : (line first : List ℕ) (words : List (List ℕ)) → IsLine line first words → words_of line ≡ first ∷ words
-line_words line first words l = rw l.is (words_of_spelled first words (word_bare first l.first_seen) (words_bare words l.words_seen))
+line_words line first words l = rw l.is (words_of_spelled first words l.first_bare l.words_bare)
 
-line_printable : (line first : List ℕ) (words : List (List ℕ)) → IsLine line first words → list_all is_printable line ≡ true
-line_printable line first words l = rw l.is (list_all-append is_printable first (spelled words)
-    ∙ rw (word_printable first l.first_seen, words_printable words l.words_seen) refl)
+printable : (line first : List ℕ) (words : List (List ℕ)) → IsLine line first words → list_all is_printable line ≡ true
+printable line first words l = rw l.is (line_printable first words l.first_bare l.words_bare)
 
 and_no : (b : Bool) → (b && false) ≡ false
 and_no true = refl
@@ -79,7 +62,7 @@ read_declaration r number quota line name is named fresh low high room =
     let few : (length r.said.objects == MOST_OBJECTS) ≡ false = grind (arith, nat_tests) in
     rw (
       fits,
-      line_printable line (codes "object") (name ∷ decimal quota ∷ []) is,
+      printable line (codes "object") (name ∷ decimal quota ∷ []) is,
       line_words line (codes "object") (name ∷ decimal quota ∷ []) is,
       and_no (not r.begun),
       decimal_read (2 ^ 64 - 1) quota (omega arith) (omega arith),
@@ -98,7 +81,7 @@ asked r object command = record {
   said = record r.said { lines = r.said.lines ++ record { object = object; command = command } ∷ [] };
 }
 
-verb_named : (v : Verb) → (verb_of (row v).word ≡ Some v) × (is_seen_word (row v).word ≡ true) × (bytes_eq (row v).word (codes "2") ≡ false)
+verb_named : (v : Verb) → (verb_of (row v).word ≡ Some v) × (is_bare_word (row v).word ≡ true) × (bytes_eq (row v).word (codes "2") ≡ false)
 unfolding verb_of
 verb_named verb.Malloc = (refl, refl, refl)
 verb_named verb.Calloc = (refl, refl, refl)
@@ -132,8 +115,8 @@ read_command r number object line text c is short small found room =
     let words = (row v).word ∷ c.words in
     let whole : IsLine line (name_of object) words = record {
       is = is ∙ ap (λ t. name_of object ++ t) c.is;
-      first_seen = name_seen object small;
-      words_seen = rw (named.1, c.fill.seen) refl;
+      first_bare = name_bare object small;
+      words_bare = rw (named.1, c.fill.bare) refl;
       short = short;
     } in
     let command = (row v).make c.fill.values in
@@ -144,7 +127,7 @@ read_command r number object line text c is short small found room =
         command,
         rw (
           fits,
-          line_printable line (name_of object) words whole,
+          printable line (name_of object) words whole,
           line_words line (name_of object) words whole,
           not_version v (name_of object) c.words,
           and_no (not r.begun),

@@ -17,7 +17,7 @@ use Rattle.dym_gen.specs.Commands.{fixed_command, command_text}
 use Rattle.dym_gen.specs.Scripts.{object_line, command_line, line_state, command_lines, object_lines, generated}
 use Rattle.dym_gen.specs.Laws.{LinesAreShort, ScriptsAreShort}
 use Rattle.dym_made.specs.Laws.{IsScriptWith}
-use Rattle.dym_made.proofs.Words.{name_of, name_good, name_seen, other_name, own_name, decimal_seen}
+use Rattle.dym_made.proofs.Words.{name_of, name_good, name_bare, other_name, own_name, decimal_bare}
 use Rattle.dym_made.proofs.Commands.{each_command}
 use Rattle.dym_made.proofs.Lines.{IsLine, line_cut, read_declaration, asked, read_command}
 
@@ -86,8 +86,8 @@ decl_words short object small =
     record {
       is = ap (λ t. codes "object o" ++ t) (append_assoc (decimal object) (32 ∷ []) (decimal (quota_of object))
           ∙ ap (λ t. decimal object ++ 32 ∷ t) (sym (append-nil (decimal (quota_of object)))));
-      first_seen = refl;
-      words_seen = rw (name_seen object (omega arith), decimal_seen (quota_of object) (omega arith)) refl;
+      first_bare = refl;
+      words_bare = rw (name_bare object (omega arith), decimal_bare (quota_of object) (omega arith)) refl;
       short = omega (arith, short.0 object small, length-append (decl_line object) (10 ∷ []));
     }
 

@@ -14,41 +14,17 @@ use Rattle.std.proofs.lemmas.Fmt.{digits_decimal, digits_value-decimal, decimal_
 use Rattle.dym_base.specs.Names.{is_name, is_name_byte}
 use Rattle.dym_base.specs.declared.limits.TheConstants.{MOST_NAME_BYTES}
 use Rattle.dym_base.specs.declared.handle.Handle.{Handle}
-use Rattle.dym_lines.specs.Lines.{is_word, is_printable}
+use Rattle.dym_lines.specs.Lines.{is_word}
 use Rattle.dym_lines.specs.Words.{is_digits, number_to, exponent_of, handle_of}
 use Rattle.dym_quick.specs.Quick.{is_bare, is_bare_word, Counts, Sizes, Begins}
-use Rattle.dym_quick.proofs.Spelled.{all_weaker, begins_handle}
-
--- a byte that can be seen, so that it may stand in a word of a line
-abbrev pub is_seen : ℕ → Bool
-is_seen b = nat_le 0x21 b && nat_le b 0x7e
-
--- a word of such bytes
-abbrev pub is_seen_word : List ℕ → Bool
-is_seen_word word = is_word word && list_all is_seen word
+use Rattle.dym_quick.proofs.Spelled.{all_weaker, digits_bare, number_read, begins_handle}
 
 pub both_hold : (a b : Bool) → (a && b) ≡ true → (a ≡ true) × (b ≡ true)
 both_hold true b h = (refl, h)
 both_hold false b h = absurd (cc)
 
-seen_bare : (c : ℕ) → is_seen c ≡ true → is_bare c ≡ true
-seen_bare c seen = grind (arith, nat_tests)
-
-seen_printable : (c : ℕ) → is_seen c ≡ true → is_printable c ≡ true
-seen_printable c seen = grind (arith, nat_tests)
-
-digit_seen : (c : ℕ) → is_ascii_digit c ≡ true → is_seen c ≡ true
-digit_seen c digit = grind (arith, nat_tests)
-
 digit_named : (c : ℕ) → is_ascii_digit c ≡ true → is_name_byte c ≡ true
 digit_named c digit = grind (arith, nat_tests)
-
-pub word_bare : (word : List ℕ) → is_seen_word word ≡ true → is_bare_word word ≡ true
-word_bare [] seen = absurd (cc)
-word_bare (c ∷ cs) seen = all_weaker is_seen is_bare seen_bare (c ∷ cs) seen
-
-pub word_printable : (word : List ℕ) → is_seen_word word ≡ true → list_all is_printable word ≡ true
-word_printable word seen = all_weaker is_seen is_printable seen_printable word (both_hold (is_word word) (list_all is_seen word) seen).1
 
 -- Numbers
 
@@ -58,10 +34,6 @@ numerals = numerals_by_value _ (search rules)
 pub decimal_digits : (n : ℕ) → n < 1000000 → list_all is_ascii_digit (decimal n) ≡ true
 decimal_digits n small = digits_decimal numerals n (omega arith)
 
-some_word : (word : List ℕ) → 0 < length word → is_word word ≡ true
-some_word [] some = absurd (omega arith)
-some_word (c ∷ cs) some = refl
-
 pub decimal_good : (n : ℕ) → n < 1000000 → (is_digits (decimal n) ≡ true) × (digits_value 10 (decimal n) ≡ n)
 decimal_good n small =
     let some = decimal_nonempty n (omega arith) in
@@ -70,20 +42,12 @@ decimal_good n small =
     let last : nat_le (length (decimal n)) 20 ≡ true = grind (arith, nat_tests) in
     (rw (first, last, decimal_digits n small) refl, digits_value-decimal numerals n (omega arith))
 
-pub decimal_seen : (n : ℕ) → n < 1000000 → is_seen_word (decimal n) ≡ true
-decimal_seen n small = rw (
-  some_word (decimal n) (decimal_nonempty n (omega arith)),
-  all_weaker is_ascii_digit is_seen digit_seen (decimal n)
-      (decimal_digits n small),
-) refl
+pub decimal_bare : (n : ℕ) → n < 1000000 → is_bare_word (decimal n) ≡ true
+decimal_bare n small = digits_bare (decimal n) (decimal_good n small).0
 
 -- a number is read where it isn't too great
 pub decimal_read : (most n : ℕ) → n < 1000000 → n ≤ most → number_to most (decimal n) ≡ Some n
-unfolding number_to
-decimal_read most n small within =
-    let good = decimal_good n small in
-    let fits : nat_le n most ≡ true = grind (arith, nat_tests) in
-    rw (good.0, good.1, fits) refl
+decimal_read most n small within = let good = decimal_good n small in number_read most n (decimal n) good.0 good.1 within
 
 -- Chunks
 
@@ -91,27 +55,27 @@ decimal_read most n small within =
 pub record IsSize (size : List ℕ) : Type 0 where
   pub exp : ℕ
   pub value : exponent_of size ≡ Some exp
-  pub seen : list_all is_seen size ≡ true
+  pub bare : list_all is_bare size ≡ true
   pub whole : list_all (λ b. not (b == 58)) size ≡ true
 
 pub size_read : (draw : ℕ) → draw < 4 → IsSize (decimal (32 * 2 ^ draw))
 unfolding digits exponent_of
-size_read zero small = record { exp = 5; value = refl; seen = refl; whole = refl }
-size_read (suc zero) small = record { exp = 6; value = refl; seen = refl; whole = refl }
-size_read (suc (suc zero)) small = record { exp = 7; value = refl; seen = refl; whole = refl }
-size_read (suc (suc (suc zero))) small = record { exp = 8; value = refl; seen = refl; whole = refl }
+size_read zero small = record { exp = 5; value = refl; bare = refl; whole = refl }
+size_read (suc zero) small = record { exp = 6; value = refl; bare = refl; whole = refl }
+size_read (suc (suc zero)) small = record { exp = 7; value = refl; bare = refl; whole = refl }
+size_read (suc (suc (suc zero))) small = record { exp = 8; value = refl; bare = refl; whole = refl }
 size_read (suc (suc (suc (suc n)))) small = absurd (omega arith)
 
 abbrev pub chunk : List ℕ → ℕ → List ℕ
 chunk size index = size ++ 58 ∷ decimal index
 
-colon_word : (xs ys : List ℕ) → list_all is_seen xs ≡ true → list_all is_seen ys ≡ true → is_seen_word (xs ++ 58 ∷ ys) ≡ true
+colon_word : (xs ys : List ℕ) → list_all is_bare xs ≡ true → list_all is_bare ys ≡ true → is_bare_word (xs ++ 58 ∷ ys) ≡ true
 colon_word [] ys one two = two
-colon_word (x ∷ xs) ys one two = list_all-append is_seen (x ∷ xs) (58 ∷ ys) ∙ rw (one, two) refl
+colon_word (x ∷ xs) ys one two = list_all-append is_bare (x ∷ xs) (58 ∷ ys) ∙ rw (one, two) refl
 
-pub chunk_seen : (size : List ℕ) (index : ℕ) → IsSize size → index < 1000000 → is_seen_word (chunk size index) ≡ true
-chunk_seen size index is small = colon_word size (decimal index) is.seen
-    (both_hold (is_word (decimal index)) (list_all is_seen (decimal index)) (decimal_seen index small)).1
+pub chunk_bare : (size : List ℕ) (index : ℕ) → IsSize size → index < 1000000 → is_bare_word (chunk size index) ≡ true
+chunk_bare size index is small = colon_word size (decimal index) is.bare
+    (both_hold (is_word (decimal index)) (list_all is_bare (decimal index)) (decimal_bare index small)).1
 
 same_word : (word : List ℕ) (h : Handle) → Begins handle_of (32 ∷ word) h [] → handle_of word ≡ Some h
 same_word word h begins =
@@ -125,7 +89,7 @@ chunk_read size index is small =
     let sizes : Sizes (chunk size index) is.exp (decimal index) = record {
       size = size;
       is = refl;
-      bare = all_weaker is_seen is_bare seen_bare size is.seen;
+      bare = is.bare;
       whole = is.whole;
       value = is.value;
     } in
@@ -161,8 +125,8 @@ name_good object small =
     let last : nat_le (length (name_of object)) MOST_NAME_BYTES ≡ true = grind (arith, nat_tests) in
     rw (first, last, all_weaker is_ascii_digit is_name_byte digit_named (decimal object) (decimal_digits object (omega arith)), no_object object small) refl
 
-pub name_seen : (object : ℕ) → object < 10000 → is_seen_word (name_of object) ≡ true
-name_seen object small = (both_hold (is_word (decimal object)) (list_all is_seen (decimal object)) (decimal_seen object (omega arith))).1
+pub name_bare : (object : ℕ) → object < 10000 → is_bare_word (name_of object) ≡ true
+name_bare object small = (both_hold (is_word (decimal object)) (list_all is_bare (decimal object)) (decimal_bare object (omega arith))).1
 
 -- no two objects have one name
 pub other_name : (one other : ℕ) → one < 10000 → other < 10000 → (one ≡ other → ⊥) → bytes_eq (name_of one) (name_of other) ≡ false

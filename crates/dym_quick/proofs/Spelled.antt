@@ -14,7 +14,7 @@ use Rattle.dym_base.specs.declared.handle.Handle.{Handle}
 use Rattle.dym_lines.specs.declared.verb.Verb.{Verb}
 use Rattle.dym_lines.specs.declared.verb.Verb.TheVariants as verb
 use Rattle.dym_commands.specs.declared.asked.Asked.{Asked}
-use Rattle.dym_lines.specs.Lines.{lines_of, words_of, is_space, is_word, is_printable, is_plain}
+use Rattle.dym_lines.specs.Lines.{lines_of, words_of, is_space, is_word, is_printable}
 use Rattle.dym_commands.specs.Asks.{asks}
 use Rattle.dym_commands.specs.Hexes.{hex_of, IsAtFront}
 use Rattle.dym_lines.specs.Words.{is_digits, number_to, exponent_of, colon_at, handle_of, handle_or_nil_of}
@@ -32,20 +32,19 @@ pub all_weaker : (p q : ℕ → Bool) → ((c : ℕ) → p c ≡ true → q c �
 all_weaker p q weaker [] all = refl
 all_weaker p q weaker (x ∷ xs) all = let two = both_true (p x) (list_all p xs) all in rw (weaker x two.0, all_weaker p q weaker xs two.1) refl
 
--- a byte of a word is no space and no line end
-pub bare_apart : (x : ℕ) → is_bare x ≡ true → ((x == 32) ≡ false) × ((x == 10) ≡ false)
-bare_apart x bare = elim (x == 32) as (λ b. not (b || x == 10) ≡ true → (b ≡ false) × ((x == 10) ≡ false)) [
-  | true ↦ λ h. absurd (cc)
-  | false ↦ λ h. (refl, no_more (x == 10) h)
-] bare
+-- a byte of a word is no space, and may stand in a line
+no_space : (x : ℕ) → is_bare x ≡ true → (x == 32) ≡ false
+no_space x bare = grind (arith, nat_tests)
+
+bare_printable : (x : ℕ) → is_bare x ≡ true → is_printable x ≡ true
+bare_printable x bare = grind (arith, nat_tests)
 
 -- a word's bytes join the first piece of what follows
 split_word : (word rest piece : List ℕ) (pieces : List (List ℕ)) → list_all is_bare word ≡ true → slice_split is_space rest ≡ piece ∷ pieces → slice_split is_space (word ++ rest) ≡ (word ++ piece) ∷ pieces
 split_word [] rest piece pieces bare split = split
 split_word (x ∷ xs) rest piece pieces bare split =
     let two = both_true (is_bare x) (list_all is_bare xs) bare in
-    let apart = bare_apart x two.0 in
-    rw (apart.0, split_word xs rest piece pieces two.1 split) refl
+    rw (no_space x two.0, split_word xs rest piece pieces two.1 split) refl
 
 split_spelled : (words : List (List ℕ)) → list_all is_bare_word words ≡ true → slice_split is_space (spelled words) ≡ [] ∷ words
 split_spelled [] bare = refl
@@ -68,35 +67,29 @@ words_of_spelled name words named bare =
     let good = both_true (is_word name) (list_all is_bare name) named in
     ap (filter is_word) (split_word name (spelled words) [] words good.1 (split_spelled words bare) ∙ ap (λ w. w ∷ words) (append-nil name)) ∙ rw (good.0, words_stay words bare) refl
 
-no_end_of_word : (word : List ℕ) → is_bare_word word ≡ true → list_all (λ b. not (b == 10)) word ≡ true
-no_end_of_word word bare = all_weaker is_bare (λ b. not (b == 10)) (λ c h. ap not (bare_apart c h).1) word (both_true (is_word word) (list_all is_bare word) bare).1
+word_printable : (word : List ℕ) → is_bare_word word ≡ true → list_all is_printable word ≡ true
+word_printable word bare = all_weaker is_bare is_printable bare_printable word (both_true (is_word word) (list_all is_bare word) bare).1
 
-pub no_end_of_spelled : (words : List (List ℕ)) → list_all is_bare_word words ≡ true → list_all (λ b. not (b == 10)) (spelled words) ≡ true
-no_end_of_spelled [] bare = refl
-no_end_of_spelled (word ∷ words) bare =
+words_printable : (words : List (List ℕ)) → list_all is_bare_word words ≡ true → list_all is_printable (spelled words) ≡ true
+words_printable [] bare = refl
+words_printable (word ∷ words) bare =
     let two = both_true (is_bare_word word) (list_all is_bare_word words) bare in
-    list_all-append (λ (b : ℕ). not (b == 10)) word (spelled words) ∙ rw (no_end_of_word word two.0, no_end_of_spelled words two.1) refl
+    list_all-append is_printable word (spelled words) ∙ rw (word_printable word two.0, words_printable words two.1) refl
 
--- no line end stands in a line in the usual spelling
-pub no_end : (name : List ℕ) (words : List (List ℕ)) → is_bare_word name ≡ true → list_all is_bare_word words ≡ true → list_all (λ b. not (b == 10)) (name ++ spelled words) ≡ true
-no_end name words named bare = list_all-append (λ (b : ℕ). not (b == 10)) name (spelled words) ∙ rw (no_end_of_word name named, no_end_of_spelled words bare) refl
+-- a line in the usual spelling has only bytes that may stand in a line
+pub line_printable : (name : List ℕ) (words : List (List ℕ)) → is_bare_word name ≡ true → list_all is_bare_word words ≡ true → list_all is_printable (name ++ spelled words) ≡ true
+line_printable name words named bare = list_all-append is_printable name (spelled words) ∙ rw (word_printable name named, words_printable words bare) refl
+
+-- a line end may not
+no_end : (x : ℕ) → is_printable x ≡ true → (x == 10) ≡ false
+no_end x printable = grind (arith, nat_tests)
 
 -- the first line of a text
-pub lines_of_front : (line after : List ℕ) → list_all (λ b. not (b == 10)) line ≡ true → lines_of (line ++ 10 ∷ after) ≡ line ∷ lines_of after
-lines_of_front [] after none = refl
-lines_of_front (x ∷ xs) after none =
-    let two = both_true (not (x == 10)) (list_all (λ b. not (b == 10)) xs) none in
-    rw (no_more (x == 10) two.0, lines_of_front xs after two.1) refl
-
--- it has only good bytes where the text does, and so has the rest
-pub plain_front : (line after : List ℕ) → list_all (λ b. not (b == 10)) line ≡ true → list_all is_plain (line ++ 10 ∷ after) ≡ true → (list_all is_printable line ≡ true) × (list_all is_plain after ≡ true)
-plain_front [] after none good = (refl, good)
-plain_front (x ∷ xs) after none good =
-    let two = both_true (not (x == 10)) (list_all (λ b. not (b == 10)) xs) none in
-    let fine = both_true (is_plain x) (list_all is_plain (xs ++ 10 ∷ after)) good in
-    let first : is_printable x ≡ true = ap (λ b. b || is_printable x) (sym (no_more (x == 10) two.0)) ∙ fine.0 in
-    let rest = plain_front xs after two.1 fine.1 in
-    (ap (λ b. b && list_all is_printable xs) first ∙ rest.0, rest.1)
+pub lines_of_front : (line after : List ℕ) → list_all is_printable line ≡ true → lines_of (line ++ 10 ∷ after) ≡ line ∷ lines_of after
+lines_of_front [] after printable = refl
+lines_of_front (x ∷ xs) after printable =
+    let two = both_true (is_printable x) (list_all is_printable xs) printable in
+    rw (no_end x two.0, lines_of_front xs after two.1) refl
 
 -- a line end, and no words before it
 pub spells_end : (text after : List ℕ) → text ≡ 10 ∷ after → Spells [] text tt after
@@ -162,7 +155,7 @@ demands v text rest after asked values at spells makes = record {
 digit_bare : (c : ℕ) → is_ascii_digit c ≡ true → is_bare c ≡ true
 digit_bare c digit = grind (arith, nat_tests)
 
-digits_bare : (word : List ℕ) → is_digits word ≡ true → is_bare_word word ≡ true
+pub digits_bare : (word : List ℕ) → is_digits word ≡ true → is_bare_word word ≡ true
 digits_bare [] good = absurd (cc)
 digits_bare (c ∷ cs) good = all_weaker is_ascii_digit is_bare digit_bare (c ∷ cs) (both_true (nat_le 1 (length (c ∷ cs)) && nat_le (length (c ∷ cs)) 20) (list_all is_ascii_digit (c ∷ cs)) good).1
 
@@ -189,7 +182,7 @@ counts_word text word rest most n value front back is =
     }
 
 -- digits are a number where it isn't too great
-number_read : (most value : ℕ) (word : List ℕ) → is_digits word ≡ true → digits_value 10 word ≡ value → value ≤ most → number_to most word ≡ Some value
+pub number_read : (most value : ℕ) (word : List ℕ) → is_digits word ≡ true → digits_value 10 word ≡ value → value ≤ most → number_to most word ≡ Some value
 unfolding number_to
 number_read most value word good is small =
     let fits : nat_le value most ≡ true = grind (arith, nat_tests) in

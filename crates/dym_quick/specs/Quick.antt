@@ -1,5 +1,5 @@
 -- Lines in the usual spelling: one space before each word after the first, and the line end right after the last.
-use Rattle.std.specs.Prelude.{◌≡◌, ◌&&◌, ◌||◌, ◌==◌, ℕ, Bool, true, not, List, [], ◌∷◌, ◌++◌, length, Option, Some, Ok}
+use Rattle.std.specs.Prelude.{◌≡◌, ◌&&◌, ◌==◌, ℕ, Bool, true, not, nat_le, List, [], ◌∷◌, ◌++◌, length, Option, Some, Ok}
 use Rattle.std.specs.List.{list_all}
 use Rattle.std.specs.Str.Parse.{digits_value}
 use Rattle.dym_lines.specs.declared.verb.Verb.{Verb}
@@ -9,11 +9,11 @@ use Rattle.dym_commands.specs.Asks.{asks}
 use Rattle.dym_lines.specs.Words.{is_digits, exponent_of}
 use Rattle.dym_lines.specs.Table.{Operand, Values, values_of, verb_of, command_of}
 
--- neither a space nor a line end
+-- a byte that may stand in a word: it may stand in a line, and is no space
 abbrev pub is_bare : ℕ → Bool
-is_bare b = not (b == 32 || b == 10)
+is_bare b = nat_le 0x21 b && nat_le b 0x7e
 
--- a word that isn't empty, and has neither a space nor a line end
+-- a word that isn't empty, of such bytes
 abbrev pub is_bare_word : List ℕ → Bool
 is_bare_word word = is_word word && list_all is_bare word
 

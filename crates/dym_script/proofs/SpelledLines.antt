@@ -12,7 +12,7 @@ use Rattle.dym_lines.specs.declared.verb.Verb.{Verb}
 use Rattle.dym_commands.specs.declared.asked.Asked.{Asked}
 use Rattle.dym_script.specs.declared.reader.Ask.{Ask}
 use Rattle.dym_script.specs.declared.reader.Reader.{Reader}
-use Rattle.dym_lines.specs.Lines.{lines_of, words_of, is_plain, is_printable}
+use Rattle.dym_lines.specs.Lines.{lines_of, words_of, is_printable}
 use Rattle.dym_script.specs.Scripts.{Said, Reading, object_of, ask_at, is_version, begin, read_line}
 use Rattle.dym_commands.specs.Asks.{asks}
 use Rattle.dym_lines.specs.Table.{verb_of, command_of}
@@ -20,13 +20,7 @@ use Rattle.dym_script.specs.Readers.{IsKept, seen, reading, IsNamed, IsNext}
 use Rattle.dym_quick.specs.Quick.{is_bare, is_bare_word, spelled, Demands}
 use Rattle.dym_script.proofs.Index.{object_of_name, object_of_within}
 use Rattle.dym_lines.proofs.Cuts.{both_true}
-use Rattle.dym_quick.proofs.Spelled.{no_more, all_weaker, words_of_spelled, no_end, lines_of_front, plain_front}
-
--- a verb and its words in the usual spelling stand after a name
-pub record DemandsOf (name text : List ℕ) (asked : Asked) (after : List ℕ) : Type 0 where
-  pub line : List ℕ
-  pub is : text ≡ name ++ line
-  pub demands : Demands line asked after
+use Rattle.dym_quick.proofs.Spelled.{no_more, all_weaker, words_of_spelled, lines_of_front, line_printable}
 
 and_no : (b : Bool) → (b && false) ≡ false
 and_no true = refl
@@ -81,34 +75,6 @@ read_asking r number place line name word words v command short good cut named v
     let fits : nat_lt MOST_LINE_BYTES (length line) ≡ false = grind (arith, nat_tests) in
     rw (fits, good, cut, name_no_hash name named, not_version name word words v verb, and_no (not r.begun), (name_parts name named).2, verb, makes, named, object) (begin_reading (ask_at r.said command (Some place)))
 
--- the first line of a text asks this of the object of this name, whatever was read before
-pub first_demands : (name text after : List ℕ) (asked : Asked) → DemandsOf name text asked after → length text ≤ length after + (MOST_LINE_BYTES + 1) → list_all is_plain text ≡ true → is_name name ≡ true
-    → (line : List ℕ) × (lines_of text ≡ line ∷ lines_of after) × ((r : Reading) (number place : ℕ) → object_of r.said.objects name ≡ Some place → read_line r number line ≡ reading true (ask_at r.said (asks asked) (Some place)))
-first_demands name text after asked whole short good named =
-    let d = whole.demands in
-    let words = d.word ∷ d.words in
-    let line = name ++ spelled words in
-    let is : text ≡ line ++ 10 ∷ after = whole.is ∙ ap (λ t. name ++ t) d.is ∙ sym (append_assoc name (spelled words) (10 ∷ after)) in
-    let bare = name_bare name named in
-    let none = no_end name words bare d.bare in
-    let len : length text ≡ length line + (1 + length after) = ap length is ∙ length-append line (10 ∷ after) ∙ omega arith in
-    let plain = plain_front line after none (ap (list_all is_plain) (sym is) ∙ good) in (
-      line,
-      ap lines_of is ∙ lines_of_front line after none,
-      λ r number place object. read_asking r number place line name d.word d.words d.verb (asks asked) (omega arith) plain.0 (words_of_spelled name words bare d.bare) named d.named d.makes object,
-    )
-
--- after that line the text is plain where it was, and it is shorter
-pub rest_demands : (name text after : List ℕ) (asked : Asked) → DemandsOf name text asked after → is_name name ≡ true → list_all is_plain text ≡ true → (list_all is_plain after ≡ true) × (length after < length text)
-rest_demands name text after asked whole named good =
-    let d = whole.demands in
-    let words = d.word ∷ d.words in
-    let line = name ++ spelled words in
-    let is : text ≡ line ++ 10 ∷ after = whole.is ∙ ap (λ t. name ++ t) d.is ∙ sym (append_assoc name (spelled words) (10 ∷ after)) in
-    let bare = name_bare name named in
-    let len : length text ≡ length line + (1 + length after) = ap length is ∙ length-append line (10 ∷ after) ∙ omega arith in
-    ((plain_front line after (no_end name words bare d.bare) (ap (list_all is_plain) (sym is) ∙ good)).1, omega arith)
-
 first_stays : (b : ℕ) (lines : List (List ℕ)) → onto_first b lines ≡ [] → ⊥
 first_stays b [] none = absurd (cc)
 first_stays b (line ∷ lines) none = absurd (cc)
@@ -122,19 +88,20 @@ some_line (b ∷ bytes) some none = elim (b == 10) as (λ t. cond t ([] ∷ line
 ] none
 
 -- a line in the usual spelling that names a declared object is the next to be read
-pub next_asked : (r : Reader) (text words rest : List ℕ) (taken : ℕ) (ask : Ask) → IsKept r → IsNamed r text ask.object words → Demands words ask.asked (drop taken words) → rest ≡ drop taken words → length text - length rest ≤ MOST_LINE_BYTES + 1 → list_all is_plain text ≡ true → IsNext r text ask rest
-next_asked r text words rest taken ask kept names demands left short good =
-    let whole : DemandsOf names.name text ask.asked rest = record {
-      line = words;
-      is = names.is;
-      demands = subst (Demands words ask.asked) (sym left) demands;
-    } in
-    let named : is_name names.name ≡ true = search (rules, object_of_name r.objects.items names.name ask.object kept.lawful.names names.found) in
-    let after = rest_demands names.name text rest ask.asked whole named good in
-    let (line, cut, read) = first_demands names.name text rest ask.asked whole (omega arith) good named in
+pub next_asked : (r : Reader) (text words rest : List ℕ) (taken : ℕ) (ask : Ask) → IsKept r → IsNamed r text ask.object words → Demands words ask.asked (drop taken words) → rest ≡ drop taken words → length text - length rest ≤ MOST_LINE_BYTES + 1 → IsNext r text ask rest
+next_asked r text words rest taken ask kept names demands left short =
+    let d : Demands words ask.asked rest = subst (Demands words ask.asked) (sym left) demands in
+    let name = names.name in
+    let spoken = d.word ∷ d.words in
+    let line = name ++ spelled spoken in
+    let named : is_name name ≡ true = search (rules, object_of_name r.objects.items name ask.object kept.lawful.names names.found) in
+    let bare = name_bare name named in
+    let printable = line_printable name spoken bare d.bare in
+    let is : text ≡ line ++ 10 ∷ rest = names.is ∙ ap (λ t. name ++ t) d.is ∙ sym (append_assoc name (spelled spoken) (10 ∷ rest)) in
+    let long : length text ≡ length line + (1 + length rest) = ap length is ∙ length-append line (10 ∷ rest) ∙ omega arith in
     record {
-      within = object_of_within r.objects.items names.name ask.object names.found;
-      shorter = after.1;
-      plain = after.0;
-      first = (line, cut, λ number lines. read (seen r lines) number ask.object names.found);
+      within = object_of_within r.objects.items name ask.object names.found;
+      shorter = omega arith;
+      first = (line, ap lines_of is ∙ lines_of_front line rest printable,
+          λ number lines. read_asking (seen r lines) number ask.object line name d.word d.words d.verb (asks ask.asked) (omega arith) printable (words_of_spelled name spoken bare d.bare) named d.named d.makes names.found);
     }

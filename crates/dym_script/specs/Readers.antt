@@ -1,6 +1,5 @@
 -- What the reader of lines keeps between two lines, and what it hands on of one.
 use Rattle.std.specs.Prelude.{◌≡◌, ◌<◌, ◌⊎◌, ℕ, Bool, true, List, [], ◌∷◌, ◌++◌, length, slice_index_or, Option, None, Some, Result, Ok, Err, IsTrue}
-use Rattle.std.specs.List.{list_all}
 use Rattle.std.specs.Str.{bytes_eq}
 use Rattle.std.specs.HashMap.{get_by}
 use Rattle.dym_base.specs.Names.{is_name}
@@ -13,7 +12,6 @@ use Rattle.dym_script.specs.declared.reader.Ask.{Ask}
 use Rattle.dym_script.specs.declared.reader.Next.{Next}
 use Rattle.dym_script.specs.declared.reader.Reader.{Reader}
 use Rattle.dym_lines.specs.Lines.{lines_of}
-use Rattle.dym_lines.specs.Lines.{is_plain}
 use Rattle.dym_script.specs.Scripts.{Said, Reading, object_of, ask_at, name_fault, read_line}
 use Rattle.dym_commands.specs.Asks.{asks}
 use Rattle.dym_script.specs.Answers.{IsLawful}
@@ -81,7 +79,6 @@ pub record IsNamed (r : Reader) (text : List ℕ) (object : ℕ) (rest : List �
 pub record IsNext (r : Reader) (text : List ℕ) (ask : Ask) (rest : List ℕ) : Type 0 where
   pub within : IsWithin r (Some ask)
   pub shorter : length rest < length text
-  pub plain : list_all is_plain rest ≡ true
   pub first : (line : List ℕ) × (lines_of text ≡ line ∷ lines_of rest) × ((number : ℕ) (lines : List Line) → read_line (seen r lines) number line ≡ reading true (with_ask (seen r lines).said (Some ask)))
 
 -- the text has a first line, and whatever was asked before, the grammar says the same of it, unless memory ran out. At Ok the

@@ -1,30 +1,11 @@
 //! Tests of a line that need nothing but the line.
 ghost use Rattle.std.specs.Prelude.{◌≡◌};
 ghost use Rattle.std.specs.List.{list_all};
-ghost use Rattle.dym_lines.specs.Lines.{words_of, is_plain, is_printable};
+ghost use Rattle.dym_lines.specs.Lines.{words_of, is_printable};
 ghost use Rattle.dym_script.specs.Scripts.{is_version, name_fault};
 
 use dym_base::{BadKind, is_name};
 use dym_lines::one_word;
-
-/// Whether each byte of an input is a line end or one that a line may have. No byte ends the walk, so that many are tested
-/// at once.
-pub fn is_plain(bytes: &[u8]) -> bool
-    ensures { result ≡ list_all is_plain bytes.now }
-{
-    let mut plain = true;
-    for byte in bytes {
-        plain &= is_plain_byte(*byte);
-    }
-    plain
-}
-
-/// Whether a byte is a line end or one that a line may have.
-fn is_plain_byte(byte: u8) -> bool
-    ensures { result ≡ is_plain byte }
-{
-    byte == b'\n' || (0x20..=0x7e).contains(&byte)
-}
 
 /// Whether a line has only bytes that it may have.
 pub fn is_printable_line(line: &[u8]) -> bool

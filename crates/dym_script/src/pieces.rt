@@ -1,6 +1,5 @@
 //! Reads a script that comes piece by piece.
-ghost use Rattle.std.specs.Prelude.{◌≡◌, ◌+◌, ◌≤◌, ◌<◌, ℕ, List, [], ◌++◌, true, Some, take, drop, length, IfOk, OnOk};
-ghost use Rattle.std.specs.List.{list_all};
+ghost use Rattle.std.specs.Prelude.{◌≡◌, ◌+◌, ◌≤◌, ◌<◌, ℕ, List, [], ◌++◌, Some, take, drop, length, IfOk, OnOk};
 ghost use Rattle.dym_base.specs.declared.limits.TheConstants.{MOST_INPUT_BYTES};
 ghost use Rattle.dym_commands.specs.Asks.{asks};
 ghost use Rattle.dym_script.specs.declared.script.Decl.{Decl};
@@ -8,13 +7,11 @@ ghost use Rattle.dym_script.specs.declared.script.Line.{Line};
 ghost use Rattle.dym_script.specs.Wholes.{GivesWhole};
 ghost use Rattle.dym_script.specs.Keeping.{Holds, Stands, IsReady, TookBy, HoldsLine};
 ghost use Rattle.dym_script.specs.Pieces.{says, IsEnded, IsOpen, TakesPiece, ReadsText, ReadsNext};
-ghost use Rattle.dym_lines.specs.Lines.{is_plain};
 ghost use Rattle.dym_script.specs.Readers.{IsKept, seen, reading, Grows};
 ghost use Rattle.dym_script.specs.Scripts.{ask_at};
 
 use crate::keeper::Keeper;
 use crate::line_fail::LineFail;
-use crate::line_tests::is_plain;
 use crate::reader::{Ask, Next, Reader};
 use crate::script::{Decl, ScriptFail};
 use dym_base::limits::{MOST_COMMANDS, MOST_LINE_BYTES};
@@ -119,12 +116,11 @@ impl<K: Keeper + Drop> Pieces<K> {
             (Stands (K.keeps self.old.keeper) self.old.reader self.old.commands) (Stands (K.keeps self.new.keeper) self.new.reader self.new.commands)
             self.old.number self.new.number text.now result }
     {
-        let plain = is_plain(text);
         let mut rest = text;
         let mut number = self.number;
         while !rest.is_empty() {
             number += 1;
-            match self.read_next(alloc, number, rest, plain) {
+            match self.read_next(alloc, number, rest) {
                 Ok(after) => rest = after,
                 Err(LineFail::Bad(kind)) => return Err(ScriptFail::Bad { line: number, kind }),
                 Err(LineFail::Memory) => return Err(ScriptFail::Memory),
@@ -141,30 +137,25 @@ impl<K: Keeper + Drop> Pieces<K> {
         alloc: Global,
         number: u32,
         text: &'a [u8],
-        plain: bool,
     ) -> Result<&'a [u8], LineFail>
         requires ready { IsReady (K.keeps self.old.keeper) self.old.reader self.old.commands }
         requires some { 0 < length text.now }
-        requires plain { plain ≡ true → list_all is_plain text.now ≡ true }
         ensures ready { OnOk result (IsReady (K.keeps self.new.keeper) self.new.reader self.new.commands) }
         ensures shorter { IfOk result (λ rest. length rest.now < length text.now) }
-        ensures plain { IfOk result (λ rest. plain ≡ true → list_all is_plain rest.now ≡ true) }
         ensures read { ReadsNext
             (Stands (K.keeps self.old.keeper) self.old.reader self.old.commands) (Stands (K.keeps self.new.keeper) self.new.reader self.new.commands)
             number text.now result }
     {
-        if plain {
-            let mut asked = Asked::Logs;
-            if let Some((object, rest)) = self.reader.next_quickly(text, &mut asked) {
-                self.reader.begun = true;
-                self.reader.last = object;
-                return match self.ask(alloc, object, &asked) {
-                    Ok(()) => Ok(rest),
-                    Err(fail) => Err(fail),
-                };
-            }
+        let mut asked = Asked::Logs;
+        if let Some((object, rest)) = self.reader.next_quickly(text, &mut asked) {
+            self.reader.begun = true;
+            self.reader.last = object;
+            return match self.ask(alloc, object, &asked) {
+                Ok(()) => Ok(rest),
+                Err(fail) => Err(fail),
+            };
         }
-        self.read_exactly(alloc, number, text, plain)
+        self.read_exactly(alloc, number, text)
     }
 
     /// The same of a line in any spelling.
@@ -174,20 +165,17 @@ impl<K: Keeper + Drop> Pieces<K> {
         alloc: Global,
         number: u32,
         text: &'a [u8],
-        plain: bool,
     ) -> Result<&'a [u8], LineFail>
         requires ready { IsReady (K.keeps self.old.keeper) self.old.reader self.old.commands }
         requires some { 0 < length text.now }
-        requires plain { plain ≡ true → list_all is_plain text.now ≡ true }
         ensures ready { OnOk result (IsReady (K.keeps self.new.keeper) self.new.reader self.new.commands) }
         ensures shorter { IfOk result (λ rest. length rest.now < length text.now) }
-        ensures plain { IfOk result (λ rest. plain ≡ true → list_all is_plain rest.now ≡ true) }
         ensures read { ReadsNext
             (Stands (K.keeps self.old.keeper) self.old.reader self.old.commands) (Stands (K.keeps self.new.keeper) self.new.reader self.new.commands)
             number text.now result }
     {
         let before = self.reader.objects.len();
-        let Next { ask, rest } = self.reader.read_exactly(alloc, number, text, plain)?;
+        let Next { ask, rest } = self.reader.read_exactly(alloc, number, text)?;
         tell_declared(alloc, &self.reader, &mut self.keeper, before)?;
         match ask {
             Some(Ask { object, asked }) => match self.ask(alloc, object, &asked) {

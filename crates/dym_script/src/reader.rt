@@ -44,9 +44,8 @@ pub struct Reader {
 
 impl Reader {
     ghost use Rattle.dym_script.specs.Scripts.{start, read_lines, read_line, read_words, say, declare, object_of};
-    ghost use Rattle.std.specs.List.{list_all};
     ghost use Rattle.dym_base.specs.Names.{is_name};
-    ghost use Rattle.dym_lines.specs.Lines.{words_of, lines_of, is_plain, is_printable};
+    ghost use Rattle.dym_lines.specs.Lines.{words_of, lines_of};
     ghost use Rattle.dym_script.specs.Readers.{IsKept, seen, IsWithin, GivesReading, GivesSaid, Declares, Finds, IsNamed, IsNext, GivesNext, Grows};
 
     /// A reader that has read nothing.
@@ -71,33 +70,29 @@ impl Reader {
         alloc: Global,
         number: u32,
         text: &'a [u8],
-        plain: bool,
     ) -> Result<Next<'a>, LineFail>
         requires kept { IsKept self.old }
         requires some { 0 < length text.now }
-        requires plain { plain ≡ true → list_all is_plain text.now ≡ true }
         ensures kept { OnOk result (IsKept self.new) }
         ensures grows { OnOk result (Grows self.old.objects.items self.new.objects.items) }
         ensures within { IfOk result (λ next. IsWithin self.new next.ask) }
         ensures shorter { IfOk result (λ next. length next.rest.now < length text.now) }
-        ensures plain { IfOk result (λ next. plain ≡ true → list_all is_plain next.rest.now ≡ true) }
         ensures read { GivesNext (seen self.old) (seen self.new) number text.now result }
     {
         let Some((line, rest)) = next_line(text) else {
             unreachable!();
         };
-        match self.read_line(alloc, number, line, plain) {
+        match self.read_line(alloc, number, line) {
             Ok(ask) => Ok(Next { ask, rest }),
             Err(fail) => Err(fail),
         }
     }
 
-    /// The object that the first line of a plain text asks something of, where it is in the usual spelling, and the text after
-    /// the line. What is asked goes into a place.
+    /// The object that the first line of a text asks something of, where it is in the usual spelling, and the text after the
+    /// line. What is asked goes into a place. Such a line has no byte that a line may not have.
     #[inline(always)]
     pub fn next_quickly<'a>(&self, text: &'a [u8], asked: &mut Asked<'a>) -> Option<(u32, &'a [u8])>
         requires kept { IsKept self.now }
-        requires plain { list_all is_plain text.now ≡ true }
         ensures { IfSome result (λ next. IsNext self.now text.now (record { object = next.0; asked = asked.new }) next.1.now) }
     {
         let (object, words) = self.object_at(text)?;
@@ -149,18 +144,15 @@ impl Reader {
         Some((object, named.words))
     }
 
-    /// Reads the line of this number, and hands on what it asks. Where the whole input is known to be plain, no byte of
-    /// the line is tested again.
+    /// Reads the line of this number, and hands on what it asks.
     #[tactic(auto, unfolding(crate::specs::Scripts::read_line))]
     pub fn read_line<'a>(
         &mut self,
         alloc: Global,
         number: u32,
         line: &'a [u8],
-        plain: bool,
     ) -> Result<Option<Ask<'a>>, LineFail>
         requires kept { IsKept self.old }
-        requires plain { plain ≡ true → list_all is_printable line.now ≡ true }
         ensures kept { OnOk result (IsKept self.new) }
         ensures grows { OnOk result (Grows self.old.objects.items self.new.objects.items) }
         ensures within { IfOk result (IsWithin self.new) }
@@ -169,7 +161,7 @@ impl Reader {
         if line.len() > MOST_LINE_BYTES {
             return Err(LineFail::Bad(BadKind::LongLine));
         }
-        if !plain && !is_printable_line(line) {
+        if !is_printable_line(line) {
             return Err(LineFail::Bad(BadKind::Bytes));
         }
         match next_word(line) {

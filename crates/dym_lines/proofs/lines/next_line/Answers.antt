@@ -1,5 +1,5 @@
-use Rattle.std.proofs.Common.{arith, add-one, refl}
-use Rattle.dym_lines.proofs.Cuts.{lines_of_cut, lines_of_last, plain_cut, plain_last, take_rest, not_true}
+use Rattle.std.proofs.Common.{arith, add-one}
+use Rattle.dym_lines.proofs.Cuts.{lines_of_cut, lines_of_last, take_rest, not_true}
 use Rattle.dym_lines.proofs.lines.next_line.Goals as goal
 
 pub returns-in-Some-clause-cut : goal.returns-in-Some-clause-cut
@@ -9,11 +9,3 @@ returns-in-Some-clause-cut c =
 
 pub returns-in-None-clause-cut : goal.returns-in-None-clause-cut
 returns-in-None-clause-cut c = lines_of_last c.args.text.now (grind arith) (λ k below. not_true (c.in-None.ensures k (omega arith) below))
-
-pub returns-in-Some-clause-plain : goal.returns-in-Some-clause-plain
-returns-in-Some-clause-plain c good =
-    let found = c.in-Some.ensures in
-    let cut = plain_cut c.args.text.now c.in-Some.end found.0.high (λ k below. not_true (found.0.before k (omega arith) below)) good in rw (add-one, take_rest) cut
-
-pub returns-in-None-clause-plain : goal.returns-in-None-clause-plain
-returns-in-None-clause-plain c good = (plain_last c.args.text.now (λ k below. not_true (c.in-None.ensures k (omega arith) below)) good, refl)

@@ -10,7 +10,6 @@ pub loop-rest-preserved : goal.loop-rest-preserved
 loop-rest-preserved g c = record {
   ready = c.in-Ok.ensures.ready;
   short = omega (arith, c.in-Ok.ensures.shorter, c.loop-rest.invariant.short);
-  plain = c.in-Ok.ensures.plain;
   read = λ old stands.
       let (mid, between, reads) = c.loop-rest.invariant.read old stands in
       let (new, after, more) = c.in-Ok.ensures.read mid between in
