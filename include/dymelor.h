@@ -9,19 +9,22 @@
  * Every call answers a status. The calls are proved: whatever numbers are handed in, each does what stands beside it here and touches no
  * memory but the object's own and what its parameters point to. What C owes, and nothing checks:
  *
- *   - a dym_object is zeroed before its first use, and then written by these calls alone. It is not copied while it is open: a copy and
- *     the original are never both used;
+ *   - a dym_object is zeroed before its first use, and then written by these calls alone. While it is open a copy may take its place, as
+ *     where an array of objects grows, but a copy and the original are never both used;
  *   - a pointer to an object is that of such a dym_object; each other pointer is that of a whole value of its type, which the caller may
- *     write. No two parameters of one call overlap;
- *   - bytes that are handed in or out are at a pointer that isn't null, also where there are none;
+ *     write unless it is const. What the pointers of one call point to doesn't overlap;
+ *   - bytes that are handed in or out are at a pointer that isn't null, also where there are none: with a length or a room of 0 too;
  *   - one call at a time on an object. It may be another thread's than the call before: a lock, a thread's start or join, or a
  *     sequentially consistent atomic then stands between the two. Calls on different objects need no order;
- *   - no call from a signal handler, nor from the forked child of a process that has threads.
+ *   - no call from a signal handler, nor from the forked child of a process that has threads;
+ *   - malloc, realloc and free are those of one allocator, which aligns a block to each power of two up to 16 that divides its length.
  *
- * An object takes memory by malloc, and gives it back by free, when it is opened, logged, pruned, restored, saved, loaded and closed. Its
- * segments of 64 KiB, as many as its quota says, are all taken when it is opened.
+ * An object takes memory by malloc and realloc, and gives it back by free, when it is opened, logged, pruned, restored, saved, loaded and
+ * closed. Its segments of 64 KiB, as many as its quota says, are all taken when it is opened. So dym_open, dym_log, dym_save and dym_load
+ * alone can answer DYM_MEMORY. The calls start no thread, and wait for none.
  *
- * All parameters that a call writes stay as they were unless the text beside the call says what they hold.
+ * What the text beside a call says of a parameter that it writes, as *chunk, holds at DYM_DONE. At any other status the parameter stays as
+ * it was, but for *length of dym_save at DYM_RANGE and *part of dym_load at DYM_BAD.
  */
 #ifndef DYMELOR_H
 #define DYMELOR_H
@@ -33,7 +36,11 @@
 extern "C" {
 #endif
 
-/* What a call answers. A refused command changes nothing but the count of commands; a status from 8 on changes nothing at all. */
+/*
+ * What a call answers. A refused command changes nothing of the object but the count of its commands, on which DYM_SPENT alone depends; a
+ * status from 8 on changes nothing of it at all. Where more than one would be right, DYM_BAD comes first, then DYM_SPENT, then the
+ * refusals as they stand beside the call; DYM_MEMORY comes only where none of these does, but for dym_save.
+ */
 typedef uint32_t dym_status;
 
 enum {
@@ -55,7 +62,11 @@ typedef struct dym_object {
     void *inside;
 } dym_object;
 
-/* The name of a chunk: the exponent of its class, from 5 (32 bytes) to 16 (65,536 bytes), and its index in that class. Nil is zero. */
+/*
+ * The name of a chunk: the exponent of its class, from 5 (32 bytes) to 16 (65,536 bytes), and its index in that class. Nil is zero.
+ * Handles are compared by dym_same, since the struct has padding. A handle whose chunk was freed, or undone by a restore, is dead until
+ * a later chunk gets the same.
+ */
 typedef struct dym_handle {
     uint8_t exponent;
     uint32_t index;
@@ -81,7 +92,7 @@ typedef struct dym_logged {
     uint64_t length;
 } dym_logged;
 
-/* What eight bytes of a chunk name. */
+/* What eight bytes of a chunk name. A link to a chunk that was freed is loose, and live again once another chunk has that handle. */
 enum {
     DYM_FOUND_NIL = 0,  /* nothing: they are zero */
     DYM_FOUND_LIVE = 1, /* a live chunk */
@@ -109,23 +120,24 @@ typedef struct dym_slots {
  */
 dym_status dym_open(dym_object *object, uint32_t quota, uint32_t version);
 
-/* Closes an open object, and frees all its memory. DYM_BAD: it was closed. */
+/* Closes an open object, and frees all its memory. It can be opened again then. DYM_BAD: it was closed. */
 dym_status dym_close(dym_object *object);
 
 /* ---- chunks
  * Each of these answers DYM_BAD where the object is closed or a handle's exponent is that of no class (nil is allowed where it is said),
- * and DYM_SPENT. */
+ * and, but for the last two, DYM_SPENT. */
 
-/* A fresh chunk of zero bytes: the free one with the least index in the class of the length. *chunk is its handle.
+/* A fresh chunk of zero bytes: the free one with the least index in the class of the length, which may be 0. *chunk is its handle.
  * DYM_TOO_LARGE, DYM_QUOTA. */
 dym_status dym_malloc(dym_object *object, uint64_t length, dym_handle *chunk);
 
-/* The same for count * length bytes. */
+/* The same for count * length bytes, also where that product is above 2^64. */
 dym_status dym_calloc(dym_object *object, uint64_t count, uint64_t length, dym_handle *chunk);
 
 /*
  * Gives a chunk another length: its bytes stay up to the smaller length, and zeros follow. *moved is its handle then, which is the same
- * where the class is. For nil this is dym_malloc; a length of 0 frees the chunk, and *moved is nil.
+ * where the class is; else the old one is dead, and the quota has to allow both chunks for a moment. For nil this is dym_malloc, whatever
+ * the length; else a length of 0 frees the chunk, and *moved is nil.
  * DYM_DEAD, DYM_TOO_LARGE, DYM_QUOTA.
  */
 dym_status dym_realloc(dym_object *object, dym_handle chunk, uint64_t length, dym_handle *moved);
@@ -133,13 +145,13 @@ dym_status dym_realloc(dym_object *object, dym_handle chunk, uint64_t length, dy
 /* Frees a chunk; for nil does nothing. DYM_DEAD. */
 dym_status dym_free(dym_object *object, dym_handle chunk);
 
-/* Writes bytes into a chunk, from its place `at` on. DYM_DEAD, DYM_RANGE. */
+/* Writes `length` bytes into a chunk, from its place `at` on. DYM_DEAD, DYM_RANGE. */
 dym_status dym_write(dym_object *object, dym_handle chunk, uint32_t at, const uint8_t *bytes, size_t length);
 
 /* Makes `length` bytes of a chunk from its place `at` on `byte`. DYM_DEAD, DYM_RANGE. */
 dym_status dym_fill(dym_object *object, dym_handle chunk, uint32_t at, uint32_t length, uint8_t byte);
 
-/* Copies bytes of a chunk, from its place `at` on, to `bytes`. DYM_DEAD, DYM_RANGE. */
+/* Copies `length` bytes of a chunk, from its place `at` on, to `bytes`. DYM_DEAD, DYM_RANGE. */
 dym_status dym_read(dym_object *object, dym_handle chunk, uint32_t at, uint8_t *bytes, size_t length);
 
 /* Writes the number of a handle, which may be nil and needn't be live, into eight bytes of a chunk from its place `at` on.
@@ -163,16 +175,17 @@ dym_status dym_next(dym_object *object, dym_handle after, dym_handle *next);
  * Each of these answers DYM_BAD where the object is closed, and DYM_SPENT. */
 
 /*
- * Logs the heap at a simulation time. A log is full, whatever kind is asked, where there is none before it or 31 incremental ones stand
- * behind the last full one. *logged says what was taken.
+ * Logs the heap at a simulation time, which is any number above that of the newest log. A log is full, whatever kind is asked, where there
+ * is none before it or 31 incremental ones stand behind the last full one. *logged says what was taken.
  * DYM_BAD: the kind is neither 0 nor 1. DYM_NOT_AFTER, DYM_LOGS_FULL. DYM_MEMORY: nothing was logged.
  */
 dym_status dym_log(dym_object *object, uint32_t kind, uint64_t time, dym_logged *logged);
 
-/* Brings the heap back to the newest log at or before a time, drops the logs after it, and writes its time to *restored. DYM_NO_LOG. */
+/* Brings the heap back to the newest log at or before a time, which stays, and drops the logs after it. *restored is its time.
+ * DYM_NO_LOG. */
 dym_status dym_restore(dym_object *object, uint64_t time, uint64_t *restored);
 
-/* Drops the logs before the newest one at or before a bound, so that this one can still be restored. *dropped is how many. */
+/* Drops the logs before the newest one at or before a bound, so that this one can still be restored. *dropped is how many; it may be 0. */
 dym_status dym_prune(dym_object *object, uint64_t bound, uint32_t *dropped);
 
 /* *slots says how many logs are kept. */
@@ -180,20 +193,21 @@ dym_status dym_logs(dym_object *object, dym_slots *slots);
 
 /* ---- checkpoint files
  * A file has the kept logs of an object, with its quota and version, under a name of 1 to 32 characters A-Z a-z 0-9 _ that isn't
- * the word object. It is the file that the program dymelor saves and loads. */
+ * the word object. What was changed since the newest log isn't in it. It is the file that the program dymelor saves and loads. */
 
 /*
- * Writes the file to where `bytes` begins. *length is how long it is, also where it is longer than `room`, and the bytes then stay as they
- * were: a room of 0 asks for the length. This is no command.
- * DYM_BAD: the object is closed, or the name is none. DYM_RANGE: the file is longer than the room. DYM_MEMORY.
+ * Writes the file to where `bytes` begins. *length is how long it is. This is no command.
+ * DYM_BAD: the object is closed, or the name is none. DYM_RANGE: the file is longer than `room`; *length is its length then too, and the
+ * bytes stay as they were, so that a room of 0 asks for the length (`bytes` isn't null then either). DYM_MEMORY: for the file is made in
+ * memory of the library's own first, whatever the room.
  */
 dym_status dym_save(dym_object *object, const uint8_t *name, size_t name_length, uint8_t *bytes, size_t room, uint64_t *length);
 
 /*
- * Opens a closed object as the newest log of a file has it, with all its logs. Any bytes may be handed in: an object comes of them exactly
- * where they are a file. The name that the file has isn't told.
- * DYM_BAD: the object is open, or the bytes are no file; *part is then the first part that fails, 0 for the header, k for record k, and one
- * more than there are records for what follows them. DYM_MEMORY.
+ * Opens a closed object as the newest log of a file has it, with all its logs, and empty where the file has none. Its quota and version
+ * are the file's. Any bytes may be handed in: an object comes of them exactly where they are a file. The name that the file has isn't told.
+ * DYM_BAD: the object is open, and *part stays as it was; or the bytes are no file, and *part is the first part that fails: 0 for the
+ * header, k for record k, and one more than there are records for what follows them. DYM_MEMORY: it stays closed.
  */
 dym_status dym_load(dym_object *object, const uint8_t *bytes, size_t length, uint32_t *part);
 
