@@ -1,7 +1,6 @@
-//! Worked examples of the order `late`: a script of late events, with the status and the bytes that must be written.
+//! The order `late`: a script of late events with the bytes that must be written, and calls that fail.
 
 use crate::tests::{Calls, WHOLE, served};
-use std::alloc::Global;
 use std::test::Fail;
 
 /// Two objects whose events, stragglers and commits stand between one another's.
@@ -16,107 +15,9 @@ const TWO_REPORT: &str =
 
 #[test]
 fn answers_late_events(rt: HostRuntime) -> Result<(), Fail> {
-    let rows: [(&str, u8, &str); 24] = [
-        ("", 0, "end\n"),
-        (
-            "object a 1\nobject b 1\n",
-            0,
-            "object a\nheap 0 0\nreplayed 0\nobject b\nheap 0 0\nreplayed 0\nend\n",
-        ),
-        (
-            "object a 1\na at 20 write 64:0 0 02\na at 10 malloc 40\na at 20 write 64:0 0 03\na at 15 write 64:0 0 01\na commit 15\na at 14 free 64:0\na at 15 sum 64:0\n",
-            0,
-            "object a\nok\nok 64:0\nok\nok\nok\nearly 15\nok 1\nheap 1 1\n64:0 03\nreplayed 13\nend\n",
-        ),
-        (
-            "object a 1\na commit 9\na commit 5\na at 8 malloc 1\n",
-            0,
-            "object a\nok\nok\nearly 9\nheap 0 0\nreplayed 0\nend\n",
-        ),
-        (TWO, 0, TWO_REPORT),
-        (
-            "object a 1\na at 2 malloc 65536\na at 1 malloc 1\na at 3 free 32:0\na at 4 malloc 65537\n",
-            0,
-            "object a\nquota\nok 32:0\nok\ntoolarge\nheap 0 0\nreplayed 5\nend\n",
-        ),
-        ("object a 1\na log 1\n", 2, "error line 2: command\n"),
-        ("version 2\n", 2, "error line 1: command\n"),
-        ("object at 5 free nil\n", 2, "error line 1: command\n"),
-        (
-            "object a 1\na at 1 read 32:0 0 1\n",
-            2,
-            "error line 2: command\n",
-        ),
-        ("a at x malloc 1\n", 2, "error line 1: number\n"),
-        (
-            "a commit 18446744073709551616\n",
-            2,
-            "error line 1: number\n",
-        ),
-        ("a at 1 free 48:0\n", 2, "error line 1: handle\n"),
-        ("a at 1 write nil 0 00\n", 2, "error line 1: handle\n"),
-        ("a at 1 write 64:0 0 abc\n", 2, "error line 1: hex\n"),
-        ("a-b commit 1\n", 2, "error line 1: name\n"),
-        ("object object 1\n", 2, "error line 1: name\n"),
-        ("object a 1\nobject a 0\n", 2, "error line 2: twice\n"),
-        ("a at 1 malloc 4\n", 2, "error line 1: undeclared\n"),
-        ("object a 1\nb commit 4\n", 2, "error line 2: undeclared\n"),
-        ("object a 0\n", 2, "error line 1: quota\n"),
-        ("object a 1025\n", 2, "error line 1: quota\n"),
-        ("\na\tcommit 1\n", 2, "error line 2: bytes\n"),
-        (
-            "object a 1\na commit 2\na at 1 malloc 4\na mallok 4",
-            2,
-            "error line 4: command\n",
-        ),
-    ];
-    for (input, status, text) in rows {
-        let (found, bytes) = served(rt.alloc(), &["late"], input.as_bytes(), WHOLE, WHOLE)?;
-        assert_eq!(rt; found, status, "of {input}");
-        assert_eq!(rt; bytes.as_slice(), text.as_bytes(), "of {input}");
-    }
-    let (status, bytes) = served(rt.alloc(), &["late", "late"], b"", WHOLE, WHOLE)?;
-    assert_eq!(rt; status, 1);
-    assert_eq!(rt; bytes.as_slice(), b"usage\n".as_slice());
-    Ok(())
-}
-
-/// A text of a line for each number from `first` on and below `end`, or from the last of them down.
-fn numbered(
-    alloc: Global,
-    before: &str,
-    first: u32,
-    end: u32,
-    down: bool,
-    behind: &str,
-) -> Result<String, Fail> {
-    let mut text = String::new(alloc);
-    for k in 0..end.saturating_sub(first) {
-        let number = if down {
-            end.saturating_sub(k).saturating_sub(1)
-        } else {
-            first.saturating_add(k)
-        };
-        text.push_str(before)?;
-        text.push_str(number.to_string(alloc)?.as_str())?;
-        text.push_str(behind)?;
-    }
-    Ok(text)
-}
-
-#[test]
-fn answers_events_all_backwards(rt: HostRuntime) -> Result<(), Fail> {
-    let alloc = rt.alloc();
-    let mut input = String::from_str(alloc, "object a 1\n")?;
-    input.push_str(numbered(alloc, "a at ", 1, 41, true, " malloc 32\n")?.as_str())?;
-    let mut text = String::from_str(alloc, "object a\n")?;
-    text.push_str(numbered(alloc, "ok 32:", 0, 40, true, "\n")?.as_str())?;
-    text.push_str("heap 40 1\n")?;
-    text.push_str(numbered(alloc, "32:", 0, 40, false, " -\n")?.as_str())?;
-    text.push_str("replayed 820\nend\n")?;
-    let (status, bytes) = served(alloc, &["late"], input.as_bytes(), WHOLE, WHOLE)?;
+    let (status, bytes) = served(rt.alloc(), &["late"], TWO.as_bytes(), WHOLE, WHOLE)?;
     assert_eq!(rt; status, 0);
-    assert_eq!(rt; bytes.as_slice(), text.as_bytes());
+    assert_eq!(rt; bytes.as_slice(), TWO_REPORT.as_bytes());
     Ok(())
 }
 

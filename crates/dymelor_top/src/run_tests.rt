@@ -1,7 +1,7 @@
-//! What the order `run` answers: worked rows, calls that fail, and what a gate sees of waves, of workers side by side and of steals.
+//! What the order `run` answers: a few worked rows, calls that fail, and what a gate sees of waves, of workers side by side and of steals.
 
 use crate::dymelor;
-use crate::tests::{Calls, FIRST, FIRST_REPORT, WHOLE, failing, served};
+use crate::tests::{Calls, FIRST, FIRST_REPORT, WHOLE, failing};
 use dym_io::{MemSink, MemSource};
 use dym_pool::{FreeGate, Gate};
 use std::alloc::Global;
@@ -43,55 +43,8 @@ const THREE_REPORT: &str =
 
 #[test]
 fn answers_rows_of_run(rt: HostRuntime) -> Result<(), Fail> {
-    let run = ["run"].as_slice();
-    let one = ["run", "--segments", "1"].as_slice();
-    let rows: [(&[&str], &str, u8, &str); 29] = [
-        (run, "", 0, "end\n"),
-        (run, FIRST, 0, FIRST_REPORT),
-        (
-            run,
-            "version 2\nobject a 1\na malloc 0\na write 32:0 0 01\na realloc 32:0 3\na write 32:0 0 010203\na realloc 32:0 2\na realloc 32:0 4\na read 32:0 0 4\na realloc 32:0 0\n",
-            0,
-            "object a\nok 32:0\nrange\nok 32:0\nok\nok 32:0\nok 32:0\nok 01020000\nok nil\nheap 0 0\nlogs 0 0\nend\n",
-        ),
-        (
-            run,
-            "version 2\nobject a 1\na malloc 40\na write 64:0 1 aa\na write 64:0 39 aabb\na log 1\na realloc 64:0 50\na ilog 2\na restore 1\na sum 64:0\n",
-            0,
-            "object a\nok 64:0\nok\nrange\nok full 190\nok 64:0\nok inc 328\nok 1\nok 170\nheap 1 1\n64:0 40 00aa\nlogs 1 1\nend\n",
-        ),
-        (
-            one,
-            "object a 2\na malloc 0\na malloc 65536\na malloc 65537\n",
-            2,
-            "error line 1: quota\n",
-        ),
-        (
-            &["run", "--segments", "2"],
-            "object a 2\na malloc 0\na malloc 65536\na malloc 65537\n",
-            0,
-            "object a\nok 32:0\nok 65536:0\ntoolarge\nheap 2 2\n32:0 -\n65536:0 -\nlogs 0 0\nend\n",
-        ),
-        (
-            one,
-            "object a 1\n\nobject b 3\nobject c 2\n",
-            2,
-            "error line 3: quota\n",
-        ),
-        (
-            one,
-            "object a 2\na mallok 4\n",
-            2,
-            "error line 2: command\n",
-        ),
-        (run, "version 2\n", 0, "end\n"),
-        (run, "object a 1\nversion 2\n", 2, "error line 2: command\n"),
-        (run, "version 3\n", 2, "error line 1: command\n"),
-        (&["run", "--workers", "0"], "", 1, "usage\n"),
-        (&["run", "--workers", "65"], FIRST, 1, "usage\n"),
-        (&["run", "--segments", "16385"], FIRST, 1, "usage\n"),
-        (&["run", "--quantum", "65537"], FIRST, 1, "usage\n"),
-        (&["run", "1"], FIRST, 1, "usage\n"),
+    let rows: [(&[&str], &str, u8, &str); 4] = [
+        (&["run"], FIRST, 0, FIRST_REPORT),
         (
             &["run", "--summary", "--segments", "2"],
             THREE,
@@ -99,55 +52,12 @@ fn answers_rows_of_run(rt: HostRuntime) -> Result<(), Fail> {
             "summary objects 3 commands 12 ok 11 refused 1 chunks 5 segments 5 kept 2 slots 2\n",
         ),
         (
-            &["run", "--summary"],
-            "object a 1\na mallok 4\n",
+            &["run", "--segments", "1"],
+            "object a 1\n\nobject b 3\nobject c 2\n",
             2,
-            "error line 2: command\n",
+            "error line 3: quota\n",
         ),
-        (
-            &["run", "--summary", "--segments", "1"],
-            THREE,
-            2,
-            "error line 1: quota\n",
-        ),
-        (
-            &["run", "--gen", "7", "1", "4"],
-            "object a 1\n",
-            0,
-            "object o0\nok 64:0\nquota\nok full 210\ndead\nheap 1 1\n64:0 -\nlogs 1 1\nend\n",
-        ),
-        (
-            &["run", "--summary", "--gen", "7", "1", "4"],
-            "object a 1\n",
-            0,
-            "summary objects 1 commands 4 ok 2 refused 2 chunks 1 segments 1 kept 1 slots 1\n",
-        ),
-        (
-            &[
-                "run",
-                "--gen",
-                "18446744073709551615",
-                "2",
-                "0",
-                "--segments",
-                "1",
-            ],
-            "",
-            2,
-            "error line 2: quota\n",
-        ),
-        (&["plain"], FIRST, 0, FIRST_REPORT),
         (&["check"], THREE, 0, "ok 3 12\n"),
-        (&["trace"], "o claim 0\n", 0, "ok 1\n"),
-        (
-            &["gen", "7", "1", "4"],
-            "",
-            0,
-            "object o0 1\no0 malloc 40\no0 malloc 65536\no0 log 2\no0 fill 128:0 34 11 37\n",
-        ),
-        (&["save", "b"], FIRST, 2, "error line 0: undeclared\n"),
-        (&["Run"], FIRST, 1, "usage\n"),
-        (&[], FIRST, 1, "usage\n"),
     ];
     for (words, input, status, text) in rows {
         let (found, bytes) = run_by(
@@ -162,9 +72,6 @@ fn answers_rows_of_run(rt: HostRuntime) -> Result<(), Fail> {
         assert_eq!(rt; found, status, "of {input}");
         assert_eq!(rt; bytes.as_slice(), text.as_bytes(), "of {input}");
     }
-    let (found, bytes) = served(rt.alloc(), &["run"], FIRST.as_bytes(), WHOLE, WHOLE)?;
-    assert_eq!(rt; found, 1);
-    assert_eq!(rt; bytes.as_slice(), b"usage\n".as_slice());
     Ok(())
 }
 

@@ -1,13 +1,10 @@
-//! What the order `views` answers: worked rows, words of no such order, and calls that fail.
+//! What the order `views` answers: views of a pruned base and over waves, and calls that fail.
 use crate::run_tests::{THREE, run_by};
-use crate::tests::{Calls, FIRST, WHOLE, served};
+use crate::tests::{Calls, FIRST, PRUNED, WHOLE};
 use dym_pool::FreeGate;
 use std::test::Fail;
 
-/// An object whose oldest log was pruned, and whose oldest kept one packs what changed.
-const PRUNED: &str =
-    "object a 1\na malloc 40\na log 10\na write 64:0 0 2a\na ilog 20\na ilog 30\na restore 25\na ilog 26\na restore 5\na prune 5\na prune 22\na restore 15\na logs\n";
-
+/// What views tell of an object whose oldest kept log packs what changed.
 const PRUNED_VIEW: &str =
     "object a\nok 64:0\nok full 210\nok\nok inc 338\nok inc 274\nok 20\nok inc 274\nnolog\nok 0\nok 1\nnolog\nok 2 3\nheap 1 1\n64:0 2a\nlogs 2 3\nview 20 1 42\nend\n";
 
@@ -15,55 +12,18 @@ const THREE_VIEWS: &str =
     "object a\nok 65536:0\nok 32:0\nok full 65848\nok\nok 5\nheap 2 2\n32:0 -\n65536:0 -\nlogs 1 1\nview 5 2 0\nobject b\nok 32:0\nok 65536:0\nquota\nheap 2 2\n32:0 -\n65536:0 -\nlogs 0 0\nview none\nobject c\nok 64:0\nok full 210\nok\nok 1\nheap 1 1\n64:0 -\nlogs 1 1\nview 1 1 0\nend\n";
 
 #[test]
-fn answers_rows_of_views(rt: HostRuntime) -> Result<(), Fail> {
-    let views = ["views"].as_slice();
-    let by_two = ["views", "--segments", "2", "--quantum", "1"].as_slice();
-    let rows: [(&[&str], &str, u8, &str); 9] = [
-        (views, "", 0, "end\n"),
-        (
-            views,
-            FIRST,
-            0,
-            "object a\nok 64:0\nheap 1 1\n64:0 -\nlogs 0 0\nview none\nend\n",
-        ),
-        (views, PRUNED, 0, PRUNED_VIEW),
-        (
-            &["views", "--workers", "1", "--quantum", "1"],
-            PRUNED,
-            0,
-            PRUNED_VIEW,
-        ),
-        (by_two, THREE, 0, THREE_VIEWS),
-        (
-            &["views", "--segments", "1"],
-            "object a 2\n",
-            2,
-            "error line 1: quota\n",
-        ),
-        (
-            views,
-            "object a 1\na mallok 4\n",
-            2,
-            "error line 2: command\n",
-        ),
-        (&["views", "--summary"], FIRST, 1, "usage\n"),
-        (&["views", "--workers", "65"], FIRST, 1, "usage\n"),
-    ];
-    for (words, input, status, text) in rows {
-        let (found, bytes) = run_by(
-            &rt,
-            rt.alloc(),
-            words,
-            input.as_bytes(),
-            WHOLE,
-            WHOLE,
-            &FreeGate,
-        )?;
-        assert_eq!(rt; bytes.as_slice(), text.as_bytes());
-        assert_eq!(rt; found, status);
-    }
-    let (found, bytes) = served(rt.alloc(), &["views"], FIRST.as_bytes(), WHOLE, WHOLE)?;
-    assert_eq!(rt; (found, bytes.as_slice()), (1, b"usage\n".as_slice()));
+fn tells_the_view_of_a_pruned_base(rt: HostRuntime) -> Result<(), Fail> {
+    let (status, bytes) = run_by(
+        &rt,
+        rt.alloc(),
+        &["views", "--workers", "1", "--quantum", "1"],
+        PRUNED.as_bytes(),
+        WHOLE,
+        WHOLE,
+        &FreeGate,
+    )?;
+    assert_eq!(rt; bytes.as_slice(), PRUNED_VIEW.as_bytes());
+    assert_eq!(rt; status, 0);
     Ok(())
 }
 
