@@ -16,7 +16,7 @@ use Rattle.atomic_table.specs.Seated.{TableId}
 use Rattle.dym_slots.specs.Owners.{OutIs}
 use Rattle.dym_slots.specs.Moves.{SitsAt, IsIdleOwner, SameList, IsUnlisted, HasEntry, IsBytesOf}
 use Rattle.dym_slots.specs.Meanings.{Numbered, KeepMeaning, no_record, record_at, NumbersRise}
-use Rattle.dym_slots.specs.Orders.{IsOrder, no_entry, slot_at, numbered, entry_of, Stands, HasLeft, IsNewest}
+use Rattle.dym_slots.specs.Orders.{IsOrder, no_entry, slot_at, numbered, entry_of, retired, Stands, HasLeft, IsNewest}
 use Rattle.dym_slots.proofs.Rising.{below_made, one_place, rise_push, rise_drop, rise_take}
 use Rattle.dym_slots.proofs.Places.{order_swap, order_numbered, EntryAt, entry_at, list_size, spare_slot, bytes_at, differ}
 
@@ -267,16 +267,17 @@ window (suc n) m zero xs ys e le = absurd (omega arith)
 window (suc n) m (suc len) [] ys e le = absurd (omega arith)
 window (suc n) m (suc len) (x ∷ xs) ys e le = window n m len xs ys (omega arith) (omega arith)
 
-pub raised_stands : (order : List Entry) (len made place left : ℕ) (me after : Knowing) (kept : List Listed) → Stands order len made me → place < len → left ≡ len - place → kept ≡ drop place (owner_of me.0).list
-    → IsOrder (drop place order ++ take place order) → after ≡ (Owns (with_raised kept (owner_of me.0)), []) → Stands (drop place order ++ take place order) left made after
-raised_stands order len made place left me after kept s lt at is rotated new =
+pub raised_stands : (order : List Entry) (len made near place left : ℕ) (me after : Knowing) (kept : List Listed) → Stands order len made me → place < len → left ≡ len - place → len ≤ near → near ≤ length order
+    → kept ≡ drop place (owner_of me.0).list → IsOrder (retired near place order) → after ≡ (Owns (with_raised kept (owner_of me.0)), []) → Stands (retired near place order) left made after
+raised_stands order len made near place left me after kept s lt at le inside is turned new =
     let list = (owner_of me.0).list in
-    let f = fits order len made me s in
     let sum : left + place ≡ len = omega arith in
-    subst (Stands (drop place order ++ take place order) left made) (sym new) (record {
+    let size = length-take near order in
+    subst (Stands (retired near place order) left made) (sym new) (record {
       seat = refl;
-      order_is = rotated;
-      list = ap (map entry_of) is ∙ sym (drop-map entry_of place list) ∙ ap (drop place) s.list ∙ window place left len order (take place order) sum (omega arith);
+      order_is = turned;
+      list = ap (map entry_of) is ∙ sym (drop-map entry_of place list) ∙ ap (drop place) (s.list ∙ sym (take_less order len near le))
+          ∙ window place left len (take near order) (take place (take near order) ++ drop near order) sum (omega arith);
       few = (let r = s.few in omega arith);
       next = s.next;
       most = s.most;

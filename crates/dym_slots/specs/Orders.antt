@@ -1,5 +1,5 @@
 -- How the owner keeps the slots of its table: those of its list first, oldest first, and then the others.
-use Rattle.std.specs.Prelude.{◌≡◌, ◌≢◌, ℕ, ◌<◌, ◌≤◌, List, [], ◌∷◌, ◌++◌, map, take, length, slice_index_or, All, AllPairs}
+use Rattle.std.specs.Prelude.{◌≡◌, ◌≢◌, ℕ, ◌<◌, ◌≤◌, List, [], ◌∷◌, ◌++◌, map, take, drop, length, slice_index_or, All, AllPairs}
 use Rattle.dym_base.specs.declared.limits.TheConstants.{LOG_SLOTS, RECORD_ROOM}
 use Rattle.dym_slotlaw.specs.declared.slots.Entry.{Entry}
 use Rattle.dym_slotlaw.specs.declared.slots.TheConstants.{RECORD_NUMBERS}
@@ -21,6 +21,10 @@ no_entry = record { slot = 0; number = 0 }
 
 abbrev pub slot_at : List Entry → ℕ → ℕ
 slot_at order place = (slice_index_or order place no_entry).slot
+
+-- the order after the first entries moved behind the others of the first so many
+abbrev pub retired : ℕ → ℕ → List Entry → List Entry
+retired near place order = drop place (take near order) ++ (take place (take near order) ++ drop near order)
 
 abbrev pub numbered : Listed → Numbered
 numbered x = record { number = x.entry.number; bytes = x.bytes }

@@ -6,14 +6,18 @@ ghost use Rattle.dym_slots.specs.declared.view.Listed.{Listed};
 ghost use Rattle.dym_slots.specs.Seats.{owner_of};
 ghost use Rattle.dym_slots.specs.Moves.{SitsAt, IsIdleOwner, Seized};
 ghost use Rattle.dym_slots.specs.Meanings.{record_at, with_record, up_to, from, NumbersRise};
-ghost use Rattle.dym_slots.specs.Orders.{Stands, slot_at, HasLeft, IsNewest};
+ghost use Rattle.dym_slots.specs.Orders.{Stands, slot_at, HasLeft, IsNewest, retired};
+ghost use Rattle.std.specs.List.Sorted.{IsPermutation};
 
 use crate::owner::Owner;
 use crate::owner_steps::{bring_back, free_newest, put_into, raise_root, seize_either, take_out};
 use crate::rule::{LogSeat, Slots};
+use dym_base::limits::LOG_SLOTS;
 use dym_pack::Record;
 use dym_slotlaw::Entry;
-use std::collections::VecDeque;
+
+/// How many of the other slots `put` takes before those that the last `raise` let go.
+const SPARE_SLOTS: u32 = 32;
 
 impl Owner {
     /// How many records the list has.
@@ -106,7 +110,8 @@ impl Owner {
     {
         let Entry { number, .. } = self.order[place as usize];
         raise_root(&self.table.shared, &mut self.seat, number);
-        self.order.rotate_left(place as usize);
+        let near = (self.len + SPARE_SLOTS).min(LOG_SLOTS);
+        retire(&mut self.order, near as usize, place as usize);
         self.len -= place;
     }
 }
@@ -115,7 +120,7 @@ impl Owner {
 fn hold_spare(
     table: &Slots,
     seat: &mut LogSeat,
-    order: &mut VecDeque<Entry>,
+    order: &mut Vec<Entry>,
     place: u32,
     made: u64,
 ) -> u32
@@ -139,7 +144,7 @@ fn hold_spare(
 }
 
 /// Removes the newest entries, until so many are left.
-fn drop_down(table: &Slots, seat: &mut LogSeat, order: &VecDeque<Entry>, len: u32, kept: u32)
+fn drop_down(table: &Slots, seat: &mut LogSeat, order: &Vec<Entry>, len: u32, kept: u32)
     requires table { SitsAt table.now.table_id seat.old.table_id }
     requires stands { (made : ℕ) × Stands order.now.items len made seat.old.me }
     requires idle { IsIdleOwner seat.old.me }
@@ -166,4 +171,14 @@ fn drop_newest(table: &Slots, seat: &mut LogSeat, newest: Entry)
 {
     drop(take_out(table, seat, newest.slot, newest.number));
     free_newest(table, seat, newest.slot);
+}
+
+/// Moves the first entries, which leave the list, behind the others of those that are near: all of the list's, and a few spare ones.
+fn retire(order: &mut [Entry], near: usize, place: usize)
+    requires near { near ≤ length order.old }
+    requires place { place ≤ near }
+    ensures after { order.new ≡ retired near place order.old }
+    ensures permutation { IsPermutation order.old order.new }
+{
+    order[..near].rotate_left(place);
 }

@@ -9,7 +9,6 @@ use crate::sweeper::Sweeper;
 use dym_base::limits::{LOG_SLOTS, LOG_WORDS};
 use dym_slotlaw::Entry;
 use std::alloc::{AllocError, Global};
-use std::collections::VecDeque;
 use std::sync::Arc;
 
 /// The words of a table.
@@ -51,12 +50,12 @@ impl LogSlots {
 }
 
 /// All slots of a table, in their order.
-fn all_slots(alloc: Global) -> Result<VecDeque<Entry>, AllocError>
+fn all_slots(alloc: Global) -> Result<Vec<Entry>, AllocError>
     ensures { IfOk result (λ order. IsOrder order.items) }
 {
-    let mut order = VecDeque::with_capacity(alloc, LOG_SLOTS as usize)?;
+    let mut order = Vec::with_capacity(alloc, LOG_SLOTS as usize)?;
     for slot in 0..LOG_SLOTS {
-        order.push_back_reserved(Entry { slot, number: 0 });
+        order.push_reserved(Entry { slot, number: 0 });
     }
     Ok(order)
 }

@@ -2,7 +2,6 @@
 use crate::rule::{LogSeat, LogTable};
 use dym_slotlaw::Entry;
 use std::alloc::Global;
-use std::collections::VecDeque;
 use std::marker::Model;
 use std::sync::Arc;
 
@@ -13,7 +12,7 @@ pub struct Owner {
     pub(crate) table: Arc<LogTable, Global>,
     pub(crate) seat: LogSeat,
     // All slots of the table: those of the list, oldest first, and then the others, in the order in which `put` takes them.
-    pub(crate) order: VecDeque<Entry>,
+    pub(crate) order: Vec<Entry>,
     pub(crate) len: u32,
     pub(crate) made: u64,
     pub(crate) lifted: Option<u32>,

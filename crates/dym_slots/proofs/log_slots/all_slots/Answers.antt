@@ -9,7 +9,7 @@ pub loop-slot-preserved : goal.loop-slot-preserved
 loop-slot-preserved c =
     let inv = c.loop-slot.invariant in
     let s = c.loop-slot.slot in
-    let p = c.push_back_reserved.ensures in
+    let p = c.push_reserved.ensures in
     (p.items ∙ (λ j. inv.0 j ++ entry s 0 ∷ []) ∙ sym (map-range_with_len_more (λ n. entry n 0) 0 s s (omega arith)), (let n = p.len in omega arith), (let n = p.capacity in omega arith))
 
 pub returns : goal.returns
