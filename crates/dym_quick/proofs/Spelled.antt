@@ -1,6 +1,6 @@
 -- Lines in the usual spelling.
 use Rattle.std.proofs.Common.{◌≡◌, ℕ, suc, ◌+◌, ◌-◌, ◌^◌, ◌≤◌, ◌==◌, Bool, true, false, not, ◌&&◌, ◌||◌, List, [], ◌∷◌, ◌++◌, length, take, drop, filter, codes, Some, None, Ok, is_none, if◌then◌else◌, nat_le, nat_lt, refl, sym, ap, subst, ◌∙◌, arith, append-nil, append_assoc, eq-eqb, drop-cons, take-append-drop, length-append}
-use Rattle.std.proofs.Math.Seq.{take-append_seam, drop-append-add, drop-append_seam}
+use Rattle.std.proofs.Math.Seq.{take-append_seam, drop-append-add}
 use Rattle.std.proofs.lemmas.Slice.Eq.{HasBytesAt}
 use Rattle.std.proofs.lemmas.List.Folds.{list_all-append}
 use Rattle.std.proofs.lemmas.Bool.Decides.{nat_tests}
@@ -279,12 +279,3 @@ begins_hex text more bytes rest at front = record {
   bare = bare_long front.word front.some (all_weaker is_hex_digit is_bare hex_bare front.word front.digits);
   reads = front.writes;
 }
-
--- what stands behind a line is what is left without it
-pub demands_taken : (text after : List ℕ) (asked : Asked) → Demands text asked after → (length after ≤ length text) × (drop (length text - length after) text ≡ after)
-demands_taken text after asked demands =
-    let front = spelled (demands.word ∷ demands.words) ++ 10 ∷ [] in
-    let is : text ≡ front ++ after = demands.is ∙ sym (append_assoc (spelled (demands.word ∷ demands.words)) (10 ∷ []) after) in
-    let long : length text ≡ length front + length after = ap length is ∙ length-append front after in
-    let taken : length text - length after ≡ length front = omega (arith, long) in
-    (omega (arith, long), ap (λ t. drop (length text - length after) t) is ∙ ap (λ n. drop n (front ++ after)) taken ∙ drop-append_seam front after)

@@ -1,5 +1,5 @@
 //! Which verb stands at the front of a line's words, and what they ask.
-ghost use Rattle.std.specs.Prelude.{◌≤◌, length, drop, IfSome};
+ghost use Rattle.std.specs.Prelude.{IfSome};
 ghost use Rattle.dym_quick.specs.Quick.{Demands};
 
 use crate::numerals::first_word;
@@ -34,21 +34,10 @@ const VERBS: [Verb; VERB_ROWS] = [
     Verb::Ilog,
 ];
 
-/// What a line asks of which the name was read goes into a place. Answers how many bytes of the text the line has. It has several
-/// callers: a place takes what is asked without a copy.
+/// What a line asks of which the name was read goes into a place, without a copy, and the text after the line is left.
 #[inline(never)]
-pub fn quick_rest<'a>(text: &'a [u8], asked: &mut Asked<'a>) -> Option<usize>
-    ensures within { IfSome result (λ taken. taken ≤ length text.now) }
-    ensures asked { IfSome result (λ taken. Demands text.now asked.new (drop taken text.now)) }
-{
-    let after = after_verb_line(text, asked)?;
-    Some(text.len() - after.len())
-}
-
-/// What such a line asks goes into a place, and the text after the line is left.
-#[inline(always)]
-fn after_verb_line<'a>(text: &'a [u8], asked: &mut Asked<'a>) -> Option<&'a [u8]>
-    ensures { IfSome result (λ after. Demands text.now asked.new after.now) }
+pub fn quick_rest<'a>(text: &'a [u8], asked: &mut Asked<'a>) -> Option<&'a [u8]>
+    ensures { IfSome result (λ rest. Demands text.now asked.new rest.now) }
 {
     let word = first_word(text)?;
     let verb = guessed_verb(word);

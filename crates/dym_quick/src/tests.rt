@@ -50,7 +50,11 @@ fn each_verb_is_guessed(rt: HostRuntime) {
     ];
     for (text, taken) in table {
         let mut asked = Asked::Logs;
-        assert_eq!(rt; quick_rest(text, &mut asked), Some(taken), "{text:?}");
+        assert_eq!(rt;
+            quick_rest(text, &mut asked),
+            Some(&text[taken..]),
+            "{text:?}"
+        );
     }
 }
 

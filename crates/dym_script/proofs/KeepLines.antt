@@ -1,8 +1,9 @@
 -- How what is kept of a script goes on line by line.
-use Rattle.std.proofs.Common.{◌≡◌, ℕ, ◌+◌, ◌<◌, ◌≤◌, ◌==◌, inl, inr, true, false, List, [], ◌∷◌, ◌++◌, length, get_or, refl, sym, ap, ◌∙◌, arith, length-append, eq-eqb, Option, Some, None, Ok, Err, subst}
+use Rattle.std.proofs.Common.{◌≡◌, ℕ, ◌+◌, ◌<◌, ◌≤◌, ◌==◌, inl, inr, true, false, List, [], ◌∷◌, ◌++◌, length, get_or, refl, sym, ap, ◌∙◌, arith, length-append, eq-eqb, Option, Some, None, Result, Ok, Err, IfOk, subst}
 use Rattle.std.proofs.Math.Seq.{get_or-append_seam}
 use Rattle.std.proofs.lemmas.List.Elements.{All-push, All-weaker}
 use Rattle.std.proofs.lemmas.Bool.Decides.{nat_tests}
+use denote.Ref.{Bor}
 use Rattle.dym_base.specs.declared.bad_kind.BadKind.{BadKind}
 use Rattle.dym_base.specs.declared.bad_kind.BadKind.TheVariants as bad
 use Rattle.dym_base.specs.declared.limits.TheConstants.{MOST_COMMANDS}
@@ -18,7 +19,7 @@ use Rattle.dym_lines.specs.Lines.{lines_of}
 use Rattle.dym_script.specs.Scripts.{Reading, ask_at, read_line, read_lines, start}
 use Rattle.dym_script.specs.Keeping.{Asks, Declares, CanAsk, Holds, Stands, IsReady, HoldsLine, IsWhole}
 use Rattle.dym_script.specs.Pieces.{ReadsNext}
-use Rattle.dym_script.specs.Readers.{IsKept, IsNext, Grows, seen, reading, with_ask}
+use Rattle.dym_script.specs.Readers.{IsKept, Grows, seen, reading, with_ask}
 use Rattle.dym_script.proofs.PiecesRead.{lines_next}
 
 -- nothing is read yet
@@ -121,14 +122,14 @@ ready_declared P Q r s n ready kept grows told =
     record { kept = kept; few = ready.few; some = (seen s lines, record { lines = lines; holds = holds_declared P Q r s n lines kept grows told holds; is = refl }) }
 
 -- and after the name and the words of a line in the usual spelling
-abbrev pub quickly : Reader → ℕ → Reader
-quickly r object = record r { begun = true; last = object }
+abbrev pub quickly : Reader → Reader
+quickly r = record r { begun = true }
 
-holds_quickly : (P : List Decl → List Line → Type 0) (r : Reader) (n object : ℕ) (lines : List Line) → Holds P r n lines → Holds P (quickly r object) n lines
-holds_quickly P r n object lines holds = record { count = holds.count; keeps = holds.keeps; lawful = holds.lawful }
+pub holds_quickly : (P : List Decl → List Line → Type 0) (r : Reader) (n : ℕ) (lines : List Line) → Holds P r n lines → Holds P (quickly r) n lines
+holds_quickly P r n lines holds = record { count = holds.count; keeps = holds.keeps; lawful = holds.lawful }
 
-pub ready_quickly : (P : List Decl → List Line → Type 0) (r : Reader) (n object : ℕ) → IsReady P r n → IsReady P (quickly r object) n
-ready_quickly P r n object ready =
+pub ready_quickly : (P : List Decl → List Line → Type 0) (r : Reader) (n : ℕ) → IsReady P r n → IsReady P (quickly r) n
+ready_quickly P r n ready =
     let (now, stands) = ready.some in
     let lines = stands.lines in
     let holds = stands.holds in
@@ -136,34 +137,10 @@ ready_quickly P r n object ready =
     record {
       kept = record { indexed = ready.kept.indexed; first = ready.kept.first; lawful = ready.kept.lawful };
       few = ready.few;
-      some = (seen (quickly r object) lines, record { lines = lines; holds = holds_quickly P r n object lines holds; is = refl });
+      some = (seen (quickly r) lines, record { lines = lines; holds = holds_quickly P r n lines holds; is = refl });
     }
 
--- the grammar says of a line in the usual spelling what is held with it
-pub quick_next : (P Q : List Decl → List Line → Type 0) (r s : Reader) (ask : Ask) (n m number : ℕ) (text rest : List ℕ) → IsNext r text ask rest
-    → HoldsLine (Holds P (quickly r ask.object) n) (Holds Q s m) (seen s) (Ok tt) (λ lines. reading true (ask_at (seen (quickly r ask.object) lines).said (asks ask.asked) (Some ask.object)))
-    → (old : Reading) → Stands P r n old → (new : Reading) × Stands Q s m new × ((others : List (List ℕ)) → read_lines old number (lines_of text ++ others) ≡ read_lines new (number + 1) (lines_of rest ++ others))
-quick_next P Q r s ask n m number text rest next takes old stands =
-    let lines = stands.lines in
-    let holds = stands.holds in
-    let is = stands.is in
-    let (more, held, good) = takes lines (holds_quickly P r n ask.object lines holds) in
-    let (line, cut, gives) = next.first in
-    (seen s more, record { lines = more; holds = held; is = refl }, λ others. ap (λ x. read_lines x number (lines_of text ++ others)) is ∙ lines_next (seen r lines) number text line (lines_of rest) others (Ok (seen s more)) cut (gives number lines ∙ good))
-
--- and where it is bad, the text is
-pub quick_fails : (P Q : List Decl → List Line → Type 0) (r s : Reader) (ask : Ask) (n m number : ℕ) (text rest : List ℕ) (failed : LineFail) → IsNext r text ask rest
-    → HoldsLine (Holds P (quickly r ask.object) n) (Holds Q s m) (seen s) (Err failed) (λ lines. reading true (ask_at (seen (quickly r ask.object) lines).said (asks ask.asked) (Some ask.object)))
-    → ReadsNext (Stands P r n) (Stands Q s m) number text (Err failed)
-quick_fails P Q r s ask n m number text rest (fail.Bad kind) next takes = λ old stands others.
-    let lines = stands.lines in
-    let holds = stands.holds in
-    let is = stands.is in
-    let (line, cut, gives) = next.first in
-    ap (λ x. read_lines x number (lines_of text ++ others)) is ∙ lines_next (seen r lines) number text line (lines_of rest) others (Err kind) cut (gives number lines ∙ takes lines (holds_quickly P r n ask.object lines holds))
-quick_fails P Q r s ask n m number text rest fail.Memory next takes = tt
-
--- the same of a line in any spelling, that asks nothing
+-- the grammar says what is held with a line that asks nothing
 pub exact_none : (P Q : List Decl → List Line → Type 0) (r s : Reader) (ask : Option Ask) (n number : ℕ) (text rest line : List ℕ) → ask ≡ None → lines_of text ≡ line ∷ lines_of rest
     → ((lines : List Line) → read_line (seen r lines) number line ≡ reading s.begun (with_ask (seen s lines).said ask))
     → ((lines : List Line) → Holds P r n lines → Holds Q s n lines)
@@ -175,33 +152,26 @@ exact_none P Q r s ask n number text rest line none cut gives declared old stand
     let good : read_line (seen r lines) number line ≡ Ok (seen s lines) = gives lines ∙ ap (λ a. reading s.begun (with_ask (seen s lines).said a)) none in
     (seen s lines, record { lines = lines; holds = declared lines holds; is = refl }, λ others. ap (λ x. read_lines x number (lines_of text ++ others)) is ∙ lines_next (seen r lines) number text line (lines_of rest) others (Ok (seen s lines)) cut good)
 
--- that asks something
-pub exact_some : (P O Q : List Decl → List Line → Type 0) (r s t : Reader) (ask : Option Ask) (one : Ask) (n m number : ℕ) (text rest line : List ℕ) → ask ≡ Some one → lines_of text ≡ line ∷ lines_of rest
-    → ((lines : List Line) → read_line (seen r lines) number line ≡ reading s.begun (with_ask (seen s lines).said ask))
+-- and with one that asks something of a declared object, or that it is bad
+pub line_asks : (P O Q : List Decl → List Line → Type 0) (r s t : Reader) (ask : Ask) (n m number : ℕ) (text rest line : List ℕ) (result : Result (Bor (List ℕ)) LineFail) → lines_of text ≡ line ∷ lines_of rest
+    → ((lines : List Line) → read_line (seen r lines) number line ≡ reading s.begun (with_ask (seen s lines).said (Some ask)))
     → ((lines : List Line) → Holds P r n lines → Holds O s n lines)
-    → HoldsLine (Holds O s n) (Holds Q t m) (seen t) (Ok tt) (λ lines. reading s.begun (ask_at (seen s lines).said (asks one.asked) (Some one.object)))
-    → (old : Reading) → Stands P r n old → (new : Reading) × Stands Q t m new × ((others : List (List ℕ)) → read_lines old number (lines_of text ++ others) ≡ read_lines new (number + 1) (lines_of rest ++ others))
-exact_some P O Q r s t ask one n m number text rest line some cut gives declared takes old stands =
+    → IfOk result (λ left. left.now ≡ rest)
+    → HoldsLine (Holds O s n) (Holds Q t m) (seen t) result (λ lines. reading s.begun (ask_at (seen s lines).said (asks ask.asked) (Some ask.object)))
+    → ReadsNext (Stands P r n) (Stands Q t m) number text result
+line_asks P O Q r s t ask n m number text rest line (Ok left) cut gives declared same takes = λ old stands.
     let lines = stands.lines in
     let holds = stands.holds in
     let is = stands.is in
     let (more, held, good) = takes lines (declared lines holds) in
-    let read : read_line (seen r lines) number line ≡ Ok (seen t more) = gives lines ∙ ap (λ a. reading s.begun (with_ask (seen s lines).said a)) some ∙ good in
-    (seen t more, record { lines = more; holds = held; is = refl }, λ others. ap (λ x. read_lines x number (lines_of text ++ others)) is ∙ lines_next (seen r lines) number text line (lines_of rest) others (Ok (seen t more)) cut read)
-
--- or that is bad for what it asks
-pub exact_fails : (P O Q : List Decl → List Line → Type 0) (r s t : Reader) (ask : Option Ask) (one : Ask) (n m number : ℕ) (text rest line : List ℕ) (failed : LineFail) → ask ≡ Some one → lines_of text ≡ line ∷ lines_of rest
-    → ((lines : List Line) → read_line (seen r lines) number line ≡ reading s.begun (with_ask (seen s lines).said ask))
-    → ((lines : List Line) → Holds P r n lines → Holds O s n lines)
-    → HoldsLine (Holds O s n) (Holds Q t m) (seen t) (Err failed) (λ lines. reading s.begun (ask_at (seen s lines).said (asks one.asked) (Some one.object)))
-    → ReadsNext (Stands P r n) (Stands Q t m) number text (Err failed)
-exact_fails P O Q r s t ask one n m number text rest line (fail.Bad kind) some cut gives declared takes = λ old stands others.
+    let ends : lines_of text ≡ line ∷ lines_of left.now = cut ∙ ap (λ b. line ∷ lines_of b) (sym same) in
+    (seen t more, record { lines = more; holds = held; is = refl }, λ others. ap (λ x. read_lines x number (lines_of text ++ others)) is ∙ lines_next (seen r lines) number text line (lines_of left.now) others (Ok (seen t more)) ends (gives lines ∙ good))
+line_asks P O Q r s t ask n m number text rest line (Err (fail.Bad kind)) cut gives declared same takes = λ old stands others.
     let lines = stands.lines in
     let holds = stands.holds in
     let is = stands.is in
-    let read : read_line (seen r lines) number line ≡ Err kind = gives lines ∙ ap (λ a. reading s.begun (with_ask (seen s lines).said a)) some ∙ takes lines (declared lines holds) in
-    ap (λ x. read_lines x number (lines_of text ++ others)) is ∙ lines_next (seen r lines) number text line (lines_of rest) others (Err kind) cut read
-exact_fails P O Q r s t ask one n m number text rest line fail.Memory some cut gives declared takes = tt
+    ap (λ x. read_lines x number (lines_of text ++ others)) is ∙ lines_next (seen r lines) number text line (lines_of rest) others (Err kind) cut (gives lines ∙ takes lines (declared lines holds))
+line_asks P O Q r s t ask n m number text rest line (Err fail.Memory) cut gives declared same takes = tt
 
 -- when all lines are read, the whole script is
 pub whole_told : (P : List Decl → List Line → Type 0) (r : Reader) (n : ℕ) (now : Reading) → Stands P r n now → IsWhole P r.version r.objects.items n now.said

@@ -1,5 +1,5 @@
 -- What the grammar says of a line in the usual spelling.
-use Rattle.std.proofs.Common.{◌≡◌, ℕ, ◌+◌, ◌-◌, ◌<◌, ◌≤◌, ◌==◌, Bool, true, false, cond, not, ◌&&◌, List, [], ◌∷◌, ◌++◌, length, drop, get_or, codes, Some, None, Result, Ok, Err, nat_le, nat_lt, refl, sym, ap, subst, ◌∙◌, arith, rules, append_assoc, length-append}
+use Rattle.std.proofs.Common.{◌≡◌, ℕ, ◌+◌, ◌-◌, ◌<◌, ◌≤◌, ◌==◌, Bool, true, false, cond, not, ◌&&◌, List, [], ◌∷◌, ◌++◌, length, drop, get_or, codes, Some, None, Result, Ok, Err, nat_le, nat_lt, refl, sym, ap, subst, ◌∙◌, arith, append_assoc, length-append}
 use Rattle.std.proofs.lemmas.Bool.Decides.{nat_tests}
 use Rattle.std.specs.List.{list_all, onto_first}
 use Rattle.std.specs.Str.{bytes_eq}
@@ -16,9 +16,8 @@ use Rattle.dym_lines.specs.Lines.{lines_of, words_of, is_printable}
 use Rattle.dym_script.specs.Scripts.{Said, Reading, object_of, ask_at, is_version, begin, read_line}
 use Rattle.dym_commands.specs.Asks.{asks}
 use Rattle.dym_lines.specs.Table.{verb_of, command_of}
-use Rattle.dym_script.specs.Readers.{IsKept, seen, reading, IsNamed, IsNext}
+use Rattle.dym_script.specs.Readers.{seen, reading, IsNext}
 use Rattle.dym_quick.specs.Quick.{is_bare, is_bare_word, spelled, Demands}
-use Rattle.dym_script.proofs.Index.{object_of_name, object_of_within}
 use Rattle.dym_lines.proofs.Cuts.{both_true}
 use Rattle.dym_quick.proofs.Spelled.{no_more, all_weaker, words_of_spelled, lines_of_front, line_printable}
 
@@ -88,20 +87,20 @@ some_line (b ∷ bytes) some none = elim (b == 10) as (λ t. cond t ([] ∷ line
 ] none
 
 -- a line in the usual spelling that names a declared object is the next to be read
-pub next_asked : (r : Reader) (text words rest : List ℕ) (taken : ℕ) (ask : Ask) → IsKept r → IsNamed r text ask.object words → Demands words ask.asked (drop taken words) → rest ≡ drop taken words → length text - length rest ≤ MOST_LINE_BYTES + 1 → IsNext r text ask rest
-next_asked r text words rest taken ask kept names demands left short =
-    let d : Demands words ask.asked rest = subst (Demands words ask.asked) (sym left) demands in
-    let name = names.name in
+pub next_asked : (r : Reader) (text name words rest : List ℕ) (ask : Ask) → text ≡ name ++ words → is_name name ≡ true → Some ask.object ≡ object_of r.objects.items name → ask.object < length r.objects.items → Demands words ask.asked rest → length text - length rest ≤ MOST_LINE_BYTES + 1 → IsNext r text ask rest
+next_asked r text name words rest ask front named found within d short =
     let spoken = d.word ∷ d.words in
     let line = name ++ spelled spoken in
-    let named : is_name name ≡ true = search (rules, object_of_name r.objects.items name ask.object kept.lawful.names names.found) in
     let bare = name_bare name named in
     let printable = line_printable name spoken bare d.bare in
-    let is : text ≡ line ++ 10 ∷ rest = names.is ∙ ap (λ t. name ++ t) d.is ∙ sym (append_assoc name (spelled spoken) (10 ∷ rest)) in
+    let is : text ≡ line ++ 10 ∷ rest = front ∙ ap (λ t. name ++ t) d.is ∙ sym (append_assoc name (spelled spoken) (10 ∷ rest)) in
     let long : length text ≡ length line + (1 + length rest) = ap length is ∙ length-append line (10 ∷ rest) ∙ omega arith in
     record {
-      within = object_of_within r.objects.items name ask.object names.found;
+      within = within;
       shorter = omega arith;
-      first = (line, ap lines_of is ∙ lines_of_front line rest printable,
-          λ number lines. read_asking (seen r lines) number ask.object line name d.word d.words d.verb (asks ask.asked) (omega arith) printable (words_of_spelled name spoken bare d.bare) named d.named d.makes names.found);
+      first = (
+        line,
+        ap lines_of is ∙ lines_of_front line rest printable,
+        λ number lines. read_asking (seen r lines) number ask.object line name d.word d.words d.verb (asks ask.asked) (omega arith) printable (words_of_spelled name spoken bare d.bare) named d.named d.makes (sym found),
+      );
     }

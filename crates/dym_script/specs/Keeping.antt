@@ -55,7 +55,7 @@ abbrev pub TookBy : (List Decl → List Line → Type 0) → Reader → ℕ → 
 TookBy Keeps r commands number = Took (IsReady Keeps r commands) (Stands Keeps r commands) number
 
 -- where something is held before the line, so it is after it, of lines of which the grammar says the same
-abbrev pub HoldsLine : (List Line → Type 0) → (List Line → Type 0) → (List Line → Reading) → Result Unit LineFail → (List Line → Result Reading BadKind) → Type 0
+abbrev pub HoldsLine : {X : Type 0} → (List Line → Type 0) → (List Line → Type 0) → (List Line → Reading) → Result X LineFail → (List Line → Result Reading BadKind) → Type 0
 HoldsLine before after seen (Ok _) read = (lines : List Line) → before lines → (more : List Line) × after more × (read lines ≡ Ok (seen more))
 HoldsLine before after seen (Err (line.Bad kind)) read = (lines : List Line) → before lines → read lines ≡ Err kind
 HoldsLine before after seen (Err line.Memory) read = Unit {0}

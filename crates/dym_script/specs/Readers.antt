@@ -69,12 +69,6 @@ Finds (Ok object) objects name = (object_of objects name ≡ Some object) × IsT
 Finds (Err (line.Bad kind)) objects name = (object_of objects name ≡ None) × (kind ≡ name_fault name)
 Finds (Err line.Memory) objects name = Unit {0}
 
--- the text begins with the name of the object in this place, and goes on with the rest
-pub record IsNamed (r : Reader) (text : List ℕ) (object : ℕ) (rest : List ℕ) : Type 0 where
-  pub name : List ℕ
-  pub is : text ≡ name ++ rest
-  pub found : object_of r.objects.items name ≡ Some object
-
 -- the first line of the text asks this of a declared object, whatever was asked before, and the other lines are those of the rest
 pub record IsNext (r : Reader) (text : List ℕ) (ask : Ask) (rest : List ℕ) : Type 0 where
   pub within : IsWithin r (Some ask)

@@ -149,11 +149,7 @@ impl<K: Keeper + Drop> Pieces<K> {
         let mut asked = Asked::Logs;
         if let Some((object, rest)) = self.reader.next_quickly(text, &mut asked) {
             self.reader.begun = true;
-            self.reader.last = object;
-            return match self.ask(alloc, object, &asked) {
-                Ok(()) => Ok(rest),
-                Err(fail) => Err(fail),
-            };
+            return self.ask(alloc, object, &asked, rest);
         }
         self.read_exactly(alloc, number, text)
     }
@@ -178,20 +174,24 @@ impl<K: Keeper + Drop> Pieces<K> {
         let Next { ask, rest } = self.reader.read_exactly(alloc, number, text)?;
         tell_declared(alloc, &self.reader, &mut self.keeper, before)?;
         match ask {
-            Some(Ask { object, asked }) => match self.ask(alloc, object, &asked) {
-                Ok(()) => Ok(rest),
-                Err(fail) => Err(fail),
-            },
+            Some(Ask { object, asked }) => self.ask(alloc, object, &asked, rest),
             None => Ok(rest),
         }
     }
 
-    /// Hands on what a line asks of a declared object.
+    /// Hands on what a line asks of a declared object. The text after the line is left.
     #[inline(always)]
-    fn ask(&mut self, alloc: Global, object: u32, asked: &Asked<'_>) -> Result<(), LineFail>
+    fn ask<'a>(
+        &mut self,
+        alloc: Global,
+        object: u32,
+        asked: &Asked<'_>,
+        rest: &'a [u8],
+    ) -> Result<&'a [u8], LineFail>
         requires ready { IsReady (K.keeps self.old.keeper) self.old.reader self.old.commands }
         requires within { object < length self.old.reader.objects.items }
         ensures ready { OnOk result (IsReady (K.keeps self.new.keeper) self.new.reader self.new.commands) }
+        ensures rest { IfOk result (λ left. left.now ≡ rest.now) }
         ensures holds { HoldsLine (Holds (K.keeps self.old.keeper) self.old.reader self.old.commands) (Holds (K.keeps self.new.keeper) self.new.reader self.new.commands)
             (seen self.new.reader) result (λ lines. reading self.old.reader.begun (ask_at (seen self.old.reader lines).said (asks asked.now) (Some object))) }
     {
@@ -200,7 +200,7 @@ impl<K: Keeper + Drop> Pieces<K> {
         }
         self.keeper.ask(alloc, object, asked)?;
         self.commands += 1;
-        Ok(())
+        Ok(rest)
     }
 }
 

@@ -43,14 +43,12 @@ pub fn read_script(alloc: Global, bytes: &[u8]) -> Result<Script, ScriptFail>
     ensures read { Gives result (script_of bytes.now) }
     ensures lawful { IfOk result (λ script. IsLawful (said script)) }
 {
-    match read_kept::<Lines>(alloc, bytes) {
-        Ok(whole) => Ok(Script {
-            version: whole.version,
-            objects: whole.objects,
-            lines: whole.kept.lines,
-        }),
-        Err(fail) => Err(fail),
-    }
+    let whole = read_kept::<Lines>(alloc, bytes)?;
+    Ok(Script {
+        version: whole.version,
+        objects: whole.objects,
+        lines: whole.kept.lines,
+    })
 }
 
 /// Reads a script that is in memory, and answers what is kept of it. The error is that of `read_script`.

@@ -3,7 +3,7 @@ ghost use Rattle.std.specs.Prelude.{◌≡◌, ◌+◌, ◌<◌, ◌≤◌, [], 
 
 use crate::line_fail::LineFail;
 use crate::line_tests::{is_printable_line, is_version, unknown};
-use crate::near::{Near, front_name, key_of};
+use crate::near::{Named, Near, front_name, key_of};
 use crate::script::Decl;
 use dym_base::limits::{MOST_LINE_BYTES, MOST_OBJECTS, MOST_QUOTA};
 use dym_base::{BadKind, Name, Version};
@@ -38,15 +38,13 @@ pub struct Reader {
     pub names: HashMap<Vec<u8>, u32>,
     /// Where a name is looked for before it is hashed.
     pub near: Near,
-    /// The place of the object that the line before asked something of. The next line mostly asks the same one.
-    pub last: u32,
 }
 
 impl Reader {
     ghost use Rattle.dym_script.specs.Scripts.{start, read_lines, read_line, read_words, say, declare, object_of};
     ghost use Rattle.dym_base.specs.Names.{is_name};
     ghost use Rattle.dym_lines.specs.Lines.{words_of, lines_of};
-    ghost use Rattle.dym_script.specs.Readers.{IsKept, seen, IsWithin, GivesReading, GivesSaid, Declares, Finds, IsNamed, IsNext, GivesNext, Grows};
+    ghost use Rattle.dym_script.specs.Readers.{IsKept, seen, IsWithin, GivesReading, GivesSaid, Declares, Finds, IsNext, GivesNext, Grows};
 
     /// A reader that has read nothing.
     pub fn new(alloc: Global) -> Reader
@@ -59,7 +57,6 @@ impl Reader {
             objects: Vec::new(alloc),
             names: HashMap::new(alloc),
             near: Near::new(),
-            last: 0,
         }
     }
 
@@ -82,10 +79,8 @@ impl Reader {
         let Some((line, rest)) = next_line(text) else {
             unreachable!();
         };
-        match self.read_line(alloc, number, line) {
-            Ok(ask) => Ok(Next { ask, rest }),
-            Err(fail) => Err(fail),
-        }
+        let ask = self.read_line(alloc, number, line)?;
+        Ok(Next { ask, rest })
     }
 
     /// The object that the first line of a text asks something of, where it is in the usual spelling, and the text after the
@@ -95,53 +90,13 @@ impl Reader {
         requires kept { IsKept self.now }
         ensures { IfSome result (λ next. IsNext self.now text.now (record { object = next.0; asked = asked.new }) next.1.now) }
     {
-        let (object, words) = self.object_at(text)?;
-        let taken = quick_rest(words, asked)?;
-        let (_, rest) = words.split_at(taken);
+        let Named { name, key, words } = front_name(text)?;
+        let object = self.place_near(key, name)?;
+        let rest = quick_rest(words, asked)?;
         if text.len() - rest.len() > MOST_LINE_BYTES + 1 {
             return None;
         }
         Some((object, rest))
-    }
-
-    /// The place of the object whose name stands at the front of a text, and the text after the name.
-    #[inline(always)]
-    fn object_at<'a>(&self, text: &'a [u8]) -> Option<(u32, &'a [u8])>
-        requires { IsKept self.now }
-        ensures { IfSome result (λ cut. IsNamed self.now text.now cut.0 cut.1.now) }
-    {
-        match self.last_at(text) {
-            Some(words) => Some((self.last, words)),
-            None => self.any_at(text),
-        }
-    }
-
-    /// The text after the name of the object that the line before asked, where that name and a space stand at its front.
-    #[inline(always)]
-    fn last_at<'a>(&self, text: &'a [u8]) -> Option<&'a [u8]>
-        requires { IsKept self.now }
-        ensures { IfSome result (λ words. IsNamed self.now text.now self.now.last words.now) }
-    {
-        let name = self.last_name()?;
-        if text.len() <= name.len() {
-            return None;
-        }
-        let (front, words) = text.split_at(name.len());
-        if front != name || words.first() != Some(&b' ') {
-            return None;
-        }
-        Some(words)
-    }
-
-    /// The place of any object whose name stands at the front of a text, and the text after the name.
-    #[inline(always)]
-    fn any_at<'a>(&self, text: &'a [u8]) -> Option<(u32, &'a [u8])>
-        requires { IsKept self.now }
-        ensures { IfSome result (λ cut. IsNamed self.now text.now cut.0 cut.1.now) }
-    {
-        let named = front_name(text)?;
-        let object = self.place_near(named.key, named.name)?;
-        Some((object, named.words))
     }
 
     /// Reads the line of this number, and hands on what it asks.
@@ -221,7 +176,6 @@ impl Reader {
             let verb = Verb::of(word).ok_or(BadKind::Command)?;
             let asked = verb.asked(operands)?;
             let object = self.asked_of(first)?;
-            self.last = object;
             Ok(Some(Ask { object, asked }))
         }
     }
@@ -315,20 +269,6 @@ impl Reader {
             return Some(near);
         }
         self.names.get(name).copied()
-    }
-
-    /// The name of the object that the line before asked.
-    #[inline(always)]
-    fn last_name(&self) -> Option<&[u8]>
-        requires { IsKept self.now }
-        ensures { IfSome result (λ name. object_of self.now.objects.items name.now ≡ Some self.now.last) }
-    {
-        let place = self.last as usize;
-        if place >= self.objects.len() {
-            return None;
-        }
-        let decl = &self.objects[place];
-        Some(decl.name.bytes())
     }
 
     /// Whether the object in a place has this name.

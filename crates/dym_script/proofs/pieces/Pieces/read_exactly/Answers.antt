@@ -1,6 +1,7 @@
-use Rattle.std.proofs.Common.{◌≡◌, ◌∙◌, sym, length, Some, None, rules}
+use Rattle.std.proofs.Common.{◌≡◌, ◌∙◌, sym, ap, length, Some, None, rules}
 use Rattle.dym_script.specs.declared.reader.Ask.{Ask}
-use Rattle.dym_script.proofs.KeepLines.{ready_declared, holds_declared, exact_some, exact_none, exact_fails}
+use Rattle.dym_script.specs.Readers.{seen, reading, with_ask}
+use Rattle.dym_script.proofs.KeepLines.{ready_declared, holds_declared, line_asks, exact_none}
 use Rattle.dym_script.proofs.pieces.Pieces.read_exactly.Goals as goal
 
 pub ask-requires-clause-ready : goal.ask-requires-clause-ready
@@ -31,8 +32,8 @@ returns-in-None-clause-read g c =
     exact_none P O r s next.ask old.commands c.args.number c.args.text.now next.rest.now line none cut gives
     (λ lines holds. holds_declared P O r s old.commands lines c.in_ok-ask.ensures.kept c.in_ok-ask.ensures.grows (λ objects ls len grows keeps. c.in_ok-tell_declared.ensures objects ls (len ∙ sym before) grows keeps) holds)
 
-pub returns-in-Ok-clause-read : goal.returns-in-Ok-clause-read
-returns-in-Ok-clause-read g c =
+pub returns-in-Some-clause-read : goal.returns-in-Some-clause-read
+returns-in-Some-clause-read g c =
     let old = c.args.self.now in
     let new = c.ask.new.self in
     let P = g.K.Keeper.keeps old.keeper in
@@ -45,24 +46,7 @@ returns-in-Ok-clause-read g c =
     let some : next.ask ≡ Some one = search rules in
     let before : c.len-before.result ≡ length r.objects.items = search rules in
     let (line, cut, gives) = c.in_ok-ask.ensures.read in
-    exact_some P O Q r s new.reader next.ask one old.commands new.commands c.args.number c.args.text.now next.rest.now line some cut gives
+    line_asks P O Q r s new.reader one old.commands new.commands c.args.number c.args.text.now next.rest.now line c.ask.result cut
+    (λ lines. gives lines ∙ ap (λ a. reading s.begun (with_ask (seen s lines).said a)) some)
     (λ lines holds. holds_declared P O r s old.commands lines c.in_ok-ask.ensures.kept c.in_ok-ask.ensures.grows (λ objects ls len grows keeps. c.in_ok-tell_declared.ensures objects ls (len ∙ sym before) grows keeps) holds)
-    c.in-Ok.ensures.holds
-
-pub returns-in-Err-clause-read : goal.returns-in-Err-clause-read
-returns-in-Err-clause-read g c =
-    let old = c.args.self.now in
-    let new = c.ask.new.self in
-    let P = g.K.Keeper.keeps old.keeper in
-    let O = g.K.Keeper.keeps c.tell_declared.new.keeper in
-    let Q = g.K.Keeper.keeps new.keeper in
-    let r = old.reader in
-    let s = c.read_exactly.new.self in
-    let one : Ask = c.in-Some.field-0 in
-    let next = c.in_ok-ask.field-0 in
-    let some : next.ask ≡ Some one = search rules in
-    let before : c.len-before.result ≡ length r.objects.items = search rules in
-    let (line, cut, gives) = c.in_ok-ask.ensures.read in
-    exact_fails P O Q r s new.reader next.ask one old.commands new.commands c.args.number c.args.text.now next.rest.now line c.in-Err.fail some cut gives
-    (λ lines holds. holds_declared P O r s old.commands lines c.in_ok-ask.ensures.kept c.in_ok-ask.ensures.grows (λ objects ls len grows keeps. c.in_ok-tell_declared.ensures objects ls (len ∙ sym before) grows keeps) holds)
-    c.in-Err.ensures.holds
+    c.ask.ensures.rest c.ask.ensures.holds

@@ -1,22 +1,18 @@
 use Rattle.dym_script.specs.declared.reader.Ask.{Ask}
-use Rattle.dym_script.proofs.KeepLines.{ready_quickly, quick_next, quick_fails}
+use Rattle.dym_script.proofs.KeepLines.{quickly, ready_quickly, holds_quickly, line_asks}
 use Rattle.dym_script.proofs.pieces.Pieces.read_next.Goals as goal
 
 pub ask-requires-clause-ready : goal.ask-requires-clause-ready
 ask-requires-clause-ready g c =
     let old = c.args.self.now in
-    ready_quickly (g.K.Keeper.keeps old.keeper) old.reader old.commands c.in-Some.object c.requires.ready
+    ready_quickly (g.K.Keeper.keeps old.keeper) old.reader old.commands c.requires.ready
 
-pub returns-in-Ok-clause-read : goal.returns-in-Ok-clause-read
-returns-in-Ok-clause-read g c =
+pub returns-in-Some-clause-read : goal.returns-in-Some-clause-read
+returns-in-Some-clause-read g c =
     let old = c.args.self.now in
     let new = c.ask.new.self in
-    let a : Ask = record { object = c.in-Some.object; asked = c.next_quickly.new.asked } in
-    quick_next (g.K.Keeper.keeps old.keeper) (g.K.Keeper.keeps new.keeper) old.reader new.reader a old.commands new.commands c.args.number c.args.text.now c.in-Some.rest.now c.in-Some.ensures c.in-Ok.ensures.holds
-
-pub returns-in-Err-clause-read : goal.returns-in-Err-clause-read
-returns-in-Err-clause-read g c =
-    let old = c.args.self.now in
-    let new = c.ask.new.self in
-    let a : Ask = record { object = c.in-Some.object; asked = c.next_quickly.new.asked } in
-    quick_fails (g.K.Keeper.keeps old.keeper) (g.K.Keeper.keeps new.keeper) old.reader new.reader a old.commands new.commands c.args.number c.args.text.now c.in-Some.rest.now c.in-Err.fail c.in-Some.ensures c.in-Err.ensures.holds
+    let P = g.K.Keeper.keeps old.keeper in
+    let r = old.reader in
+    let one : Ask = record { object = c.in-Some.object; asked = c.next_quickly.new.asked } in
+    let (line, cut, gives) = c.in-Some.ensures.first in
+    line_asks P P (g.K.Keeper.keeps new.keeper) r (quickly r) new.reader one old.commands new.commands c.args.number c.args.text.now c.in-Some.rest.now line c.ask.result cut (gives c.args.number) (holds_quickly P r old.commands) c.ask.ensures.rest c.ask.ensures.holds

@@ -14,7 +14,6 @@ returns-clause-kept c =
       objects = c.push.new.self;
       names = c.insert.new.self;
       near = c.keep.new.self;
-      last = r.last;
     } in
     let place : c.len-place.result ≡ length r.objects.items = search rules in
     let put = put_bytes r s c.in_ok-key.key c.len-place.result c.args.decl.name (c.in_ok-key.ensures.items ∙ c.bytes.ensures) c.in_ok-insert.ensures.updates in
