@@ -1,5 +1,5 @@
 //! The name at the front of a line, and where the place of a name is looked for first.
-ghost use Rattle.std.specs.Prelude.{◌≡◌, ◌≤◌, ◌++◌, IfSome};
+ghost use Rattle.std.specs.Prelude.{◌≡◌, ◌≤◌, ◌++◌, IfSome, Decides};
 
 /// How many keys there are.
 const KEYS: usize = 16_384;
@@ -56,6 +56,14 @@ pub fn key_of(name: &[u8]) -> u32 {
 #[inline(always)]
 pub fn key_of_word(word: u64) -> u32 {
     (word.wrapping_mul(SPREAD) >> 50) as u32
+}
+
+/// Whether two names are the same. They are short, so that byte by byte they are compared sooner than as slices.
+#[inline(always)]
+pub fn is_same_name(a: &[u8], b: &[u8]) -> bool
+    ensures { Decides result (a.now ≡ b.now) }
+{
+    a.len() == b.len() && a.iter().zip(b).all(|(x, y)| x == y)
 }
 
 /// A name at the front of a text, the key that it has among those that are near, and the text after it.

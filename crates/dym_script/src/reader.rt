@@ -3,7 +3,7 @@ ghost use Rattle.std.specs.Prelude.{◌≡◌, ◌+◌, ◌<◌, ◌≤◌, [], 
 
 use crate::line_fail::LineFail;
 use crate::line_tests::{is_printable_line, is_version, unknown};
-use crate::near::{Named, Near, front_name, key_of};
+use crate::near::{Named, Near, front_name, is_same_name, key_of};
 use crate::script::Decl;
 use dym_base::limits::{MOST_LINE_BYTES, MOST_OBJECTS, MOST_QUOTA};
 use dym_base::{BadKind, Name, Version};
@@ -281,6 +281,6 @@ impl Reader {
             return false;
         }
         let decl = &self.objects[place];
-        decl.name.bytes() == name
+        is_same_name(decl.name.bytes(), name)
     }
 }
