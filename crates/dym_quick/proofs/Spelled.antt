@@ -1,5 +1,5 @@
 -- Lines in the usual spelling.
-use Rattle.std.proofs.Common.{◌≡◌, ℕ, suc, ◌+◌, ◌-◌, ◌^◌, ◌≤◌, ◌==◌, Bool, true, false, not, ◌&&◌, ◌||◌, List, [], ◌∷◌, ◌++◌, length, take, drop, filter, codes, Some, None, Ok, is_none, if◌then◌else◌, nat_le, nat_lt, refl, sym, ap, subst, ◌∙◌, arith, append-nil, append_assoc, eq-eqb, drop-cons, take-append-drop, length-append}
+use Rattle.std.proofs.Common.{◌≡◌, ℕ, suc, ◌+◌, ◌-◌, ◌^◌, ◌≤◌, ◌==◌, Bool, true, false, not, ◌&&◌, List, [], ◌∷◌, ◌++◌, length, take, drop, filter, codes, Some, None, Ok, if◌then◌else◌, nat_le, nat_lt, refl, sym, ap, subst, ◌∙◌, arith, append-nil, append_assoc, drop-cons, take-append-drop, length-append}
 use Rattle.std.proofs.Math.Seq.{take-append_seam, drop-append-add}
 use Rattle.std.proofs.lemmas.Slice.Eq.{HasBytesAt}
 use Rattle.std.proofs.lemmas.List.Folds.{list_all-append}
@@ -18,7 +18,7 @@ use Rattle.dym_lines.specs.Lines.{lines_of, words_of, is_space, is_word, is_prin
 use Rattle.dym_commands.specs.Asks.{asks}
 use Rattle.dym_commands.specs.Hexes.{hex_of, IsAtFront}
 use Rattle.dym_lines.specs.Words.{is_digits, number_to, exponent_of, colon_at, handle_of, handle_or_nil_of}
-use Rattle.dym_lines.specs.Table.{Operand, Value, Values, value_of, values_of, both, row, verb_of, command_of, wrong, is_number, is_handle, is_hex}
+use Rattle.dym_lines.specs.Table.{Operand, Value, Values, value_of, row, verb_of}
 use Rattle.dym_quick.specs.Quick.{is_bare, is_bare_word, spelled, Counts, Sizes, Begins, Spells, Demands}
 use Rattle.dym_lines.proofs.Cuts.{both_true, take_rest}
 use Rattle.dym_lines.proofs.Rows.{command_good}
