@@ -4,7 +4,6 @@ use Rattle.std.specs.Prelude.{decimal}
 use Rattle.std.specs.List.{list_all}
 use Rattle.std.specs.Str.{bytes_eq}
 use Rattle.std.proofs.lemmas.Bool.Decides.{nat_tests}
-use Rattle.std.proofs.lemmas.List.Folds.{list_all-append}
 use Rattle.dym_base.specs.Names.{is_name}
 use Rattle.dym_base.specs.declared.command.Command.{Command}
 use Rattle.dym_base.specs.declared.limits.TheConstants.{MOST_LINE_BYTES, MOST_OBJECTS, MOST_COMMANDS, MOST_QUOTA}

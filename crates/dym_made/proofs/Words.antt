@@ -1,5 +1,5 @@
 -- The words of a made script: decimal numbers, chunks and names.
-use Rattle.std.proofs.Common.{◌≡◌, ℕ, zero, suc, ◌*◌, ◌^◌, ◌<◌, ◌≤◌, ◌==◌, Bool, true, false, not, ◌&&◌, List, [], ◌∷◌, ◌++◌, length, codes, Some, nat_le, refl, sym, ap, ◌∙◌, arith, rules, append-nil}
+use Rattle.std.proofs.Common.{◌≡◌, ℕ, zero, suc, ◌*◌, ◌^◌, ◌<◌, ◌≤◌, ◌==◌, true, false, not, List, [], ◌∷◌, ◌++◌, length, codes, Some, nat_le, refl, sym, ap, ◌∙◌, arith, rules, append-nil}
 use Rattle.std.specs.Prelude.{decimal}
 use Rattle.std.specs.Fmt.{digits}
 use Rattle.std.specs.List.{list_all}
@@ -16,12 +16,9 @@ use Rattle.dym_base.specs.declared.limits.TheConstants.{MOST_NAME_BYTES}
 use Rattle.dym_base.specs.declared.handle.Handle.{Handle}
 use Rattle.dym_lines.specs.Lines.{is_word}
 use Rattle.dym_lines.specs.Words.{is_digits, number_to, exponent_of, handle_of}
+use Rattle.dym_lines.proofs.Cuts.{both_true}
 use Rattle.dym_quick.specs.Quick.{is_bare, is_bare_word, Counts, Sizes, Begins}
 use Rattle.dym_quick.proofs.Spelled.{all_weaker, digits_bare, number_read, begins_handle}
-
-pub both_hold : (a b : Bool) → (a && b) ≡ true → (a ≡ true) × (b ≡ true)
-both_hold true b h = (refl, h)
-both_hold false b h = absurd (cc)
 
 digit_named : (c : ℕ) → is_ascii_digit c ≡ true → is_name_byte c ≡ true
 digit_named c digit = grind (arith, nat_tests)
@@ -75,7 +72,7 @@ colon_word (x ∷ xs) ys one two = list_all-append is_bare (x ∷ xs) (58 ∷ ys
 
 pub chunk_bare : (size : List ℕ) (index : ℕ) → IsSize size → index < 1000000 → is_bare_word (chunk size index) ≡ true
 chunk_bare size index is small = colon_word size (decimal index) is.bare
-    (both_hold (is_word (decimal index)) (list_all is_bare (decimal index)) (decimal_bare index small)).1
+    (both_true (is_word (decimal index)) (list_all is_bare (decimal index)) (decimal_bare index small)).1
 
 same_word : (word : List ℕ) (h : Handle) → Begins handle_of (32 ∷ word) h [] → handle_of word ≡ Some h
 same_word word h begins =
@@ -126,7 +123,7 @@ name_good object small =
     rw (first, last, all_weaker is_ascii_digit is_name_byte digit_named (decimal object) (decimal_digits object (omega arith)), no_object object small) refl
 
 pub name_bare : (object : ℕ) → object < 10000 → is_bare_word (name_of object) ≡ true
-name_bare object small = (both_hold (is_word (decimal object)) (list_all is_bare (decimal object)) (decimal_bare object (omega arith))).1
+name_bare object small = (both_true (is_word (decimal object)) (list_all is_bare (decimal object)) (decimal_bare object (omega arith))).1
 
 -- no two objects have one name
 pub other_name : (one other : ℕ) → one < 10000 → other < 10000 → (one ≡ other → ⊥) → bytes_eq (name_of one) (name_of other) ≡ false
