@@ -1,5 +1,5 @@
 //! The works of a wave with their sweepers.
-ghost use Rattle.std.specs.Prelude.{◌≡◌, ◌≤◌, false, [], IfOk, IfErr, OnOk, map, vec_len, All};
+ghost use Rattle.std.specs.Prelude.{◌≡◌, ◌≤◌, false, [], None, IfOk, IfErr, OnOk, map, vec_len, All};
 ghost use Rattle.dym_base.specs.Objects.{object_start};
 ghost use Rattle.dym_base.specs.Origins.{shared};
 ghost use Rattle.dym_base.specs.declared.limits.TheConstants.{MOST_OBJECTS, MOST_QUANTUM, MOST_QUOTA, MOST_WORKERS};
@@ -16,15 +16,14 @@ use dym_object::Object;
 use dym_pool::Gate;
 use dym_quota::{Berth, Supply};
 use dym_report::ViewLine;
-use dym_slots::{LogSlots, Sweeper};
+use dym_slots::{Owner, Sweeper};
 use dym_views::{Seen, run_viewed};
 use dym_wave::{Work, run_wave};
 use std::alloc::{AllocError, Global};
 use std::sync::Wait;
 use std::thread::Threads;
 
-/// Opens an object over a berth, with a log table of its own, as a work with these commands. At an `AllocError` the berth comes back as
-/// it was.
+/// Opens an object over a berth and an empty log table, as a work with these commands. At an `AllocError` the berth comes back as it was.
 pub(crate) fn open_work<R: Wait>(
     rt: &R,
     alloc: Global,
@@ -33,35 +32,35 @@ pub(crate) fn open_work<R: Wait>(
     quantum: u32,
     commands: Commands,
     berth: Berth<R>,
-) -> Result<(Work<R>, Sweeper), (AllocError, Berth<R>)>
+    owner: Owner,
+) -> Result<Work<R>, (AllocError, Berth<R>)>
+    requires empty { owner.records ≡ [] }
+    requires made { owner.made ≡ 0 }
+    requires idle { owner.lifted ≡ None }
     requires nothing_held { ⟦<Berth<R> as Supply>⟧.held_ids berth ≡ [] }
     requires quota_least { 1 ≤ ⟦<Berth<R> as Supply>⟧.quota_of berth }
     requires quota_most { ⟦<Berth<R> as Supply>⟧.quota_of berth ≤ MOST_QUOTA }
     requires least { 1 ≤ quantum }
     requires most { quantum ≤ MOST_QUANTUM }
-    ensures origin { IfOk result (λ r. r.0.origin ≡ record {
+    ensures origin { IfOk result (λ work. work.origin ≡ record {
       number = number;
       quota = ⟦<Berth<R> as Supply>⟧.quota_of berth;
       version = version;
       commands = commands;
       supply = ⟦<Berth<R> as Supply>⟧.origin berth;
-      keep = shared r.1.table;
+      keep = owner.origin;
     }) }
-    ensures fresh { IfOk result (λ r. IsFresh r.0) }
+    ensures fresh { IfOk result IsFresh }
     ensures nothing_held { IfErr result (λ e. ⟦<Berth<R> as Supply>⟧.held_ids e.1 ≡ []) }
     ensures quota { IfErr result (λ e. ⟦<Berth<R> as Supply>⟧.quota_of e.1 ≡ ⟦<Berth<R> as Supply>⟧.quota_of berth) }
     ensures supply { IfErr result (λ e. ⟦<Berth<R> as Supply>⟧.origin e.1 ≡ ⟦<Berth<R> as Supply>⟧.origin berth) }
 {
-    let (owner, sweeper) = match LogSlots::open(alloc) {
-        Ok(ends) => ends,
-        Err(error) => return Err((error, berth)),
-    };
     let object = match Object::open_as(alloc, berth, SlotKeep::new(owner), version) {
         Ok(object) => object,
         Err((error, berth, _)) => return Err((error, berth)),
     };
     match Work::open(alloc, number, quantum, commands, object) {
-        Ok(work) => Ok((work, sweeper)),
+        Ok(work) => Ok(work),
         Err((error, _, object)) => {
             let (berth, _) = object.end(rt);
             Err((error, berth))

@@ -16,6 +16,7 @@ mod room;
 mod roster;
 mod settled;
 mod shape;
+mod tables;
 mod tally;
 mod telling;
 #[cfg(test)]

@@ -16,6 +16,7 @@ use crate::reversed::reversed;
 use crate::room::Room;
 use crate::settled::{Settled, settle};
 use crate::shape::Shape;
+use crate::tables::{Table, make_tables, next_table};
 use crate::telling::Telling;
 use dym_base::Name;
 use dym_base::limits::{MOST_OBJECTS, MOST_QUANTUM, MOST_QUOTA, MOST_WORKERS};
@@ -105,11 +106,12 @@ impl<R: Wait> Wave<R> {
         rt: &R,
         alloc: Global,
         telling: Telling,
-        quantum: u32,
+        shape: Shape,
         parts: &mut VecDeque<Part>,
     ) -> Result<(), AllocError>
-        requires least { 1 ≤ quantum }
-        requires most { quantum ≤ MOST_QUANTUM }
+    where
+        R: Threads + Send + Sync,
+        requires shape { IsShape shape }
         requires lined { StandInLine parts.old.items (map ⟦<Berth<R> as Supply>⟧.quota_of self.old.berths.items) }
         requires room { (vec_len self.old.berths + vec_len self.old.works ≤ vec_capacity self.old.names)
             × (vec_len self.old.berths + vec_len self.old.works ≤ vec_capacity self.old.works)
@@ -119,8 +121,9 @@ impl<R: Wait> Wave<R> {
             (works_shown telling.views self.old.names.items self.old.works.items) (works_shown telling.views self.new.names.items self.new.works.items)) }
         ensures fresh { OnOk result (All IsFresh self.old.works.items → All IsFresh self.new.works.items) }
     {
+        let mut tables = make_tables(rt, alloc, self.berths.len(), shape.workers)?;
         while !self.berths.is_empty() {
-            self.board(rt, alloc, telling, quantum, parts)?;
+            self.board(rt, alloc, telling, shape.quantum, &mut tables, parts)?;
         }
         Ok(())
     }
@@ -132,6 +135,7 @@ impl<R: Wait> Wave<R> {
         alloc: Global,
         telling: Telling,
         quantum: u32,
+        tables: &mut Vec<Table>,
         parts: &mut VecDeque<Part>,
     ) -> Result<(), AllocError>
         requires some { 0 < vec_len self.old.berths }
@@ -150,6 +154,7 @@ impl<R: Wait> Wave<R> {
         ensures room { (vec_capacity self.new.names ≡ vec_capacity self.old.names)
             × (vec_capacity self.new.works ≡ vec_capacity self.old.works) × (vec_capacity self.new.sweepers ≡ vec_capacity self.old.sweepers) }
     {
+        let (owner, sweeper) = next_table(tables)?;
         let Some(Part { decl, commands }) = parts.pop_front() else {
             unreachable!();
         };
@@ -160,8 +165,17 @@ impl<R: Wait> Wave<R> {
         } = decl;
         let berth = self.berths.take_last();
         let number = self.works.len() as u32;
-        match open_work(rt, alloc, telling.version, number, quantum, commands, berth) {
-            Ok((work, sweeper)) => {
+        match open_work(
+            rt,
+            alloc,
+            telling.version,
+            number,
+            quantum,
+            commands,
+            berth,
+            owner,
+        ) {
+            Ok(work) => {
                 self.names.push_reserved(name);
                 self.works.push_reserved(work);
                 self.sweepers.push_reserved(sweeper);
@@ -195,7 +209,7 @@ impl<R: Wait> Wave<R> {
         ensures queue { result.0.queue ≡ self.queue }
         ensures ran { OnOk result.1 (Boarded telling (vec_len self.berths) parts.old.items parts.new.items [] (map (λ e. e.shown) result.0.ended.items)) }
     {
-        if let Err(error) = self.board_all(rt, alloc, telling, shape.quantum, parts) {
+        if let Err(error) = self.board_all(rt, alloc, telling, shape, parts) {
             return (self.settle(Vec::new(alloc)), Err(error));
         }
         let (wave, ran) = self.run(rt, alloc, telling.views, shape.workers, gate);

@@ -3,6 +3,7 @@ use Rattle.std.proofs.lemmas.List.Elements.{All-same, All-push}
 use Rattle.dym_base.specs.Origins.{shared}
 use Rattle.dym_base.specs.declared.limits.TheConstants.{MOST_QUOTA}
 use Rattle.dym_quota.specs.Berths.{IsIdleBerth}
+use Rattle.dym_slots.specs.Meanings.{KeepMeaning}
 use Rattle.dym_wave.specs.Works.{WorkMeaning, OriginMeaning}
 use Rattle.dym_run.specs.Ends.{run_shown, IsFresh}
 use Rattle.dym_run.proofs.Berths.{all_front, all_last, one_name, sum_last, still_lined, next_quota}
@@ -33,7 +34,7 @@ invariant_of-self g c =
         ap (λ (o : OriginMeaning). o.quota) from,
       );
       named = named_more old.names.items c.push_reserved.new.self.items old.works.items c.push_reserved-in-Ok.new.self.items _ w c.push_reserved.ensures.items works old.named;
-      swept = swept_put old.works.items c.push_reserved-in-Ok.new.self.items old.sweepers.items c.push_reserved-in-Ok-2.new.self.items w c.in-Ok.sweeper works c.push_reserved-in-Ok-2.ensures.items old.swept (ap (λ (o : OriginMeaning). o.keep) from);
+      swept = swept_put old.works.items c.push_reserved-in-Ok.new.self.items old.sweepers.items c.push_reserved-in-Ok-2.new.self.items w c.in_ok-owner.sweeper works c.push_reserved-in-Ok-2.ensures.items old.swept (ap (λ (o : OriginMeaning). o.keep) from ∙ ap (λ (o : KeepMeaning). o.origin) c.in_ok-owner.ensures);
       numbered = numbered_put old.works.items c.push_reserved-in-Ok.new.self.items w works old.numbered (ap (λ (o : OriginMeaning). o.number) from ∙ c.len-number.ensures ∙ old.works.ok.0);
       few = omega (arith, old.few, c.take_last-berth.ensures.len, c.push_reserved-in-Ok.ensures.len);
       none_ended = old.none_ended;
