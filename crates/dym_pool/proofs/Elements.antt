@@ -1,7 +1,7 @@
 -- Which elements a list has, when lists are joined and changed.
 use Rattle.std.proofs.Common.{◌≡◌, ℕ, zero, suc, ◌<◌, ◌⊎◌, inl, inr, ⊎_elim, List, [], ◌∷◌, ◌++◌, length, set, get_or, sym, refl, ap, ◌∙◌, subst, arith}
 use Rattle.std.specs.List.{flat_map}
-use Rattle.dym_pool.specs.Shares.{Has, Within, SameElements}
+use Rattle.dym_pool.specs.Shares.{Has, SameElements}
 
 module _ {A : Type 0} where
   pub has-left : (xs ys : List A) (x : A) → Has xs x → Has (xs ++ ys) x
@@ -50,31 +50,20 @@ module _ {A : Type 0} where
         (has-split (f y) (flat_map f ys) x o))
         h
 
-    -- the last of the rest joins the list of the place i
-    pub dealt_back : (xs : List X) (i : ℕ) (s d : X) (a : A) (rest : List A) → i < length xs → f s ≡ f (get_or xs i d) ++ a ∷ [] → Within (flat_map f xs ++ (rest ++ a ∷ [])) (flat_map f (set xs i s) ++ rest)
-    dealt_back xs i s d a rest l e x h =
-        ⊎_elim
-        (λ (t : Has (flat_map f (set xs i s)) x).
-        ⊎_elim (λ (q : a ≡ x). has-right (flat_map f xs) (rest ++ a ∷ []) x (has-right rest (a ∷ []) x (inl q))) (λ (o : Has (flat_map f xs) x). has-left (flat_map f xs) (rest ++ a ∷ []) x o)
-        (has-joined xs i s d a x l e t))
-        (λ (t : Has rest x). has-right (flat_map f xs) (rest ++ a ∷ []) x (has-left rest (a ∷ []) x t)) (has-split (flat_map f (set xs i s)) rest x h)
-
-    pub dealt_forth : (xs : List X) (i : ℕ) (s d : X) (a : A) (rest : List A) → i < length xs → f s ≡ f (get_or xs i d) ++ a ∷ [] → Within (flat_map f (set xs i s) ++ rest) (flat_map f xs ++ (rest ++ a ∷ []))
-    dealt_forth xs i s d a rest l e x h =
-        let at : (a ≡ x) ⊎ Has (flat_map f xs) x → Has (flat_map f (set xs i s) ++ rest) x = λ t. has-left (flat_map f (set xs i s)) rest x (has-kept xs i s d a x l e t) in
-        ⊎_elim (λ (o : Has (flat_map f xs) x). at (inr o))
-        (λ (t : Has (rest ++ a ∷ []) x).
-        ⊎_elim (λ (o : Has rest x). has-right (flat_map f (set xs i s)) rest x o) (λ (n : Has (a ∷ []) x). ⊎_elim (λ (q : a ≡ x). at (inl q)) (λ (z : ⊥). absurd z) n) (has-split rest (a ∷ []) x t))
-        (has-split (flat_map f xs) (rest ++ a ∷ []) x h)
-
-    pub dealt_one : (xs : List X) (i : ℕ) (s d : X) (a : A) (rest all : List A) → i < length xs → f s ≡ f (get_or xs i d) ++ a ∷ []
-        → SameElements (flat_map f xs ++ (rest ++ a ∷ [])) all → SameElements (flat_map f (set xs i s) ++ rest) all
-    dealt_one xs i s d a rest all l e same = ((λ x h. dealt_forth xs i s d a rest l e x (same.0 x h)), λ x h. same.1 x (dealt_back xs i s d a rest l e x h))
+    -- one more is dealt, to the place i
+    pub dealt_one : (xs : List X) (i : ℕ) (s d : X) (a : A) (dealt : List A) → i < length xs → f s ≡ f (get_or xs i d) ++ a ∷ [] → SameElements (flat_map f xs) dealt → SameElements (flat_map f (set xs i s)) (dealt ++ a ∷ [])
+    dealt_one xs i s d a dealt l e same = (
+      (λ x h.
+          has-kept xs i s d a x l e
+          (⊎_elim (λ (o : Has dealt x). inr (same.0 x o)) (λ (n : Has (a ∷ []) x). ⊎_elim (λ (q : a ≡ x). inl q) (λ (z : ⊥). absurd z) n) (has-split dealt (a ∷ []) x h))),
+      (λ x h.
+          ⊎_elim (λ (q : a ≡ x). has-right dealt (a ∷ []) x (inl q)) (λ (o : Has (flat_map f xs) x). has-left dealt (a ∷ []) x (same.1 x o)) (has-joined xs i s d a x l e h)),
+    )
 
     flat-none : (xs : List X) → ((k : ℕ) (d : X) → k < length xs → f (get_or xs k d) ≡ []) → flat_map f xs ≡ []
     flat-none [] none = refl
     flat-none (x ∷ xs) none = ap {B = List A} (λ l. l ++ flat_map f xs) (none 0 x (omega arith)) ∙ flat-none xs (λ k d l. none (suc k) d (omega arith))
 
     -- before the first is dealt, no place has anything
-    pub dealt_none : (xs : List X) (all : List A) → ((k : ℕ) (d : X) → k < length xs → f (get_or xs k d) ≡ []) → SameElements (flat_map f xs ++ all) all
-    dealt_none xs all none = subst (λ (l : List A). SameElements (l ++ all) all) (sym (flat-none xs none)) ((λ x h. h), λ x h. h)
+    pub dealt_none : (xs : List X) → ((k : ℕ) (d : X) → k < length xs → f (get_or xs k d) ≡ []) → SameElements (flat_map f xs) []
+    dealt_none xs none = subst (λ (l : List A). SameElements l []) (sym (flat-none xs none)) ((λ x h. h), λ x h. h)

@@ -1,9 +1,9 @@
 pub mod Carrying
+pub mod Dealing
 pub mod Elements
 pub mod Gathering
 pub mod Keeping
 pub mod Moves
 pub mod Places
-pub mod Rounds
 pub mod Views
 pub mod Zips

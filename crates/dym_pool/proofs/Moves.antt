@@ -4,7 +4,7 @@ use Rattle.std.proofs.lemmas.List.{map-append}
 use Rattle.std.proofs.lemmas.List.Sums.{sum_by-cons, sum_by-append}
 use mathlib.Core.Option.{some, some-ne-none}
 use lib.ListN.{get_elem?}
-use Rattle.crossbeam_deque.specs.Tasks.{Pushes, Takes, Finds, Learns, Admits, Forks, Merges}
+use Rattle.crossbeam_deque.specs.Tasks.{Pushes, Takes, Pops, Finds, Learns, Admits, Forks, Merges}
 use Rattle.crossbeam_deque.proofs.Lists.{set_else}
 use Rattle.dym_pool.specs.Shares.{Has, Within}
 use Rattle.dym_pool.specs.Deques.{share_view, opening, spent, IsViewAt, Knows, InOneHand, IsTaking, IsReturn, HasAllAtLast}
@@ -77,31 +77,44 @@ module _ {O : Type 0} where
           refl,
         )
 
-    pub takes : (pass : ℕ) (v : ShareView O) → 0 < v.part → Takes (InOneHand label) pass v 1 (λ xs w. IsTaking (map label xs) v w)
-    takes pass v much xs items views some_one few r at =
+    -- some jobs leave the deque for the hand, at whichever end
+    leaves : (pass : ℕ) (v : ShareView O) → 0 < v.part → (xs items whole : List T) (views : List (ShareView O))
+        → ((h : ℕ × O → ℕ) → sum_by h (map label whole) ≡ sum_by h (map label xs) + sum_by h (map label items)) → Within (map label whole) (map label xs) → Within (map label whole) (map label items)
+        → InOneHand label whole views → IsViewAt views pass v → (w : ShareView O) × InOneHand label items (set views pass w) × IsTaking (map label xs) v w
+    leaves pass v much xs items whole views weighs gone stay r at =
         let taken = map label xs in
         let w = share_view v.list (v.hand ++ taken) v.part in
-        let same = known_list r.list v (r.known pass v at) much in
-        let is = map-append label xs items in (
+        let same = known_list r.list v (r.known pass v at) much in (
           w,
           record {
             list = r.list;
-            once = λ h.
-                let s = sum-set (weight h) views pass v w at in let c = r.once h in let m = ap (sum_by h) is in
-                omega (arith, sum_by-append h v.hand taken, sum_by-append h taken (map label items));
-            held = each-set (Holds r.list) views pass w
-                (within_both r.list v.hand taken (r.held pass v at) (λ x h. r.queued x (subst (λ (l : List (ℕ × O)). Has l x) (sym is) (has-left taken (map label items) x h)))) (λ j u n e. r.held j u e);
-            queued = λ x h. r.queued x (subst (λ (l : List (ℕ × O)). Has l x) (sym is) (has-right taken (map label items) x h));
+            once = λ h. let s = sum-set (weight h) views pass v w at in let c = r.once h in let m = weighs h in omega (arith, sum_by-append h v.hand taken);
+            held = each-set (Holds r.list) views pass w (within_both r.list v.hand taken (r.held pass v at) (λ x h. r.queued x (gone x h))) (λ j u n e. r.held j u e);
+            queued = λ x h. r.queued x (stay x h);
             whole = let s = sum-set part_of views pass v w at in let c = r.whole in omega arith;
             known = each-set (Knows r.list) views pass w (inr (same, much)) (λ j u n e. r.known j u e);
           },
           record {
             is = refl;
             few =
-                let c = r.once (λ _. 1) in let m = ap (sum_by (λ _. 1)) is in let p = sum-part (weight (λ _. 1)) views pass v at in let l = ap length same in
-                omega (arith, sum-one (v.hand ++ taken), sum_by-append (λ _. 1) v.hand taken, sum_by-append (λ _. 1) taken (map label items), sum-one r.list);
+                let c = r.once (λ _. 1) in let m = weighs (λ _. 1) in let p = sum-part (weight (λ _. 1)) views pass v at in let l = ap length same in
+                omega (arith, sum-one (v.hand ++ taken), sum_by-append (λ _. 1) v.hand taken, sum-one r.list);
           },
         )
+
+    pub takes : (pass : ℕ) (v : ShareView O) → 0 < v.part → Takes (InOneHand label) pass v 1 (λ xs w. IsTaking (map label xs) v w)
+    takes pass v much xs items views some_one few =
+        let is = map-append label xs items in
+        leaves pass v much xs items (xs ++ items) views (λ h. ap (sum_by h) is ∙ sum_by-append h (map label xs) (map label items))
+        (λ x h. subst (λ (l : List (ℕ × O)). Has l x) (sym is) (has-left (map label xs) (map label items) x h))
+        (λ x h. subst (λ (l : List (ℕ × O)). Has l x) (sym is) (has-right (map label xs) (map label items) x h))
+
+    pub pops : (pass : ℕ) (v : ShareView O) → 0 < v.part → Pops (InOneHand label) pass v (λ xs w. IsTaking (map label xs) v w)
+    pops pass v much x items views =
+        let is = map-append label items (x ∷ []) in
+        leaves pass v much (x ∷ []) items (items ++ x ∷ []) views (λ h. let m = ap (sum_by h) is in omega (arith, sum_by-append h (map label items) (label x ∷ [])))
+        (λ y h. subst (λ (l : List (ℕ × O)). Has l y) (sym is) (has-right (map label items) (label x ∷ []) y h))
+        (λ y h. subst (λ (l : List (ℕ × O)). Has l y) (sym is) (has-left (map label items) (label x ∷ []) y h))
 
     -- the whole at an empty deque
     pub finds : (pass : ℕ) (v : ShareView O) → Finds (InOneHand label) pass v (HasAllAtLast v)

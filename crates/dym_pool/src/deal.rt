@@ -7,19 +7,20 @@ ghost use Rattle.dym_pool.specs.Shares.{SameElements};
 
 use crate::job::Job;
 use crate::own_share::OwnShare;
-use crate::ring::after;
 
-/// Deals the jobs to the shares in turn, one to each in every round, from the last box on.
-pub(crate) fn deal<R, J: Job<R> + Drop>(shares: &mut Vec<OwnShare<R, J>>, boxes: &mut Vec<Box<J>>)
+/// Deals the jobs to the shares in turn, one to each in every round. The boxes have the last job first, so that of each share
+/// the first job is put last: its own worker begins with that one, and the jobs behind it are stolen from the other end.
+pub(crate) fn deal<R, J: Job<R> + Drop>(shares: &mut Vec<OwnShare<R, J>>, boxes: Vec<Box<J>>)
     requires room { (room : ℕ)
-        × (vec_len boxes.old < vec_len shares.old * room)
+        × (vec_len boxes < vec_len shares.old * room)
         × All (λ s. (s.list ≡ []) × (s.part ≡ 65) × (s.pushed ≡ 0) × (s.room ≡ room)) shares.old.items }
-    ensures dealt { SameElements (flat_map (λ s. s.list) shares.new.items) (boxed_labels J.number_of J.origin_of boxes.old.items) }
+    ensures dealt { SameElements (flat_map (λ s. s.list) shares.new.items) (boxed_labels J.number_of J.origin_of boxes.items) }
     ensures ways { AllZip KeepsWay shares.old.items shares.new.items }
 {
-    let mut next = 0;
-    while let Some(boxed) = boxes.pop() {
-        shares[next].put(boxed);
-        next = after(next, shares.len());
+    let mut left = boxes.len();
+    for boxed in boxes {
+        left -= 1;
+        let place = left % shares.len();
+        shares[place].put(boxed);
     }
 }

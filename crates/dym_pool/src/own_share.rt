@@ -29,7 +29,7 @@ impl<R, J: Job<R>> Model for OwnShare<R, J> {
     } };
 
     ghost invariant = { λ s. record {
-      first_out : worker_flavor s.deque ≡ 0;
+      last_out : worker_flavor s.deque ≡ 1;
       part : 0 < (worker_view s.deque).part;
       hand : boxed_labels J.number_of J.origin_of s.ended.items ≡ (worker_view s.deque).hand;
       ended : AllBoxedEnded J.left_of s.ended.items;

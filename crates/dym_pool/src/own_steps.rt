@@ -10,7 +10,7 @@ use crate::job::Job;
 use crate::own_share::OwnShare;
 use crate::reach::Reach;
 use crate::rule::{ShareDeque, SharePass};
-use crate::steps::{hand_back, join, lend, load, open_deque, take_front};
+use crate::steps::{hand_back, join, lend, load, open_deque, take_last};
 use crate::turns::{run_to_end, take_turn};
 use std::alloc::{AllocError, Global};
 use std::sync::Wait;
@@ -62,11 +62,11 @@ impl<R, J: Job<R>> OwnShare<R, J> {
         lend(&mut self.deque)
     }
 
-    /// A turn for the job at the front, by that worker; false where there was none.
-    pub(crate) fn run_front<G: Gate>(&mut self, rt: &R, gate: &G, worker: u32) -> bool
+    /// A turn for the job that was put last, by that worker; false where there was none.
+    pub(crate) fn run_last<G: Gate>(&mut self, rt: &R, gate: &G, worker: u32) -> bool
         ensures keeps { KeepsShare self.old self.new }
     {
-        let Some(boxed) = take_front(&mut self.deque) else {
+        let Some(boxed) = take_last(&mut self.deque) else {
             return false;
         };
         if let Some(ended) = turn_once(rt, gate, worker, &mut self.deque, boxed) {
@@ -86,12 +86,12 @@ impl<R, J: Job<R>> OwnShare<R, J> {
 }
 
 impl<R: Wait, J: Job<R>> OwnShare<R, J> {
-    /// A turn for one job after another, until none is there.
+    /// Turns of one job until it has ended, and then of the one that was put before it, until none is there.
     pub(crate) fn run<G: Gate>(&mut self, rt: &R, gate: &G, worker: u32)
         ensures keeps { KeepsShare self.old self.new }
     {
         for _ in rt.forever() {
-            if !self.run_front(rt, gate, worker) {
+            if !self.run_last(rt, gate, worker) {
                 return;
             }
         }
@@ -168,7 +168,7 @@ fn finish_all<R, J: Job<R>, G: Gate>(
     deque: &mut ShareDeque<R, J, J::Origin>,
     ended: &mut Vec<Box<J>>,
 )
-    requires first_out { worker_flavor deque.old ≡ 0 }
+    requires last_out { worker_flavor deque.old ≡ 1 }
     requires whole { (worker_view deque.old).part ≡ 65 }
     requires hand { boxed_labels J.number_of J.origin_of ended.old.items ≡ (worker_view deque.old).hand }
     requires room { length (worker_view deque.old).list ≤ vec_capacity ended.old }
@@ -181,7 +181,7 @@ fn finish_all<R, J: Job<R>, G: Gate>(
     ensures ended { AllBoxedEnded J.left_of ended.new.items }
     ensures all { HasAll (worker_view deque.new).list (worker_view deque.new).hand }
 {
-    while let Some(mut boxed) = take_front(deque) {
+    while let Some(mut boxed) = take_last(deque) {
         run_to_end(rt, gate, worker, &mut *boxed);
         ended.push_reserved(boxed);
     }

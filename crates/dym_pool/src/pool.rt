@@ -71,7 +71,7 @@ fn run_with<R: Threads + Wait + Send + Sync, J: Job<R> + Drop, G: Gate>(
     let rows = open_rows(alloc, &shares, room)?;
     let staff = Vec::with_capacity(alloc, workers as usize)?;
     pack(alloc, jobs, &mut boxes)?;
-    deal(&mut shares, &mut boxes);
+    deal(&mut shares, boxes);
     run_crew(rt, gate, &mut shares, rows, staff, caller);
     gather(jobs, slots, shares);
     Ok(())

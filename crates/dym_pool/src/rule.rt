@@ -44,7 +44,7 @@ impl<R, J: Job<R>> Outcome<Box<J>, ShareView<J::Origin>> for Loads<R, J> {
     ghost then = { λ v bs w. w ≡ share_view (v.list ++ boxed_labels J.number_of J.origin_of bs) v.hand v.part };
 }
 
-/// Takes the job at the front of one's own deque.
+/// Takes the job that was put last into one's own deque.
 pub struct Takes<R, J> {
     marker: PhantomData<(R, J)>,
 }

@@ -17,11 +17,11 @@ pub(crate) fn open_deque<R, J: Job<R> + Drop>(
     room: usize,
 ) -> Result<ShareDeque<R, J, J::Origin>, AllocError>
     ensures opened { IfOk result (λ w. worker_view w ≡ opening) }
-    ensures first_out { IfOk result (λ w. worker_flavor w ≡ 0) }
+    ensures last_out { IfOk result (λ w. worker_flavor w ≡ 1) }
     ensures index { IfOk result (λ w. worker_index w ≡ 0) }
     ensures room { IfOk result (λ w. room ≤ worker_capacity w) }
 {
-    Worker::fifo_as(alloc, room)
+    Worker::lifo_as(alloc, room)
 }
 
 /// A pass of somebody who has no part yet.
@@ -49,9 +49,9 @@ pub(crate) fn load<R, J: Job<R> + Drop>(deque: &mut ShareDeque<R, J, J::Origin>,
     };
 }
 
-/// The job at the front of one's own deque.
-pub(crate) fn take_front<R, J: Job<R>>(deque: &mut ShareDeque<R, J, J::Origin>) -> Option<Box<J>>
-    requires first_out { worker_flavor deque.old ≡ 0 }
+/// The job that was put last into one's own deque.
+pub(crate) fn take_last<R, J: Job<R>>(deque: &mut ShareDeque<R, J, J::Origin>) -> Option<Box<J>>
+    requires last_out { worker_flavor deque.old ≡ 1 }
     requires part { 0 < (worker_view deque.old).part }
     ensures same { SameWorker deque.old deque.new }
     ensures taken { MatchOption result

@@ -19,7 +19,7 @@ pub(crate) struct Worker<R, J: Job<R>> {
 }
 
 impl<R: Wait, J: Job<R>> Worker<R, J> {
-    /// Runs the jobs of its own share, a turn of each after another, and then what it can steal.
+    /// Runs the jobs of its own share, one after another, and then what it can steal.
     pub(crate) fn run<G: Gate>(&mut self, rt: &R, gate: &G)
         requires number { self.old.number < vec_len self.old.reaches }
         requires parts { All (λ r. 0 < r.part) self.old.reaches.items }
