@@ -8,10 +8,10 @@ use std::sync::Wait;
 use std::time::Duration;
 
 /// The microseconds of the shortest rest.
-const LEAST_REST: u64 = 1_000;
+const LEAST_REST: u64 = 100;
 
 /// The microseconds of rest for each table, many times what its 320 looks take.
-const REST_FOR_A_TABLE: u64 = 8;
+const REST_FOR_A_TABLE: u64 = 16;
 
 /// Sweeps all log tables in turn, again and again, until the stop was asked for, and answers how many records it took back, or the
 /// greatest u64 where there were more. Each sweeper has ended one sweep at least. Between two rounds it rests, so that it takes

@@ -17,7 +17,7 @@ use dym_pack::Record;
 use dym_slotlaw::Entry;
 
 /// How many of the other slots `put` takes before those that the last `raise` let go.
-const SPARE_SLOTS: u32 = 32;
+const SPARE_SLOTS: u32 = 8;
 
 impl Owner {
     /// How many records the list has.
