@@ -50,11 +50,11 @@ tail_of : List ℕ → List ℕ
 tail_of [] = []
 tail_of (x ∷ xs) = xs
 
-one_tail : (x y : ℕ) (xs ys : List ℕ) → x ∷ xs ≡ y ∷ ys → xs ≡ ys
+pub one_tail : (x y : ℕ) (xs ys : List ℕ) → x ∷ xs ≡ y ∷ ys → xs ≡ ys
 unfolding tail_of
 one_tail x y xs ys same = ap tail_of same
 
-one_head : (x y : ℕ) (xs ys : List ℕ) → x ∷ xs ≡ y ∷ ys → x ≡ y
+pub one_head : (x y : ℕ) (xs ys : List ℕ) → x ∷ xs ≡ y ∷ ys → x ≡ y
 one_head x y xs ys same = ap (λ l. get_or l 0 0) same
 
 module _ {B : Type 0} (q : B → ℕ) (bs all : List B) (b : B) (parts ps : List Part) (p : Part) (rest : List ℕ)

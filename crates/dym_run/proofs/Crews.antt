@@ -1,19 +1,16 @@
 -- Works with their names and their sweepers, in lists of one length.
-use Rattle.std.proofs.Common.{◌≡◌, Bool, ℕ, ◌+◌, ◌<◌, ◌⊎◌, inl, inr, List, [], ◌∷◌, ◌++◌, length, map, reverse, sum_by, All, refl, sym, ap, subst, ◌∙◌, arith, append-nil, append_assoc, length-append, get_or}
+use Rattle.std.proofs.Common.{◌≡◌, Bool, ℕ, ◌+◌, ◌<◌, ◌⊎◌, inl, inr, List, [], ◌∷◌, ◌++◌, length, map, reverse, sum_by, All, refl, sym, ap, subst, ◌∙◌, arith, append_assoc, length-append, get_or}
 use Rattle.std.specs.Prelude.{slice_index_or}
 use Rattle.std.proofs.lemmas.List.{get_or_append_left, get_or-map, map-append, map_push, length-map, reverse-append}
 use Rattle.std.proofs.lemmas.List.Elements.{All-map, All-same}
 use Rattle.std.proofs.lemmas.List.Sums.{sum_by-cons}
 use Rattle.std.proofs.Math.Seq.{get_or-append_seam}
 use Rattle.dym_base.specs.Origins.{Origin, TableName, shared}
-use Rattle.dym_run.specs.declared.telling.Telling.{Telling}
 use Rattle.dym_slots.specs.Meanings.{SweeperMeaning}
 use Rattle.dym_pool.specs.Jobs.{Numbered, labels}
-use Rattle.dym_script.specs.declared.parts.Part.{Part}
 use Rattle.dym_wave.specs.Waves.{AreSweptBy}
 use Rattle.dym_wave.specs.Works.{WorkMeaning, OriginMeaning, number_of, origin_of}
-use Rattle.dym_run.specs.Ends.{Shown, EndedMeaning, Boarded, all_shown, origin_shown, own_shown, works_shown, work_share, ended_share}
-use Rattle.dym_run.specs.Parts.{own_of}
+use Rattle.dym_run.specs.Ends.{Shown, EndedMeaning, all_shown, origin_shown, works_shown, work_share, ended_share}
 
 -- a list without any element
 pub none_left : {X : Type 0} → (xs : List X) → length xs ≡ 0 → xs ≡ []
@@ -38,7 +35,7 @@ shown_more views names works n w same =
 last_or_before : (k n m : ℕ) → k < m → m ≡ n + 1 → (k < n) ⊎ (k ≡ n)
 last_or_before k n m within is = grind arith
 
-length_more : {X : Type 0} → (xs : List X) (x : X) → length (xs ++ x ∷ []) ≡ length xs + 1
+pub length_more : {X : Type 0} → (xs : List X) (x : X) → length (xs ++ x ∷ []) ≡ length xs + 1
 length_more xs x = length-append xs (x ∷ [])
 
 pub swept_more : (works : List WorkMeaning) (sweepers : List SweeperMeaning) (w : WorkMeaning) (s : SweeperMeaning)
@@ -84,32 +81,6 @@ numbered_more works w numbered is = λ k d within. at k d (last_or_before k (len
     at : (k : ℕ) (d : WorkMeaning) → (k < length works) ⊎ (k ≡ length works) → number_of (slice_index_or (works ++ w ∷ []) k d) ≡ k
     at k d (inl before) = ap number_of (get_or_append_left works (w ∷ []) d k before) ∙ numbered k d before
     at k d (inr last) = ap number_of (ap (λ n. get_or (works ++ w ∷ []) n d) last ∙ get_or-append_seam works w [] d) ∙ is ∙ sym last
-
--- works with the same origins have the same numbers
-pub numbered_same : (before after : List WorkMeaning) → map origin_of after ≡ map origin_of before → Numbered number_of before → Numbered number_of after
-numbered_same before after same numbered k d within =
-    let in' : k < length before = omega (arith, within, length-map after origin_of, length-map before origin_of, ap length same) in
-    ap (λ (o : OriginMeaning). o.number) (sym (get_or-map origin_of after k d (origin_of d) within) ∙ ap (λ l. get_or l k (origin_of d)) same ∙ get_or-map origin_of before k d (origin_of d) in')
-    ∙ numbered k d in'
-
--- the first part is printed behind what was printed before
-pub boarded_one : (telling : Telling) (part : Part) (before after : List Part) (shown_before shown_after : List Shown)
-    → before ≡ part ∷ after → shown_after ≡ shown_before ++ own_shown telling (own_of part) ∷ [] → Boarded telling 1 before after shown_before shown_after
-boarded_one telling part before after shown_before shown_after taken shown = record { done = part ∷ []; counted = refl; taken = taken; shown = shown }
-
-pub boarded_none : (telling : Telling) (parts : List Part) (shown : List Shown) → Boarded telling 0 parts parts shown shown
-boarded_none telling parts shown = record { done = []; counted = refl; taken = refl; shown = sym (append-nil shown) }
-
-pub boarded_more : (telling : Telling) (n m : ℕ) (a b c : List Part) (p q r : List Shown)
-    → Boarded telling n a b p q → Boarded telling 1 b c q r → m ≡ n + 1 → Boarded telling m a c p r
-boarded_more telling n m a b c p q r first next is =
-    let shows : Part → Shown = λ x. own_shown telling (own_of x) in
-    record {
-      done = first.done ++ next.done;
-      counted = length-append first.done next.done ∙ omega (arith, first.counted, next.counted, is);
-      taken = first.taken ∙ ap (λ l. first.done ++ l) next.taken ∙ sym (append_assoc first.done next.done c);
-      shown = next.shown ∙ ap (λ l. l ++ map shows next.done) first.shown ∙ append_assoc p (map shows first.done) (map shows next.done) ∙ ap (λ l. p ++ l) (sym (map-append shows first.done next.done));
-    }
 
 -- ---- works that leave their lists at the end
 
@@ -167,9 +138,6 @@ settled_all views names works settled turned whole same none is before =
     ∙ before
 
 -- the numbers of the names, the works and the ended objects of a wave
-pub named_more : {X Y : Type 0} → (xs all : List X) (ys both : List Y) (x : X) (y : Y) → all ≡ xs ++ x ∷ [] → both ≡ ys ++ y ∷ [] → length xs ≡ length ys → length all ≡ length both
-named_more xs all ys both x y is are same = omega (arith, ap {B = ℕ} length is, ap {B = ℕ} length are, same, length-append xs (x ∷ []), length-append ys (y ∷ []))
-
 pub named_fewer : {X Y : Type 0} → (xs all : List X) (ys both : List Y) (x : X) (y : Y) → all ≡ xs ++ x ∷ [] → both ≡ ys ++ y ∷ [] → length all ≡ length both → length xs ≡ length ys
 named_fewer xs all ys both x y is are same = omega (arith, ap {B = ℕ} length is, ap {B = ℕ} length are, same, length-append xs (x ∷ []), length-append ys (y ∷ []))
 
@@ -230,19 +198,3 @@ no_crew_swept works sweepers none nothing = record {
   same = ap {B = ℕ} length nothing ∙ sym (ap {B = ℕ} length none);
   tables = λ k d e within. absurd (omega (arith, within, ap {B = ℕ} length none));
 }
-
-pub no_crew_numbered : (works : List WorkMeaning) → works ≡ [] → Numbered number_of works
-no_crew_numbered works none k d within = absurd (omega (arith, within, ap {B = ℕ} length none))
-
--- a work that came last, with its name and its sweeper
-pub swept_put : (works all : List WorkMeaning) (sweepers swept : List SweeperMeaning) (w : WorkMeaning) (s : SweeperMeaning) → all ≡ works ++ w ∷ [] → swept ≡ sweepers ++ s ∷ []
-    → AreSweptBy works sweepers → w.origin.keep ≡ shared s.table → AreSweptBy all swept
-swept_put works all sweepers swept w s is are by of = subst (AreSweptBy all) (sym are) (subst (λ l. AreSweptBy l (sweepers ++ s ∷ [])) (sym is) (swept_more works sweepers w s by of))
-
-pub numbered_put : (works all : List WorkMeaning) (w : WorkMeaning) → all ≡ works ++ w ∷ [] → Numbered number_of works → w.origin.number ≡ length works → Numbered number_of all
-numbered_put works all w is numbered of = subst (Numbered number_of) (sym is) (numbered_more works w numbered of)
-
-pub shown_put : (views : Bool) (names all_names : List (List ℕ)) (works all : List WorkMeaning) (n : List ℕ) (w : WorkMeaning) (s : Shown) → all_names ≡ names ++ n ∷ [] → all ≡ works ++ w ∷ []
-    → length names ≡ length works → origin_shown views n w.origin ≡ s → works_shown views all_names all ≡ works_shown views names works ++ s ∷ []
-shown_put views names all_names works all n w s are is same shown =
-    (λ i. works_shown views (are i) (is i)) ∙ shown_more views names works n w same ∙ ap (λ x. works_shown views names works ++ x ∷ []) shown

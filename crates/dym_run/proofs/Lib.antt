@@ -1,4 +1,5 @@
 pub mod Berths
+pub mod Boarding
 pub mod Crews
 pub mod KeptLines
 pub mod Progress

@@ -3,3 +3,4 @@ pub mod Summary
 pub mod Parts
 pub mod Views
 pub mod Ends
+pub mod Places

@@ -9,6 +9,7 @@
 
 mod crew;
 mod ended;
+mod places;
 mod printed;
 mod quotas;
 mod reversed;
@@ -16,7 +17,6 @@ mod room;
 mod roster;
 mod settled;
 mod shape;
-mod tables;
 mod tally;
 mod telling;
 #[cfg(test)]

@@ -1,7 +1,7 @@
 //! A wave: objects that run side by side over one queue of segments.
 ghost use Rattle.std.specs.Prelude.{◌≡◌, ℕ, ◌+◌, ◌<◌, ◌≤◌, List, Bool, false, [], ◌++◌, IfOk, IfErr, OnOk, length, map, reverse, sum, sum_by, vec_len, vec_capacity, All};
 ghost use Rattle.dym_base.specs.Origins.{shared};
-ghost use Rattle.dym_base.specs.declared.limits.TheConstants.{MOST_OBJECTS, MOST_QUANTUM, MOST_QUOTA, MOST_WORKERS};
+ghost use Rattle.dym_base.specs.declared.limits.TheConstants.{MOST_OBJECTS, MOST_QUOTA, MOST_WORKERS};
 ghost use Rattle.dym_pool.specs.Jobs.{AllEnded, Numbered};
 ghost use Rattle.dym_quota.specs.Berths.{IsIdleBerth};
 ghost use Rattle.dym_region.specs.Identity.{AreDistinct};
@@ -10,21 +10,21 @@ ghost use Rattle.dym_wave.specs.Works.{left_of, number_of};
 ghost use Rattle.dym_run.specs.Ends.{works_shown, AreSeen, Boarded, IsFresh};
 ghost use Rattle.dym_run.specs.Parts.{IsShape, StandInLine};
 
-use crate::crew::{open_work, run_crew};
+use crate::crew::run_crew;
 use crate::ended::Ended;
+use crate::places::{leave_places, open_places, take_places};
 use crate::reversed::reversed;
 use crate::room::Room;
 use crate::settled::{Settled, settle};
 use crate::shape::Shape;
-use crate::tables::{Table, make_tables, next_table};
 use crate::telling::Telling;
 use dym_base::Name;
-use dym_base::limits::{MOST_OBJECTS, MOST_QUANTUM, MOST_QUOTA, MOST_WORKERS};
+use dym_base::limits::{MOST_OBJECTS, MOST_QUOTA, MOST_WORKERS};
 use dym_pool::Gate;
 use dym_quota::{Berth, QuotaQueue, Supply};
 use dym_region::{RawSegment, Segment};
 use dym_report::ViewLine;
-use dym_script::{Decl, Part};
+use dym_script::Part;
 use dym_slots::Sweeper;
 use dym_views::Seen;
 use dym_wave::Work;
@@ -47,7 +47,6 @@ pub(crate) struct Wave<R: Wait> {
     ghost all: { sum_by (λ b. b.quota) berths.items + sum_by (λ w. w.origin.quota) works.items ≡ length queue.stocked },
     ghost named: { length names.items ≡ length works.items },
     ghost swept: { AreSweptBy works.items sweepers.items },
-    ghost numbered: { Numbered number_of works.items },
     ghost few: { vec_len berths + vec_len works ≤ MOST_OBJECTS },
     ghost none_ended: { ended.items ≡ [] },
     ghost room: { vec_len berths + vec_len works ≤ vec_capacity berths },
@@ -100,7 +99,8 @@ impl<R: Wait> Wave<R> {
         }
     }
 
-    /// Opens an object over each berth, with the parts that come next. The first that finds no memory ends it: what was opened stays.
+    /// Opens an object over each berth, with the parts that come next, side by side by the workers. Where some find no memory it ends with
+    /// that: what was opened stays.
     pub(crate) fn board_all(
         &mut self,
         rt: &R,
@@ -120,71 +120,29 @@ impl<R: Wait> Wave<R> {
         ensures boarded { OnOk result (Boarded telling (vec_len self.old.berths) parts.old.items parts.new.items
             (works_shown telling.views self.old.names.items self.old.works.items) (works_shown telling.views self.new.names.items self.new.works.items)) }
         ensures fresh { OnOk result (All IsFresh self.old.works.items → All IsFresh self.new.works.items) }
+        ensures numbered { OnOk result (Numbered number_of self.old.works.items → Numbered number_of self.new.works.items) }
     {
-        let mut tables = make_tables(rt, alloc, self.berths.len(), shape.workers)?;
-        while !self.berths.is_empty() {
-            self.board(rt, alloc, telling, shape.quantum, &mut tables, parts)?;
-        }
-        Ok(())
-    }
-
-    /// Opens an object over the next berth, with the part that comes next. Where it finds no memory the berth stands as it was.
-    fn board(
-        &mut self,
-        rt: &R,
-        alloc: Global,
-        telling: Telling,
-        quantum: u32,
-        tables: &mut Vec<Table>,
-        parts: &mut VecDeque<Part>,
-    ) -> Result<(), AllocError>
-        requires some { 0 < vec_len self.old.berths }
-        requires least { 1 ≤ quantum }
-        requires most { quantum ≤ MOST_QUANTUM }
-        requires lined { StandInLine parts.old.items (map ⟦<Berth<R> as Supply>⟧.quota_of self.old.berths.items) }
-        requires room { (vec_len self.old.works < vec_capacity self.old.names)
-            × (vec_len self.old.works < vec_capacity self.old.works) × (vec_len self.old.works < vec_capacity self.old.sweepers) }
-        ensures queue { self.new.queue ≡ self.old.queue }
-        ensures fewer { OnOk result (vec_len self.new.berths + 1 ≡ vec_len self.old.berths) }
-        ensures more { OnOk result (vec_len self.new.works ≡ vec_len self.old.works + 1) }
-        ensures lined { OnOk result (StandInLine parts.new.items (map ⟦<Berth<R> as Supply>⟧.quota_of self.new.berths.items)) }
-        ensures boarded { OnOk result (Boarded telling 1 parts.old.items parts.new.items
-            (works_shown telling.views self.old.names.items self.old.works.items) (works_shown telling.views self.new.names.items self.new.works.items)) }
-        ensures fresh { OnOk result (All IsFresh self.old.works.items → All IsFresh self.new.works.items) }
-        ensures room { (vec_capacity self.new.names ≡ vec_capacity self.old.names)
-            × (vec_capacity self.new.works ≡ vec_capacity self.old.works) × (vec_capacity self.new.sweepers ≡ vec_capacity self.old.sweepers) }
-    {
-        let (owner, sweeper) = next_table(tables)?;
-        let Some(Part { decl, commands }) = parts.pop_front() else {
-            unreachable!();
-        };
-        let Decl {
-            name,
-            quota: _,
-            line: _,
-        } = decl;
-        let berth = self.berths.take_last();
-        let number = self.works.len() as u32;
-        match open_work(
+        let first = self.works.len() as u32;
+        let mut places = take_places(alloc, first, &mut self.berths, parts)?;
+        open_places(
             rt,
             alloc,
             telling.version,
-            number,
-            quantum,
-            commands,
-            berth,
-            owner,
-        ) {
-            Ok(work) => {
-                self.names.push_reserved(name);
-                self.works.push_reserved(work);
-                self.sweepers.push_reserved(sweeper);
-                Ok(())
-            }
-            Err((error, berth)) => {
-                self.berths.push_reserved(berth);
-                Err(error)
-            }
+            shape.quantum,
+            shape.workers,
+            &mut places,
+        );
+        leave_places(
+            places,
+            &mut self.berths,
+            &mut self.names,
+            &mut self.works,
+            &mut self.sweepers,
+        );
+        if self.berths.is_empty() {
+            Ok(())
+        } else {
+            Err(AllocError)
         }
     }
 
@@ -234,6 +192,7 @@ impl<R: Wait> Wave<R> {
         requires least { 1 ≤ workers }
         requires most { workers ≤ MOST_WORKERS }
         requires fresh { All IsFresh self.works.items }
+        requires numbered { Numbered number_of self.works.items }
         ensures queue { result.0.queue ≡ self.queue }
         ensures shown { works_shown views result.0.names.items result.0.works.items ≡ works_shown views self.names.items self.works.items }
         ensures ended { OnOk result.1 (AllEnded left_of result.0.works.items) }

@@ -7,7 +7,7 @@ use Rattle.dym_quota.specs.Berths.{IsIdleBerth}
 use Rattle.dym_region.specs.contracts.raw_segment.RawSegmentSegment.TheImpl.{ghosts}
 use Rattle.dym_wave.specs.Works.{WorkMeaning}
 use Rattle.dym_run.proofs.Berths.{all_reversed, all_images, sum_reversed, map_reversed, one_name}
-use Rattle.dym_run.proofs.Crews.{no_crew_swept, no_crew_numbered}
+use Rattle.dym_run.proofs.Crews.{no_crew_swept}
 use Rattle.dym_run.proofs.wave.Wave.open.Goals as goal
 
 pub invariant_of-result : goal.invariant_of-result
@@ -31,7 +31,6 @@ invariant_of-result g c =
       all = omega (arith, sum_reversed (λ b. b.quota) berths c.reversed.result.items c.args.quotas.now turned it.quotas, ap (sum_by (λ (w : WorkMeaning). w.origin.quota)) no_works, stocked);
       named = ap length no_names ∙ sym (ap length no_works);
       swept = no_crew_swept _ _ no_works no_sweepers;
-      numbered = no_crew_numbered _ no_works;
       few = omega (arith, c.requires.few, count, c.reversed.ensures.len, c.in-Ok-open.berths.ok.0, none, c.in-Ok.room.works.ok.0);
       none_ended = c.in-Ok.ensures.ended.0;
       room = omega (arith, c.reversed.result.ok.1, none, c.in-Ok.room.works.ok.0);

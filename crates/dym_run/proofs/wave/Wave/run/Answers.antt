@@ -1,6 +1,6 @@
 use Rattle.std.proofs.Common.{arith, sym, ◌∙◌}
 use Rattle.dym_base.specs.Origins.{shared}
-use Rattle.dym_run.proofs.Crews.{quotas_same, supplies_same, length_same, numbered_same}
+use Rattle.dym_run.proofs.Crews.{quotas_same, supplies_same, length_same}
 use Rattle.dym_run.proofs.Seen.{seen_back}
 use Rattle.dym_run.proofs.wave.Wave.run.Goals as goal
 
@@ -21,7 +21,6 @@ invariant_of-wave g c =
       all = omega (arith, old.all, quotas_same old.works.items works same);
       named = old.named ∙ sym long;
       swept = c.run_crew-works.ensures.swept;
-      numbered = numbered_same old.works.items works same old.numbered;
       few = omega (arith, old.few, long, ok, old.works.ok.0);
       none_ended = old.none_ended;
       room = omega (arith, old.room, long, ok, old.works.ok.0);
