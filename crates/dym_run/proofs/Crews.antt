@@ -8,9 +8,12 @@ use Rattle.std.proofs.Math.Seq.{get_or-append_seam}
 use Rattle.dym_base.specs.Origins.{Origin, TableName, shared}
 use Rattle.dym_slots.specs.Meanings.{SweeperMeaning}
 use Rattle.dym_pool.specs.Jobs.{Numbered, labels}
-use Rattle.dym_wave.specs.Waves.{AreSweptBy}
+use Rattle.dym_script.specs.declared.parts.Part.{Part}
+use Rattle.dym_wave.specs.Waves.{AreSweptBy, SameTables}
 use Rattle.dym_wave.specs.Works.{WorkMeaning, OriginMeaning, number_of, origin_of}
-use Rattle.dym_run.specs.Ends.{Shown, EndedMeaning, all_shown, origin_shown, works_shown, work_share, ended_share}
+use Rattle.dym_run.specs.Ends.{Shown, EndedMeaning, Boarded, all_shown, origin_shown, own_shown, works_shown, work_share, ended_share}
+use Rattle.dym_run.specs.Parts.{own_of}
+use Rattle.dym_run.specs.declared.telling.Telling.{Telling}
 
 -- a list without any element
 pub none_left : {X : Type 0} → (xs : List X) → length xs ≡ 0 → xs ≡ []
@@ -81,6 +84,18 @@ numbered_more works w numbered is = λ k d within. at k d (last_or_before k (len
     at : (k : ℕ) (d : WorkMeaning) → (k < length works) ⊎ (k ≡ length works) → number_of (slice_index_or (works ++ w ∷ []) k d) ≡ k
     at k d (inl before) = ap number_of (get_or_append_left works (w ∷ []) d k before) ∙ numbered k d before
     at k d (inr last) = ap number_of (ap (λ n. get_or (works ++ w ∷ []) n d) last ∙ get_or-append_seam works w [] d) ∙ is ∙ sym last
+
+-- nothing was printed before, and what is printed after is that of the ended objects
+pub boarded_ended : (telling : Telling) (count : ℕ) (before after : List Part) (names : List (List ℕ)) (works : List WorkMeaning) (mid shown : List Shown) → names ≡ []
+    → Boarded telling count before after (works_shown telling.views names works) mid → shown ≡ mid → Boarded telling count before after [] shown
+boarded_ended telling count before after names works mid shown none b is =
+    let shows : Part → Shown = λ x. own_shown telling (own_of x) in
+    record {
+      done = b.done;
+      counted = b.counted;
+      taken = b.taken;
+      shown = is ∙ b.shown ∙ ap (λ l. works_shown telling.views l works ++ map shows b.done) none;
+    }
 
 -- ---- works that leave their lists at the end
 
@@ -191,6 +206,39 @@ origins_back before after same = sym (of after) ∙ ap (map (λ (l : ℕ × Orig
     of : (works : List WorkMeaning) → map (λ (l : ℕ × OriginMeaning). l.1) (labels number_of origin_of works) ≡ map origin_of works
     of [] = refl
     of (w ∷ works) = ap (λ l. w.origin ∷ l) (of works)
+
+-- sweepers of the same tables, and works of the same origins
+pub still_swept : (works after : List WorkMeaning) (sweepers swept : List SweeperMeaning) → map origin_of after ≡ map origin_of works → SameTables sweepers swept
+    → AreSweptBy works sweepers → AreSweptBy after swept
+still_swept works after sweepers swept same tables of =
+    let long = length_same works after same in
+    record {
+      same = tables.same ∙ of.same ∙ sym long;
+      tables = λ k w s within.
+          let in' : k < length works = omega (arith, within, long) in
+          ap (λ (o : OriginMeaning). o.keep)
+          (sym (get_or-map origin_of after k w (origin_of w) within) ∙ ap (λ l. get_or l k (origin_of w)) same ∙ get_or-map origin_of works k w (origin_of w) in')
+          ∙ of.tables k w s in' ∙ ap shared (sym (tables.tables k s (omega (arith, in', of.same))));
+    }
+
+-- the same is printed of works with the same origins
+pub shown_same : (views : Bool) (names : List (List ℕ)) (before after : List WorkMeaning) → map origin_of after ≡ map origin_of before
+    → works_shown views names after ≡ works_shown views names before
+shown_same views names before after same = ap (all_shown views names) same
+
+-- a list with the same works is of the same origins
+pub origins_as : (before after : List WorkMeaning) → after ≡ before → map origin_of after ≡ map origin_of before
+origins_as before after is = ap (map origin_of) is
+
+-- a list that is moved, the last one first
+pub moved_more : {X : Type 0} → (xs all : List X) (x : X) (ys more : List X) (y : X) (whole : List X) → all ≡ xs ++ x ∷ [] → more ≡ ys ++ y ∷ [] → y ≡ x
+    → all ++ reverse ys ≡ whole → xs ++ reverse more ≡ whole
+moved_more {X} xs all x ys more y whole last put is before =
+    ap (λ l. xs ++ l) (ap reverse put ∙ reverse-append ys (y ∷ []) ∙ ap {B = List X} (λ z. z ∷ reverse ys) is)
+    ∙ sym (append_assoc xs (x ∷ []) (reverse ys)) ∙ ap (λ l. l ++ reverse ys) (sym last) ∙ before
+
+pub moved_all : {X : Type 0} → (xs ys turned whole : List X) → xs ≡ [] → turned ≡ reverse ys → xs ++ reverse ys ≡ whole → turned ≡ whole
+moved_all xs ys turned whole none is before = is ∙ ap (λ l. l ++ reverse ys) (sym none) ∙ before
 
 -- a crew of nobody
 pub no_crew_swept : (works : List WorkMeaning) (sweepers : List SweeperMeaning) → works ≡ [] → sweepers ≡ [] → AreSweptBy works sweepers

@@ -2,6 +2,7 @@ pub mod Berths
 pub mod Boarding
 pub mod Crews
 pub mod KeptLines
+pub mod Leavings
 pub mod Progress
 pub mod QuotaRuns
 pub mod Seen

@@ -1,5 +1,5 @@
 -- What is seen of works, in lists of one length with them.
-use Rattle.std.proofs.Common.{◌≡◌, ℕ, Bool, true, false, List, [], ◌∷◌, ◌++◌, length, map, take, get_or, Option, None, Some, option_to_list, MatchOption, refl, sym, ap, ◌∙◌, arith, append-nil, length-append, Result, Ok, Err, IfOk}
+use Rattle.std.proofs.Common.{◌≡◌, ℕ, Bool, true, false, List, [], ◌∷◌, ◌++◌, length, map, take, get_or, Option, None, Some, option_to_list, MatchOption, refl, sym, ap, ◌∙◌, arith, append-nil, length-append, Result, Ok, Err, OnOk}
 use Rattle.std.proofs.lemmas.List.{length-map, map_push}
 use Rattle.std.proofs.Math.Seq.{get_or-append_seam, take_at}
 use Rattle.dym_base.specs.Objects.{run_end}
@@ -46,7 +46,7 @@ pub seen_same : (views : Bool) (lines : List (Option ViewLine)) (before after : 
 seen_same false lines before after same seen = seen
 seen_same true lines before after same seen = seen ∙ sym (map_twice end_view origin_of before) ∙ ap (map end_view) (sym same) ∙ map_twice end_view origin_of after
 
-pub seen_back : {T E : Type 0} (of : T → List (Option ViewLine)) (views : Bool) (r : Result T E) (before after : List WorkMeaning) → map origin_of after ≡ map origin_of before
-    → IfOk r (λ lines. AreSeen views (of lines) before) → IfOk r (λ lines. AreSeen views (of lines) after)
-seen_back of views (Ok lines) before after same seen = seen_same views (of lines) before after same seen
-seen_back of views (Err e) before after same seen = tt
+-- what follows from three facts at Ok
+pub on_ok_all : {T E : Type 0} (r : Result T E) {A B C D : Type 0} → (A → B → C → D) → OnOk r A → OnOk r B → OnOk r C → OnOk r D
+on_ok_all (Ok x) f a b c = f a b c
+on_ok_all (Err e) f a b c = tt

@@ -75,7 +75,7 @@ pub tally_of_parts : (v : Telling) (parts : List Part) → tally_shown (parts_sh
 tally_of_parts v [] = refl
 tally_of_parts v (p ∷ parts) = λ i. both_tallies (part_tally v p i) (tally_of_parts v parts i)
 
-length_replies : (v : Version) (quota : ℕ) (s : ObjectState) (commands : List Command) → length (replies_from v quota s commands) ≡ length commands
+pub length_replies : (v : Version) (quota : ℕ) (s : ObjectState) (commands : List Command) → length (replies_from v quota s commands) ≡ length commands
 length_replies v quota s [] = refl
 length_replies v quota s (c ∷ cs) = ap suc (length_replies v quota (object_step v quota s c).object cs)
 

@@ -4,3 +4,4 @@ pub mod Parts
 pub mod Views
 pub mod Ends
 pub mod Places
+pub mod Passengers

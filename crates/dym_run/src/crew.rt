@@ -1,5 +1,5 @@
 //! The works of a wave with their sweepers.
-ghost use Rattle.std.specs.Prelude.{◌≡◌, ◌≤◌, false, [], None, IfOk, IfErr, OnOk, map, vec_len, All};
+ghost use Rattle.std.specs.Prelude.{◌≡◌, ◌≤◌, false, [], None, IfOk, IfErr, OnOk, map, vec_len, vec_capacity, All};
 ghost use Rattle.dym_base.specs.Objects.{object_start};
 ghost use Rattle.dym_base.specs.Origins.{shared};
 ghost use Rattle.dym_base.specs.declared.limits.TheConstants.{MOST_OBJECTS, MOST_QUANTUM, MOST_QUOTA, MOST_WORKERS};
@@ -8,6 +8,8 @@ ghost use Rattle.dym_wave.specs.Waves.{AreSweptBy, OfOneQueue};
 ghost use Rattle.dym_wave.specs.Works.{left_of, number_of, origin_of};
 ghost use Rattle.dym_run.specs.Ends.{AreSeen, IsFresh};
 
+use crate::passenger::Passenger;
+use crate::reversed::reversed;
 use dym_base::Version;
 use dym_base::limits::{MOST_OBJECTS, MOST_QUANTUM, MOST_QUOTA, MOST_WORKERS};
 use dym_chain::SlotKeep;
@@ -18,7 +20,7 @@ use dym_quota::{Berth, Supply};
 use dym_report::ViewLine;
 use dym_slots::{Owner, Sweeper};
 use dym_views::{Seen, run_viewed};
-use dym_wave::{Work, run_wave};
+use dym_wave::{Work, run_swept};
 use std::alloc::{AllocError, Global};
 use std::sync::Wait;
 use std::thread::Threads;
@@ -68,84 +70,133 @@ pub(crate) fn open_work<R: Wait>(
     }
 }
 
+/// Passengers that were run, their sweepers, what is seen of each where views are told, and whether all of them ran all their commands.
+pub(crate) struct Arrival<R: Wait> {
+    pub(crate) passengers: Vec<Passenger<R>>,
+    pub(crate) sweepers: Vec<Sweeper>,
+    pub(crate) lines: Vec<Option<ViewLine>>,
+    pub(crate) ran: Result<(), AllocError>,
+}
+
 /// Runs works that have run nothing to their ends, while their log tables are swept, and looks at their views where these are told. Only
 /// memory can be wanting; the works then stand as they came, or a work found no memory for one of its commands or its view.
+///
+/// They come back as passengers, in an empty list with room for them. Where no view is told, each gives its records up as it ends.
 pub(crate) fn run_crew<R: Threads + Wait + Send + Sync, G: Gate>(
     rt: &R,
     alloc: Global,
     views: bool,
     works: Vec<Work<R>>,
+    passengers: Vec<Passenger<R>>,
     sweepers: Vec<Sweeper>,
     workers: u32,
     gate: &G,
-) -> Seen<R>
+) -> Arrival<R>
     requires few { vec_len works ≤ MOST_OBJECTS }
     requires numbered { Numbered number_of works.items }
     requires fresh { All IsFresh works.items }
     requires queue { OfOneQueue works.items }
     requires swept { AreSweptBy works.items sweepers.items }
+    requires none { passengers.items ≡ [] }
+    requires room { vec_len works ≤ vec_capacity passengers }
     requires some { 1 ≤ workers }
     requires most { workers ≤ MOST_WORKERS }
-    ensures origins { map origin_of result.works.items ≡ map origin_of works.items }
-    ensures swept { AreSweptBy result.works.items result.sweepers.items }
-    ensures ended { OnOk result.lines (AllEnded left_of result.works.items) }
-    ensures long { OnOk result.lines (All (λ w. w.short ≡ false) result.works.items) }
-    ensures seen { IfOk result.lines (λ lines. AreSeen views lines.items works.items) }
+    ensures origins { map origin_of result.passengers.items ≡ map origin_of works.items }
+    ensures swept { AreSweptBy result.passengers.items result.sweepers.items }
+    ensures ended { OnOk result.ran (AllEnded left_of result.passengers.items) }
+    ensures long { OnOk result.ran (All (λ w. w.short ≡ false) result.passengers.items) }
+    ensures seen { OnOk result.ran (AreSeen views result.lines.items works.items) }
 {
     if views {
-        run_viewed(rt, alloc, works, sweepers, workers, gate)
+        let Seen {
+            works,
+            sweepers,
+            lines,
+        } = run_viewed(rt, alloc, works, sweepers, workers, gate);
+        let passengers = embark(works, passengers);
+        match lines {
+            Ok(lines) => Arrival {
+                passengers,
+                sweepers,
+                lines,
+                ran: Ok(()),
+            },
+            Err(error) => Arrival {
+                passengers,
+                sweepers,
+                lines: Vec::new(alloc),
+                ran: Err(error),
+            },
+        }
     } else {
-        run_plain(rt, alloc, works, sweepers, workers, gate)
+        let passengers = embark(works, passengers);
+        run_plain(rt, alloc, passengers, sweepers, workers, gate)
     }
 }
 
-/// The same where no view is told.
+/// Works as passengers, in an empty list that has room for them.
+pub(crate) fn embark<R: Wait>(
+    mut works: Vec<Work<R>>,
+    mut passengers: Vec<Passenger<R>>,
+) -> Vec<Passenger<R>>
+    requires none { passengers.items ≡ [] }
+    requires room { vec_len works ≤ vec_capacity passengers }
+    ensures { result.items ≡ works.items }
+{
+    while let Some(work) = works.pop() {
+        passengers.push_reserved(Passenger::new(work));
+    }
+    works.destroy_empty();
+    reversed(passengers)
+}
+
+/// Runs passengers to their ends, while their log tables are swept, where no view is told.
 fn run_plain<R: Threads + Wait + Send + Sync, G: Gate>(
     rt: &R,
     alloc: Global,
-    works: Vec<Work<R>>,
+    passengers: Vec<Passenger<R>>,
     sweepers: Vec<Sweeper>,
     workers: u32,
     gate: &G,
-) -> Seen<R>
-    requires few { vec_len works ≤ MOST_OBJECTS }
-    requires numbered { Numbered number_of works.items }
-    requires queue { OfOneQueue works.items }
-    requires swept { AreSweptBy works.items sweepers.items }
+) -> Arrival<R>
+    requires few { vec_len passengers ≤ MOST_OBJECTS }
+    requires numbered { Numbered number_of passengers.items }
+    requires swept { AreSweptBy passengers.items sweepers.items }
     requires some { 1 ≤ workers }
     requires most { workers ≤ MOST_WORKERS }
-    ensures origins { map origin_of result.works.items ≡ map origin_of works.items }
-    ensures swept { AreSweptBy result.works.items result.sweepers.items }
-    ensures ended { OnOk result.lines (AllEnded left_of result.works.items) }
-    ensures long { OnOk result.lines (All (λ w. w.short ≡ false) result.works.items) }
-    ensures none { IfOk result.lines (λ lines. lines.items ≡ []) }
+    ensures origins { map origin_of result.passengers.items ≡ map origin_of passengers.items }
+    ensures swept { AreSweptBy result.passengers.items result.sweepers.items }
+    ensures ended { OnOk result.ran (AllEnded left_of result.passengers.items) }
+    ensures long { OnOk result.ran (All (λ w. w.short ≡ false) result.passengers.items) }
+    ensures none { result.lines.items ≡ [] }
 {
-    match run_wave(rt, alloc, works, sweepers, workers, gate) {
-        Ok((works, sweepers, _)) => {
-            let lines = all_ran(alloc, &works);
-            Seen {
-                works,
+    match run_swept(rt, alloc, passengers, sweepers, workers, gate) {
+        Ok((passengers, sweepers, _)) => {
+            let ran = all_ran(&passengers);
+            Arrival {
+                passengers,
                 sweepers,
-                lines,
+                lines: Vec::new(alloc),
+                ran,
             }
         }
-        Err((error, works, sweepers)) => Seen {
-            works,
+        Err((error, passengers, sweepers)) => Arrival {
+            passengers,
             sweepers,
-            lines: Err(error),
+            lines: Vec::new(alloc),
+            ran: Err(error),
         },
     }
 }
 
-/// No line, where no work found its memory wanting.
-fn all_ran<R: Wait>(alloc: Global, works: &[Work<R>]) -> Result<Vec<Option<ViewLine>>, AllocError>
-    ensures long { OnOk result (All (λ w. w.short ≡ false) works.now) }
-    ensures none { IfOk result (λ lines. lines.items ≡ []) }
+/// Whether no passenger found its memory wanting.
+fn all_ran<R: Wait>(passengers: &[Passenger<R>]) -> Result<(), AllocError>
+    ensures { OnOk result (All (λ w. w.short ≡ false) passengers.now) }
 {
-    for work in works {
-        if work.short() {
+    for passenger in passengers {
+        if passenger.short() {
             return Err(AllocError);
         }
     }
-    Ok(Vec::new(alloc))
+    Ok(())
 }

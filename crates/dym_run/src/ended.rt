@@ -8,7 +8,10 @@ ghost use Rattle.dym_wave.specs.Works.{left_of};
 ghost use Rattle.dym_run.specs.Ends.{outcome, origin_shown, shown_text, IsTallyOf};
 ghost use Rattle.dym_run.specs.Views.{told_line, told_view};
 
+use crate::passenger::Passenger;
 use crate::printed::write_part;
+use crate::remains::Remains;
+use crate::spent_table::SpentTable;
 use crate::tally::Tally;
 use dym_base::Name;
 use dym_heap::Heap;
@@ -17,11 +20,11 @@ use dym_quota::{Berth, Supply};
 use dym_report::{ViewLine, live_chunks, write_view};
 use dym_slots::Sweeper;
 use dym_turn::Replies;
-use dym_wave::Work;
 use std::marker::Model;
 use std::sync::Wait;
 
-/// What is left of an object once its table of logs was given up: all that is printed of it, and its heap, which holds its segments.
+/// What is left of an object that has run: all that is printed of it, its heap, which holds its segments, and its log table, until that is
+/// given up.
 pub(crate) struct Ended<R: Wait> {
     name: Name,
     replies: Replies,
@@ -29,6 +32,7 @@ pub(crate) struct Ended<R: Wait> {
     kept: u32,
     slots: u32,
     view: Option<Option<ViewLine>>,
+    table: Option<SpentTable>,
 }
 
 impl<R: Wait> Model for Ended<R> {
@@ -46,25 +50,29 @@ impl<R: Wait> Model for Ended<R> {
 }
 
 impl<R: Wait> Ended<R> {
-    /// Splits a work into its replies, its heap and its records, which its sweeper counts as it gives their table up. Its view is told
-    /// where there is one.
+    /// What is left of a passenger, with its sweeper. Its view is told where there is one.
     pub(crate) fn of(
         name: Name,
-        work: Work<R>,
+        passenger: Passenger<R>,
         sweeper: Sweeper,
         view: Option<Option<ViewLine>>,
     ) -> Ended<R>
-        requires table { work.origin.keep ≡ shared sweeper.table }
-        ensures is { result ≡ outcome name work view }
-        ensures whole { (views : Bool) → left_of work ≡ 0 → work.short ≡ false
-            → view ≡ told_view views (run_end work.origin.version work.origin.quota work.origin.commands) → result.shown ≡ origin_shown views name work.origin }
-        ensures quota { result.quota ≡ work.origin.quota }
-        ensures supply { result.supply ≡ work.origin.supply }
+        requires table { passenger.origin.keep ≡ shared sweeper.table }
+        ensures is { result ≡ outcome name passenger view }
+        ensures whole { (views : Bool) → left_of passenger ≡ 0 → passenger.short ≡ false
+            → view ≡ told_view views (run_end passenger.origin.version passenger.origin.quota passenger.origin.commands) → result.shown ≡ origin_shown views name passenger.origin }
+        ensures quota { result.quota ≡ passenger.origin.quota }
+        ensures supply { result.supply ≡ passenger.origin.supply }
     {
-        let (replies, object) = work.split();
-        let kept = object.kept();
-        let (heap, keep) = object.split();
-        let slots = sweeper.finish(keep.into_owner());
+        let Remains {
+            number: _,
+            commands: _,
+            replies,
+            heap,
+            kept,
+            slots,
+            owner,
+        } = passenger.leave();
         Ended {
             name,
             replies,
@@ -72,6 +80,16 @@ impl<R: Wait> Ended<R> {
             kept,
             slots,
             view,
+            table: Some(SpentTable::new(owner, sweeper)),
+        }
+    }
+
+    /// Gives the log table up, where it still stands.
+    pub(crate) fn finish_table(&mut self)
+        ensures { self.new ≡ self.old }
+    {
+        if let Some(table) = self.table.take() {
+            table.finish();
         }
     }
 
@@ -119,6 +137,7 @@ impl<R: Wait> Ended<R> {
             kept: _,
             slots: _,
             view: _,
+            table: _,
         } = self;
         heap.end(rt)
     }

@@ -9,14 +9,17 @@
 
 mod crew;
 mod ended;
+mod passenger;
 mod places;
 mod printed;
 mod quotas;
+mod remains;
 mod reversed;
 mod room;
 mod roster;
 mod settled;
 mod shape;
+mod spent_table;
 mod tally;
 mod telling;
 #[cfg(test)]

@@ -9,14 +9,19 @@ ghost use Rattle.dym_wave.specs.Works.{left_of};
 ghost use Rattle.dym_run.specs.Ends.{works_shown, work_share, ended_share, AreSeen};
 
 use crate::ended::Ended;
+use crate::passenger::Passenger;
 use crate::reversed::reversed;
 use dym_base::Name;
 use dym_quota::{Berth, QuotaQueue, Supply};
 use dym_region::{RawSegment, Segment};
 use dym_report::ViewLine;
 use dym_slots::Sweeper;
-use dym_wave::Work;
 use std::sync::Wait;
+use std::thread;
+use std::thread::Threads;
+
+/// So many log tables are given up by one thread in about the time that another takes to start.
+const TABLES_OF_ONE: usize = 128;
 
 /// The objects of a wave that have run, in order, and the berths over which no object stands. Their queue has all segments once the
 /// objects are ended.
@@ -49,29 +54,43 @@ impl<R: Wait> Settled<R> {
     }
 }
 
-/// Splits works, each under its name and with its line where there are lines, and counts their records. What is left of them comes in
-/// the same order, into an empty list with room for it.
-pub(crate) fn settle<R: Wait>(
+/// What is left of passengers, each under its name and with its line where there are lines, in the same order, in an empty list with room
+/// for it. Their log tables are given up.
+pub(crate) fn settle<R: Threads + Wait + Send + Sync>(
+    rt: &R,
+    workers: u32,
     mut names: Vec<Name>,
-    mut works: Vec<Work<R>>,
+    mut passengers: Vec<Passenger<R>>,
     mut sweepers: Vec<Sweeper>,
     mut lines: Vec<Option<ViewLine>>,
     mut ended: Vec<Ended<R>>,
 ) -> Vec<Ended<R>>
-    requires names { length names.items ≡ length works.items }
-    requires swept { AreSweptBy works.items sweepers.items }
+    requires some { 1 ≤ workers }
+    requires names { length names.items ≡ length passengers.items }
+    requires swept { AreSweptBy passengers.items sweepers.items }
     requires none { ended.items ≡ [] }
-    requires room { vec_len works ≤ vec_capacity ended }
-    ensures shares { map ended_share result.items ≡ map work_share works.items }
-    ensures shown { (views : Bool) → AllEnded left_of works.items → All (λ w. w.short ≡ false) works.items → AreSeen views lines.items works.items
-        → map (λ e. e.shown) result.items ≡ works_shown views names.items works.items }
+    requires room { vec_len passengers ≤ vec_capacity ended }
+    ensures shares { map ended_share result.items ≡ map work_share passengers.items }
+    ensures shown { (views : Bool) → AllEnded left_of passengers.items → All (λ w. w.short ≡ false) passengers.items
+        → AreSeen views lines.items passengers.items → map (λ e. e.shown) result.items ≡ works_shown views names.items passengers.items }
 {
-    while let Some(work) = works.pop() {
+    while let Some(passenger) = passengers.pop() {
         let name = names.take_last();
         let sweeper = sweepers.take_last();
         let line = lines.pop();
-        ended.push_reserved(Ended::of(name, work, sweeper, line));
+        ended.push_reserved(Ended::of(name, passenger, sweeper, line));
     }
-    works.destroy_empty();
-    reversed(ended)
+    passengers.destroy_empty();
+    let mut ended = reversed(ended);
+    finish_tables(rt, workers, &mut ended);
+    ended
+}
+
+/// Gives up the log tables of objects that have run, side by side by these workers where each has many of them.
+fn finish_tables<R: Threads + Wait + Send + Sync>(rt: &R, workers: u32, ended: &mut Vec<Ended<R>>)
+    requires some { 1 ≤ workers }
+    ensures same { ended.new.items ≡ ended.old.items }
+{
+    let threads = (workers as usize).min(1 + ended.len() / TABLES_OF_ONE);
+    thread::for_each_mut(rt, ended, threads, &|_, object| object.finish_table());
 }

@@ -1,17 +1,18 @@
 //! A wave: objects that run side by side over one queue of segments.
-ghost use Rattle.std.specs.Prelude.{◌≡◌, ℕ, ◌+◌, ◌<◌, ◌≤◌, List, Bool, false, [], ◌++◌, IfOk, IfErr, OnOk, length, map, reverse, sum, sum_by, vec_len, vec_capacity, All};
+ghost use Rattle.std.specs.Prelude.{◌≡◌, ◌+◌, ◌<◌, ◌≤◌, [], ◌++◌, IfOk, IfErr, OnOk, length, map, reverse, sum, sum_by, vec_len, vec_capacity, All};
 ghost use Rattle.dym_base.specs.Origins.{shared};
 ghost use Rattle.dym_base.specs.declared.limits.TheConstants.{MOST_OBJECTS, MOST_QUOTA, MOST_WORKERS};
-ghost use Rattle.dym_pool.specs.Jobs.{AllEnded, Numbered};
+ghost use Rattle.dym_pool.specs.Jobs.{Numbered};
 ghost use Rattle.dym_quota.specs.Berths.{IsIdleBerth};
 ghost use Rattle.dym_region.specs.Identity.{AreDistinct};
 ghost use Rattle.dym_wave.specs.Waves.{AreSweptBy};
-ghost use Rattle.dym_wave.specs.Works.{left_of, number_of};
-ghost use Rattle.dym_run.specs.Ends.{works_shown, AreSeen, Boarded, IsFresh};
+ghost use Rattle.dym_wave.specs.Works.{number_of};
+ghost use Rattle.dym_run.specs.Ends.{works_shown, Boarded, IsFresh};
 ghost use Rattle.dym_run.specs.Parts.{IsShape, StandInLine};
 
-use crate::crew::run_crew;
+use crate::crew::{Arrival, embark, run_crew};
 use crate::ended::Ended;
+use crate::passenger::Passenger;
 use crate::places::{leave_places, open_places, take_places};
 use crate::reversed::reversed;
 use crate::room::Room;
@@ -23,10 +24,8 @@ use dym_base::limits::{MOST_OBJECTS, MOST_QUOTA, MOST_WORKERS};
 use dym_pool::Gate;
 use dym_quota::{Berth, QuotaQueue, Supply};
 use dym_region::{RawSegment, Segment};
-use dym_report::ViewLine;
 use dym_script::Part;
 use dym_slots::Sweeper;
-use dym_views::Seen;
 use dym_wave::Work;
 use std::alloc::{AllocError, Global};
 use std::collections::VecDeque;
@@ -40,6 +39,7 @@ pub(crate) struct Wave<R: Wait> {
     pub(crate) names: Vec<Name>,
     pub(crate) works: Vec<Work<R>>,
     pub(crate) sweepers: Vec<Sweeper>,
+    passengers: Vec<Passenger<R>>,
     ended: Vec<Ended<R>>,
     ghost idle: { All (IsIdleBerth queue.name) berths.items },
     ghost some_quota: { All (λ b. (1 ≤ b.quota) × (b.quota ≤ MOST_QUOTA)) berths.items },
@@ -48,8 +48,10 @@ pub(crate) struct Wave<R: Wait> {
     ghost named: { length names.items ≡ length works.items },
     ghost swept: { AreSweptBy works.items sweepers.items },
     ghost few: { vec_len berths + vec_len works ≤ MOST_OBJECTS },
+    ghost none_aboard: { passengers.items ≡ [] },
     ghost none_ended: { ended.items ≡ [] },
     ghost room: { vec_len berths + vec_len works ≤ vec_capacity berths },
+    ghost room_for_passengers: { vec_len berths + vec_len works ≤ vec_capacity passengers },
     ghost room_for_ended: { vec_len berths + vec_len works ≤ vec_capacity ended },
 }
 
@@ -77,6 +79,7 @@ impl<R: Wait> Wave<R> {
             names,
             works,
             sweepers,
+            passengers,
             ended,
         } = match Room::open(alloc, quotas.len()) {
             Ok(room) => room,
@@ -89,10 +92,12 @@ impl<R: Wait> Wave<R> {
                 names,
                 works,
                 sweepers,
+                passengers,
                 ended,
             }),
             Err(refused) => {
                 works.destroy_empty();
+                passengers.destroy_empty();
                 ended.destroy_empty();
                 Err(refused)
             }
@@ -146,7 +151,7 @@ impl<R: Wait> Wave<R> {
         }
     }
 
-    /// Opens an object over each berth, runs all of them, and splits them. Only memory can be wanting: what was opened is then split as it
+    /// Opens an object over each berth, runs all of them, and settles them. Only memory can be wanting: what was opened is then settled as it
     /// stands.
     pub(crate) fn run_all<G: Gate>(
         mut self,
@@ -168,17 +173,13 @@ impl<R: Wait> Wave<R> {
         ensures ran { OnOk result.1 (Boarded telling (vec_len self.berths) parts.old.items parts.new.items [] (map (λ e. e.shown) result.0.ended.items)) }
     {
         if let Err(error) = self.board_all(rt, alloc, telling, shape, parts) {
-            return (self.settle(Vec::new(alloc)), Err(error));
+            return (self.settle(rt, alloc), Err(error));
         }
-        let (wave, ran) = self.run(rt, alloc, telling.views, shape.workers, gate);
-        match ran {
-            Ok(lines) => (wave.settle(lines), Ok(())),
-            Err(error) => (wave.settle(Vec::new(alloc)), Err(error)),
-        }
+        self.run(rt, alloc, telling.views, shape.workers, gate)
     }
 
-    /// Runs all works to their ends, and answers what is seen of them where views are told. Only memory can be wanting: the wave then
-    /// stands as it came, or some of its works ran a part of their commands.
+    /// Runs all works to their ends, and settles them, each with what is seen of it where views are told. Only memory can be wanting: the
+    /// works then stand as they came, or some of them ran a part of their commands.
     pub(crate) fn run<G: Gate>(
         self,
         rt: &R,
@@ -186,7 +187,7 @@ impl<R: Wait> Wave<R> {
         views: bool,
         workers: u32,
         gate: &G,
-    ) -> (Wave<R>, Result<Vec<Option<ViewLine>>, AllocError>)
+    ) -> (Settled<R>, Result<(), AllocError>)
     where
         R: Threads + Send + Sync,
         requires least { 1 ≤ workers }
@@ -194,10 +195,7 @@ impl<R: Wait> Wave<R> {
         requires fresh { All IsFresh self.works.items }
         requires numbered { Numbered number_of self.works.items }
         ensures queue { result.0.queue ≡ self.queue }
-        ensures shown { works_shown views result.0.names.items result.0.works.items ≡ works_shown views self.names.items self.works.items }
-        ensures ended { OnOk result.1 (AllEnded left_of result.0.works.items) }
-        ensures long { OnOk result.1 (All (λ w. w.short ≡ false) result.0.works.items) }
-        ensures seen { IfOk result.1 (λ lines. AreSeen views lines.items result.0.works.items) }
+        ensures shown { OnOk result.1 (map (λ e. e.shown) result.0.ended.items ≡ works_shown views self.names.items self.works.items) }
     {
         let Wave {
             queue,
@@ -205,29 +203,28 @@ impl<R: Wait> Wave<R> {
             names,
             works,
             sweepers,
+            passengers,
             ended,
         } = self;
-        let Seen {
-            works,
+        let Arrival {
+            passengers,
             sweepers,
             lines,
-        } = run_crew(rt, alloc, views, works, sweepers, workers, gate);
-        let wave = Wave {
+            ran,
+        } = run_crew(rt, alloc, views, works, passengers, sweepers, workers, gate);
+        let settled = Settled {
             queue,
             berths,
-            names,
-            works,
-            sweepers,
-            ended,
+            ended: settle(rt, workers, names, passengers, sweepers, lines, ended),
         };
-        (wave, lines)
+        (settled, ran)
     }
 
-    /// Splits the works, each with its line where there are lines, and counts their records.
-    pub(crate) fn settle(self, lines: Vec<Option<ViewLine>>) -> Settled<R>
+    /// Settles the works as they stand, none of which has run.
+    fn settle(self, rt: &R, alloc: Global) -> Settled<R>
+    where
+        R: Threads + Send + Sync,
         ensures queue { result.queue ≡ self.queue }
-        ensures shown { (views : Bool) → AllEnded left_of self.works.items → All (λ w. w.short ≡ false) self.works.items → AreSeen views lines.items self.works.items
-            → map (λ e. e.shown) result.ended.items ≡ works_shown views self.names.items self.works.items }
     {
         let Wave {
             queue,
@@ -235,13 +232,14 @@ impl<R: Wait> Wave<R> {
             names,
             works,
             sweepers,
+            passengers,
             ended,
         } = self;
-        let ended = settle(names, works, sweepers, lines, ended);
+        let passengers = embark(works, passengers);
         Settled {
             queue,
             berths,
-            ended,
+            ended: settle(rt, 1, names, passengers, sweepers, Vec::new(alloc), ended),
         }
     }
 }

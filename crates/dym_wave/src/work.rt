@@ -3,7 +3,7 @@ ghost use Rattle.std.specs.Prelude.{◌≡◌, ◌≤◌, IfOk, IfErr};
 ghost use Rattle.dym_base.specs.Objects.{object_start};
 ghost use Rattle.dym_base.specs.declared.limits.TheConstants.{MOST_QUANTUM};
 ghost use Rattle.dym_object.specs.Meaning.{IsWhole, state_of};
-ghost use Rattle.dym_wave.specs.Works.{JobMeaning, EndsWhole, opened};
+ghost use Rattle.dym_wave.specs.Works.{JobMeaning, EndsWhole, opened, origin_with};
 
 use dym_base::limits::MOST_QUANTUM;
 use dym_chain::SlotKeep;
@@ -109,14 +109,26 @@ impl<R: Wait> Work<R> {
         ensures job { JobMeaning self }
         ensures whole { EndsWhole self }
     {
+        let (_, _, replies, object) = self.into_parts();
+        (replies, object)
+    }
+
+    /// Takes the work apart: its number, its commands, the replies, and the object as it stands.
+    pub fn into_parts(self) -> (u32, Commands, Replies, Object<Berth<R>, SlotKeep>)
+        ensures origin { self.origin ≡ origin_with result.0 result.1 result.3 }
+        ensures replies { result.2.replies ≡ self.replies }
+        ensures object { result.3 ≡ self.object }
+        ensures job { JobMeaning self }
+        ensures whole { EndsWhole self }
+    {
         let Work {
-            number: _,
+            number,
             quantum: _,
-            commands: _,
+            commands,
             replies,
             turn,
             short: _,
         } = self;
-        (replies, turn.into_object())
+        (number, commands, replies, turn.into_object())
     }
 }

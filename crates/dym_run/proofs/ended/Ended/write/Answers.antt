@@ -1,4 +1,4 @@
-use Rattle.std.proofs.Common.{ℕ, List, subst}
+use Rattle.std.proofs.Common.{subst}
 use Rattle.dym_io.specs.Sink.{Writes}
 use Rattle.dym_io.specs.Laws.{writes_cut, writes_after}
 use Rattle.dym_report.specs.Objects.{object_text}

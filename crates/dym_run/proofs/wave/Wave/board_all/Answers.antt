@@ -98,8 +98,10 @@ invariant_of-self-2 g c =
       );
       swept = subst (AreSweptBy works) (sym put.sweepers) (subst (λ l. AreSweptBy l (old.sweepers.items ++ flat_map sweepers_at after)) (sym put.works) (came.swept old.works.items old.sweepers.items old.swept));
       few = omega (arith, old.few, many);
+      none_aboard = old.none_aboard;
       none_ended = old.none_ended;
       room = omega (arith, old.room, many, put.capacity, it.room);
+      room_for_passengers = omega (arith, old.room_for_passengers, many);
       room_for_ended = omega (arith, old.room_for_ended, many);
     }
 

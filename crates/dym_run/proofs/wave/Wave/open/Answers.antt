@@ -32,8 +32,10 @@ invariant_of-result g c =
       named = ap length no_names ∙ sym (ap length no_works);
       swept = no_crew_swept _ _ no_works no_sweepers;
       few = omega (arith, c.requires.few, count, c.reversed.ensures.len, c.in-Ok-open.berths.ok.0, none, c.in-Ok.room.works.ok.0);
+      none_aboard = c.in-Ok.ensures.passengers.0;
       none_ended = c.in-Ok.ensures.ended.0;
       room = omega (arith, c.reversed.result.ok.1, none, c.in-Ok.room.works.ok.0);
+      room_for_passengers = omega (arith, c.in-Ok.ensures.passengers.1, count, c.reversed.ensures.len, c.in-Ok-open.berths.ok.0, none, c.in-Ok.room.works.ok.0);
       room_for_ended = omega (arith, c.in-Ok.ensures.ended.1, count, c.reversed.ensures.len, c.in-Ok-open.berths.ok.0, none, c.in-Ok.room.works.ok.0);
     }
 
