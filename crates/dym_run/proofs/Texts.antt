@@ -1,6 +1,5 @@
 -- The texts of parts, by what is printed of their objects.
-use Rattle.std.proofs.Common.{◌≡◌, false, List, [], ◌∷◌, ◌++◌, map, flat_map, refl, ap, ◌∙◌, append-nil}
-use Rattle.dym_base.specs.declared.command.Version.{Version}
+use Rattle.std.proofs.Common.{◌≡◌, List, [], ◌∷◌, ◌++◌, map, flat_map, refl, ap, ◌∙◌}
 use Rattle.dym_run.specs.declared.telling.Telling.{Telling}
 use Rattle.dym_script.specs.declared.parts.Part.{Part}
 use Rattle.dym_run.specs.Ends.{EndedMeaning, own_shown, parts_shown, parts_text, shown_text}
@@ -24,8 +23,3 @@ texts_of_ended (e ∷ ended) = ap (λ l. shown_text e.shown ++ l) (texts_of_ende
 pub same_texts : (v : Telling) (ended : List EndedMeaning) (parts : List Part) → map (λ (e : EndedMeaning). e.shown) ended ≡ parts_shown v parts
     → flat_map (λ e. shown_text e.shown) ended ≡ parts_text v parts
 same_texts v ended parts same = texts_of_ended ended ∙ ap (flat_map shown_text) same ∙ texts_of_parts v parts
-
--- where no view is told, the texts are the parts' own
-pub plain_texts : (v : Version) (parts : List Part) → parts_text (record { version = v; views = false }) parts ≡ flat_map (λ (p : Part). part_text v (own_of p)) parts
-plain_texts v [] = refl
-plain_texts v (p ∷ parts) = λ i. append-nil (part_text v (own_of p)) i ++ plain_texts v parts i

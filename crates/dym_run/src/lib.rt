@@ -31,6 +31,7 @@ mod writing;
 
 pub use shape::Shape;
 pub use tally::Tally;
+pub use telling::Telling;
 pub use total::tally_waves;
 pub use write_fail::WriteFail;
-pub use writing::{write_views, write_waves};
+pub use writing::write_waves;

@@ -3,7 +3,7 @@ use dym_base::Version;
 
 /// What is told of objects that run: in which version they do, and whether the line of each object's view stands behind its part.
 #[derive(Clone, Copy, Debug, PartialEq, Eq)]
-pub(crate) struct Telling {
-    pub(crate) version: Version,
-    pub(crate) views: bool,
+pub struct Telling {
+    pub version: Version,
+    pub views: bool,
 }

@@ -3,7 +3,7 @@ ghost use Rattle.std.specs.Prelude.{◌≤◌, IsTrue, length, sum_by, vec_len, 
 ghost use Rattle.dym_base.specs.declared.limits.TheConstants.{MOST_COMMANDS, MOST_INPUT_BYTES, MOST_OBJECTS, MOST_QUOTA};
 ghost use Rattle.dym_run.specs.Parts.{IsRunnable, IsShape};
 
-use crate::{Shape, Tally, tally_waves, write_waves};
+use crate::{Shape, Tally, Telling, tally_waves, write_waves};
 use dym_base::Version;
 use dym_base::limits::{MOST_COMMANDS, MOST_INPUT_BYTES, MOST_OBJECTS, MOST_QUOTA};
 use dym_io::MemSink;
@@ -88,7 +88,11 @@ fn report<R: Threads + Wait + Abort + Send + Sync, G: Gate>(
 {
     let parts = parts_of(rt, alloc, input, shape.segments);
     let mut sink = MemSink::new(alloc, 65_536, 65_536, Vec::new(alloc))?;
-    let written = write_waves(rt, alloc, Version::One, parts, shape, gate, &mut sink);
+    let telling = Telling {
+        version: Version::One,
+        views: false,
+    };
+    let written = write_waves(rt, alloc, telling, parts, shape, gate, &mut sink);
     assert!(rt; written.is_ok());
     Ok(sink.bytes().to_vec(alloc)?)
 }

@@ -4,9 +4,7 @@ ghost use Rattle.dym_base.specs.declared.limits.TheConstants.{MOST_OBJECTS};
 ghost use Rattle.dym_io.specs.Sink.{Writes, WritesOr};
 ghost use Rattle.dym_region.specs.Identity.{AreDistinct};
 ghost use Rattle.dym_run.specs.Ends.{parts_text, shown_text, WritesFirst};
-ghost use Rattle.dym_run.specs.Parts.{own_of, IsRunnable, IsShape};
-ghost use Rattle.dym_run.specs.Report.{part_text};
-ghost use Rattle.dym_run.specs.Views.{viewed_part};
+ghost use Rattle.dym_run.specs.Parts.{IsRunnable, IsShape};
 ghost use Rattle.dym_run.specs.declared.write_fail.WriteFail.TheVariants.{Sink as SinkFailed};
 
 use crate::ended::Ended;
@@ -14,7 +12,6 @@ use crate::roster::Roster;
 use crate::shape::Shape;
 use crate::telling::Telling;
 use crate::write_fail::WriteFail;
-use dym_base::Version;
 use dym_base::limits::MOST_OBJECTS;
 use dym_io::{Sink, SinkFault};
 use dym_pool::Gate;
@@ -25,61 +22,13 @@ use std::mem;
 use std::sync::Wait;
 use std::thread::Threads;
 
-/// Writes the parts of objects, in their order. The objects run in waves: as many side by side as have room in the segments, by these
-/// workers, each for at most so many commands before another takes its turn. The text is the same whatever their numbers.
+/// Writes the parts of objects, in their order, and behind each the line of its view where views are told: what a viewer sees, in the
+/// end, of the oldest log that the object keeps. The objects run in waves: as many side by side as have room in the segments, by these
+/// workers, each for at most so many commands before another takes its turn. Where views are told, each publishes its oldest kept log
+/// while they run, and a thread looks at all of them. The text is the same whatever the numbers of workers, segments and commands.
 ///
 /// The gate is told of each wave and each turn. A call may wait for other threads.
 pub fn write_waves<R: Threads + Wait + Send + Sync, G: Gate, W: Sink>(
-    rt: &R,
-    alloc: Global,
-    version: Version,
-    parts: Vec<Part>,
-    shape: Shape,
-    gate: &G,
-    sink: &mut W,
-) -> Result<(), WriteFail>
-    requires runnable { All IsRunnable parts.items }
-    requires shape { IsShape shape }
-    requires fits { All (λ part. part.decl.quota ≤ shape.segments) parts.items }
-    requires objects { vec_len parts ≤ MOST_OBJECTS }
-    ensures { WritesOr (λ fail. fail ≡ SinkFailed) (W.output sink.old) (W.output sink.new) (flat_map (λ part. part_text version (own_of part)) parts.items) result }
-{
-    let telling = Telling {
-        version,
-        views: false,
-    };
-    write_told(rt, alloc, telling, parts, shape, gate, sink)
-}
-
-/// Writes the parts of objects, in their order, and behind each the line of its view: what a viewer sees, in the end, of the oldest log
-/// that the object keeps. The objects run in waves, as where their parts alone are written; while they run, each publishes its oldest
-/// kept log, and a thread looks at all of them.
-///
-/// The gate is told of each wave and each turn. A call may wait for other threads.
-pub fn write_views<R: Threads + Wait + Send + Sync, G: Gate, W: Sink>(
-    rt: &R,
-    alloc: Global,
-    version: Version,
-    parts: Vec<Part>,
-    shape: Shape,
-    gate: &G,
-    sink: &mut W,
-) -> Result<(), WriteFail>
-    requires runnable { All IsRunnable parts.items }
-    requires shape { IsShape shape }
-    requires fits { All (λ part. part.decl.quota ≤ shape.segments) parts.items }
-    requires objects { vec_len parts ≤ MOST_OBJECTS }
-    ensures { WritesOr (λ fail. fail ≡ SinkFailed) (W.output sink.old) (W.output sink.new) (flat_map (λ part. viewed_part version (own_of part)) parts.items) result }
-{
-    let telling = Telling {
-        version,
-        views: true,
-    };
-    write_told(rt, alloc, telling, parts, shape, gate, sink)
-}
-
-/// Writes what is told of objects, which run in waves.
-fn write_told<R: Threads + Wait + Send + Sync, G: Gate, W: Sink>(
     rt: &R,
     alloc: Global,
     telling: Telling,

@@ -1,5 +1,5 @@
 -- The parts of a script that was read into its objects are these objects, and each may run.
-use Rattle.std.proofs.Common.{◌≡◌, ℕ, suc, ◌+◌, ◌<◌, ◌≤◌, true, false, cond, List, [], ◌∷◌, ◌++◌, length, map, filter, flat_map, All, get_or, refl, sym, ap, subst, ◌∙◌, add-zero, arith, ◌==◌}
+use Rattle.std.proofs.Common.{◌≡◌, ℕ, suc, ◌+◌, ◌<◌, ◌≤◌, true, false, cond, List, [], ◌∷◌, ◌++◌, length, map, filter, flat_map, All, get_or, refl, sym, ap, subst, ◌∙◌, add-zero, append-nil, Bool, arith, ◌==◌}
 use Rattle.std.proofs.Math.ListN.{get_or-map}
 use Rattle.dym_base.specs.declared.command.Version.{Version}
 use Rattle.dym_script.specs.declared.script.Decl.{Decl}
@@ -11,10 +11,12 @@ use Rattle.dym_script.specs.ByObjects.{IsByObjects}
 use Rattle.dym_script.specs.Scripts.{Said, own}
 use Rattle.dym_script.specs.Answers.{IsLawful}
 use Rattle.dym_script.specs.Parts.{EachHas}
+use Rattle.dym_run.specs.Ends.{parts_text}
 use Rattle.dym_run.specs.Parts.{own_of, IsRunnable}
 use Rattle.dym_run.specs.Report.{own_from, objects_of, part_text, report_text}
 use Rattle.dym_report.specs.Orders.{end_text}
 use Rattle.dym_run.specs.Views.{viewed_part, views_text}
+use Rattle.dymelor_top.specs.Answers.{told_text}
 
 -- the commands of the parts from the k-th object on
 abbrev pub OwnsFrom : Said → ℕ → List Part → Type 0
@@ -101,3 +103,14 @@ views_of_parts script s are =
     let ps : List Part = script.kept.parts.items in
     ap (λ l. l ++ end_text) (ap (flat_map (viewed_part s.version)) (sym (parts_are_objects s ps are.keeps.decls are.keeps.commands)) ∙ sym (viewed_of_parts s.version ps))
     ∙ ap (λ v. flat_map (λ part. viewed_part v (own_of part)) ps ++ end_text) are.version
+
+-- where no view is told, the texts are the parts' own
+plain_texts : (v : Version) (parts : List Part) → parts_text (record { version = v; views = false }) parts ≡ flat_map (λ (p : Part). part_text v (own_of p)) parts
+plain_texts v [] = refl
+plain_texts v (p ∷ parts) = λ i. append-nil (part_text v (own_of p)) i ++ plain_texts v parts i
+
+-- the report, with views or without
+pub told_of_parts : (views : Bool) (script : Whole Holding) (s : Said) → IsByObjects script s
+    → told_text views s ≡ parts_text (record { version = script.version; views = views }) script.kept.parts.items ++ end_text
+told_of_parts true script s are = views_of_parts script s are
+told_of_parts false script s are = report_of_parts script s are ∙ ap (λ l. l ++ end_text) (sym (plain_texts script.version script.kept.parts.items))

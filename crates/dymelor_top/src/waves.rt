@@ -6,13 +6,11 @@ ghost use Rattle.dym_io.specs.Faults.{RoseOnce};
 ghost use Rattle.dym_io.specs.Sink.{WritesOr};
 ghost use Rattle.dym_io.specs.Source.{TookAtMost};
 ghost use Rattle.dym_run.specs.Parts.{IsShape};
-ghost use Rattle.dym_run.specs.Report.{report_text};
 ghost use Rattle.dym_run.specs.Summary.{summary_of, totals_of};
 ghost use Rattle.dym_run.specs.declared.write_fail.WriteFail.TheVariants.{Sink as SinkFailed};
 ghost use Rattle.dym_script.specs.Scripts.{Said, Fault};
 ghost use Rattle.dym_script.specs.ByObjects.{GivesParts, IsByObjects};
-ghost use Rattle.dym_run.specs.Views.{views_text};
-ghost use Rattle.dymelor_top.specs.Answers.{first_above, of_waves, unless_above, waves_text, IsRead};
+ghost use Rattle.dymelor_top.specs.Answers.{first_above, of_waves, told_text, unless_above, waves_text, IsRead};
 ghost use Rattle.dymelor_top.specs.Headline.{Serves, WritesAnswer, Counted};
 ghost use Rattle.dymelor_top.specs.declared.plan.Reading.TheVariants.{Waves};
 ghost use Rattle.dymelor_top.specs.declared.stop.Stop.TheVariants.{Source as SourceStopped, Sink as SinkStopped};
@@ -25,7 +23,7 @@ use dym_base::BadKind;
 use dym_io::{Sink, Source};
 use dym_pool::Gate;
 use dym_report::{Totals, write_end, write_error, write_summary};
-use dym_run::{Shape, WriteFail, tally_waves, write_views, write_waves};
+use dym_run::{Shape, Telling, WriteFail, tally_waves, write_waves};
 use dym_script::{Holding, Part, ScriptFail, Whole};
 use std::alloc::{AllocError, Global};
 use std::sync::Wait;
@@ -142,16 +140,17 @@ fn run_fitting<R: Threads + Wait + Send + Sync, W: Sink, G: Gate>(
         → WritesOr (λ fail. fail ≡ SinkFailed) (W.output sink.old) (W.output sink.new) (waves_text text s) result }
 {
     match text {
-        WaveText::Report => report(rt, alloc, shape, script, sink, gate),
+        WaveText::Report => tell(rt, alloc, false, shape, script, sink, gate),
         WaveText::Summary => summarize(rt, alloc, shape, script, sink, gate),
-        WaveText::Views => show_views(rt, alloc, shape, script, sink, gate),
+        WaveText::Views => tell(rt, alloc, true, shape, script, sink, gate),
     }
 }
 
-/// Writes the report of a script whose objects fit.
-fn report<R: Threads + Wait + Send + Sync, W: Sink, G: Gate>(
+/// Writes the report of a script whose objects fit, with the view of each object where views are told.
+fn tell<R: Threads + Wait + Send + Sync, W: Sink, G: Gate>(
     rt: &R,
     alloc: Global,
+    views: bool,
     shape: Shape,
     script: Whole<Holding>,
     sink: &mut W,
@@ -160,30 +159,11 @@ fn report<R: Threads + Wait + Send + Sync, W: Sink, G: Gate>(
     requires made { (s : Said) × IsByObjects script s }
     requires shape { IsShape shape }
     requires fits { All (λ part. part.decl.quota ≤ shape.segments) script.kept.parts.items }
-    ensures { (s : Said) → IsByObjects script s → WritesOr (λ fail. fail ≡ SinkFailed) (W.output sink.old) (W.output sink.new) (report_text s) result }
+    ensures { (s : Said) → IsByObjects script s → WritesOr (λ fail. fail ≡ SinkFailed) (W.output sink.old) (W.output sink.new) (told_text views s) result }
 {
     let Whole { version, kept, .. } = script;
-    write_waves(rt, alloc, version, kept.parts, shape, gate, sink)?;
-    write_end(sink)?;
-    Ok(())
-}
-
-/// Writes the report of a script whose objects fit, with the view of each object.
-fn show_views<R: Threads + Wait + Send + Sync, W: Sink, G: Gate>(
-    rt: &R,
-    alloc: Global,
-    shape: Shape,
-    script: Whole<Holding>,
-    sink: &mut W,
-    gate: &G,
-) -> Result<(), WriteFail>
-    requires made { (s : Said) × IsByObjects script s }
-    requires shape { IsShape shape }
-    requires fits { All (λ part. part.decl.quota ≤ shape.segments) script.kept.parts.items }
-    ensures { (s : Said) → IsByObjects script s → WritesOr (λ fail. fail ≡ SinkFailed) (W.output sink.old) (W.output sink.new) (views_text s) result }
-{
-    let Whole { version, kept, .. } = script;
-    write_views(rt, alloc, version, kept.parts, shape, gate, sink)?;
+    let telling = Telling { version, views };
+    write_waves(rt, alloc, telling, kept.parts, shape, gate, sink)?;
     write_end(sink)?;
     Ok(())
 }

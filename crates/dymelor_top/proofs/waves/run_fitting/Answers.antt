@@ -6,8 +6,8 @@ use Rattle.dymelor_top.proofs.waves.run_fitting.Goals as goal
 
 pub returns-in-Report : goal.returns-in-Report
 returns-in-Report g c s are =
-    subst (λ t. WritesOr (λ failed. failed ≡ fail.Sink) (g.W.Sink.output c.args.sink.now) (g.W.Sink.output c.report.new.sink) (waves_text t s) c.report.result)
-    (sym c.in-Report.is) (c.report.ensures s are)
+    subst (λ t. WritesOr (λ failed. failed ≡ fail.Sink) (g.W.Sink.output c.args.sink.now) (g.W.Sink.output c.tell.new.sink) (waves_text t s) c.tell.result)
+    (sym c.in-Report.is) (c.tell.ensures s are)
 
 pub returns-in-Summary : goal.returns-in-Summary
 returns-in-Summary g c s are =
@@ -16,5 +16,5 @@ returns-in-Summary g c s are =
 
 pub returns-in-Views : goal.returns-in-Views
 returns-in-Views g c s are =
-    subst (λ t. WritesOr (λ failed. failed ≡ fail.Sink) (g.W.Sink.output c.args.sink.now) (g.W.Sink.output c.show_views.new.sink) (waves_text t s) c.show_views.result)
-    (sym c.in-Views.is) (c.show_views.ensures s are)
+    subst (λ t. WritesOr (λ failed. failed ≡ fail.Sink) (g.W.Sink.output c.args.sink.now) (g.W.Sink.output c.tell-in-Views.new.sink) (waves_text t s) c.tell-in-Views.result)
+    (sym c.in-Views.is) (c.tell-in-Views.ensures s are)
