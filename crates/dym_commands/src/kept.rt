@@ -7,7 +7,7 @@ ghost use Rattle.dym_commands.specs.Kept.{long_value, handle, kept_command, IsFi
 use crate::asked::Asked;
 use crate::hex_bytes::HexBytes;
 use crate::runner::Runner;
-use dym_base::Handle;
+use dym_base::{Command, Handle};
 use std::alloc::{AllocError, Global};
 use std::mem::size_of;
 
@@ -284,18 +284,29 @@ impl Tables {
         ensures stays { OnErr result (R.stays runner.old runner.new) }
     {
         match *kept {
-            Kept::Malloc { len } => runner.malloc(way, len.value()),
-            Kept::Calloc { n, len } => runner.calloc(way, u64::from(n), u64::from(len)),
+            Kept::Malloc { len } => runner.run(way, Command::Malloc { len: len.value() }),
+            Kept::Calloc { n, len } => {
+                let (n, len) = (u64::from(n), u64::from(len));
+                runner.run(way, Command::Calloc { n, len })
+            }
             Kept::WideCalloc { row } => {
-                let Wide { first, second } = self.wide[row as usize];
-                runner.calloc(way, first, second)
+                let wide = self.wide[row as usize];
+                let (n, len) = (wide.first, wide.second);
+                runner.run(way, Command::Calloc { n, len })
             }
             Kept::Realloc { exp, index, len } => {
-                runner.realloc(way, Some(Handle { exp, index }), len.value())
+                let (h, len) = (Some(Handle { exp, index }), len.value());
+                runner.run(way, Command::Realloc { h, len })
             }
-            Kept::ReallocNil { len } => runner.realloc(way, None, len.value()),
-            Kept::Free { exp, index } => runner.free(way, Some(Handle { exp, index })),
-            Kept::FreeNil => runner.free(way, None),
+            Kept::ReallocNil { len } => {
+                let (h, len) = (None, len.value());
+                runner.run(way, Command::Realloc { h, len })
+            }
+            Kept::Free { exp, index } => {
+                let h = Some(Handle { exp, index });
+                runner.run(way, Command::Free { h })
+            }
+            Kept::FreeNil => runner.run(way, Command::Free { h: None }),
             Kept::Write {
                 exp,
                 len,
@@ -324,13 +335,19 @@ impl Tables {
                 index,
                 at,
                 len,
-            } => runner.fill(way, Handle { exp, index }, at, len, byte),
+            } => {
+                let h = Handle { exp, index };
+                runner.run(way, Command::Fill { h, at, len, byte })
+            }
             Kept::Read {
                 exp,
                 index,
                 at,
                 len,
-            } => runner.read(way, Handle { exp, index }, at, len),
+            } => {
+                let h = Handle { exp, index };
+                runner.run(way, Command::Read { h, at, len })
+            }
             Kept::Link {
                 exp,
                 to_exp,
@@ -338,20 +355,33 @@ impl Tables {
                 at,
                 to_index,
             } => {
-                let to = Handle {
+                let h = Handle { exp, index };
+                let to = Some(Handle {
                     exp: to_exp,
                     index: to_index,
-                };
-                runner.link(way, Handle { exp, index }, at, Some(to))
+                });
+                runner.run(way, Command::Link { h, at, to })
             }
-            Kept::LinkNil { exp, index, at } => runner.link(way, Handle { exp, index }, at, None),
-            Kept::Follow { exp, index, at } => runner.follow(way, Handle { exp, index }, at),
-            Kept::Sum { exp, index } => runner.sum(way, Handle { exp, index }),
-            Kept::Log { time } => runner.log(way, time.value()),
-            Kept::Ilog { time } => runner.ilog(way, time.value()),
-            Kept::Restore { time } => runner.restore(way, time.value()),
-            Kept::Prune { bound } => runner.prune(way, bound.value()),
-            Kept::Logs => runner.logs(way),
+            Kept::LinkNil { exp, index, at } => {
+                let h = Handle { exp, index };
+                runner.run(way, Command::Link { h, at, to: None })
+            }
+            Kept::Follow { exp, index, at } => {
+                let h = Handle { exp, index };
+                runner.run(way, Command::Follow { h, at })
+            }
+            Kept::Sum { exp, index } => {
+                let h = Handle { exp, index };
+                runner.run(way, Command::Sum { h })
+            }
+            Kept::Log { time } => runner.run(way, Command::Log { time: time.value() }),
+            Kept::Ilog { time } => runner.run(way, Command::Ilog { time: time.value() }),
+            Kept::Restore { time } => runner.run(way, Command::Restore { time: time.value() }),
+            Kept::Prune { bound } => {
+                let bound = bound.value();
+                runner.run(way, Command::Prune { bound })
+            }
+            Kept::Logs => runner.run(way, Command::Logs),
         }
     }
 }

@@ -1,33 +1,14 @@
 //! What no clause shows: which words write bytes, and that commands of each kind are pushed and run.
 use crate::{Asked, Commands, HexBytes, Runner};
-use dym_base::{Command, Handle};
+use dym_base::{Blob, Command, Handle};
 use std::alloc::{AllocError, Global};
 use std::test::Fail;
 
-/// Writes what it runs, one command a line.
+/// Keeps the commands that it runs.
 #[derive(Drop)]
 struct Recorder {
     alloc: Global,
-    text: String,
-}
-
-impl Recorder {
-    /// Writes a line of numbers, the first of which tells the command.
-    fn record(&mut self, numbers: &[u64]) -> Result<(), AllocError> {
-        for number in numbers {
-            self.text
-                .push_str(&format!(in self.alloc; "{} ", *number)?)?;
-        }
-        self.text.push('\n')
-    }
-}
-
-/// A handle as one number, and nil as 0.
-fn named(h: Option<Handle>) -> u64 {
-    match h {
-        Some(h) => h.number(),
-        None => 0,
-    }
+    commands: Vec<Command>,
 }
 
 impl Runner for Recorder {
@@ -35,122 +16,56 @@ impl Runner for Recorder {
 
     type Fail = AllocError;
 
+    ghost use Rattle.std.specs.Prelude.{◌≡◌, [], ◌∷◌, ◌++◌};
+
     ghost ready = { λ _. Unit {0} };
 
-    ghost does = { λ _ _ _. Unit {0} };
+    ghost does = { λ old command new. new.commands.items ≡ old.commands.items ++ command ∷ [] };
 
-    ghost stays = { λ _ _. Unit {0} };
+    ghost stays = { λ old new. new.commands.items ≡ old.commands.items };
 
-    fn malloc(&mut self, _way: &(), len: u64) -> Result<(), AllocError> {
-        self.record(&[1, len])
-    }
-
-    fn calloc(&mut self, _way: &(), n: u64, len: u64) -> Result<(), AllocError> {
-        self.record(&[2, n, len])
-    }
-
-    fn realloc(&mut self, _way: &(), h: Option<Handle>, len: u64) -> Result<(), AllocError> {
-        self.record(&[3, named(h), len])
-    }
-
-    fn free(&mut self, _way: &(), h: Option<Handle>) -> Result<(), AllocError> {
-        self.record(&[4, named(h)])
-    }
-
-    fn write(&mut self, _way: &(), h: Handle, at: u32, bytes: &[u8]) -> Result<(), AllocError> {
-        self.record(&[5, h.number(), u64::from(at), bytes.len() as u64])?;
-        for byte in bytes {
-            self.record(&[u64::from(*byte)])?;
-        }
+    fn run(&mut self, _way: &(), command: Command) -> Result<(), AllocError> {
+        self.commands.push(command)?;
         Ok(())
     }
 
-    fn fill(
-        &mut self,
-        _way: &(),
-        h: Handle,
-        at: u32,
-        len: u32,
-        byte: u8,
-    ) -> Result<(), AllocError> {
-        self.record(&[
-            6,
-            h.number(),
-            u64::from(at),
-            u64::from(len),
-            u64::from(byte),
-        ])
-    }
-
-    fn read(&mut self, _way: &(), h: Handle, at: u32, len: u32) -> Result<(), AllocError> {
-        self.record(&[7, h.number(), u64::from(at), u64::from(len)])
-    }
-
-    fn link(
-        &mut self,
-        _way: &(),
-        h: Handle,
-        at: u32,
-        to: Option<Handle>,
-    ) -> Result<(), AllocError> {
-        self.record(&[8, h.number(), u64::from(at), named(to)])
-    }
-
-    fn follow(&mut self, _way: &(), h: Handle, at: u32) -> Result<(), AllocError> {
-        self.record(&[9, h.number(), u64::from(at)])
-    }
-
-    fn sum(&mut self, _way: &(), h: Handle) -> Result<(), AllocError> {
-        self.record(&[10, h.number()])
-    }
-
-    fn log(&mut self, _way: &(), time: u64) -> Result<(), AllocError> {
-        self.record(&[11, time])
-    }
-
-    fn ilog(&mut self, _way: &(), time: u64) -> Result<(), AllocError> {
-        self.record(&[12, time])
-    }
-
-    fn restore(&mut self, _way: &(), time: u64) -> Result<(), AllocError> {
-        self.record(&[13, time])
-    }
-
-    fn prune(&mut self, _way: &(), bound: u64) -> Result<(), AllocError> {
-        self.record(&[14, bound])
-    }
-
-    fn logs(&mut self, _way: &()) -> Result<(), AllocError> {
-        self.record(&[15])
+    fn write(&mut self, way: &(), h: Handle, at: u32, bytes: &[u8]) -> Result<(), AllocError> {
+        let bytes = Blob::new(self.alloc, bytes)?;
+        self.run(way, Command::Write { h, at, bytes })
     }
 }
 
-/// The handle of the class of 32 bytes with this index, whose number is `5 * 2^32` more than it.
+/// A handle of the class of 32 bytes.
 fn small(index: u32) -> Handle {
     Handle { exp: 5, index }
 }
 
-/// Pushes what is asked, each as it stands in a table of what a recorder writes.
-fn recorded(alloc: Global, asked: &[Asked<'_>]) -> Result<String, AllocError> {
+/// The commands that run where these are pushed.
+fn recorded(alloc: Global, asked: &[Asked<'_>]) -> Result<Vec<Command>, AllocError> {
     let mut commands = Commands::new(alloc);
     for one in asked {
-        if commands.len() < 16 {
+        if commands.len() < 32 {
             commands.push(one)?;
         }
     }
     let mut recorder = Recorder {
         alloc,
-        text: String::new(alloc),
+        commands: Vec::new(alloc),
     };
     for k in 0..commands.len() {
         commands.run(k, &(), &mut recorder)?;
     }
-    Ok(recorder.text)
+    Ok(recorder.commands)
 }
 
 #[test]
 fn commands_of_each_kind(rt: HostRuntime) -> Result<(), Fail> {
+    let alloc = rt.alloc();
     let h = small(1);
+    let Some(bytes) = HexBytes::of_word(b"0aff") else {
+        assert!(rt; false);
+        return Ok(());
+    };
     let asked = [
         Asked::Malloc { len: u64::MAX },
         Asked::Calloc { n: 2, len: 3 },
@@ -162,39 +77,33 @@ fn commands_of_each_kind(rt: HostRuntime) -> Result<(), Fail> {
         },
         Asked::Free { h: None },
         Asked::Free { h: Some(h) },
+        Asked::Write { h, at: 5, bytes },
         Asked::Fill {
             h,
             at: 1,
             len: 2,
             byte: 255,
         },
+        Asked::Read { h, at: 8, len: 9 },
         Asked::Link {
             h,
             at: 6,
             to: Some(small(2)),
         },
         Asked::Link { h, at: 7, to: None },
-        Asked::Logs,
-    ];
-    let text = recorded(rt.alloc(), &asked)?;
-    assert_eq!(rt;
-        text.as_str(),
-        "1 18446744073709551615 \n2 2 3 \n2 8589934592 3 \n3 21474836481 4 \n3 0 4294967296 \n4 0 \n4 21474836481 \n6 21474836481 1 2 255 \n8 21474836481 6 21474836482 \n8 21474836481 7 0 \n15 \n"
-    );
-    let times = [
-        Asked::Read { h, at: 8, len: 9 },
         Asked::Follow { h, at: 10 },
         Asked::Sum { h },
         Asked::Log { time: 11 },
         Asked::Ilog { time: 12 },
         Asked::Restore { time: 1 << 63 },
         Asked::Prune { bound: 13 },
+        Asked::Logs,
     ];
-    let text = recorded(rt.alloc(), &times)?;
-    assert_eq!(rt;
-        text.as_str(),
-        "7 21474836481 8 9 \n9 21474836481 10 \n10 21474836481 \n11 11 \n12 12 \n13 9223372036854775808 \n14 13 \n"
-    );
+    let run = recorded(alloc, &asked)?;
+    assert_eq!(rt; run.len(), asked.len());
+    for (k, (command, one)) in run.iter().zip(asked.iter()).enumerate() {
+        assert!(rt; *command == one.command(alloc)?, "command {k}");
+    }
     Ok(())
 }
 
@@ -243,11 +152,13 @@ fn write_of_a_word(rt: HostRuntime) -> Result<(), Fail> {
         at: 2,
         bytes,
     };
-    match asked.command(rt.alloc())? {
-        Command::Write { bytes, .. } => assert_eq!(rt; bytes.bytes(), b"\x0a\xff".as_slice()),
-        _ => assert!(rt; false),
-    }
-    let text = recorded(rt.alloc(), &[asked])?;
-    assert_eq!(rt; text.as_str(), "5 21474836481 2 2 \n10 \n255 \n");
+    let alloc = rt.alloc();
+    let wanted = [Command::Write {
+        h: small(1),
+        at: 2,
+        bytes: Blob::new(alloc, b"\x0a\xff")?,
+    }];
+    assert!(rt; asked.command(alloc)? == wanted[0]);
+    assert!(rt; recorded(alloc, &[asked])?.as_slice() == wanted.as_slice());
     Ok(())
 }
