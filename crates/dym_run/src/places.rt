@@ -22,7 +22,7 @@ use std::thread;
 use std::thread::Threads;
 
 /// So many objects are worth the start of a thread that opens them.
-const OBJECTS_OF_ONE: usize = 128;
+const OBJECTS_OF_ONE: usize = 16;
 
 /// A place of a wave: a part before its object is opened over the berth, and what came of it.
 pub(crate) enum Place<R: Wait> {

@@ -21,7 +21,7 @@ use std::thread;
 use std::thread::Threads;
 
 /// So many log tables are given up by one thread in about the time that another takes to start.
-const TABLES_OF_ONE: usize = 128;
+const TABLES_OF_ONE: usize = 32;
 
 /// The objects of a wave that have run, in order, and the berths over which no object stands. Their queue has all segments once the
 /// objects are ended.
