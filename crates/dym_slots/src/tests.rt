@@ -204,9 +204,9 @@ fn swept_around(
     Ok((taken, found))
 }
 
-/// Behind the list are 32 spare slots, and then those of the 18 records that are let go before the root is read. `put` goes round
+/// Behind the list are eight spare slots, and then those of the 18 records that are let go before the root is read. `put` goes round
 /// the spare ones and the first of those 18, and reuses what it let go there; the 17 others are left to the walk, and what lies in
-/// the 33 slots at the end is left to the sweep.
+/// the nine slots at the end is left to the sweep.
 #[test]
 fn a_walk_takes_back_nothing_that_came_after_its_root(rt: HostRuntime) -> Result<(), Fail> {
     let alloc = rt.alloc();
@@ -216,7 +216,7 @@ fn a_walk_takes_back_nothing_that_came_after_its_root(rt: HostRuntime) -> Result
     let (taken, found) = swept_around(alloc, &mut sweeper, &mut owner, 5_000)?;
     assert_eq!(rt; (taken, found), (17, true));
     assert_eq!(rt; (owner.number_at(0), owner.number_at(1)), (5_018, 5_019));
-    assert_eq!(rt; sweeper.sweep(), 33);
+    assert_eq!(rt; sweeper.sweep(), 9);
     assert_eq!(rt; sweeper.sweep(), 0);
     assert_eq!(rt; sweeper.finish(owner), 2);
     Ok(())
