@@ -2,7 +2,7 @@
 use Rattle.std.specs.Prelude.{◌≡◌, ℕ, zero, suc, ◌+◌, ◌-◌, ◌*◌, ◌/◌, ◌^◌, ◌<◌, ◌≤◌, Bool, true, false, List, ◌++◌, length, replicate, slice_set}
 use Rattle.std.specs.Int.{bit_at}
 use Rattle.dym_base.specs.Numbers.{size, per}
-use Rattle.dym_base.specs.declared.limits.TheConstants.{MOST_CHUNKS, SEGMENT_BYTES}
+use Rattle.dym_base.specs.declared.limits.TheConstants.{MOST_CHUNKS, SEGMENT_BYTES, LEAST_EXPONENT, GREATEST_EXPONENT}
 use Rattle.dym_bits.specs.Bits.{IsSet, IsClear, bits_of_bytes, clear_bits}
 use Rattle.dym_region.specs.Content.{with_part}
 use Rattle.dym_region.specs.declared.segment.SegmentId.{SegmentId}
@@ -18,8 +18,8 @@ pub record AreaMeaning : Type 0 where
 
 -- what is true of every area
 pub record IsLawful (area : AreaMeaning) : Type 0 where
-  pub least : 5 ≤ area.exponent
-  pub greatest : area.exponent ≤ 16
+  pub least : LEAST_EXPONENT ≤ area.exponent
+  pub greatest : area.exponent ≤ GREATEST_EXPONENT
   pub used_len : length area.used ≡ MOST_CHUNKS
   pub dirty_len : length area.dirty ≡ MOST_CHUNKS
   pub used_below : (i : ℕ) → IsSet area.used i → i < per area.exponent

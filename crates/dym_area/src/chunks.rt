@@ -1,6 +1,7 @@
 //! One segment cut into chunks.
 ghost use Rattle.std.specs.Prelude.{◌≡◌, ℕ, ◌+◌, ◌*◌, ◌/◌, ◌<◌, ◌≤◌, ◌↔◌, max, length, replicate, IsTrue, MatchOption};
 ghost use Rattle.dym_base.specs.Numbers.{size, per};
+ghost use Rattle.dym_base.specs.declared.limits.TheConstants.{LEAST_EXPONENT, GREATEST_EXPONENT};
 ghost use Rattle.dym_bits.specs.Bits.{bit_in, bits_of_bytes, clear_bits, IsSet, IsClear, IsFirstClear, IsNextSet, IsTopSet};
 ghost use Rattle.dym_region.specs.Content.{part_of};
 ghost use Rattle.dym_area.specs.Area.{IsLawful, chunk_start, with_taken, with_released, with_written, with_loaded, with_clean, with_used_bytes};
@@ -37,8 +38,8 @@ impl<G: Segment> Model for Area<G> {
 impl<G: Segment> Area<G> {
     /// An area of class `exp` over a segment, with no chunk used. `ordinal` is its place among the areas of its class.
     pub fn new(exp: u8, ordinal: u32, seg: G) -> Area<G>
-        requires least { 5 ≤ exp }
-        requires greatest { exp ≤ 16 }
+        requires least { LEAST_EXPONENT ≤ exp }
+        requires greatest { exp ≤ GREATEST_EXPONENT }
         ensures made { result ≡ record { exponent = exp; ordinal = ordinal; used = clear_bits MOST_CHUNKS; dirty = clear_bits MOST_CHUNKS; content = G.content seg; identity = G.id seg } }
         ensures lawful { IsLawful result }
         ensures none { (i : ℕ) → IsClear result.used i }

@@ -1,7 +1,7 @@
 //! How far the used chunks of an area reach.
 ghost use Rattle.std.specs.Prelude.{ℕ, ◌<◌, ◌≤◌};
 ghost use Rattle.dym_base.specs.Numbers.{per};
-ghost use Rattle.dym_base.specs.declared.limits.TheConstants.{SEGMENT_BYTES};
+ghost use Rattle.dym_base.specs.declared.limits.TheConstants.{SEGMENT_BYTES, LEAST_EXPONENT, GREATEST_EXPONENT};
 ghost use Rattle.dym_bits.specs.Bits.{IsSet};
 ghost use Rattle.dym_area.specs.Area.{AreFilled};
 
@@ -11,8 +11,8 @@ use dym_bits::Bits;
 
 /// Where the last of these chunks of a class ends, in bytes. 0 where there is none.
 pub(crate) fn end_of(used: &Bits, exp: u8) -> u32
-    requires least { 5 ≤ exp }
-    requires greatest { exp ≤ 16 }
+    requires least { LEAST_EXPONENT ≤ exp }
+    requires greatest { exp ≤ GREATEST_EXPONENT }
     requires below { (i : ℕ) → IsSet used.now i → i < per exp }
     ensures within { result ≤ SEGMENT_BYTES }
     ensures all { AreFilled used.now exp result }

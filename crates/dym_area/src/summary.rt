@@ -2,6 +2,7 @@
 ghost use Rattle.std.specs.Prelude.{◌≡◌, ℕ, ◌*◌, ◌/◌, ◌<◌, ◌≤◌, Bool, List, MatchBool};
 ghost use Rattle.std.specs.Int.{bit_at};
 ghost use Rattle.dym_base.specs.Numbers.{per};
+ghost use Rattle.dym_base.specs.declared.limits.TheConstants.{LEAST_EXPONENT, GREATEST_EXPONENT};
 ghost use Rattle.dym_bits.specs.Bits.{IsSet, IsClear};
 ghost use Rattle.dym_area.specs.Area.{HasRoom, IsSummary};
 
@@ -14,8 +15,8 @@ pub(crate) const WORD_CHUNKS: u32 = 64;
 
 /// The summary of the use bits of an area: bit `q` is set where word `q` has an unused chunk.
 pub(crate) fn summary_of(used: &Bits, exp: u8) -> u32
-    requires least { 5 ≤ exp }
-    requires greatest { exp ≤ 16 }
+    requires least { LEAST_EXPONENT ≤ exp }
+    requires greatest { exp ≤ GREATEST_EXPONENT }
     ensures { IsSummary used.now (per exp) result }
 {
     let words = words_of(exp);
@@ -30,8 +31,8 @@ pub(crate) fn summary_of(used: &Bits, exp: u8) -> u32
 
 /// The summary of an area of a class where no chunk is used.
 pub(crate) fn all_words(exp: u8) -> u32
-    requires least { 5 ≤ exp }
-    requires greatest { exp ≤ 16 }
+    requires least { LEAST_EXPONENT ≤ exp }
+    requires greatest { exp ≤ GREATEST_EXPONENT }
     ensures { (used : List Bool) → ((i : ℕ) → IsClear used i) → IsSummary used (per exp) result }
 {
     u32::MAX >> (u32::BITS - words_of(exp))
@@ -39,8 +40,8 @@ pub(crate) fn all_words(exp: u8) -> u32
 
 /// How many words of the use bits an area of a class has.
 fn words_of(exp: u8) -> u32
-    requires least { 5 ≤ exp }
-    requires greatest { exp ≤ 16 }
+    requires least { LEAST_EXPONENT ≤ exp }
+    requires greatest { exp ≤ GREATEST_EXPONENT }
     ensures least { 1 ≤ result }
     ensures most { result ≤ 32 }
     ensures enough { per exp ≤ result * 64 }
@@ -51,8 +52,8 @@ fn words_of(exp: u8) -> u32
 
 /// The summary after chunk `i`, which was the least unused one, was taken.
 pub(crate) fn after_take(room: u32, used: &Bits, exp: u8, i: u32) -> u32
-    requires least { 5 ≤ exp }
-    requires greatest { exp ≤ 16 }
+    requires least { LEAST_EXPONENT ≤ exp }
+    requires greatest { exp ≤ GREATEST_EXPONENT }
     requires within { i < MOST_CHUNKS }
     requires below { (k : ℕ) → k ≤ i → IsSet used.now k }
     requires elsewhere { (q : ℕ) → bit_at room q ≡ 1 → (q ≡ i / 64 → ⊥) → HasRoom used.now (per exp) q }
@@ -77,8 +78,8 @@ pub(crate) fn with_room(room: u32, i: u32) -> u32
 
 /// Whether a chunk from `from` on is unused that has its use bit in the same word.
 fn has_room(used: &Bits, exp: u8, from: u32) -> bool
-    requires least { 5 ≤ exp }
-    requires greatest { exp ≤ 16 }
+    requires least { LEAST_EXPONENT ≤ exp }
+    requires greatest { exp ≤ GREATEST_EXPONENT }
     requires within { from < MOST_CHUNKS }
     ensures { MatchBool result (HasRoom used.now (per exp) (from / 64)) ((k : ℕ) → from ≤ k → k < per exp → k / 64 ≡ from / 64 → IsSet used.now k) }
 {

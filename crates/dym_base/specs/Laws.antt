@@ -6,6 +6,7 @@ use Rattle.dym_base.specs.Numbers.{size, per, number, exponent_of, index_of, cls
 use Rattle.dym_base.specs.Heaps.{Live, HeapState, fresh, areas, held}
 use Rattle.dym_base.specs.HeapStep.{held_with_fresh, heap_step}
 use Rattle.dym_base.specs.Objects.{ObjectState, object_step, empty_heap}
+use Rattle.dym_base.specs.declared.limits.TheConstants.{LEAST_EXPONENT, GREATEST_EXPONENT}
 use Rattle.dym_base.specs.declared.handle.Handle.{Handle}
 use Rattle.dym_base.specs.declared.command.Version.{Version}
 use Rattle.dym_base.specs.declared.command.Version.TheVariants.{One, Two}
@@ -41,7 +42,7 @@ AreasAreLeast = (live : Live) (e n : ℕ) → (areas live e ≤ n) ↔ ((k : ℕ
 -- a new chunk needs no segment more where an area that is there has its index; else it is the first of the next area, and
 -- needs one more
 abbrev pub FreshNeedsArea : Type 0
-FreshNeedsArea = (live : Live) (e : ℕ) → 5 ≤ e → e ≤ 16 → fresh live e < 2 ^ 32 →
+FreshNeedsArea = (live : Live) (e : ℕ) → LEAST_EXPONENT ≤ e → e ≤ GREATEST_EXPONENT → fresh live e < 2 ^ 32 →
     (fresh live e / per e < areas live e → held_with_fresh live e ≡ held live)
     × (areas live e ≤ fresh live e / per e → (fresh live e / per e ≡ areas live e) × (held_with_fresh live e ≡ held live + 1))
 
@@ -56,7 +57,8 @@ IsLengthOf Two e n = cls n ≡ Some e
 
 -- the number k is that of a chunk with these bytes
 abbrev pub FitsClass : Version → ℕ → List ℕ → Type 0
-FitsClass v k bytes = (5 ≤ exponent_of k) × (exponent_of k ≤ 16) × IsLengthOf v (exponent_of k) (length bytes)
+FitsClass v k bytes = (LEAST_EXPONENT ≤ exponent_of k) × (exponent_of k ≤ GREATEST_EXPONENT)
+    × IsLengthOf v (exponent_of k) (length bytes)
 
 -- each live chunk is of a class, and its length is one of that class
 abbrev pub IsWellSized : Version → Live → Type 0

@@ -1,5 +1,6 @@
 pub mod Numbers
 pub mod Names
+pub mod Lines
 pub mod BadKinds
 pub mod Heaps
 pub mod HeapStep

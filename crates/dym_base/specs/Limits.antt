@@ -1,10 +1,11 @@
 -- The limits of the product as numbers, so that a constant that was changed is refused. The names stand in src/limits.rt.
-use Rattle.std.specs.Prelude.{◌≡◌}
+use Rattle.std.specs.Prelude.{◌≡◌, ◌^◌}
 use Rattle.dym_base.specs.declared.limits.TheConstants.{SEGMENT_BYTES, LEAST_EXPONENT, GREATEST_EXPONENT, MOST_CHUNKS, MOST_QUOTA}
 use Rattle.dym_base.specs.declared.limits.TheConstants.{MOST_KEPT_LOGS, MOST_DEPTH, MOST_RECORDS, RECORD_ROOM, LOG_SLOTS, LOG_WORDS}
 use Rattle.dym_base.specs.declared.limits.TheConstants.{MOST_INPUT_BYTES, MOST_LINE_BYTES, MOST_OBJECTS, MOST_COMMANDS, MOST_MADE_COMMANDS}
 use Rattle.dym_base.specs.declared.limits.TheConstants.{MOST_READ_BYTES, MOST_NAME_BYTES}
 use Rattle.dym_base.specs.declared.limits.TheConstants.{MOST_WORKERS, DEFAULT_WORKERS, MOST_SEGMENTS, DEFAULT_SEGMENTS, MOST_QUANTUM, DEFAULT_QUANTUM}
+use Rattle.dym_base.specs.declared.limits.TheConstants.{COUNT_LIMIT}
 
 -- a segment, its classes and chunks, and how many segments an object may hold
 pub record HeapLimits : Type 0 where
@@ -33,7 +34,7 @@ pub record ScriptLimits : Type 0 where
   pub read : MOST_READ_BYTES ≡ 256
   pub name : MOST_NAME_BYTES ≡ 32
 
--- workers, the segments of their region, and the commands of a turn
+-- workers, the segments of their region, the commands of a turn, and what is counted
 pub record RunLimits : Type 0 where
   pub workers : MOST_WORKERS ≡ 64
   pub usual_workers : DEFAULT_WORKERS ≡ 4
@@ -41,6 +42,7 @@ pub record RunLimits : Type 0 where
   pub usual_segments : DEFAULT_SEGMENTS ≡ 1024
   pub quantum : MOST_QUANTUM ≡ 65536
   pub usual_quantum : DEFAULT_QUANTUM ≡ 64
+  pub counts : COUNT_LIMIT ≡ 2 ^ 60
 
 abbrev pub LimitsAreThese : Type 0
 LimitsAreThese = HeapLimits × LogLimits × ScriptLimits × RunLimits

@@ -1,6 +1,7 @@
 -- Handles and size classes as numbers.
-use Rattle.std.specs.Prelude.{ℕ, ◌+◌, ◌-◌, ◌*◌, ◌/◌, ◌%◌, ◌^◌, List, [], ◌∷◌, nat_le}
+use Rattle.std.specs.Prelude.{ℕ, ◌+◌, ◌-◌, ◌*◌, ◌/◌, ◌%◌, ◌^◌, ◌≤◌, List, [], ◌∷◌, nat_le}
 use Rattle.std.specs.Prelude.{Option, find}
+use Rattle.dym_base.specs.declared.limits.TheConstants.{LEAST_EXPONENT, GREATEST_EXPONENT}
 
 -- the bytes of a chunk of class e
 abbrev pub size : ℕ → ℕ
@@ -24,6 +25,10 @@ index_of n = n % 2 ^ 32
 -- the class exponents
 abbrev pub classes : List ℕ
 classes = 5 ∷ 6 ∷ 7 ∷ 8 ∷ 9 ∷ 10 ∷ 11 ∷ 12 ∷ 13 ∷ 14 ∷ 15 ∷ 16 ∷ []
+
+-- e is one of these
+abbrev pub IsClass : ℕ → Type 0
+IsClass e = (LEAST_EXPONENT ≤ e) × (e ≤ GREATEST_EXPONENT)
 
 -- the class of n bytes: the least whose size is at least n, and none where n is above 65,536
 unfoldable pub cls : ℕ → Option ℕ

@@ -1,6 +1,7 @@
 //! Handles: the names of chunks, which a rollback doesn't change.
-ghost use Rattle.std.specs.Prelude.{◌≡◌, ◌+◌, ◌*◌, ◌^◌, ◌<◌, ◌≤◌, ◌/◌, ◌↔◌, ◌⊎◌, IsNone, IfSome};
-ghost use Rattle.dym_base.specs.Numbers.{number};
+ghost use Rattle.std.specs.Prelude.{◌≡◌, ◌+◌, ◌*◌, ◌^◌, ◌<◌, ◌/◌, ◌↔◌, ◌⊎◌, IsNone, IfSome};
+ghost use Rattle.dym_base.specs.Numbers.{number, IsClass};
+ghost use Rattle.dym_base.specs.declared.limits.TheConstants.{LEAST_EXPONENT, GREATEST_EXPONENT};
 
 /// The name of a chunk: the exponent of its class, and its index in that class.
 ///
@@ -21,9 +22,9 @@ impl Handle {
 
     /// The handle of a number, where its exponent is that of a class. The number 0 is nil, and names no handle.
     pub fn of_number(n: u64) -> Option<Handle>
-        ensures none { IsNone result ↔ ((n / 2 ^ 32 < 5) ⊎ (16 < n / 2 ^ 32)) }
+        ensures none { IsNone result ↔ ((n / 2 ^ 32 < LEAST_EXPONENT) ⊎ (GREATEST_EXPONENT < n / 2 ^ 32)) }
         ensures some { IfSome result (λ h. n ≡ number h.exp h.index) }
-        ensures class { IfSome result (λ h. (5 ≤ h.exp) × (h.exp ≤ 16)) }
+        ensures class { IfSome result (λ h. IsClass h.exp) }
     {
         let exp = n >> 32;
         if !(5..=16).contains(&exp) {

@@ -71,3 +71,7 @@ pub const MOST_QUANTUM: u32 = 65_536;
 
 /// The quantum where no option says otherwise.
 pub const DEFAULT_QUANTUM: u32 = 64;
+
+/// The counts of commands that ran, of records that were made, of commands that a heap applied and of commits are below
+/// it wherever one more is counted. No run reaches it.
+pub const COUNT_LIMIT: u64 = 1 << 60;

@@ -1,9 +1,10 @@
 -- What a call from C that asks for a command does: the status, the reply and the object after it. A command that can't be asked,
 -- since an argument is bad, is None.
-use Rattle.std.specs.Prelude.{◌≡◌, ℕ, ◌^◌, Bool, nat_lt, ◌==◌, if◌then◌else◌, Option, None, Some}
+use Rattle.std.specs.Prelude.{◌≡◌, ℕ, Bool, nat_lt, ◌==◌, if◌then◌else◌, Option, None, Some}
 use Rattle.std.specs.Bool.{MatchBool}
 use Rattle.dym_base.specs.declared.command.Command.{Command}
 use Rattle.dym_base.specs.declared.reply.Reply.{Reply}
+use Rattle.dym_base.specs.declared.limits.TheConstants.{COUNT_LIMIT}
 use Rattle.dym_heap.specs.Replies.{OnRefusal}
 use Rattle.dym_chain.specs.Answers.{IsLogged}
 use Rattle.dym_object.specs.Meaning.{ObjectMeaning, IsStep, counted, step_by}
@@ -11,7 +12,7 @@ use Rattle.dym_c.specs.Statuses.{reply_status}
 
 -- the object may run a command more
 abbrev pub has_left : ObjectMeaning → Bool
-has_left o = nat_lt o.ran (2 ^ 60)
+has_left o = nat_lt o.ran COUNT_LIMIT
 
 -- the status where no command can be run: 9 for a closed object, 10 for one that ran as many as it may
 abbrev pub status_unready : Option ObjectMeaning → Option ℕ

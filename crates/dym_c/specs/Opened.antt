@@ -5,6 +5,7 @@ use Rattle.dym_base.specs.Objects.{empty_heap}
 use Rattle.dym_base.specs.Origins.{own}
 use Rattle.dym_base.specs.declared.command.Version.{Version}
 use Rattle.dym_base.specs.declared.command.Version.TheVariants.{One, Two}
+use Rattle.dym_base.specs.declared.limits.TheConstants.{MOST_QUOTA}
 use Rattle.dym_object.specs.Meaning.{ObjectMeaning}
 
 abbrev pub version_of : ℕ → Option Version
@@ -26,7 +27,9 @@ IsOpened start status (Some new) = (status ≡ 0) × (new ≡ start)
 -- only a closed object is opened, in version 1 or 2, with a quota of 1 to 1,024 segments; else nothing is done
 abbrev pub IsOpening : Option ObjectMeaning → ℕ → Option Version → ℕ → Option ObjectMeaning → Type 0
 IsOpening None quota (Some version) status new =
-    MatchBool (nat_le 1 quota && nat_le quota 1024) (IsOpened (first version quota) status new) ((status ≡ 9) × (new ≡ None))
+    MatchBool (nat_le 1 quota && nat_le quota MOST_QUOTA)
+    (IsOpened (first version quota) status new)
+    ((status ≡ 9) × (new ≡ None))
 IsOpening old quota _ status new = (status ≡ 9) × (new ≡ old)
 
 -- whatever was open is closed

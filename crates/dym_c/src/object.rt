@@ -1,6 +1,7 @@
 //! The object that C keeps.
-ghost use Rattle.std.specs.Prelude.{◌≡◌, ◌<◌, ◌^◌, Option, None, Some, MatchOption, IfOk, IfErr};
+ghost use Rattle.std.specs.Prelude.{◌≡◌, ◌<◌, Option, None, Some, MatchOption, IfOk, IfErr};
 ghost use Rattle.std.specs.Coded.{codes};
+ghost use Rattle.dym_base.specs.declared.limits.TheConstants.{COUNT_LIMIT};
 ghost use Rattle.dym_heap.specs.Meaning.{live_code, touched_code};
 ghost use Rattle.dym_object.specs.Meaning.{ObjectMeaning};
 ghost use Rattle.dym_c.specs.Owned.{kept_owns};
@@ -9,6 +10,7 @@ ghost use Rattle.dym_c.specs.contracts.inside.Inside.{the_row};
 
 use crate::inside::Inside;
 use crate::status::{BAD, SPENT};
+use dym_base::limits::COUNT_LIMIT;
 use dym_held::Held;
 use std::alloc::Global;
 use std::marker::{Model, Send};
@@ -87,14 +89,15 @@ impl DymObject {
     /// Takes out what is inside, for one command more. Else the answer is the status that says why there can be none.
     #[inline(always)]
     pub(crate) fn ready(&mut self, alloc: Global) -> Result<Box<Inside>, u32>
-        ensures inside { IfOk result (λ inside. (self.old.value ≡ Some inside.value) × (inside.value.ran < 2 ^ 60)) }
+        ensures inside { IfOk result
+            (λ inside. (self.old.value ≡ Some inside.value) × (inside.value.ran < COUNT_LIMIT)) }
         ensures unready { IfErr result (λ status. status_unready self.old.value ≡ Some status) }
         ensures same { IfErr result (λ status. self.new.value ≡ self.old.value) }
     {
         let Some(inside) = self.take(alloc) else {
             return Err(BAD);
         };
-        if inside.object.ran() < 1 << 60 {
+        if inside.object.ran() < COUNT_LIMIT {
             Ok(inside)
         } else {
             self.put(alloc, inside);

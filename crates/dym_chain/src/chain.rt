@@ -1,11 +1,12 @@
 //! The logs of one object.
-ghost use Rattle.std.specs.Prelude.{◌≡◌, ℕ, ◌+◌, ◌-◌, ◌^◌, ◌<◌, ◌≤◌, None, [], ◌∷◌, ◌++◌, length, option_map, OnOk, OnErr, IfOk, IfErr};
+ghost use Rattle.std.specs.Prelude.{◌≡◌, ℕ, ◌+◌, ◌-◌, ◌<◌, ◌≤◌, None, [], ◌∷◌, ◌++◌, length, option_map, OnOk, OnErr, IfOk, IfErr};
 ghost use Rattle.dym_base.specs.Below.{dropped_below};
 ghost use Rattle.dym_base.specs.Heaps.{HeapState};
 ghost use Rattle.dym_base.specs.Objects as Objects;
 ghost use Rattle.dym_base.specs.Objects.{LogEntry, record_of};
 ghost use Rattle.dym_base.specs.declared.command.Version.{Version};
 ghost use Rattle.dym_base.specs.declared.reply.Reply.TheVariants as reply;
+ghost use Rattle.dym_base.specs.declared.limits.TheConstants.{COUNT_LIMIT};
 ghost use Rattle.dym_heap.specs.Meaning.{IsSound};
 ghost use Rattle.dym_chain.specs.Adopted.{AreEntriesOf, AreLawful, BelongsByRecords};
 ghost use Rattle.dym_chain.specs.Chains.{ChainMeaning, Belongs, StandsForCopies, object_of, log_at, logged, pruned};
@@ -124,7 +125,7 @@ impl<K: LogKeep> Chain<K> {
     ) -> Result<(Kind, u64), LogError>
         requires belongs { Belongs heap.old.version heap.old.quota heap.old.state self.old }
         requires sound { IsSound heap.old }
-        requires made { self.old.made < 2 ^ 60 }
+        requires made { self.old.made < COUNT_LIMIT }
         requires idle { self.old.lifted ≡ None }
         ensures answer { IsLogAnswer result (Objects.log heap.old.version (object_of heap.old.state self.old) time want).reply }
         ensures after { OnOk result (object_of heap.new.state self.new ≡ (Objects.log heap.old.version (object_of heap.old.state self.old) time want).object) }

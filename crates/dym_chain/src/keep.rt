@@ -1,6 +1,6 @@
 //! What every keep of records can do.
-ghost use Rattle.std.specs.Prelude.{◌≡◌, ℕ, ◌+◌, ◌^◌, ◌<◌, None, Some, length};
-ghost use Rattle.dym_base.specs.declared.limits.TheConstants.{RECORD_ROOM};
+ghost use Rattle.std.specs.Prelude.{◌≡◌, ℕ, ◌+◌, ◌<◌, None, Some, length};
+ghost use Rattle.dym_base.specs.declared.limits.TheConstants.{RECORD_ROOM, COUNT_LIMIT};
 ghost use Rattle.dym_slots.specs.Meanings.{KeepMeaning, NumbersRise, record_at, with_record, up_to, from};
 
 use dym_base::limits::RECORD_ROOM;
@@ -29,7 +29,7 @@ pub trait LogKeep {
     /// Appends a record, and answers its number.
     fn put(&mut self, rec: Record) -> u64
         requires room { length (meaning self.old).records < RECORD_ROOM }
-        requires made { (meaning self.old).made < 2 ^ 60 }
+        requires made { (meaning self.old).made < COUNT_LIMIT }
         requires idle { (meaning self.old).lifted ≡ None }
         ensures number { result ≡ (meaning self.old).made }
         ensures after { meaning self.new ≡ with_record (meaning self.old) rec };

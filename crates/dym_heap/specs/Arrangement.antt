@@ -3,7 +3,7 @@ use Rattle.std.specs.Prelude.{◌≡◌, ℕ, ◌+◌, ◌≤◌, ◌<◌, Bool,
 use Rattle.std.specs.List.{range_with_len, flat_map}
 use Rattle.dym_base.specs.declared.command.Version.{Version}
 use Rattle.dym_base.specs.declared.command.Version.TheVariants.{One, Two}
-use Rattle.dym_base.specs.declared.limits.TheConstants.{MOST_CHUNKS}
+use Rattle.dym_base.specs.declared.limits.TheConstants.{MOST_CHUNKS, MOST_QUOTA}
 use Rattle.dym_bits.specs.Bits.{IsSet, IsClear}
 use Rattle.dym_region.specs.declared.segment.SegmentId.{SegmentId}
 use Rattle.dym_base.specs.Origins.{Origin}
@@ -70,7 +70,7 @@ Owns ids places = (weight : SegmentId → ℕ) → sum_by weight ids ≡ sum_by 
 -- the areas are over the segments that are held, and there is room for as many as the quota allows
 pub record IsSupplied (v : Version) (quota : ℕ) (ids : List SegmentId) (places : List PlaceMeaning) (room spare spare_room : ℕ) : Type 0 where
   pub least : 1 ≤ quota
-  pub most : quota ≤ 1024
+  pub most : quota ≤ MOST_QUOTA
   pub within : length places ≤ quota
   pub has_room : quota ≤ room
   pub tables : HasTables v quota (length places) spare spare_room

@@ -8,6 +8,7 @@ use Rattle.dym_base.specs.Heaps.{Live, Touched, HeapState, held}
 use Rattle.dym_base.specs.Origins.{Origin}
 use Rattle.dym_base.specs.declared.command.Version.{Version}
 use Rattle.dym_base.specs.declared.command.Version.TheVariants.{One, Two}
+use Rattle.dym_base.specs.declared.limits.TheConstants.{LEAST_EXPONENT, GREATEST_EXPONENT, MOST_QUOTA}
 use Rattle.dym_region.specs.declared.segment.SegmentId.{SegmentId}
 
 -- a heap: its version, its quota of segments, its live and touched chunks, the identities of the segments that it holds, where
@@ -35,13 +36,13 @@ IsSizeOf Two e n = cls n ≡ Some e
 -- what is true of every heap
 pub record IsSound (h : HeapMeaning) : Type 0 where
   pub quota_least : 1 ≤ h.quota
-  pub quota_most : h.quota ≤ 1024
+  pub quota_most : h.quota ≤ MOST_QUOTA
   -- the heap holds as many segments as its live chunks need, within its quota
   pub holds : length h.held_ids ≡ held h.state.live
   pub within : held h.state.live ≤ h.quota
   -- each live chunk is of a class, and has a length of that class
-  pub least_class : (k : ℕ) → map.contains_key h.state.live k ≡ true → 5 ≤ exponent_of k
-  pub most_class : (k : ℕ) → map.contains_key h.state.live k ≡ true → exponent_of k ≤ 16
+  pub least_class : (k : ℕ) → map.contains_key h.state.live k ≡ true → LEAST_EXPONENT ≤ exponent_of k
+  pub most_class : (k : ℕ) → map.contains_key h.state.live k ≡ true → exponent_of k ≤ GREATEST_EXPONENT
   pub sized : (k : ℕ) (bytes : List ℕ) → map.get h.state.live k ≡ Some bytes → IsSizeOf h.version (exponent_of k) (length bytes)
   -- what is touched is live
   pub touched_live : (k : ℕ) → set.contains h.state.touched k ≡ true → map.contains_key h.state.live k ≡ true

@@ -5,6 +5,7 @@ use Rattle.dym_base.specs.Numbers.{size, per}
 use Rattle.dym_base.specs.HeapStep.{splice}
 use Rattle.dym_base.specs.declared.command.Version.{Version}
 use Rattle.dym_base.specs.declared.command.Version.TheVariants.{One, Two}
+use Rattle.dym_base.specs.declared.limits.TheConstants.{LEAST_EXPONENT, GREATEST_EXPONENT, SEGMENT_BYTES}
 use Rattle.dym_bits.specs.Bits.{bit_in, IsSet}
 use Rattle.dym_region.specs.declared.segment.SegmentId.{SegmentId}
 use Rattle.dym_region.specs.Content.{part_of}
@@ -61,8 +62,8 @@ pub record IsMeasured (area : AreaMeaning) (lengths : Option (List ℕ)) : Type 
 
 -- what is true of every place
 pub record IsPlace (p : PlaceMeaning) : Type 0 where
-  pub least : 5 ≤ p.exponent
-  pub most : p.exponent ≤ 16
+  pub least : LEAST_EXPONENT ≤ p.exponent
+  pub most : p.exponent ≤ GREATEST_EXPONENT
   pub whole : length p.chunks ≡ per p.exponent
   pub marks : length p.touched ≡ length p.chunks
   pub sized : (i : ℕ) (bytes : List ℕ) → slice_index_or p.chunks i None ≡ Some bytes → IsSizeOf p.version p.exponent (length bytes)
@@ -92,7 +93,7 @@ pub record IsUsedFrom (chunks : List (Option (List ℕ))) (from i : ℕ) : Type 
 -- at least one byte, and each is the first one
 pub record IsRepeated (block : List ℕ) : Type 0 where
   pub some : 0 < length block
-  pub short : length block < 65536
+  pub short : length block < SEGMENT_BYTES
   pub same : block ≡ replicate (length block) (slice_index block 0)
 
 -- the place with no chunk touched

@@ -4,6 +4,7 @@ use Rattle.dym_base.specs.Numbers.{per}
 use Rattle.dym_base.specs.HeapStep.{splice}
 use Rattle.dym_base.specs.Origins.{Origin}
 use Rattle.dym_base.specs.declared.command.Version.{Version}
+use Rattle.dym_base.specs.declared.limits.TheConstants.{MOST_QUOTA}
 use Rattle.dym_region.specs.declared.segment.SegmentId.{SegmentId}
 use Rattle.dym_heap.specs.Meaning.{IsSizeOf}
 use Rattle.dym_heap.specs.Table.{Row, empty_row, row_at, chunk_at}
@@ -21,7 +22,7 @@ pub record ShelfMeaning : Type 0 where
 -- the chunks of class e lie in whole areas, and a touched one is in use
 pub record IsRow (v : Version) (e : ℕ) (row : Row) : Type 0 where
   pub areas : ℕ
-  pub few : areas ≤ 1024
+  pub few : areas ≤ MOST_QUOTA
   pub whole : length row.chunks ≡ areas * per e
   pub marks : length row.touched ≡ length row.chunks
   pub sized : (i : ℕ) (bytes : List ℕ) → slice_index_or row.chunks i None ≡ Some bytes → IsSizeOf v e (length bytes)
@@ -30,7 +31,7 @@ pub record IsRow (v : Version) (e : ℕ) (row : Row) : Type 0 where
 -- what is true of every shelf
 pub record IsKept (s : ShelfMeaning) : Type 0 where
   pub quota_least : 1 ≤ s.quota
-  pub quota_most : s.quota ≤ 1024
+  pub quota_most : s.quota ≤ MOST_QUOTA
   pub classes : length s.rows ≡ 12
   pub row : (c : ℕ) → c < 12 → IsRow s.version (c + 5) (row_at s.rows c)
   pub holds : length s.held_ids ≡ areas_in 5 s.rows

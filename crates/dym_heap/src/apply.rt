@@ -1,6 +1,7 @@
 //! Commands to a heap as values: each is run by the heap's call of its kind, and its answer is a reply.
-ghost use Rattle.std.specs.Prelude.{◌≡◌, ℕ, ◌+◌, ◌^◌, ◌<◌};
+ghost use Rattle.std.specs.Prelude.{◌≡◌, ℕ, ◌+◌, ◌<◌};
 ghost use Rattle.dym_base.specs.LateRun.{IsEventCommand};
+ghost use Rattle.dym_base.specs.declared.limits.TheConstants.{COUNT_LIMIT};
 ghost use Rattle.dym_heap.specs.Meaning.{IsSound};
 ghost use Rattle.dym_heap.specs.Replies.{step_of, stepped, counted, OnRefusal};
 
@@ -13,7 +14,7 @@ impl<S: Supply> Heap<S> {
     /// Runs a command to the heap, and answers its reply. It is one of those that change the heap or look at a handle or a
     /// sum: no read of bytes, and none about logs. Each counts as applied, a refused one too, which changes nothing else.
     pub fn apply(&mut self, way: &S::Way, command: &Command) -> Reply
-        requires applied { self.old.applied < 2 ^ 60 }
+        requires applied { self.old.applied < COUNT_LIMIT }
         requires command { IsEventCommand command.now }
         ensures reply { result ≡ (step_of self.old command.now).reply }
         ensures after { self.new ≡ record (stepped (counted self.old) command.now) { held_ids = self.new.held_ids } }

@@ -1,10 +1,11 @@
 //! Chunks of a shelf by their handles.
 ghost use Rattle.std.specs.Prelude.{◌≡◌, ℕ, ◌+◌, ◌-◌, ◌≤◌, ◌<◌, true, None, Some, List, length, replicate, Ok, MatchOption, IsSome, is_some, MatchBool, option_map};
 ghost use Rattle.std.specs.FinMap.{get};
-ghost use Rattle.dym_base.specs.Numbers.{number};
+ghost use Rattle.dym_base.specs.Numbers.{number, IsClass};
 ghost use Rattle.dym_base.specs.HeapStep.{key, splice, with_chunk, without_chunk, found_at, resize, fitted, held_with_fresh};
 ghost use Rattle.dym_base.specs.Heaps.{fresh};
 ghost use Rattle.dym_base.specs.declared.command.Version.TheVariants.{Two};
+ghost use Rattle.dym_base.specs.declared.limits.TheConstants.{LEAST_EXPONENT, GREATEST_EXPONENT};
 ghost use Rattle.dym_heap.specs.Meaning.{IsSizeOf};
 ghost use Rattle.dym_heap.specs.Replies.{found_reply};
 ghost use Rattle.dym_heap.specs.Table.{chunk_at, live_of, state_of};
@@ -21,7 +22,8 @@ use dym_quota::Supply;
 pub(crate) fn len_of_handle<S: Supply>(shelf: &Shelf<S>, h: Handle) -> Option<u32>
     requires { IsTidy shelf.now }
     ensures len { result ≡ option_map length (get (live_of shelf.now.rows) (key h)) }
-    ensures place { IsSome result → (5 ≤ h.exp) × (h.exp ≤ 16) × (get (live_of shelf.now.rows) (key h) ≡ chunk_at shelf.now.rows (h.exp - 5) h.index) }
+    ensures place { IsSome result → (LEAST_EXPONENT ≤ h.exp) × (h.exp ≤ GREATEST_EXPONENT)
+        × (get (live_of shelf.now.rows) (key h) ≡ chunk_at shelf.now.rows (h.exp - 5) h.index) }
 {
     if h.exp < LEAST_EXPONENT {
         return None;
@@ -48,8 +50,8 @@ pub(crate) fn bytes_of_handle<S: Supply>(shelf: &Shelf<S>, h: Handle) -> Option<
 
 /// Frees a chunk that is live, and gives back the areas that its class needs no more.
 pub(crate) fn free_chunk<S: Supply>(shelf: &mut Shelf<S>, way: &S::Way, exp: u8, index: u32)
-    requires least { 5 ≤ exp }
-    requires most { exp ≤ 16 }
+    requires least { LEAST_EXPONENT ≤ exp }
+    requires most { exp ≤ GREATEST_EXPONENT }
     requires tidy { IsTidy shelf.old }
     requires live { IsSome (chunk_at shelf.old.rows (exp - 5) index) }
     ensures after { state_of shelf.new.rows ≡ without_chunk (state_of shelf.old.rows) (number exp index) }
@@ -89,8 +91,8 @@ pub(crate) fn write_chunk<S: Supply>(
     at: u32,
     bytes: &[u8],
 )
-    requires least { 5 ≤ exp }
-    requires most { exp ≤ 16 }
+    requires least { LEAST_EXPONENT ≤ exp }
+    requires most { exp ≤ GREATEST_EXPONENT }
     requires tidy { IsTidy shelf.old }
     requires some { 0 < length bytes.now }
     requires within { FitsIn (chunk_at shelf.old.rows (exp - 5) index) (at + length bytes.now) }
@@ -111,8 +113,8 @@ pub(crate) fn fill_chunk<S: Supply>(
     len: u32,
     byte: u8,
 )
-    requires least { 5 ≤ exp }
-    requires most { exp ≤ 16 }
+    requires least { LEAST_EXPONENT ≤ exp }
+    requires most { exp ≤ GREATEST_EXPONENT }
     requires tidy { IsTidy shelf.old }
     requires some { 0 < len }
     requires within { FitsIn (chunk_at shelf.old.rows (exp - 5) index) (at + len) }
@@ -143,8 +145,8 @@ pub(crate) fn find_number<S: Supply>(shelf: &Shelf<S>, n: u64) -> Found
 
 /// Another length for a chunk that is live, of its own class. In version 1 nothing changes.
 pub(crate) fn resize_chunk<S: Supply>(shelf: &mut Shelf<S>, h: Handle, old: u32, len: u32)
-    requires least { 5 ≤ h.exp }
-    requires most { h.exp ≤ 16 }
+    requires least { LEAST_EXPONENT ≤ h.exp }
+    requires most { h.exp ≤ GREATEST_EXPONENT }
     requires tidy { IsTidy shelf.old }
     requires sized { IsSizeOf Two h.exp len }
     requires live { MatchOption (chunk_at shelf.old.rows (h.exp - 5) h.index) ⊥ (λ bytes. length bytes ≡ old) }
@@ -164,8 +166,8 @@ pub(crate) fn resize_chunk<S: Supply>(shelf: &mut Shelf<S>, h: Handle, old: u32,
 
 /// Copies the first `len` bytes of a chunk over those of a chunk of another class.
 fn copy_chunk<S: Supply>(shelf: &mut Shelf<S>, from: Handle, to: Handle, len: u32)
-    requires from_class { (5 ≤ from.exp) × (from.exp ≤ 16) }
-    requires to_class { (5 ≤ to.exp) × (to.exp ≤ 16) }
+    requires from_class { IsClass from.exp }
+    requires to_class { IsClass to.exp }
     requires apart { from.exp ≡ to.exp → ⊥ }
     requires kept { IsKept shelf.old }
     requires source { FitsIn (chunk_at shelf.old.rows (from.exp - 5) from.index) len }
@@ -189,8 +191,8 @@ pub(crate) fn move_chunk<S: Supply>(
     exp: u8,
     len: u32,
 ) -> Option<u32>
-    requires from_class { (5 ≤ from.exp) × (from.exp ≤ 16) }
-    requires to_class { (5 ≤ exp) × (exp ≤ 16) }
+    requires from_class { IsClass from.exp }
+    requires to_class { IsClass exp }
     requires apart { from.exp ≡ exp → ⊥ }
     requires tidy { IsTidy shelf.old }
     requires sized { IsSizeOf shelf.old.version exp len }

@@ -3,6 +3,7 @@ ghost use Rattle.std.specs.Prelude.{◌≡◌, ℕ, ◌+◌, ◌-◌, ◌≤◌,
 ghost use Rattle.dym_base.specs.Numbers.{number};
 ghost use Rattle.dym_base.specs.Heaps.{fresh};
 ghost use Rattle.dym_base.specs.HeapStep.{held_with_fresh, with_chunk};
+ghost use Rattle.dym_base.specs.declared.limits.TheConstants.{LEAST_EXPONENT, GREATEST_EXPONENT};
 ghost use Rattle.dym_heap.specs.Meaning.{IsSizeOf};
 ghost use Rattle.dym_heap.specs.Table.{row_at, chunk_at, live_of, state_of};
 ghost use Rattle.dym_heap.specs.Shelves.{ShelfMeaning, IsTidy, Keeps};
@@ -18,8 +19,8 @@ pub(crate) fn take_fresh<S: Supply>(
     exp: u8,
     len: u32,
 ) -> Option<u32>
-    requires least { 5 ≤ exp }
-    requires most { exp ≤ 16 }
+    requires least { LEAST_EXPONENT ≤ exp }
+    requires most { exp ≤ GREATEST_EXPONENT }
     requires tidy { IsTidy shelf.old }
     requires sized { IsSizeOf shelf.old.version exp len }
     ensures answer { MatchOption result (shelf.old.quota < held_with_fresh (live_of shelf.old.rows) exp)

@@ -6,7 +6,7 @@ ghost use Rattle.dym_base.specs.HeapStep.{key};
 ghost use Rattle.dym_base.specs.Objects.{empty_heap};
 ghost use Rattle.dym_base.specs.declared.command.Version.TheVariants.{One};
 ghost use Rattle.dym_base.specs.declared.command.Command.TheVariants.{Malloc, Calloc, Realloc, Free, Write, Fill, Read, Link, Follow, Sum};
-ghost use Rattle.dym_base.specs.declared.limits.TheConstants.{MOST_QUOTA};
+ghost use Rattle.dym_base.specs.declared.limits.TheConstants.{MOST_QUOTA, LEAST_EXPONENT, GREATEST_EXPONENT};
 ghost use Rattle.dym_base.specs.Heaps.{held};
 ghost use Rattle.dym_base.specs.StandsFor.{packed_by};
 ghost use Rattle.dym_pack.specs.Reading.{OfLog};
@@ -418,8 +418,8 @@ impl<S: Supply> Heap<S> {
 
 /// The bytes of a new chunk of a class for which `len` were asked.
 fn new_len(version: Version, exp: u8, len: u64) -> u32
-    requires least { 5 ≤ exp }
-    requires most { exp ≤ 16 }
+    requires least { LEAST_EXPONENT ≤ exp }
+    requires most { exp ≤ GREATEST_EXPONENT }
     requires small { len < 2 ^ 32 }
     ensures { result ≡ Rattle.dym_base.specs.HeapStep.new_len version exp len }
 {

@@ -3,6 +3,7 @@ ghost use Rattle.std.specs.Prelude.{◌≡◌, ℕ, ◌≤◌, ◌⊎◌, ◌^�
 ghost use Rattle.std.specs.FinMap.{contains_key};
 ghost use Rattle.dym_base.specs.Numbers.{number};
 ghost use Rattle.dym_base.specs.HeapStep.{key};
+ghost use Rattle.dym_base.specs.declared.limits.TheConstants.{LEAST_EXPONENT};
 ghost use Rattle.dym_heap.specs.Table.{live_of};
 ghost use Rattle.dym_heap.specs.Shelves.{IsTidy};
 ghost use Rattle.dym_heap.specs.Replies.{after_key, IsNextLive};
@@ -30,7 +31,7 @@ pub(crate) fn next_from<S: Supply>(shelf: &Shelf<S>, after: Option<Handle>) -> O
 
 /// The class and the index from which the next live chunk is sought.
 fn start_of(after: Option<Handle>) -> (u8, u64)
-    ensures least { 5 ≤ result.0 }
+    ensures least { LEAST_EXPONENT ≤ result.0 }
     ensures fits { result.1 ≤ 2 ^ 32 }
     ensures start { after_key after ≤ number result.0 result.1 }
     ensures near { (number result.0 result.1 ≡ after_key after) ⊎ (number result.0 result.1 ≡ number 5 0) }

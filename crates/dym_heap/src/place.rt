@@ -3,7 +3,7 @@ ghost use Rattle.std.specs.Prelude.{◌≡◌, ℕ, ◌+◌, ◌-◌, ◌≤◌,
 ghost use Rattle.std.specs.List.{flat_map, range_with_len};
 ghost use Rattle.dym_base.specs.Numbers.{size, per};
 ghost use Rattle.dym_base.specs.HeapStep.{splice, fitted};
-ghost use Rattle.dym_base.specs.declared.limits.TheConstants.{MOST_CHUNKS, SEGMENT_BYTES};
+ghost use Rattle.dym_base.specs.declared.limits.TheConstants.{MOST_CHUNKS, SEGMENT_BYTES, LEAST_EXPONENT, GREATEST_EXPONENT};
 ghost use Rattle.dym_base.specs.declared.command.Version.TheVariants.{One, Two};
 ghost use Rattle.dym_bits.specs.Bits.{bit_in, bits_of_bytes, IsSet, IsClear};
 ghost use Rattle.dym_heap.specs.Meaning.{IsSizeOf};
@@ -50,8 +50,8 @@ impl<G: Segment> Model for Place<G> {
 impl<G: Segment> Place<G> {
     /// A place with no chunk in use.
     pub(crate) fn new(exp: u8, ordinal: u32, segment: G, lengths: Option<Lengths>) -> Place<G>
-        requires least { 5 ≤ exp }
-        requires most { exp ≤ 16 }
+        requires least { LEAST_EXPONENT ≤ exp }
+        requires most { exp ≤ GREATEST_EXPONENT }
         ensures made { result ≡ record { version = version_of lengths; exponent = exp; ordinal = ordinal; identity = G.id segment; chunks = replicate (per exp) None; touched = replicate (per exp) false } }
         ensures lawful { IsPlace result }
     {
@@ -419,8 +419,8 @@ fn note(lengths: &mut Option<Lengths>, i: u32, len: u32)
 
 /// The bytes of chunk `i` of a class: those of the class, or as many as were noted.
 fn noted_len(lengths: &Option<Lengths>, exp: u8, i: u32) -> u32
-    requires least { 5 ≤ exp }
-    requires most { exp ≤ 16 }
+    requires least { LEAST_EXPONENT ≤ exp }
+    requires most { exp ≤ GREATEST_EXPONENT }
     requires within { i < MOST_CHUNKS }
     ensures { result ≡ len_of exp (numbers_of lengths.now) i }
 {

@@ -1,9 +1,9 @@
 //! The areas of a heap, class by class.
 ghost use Rattle.std.specs.Prelude.{◌≡◌, ℕ, ◌+◌, ◌-◌, ◌*◌, ◌/◌, max, ◌≤◌, ◌<◌, true, false, None, Some, [], List, map, length, take, drop, replicate, slice_index_or, IsSome, IsTrue, MatchBool, MatchOption, OnOk, OnErr, IfOk, IfErr, is_some, option_map, vec_len, vec_capacity};
-ghost use Rattle.dym_base.specs.Numbers.{per};
+ghost use Rattle.dym_base.specs.Numbers.{per, IsClass};
 ghost use Rattle.dym_base.specs.HeapStep.{splice, fitted};
 ghost use Rattle.dym_base.specs.declared.command.Version.TheVariants.{Two};
-ghost use Rattle.dym_base.specs.declared.limits.TheConstants.{MOST_QUOTA};
+ghost use Rattle.dym_base.specs.declared.limits.TheConstants.{MOST_QUOTA, LEAST_EXPONENT, GREATEST_EXPONENT};
 ghost use Rattle.dym_bits.specs.Bits.{bit_in, bits_of_bytes, IsSet};
 ghost use Rattle.dym_heap.specs.Meaning.{IsSizeOf};
 ghost use Rattle.dym_heap.specs.Table.{row_at, chunk_at, live_of, touched_of};
@@ -120,8 +120,8 @@ impl<S: Supply> Shelf<S> {
     /// The least free chunk of a class, which is now in use, touched, and of `len` zero bytes. None where no area of the
     /// class has a free chunk.
     pub(crate) fn take_chunk(&mut self, exp: u8, len: u32) -> Option<u32>
-        requires least { 5 ≤ exp }
-        requires most { exp ≤ 16 }
+        requires least { LEAST_EXPONENT ≤ exp }
+        requires most { exp ≤ GREATEST_EXPONENT }
         requires sized { IsSizeOf self.old.version exp len }
         ensures taken { MatchOption result (self.new ≡ self.old) (λ i. self.new ≡ with_put self.old (exp - 5) i (Some (replicate len 0)) true) }
         ensures place { MatchOption result ((i : ℕ) → i < length (row_at self.old.rows (exp - 5)).chunks → IsSome (chunk_at self.old.rows (exp - 5) i)) (λ i. IsFirstFree self.old.rows (exp - 5) i) }
@@ -145,8 +145,8 @@ impl<S: Supply> Shelf<S> {
     /// A new area at the end of a class.
     #[inline(never)]
     pub(crate) fn add_area(&mut self, way: &S::Way, exp: u8)
-        requires least { 5 ≤ exp }
-        requires most { exp ≤ 16 }
+        requires least { LEAST_EXPONENT ≤ exp }
+        requires most { exp ≤ GREATEST_EXPONENT }
         requires room { length self.old.held_ids < self.old.quota }
         ensures added { self.new ≡ record (with_row self.old (exp - 5) (longer (per exp) (row_at self.old.rows (exp - 5)))) { held_ids = self.new.held_ids } }
         ensures kept { IsKept self.new }
@@ -163,8 +163,8 @@ impl<S: Supply> Shelf<S> {
 
     /// Gives back the empty areas at the end of a class.
     pub(crate) fn trim(&mut self, way: &S::Way, exp: u8)
-        requires least { 5 ≤ exp }
-        requires most { exp ≤ 16 }
+        requires least { LEAST_EXPONENT ≤ exp }
+        requires most { exp ≤ GREATEST_EXPONENT }
         requires kept { IsKept self.old }
         ensures trims { Trims self.old self.new (exp - 5) }
         ensures kept { IsKept self.new }
@@ -176,8 +176,8 @@ impl<S: Supply> Shelf<S> {
 
     /// Whether a class ends with an empty area.
     fn ends_free(&self, exp: u8) -> bool
-        requires least { 5 ≤ exp }
-        requires most { exp ≤ 16 }
+        requires least { LEAST_EXPONENT ≤ exp }
+        requires most { exp ≤ GREATEST_EXPONENT }
         ensures { MatchBool result (EndsFree self.now.rows (exp - 5) (per exp)) (IsTrimmed (per exp) (row_at self.now.rows (exp - 5))) }
     {
         let class = class_index(exp);
@@ -190,8 +190,8 @@ impl<S: Supply> Shelf<S> {
 
     /// Gives back the last area of a class, which is empty.
     fn drop_area(&mut self, way: &S::Way, exp: u8)
-        requires least { 5 ≤ exp }
-        requires most { exp ≤ 16 }
+        requires least { LEAST_EXPONENT ≤ exp }
+        requires most { exp ≤ GREATEST_EXPONENT }
         requires free { EndsFree self.old.rows (exp - 5) (per exp) }
         ensures dropped { self.new ≡ without_last self.old (exp - 5) (per exp) self.new.held_ids }
         ensures fewer { length self.new.held_ids + 1 ≡ length self.old.held_ids }
@@ -218,8 +218,8 @@ impl<S: Supply> Shelf<S> {
 
     /// The bytes of a chunk, and None where it isn't in use.
     pub(crate) fn bytes(&self, exp: u8, index: u32) -> Option<&[u8]>
-        requires least { 5 ≤ exp }
-        requires most { exp ≤ 16 }
+        requires least { LEAST_EXPONENT ≤ exp }
+        requires most { exp ≤ GREATEST_EXPONENT }
         ensures { MatchOption result (chunk_at self.now.rows (exp - 5) index ≡ None) (λ bytes. chunk_at self.now.rows (exp - 5) index ≡ Some bytes.now) }
     {
         let Some(spot) = find(&self.starts, exp, index) else {
@@ -230,8 +230,8 @@ impl<S: Supply> Shelf<S> {
 
     /// How many bytes a chunk has that is in use.
     pub(crate) fn chunk_len(&self, exp: u8, index: u32) -> Option<u32>
-        requires least { 5 ≤ exp }
-        requires most { exp ≤ 16 }
+        requires least { LEAST_EXPONENT ≤ exp }
+        requires most { exp ≤ GREATEST_EXPONENT }
         ensures { result ≡ option_map length (chunk_at self.now.rows (exp - 5) index) }
     {
         let Some(spot) = find(&self.starts, exp, index) else {
@@ -242,8 +242,8 @@ impl<S: Supply> Shelf<S> {
 
     /// The least index from `from` on of a chunk that is in use.
     pub(crate) fn next_used(&self, exp: u8, from: u64) -> Option<u32>
-        requires least { 5 ≤ exp }
-        requires most { exp ≤ 16 }
+        requires least { LEAST_EXPONENT ≤ exp }
+        requires most { exp ≤ GREATEST_EXPONENT }
         ensures { MatchOption result ((i : ℕ) → from ≤ i → chunk_at self.now.rows (exp - 5) i ≡ None) (λ i. IsNextUsed self.now.rows (exp - 5) from i) }
     {
         let class = class_index(exp);
@@ -269,8 +269,8 @@ impl<S: Supply> Shelf<S> {
 
     /// The chunk is free from now on. False where it was so already.
     pub(crate) fn release(&mut self, exp: u8, index: u32) -> bool
-        requires least { 5 ≤ exp }
-        requires most { exp ≤ 16 }
+        requires least { LEAST_EXPONENT ≤ exp }
+        requires most { exp ≤ GREATEST_EXPONENT }
         ensures used { result ≡ is_some (chunk_at self.old.rows (exp - 5) index) }
         ensures freed { MatchBool result (self.new ≡ with_put self.old (exp - 5) index None false) (self.new ≡ self.old) }
         ensures kept { IsKept self.new }
@@ -290,8 +290,8 @@ impl<S: Supply> Shelf<S> {
 
     /// Copies the chunk's bytes from place `at` on into `out`.
     pub(crate) fn read(&self, exp: u8, index: u32, at: u32, out: &mut [u8])
-        requires least { 5 ≤ exp }
-        requires most { exp ≤ 16 }
+        requires least { LEAST_EXPONENT ≤ exp }
+        requires most { exp ≤ GREATEST_EXPONENT }
         requires within { FitsIn (chunk_at self.now.rows (exp - 5) index) (at + length out.old) }
         ensures { MatchOption (chunk_at self.now.rows (exp - 5) index) ⊥ (λ bytes. out.new ≡ take (length out.old) (drop at bytes)) }
     {
@@ -303,8 +303,8 @@ impl<S: Supply> Shelf<S> {
 
     /// Copies the first `len` bytes, of which there is at least one, of a chunk over those of a chunk of another class.
     pub(crate) fn copy(&mut self, from: Handle, to: Handle, len: u32)
-        requires from_class { (5 ≤ from.exp) × (from.exp ≤ 16) }
-        requires to_class { (5 ≤ to.exp) × (to.exp ≤ 16) }
+        requires from_class { IsClass from.exp }
+        requires to_class { IsClass to.exp }
         requires apart { from.exp ≡ to.exp → ⊥ }
         requires some { 0 < len }
         requires source { FitsIn (chunk_at self.old.rows (from.exp - 5) from.index) len }
@@ -323,8 +323,8 @@ impl<S: Supply> Shelf<S> {
 
     /// Writes at least one byte.
     pub(crate) fn write(&mut self, exp: u8, index: u32, at: u32, bytes: &[u8])
-        requires least { 5 ≤ exp }
-        requires most { exp ≤ 16 }
+        requires least { LEAST_EXPONENT ≤ exp }
+        requires most { exp ≤ GREATEST_EXPONENT }
         requires some { 0 < length bytes.now }
         requires within { FitsIn (chunk_at self.old.rows (exp - 5) index) (at + length bytes.now) }
         ensures written { MatchOption (chunk_at self.old.rows (exp - 5) index) ⊥ (λ old. self.new ≡ with_put self.old (exp - 5) index (Some (splice at bytes.now old)) true) }
@@ -339,8 +339,8 @@ impl<S: Supply> Shelf<S> {
 
     /// Makes at least one byte `byte`.
     pub(crate) fn fill(&mut self, exp: u8, index: u32, at: u32, len: u32, byte: u8)
-        requires least { 5 ≤ exp }
-        requires most { exp ≤ 16 }
+        requires least { LEAST_EXPONENT ≤ exp }
+        requires most { exp ≤ GREATEST_EXPONENT }
         requires some { 0 < len }
         requires within { FitsIn (chunk_at self.old.rows (exp - 5) index) (at + len) }
         ensures filled { MatchOption (chunk_at self.old.rows (exp - 5) index) ⊥ (λ old. self.new ≡ with_put self.old (exp - 5) index (Some (splice at (replicate len byte) old)) true) }
@@ -355,8 +355,8 @@ impl<S: Supply> Shelf<S> {
 
     /// Another length for a chunk, of version 2: its first bytes stay, and zeros follow.
     pub(crate) fn resize(&mut self, exp: u8, index: u32, len: u32)
-        requires least { 5 ≤ exp }
-        requires most { exp ≤ 16 }
+        requires least { LEAST_EXPONENT ≤ exp }
+        requires most { exp ≤ GREATEST_EXPONENT }
         requires version { self.old.version ≡ Two }
         requires sized { IsSizeOf Two exp len }
         requires another { MatchOption (chunk_at self.old.rows (exp - 5) index) ⊥ (λ old. length old ≡ len → ⊥) }
@@ -372,8 +372,8 @@ impl<S: Supply> Shelf<S> {
 
     /// Puts the chunks that a body packs over those in use of an area of a class, where the class has that area.
     pub(crate) fn load_area(&mut self, exp: u8, ordinal: u32, packed: &Bits, body: &[u8])
-        requires least { 5 ≤ exp }
-        requires most { exp ≤ 16 }
+        requires least { LEAST_EXPONENT ≤ exp }
+        requires most { exp ≤ GREATEST_EXPONENT }
         requires body { IsBody self.old.version exp packed.now body.now }
         ensures loaded { (f : ℕ → List ℕ) → IsBodyOf self.old.version exp packed.now body.now f → IsLoadedArea self.old.rows self.new.rows (exp - 5) ordinal packed.now f }
         ensures long { (d : ℕ) → length (row_at self.new.rows d).chunks ≡ length (row_at self.old.rows d).chunks }
@@ -391,8 +391,8 @@ impl<S: Supply> Shelf<S> {
 
     /// How many areas a class has.
     pub(crate) fn areas(&self, exp: u8) -> u32
-        requires least { 5 ≤ exp }
-        requires most { exp ≤ 16 }
+        requires least { LEAST_EXPONENT ≤ exp }
+        requires most { exp ≤ GREATEST_EXPONENT }
         ensures { HasAreas self.now.rows (exp - 5) result }
     {
         let class = class_index(exp);
@@ -402,8 +402,8 @@ impl<S: Supply> Shelf<S> {
     /// Takes the use bits of an area from a bitmap. A chunk that was in use and not touched keeps its bytes, and each other one in
     /// use is touched.
     pub(crate) fn shape_area(&mut self, exp: u8, ordinal: u32, use_bytes: &[u8])
-        requires least { 5 ≤ exp }
-        requires most { exp ≤ 16 }
+        requires least { LEAST_EXPONENT ≤ exp }
+        requires most { exp ≤ GREATEST_EXPONENT }
         requires area { ordinal * per exp < length (row_at self.old.rows (exp - 5)).chunks }
         requires len { length use_bytes.now ≡ max 1 (per exp / 8) }
         requires below { (i : ℕ) → IsSet (bits_of_bytes use_bytes.now) i → i < per exp }
@@ -421,8 +421,8 @@ impl<S: Supply> Shelf<S> {
 
     /// The chunks in use among these of an area of a class are touched besides, where the class has that area.
     pub(crate) fn mark_area(&mut self, exp: u8, ordinal: u32, packed: &Bits)
-        requires least { 5 ≤ exp }
-        requires most { exp ≤ 16 }
+        requires least { LEAST_EXPONENT ≤ exp }
+        requires most { exp ≤ GREATEST_EXPONENT }
         ensures marked { IsChangedArea self.old.rows self.new.rows (exp - 5) ordinal (λ i old new. new ≡ marked (bit_in packed.now i) old) }
         ensures long { (d : ℕ) → length (row_at self.new.rows d).chunks ≡ length (row_at self.old.rows d).chunks }
         ensures same { self.new ≡ record self.old { rows = self.new.rows } }
@@ -440,8 +440,8 @@ impl<S: Supply> Shelf<S> {
     /// Puts the touched ones of the chunks that a body packs over those in use of an area of a class, where the class has that
     /// area. They are touched no more.
     pub(crate) fn fetch_area(&mut self, exp: u8, ordinal: u32, packed: &Bits, body: &[u8])
-        requires least { 5 ≤ exp }
-        requires most { exp ≤ 16 }
+        requires least { LEAST_EXPONENT ≤ exp }
+        requires most { exp ≤ GREATEST_EXPONENT }
         requires body { IsBody self.old.version exp packed.now body.now }
         ensures fetched { (f : ℕ → List ℕ) → IsBodyOf self.old.version exp packed.now body.now f → IsChangedArea self.old.rows self.new.rows (exp - 5) ordinal (λ i old new. new ≡ fetched (packed_at packed.now f i) old) }
         ensures long { (d : ℕ) → length (row_at self.new.rows d).chunks ≡ length (row_at self.old.rows d).chunks }
@@ -459,8 +459,8 @@ impl<S: Supply> Shelf<S> {
 
     /// Gives back the last area of a class, whatever its chunks are.
     pub(crate) fn give_last(&mut self, way: &S::Way, exp: u8)
-        requires least { 5 ≤ exp }
-        requires most { exp ≤ 16 }
+        requires least { LEAST_EXPONENT ≤ exp }
+        requires most { exp ≤ GREATEST_EXPONENT }
         requires some { per exp ≤ length (row_at self.old.rows (exp - 5)).chunks }
         requires kept { IsKept self.old }
         ensures fewer { length (row_at self.new.rows (exp - 5)).chunks + per exp ≡ length (row_at self.old.rows (exp - 5)).chunks }

@@ -1,7 +1,7 @@
 //! Where a chunk lies among the areas of a shelf.
 ghost use Rattle.std.specs.Prelude.{◌≡◌, ℕ, ◌+◌, ◌-◌, ◌≤◌, ◌<◌, ◌/◌, ◌%◌, true, Bool, List, length, slice_index, slice_set, MatchOption, IsSome, is_some, vec_len, vec_capacity, if◌then◌else◌};
 ghost use Rattle.dym_base.specs.Numbers.{per};
-ghost use Rattle.dym_base.specs.declared.limits.TheConstants.{MOST_CHUNKS};
+ghost use Rattle.dym_base.specs.declared.limits.TheConstants.{MOST_CHUNKS, LEAST_EXPONENT, GREATEST_EXPONENT, MOST_QUOTA};
 ghost use Rattle.dym_heap.specs.Arrangement.{marks_of_class, Shifts, Unshifts};
 
 use crate::lengths::Lengths;
@@ -19,8 +19,8 @@ pub(crate) struct Spot {
 
 /// The place of a class among the twelve.
 pub(crate) fn class_index(exp: u8) -> usize
-    requires least { 5 ≤ exp }
-    requires most { exp ≤ 16 }
+    requires least { LEAST_EXPONENT ≤ exp }
+    requires most { exp ≤ GREATEST_EXPONENT }
     ensures { result ≡ exp - 5 }
 {
     usize::from(exp - LEAST_EXPONENT)
@@ -28,8 +28,8 @@ pub(crate) fn class_index(exp: u8) -> usize
 
 /// Where the chunk of an index lies, and None past the areas of its class.
 pub(crate) fn find(starts: &[u32; 13], exp: u8, index: u32) -> Option<Spot>
-    requires least { 5 ≤ exp }
-    requires most { exp ≤ 16 }
+    requires least { LEAST_EXPONENT ≤ exp }
+    requires most { exp ≤ GREATEST_EXPONENT }
     requires rising { slice_index starts.now (exp - 5) ≤ slice_index starts.now (exp - 5 + 1) }
     ensures { MatchOption result (slice_index starts.now (exp - 5 + 1) ≤ slice_index starts.now (exp - 5) + index / per exp)
         (λ spot. (spot.ordinal ≡ index / per exp) × (spot.chunk ≡ index % per exp) × (spot.place ≡ slice_index starts.now (exp - 5) + index / per exp)
@@ -77,7 +77,7 @@ pub(crate) fn set_mark(full: &mut Vec<Bits>, class: usize, ordinal: u32, is_full
 /// Moves the starts past a class one up.
 pub(crate) fn shift_up(starts: &mut [u32; 13], class: usize)
     requires class { class < 12 }
-    requires small { (d : ℕ) → slice_index starts.old d ≤ 1024 }
+    requires small { (d : ℕ) → slice_index starts.old d ≤ MOST_QUOTA }
     ensures { Shifts starts.old starts.new class }
 {
     for d in class + 1..13 {

@@ -1,10 +1,11 @@
 //! What an accepted event does to the heap and its logs.
-ghost use Rattle.std.specs.Prelude.{◌≡◌, ◌↔◌, ◌+◌, ◌^◌, ◌<◌, ◌≤◌, IsTrue, None, Some, [], ◌∷◌, ◌++◌, length, OnOk};
+ghost use Rattle.std.specs.Prelude.{◌≡◌, ◌↔◌, ◌+◌, ◌<◌, ◌≤◌, IsTrue, None, Some, [], ◌∷◌, ◌++◌, length, OnOk};
 ghost use Rattle.std.specs.FinSet as FinSet;
 ghost use Rattle.dym_base.specs.LateRun.{IsEventCommand, log_before};
 ghost use Rattle.dym_base.specs.Objects as Objects;
 ghost use Rattle.dym_base.specs.Objects.{LogEntry, newest};
 ghost use Rattle.dym_base.specs.declared.command.Kind.TheVariants.{Inc};
+ghost use Rattle.dym_base.specs.declared.limits.TheConstants.{COUNT_LIMIT};
 ghost use Rattle.dym_heap.specs.Meaning.{IsSound};
 ghost use Rattle.dym_heap.specs.Replies.{step_of, stepped, counted};
 ghost use Rattle.dym_chain.specs.Chains.{Belongs, object_of};
@@ -34,7 +35,7 @@ fn mark_before(place: usize) -> usize
 
 /// Runs an event's command, and keeps its reply.
 pub(crate) fn run_event<S: Supply>(heap: &mut Heap<S>, way: &S::Way, event: &mut Event)
-    requires applied { heap.old.applied < 2 ^ 60 }
+    requires applied { heap.old.applied < COUNT_LIMIT }
     requires command { IsEventCommand event.old.command }
     ensures event { event.new ≡ record event.old { reply = (step_of heap.old event.old.command).reply } }
     ensures after { heap.new ≡ record (stepped (counted heap.old) event.old.command) { held_ids = heap.new.held_ids } }
@@ -53,7 +54,7 @@ pub(crate) fn take_log<S: Supply>(
 ) -> Result<(), AllocError>
     requires belongs { Belongs heap.old.version heap.old.quota heap.old.state chain.old }
     requires sound { IsSound heap.old }
-    requires made { chain.old.made < 2 ^ 60 }
+    requires made { chain.old.made < COUNT_LIMIT }
     requires idle { chain.old.lifted ≡ None }
     requires room { length chain.old.logs < 256 }
     requires later { (log : LogEntry) → newest chain.old.logs ≡ Some log → log.time < position }
@@ -82,7 +83,7 @@ pub(crate) fn log_if_due<S: Supply>(
 ) -> Result<(), AllocError>
     requires belongs { Belongs heap.old.version heap.old.quota heap.old.state chain.old }
     requires sound { IsSound heap.old }
-    requires made { chain.old.made < 2 ^ 60 }
+    requires made { chain.old.made < COUNT_LIMIT }
     requires idle { chain.old.lifted ≡ None }
     requires room { IsMark position → length chain.old.logs < 256 }
     requires later { IsMark position → (log : LogEntry) → newest chain.old.logs ≡ Some log → log.time < position }

@@ -3,7 +3,8 @@ use Rattle.std.proofs.Common.{◌≡◌, ℕ, zero, suc, ◌+◌, ◌-◌, ◌<�
 use Rattle.std.proofs.lemmas.List.Sums.{prefix_len_stops}
 use Rattle.std.proofs.lemmas.Bool.{false_from_ne_true}
 use Rattle.std.specs.List.{prefix_len, slice_split, onto_first, filter}
-use Rattle.dym_lines.specs.Lines.{lines_of, words_of, is_space, is_word}
+use Rattle.dym_base.specs.Lines.{lines_of}
+use Rattle.dym_lines.specs.Lines.{words_of, is_space, is_word}
 
 pub both_true : (a b : Bool) → (a && b) ≡ true → (a ≡ true) × (b ≡ true)
 both_true true b both = (refl, both)

@@ -1,11 +1,6 @@
--- How an input is cut into lines, and a line into words.
-use Rattle.std.specs.Prelude.{ℕ, Bool, true, false, ◌&&◌, ◌==◌, nat_le, if◌then◌else◌, List, [], ◌∷◌}
-use Rattle.std.specs.List.{slice_split, onto_first, filter}
-
--- the lines of an input, which is cut at each line end. A last piece without one is a line where it isn't empty
-abbrev pub lines_of : List ℕ → List (List ℕ)
-lines_of [] = []
-lines_of (b ∷ bytes) = if b == 10 then [] ∷ lines_of bytes else onto_first b (lines_of bytes)
+-- What may stand in a line, and how a line is cut into words.
+use Rattle.std.specs.Prelude.{ℕ, Bool, true, false, ◌&&◌, ◌==◌, nat_le, List, [], ◌∷◌}
+use Rattle.std.specs.List.{slice_split, filter}
 
 -- what may stand in a line
 abbrev pub is_printable : ℕ → Bool

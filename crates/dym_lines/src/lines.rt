@@ -2,7 +2,8 @@
 ghost use Rattle.std.specs.Prelude.{◌≡◌, ◌≢◌, ◌<◌, [], ◌∷◌, not, length, ◌≤◌, ◌+◌, IfSome, MatchOption, MatchResult};
 ghost use Rattle.std.specs.List.{prefix_len};
 ghost use Rattle.dym_base.specs.declared.bad_kind.BadKind.TheVariants.{Command};
-ghost use Rattle.dym_lines.specs.Lines.{lines_of, words_of, is_space};
+ghost use Rattle.dym_base.specs.Lines.{lines_of};
+ghost use Rattle.dym_lines.specs.Lines.{words_of, is_space};
 
 use dym_base::BadKind;
 use memchr::memchr;

@@ -9,7 +9,8 @@ use Rattle.dym_base.specs.declared.command.Command.{Command}
 use Rattle.dym_base.specs.declared.limits.TheConstants.{MOST_LINE_BYTES, MOST_OBJECTS, MOST_COMMANDS, MOST_QUOTA}
 use Rattle.dym_lines.specs.declared.verb.Verb.{Verb}
 use Rattle.dym_lines.specs.declared.verb.Verb.TheVariants as verb
-use Rattle.dym_lines.specs.Lines.{lines_of, words_of, is_printable}
+use Rattle.dym_base.specs.Lines.{lines_of}
+use Rattle.dym_lines.specs.Lines.{words_of, is_printable}
 use Rattle.dym_lines.specs.Table.{row, verb_of}
 use Rattle.dym_script.specs.Scripts.{Reading, object_of, is_version, read_line}
 use Rattle.dym_quick.specs.Quick.{is_bare_word, spelled}

@@ -10,7 +10,7 @@ use Rattle.dym_base.specs.declared.command.Version.TheVariants.{One}
 use Rattle.dym_base.specs.declared.limits.TheConstants.{MOST_INPUT_BYTES, MOST_OBJECTS, MOST_MADE_COMMANDS}
 use Rattle.dym_script.specs.declared.script.Decl.{Decl}
 use Rattle.dym_script.specs.declared.script.Line.{Line}
-use Rattle.dym_lines.specs.Lines.{lines_of}
+use Rattle.dym_base.specs.Lines.{lines_of}
 use Rattle.dym_script.specs.Scripts.{Said, Reading, Fault, object_of, start, go_on, read_line, read_lines, script_of}
 use Rattle.dym_script.proofs.Index.{with_last, object_of_push}
 use Rattle.dym_gen.specs.Commands.{fixed_command, command_text}

@@ -1,8 +1,9 @@
 //! Commands about the logs of an object, one method for each.
-ghost use Rattle.std.specs.Prelude.{◌≡◌, ℕ, ◌^◌, ◌<◌, OnErr};
+ghost use Rattle.std.specs.Prelude.{◌≡◌, ℕ, ◌<◌, OnErr};
 ghost use Rattle.dym_base.specs.Objects as Objects;
 ghost use Rattle.dym_base.specs.declared.command.Command.TheVariants.{Log, Ilog, Restore, Prune, Logs};
 ghost use Rattle.dym_base.specs.declared.reply.Reply.TheVariants as reply;
+ghost use Rattle.dym_base.specs.declared.limits.TheConstants.{COUNT_LIMIT};
 ghost use Rattle.dym_chain.specs.Answers.{IsLogAnswer, restored_reply};
 ghost use Rattle.dym_object.specs.Commands.{OnReplied, OnRefused, OnMemory, log_command, slots_reply};
 ghost use Rattle.dym_object.specs.Meaning.{IsStep, IsWhole, counted, step_by};
@@ -19,7 +20,7 @@ impl<S: Supply, K: LogKeep> Object<S, K> {
     /// length. Where memory is wanting, nothing was run.
     #[inline(always)]
     pub fn log(&mut self, alloc: Global, time: u64) -> Result<(Kind, u64), LogError>
-        requires { self.old.ran < 2 ^ 60 }
+        requires { self.old.ran < COUNT_LIMIT }
         ensures answer { IsLogAnswer result (step_by self.old (Log time)).reply }
         ensures step { OnReplied result (IsStep self.old self.new (Log time)) }
         ensures refused { OnRefused result (self.new ≡ counted self.old) }
@@ -33,7 +34,7 @@ impl<S: Supply, K: LogKeep> Object<S, K> {
     /// incremental ones follow the last full one as may.
     #[inline(always)]
     pub fn ilog(&mut self, alloc: Global, time: u64) -> Result<(Kind, u64), LogError>
-        requires { self.old.ran < 2 ^ 60 }
+        requires { self.old.ran < COUNT_LIMIT }
         ensures answer { IsLogAnswer result (step_by self.old (Ilog time)).reply }
         ensures step { OnReplied result (IsStep self.old self.new (Ilog time)) }
         ensures refused { OnRefused result (self.new ≡ counted self.old) }
@@ -51,7 +52,7 @@ impl<S: Supply, K: LogKeep> Object<S, K> {
         time: u64,
         want: Kind,
     ) -> Result<(Kind, u64), LogError>
-        requires { self.old.ran < 2 ^ 60 }
+        requires { self.old.ran < COUNT_LIMIT }
         ensures answer { IsLogAnswer result (step_by self.old (log_command want time)).reply }
         ensures step { OnReplied result (IsStep self.old self.new (log_command want time)) }
         ensures refused { OnRefused result (self.new ≡ counted self.old) }
@@ -68,7 +69,7 @@ impl<S: Supply, K: LogKeep> Object<S, K> {
     /// Restores the last log at or before a time, and answers its time; the later logs leave.
     #[inline(always)]
     pub fn restore(&mut self, way: &S::Way, time: u64) -> Result<u64, Refusal>
-        requires { self.old.ran < 2 ^ 60 }
+        requires { self.old.ran < COUNT_LIMIT }
         ensures reply { restored_reply result ≡ (step_by self.old (Restore time)).reply }
         ensures step { IsStep self.old self.new (Restore time) }
         ensures refused { OnErr result (self.new ≡ counted self.old) }
@@ -81,7 +82,7 @@ impl<S: Supply, K: LogKeep> Object<S, K> {
     /// Drops the logs before the last one at or before a bound, and answers how many.
     #[inline(always)]
     pub fn prune(&mut self, bound: u64) -> u32
-        requires { self.old.ran < 2 ^ 60 }
+        requires { self.old.ran < COUNT_LIMIT }
         ensures reply { reply.Dropped result ≡ (step_by self.old (Prune bound)).reply }
         ensures step { IsStep self.old self.new (Prune bound) }
         ensures heap { self.new.heap ≡ self.old.heap }
@@ -94,7 +95,7 @@ impl<S: Supply, K: LogKeep> Object<S, K> {
     /// How many logs are kept, and how many records they take: as `kept` and `slots` tell, but that this counts as a command.
     #[inline(always)]
     pub fn logs(&mut self) -> (u32, u32)
-        requires { self.old.ran < 2 ^ 60 }
+        requires { self.old.ran < COUNT_LIMIT }
         ensures reply { slots_reply result ≡ (step_by self.old Logs).reply }
         ensures step { IsStep self.old self.new Logs }
         ensures same { self.new ≡ counted self.old }

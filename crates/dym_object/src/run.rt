@@ -1,7 +1,8 @@
 //! Commands to an object as values: each is run by the object's call of its kind, and its answer is a reply.
-ghost use Rattle.std.specs.Prelude.{◌≡◌, ℕ, ◌+◌, ◌^◌, ◌<◌, OnOk, OnErr, IfOk, IfErr};
+ghost use Rattle.std.specs.Prelude.{◌≡◌, ℕ, ◌+◌, ◌<◌, OnOk, OnErr, IfOk, IfErr};
 ghost use Rattle.dym_base.specs.Below.{below_step};
 ghost use Rattle.dym_base.specs.declared.command.Command.TheVariants.{Read};
+ghost use Rattle.dym_base.specs.declared.limits.TheConstants.{COUNT_LIMIT};
 ghost use Rattle.dym_heap.specs.Replies.{OnRefusal};
 ghost use Rattle.dym_chain.specs.Answers.{restored_reply};
 ghost use Rattle.dym_object.specs.Commands.{TakesMemory, log_command, slots_reply};
@@ -23,7 +24,7 @@ impl<S: Supply, K: LogKeep> Object<S, K> {
         alloc: Global,
         command: &Command,
     ) -> Result<Reply, AllocError>
-        requires ran { self.old.ran < 2 ^ 60 }
+        requires ran { self.old.ran < COUNT_LIMIT }
         ensures reply { IfOk result (λ r. r ≡ (step_by self.old command.now).reply) }
         ensures after { OnOk result (state_of self.new ≡ (step_by self.old command.now).object) }
         ensures below { OnOk result (self.new.chain.below ≡ below_step self.old.chain.below (state_of self.old) command.now) }
@@ -50,7 +51,7 @@ impl<S: Supply, K: LogKeep> Object<S, K> {
         command: &Command,
         reply: &mut Reply,
     ) -> Result<(), AllocError>
-        requires ran { self.old.ran < 2 ^ 60 }
+        requires ran { self.old.ran < COUNT_LIMIT }
         ensures reply { OnOk result (reply.new ≡ (step_by self.old command.now).reply) }
         ensures after { OnOk result (state_of self.new ≡ (step_by self.old command.now).object) }
         ensures below { OnOk result (self.new.chain.below ≡ below_step self.old.chain.below (state_of self.old) command.now) }
@@ -128,7 +129,7 @@ impl<S: Supply, K: LogKeep> Object<S, K> {
         len: u32,
         reply: &mut Reply,
     ) -> Result<(), AllocError>
-        requires { self.old.ran < 2 ^ 60 }
+        requires { self.old.ran < COUNT_LIMIT }
         ensures reply { OnOk result (reply.new ≡ (step_by self.old (Read h at len)).reply) }
         ensures after { OnOk result (state_of self.new ≡ (step_by self.old (Read h at len)).object) }
         ensures below { OnOk result (self.new.chain.below ≡ below_step self.old.chain.below (state_of self.old) (Read h at len)) }
@@ -166,7 +167,7 @@ impl<S: Supply, K: LogKeep> Object<S, K> {
         want: Kind,
         reply: &mut Reply,
     ) -> Result<(), AllocError>
-        requires { self.old.ran < 2 ^ 60 }
+        requires { self.old.ran < COUNT_LIMIT }
         ensures reply { OnOk result (reply.new ≡ (step_by self.old (log_command want time)).reply) }
         ensures after { OnOk result (state_of self.new ≡ (step_by self.old (log_command want time)).object) }
         ensures below { OnOk result (self.new.chain.below ≡ below_step self.old.chain.below (state_of self.old) (log_command want time)) }

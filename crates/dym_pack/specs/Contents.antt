@@ -8,6 +8,7 @@ use Rattle.dym_base.specs.Packed.{kind_byte, bitmap, touched_bits, packed_chunk}
 use Rattle.dym_base.specs.declared.command.Version.{Version}
 use Rattle.dym_base.specs.declared.command.Kind.{Kind}
 use Rattle.dym_base.specs.declared.command.Kind.TheVariants.{Full, Inc}
+use Rattle.dym_base.specs.declared.limits.TheConstants.{LEAST_EXPONENT, GREATEST_EXPONENT}
 use Rattle.dym_pack.specs.Places.{name_bytes}
 use Rattle.dym_pack.specs.declared.reading.MapsSeen.{MapsSeen}
 use Rattle.dym_pack.specs.declared.reading.AreaSeen.{AreaSeen}
@@ -46,8 +47,8 @@ content_bytes v kind a =
 
 -- an area that a record of a version can have
 pub record IsContent (v : Version) (a : Content) : Type 0 where
-  pub least : 5 ≤ a.exponent
-  pub most : a.exponent ≤ 16
+  pub least : LEAST_EXPONENT ≤ a.exponent
+  pub most : a.exponent ≤ GREATEST_EXPONENT
   pub small : a.ordinal < 2 ^ 32
   pub sized : (i : ℕ) → i < per a.exponent → a.used i ≡ true → IsLengthOf v a.exponent (length (a.chunk i))
   pub touched : (i : ℕ) → i < per a.exponent → a.touched i ≡ true → a.used i ≡ true

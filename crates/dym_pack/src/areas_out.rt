@@ -4,6 +4,7 @@ ghost use Rattle.dym_base.specs.Packed.{bitmap, packed_chunk};
 ghost use Rattle.dym_base.specs.Numbers.{per};
 ghost use Rattle.dym_base.specs.Heaps.{held};
 ghost use Rattle.dym_base.specs.declared.command.Version.TheVariants.{One, Two};
+ghost use Rattle.dym_base.specs.declared.limits.TheConstants.{SEGMENT_BYTES};
 ghost use Rattle.dym_bits.specs.Bits.{bit_in};
 ghost use Rattle.dym_pack.specs.Areas.{IsPackable, area_at, chunks_of, logged};
 ghost use Rattle.dym_pack.specs.Reading.{packs_at, body_from};
@@ -193,7 +194,7 @@ fn put_chunks<A: Areas>(
 
 /// Appends a chunk after its length.
 fn put_chunk(bytes: &[u8], out: &mut Vec<u8>) -> Result<(), AllocError>
-    requires { length bytes.now ≤ 65536 }
+    requires { length bytes.now ≤ SEGMENT_BYTES }
     ensures { OnOk result (out.new.items ≡ out.old.items ++ packed_chunk Two bytes.now) }
 {
     let len = bytes.len() as u32;

@@ -6,6 +6,7 @@ ghost use Rattle.dym_base.specs.Packed.{kind_byte};
 ghost use Rattle.dym_pack.specs.Places.{name_bytes};
 ghost use Rattle.dym_base.specs.declared.command.Version.{Version};
 ghost use Rattle.dym_base.specs.declared.command.Kind.{Kind};
+ghost use Rattle.dym_base.specs.declared.limits.TheConstants.{LEAST_EXPONENT, GREATEST_EXPONENT};
 
 use dym_base::{Kind, Version, per_area};
 use std::alloc::AllocError;
@@ -30,8 +31,8 @@ pub(crate) fn byte_of_kind(version: Version, kind: Kind) -> u8
 
 /// The bytes of a bitmap of the chunks of a class.
 pub(crate) fn map_bytes(exp: u8) -> u32
-    requires least { 5 ≤ exp }
-    requires greatest { exp ≤ 16 }
+    requires least { LEAST_EXPONENT ≤ exp }
+    requires greatest { exp ≤ GREATEST_EXPONENT }
     ensures value { result ≡ max 1 (per exp / 8) }
     ensures few { result ≤ 256 }
 {

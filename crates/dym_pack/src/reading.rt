@@ -4,6 +4,7 @@ ghost use Rattle.dym_base.specs.Numbers.{per};
 ghost use Rattle.dym_base.specs.Packed.{bitmap};
 ghost use Rattle.dym_base.specs.declared.command.Version.TheVariants.{One, Two};
 ghost use Rattle.dym_base.specs.declared.command.Kind.TheVariants.{Full, Inc};
+ghost use Rattle.dym_base.specs.declared.limits.TheConstants.{LEAST_EXPONENT, GREATEST_EXPONENT};
 ghost use Rattle.dym_bits.specs.Bits.{bit_in};
 ghost use Rattle.dym_pack.specs.Places.{name_bytes};
 ghost use Rattle.dym_pack.specs.Contents.{IsMaps, IsBody, IsSeen};
@@ -60,8 +61,10 @@ pub(crate) fn rest_from(bytes: &[u8], at: usize) -> &[u8]
 
 /// The class exponent and the ordinal that the bytes begin with.
 fn name_in(bytes: &[u8]) -> Option<(u8, u32)>
-    ensures is { IfSome result (λ name. (bytes.now ≡ name_bytes name.0 name.1 ++ drop 5 bytes.now) × (5 ≤ name.0) × (name.0 ≤ 16)) }
-    ensures only { (e o : ℕ) (rest : List ℕ) → 5 ≤ e → e ≤ 16 → o < 2 ^ 32 → bytes.now ≡ name_bytes e o ++ rest → result ≡ Some (e, o) }
+    ensures is { IfSome result (λ name. (bytes.now ≡ name_bytes name.0 name.1 ++ drop 5 bytes.now)
+        × (LEAST_EXPONENT ≤ name.0) × (name.0 ≤ GREATEST_EXPONENT)) }
+    ensures only { (e o : ℕ) (rest : List ℕ) → LEAST_EXPONENT ≤ e → e ≤ GREATEST_EXPONENT → o < 2 ^ 32
+        → bytes.now ≡ name_bytes e o ++ rest → result ≡ Some (e, o) }
 {
     if bytes.len() < NAME_BYTES || bytes[0] < LEAST_EXPONENT || GREATEST_EXPONENT < bytes[0] {
         return None;
@@ -71,8 +74,8 @@ fn name_in(bytes: &[u8]) -> Option<(u8, u32)>
 
 /// The bitmaps that the bytes begin with.
 fn maps_in(bytes: &[u8], kind: Kind, exp: u8) -> Option<MapsSeen>
-    requires least { 5 ≤ exp }
-    requires greatest { exp ≤ 16 }
+    requires least { LEAST_EXPONENT ≤ exp }
+    requires greatest { exp ≤ GREATEST_EXPONENT }
     ensures is { IfSome result (λ seen. IsMaps kind exp bytes.now seen) }
     ensures only { (seen : MapsSeen) → IsMaps kind exp bytes.now seen → result ≡ Some seen }
 {
@@ -85,8 +88,8 @@ fn maps_in(bytes: &[u8], kind: Kind, exp: u8) -> Option<MapsSeen>
 
 /// The use bits of an area of a full record.
 fn full_maps(bytes: &[u8], exp: u8, map: usize) -> Option<MapsSeen>
-    requires least { 5 ≤ exp }
-    requires greatest { exp ≤ 16 }
+    requires least { LEAST_EXPONENT ≤ exp }
+    requires greatest { exp ≤ GREATEST_EXPONENT }
     requires map { map ≡ max 1 (per exp / 8) }
     ensures is { IfSome result (λ seen. IsMaps Full exp bytes.now seen) }
     ensures only { (seen : MapsSeen) → IsMaps Full exp bytes.now seen → result ≡ Some seen }
@@ -106,8 +109,8 @@ fn full_maps(bytes: &[u8], exp: u8, map: usize) -> Option<MapsSeen>
 
 /// The use bits and the touched bits of an area of an incremental record.
 fn inc_maps(bytes: &[u8], exp: u8, map: usize) -> Option<MapsSeen>
-    requires least { 5 ≤ exp }
-    requires greatest { exp ≤ 16 }
+    requires least { LEAST_EXPONENT ≤ exp }
+    requires greatest { exp ≤ GREATEST_EXPONENT }
     requires map { map ≡ max 1 (per exp / 8) }
     ensures is { IfSome result (λ seen. IsMaps Inc exp bytes.now seen) }
     ensures only { (seen : MapsSeen) → IsMaps Inc exp bytes.now seen → result ≡ Some seen }
@@ -147,8 +150,8 @@ fn bits_in(map: &[u8], chunks: u32) -> Option<Bits>
 
 /// How many bytes the `count` packed chunks of a class take that the bytes begin with.
 fn body_in(bytes: &[u8], version: Version, exp: u8, count: u32) -> Option<usize>
-    requires least { 5 ≤ exp }
-    requires greatest { exp ≤ 16 }
+    requires least { LEAST_EXPONENT ≤ exp }
+    requires greatest { exp ≤ GREATEST_EXPONENT }
     requires few { count ≤ 2048 }
     ensures is { IfSome result (λ len. IsBody version exp count bytes.now len) }
     ensures only { (len : ℕ) → IsBody version exp count bytes.now len → result ≡ Some len }
@@ -162,8 +165,8 @@ fn body_in(bytes: &[u8], version: Version, exp: u8, count: u32) -> Option<usize>
 
 /// The same in version 1, where each chunk has all bytes of its class.
 fn equal_chunks(bytes: &[u8], exp: u8, count: u32) -> Option<usize>
-    requires least { 5 ≤ exp }
-    requires greatest { exp ≤ 16 }
+    requires least { LEAST_EXPONENT ≤ exp }
+    requires greatest { exp ≤ GREATEST_EXPONENT }
     requires few { count ≤ 2048 }
     ensures is { IfSome result (λ len. IsBody One exp count bytes.now len) }
     ensures only { (len : ℕ) → IsBody One exp count bytes.now len → result ≡ Some len }

@@ -6,6 +6,7 @@ ghost use Rattle.dym_base.specs.Heaps.{held};
 ghost use Rattle.dym_base.specs.Packed.{bitmap, kind_byte};
 ghost use Rattle.dym_base.specs.StandsFor.{packed_by};
 ghost use Rattle.dym_base.specs.declared.command.Kind.TheVariants.{Full, Inc};
+ghost use Rattle.dym_base.specs.declared.limits.TheConstants.{LEAST_EXPONENT, GREATEST_EXPONENT};
 ghost use Rattle.dym_bits.specs.Bits.{bit_in, bits_of_bytes};
 ghost use Rattle.dym_pack.specs.Areas.{area_at, bytes_at, chunks_of, chunk_number, is_used_at};
 ghost use Rattle.dym_pack.specs.Reading.{IsRecord, OfLog, packs_at, packed_from, body_from};
@@ -226,8 +227,8 @@ impl Record {
     pub fn area_exp(&self, k: u32) -> u8
         requires { OfLog self.now (λ log. k < held log.copy) }
         ensures is { OfLog self.now (λ log. result ≡ (area_at log.copy k).exponent) }
-        ensures least { 5 ≤ result }
-        ensures most { result ≤ 16 }
+        ensures least { LEAST_EXPONENT ≤ result }
+        ensures most { result ≤ GREATEST_EXPONENT }
     {
         let bytes = self.whole();
         bytes[self.start(k)]

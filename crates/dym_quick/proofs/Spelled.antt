@@ -14,7 +14,8 @@ use Rattle.dym_base.specs.declared.handle.Handle.{Handle}
 use Rattle.dym_lines.specs.declared.verb.Verb.{Verb}
 use Rattle.dym_lines.specs.declared.verb.Verb.TheVariants as verb
 use Rattle.dym_commands.specs.declared.asked.Asked.{Asked}
-use Rattle.dym_lines.specs.Lines.{lines_of, words_of, is_space, is_word, is_printable}
+use Rattle.dym_base.specs.Lines.{lines_of}
+use Rattle.dym_lines.specs.Lines.{words_of, is_space, is_word, is_printable}
 use Rattle.dym_commands.specs.Asks.{asks}
 use Rattle.dym_commands.specs.Hexes.{hex_of, IsAtFront}
 use Rattle.dym_lines.specs.Words.{is_digits, number_to, exponent_of, colon_at, handle_of, handle_or_nil_of}

@@ -1,6 +1,6 @@
 -- The parts of a script that was read into its objects.
-use Rattle.std.specs.Prelude.{◌≡◌, ℕ, ◌≤◌, ◌^◌, List, ◌++◌, length, map, reverse, sum, slice_range}
-use Rattle.dym_base.specs.declared.limits.TheConstants.{MOST_WORKERS, MOST_SEGMENTS, MOST_QUANTUM}
+use Rattle.std.specs.Prelude.{◌≡◌, ℕ, ◌≤◌, List, ◌++◌, length, map, reverse, sum, slice_range}
+use Rattle.dym_base.specs.declared.limits.TheConstants.{MOST_WORKERS, MOST_SEGMENTS, MOST_QUANTUM, MOST_QUOTA, MOST_COMMANDS}
 use Rattle.dym_script.specs.declared.parts.Part.{Part}
 use Rattle.dym_run.specs.declared.shape.Shape.{Shape}
 use Rattle.dym_run.specs.Report.{Own}
@@ -15,9 +15,9 @@ quota_of part = part.decl.quota
 
 -- the part has no more commands than a script has, and the quota is one
 pub record IsRunnable (part : Part) : Type 0 where
-  pub few : length part.commands ≤ 2 ^ 20
+  pub few : length part.commands ≤ MOST_COMMANDS
   pub quota_least : 1 ≤ part.decl.quota
-  pub quota_most : part.decl.quota ≤ 1024
+  pub quota_most : part.decl.quota ≤ MOST_QUOTA
 
 -- so many workers, segments and commands of a turn may be asked for
 pub record IsShape (s : Shape) : Type 0 where

@@ -15,7 +15,7 @@ use Rattle.dym_script.specs.declared.reader.Ask.{Ask}
 use Rattle.dym_script.specs.declared.reader.Reader.{Reader}
 use Rattle.dym_script.specs.declared.script.Decl.{Decl}
 use Rattle.dym_script.specs.declared.script.Line.{Line}
-use Rattle.dym_lines.specs.Lines.{lines_of}
+use Rattle.dym_base.specs.Lines.{lines_of}
 use Rattle.dym_script.specs.Scripts.{Reading, ask_at, read_line, read_lines, start}
 use Rattle.dym_script.specs.Keeping.{Asks, Declares, CanAsk, Holds, Stands, IsReady, HoldsLine, IsWhole}
 use Rattle.dym_script.specs.Pieces.{ReadsNext}

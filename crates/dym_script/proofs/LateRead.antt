@@ -6,7 +6,7 @@ use Rattle.dym_base.specs.declared.bad_kind.BadKind.{BadKind}
 use Rattle.dym_script.specs.declared.late.LateReader.{LateReader}
 use Rattle.dym_script.specs.declared.line_fail.LineFail.{LineFail}
 use Rattle.dym_script.specs.declared.line_fail.LineFail.TheVariants as fail
-use Rattle.dym_lines.specs.Lines.{lines_of}
+use Rattle.dym_base.specs.Lines.{lines_of}
 use Rattle.dym_script.specs.Late.{LateSaid, late_line, late_lines, late_on, late_of, late_start}
 use Rattle.dym_script.specs.LateArrivals.{IsLawfulLate}
 use Rattle.dym_script.specs.LateAnswers.{GivesLateLine, IsLateKept, late_seen}

@@ -11,7 +11,8 @@ use Rattle.dym_base.specs.declared.limits.TheConstants.{MOST_NAME_BYTES, MOST_LI
 use Rattle.dym_lines.specs.declared.verb.Verb.{Verb}
 use Rattle.dym_script.specs.declared.reader.Ask.{Ask}
 use Rattle.dym_script.specs.declared.reader.Reader.{Reader}
-use Rattle.dym_lines.specs.Lines.{lines_of, words_of, is_printable}
+use Rattle.dym_base.specs.Lines.{lines_of}
+use Rattle.dym_lines.specs.Lines.{words_of, is_printable}
 use Rattle.dym_script.specs.Scripts.{Said, Reading, object_of, ask_at, is_version, begin, read_line}
 use Rattle.dym_commands.specs.Asks.{asks}
 use Rattle.dym_lines.specs.Table.{verb_of, command_of}

@@ -5,7 +5,7 @@ use Rattle.dym_script.specs.declared.line_fail.LineFail.{LineFail}
 use Rattle.dym_script.specs.declared.line_fail.LineFail.TheVariants as line
 use Rattle.dym_script.specs.declared.script.ScriptFail.{ScriptFail}
 use Rattle.dym_script.specs.declared.script.ScriptFail.TheVariants as fail
-use Rattle.dym_lines.specs.Lines.{lines_of}
+use Rattle.dym_base.specs.Lines.{lines_of}
 use Rattle.dym_script.specs.Scripts.{Said, Reading, Fault, start, read_lines}
 
 -- what the lines of an input say, however long it is

@@ -11,7 +11,7 @@ use Rattle.dym_script.specs.declared.script.Line.{Line}
 use Rattle.dym_script.specs.declared.reader.Ask.{Ask}
 use Rattle.dym_script.specs.declared.reader.Next.{Next}
 use Rattle.dym_script.specs.declared.reader.Reader.{Reader}
-use Rattle.dym_lines.specs.Lines.{lines_of}
+use Rattle.dym_base.specs.Lines.{lines_of}
 use Rattle.dym_script.specs.Scripts.{Said, Reading, object_of, ask_at, name_fault, read_line}
 use Rattle.dym_commands.specs.Asks.{asks}
 use Rattle.dym_script.specs.Answers.{IsLawful}

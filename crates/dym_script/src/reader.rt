@@ -43,7 +43,8 @@ pub struct Reader {
 impl Reader {
     ghost use Rattle.dym_script.specs.Scripts.{start, read_lines, read_line, read_words, say, declare, object_of};
     ghost use Rattle.dym_base.specs.Names.{is_name};
-    ghost use Rattle.dym_lines.specs.Lines.{words_of, lines_of};
+    ghost use Rattle.dym_base.specs.Lines.{lines_of};
+    ghost use Rattle.dym_lines.specs.Lines.{words_of};
     ghost use Rattle.dym_script.specs.Readers.{IsKept, seen, IsWithin, GivesReading, GivesSaid, Declares, Finds, IsNext, GivesNext, Grows};
 
     /// A reader that has read nothing.

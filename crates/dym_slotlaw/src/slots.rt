@@ -6,7 +6,8 @@ ghost use Rattle.std.specs.Prelude.{◌≡◌, ℕ, ◌%◌, ◌<◌};
 ghost use Rattle.dym_slotlaw.specs.SlotWords.{slot_word, IsNumbered};
 ghost use Rattle.dym_slotlaw.specs.declared.slots.Slot.TheVariants.{Free};
 
-/// Record numbers are below this one, so that a slot's state fits a word.
+/// Record numbers are below this one, so that a slot's state fits a word. It is the same number as `COUNT_LIMIT`, which the
+/// count of records that were made is below.
 pub const RECORD_NUMBERS: u64 = 1_152_921_504_606_846_976;
 
 /// The state of one slot of a log table. The number is the record's.

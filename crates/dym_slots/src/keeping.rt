@@ -1,6 +1,6 @@
 //! What the owner does.
-ghost use Rattle.std.specs.Prelude.{◌≡◌, ℕ, ◌+◌, ◌^◌, ◌<◌, ◌≤◌, List, [], ◌∷◌, ◌++◌, None, Some, length, take};
-ghost use Rattle.dym_base.specs.declared.limits.TheConstants.{LOG_SLOTS, RECORD_ROOM};
+ghost use Rattle.std.specs.Prelude.{◌≡◌, ℕ, ◌+◌, ◌<◌, ◌≤◌, List, [], ◌∷◌, ◌++◌, None, Some, length, take};
+ghost use Rattle.dym_base.specs.declared.limits.TheConstants.{LOG_SLOTS, RECORD_ROOM, COUNT_LIMIT};
 ghost use Rattle.dym_slotlaw.specs.declared.slots.TheConstants.{RECORD_NUMBERS};
 ghost use Rattle.dym_slots.specs.declared.view.Listed.{Listed};
 ghost use Rattle.dym_slots.specs.Seats.{owner_of};
@@ -46,7 +46,7 @@ impl Owner {
     /// Appends a record, and answers its number. It looks at two slots at most, and reuses a record's that was let go.
     pub fn put(&mut self, rec: Record) -> u64
         requires room { length self.old.records < RECORD_ROOM }
-        requires made { self.old.made < 2 ^ 60 }
+        requires made { self.old.made < COUNT_LIMIT }
         requires idle { self.old.lifted ≡ None }
         ensures number { result ≡ self.old.made }
         ensures after { self.new ≡ with_record self.old rec }

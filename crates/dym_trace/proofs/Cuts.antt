@@ -3,7 +3,7 @@ use Rattle.std.proofs.Common.{◌≡◌, ◌≢◌, ℕ, suc, ◌-◌, ◌<◌, 
 use Rattle.std.specs.List.{All}
 use Rattle.std.proofs.lemmas.List.{nil_from_length, length-take, length-drop}
 use Rattle.std.proofs.lemmas.Bool.Decides.{nat_tests}
-use Rattle.dym_trace.specs.Lines.{lines_of}
+use Rattle.dym_base.specs.Lines.{lines_of}
 
 -- the first line end ends the first line
 pub first_end : (line rest bs : List ℕ) → bs ≡ line ++ 10 ∷ rest → All (λ b. b ≢ 10) line → lines_of bs ≡ line ∷ lines_of rest

@@ -11,7 +11,7 @@ use Rattle.dym_slotlaw.specs.Slots.{Core, start}
 use Rattle.dym_slotlaw.specs.SlotSteps.{Step, Steps}
 use Rattle.dym_trace.specs.declared.answer.TraceAnswer.{TraceAnswer}
 use Rattle.dym_trace.specs.declared.answer.TraceAnswer.TheVariants.{Good, Bad}
-use Rattle.dym_trace.specs.Lines.{lines_of}
+use Rattle.dym_base.specs.Lines.{lines_of}
 use Rattle.dym_trace.specs.Events.{Reads}
 use Rattle.dym_trace.specs.Verdict.{Reach, LineStep, IsNoStep, IsBad, IsVerdict}
 use Rattle.dym_trace.proofs.Reading.{one_reading}

@@ -1,4 +1,3 @@
-pub mod Lines
 pub mod Events
 pub mod Machine
 pub mod Verdict

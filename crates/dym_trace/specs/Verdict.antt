@@ -7,7 +7,7 @@ use Rattle.dym_slotlaw.specs.Slots.{Core, start}
 use Rattle.dym_slotlaw.specs.SlotSteps.{Step, Steps}
 use Rattle.dym_trace.specs.declared.answer.TraceAnswer.{TraceAnswer}
 use Rattle.dym_trace.specs.declared.answer.TraceAnswer.TheVariants.{Good, Bad}
-use Rattle.dym_trace.specs.Lines.{lines_of}
+use Rattle.dym_base.specs.Lines.{lines_of}
 use Rattle.dym_trace.specs.Events.{Reads}
 
 -- the lines are events, which lead from the start to this state

@@ -1,7 +1,7 @@
 //! Cuts a text at a byte.
 
 ghost use Rattle.std.specs.Prelude.{◌≡◌, ◌≢◌, ◌<◌, ◌∷◌, ◌++◌, All, MatchOption, length};
-ghost use Rattle.dym_trace.specs.Lines.{lines_of};
+ghost use Rattle.dym_base.specs.Lines.{lines_of};
 
 /// What stands before the first byte of this value and what stands after it, if there is one.
 pub(crate) fn cut(bytes: &[u8], mark: u8) -> Option<(&[u8], &[u8])>

@@ -1,5 +1,6 @@
 //! An object, and the reply to the last of its commands.
-ghost use Rattle.std.specs.Prelude.{◌≡◌, ◌<◌, ◌^◌};
+ghost use Rattle.std.specs.Prelude.{◌≡◌, ◌<◌};
+ghost use Rattle.dym_base.specs.declared.limits.TheConstants.{COUNT_LIMIT};
 
 use dym_base::{Command, Handle, Reply};
 use dym_chain::LogKeep;
@@ -49,7 +50,7 @@ impl<S: Supply, K: LogKeep> Runner for Turn<S, K> {
 
     ghost use Rattle.dym_turn.specs.Turns.{Ran, Stayed};
 
-    ghost ready = { λ t. t.object.ran < 2 ^ 60 };
+    ghost ready = { λ t. t.object.ran < COUNT_LIMIT };
 
     ghost does = { λ old command new. Ran old.object command new.object new.reply };
 

@@ -1,5 +1,6 @@
 //! Chunks that are copied one after the other into one list of bytes.
 ghost use Rattle.std.specs.Prelude.{◌≡◌, ◌+◌, ◌*◌, ◌^◌, ◌<◌, ◌≤◌, [], ◌∷◌, ◌++◌, length, sum, OnOk};
+ghost use Rattle.dym_base.specs.declared.limits.TheConstants.{SEGMENT_BYTES};
 
 use std::alloc::{AllocError, Global};
 
@@ -42,7 +43,7 @@ impl Copied {
     /// Copies one more chunk.
     pub(crate) fn push(&mut self, number: u64, bytes: &[u8]) -> Result<(), AllocError>
         requires table { IsTable self.old }
-        requires small { length bytes.now ≤ 65536 }
+        requires small { length bytes.now ≤ SEGMENT_BYTES }
         requires room { self.old.total < 2 ^ 62 }
         ensures table { OnOk result (IsTable self.new) }
         ensures entries { OnOk result (entries_of self.new ≡ entries_of self.old ++ (number, bytes.now) ∷ []) }
@@ -95,7 +96,7 @@ impl Copied {
 
 /// The sum of bytes as numbers.
 fn sum_of(bytes: &[u8]) -> u64
-    requires { length bytes.now ≤ 65536 }
+    requires { length bytes.now ≤ SEGMENT_BYTES }
     ensures sum { result ≡ sum bytes.now }
     ensures few { result ≤ 2 ^ 24 }
 {

@@ -1,9 +1,10 @@
 //! A beginning of a history, with the last commit of it.
-ghost use Rattle.std.specs.Prelude.{◌≡◌, ◌+◌, ◌^◌, ◌<◌, ◌≤◌, ◌⊎◌, [], ◌∷◌, ◌++◌, length, Option, option_map, IfOk, IfSome};
+ghost use Rattle.std.specs.Prelude.{◌≡◌, ◌+◌, ◌<◌, ◌≤◌, ◌⊎◌, [], ◌∷◌, ◌++◌, length, Option, option_map, IfOk, IfSome};
 ghost use mathlib.Core.List.{IsPrefix};
 ghost use Rattle.std.specs.Arc.{arc_value};
 ghost use Rattle.std.specs.Option.{option_copied};
 ghost use Rattle.std.specs.Bool.{OnTrue};
+ghost use Rattle.dym_base.specs.declared.limits.TheConstants.{COUNT_LIMIT};
 ghost use Rattle.dym_view.specs.Histories.{Beginning, IsHistory, last_commit, last_time, MayFollow};
 ghost use Rattle.dym_view.specs.Rules.{head_of};
 
@@ -156,7 +157,7 @@ impl Front {
         commit: Commit,
     ) -> Result<(Front, Front), AllocError>
         requires head { head.now ≡ head_of self.now.history }
-        requires room { length self.now.commits < 2 ^ 60 }
+        requires room { length self.now.commits < COUNT_LIMIT }
         requires later { MayFollow self.now.commits commit.time }
         ensures one { IfOk result (λ both. both.0 ≡ record { history = self.now.history; commits = self.now.commits ++ commit ∷ [] }) }
         ensures other { IfOk result (λ both. both.1 ≡ both.0) }
@@ -178,7 +179,7 @@ impl Front {
     /// It is None where the history is longer than this beginning.
     fn add(&self, head: &Head, commit: Shared) -> Option<Front>
         requires head { head.now ≡ head_of self.now.history }
-        requires room { length self.now.commits < 2 ^ 60 }
+        requires room { length self.now.commits < COUNT_LIMIT }
         requires later { MayFollow self.now.commits (arc_value commit).time }
         ensures more { IfSome result (λ front. front ≡ record { history = self.now.history; commits = self.now.commits ++ arc_value commit ∷ [] }) }
         ensures history { IfSome result (λ front. IsHistory front.commits) }
@@ -200,7 +201,7 @@ impl Front {
 fn add_commit(head: &Head, reached: &mut Reached, number: u64, commit: &Commit) -> bool
     requires head { head.now ≡ head_of reached.old.book }
     requires number { number ≡ length reached.old.log }
-    requires room { number < 2 ^ 60 }
+    requires room { number < COUNT_LIMIT }
     requires history { IsHistory reached.old.log }
     requires later { MayFollow reached.old.log commit.now.time }
     ensures book { reached.new.book ≡ reached.old.book }

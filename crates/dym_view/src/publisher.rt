@@ -1,5 +1,6 @@
 //! The publisher of a history.
-ghost use Rattle.std.specs.Prelude.{◌≡◌, ◌^◌, ◌<◌, [], ◌∷◌, ◌++◌, length, IfOk, OnOk, OnErr};
+ghost use Rattle.std.specs.Prelude.{◌≡◌, ◌<◌, [], ◌∷◌, ◌++◌, length, IfOk, OnOk, OnErr};
+ghost use Rattle.dym_base.specs.declared.limits.TheConstants.{COUNT_LIMIT};
 ghost use Rattle.dym_view.specs.Histories.{IsHistory, last_time, MayFollow};
 
 use crate::commit::Commit;
@@ -68,7 +69,7 @@ impl Publisher {
         alloc: Global,
         commit: Commit,
     ) -> Result<(), AllocError>
-        requires room { length self.old.commits < 2 ^ 60 }
+        requires room { length self.old.commits < COUNT_LIMIT }
         requires later { MayFollow self.old.commits commit.time }
         ensures published { OnOk result (self.new ≡ record { history = self.old.history; commits = self.old.commits ++ commit ∷ [] }) }
         ensures refused { OnErr result (self.new ≡ self.old) }

@@ -1,5 +1,6 @@
 //! How a work publishes its oldest kept log.
-ghost use Rattle.std.specs.Prelude.{◌≡◌, ◌^◌, ◌<◌, length, option_map, OnOk};
+ghost use Rattle.std.specs.Prelude.{◌≡◌, ◌<◌, length, option_map, OnOk};
+ghost use Rattle.dym_base.specs.declared.limits.TheConstants.{COUNT_LIMIT};
 ghost use Rattle.dym_view.specs.Commits.{committed, oldest};
 ghost use Rattle.dym_view.specs.Histories.{last_commit};
 ghost use Rattle.dym_views.specs.Watches.{MayShow, MoreBy, ShowsOldest};
@@ -19,7 +20,7 @@ pub(crate) fn publish_oldest<R: Wait>(
     work: &mut Work<R>,
     publisher: &mut Publisher,
 ) -> Result<(), AllocError>
-    requires room { length publisher.old.commits < 2 ^ 60 }
+    requires room { length publisher.old.commits < COUNT_LIMIT }
     requires later { MayShow (last_commit publisher.old.commits) (option_map committed (oldest work.old.object.chain.logs)) }
     ensures work { work.new ≡ work.old }
     ensures more { MoreBy (option_map committed (oldest work.old.object.chain.logs)) publisher.old publisher.new }

@@ -13,7 +13,7 @@ use Rattle.dym_io.specs.Source.{IsEndOrLimit, TookAtMost}
 use Rattle.dym_io.specs.Sink.{Output, Appended, AppendedFront, Stopped, Blames, AllFlushed}
 use Rattle.dym_io.specs.Laws.{appends_kept, appended_nothing, once_rose}
 use Rattle.dym_gen.specs.Scripts.{generated}
-use Rattle.dym_lines.specs.Lines.{lines_of}
+use Rattle.dym_base.specs.Lines.{lines_of}
 use Rattle.dym_script.specs.Late.{late_of, late_lines, late_start}
 use Rattle.dym_script.specs.Scripts.{Said, Fault, script_of, read_lines, start}
 use Rattle.dym_trace.specs.declared.answer.TraceAnswer.{TraceAnswer}

@@ -1,6 +1,7 @@
 //! The order `plain`: one object after another, each part written as its object ends.
-ghost use Rattle.std.specs.Prelude.{◌≡◌, ◌≤◌, ◌^◌, [], length, flat_map, IfOk, OnOk, All};
+ghost use Rattle.std.specs.Prelude.{◌≡◌, ◌≤◌, [], length, flat_map, IfOk, OnOk, All};
 ghost use Rattle.dym_base.specs.Objects.{object_start, replies_from, object_after};
+ghost use Rattle.dym_base.specs.declared.limits.TheConstants.{MOST_QUOTA, MOST_COMMANDS};
 ghost use Rattle.dym_io.specs.Sink.{WritesOr};
 ghost use Rattle.dym_object.specs.Meaning.{state_of};
 ghost use Rattle.dym_report.specs.Replies.{reply_line};
@@ -81,7 +82,7 @@ pub fn open_object(
     quota: u32,
 ) -> Result<Object<OwnSupply, VecKeep>, AllocError>
     requires least { 1 ≤ quota }
-    requires most { quota ≤ 1024 }
+    requires most { quota ≤ MOST_QUOTA }
     ensures version { IfOk result (λ o. o.heap.version ≡ version) }
     ensures quota { IfOk result (λ o. o.heap.quota ≡ quota) }
     ensures start { IfOk result (λ o. state_of o ≡ object_start) }
@@ -121,7 +122,7 @@ fn run_and_write<W: Sink>(
     commands: &Commands,
     sink: &mut W,
 ) -> Result<(), WriteFail>
-    requires few { length commands.now ≤ 2 ^ 20 }
+    requires few { length commands.now ≤ MOST_COMMANDS }
     requires ran { turn.old.object.ran ≡ 0 }
     ensures replies { WritesOr (λ fail. fail ≡ SinkFailed) (W.output sink.old) (W.output sink.new)
         (flat_map reply_line (replies_from turn.old.object.heap.version turn.old.object.heap.quota (state_of turn.old.object) commands.now))

@@ -1,9 +1,10 @@
 //! The order `save`: the checkpoint file of one object of a script.
-ghost use Rattle.std.specs.Prelude.{◌≡◌, ◌≤◌, ◌⊎◌, ◌^◌, [], length, IsTrue, Option, None, Some, option_map, Result, IfOk, OnOk};
+ghost use Rattle.std.specs.Prelude.{◌≡◌, ◌≤◌, ◌⊎◌, [], length, IsTrue, Option, None, Some, option_map, Result, IfOk, OnOk};
 ghost use Rattle.std.specs.List.{find};
 ghost use Rattle.std.specs.Str.{bytes_eq};
 ghost use Rattle.dym_base.specs.Names.{is_name};
 ghost use Rattle.dym_base.specs.Objects.{object_start};
+ghost use Rattle.dym_base.specs.declared.limits.TheConstants.{MOST_COMMANDS};
 ghost use Rattle.dym_object.specs.Meaning.{HasRun, IsWhole, state_of};
 ghost use Rattle.dym_script.specs.Scripts.{Said, Fault};
 ghost use Rattle.dym_script.specs.ByObjects.{GivesParts, IsByObjects};
@@ -110,7 +111,7 @@ fn save_part<W: Sink>(
 
 /// Runs the commands of an object that was just opened. Their replies are not kept.
 fn run_all(turn: &mut Turn<OwnSupply, VecKeep>, commands: &Commands) -> Result<(), AllocError>
-    requires few { length commands.now ≤ 2 ^ 20 }
+    requires few { length commands.now ≤ MOST_COMMANDS }
     requires start { state_of turn.old.object ≡ object_start }
     requires below { turn.old.object.chain.below ≡ [] }
     requires ran { turn.old.object.ran ≡ 0 }

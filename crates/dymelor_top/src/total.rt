@@ -106,7 +106,7 @@ fn tally_run(turn: &mut Turn<OwnSupply, VecKeep>, part: &Part) -> Result<Tally, 
 
 /// Runs commands of an object that ran none yet, and counts those that it refuses.
 fn refusals(turn: &mut Turn<OwnSupply, VecKeep>, commands: &Commands) -> Result<u32, AllocError>
-    requires few { length commands.now ≤ 2 ^ 20 }
+    requires few { length commands.now ≤ MOST_COMMANDS }
     requires ran { turn.old.object.ran ≡ 0 }
     ensures within { IfOk result (λ n. n ≤ length commands.now) }
     ensures counted { IfOk result (λ n. n

@@ -1,5 +1,5 @@
 use Rattle.std.proofs.Common.{arith, ap, sym}
-use Rattle.dym_lines.specs.Lines.{lines_of}
+use Rattle.dym_base.specs.Lines.{lines_of}
 use Rattle.dym_script.specs.Late.{late_lines}
 use Rattle.dym_script.specs.LateAnswers.{late_seen}
 use Rattle.dym_script.proofs.LateRead.{read_more, read_bad, read_end, kept_is_lawful}

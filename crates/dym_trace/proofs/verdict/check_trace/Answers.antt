@@ -1,7 +1,7 @@
 use Rattle.std.proofs.Common.{◌≡◌, [], length, ap, subst, ◌∙◌, arith}
 use Rattle.std.proofs.lemmas.Bool.Decides.{nat_tests}
 use Rattle.std.proofs.lemmas.List.{nil_from_length}
-use Rattle.dym_trace.specs.Lines.{lines_of}
+use Rattle.dym_base.specs.Lines.{lines_of}
 use Rattle.dym_trace.specs.Machine.{core_of, Does}
 use Rattle.dym_trace.specs.Verdict.{LineStep, IsNoStep}
 use Rattle.dym_trace.proofs.Runs.{reach_more, next_line, bad_line, good_lines}

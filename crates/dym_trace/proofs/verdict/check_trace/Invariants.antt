@@ -1,5 +1,5 @@
 use Rattle.std.proofs.Common.{◌≡◌, ◌+◌, ◌≤◌, length, take, drop}
-use Rattle.dym_trace.specs.Lines.{lines_of}
+use Rattle.dym_base.specs.Lines.{lines_of}
 use Rattle.dym_trace.specs.Machine.{core_of, IsSound}
 use Rattle.dym_trace.specs.Verdict.{Reach}
 use Rattle.dym_trace.proofs.verdict.check_trace.Given as goal

@@ -1,7 +1,7 @@
 use Rattle.std.proofs.Common.{◌≡◌, ◌+◌, ◌++◌, ◌∙◌, [], ap, length, arith}
 use Rattle.std.proofs.lemmas.Bool.Decides.{nat_tests}
 use Rattle.dym_script.specs.Keeping.{Stands}
-use Rattle.dym_lines.specs.Lines.{lines_of}
+use Rattle.dym_base.specs.Lines.{lines_of}
 use Rattle.dym_script.specs.Scripts.{read_lines}
 use Rattle.dym_script.proofs.KeepLines.{next_bad, empty_is}
 use Rattle.dym_script.proofs.pieces.Pieces.read_all.Goals as goal
