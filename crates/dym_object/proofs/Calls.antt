@@ -9,9 +9,10 @@ use Rattle.dym_base.specs.declared.command.Command.{Command}
 use Rattle.dym_base.specs.declared.command.Command.TheVariants.{Read, Follow, Sum}
 use Rattle.dym_base.specs.declared.reply.Refusal.{Refusal}
 use Rattle.dym_base.specs.declared.reply.Refusal.TheVariants.{Range}
-use Rattle.dym_base.specs.declared.reply.Reply.TheVariants.{Bytes}
+use Rattle.dym_base.specs.declared.reply.Reply.{Reply}
+use Rattle.dym_base.specs.declared.reply.Reply.TheVariants.{Bytes, Refused}
 use Rattle.dym_heap.specs.Meaning.{HeapMeaning, IsSound}
-use Rattle.dym_heap.specs.Replies.{stepped}
+use Rattle.dym_heap.specs.Replies.{stepped, OnRefusal}
 use Rattle.dym_chain.specs.Chains.{ChainMeaning, Belongs, StandsForCopies}
 use Rattle.dym_object.specs.Meaning.{ObjectMeaning, IsStep, IsWhole, counted}
 use Rattle.dym_object.specs.Laws.{StepsKeepWhole}
@@ -64,6 +65,12 @@ pub refused_here : {T : Type 0} (r : Result T Refusal) (heap new : HeapMeaning) 
 refused_here (Ok x) heap new chain ran old view kept = tt
 refused_here (Err why) heap new chain ran old view kept =
     ap (λ (h : HeapMeaning). record { heap = h; chain = chain; ran = ran + 1 }) kept ∙ ap counted view
+
+-- the same, of a reply
+pub replied_here : (r : Reply) (heap new : HeapMeaning) (chain : ChainMeaning) (ran : ℕ) (old : ObjectMeaning) → record { heap = heap; chain = chain; ran = ran } ≡ old → OnRefusal r (new ≡ heap) → OnRefusal r (record { heap = new; chain = chain; ran = ran + 1 } ≡ counted old)
+replied_here (Refused why) heap new chain ran old view kept =
+    ap (λ (h : HeapMeaning). record { heap = h; chain = chain; ran = ran + 1 }) kept ∙ ap counted view
+replied_here r heap new chain ran old view kept = tt
 
 -- nothing but the count
 pub counted_here : {T : Type 0} (r : Result T Refusal) (heap : HeapMeaning) (chain : ChainMeaning) (ran : ℕ) (old : ObjectMeaning) → record { heap = heap; chain = chain; ran = ran } ≡ old → OnErr r (record { heap = heap; chain = chain; ran = ran + 1 } ≡ counted old)

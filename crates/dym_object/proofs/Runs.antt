@@ -1,13 +1,10 @@
 -- A call of an object as the run of a command that is a value.
-use Rattle.std.proofs.Common.{◌≡◌, ℕ, ◌+◌, Result, Ok, Err, OnErr, Option, None, Some, sym, ap, subst, ◌∙◌}
+use Rattle.std.proofs.Common.{◌≡◌, ℕ, ◌+◌, Result, Ok, Err, OnErr, sym, ap, subst, ◌∙◌}
 use Rattle.dym_base.specs.Below.{below_step}
-use Rattle.dym_base.specs.declared.handle.Handle.{Handle}
 use Rattle.dym_base.specs.declared.command.Command.{Command}
 use Rattle.dym_base.specs.declared.reply.Refusal.{Refusal}
 use Rattle.dym_base.specs.declared.reply.Reply.{Reply}
-use Rattle.dym_heap.specs.declared.found.Found.{Found}
-use Rattle.dym_heap.specs.declared.found.Found.TheVariants as found
-use Rattle.dym_heap.specs.Replies.{OnRefusal, chunk_reply, moved_reply, done_reply, found_reply, total_reply}
+use Rattle.dym_heap.specs.Replies.{OnRefusal}
 use Rattle.dym_chain.specs.Answers.{restored_reply}
 use Rattle.dym_object.specs.Meaning.{ObjectMeaning, IsStep, counted, state_of, step_by}
 
@@ -32,30 +29,7 @@ ran_by old new command c reply r is same replied step refused = record {
   origin = step.origin;
 }
 
--- what holds where an answer is a refusal, at its reply
-pub at_chunk : (r : Result Handle Refusal) (P : Type 0) → OnErr r P → OnRefusal (chunk_reply r) P
-at_chunk (Ok h) P p = tt
-at_chunk (Err why) P p = p
-
-pub at_moved : (r : Result (Option Handle) Refusal) (P : Type 0) → OnErr r P → OnRefusal (moved_reply r) P
-at_moved (Ok None) P p = tt
-at_moved (Ok (Some h)) P p = tt
-at_moved (Err why) P p = p
-
-pub at_done : (r : Result (Unit {0}) Refusal) (P : Type 0) → OnErr r P → OnRefusal (done_reply r) P
-at_done (Ok u) P p = tt
-at_done (Err why) P p = p
-
-pub at_found : (r : Result Found Refusal) (P : Type 0) → OnErr r P → OnRefusal (found_reply r) P
-at_found (Ok found.Nil) P p = tt
-at_found (Ok (found.Live h)) P p = tt
-at_found (Ok (found.Loose n)) P p = tt
-at_found (Err why) P p = p
-
-pub at_total : (r : Result ℕ Refusal) (P : Type 0) → OnErr r P → OnRefusal (total_reply r) P
-at_total (Ok n) P p = tt
-at_total (Err why) P p = p
-
+-- what holds where a restore is refused, at its reply
 pub at_restored : (r : Result ℕ Refusal) (P : Type 0) → OnErr r P → OnRefusal (restored_reply r) P
 at_restored (Ok t) P p = tt
 at_restored (Err why) P p = p

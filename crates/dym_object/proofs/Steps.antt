@@ -2,51 +2,43 @@
 use Rattle.std.proofs.Common.{◌≡◌, ℕ, List, refl, ap, sym, subst, ◌∙◌, arith}
 use Rattle.dym_base.specs.HeapStep.{heap_step, IsHeapCommand}
 use Rattle.dym_base.specs.Below.{below_step}
+use Rattle.dym_base.specs.LateRun.{IsEventCommand}
 use Rattle.dym_base.specs.Objects.{LogEntry, ObjectState, ObjectAnswer, of_heap, object_step}
 use Rattle.dym_base.specs.declared.command.Version.{Version}
 use Rattle.dym_base.specs.declared.command.Command.{Command}
-use Rattle.dym_base.specs.declared.command.Command.TheVariants.{Malloc, Calloc, Realloc, Free, Write, Fill, Read, Link, Follow, Sum, Log, Ilog, Restore, Prune, Logs}
+use Rattle.dym_base.specs.declared.command.Command.TheVariants.{Read, Log, Ilog, Restore, Prune, Logs}
 use Rattle.dym_heap.specs.Meaning.{HeapMeaning}
 use Rattle.dym_heap.specs.Replies.{stepped}
 use Rattle.dym_chain.specs.Chains.{ChainMeaning, Belongs, object_of}
 use Rattle.dym_chain.specs.ChainLaws.{HeapStepsKeepBelonging}
 use Rattle.dym_object.specs.Laws.{StepsKeepWhole}
 
+-- a command that an event may have is one to the heap
+pub to_heap : (c : Command) → IsEventCommand c → IsHeapCommand c
+to_heap (Read h at n) may = absurd may
+to_heap c may = may
+
 -- one command to the heap of an object
 pub step_is : (v : Version) (quota : ℕ) (s : ObjectState) (c : Command) → IsHeapCommand c → object_step v quota s c ≡ of_heap s (heap_step v quota s.heap c)
-step_is v quota s (Malloc n) is = refl
-step_is v quota s (Calloc m n) is = refl
-step_is v quota s (Realloc h n) is = refl
-step_is v quota s (Free h) is = refl
-step_is v quota s (Write h at bytes) is = refl
-step_is v quota s (Fill h at n byte) is = refl
-step_is v quota s (Read h at n) is = refl
-step_is v quota s (Link h at to) is = refl
-step_is v quota s (Follow h at) is = refl
-step_is v quota s (Sum h) is = refl
 step_is v quota s (Log t) is = absurd is
 step_is v quota s (Ilog t) is = absurd is
 step_is v quota s (Restore t) is = absurd is
 step_is v quota s (Prune g) is = absurd is
 step_is v quota s Logs is = absurd is
+step_is v quota s c is = refl
+
+-- and its reply is the heap's
+pub reply_is : (v : Version) (quota : ℕ) (s : ObjectState) (c : Command) → IsHeapCommand c → (heap_step v quota s.heap c).reply ≡ (object_step v quota s c).reply
+reply_is v quota s c is = sym (ap (λ (a : ObjectAnswer). a.reply) (step_is v quota s c is))
 
 -- a command to the heap leaves what stands below the kept logs
 pub below_is : (below : List LogEntry) (s : ObjectState) (c : Command) → IsHeapCommand c → below ≡ below_step below s c
-below_is below s (Malloc n) is = refl
-below_is below s (Calloc m n) is = refl
-below_is below s (Realloc h n) is = refl
-below_is below s (Free h) is = refl
-below_is below s (Write h at bytes) is = refl
-below_is below s (Fill h at n byte) is = refl
-below_is below s (Read h at n) is = refl
-below_is below s (Link h at to) is = refl
-below_is below s (Follow h at) is = refl
-below_is below s (Sum h) is = refl
 below_is below s (Log t) is = absurd is
 below_is below s (Ilog t) is = absurd is
 below_is below s (Restore t) is = absurd is
 below_is below s (Prune g) is = absurd is
 below_is below s Logs is = absurd is
+below_is below s c is = refl
 
 -- the object after, where its heap is that of the step
 object_is : (h new : HeapMeaning) (chain : ChainMeaning) (c : Command) → IsHeapCommand c → new ≡ record (stepped h c) { held_ids = new.held_ids } → object_of new.state chain ≡ (object_step h.version h.quota (object_of h.state chain) c).object

@@ -1,17 +1,19 @@
-//! Commands to an object as values: each is run by the object's call of its kind, and its answer is a reply.
+//! Commands to an object as values: those to its heap are run by the heap's step, a read and those about logs by a call each, and
+//! the answer is a reply.
 ghost use Rattle.std.specs.Prelude.{◌≡◌, ℕ, ◌+◌, ◌<◌, OnOk, OnErr, IfOk, IfErr};
 ghost use Rattle.dym_base.specs.Below.{below_step};
+ghost use Rattle.dym_base.specs.LateRun.{IsEventCommand};
 ghost use Rattle.dym_base.specs.declared.command.Command.TheVariants.{Read};
 ghost use Rattle.dym_base.specs.declared.limits.TheConstants.{COUNT_LIMIT};
 ghost use Rattle.dym_heap.specs.Replies.{OnRefusal};
 ghost use Rattle.dym_chain.specs.Answers.{restored_reply};
 ghost use Rattle.dym_object.specs.Commands.{TakesMemory, log_command, slots_reply};
-ghost use Rattle.dym_object.specs.Meaning.{IsWhole, counted, state_of, step_by};
+ghost use Rattle.dym_object.specs.Meaning.{IsStep, IsWhole, counted, state_of, step_by};
 
+use crate::laws::steps_keep_whole;
 use crate::object::Object;
 use dym_base::{Blob, Command, Handle, Kind, Refusal, Reply};
 use dym_chain::{LogError, LogKeep};
-use dym_heap::replies;
 use dym_quota::Supply;
 use std::alloc::{AllocError, Global};
 
@@ -65,45 +67,9 @@ impl<S: Supply, K: LogKeep> Object<S, K> {
         ensures whole { IsWhole self.new }
     {
         match command {
-            Command::Malloc { len } => {
-                *reply = replies::of_chunk(self.malloc(way, *len));
-                Ok(())
-            }
-            Command::Calloc { n, len } => {
-                *reply = replies::of_chunk(self.calloc(way, *n, *len));
-                Ok(())
-            }
-            Command::Realloc { h, len } => {
-                *reply = replies::of_moved(self.realloc(way, *h, *len));
-                Ok(())
-            }
-            Command::Free { h } => {
-                *reply = replies::of_done(self.free(way, *h));
-                Ok(())
-            }
-            Command::Write { h, at, bytes } => {
-                *reply = replies::of_done(self.write(*h, *at, bytes.bytes()));
-                Ok(())
-            }
-            Command::Fill { h, at, len, byte } => {
-                *reply = replies::of_done(self.fill(*h, *at, *len, *byte));
-                Ok(())
-            }
             Command::Read { h, at, len } => self.read_into(alloc, *h, *at, *len, reply),
             Command::Log { time } => self.log_into(alloc, *time, Kind::Full, reply),
             Command::Ilog { time } => self.log_into(alloc, *time, Kind::Inc, reply),
-            Command::Link { h, at, to } => {
-                *reply = replies::of_done(self.link(*h, *at, *to));
-                Ok(())
-            }
-            Command::Follow { h, at } => {
-                *reply = replies::of_found(self.follow(*h, *at));
-                Ok(())
-            }
-            Command::Sum { h } => {
-                *reply = replies::of_total(self.sum(*h));
-                Ok(())
-            }
             Command::Restore { time } => {
                 *reply = of_restored(self.restore(way, *time));
                 Ok(())
@@ -116,7 +82,26 @@ impl<S: Supply, K: LogKeep> Object<S, K> {
                 *reply = of_slots(self.logs());
                 Ok(())
             }
+            _ => {
+                *reply = self.step(way, command);
+                Ok(())
+            }
         }
+    }
+
+    /// Runs a command to the heap, by the heap's own match over these.
+    #[inline(always)]
+    fn step(&mut self, way: &S::Way, command: &Command) -> Reply
+        requires ran { self.old.ran < COUNT_LIMIT }
+        requires command { IsEventCommand command.now }
+        ensures reply { result ≡ (step_by self.old command.now).reply }
+        ensures step { IsStep self.old self.new command.now }
+        ensures refused { OnRefusal result (self.new ≡ counted self.old) }
+        ensures whole { IsWhole self.new }
+    {
+        steps_keep_whole();
+        self.ran += 1;
+        self.heap.step(way, command)
     }
 
     /// Reads bytes of a chunk. No memory is taken where the read is refused.
