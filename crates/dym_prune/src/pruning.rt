@@ -15,7 +15,7 @@ const REST_FOR_A_TABLE: u64 = 16;
 
 /// Sweeps all log tables in turn, again and again, until the stop was asked for, and answers how many records it took back, or the
 /// greatest u64 where there were more. Each sweeper has ended one sweep at least. Between two rounds it rests, so that it takes
-/// a small part of a processor.
+/// a small part of a processor; where the stop was asked for while it rested, no other round begins.
 pub fn pruner<R: Wait>(rt: &R, sweepers: &mut [Sweeper], ear: &mut Ear) -> u64
     ensures heard { ear.new.heard ≡ true }
     ensures pruned { Pruned sweepers.old sweepers.new result }
@@ -25,10 +25,9 @@ pub fn pruner<R: Wait>(rt: &R, sweepers: &mut [Sweeper], ear: &mut Ear) -> u64
     for _ in rt.forever() {
         let taken = sweep_round(sweepers);
         total = total.saturating_add(taken);
-        if ear.asked() {
+        if ear.asked() || ear.asked_within(rt, rest) {
             return total;
         }
-        ear.rest(rt, rest);
     }
     unreachable!()
 }

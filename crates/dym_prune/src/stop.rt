@@ -140,9 +140,15 @@ impl Ear {
         true
     }
 
-    /// Sleeps until the stop is asked for, but no longer than this. It may also end early.
-    pub(crate) fn rest<R: Wait>(&self, rt: &R, longest: Duration) {
-        self.board.shared.park_timeout(rt, 0, 0, longest);
+    /// Sleeps until the stop is asked for, but no longer than this, and answers as `asked` does. It may also end early.
+    pub(crate) fn asked_within<R: Wait>(&mut self, rt: &R, longest: Duration) -> bool
+        ensures found { IsTrue result → self.new ≡ record { heard = true; misses = self.old.misses } }
+        ensures missed { IsFalse result → self.new ≡ record { heard = false; misses = self.old.misses + 1 } }
+    {
+        self.board
+            .shared
+            .park_timeout(rt, 0, 0, longest);
+        self.asked()
     }
 
     /// Whether this end has heard.
