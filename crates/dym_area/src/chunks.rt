@@ -40,7 +40,14 @@ impl<G: Segment> Area<G> {
     pub fn new(exp: u8, ordinal: u32, seg: G) -> Area<G>
         requires least { LEAST_EXPONENT ≤ exp }
         requires greatest { exp ≤ GREATEST_EXPONENT }
-        ensures made { result ≡ record { exponent = exp; ordinal = ordinal; used = clear_bits MOST_CHUNKS; dirty = clear_bits MOST_CHUNKS; content = G.content seg; identity = G.id seg } }
+        ensures made { result ≡ record {
+          exponent = exp;
+          ordinal = ordinal;
+          used = clear_bits MOST_CHUNKS;
+          dirty = clear_bits MOST_CHUNKS;
+          content = G.content seg;
+          identity = G.id seg;
+        } }
         ensures lawful { IsLawful result }
         ensures none { (i : ℕ) → IsClear result.used i }
     {
@@ -70,7 +77,8 @@ impl<G: Segment> Area<G> {
 
     /// Takes the least unused chunk, which becomes used, dirty and zero, and answers its index. None where all are used.
     pub fn take_first(&mut self) -> Option<u32>
-        ensures first { MatchOption result ((k : ℕ) → k < per self.old.exponent → IsSet self.old.used k) (IsFirstClear self.old.used (per self.old.exponent)) }
+        ensures first { MatchOption result ((k : ℕ) → k < per self.old.exponent → IsSet self.old.used k)
+            (IsFirstClear self.old.used (per self.old.exponent)) }
         ensures after { MatchOption result (self.new ≡ self.old) (λ i. self.new ≡ with_taken self.old i) }
         ensures lawful { IsLawful self.new }
     {
@@ -85,7 +93,8 @@ impl<G: Segment> Area<G> {
 
     /// The least unused chunk, and None where all are used. The summary names the word where it is found.
     fn first_free(&self) -> Option<u32>
-        ensures { MatchOption result ((k : ℕ) → k < per self.now.exponent → IsSet self.now.used k) (IsFirstClear self.now.used (per self.now.exponent)) }
+        ensures { MatchOption result ((k : ℕ) → k < per self.now.exponent → IsSet self.now.used k)
+            (IsFirstClear self.now.used (per self.now.exponent)) }
     {
         if self.room == 0 {
             return None;
@@ -160,7 +169,8 @@ impl<G: Segment> Area<G> {
     /// The bytes of the `count` chunks from chunk `from` on, which are used, one chunk after the other.
     pub fn run_bytes(&self, from: u32, count: u32) -> &[u8]
         requires { (i : ℕ) → from ≤ i → i < from + count → IsSet self.now.used i }
-        ensures { result.now ≡ part_of self.now.content (chunk_start self.now from) (count * size self.now.exponent) }
+        ensures { result.now ≡ part_of self.now.content (chunk_start self.now from)
+            (count * size self.now.exponent) }
     {
         if count == 0 {
             return self.segment.bytes(0, 0);
@@ -211,7 +221,8 @@ impl<G: Segment> Area<G> {
     /// The least used index that is at least `from`, and None where there is none.
     pub fn next_used(&self, from: u32) -> Option<u32>
         requires { from ≤ MOST_CHUNKS }
-        ensures { MatchOption result ((i : ℕ) → from ≤ i → IsClear self.now.used i) (IsNextSet self.now.used from) }
+        ensures { MatchOption result ((i : ℕ) → from ≤ i → IsClear self.now.used i)
+            (IsNextSet self.now.used from) }
     {
         self.used.next_set(from)
     }

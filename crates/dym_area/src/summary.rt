@@ -81,7 +81,8 @@ fn has_room(used: &Bits, exp: u8, from: u32) -> bool
     requires least { LEAST_EXPONENT ≤ exp }
     requires greatest { exp ≤ GREATEST_EXPONENT }
     requires within { from < MOST_CHUNKS }
-    ensures { MatchBool result (HasRoom used.now (per exp) (from / 64)) ((k : ℕ) → from ≤ k → k < per exp → k / 64 ≡ from / 64 → IsSet used.now k) }
+    ensures { MatchBool result (HasRoom used.now (per exp) (from / 64))
+        ((k : ℕ) → from ≤ k → k < per exp → k / 64 ≡ from / 64 → IsSet used.now k) }
 {
     match used.next_clear_in_word(from) {
         None => false,

@@ -97,7 +97,8 @@ impl Bits {
     /// The least clear index below `limit`, and None where all bits below it are set.
     pub fn first_clear(&self, limit: u32) -> Option<u32>
         requires { limit ≤ MOST_CHUNKS }
-        ensures { MatchOption result ((k : ℕ) → k < limit → IsSet self.now k) (λ i. IsFirstClear self.now limit i) }
+        ensures { MatchOption result ((k : ℕ) → k < limit → IsSet self.now k)
+            (λ i. IsFirstClear self.now limit i) }
     {
         for q in 0..WORDS as u32 {
             let word = self.words[q as usize];
@@ -112,7 +113,8 @@ impl Bits {
     /// The least set index that is at least `from`, and None where there is none.
     pub fn next_set(&self, from: u32) -> Option<u32>
         requires { from ≤ MOST_CHUNKS }
-        ensures { MatchOption result ((k : ℕ) → from ≤ k → IsClear self.now k) (λ i. IsNextSet self.now from i) }
+        ensures { MatchOption result ((k : ℕ) → from ≤ k → IsClear self.now k)
+            (λ i. IsNextSet self.now from i) }
     {
         next_set_in(&self.words, from, MOST_CHUNKS)
     }
@@ -122,7 +124,8 @@ impl Bits {
         requires within { from ≤ limit }
         requires limit { limit ≤ MOST_CHUNKS }
         requires clear { (k : ℕ) → limit ≤ k → IsClear self.now k }
-        ensures { MatchOption result ((k : ℕ) → from ≤ k → IsClear self.now k) (λ i. IsNextSet self.now from i) }
+        ensures { MatchOption result ((k : ℕ) → from ≤ k → IsClear self.now k)
+            (λ i. IsNextSet self.now from i) }
     {
         next_set_in(&self.words, from, limit)
     }
@@ -130,7 +133,8 @@ impl Bits {
     /// The least clear index that is at least `from`, and None where all bits from there on are set.
     pub fn next_clear(&self, from: u32) -> Option<u32>
         requires { from ≤ MOST_CHUNKS }
-        ensures { MatchOption result ((k : ℕ) → from ≤ k → k < MOST_CHUNKS → IsSet self.now k) (λ i. IsNextClear self.now from i) }
+        ensures { MatchOption result ((k : ℕ) → from ≤ k → k < MOST_CHUNKS → IsSet self.now k)
+            (λ i. IsNextClear self.now from i) }
     {
         let words = &self.words;
         if from == MOST_CHUNKS {
@@ -153,7 +157,8 @@ impl Bits {
     /// The least clear index that is at least `from` and lies in the same word of 64 bits, and None where there is none.
     pub fn next_clear_in_word(&self, from: u32) -> Option<u32>
         requires { from < MOST_CHUNKS }
-        ensures { MatchOption result ((k : ℕ) → from ≤ k → k / 64 ≡ from / 64 → IsSet self.now k) (λ i. IsNextClearInWord self.now from i) }
+        ensures { MatchOption result ((k : ℕ) → from ≤ k → k / 64 ≡ from / 64 → IsSet self.now k)
+            (λ i. IsNextClearInWord self.now from i) }
     {
         let first = from / WORD_BITS;
         let rest = !self.words[first as usize] & (u64::MAX << (from % WORD_BITS));
@@ -250,12 +255,14 @@ impl Bits {
     /// Takes the bits from bytes, eight from each and the lowest first, and clears those past them.
     pub fn set_bytes(&mut self, bytes: &[u8])
         requires { 8 * length bytes.now ≤ MOST_CHUNKS }
-        ensures after { self.new ≡ bits_of_bytes bytes.now ++ clear_bits (MOST_CHUNKS - 8 * length bytes.now) }
+        ensures after { self.new ≡ bits_of_bytes bytes.now
+            ++ clear_bits (MOST_CHUNKS - 8 * length bytes.now) }
         ensures len { length self.new ≡ MOST_CHUNKS }
         ensures bits { (i : ℕ) → bit_in self.new i ≡ bit_in (bits_of_bytes bytes.now) i }
 
         // Where no bit from n on is set, the bytes are the bitmap of n bits.
-        ensures whole { (n : ℕ) → length bytes.now ≡ max 1 (n / 8) → ((i : ℕ) → n ≤ i → IsClear self.new i) → bytes.now ≡ bitmap n (bit_in self.new) }
+        ensures whole { (n : ℕ) → length bytes.now ≡ max 1 (n / 8) → ((i : ℕ) → n ≤ i → IsClear self.new i)
+            → bytes.now ≡ bitmap n (bit_in self.new) }
     {
         bytes_fit(bytes);
         let padded = padded(bytes);
@@ -269,7 +276,8 @@ impl Bits {
         ensures front { (k : ℕ) → 8 * k ≤ MOST_CHUNKS → take k result ≡ bytes_of_bits k self.now }
 
         // Where no bit from n on is set, the first of them are the bitmap of n bits.
-        ensures whole { (k n : ℕ) → 8 * k ≤ MOST_CHUNKS → k ≡ max 1 (n / 8) → ((i : ℕ) → n ≤ i → IsClear self.now i) → take k result ≡ bitmap n (bit_in self.now) }
+        ensures whole { (k n : ℕ) → 8 * k ≤ MOST_CHUNKS → k ≡ max 1 (n / 8)
+            → ((i : ℕ) → n ≤ i → IsClear self.now i) → take k result ≡ bitmap n (bit_in self.now) }
         ensures bits { bits_of_bytes result ≡ self.now }
     {
         let bytes = bytes_of(&self.words);

@@ -17,7 +17,8 @@ pub const BITMAP_BYTES: usize = (MOST_CHUNKS / 8) as usize;
 /// The bytes, and after them bytes that are 0.
 pub(crate) fn padded(bytes: &[u8]) -> [u8; BITMAP_BYTES]
     requires { length bytes.now ≤ BITMAP_BYTES }
-    ensures { bits_of_bytes result ≡ bits_of_bytes bytes.now ++ clear_bits (MOST_CHUNKS - 8 * length bytes.now) }
+    ensures { bits_of_bytes result
+        ≡ bits_of_bytes bytes.now ++ clear_bits (MOST_CHUNKS - 8 * length bytes.now) }
 {
     let mut room = [0; BITMAP_BYTES];
     room[..bytes.len()].copy_from_slice(bytes);

@@ -11,7 +11,8 @@ pub(crate) fn next_set_in(words: &[u64; WORDS], from: u32, limit: u32) -> Option
     requires within { from ≤ limit }
     requires limit { limit ≤ MOST_CHUNKS }
     requires clear { (k : ℕ) → limit ≤ k → IsClear (bits_of 64 words.now) k }
-    ensures { MatchOption result ((k : ℕ) → from ≤ k → IsClear (bits_of 64 words.now) k) (λ i. IsNextSet (bits_of 64 words.now) from i) }
+    ensures { MatchOption result ((k : ℕ) → from ≤ k → IsClear (bits_of 64 words.now) k)
+        (λ i. IsNextSet (bits_of 64 words.now) from i) }
 {
     if from == limit {
         return None;
@@ -32,8 +33,10 @@ pub(crate) fn next_set_in(words: &[u64; WORDS], from: u32, limit: u32) -> Option
 
 /// Whether each bit that is set in the words is set in the others too.
 pub(crate) fn words_within(words: &[u64; WORDS], others: &[u64; WORDS]) -> bool
-    ensures within { result ≡ true → (k : ℕ) → IsSet (bits_of 64 words.now) k → IsSet (bits_of 64 others.now) k }
-    ensures outside { result ≡ false → (k : ℕ) × IsSet (bits_of 64 words.now) k × IsClear (bits_of 64 others.now) k }
+    ensures within { result ≡ true → (k : ℕ) → IsSet (bits_of 64 words.now) k
+        → IsSet (bits_of 64 others.now) k }
+    ensures outside { result ≡ false → (k : ℕ) × IsSet (bits_of 64 words.now) k
+        × IsClear (bits_of 64 others.now) k }
 {
     for q in 0..WORDS {
         if words[q] & !others[q] != 0 {
@@ -45,7 +48,8 @@ pub(crate) fn words_within(words: &[u64; WORDS], others: &[u64; WORDS]) -> bool
 
 /// The words of the bits that are set in the words or in the others.
 pub(crate) fn words_union(words: &[u64; WORDS], others: &[u64; WORDS]) -> [u64; WORDS]
-    ensures { (k : ℕ) → bit_in (bits_of 64 result) k ≡ (bit_in (bits_of 64 words.now) k || bit_in (bits_of 64 others.now) k) }
+    ensures { (k : ℕ) → bit_in (bits_of 64 result) k
+        ≡ (bit_in (bits_of 64 words.now) k || bit_in (bits_of 64 others.now) k) }
 {
     let mut joined = [0; WORDS];
     for q in 0..WORDS {
@@ -56,7 +60,8 @@ pub(crate) fn words_union(words: &[u64; WORDS], others: &[u64; WORDS]) -> [u64; 
 
 /// The words of the bits that are set in the words and in the others.
 pub(crate) fn words_intersection(words: &[u64; WORDS], others: &[u64; WORDS]) -> [u64; WORDS]
-    ensures { (k : ℕ) → bit_in (bits_of 64 result) k ≡ (bit_in (bits_of 64 words.now) k && bit_in (bits_of 64 others.now) k) }
+    ensures { (k : ℕ) → bit_in (bits_of 64 result) k
+        ≡ (bit_in (bits_of 64 words.now) k && bit_in (bits_of 64 others.now) k) }
 {
     let mut joined = [0; WORDS];
     for q in 0..WORDS {
@@ -67,7 +72,8 @@ pub(crate) fn words_intersection(words: &[u64; WORDS], others: &[u64; WORDS]) ->
 
 /// The words of the bits that are set in the words and not in the others.
 pub(crate) fn words_difference(words: &[u64; WORDS], others: &[u64; WORDS]) -> [u64; WORDS]
-    ensures { (k : ℕ) → bit_in (bits_of 64 result) k ≡ (bit_in (bits_of 64 words.now) k && not (bit_in (bits_of 64 others.now) k)) }
+    ensures { (k : ℕ) → bit_in (bits_of 64 result) k
+        ≡ (bit_in (bits_of 64 words.now) k && not (bit_in (bits_of 64 others.now) k)) }
 {
     let mut joined = [0; WORDS];
     for q in 0..WORDS {

@@ -134,7 +134,8 @@ pub extern "C" fn dym_load(
 
 /// The object of a file.
 fn loaded(alloc: Global, bytes: &[u8]) -> Result<Box<Inside>, FileFail>
-    ensures loaded { IfOk result (λ inside. (loaded : LoadedFile) × IsLoaded bytes.now loaded × (inside.value ≡ object_of loaded)) }
+    ensures loaded { IfOk result (λ inside.
+        (loaded : LoadedFile) × IsLoaded bytes.now loaded × (inside.value ≡ object_of loaded)) }
     ensures fails { IfErr result (FailsAs bytes.now) }
 {
     let Loaded {

@@ -177,7 +177,8 @@ pub extern "C" fn dym_read(
 ) -> u32
     ensures status { result ≡ status_of object.old.value (asked_read h at (length out.old)) }
     ensures after { IsAfter object.old.value (asked_read h at (length out.old)) object.new.value }
-    ensures told { out.new ≡ bytes_told (reply_of object.old.value (asked_read h at (length out.old))) out.old }
+    ensures told { out.new ≡ bytes_told
+        (reply_of object.old.value (asked_read h at (length out.old))) out.old }
 {
     let Some(chunk) = named_chunk(h) else {
         return BAD;

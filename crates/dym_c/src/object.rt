@@ -67,7 +67,8 @@ impl DymObject {
     #[inline(always)]
     pub(crate) fn take(&mut self, alloc: Global) -> Option<Box<Inside>>
         ensures closed { self.new.value ≡ None }
-        ensures inside { MatchOption result (self.old.value ≡ None) (λ inside. self.old.value ≡ Some inside.value) }
+        ensures inside { MatchOption result (self.old.value ≡ None)
+            (λ inside. self.old.value ≡ Some inside.value) }
     {
         match mem::replace(self, DymObject::closed()).into_held(alloc) {
             None => None,

@@ -27,7 +27,8 @@ pub(crate) fn keep_beside<S: Supply>(
 ) -> Result<(), AllocError>
     requires few { length beside.old.items ≤ count }
     requires sound { IsSound heap.now }
-    ensures more { OnOk result (HasOneMore beside.old.items beside.new.items count (packed (logged (areas_of heap.now) Inc time))) }
+    ensures more { OnOk result (HasOneMore beside.old.items beside.new.items count
+        (packed (logged (areas_of heap.now) Inc time))) }
     ensures few { OnErr result (length beside.new.items ≤ count) }
     ensures same { OnErr result ((k : ℕ) → beside_at beside.new.items k ≡ beside_at beside.old.items k) }
 {
@@ -63,7 +64,8 @@ fn found_by<S: Supply>(
     count: usize,
 ) -> Result<Option<Record>, AllocError>
     requires { IsSound heap.now }
-    ensures { IfOk result (λ found. MatchOption found ⊤ (λ rec. rec ≡ packed (logged (areas_of heap.now) Inc time))) }
+    ensures { IfOk result (λ found.
+        MatchOption found ⊤ (λ rec. rec ≡ packed (logged (areas_of heap.now) Inc time))) }
 {
     if depth > 0 || count == 0 {
         return Ok(None);

@@ -68,7 +68,14 @@ impl<K: LogKeep> Chain<K> {
         requires empty { (K.meaning keep).records ≡ [] }
         requires made { (K.meaning keep).made ≡ 0 }
         requires idle { (K.meaning keep).lifted ≡ None }
-        ensures opened { IfOk result (λ c. c ≡ record { below = []; logs = []; records = []; made = 0; lifted = None; origin = (K.meaning keep).origin }) }
+        ensures opened { IfOk result (λ c. c ≡ record {
+          below = [];
+          logs = [];
+          records = [];
+          made = 0;
+          lifted = None;
+          origin = (K.meaning keep).origin;
+        }) }
         ensures belongs { IfOk result (λ c. (v : Version) (quota : ℕ) (s : HeapState) → Belongs v quota s c) }
         ensures stands { IfOk result StandsForCopies }
         ensures back { IfErr result (λ e. e.1 ≡ keep) }
@@ -92,8 +99,10 @@ impl<K: LogKeep> Chain<K> {
         requires kept { length (K.meaning keep).records ≤ first + MOST_KEPT_LOGS }
         requires none { length (K.meaning keep).records ≡ 0 → first ≡ 0 }
         requires some { 0 < length (K.meaning keep).records → first < length (K.meaning keep).records }
-        ensures adopted { IfOk result (λ c. c ≡ chain_of (record { below = c.below; logs = c.logs }) (K.meaning keep)) }
-        ensures entries { IfOk result (λ c. AreEntriesOf first (bytes_of (K.meaning keep).records) c.below c.logs) }
+        ensures adopted { IfOk result (λ c. c ≡ chain_of (record { below = c.below; logs = c.logs })
+            (K.meaning keep)) }
+        ensures entries { IfOk result (λ c. AreEntriesOf first
+            (bytes_of (K.meaning keep).records) c.below c.logs) }
         ensures kept { IfOk result AreKept }
         ensures stands { IfOk result StandsForCopies }
         ensures belongs { IfOk result BelongsByRecords }
@@ -127,9 +136,13 @@ impl<K: LogKeep> Chain<K> {
         requires sound { IsSound heap.old }
         requires made { self.old.made < COUNT_LIMIT }
         requires idle { self.old.lifted ≡ None }
-        ensures answer { IsLogAnswer result (Objects.log heap.old.version (object_of heap.old.state self.old) time want).reply }
-        ensures after { OnOk result (object_of heap.new.state self.new ≡ (Objects.log heap.old.version (object_of heap.old.state self.old) time want).object) }
-        ensures put { OnOk result (self.new ≡ logged heap.old.version (Objects.new_entry (object_of heap.old.state self.old) time want) self.old) }
+        ensures answer { IsLogAnswer result (Objects.log heap.old.version
+            (object_of heap.old.state self.old) time want).reply }
+        ensures after { OnOk result (object_of heap.new.state self.new
+            ≡ (Objects.log heap.old.version (object_of heap.old.state self.old) time want).object) }
+        ensures put { OnOk result (self.new
+            ≡ logged heap.old.version (Objects.new_entry
+            (object_of heap.old.state self.old) time want) self.old) }
         ensures heap { heap.new ≡ record heap.old { state = heap.new.state } }
         ensures unchanged { OnErr result ((self.new ≡ self.old) × (heap.new ≡ heap.old)) }
         ensures belongs { Belongs heap.new.version heap.new.quota heap.new.state self.new }
@@ -170,8 +183,10 @@ impl<K: LogKeep> Chain<K> {
         requires belongs { Belongs heap.old.version heap.old.quota heap.old.state self.old }
         requires sound { IsSound heap.old }
         requires idle { self.old.lifted ≡ None }
-        ensures answer { restored_reply result ≡ (Objects.restore (object_of heap.old.state self.old) time).reply }
-        ensures after { object_of heap.new.state self.new ≡ (Objects.restore (object_of heap.old.state self.old) time).object }
+        ensures answer { restored_reply result
+            ≡ (Objects.restore (object_of heap.old.state self.old) time).reply }
+        ensures after { object_of heap.new.state self.new
+            ≡ (Objects.restore (object_of heap.old.state self.old) time).object }
         ensures chain { self.new ≡ record self.old { logs = self.new.logs; records = self.new.records } }
         ensures heap { heap.new ≡ record heap.old { state = heap.new.state; held_ids = heap.new.held_ids } }
         ensures refused { OnErr result ((self.new ≡ self.old) × (heap.new ≡ heap.old)) }
@@ -205,10 +220,13 @@ impl<K: LogKeep> Chain<K> {
     /// needs stay.
     pub fn prune(&mut self, bound: u64) -> u32
         requires idle { self.old.lifted ≡ None }
-        ensures answer { (s : HeapState) → reply.Dropped result ≡ (Objects.prune (object_of s self.old) bound).reply }
+        ensures answer { (s : HeapState) → reply.Dropped result
+            ≡ (Objects.prune (object_of s self.old) bound).reply }
         ensures after { self.new ≡ pruned self.old bound }
-        ensures below { self.new.below ≡ dropped_below self.old.below self.old.logs (Objects.reached bound self.old.logs - 1) }
-        ensures belongs { (v : Version) (quota : ℕ) (s : HeapState) → Belongs v quota s self.old → Belongs v quota s self.new }
+        ensures below { self.new.below ≡ dropped_below self.old.below self.old.logs
+            (Objects.reached bound self.old.logs - 1) }
+        ensures belongs { (v : Version) (quota : ℕ) (s : HeapState) → Belongs v quota s self.old
+            → Belongs v quota s self.new }
         ensures stands { StandsForCopies self.new }
         ensures idle { self.new.lifted ≡ None }
     {
@@ -272,7 +290,12 @@ impl<K: LogKeep> Chain<K> {
     /// Gives up the chain, and answers its keep.
     pub fn into_keep(self) -> K
         requires idle { self.lifted ≡ None }
-        ensures keep { K.meaning result ≡ record { records = self.records; made = self.made; lifted = None; origin = self.origin } }
+        ensures keep { K.meaning result ≡ record {
+          records = self.records;
+          made = self.made;
+          lifted = None;
+          origin = self.origin;
+        } }
         ensures slots { length self.records ≡ Objects.slots self.logs }
     {
         let Chain {

@@ -14,7 +14,8 @@ use dym_base::{Kind, Refusal};
 /// How many logs have a time at or before this one. As times rise, they are the first ones.
 pub(crate) fn reached(entries: &[Entry], time: u64) -> usize
     ensures within { result ≤ length entries.now }
-    ensures reached { (logs : List LogEntry) → entries.now ≡ map entry_of logs → EachFollows logs → result ≡ Objects.reached time logs }
+    ensures reached { (logs : List LogEntry) → entries.now ≡ map entry_of logs → EachFollows logs
+        → result ≡ Objects.reached time logs }
 {
     entries.partition_point(|entry| entry.time <= time)
 }
@@ -22,21 +23,24 @@ pub(crate) fn reached(entries: &[Entry], time: u64) -> usize
 /// How many logs a prune at a bound drops: those before the last one at or before it.
 pub(crate) fn dropped_by(entries: &[Entry], bound: u64) -> usize
     ensures within { result ≤ length entries.now - 1 }
-    ensures dropped { (logs : List LogEntry) → entries.now ≡ map entry_of logs → EachFollows logs → result ≡ Objects.reached bound logs - 1 }
+    ensures dropped { (logs : List LogEntry) → entries.now ≡ map entry_of logs → EachFollows logs
+        → result ≡ Objects.reached bound logs - 1 }
 {
     reached(entries, bound).saturating_sub(1)
 }
 
 /// The entry of the newest log.
 pub(crate) fn newest_of(entries: &[Entry]) -> Option<Entry>
-    ensures { (logs : List LogEntry) → entries.now ≡ map entry_of logs → result ≡ option_map entry_of (Objects.newest logs) }
+    ensures { (logs : List LogEntry) → entries.now ≡ map entry_of logs
+        → result ≡ option_map entry_of (Objects.newest logs) }
 {
     entries.last().copied()
 }
 
 /// Why no log is taken at a time.
 pub(crate) fn refusal_of(newest: Option<Entry>, kept: usize, time: u64) -> Option<Refusal>
-    ensures { (logs : List LogEntry) → newest ≡ option_map entry_of (Objects.newest logs) → kept ≡ length logs → result ≡ log_refusal time logs }
+    ensures { (logs : List LogEntry) → newest ≡ option_map entry_of (Objects.newest logs) → kept ≡ length logs
+        → result ≡ log_refusal time logs }
 {
     match newest {
         Some(entry) if time <= entry.time => Some(Refusal::NotAfter { newest: entry.time }),
@@ -56,7 +60,8 @@ pub(crate) fn drop_first(entries: &mut Vec<Entry>, count: usize)
 
 /// The depth of the log that comes after the newest one.
 pub(crate) fn depth_of_next(want: Kind, newest: Option<Entry>) -> u8
-    ensures { (log : Option LogEntry) → newest ≡ option_map entry_of log → ((e : LogEntry) → log ≡ Some e → e.depth ≤ MOST_DEPTH) → result ≡ next_depth want log }
+    ensures { (log : Option LogEntry) → newest ≡ option_map entry_of log
+        → ((e : LogEntry) → log ≡ Some e → e.depth ≤ MOST_DEPTH) → result ≡ next_depth want log }
 {
     match (want, newest) {
         (Kind::Inc, Some(entry)) if entry.depth < MOST_DEPTH => entry.depth + 1,

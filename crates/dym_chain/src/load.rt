@@ -28,9 +28,13 @@ pub(crate) fn mark_logs<S: Supply, K: LogKeep>(
     requires idle { (K.meaning keep.old).lifted ≡ None }
     requires within { base + count ≤ length (K.meaning keep.old).records }
     requires few { base + count < 65536 }
-    requires recorded { (i : ℕ) → kept ≤ i → i < count → IsRecord (unwrap_or (beside_at beside.now i) (record_at (K.meaning keep.old).records (base + i)).bytes) }
+    requires recorded { (i : ℕ) → kept ≤ i → i < count
+        → IsRecord (unwrap_or (beside_at beside.now i)
+        (record_at (K.meaning keep.old).records (base + i)).bytes) }
     requires sound { IsSound heap.old }
-    ensures marked { (i : ℕ) → kept ≤ i → i < count → OfLog (unwrap_or (beside_at beside.now i) (record_at (K.meaning keep.old).records (base + i)).bytes) (PacksTouched heap.new.state) }
+    ensures marked { (i : ℕ) → kept ≤ i → i < count
+        → OfLog (unwrap_or (beside_at beside.now i)
+        (record_at (K.meaning keep.old).records (base + i)).bytes) (PacksTouched heap.new.state) }
     ensures settled { KeepsSettled heap.old.state heap.new.state }
     ensures keep { K.meaning keep.new ≡ K.meaning keep.old }
     ensures same { heap.new ≡ record heap.old { state = heap.new.state } }
@@ -52,8 +56,10 @@ fn mark_log<S: Supply, K: LogKeep>(
     requires idle { (K.meaning keep.old).lifted ≡ None }
     requires within { base + i < length (K.meaning keep.old).records }
     requires few { base + i < 65536 }
-    requires recorded { IsRecord (unwrap_or (beside_at beside.now i) (record_at (K.meaning keep.old).records (base + i)).bytes) }
-    ensures marked { OfLog (unwrap_or (beside_at beside.now i) (record_at (K.meaning keep.old).records (base + i)).bytes) (PacksTouched heap.new.state) }
+    requires recorded { IsRecord (unwrap_or (beside_at beside.now i)
+        (record_at (K.meaning keep.old).records (base + i)).bytes) }
+    ensures marked { OfLog (unwrap_or (beside_at beside.now i)
+        (record_at (K.meaning keep.old).records (base + i)).bytes) (PacksTouched heap.new.state) }
     ensures settled { KeepsSettled heap.old.state heap.new.state }
     ensures keep { K.meaning keep.new ≡ K.meaning keep.old }
     ensures same { heap.new ≡ record heap.old { state = heap.new.state } }
@@ -72,7 +78,8 @@ fn mark_log<S: Supply, K: LogKeep>(
 
 /// The record that stands beside that of log `i`.
 fn side_of(beside: &[Option<Record>], i: usize) -> Option<&Record>
-    ensures { MatchOption result (beside_at beside.now i ≡ None) (λ rec. beside_at beside.now i ≡ Some rec.now) }
+    ensures { MatchOption result (beside_at beside.now i ≡ None)
+        (λ rec. beside_at beside.now i ≡ Some rec.now) }
 {
     match beside.get(i) {
         Some(Some(rec)) => Some(rec),
@@ -93,9 +100,12 @@ pub(crate) fn fetch_down<S: Supply, K: LogKeep>(
     requires idle { (K.meaning keep.old).lifted ≡ None }
     requires within { last < length (K.meaning keep.old).records }
     requires there { count ≤ last + 1 }
-    requires version { HaveVersion heap.old.version (take count (drop (last + 1 - count) (bytes_of (K.meaning keep.old).records))) }
+    requires version { HaveVersion heap.old.version
+        (take count (drop (last + 1 - count) (bytes_of (K.meaning keep.old).records))) }
     requires sound { IsSound heap.old }
-    ensures fetched { (logs : List Logged) → AllByRecursion IsRecorded logs → map packed logs ≡ take count (drop (last + 1 - count) (bytes_of (K.meaning keep.old).records)) → AreFetched logs heap.old.state heap.new.state }
+    ensures fetched { (logs : List Logged) → AllByRecursion IsRecorded logs
+        → map packed logs ≡ take count (drop (last + 1 - count) (bytes_of (K.meaning keep.old).records))
+        → AreFetched logs heap.old.state heap.new.state }
     ensures keep { K.meaning keep.new ≡ K.meaning keep.old }
     ensures same { heap.new ≡ record heap.old { state = heap.new.state } }
     ensures sound { IsSound heap.new }

@@ -39,7 +39,8 @@ fn read_entry<K: LogKeep>(keep: &mut K, place: u32, before: u8) -> Entry
     requires place { place < length (K.meaning keep.old).records }
     requires shallow { before ≤ MOST_DEPTH }
     ensures keep { K.meaning keep.new ≡ K.meaning keep.old }
-    ensures entry { OfLog (record_at (K.meaning keep.old).records place).bytes (λ log. result ≡ record { time = log.time; depth = depth_after before log.kind }) }
+    ensures entry { OfLog (record_at (K.meaning keep.old).records place).bytes
+        (λ log. result ≡ record { time = log.time; depth = depth_after before log.kind }) }
 {
     let rec = keep.lift(place);
     let time = rec.time();

@@ -4,8 +4,10 @@ ghost use Rattle.dym_ckpt.specs.Follow.{HasBit, LacksBit};
 
 /// Whether each bit that is set in the bytes of a bitmap is set in those of one of two others. Past their ends all bits are clear.
 pub(crate) fn are_covered(used: &[u8], packed: &[u8], before: &[u8]) -> bool
-    ensures covered { result ≡ true → (i : ℕ) → HasBit used.now i → LacksBit packed.now i → HasBit before.now i }
-    ensures bare { result ≡ false → (i : ℕ) × HasBit used.now i × LacksBit packed.now i × LacksBit before.now i }
+    ensures covered { result ≡ true → (i : ℕ) → HasBit used.now i → LacksBit packed.now i
+        → HasBit before.now i }
+    ensures bare { result ≡ false → (i : ℕ) × HasBit used.now i × LacksBit packed.now i
+        × LacksBit before.now i }
 {
     for q in 0..used.len() {
         if used[q] & !byte_at(packed, q) & !byte_at(before, q) != 0 {

@@ -61,8 +61,10 @@ fn area_is_based(before: &Record, rec: &Record, k: u32, from: u32) -> Option<u32
 
 /// Where an area stands in a record, looked for from area `from` on and then from the first on.
 fn place_of(rec: &Record, exp: u8, ordinal: u32, from: u32) -> Option<u32>
-    ensures is { IfSome result (λ place. OfLog rec.now (λ log. (place < held log.copy) × (area_at log.copy place ≡ named exp ordinal))) }
-    ensures none { result ≡ None → OfLog rec.now (λ log. (place : ℕ) → place < held log.copy → area_at log.copy place ≡ named exp ordinal → ⊥) }
+    ensures is { IfSome result (λ place.
+        OfLog rec.now (λ log. (place < held log.copy) × (area_at log.copy place ≡ named exp ordinal))) }
+    ensures none { result ≡ None → OfLog rec.now
+        (λ log. (place : ℕ) → place < held log.copy → area_at log.copy place ≡ named exp ordinal → ⊥) }
 {
     let count = rec.area_count();
     match place_within(rec, exp, ordinal, from, count) {
@@ -74,8 +76,10 @@ fn place_of(rec: &Record, exp: u8, ordinal: u32, from: u32) -> Option<u32>
 /// The same among some of the areas.
 fn place_within(rec: &Record, exp: u8, ordinal: u32, from: u32, to: u32) -> Option<u32>
     requires within { OfLog rec.now (λ log. to ≤ held log.copy) }
-    ensures is { IfSome result (λ place. OfLog rec.now (λ log. (place < held log.copy) × (area_at log.copy place ≡ named exp ordinal))) }
-    ensures none { result ≡ None → OfLog rec.now (λ log. (place : ℕ) → from ≤ place → place < to → area_at log.copy place ≡ named exp ordinal → ⊥) }
+    ensures is { IfSome result (λ place.
+        OfLog rec.now (λ log. (place < held log.copy) × (area_at log.copy place ≡ named exp ordinal))) }
+    ensures none { result ≡ None → OfLog rec.now
+        (λ log. (place : ℕ) → from ≤ place → place < to → area_at log.copy place ≡ named exp ordinal → ⊥) }
 {
     for place in from..to {
         let area = rec.area(place);

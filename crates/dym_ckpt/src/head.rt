@@ -52,7 +52,8 @@ pub(crate) fn head_in(bytes: &[u8]) -> Option<(Head, &[u8])>
 /// What is behind the bytes that each file begins with.
 fn behind_magic(bytes: &[u8]) -> Option<&[u8]>
     ensures is { IfSome result (λ rest. bytes.now ≡ codes "DYMCKPT1" ++ rest.now) }
-    ensures only { (left : List ℕ) → bytes.now ≡ codes "DYMCKPT1" ++ left → IsSomeAnd result (λ rest. rest.now ≡ left) }
+    ensures only { (left : List ℕ) → bytes.now ≡ codes "DYMCKPT1" ++ left
+        → IsSomeAnd result (λ rest. rest.now ≡ left) }
 {
     bytes.strip_prefix(MAGIC.as_slice())
 }
@@ -61,7 +62,8 @@ fn behind_magic(bytes: &[u8]) -> Option<&[u8]>
 fn name_in(bytes: &[u8]) -> Option<(Name, &[u8])>
     ensures is { IfSome result (λ read. bytes.now ≡ length read.0 ∷ read.0 ++ read.1.now) }
     ensures good { IfSome result (λ read. IsTrue (is_name read.0)) }
-    ensures only { (name left : List ℕ) → IsTrue (is_name name) → bytes.now ≡ length name ∷ name ++ left → IsSomeAnd result (λ r. (r.0 ≡ name) × (r.1.now ≡ left)) }
+    ensures only { (name left : List ℕ) → IsTrue (is_name name) → bytes.now ≡ length name ∷ name ++ left
+        → IsSomeAnd result (λ r. (r.0 ≡ name) × (r.1.now ≡ left)) }
 {
     let (len, rest) = bytes.split_first()?;
     let (name, rest) = rest.split_at_checked(usize::from(*len))?;
@@ -71,7 +73,8 @@ fn name_in(bytes: &[u8]) -> Option<(Name, &[u8])>
 /// The version that a byte tells.
 fn version_in(bytes: &[u8]) -> Option<(Version, &[u8])>
     ensures is { IfSome result (λ read. bytes.now ≡ version_number read.0 ∷ read.1.now) }
-    ensures only { (version : Version) (left : List ℕ) → bytes.now ≡ version_number version ∷ left → IsSomeAnd result (λ r. (r.0 ≡ version) × (r.1.now ≡ left)) }
+    ensures only { (version : Version) (left : List ℕ) → bytes.now ≡ version_number version ∷ left
+        → IsSomeAnd result (λ r. (r.0 ≡ version) × (r.1.now ≡ left)) }
 {
     match bytes.split_first()? {
         (1, rest) => Some((Version::One, rest)),
@@ -83,7 +86,8 @@ fn version_in(bytes: &[u8]) -> Option<(Version, &[u8])>
 /// The number that the bytes begin with, its little end first.
 pub(crate) fn number_in(bytes: &[u8]) -> Option<(u32, &[u8])>
     ensures is { IfSome result (λ read. bytes.now ≡ to_le_bytes w32 read.0 ++ read.1.now) }
-    ensures only { (n : ℕ) (left : List ℕ) → n < 2 ^ 32 → bytes.now ≡ to_le_bytes w32 n ++ left → IsSomeAnd result (λ r. (r.0 ≡ n) × (r.1.now ≡ left)) }
+    ensures only { (n : ℕ) (left : List ℕ) → n < 2 ^ 32 → bytes.now ≡ to_le_bytes w32 n ++ left
+        → IsSomeAnd result (λ r. (r.0 ≡ n) × (r.1.now ≡ left)) }
 {
     let (four, rest) = bytes.split_first_chunk::<4>()?;
     Some((u32::from_le_bytes(*four), rest))

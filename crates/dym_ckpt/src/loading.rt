@@ -71,7 +71,15 @@ pub fn load_file(alloc: Global, bytes: &[u8]) -> Result<Loaded, FileFail>
 fn open_heap(alloc: Global, quota: u32, version: Version) -> Result<Heap<OwnSupply>, AllocError>
     requires least { 1 ≤ quota }
     requires most { quota ≤ MOST_QUOTA }
-    ensures opened { IfOk result (λ heap. heap ≡ record { version = version; quota = quota; state = empty_heap; held_ids = []; origin = own; applied = 0 }) }
+    ensures opened { IfOk result (λ heap.
+        heap ≡ record {
+          version = version;
+          quota = quota;
+          state = empty_heap;
+          held_ids = [];
+          origin = own;
+          applied = 0;
+        }) }
     ensures sound { IfOk result IsSound }
 {
     let supply = OwnSupply::open(alloc, quota)?;
@@ -133,7 +141,8 @@ fn read_records(
 ) -> Result<(Listed, &[u8]), FileFail>
     requires few { count ≤ MOST_RECORDS }
     requires quota { rule.quota ≤ MOST_QUOTA }
-    ensures read { IfOk result (λ read. AreRead rule.version rule.quota rule.depth bytes.now read.0 count read.1.now) }
+    ensures read { IfOk result (λ read.
+        AreRead rule.version rule.quota rule.depth bytes.now read.0 count read.1.now) }
     ensures stops { IfErr result (StopsAs rule.version rule.quota rule.depth count bytes.now) }
 {
     let Ok(mut listed) = Listed::open(alloc) else {
@@ -160,8 +169,10 @@ fn read_record<'a>(
     requires listed { IsListed rule.version rule.depth listed.old }
     requires few { length listed.old.keep.records < MOST_RECORDS }
     ensures listed { OnOk result (IsListed rule.version rule.depth listed.new) }
-    ensures read { IfOk result (λ rest. RecordIsRead rule.version rule.quota listed.old listed.new bytes.now rest.now) }
-    ensures bad { IfErr result (λ why. why ≡ record_fail.Bad → NoRecordIn rule.version rule.quota rule.depth listed.old bytes.now) }
+    ensures read { IfOk result (λ rest.
+        RecordIsRead rule.version rule.quota listed.old listed.new bytes.now rest.now) }
+    ensures bad { IfErr result (λ why.
+        why ≡ record_fail.Bad → NoRecordIn rule.version rule.quota rule.depth listed.old bytes.now) }
 {
     let Some((record, rest)) = framed_in(bytes) else {
         return Err(RecordFail::Bad);

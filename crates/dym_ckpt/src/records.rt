@@ -57,9 +57,11 @@ impl Listed {
         requires listed { IsListed rule.version rule.depth self.old }
         requires few { length self.old.keep.records < MOST_RECORDS }
         ensures listed { OnOk result (IsListed rule.version rule.depth self.new) }
-        ensures added { OnOk result (bytes_of self.new.keep.records ≡ bytes_of self.old.keep.records ++ bytes.now ∷ []) }
+        ensures added { OnOk result (bytes_of self.new.keep.records
+            ≡ bytes_of self.old.keep.records ++ bytes.now ∷ []) }
         ensures good { OnOk result (IsRecordOf rule.version rule.quota bytes.now) }
-        ensures bad { IfErr result (λ why. why ≡ Bad → CantBeNext rule.version rule.quota rule.depth (bytes_of self.old.keep.records) bytes.now) }
+        ensures bad { IfErr result (λ why.
+            why ≡ Bad → CantBeNext rule.version rule.quota rule.depth (bytes_of self.old.keep.records) bytes.now) }
     {
         let rec = Record::of_bytes(alloc, bytes, rule.version, rule.quota)?;
         if !may_be_next(&mut self.keep, rule.depth, self.depth, &rec) {
@@ -74,7 +76,8 @@ impl Listed {
 /// The bytes that stand behind their length, and what is behind them.
 pub(crate) fn framed_in(bytes: &[u8]) -> Option<(&[u8], &[u8])>
     ensures is { IfSome result (λ read. bytes.now ≡ framed read.0.now ++ read.1.now) }
-    ensures only { (piece left : List ℕ) → length piece < 2 ^ 32 → bytes.now ≡ framed piece ++ left → IsSomeAnd result (λ r. (r.0.now ≡ piece) × (r.1.now ≡ left)) }
+    ensures only { (piece left : List ℕ) → length piece < 2 ^ 32 → bytes.now ≡ framed piece ++ left
+        → IsSomeAnd result (λ r. (r.0.now ≡ piece) × (r.1.now ≡ left)) }
 {
     let (len, rest) = number_in(bytes)?;
     rest.split_at_checked(len as usize)

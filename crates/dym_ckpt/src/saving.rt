@@ -23,7 +23,8 @@ const LENGTH_BYTES: u64 = 4;
 /// How many bytes the file of these logs has, whichever quota it names. It takes no memory.
 pub fn saved_len<L: KeptLogs>(logs: &mut L, name: &Name) -> u64
     requires idle { (L.meaning logs.old).lifted ≡ None }
-    ensures len { (v : Version) (quota : ℕ) → AreOf v (L.meaning logs.old) → result ≡ length (file_of_logs name.now quota v (L.meaning logs.old)) }
+    ensures len { (v : Version) (quota : ℕ) → AreOf v (L.meaning logs.old)
+        → result ≡ length (file_of_logs name.now quota v (L.meaning logs.old)) }
     ensures same { L.meaning logs.new ≡ L.meaning logs.old }
 {
     let mut len = HEAD_BYTES + name.bytes().len() as u64;
@@ -45,7 +46,8 @@ pub fn save<L: KeptLogs, W: Sink>(
     requires idle { (L.meaning logs.old).lifted ≡ None }
     requires named { IsTrue (is_name name.now) }
     requires records { AreOf version (L.meaning logs.old) }
-    ensures written { Writes (W.output sink.old) (W.output sink.new) (file_of_logs name.now quota version (L.meaning logs.old)) result }
+    ensures written { Writes (W.output sink.old) (W.output sink.new)
+        (file_of_logs name.now quota version (L.meaning logs.old)) result }
     ensures same { L.meaning logs.new ≡ L.meaning logs.old }
 {
     write_head(logs, name, quota, version, sink)?;
@@ -62,7 +64,9 @@ fn write_head<L: KeptLogs, W: Sink>(
 ) -> Result<(), SinkFault>
     requires named { IsTrue (is_name name.now) }
     requires records { AreOf version (L.meaning logs.now) }
-    ensures { Writes (W.output sink.old) (W.output sink.new) (head_bytes (head_of name.now quota version (L.meaning logs.now).below (L.meaning logs.now).logs)) result }
+    ensures { Writes (W.output sink.old) (W.output sink.new)
+        (head_bytes (head_of name.now quota version (L.meaning logs.now).below
+        (L.meaning logs.now).logs)) result }
 {
     let name = name.bytes();
     push_parts(
@@ -103,7 +107,8 @@ fn depth_of_oldest<L: KeptLogs>(logs: &L) -> u8
 /// Writes the records, each behind its length.
 fn write_records<L: KeptLogs, W: Sink>(logs: &mut L, sink: &mut W) -> Result<(), SinkFault>
     requires idle { (L.meaning logs.old).lifted ≡ None }
-    ensures written { Writes (W.output sink.old) (W.output sink.new) (framed_from 0 (L.meaning logs.old).records) result }
+    ensures written { Writes (W.output sink.old) (W.output sink.new)
+        (framed_from 0 (L.meaning logs.old).records) result }
     ensures same { L.meaning logs.new ≡ L.meaning logs.old }
 {
     for place in 0..logs.slots() {
@@ -135,7 +140,8 @@ fn write_record<L: KeptLogs, W: Sink>(
     requires idle { (L.meaning logs.old).lifted ≡ None }
     requires kept { AreKept (L.meaning logs.old) }
     requires place { place < length (L.meaning logs.old).records }
-    ensures written { Writes (W.output sink.old) (W.output sink.new) (framed (record_at (L.meaning logs.old).records place).bytes) result }
+    ensures written { Writes (W.output sink.old) (W.output sink.new)
+        (framed (record_at (L.meaning logs.old).records place).bytes) result }
     ensures same { L.meaning logs.new ≡ L.meaning logs.old }
 {
     let rec = logs.lift(place);

@@ -17,7 +17,8 @@ impl<S: Supply> Heap<S> {
         requires applied { self.old.applied < COUNT_LIMIT }
         requires command { IsEventCommand command.now }
         ensures reply { result ≡ (step_of self.old command.now).reply }
-        ensures after { self.new ≡ record (stepped (counted self.old) command.now) { held_ids = self.new.held_ids } }
+        ensures after { self.new ≡ record (stepped
+            (counted self.old) command.now) { held_ids = self.new.held_ids } }
         ensures refused { OnRefusal result (self.new ≡ counted self.old) }
         ensures sound { IsSound self.new }
     {

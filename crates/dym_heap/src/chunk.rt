@@ -37,7 +37,8 @@ pub(crate) fn len_of_handle<S: Supply>(shelf: &Shelf<S>, h: Handle) -> Option<u3
 /// A chunk's bytes, and None where it isn't live.
 pub(crate) fn bytes_of_handle<S: Supply>(shelf: &Shelf<S>, h: Handle) -> Option<&[u8]>
     requires { IsTidy shelf.now }
-    ensures { MatchOption result (get (live_of shelf.now.rows) (key h) ≡ None) (λ bytes. get (live_of shelf.now.rows) (key h) ≡ Some bytes.now) }
+    ensures { MatchOption result (get (live_of shelf.now.rows) (key h) ≡ None)
+        (λ bytes. get (live_of shelf.now.rows) (key h) ≡ Some bytes.now) }
 {
     if h.exp < LEAST_EXPONENT {
         return None;
@@ -66,7 +67,8 @@ pub(crate) fn free_chunk<S: Supply>(shelf: &mut Shelf<S>, way: &S::Way, exp: u8,
 pub(crate) fn free_handle<S: Supply>(shelf: &mut Shelf<S>, way: &S::Way, h: Handle) -> bool
     requires tidy { IsTidy shelf.old }
     ensures live { result ≡ is_some (get (live_of shelf.old.rows) (key h)) }
-    ensures after { MatchBool result (state_of shelf.new.rows ≡ without_chunk (state_of shelf.old.rows) (key h)) (shelf.new ≡ shelf.old) }
+    ensures after { MatchBool result (state_of shelf.new.rows
+        ≡ without_chunk (state_of shelf.old.rows) (key h)) (shelf.new ≡ shelf.old) }
     ensures keeps { Keeps shelf.old shelf.new }
     ensures tidy { IsTidy shelf.new }
 {
@@ -96,7 +98,9 @@ pub(crate) fn write_chunk<S: Supply>(
     requires tidy { IsTidy shelf.old }
     requires some { 0 < length bytes.now }
     requires within { FitsIn (chunk_at shelf.old.rows (exp - 5) index) (at + length bytes.now) }
-    ensures after { MatchOption (chunk_at shelf.old.rows (exp - 5) index) ⊥ (λ old. state_of shelf.new.rows ≡ with_chunk (state_of shelf.old.rows) (number exp index) (splice at bytes.now old)) }
+    ensures after { MatchOption (chunk_at shelf.old.rows (exp - 5) index) ⊥
+        (λ old. state_of shelf.new.rows
+        ≡ with_chunk (state_of shelf.old.rows) (number exp index) (splice at bytes.now old)) }
     ensures keeps { Keeps shelf.old shelf.new }
     ensures held { shelf.new.held_ids ≡ shelf.old.held_ids }
     ensures tidy { IsTidy shelf.new }
@@ -118,7 +122,9 @@ pub(crate) fn fill_chunk<S: Supply>(
     requires tidy { IsTidy shelf.old }
     requires some { 0 < len }
     requires within { FitsIn (chunk_at shelf.old.rows (exp - 5) index) (at + len) }
-    ensures after { MatchOption (chunk_at shelf.old.rows (exp - 5) index) ⊥ (λ old. state_of shelf.new.rows ≡ with_chunk (state_of shelf.old.rows) (number exp index) (splice at (replicate len byte) old)) }
+    ensures after { MatchOption (chunk_at shelf.old.rows (exp - 5) index) ⊥
+        (λ old. state_of shelf.new.rows
+        ≡ with_chunk (state_of shelf.old.rows) (number exp index) (splice at (replicate len byte) old)) }
     ensures keeps { Keeps shelf.old shelf.new }
     ensures held { shelf.new.held_ids ≡ shelf.old.held_ids }
     ensures tidy { IsTidy shelf.new }
@@ -149,8 +155,10 @@ pub(crate) fn resize_chunk<S: Supply>(shelf: &mut Shelf<S>, h: Handle, old: u32,
     requires most { h.exp ≤ GREATEST_EXPONENT }
     requires tidy { IsTidy shelf.old }
     requires sized { IsSizeOf Two h.exp len }
-    requires live { MatchOption (chunk_at shelf.old.rows (h.exp - 5) h.index) ⊥ (λ bytes. length bytes ≡ old) }
-    ensures after { MatchOption (chunk_at shelf.old.rows (h.exp - 5) h.index) ⊥ (λ bytes. state_of shelf.new.rows ≡ resize shelf.old.version (state_of shelf.old.rows) h len bytes) }
+    requires live { MatchOption (chunk_at shelf.old.rows (h.exp - 5) h.index) ⊥
+        (λ bytes. length bytes ≡ old) }
+    ensures after { MatchOption (chunk_at shelf.old.rows (h.exp - 5) h.index) ⊥
+        (λ bytes. state_of shelf.new.rows ≡ resize shelf.old.version (state_of shelf.old.rows) h len bytes) }
     ensures keeps { Keeps shelf.old shelf.new }
     ensures held { shelf.new.held_ids ≡ shelf.old.held_ids }
     ensures tidy { IsTidy shelf.new }
@@ -196,7 +204,8 @@ pub(crate) fn move_chunk<S: Supply>(
     requires apart { from.exp ≡ exp → ⊥ }
     requires tidy { IsTidy shelf.old }
     requires sized { IsSizeOf shelf.old.version exp len }
-    requires live { MatchOption (chunk_at shelf.old.rows (from.exp - 5) from.index) ⊥ (λ bytes. length bytes ≡ old) }
+    requires live { MatchOption (chunk_at shelf.old.rows (from.exp - 5) from.index) ⊥
+        (λ bytes. length bytes ≡ old) }
     ensures answer { MatchOption result (shelf.old.quota < held_with_fresh (live_of shelf.old.rows) exp)
         (λ i. (held_with_fresh (live_of shelf.old.rows) exp ≤ shelf.old.quota) × (i ≡ fresh (live_of shelf.old.rows) exp)) }
     ensures after { MatchOption result (shelf.new ≡ shelf.old)

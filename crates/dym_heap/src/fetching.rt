@@ -14,7 +14,9 @@ use dym_quota::Supply;
 /// Each chunk in use that the record packs is touched.
 pub(crate) fn mark_record<S: Supply>(shelf: &mut Shelf<S>, rec: &Record)
     requires tidy { IsTidy shelf.old }
-    ensures marked { OfLog rec.now (λ log. (k : ℕ) → heap_chunk (state_of shelf.new.rows) k ≡ marked (is_some (packed_by log k)) (heap_chunk (state_of shelf.old.rows) k)) }
+    ensures marked { OfLog rec.now (λ log.
+        (k : ℕ) → heap_chunk (state_of shelf.new.rows) k
+        ≡ marked (is_some (packed_by log k)) (heap_chunk (state_of shelf.old.rows) k)) }
     ensures same { shelf.new ≡ record shelf.old { rows = shelf.new.rows } }
     ensures tidy { IsTidy shelf.new }
 {
@@ -28,8 +30,11 @@ fn mark_area_of<S: Supply>(shelf: &mut Shelf<S>, rec: &Record, k: u32)
     requires area { OfLog rec.now (λ log. k < held log.copy) }
     requires recorded { IsRecord rec.now }
     requires kept { IsKept shelf.old }
-    ensures marked { OfLog rec.now (λ log. IsAreaChange log k shelf.old.rows shelf.new.rows (λ q old new. new ≡ marked (is_some (packed_by log q)) old)) }
-    ensures long { (d : ℕ) → length (row_at shelf.new.rows d).chunks ≡ length (row_at shelf.old.rows d).chunks }
+    ensures marked { OfLog rec.now (λ log.
+        IsAreaChange log k shelf.old.rows shelf.new.rows (λ q old new.
+        new ≡ marked (is_some (packed_by log q)) old)) }
+    ensures long { (d : ℕ) → length (row_at shelf.new.rows d).chunks
+        ≡ length (row_at shelf.old.rows d).chunks }
     ensures same { shelf.new ≡ record shelf.old { rows = shelf.new.rows } }
     ensures kept { IsKept shelf.new }
 {
@@ -43,7 +48,9 @@ fn mark_area_of<S: Supply>(shelf: &mut Shelf<S>, rec: &Record, k: u32)
 pub(crate) fn fetch_record<S: Supply>(shelf: &mut Shelf<S>, rec: &Record)
     requires version { OfLog rec.now (λ log. log.version ≡ shelf.old.version) }
     requires tidy { IsTidy shelf.old }
-    ensures fetched { OfLog rec.now (λ log. (k : ℕ) → heap_chunk (state_of shelf.new.rows) k ≡ fetched (packed_by log k) (heap_chunk (state_of shelf.old.rows) k)) }
+    ensures fetched { OfLog rec.now (λ log.
+        (k : ℕ) → heap_chunk (state_of shelf.new.rows) k
+        ≡ fetched (packed_by log k) (heap_chunk (state_of shelf.old.rows) k)) }
     ensures same { shelf.new ≡ record shelf.old { rows = shelf.new.rows } }
     ensures tidy { IsTidy shelf.new }
 {
@@ -58,8 +65,10 @@ fn fetch_area_of<S: Supply>(shelf: &mut Shelf<S>, rec: &Record, k: u32)
     requires recorded { IsRecord rec.now }
     requires version { OfLog rec.now (λ log. log.version ≡ shelf.old.version) }
     requires kept { IsKept shelf.old }
-    ensures fetched { OfLog rec.now (λ log. IsAreaChange log k shelf.old.rows shelf.new.rows (λ q old new. new ≡ fetched (packed_by log q) old)) }
-    ensures long { (d : ℕ) → length (row_at shelf.new.rows d).chunks ≡ length (row_at shelf.old.rows d).chunks }
+    ensures fetched { OfLog rec.now (λ log.
+        IsAreaChange log k shelf.old.rows shelf.new.rows (λ q old new. new ≡ fetched (packed_by log q) old)) }
+    ensures long { (d : ℕ) → length (row_at shelf.new.rows d).chunks
+        ≡ length (row_at shelf.old.rows d).chunks }
     ensures same { shelf.new ≡ record shelf.old { rows = shelf.new.rows } }
     ensures kept { IsKept shelf.new }
 {

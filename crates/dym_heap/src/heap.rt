@@ -67,7 +67,14 @@ impl<S: Supply> Heap<S> {
         requires nothing_held { S.held_ids supply ≡ [] }
         requires least { 1 ≤ S.quota_of supply }
         requires most { S.quota_of supply ≤ MOST_QUOTA }
-        ensures opened { IfOk result (λ h. h ≡ record { version = One; quota = S.quota_of supply; state = empty_heap; held_ids = []; origin = S.origin supply; applied = 0 }) }
+        ensures opened { IfOk result (λ h. h ≡ record {
+          version = One;
+          quota = S.quota_of supply;
+          state = empty_heap;
+          held_ids = [];
+          origin = S.origin supply;
+          applied = 0;
+        }) }
         ensures sound { IfOk result IsSound }
         ensures back { IfErr result (λ e. e.1 ≡ supply) }
     {
@@ -79,7 +86,14 @@ impl<S: Supply> Heap<S> {
         requires nothing_held { S.held_ids supply ≡ [] }
         requires least { 1 ≤ S.quota_of supply }
         requires most { S.quota_of supply ≤ MOST_QUOTA }
-        ensures opened { IfOk result (λ h. h ≡ record { version = version; quota = S.quota_of supply; state = empty_heap; held_ids = []; origin = S.origin supply; applied = 0 }) }
+        ensures opened { IfOk result (λ h. h ≡ record {
+          version = version;
+          quota = S.quota_of supply;
+          state = empty_heap;
+          held_ids = [];
+          origin = S.origin supply;
+          applied = 0;
+        }) }
         ensures sound { IfOk result IsSound }
         ensures back { IfErr result (λ e. e.1 ≡ supply) }
     {
@@ -154,7 +168,8 @@ impl<S: Supply> Heap<S> {
         len: u64,
     ) -> Result<Option<Handle>, Refusal>
         ensures reply { moved_reply result ≡ (step_of self.old (Realloc h len)).reply }
-        ensures after { self.new ≡ record (stepped self.old (Realloc h len)) { held_ids = self.new.held_ids } }
+        ensures after { self.new ≡ record (stepped self.old
+            (Realloc h len)) { held_ids = self.new.held_ids } }
         ensures refused { OnErr result (self.new ≡ self.old) }
         ensures sound { IsSound self.new }
     {
@@ -177,7 +192,8 @@ impl<S: Supply> Heap<S> {
     fn realloc_live(&mut self, way: &S::Way, h: Handle, len: u64) -> Result<Option<Handle>, Refusal>
         requires { 0 < len }
         ensures reply { moved_reply result ≡ (step_of self.old (Realloc (Some h) len)).reply }
-        ensures after { self.new ≡ record (stepped self.old (Realloc (Some h) len)) { held_ids = self.new.held_ids } }
+        ensures after { self.new ≡ record (stepped self.old
+            (Realloc (Some h) len)) { held_ids = self.new.held_ids } }
         ensures refused { OnErr result (self.new ≡ self.old) }
         ensures sound { IsSound self.new }
     {
@@ -308,7 +324,8 @@ impl<S: Supply> Heap<S> {
 
     /// All bytes of a chunk, and None where it isn't live.
     pub fn bytes(&self, h: Handle) -> Option<&[u8]>
-        ensures { MatchOption result (get self.now.state.live (key h) ≡ None) (λ bytes. get self.now.state.live (key h) ≡ Some bytes.now) }
+        ensures { MatchOption result (get self.now.state.live (key h) ≡ None)
+            (λ bytes. get self.now.state.live (key h) ≡ Some bytes.now) }
     {
         bytes_of_handle(&self.shelf, h)
     }
@@ -329,14 +346,21 @@ impl<S: Supply> Heap<S> {
 
     /// The least live chunk above a handle, or the least of all.
     pub fn next_live(&self, after: Option<Handle>) -> Option<Handle>
-        ensures { MatchOption result ((k : ℕ) → after_key after ≤ k → contains_key self.now.state.live k ≡ false) (λ h. IsNextLive self.now.state.live (after_key after) (key h)) }
+        ensures { MatchOption result ((k : ℕ) → after_key after ≤ k
+            → contains_key self.now.state.live k ≡ false) (λ h.
+            IsNextLive self.now.state.live (after_key after) (key h)) }
     {
         next_from(&self.shelf, after)
     }
 
     /// No chunk is touched.
     pub fn clear_dirty(&mut self)
-        ensures cleared { self.new ≡ record self.old { state = record { live = self.old.state.live; touched = FinSet.empty } } }
+        ensures cleared { self.new ≡ record self.old {
+          state = record {
+            live = self.old.state.live;
+            touched = FinSet.empty;
+          };
+        } }
         ensures sound { IsSound self.new }
     {
         self.shelf.clear_touched();
@@ -362,7 +386,12 @@ impl<S: Supply> Heap<S> {
     pub fn load(&mut self, rec: &Record)
         requires version { OfLog rec.now (λ log. log.version ≡ self.old.version) }
         ensures loaded { OfLog rec.now (λ log. IsLoaded log self.old.state.live self.new.state.live) }
-        ensures same { self.new ≡ record self.old { state = record { live = self.new.state.live; touched = self.old.state.touched } } }
+        ensures same { self.new ≡ record self.old {
+          state = record {
+            live = self.new.state.live;
+            touched = self.old.state.touched;
+          };
+        } }
         ensures sound { IsSound self.new }
     {
         load_record(&mut self.shelf, rec);
@@ -370,7 +399,9 @@ impl<S: Supply> Heap<S> {
 
     /// Each chunk that is live and that the record packs is touched, besides those that are.
     pub fn mark(&mut self, rec: &Record)
-        ensures marked { OfLog rec.now (λ log. (k : ℕ) → heap_chunk self.new.state k ≡ marked (is_some (packed_by log k)) (heap_chunk self.old.state k)) }
+        ensures marked { OfLog rec.now (λ log.
+            (k : ℕ) → heap_chunk self.new.state k
+            ≡ marked (is_some (packed_by log k)) (heap_chunk self.old.state k)) }
         ensures same { self.new ≡ record self.old { state = self.new.state } }
         ensures sound { IsSound self.new }
     {
@@ -381,7 +412,8 @@ impl<S: Supply> Heap<S> {
     /// each other one that is live then is touched, and no clause tells its bytes.
     pub fn reshape(&mut self, way: &S::Way, rec: &Record)
         requires within { OfLog rec.now (λ log. held log.copy ≤ self.old.quota) }
-        ensures shaped { OfLog rec.now (λ log. (k : ℕ) → IsReshaped (contains_key log.copy k) (heap_chunk self.old.state k) (heap_chunk self.new.state k)) }
+        ensures shaped { OfLog rec.now (λ log.
+            (k : ℕ) → IsReshaped (contains_key log.copy k) (heap_chunk self.old.state k) (heap_chunk self.new.state k)) }
         ensures same { self.new ≡ record self.old { state = self.new.state; held_ids = self.new.held_ids } }
         ensures sound { IsSound self.new }
     {
@@ -391,7 +423,8 @@ impl<S: Supply> Heap<S> {
     /// Writes the bytes, and in version 2 the length, of each touched chunk that the record packs. It is touched no more.
     pub fn fetch(&mut self, rec: &Record)
         requires version { OfLog rec.now (λ log. log.version ≡ self.old.version) }
-        ensures fetched { OfLog rec.now (λ log. (k : ℕ) → heap_chunk self.new.state k ≡ fetched (packed_by log k) (heap_chunk self.old.state k)) }
+        ensures fetched { OfLog rec.now (λ log.
+            (k : ℕ) → heap_chunk self.new.state k ≡ fetched (packed_by log k) (heap_chunk self.old.state k)) }
         ensures same { self.new ≡ record self.old { state = self.new.state } }
         ensures sound { IsSound self.new }
     {

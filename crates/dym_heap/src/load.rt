@@ -20,7 +20,8 @@ pub(crate) fn load_runs<G: Segment>(area: &mut Area<G>, packed: &Bits, wanted: &
     requires body { IsBody One area.old.exponent packed.now body.now }
     requires wanted { (i : ℕ) → IsSet wanted.now i → IsSet packed.now i }
     requires lawful { IsLawful area.old }
-    ensures loaded { (f : ℕ → List ℕ) → IsBodyOf One area.old.exponent packed.now body.now f → HoldsLoaded area.old area.new wanted.now f }
+    ensures loaded { (f : ℕ → List ℕ) → IsBodyOf One area.old.exponent packed.now body.now f
+        → HoldsLoaded area.old area.new wanted.now f }
     ensures lawful { IsLawful area.new }
 {
     let size = size_of_class(area.exp());
@@ -41,7 +42,8 @@ fn load_range<G: Segment>(area: &mut Area<G>, wanted: &Bits, first: u32, end: u3
     requires within { end ≤ per area.old.exponent }
     requires len { length bytes.now ≡ (end - first) * size area.old.exponent }
     requires lawful { IsLawful area.old }
-    ensures loaded { IsLoadedRange area.old area.new wanted.now first end (λ i. part_of bytes.now ((i - first) * size area.old.exponent) (size area.old.exponent)) }
+    ensures loaded { IsLoadedRange area.old area.new wanted.now first end
+        (λ i. part_of bytes.now ((i - first) * size area.old.exponent) (size area.old.exponent)) }
     ensures lawful { IsLawful area.new }
 {
     let size = size_of_class(area.exp());
@@ -69,8 +71,10 @@ pub(crate) fn load_sized<G: Segment>(
     requires body { IsBody Two area.old.exponent packed.now body.now }
     requires wanted { (i : ℕ) → IsSet wanted.now i → IsSet packed.now i }
     requires lawful { IsLawful area.old }
-    ensures loaded { (f : ℕ → List ℕ) → IsBodyOf Two area.old.exponent packed.now body.now f → HoldsLoaded area.old area.new wanted.now f }
-    ensures noted { (f : ℕ → List ℕ) → IsBodyOf Two area.old.exponent packed.now body.now f → NotesLoaded lengths.old.table.items lengths.new.table.items wanted.now f }
+    ensures loaded { (f : ℕ → List ℕ) → IsBodyOf Two area.old.exponent packed.now body.now f
+        → HoldsLoaded area.old area.new wanted.now f }
+    ensures noted { (f : ℕ → List ℕ) → IsBodyOf Two area.old.exponent packed.now body.now f
+        → NotesLoaded lengths.old.table.items lengths.new.table.items wanted.now f }
     ensures lawful { IsLawful area.new }
 {
     let mut from = 0;
@@ -97,7 +101,9 @@ fn load_chunk<G: Segment>(
     requires fits { length bytes.now ≤ size area.old.exponent }
     requires lawful { IsLawful area.old }
     ensures loaded { IsLoadedRange area.old area.new wanted.now i (i + 1) (λ _. bytes.now) }
-    ensures noted { lengths.new.table.items ≡ (if bit_in wanted.now i then slice_set lengths.old.table.items i (length bytes.now) else lengths.old.table.items) }
+    ensures noted { lengths.new.table.items
+        ≡ (if bit_in wanted.now i then slice_set lengths.old.table.items i
+        (length bytes.now) else lengths.old.table.items) }
     ensures lawful { IsLawful area.new }
 {
     if !wanted.get(i) {

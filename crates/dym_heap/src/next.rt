@@ -16,7 +16,9 @@ use dym_quota::Supply;
 /// The least live chunk above a handle, or the least of all.
 pub(crate) fn next_from<S: Supply>(shelf: &Shelf<S>, after: Option<Handle>) -> Option<Handle>
     requires { IsTidy shelf.now }
-    ensures { MatchOption result ((k : ℕ) → after_key after ≤ k → contains_key (live_of shelf.now.rows) k ≡ false) (λ h. IsNextLive (live_of shelf.now.rows) (after_key after) (key h)) }
+    ensures { MatchOption result ((k : ℕ) → after_key after ≤ k
+        → contains_key (live_of shelf.now.rows) k ≡ false) (λ h.
+        IsNextLive (live_of shelf.now.rows) (after_key after) (key h)) }
 {
     let (mut exp, mut from) = start_of(after);
     while exp <= GREATEST_EXPONENT {

@@ -37,7 +37,8 @@ pub(crate) fn take_out<G: Segment>(places: &mut Vec<Place<G>>, at: usize) -> Pla
 #[inline(always)]
 fn move_to_end<G: Segment>(places: &mut Vec<Place<G>>, at: usize)
     requires { at < length places.old.items }
-    ensures items { places.new.items ≡ take at places.old.items ++ (drop 1 (drop at places.old.items) ++ take 1 (drop at places.old.items)) }
+    ensures items { places.new.items ≡ take at places.old.items
+        ++ (drop 1 (drop at places.old.items) ++ take 1 (drop at places.old.items)) }
     ensures capacity { vec_capacity places.new ≡ vec_capacity places.old }
 {
     let behind = &mut places[at..];
@@ -55,8 +56,10 @@ pub(crate) fn copy_between<G: Segment>(
     requires source_area { source.place < length places.old.items }
     requires target_area { target.place < length places.old.items }
     requires some { 0 < len }
-    requires source { (d : PlaceMeaning) → FitsIn (slice_index_or (slice_index_or places.old.items source.place d).chunks source.chunk None) len }
-    requires target { (d : PlaceMeaning) → FitsIn (slice_index_or (slice_index_or places.old.items target.place d).chunks target.chunk None) len }
+    requires source { (d : PlaceMeaning) → FitsIn
+        (slice_index_or (slice_index_or places.old.items source.place d).chunks source.chunk None) len }
+    requires target { (d : PlaceMeaning) → FitsIn
+        (slice_index_or (slice_index_or places.old.items target.place d).chunks target.chunk None) len }
     ensures copied { IsCopiedOver places.old.items places.new.items source.place source.chunk target.place target.chunk len }
     ensures capacity { vec_capacity places.new ≡ vec_capacity places.old }
 {
@@ -72,8 +75,10 @@ fn copy_up<G: Segment>(places: &mut [Place<G>], source: Spot, target: Spot, len:
     requires before { source.place < target.place }
     requires within { target.place < length places.old }
     requires some { 0 < len }
-    requires source { (d : PlaceMeaning) → FitsIn (slice_index_or (slice_index_or places.old source.place d).chunks source.chunk None) len }
-    requires target { (d : PlaceMeaning) → FitsIn (slice_index_or (slice_index_or places.old target.place d).chunks target.chunk None) len }
+    requires source { (d : PlaceMeaning) → FitsIn
+        (slice_index_or (slice_index_or places.old source.place d).chunks source.chunk None) len }
+    requires target { (d : PlaceMeaning) → FitsIn
+        (slice_index_or (slice_index_or places.old target.place d).chunks target.chunk None) len }
     ensures { IsCopiedOver places.old places.new source.place source.chunk target.place target.chunk len }
 {
     let (low, high) = places.split_at_mut(target.place);
@@ -86,8 +91,10 @@ fn copy_down<G: Segment>(places: &mut [Place<G>], source: Spot, target: Spot, le
     requires before { target.place < source.place }
     requires within { source.place < length places.old }
     requires some { 0 < len }
-    requires source { (d : PlaceMeaning) → FitsIn (slice_index_or (slice_index_or places.old source.place d).chunks source.chunk None) len }
-    requires target { (d : PlaceMeaning) → FitsIn (slice_index_or (slice_index_or places.old target.place d).chunks target.chunk None) len }
+    requires source { (d : PlaceMeaning) → FitsIn
+        (slice_index_or (slice_index_or places.old source.place d).chunks source.chunk None) len }
+    requires target { (d : PlaceMeaning) → FitsIn
+        (slice_index_or (slice_index_or places.old target.place d).chunks target.chunk None) len }
     ensures { IsCopiedOver places.old places.new source.place source.chunk target.place target.chunk len }
 {
     let (low, high) = places.split_at_mut(source.place);

@@ -52,7 +52,14 @@ impl<G: Segment> Place<G> {
     pub(crate) fn new(exp: u8, ordinal: u32, segment: G, lengths: Option<Lengths>) -> Place<G>
         requires least { LEAST_EXPONENT ≤ exp }
         requires most { exp ≤ GREATEST_EXPONENT }
-        ensures made { result ≡ record { version = version_of lengths; exponent = exp; ordinal = ordinal; identity = G.id segment; chunks = replicate (per exp) None; touched = replicate (per exp) false } }
+        ensures made { result ≡ record {
+          version = version_of lengths;
+          exponent = exp;
+          ordinal = ordinal;
+          identity = G.id segment;
+          chunks = replicate (per exp) None;
+          touched = replicate (per exp) false;
+        } }
         ensures lawful { IsPlace result }
     {
         Place {
@@ -64,8 +71,10 @@ impl<G: Segment> Place<G> {
     /// Takes the least free chunk, with `len` zero bytes, and answers its index.
     pub(crate) fn take_chunk(&mut self, len: u32) -> Option<u32>
         requires { IsSizeOf self.old.version self.old.exponent len }
-        ensures taken { MatchOption result (self.new ≡ self.old) (λ i. self.new ≡ place_put self.old i (Some (replicate len 0)) true) }
-        ensures free { MatchOption result ((i : ℕ) → i < length self.old.chunks → IsSome (slice_index_or self.old.chunks i None)) (λ i. IsFreeIn self.old.chunks i) }
+        ensures taken { MatchOption result (self.new ≡ self.old)
+            (λ i. self.new ≡ place_put self.old i (Some (replicate len 0)) true) }
+        ensures free { MatchOption result ((i : ℕ) → i < length self.old.chunks
+            → IsSome (slice_index_or self.old.chunks i None)) (λ i. IsFreeIn self.old.chunks i) }
         ensures lawful { IsPlace self.new }
     {
         let Some(i) = self.area.take_first() else {
@@ -77,14 +86,16 @@ impl<G: Segment> Place<G> {
 
     /// Whether every chunk is in use.
     pub(crate) fn is_full(&self) -> bool
-        ensures { IsTrue result ↔ ((i : ℕ) → i < length self.now.chunks → IsSome (slice_index_or self.now.chunks i None)) }
+        ensures { IsTrue result ↔ ((i : ℕ) → i < length self.now.chunks
+            → IsSome (slice_index_or self.now.chunks i None)) }
     {
         self.area.is_full()
     }
 
     /// Whether no chunk is in use. The search begins at the front, where chunks are taken first.
     pub(crate) fn is_empty(&self) -> bool
-        ensures { MatchBool result ((i : ℕ) → slice_index_or self.now.chunks i None ≡ None) ((i : ℕ) × IsSome (slice_index_or self.now.chunks i None)) }
+        ensures { MatchBool result ((i : ℕ) → slice_index_or self.now.chunks i None ≡ None)
+            ((i : ℕ) × IsSome (slice_index_or self.now.chunks i None)) }
     {
         self.area.first_used().is_none()
     }
@@ -92,7 +103,8 @@ impl<G: Segment> Place<G> {
     /// The least index from `from` on of a chunk in use.
     pub(crate) fn next_used(&self, from: u32) -> Option<u32>
         requires { from ≤ MOST_CHUNKS }
-        ensures { MatchOption result ((i : ℕ) → from ≤ i → slice_index_or self.now.chunks i None ≡ None) (λ i. IsUsedFrom self.now.chunks from i) }
+        ensures { MatchOption result ((i : ℕ) → from ≤ i → slice_index_or self.now.chunks i None ≡ None)
+            (λ i. IsUsedFrom self.now.chunks from i) }
     {
         self.area.next_used(from)
     }
@@ -172,7 +184,8 @@ impl<G: Segment> Place<G> {
     /// The bytes of chunk `i`, and None where it is free.
     pub(crate) fn chunk_bytes(&self, i: u32) -> Option<&[u8]>
         requires { i < length self.now.chunks }
-        ensures { MatchOption result (slice_index_or self.now.chunks i None ≡ None) (λ bytes. slice_index_or self.now.chunks i None ≡ Some bytes.now) }
+        ensures { MatchOption result (slice_index_or self.now.chunks i None ≡ None)
+            (λ bytes. slice_index_or self.now.chunks i None ≡ Some bytes.now) }
     {
         if !self.area.is_used(i) {
             return None;
@@ -184,7 +197,9 @@ impl<G: Segment> Place<G> {
     pub(crate) fn run_bytes(&self, from: u32, count: u32) -> &[u8]
         requires within { from * size self.now.exponent + count * size self.now.exponent ≤ SEGMENT_BYTES }
         requires used { IsUsedRun self.now.chunks from count }
-        ensures { self.now.version ≡ One → result.now ≡ flat_map (λ i. unwrap_or (slice_index_or self.now.chunks i None) []) (range_with_len from count) }
+        ensures { self.now.version ≡ One
+            → result.now ≡ flat_map (λ i.
+            unwrap_or (slice_index_or self.now.chunks i None) []) (range_with_len from count) }
     {
         self.area.run_bytes(from, count)
     }
@@ -201,7 +216,8 @@ impl<G: Segment> Place<G> {
     /// Copies the bytes of chunk `i` from its place `at` on into `out`.
     pub(crate) fn read(&self, i: u32, at: u32, out: &mut [u8])
         requires { FitsIn (slice_index_or self.now.chunks i None) (at + length out.old) }
-        ensures { MatchOption (slice_index_or self.now.chunks i None) ⊥ (λ bytes. out.new ≡ take (length out.old) (drop at bytes)) }
+        ensures { MatchOption (slice_index_or self.now.chunks i None) ⊥
+            (λ bytes. out.new ≡ take (length out.old) (drop at bytes)) }
     {
         self.area.read(i, at, out);
     }
@@ -210,7 +226,8 @@ impl<G: Segment> Place<G> {
     pub(crate) fn write(&mut self, i: u32, at: u32, bytes: &[u8])
         requires some { 0 < length bytes.now }
         requires within { FitsIn (slice_index_or self.old.chunks i None) (at + length bytes.now) }
-        ensures written { MatchOption (slice_index_or self.old.chunks i None) ⊥ (λ old. self.new ≡ place_put self.old i (Some (splice at bytes.now old)) true) }
+        ensures written { MatchOption (slice_index_or self.old.chunks i None) ⊥
+            (λ old. self.new ≡ place_put self.old i (Some (splice at bytes.now old)) true) }
         ensures lawful { IsPlace self.new }
     {
         self.area.write(i, at, bytes);
@@ -219,7 +236,8 @@ impl<G: Segment> Place<G> {
     /// The first `len` bytes of chunk `i`.
     pub(crate) fn front(&self, i: u32, len: u32) -> &[u8]
         requires { FitsIn (slice_index_or self.now.chunks i None) len }
-        ensures { MatchOption (slice_index_or self.now.chunks i None) ⊥ (λ bytes. result.now ≡ take len bytes) }
+        ensures { MatchOption (slice_index_or self.now.chunks i None) ⊥
+            (λ bytes. result.now ≡ take len bytes) }
     {
         self.area.bytes(i, 0, len)
     }
@@ -229,7 +247,9 @@ impl<G: Segment> Place<G> {
         requires some { 0 < len }
         requires source { FitsIn (slice_index_or source.now.chunks j None) len }
         requires target { FitsIn (slice_index_or self.old.chunks i None) len }
-        ensures copied { MatchOption (slice_index_or source.now.chunks j None) ⊥ (λ bytes. MatchOption (slice_index_or self.old.chunks i None) ⊥ (λ old. self.new ≡ place_put self.old i (Some (splice 0 (take len bytes) old)) true)) }
+        ensures copied { MatchOption (slice_index_or source.now.chunks j None) ⊥
+            (λ bytes. MatchOption (slice_index_or self.old.chunks i None) ⊥
+            (λ old. self.new ≡ place_put self.old i (Some (splice 0 (take len bytes) old)) true)) }
         ensures lawful { IsPlace self.new }
     {
         self.write(i, 0, source.front(j, len));
@@ -239,7 +259,8 @@ impl<G: Segment> Place<G> {
     pub(crate) fn fill(&mut self, i: u32, at: u32, len: u32, byte: u8)
         requires some { 0 < len }
         requires within { FitsIn (slice_index_or self.old.chunks i None) (at + len) }
-        ensures filled { MatchOption (slice_index_or self.old.chunks i None) ⊥ (λ old. self.new ≡ place_put self.old i (Some (splice at (replicate len byte) old)) true) }
+        ensures filled { MatchOption (slice_index_or self.old.chunks i None) ⊥
+            (λ old. self.new ≡ place_put self.old i (Some (splice at (replicate len byte) old)) true) }
         ensures lawful { IsPlace self.new }
     {
         if len as usize <= SMALL_BLOCK {
@@ -254,7 +275,9 @@ impl<G: Segment> Place<G> {
         requires some { 0 < len }
         requires block { IsRepeated block.now }
         requires within { FitsIn (slice_index_or self.old.chunks i None) (at + len) }
-        ensures filled { MatchOption (slice_index_or self.old.chunks i None) ⊥ (λ old. self.new ≡ place_put self.old i (Some (splice at (replicate len (slice_index block.now 0)) old)) true) }
+        ensures filled { MatchOption (slice_index_or self.old.chunks i None) ⊥
+            (λ old. self.new ≡ place_put self.old i
+            (Some (splice at (replicate len (slice_index block.now 0)) old)) true) }
         ensures lawful { IsPlace self.new }
     {
         let size = block.len() as u32;
@@ -272,8 +295,10 @@ impl<G: Segment> Place<G> {
     pub(crate) fn resize(&mut self, i: u32, len: u32)
         requires version { self.old.version ≡ Two }
         requires sized { IsSizeOf Two self.old.exponent len }
-        requires another { MatchOption (slice_index_or self.old.chunks i None) ⊥ (λ old. length old ≡ len → ⊥) }
-        ensures resized { MatchOption (slice_index_or self.old.chunks i None) ⊥ (λ old. self.new ≡ place_put self.old i (Some (fitted len old)) true) }
+        requires another { MatchOption (slice_index_or self.old.chunks i None) ⊥
+            (λ old. length old ≡ len → ⊥) }
+        ensures resized { MatchOption (slice_index_or self.old.chunks i None) ⊥
+            (λ old. self.new ≡ place_put self.old i (Some (fitted len old)) true) }
         ensures lawful { IsPlace self.new }
     {
         let old = noted_len(&self.lengths, self.area.exp(), i);
@@ -307,7 +332,8 @@ impl<G: Segment> Place<G> {
     /// The chunks in use among these are touched besides.
     pub(crate) fn mark(&mut self, packed: &Bits)
         ensures same { self.new ≡ record self.old { touched = self.new.touched } }
-        ensures marked { (i : ℕ) → place_chunk self.new i ≡ marked (bit_in packed.now i) (place_chunk self.old i) }
+        ensures marked { (i : ℕ) → place_chunk self.new i
+            ≡ marked (bit_in packed.now i) (place_chunk self.old i) }
         ensures lawful { IsPlace self.new }
     {
         let packed = self.area.used().intersection(packed);
@@ -320,7 +346,8 @@ impl<G: Segment> Place<G> {
     pub(crate) fn load(&mut self, packed: &Bits, wanted: &Bits, body: &[u8])
         requires body { IsBody self.old.version self.old.exponent packed.now body.now }
         requires wanted { (i : ℕ) → IsSet wanted.now i → IsSet packed.now i }
-        ensures loaded { (f : ℕ → List ℕ) → IsBodyOf self.old.version self.old.exponent packed.now body.now f → IsLoadedPlace self.old self.new wanted.now f }
+        ensures loaded { (f : ℕ → List ℕ) → IsBodyOf self.old.version self.old.exponent packed.now body.now f
+            → IsLoadedPlace self.old self.new wanted.now f }
         ensures lawful { IsPlace self.new }
     {
         match &mut self.lengths {
@@ -334,7 +361,8 @@ impl<G: Segment> Place<G> {
     pub(crate) fn fetch(&mut self, packed: &Bits, body: &[u8])
         requires body { IsBody self.old.version self.old.exponent packed.now body.now }
         ensures same { self.new ≡ record self.old { chunks = self.new.chunks; touched = self.new.touched } }
-        ensures fetched { (f : ℕ → List ℕ) → IsBodyOf self.old.version self.old.exponent packed.now body.now f → (i : ℕ) → place_chunk self.new i ≡ fetched (packed_at packed.now f i) (place_chunk self.old i) }
+        ensures fetched { (f : ℕ → List ℕ) → IsBodyOf self.old.version self.old.exponent packed.now body.now f
+            → (i : ℕ) → place_chunk self.new i ≡ fetched (packed_at packed.now f i) (place_chunk self.old i) }
         ensures lawful { IsPlace self.new }
     {
         let wanted = self.wanted_of(packed);
@@ -358,7 +386,8 @@ impl<G: Segment> Place<G> {
 
     /// The touched ones among these chunks.
     fn wanted_of(&self, packed: &Bits) -> Bits
-        ensures bits { (i : ℕ) → bit_in result i ≡ (slice_index_or self.now.touched i false && bit_in packed.now i) }
+        ensures bits { (i : ℕ) → bit_in result i
+            ≡ (slice_index_or self.now.touched i false && bit_in packed.now i) }
         ensures lawful { IsPlace self.now }
     {
         self.area.dirty().intersection(packed)
@@ -370,7 +399,8 @@ impl<G: Segment> Place<G> {
         requires len { length use_bytes.now ≡ max 1 (per self.old.exponent / 8) }
         requires below { (i : ℕ) → IsSet (bits_of_bytes use_bytes.now) i → i < per self.old.exponent }
         ensures same { self.new ≡ record self.old { chunks = self.new.chunks; touched = self.new.touched } }
-        ensures shaped { (i : ℕ) → IsReshaped (bit_in (bits_of_bytes use_bytes.now) i) (place_chunk self.old i) (place_chunk self.new i) }
+        ensures shaped { (i : ℕ) → IsReshaped (bit_in (bits_of_bytes use_bytes.now) i)
+            (place_chunk self.old i) (place_chunk self.new i) }
         ensures lawful { IsPlace self.new }
     {
         let settled = self.area.used().difference(self.area.dirty());
@@ -398,7 +428,8 @@ impl<G: Segment> Place<G> {
 fn note_all(lengths: &mut Lengths, chunks: &Bits, len: u32)
     requires { length chunks.now ≡ MOST_CHUNKS }
     ensures noted { (i : ℕ) → IsSet chunks.now i → slice_index lengths.new.table.items i ≡ len }
-    ensures kept { (i : ℕ) → IsClear chunks.now i → slice_index lengths.new.table.items i ≡ slice_index lengths.old.table.items i }
+    ensures kept { (i : ℕ) → IsClear chunks.now i
+        → slice_index lengths.new.table.items i ≡ slice_index lengths.old.table.items i }
 {
     let mut from = 0;
     while let Some(i) = chunks.next_set(from) {

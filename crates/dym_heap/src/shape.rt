@@ -19,7 +19,9 @@ use dym_quota::Supply;
 pub(crate) fn shape_shelf<S: Supply>(shelf: &mut Shelf<S>, way: &S::Way, rec: &Record)
     requires tidy { IsTidy shelf.old }
     requires within { OfLog rec.now (λ log. held log.copy ≤ shelf.old.quota) }
-    ensures shaped { OfLog rec.now (λ log. (k : ℕ) → IsReshaped (contains_key log.copy k) (heap_chunk (state_of shelf.old.rows) k) (heap_chunk (state_of shelf.new.rows) k)) }
+    ensures shaped { OfLog rec.now (λ log.
+        (k : ℕ) → IsReshaped (contains_key log.copy k) (heap_chunk (state_of shelf.old.rows) k) (heap_chunk
+        (state_of shelf.new.rows) k)) }
     ensures keeps { Keeps shelf.old shelf.new }
     ensures tidy { IsTidy shelf.new }
 {
@@ -79,8 +81,11 @@ fn take_areas<S: Supply>(shelf: &mut Shelf<S>, way: &S::Way, counts: &[u32; 12])
 /// Takes the use bits of each area from the record.
 fn use_areas<S: Supply>(shelf: &mut Shelf<S>, rec: &Record)
     requires kept { IsKept shelf.old }
-    requires are { OfLog rec.now (λ log. (c : ℕ) → c < 12 → HasAreas shelf.old.rows c (areas log.copy (c + 5))) }
-    ensures shaped { OfLog rec.now (λ log. (k : ℕ) → IsReshaped (contains_key log.copy k) (heap_chunk (state_of shelf.old.rows) k) (heap_chunk (state_of shelf.new.rows) k)) }
+    requires are { OfLog rec.now (λ log.
+        (c : ℕ) → c < 12 → HasAreas shelf.old.rows c (areas log.copy (c + 5))) }
+    ensures shaped { OfLog rec.now (λ log.
+        (k : ℕ) → IsReshaped (contains_key log.copy k) (heap_chunk (state_of shelf.old.rows) k) (heap_chunk
+        (state_of shelf.new.rows) k)) }
     ensures same { shelf.new ≡ record shelf.old { rows = shelf.new.rows } }
     ensures tidy { IsTidy shelf.new }
 {
@@ -93,9 +98,13 @@ fn use_areas<S: Supply>(shelf: &mut Shelf<S>, rec: &Record)
 fn use_area<S: Supply>(shelf: &mut Shelf<S>, rec: &Record, k: u32)
     requires area { OfLog rec.now (λ log. k < held log.copy) }
     requires recorded { IsRecord rec.now }
-    requires are { OfLog rec.now (λ log. (c : ℕ) → c < 12 → HasAreas shelf.old.rows c (areas log.copy (c + 5))) }
-    ensures shaped { OfLog rec.now (λ log. IsAreaChange log k shelf.old.rows shelf.new.rows (λ q old new. IsReshaped (contains_key log.copy q) old new)) }
-    ensures long { (d : ℕ) → length (row_at shelf.new.rows d).chunks ≡ length (row_at shelf.old.rows d).chunks }
+    requires are { OfLog rec.now (λ log.
+        (c : ℕ) → c < 12 → HasAreas shelf.old.rows c (areas log.copy (c + 5))) }
+    ensures shaped { OfLog rec.now (λ log.
+        IsAreaChange log k shelf.old.rows shelf.new.rows (λ q old new.
+        IsReshaped (contains_key log.copy q) old new)) }
+    ensures long { (d : ℕ) → length (row_at shelf.new.rows d).chunks
+        ≡ length (row_at shelf.old.rows d).chunks }
     ensures same { shelf.new ≡ record shelf.old { rows = shelf.new.rows } }
     ensures kept { IsKept shelf.new }
 {

@@ -71,7 +71,13 @@ impl<S: Supply> Shelf<S> {
         requires nothing_held { S.held_ids supply ≡ [] }
         requires least { 1 ≤ S.quota_of supply }
         requires most { S.quota_of supply ≤ MOST_QUOTA }
-        ensures opened { IfOk result (λ s. s ≡ record { version = version; quota = S.quota_of supply; held_ids = []; origin = S.origin supply; rows = empty_rows }) }
+        ensures opened { IfOk result (λ s. s ≡ record {
+          version = version;
+          quota = S.quota_of supply;
+          held_ids = [];
+          origin = S.origin supply;
+          rows = empty_rows;
+        }) }
         ensures kept { IfOk result IsKept }
         ensures back { IfErr result (λ e. e.1 ≡ supply) }
     {
@@ -123,8 +129,10 @@ impl<S: Supply> Shelf<S> {
         requires least { LEAST_EXPONENT ≤ exp }
         requires most { exp ≤ GREATEST_EXPONENT }
         requires sized { IsSizeOf self.old.version exp len }
-        ensures taken { MatchOption result (self.new ≡ self.old) (λ i. self.new ≡ with_put self.old (exp - 5) i (Some (replicate len 0)) true) }
-        ensures place { MatchOption result ((i : ℕ) → i < length (row_at self.old.rows (exp - 5)).chunks → IsSome (chunk_at self.old.rows (exp - 5) i)) (λ i. IsFirstFree self.old.rows (exp - 5) i) }
+        ensures taken { MatchOption result (self.new ≡ self.old)
+            (λ i. self.new ≡ with_put self.old (exp - 5) i (Some (replicate len 0)) true) }
+        ensures place { MatchOption result ((i : ℕ) → i < length (row_at self.old.rows (exp - 5)).chunks
+            → IsSome (chunk_at self.old.rows (exp - 5) i)) (λ i. IsFirstFree self.old.rows (exp - 5) i) }
         ensures kept { IsKept self.new }
     {
         let class = class_index(exp);
@@ -148,7 +156,8 @@ impl<S: Supply> Shelf<S> {
         requires least { LEAST_EXPONENT ≤ exp }
         requires most { exp ≤ GREATEST_EXPONENT }
         requires room { length self.old.held_ids < self.old.quota }
-        ensures added { self.new ≡ record (with_row self.old (exp - 5) (longer (per exp) (row_at self.old.rows (exp - 5)))) { held_ids = self.new.held_ids } }
+        ensures added { self.new ≡ record (with_row self.old (exp - 5)
+            (longer (per exp) (row_at self.old.rows (exp - 5)))) { held_ids = self.new.held_ids } }
         ensures kept { IsKept self.new }
     {
         let class = class_index(exp);
@@ -178,7 +187,8 @@ impl<S: Supply> Shelf<S> {
     fn ends_free(&self, exp: u8) -> bool
         requires least { LEAST_EXPONENT ≤ exp }
         requires most { exp ≤ GREATEST_EXPONENT }
-        ensures { MatchBool result (EndsFree self.now.rows (exp - 5) (per exp)) (IsTrimmed (per exp) (row_at self.now.rows (exp - 5))) }
+        ensures { MatchBool result (EndsFree self.now.rows (exp - 5) (per exp))
+            (IsTrimmed (per exp) (row_at self.now.rows (exp - 5))) }
     {
         let class = class_index(exp);
         let end = self.starts[class + 1];
@@ -220,7 +230,8 @@ impl<S: Supply> Shelf<S> {
     pub(crate) fn bytes(&self, exp: u8, index: u32) -> Option<&[u8]>
         requires least { LEAST_EXPONENT ≤ exp }
         requires most { exp ≤ GREATEST_EXPONENT }
-        ensures { MatchOption result (chunk_at self.now.rows (exp - 5) index ≡ None) (λ bytes. chunk_at self.now.rows (exp - 5) index ≡ Some bytes.now) }
+        ensures { MatchOption result (chunk_at self.now.rows (exp - 5) index ≡ None)
+            (λ bytes. chunk_at self.now.rows (exp - 5) index ≡ Some bytes.now) }
     {
         let Some(spot) = find(&self.starts, exp, index) else {
             return None;
@@ -244,7 +255,8 @@ impl<S: Supply> Shelf<S> {
     pub(crate) fn next_used(&self, exp: u8, from: u64) -> Option<u32>
         requires least { LEAST_EXPONENT ≤ exp }
         requires most { exp ≤ GREATEST_EXPONENT }
-        ensures { MatchOption result ((i : ℕ) → from ≤ i → chunk_at self.now.rows (exp - 5) i ≡ None) (λ i. IsNextUsed self.now.rows (exp - 5) from i) }
+        ensures { MatchOption result ((i : ℕ) → from ≤ i → chunk_at self.now.rows (exp - 5) i ≡ None)
+            (λ i. IsNextUsed self.now.rows (exp - 5) from i) }
     {
         let class = class_index(exp);
         let per = per_area(exp);
@@ -272,7 +284,8 @@ impl<S: Supply> Shelf<S> {
         requires least { LEAST_EXPONENT ≤ exp }
         requires most { exp ≤ GREATEST_EXPONENT }
         ensures used { result ≡ is_some (chunk_at self.old.rows (exp - 5) index) }
-        ensures freed { MatchBool result (self.new ≡ with_put self.old (exp - 5) index None false) (self.new ≡ self.old) }
+        ensures freed { MatchBool result (self.new ≡ with_put self.old (exp - 5) index None false)
+            (self.new ≡ self.old) }
         ensures kept { IsKept self.new }
     {
         let Some(spot) = find(&self.starts, exp, index) else {
@@ -293,7 +306,8 @@ impl<S: Supply> Shelf<S> {
         requires least { LEAST_EXPONENT ≤ exp }
         requires most { exp ≤ GREATEST_EXPONENT }
         requires within { FitsIn (chunk_at self.now.rows (exp - 5) index) (at + length out.old) }
-        ensures { MatchOption (chunk_at self.now.rows (exp - 5) index) ⊥ (λ bytes. out.new ≡ take (length out.old) (drop at bytes)) }
+        ensures { MatchOption (chunk_at self.now.rows (exp - 5) index) ⊥
+            (λ bytes. out.new ≡ take (length out.old) (drop at bytes)) }
     {
         let Some(spot) = find(&self.starts, exp, index) else {
             unreachable!();
@@ -309,7 +323,10 @@ impl<S: Supply> Shelf<S> {
         requires some { 0 < len }
         requires source { FitsIn (chunk_at self.old.rows (from.exp - 5) from.index) len }
         requires target { FitsIn (chunk_at self.old.rows (to.exp - 5) to.index) len }
-        ensures copied { MatchOption (chunk_at self.old.rows (from.exp - 5) from.index) ⊥ (λ source. MatchOption (chunk_at self.old.rows (to.exp - 5) to.index) ⊥ (λ old. self.new ≡ with_put self.old (to.exp - 5) to.index (Some (splice 0 (take len source) old)) true)) }
+        ensures copied { MatchOption (chunk_at self.old.rows (from.exp - 5) from.index) ⊥
+            (λ source. MatchOption (chunk_at self.old.rows (to.exp - 5) to.index) ⊥
+            (λ old. self.new ≡ with_put self.old (to.exp - 5) to.index
+            (Some (splice 0 (take len source) old)) true)) }
         ensures kept { IsKept self.new }
     {
         let Some(source) = find(&self.starts, from.exp, from.index) else {
@@ -327,7 +344,8 @@ impl<S: Supply> Shelf<S> {
         requires most { exp ≤ GREATEST_EXPONENT }
         requires some { 0 < length bytes.now }
         requires within { FitsIn (chunk_at self.old.rows (exp - 5) index) (at + length bytes.now) }
-        ensures written { MatchOption (chunk_at self.old.rows (exp - 5) index) ⊥ (λ old. self.new ≡ with_put self.old (exp - 5) index (Some (splice at bytes.now old)) true) }
+        ensures written { MatchOption (chunk_at self.old.rows (exp - 5) index) ⊥
+            (λ old. self.new ≡ with_put self.old (exp - 5) index (Some (splice at bytes.now old)) true) }
         ensures kept { IsKept self.new }
     {
         let Some(spot) = find(&self.starts, exp, index) else {
@@ -343,7 +361,9 @@ impl<S: Supply> Shelf<S> {
         requires most { exp ≤ GREATEST_EXPONENT }
         requires some { 0 < len }
         requires within { FitsIn (chunk_at self.old.rows (exp - 5) index) (at + len) }
-        ensures filled { MatchOption (chunk_at self.old.rows (exp - 5) index) ⊥ (λ old. self.new ≡ with_put self.old (exp - 5) index (Some (splice at (replicate len byte) old)) true) }
+        ensures filled { MatchOption (chunk_at self.old.rows (exp - 5) index) ⊥
+            (λ old. self.new ≡ with_put self.old (exp - 5) index
+            (Some (splice at (replicate len byte) old)) true) }
         ensures kept { IsKept self.new }
     {
         let Some(spot) = find(&self.starts, exp, index) else {
@@ -359,8 +379,10 @@ impl<S: Supply> Shelf<S> {
         requires most { exp ≤ GREATEST_EXPONENT }
         requires version { self.old.version ≡ Two }
         requires sized { IsSizeOf Two exp len }
-        requires another { MatchOption (chunk_at self.old.rows (exp - 5) index) ⊥ (λ old. length old ≡ len → ⊥) }
-        ensures resized { MatchOption (chunk_at self.old.rows (exp - 5) index) ⊥ (λ old. self.new ≡ with_put self.old (exp - 5) index (Some (fitted len old)) true) }
+        requires another { MatchOption (chunk_at self.old.rows (exp - 5) index) ⊥
+            (λ old. length old ≡ len → ⊥) }
+        ensures resized { MatchOption (chunk_at self.old.rows (exp - 5) index) ⊥
+            (λ old. self.new ≡ with_put self.old (exp - 5) index (Some (fitted len old)) true) }
         ensures kept { IsKept self.new }
     {
         let Some(spot) = find(&self.starts, exp, index) else {
@@ -375,8 +397,10 @@ impl<S: Supply> Shelf<S> {
         requires least { LEAST_EXPONENT ≤ exp }
         requires most { exp ≤ GREATEST_EXPONENT }
         requires body { IsBody self.old.version exp packed.now body.now }
-        ensures loaded { (f : ℕ → List ℕ) → IsBodyOf self.old.version exp packed.now body.now f → IsLoadedArea self.old.rows self.new.rows (exp - 5) ordinal packed.now f }
-        ensures long { (d : ℕ) → length (row_at self.new.rows d).chunks ≡ length (row_at self.old.rows d).chunks }
+        ensures loaded { (f : ℕ → List ℕ) → IsBodyOf self.old.version exp packed.now body.now f
+            → IsLoadedArea self.old.rows self.new.rows (exp - 5) ordinal packed.now f }
+        ensures long { (d : ℕ) → length (row_at self.new.rows d).chunks
+            ≡ length (row_at self.old.rows d).chunks }
         ensures same { self.new ≡ record self.old { rows = self.new.rows } }
         ensures kept { IsKept self.new }
     {
@@ -407,8 +431,10 @@ impl<S: Supply> Shelf<S> {
         requires area { ordinal * per exp < length (row_at self.old.rows (exp - 5)).chunks }
         requires len { length use_bytes.now ≡ max 1 (per exp / 8) }
         requires below { (i : ℕ) → IsSet (bits_of_bytes use_bytes.now) i → i < per exp }
-        ensures shaped { IsChangedArea self.old.rows self.new.rows (exp - 5) ordinal (λ i old new. IsReshaped (bit_in (bits_of_bytes use_bytes.now) i) old new) }
-        ensures long { (d : ℕ) → length (row_at self.new.rows d).chunks ≡ length (row_at self.old.rows d).chunks }
+        ensures shaped { IsChangedArea self.old.rows self.new.rows (exp - 5) ordinal
+            (λ i old new. IsReshaped (bit_in (bits_of_bytes use_bytes.now) i) old new) }
+        ensures long { (d : ℕ) → length (row_at self.new.rows d).chunks
+            ≡ length (row_at self.old.rows d).chunks }
         ensures same { self.new ≡ record self.old { rows = self.new.rows } }
         ensures kept { IsKept self.new }
     {
@@ -423,8 +449,10 @@ impl<S: Supply> Shelf<S> {
     pub(crate) fn mark_area(&mut self, exp: u8, ordinal: u32, packed: &Bits)
         requires least { LEAST_EXPONENT ≤ exp }
         requires most { exp ≤ GREATEST_EXPONENT }
-        ensures marked { IsChangedArea self.old.rows self.new.rows (exp - 5) ordinal (λ i old new. new ≡ marked (bit_in packed.now i) old) }
-        ensures long { (d : ℕ) → length (row_at self.new.rows d).chunks ≡ length (row_at self.old.rows d).chunks }
+        ensures marked { IsChangedArea self.old.rows self.new.rows (exp - 5) ordinal
+            (λ i old new. new ≡ marked (bit_in packed.now i) old) }
+        ensures long { (d : ℕ) → length (row_at self.new.rows d).chunks
+            ≡ length (row_at self.old.rows d).chunks }
         ensures same { self.new ≡ record self.old { rows = self.new.rows } }
         ensures kept { IsKept self.new }
     {
@@ -443,8 +471,11 @@ impl<S: Supply> Shelf<S> {
         requires least { LEAST_EXPONENT ≤ exp }
         requires most { exp ≤ GREATEST_EXPONENT }
         requires body { IsBody self.old.version exp packed.now body.now }
-        ensures fetched { (f : ℕ → List ℕ) → IsBodyOf self.old.version exp packed.now body.now f → IsChangedArea self.old.rows self.new.rows (exp - 5) ordinal (λ i old new. new ≡ fetched (packed_at packed.now f i) old) }
-        ensures long { (d : ℕ) → length (row_at self.new.rows d).chunks ≡ length (row_at self.old.rows d).chunks }
+        ensures fetched { (f : ℕ → List ℕ) → IsBodyOf self.old.version exp packed.now body.now f
+            → IsChangedArea self.old.rows self.new.rows (exp - 5) ordinal (λ i old new.
+            new ≡ fetched (packed_at packed.now f i) old) }
+        ensures long { (d : ℕ) → length (row_at self.new.rows d).chunks
+            ≡ length (row_at self.old.rows d).chunks }
         ensures same { self.new ≡ record self.old { rows = self.new.rows } }
         ensures kept { IsKept self.new }
     {
@@ -463,9 +494,12 @@ impl<S: Supply> Shelf<S> {
         requires most { exp ≤ GREATEST_EXPONENT }
         requires some { per exp ≤ length (row_at self.old.rows (exp - 5)).chunks }
         requires kept { IsKept self.old }
-        ensures fewer { length (row_at self.new.rows (exp - 5)).chunks + per exp ≡ length (row_at self.old.rows (exp - 5)).chunks }
-        ensures others { (d : ℕ) → (d ≡ exp - 5 → ⊥) → length (row_at self.new.rows d).chunks ≡ length (row_at self.old.rows d).chunks }
-        ensures rows { (d i : ℕ) → (d ≡ exp - 5 → i < length (row_at self.new.rows d).chunks) → row_chunk self.new.rows d i ≡ row_chunk self.old.rows d i }
+        ensures fewer { length (row_at self.new.rows (exp - 5)).chunks + per exp
+            ≡ length (row_at self.old.rows (exp - 5)).chunks }
+        ensures others { (d : ℕ) → (d ≡ exp - 5 → ⊥)
+            → length (row_at self.new.rows d).chunks ≡ length (row_at self.old.rows d).chunks }
+        ensures rows { (d i : ℕ) → (d ≡ exp - 5 → i < length (row_at self.new.rows d).chunks)
+            → row_chunk self.new.rows d i ≡ row_chunk self.old.rows d i }
         ensures keeps { Keeps self.old self.new }
         ensures kept { IsKept self.new }
     {

@@ -52,7 +52,8 @@ pub(crate) fn find(starts: &[u32; 13], exp: u8, index: u32) -> Option<Spot>
 pub(crate) fn mark_full(full: &mut Vec<Bits>, class: usize, ordinal: u32, is_full: bool)
     requires class { class < length full.old.items }
     requires ordinal { ordinal < MOST_CHUNKS }
-    ensures { full.new.items ≡ (if is_full then slice_set full.old.items class (slice_set (marks_of_class full.old.items class) ordinal true) else full.old.items) }
+    ensures { full.new.items ≡ (if is_full then slice_set full.old.items class
+        (slice_set (marks_of_class full.old.items class) ordinal true) else full.old.items) }
 {
     if is_full {
         let marks = &mut full[class];
@@ -64,7 +65,8 @@ pub(crate) fn mark_full(full: &mut Vec<Bits>, class: usize, ordinal: u32, is_ful
 pub(crate) fn set_mark(full: &mut Vec<Bits>, class: usize, ordinal: u32, is_full: bool)
     requires class { class < length full.old.items }
     requires ordinal { ordinal < MOST_CHUNKS }
-    ensures { full.new.items ≡ slice_set full.old.items class (slice_set (marks_of_class full.old.items class) ordinal is_full) }
+    ensures { full.new.items ≡ slice_set full.old.items class
+        (slice_set (marks_of_class full.old.items class) ordinal is_full) }
 {
     let marks = &mut full[class];
     if is_full {

@@ -62,7 +62,8 @@ pub struct StdSink<W> {
 impl<W: Write> StdSink<W> {
     /// A sink over this writer, with no fault so far.
     pub fn new(writer: W) -> StdSink<W>
-        ensures { ⟦<StdSink<W> as Sink>⟧.output result ≡ record { written = W.contents writer; flushed = None; faults = 0 } }
+        ensures { ⟦<StdSink<W> as Sink>⟧.output result
+            ≡ record { written = W.contents writer; flushed = None; faults = 0 } }
     {
         StdSink {
             writer,

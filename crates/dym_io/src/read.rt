@@ -50,7 +50,8 @@ pub fn read_whole<R: Source>(
     requires { R.goes_on source.old }
     ensures taken { IfOk result (λ bytes. Consumes (R.left source.old) (R.left source.new) bytes.items) }
     ensures within { IfOk result (λ bytes. length bytes.items ≤ limit) }
-    ensures ended { IfOk result (λ bytes. IsEndOrLimit limit (R.left source.old) (R.left source.new) bytes.items) }
+    ensures ended { IfOk result (λ bytes.
+        IsEndOrLimit limit (R.left source.old) (R.left source.new) bytes.items) }
     ensures bounded { TookAtMost limit (R.left source.old) (R.left source.new) }
     ensures failed { IsErrOf result ReadFail.Source → RoseOnce (R.faults source.old) (R.faults source.new) }
     ensures count { ¬ IsErrOf result ReadFail.Source → R.faults source.new ≡ R.faults source.old }

@@ -85,10 +85,13 @@ impl<S: Supply> LateHeap<S> {
         ensures back { IfEarly result (λ b c. (b ≡ self.old.bound) × (c ≡ command)) }
         ensures unchanged { IsEarly result → self.new ≡ self.old }
         ensures broken { self.new.broken ≡ true ↔ IsMemory result }
-        ensures events { OnOk result (self.new.events ≡ self.old.events ++ record { time = time; command = command } ∷ []) }
+        ensures events { OnOk result (self.new.events
+            ≡ self.old.events ++ record { time = time; command = command } ∷ []) }
         ensures placed { IfOk result (λ placed. placed.at ≡ events_to time self.old.events) }
-        ensures replayed { IfOk result (λ placed. placed.replayed ≡ replayed_by (length self.old.events) (events_to time self.old.events)) }
-        ensures applied { IfOk result (λ placed. self.new.heap.applied ≡ self.old.heap.applied + placed.replayed) }
+        ensures replayed { IfOk result (λ placed.
+            placed.replayed ≡ replayed_by (length self.old.events) (events_to time self.old.events)) }
+        ensures applied { IfOk result (λ placed.
+            self.new.heap.applied ≡ self.old.heap.applied + placed.replayed) }
         ensures late { OnOk result (IsLate self.new) }
         ensures bound { self.new.bound ≡ self.old.bound }
         ensures quota { self.new.heap.quota ≡ self.old.heap.quota }
@@ -112,7 +115,8 @@ impl<S: Supply> LateHeap<S> {
     pub fn commit(&mut self, time: u64) -> u32
         requires { self.old.broken ≡ false }
         ensures after { self.new ≡ record self.old { bound = max self.old.bound time } }
-        ensures dropped { result + oldest_mark self.old.bound self.old.events ≡ oldest_mark self.new.bound self.old.events }
+        ensures dropped { result + oldest_mark self.old.bound self.old.events
+            ≡ oldest_mark self.new.bound self.old.events }
         ensures late { IsLate self.new }
     {
         self.timeline.commit(time)

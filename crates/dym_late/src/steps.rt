@@ -38,7 +38,8 @@ pub(crate) fn run_event<S: Supply>(heap: &mut Heap<S>, way: &S::Way, event: &mut
     requires applied { heap.old.applied < COUNT_LIMIT }
     requires command { IsEventCommand event.old.command }
     ensures event { event.new ≡ record event.old { reply = (step_of heap.old event.old.command).reply } }
-    ensures after { heap.new ≡ record (stepped (counted heap.old) event.old.command) { held_ids = heap.new.held_ids } }
+    ensures after { heap.new ≡ record (stepped
+        (counted heap.old) event.old.command) { held_ids = heap.new.held_ids } }
     ensures sound { IsSound heap.new }
 {
     event.reply = heap.apply(way, &event.command);
@@ -61,7 +62,8 @@ pub(crate) fn take_log<S: Supply>(
     ensures live { heap.new.state.live ≡ heap.old.state.live }
     ensures touched { OnOk result (heap.new.state.touched ≡ FinSet.empty) }
     ensures heap { heap.new ≡ record heap.old { state = heap.new.state } }
-    ensures logs { OnOk result (chain.new.logs ≡ chain.old.logs ++ Objects.new_entry (object_of heap.old.state chain.old) position kind ∷ []) }
+    ensures logs { OnOk result (chain.new.logs
+        ≡ chain.old.logs ++ Objects.new_entry (object_of heap.old.state chain.old) position kind ∷ []) }
     ensures made { chain.new.made ≤ chain.old.made + 1 }
     ensures belongs { Belongs heap.new.version heap.new.quota heap.new.state chain.new }
     ensures idle { chain.new.lifted ≡ None }
@@ -86,10 +88,13 @@ pub(crate) fn log_if_due<S: Supply>(
     requires made { chain.old.made < COUNT_LIMIT }
     requires idle { chain.old.lifted ≡ None }
     requires room { IsMark position → length chain.old.logs < 256 }
-    requires later { IsMark position → (log : LogEntry) → newest chain.old.logs ≡ Some log → log.time < position }
+    requires later { IsMark position → (log : LogEntry) → newest chain.old.logs ≡ Some log
+        → log.time < position }
     ensures live { heap.new.state.live ≡ heap.old.state.live }
     ensures heap { heap.new ≡ record heap.old { state = heap.new.state } }
-    ensures logs { OnOk result (IsMark position → chain.new.logs ≡ chain.old.logs ++ Objects.new_entry (object_of heap.old.state chain.old) position Inc ∷ []) }
+    ensures logs { OnOk result (IsMark position
+        → chain.new.logs ≡ chain.old.logs
+        ++ Objects.new_entry (object_of heap.old.state chain.old) position Inc ∷ []) }
     ensures none { (IsMark position → ⊥) → chain.new.logs ≡ chain.old.logs }
     ensures made { chain.new.made ≤ chain.old.made + 1 }
     ensures belongs { Belongs heap.new.version heap.new.quota heap.new.state chain.new }
@@ -108,7 +113,8 @@ fn rewind<S: Supply>(way: &S::Way, heap: &mut Heap<S>, chain: &mut Chain<VecKeep
     requires sound { IsSound heap.old }
     requires idle { chain.old.lifted ≡ None }
     requires reached { 0 < Objects.reached position chain.old.logs }
-    ensures after { object_of heap.new.state chain.new ≡ (Objects.restore (object_of heap.old.state chain.old) position).object }
+    ensures after { object_of heap.new.state chain.new
+        ≡ (Objects.restore (object_of heap.old.state chain.old) position).object }
     ensures chain { chain.new ≡ record chain.old { logs = chain.new.logs; records = chain.new.records } }
     ensures heap { heap.new ≡ record heap.old { state = heap.new.state; held_ids = heap.new.held_ids } }
     ensures belongs { Belongs heap.new.version heap.new.quota heap.new.state chain.new }
@@ -134,7 +140,8 @@ pub(crate) fn make_way<S: Supply>(
     requires idle { chain.old.lifted ≡ None }
     requires reached { place < count → 0 < Objects.reached (log_before place) chain.old.logs }
     ensures start { result ≡ start_of count place }
-    ensures ahead { place < count → object_of heap.new.state chain.new ≡ (Objects.restore (object_of heap.old.state chain.old) (log_before place)).object }
+    ensures ahead { place < count → object_of heap.new.state chain.new
+        ≡ (Objects.restore (object_of heap.old.state chain.old) (log_before place)).object }
     ensures last { count ≤ place → (heap.new.state ≡ heap.old.state) × (chain.new.logs ≡ chain.old.logs) }
     ensures chain { chain.new ≡ record chain.old { logs = chain.new.logs; records = chain.new.records } }
     ensures heap { heap.new ≡ record heap.old { state = heap.new.state; held_ids = heap.new.held_ids } }

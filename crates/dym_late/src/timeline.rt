@@ -115,10 +115,15 @@ impl<S: Supply> Timeline<S> {
         requires time { self.old.bound ≤ time }
         requires command { IsEventCommand command }
         ensures whole { OnOk result (IsWhole self.new.bound self.new.events.items self.new.order.items self.new.heap self.new.chain) }
-        ensures events { OnOk result (late_events self.new.events.items ≡ late_events self.old.events.items ++ record { time = time; command = command } ∷ []) }
-        ensures placed { IfOk result (λ placed. placed.at ≡ events_to time (late_events self.old.events.items)) }
-        ensures replayed { IfOk result (λ placed. placed.replayed ≡ replayed_by (length self.old.events.items) (events_to time (late_events self.old.events.items))) }
-        ensures applied { IfOk result (λ placed. self.new.heap.applied ≡ self.old.heap.applied + placed.replayed) }
+        ensures events { OnOk result (late_events self.new.events.items
+            ≡ late_events self.old.events.items ++ record { time = time; command = command } ∷ []) }
+        ensures placed { IfOk result (λ placed.
+            placed.at ≡ events_to time (late_events self.old.events.items)) }
+        ensures replayed { IfOk result (λ placed.
+            placed.replayed ≡ replayed_by (length self.old.events.items) (events_to time
+            (late_events self.old.events.items))) }
+        ensures applied { IfOk result (λ placed.
+            self.new.heap.applied ≡ self.old.heap.applied + placed.replayed) }
         ensures bound { self.new.bound ≡ self.old.bound }
         ensures quota { self.new.heap.quota ≡ self.old.heap.quota }
         ensures origin { self.new.heap.origin ≡ self.old.heap.origin }
@@ -148,7 +153,8 @@ impl<S: Supply> Timeline<S> {
         ensures bound { self.new.bound ≡ max self.old.bound time }
         ensures heap { self.new.heap ≡ self.old.heap }
         ensures events { self.new.events.items ≡ self.old.events.items }
-        ensures dropped { result + oldest_mark self.old.bound (late_events self.old.events.items) ≡ oldest_mark self.new.bound (late_events self.old.events.items) }
+        ensures dropped { result + oldest_mark self.old.bound (late_events self.old.events.items)
+            ≡ oldest_mark self.new.bound (late_events self.old.events.items) }
     {
         self.bound = self.bound.max(time);
         let position = count_before(&self.events, &self.order, self.bound);
@@ -170,7 +176,8 @@ impl<S: Supply> Timeline<S> {
         ensures events { late_events self.new.events.items ≡ late_events self.old.events.items }
         ensures order { self.new.order ≡ self.old.order }
         ensures bound { self.new.bound ≡ self.old.bound }
-        ensures applied { OnOk result (self.new.heap.applied + start ≡ self.old.heap.applied + length self.old.events.items) }
+        ensures applied { OnOk result (self.new.heap.applied + start
+            ≡ self.old.heap.applied + length self.old.events.items) }
         ensures made { OnOk result (self.new.chain.made + start ≤ self.old.chain.made + length self.old.events.items) }
         ensures quota { self.new.heap.quota ≡ self.old.heap.quota }
         ensures origin { self.new.heap.origin ≡ self.old.heap.origin }

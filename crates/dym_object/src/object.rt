@@ -48,7 +48,25 @@ impl<S: Supply, K: LogKeep> Object<S, K> {
         requires empty { (K.meaning keep).records ≡ [] }
         requires made { (K.meaning keep).made ≡ 0 }
         requires idle { (K.meaning keep).lifted ≡ None }
-        ensures opened { IfOk result (λ o. o ≡ record { heap = record { version = One; quota = S.quota_of supply; state = empty_heap; held_ids = []; origin = S.origin supply; applied = 0 }; chain = record { below = []; logs = []; records = []; made = 0; lifted = None; origin = (K.meaning keep).origin }; ran = 0 }) }
+        ensures opened { IfOk result (λ o. o ≡ record {
+          heap = record {
+            version = One;
+            quota = S.quota_of supply;
+            state = empty_heap;
+            held_ids = [];
+            origin = S.origin supply;
+            applied = 0;
+          };
+          chain = record {
+            below = [];
+            logs = [];
+            records = [];
+            made = 0;
+            lifted = None;
+            origin = (K.meaning keep).origin;
+          };
+          ran = 0;
+        }) }
         ensures whole { IfOk result IsWhole }
         ensures supply { IfErr result (λ e. e.1 ≡ supply) }
         ensures keep { IfErr result (λ e. K.meaning e.2 ≡ K.meaning keep) }
@@ -69,7 +87,25 @@ impl<S: Supply, K: LogKeep> Object<S, K> {
         requires empty { (K.meaning keep).records ≡ [] }
         requires made { (K.meaning keep).made ≡ 0 }
         requires idle { (K.meaning keep).lifted ≡ None }
-        ensures opened { IfOk result (λ o. o ≡ record { heap = record { version = version; quota = S.quota_of supply; state = empty_heap; held_ids = []; origin = S.origin supply; applied = 0 }; chain = record { below = []; logs = []; records = []; made = 0; lifted = None; origin = (K.meaning keep).origin }; ran = 0 }) }
+        ensures opened { IfOk result (λ o. o ≡ record {
+          heap = record {
+            version = version;
+            quota = S.quota_of supply;
+            state = empty_heap;
+            held_ids = [];
+            origin = S.origin supply;
+            applied = 0;
+          };
+          chain = record {
+            below = [];
+            logs = [];
+            records = [];
+            made = 0;
+            lifted = None;
+            origin = (K.meaning keep).origin;
+          };
+          ran = 0;
+        }) }
         ensures whole { IfOk result IsWhole }
         ensures supply { IfErr result (λ e. e.1 ≡ supply) }
         ensures keep { IfErr result (λ e. K.meaning e.2 ≡ K.meaning keep) }
@@ -147,7 +183,12 @@ impl<S: Supply, K: LogKeep> Object<S, K> {
     /// Gives up the object, and answers its heap as it stands and the keep of its records.
     pub fn split(self) -> (Heap<S>, K)
         ensures heap { result.0 ≡ self.heap }
-        ensures keep { K.meaning result.1 ≡ record { records = self.chain.records; made = self.chain.made; lifted = None; origin = self.chain.origin } }
+        ensures keep { K.meaning result.1 ≡ record {
+          records = self.chain.records;
+          made = self.chain.made;
+          lifted = None;
+          origin = self.chain.origin;
+        } }
         ensures slots { length self.chain.records ≡ Objects.slots self.chain.logs }
         ensures whole { IsWhole self }
     {
@@ -164,7 +205,12 @@ impl<S: Supply, K: LogKeep> Object<S, K> {
         ensures nothing_held { S.held_ids result.0 ≡ [] }
         ensures quota { S.quota_of result.0 ≡ self.heap.quota }
         ensures supply_origin { S.origin result.0 ≡ self.heap.origin }
-        ensures keep { K.meaning result.1 ≡ record { records = self.chain.records; made = self.chain.made; lifted = None; origin = self.chain.origin } }
+        ensures keep { K.meaning result.1 ≡ record {
+          records = self.chain.records;
+          made = self.chain.made;
+          lifted = None;
+          origin = self.chain.origin;
+        } }
         ensures slots { length self.chain.records ≡ Objects.slots self.chain.logs }
         ensures whole { IsWhole self }
     {

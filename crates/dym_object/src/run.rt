@@ -29,12 +29,16 @@ impl<S: Supply, K: LogKeep> Object<S, K> {
         requires ran { self.old.ran < COUNT_LIMIT }
         ensures reply { IfOk result (λ r. r ≡ (step_by self.old command.now).reply) }
         ensures after { OnOk result (state_of self.new ≡ (step_by self.old command.now).object) }
-        ensures below { OnOk result (self.new.chain.below ≡ below_step self.old.chain.below (state_of self.old) command.now) }
+        ensures below { OnOk result (self.new.chain.below
+            ≡ below_step self.old.chain.below (state_of self.old) command.now) }
         ensures ran { OnOk result (self.new.ran ≡ self.old.ran + 1) }
         ensures memory { IfErr result (λ _. TakesMemory command.now (step_by self.old command.now).reply) }
         ensures unchanged { OnErr result (self.new ≡ self.old) }
         ensures refused { IfOk result (λ r. OnRefusal r (self.new ≡ counted self.old)) }
-        ensures heap { self.new.heap ≡ record self.old.heap { state = self.new.heap.state; held_ids = self.new.heap.held_ids } }
+        ensures heap { self.new.heap ≡ record self.old.heap {
+          state = self.new.heap.state;
+          held_ids = self.new.heap.held_ids;
+        } }
         ensures origin { self.new.chain.origin ≡ self.old.chain.origin }
         ensures whole { IsWhole self.new }
     {
@@ -56,13 +60,17 @@ impl<S: Supply, K: LogKeep> Object<S, K> {
         requires ran { self.old.ran < COUNT_LIMIT }
         ensures reply { OnOk result (reply.new ≡ (step_by self.old command.now).reply) }
         ensures after { OnOk result (state_of self.new ≡ (step_by self.old command.now).object) }
-        ensures below { OnOk result (self.new.chain.below ≡ below_step self.old.chain.below (state_of self.old) command.now) }
+        ensures below { OnOk result (self.new.chain.below
+            ≡ below_step self.old.chain.below (state_of self.old) command.now) }
         ensures ran { OnOk result (self.new.ran ≡ self.old.ran + 1) }
         ensures memory { IfErr result (λ _. TakesMemory command.now (step_by self.old command.now).reply) }
         ensures unchanged { OnErr result (self.new ≡ self.old) }
         ensures kept { OnErr result (reply.new ≡ reply.old) }
         ensures refused { OnOk result (OnRefusal reply.new (self.new ≡ counted self.old)) }
-        ensures heap { self.new.heap ≡ record self.old.heap { state = self.new.heap.state; held_ids = self.new.heap.held_ids } }
+        ensures heap { self.new.heap ≡ record self.old.heap {
+          state = self.new.heap.state;
+          held_ids = self.new.heap.held_ids;
+        } }
         ensures origin { self.new.chain.origin ≡ self.old.chain.origin }
         ensures whole { IsWhole self.new }
     {
@@ -117,13 +125,18 @@ impl<S: Supply, K: LogKeep> Object<S, K> {
         requires { self.old.ran < COUNT_LIMIT }
         ensures reply { OnOk result (reply.new ≡ (step_by self.old (Read h at len)).reply) }
         ensures after { OnOk result (state_of self.new ≡ (step_by self.old (Read h at len)).object) }
-        ensures below { OnOk result (self.new.chain.below ≡ below_step self.old.chain.below (state_of self.old) (Read h at len)) }
+        ensures below { OnOk result (self.new.chain.below
+            ≡ below_step self.old.chain.below (state_of self.old) (Read h at len)) }
         ensures ran { OnOk result (self.new.ran ≡ self.old.ran + 1) }
-        ensures memory { IfErr result (λ _. TakesMemory (Read h at len) (step_by self.old (Read h at len)).reply) }
+        ensures memory { IfErr result (λ _. TakesMemory (Read h at len)
+            (step_by self.old (Read h at len)).reply) }
         ensures unchanged { OnErr result (self.new ≡ self.old) }
         ensures kept { OnErr result (reply.new ≡ reply.old) }
         ensures refused { OnOk result (OnRefusal reply.new (self.new ≡ counted self.old)) }
-        ensures heap { self.new.heap ≡ record self.old.heap { state = self.new.heap.state; held_ids = self.new.heap.held_ids } }
+        ensures heap { self.new.heap ≡ record self.old.heap {
+          state = self.new.heap.state;
+          held_ids = self.new.heap.held_ids;
+        } }
         ensures origin { self.new.chain.origin ≡ self.old.chain.origin }
         ensures whole { IsWhole self.new }
     {
@@ -155,11 +168,16 @@ impl<S: Supply, K: LogKeep> Object<S, K> {
         requires { self.old.ran < COUNT_LIMIT }
         ensures reply { OnOk result (reply.new ≡ (step_by self.old (log_command want time)).reply) }
         ensures after { OnOk result (state_of self.new ≡ (step_by self.old (log_command want time)).object) }
-        ensures below { OnOk result (self.new.chain.below ≡ below_step self.old.chain.below (state_of self.old) (log_command want time)) }
+        ensures below { OnOk result (self.new.chain.below
+            ≡ below_step self.old.chain.below (state_of self.old) (log_command want time)) }
         ensures ran { OnOk result (self.new.ran ≡ self.old.ran + 1) }
-        ensures heap { self.new.heap ≡ record self.old.heap { state = self.new.heap.state; held_ids = self.new.heap.held_ids } }
+        ensures heap { self.new.heap ≡ record self.old.heap {
+          state = self.new.heap.state;
+          held_ids = self.new.heap.held_ids;
+        } }
         ensures origin { self.new.chain.origin ≡ self.old.chain.origin }
-        ensures memory { IfErr result (λ _. TakesMemory (log_command want time) (step_by self.old (log_command want time)).reply) }
+        ensures memory { IfErr result (λ _. TakesMemory (log_command want time)
+            (step_by self.old (log_command want time)).reply) }
         ensures unchanged { OnErr result (self.new ≡ self.old) }
         ensures kept { OnErr result (reply.new ≡ reply.old) }
         ensures refused { OnOk result (OnRefusal reply.new (self.new ≡ counted self.old)) }

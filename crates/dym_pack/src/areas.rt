@@ -75,6 +75,7 @@ pub trait Areas {
         requires version { (meaning self.now).version ≡ One }
         requires area { k < held (meaning self.now).live }
         requires chunks { from + count ≤ chunks_of (meaning self.now).live k }
-        requires used { (i : ℕ) → from ≤ i → i < from + count → is_used_at (meaning self.now).live k i ≡ true }
+        requires used { (i : ℕ) → from ≤ i → i < from + count
+            → is_used_at (meaning self.now).live k i ≡ true }
         ensures { result.now ≡ flat_map (bytes_at (meaning self.now).live k) (range_with_len from count) };
 }

@@ -20,7 +20,9 @@ use std::alloc::AllocError;
 /// Which chunks of an area a log of this kind packs.
 fn bits_to_pack<A: Areas>(areas: &A, kind: Kind, k: u32) -> &Bits
     requires { k < held (A.meaning areas.now).live }
-    ensures { (i : ℕ) → bit_in result.now i ≡ (nat_lt i (chunks_of (A.meaning areas.now).live k) && packs_at (logged (A.meaning areas.now) kind 0) k i) }
+    ensures { (i : ℕ) → bit_in result.now i
+        ≡ (nat_lt i (chunks_of (A.meaning areas.now).live k) && packs_at
+        (logged (A.meaning areas.now) kind 0) k i) }
 {
     match kind {
         Kind::Full => areas.used_bits(k),
@@ -40,7 +42,8 @@ fn chunk_count<A: Areas>(areas: &A, k: u32) -> u32
 pub(crate) fn area_len<A: Areas>(areas: &A, kind: Kind, k: u32) -> u32
     requires packable { IsPackable (A.meaning areas.now) }
     requires area { k < held (A.meaning areas.now).live }
-    ensures value { result ≡ length (area_bytes (logged (A.meaning areas.now) kind 0) (area_at (A.meaning areas.now).live k)) }
+    ensures value { result ≡ length (area_bytes (logged (A.meaning areas.now) kind 0)
+        (area_at (A.meaning areas.now).live k)) }
     ensures few { result ≤ 131072 }
 {
     let exp = areas.area_exp(k);
@@ -81,7 +84,9 @@ fn chunks_len<A: Areas>(areas: &A, kind: Kind, k: u32, bits: &Bits) -> u32
     requires packable { IsPackable (A.meaning areas.now) }
     requires area { k < held (A.meaning areas.now).live }
     requires version { (A.meaning areas.now).version ≡ Two }
-    requires bits { (i : ℕ) → bit_in bits.now i ≡ (nat_lt i (chunks_of (A.meaning areas.now).live k) && packs_at (logged (A.meaning areas.now) kind 0) k i) }
+    requires bits { (i : ℕ) → bit_in bits.now i
+        ≡ (nat_lt i (chunks_of (A.meaning areas.now).live k) && packs_at
+        (logged (A.meaning areas.now) kind 0) k i) }
     ensures { result ≡ length (body_from (logged (A.meaning areas.now) kind 0) k 0) }
 {
     let chunks = chunk_count(areas, k);
@@ -103,7 +108,9 @@ pub(crate) fn put_area<A: Areas>(
 ) -> Result<(), AllocError>
     requires packable { IsPackable (A.meaning areas.now) }
     requires area { k < held (A.meaning areas.now).live }
-    ensures { OnOk result (out.new.items ≡ out.old.items ++ area_bytes (logged (A.meaning areas.now) kind 0) (area_at (A.meaning areas.now).live k)) }
+    ensures { OnOk result (out.new.items
+        ≡ out.old.items ++ area_bytes (logged (A.meaning areas.now) kind 0) (area_at
+        (A.meaning areas.now).live k)) }
 {
     put_head(areas, kind, k, out)?;
     put_body(areas, kind, k, out)
@@ -113,7 +120,8 @@ pub(crate) fn put_area<A: Areas>(
 fn put_body<A: Areas>(areas: &A, kind: Kind, k: u32, out: &mut Vec<u8>) -> Result<(), AllocError>
     requires packable { IsPackable (A.meaning areas.now) }
     requires area { k < held (A.meaning areas.now).live }
-    ensures { OnOk result (out.new.items ≡ out.old.items ++ body_from (logged (A.meaning areas.now) kind 0) k 0) }
+    ensures { OnOk result (out.new.items
+        ≡ out.old.items ++ body_from (logged (A.meaning areas.now) kind 0) k 0) }
 {
     let bits = bits_to_pack(areas, kind, k);
     match areas.version() {
@@ -125,7 +133,8 @@ fn put_body<A: Areas>(areas: &A, kind: Kind, k: u32, out: &mut Vec<u8>) -> Resul
 /// Appends what stands before the packed chunks of an area.
 fn put_head<A: Areas>(areas: &A, kind: Kind, k: u32, out: &mut Vec<u8>) -> Result<(), AllocError>
     requires { k < held (A.meaning areas.now).live }
-    ensures { OnOk result (out.new.items ≡ out.old.items ++ area_head (logged (A.meaning areas.now) kind 0) k) }
+    ensures { OnOk result (out.new.items
+        ≡ out.old.items ++ area_head (logged (A.meaning areas.now) kind 0) k) }
 {
     let exp = areas.area_exp(k);
     let map = map_bytes(exp) as usize;
@@ -140,7 +149,9 @@ fn put_head<A: Areas>(areas: &A, kind: Kind, k: u32, out: &mut Vec<u8>) -> Resul
 /// Appends a bitmap of `map` bytes.
 fn put_bits(bits: &Bits, map: usize, out: &mut Vec<u8>) -> Result<(), AllocError>
     requires { map ≤ 256 }
-    ensures { (n : ℕ) (is_set : ℕ → Bool) → map ≡ max 1 (n / 8) → ((i : ℕ) → bit_in bits.now i ≡ (nat_lt i n && is_set i)) → OnOk result (out.new.items ≡ out.old.items ++ bitmap n is_set) }
+    ensures { (n : ℕ) (is_set : ℕ → Bool) → map ≡ max 1 (n / 8)
+        → ((i : ℕ) → bit_in bits.now i ≡ (nat_lt i n && is_set i))
+        → OnOk result (out.new.items ≡ out.old.items ++ bitmap n is_set) }
 {
     out.extend_from_slice(&bits.bytes()[..map])
 }
@@ -156,8 +167,11 @@ fn put_runs<A: Areas>(
     requires packable { IsPackable (A.meaning areas.now) }
     requires area { k < held (A.meaning areas.now).live }
     requires version { (A.meaning areas.now).version ≡ One }
-    requires bits { (i : ℕ) → bit_in bits.now i ≡ (nat_lt i (chunks_of (A.meaning areas.now).live k) && packs_at (logged (A.meaning areas.now) kind 0) k i) }
-    ensures { OnOk result (out.new.items ≡ out.old.items ++ body_from (logged (A.meaning areas.now) kind 0) k 0) }
+    requires bits { (i : ℕ) → bit_in bits.now i
+        ≡ (nat_lt i (chunks_of (A.meaning areas.now).live k) && packs_at
+        (logged (A.meaning areas.now) kind 0) k i) }
+    ensures { OnOk result (out.new.items
+        ≡ out.old.items ++ body_from (logged (A.meaning areas.now) kind 0) k 0) }
 {
     let chunks = chunk_count(areas, k);
     let mut from = 0;
@@ -180,8 +194,11 @@ fn put_chunks<A: Areas>(
     requires packable { IsPackable (A.meaning areas.now) }
     requires area { k < held (A.meaning areas.now).live }
     requires version { (A.meaning areas.now).version ≡ Two }
-    requires bits { (i : ℕ) → bit_in bits.now i ≡ (nat_lt i (chunks_of (A.meaning areas.now).live k) && packs_at (logged (A.meaning areas.now) kind 0) k i) }
-    ensures { OnOk result (out.new.items ≡ out.old.items ++ body_from (logged (A.meaning areas.now) kind 0) k 0) }
+    requires bits { (i : ℕ) → bit_in bits.now i
+        ≡ (nat_lt i (chunks_of (A.meaning areas.now).live k) && packs_at
+        (logged (A.meaning areas.now) kind 0) k i) }
+    ensures { OnOk result (out.new.items
+        ≡ out.old.items ++ body_from (logged (A.meaning areas.now) kind 0) k 0) }
 {
     let chunks = chunk_count(areas, k);
     let mut from = 0;

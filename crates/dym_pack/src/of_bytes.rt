@@ -60,12 +60,14 @@ fn record_in(
     kind: Kind,
     count: u32,
 ) -> Result<Record, RecordFail>
-    requires head { (time : ℕ) × (time < 2 ^ 64) × (bytes.now ≡ head_bytes version kind time count ++ drop 13 bytes.now) }
+    requires head { (time : ℕ) × (time < 2 ^ 64)
+        × (bytes.now ≡ head_bytes version kind time count ++ drop 13 bytes.now) }
     requires long { 13 ≤ length bytes.now }
     requires few { count ≤ MOST_QUOTA }
     ensures same { IfOk result (λ rec. rec ≡ bytes.now) }
     ensures good { OnOk result (IsRecordOf version count bytes.now) }
-    ensures bad { IfErr result (λ why. why ≡ Bad → AreLeft version kind (drop 13 bytes.now) count 5 0 true → ⊥) }
+    ensures bad { IfErr result (λ why.
+        why ≡ Bad → AreLeft version kind (drop 13 bytes.now) count 5 0 true → ⊥) }
 {
     let Ok(mut starts) = SmallVec::with_capacity(alloc, count as usize + 1) else {
         return Err(RecordFail::Memory);
@@ -82,8 +84,13 @@ fn record_in(
 /// The kind and the number of areas that a record's header tells, and None where it isn't one of this version within this
 /// quota, or where the bytes behind it are too few for so many areas.
 fn header_in(bytes: &[u8], version: Version, quota: u32) -> Option<(Kind, u32)>
-    ensures is { IfSome result (λ head. (time : ℕ) × (time < 2 ^ 64) × (bytes.now ≡ head_bytes version head.0 time head.1 ++ drop 13 bytes.now) × (head.1 ≤ quota) × (head.1 ≤ MOST_QUOTA) × (13 ≤ length bytes.now)) }
-    ensures only { (kind : Kind) (time count : ℕ) → time < 2 ^ 64 → count ≤ quota → count ≤ MOST_QUOTA → 13 + 6 * count ≤ length bytes.now → bytes.now ≡ head_bytes version kind time count ++ drop 13 bytes.now → result ≡ Some (kind, count) }
+    ensures is { IfSome result (λ head.
+        (time : ℕ) × (time < 2 ^ 64)
+        × (bytes.now ≡ head_bytes version head.0 time head.1 ++ drop 13 bytes.now) × (head.1 ≤ quota)
+        × (head.1 ≤ MOST_QUOTA) × (13 ≤ length bytes.now)) }
+    ensures only { (kind : Kind) (time count : ℕ) → time < 2 ^ 64 → count ≤ quota → count ≤ MOST_QUOTA
+        → 13 + 6 * count ≤ length bytes.now
+        → bytes.now ≡ head_bytes version kind time count ++ drop 13 bytes.now → result ≡ Some (kind, count) }
 {
     if bytes.len() < HEADER_BYTES {
         return None;

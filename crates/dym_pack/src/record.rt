@@ -116,8 +116,11 @@ impl Record {
     /// The use bits of area `k` as they stand in the record.
     pub fn use_bytes(&self, k: u32) -> &[u8]
         requires { OfLog self.now (λ log. k < held log.copy) }
-        ensures is { OfLog self.now (λ log. result.now ≡ bitmap (chunks_of log.copy k) (is_used_at log.copy k)) }
-        ensures bits { OfLog self.now (λ log. (i : ℕ) → bit_in (bits_of_bytes result.now) i ≡ (nat_lt i (chunks_of log.copy k) && is_used_at log.copy k i)) }
+        ensures is { OfLog self.now (λ log.
+            result.now ≡ bitmap (chunks_of log.copy k) (is_used_at log.copy k)) }
+        ensures bits { OfLog self.now (λ log.
+            (i : ℕ) → bit_in (bits_of_bytes result.now) i
+            ≡ (nat_lt i (chunks_of log.copy k) && is_used_at log.copy k i)) }
     {
         self.use_map(k)
     }
@@ -125,7 +128,8 @@ impl Record {
     /// Which chunks of area `k` the record packs.
     pub fn packed_bits(&self, k: u32) -> Bits
         requires { OfLog self.now (λ log. k < held log.copy) }
-        ensures { OfLog self.now (λ log. (i : ℕ) → bit_in result i ≡ (nat_lt i (chunks_of log.copy k) && packs_at log k i)) }
+        ensures { OfLog self.now (λ log.
+            (i : ℕ) → bit_in result i ≡ (nat_lt i (chunks_of log.copy k) && packs_at log k i)) }
     {
         self.choice(k)
     }
@@ -143,7 +147,8 @@ impl Record {
     pub fn chunk(&self, k: u32, i: u32) -> Option<&[u8]>
         requires area { OfLog self.now (λ log. k < held log.copy) }
         requires chunk { OfLog self.now (λ log. i < chunks_of log.copy k) }
-        ensures { OfLog self.now (λ log. option_map (λ bytes. bytes.now) result ≡ packed_by log (chunk_number log.copy k i)) }
+        ensures { OfLog self.now (λ log.
+            option_map (λ bytes. bytes.now) result ≡ packed_by log (chunk_number log.copy k i)) }
     {
         let bits = self.choice(k);
         if bits.get(i) {
@@ -156,7 +161,8 @@ impl Record {
     /// Which chunks of area `k` the record packs.
     fn choice(&self, k: u32) -> Bits
         requires { OfLog self.now (λ log. k < held log.copy) }
-        ensures bits { OfLog self.now (λ log. (i : ℕ) → bit_in result i ≡ (nat_lt i (chunks_of log.copy k) && packs_at log k i)) }
+        ensures bits { OfLog self.now (λ log.
+            (i : ℕ) → bit_in result i ≡ (nat_lt i (chunks_of log.copy k) && packs_at log k i)) }
         ensures is { IsRecord self.now }
     {
         let _whole = self.whole();
@@ -237,7 +243,8 @@ impl Record {
     /// The use bits of area `k`.
     fn use_map(&self, k: u32) -> &[u8]
         requires { OfLog self.now (λ log. k < held log.copy) }
-        ensures is { OfLog self.now (λ log. result.now ≡ bitmap (chunks_of log.copy k) (is_used_at log.copy k)) }
+        ensures is { OfLog self.now (λ log.
+            result.now ≡ bitmap (chunks_of log.copy k) (is_used_at log.copy k)) }
         ensures few { length result.now ≤ 256 }
     {
         let bytes = self.whole();

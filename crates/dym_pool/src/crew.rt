@@ -106,7 +106,8 @@ fn run_staff<R: Threads + Wait + Send + Sync, J: Job<R> + Drop, G: Gate>(
     requires empty { staff.old.items ≡ [] }
     requires room { vec_len shares.old ≤ vec_capacity staff.old }
     ensures own { AllZip KeepsShare shares.old.items shares.new.items }
-    ensures reaches { AllZip (λ before after. AllZip KeepsShare before.items after.items) rows.old.items rows.new.items }
+    ensures reaches { AllZip (λ before after.
+        AllZip KeepsShare before.items after.items) rows.old.items rows.new.items }
 {
     gather_workers(shares, rows, staff);
     run_workers(rt, gate, staff);

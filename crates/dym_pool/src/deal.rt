@@ -14,7 +14,8 @@ pub(crate) fn deal<R, J: Job<R> + Drop>(shares: &mut Vec<OwnShare<R, J>>, boxes:
     requires room { (room : ℕ)
         × (vec_len boxes < vec_len shares.old * room)
         × All (λ s. (s.list ≡ []) × (s.part ≡ 65) × (s.pushed ≡ 0) × (s.room ≡ room)) shares.old.items }
-    ensures dealt { SameElements (flat_map (λ s. s.list) shares.new.items) (boxed_labels J.number_of J.origin_of boxes.items) }
+    ensures dealt { SameElements (flat_map (λ s. s.list) shares.new.items)
+        (boxed_labels J.number_of J.origin_of boxes.items) }
     ensures ways { AllZip KeepsWay shares.old.items shares.new.items }
 {
     let mut left = boxes.len();

@@ -35,7 +35,8 @@ impl<R, J: Job<R> + Drop> OwnShare<R, J> {
         requires whole { self.old.part ≡ 65 }
         requires room { length self.old.list < self.old.room }
         requires slots { self.old.pushed < self.old.room }
-        ensures list { self.new.list ≡ self.old.list ++ (J.number_of boxed.value, J.origin_of boxed.value) ∷ [] }
+        ensures list { self.new.list ≡ self.old.list
+            ++ (J.number_of boxed.value, J.origin_of boxed.value) ∷ [] }
         ensures pushed { self.new.pushed ≡ self.old.pushed + 1 }
         ensures deque { self.new.deque ≡ self.old.deque }
         ensures hand { self.new.hand ≡ self.old.hand }

@@ -28,7 +28,8 @@ pub fn run_jobs<R: Threads + Wait + Send + Sync, J: Job<R>, G: Gate>(
     requires numbered { Numbered J.number_of jobs.items }
     requires some { 1 ≤ workers }
     requires most { workers ≤ 64 }
-    ensures back { IfOk result (λ back. EveryJobBack J.number_of J.left_of J.origin_of jobs.items back.items) }
+    ensures back { IfOk result (λ back.
+        EveryJobBack J.number_of J.left_of J.origin_of jobs.items back.items) }
     ensures unchanged { IfErr result (λ refused. refused.1.items ≡ jobs.items) }
 {
     let started = jobs.len().min(workers as usize) as u32;

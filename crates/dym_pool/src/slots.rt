@@ -33,7 +33,8 @@ fn place<R, J: Job<R> + Drop>(slots: &mut [Option<Box<J>>], boxes: Vec<Box<J>>)
 /// Puts each job that ended in a share at the place of its number.
 fn place_shares<R, J: Job<R> + Drop>(slots: &mut [Option<Box<J>>], shares: Vec<OwnShare<R, J>>)
     requires { All (λ s. All (λ x. x.0 < length slots.old) s.hand) shares.items }
-    ensures { PlacesEnded J.number_of J.left_of J.origin_of (flat_map (λ s. s.hand) shares.items) slots.old slots.new }
+    ensures { PlacesEnded J.number_of J.left_of J.origin_of
+        (flat_map (λ s. s.hand) shares.items) slots.old slots.new }
 {
     for share in shares {
         place::<R, J>(slots, share.into_ended());
@@ -62,7 +63,8 @@ pub(crate) fn gather<R, J: Job<R> + Drop>(
     requires room { vec_len slots ≤ vec_capacity jobs.old }
     requires slots { slots.items ≡ replicate (vec_len slots) None }
     requires numbers { NumbersBelow (vec_len slots) (flat_map (λ s. s.hand) shares.items) }
-    ensures back { Gathered J.number_of J.left_of J.origin_of (vec_len slots) (flat_map (λ s. s.hand) shares.items) jobs.new.items }
+    ensures back { Gathered J.number_of J.left_of J.origin_of (vec_len slots)
+        (flat_map (λ s. s.hand) shares.items) jobs.new.items }
 {
     place_shares(&mut slots, shares);
     take_standing(jobs, slots);

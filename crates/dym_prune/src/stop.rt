@@ -145,9 +145,7 @@ impl Ear {
         ensures found { IsTrue result → self.new ≡ record { heard = true; misses = self.old.misses } }
         ensures missed { IsFalse result → self.new ≡ record { heard = false; misses = self.old.misses + 1 } }
     {
-        self.board
-            .shared
-            .park_timeout(rt, 0, 0, longest);
+        self.board.shared.park_timeout(rt, 0, 0, longest);
         self.asked()
     }
 

@@ -21,7 +21,8 @@ impl QuotaQueue {
         requires origin { All (λ b. ⟦<Berth<R> as Supply>⟧.origin b ≡ shared self.name) berths.items }
         requires quotas { sum_by ⟦<Berth<R> as Supply>⟧.quota_of berths.items ≡ length self.stocked }
         requires nothing_held { All (λ b. ⟦<Berth<R> as Supply>⟧.held_ids b ≡ []) berths.items }
-        ensures all { IsPermutation (self.stocked ++ self.aside) (map ⟦<RawSegment as Segment>⟧.id result.items) }
+        ensures all { IsPermutation (self.stocked ++ self.aside)
+            (map ⟦<RawSegment as Segment>⟧.id result.items) }
         ensures distinct { AreDistinct (map ⟦<RawSegment as Segment>⟧.id result.items) }
         ensures room { vec_capacity result ≡ self.room }
     {

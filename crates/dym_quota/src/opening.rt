@@ -37,8 +37,10 @@ impl QuotaQueue {
         requires enough { sum quotas.now ≤ vec_len segments }
         requires distinct { AreDistinct (map ⟦<RawSegment as Segment>⟧.id segments.items) }
         ensures quotas { IfOk result (λ r. map ⟦<Berth<R> as Supply>⟧.quota_of r.1.items ≡ quotas.now) }
-        ensures nothing_held { IfOk result (λ r. All (λ b. ⟦<Berth<R> as Supply>⟧.held_ids b ≡ []) r.1.items) }
-        ensures origin { IfOk result (λ r. All (λ b. ⟦<Berth<R> as Supply>⟧.origin b ≡ shared r.0.name) r.1.items) }
+        ensures nothing_held { IfOk result (λ r. All
+            (λ b. ⟦<Berth<R> as Supply>⟧.held_ids b ≡ []) r.1.items) }
+        ensures origin { IfOk result (λ r. All
+            (λ b. ⟦<Berth<R> as Supply>⟧.origin b ≡ shared r.0.name) r.1.items) }
         ensures stocked { IfOk result (λ r. r.0.stocked
             ≡ take (sum quotas.now) (map ⟦<RawSegment as Segment>⟧.id segments.items)) }
         ensures aside { IfOk result (λ r. r.0.aside
@@ -161,8 +163,10 @@ fn stock_first<R: Wait>(
     ensures queue { IsPassOf line.now pass.new }
     ensures quota { (view pass.new).quota ≡ count }
     ensures nothing_held { (view pass.new).held ≡ [] }
-    ensures stocked { (view pass.new).stock ≡ take count (map ⟦<RawSegment as Segment>⟧.id segments.old.items) }
-    ensures aside { map ⟦<RawSegment as Segment>⟧.id segments.new.items ≡ drop count (map ⟦<RawSegment as Segment>⟧.id segments.old.items) }
+    ensures stocked { (view pass.new).stock
+        ≡ take count (map ⟦<RawSegment as Segment>⟧.id segments.old.items) }
+    ensures aside { map ⟦<RawSegment as Segment>⟧.id segments.new.items
+        ≡ drop count (map ⟦<RawSegment as Segment>⟧.id segments.old.items) }
     ensures room { vec_capacity segments.new ≡ vec_capacity segments.old }
 {
     segments.reverse();

@@ -51,7 +51,8 @@ impl OwnSupply {
         ensures nothing_held { IfOk result (λ s. ⟦<OwnSupply as Supply>⟧.held_ids s ≡ []) }
         ensures origin { IfOk result (λ s. ⟦<OwnSupply as Supply>⟧.origin s ≡ own) }
         ensures owned { IfOk result (λ s. owned s ≡ max quota (owned self)) }
-        ensures old_quota { IfErr result (λ e. ⟦<OwnSupply as Supply>⟧.quota_of e.1 ≡ ⟦<OwnSupply as Supply>⟧.quota_of self) }
+        ensures old_quota { IfErr result (λ e. ⟦<OwnSupply as Supply>⟧.quota_of e.1
+            ≡ ⟦<OwnSupply as Supply>⟧.quota_of self) }
         ensures still_nothing_held { IfErr result (λ e. ⟦<OwnSupply as Supply>⟧.held_ids e.1 ≡ []) }
         ensures still_owned { IfErr result (λ e. owned self ≤ owned e.1) }
     {

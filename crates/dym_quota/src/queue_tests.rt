@@ -29,7 +29,8 @@ fn opened<R: Wait>(
     ensures stocked { IfOk result (λ r. length r.1.stocked ≡ sum quotas.now) }
     ensures quotas { IfOk result (λ r. map ⟦<Berth<R> as Supply>⟧.quota_of r.2.items ≡ quotas.now) }
     ensures nothing_held { IfOk result (λ r. All (λ b. ⟦<Berth<R> as Supply>⟧.held_ids b ≡ []) r.2.items) }
-    ensures origin { IfOk result (λ r. All (λ b. ⟦<Berth<R> as Supply>⟧.origin b ≡ shared r.1.name) r.2.items) }
+    ensures origin { IfOk result (λ r. All
+        (λ b. ⟦<Berth<R> as Supply>⟧.origin b ≡ shared r.1.name) r.2.items) }
 {
     let (region, segments) = Region::new(alloc, count)?;
     match QuotaQueue::open(way, alloc, segments, quotas) {
@@ -79,7 +80,8 @@ fn number_taken<R: Wait>(way: &R, berth: &mut Berth<R>) -> u32
 
 /// Takes and gives 1,000 times.
 fn worked<R: Wait>(way: &R, mut berth: Berth<R>) -> Berth<R>
-    ensures count { length (⟦<Berth<R> as Supply>⟧.held_ids result) ≡ length (⟦<Berth<R> as Supply>⟧.held_ids berth) }
+    ensures count { length (⟦<Berth<R> as Supply>⟧.held_ids result)
+        ≡ length (⟦<Berth<R> as Supply>⟧.held_ids berth) }
     ensures quota { ⟦<Berth<R> as Supply>⟧.quota_of result ≡ ⟦<Berth<R> as Supply>⟧.quota_of berth }
     ensures origin { ⟦<Berth<R> as Supply>⟧.origin result ≡ ⟦<Berth<R> as Supply>⟧.origin berth }
 {

@@ -67,8 +67,18 @@ pub(crate) fn part(line: &SegmentLine, pass: &mut SegmentPass, quota: u32) -> Se
     requires enough { length (view pass.old).held + quota ≤ (view pass.old).quota }
     ensures queue { IsPassOf line.now pass.new }
     ensures part_queue { IsPassOf line.now result }
-    ensures rest { view pass.new ≡ record { quota = (view pass.old).quota - quota; held = (view pass.old).held; stock = (view pass.old).stock; opens = false } }
-    ensures part { view result ≡ record { quota = quota; held = []; stock = (view pass.old).stock; opens = false } }
+    ensures rest { view pass.new ≡ record {
+      quota = (view pass.old).quota - quota;
+      held = (view pass.old).held;
+      stock = (view pass.old).stock;
+      opens = false;
+    } }
+    ensures part { view result ≡ record {
+      quota = quota;
+      held = [];
+      stock = (view pass.old).stock;
+      opens = false;
+    } }
 {
     part_by::<Brand>(line, pass, quota)
 }
@@ -79,8 +89,18 @@ fn part_by<N: Amount>(line: &SegmentLine, pass: &mut SegmentPass, quota: u32) ->
     requires enough { length (view pass.old).held + quota ≤ (view pass.old).quota }
     ensures queue { IsPassOf line.now pass.new }
     ensures part_queue { IsPassOf line.now result }
-    ensures rest { view pass.new ≡ record { quota = (view pass.old).quota - quota; held = (view pass.old).held; stock = (view pass.old).stock; opens = false } }
-    ensures part { view result ≡ record { quota = quota; held = []; stock = (view pass.old).stock; opens = false } }
+    ensures rest { view pass.new ≡ record {
+      quota = (view pass.old).quota - quota;
+      held = (view pass.old).held;
+      stock = (view pass.old).stock;
+      opens = false;
+    } }
+    ensures part { view result ≡ record {
+      quota = quota;
+      held = [];
+      stock = (view pass.old).stock;
+      opens = false;
+    } }
 {
     line.another::<Cut<N>>(pass)
 }
@@ -92,7 +112,12 @@ pub(crate) fn join(line: &SegmentLine, pass: &mut SegmentPass, other: SegmentPas
     requires stocked { 0 < length (view pass.old).stock }
     requires some_quota { 0 < (view other).quota }
     ensures queue { IsPassOf line.now pass.new }
-    ensures both { view pass.new ≡ record { quota = (view pass.old).quota + (view other).quota; held = (view pass.old).held ++ (view other).held; stock = (view pass.old).stock; opens = false } }
+    ensures both { view pass.new ≡ record {
+      quota = (view pass.old).quota + (view other).quota;
+      held = (view pass.old).held ++ (view other).held;
+      stock = (view pass.old).stock;
+      opens = false;
+    } }
 {
     line.absorb::<Together>(pass, other);
 }

@@ -11,7 +11,8 @@ fn take_marked(supply: &mut OwnSupply, mark: u8) -> VecSegment
     requires { length (⟦<OwnSupply as Supply>⟧.held_ids supply.old) < ⟦<OwnSupply as Supply>⟧.quota_of supply.old }
     ensures held { length (⟦<OwnSupply as Supply>⟧.held_ids supply.new)
         ≡ length (⟦<OwnSupply as Supply>⟧.held_ids supply.old) + 1 }
-    ensures quota { ⟦<OwnSupply as Supply>⟧.quota_of supply.new ≡ ⟦<OwnSupply as Supply>⟧.quota_of supply.old }
+    ensures quota { ⟦<OwnSupply as Supply>⟧.quota_of supply.new
+        ≡ ⟦<OwnSupply as Supply>⟧.quota_of supply.old }
 {
     let mut segment = supply.take(&());
     segment.write(65_535, &[mark]);
@@ -22,7 +23,8 @@ fn give_back(supply: &mut OwnSupply, segment: VecSegment)
     requires { 0 < length (⟦<OwnSupply as Supply>⟧.held_ids supply.old) }
     ensures held { length (⟦<OwnSupply as Supply>⟧.held_ids supply.new) + 1
         ≡ length (⟦<OwnSupply as Supply>⟧.held_ids supply.old) }
-    ensures quota { ⟦<OwnSupply as Supply>⟧.quota_of supply.new ≡ ⟦<OwnSupply as Supply>⟧.quota_of supply.old }
+    ensures quota { ⟦<OwnSupply as Supply>⟧.quota_of supply.new
+        ≡ ⟦<OwnSupply as Supply>⟧.quota_of supply.old }
 {
     supply.give(&(), segment);
 }

@@ -83,7 +83,8 @@ pub(crate) fn join(mut front: Vec<u8, Lodged>, back: Vec<u8, Lodged>) -> Vec<u8,
 // The room of an empty vector as a vector that lies at `start`, and the claim to put it back.
 unsafe fn hollow_out(whole: Vec<u8>, start: *mut u8, size: usize) -> (Vec<u8, Lodged>, Claim)
     requires { (start ≡ whole.ptr) × (whole.len ≡ 0) × (size ≡ whole.cap) × (0 < size) }
-    ensures { (result.0.items ≡ []) × (result.0.cap ≡ size) × (result.0.ptr ≡ block_ptr result.1.block 0) × (result.1.size ≡ size) }
+    ensures { (result.0.items ≡ []) × (result.0.cap ≡ size) × (result.0.ptr ≡ block_ptr result.1.block 0)
+        × (result.1.size ≡ size) }
 {
     (lodge(start, 0, size), Claim { hollow: whole })
 }
@@ -111,7 +112,8 @@ unsafe fn unite(
     start: *mut u8,
     size: usize,
 ) -> Vec<u8, Lodged>
-    requires { (start ≡ front.ptr) × (back.ptr ≡ start +ₚ front.cap) × (size ≡ front.cap + back.cap) × (size < 2 ^ 63) }
+    requires { (start ≡ front.ptr) × (back.ptr ≡ start +ₚ front.cap) × (size ≡ front.cap + back.cap)
+        × (size < 2 ^ 63) }
     ensures { (result.items ≡ []) × (result.cap ≡ size) × (result.ptr ≡ start) }
 {
     let _front = front.dislodge();

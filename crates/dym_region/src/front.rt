@@ -10,7 +10,8 @@ use std::alloc::Allocator;
 /// Makes at least the first `to` bytes real. What the segment holds stays.
 pub(crate) fn fill_to<A: Allocator>(bytes: &mut Vec<u8, A>, to: usize)
     requires { to ≤ vec_capacity bytes.old }
-    ensures content { zeros_behind (vec_capacity bytes.new) bytes.new.items ≡ zeros_behind (vec_capacity bytes.old) bytes.old.items }
+    ensures content { zeros_behind (vec_capacity bytes.new) bytes.new.items
+        ≡ zeros_behind (vec_capacity bytes.old) bytes.old.items }
     ensures reached { to ≤ vec_len bytes.new }
     ensures more { vec_len bytes.old ≤ vec_len bytes.new }
     ensures room { vec_capacity bytes.new ≡ vec_capacity bytes.old }
@@ -24,7 +25,8 @@ pub(crate) fn fill_to<A: Allocator>(bytes: &mut Vec<u8, A>, to: usize)
 // The vector with zeros behind its bytes up to `to`. It is a value of this function's own, so that the loop becomes one fill.
 fn filled_to<A: Allocator>(mut bytes: Vec<u8, A>, to: usize) -> (Vec<u8, A>, ())
     requires { to ≤ vec_capacity bytes }
-    ensures content { zeros_behind (vec_capacity result.0) result.0.items ≡ zeros_behind (vec_capacity bytes) bytes.items }
+    ensures content { zeros_behind (vec_capacity result.0) result.0.items
+        ≡ zeros_behind (vec_capacity bytes) bytes.items }
     ensures reached { to ≤ vec_len result.0 }
     ensures more { vec_len bytes ≤ vec_len result.0 }
     ensures room { vec_capacity result.0 ≡ vec_capacity bytes }

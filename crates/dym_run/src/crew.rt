@@ -54,8 +54,10 @@ pub(crate) fn open_work<R: Wait>(
     }) }
     ensures fresh { IfOk result IsFresh }
     ensures nothing_held { IfErr result (λ e. ⟦<Berth<R> as Supply>⟧.held_ids e.1 ≡ []) }
-    ensures quota { IfErr result (λ e. ⟦<Berth<R> as Supply>⟧.quota_of e.1 ≡ ⟦<Berth<R> as Supply>⟧.quota_of berth) }
-    ensures supply { IfErr result (λ e. ⟦<Berth<R> as Supply>⟧.origin e.1 ≡ ⟦<Berth<R> as Supply>⟧.origin berth) }
+    ensures quota { IfErr result (λ e. ⟦<Berth<R> as Supply>⟧.quota_of e.1
+        ≡ ⟦<Berth<R> as Supply>⟧.quota_of berth) }
+    ensures supply { IfErr result (λ e. ⟦<Berth<R> as Supply>⟧.origin e.1
+        ≡ ⟦<Berth<R> as Supply>⟧.origin berth) }
 {
     let object = match Object::open_as(alloc, berth, SlotKeep::new(owner), version) {
         Ok(object) => object,

@@ -63,7 +63,8 @@ pub(crate) fn take_places<R: Wait>(
 ) -> Result<Vec<Place<R>>, AllocError>
     requires few { first + vec_len berths.old ≤ MOST_OBJECTS }
     requires lined { StandInLine parts.old.items (map ⟦<Berth<R> as Supply>⟧.quota_of berths.old.items) }
-    ensures places { IfOk result (λ places. TakePlaces first parts.old.items parts.new.items berths.old.items places.items) }
+    ensures places { IfOk result (λ places.
+        TakePlaces first parts.old.items parts.new.items berths.old.items places.items) }
     ensures none { OnOk result (berths.new.items ≡ []) }
     ensures same { OnErr result (berths.new ≡ berths.old) }
     ensures room { vec_capacity berths.new ≡ vec_capacity berths.old }

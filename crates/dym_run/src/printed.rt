@@ -23,7 +23,8 @@ pub(crate) fn write_part<W: Sink, S: Supply>(
     slots: u32,
 ) -> Result<(), SinkFault>
     requires sound { IsSound heap.now }
-    ensures { Writes (W.output sink.old) (W.output sink.new) (object_text heap.now.version name.now replies.now.replies heap.now.state.live kept slots) result }
+    ensures { Writes (W.output sink.old) (W.output sink.new)
+        (object_text heap.now.version name.now replies.now.replies heap.now.state.live kept slots) result }
 {
     write_heading(sink, name)?;
     write_kept(sink, replies)?;
@@ -32,7 +33,8 @@ pub(crate) fn write_part<W: Sink, S: Supply>(
 
 /// Writes the lines of replies, in order, as many together as a page has room for. Its only error is that of the sink.
 fn write_kept<W: Sink>(sink: &mut W, replies: &Replies) -> Result<(), SinkFault>
-    ensures { Writes (W.output sink.old) (W.output sink.new) (flat_map reply_line replies.now.replies) result }
+    ensures { Writes (W.output sink.old) (W.output sink.new)
+        (flat_map reply_line replies.now.replies) result }
 {
     let mut page = Page::new();
     let mut place = Reply::Done;
@@ -52,8 +54,10 @@ fn add_kept<W: Sink>(
     place: &mut Reply,
 ) -> Result<(), SinkFault>
     requires { k < length replies.now.replies }
-    ensures added { OnOk result (IfSome (slice_get replies.now.replies k) (λ reply. Leaves (W.output sink.old) (W.output sink.new) (page.old ++ reply_line reply) page.new)) }
-    ensures stopped { OnErr result (IfSome (slice_get replies.now.replies k) (λ reply. Stopped (W.output sink.old) (W.output sink.new) (page.old ++ reply_line reply))) }
+    ensures added { OnOk result (IfSome (slice_get replies.now.replies k)
+        (λ reply. Leaves (W.output sink.old) (W.output sink.new) (page.old ++ reply_line reply) page.new)) }
+    ensures stopped { OnErr result (IfSome (slice_get replies.now.replies k)
+        (λ reply. Stopped (W.output sink.old) (W.output sink.new) (page.old ++ reply_line reply))) }
 {
     match replies.tell(k, place) {
         Some(bytes) => page.add_bytes(sink, bytes),

@@ -23,8 +23,10 @@ impl<R: Wait> Room<R> {
     pub(crate) fn open(alloc: Global, count: usize) -> Result<Room<R>, AllocError>
         ensures names { IfOk result (λ room. (room.names.items ≡ []) × (count ≤ vec_capacity room.names)) }
         ensures works { IfOk result (λ room. (room.works.items ≡ []) × (count ≤ vec_capacity room.works)) }
-        ensures sweepers { IfOk result (λ room. (room.sweepers.items ≡ []) × (count ≤ vec_capacity room.sweepers)) }
-        ensures passengers { IfOk result (λ room. (room.passengers.items ≡ []) × (count ≤ vec_capacity room.passengers)) }
+        ensures sweepers { IfOk result (λ room.
+            (room.sweepers.items ≡ []) × (count ≤ vec_capacity room.sweepers)) }
+        ensures passengers { IfOk result (λ room.
+            (room.passengers.items ≡ []) × (count ≤ vec_capacity room.passengers)) }
         ensures ended { IfOk result (λ room. (room.ended.items ≡ []) × (count ≤ vec_capacity room.ended)) }
     {
         let names = Vec::with_capacity(alloc, count)?;

@@ -83,8 +83,10 @@ impl Roster {
         ensures most { self.new.most ≡ self.old.most }
         ensures ran { IfOk result (λ s. (count : ℕ) × (0 < count)
             × Boarded self.old.telling count self.old.parts.items self.new.parts.items [] (map (λ e. e.shown) s.ended.items)) }
-        ensures segments { IfOk result (λ s. s.queue.stocked ++ s.queue.aside ≡ map ⟦<RawSegment as Segment>⟧.id segments.items) }
-        ensures back { IfErr result (λ e. IsPermutation (map ⟦<RawSegment as Segment>⟧.id segments.items) (map ⟦<RawSegment as Segment>⟧.id e.1.items)) }
+        ensures segments { IfOk result (λ s. s.queue.stocked ++ s.queue.aside
+            ≡ map ⟦<RawSegment as Segment>⟧.id segments.items) }
+        ensures back { IfErr result (λ e. IsPermutation (map ⟦<RawSegment as Segment>⟧.id segments.items)
+            (map ⟦<RawSegment as Segment>⟧.id e.1.items)) }
         ensures distinct { IfErr result (λ e. AreDistinct (map ⟦<RawSegment as Segment>⟧.id e.1.items)) }
     {
         let end = waves(&self.quotas, self.most, self.from);

@@ -38,7 +38,8 @@ pub(crate) struct Settled<R: Wait> {
 impl<R: Wait> Settled<R> {
     /// Ends all objects, and answers all segments, in any order.
     pub(crate) fn close(self, rt: &R) -> Vec<RawSegment>
-        ensures all { IsPermutation (self.queue.stocked ++ self.queue.aside) (map ⟦<RawSegment as Segment>⟧.id result.items) }
+        ensures all { IsPermutation (self.queue.stocked ++ self.queue.aside)
+            (map ⟦<RawSegment as Segment>⟧.id result.items) }
         ensures distinct { AreDistinct (map ⟦<RawSegment as Segment>⟧.id result.items) }
     {
         let Settled {

@@ -38,7 +38,8 @@ pub fn tally_waves<R: Threads + Wait + Send + Sync, G: Gate>(
     requires objects { vec_len parts ≤ MOST_OBJECTS }
     requires commands { sum_by (λ part. length part.commands) parts.items ≤ MOST_COMMANDS }
     ensures counted { IfOk result (λ tally. tally ≡ tally_all version (map own_of parts.items)) }
-    ensures replies { IfOk result (λ tally. tally.ok + tally.refused ≡ sum_by (λ part. length part.commands) parts.items) }
+    ensures replies { IfOk result (λ tally.
+        tally.ok + tally.refused ≡ sum_by (λ part. length part.commands) parts.items) }
 {
     if parts.is_empty() {
         return Ok(Tally::none());
@@ -66,8 +67,10 @@ fn tally_all<R: Threads + Wait + Send + Sync, G: Gate>(
     requires distinct { AreDistinct (map ⟦<RawSegment as Segment>⟧.id segments.old.items) }
     requires objects { length roster.old.parts.items ≤ MOST_OBJECTS }
     requires commands { sum_by (λ part. length part.commands) roster.old.parts.items ≤ MOST_COMMANDS }
-    ensures segments { IsPermutation (map ⟦<RawSegment as Segment>⟧.id segments.old.items) (map ⟦<RawSegment as Segment>⟧.id segments.new.items) }
-    ensures counted { IfOk result (λ tally. IsTallyOf tally (parts_shown roster.old.telling roster.old.parts.items)) }
+    ensures segments { IsPermutation (map ⟦<RawSegment as Segment>⟧.id segments.old.items)
+        (map ⟦<RawSegment as Segment>⟧.id segments.new.items) }
+    ensures counted { IfOk result (λ tally.
+        IsTallyOf tally (parts_shown roster.old.telling roster.old.parts.items)) }
 {
     let mut tally = Tally::none();
     while !roster.parts.is_empty() {
@@ -91,9 +94,11 @@ fn tally_wave<R: Threads + Wait + Send + Sync, G: Gate>(
     requires commands { sum_by (λ part. length part.commands) roster.old.parts.items ≤ MOST_COMMANDS }
     ensures telling { roster.new.telling ≡ roster.old.telling }
     ensures most { roster.new.most ≡ roster.old.most }
-    ensures segments { IsPermutation (map ⟦<RawSegment as Segment>⟧.id segments.old.items) (map ⟦<RawSegment as Segment>⟧.id segments.new.items) }
+    ensures segments { IsPermutation (map ⟦<RawSegment as Segment>⟧.id segments.old.items)
+        (map ⟦<RawSegment as Segment>⟧.id segments.new.items) }
     ensures distinct { AreDistinct (map ⟦<RawSegment as Segment>⟧.id segments.new.items) }
-    ensures counted { IfOk result (λ tally. TalliesFirst roster.old.telling roster.old.parts.items roster.new.parts.items tally) }
+    ensures counted { IfOk result (λ tally.
+        TalliesFirst roster.old.telling roster.old.parts.items roster.new.parts.items tally) }
 {
     let taken = mem::replace(segments, Vec::new(alloc));
     match roster.run_next(rt, alloc, taken, gate) {

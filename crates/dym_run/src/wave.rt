@@ -68,11 +68,13 @@ impl<R: Wait> Wave<R> {
         requires each_quota { All (λ q. (1 ≤ q) × (q ≤ MOST_QUOTA)) quotas.now }
         requires enough { sum quotas.now ≤ vec_len segments }
         requires distinct { AreDistinct (map ⟦<RawSegment as Segment>⟧.id segments.items) }
-        ensures quotas { IfOk result (λ w. map ⟦<Berth<R> as Supply>⟧.quota_of w.berths.items ≡ reverse quotas.now) }
+        ensures quotas { IfOk result (λ w. map ⟦<Berth<R> as Supply>⟧.quota_of w.berths.items
+            ≡ reverse quotas.now) }
         ensures none { IfOk result (λ w. (w.names.items ≡ []) × (w.works.items ≡ [])) }
         ensures room { IfOk result (λ w. (length quotas.now ≤ vec_capacity w.names)
             × (length quotas.now ≤ vec_capacity w.works) × (length quotas.now ≤ vec_capacity w.sweepers)) }
-        ensures segments { IfOk result (λ w. w.queue.stocked ++ w.queue.aside ≡ map ⟦<RawSegment as Segment>⟧.id segments.items) }
+        ensures segments { IfOk result (λ w. w.queue.stocked ++ w.queue.aside
+            ≡ map ⟦<RawSegment as Segment>⟧.id segments.items) }
         ensures back { IfErr result (λ e. e.1 ≡ segments) }
     {
         let Room {
@@ -117,7 +119,8 @@ impl<R: Wait> Wave<R> {
     where
         R: Threads + Send + Sync,
         requires shape { IsShape shape }
-        requires lined { StandInLine parts.old.items (map ⟦<Berth<R> as Supply>⟧.quota_of self.old.berths.items) }
+        requires lined { StandInLine parts.old.items
+            (map ⟦<Berth<R> as Supply>⟧.quota_of self.old.berths.items) }
         requires room { (vec_len self.old.berths + vec_len self.old.works ≤ vec_capacity self.old.names)
             × (vec_len self.old.berths + vec_len self.old.works ≤ vec_capacity self.old.works)
             × (vec_len self.old.berths + vec_len self.old.works ≤ vec_capacity self.old.sweepers) }
@@ -125,7 +128,8 @@ impl<R: Wait> Wave<R> {
         ensures boarded { OnOk result (Boarded telling (vec_len self.old.berths) parts.old.items parts.new.items
             (works_shown telling.views self.old.names.items self.old.works.items) (works_shown telling.views self.new.names.items self.new.works.items)) }
         ensures fresh { OnOk result (All IsFresh self.old.works.items → All IsFresh self.new.works.items) }
-        ensures numbered { OnOk result (Numbered number_of self.old.works.items → Numbered number_of self.new.works.items) }
+        ensures numbered { OnOk result (Numbered number_of self.old.works.items
+            → Numbered number_of self.new.works.items) }
     {
         let first = self.works.len() as u32;
         let mut places = take_places(alloc, first, &mut self.berths, parts)?;
@@ -170,7 +174,8 @@ impl<R: Wait> Wave<R> {
         requires room { (vec_len self.berths ≤ vec_capacity self.names)
             × (vec_len self.berths ≤ vec_capacity self.works) × (vec_len self.berths ≤ vec_capacity self.sweepers) }
         ensures queue { result.0.queue ≡ self.queue }
-        ensures ran { OnOk result.1 (Boarded telling (vec_len self.berths) parts.old.items parts.new.items [] (map (λ e. e.shown) result.0.ended.items)) }
+        ensures ran { OnOk result.1 (Boarded telling (vec_len self.berths) parts.old.items parts.new.items []
+            (map (λ e. e.shown) result.0.ended.items)) }
     {
         if let Err(error) = self.board_all(rt, alloc, telling, shape, parts) {
             return (self.settle(rt, alloc), Err(error));
@@ -195,7 +200,8 @@ impl<R: Wait> Wave<R> {
         requires fresh { All IsFresh self.works.items }
         requires numbered { Numbered number_of self.works.items }
         ensures queue { result.0.queue ≡ self.queue }
-        ensures shown { OnOk result.1 (map (λ e. e.shown) result.0.ended.items ≡ works_shown views self.names.items self.works.items) }
+        ensures shown { OnOk result.1 (map (λ e. e.shown) result.0.ended.items
+            ≡ works_shown views self.names.items self.works.items) }
     {
         let Wave {
             queue,

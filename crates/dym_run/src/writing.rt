@@ -41,7 +41,8 @@ pub fn write_waves<R: Threads + Wait + Send + Sync, G: Gate, W: Sink>(
     requires shape { IsShape shape }
     requires fits { All (λ part. part.decl.quota ≤ shape.segments) parts.items }
     requires objects { vec_len parts ≤ MOST_OBJECTS }
-    ensures { WritesOr (λ fail. fail ≡ SinkFailed) (W.output sink.old) (W.output sink.new) (parts_text telling parts.items) result }
+    ensures { WritesOr (λ fail. fail ≡ SinkFailed) (W.output sink.old) (W.output sink.new)
+        (parts_text telling parts.items) result }
 {
     if parts.is_empty() {
         return Ok(());
@@ -64,7 +65,8 @@ fn write_all<R: Threads + Wait + Send + Sync, G: Gate, W: Sink>(
 ) -> Result<(), WriteFail>
     requires enough { roster.old.most ≤ vec_len segments.old }
     requires distinct { AreDistinct (map ⟦<RawSegment as Segment>⟧.id segments.old.items) }
-    ensures segments { IsPermutation (map ⟦<RawSegment as Segment>⟧.id segments.old.items) (map ⟦<RawSegment as Segment>⟧.id segments.new.items) }
+    ensures segments { IsPermutation (map ⟦<RawSegment as Segment>⟧.id segments.old.items)
+        (map ⟦<RawSegment as Segment>⟧.id segments.new.items) }
     ensures written { WritesOr (λ fail. fail ≡ SinkFailed) (W.output sink.old) (W.output sink.new)
         (parts_text roster.old.telling roster.old.parts.items) result }
 {
@@ -88,9 +90,11 @@ fn write_wave<R: Threads + Wait + Send + Sync, G: Gate, W: Sink>(
     requires distinct { AreDistinct (map ⟦<RawSegment as Segment>⟧.id segments.old.items) }
     ensures telling { roster.new.telling ≡ roster.old.telling }
     ensures most { roster.new.most ≡ roster.old.most }
-    ensures segments { IsPermutation (map ⟦<RawSegment as Segment>⟧.id segments.old.items) (map ⟦<RawSegment as Segment>⟧.id segments.new.items) }
+    ensures segments { IsPermutation (map ⟦<RawSegment as Segment>⟧.id segments.old.items)
+        (map ⟦<RawSegment as Segment>⟧.id segments.new.items) }
     ensures distinct { AreDistinct (map ⟦<RawSegment as Segment>⟧.id segments.new.items) }
-    ensures written { WritesFirst roster.old.telling roster.old.parts.items roster.new.parts.items (W.output sink.old) (W.output sink.new) result }
+    ensures written { WritesFirst roster.old.telling roster.old.parts.items roster.new.parts.items
+        (W.output sink.old) (W.output sink.new) result }
 {
     let taken = mem::replace(segments, Vec::new(alloc));
     match roster.run_next(rt, alloc, taken, gate) {
@@ -108,7 +112,8 @@ fn write_wave<R: Threads + Wait + Send + Sync, G: Gate, W: Sink>(
 
 /// Writes the parts of objects that have run.
 fn write_ended<R: Wait, W: Sink>(ended: &[Ended<R>], sink: &mut W) -> Result<(), SinkFault>
-    ensures { Writes (W.output sink.old) (W.output sink.new) (flat_map (λ e. shown_text e.shown) ended.now) result }
+    ensures { Writes (W.output sink.old) (W.output sink.new)
+        (flat_map (λ e. shown_text e.shown) ended.now) result }
 {
     for object in ended {
         object.write(sink)?;

@@ -20,8 +20,10 @@ pub struct LogSlots;
 impl LogSlots {
     /// Makes an empty log table, with room for a full list. Only memory can be wanting.
     pub fn open(alloc: Global) -> Result<(Owner, Sweeper), AllocError>
-        ensures owner { IfOk result (λ ends. ends.0 ≡ record { records = []; made = 0; lifted = None; origin = shared ends.1.table }) }
-        ensures sweeper { IfOk result (λ ends. ends.1 ≡ record { table = ends.1.table; rounds = 0; taken_back = 0; clean = 0 }) }
+        ensures owner { IfOk result (λ ends.
+            ends.0 ≡ record { records = []; made = 0; lifted = None; origin = shared ends.1.table }) }
+        ensures sweeper { IfOk result (λ ends.
+            ends.1 ≡ record { table = ends.1.table; rounds = 0; taken_back = 0; clean = 0 }) }
     {
         let order = all_slots(alloc)?;
         let (table, mut seat) = LogTable::vacant(

@@ -181,9 +181,11 @@ pub(crate) fn free_newest(table: &Slots, seat: &mut LogSeat, slot: u32)
     requires table { SitsAt table.now.table_id seat.old.table_id }
     requires held { HasOut slot None seat.old.me }
     requires slot { slot < LOG_SLOTS }
-    requires newest { (older : List Listed) × (x : Listed) × ((owner_of seat.old.me.0).list ≡ older ++ x ∷ []) × (0 < length older) × (x.entry.slot ≡ slot) }
+    requires newest { (older : List Listed) × (x : Listed) × ((owner_of seat.old.me.0).list ≡ older ++ x ∷ [])
+        × (0 < length older) × (x.entry.slot ≡ slot) }
     ensures table { seat.new.table_id ≡ seat.old.table_id }
-    ensures after { (older : List Listed) × (x : Listed) × ((owner_of seat.old.me.0).list ≡ older ++ x ∷ []) × (seat.new.me ≡ (Owns (with_freed x.entry.slot older (owner_of seat.old.me.0)), [])) }
+    ensures after { (older : List Listed) × (x : Listed) × ((owner_of seat.old.me.0).list ≡ older ++ x ∷ [])
+        × (seat.new.me ≡ (Owns (with_freed x.entry.slot older (owner_of seat.old.me.0)), [])) }
 {
     table.store::<Frees>(seat, slot as usize + 1, Slot::Free.word());
 }
@@ -192,9 +194,12 @@ pub(crate) fn free_newest(table: &Slots, seat: &mut LogSeat, slot: u32)
 pub(crate) fn raise_root(table: &Slots, seat: &mut LogSeat, number: u64)
     requires table { SitsAt table.now.table_id seat.old.table_id }
     requires idle { IsIdleOwner seat.old.me }
-    requires listed { (dropped : List Listed) × (x : Listed) × (others : List Listed) × ((owner_of seat.old.me.0).list ≡ dropped ++ x ∷ others) × (x.entry.number ≡ number) }
+    requires listed { (dropped : List Listed) × (x : Listed) × (others : List Listed)
+        × ((owner_of seat.old.me.0).list ≡ dropped ++ x ∷ others) × (x.entry.number ≡ number) }
     ensures table { seat.new.table_id ≡ seat.old.table_id }
-    ensures after { (dropped : List Listed) × (x : Listed) × (others : List Listed) × ((owner_of seat.old.me.0).list ≡ dropped ++ x ∷ others) × (x.entry.number ≡ number) × (seat.new.me ≡ (Owns (with_raised (x ∷ others) (owner_of seat.old.me.0)), seat.old.me.1)) }
+    ensures after { (dropped : List Listed) × (x : Listed) × (others : List Listed)
+        × ((owner_of seat.old.me.0).list ≡ dropped ++ x ∷ others) × (x.entry.number ≡ number)
+        × (seat.new.me ≡ (Owns (with_raised (x ∷ others) (owner_of seat.old.me.0)), seat.old.me.1)) }
 {
     table.store::<Raises>(seat, 0, number);
 }

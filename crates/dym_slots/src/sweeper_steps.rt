@@ -83,7 +83,8 @@ fn grab(table: &Slots, seat: &mut LogSeat, slot: u32, number: u64) -> bool
     requires retired { number < (sweeper_of seat.old.me.0).root_seen }
     requires number { number < RECORD_NUMBERS }
     ensures table { seat.new.table_id ≡ seat.old.table_id }
-    ensures won { IsTrue result → (bytes : List ℕ) × (seat.new.me ≡ (Sweeps (grabbed slot (sweeper_of seat.old.me.0)), (slot, Some bytes) ∷ [])) }
+    ensures won { IsTrue result → (bytes : List ℕ)
+        × (seat.new.me ≡ (Sweeps (grabbed slot (sweeper_of seat.old.me.0)), (slot, Some bytes) ∷ [])) }
     ensures lost { IsFalse result → SweptSlot false seat.old.me seat.new.me }
 {
     let (old, new) = (Slot::Live(number).word(), Slot::OutSweeper(number).word());

@@ -124,7 +124,8 @@ impl Machine {
     fn held(&self, slot: u32) -> Option<u64>
         requires sound { IsSound self.now }
         requires slot { slot < LOG_SLOTS }
-        ensures { MatchOption result (self.now.owner_out ≢ Some slot) (λ held. (self.now.owner_out ≡ Some slot) × (state_of (core_of self.now) slot ≡ OutOwner held)) }
+        ensures { MatchOption result (self.now.owner_out ≢ Some slot)
+            (λ held. (self.now.owner_out ≡ Some slot) × (state_of (core_of self.now) slot ≡ OutOwner held)) }
     {
         if self.owner_out != Some(slot) {
             return None;

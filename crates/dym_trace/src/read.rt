@@ -20,7 +20,8 @@ pub(crate) fn read_event(line: &[u8]) -> Option<Event>
 }
 
 fn read_owner(words: &[u8]) -> Option<Event>
-    ensures { MatchOption result ((e : Event) → ¬ Reads (codes "o " ++ words.now) e) (λ e. Reads (codes "o " ++ words.now) e) }
+    ensures { MatchOption result ((e : Event) → ¬ Reads (codes "o " ++ words.now) e)
+        (λ e. Reads (codes "o " ++ words.now) e) }
 {
     if let Some(slot) = after(words, b"look ") {
         return Some(Event::OwnerLook {
@@ -62,7 +63,8 @@ fn read_owner(words: &[u8]) -> Option<Event>
 }
 
 fn read_swap(words: &[u8]) -> Option<Event>
-    ensures { MatchOption result ((e : Event) → ¬ Reads (codes "o swap " ++ words.now) e) (λ e. Reads (codes "o swap " ++ words.now) e) }
+    ensures { MatchOption result ((e : Event) → ¬ Reads (codes "o swap " ++ words.now) e)
+        (λ e. Reads (codes "o swap " ++ words.now) e) }
 {
     let (slot, home) = cut(words, b' ')?;
     let slot = read_slot(slot)?;
@@ -76,7 +78,8 @@ fn read_swap(words: &[u8]) -> Option<Event>
 }
 
 fn read_sweeper(words: &[u8]) -> Option<Event>
-    ensures { MatchOption result ((e : Event) → ¬ Reads (codes "s " ++ words.now) e) (λ e. Reads (codes "s " ++ words.now) e) }
+    ensures { MatchOption result ((e : Event) → ¬ Reads (codes "s " ++ words.now) e)
+        (λ e. Reads (codes "s " ++ words.now) e) }
 {
     if let Some(slot) = after(words, b"look ") {
         return Some(Event::SweeperLook {
@@ -106,14 +109,16 @@ fn read_sweeper(words: &[u8]) -> Option<Event>
 
 /// What stands after the word, if the text begins with it.
 fn after<'a>(text: &'a [u8], word: &[u8]) -> Option<&'a [u8]>
-    ensures { MatchOption result ((rest : List ℕ) → text.now ≢ word.now ++ rest) (λ rest. text.now ≡ word.now ++ rest.now) }
+    ensures { MatchOption result ((rest : List ℕ) → text.now ≢ word.now ++ rest)
+        (λ rest. text.now ≡ word.now ++ rest.now) }
 {
     text.strip_prefix(word)
 }
 
 /// The slot that the word names, if it is the decimal number of one.
 fn read_slot(word: &[u8]) -> Option<u32>
-    ensures { MatchOption result ((s : ℕ) → s < LOG_SLOTS → word.now ≢ decimal s) (λ s. (word.now ≡ decimal s) × (s < LOG_SLOTS)) }
+    ensures { MatchOption result ((s : ℕ) → s < LOG_SLOTS → word.now ≢ decimal s)
+        (λ s. (word.now ≡ decimal s) × (s < LOG_SLOTS)) }
 {
     let slot = read_number(word)?;
     if slot < u64::from(LOG_SLOTS) {
@@ -149,7 +154,8 @@ fn has_leading_zero(word: &[u8]) -> bool
 
 /// The number with one more digit at its end, if the byte is a digit and the number fits.
 fn with_digit(number: u64, byte: u8) -> Option<u64>
-    ensures { MatchOption result (48 ≤ byte → byte ≤ 57 → 2 ^ 64 ≤ number * 10 + (byte - 48)) (λ n. (48 ≤ byte) × (byte ≤ 57) × (n ≡ number * 10 + (byte - 48))) }
+    ensures { MatchOption result (48 ≤ byte → byte ≤ 57 → 2 ^ 64 ≤ number * 10 + (byte - 48))
+        (λ n. (48 ≤ byte) × (byte ≤ 57) × (n ≡ number * 10 + (byte - 48))) }
 {
     if !byte.is_ascii_digit() {
         return None;

@@ -57,7 +57,8 @@ impl Commit {
 
     /// Copies bytes of a chunk from its place `at` on into `out`, and says whether the copy has them. Where it hasn't, `out` stays.
     pub(crate) fn read(&self, h: Handle, at: u32, out: &mut [u8]) -> bool
-        ensures { MatchOption (part_in self.now.copy h at (length out.old)) ((result ≡ false) × (out.new ≡ out.old)) (λ bytes. (result ≡ true) × (out.new ≡ bytes)) }
+        ensures { MatchOption (part_in self.now.copy h at (length out.old))
+            ((result ≡ false) × (out.new ≡ out.old)) (λ bytes. (result ≡ true) × (out.new ≡ bytes)) }
     {
         let Some(bytes) = self.chunk(h) else {
             return false;
@@ -72,7 +73,8 @@ impl Commit {
 
     /// All bytes of a chunk, and None where the copy hasn't it.
     fn chunk(&self, h: Handle) -> Option<&[u8]>
-        ensures { MatchOption result (get self.now.copy (key h) ≡ None) (λ bytes. get self.now.copy (key h) ≡ Some bytes.now) }
+        ensures { MatchOption result (get self.now.copy (key h) ≡ None)
+            (λ bytes. get self.now.copy (key h) ≡ Some bytes.now) }
     {
         self.copied.chunk(h.number())
     }

@@ -46,7 +46,8 @@ impl Copied {
         requires small { length bytes.now ≤ SEGMENT_BYTES }
         requires room { self.old.total < 2 ^ 62 }
         ensures table { OnOk result (IsTable self.new) }
-        ensures entries { OnOk result (entries_of self.new ≡ entries_of self.old ++ (number, bytes.now) ∷ []) }
+        ensures entries { OnOk result (entries_of self.new
+            ≡ entries_of self.old ++ (number, bytes.now) ∷ []) }
         ensures count { OnOk result (vec_len self.new.spots ≡ vec_len self.old.spots + 1) }
         ensures total { OnOk result (self.new.total ≤ self.old.total + 2 ^ 24) }
     {
@@ -64,7 +65,8 @@ impl Copied {
     /// The bytes of a chunk, and None where it wasn't copied.
     pub(crate) fn chunk(&self, number: u64) -> Option<&[u8]>
         requires { IsWhole self.now }
-        ensures { MatchOption result (get (copy_of self.now) number ≡ None) (λ bytes. get (copy_of self.now) number ≡ Some bytes.now) }
+        ensures { MatchOption result (get (copy_of self.now) number ≡ None)
+            (λ bytes. get (copy_of self.now) number ≡ Some bytes.now) }
     {
         match self.place(number) {
             Some(place) => Some(self.bytes_at(place)),
@@ -75,7 +77,9 @@ impl Copied {
     /// The place of a chunk among the spots.
     fn place(&self, number: u64) -> Option<usize>
         requires { IsWhole self.now }
-        ensures { MatchOption result (get (copy_of self.now) number ≡ None) (λ place. (place < vec_len self.now.spots) × HoldsAt (λ spot. spot.number ≡ number) self.now.spots.items place) }
+        ensures { MatchOption result (get (copy_of self.now) number ≡ None)
+            (λ place. (place < vec_len self.now.spots)
+            × HoldsAt (λ spot. spot.number ≡ number) self.now.spots.items place) }
     {
         match self.spots.binary_search_by_key(&number, |spot| spot.number) {
             Ok(place) => Some(place),
@@ -87,7 +91,8 @@ impl Copied {
     fn bytes_at(&self, place: usize) -> &[u8]
         requires whole { IsWhole self.now }
         requires place { place < vec_len self.now.spots }
-        ensures { (number : ℕ) → HoldsAt (λ spot. spot.number ≡ number) self.now.spots.items place → get (copy_of self.now) number ≡ Some result.now }
+        ensures { (number : ℕ) → HoldsAt (λ spot. spot.number ≡ number) self.now.spots.items place
+            → get (copy_of self.now) number ≡ Some result.now }
     {
         let spot = self.spots[place];
         &self.bytes[spot.at..spot.at + spot.len]

@@ -15,7 +15,8 @@ use std::alloc::{AllocError, Global};
 /// The oldest kept log as a commit, and None where no log is kept. The logs stay as they are, at want of memory too.
 pub fn commit_of<L: KeptLogs>(alloc: Global, logs: &mut L) -> Result<Option<Commit>, AllocError>
     requires { (L.meaning logs.old).lifted ≡ None }
-    ensures commit { IfOk result (λ commit. commit ≡ option_map committed (oldest (L.meaning logs.old).logs)) }
+    ensures commit { IfOk result (λ commit.
+        commit ≡ option_map committed (oldest (L.meaning logs.old).logs)) }
     ensures logs { L.meaning logs.new ≡ L.meaning logs.old }
 {
     if logs.kept() == 0 {

@@ -159,7 +159,8 @@ impl Front {
         requires head { head.now ≡ head_of self.now.history }
         requires room { length self.now.commits < COUNT_LIMIT }
         requires later { MayFollow self.now.commits commit.time }
-        ensures one { IfOk result (λ both. both.0 ≡ record { history = self.now.history; commits = self.now.commits ++ commit ∷ [] }) }
+        ensures one { IfOk result (λ both.
+            both.0 ≡ record { history = self.now.history; commits = self.now.commits ++ commit ∷ [] }) }
         ensures other { IfOk result (λ both. both.1 ≡ both.0) }
         ensures history { IfOk result (λ both. IsHistory both.0.commits) }
     {
@@ -181,7 +182,11 @@ impl Front {
         requires head { head.now ≡ head_of self.now.history }
         requires room { length self.now.commits < COUNT_LIMIT }
         requires later { MayFollow self.now.commits (arc_value commit).time }
-        ensures more { IfSome result (λ front. front ≡ record { history = self.now.history; commits = self.now.commits ++ arc_value commit ∷ [] }) }
+        ensures more { IfSome result (λ front.
+            front ≡ record {
+              history = self.now.history;
+              commits = self.now.commits ++ arc_value commit ∷ [];
+            }) }
         ensures history { IfSome result (λ front. IsHistory front.commits) }
     {
         let number = self.number;
@@ -205,7 +210,8 @@ fn add_commit(head: &Head, reached: &mut Reached, number: u64, commit: &Commit) 
     requires history { IsHistory reached.old.log }
     requires later { MayFollow reached.old.log commit.now.time }
     ensures book { reached.new.book ≡ reached.old.book }
-    ensures added { OnTrue result ((reached.new.log ≡ reached.old.log ++ commit.now ∷ []) × IsHistory reached.new.log) }
+    ensures added { OnTrue result ((reached.new.log ≡ reached.old.log ++ commit.now ∷ [])
+        × IsHistory reached.new.log) }
 {
     let mut offer: Offer<Commit, u64, Law, Nothing> = reached.plain::<Nothing, Commit, Add>(commit);
     let mut pen = reached.no_pen();

@@ -71,7 +71,8 @@ impl Publisher {
     ) -> Result<(), AllocError>
         requires room { length self.old.commits < COUNT_LIMIT }
         requires later { MayFollow self.old.commits commit.time }
-        ensures published { OnOk result (self.new ≡ record { history = self.old.history; commits = self.old.commits ++ commit ∷ [] }) }
+        ensures published { OnOk result (self.new
+            ≡ record { history = self.old.history; commits = self.old.commits ++ commit ∷ [] }) }
         ensures refused { OnErr result (self.new ≡ self.old) }
         ensures history { IsHistory self.new.commits }
     {

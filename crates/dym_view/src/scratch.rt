@@ -45,7 +45,8 @@ pub(crate) fn rebuild_oldest<L: KeptLogs>(
 /// A heap with the handles of a record.
 fn shape_like(alloc: Global, rec: &Record) -> Result<Scratch, AllocError>
     ensures version { IfOk result (λ heap. OfLog rec.now (λ log. log.version ≡ heap.version)) }
-    ensures handles { IfOk result (λ heap. OfLog rec.now (λ log. HaveOneSetOfHandles heap.state.live log.copy)) }
+    ensures handles { IfOk result (λ heap.
+        OfLog rec.now (λ log. HaveOneSetOfHandles heap.state.live log.copy)) }
     ensures sound { IfOk result IsSound }
 {
     let quota = rec.area_count().max(1);
@@ -65,7 +66,9 @@ fn load_first<L: KeptLogs>(logs: &mut L, heap: &mut Scratch, count: u32)
     requires within { count ≤ length (L.meaning logs.old).records }
     requires version { HaveVersion heap.old.version (take count (bytes_of (L.meaning logs.old).records)) }
     requires sound { IsSound heap.old }
-    ensures loaded { (all : List Logged) → AllByRecursion IsRecorded all → map packed all ≡ take count (bytes_of (L.meaning logs.old).records) → AreLoaded all heap.old.state.live heap.new.state.live }
+    ensures loaded { (all : List Logged) → AllByRecursion IsRecorded all
+        → map packed all ≡ take count (bytes_of (L.meaning logs.old).records)
+        → AreLoaded all heap.old.state.live heap.new.state.live }
     ensures logs { L.meaning logs.new ≡ L.meaning logs.old }
     ensures sound { IsSound heap.new }
 {

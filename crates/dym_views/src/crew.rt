@@ -96,8 +96,10 @@ pub(crate) fn run_looked<R: Threads + Wait + Send + Sync, G: Gate>(
             ear.heard()
         },
         &mut || -> Result<(), AllocError>
-            requires { (vec_len jobs ≤ MOST_OBJECTS) × Numbered number_of jobs.items × (1 ≤ workers) × (workers ≤ MOST_WORKERS) }
-            ensures labels { labels number_of origin_of jobs.exit.items ≡ labels number_of origin_of jobs.entry.items }
+            requires { (vec_len jobs ≤ MOST_OBJECTS) × Numbered number_of jobs.items × (1 ≤ workers)
+                × (workers ≤ MOST_WORKERS) }
+            ensures labels { labels number_of origin_of jobs.exit.items
+                ≡ labels number_of origin_of jobs.entry.items }
             ensures ended { OnOk result (AllEnded left_of jobs.exit.items) }
             ensures tables { SameTables sweepers.entry.items sweepers.exit.items }
         {

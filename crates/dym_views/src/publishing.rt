@@ -21,9 +21,11 @@ pub(crate) fn publish_oldest<R: Wait>(
     publisher: &mut Publisher,
 ) -> Result<(), AllocError>
     requires room { length publisher.old.commits < COUNT_LIMIT }
-    requires later { MayShow (last_commit publisher.old.commits) (option_map committed (oldest work.old.object.chain.logs)) }
+    requires later { MayShow (last_commit publisher.old.commits)
+        (option_map committed (oldest work.old.object.chain.logs)) }
     ensures work { work.new ≡ work.old }
-    ensures more { MoreBy (option_map committed (oldest work.old.object.chain.logs)) publisher.old publisher.new }
+    ensures more { MoreBy (option_map committed
+        (oldest work.old.object.chain.logs)) publisher.old publisher.new }
     ensures shown { OnOk result (ShowsOldest work.old publisher.new.commits) }
 {
     if work.oldest_time() == publisher.last_time() {

@@ -34,7 +34,8 @@ fn opened<R: Wait>(
     ensures all { IfOk result (λ r. r.1.stocked ++ r.1.aside ≡ ids_of r.0.id r.0.count) }
     ensures stocked { IfOk result (λ r. length r.1.stocked ≡ 2) }
     ensures quotas { IfOk result (λ r. map ⟦<Berth<R> as Supply>⟧.quota_of r.2.items ≡ 2 ∷ []) }
-    ensures origin { IfOk result (λ r. All (λ b. ⟦<Berth<R> as Supply>⟧.origin b ≡ shared r.1.name) r.2.items) }
+    ensures origin { IfOk result (λ r. All
+        (λ b. ⟦<Berth<R> as Supply>⟧.origin b ≡ shared r.1.name) r.2.items) }
 {
     let (region, segments) = Region::new(alloc, 2)?;
     match QuotaQueue::open(way, alloc, segments, &[2]) {
@@ -76,8 +77,10 @@ fn open_one<R: Wait + Abort>(
 /// The berth of the one work that there is.
 fn end_one<R: Wait + Abort>(rt: &R, mut works: Vec<Work<R>>) -> Berth<R>
     ensures nothing_held { ⟦<Berth<R> as Supply>⟧.held_ids result ≡ [] }
-    ensures quota { (o : OriginMeaning) → map origin_of works.items ≡ o ∷ [] → ⟦<Berth<R> as Supply>⟧.quota_of result ≡ o.quota }
-    ensures origin { (o : OriginMeaning) → map origin_of works.items ≡ o ∷ [] → ⟦<Berth<R> as Supply>⟧.origin result ≡ o.supply }
+    ensures quota { (o : OriginMeaning) → map origin_of works.items ≡ o ∷ []
+        → ⟦<Berth<R> as Supply>⟧.quota_of result ≡ o.quota }
+    ensures origin { (o : OriginMeaning) → map origin_of works.items ≡ o ∷ []
+        → ⟦<Berth<R> as Supply>⟧.origin result ≡ o.supply }
 {
     let Some(work) = works.pop() else {
         panic!(rt; "a work")

@@ -26,7 +26,8 @@ impl<R: Wait> Work<R> {
 
     /// The oldest kept log as a commit, where one is kept. The work stays as it is, at want of memory too.
     pub fn commit(&mut self, alloc: Global) -> Result<Option<Commit>, AllocError>
-        ensures commit { IfOk result (λ commit. commit ≡ option_map committed (oldest self.old.object.chain.logs)) }
+        ensures commit { IfOk result (λ commit.
+            commit ≡ option_map committed (oldest self.old.object.chain.logs)) }
         ensures same { self.new ≡ self.old }
     {
         replace_with(&mut self.turn, alloc, commit_by::<R>)

@@ -69,7 +69,8 @@ fn open_all<R: Wait + Abort>(
     ensures numbered { Numbered number_of result.0.items }
     ensures queue { All (λ w. w.origin.supply ≡ shared queue.now.name) result.0.items }
     ensures tables { AreSweptBy result.0.items result.1.items }
-    ensures quotas { sum_by (λ w. w.origin.quota) result.0.items ≡ sum_by ⟦<Berth<R> as Supply>⟧.quota_of berths.items }
+    ensures quotas { sum_by (λ w. w.origin.quota) result.0.items
+        ≡ sum_by ⟦<Berth<R> as Supply>⟧.quota_of berths.items }
 {
     let mut works = Vec::new(alloc);
     let mut sweepers = Vec::new(alloc);
@@ -112,7 +113,8 @@ fn end_all<R: Wait + Abort>(
     requires queue { All (λ w. w.origin.supply ≡ shared queue.now.name) works.items }
     ensures nothing_held { All (λ b. ⟦<Berth<R> as Supply>⟧.held_ids b ≡ []) result.items }
     ensures origin { All (λ b. ⟦<Berth<R> as Supply>⟧.origin b ≡ shared queue.now.name) result.items }
-    ensures quotas { sum_by ⟦<Berth<R> as Supply>⟧.quota_of result.items ≡ sum_by (λ w. w.origin.quota) works.items }
+    ensures quotas { sum_by ⟦<Berth<R> as Supply>⟧.quota_of result.items
+        ≡ sum_by (λ w. w.origin.quota) works.items }
 {
     let mut berths = Vec::new(alloc);
     while let Some(work) = works.pop() {
@@ -150,7 +152,8 @@ fn opened<R: Wait>(
     ensures all { IfOk result (λ r. r.1.stocked ++ r.1.aside ≡ ids_of r.0.id r.0.count) }
     ensures stocked { IfOk result (λ r. length r.1.stocked ≡ sum quotas.now) }
     ensures quotas { IfOk result (λ r. map ⟦<Berth<R> as Supply>⟧.quota_of r.2.items ≡ quotas.now) }
-    ensures origin { IfOk result (λ r. All (λ b. ⟦<Berth<R> as Supply>⟧.origin b ≡ shared r.1.name) r.2.items) }
+    ensures origin { IfOk result (λ r. All
+        (λ b. ⟦<Berth<R> as Supply>⟧.origin b ≡ shared r.1.name) r.2.items) }
 {
     let (region, segments) = Region::new(alloc, 6)?;
     match QuotaQueue::open(way, alloc, segments, quotas) {

@@ -37,7 +37,8 @@ impl<R: Wait + Send + Sync> Job<R> for Work<R> {
         ensures left { left_of self.new < left_of self.old }
         ensures quantum { self.new.quantum ≡ self.old.quantum }
         ensures grown { ran self.old ≤ ran self.new }
-        ensures ran { self.new.short ≡ false → ran self.new ≡ ran self.old + min self.old.quantum (left_of self.old) }
+        ensures ran { self.new.short ≡ false
+            → ran self.new ≡ ran self.old + min self.old.quantum (left_of self.old) }
     {
         let count = self.quantum.min(self.left());
         self.run_some(rt, count);

@@ -33,14 +33,17 @@ fn begins_with_option(words: &[String]) -> bool
 
 /// Whether each option is one of these.
 fn are_known(words: &[String], names: &[&str]) -> bool
-    ensures { result ≡ list_all (λ w. not (is_option (string_bytes w)) || list_any (λ n. is_text n.now (string_bytes w)) names.now) words.now }
+    ensures { result ≡ list_all (λ w.
+        not (is_option (string_bytes w)) || list_any (λ n.
+        is_text n.now (string_bytes w)) names.now) words.now }
 {
     words.iter().all(|word| is_known(word, names))
 }
 
 /// Whether the word is one of these options, or a value.
 fn is_known(word: &String, names: &[&str]) -> bool
-    ensures { result ≡ (not (is_option (string_bytes word.now)) || list_any (λ n. is_text n.now (string_bytes word.now)) names.now) }
+    ensures { result ≡ (not (is_option (string_bytes word.now)) || list_any
+        (λ n. is_text n.now (string_bytes word.now)) names.now) }
 {
     !is_option(word) || is_among(word, names)
 }
@@ -61,7 +64,8 @@ fn is_text(word: &String, text: &str) -> bool
 
 /// Whether each of these options is given at most once.
 fn are_single(words: &[String], names: &[&str]) -> bool
-    ensures { result ≡ list_all (λ n. nat_le (count_by (is_text n.now) (map string_bytes words.now)) 1) names.now }
+    ensures { result ≡ list_all (λ n.
+        nat_le (count_by (is_text n.now) (map string_bytes words.now)) 1) names.now }
 {
     names.iter().all(|name| is_single(words, name))
 }
@@ -75,7 +79,8 @@ fn is_single(words: &[String], text: &str) -> bool
 
 /// The values of the option of this name: the words after it, up to the next option.
 pub fn values<'a>(words: &'a [String], name: &str) -> Option<&'a [String]>
-    ensures { option_map (λ vs. map string_bytes vs.now) result ≡ values_of name.now (map string_bytes words.now) }
+    ensures { option_map (λ vs. map string_bytes vs.now) result
+        ≡ values_of name.now (map string_bytes words.now) }
 {
     let at = place(words, name)?;
     Some(before_option(&words[at + 1..]))

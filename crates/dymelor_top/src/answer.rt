@@ -40,14 +40,19 @@ pub fn answer_source<R: Source, W: Sink>(
 ) -> Result<u8, Stop>
     requires goes_on { R.goes_on source.old }
     requires still { IsStill reading }
-    ensures answered { (bytes : List ℕ) → R.left source.old ≡ Some bytes → WritesSo (IsRead reading bytes) (W.output sink.old) (W.output sink.new) result }
-    ensures read { (bytes : List ℕ) → R.left source.old ≡ Some bytes → OnOk result (R.left source.new ≡ Some (drop (MOST_INPUT_BYTES + 1) bytes)) }
+    ensures answered { (bytes : List ℕ) → R.left source.old ≡ Some bytes
+        → WritesSo (IsRead reading bytes) (W.output sink.old) (W.output sink.new) result }
+    ensures read { (bytes : List ℕ) → R.left source.old ≡ Some bytes
+        → OnOk result (R.left source.new ≡ Some (drop (MOST_INPUT_BYTES + 1) bytes)) }
     ensures status { IfOk result (λ status. (status ≡ 0) ⊎ (status ≡ 2)) }
     ensures bounded { TookAtMost (MOST_INPUT_BYTES + 1) (R.left source.old) (R.left source.new) }
-    ensures source_fault { IsErrOf result SourceStopped → RoseOnce (R.faults source.old) (R.faults source.new) × (W.output sink.new ≡ W.output sink.old) }
+    ensures source_fault { IsErrOf result SourceStopped
+        → RoseOnce (R.faults source.old) (R.faults source.new) × (W.output sink.new ≡ W.output sink.old) }
     ensures source_stands { ¬ IsErrOf result SourceStopped → R.faults source.new ≡ R.faults source.old }
-    ensures sink_fault { IsErrOf result SinkStopped → RoseOnce (W.output sink.old).faults (W.output sink.new).faults }
-    ensures sink_stands { ¬ IsErrOf result SinkStopped → (W.output sink.new).faults ≡ (W.output sink.old).faults }
+    ensures sink_fault { IsErrOf result SinkStopped
+        → RoseOnce (W.output sink.old).faults (W.output sink.new).faults }
+    ensures sink_stands { ¬ IsErrOf result SinkStopped
+        → (W.output sink.new).faults ≡ (W.output sink.old).faults }
 {
     match reading {
         Reading::Report => {
@@ -89,7 +94,8 @@ fn answer_report<W: Sink>(
     sink: &mut W,
 ) -> Result<u8, WriteFail>
     requires made { (read : Result Said Fault) × GivesParts script read }
-    ensures answered { (read : Result Said Fault) → GivesParts script read → WritesAnswer (of_script report_text read) (W.output sink.old) (W.output sink.new) result }
+    ensures answered { (read : Result Said Fault) → GivesParts script read
+        → WritesAnswer (of_script report_text read) (W.output sink.old) (W.output sink.new) result }
     ensures status { IfOk result (λ status. (status ≡ 0) ⊎ (status ≡ 2)) }
     ensures counted { Counted (W.output sink.old) (W.output sink.new) result }
 {
@@ -113,7 +119,8 @@ fn answer_summary<W: Sink>(
     sink: &mut W,
 ) -> Result<u8, WriteFail>
     requires made { (read : Result Said Fault) × GivesParts script read }
-    ensures answered { (read : Result Said Fault) → GivesParts script read → WritesAnswer (of_script summary_of read) (W.output sink.old) (W.output sink.new) result }
+    ensures answered { (read : Result Said Fault) → GivesParts script read
+        → WritesAnswer (of_script summary_of read) (W.output sink.old) (W.output sink.new) result }
     ensures status { IfOk result (λ status. (status ≡ 0) ⊎ (status ≡ 2)) }
     ensures counted { Counted (W.output sink.old) (W.output sink.new) result }
 {
@@ -137,7 +144,8 @@ fn answer_counted<W: Sink>(
     sink: &mut W,
 ) -> Result<u8, WriteFail>
     requires made { (read : Result Said Fault) × GivesCounts counted read }
-    ensures answered { (read : Result Said Fault) → GivesCounts counted read → WritesAnswer (of_script counts_of read) (W.output sink.old) (W.output sink.new) result }
+    ensures answered { (read : Result Said Fault) → GivesCounts counted read
+        → WritesAnswer (of_script counts_of read) (W.output sink.old) (W.output sink.new) result }
     ensures status { IfOk result (λ status. (status ≡ 0) ⊎ (status ≡ 2)) }
     ensures counted { Counted (W.output sink.old) (W.output sink.new) result }
 {

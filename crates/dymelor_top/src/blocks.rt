@@ -32,8 +32,10 @@ pub fn read_source<K: Keeper + Drop, R: Source>(
 ) -> Result<Result<Whole<K>, ScriptFail>, ReadFail>
     requires { R.goes_on source.old }
     ensures some { IfOk result (λ made. (bytes : List ℕ) × GivesWhole K.keeps made (script_of bytes)) }
-    ensures gives { (bytes : List ℕ) → R.left source.old ≡ Some bytes → IfOk result (λ made. GivesWhole K.keeps made (script_of bytes)) }
-    ensures read { (bytes : List ℕ) → R.left source.old ≡ Some bytes → OnOk result (R.left source.new ≡ Some (drop (MOST_INPUT_BYTES + 1) bytes)) }
+    ensures gives { (bytes : List ℕ) → R.left source.old ≡ Some bytes
+        → IfOk result (λ made. GivesWhole K.keeps made (script_of bytes)) }
+    ensures read { (bytes : List ℕ) → R.left source.old ≡ Some bytes
+        → OnOk result (R.left source.new ≡ Some (drop (MOST_INPUT_BYTES + 1) bytes)) }
     ensures bounded { TookAtMost (MOST_INPUT_BYTES + 1) (R.left source.old) (R.left source.new) }
     ensures failed { IsErrOf result ReadFail.Source → RoseOnce (R.faults source.old) (R.faults source.new) }
     ensures count { ¬ IsErrOf result ReadFail.Source → R.faults source.new ≡ R.faults source.old }
@@ -51,7 +53,8 @@ fn read_blocks<K: Keeper + Drop, R: Source>(
 ) -> Result<Result<Whole<K>, ScriptFail>, ReadFail>
     requires long { MOST_LINE_BYTES < length block.old }
     requires goes_on { R.goes_on source.old }
-    ensures told { IfOk result (λ made. Tells [] (R.left source.old) (R.left source.new) (GivesWhole K.keeps made)) }
+    ensures told { IfOk result (λ made.
+        Tells [] (R.left source.old) (R.left source.new) (GivesWhole K.keeps made)) }
     ensures bounded { TookAtMost (MOST_INPUT_BYTES + 1) (R.left source.old) (R.left source.new) }
     ensures failed { IsErrOf result ReadFail.Source → RoseOnce (R.faults source.old) (R.faults source.new) }
     ensures count { ¬ IsErrOf result ReadFail.Source → R.faults source.new ≡ R.faults source.old }
@@ -95,7 +98,8 @@ fn pull_behind<R: Source>(
     requires goes_on { R.goes_on source.old }
     ensures amount { IfOk result (λ n. n ≤ room) }
     ensures kept { OnOk result (take left block.new ≡ take left block.old) }
-    ensures taken { IfOk result (λ n. Consumes (R.left source.old) (R.left source.new) (take n (drop left block.new))) }
+    ensures taken { IfOk result (λ n. Consumes (R.left source.old) (R.left source.new)
+        (take n (drop left block.new))) }
     ensures end { IfOk result (IsEmptyAtEnd (R.left source.old)) }
     ensures more { IfOk result (λ n. 0 < n → R.goes_on source.new) }
     ensures count { OnOk result (R.faults source.new ≡ R.faults source.old) }

@@ -20,7 +20,8 @@ use std::alloc::Global;
 
 /// Writes the report of a script of late events, or the line of its first fault.
 pub fn answer_late<W: Sink>(alloc: Global, bytes: &[u8], sink: &mut W) -> Result<u8, WriteFail>
-    ensures answered { WritesAnswer (of_late (late_of bytes.now)) (W.output sink.old) (W.output sink.new) result }
+    ensures answered { WritesAnswer (of_late (late_of bytes.now)) (W.output sink.old)
+        (W.output sink.new) result }
     ensures status { IfOk result (λ status. (status ≡ 0) ⊎ (status ≡ 2)) }
     ensures counted { Counted (W.output sink.old) (W.output sink.new) result }
 {
@@ -40,7 +41,8 @@ pub fn answer_late<W: Sink>(alloc: Global, bytes: &[u8], sink: &mut W) -> Result
 /// Writes the report of a good script of late events.
 fn write_late<W: Sink>(alloc: Global, script: LateScript, sink: &mut W) -> Result<(), WriteFail>
     requires { IsLawfulLate (late_said script) }
-    ensures { WritesOr (λ fail. fail ≡ SinkFailed) (W.output sink.old) (W.output sink.new) (late_text (late_said script)) result }
+    ensures { WritesOr (λ fail. fail ≡ SinkFailed) (W.output sink.old) (W.output sink.new)
+        (late_text (late_said script)) result }
 {
     let parts = late_parts(alloc, script)?;
     write_late_parts(alloc, parts, sink)?;
@@ -55,7 +57,8 @@ fn write_late_parts<W: Sink>(
     sink: &mut W,
 ) -> Result<(), WriteFail>
     requires { All IsLatePart parts.items }
-    ensures { WritesOr (λ fail. fail ≡ SinkFailed) (W.output sink.old) (W.output sink.new) (flat_map late_part_text parts.items) result }
+    ensures { WritesOr (λ fail. fail ≡ SinkFailed) (W.output sink.old) (W.output sink.new)
+        (flat_map late_part_text parts.items) result }
 {
     let mut lender = Lender::new(alloc);
     for part in parts {

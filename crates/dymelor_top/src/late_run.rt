@@ -30,7 +30,8 @@ pub fn write_late_part<W: Sink>(
     sink: &mut W,
 ) -> Result<(), WriteFail>
     requires { IsLatePart part }
-    ensures { WritesOr (λ fail. fail ≡ SinkFailed) (W.output sink.old) (W.output sink.new) (late_part_text part) result }
+    ensures { WritesOr (λ fail. fail ≡ SinkFailed) (W.output sink.old) (W.output sink.new)
+        (late_part_text part) result }
 {
     let LatePart { decl, acts } = part;
     let mut late = open_late(alloc, lender, decl.quota)?;
@@ -72,7 +73,8 @@ fn write_run<W: Sink>(
     requires whole { late.old.broken ≡ false }
     requires acts { All MayAct acts.items }
     requires few { count_by is_event acts.items ≤ MOST_EVENTS }
-    ensures { WritesOr (λ fail. fail ≡ SinkFailed) (W.output sink.old) (W.output sink.new) (late_part name.now late.old.heap.quota (arrivals_by acts.items)) result }
+    ensures { WritesOr (λ fail. fail ≡ SinkFailed) (W.output sink.old) (W.output sink.new)
+        (late_part name.now late.old.heap.quota (arrivals_by acts.items)) result }
 {
     let told = take_all(alloc, late, acts)?;
     write_heading(sink, name)?;
@@ -113,7 +115,8 @@ fn take_in(
     requires may { MayAct act }
     requires room { length late.old.events + count_by is_event (act ∷ []) ≤ MOST_EVENTS }
     ensures took { OnOk result (TookIn late.old late.new (arrival act ∷ [])) }
-    ensures told { IfOk result (λ told. told ≡ told_at late.old.bound (length late.old.events) (arrival act)) }
+    ensures told { IfOk result (λ told.
+        told ≡ told_at late.old.bound (length late.old.events) (arrival act)) }
 {
     match act {
         LateAct::At { time, command } => {
@@ -139,7 +142,8 @@ fn write_lines<W: Sink>(
 ) -> Result<(), SinkFault>
     requires whole { late.now.broken ≡ false }
     requires there { All (IsOneOf (length late.now.events)) told.now }
-    ensures { WritesText (W.output sink.old) (W.output sink.new) (flat_map (told_text late.now.heap.quota late.now.events) told.now) result }
+    ensures { WritesText (W.output sink.old) (W.output sink.new)
+        (flat_map (told_text late.now.heap.quota late.now.events) told.now) result }
 {
     for line in told {
         write_late_line(sink, out_of(late, *line))?;

@@ -51,7 +51,8 @@ pub fn answer_loaded<W: Sink>(
 /// Writes what was made of a file, restored to a time where one is named, and gives its segments back.
 fn write_loaded<W: Sink>(loaded: Loaded, time: Option<u64>, sink: &mut W) -> Result<(), SinkFault>
     requires { (bytes : List ℕ) × IsLoaded bytes loaded }
-    ensures { (bytes : List ℕ) → (is : IsLoaded bytes loaded) → WritesText (W.output sink.old) (W.output sink.new) (loaded_text time is.head loaded.chain.logs) result }
+    ensures { (bytes : List ℕ) → (is : IsLoaded bytes loaded)
+        → WritesText (W.output sink.old) (W.output sink.new) (loaded_text time is.head loaded.chain.logs) result }
 {
     let Loaded {
         name,

@@ -31,7 +31,9 @@ pub fn write_report<W: Sink>(
     sink: &mut W,
 ) -> Result<(), WriteFail>
     requires made { (s : Said) × IsByObjects script.now s }
-    ensures { (s : Said) → IsByObjects script.now s → WritesOr (λ fail. fail ≡ SinkFailed) (W.output sink.old) (W.output sink.new) (report_text s) result }
+    ensures { (s : Said) → IsByObjects script.now s
+        → WritesOr (λ fail. fail
+        ≡ SinkFailed) (W.output sink.old) (W.output sink.new) (report_text s) result }
 {
     write_parts(alloc, script.version, &script.kept.parts, sink)?;
     write_end(sink)?;
@@ -46,7 +48,8 @@ fn write_parts<W: Sink>(
     sink: &mut W,
 ) -> Result<(), WriteFail>
     requires { All IsRunnable parts.now }
-    ensures { WritesOr (λ fail. fail ≡ SinkFailed) (W.output sink.old) (W.output sink.new) (flat_map (λ part. part_text version (own_of part)) parts.now) result }
+    ensures { WritesOr (λ fail. fail ≡ SinkFailed) (W.output sink.old) (W.output sink.new)
+        (flat_map (λ part. part_text version (own_of part)) parts.now) result }
 {
     let mut lender = Lender::new(alloc);
     for part in parts {
@@ -64,7 +67,8 @@ fn write_part<W: Sink>(
     sink: &mut W,
 ) -> Result<(), WriteFail>
     requires { IsRunnable part.now }
-    ensures { WritesOr (λ fail. fail ≡ SinkFailed) (W.output sink.old) (W.output sink.new) (part_text version (own_of part.now)) result }
+    ensures { WritesOr (λ fail. fail ≡ SinkFailed) (W.output sink.old) (W.output sink.new)
+        (part_text version (own_of part.now)) result }
 {
     let object = open_object(alloc, version, lender, part.decl.quota)?;
     let mut turn = Turn::new(alloc, object);
@@ -107,7 +111,8 @@ fn write_run<W: Sink>(
     requires quota { turn.old.object.heap.quota ≡ part.now.decl.quota }
     requires start { state_of turn.old.object ≡ object_start }
     requires ran { turn.old.object.ran ≡ 0 }
-    ensures { WritesOr (λ fail. fail ≡ SinkFailed) (W.output sink.old) (W.output sink.new) (part_text turn.old.object.heap.version (own_of part.now)) result }
+    ensures { WritesOr (λ fail. fail ≡ SinkFailed) (W.output sink.old) (W.output sink.new)
+        (part_text turn.old.object.heap.version (own_of part.now)) result }
 {
     write_heading(sink, &part.decl.name)?;
     run_and_write(turn, &part.commands, sink)?;

@@ -37,7 +37,8 @@ pub fn answer_saved<W: Sink>(
     sink: &mut W,
 ) -> Result<u8, WriteFail>
     requires made { (read : Result Said Fault) × GivesParts script read }
-    ensures answered { (read : Result Said Fault) → GivesParts script read → WritesAnswer (saved_answer name.now read) (W.output sink.old) (W.output sink.new) result }
+    ensures answered { (read : Result Said Fault) → GivesParts script read
+        → WritesAnswer (saved_answer name.now read) (W.output sink.old) (W.output sink.new) result }
     ensures status { IfOk result (λ status. (status ≡ 0) ⊎ (status ≡ 2)) }
     ensures counted { Counted (W.output sink.old) (W.output sink.new) result }
 {
@@ -59,7 +60,9 @@ fn save_named<W: Sink>(
     sink: &mut W,
 ) -> Result<u8, WriteFail>
     requires made { (s : Said) × IsByObjects script.now s }
-    ensures answered { (s : Said) → IsByObjects script.now s → WritesAnswer (named_answer s.version (own_named name.now s)) (W.output sink.old) (W.output sink.new) result }
+    ensures answered { (s : Said) → IsByObjects script.now s
+        → WritesAnswer (named_answer s.version
+        (own_named name.now s)) (W.output sink.old) (W.output sink.new) result }
     ensures status { IfOk result (λ status. (status ≡ 0) ⊎ (status ≡ 2)) }
     ensures counted { Counted (W.output sink.old) (W.output sink.new) result }
 {
@@ -74,7 +77,8 @@ fn save_named<W: Sink>(
 
 /// The object of a name.
 fn part_named<'a>(parts: &'a [Part], name: &Name) -> Option<&'a Part>
-    ensures { option_map (λ part. part.now) result ≡ find (λ part. bytes_eq part.decl.name name.now) parts.now }
+    ensures { option_map (λ part. part.now) result
+        ≡ find (λ part. bytes_eq part.decl.name name.now) parts.now }
 {
     parts.iter().find(|part| is_named(part, name))
 }
@@ -95,7 +99,8 @@ fn save_part<W: Sink>(
 ) -> Result<u8, WriteFail>
     requires runnable { IsRunnable part.now }
     requires named { IsTrue (is_name part.now.decl.name) }
-    ensures answered { WritesAnswer (file_answer (own_file version (own_of part.now))) (W.output sink.old) (W.output sink.new) result }
+    ensures answered { WritesAnswer (file_answer (own_file version (own_of part.now))) (W.output sink.old)
+        (W.output sink.new) result }
     ensures status { IfOk result (λ status. (status ≡ 0) ⊎ (status ≡ 2)) }
     ensures counted { Counted (W.output sink.old) (W.output sink.new) result }
 {
@@ -137,7 +142,8 @@ fn save_run<W: Sink>(
     requires run { OnOk ran (HasRun part.now.commands object.old) }
     requires quota { object.old.heap.quota ≡ part.now.decl.quota }
     requires whole { IsWhole object.old }
-    ensures answered { WritesAnswer (file_answer (own_file object.old.heap.version (own_of part.now))) (W.output sink.old) (W.output sink.new) result }
+    ensures answered { WritesAnswer (file_answer (own_file object.old.heap.version (own_of part.now)))
+        (W.output sink.old) (W.output sink.new) result }
     ensures status { IfOk result (λ status. (status ≡ 0) ⊎ (status ≡ 2)) }
     ensures counted { Counted (W.output sink.old) (W.output sink.new) result }
     ensures same { object.new.chain ≡ object.old.chain }

@@ -70,7 +70,8 @@ pub fn dymelor_still<R: Source, W: Sink>(
 fn serve_usage<W: Sink>(sink: &mut W) -> Result<u8, WriteFail>
     ensures served { Serves (λ a. a ≡ usage_answer) (W.output sink.old) (W.output sink.new) result }
     ensures count { OnOk result ((W.output sink.new).faults ≡ (W.output sink.old).faults) }
-    ensures fault { IfErr result (λ fail. (fail ≡ SinkFailed) × RoseOnce (W.output sink.old).faults (W.output sink.new).faults) }
+    ensures fault { IfErr result (λ fail.
+        (fail ≡ SinkFailed) × RoseOnce (W.output sink.old).faults (W.output sink.new).faults) }
 {
     write_usage(sink)?;
     flush(sink)?;
@@ -87,9 +88,11 @@ fn serve_made<W: Sink>(
     requires some { 0 < objects }
     requires objects { objects ≤ MOST_OBJECTS }
     requires commands { commands ≤ MOST_MADE_COMMANDS }
-    ensures served { Serves (λ a. a ≡ made_answer seed objects commands) (W.output sink.old) (W.output sink.new) result }
+    ensures served { Serves (λ a. a ≡ made_answer seed objects commands) (W.output sink.old)
+        (W.output sink.new) result }
     ensures count { OnOk result ((W.output sink.new).faults ≡ (W.output sink.old).faults) }
-    ensures fault { IfErr result (λ fail. (fail ≡ SinkFailed) × RoseOnce (W.output sink.old).faults (W.output sink.new).faults) }
+    ensures fault { IfErr result (λ fail.
+        (fail ≡ SinkFailed) × RoseOnce (W.output sink.old).faults (W.output sink.new).faults) }
 {
     gen_script(sink, seed, objects, commands)?;
     flush(sink)?;
@@ -109,11 +112,14 @@ fn serve_read_made<W: Sink>(
     requires objects { objects ≤ MOST_OBJECTS }
     requires commands { commands ≤ MOST_MADE_COMMANDS }
     requires still { IsStill reading }
-    ensures served { Serves (IsRead reading (generated seed objects commands)) (W.output sink.old) (W.output sink.new) result }
+    ensures served { Serves (IsRead reading (generated seed objects commands)) (W.output sink.old)
+        (W.output sink.new) result }
     ensures status { IfOk result (λ status. (status ≡ 0) ⊎ (status ≡ 2)) }
     ensures no_source { ¬ IsErrOf result SourceStopped }
-    ensures sink_fault { IsErrOf result SinkStopped → RoseOnce (W.output sink.old).faults (W.output sink.new).faults }
-    ensures sink_stands { ¬ IsErrOf result SinkStopped → (W.output sink.new).faults ≡ (W.output sink.old).faults }
+    ensures sink_fault { IsErrOf result SinkStopped
+        → RoseOnce (W.output sink.old).faults (W.output sink.new).faults }
+    ensures sink_stands { ¬ IsErrOf result SinkStopped
+        → (W.output sink.new).faults ≡ (W.output sink.old).faults }
 {
     let made = made_script(alloc, seed, objects, commands)?;
     let mut source = MadeSource { rest: &made };
@@ -129,14 +135,19 @@ fn serve_read<R: Source, W: Sink>(
 ) -> Result<u8, Stop>
     requires goes_on { R.goes_on source.old }
     requires still { IsStill reading }
-    ensures served { (bytes : List ℕ) → R.left source.old ≡ Some bytes → Serves (IsRead reading bytes) (W.output sink.old) (W.output sink.new) result }
-    ensures read { (bytes : List ℕ) → R.left source.old ≡ Some bytes → OnOk result (R.left source.new ≡ Some (drop (MOST_INPUT_BYTES + 1) bytes)) }
+    ensures served { (bytes : List ℕ) → R.left source.old ≡ Some bytes
+        → Serves (IsRead reading bytes) (W.output sink.old) (W.output sink.new) result }
+    ensures read { (bytes : List ℕ) → R.left source.old ≡ Some bytes
+        → OnOk result (R.left source.new ≡ Some (drop (MOST_INPUT_BYTES + 1) bytes)) }
     ensures status { IfOk result (λ status. (status ≡ 0) ⊎ (status ≡ 2)) }
     ensures bounded { TookAtMost (MOST_INPUT_BYTES + 1) (R.left source.old) (R.left source.new) }
-    ensures source_fault { IsErrOf result SourceStopped → RoseOnce (R.faults source.old) (R.faults source.new) × (W.output sink.new ≡ W.output sink.old) }
+    ensures source_fault { IsErrOf result SourceStopped
+        → RoseOnce (R.faults source.old) (R.faults source.new) × (W.output sink.new ≡ W.output sink.old) }
     ensures source_stands { ¬ IsErrOf result SourceStopped → R.faults source.new ≡ R.faults source.old }
-    ensures sink_fault { IsErrOf result SinkStopped → RoseOnce (W.output sink.old).faults (W.output sink.new).faults }
-    ensures sink_stands { ¬ IsErrOf result SinkStopped → (W.output sink.new).faults ≡ (W.output sink.old).faults }
+    ensures sink_fault { IsErrOf result SinkStopped
+        → RoseOnce (W.output sink.old).faults (W.output sink.new).faults }
+    ensures sink_stands { ¬ IsErrOf result SinkStopped
+        → (W.output sink.new).faults ≡ (W.output sink.old).faults }
 {
     let status = answer_source(alloc, reading, source, sink)?;
     flush(sink)?;
@@ -148,7 +159,8 @@ pub(crate) fn flush<W: Sink>(sink: &mut W) -> Result<(), WriteFail>
     ensures written { Keeps (W.output sink.old).written (W.output sink.new).written }
     ensures flushed { OnOk result (AllFlushed (W.output sink.old) (W.output sink.new)) }
     ensures count { OnOk result ((W.output sink.new).faults ≡ (W.output sink.old).faults) }
-    ensures fault { IfErr result (λ fail. (fail ≡ SinkFailed) × RoseOnce (W.output sink.old).faults (W.output sink.new).faults) }
+    ensures fault { IfErr result (λ fail.
+        (fail ≡ SinkFailed) × RoseOnce (W.output sink.old).faults (W.output sink.new).faults) }
 {
     match sink.flush() {
         Ok(()) => Ok(()),

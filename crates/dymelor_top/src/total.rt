@@ -44,7 +44,8 @@ fn tally_parts(alloc: Global, version: Version, parts: &[Part]) -> Result<Tally,
     requires objects { length parts.now ≤ MOST_OBJECTS }
     requires commands { sum_by (λ part. length part.commands) parts.now ≤ MOST_COMMANDS }
     ensures counted { IfOk result (λ tally. tally ≡ tally_all version (map own_of parts.now)) }
-    ensures replies { IfOk result (λ tally. tally.ok + tally.refused ≡ sum_by (λ part. length part.commands) parts.now) }
+    ensures replies { IfOk result (λ tally.
+        tally.ok + tally.refused ≡ sum_by (λ part. length part.commands) parts.now) }
 {
     let mut tally = Tally::none();
     let mut lender = Lender::new(alloc);

@@ -43,13 +43,17 @@ pub fn serve_waves<R: Threads + Wait + Send + Sync, S: Source, W: Sink, G: Gate>
     requires shape { IsShape shape }
     ensures served { (bytes : List ℕ) → S.left source.old ≡ Some bytes
         → Serves (IsRead (Waves shape.segments text) bytes) (W.output sink.old) (W.output sink.new) result }
-    ensures read { (bytes : List ℕ) → S.left source.old ≡ Some bytes → OnOk result (S.left source.new ≡ Some (drop (MOST_INPUT_BYTES + 1) bytes)) }
+    ensures read { (bytes : List ℕ) → S.left source.old ≡ Some bytes
+        → OnOk result (S.left source.new ≡ Some (drop (MOST_INPUT_BYTES + 1) bytes)) }
     ensures status { IfOk result (λ status. (status ≡ 0) ⊎ (status ≡ 2)) }
     ensures bounded { TookAtMost (MOST_INPUT_BYTES + 1) (S.left source.old) (S.left source.new) }
-    ensures source_fault { IsErrOf result SourceStopped → RoseOnce (S.faults source.old) (S.faults source.new) × (W.output sink.new ≡ W.output sink.old) }
+    ensures source_fault { IsErrOf result SourceStopped
+        → RoseOnce (S.faults source.old) (S.faults source.new) × (W.output sink.new ≡ W.output sink.old) }
     ensures source_stands { ¬ IsErrOf result SourceStopped → S.faults source.new ≡ S.faults source.old }
-    ensures sink_fault { IsErrOf result SinkStopped → RoseOnce (W.output sink.old).faults (W.output sink.new).faults }
-    ensures sink_stands { ¬ IsErrOf result SinkStopped → (W.output sink.new).faults ≡ (W.output sink.old).faults }
+    ensures sink_fault { IsErrOf result SinkStopped
+        → RoseOnce (W.output sink.old).faults (W.output sink.new).faults }
+    ensures sink_stands { ¬ IsErrOf result SinkStopped
+        → (W.output sink.new).faults ≡ (W.output sink.old).faults }
 {
     let script = read_source::<Holding, S>(alloc, source)?;
     let status = answer_waves(rt, alloc, shape, text, script, sink, gate)?;
@@ -115,7 +119,8 @@ fn run_script<R: Threads + Wait + Send + Sync, W: Sink, G: Gate>(
 
 /// The line of the first object that may hold more than so many segments.
 fn line_above(parts: &[Part], segments: u32) -> Option<u32>
-    ensures { result ≡ option_map (λ part. part.decl.line) (find (λ part. nat_lt segments part.decl.quota) parts.now) }
+    ensures { result ≡ option_map (λ part. part.decl.line)
+        (find (λ part. nat_lt segments part.decl.quota) parts.now) }
 {
     parts
         .iter()
@@ -159,7 +164,9 @@ fn tell<R: Threads + Wait + Send + Sync, W: Sink, G: Gate>(
     requires made { (s : Said) × IsByObjects script s }
     requires shape { IsShape shape }
     requires fits { All (λ part. part.decl.quota ≤ shape.segments) script.kept.parts.items }
-    ensures { (s : Said) → IsByObjects script s → WritesOr (λ fail. fail ≡ SinkFailed) (W.output sink.old) (W.output sink.new) (told_text views s) result }
+    ensures { (s : Said) → IsByObjects script s
+        → WritesOr (λ fail. fail
+        ≡ SinkFailed) (W.output sink.old) (W.output sink.new) (told_text views s) result }
 {
     let Whole { version, kept, .. } = script;
     let telling = Telling { version, views };
@@ -180,7 +187,8 @@ fn summarize<R: Threads + Wait + Send + Sync, W: Sink, G: Gate>(
     requires made { (s : Said) × IsByObjects script s }
     requires shape { IsShape shape }
     requires fits { All (λ part. part.decl.quota ≤ shape.segments) script.kept.parts.items }
-    ensures { (s : Said) → IsByObjects script s → WritesOr (λ fail. fail ≡ SinkFailed) (W.output sink.old) (W.output sink.new) (summary_of s) result }
+    ensures { (s : Said) → IsByObjects script s
+        → WritesOr (λ fail. fail ≡ SinkFailed) (W.output sink.old) (W.output sink.new) (summary_of s) result }
 {
     let totals = total(rt, alloc, shape, script, gate)?;
     write_summary(sink, &totals)?;

@@ -59,8 +59,10 @@ struct Run {
 /// The order to run a script in waves, where it is one.
 fn run_of(order: Result<Order, Usage>) -> Option<Run>
     ensures other { IfNone result (whole_plan_of order ≡ plan_of order) }
-    ensures plan { IfSome result (λ run. whole_plan_of order ≡ waves_plan run.shape.segments run.input run.text) }
-    ensures within { IfOk order IsWithin → IfSome result (λ run. IsShape run.shape × IsInputWithin run.input) }
+    ensures plan { IfSome result (λ run.
+        whole_plan_of order ≡ waves_plan run.shape.segments run.input run.text) }
+    ensures within { IfOk order IsWithin → IfSome result
+        (λ run. IsShape run.shape × IsInputWithin run.input) }
 {
     match order {
         Ok(
@@ -169,11 +171,14 @@ fn serve_made_waves<R: Threads + Wait + Send + Sync, W: Sink, G: Gate>(
 ) -> Result<u8, Stop>
     requires shape { IsShape shape }
     requires made { CanBeMade objects commands }
-    ensures served { Serves (IsRead (Waves shape.segments text) (generated seed objects commands)) (W.output sink.old) (W.output sink.new) result }
+    ensures served { Serves (IsRead (Waves shape.segments text) (generated seed objects commands))
+        (W.output sink.old) (W.output sink.new) result }
     ensures status { IfOk result (λ status. (status ≡ 0) ⊎ (status ≡ 2)) }
     ensures no_source { ¬ IsErrOf result SourceStopped }
-    ensures sink_fault { IsErrOf result SinkStopped → RoseOnce (W.output sink.old).faults (W.output sink.new).faults }
-    ensures sink_stands { ¬ IsErrOf result SinkStopped → (W.output sink.new).faults ≡ (W.output sink.old).faults }
+    ensures sink_fault { IsErrOf result SinkStopped
+        → RoseOnce (W.output sink.old).faults (W.output sink.new).faults }
+    ensures sink_stands { ¬ IsErrOf result SinkStopped
+        → (W.output sink.new).faults ≡ (W.output sink.old).faults }
 {
     let made = made_script(alloc, seed, objects, commands)?;
     let mut source = MadeSource { rest: &made };
