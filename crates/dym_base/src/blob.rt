@@ -48,6 +48,14 @@ impl Blob {
     }
 }
 
+impl Clone for Blob {
+    ghost is_clone = { λ b c. c ≡ b };
+
+    fn clone(&self) -> Result<Blob, AllocError> {
+        Blob::new(*self.bytes.allocator(), self.bytes())
+    }
+}
+
 impl PartialEq for Blob {
     ghost eq = { pointwise nat_eq };
 

@@ -19,7 +19,7 @@ pub enum Kind {
 }
 
 /// One command to an object. `None` in the place of a handle is nil.
-#[derive(Drop, PartialEq)]
+#[derive(Clone, Drop, PartialEq)]
 pub enum Command {
     Malloc {
         len: u64,
