@@ -4,9 +4,9 @@ ghost use Rattle.dym_gen.specs.Draws.{word as said, number as drawn, size as dra
 ghost use Rattle.dym_gen.specs.Commands.{drawn_command, fixed_command, goes_back as does_go_back, command_text, command_state};
 
 use crate::draws::Draws;
-use crate::page::{put_number, put_short, put_text, put_word};
 use crate::place::Place;
 use crate::word::size;
+use dym_text::{put_named, put_short, put_text, put_word};
 
 /// Puts the command of a place.
 #[inline(always)]
@@ -23,13 +23,13 @@ pub fn put_command(page: &mut [u8], end: usize, draws: &mut Draws, place: Place)
     } else if j == 1 {
         put_text(page, end, b"malloc 65536")
     } else if j % 32 == 22 && goes_back(place.object) {
-        put_named(page, end, b"restore ", j - 8)
+        put_named(page, end, b"restore ", u64::from(j - 8))
     } else if j % 32 == 30 && goes_back(place.object) {
-        put_named(page, end, b"prune ", j - 16)
+        put_named(page, end, b"prune ", u64::from(j - 16))
     } else if j % 32 == 2 {
-        put_named(page, end, b"log ", j)
+        put_named(page, end, b"log ", u64::from(j))
     } else if j % 4 == 2 {
-        put_named(page, end, b"ilog ", j)
+        put_named(page, end, b"ilog ", u64::from(j))
     } else {
         put_drawn(page, end, draws)
     }
@@ -40,19 +40,6 @@ fn goes_back(object: u32) -> bool
     ensures { result ≡ does_go_back object }
 {
     object % 4 != 3
-}
-
-/// Puts a name and a number.
-#[inline(always)]
-fn put_named(page: &mut [u8], end: usize, name: &[u8], number: u32) -> usize
-    requires name { length name.now ≤ 8 }
-    requires number { number < 1000000 }
-    requires room { end + 32 ≤ length page.old }
-    ensures text { take result page.new ≡ take end page.old ++ (name.now ++ decimal number) }
-    ensures short { result ≤ end + 24 }
-{
-    let end = put_text(page, end, name);
-    put_number(page, end, number)
 }
 
 /// Puts a command that is drawn.

@@ -7,9 +7,9 @@ ghost use Rattle.dym_gen.specs.Scripts.{object_line, object_lines, command_line,
 
 use crate::command::put_command;
 use crate::draws::Draws;
-use crate::page::{put_number, put_short, put_text};
 use crate::place::Place;
 use dym_io::{Sink, SinkFault, push_all};
+use dym_text::{put_named, put_short, put_text};
 
 /// The most lines that are pushed together.
 const GROUP: u32 = 256;
@@ -75,8 +75,7 @@ fn put_object(page: &mut [u8], end: usize, object: u32) -> usize
     ensures text { take result page.new ≡ take end page.old ++ object_line object }
     ensures short { result ≤ end + 40 }
 {
-    let end = put_text(page, end, b"object o");
-    let end = put_number(page, end, object);
+    let end = put_named(page, end, b"object o", u64::from(object));
     let end = put_text(page, end, b" ");
     let end = put_short(page, end, 1 + 3 * (object % 4));
     put_text(page, end, b"\n")
@@ -136,8 +135,7 @@ fn put_line(page: &mut [u8], end: usize, draws: &mut Draws, place: Place) -> usi
     ensures state { (objects k : ℕ) → place.object ≡ k % objects → place.number ≡ k / objects → draws.new.state ≡ line_state objects k draws.old.state }
     ensures short { result ≤ end + 40 }
 {
-    let end = put_text(page, end, b"o");
-    let end = put_number(page, end, place.object);
+    let end = put_named(page, end, b"o", u64::from(place.object));
     let end = put_text(page, end, b" ");
     let end = put_command(page, end, draws, place);
     put_text(page, end, b"\n")

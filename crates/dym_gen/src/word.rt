@@ -1,50 +1,7 @@
-//! Words of at most four bytes. Each is kept in four bytes, so that its copy needs no branch for its length.
-ghost use Rattle.std.specs.Prelude.{◌≡◌, ◌+◌, ◌*◌, ◌^◌, ◌<◌, ◌≤◌, ◌++◌, take, codes, decimal};
+//! The sizes of chunks as words.
+ghost use Rattle.std.specs.Prelude.{◌≡◌, ◌*◌, ◌^◌, ◌<◌, ◌++◌, take, codes, decimal};
 
-/// The first `len` of four bytes.
-#[derive(Clone, Copy)]
-pub struct Word {
-    pub bytes: [u8; 4],
-    pub len: usize,
-    ghost short: { len ≤ 4 },
-}
-
-/// The digits of a number of at most three digits.
-#[inline(always)]
-pub fn digits(n: u32) -> Word
-    requires { n < 1000 }
-    ensures text { take result.len result.bytes ≡ decimal n }
-    ensures short { result.len ≤ 3 }
-{
-    let ones = digit(n % 10);
-    let tens = digit(n / 10 % 10);
-    let hundreds = digit(n / 100);
-    if n < 10 {
-        Word {
-            bytes: [ones, 0, 0, 0],
-            len: 1,
-        }
-    } else if n < 100 {
-        Word {
-            bytes: [tens, ones, 0, 0],
-            len: 2,
-        }
-    } else {
-        Word {
-            bytes: [hundreds, tens, ones, 0],
-            len: 3,
-        }
-    }
-}
-
-/// The digit of a number below 10.
-#[inline(always)]
-pub fn digit(n: u32) -> u8
-    requires { n < 10 }
-    ensures { result ≡ 48 + n }
-{
-    b'0' + n as u8
-}
+use dym_text::Word;
 
 /// One of the sizes 32, 64, 128 and 256, and a colon.
 #[inline(always)]

@@ -1,4 +1,3 @@
-pub mod Digits
 pub mod Trims
 pub mod HexPieces
 pub mod EntriesInOrder
@@ -6,3 +5,4 @@ pub mod LiveWalk
 pub mod LiveChunks
 pub mod ObjectParts
 pub mod PageLines
+pub mod Summaries

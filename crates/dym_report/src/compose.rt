@@ -1,16 +1,18 @@
-//! Replies that are put behind the text that begins a buffer, so that digits are written once, where they stand. Each function
-//! here takes where that text ends, and answers where it ends then.
+//! Replies that are put behind the text that begins a buffer, by the calls of dym_text.
 ghost use Rattle.std.specs.Prelude.{◌≡◌, ◌+◌, ◌*◌, ◌<◌, ◌≤◌, ◌^◌, ◌++◌, true, length, take, decimal, codes};
 ghost use Rattle.hex.specs.Hex.{encode_lower};
 ghost use Rattle.dym_base.specs.declared.reply.Reply.TheVariants.{Bytes};
 ghost use Rattle.dym_report.specs.Replies.{reply_line, reply_text, kind_text, refusal_text, line_room};
-ghost use Rattle.dym_report.specs.Handles.{handle_text};
+ghost use Rattle.dym_report.specs.Handles.{handle_text, size_of};
 ghost use Rattle.dym_report.specs.Hex.{hex_text};
 
-use crate::line::{LINE_ROOM, size};
+use dym_base::limits::GREATEST_EXPONENT;
 use dym_base::{Handle, Kind, Refusal, Reply};
+use dym_text::{put_named, put_number, put_text};
 use hex::encode_to_slice;
-use itoa::write_digits;
+
+/// The bytes of the longest short line.
+pub(crate) const LINE_ROOM: usize = 80;
 
 /// Whether so many bytes are enough for the line of a reply.
 #[inline(always)]
@@ -43,13 +45,15 @@ pub(crate) fn put_line(buffer: &mut [u8], start: usize, reply: &Reply) -> usize
         Reply::Done => put_text(buffer, start, b"ok"),
         Reply::Chunk(handle) => put_chunk(buffer, start, *handle),
         Reply::Nil => put_text(buffer, start, b"ok nil"),
-        Reply::Loose(number) => put_number(buffer, start, b"loose ", *number),
+        Reply::Loose(number) => put_named(buffer, start, b"loose ", *number),
         Reply::Bytes(bytes) => put_bytes(buffer, start, bytes.bytes()),
-        Reply::Total(total) => put_number(buffer, start, b"ok ", *total),
+        Reply::Total(total) => put_named(buffer, start, b"ok ", *total),
         Reply::Logged { kind, len } => put_logged(buffer, start, *kind, *len),
-        Reply::At(time) => put_number(buffer, start, b"ok ", *time),
-        Reply::Dropped(count) => put_number(buffer, start, b"ok ", u64::from(*count)),
-        Reply::Slots { kept, slots } => put_slots(buffer, start, *kept, *slots),
+        Reply::At(time) => put_named(buffer, start, b"ok ", *time),
+        Reply::Dropped(count) => put_named(buffer, start, b"ok ", u64::from(*count)),
+        Reply::Slots { kept, slots } => {
+            put_numbers(buffer, start, b"ok ", u64::from(*kept), u64::from(*slots))
+        }
         Reply::Refused(refusal) => put_refusal(buffer, start, *refusal),
     };
     put_text(buffer, end, b"\n")
@@ -70,17 +74,15 @@ pub(crate) fn put_bytes_line(buffer: &mut [u8], start: usize, bytes: &[u8]) -> u
 fn put_chunk(buffer: &mut [u8], start: usize, handle: Handle) -> usize
     requires { start + 44 ≤ length buffer.old }
     ensures room { result ≤ start + 44 }
-    ensures len { length buffer.new ≡ length buffer.old }
     ensures text { take result buffer.new ≡ take start buffer.old ++ codes "ok " ++ handle_text handle }
 {
-    let end = put_number(buffer, start, b"ok ", size(handle.exp));
-    put_number(buffer, end, b":", u64::from(handle.index))
+    let end = put_text(buffer, start, b"ok ");
+    put_handle(buffer, end, handle)
 }
 
 fn put_bytes(buffer: &mut [u8], start: usize, bytes: &[u8]) -> usize
     requires { start + (4 + 2 * length bytes.now) ≤ length buffer.old }
     ensures room { result ≤ start + (4 + 2 * length bytes.now) }
-    ensures len { length buffer.new ≡ length buffer.old }
     ensures text { take result buffer.new ≡ take start buffer.old ++ codes "ok " ++ hex_text bytes.now }
 {
     if bytes.is_empty() {
@@ -93,29 +95,17 @@ fn put_bytes(buffer: &mut [u8], start: usize, bytes: &[u8]) -> usize
 fn put_logged(buffer: &mut [u8], start: usize, kind: Kind, len: u64) -> usize
     requires { start + 28 ≤ length buffer.old }
     ensures room { result ≤ start + 28 }
-    ensures len { length buffer.new ≡ length buffer.old }
     ensures text { take result buffer.new ≡ take start buffer.old ++ codes "ok " ++ kind_text kind ++ codes " " ++ decimal len }
 {
     match kind {
-        Kind::Full => put_number(buffer, start, b"ok full ", len),
-        Kind::Inc => put_number(buffer, start, b"ok inc ", len),
+        Kind::Full => put_named(buffer, start, b"ok full ", len),
+        Kind::Inc => put_named(buffer, start, b"ok inc ", len),
     }
-}
-
-fn put_slots(buffer: &mut [u8], start: usize, kept: u32, slots: u32) -> usize
-    requires { start + 44 ≤ length buffer.old }
-    ensures room { result ≤ start + 44 }
-    ensures len { length buffer.new ≡ length buffer.old }
-    ensures text { take result buffer.new ≡ take start buffer.old ++ codes "ok " ++ decimal kept ++ codes " " ++ decimal slots }
-{
-    let end = put_number(buffer, start, b"ok ", u64::from(kept));
-    put_number(buffer, end, b" ", u64::from(slots))
 }
 
 fn put_refusal(buffer: &mut [u8], start: usize, refusal: Refusal) -> usize
     requires { start + 29 ≤ length buffer.old }
     ensures room { result ≤ start + 29 }
-    ensures len { length buffer.new ≡ length buffer.old }
     ensures text { take result buffer.new ≡ take start buffer.old ++ refusal_text refusal }
 {
     match refusal {
@@ -123,94 +113,58 @@ fn put_refusal(buffer: &mut [u8], start: usize, refusal: Refusal) -> usize
         Refusal::Quota => put_text(buffer, start, b"quota"),
         Refusal::Dead => put_text(buffer, start, b"dead"),
         Refusal::Range => put_text(buffer, start, b"range"),
-        Refusal::NotAfter { newest } => put_number(buffer, start, b"notafter ", newest),
+        Refusal::NotAfter { newest } => put_named(buffer, start, b"notafter ", newest),
         Refusal::LogsFull => put_text(buffer, start, b"logsfull"),
         Refusal::NoLog => put_text(buffer, start, b"nolog"),
     }
 }
 
-/// Puts a word and a number.
+/// Puts a word and two numbers.
 #[inline(always)]
-fn put_number(buffer: &mut [u8], start: usize, word: &[u8], number: u64) -> usize
-    requires { start + length word.now + 20 ≤ length buffer.old }
-    ensures room { result ≤ start + length word.now + 20 }
-    ensures len { length buffer.new ≡ length buffer.old }
-    ensures text { take result buffer.new ≡ take start buffer.old ++ word.now ++ decimal number }
+pub(crate) fn put_numbers(
+    buffer: &mut [u8],
+    start: usize,
+    word: &[u8],
+    first: u64,
+    second: u64,
+) -> usize
+    requires { start + length word.now + 41 ≤ length buffer.old }
+    ensures room { result ≤ start + length word.now + 41 }
+    ensures text { take result buffer.new ≡ take start buffer.old ++ (word.now ++ decimal first ++ codes " " ++ decimal second) }
 {
-    let end = put_text(buffer, start, word);
-    put_digits(buffer, end, number)
+    let end = put_named(buffer, start, word, first);
+    put_named(buffer, end, b" ", second)
 }
 
-/// Puts the digits of a number.
+/// Puts a handle.
 #[inline(always)]
-fn put_digits(buffer: &mut [u8], start: usize, number: u64) -> usize
-    requires { start + 20 ≤ length buffer.old }
-    ensures room { result ≤ start + 20 }
-    ensures len { length buffer.new ≡ length buffer.old }
-    ensures text { take result buffer.new ≡ take start buffer.old ++ decimal number }
+pub(crate) fn put_handle(buffer: &mut [u8], start: usize, handle: Handle) -> usize
+    requires { start + 41 ≤ length buffer.old }
+    ensures room { result ≤ start + 41 }
+    ensures text { take result buffer.new ≡ take start buffer.old ++ handle_text handle }
 {
-    let end = start + count_digits(number);
-    write_digits(number, buffer, end);
-    end
+    let end = put_number(buffer, start, size(handle.exp));
+    put_named(buffer, end, b":", u64::from(handle.index))
 }
 
-/// How many digits a number has.
-#[inline(always)]
-#[tactic(auto, using(crate::proofs::Digits::digits_1, crate::proofs::Digits::digits_2, crate::proofs::Digits::digits_3, crate::proofs::Digits::digits_4, crate::proofs::Digits::digits_5, crate::proofs::Digits::digits_6))]
-fn count_digits(number: u64) -> usize
-    ensures { result ≡ length (decimal number) }
+/// The bytes of a chunk of a class, and 0 where the exponent is above those of all classes.
+fn size(exp: u8) -> u64
+    ensures { result ≡ size_of exp }
 {
-    if number < 10 {
-        1
-    } else if number < 100 {
-        2
-    } else if number < 1_000 {
-        3
-    } else if number < 10_000 {
-        4
-    } else if number < 100_000 {
-        5
-    } else if number < 1_000_000 {
-        6
+    if exp <= GREATEST_EXPONENT {
+        1 << exp
     } else {
-        count_many(number)
+        0
     }
-}
-
-/// How many digits a number has, counted one by one.
-fn count_many(number: u64) -> usize
-    ensures { result ≡ length (decimal number) }
-{
-    let mut left = number;
-    let mut count = 1;
-    'digits: while left >= 10 {
-        left /= 10;
-        count += 1;
-    }
-    count
 }
 
 /// Puts the hexadecimal digits of some bytes.
 fn put_hex(buffer: &mut [u8], start: usize, bytes: &[u8]) -> usize
     requires { start + 2 * length bytes.now ≤ length buffer.old }
     ensures end { result ≡ start + 2 * length bytes.now }
-    ensures len { length buffer.new ≡ length buffer.old }
     ensures text { take result buffer.new ≡ take start buffer.old ++ encode_lower bytes.now }
 {
     let end = start + 2 * bytes.len();
     let _ = encode_to_slice(bytes, &mut buffer[start..end]);
-    end
-}
-
-/// Puts a text.
-#[inline(always)]
-fn put_text(buffer: &mut [u8], start: usize, text: &[u8]) -> usize
-    requires { start + length text.now ≤ length buffer.old }
-    ensures end { result ≡ start + length text.now }
-    ensures len { length buffer.new ≡ length buffer.old }
-    ensures text { take result buffer.new ≡ take start buffer.old ++ text.now }
-{
-    let end = start + text.len();
-    buffer[start..end].copy_from_slice(text);
     end
 }

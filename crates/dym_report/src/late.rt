@@ -1,17 +1,18 @@
 //! What the orders `views` and `late` print besides.
-ghost use Rattle.std.specs.Prelude.{◌≡◌, ◌++◌, codes, decimal};
+ghost use Rattle.std.specs.Prelude.{Some};
 ghost use Rattle.dym_heap.specs.Meaning.{IsSound};
 ghost use Rattle.dym_io.specs.Sink.{Writes};
 ghost use Rattle.dym_report.specs.declared.late.ViewLine.{ViewLine};
 ghost use Rattle.dym_report.specs.Late.{view_line, late_line, late_end};
 
-use crate::line::Line;
+use crate::compose::{LINE_ROOM, put_numbers};
 use crate::live::{write_heap, write_images};
 use crate::reply::{write_number, write_reply};
 use dym_base::Reply;
 use dym_heap::Heap;
 use dym_io::{Sink, SinkFault, push_all};
 use dym_quota::Supply;
+use dym_text::{put_named, put_text};
 
 /// What is seen of a log: its time, how many chunks it has, and the sum of their bytes.
 #[derive(Clone, Copy, Debug, PartialEq, Eq)]
@@ -38,23 +39,19 @@ pub fn write_view<W: Sink>(sink: &mut W, line: Option<ViewLine>) -> Result<(), S
 {
     match line {
         None => push_all(sink, b"view none\n"),
-        Some(view) => push_all(sink, numbers_of(view).bytes()),
+        Some(view) => write_seen(sink, view),
     }
 }
 
-/// The line of a view.
-fn numbers_of(view: ViewLine) -> Line
-    ensures { result ≡ codes "view " ++ decimal view.time ++ codes " " ++ decimal view.chunks ++ codes " " ++ decimal view.total ++ codes "\n" }
+/// Writes the line of what is seen of a log.
+fn write_seen<W: Sink>(sink: &mut W, view: ViewLine) -> Result<(), SinkFault>
+    ensures { Writes (W.output sink.old) (W.output sink.new) (view_line (Some view)) result }
 {
-    let mut line = Line::new();
-    line.text(b"\n");
-    line.number(view.total);
-    line.text(b" ");
-    line.number(u64::from(view.chunks));
-    line.text(b" ");
-    line.number(view.time);
-    line.text(b"view ");
-    line
+    let mut line = [0; LINE_ROOM];
+    let end = put_numbers(&mut line, 0, b"view ", view.time, u64::from(view.chunks));
+    let end = put_named(&mut line, end, b" ", view.total);
+    let end = put_text(&mut line, end, b"\n");
+    push_all(sink, &line[..end])
 }
 
 /// Writes the line that a line of late events gets. Its only error is that of the sink.

@@ -1,12 +1,11 @@
-//! What the program prints: replies, heaps, logs, summaries and errors, as text in a sink. It stands on dym_base, dym_io
-//! and dym_heap, and the top call stands on it. Its one contract: each call writes the text that its definition says, or a front of it
+//! What the program prints: replies, heaps, logs, summaries and errors, as text in a sink. It stands on dym_base, dym_io,
+//! dym_text and dym_heap, and the top call stands on it. Its one contract: each call writes the text that its definition says, or a front of it
 //! where the sink failed. No call takes memory.
 #![tactic(auto)]
 
 pub mod compose;
 pub mod hex_text;
 pub mod late;
-pub mod line;
 pub mod live;
 pub mod object;
 pub mod order;
@@ -16,7 +15,6 @@ pub mod totals;
 
 pub use hex_text::write_hex_line;
 pub use late::{LateOut, ViewLine, write_late_end, write_late_line, write_view};
-pub use line::Line;
 pub use live::{live_chunks, write_object, write_state};
 pub use object::{write_heading, write_heap_line, write_image, write_logs};
 pub use order::{write_counts, write_end, write_error, write_events, write_usage};

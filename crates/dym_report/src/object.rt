@@ -1,14 +1,16 @@
 //! The parts of the report of one object.
-ghost use Rattle.std.specs.Prelude.{◌≡◌, ◌+◌, ◌≤◌, ◌++◌, length};
+ghost use Rattle.std.specs.Prelude.{◌≡◌, ◌≤◌, ◌++◌, length, take};
 ghost use Rattle.dym_io.specs.Sink.{Writes};
+ghost use Rattle.dym_report.specs.declared.compose.TheConstants.{LINE_ROOM};
 ghost use Rattle.dym_report.specs.Handles.{handle_text};
 ghost use Rattle.dym_report.specs.Objects.{heading, heap_line, length_text, image_line, logs_line};
 
+use crate::compose::{LINE_ROOM, put_handle};
 use crate::hex_text::{trimmed, write_hex_line};
-use crate::line::Line;
 use crate::reply::write_numbers;
 use dym_base::{Handle, Name, Version};
 use dym_io::{Sink, SinkFault, push_parts};
+use dym_text::{put_named, put_text};
 
 /// Writes the line that names an object. Its only error is that of the sink.
 pub fn write_heading<W: Sink>(sink: &mut W, name: &Name) -> Result<(), SinkFault>
@@ -36,25 +38,25 @@ pub fn write_image<W: Sink>(
 ) -> Result<(), SinkFault>
     ensures { Writes (W.output sink.old) (W.output sink.new) (image_line version handle bytes.now) result }
 {
-    let head = image_head(version, handle, bytes.len());
-    write_hex_line(sink, head.bytes(), trimmed(bytes))
+    let mut head = [0; LINE_ROOM];
+    let end = put_image_head(&mut head, version, handle, bytes.len());
+    write_hex_line(sink, &head[..end], trimmed(bytes))
 }
 
-/// What stands before the bytes of a live chunk.
-fn image_head(version: Version, handle: Handle, len: usize) -> Line
-    ensures { result ≡ handle_text handle ++ length_text version len }
+/// Puts what stands before the bytes of a live chunk.
+fn put_image_head(buffer: &mut [u8], version: Version, handle: Handle, len: usize) -> usize
+    requires { LINE_ROOM ≤ length buffer.old }
+    ensures end { result ≤ length buffer.new }
+    ensures text { take result buffer.new ≡ handle_text handle ++ length_text version len }
 {
-    let mut line = Line::new();
-    line.text(b" ");
+    let end = put_handle(buffer, 0, handle);
     match version {
-        Version::One => {}
+        Version::One => put_text(buffer, end, b" "),
         Version::Two => {
-            line.number(len as u64);
-            line.text(b" ");
+            let end = put_named(buffer, end, b" ", len as u64);
+            put_text(buffer, end, b" ")
         }
     }
-    line.handle(handle);
-    line
 }
 
 /// Writes how many logs are kept, and how many records they take. Its only error is that of the sink.

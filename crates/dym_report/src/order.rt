@@ -2,10 +2,11 @@
 ghost use Rattle.dym_io.specs.Sink.{Writes};
 ghost use Rattle.dym_report.specs.Orders.{end_text, counts_text, events_text, error_text, usage_text};
 
-use crate::line::Line;
+use crate::compose::LINE_ROOM;
 use crate::reply::{write_number, write_numbers};
 use dym_base::BadKind;
 use dym_io::{Sink, SinkFault, push_all, push_parts};
+use dym_text::{put_named, put_text};
 
 /// Writes the last line of a report. Its only error is that of the sink.
 pub fn write_end<W: Sink>(sink: &mut W) -> Result<(), SinkFault>
@@ -32,13 +33,12 @@ pub fn write_events<W: Sink>(sink: &mut W, events: u32) -> Result<(), SinkFault>
 pub fn write_error<W: Sink>(sink: &mut W, line: u32, kind: BadKind) -> Result<(), SinkFault>
     ensures { Writes (W.output sink.old) (W.output sink.new) (error_text line kind) result }
 {
-    let mut front = Line::new();
-    front.text(b": ");
-    front.number(u64::from(line));
-    front.text(b"error line ");
+    let mut front = [0; LINE_ROOM];
+    let end = put_named(&mut front, 0, b"error line ", u64::from(line));
+    let end = put_text(&mut front, end, b": ");
     push_parts(
         sink,
-        &[front.bytes(), kind.text().as_bytes(), b"\n".as_slice()],
+        &[&front[..end], kind.text().as_bytes(), b"\n".as_slice()],
     )
 }
 

@@ -3,12 +3,12 @@ ghost use Rattle.std.specs.Prelude.{◌≡◌, ◌≤◌, ◌++◌, length, drop
 ghost use Rattle.dym_io.specs.Sink.{Writes};
 ghost use Rattle.dym_report.specs.Replies.{reply_line};
 
-use crate::compose::put_line;
+use crate::compose::{LINE_ROOM, put_line, put_numbers};
 use crate::hex_text::write_hex_line;
-use crate::line::{LINE_ROOM, Line};
 use crate::page::Page;
 use dym_base::Reply;
 use dym_io::{Sink, SinkFault, push_all};
+use dym_text::{put_named, put_text};
 
 /// Writes the line of one reply. Its only error is that of the sink.
 pub fn write_reply<W: Sink>(sink: &mut W, reply: &Reply) -> Result<(), SinkFault>
@@ -40,11 +40,10 @@ pub fn write_number<W: Sink>(sink: &mut W, word: &[u8], number: u64) -> Result<(
     requires { length word.now ≤ 20 }
     ensures { Writes (W.output sink.old) (W.output sink.new) (word.now ++ decimal number ++ codes "\n") result }
 {
-    let mut line = Line::new();
-    line.text(b"\n");
-    line.number(number);
-    line.text(word);
-    push_all(sink, line.bytes())
+    let mut line = [0; LINE_ROOM];
+    let end = put_named(&mut line, 0, word, number);
+    let end = put_text(&mut line, end, b"\n");
+    push_all(sink, &line[..end])
 }
 
 /// Writes a line of a word and two numbers.
@@ -57,11 +56,8 @@ pub fn write_numbers<W: Sink>(
     requires { length word.now ≤ 20 }
     ensures { Writes (W.output sink.old) (W.output sink.new) (word.now ++ decimal first ++ codes " " ++ decimal second ++ codes "\n") result }
 {
-    let mut line = Line::new();
-    line.text(b"\n");
-    line.number(second);
-    line.text(b" ");
-    line.number(first);
-    line.text(word);
-    push_all(sink, line.bytes())
+    let mut line = [0; LINE_ROOM];
+    let end = put_numbers(&mut line, 0, word, first, second);
+    let end = put_text(&mut line, end, b"\n");
+    push_all(sink, &line[..end])
 }

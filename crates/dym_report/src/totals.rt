@@ -1,10 +1,12 @@
 //! The summary of a script.
-ghost use Rattle.std.specs.Prelude.{◌≡◌, ◌+◌, ◌≤◌, ◌++◌, length, decimal};
 ghost use Rattle.dym_io.specs.Sink.{Writes};
 ghost use Rattle.dym_report.specs.Orders.{summary_text};
 
-use crate::line::Line;
-use dym_io::{Sink, SinkFault, push_parts};
+use dym_io::{Sink, SinkFault, push_all};
+use dym_text::{put_named, put_text};
+
+/// The bytes of the longest summary.
+const SUMMARY_ROOM: usize = 240;
 
 /// What a summary counts over all objects.
 #[derive(Clone, Copy, Debug, PartialEq, Eq)]
@@ -31,36 +33,16 @@ pub struct Totals {
 pub fn write_summary<W: Sink>(sink: &mut W, totals: &Totals) -> Result<(), SinkFault>
     ensures { Writes (W.output sink.old) (W.output sink.new) (summary_text totals.now) result }
 {
-    let objects = count(b" objects ", u64::from(totals.objects));
-    let commands = count(b" commands ", u64::from(totals.commands));
-    let ok = count(b" ok ", u64::from(totals.ok));
-    let refused = count(b" refused ", u64::from(totals.refused));
-    let chunks = count(b" chunks ", totals.chunks);
-    let segments = count(b" segments ", totals.segments);
-    let kept = count(b" kept ", totals.kept);
-    let slots = count(b" slots ", totals.slots);
-    let parts = [
-        b"summary".as_slice(),
-        objects.bytes(),
-        commands.bytes(),
-        ok.bytes(),
-        refused.bytes(),
-        chunks.bytes(),
-        segments.bytes(),
-        kept.bytes(),
-        slots.bytes(),
-        b"\n".as_slice(),
-    ];
-    push_parts(sink, &parts)
-}
-
-/// A number behind its name.
-fn count(name: &[u8], number: u64) -> Line
-    requires { length name.now ≤ 20 }
-    ensures { result ≡ name.now ++ decimal number }
-{
-    let mut line = Line::new();
-    line.number(number);
-    line.text(name);
-    line
+    let mut line = [0; SUMMARY_ROOM];
+    let end = put_text(&mut line, 0, b"summary");
+    let end = put_named(&mut line, end, b" objects ", u64::from(totals.objects));
+    let end = put_named(&mut line, end, b" commands ", u64::from(totals.commands));
+    let end = put_named(&mut line, end, b" ok ", u64::from(totals.ok));
+    let end = put_named(&mut line, end, b" refused ", u64::from(totals.refused));
+    let end = put_named(&mut line, end, b" chunks ", totals.chunks);
+    let end = put_named(&mut line, end, b" segments ", totals.segments);
+    let end = put_named(&mut line, end, b" kept ", totals.kept);
+    let end = put_named(&mut line, end, b" slots ", totals.slots);
+    let end = put_text(&mut line, end, b"\n");
+    push_all(sink, &line[..end])
 }

@@ -1,7 +1,7 @@
--- The digits of short numbers.
-use Rattle.std.proofs.Common.{ℕ, ◌≡◌, ◌+◌, ◌/◌, ◌%◌, ◌<◌, ◌≤◌, [], ◌∷◌, ◌++◌, ap, ◌∙◌, append_assoc, arith}
+-- The digits of numbers, and how many they are.
+use Rattle.std.proofs.Common.{ℕ, ◌≡◌, ◌+◌, ◌/◌, ◌%◌, ◌<◌, ◌≤◌, ◌^◌, [], ◌∷◌, ◌++◌, length, ap, ◌∙◌, append_assoc, arith}
 use Rattle.std.specs.Prelude.{decimal}
-use Rattle.std.proofs.lemmas.Fmt.{decimal_digit, decimal_step}
+use Rattle.std.proofs.lemmas.Fmt.{decimal_digit, decimal_step, length-decimal-le}
 
 pub one_digit : (n : ℕ) → n < 10 → decimal n ≡ (48 + n % 10) ∷ []
 one_digit n small =
@@ -29,3 +29,7 @@ last_digits n long small =
     let z = 48 + n % 10 in
     decimal_step n (omega arith) (omega arith) ∙ ap (λ l. l ++ (z ∷ [])) (second ∙ ap (λ l. l ++ (y ∷ [])) third)
     ∙ append_assoc (decimal (n / 1000) ++ (x ∷ [])) (y ∷ []) (z ∷ []) ∙ append_assoc (decimal (n / 1000)) (x ∷ []) (y ∷ z ∷ [])
+
+-- a number below 2 ^ 64 has at most 20
+pub decimal_20 : (n : ℕ) → n < 2 ^ 64 → length (decimal n) ≤ 20
+decimal_20 n small = length-decimal-le 20 n (omega arith) (omega arith) small

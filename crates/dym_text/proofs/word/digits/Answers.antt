@@ -1,8 +1,8 @@
 -- One case for each count of digits.
 use Rattle.std.proofs.Common.{refl, arith}
-use Rattle.dym_gen.proofs.Digits.{one_digit, two_digits, three_digits}
-use Rattle.dym_gen.proofs.word.digits.Goals as goal
-use Rattle.dym_gen.proofs.word.digits.Goals.{then-n-lt10, else-n-lt10+then-n-lt100, else-n-lt10+else-n-lt100}
+use Rattle.dym_text.proofs.Digits.{one_digit, two_digits, three_digits}
+use Rattle.dym_text.proofs.word.digits.Goals as goal
+use Rattle.dym_text.proofs.word.digits.Goals.{then-n-lt10, else-n-lt10+then-n-lt100, else-n-lt10+else-n-lt100}
 
 pub returns-clause-text : goal.returns-clause-text
 returns-clause-text c =
