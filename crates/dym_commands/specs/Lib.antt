@@ -1,4 +1,5 @@
 pub mod Asks
+pub mod Handles
 pub mod Hexes
 pub mod Kept
 pub mod Reads

@@ -1,49 +1,21 @@
 //! One command in 16 bytes, and the tables that have what doesn't fit.
-ghost use Rattle.std.specs.Prelude.{◌≡◌, ◌+◌, ◌≤◌, ◌<◌, ◌*◌, ◌^◌, ◌++◌, length, take, drop, slice_get, IfOk, OnOk, OnErr, Some};
-ghost use Rattle.dym_base.specs.declared.command.Command.TheVariants as command;
+ghost use Rattle.std.specs.Prelude.{◌≡◌, ◌≤◌, ◌<◌, ◌^◌, [], ◌∷◌, ◌++◌, length, drop, IfOk, OnOk, OnErr};
+ghost use Rattle.dym_base.specs.declared.command.Command.TheVariants.{Calloc, Write};
 ghost use Rattle.dym_commands.specs.Asks.{asks};
-ghost use Rattle.dym_commands.specs.Kept.{long_value, handle, kept_command, IsFit, Still};
+ghost use Rattle.dym_commands.specs.Kept.{kept_command, IsFit, IsKept, Still};
 
 use crate::asked::Asked;
-use crate::hex_bytes::HexBytes;
 use crate::runner::Runner;
+use crate::tight::{TightHandle, loose, loose_or_nil, tight, tight_or_nil};
 use dym_base::{Command, Handle};
 use std::alloc::{AllocError, Global};
 use std::mem::size_of;
 
-/// A number below 2^64 as its halves, so that it stands at any multiple of 4.
-#[derive(Clone, Copy)]
-pub struct Long {
-    low: u32,
-    high: u32,
-}
-
-impl Long {
-    /// The halves of a number.
-    #[inline(always)]
-    fn new(number: u64) -> Long
-        ensures { long_value result ≡ number }
-    {
-        Long {
-            low: (number & 0xffff_ffff) as u32,
-            high: (number >> 32) as u32,
-        }
-    }
-
-    /// The number.
-    #[inline(always)]
-    fn value(&self) -> u64
-        ensures { result ≡ long_value self.now }
-    {
-        (u64::from(self.high) << 32) + u64::from(self.low)
-    }
-}
-
-/// A command in 16 bytes. What doesn't fit stands in the tables, in a row or from a place on.
+/// A command in 16 bytes: its handles without gaps, and what doesn't fit in the tables, in a row or from a place on.
 #[derive(Clone, Copy)]
 pub enum Kept {
     Malloc {
-        len: Long,
+        len: u64,
     },
     Calloc {
         n: u32,
@@ -54,77 +26,58 @@ pub enum Kept {
         row: u32,
     },
     Realloc {
-        exp: u8,
-        index: u32,
-        len: Long,
-    },
-    ReallocNil {
-        len: Long,
+        h: Option<TightHandle>,
+        len: u64,
     },
     Free {
-        exp: u8,
-        index: u32,
+        h: Option<TightHandle>,
     },
-    FreeNil,
     Write {
-        exp: u8,
+        h: TightHandle,
         len: u16,
-        index: u32,
         at: u32,
         place: u32,
     },
     /// The place and the length are a row.
     WideWrite {
-        exp: u8,
-        index: u32,
+        h: TightHandle,
         at: u32,
         row: u32,
     },
     Fill {
-        exp: u8,
+        h: TightHandle,
         byte: u8,
-        index: u32,
         at: u32,
         len: u32,
     },
     Read {
-        exp: u8,
-        index: u32,
+        h: TightHandle,
         at: u32,
         len: u32,
     },
     Link {
-        exp: u8,
-        to_exp: u8,
-        index: u32,
-        at: u32,
-        to_index: u32,
-    },
-    LinkNil {
-        exp: u8,
-        index: u32,
+        h: TightHandle,
+        to: Option<TightHandle>,
         at: u32,
     },
     Follow {
-        exp: u8,
-        index: u32,
+        h: TightHandle,
         at: u32,
     },
     Sum {
-        exp: u8,
-        index: u32,
+        h: TightHandle,
     },
     Log {
-        time: Long,
+        time: u64,
     },
     Ilog {
-        time: Long,
+        time: u64,
     },
     Restore {
-        time: Long,
+        time: u64,
     },
     Prune {
-        bound: Long,
+        bound: u64,
     },
     Logs,
 }
@@ -162,56 +115,60 @@ impl Tables {
     #[inline(always)]
     pub fn keep(&mut self, asked: &Asked<'_>) -> Result<Kept, AllocError>
         requires { length self.old.wide.items < 2 ^ 32 }
-        ensures rows { OnOk result (length self.new.wide.items ≤ length self.old.wide.items + 1) }
         ensures same_rows { OnErr result (self.new.wide.items ≡ self.old.wide.items) }
         ensures still { Still self.old self.new }
-        ensures fit { IfOk result (IsFit self.new) }
-        ensures kept { IfOk result (λ kept. kept_command self.new kept ≡ asks asked.now) }
+        ensures kept { IfOk result (IsKept self.old self.new (asks asked.now)) }
     {
-        let kept = match asked {
-            Asked::Malloc { len } => Kept::Malloc {
-                len: Long::new(*len),
-            },
-            Asked::Calloc { n, len } => self.keep_calloc(*n, *len)?,
-            Asked::Realloc { h, len } => kept_realloc(h, *len),
-            Asked::Free { h } => kept_free(h),
-            Asked::Write { h, at, bytes } => self.keep_write(h, *at, bytes)?,
-            Asked::Fill { h, at, len, byte } => Kept::Fill {
-                exp: h.exp,
-                byte: *byte,
-                index: h.index,
-                at: *at,
-                len: *len,
-            },
-            Asked::Read { h, at, len } => Kept::Read {
-                exp: h.exp,
-                index: h.index,
-                at: *at,
-                len: *len,
-            },
-            Asked::Link { h, at, to } => kept_link(h, *at, to),
-            Asked::Follow { h, at } => Kept::Follow {
-                exp: h.exp,
-                index: h.index,
-                at: *at,
-            },
-            Asked::Sum { h } => Kept::Sum {
-                exp: h.exp,
-                index: h.index,
-            },
-            Asked::Log { time } => Kept::Log {
-                time: Long::new(*time),
-            },
-            Asked::Ilog { time } => Kept::Ilog {
-                time: Long::new(*time),
-            },
-            Asked::Restore { time } => Kept::Restore {
-                time: Long::new(*time),
-            },
-            Asked::Prune { bound } => Kept::Prune {
-                bound: Long::new(*bound),
-            },
-            Asked::Logs => Kept::Logs,
+        match asked {
+            Asked::Plain(command) => self.keep_plain(command),
+            Asked::Write { h, at, bytes } => {
+                let place = self.bytes.len();
+                bytes.append_to(&mut self.bytes)?;
+                self.keep_write(*h, *at, place)
+            }
+        }
+    }
+
+    /// Keeps a command.
+    #[inline(always)]
+    fn keep_plain(&mut self, command: &Command) -> Result<Kept, AllocError>
+        requires { length self.old.wide.items < 2 ^ 32 }
+        ensures same_rows { OnErr result (self.new.wide.items ≡ self.old.wide.items) }
+        ensures still { Still self.old self.new }
+        ensures kept { IfOk result (IsKept self.old self.new command.now) }
+    {
+        let kept = match *command {
+            Command::Malloc { len } => Kept::Malloc { len },
+            Command::Calloc { n, len } => return self.keep_calloc(n, len),
+            Command::Realloc { h, len } => {
+                let h = tight_or_nil(h);
+                Kept::Realloc { h, len }
+            }
+            Command::Free { h } => Kept::Free { h: tight_or_nil(h) },
+            Command::Write { h, at, ref bytes } => {
+                let place = self.bytes.len();
+                self.bytes.extend_from_slice(bytes.bytes())?;
+                return self.keep_write(h, at, place);
+            }
+            Command::Fill { h, at, len, byte } => {
+                let h = tight(h);
+                Kept::Fill { h, byte, at, len }
+            }
+            Command::Read { h, at, len } => {
+                let h = tight(h);
+                Kept::Read { h, at, len }
+            }
+            Command::Link { h, at, to } => {
+                let (h, to) = (tight(h), tight_or_nil(to));
+                Kept::Link { h, to, at }
+            }
+            Command::Follow { h, at } => Kept::Follow { h: tight(h), at },
+            Command::Sum { h } => Kept::Sum { h: tight(h) },
+            Command::Log { time } => Kept::Log { time },
+            Command::Ilog { time } => Kept::Ilog { time },
+            Command::Restore { time } => Kept::Restore { time },
+            Command::Prune { bound } => Kept::Prune { bound },
+            Command::Logs => Kept::Logs,
         };
         Ok(kept)
     }
@@ -220,18 +177,12 @@ impl Tables {
     #[inline(always)]
     fn keep_calloc(&mut self, n: u64, len: u64) -> Result<Kept, AllocError>
         requires { length self.old.wide.items < 2 ^ 32 }
-        ensures rows { OnOk result (length self.new.wide.items ≤ length self.old.wide.items + 1) }
         ensures same_rows { OnErr result (self.new.wide.items ≡ self.old.wide.items) }
         ensures still { Still self.old self.new }
-        ensures fit { IfOk result (IsFit self.new) }
-        ensures kept { IfOk result (λ kept. kept_command self.new kept ≡ command.Calloc n len) }
+        ensures kept { IfOk result (IsKept self.old self.new (Calloc n len)) }
     {
         if n > u64::from(u32::MAX) || len > u64::from(u32::MAX) {
-            let row = self.wide.len() as u32;
-            self.wide.push(Wide {
-                first: n,
-                second: len,
-            })?;
+            let row = self.keep_wide(n, len)?;
             return Ok(Kept::WideCalloc { row });
         }
         Ok(Kept::Calloc {
@@ -240,39 +191,41 @@ impl Tables {
         })
     }
 
-    /// Keeps a write, its place in a row where that is above 32 bits or its length above 16.
+    /// Keeps a write of the bytes from a place on, in a row where the place is above 32 bits or their number above 16.
     #[inline(always)]
-    fn keep_write(&mut self, h: &Handle, at: u32, bytes: &HexBytes<'_>) -> Result<Kept, AllocError>
-        requires { length self.old.wide.items < 2 ^ 32 }
-        ensures rows { OnOk result (length self.new.wide.items ≤ length self.old.wide.items + 1) }
+    fn keep_write(&mut self, h: Handle, at: u32, place: usize) -> Result<Kept, AllocError>
+        requires few { length self.old.wide.items < 2 ^ 32 }
+        requires within { place ≤ length self.old.bytes.items }
         ensures same_rows { OnErr result (self.new.wide.items ≡ self.old.wide.items) }
         ensures still { Still self.old self.new }
-        ensures fit { IfOk result (IsFit self.new) }
-        ensures kept { IfOk result (λ kept. kept_command self.new kept ≡ command.Write h.now at bytes.now) }
+        ensures kept { IfOk result (IsKept self.old self.new (Write h at (drop place self.old.bytes.items))) }
     {
-        let place = self.bytes.len();
-        bytes.append_to(&mut self.bytes)?;
+        let h = tight(h);
         let len = self.bytes.len() - place;
         if place > u32::MAX as usize || len > u16::MAX as usize {
-            let row = self.wide.len() as u32;
-            self.wide.push(Wide {
-                first: place as u64,
-                second: len as u64,
-            })?;
-            return Ok(Kept::WideWrite {
-                exp: h.exp,
-                index: h.index,
-                at,
-                row,
-            });
+            let row = self.keep_wide(place as u64, len as u64)?;
+            return Ok(Kept::WideWrite { h, at, row });
         }
         Ok(Kept::Write {
-            exp: h.exp,
+            h,
             len: len as u16,
-            index: h.index,
             at,
             place: place as u32,
         })
+    }
+
+    /// Keeps two wide numbers in a row of their own.
+    fn keep_wide(&mut self, first: u64, second: u64) -> Result<u32, AllocError>
+        requires { length self.old.wide.items < 2 ^ 32 }
+        ensures bytes { self.new.bytes.items ≡ self.old.bytes.items }
+        ensures same { OnErr result (self.new.wide.items ≡ self.old.wide.items) }
+        ensures row { OnOk result
+            (self.new.wide.items ≡ self.old.wide.items ++ (record { first = first; second = second }) ∷ []) }
+        ensures last { IfOk result (λ row. row ≡ length self.old.wide.items) }
+    {
+        let row = self.wide.len() as u32;
+        self.wide.push(Wide { first, second })?;
+        Ok(row)
     }
 
     /// Runs a command that is kept, where its kind is told.
@@ -284,7 +237,7 @@ impl Tables {
         ensures stays { OnErr result (R.stays runner.old runner.new) }
     {
         match *kept {
-            Kept::Malloc { len } => runner.run(way, Command::Malloc { len: len.value() }),
+            Kept::Malloc { len } => runner.run(way, Command::Malloc { len }),
             Kept::Calloc { n, len } => {
                 let (n, len) = (u64::from(n), u64::from(len));
                 runner.run(way, Command::Calloc { n, len })
@@ -294,148 +247,41 @@ impl Tables {
                 let (n, len) = (wide.first, wide.second);
                 runner.run(way, Command::Calloc { n, len })
             }
-            Kept::Realloc { exp, index, len } => {
-                let (h, len) = (Some(Handle { exp, index }), len.value());
+            Kept::Realloc { h, len } => {
+                let h = loose_or_nil(h);
                 runner.run(way, Command::Realloc { h, len })
             }
-            Kept::ReallocNil { len } => {
-                let (h, len) = (None, len.value());
-                runner.run(way, Command::Realloc { h, len })
-            }
-            Kept::Free { exp, index } => {
-                let h = Some(Handle { exp, index });
-                runner.run(way, Command::Free { h })
-            }
-            Kept::FreeNil => runner.run(way, Command::Free { h: None }),
-            Kept::Write {
-                exp,
-                len,
-                index,
-                at,
-                place,
-            } => {
+            Kept::Free { h } => runner.run(way, Command::Free { h: loose_or_nil(h) }),
+            Kept::Write { h, len, at, place } => {
                 let place = place as usize;
                 let bytes = &self.bytes[place..place + len as usize];
-                runner.write(way, Handle { exp, index }, at, bytes)
+                runner.write(way, loose(h), at, bytes)
             }
-            Kept::WideWrite {
-                exp,
-                index,
-                at,
-                row,
-            } => {
+            Kept::WideWrite { h, at, row } => {
                 let Wide { first, second } = self.wide[row as usize];
                 let place = first as usize;
                 let bytes = &self.bytes[place..place + second as usize];
-                runner.write(way, Handle { exp, index }, at, bytes)
+                runner.write(way, loose(h), at, bytes)
             }
-            Kept::Fill {
-                exp,
-                byte,
-                index,
-                at,
-                len,
-            } => {
-                let h = Handle { exp, index };
+            Kept::Fill { h, byte, at, len } => {
+                let h = loose(h);
                 runner.run(way, Command::Fill { h, at, len, byte })
             }
-            Kept::Read {
-                exp,
-                index,
-                at,
-                len,
-            } => {
-                let h = Handle { exp, index };
+            Kept::Read { h, at, len } => {
+                let h = loose(h);
                 runner.run(way, Command::Read { h, at, len })
             }
-            Kept::Link {
-                exp,
-                to_exp,
-                index,
-                at,
-                to_index,
-            } => {
-                let h = Handle { exp, index };
-                let to = Some(Handle {
-                    exp: to_exp,
-                    index: to_index,
-                });
+            Kept::Link { h, to, at } => {
+                let (h, to) = (loose(h), loose_or_nil(to));
                 runner.run(way, Command::Link { h, at, to })
             }
-            Kept::LinkNil { exp, index, at } => {
-                let h = Handle { exp, index };
-                runner.run(way, Command::Link { h, at, to: None })
-            }
-            Kept::Follow { exp, index, at } => {
-                let h = Handle { exp, index };
-                runner.run(way, Command::Follow { h, at })
-            }
-            Kept::Sum { exp, index } => {
-                let h = Handle { exp, index };
-                runner.run(way, Command::Sum { h })
-            }
-            Kept::Log { time } => runner.run(way, Command::Log { time: time.value() }),
-            Kept::Ilog { time } => runner.run(way, Command::Ilog { time: time.value() }),
-            Kept::Restore { time } => runner.run(way, Command::Restore { time: time.value() }),
-            Kept::Prune { bound } => {
-                let bound = bound.value();
-                runner.run(way, Command::Prune { bound })
-            }
+            Kept::Follow { h, at } => runner.run(way, Command::Follow { h: loose(h), at }),
+            Kept::Sum { h } => runner.run(way, Command::Sum { h: loose(h) }),
+            Kept::Log { time } => runner.run(way, Command::Log { time }),
+            Kept::Ilog { time } => runner.run(way, Command::Ilog { time }),
+            Kept::Restore { time } => runner.run(way, Command::Restore { time }),
+            Kept::Prune { bound } => runner.run(way, Command::Prune { bound }),
             Kept::Logs => runner.run(way, Command::Logs),
         }
-    }
-}
-
-/// A realloc, kept.
-#[inline(always)]
-fn kept_realloc(h: &Option<Handle>, len: u64) -> Kept
-    ensures fit { (tables : Tables) → IsFit tables result }
-    ensures kept { (tables : Tables) → kept_command tables result ≡ command.Realloc h.now len }
-{
-    let len = Long::new(len);
-    match h {
-        Some(h) => Kept::Realloc {
-            exp: h.exp,
-            index: h.index,
-            len,
-        },
-        None => Kept::ReallocNil { len },
-    }
-}
-
-/// A free, kept.
-#[inline(always)]
-fn kept_free(h: &Option<Handle>) -> Kept
-    ensures fit { (tables : Tables) → IsFit tables result }
-    ensures kept { (tables : Tables) → kept_command tables result ≡ command.Free h.now }
-{
-    match h {
-        Some(h) => Kept::Free {
-            exp: h.exp,
-            index: h.index,
-        },
-        None => Kept::FreeNil,
-    }
-}
-
-/// A link, kept.
-#[inline(always)]
-fn kept_link(h: &Handle, at: u32, to: &Option<Handle>) -> Kept
-    ensures fit { (tables : Tables) → IsFit tables result }
-    ensures kept { (tables : Tables) → kept_command tables result ≡ command.Link h.now at to.now }
-{
-    match to {
-        Some(to) => Kept::Link {
-            exp: h.exp,
-            to_exp: to.exp,
-            index: h.index,
-            at,
-            to_index: to.index,
-        },
-        None => Kept::LinkNil {
-            exp: h.exp,
-            index: h.index,
-            at,
-        },
     }
 }

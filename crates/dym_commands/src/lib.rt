@@ -9,6 +9,7 @@ mod digits;
 mod hex_bytes;
 mod kept;
 mod runner;
+mod tight;
 
 pub use asked::Asked;
 pub use commands::Commands;

@@ -40,14 +40,8 @@ fn small(index: u32) -> Handle {
     Handle { exp: 5, index }
 }
 
-/// The commands that run where these are pushed.
-fn recorded(alloc: Global, asked: &[Asked<'_>]) -> Result<Vec<Command>, AllocError> {
-    let mut commands = Commands::new(alloc);
-    for one in asked {
-        if commands.len() < 32 {
-            commands.push(one)?;
-        }
-    }
+/// The commands that run.
+fn recorded(alloc: Global, commands: &Commands) -> Result<Vec<Command>, AllocError> {
     let mut recorder = Recorder {
         alloc,
         commands: Vec::new(alloc),
@@ -62,47 +56,59 @@ fn recorded(alloc: Global, asked: &[Asked<'_>]) -> Result<Vec<Command>, AllocErr
 fn commands_of_each_kind(rt: HostRuntime) -> Result<(), Fail> {
     let alloc = rt.alloc();
     let h = small(1);
-    let Some(bytes) = HexBytes::of_word(b"0aff") else {
-        assert!(rt; false);
-        return Ok(());
-    };
-    let asked = [
-        Asked::Malloc { len: u64::MAX },
-        Asked::Calloc { n: 2, len: 3 },
-        Asked::Calloc { n: 1 << 33, len: 3 },
-        Asked::Realloc { h: Some(h), len: 4 },
-        Asked::Realloc {
+    let long = [7; 70_000];
+    let pushed = [
+        Command::Malloc { len: u64::MAX },
+        Command::Calloc { n: 2, len: 3 },
+        Command::Calloc { n: 1 << 33, len: 3 },
+        Command::Realloc { h: Some(h), len: 4 },
+        Command::Realloc {
             h: None,
             len: 1 << 32,
         },
-        Asked::Free { h: None },
-        Asked::Free { h: Some(h) },
-        Asked::Write { h, at: 5, bytes },
-        Asked::Fill {
+        Command::Free { h: None },
+        Command::Free { h: Some(h) },
+        Command::Write {
+            h,
+            at: 5,
+            bytes: Blob::new(alloc, b"\x0a\xff")?,
+        },
+        Command::Write {
+            h,
+            at: 3,
+            bytes: Blob::new(alloc, &long)?,
+        },
+        Command::Fill {
             h,
             at: 1,
             len: 2,
             byte: 255,
         },
-        Asked::Read { h, at: 8, len: 9 },
-        Asked::Link {
+        Command::Read { h, at: 8, len: 9 },
+        Command::Link {
             h,
             at: 6,
             to: Some(small(2)),
         },
-        Asked::Link { h, at: 7, to: None },
-        Asked::Follow { h, at: 10 },
-        Asked::Sum { h },
-        Asked::Log { time: 11 },
-        Asked::Ilog { time: 12 },
-        Asked::Restore { time: 1 << 63 },
-        Asked::Prune { bound: 13 },
-        Asked::Logs,
+        Command::Link { h, at: 7, to: None },
+        Command::Follow { h, at: 10 },
+        Command::Sum { h },
+        Command::Log { time: 11 },
+        Command::Ilog { time: 12 },
+        Command::Restore { time: 1 << 63 },
+        Command::Prune { bound: 13 },
+        Command::Logs,
     ];
-    let run = recorded(alloc, &asked)?;
-    assert_eq!(rt; run.len(), asked.len());
-    for (k, (command, one)) in run.iter().zip(asked.iter()).enumerate() {
-        assert!(rt; *command == one.command(alloc)?, "command {k}");
+    let mut commands = Commands::new(alloc);
+    for command in &pushed {
+        if commands.len() < 32 {
+            commands.push(&Asked::Plain(command.clone()?))?;
+        }
+    }
+    let run = recorded(alloc, &commands)?;
+    assert_eq!(rt; run.len(), pushed.len());
+    for (k, (command, one)) in run.iter().zip(pushed.iter()).enumerate() {
+        assert!(rt; command == one, "command {k}");
     }
     Ok(())
 }
@@ -147,18 +153,17 @@ fn write_of_a_word(rt: HostRuntime) -> Result<(), Fail> {
         return Ok(());
     };
     assert_eq!(rt; rest, b"\nb".as_slice());
-    let asked = Asked::Write {
-        h: small(1),
-        at: 2,
-        bytes,
-    };
     let alloc = rt.alloc();
+    let (h, at) = (small(1), 2);
     let wanted = [Command::Write {
-        h: small(1),
-        at: 2,
+        h,
+        at,
         bytes: Blob::new(alloc, b"\x0a\xff")?,
     }];
+    let asked = Asked::Write { h, at, bytes };
+    let mut commands = Commands::new(alloc);
+    commands.push(&asked)?;
     assert!(rt; asked.command(alloc)? == wanted[0]);
-    assert!(rt; recorded(alloc, &[asked])?.as_slice() == wanted.as_slice());
+    assert!(rt; recorded(alloc, &commands)?.as_slice() == wanted.as_slice());
     Ok(())
 }

@@ -8,7 +8,7 @@ use crate::lines::{four_words, next_word, one_word, three_words, two_words};
 use crate::operands::{
     byte_of, bytes_of, handle_of, handle_or_nil_of, number_32_of, number_of, read_len_of,
 };
-use dym_base::BadKind;
+use dym_base::{BadKind, Command};
 use dym_commands::Asked;
 
 /// What a command line asks.
@@ -65,21 +65,21 @@ impl Verb {
         match self {
             Verb::Malloc => {
                 let len = number_of(one_word(words)?)?;
-                Ok(Asked::Malloc { len })
+                Ok(Asked::Plain(Command::Malloc { len }))
             }
             Verb::Calloc => {
                 let (n, len) = two_words(words)?;
                 let (n, len) = (number_of(n)?, number_of(len)?);
-                Ok(Asked::Calloc { n, len })
+                Ok(Asked::Plain(Command::Calloc { n, len }))
             }
             Verb::Realloc => {
                 let (h, len) = two_words(words)?;
                 let (len, h) = (number_of(len)?, handle_or_nil_of(h)?);
-                Ok(Asked::Realloc { h, len })
+                Ok(Asked::Plain(Command::Realloc { h, len }))
             }
             Verb::Free => {
                 let h = handle_or_nil_of(one_word(words)?)?;
-                Ok(Asked::Free { h })
+                Ok(Asked::Plain(Command::Free { h }))
             }
             Verb::Write => {
                 let (h, at, bytes) = three_words(words)?;
@@ -90,46 +90,46 @@ impl Verb {
                 let (h, at, len, byte) = four_words(words)?;
                 let (at, len, byte) = (number_32_of(at)?, number_32_of(len)?, byte_of(byte)?);
                 let h = handle_of(h)?;
-                Ok(Asked::Fill { h, at, len, byte })
+                Ok(Asked::Plain(Command::Fill { h, at, len, byte }))
             }
             Verb::Read => {
                 let (h, at, len) = three_words(words)?;
                 let (at, len, h) = (number_32_of(at)?, read_len_of(len)?, handle_of(h)?);
-                Ok(Asked::Read { h, at, len })
+                Ok(Asked::Plain(Command::Read { h, at, len }))
             }
             Verb::Link => {
                 let (h, at, to) = three_words(words)?;
                 let (at, h, to) = (number_32_of(at)?, handle_of(h)?, handle_or_nil_of(to)?);
-                Ok(Asked::Link { h, at, to })
+                Ok(Asked::Plain(Command::Link { h, at, to }))
             }
             Verb::Follow => {
                 let (h, at) = two_words(words)?;
                 let (at, h) = (number_32_of(at)?, handle_of(h)?);
-                Ok(Asked::Follow { h, at })
+                Ok(Asked::Plain(Command::Follow { h, at }))
             }
             Verb::Sum => {
                 let h = handle_of(one_word(words)?)?;
-                Ok(Asked::Sum { h })
+                Ok(Asked::Plain(Command::Sum { h }))
             }
             Verb::Log => {
                 let time = number_of(one_word(words)?)?;
-                Ok(Asked::Log { time })
+                Ok(Asked::Plain(Command::Log { time }))
             }
             Verb::Ilog => {
                 let time = number_of(one_word(words)?)?;
-                Ok(Asked::Ilog { time })
+                Ok(Asked::Plain(Command::Ilog { time }))
             }
             Verb::Restore => {
                 let time = number_of(one_word(words)?)?;
-                Ok(Asked::Restore { time })
+                Ok(Asked::Plain(Command::Restore { time }))
             }
             Verb::Prune => {
                 let bound = number_of(one_word(words)?)?;
-                Ok(Asked::Prune { bound })
+                Ok(Asked::Plain(Command::Prune { bound }))
             }
             Verb::Logs => match next_word(words) {
                 Some(_) => Err(BadKind::Command),
-                None => Ok(Asked::Logs),
+                None => Ok(Asked::Plain(Command::Logs)),
             },
         }
     }

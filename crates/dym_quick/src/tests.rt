@@ -2,6 +2,7 @@
 use crate::numerals::few_digits;
 use crate::quick_rest;
 use crate::sizes::size;
+use dym_base::Command;
 use dym_commands::Asked;
 
 #[test]
@@ -49,7 +50,7 @@ fn each_verb_is_guessed(rt: HostRuntime) {
         (b" logs\na logs\na logs", 6),
     ];
     for (text, taken) in table {
-        let mut asked = Asked::Logs;
+        let mut asked = Asked::Plain(Command::Logs);
         assert_eq!(rt;
             quick_rest(text, &mut asked),
             Some(&text[taken..]),

@@ -6,6 +6,7 @@ ghost use Rattle.dym_quick.specs.Quick.{Demands};
 use crate::operands::{
     after_byte, after_verb, byte_value, handle, handle_or_nil, hex, number, number_32, read_len,
 };
+use dym_base::Command;
 use dym_commands::Asked;
 use dym_lines::Verb;
 
@@ -18,14 +19,14 @@ pub fn chunk_verb<'a>(verb: Verb, text: &'a [u8], asked: &mut Asked<'a>) -> Opti
         Verb::Malloc => {
             let rest = after_verb(text, b"\0 malloc", 7)?;
             let (len, rest) = number(rest)?;
-            *asked = Asked::Malloc { len };
+            *asked = Asked::Plain(Command::Malloc { len });
             after_byte(rest, b'\n')
         }
         Verb::Calloc => {
             let rest = after_verb(text, b"\0 calloc", 7)?;
             let (n, rest) = number(rest)?;
             let (len, rest) = number(rest)?;
-            *asked = Asked::Calloc { n, len };
+            *asked = Asked::Plain(Command::Calloc { n, len });
             after_byte(rest, b'\n')
         }
         Verb::Realloc => {
@@ -33,13 +34,13 @@ pub fn chunk_verb<'a>(verb: Verb, text: &'a [u8], asked: &mut Asked<'a>) -> Opti
             let rest = after_byte(end, b'c')?;
             let (h, rest) = handle_or_nil(rest)?;
             let (len, rest) = number(rest)?;
-            *asked = Asked::Realloc { h, len };
+            *asked = Asked::Plain(Command::Realloc { h, len });
             after_byte(rest, b'\n')
         }
         Verb::Free => {
             let rest = after_verb(text, b"\0\0\0 free", 5)?;
             let (h, rest) = handle_or_nil(rest)?;
-            *asked = Asked::Free { h };
+            *asked = Asked::Plain(Command::Free { h });
             after_byte(rest, b'\n')
         }
         _ => None,
@@ -66,7 +67,7 @@ pub fn bytes_verb<'a>(verb: Verb, text: &'a [u8], asked: &mut Asked<'a>) -> Opti
             let (at, rest) = number_32(rest)?;
             let (len, rest) = number_32(rest)?;
             let (byte, rest) = byte_value(rest)?;
-            *asked = Asked::Fill { h, at, len, byte };
+            *asked = Asked::Plain(Command::Fill { h, at, len, byte });
             after_byte(rest, b'\n')
         }
         Verb::Read => {
@@ -74,7 +75,7 @@ pub fn bytes_verb<'a>(verb: Verb, text: &'a [u8], asked: &mut Asked<'a>) -> Opti
             let (h, rest) = handle(rest)?;
             let (at, rest) = number_32(rest)?;
             let (len, rest) = read_len(rest)?;
-            *asked = Asked::Read { h, at, len };
+            *asked = Asked::Plain(Command::Read { h, at, len });
             after_byte(rest, b'\n')
         }
         _ => None,
@@ -92,20 +93,20 @@ pub fn link_verb<'a>(verb: Verb, text: &'a [u8], asked: &mut Asked<'a>) -> Optio
             let (h, rest) = handle(rest)?;
             let (at, rest) = number_32(rest)?;
             let (to, rest) = handle_or_nil(rest)?;
-            *asked = Asked::Link { h, at, to };
+            *asked = Asked::Plain(Command::Link { h, at, to });
             after_byte(rest, b'\n')
         }
         Verb::Follow => {
             let rest = after_verb(text, b"\0 follow", 7)?;
             let (h, rest) = handle(rest)?;
             let (at, rest) = number_32(rest)?;
-            *asked = Asked::Follow { h, at };
+            *asked = Asked::Plain(Command::Follow { h, at });
             after_byte(rest, b'\n')
         }
         Verb::Sum => {
             let rest = after_verb(text, b"\0\0\0\0 sum", 4)?;
             let (h, rest) = handle(rest)?;
-            *asked = Asked::Sum { h };
+            *asked = Asked::Plain(Command::Sum { h });
             after_byte(rest, b'\n')
         }
         _ => None,
@@ -121,31 +122,31 @@ pub fn log_verb<'a>(verb: Verb, text: &'a [u8], asked: &mut Asked<'a>) -> Option
         Verb::Log => {
             let rest = after_verb(text, b"\0\0\0\0 log", 4)?;
             let (time, rest) = number(rest)?;
-            *asked = Asked::Log { time };
+            *asked = Asked::Plain(Command::Log { time });
             after_byte(rest, b'\n')
         }
         Verb::Ilog => {
             let rest = after_verb(text, b"\0\0\0 ilog", 5)?;
             let (time, rest) = number(rest)?;
-            *asked = Asked::Ilog { time };
+            *asked = Asked::Plain(Command::Ilog { time });
             after_byte(rest, b'\n')
         }
         Verb::Restore => {
             let end = after_verb(text, b"\0 restor", 7)?;
             let rest = after_byte(end, b'e')?;
             let (time, rest) = number(rest)?;
-            *asked = Asked::Restore { time };
+            *asked = Asked::Plain(Command::Restore { time });
             after_byte(rest, b'\n')
         }
         Verb::Prune => {
             let rest = after_verb(text, b"\0\0 prune", 6)?;
             let (bound, rest) = number(rest)?;
-            *asked = Asked::Prune { bound };
+            *asked = Asked::Plain(Command::Prune { bound });
             after_byte(rest, b'\n')
         }
         Verb::Logs => {
             let rest = after_verb(text, b"\0\0\0 logs", 5)?;
-            *asked = Asked::Logs;
+            *asked = Asked::Plain(Command::Logs);
             after_byte(rest, b'\n')
         }
         _ => None,

@@ -15,7 +15,7 @@ use crate::line_fail::LineFail;
 use crate::reader::{Ask, Next, Reader};
 use crate::script::{Decl, ScriptFail};
 use dym_base::limits::{MOST_COMMANDS, MOST_LINE_BYTES};
-use dym_base::{BadKind, Version};
+use dym_base::{BadKind, Command, Version};
 use dym_commands::Asked;
 use memchr::memrchr;
 use std::alloc::{AllocError, Global};
@@ -146,7 +146,7 @@ impl<K: Keeper + Drop> Pieces<K> {
             (Stands (K.keeps self.old.keeper) self.old.reader self.old.commands) (Stands (K.keeps self.new.keeper) self.new.reader self.new.commands)
             number text.now result }
     {
-        let mut asked = Asked::Logs;
+        let mut asked = Asked::Plain(Command::Logs);
         if let Some((object, rest)) = self.reader.next_quickly(text, &mut asked) {
             self.reader.begun = true;
             return self.ask(alloc, object, &asked, rest);

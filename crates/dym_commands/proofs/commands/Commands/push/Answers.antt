@@ -25,11 +25,11 @@ invariant_of-self-2 c =
     let few : length c.self.inside.kept.items < MOST_COMMANDS = subst (λ n. n < MOST_COMMANDS) (ap length (sym c.self.view_is) ∙ length-map c.self.inside.kept.items (kept_command c.self.inside.tables)) c.requires in
     subst (λ (n : ℕ). AreFit c.keep.new.self c.push.new.self.items n) (ap (λ (n : ℕ). c.self.inside.read_bytes + n) (sym c.read_room.ensures.room))
     (subst (λ (ks : List Kept). AreFit c.keep.new.self ks (c.self.inside.read_bytes + read_room (asks c.args.asked.now))) (sym (c.in_ok-push.ensures.items ∙ ap (λ ks. ks ++ c.in_ok-kept.kept ∷ []) c.reserve.ensures.items))
-    (more_fit c.self.inside.tables c.keep.new.self c.self.inside.kept.items c.in_ok-kept.kept (asks c.args.asked.now) c.self.inside.read_bytes c.keep.ensures.still few c.in_ok-kept.ensures.rows c.in_ok-kept.ensures.fit c.in_ok-kept.ensures.kept
+    (more_fit c.self.inside.tables c.keep.new.self c.self.inside.kept.items c.in_ok-kept.kept (asks c.args.asked.now) c.self.inside.read_bytes c.keep.ensures.still few c.in_ok-kept.ensures.kept.rows c.in_ok-kept.ensures.kept.fit c.in_ok-kept.ensures.kept.is
     c.self.invariant))
 
 pub returns-clause-pushed : goal.returns-clause-pushed
 returns-clause-pushed c =
     ap (kept_commands c.keep.new.self) (c.in_ok-push.ensures.items ∙ ap (λ ks. ks ++ c.in_ok-kept.kept ∷ []) c.reserve.ensures.items)
-    ∙ more_commands c.self.inside.tables c.keep.new.self c.self.inside.kept.items c.in_ok-kept.kept (asks c.args.asked.now) c.keep.ensures.still c.self.invariant.fit c.in_ok-kept.ensures.kept
+    ∙ more_commands c.self.inside.tables c.keep.new.self c.self.inside.kept.items c.in_ok-kept.kept (asks c.args.asked.now) c.keep.ensures.still c.self.invariant.fit c.in_ok-kept.ensures.kept.is
     ∙ ap (λ cs. cs ++ asks c.args.asked.now ∷ []) c.self.view_is

@@ -35,7 +35,7 @@ returns-in-None-clause-read g c =
 pub returns-in-Some-clause-read : goal.returns-in-Some-clause-read
 returns-in-Some-clause-read g c =
     let old = c.args.self.now in
-    let new = c.ask.new.self in
+    let new = c.ask-in-Some.new.self in
     let P = g.K.Keeper.keeps old.keeper in
     let O = g.K.Keeper.keeps c.tell_declared.new.keeper in
     let Q = g.K.Keeper.keeps new.keeper in
@@ -46,7 +46,7 @@ returns-in-Some-clause-read g c =
     let some : next.ask ≡ Some one = search rules in
     let before : c.len-before.result ≡ length r.objects.items = search rules in
     let (line, cut, gives) = c.in_ok-ask.ensures.read in
-    line_asks P O Q r s new.reader one old.commands new.commands c.args.number c.args.text.now next.rest.now line c.ask.result cut
+    line_asks P O Q r s new.reader one old.commands new.commands c.args.number c.args.text.now next.rest.now line c.ask-in-Some.result cut
     (λ lines. gives lines ∙ ap (λ a. reading s.begun (with_ask (seen s lines).said a)) some)
     (λ lines holds. holds_declared P O r s old.commands lines c.in_ok-ask.ensures.kept c.in_ok-ask.ensures.grows (λ objects ls len grows keeps. c.in_ok-tell_declared.ensures objects ls (len ∙ sym before) grows keeps) holds)
-    c.ask.ensures.rest c.ask.ensures.holds
+    c.ask-in-Some.ensures.rest c.ask-in-Some.ensures.holds
