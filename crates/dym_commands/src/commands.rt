@@ -77,7 +77,8 @@ impl Commands {
     pub fn run<R: Runner>(&self, k: usize, way: &R::Way, runner: &mut R) -> Result<(), R::Fail>
         requires within { k < length self.now }
         requires ready { R.ready runner.old }
-        ensures does { OnOk result (IfSome (slice_get self.now k) (λ command. R.does runner.old command runner.new)) }
+        ensures does { OnOk result (IfSome (slice_get self.now k)
+            (λ command. R.does runner.old command runner.new)) }
         ensures stays { OnErr result (R.stays runner.old runner.new) }
     {
         self.tables.run(&self.kept[k], way, runner)

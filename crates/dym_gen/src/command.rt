@@ -13,8 +13,10 @@ use dym_text::{put_named, put_short, put_text, put_word};
 pub fn put_command(page: &mut [u8], end: usize, draws: &mut Draws, place: Place) -> usize
     requires number { place.number < 1000000 }
     requires room { end + 32 ≤ length page.old }
-    ensures state { draws.new.state ≡ command_state (fixed_command place.object place.number) draws.old.state }
-    ensures text { take result page.new ≡ take end page.old ++ command_text (fixed_command place.object place.number) draws.old.state }
+    ensures state { draws.new.state ≡ command_state
+        (fixed_command place.object place.number) draws.old.state }
+    ensures text { take result page.new
+        ≡ take end page.old ++ command_text (fixed_command place.object place.number) draws.old.state }
     ensures short { result ≤ end + 24 }
 {
     let j = place.number;
@@ -82,7 +84,9 @@ fn put_below(page: &mut [u8], end: usize, draws: &mut Draws, limit: u32) -> usiz
 fn put_chunk(page: &mut [u8], end: usize, draws: &mut Draws) -> usize
     requires { end + 8 ≤ length page.old }
     ensures state { draws.new.state ≡ next (next draws.old.state) }
-    ensures text { take result page.new ≡ take end page.old ++ (decimal (size_at (next draws.old.state)) ++ codes ":" ++ decimal (below 4 (next (next draws.old.state)))) }
+    ensures text { take result page.new
+        ≡ take end page.old ++ (decimal (size_at (next draws.old.state)) ++ codes ":"
+        ++ decimal (below 4 (next (next draws.old.state)))) }
     ensures short { result ≤ end + 7 }
 {
     let end = put_word(page, end, size(draws.below(4)));
@@ -120,7 +124,9 @@ fn put_plain(page: &mut [u8], end: usize, draws: &mut Draws, name: &[u8], tail: 
     requires tail { length tail.now ≤ 5 }
     requires room { end + 32 ≤ length page.old }
     ensures state { draws.new.state ≡ next (next draws.old.state) }
-    ensures text { take result page.new ≡ take end page.old ++ text_from draws.old.state (said name.now ∷ drawn_size ∷ said (codes ":") ∷ drawn 4 ∷ said tail.now ∷ []) }
+    ensures text { take result page.new
+        ≡ take end page.old ++ text_from draws.old.state (said name.now ∷ drawn_size ∷ said
+        (codes ":") ∷ drawn 4 ∷ said tail.now ∷ []) }
     ensures short { result ≤ end + 24 }
 {
     let end = put_text(page, end, name);
@@ -144,7 +150,9 @@ fn put_numbered(
     requires tail { length tail.now ≤ 5 }
     requires room { end + 32 ≤ length page.old }
     ensures state { draws.new.state ≡ next (next (next draws.old.state)) }
-    ensures text { take result page.new ≡ take end page.old ++ text_from draws.old.state (said name.now ∷ drawn_size ∷ said (codes ":") ∷ drawn 4 ∷ said (codes " ") ∷ drawn limit ∷ said tail.now ∷ []) }
+    ensures text { take result page.new
+        ≡ take end page.old ++ text_from draws.old.state (said name.now ∷ drawn_size ∷ said
+        (codes ":") ∷ drawn 4 ∷ said (codes " ") ∷ drawn limit ∷ said tail.now ∷ []) }
     ensures short { result ≤ end + length name.now + 11 + length tail.now }
 {
     let end = put_text(page, end, name);

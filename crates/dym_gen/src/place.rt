@@ -27,7 +27,8 @@ impl Place {
         requires object { self.object < objects }
         requires number { self.number < 1000000 }
         ensures object { (k : ℕ) → self.object ≡ k % objects → result.object ≡ (k + 1) % objects }
-        ensures number { (k : ℕ) → self.object ≡ k % objects → self.number ≡ k / objects → result.number ≡ (k + 1) / objects }
+        ensures number { (k : ℕ) → self.object ≡ k % objects → self.number ≡ k / objects
+            → result.number ≡ (k + 1) / objects }
     {
         let object = self.object + 1;
         if object < objects {

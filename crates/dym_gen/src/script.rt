@@ -92,7 +92,8 @@ fn write_commands<W: Sink>(
     requires some { 0 < objects }
     requires objects { objects ≤ MOST_OBJECTS }
     requires commands { commands ≤ MOST_MADE_COMMANDS }
-    ensures { Writes (W.output sink.old) (W.output sink.new) (command_lines objects commands 0 start.state) result }
+    ensures { Writes (W.output sink.old) (W.output sink.new)
+        (command_lines objects commands 0 start.state) result }
 {
     let mut draws = start;
     let mut first = 0;
@@ -112,7 +113,8 @@ fn put_commands(page: &mut [u8], draws: &mut Draws, objects: u32, first: u32, co
     requires last { first + count ≤ MOST_MADE_COMMANDS }
     requires room { 40 * count ≤ length page.old }
     ensures end { result ≤ length page.old }
-    ensures lines { (n : ℕ) → command_lines objects (count + n) first draws.old.state ≡ take result page.new ++ command_lines objects n (first + count) draws.new.state }
+    ensures lines { (n : ℕ) → command_lines objects (count + n) first draws.old.state
+        ≡ take result page.new ++ command_lines objects n (first + count) draws.new.state }
 {
     let mut place = Place::of(first, objects);
     let mut current = *draws;
@@ -131,8 +133,10 @@ fn put_line(page: &mut [u8], end: usize, draws: &mut Draws, place: Place) -> usi
     requires object { place.object < MOST_OBJECTS }
     requires number { place.number < MOST_MADE_COMMANDS }
     requires room { end + 40 ≤ length page.old }
-    ensures text { (objects k : ℕ) → place.object ≡ k % objects → place.number ≡ k / objects → take result page.new ≡ take end page.old ++ command_line objects k draws.old.state }
-    ensures state { (objects k : ℕ) → place.object ≡ k % objects → place.number ≡ k / objects → draws.new.state ≡ line_state objects k draws.old.state }
+    ensures text { (objects k : ℕ) → place.object ≡ k % objects → place.number ≡ k / objects
+        → take result page.new ≡ take end page.old ++ command_line objects k draws.old.state }
+    ensures state { (objects k : ℕ) → place.object ≡ k % objects → place.number ≡ k / objects
+        → draws.new.state ≡ line_state objects k draws.old.state }
     ensures short { result ≤ end + 40 }
 {
     let end = put_named(page, end, b"o", u64::from(place.object));

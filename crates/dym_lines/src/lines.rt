@@ -10,7 +10,8 @@ use memchr::memchr;
 
 /// The first line of a text, without its end, and what stands after it. None where nothing is left.
 pub fn next_line(text: &[u8]) -> Option<(&[u8], &[u8])>
-    ensures cut { MatchOption result (lines_of text.now ≡ []) (λ cut. lines_of text.now ≡ cut.0.now ∷ lines_of cut.1.now) }
+    ensures cut { MatchOption result (lines_of text.now ≡ [])
+        (λ cut. lines_of text.now ≡ cut.0.now ∷ lines_of cut.1.now) }
     ensures shorter { IfSome result (λ cut. length cut.1.now < length text.now) }
     ensures within { IfSome result (λ cut. length cut.0.now + length cut.1.now ≤ length text.now) }
 {
@@ -25,7 +26,8 @@ pub fn next_line(text: &[u8]) -> Option<(&[u8], &[u8])>
 
 /// The first word of a line, and what stands after it. None where no word is left.
 pub fn next_word(text: &[u8]) -> Option<(&[u8], &[u8])>
-    ensures { MatchOption result (words_of text.now ≡ []) (λ cut. words_of text.now ≡ cut.0.now ∷ words_of cut.1.now) }
+    ensures { MatchOption result (words_of text.now ≡ [])
+        (λ cut. words_of text.now ≡ cut.0.now ∷ words_of cut.1.now) }
 {
     let (_, text) = text.split_at(spaces_before(text));
     if text.is_empty() {
@@ -37,7 +39,8 @@ pub fn next_word(text: &[u8]) -> Option<(&[u8], &[u8])>
 
 /// The only word of a line. Where there is another number of words, that is what is wrong with the command.
 pub fn one_word(text: &[u8]) -> Result<&[u8], BadKind>
-    ensures { MatchResult result (λ word. words_of text.now ≡ word.now ∷ []) (λ kind. (kind ≡ Command) × (length (words_of text.now) ≢ 1)) }
+    ensures { MatchResult result (λ word. words_of text.now ≡ word.now ∷ [])
+        (λ kind. (kind ≡ Command) × (length (words_of text.now) ≢ 1)) }
 {
     let (word, after) = next_word(text).ok_or(BadKind::Command)?;
     match next_word(after) {
@@ -48,7 +51,8 @@ pub fn one_word(text: &[u8]) -> Result<&[u8], BadKind>
 
 /// The two words of a line.
 pub fn two_words(text: &[u8]) -> Result<(&[u8], &[u8]), BadKind>
-    ensures { MatchResult result (λ words. words_of text.now ≡ words.0.now ∷ words.1.now ∷ []) (λ kind. (kind ≡ Command) × (length (words_of text.now) ≢ 2)) }
+    ensures { MatchResult result (λ words. words_of text.now ≡ words.0.now ∷ words.1.now ∷ [])
+        (λ kind. (kind ≡ Command) × (length (words_of text.now) ≢ 2)) }
 {
     let (first, after) = next_word(text).ok_or(BadKind::Command)?;
     let second = one_word(after)?;
@@ -57,7 +61,8 @@ pub fn two_words(text: &[u8]) -> Result<(&[u8], &[u8]), BadKind>
 
 /// The three words of a line.
 pub fn three_words(text: &[u8]) -> Result<(&[u8], &[u8], &[u8]), BadKind>
-    ensures { MatchResult result (λ words. words_of text.now ≡ words.0.now ∷ words.1.now ∷ words.2.now ∷ []) (λ kind. (kind ≡ Command) × (length (words_of text.now) ≢ 3)) }
+    ensures { MatchResult result (λ words. words_of text.now ≡ words.0.now ∷ words.1.now ∷ words.2.now ∷ [])
+        (λ kind. (kind ≡ Command) × (length (words_of text.now) ≢ 3)) }
 {
     let (first, after) = next_word(text).ok_or(BadKind::Command)?;
     let (second, third) = two_words(after)?;
@@ -66,7 +71,9 @@ pub fn three_words(text: &[u8]) -> Result<(&[u8], &[u8], &[u8]), BadKind>
 
 /// The four words of a line.
 pub fn four_words(text: &[u8]) -> Result<(&[u8], &[u8], &[u8], &[u8]), BadKind>
-    ensures { MatchResult result (λ words. words_of text.now ≡ words.0.now ∷ words.1.now ∷ words.2.now ∷ words.3.now ∷ []) (λ kind. (kind ≡ Command) × (length (words_of text.now) ≢ 4)) }
+    ensures { MatchResult result (λ words.
+        words_of text.now ≡ words.0.now ∷ words.1.now ∷ words.2.now ∷ words.3.now ∷ []) (λ kind.
+        (kind ≡ Command) × (length (words_of text.now) ≢ 4)) }
 {
     let (first, after) = next_word(text).ok_or(BadKind::Command)?;
     let (second, third, fourth) = three_words(after)?;

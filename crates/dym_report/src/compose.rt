@@ -95,7 +95,8 @@ fn put_bytes(buffer: &mut [u8], start: usize, bytes: &[u8]) -> usize
 fn put_logged(buffer: &mut [u8], start: usize, kind: Kind, len: u64) -> usize
     requires { start + 28 ≤ length buffer.old }
     ensures room { result ≤ start + 28 }
-    ensures text { take result buffer.new ≡ take start buffer.old ++ codes "ok " ++ kind_text kind ++ codes " " ++ decimal len }
+    ensures text { take result buffer.new
+        ≡ take start buffer.old ++ codes "ok " ++ kind_text kind ++ codes " " ++ decimal len }
 {
     match kind {
         Kind::Full => put_named(buffer, start, b"ok full ", len),
@@ -130,7 +131,8 @@ pub(crate) fn put_numbers(
 ) -> usize
     requires { start + length word.now + 41 ≤ length buffer.old }
     ensures room { result ≤ start + length word.now + 41 }
-    ensures text { take result buffer.new ≡ take start buffer.old ++ (word.now ++ decimal first ++ codes " " ++ decimal second) }
+    ensures text { take result buffer.new
+        ≡ take start buffer.old ++ (word.now ++ decimal first ++ codes " " ++ decimal second) }
 {
     let end = put_named(buffer, start, word, first);
     put_named(buffer, end, b" ", second)

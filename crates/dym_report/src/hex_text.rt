@@ -22,7 +22,8 @@ const SMALL_BLOCK: usize = 32;
 
 /// Writes a line of a text and the digits of some bytes, or `-` where there are none. Its only error is that of the sink.
 pub fn write_hex_line<W: Sink>(sink: &mut W, front: &[u8], bytes: &[u8]) -> Result<(), SinkFault>
-    ensures { Writes (W.output sink.old) (W.output sink.new) (front.now ++ hex_text bytes.now ++ codes "\n") result }
+    ensures { Writes (W.output sink.old) (W.output sink.new)
+        (front.now ++ hex_text bytes.now ++ codes "\n") result }
 {
     if bytes.is_empty() {
         return push_parts(sink, &[front, b"-\n".as_slice()]);
@@ -36,7 +37,8 @@ pub fn write_hex_line<W: Sink>(sink: &mut W, front: &[u8], bytes: &[u8]) -> Resu
 /// Writes a line of a text and the digits of a few bytes.
 fn write_short<W: Sink>(sink: &mut W, front: &[u8], bytes: &[u8]) -> Result<(), SinkFault>
     requires { length bytes.now ≤ SHORT }
-    ensures { Writes (W.output sink.old) (W.output sink.new) (front.now ++ encode_lower bytes.now ++ codes "\n") result }
+    ensures { Writes (W.output sink.old) (W.output sink.new)
+        (front.now ++ encode_lower bytes.now ++ codes "\n") result }
 {
     let mut buffer = [0; 2 * SHORT];
     let digits = &mut buffer[..2 * bytes.len()];
@@ -47,7 +49,8 @@ fn write_short<W: Sink>(sink: &mut W, front: &[u8], bytes: &[u8]) -> Result<(), 
 /// Writes a line of a text and the digits of many bytes.
 #[tactic(auto, using(dym_io::specs::Laws::writing))]
 fn write_long<W: Sink>(sink: &mut W, front: &[u8], bytes: &[u8]) -> Result<(), SinkFault>
-    ensures { Writes (W.output sink.old) (W.output sink.new) (front.now ++ encode_lower bytes.now ++ codes "\n") result }
+    ensures { Writes (W.output sink.old) (W.output sink.new)
+        (front.now ++ encode_lower bytes.now ++ codes "\n") result }
 {
     push_all(sink, front)?;
     write_last(sink, bytes)

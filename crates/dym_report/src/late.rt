@@ -73,7 +73,8 @@ pub fn write_late_end<W: Sink, S: Supply>(
     replayed: u64,
 ) -> Result<(), SinkFault>
     requires sound { IsSound heap.now }
-    ensures { Writes (W.output sink.old) (W.output sink.new) (late_end heap.now.version heap.now.state.live replayed) result }
+    ensures { Writes (W.output sink.old) (W.output sink.new)
+        (late_end heap.now.version heap.now.state.live replayed) result }
 {
     write_heap(sink, heap)?;
     write_images(sink, heap)?;

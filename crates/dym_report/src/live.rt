@@ -26,7 +26,8 @@ pub fn write_object<W: Sink, S: Supply>(
     slots: u32,
 ) -> Result<(), SinkFault>
     requires sound { IsSound heap.now }
-    ensures { Writes (W.output sink.old) (W.output sink.new) (object_text heap.now.version name.now replies.now heap.now.state.live kept slots) result }
+    ensures { Writes (W.output sink.old) (W.output sink.new)
+        (object_text heap.now.version name.now replies.now heap.now.state.live kept slots) result }
 {
     write_heading(sink, name)?;
     write_replies(sink, replies)?;
@@ -42,7 +43,8 @@ pub fn write_state<W: Sink, S: Supply>(
     slots: u32,
 ) -> Result<(), SinkFault>
     requires sound { IsSound heap.now }
-    ensures { Writes (W.output sink.old) (W.output sink.new) (state_text heap.now.version heap.now.state.live kept slots) result }
+    ensures { Writes (W.output sink.old) (W.output sink.new)
+        (state_text heap.now.version heap.now.state.live kept slots) result }
 {
     write_heap(sink, heap)?;
     write_images(sink, heap)?;
@@ -52,7 +54,8 @@ pub fn write_state<W: Sink, S: Supply>(
 /// Writes how many chunks of a heap are live, and how many segments they need.
 pub(crate) fn write_heap<W: Sink, S: Supply>(sink: &mut W, heap: &Heap<S>) -> Result<(), SinkFault>
     requires sound { IsSound heap.now }
-    ensures { Writes (W.output sink.old) (W.output sink.new) (heap_line (len heap.now.state.live) (held heap.now.state.live)) result }
+    ensures { Writes (W.output sink.old) (W.output sink.new)
+        (heap_line (len heap.now.state.live) (held heap.now.state.live)) result }
 {
     write_numbers(sink, b"heap ", live_chunks(heap), u64::from(heap.held()))
 }
@@ -78,7 +81,8 @@ pub(crate) fn write_images<W: Sink, S: Supply>(
     heap: &Heap<S>,
 ) -> Result<(), SinkFault>
     requires sound { IsSound heap.now }
-    ensures { Writes (W.output sink.old) (W.output sink.new) (images_text heap.now.version heap.now.state.live) result }
+    ensures { Writes (W.output sink.old) (W.output sink.new)
+        (images_text heap.now.version heap.now.state.live) result }
 {
     let mut last = None;
     while let Some(handle) = heap.next_live(last) {
@@ -96,7 +100,9 @@ fn write_live<W: Sink, S: Supply>(
     index: u32,
 ) -> Result<(), SinkFault>
     requires { contains_key heap.now.state.live (number exp index) ≡ true }
-    ensures { IfSome (get heap.now.state.live (number exp index)) (λ bytes. Writes (W.output sink.old) (W.output sink.new) (image_line heap.now.version (handle_of (number exp index)) bytes) result) }
+    ensures { IfSome (get heap.now.state.live (number exp index))
+        (λ bytes. Writes (W.output sink.old) (W.output sink.new)
+        (image_line heap.now.version (handle_of (number exp index)) bytes) result) }
 {
     let handle = Handle { exp, index };
     let Some(bytes) = heap.bytes(handle) else {

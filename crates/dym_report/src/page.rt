@@ -48,8 +48,10 @@ impl Page {
     /// the sink.
     #[inline(always)]
     pub fn add<W: Sink>(&mut self, sink: &mut W, reply: &Reply) -> Result<(), SinkFault>
-        ensures added { OnOk result (Leaves (W.output sink.old) (W.output sink.new) (self.old ++ reply_line reply.now) self.new) }
-        ensures stopped { OnErr result (Stopped (W.output sink.old) (W.output sink.new) (self.old ++ reply_line reply.now)) }
+        ensures added { OnOk result (Leaves (W.output sink.old) (W.output sink.new)
+            (self.old ++ reply_line reply.now) self.new) }
+        ensures stopped { OnErr result (Stopped (W.output sink.old) (W.output sink.new)
+            (self.old ++ reply_line reply.now)) }
     {
         if !has_room(PAGE_ROOM - self.end, reply) {
             return self.add_behind(sink, reply);
@@ -61,8 +63,10 @@ impl Page {
     /// Writes the lines, and then adds the line of a reply, or writes it too where it is longer than a page.
     #[inline(never)]
     fn add_behind<W: Sink>(&mut self, sink: &mut W, reply: &Reply) -> Result<(), SinkFault>
-        ensures added { OnOk result (Leaves (W.output sink.old) (W.output sink.new) (self.old ++ reply_line reply.now) self.new) }
-        ensures stopped { OnErr result (Stopped (W.output sink.old) (W.output sink.new) (self.old ++ reply_line reply.now)) }
+        ensures added { OnOk result (Leaves (W.output sink.old) (W.output sink.new)
+            (self.old ++ reply_line reply.now) self.new) }
+        ensures stopped { OnErr result (Stopped (W.output sink.old) (W.output sink.new)
+            (self.old ++ reply_line reply.now)) }
     {
         self.write(sink)?;
         if !has_room(PAGE_ROOM, reply) {
@@ -75,8 +79,10 @@ impl Page {
     /// Adds the line of bytes that were read, as `add` does that of a reply that tells them.
     #[inline(always)]
     pub fn add_bytes<W: Sink>(&mut self, sink: &mut W, bytes: &[u8]) -> Result<(), SinkFault>
-        ensures added { OnOk result (Leaves (W.output sink.old) (W.output sink.new) (self.old ++ reply_line (Bytes bytes.now)) self.new) }
-        ensures stopped { OnErr result (Stopped (W.output sink.old) (W.output sink.new) (self.old ++ reply_line (Bytes bytes.now))) }
+        ensures added { OnOk result (Leaves (W.output sink.old) (W.output sink.new)
+            (self.old ++ reply_line (Bytes bytes.now)) self.new) }
+        ensures stopped { OnErr result (Stopped (W.output sink.old) (W.output sink.new)
+            (self.old ++ reply_line (Bytes bytes.now))) }
     {
         if !has_bytes_room(PAGE_ROOM - self.end, bytes) {
             return self.add_bytes_behind(sink, bytes);
@@ -88,8 +94,10 @@ impl Page {
     /// Writes the lines, and then adds the line of bytes, or writes it too where it is longer than a page.
     #[inline(never)]
     fn add_bytes_behind<W: Sink>(&mut self, sink: &mut W, bytes: &[u8]) -> Result<(), SinkFault>
-        ensures added { OnOk result (Leaves (W.output sink.old) (W.output sink.new) (self.old ++ reply_line (Bytes bytes.now)) self.new) }
-        ensures stopped { OnErr result (Stopped (W.output sink.old) (W.output sink.new) (self.old ++ reply_line (Bytes bytes.now))) }
+        ensures added { OnOk result (Leaves (W.output sink.old) (W.output sink.new)
+            (self.old ++ reply_line (Bytes bytes.now)) self.new) }
+        ensures stopped { OnErr result (Stopped (W.output sink.old) (W.output sink.new)
+            (self.old ++ reply_line (Bytes bytes.now))) }
     {
         self.write(sink)?;
         if !has_bytes_room(PAGE_ROOM, bytes) {

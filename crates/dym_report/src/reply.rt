@@ -38,7 +38,8 @@ pub fn write_replies<W: Sink>(sink: &mut W, replies: &[Reply]) -> Result<(), Sin
 /// Writes a line of a word and a number.
 pub fn write_number<W: Sink>(sink: &mut W, word: &[u8], number: u64) -> Result<(), SinkFault>
     requires { length word.now ≤ 20 }
-    ensures { Writes (W.output sink.old) (W.output sink.new) (word.now ++ decimal number ++ codes "\n") result }
+    ensures { Writes (W.output sink.old) (W.output sink.new)
+        (word.now ++ decimal number ++ codes "\n") result }
 {
     let mut line = [0; LINE_ROOM];
     let end = put_named(&mut line, 0, word, number);
@@ -54,7 +55,8 @@ pub fn write_numbers<W: Sink>(
     second: u64,
 ) -> Result<(), SinkFault>
     requires { length word.now ≤ 20 }
-    ensures { Writes (W.output sink.old) (W.output sink.new) (word.now ++ decimal first ++ codes " " ++ decimal second ++ codes "\n") result }
+    ensures { Writes (W.output sink.old) (W.output sink.new)
+        (word.now ++ decimal first ++ codes " " ++ decimal second ++ codes "\n") result }
 {
     let mut line = [0; LINE_ROOM];
     let end = put_numbers(&mut line, 0, word, first, second);

@@ -45,7 +45,8 @@ impl LateReader {
     fn read_line(&mut self, alloc: Global, number: u32, line: &[u8]) -> Result<(), LineFail>
         requires { IsLateKept self.old }
         ensures kept { OnOk result (IsLateKept self.new) }
-        ensures read { GivesLateLine (late_seen self.new) result (late_line (late_seen self.old) number line.now) }
+        ensures read { GivesLateLine (late_seen self.new) result
+            (late_line (late_seen self.old) number line.now) }
     {
         if line.len() > MOST_LINE_BYTES {
             return Err(LineFail::Bad(BadKind::LongLine));
@@ -69,7 +70,8 @@ impl LateReader {
     ) -> Result<(), LineFail>
         requires { IsLateKept self.old }
         ensures kept { OnOk result (IsLateKept self.new) }
-        ensures read { GivesLateLine (late_seen self.new) result (late_words (late_seen self.old) number (first.now ∷ words_of words.now)) }
+        ensures read { GivesLateLine (late_seen self.new) result
+            (late_words (late_seen self.old) number (first.now ∷ words_of words.now)) }
     {
         if first.first() == Some(&b'#') {
             return Ok(());
@@ -102,7 +104,8 @@ impl LateReader {
         requires within { object < length self.old.declared.objects.items }
         requires may { MayAct act }
         ensures kept { OnOk result (IsLateKept self.new) }
-        ensures read { GivesLateLine (late_seen self.new) result (act_on (late_seen self.old) act (Some object)) }
+        ensures read { GivesLateLine (late_seen self.new) result
+            (act_on (late_seen self.old) act (Some object)) }
     {
         if self.lines.len() == MOST_LATE_LINES {
             return Err(LineFail::Bad(BadKind::Many));

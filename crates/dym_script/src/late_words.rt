@@ -66,7 +66,8 @@ fn at_words(alloc: Global, words: &[u8]) -> Result<LateAct, LineFail>
 /// An event of a time, a verb that an event may have, and the words after it.
 fn event_at(alloc: Global, time: &[u8], verb: Verb, words: &[u8]) -> Result<LateAct, LineFail>
     requires { is_event_verb verb ≡ true }
-    ensures read { GivesLine (λ act. act) result (event_at (time_of time.now) (command_of verb (words_of words.now))) }
+    ensures read { GivesLine (λ act. act) result
+        (event_at (time_of time.now) (command_of verb (words_of words.now))) }
     ensures may { IfOk result MayAct }
 {
     match verb.asked(words) {

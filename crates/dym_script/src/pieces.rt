@@ -82,7 +82,8 @@ impl<K: Keeper + Drop> Pieces<K> {
 
     /// Reads the last piece, whose last line may lack its end, and answers what was read of the whole script.
     pub fn finish(mut self, alloc: Global, last: &[u8]) -> Result<Whole<K>, ScriptFail>
-        requires { (taken : List ℕ) × TookBy (K.keeps self.keeper) self.reader self.commands self.number taken × (length taken + length last.now ≤ MOST_INPUT_BYTES) }
+        requires { (taken : List ℕ) × TookBy (K.keeps self.keeper) self.reader self.commands self.number taken
+            × (length taken + length last.now ≤ MOST_INPUT_BYTES) }
         ensures { (taken : List ℕ) → TookBy (K.keeps self.keeper) self.reader self.commands self.number taken
             → GivesWhole K.keeps result (says (taken ++ last.now)) }
     {

@@ -89,7 +89,8 @@ impl Reader {
     #[inline(always)]
     pub fn next_quickly<'a>(&self, text: &'a [u8], asked: &mut Asked<'a>) -> Option<(u32, &'a [u8])>
         requires kept { IsKept self.now }
-        ensures { IfSome result (λ next. IsNext self.now text.now (record { object = next.0; asked = asked.new }) next.1.now) }
+        ensures { IfSome result (λ next.
+            IsNext self.now text.now (record { object = next.0; asked = asked.new }) next.1.now) }
     {
         let Named { name, key, words } = front_name(text)?;
         let object = self.place_near(key, name)?;
@@ -112,7 +113,8 @@ impl Reader {
         ensures kept { OnOk result (IsKept self.new) }
         ensures grows { OnOk result (Grows self.old.objects.items self.new.objects.items) }
         ensures within { IfOk result (IsWithin self.new) }
-        ensures read { GivesReading (seen self.new) result (λ lines. read_line (seen self.old lines) number line.now) }
+        ensures read { GivesReading (seen self.new) result
+            (λ lines. read_line (seen self.old lines) number line.now) }
     {
         if line.len() > MOST_LINE_BYTES {
             return Err(LineFail::Bad(BadKind::LongLine));
@@ -138,7 +140,8 @@ impl Reader {
         ensures kept { OnOk result (IsKept self.new) }
         ensures grows { OnOk result (Grows self.old.objects.items self.new.objects.items) }
         ensures within { IfOk result (IsWithin self.new) }
-        ensures read { GivesReading (seen self.new) result (λ lines. read_words (seen self.old lines) number (first.now ∷ words_of words.now)) }
+        ensures read { GivesReading (seen self.new) result
+            (λ lines. read_words (seen self.old lines) number (first.now ∷ words_of words.now)) }
     {
         if first.first() == Some(&b'#') {
             return Ok(None);
@@ -165,7 +168,8 @@ impl Reader {
         ensures kept { OnOk result (IsKept self.new) }
         ensures grows { OnOk result (Grows self.old.objects.items self.new.objects.items) }
         ensures within { IfOk result (IsWithin self.new) }
-        ensures read { GivesSaid (λ lines. (seen self.new lines).said) result (λ lines. say (seen self.old lines).said number first.now (words_of words.now)) }
+        ensures read { GivesSaid (λ lines. (seen self.new lines).said) result
+            (λ lines. say (seen self.old lines).said number first.now (words_of words.now)) }
     {
         if first == b"object".as_slice() {
             let (name, quota) = two_words(words)?;
@@ -194,7 +198,8 @@ impl Reader {
         ensures grows { OnOk result (Grows self.old.objects.items self.new.objects.items) }
         ensures more { OnOk result (length self.new.objects.items ≡ length self.old.objects.items + 1) }
         ensures version { self.new.version ≡ self.old.version }
-        ensures read { Declares (λ lines. (seen self.new lines).said) result (λ lines. declare (seen self.old lines).said number name.now (Some quota)) }
+        ensures read { Declares (λ lines. (seen self.new lines).said) result
+            (λ lines. declare (seen self.old lines).said number name.now (Some quota)) }
     {
         let declared = Name::new(name).ok_or(BadKind::Name)?;
         if self.place_of(name).is_some() {
