@@ -1,12 +1,14 @@
 -- Lists of kept replies, and a table that grows.
-use Rattle.std.proofs.Common.{◌≡◌, ℕ, ◌+◌, ◌≤◌, List, [], ◌∷◌, ◌++◌, All, length, take, drop, refl, sym, ap, subst, ◌∙◌, arith, length-append, length-drop}
+use Rattle.std.proofs.Common.{◌≡◌, ℕ, ◌+◌, ◌≤◌, Bool, true, false, List, [], ◌∷◌, ◌++◌, All, length, take, drop, cond, count_by, refl, sym, ap, subst, ◌∙◌, arith, length-append, length-drop}
 use Rattle.std.proofs.lemmas.List.{map-append, take-append-le, drop-append-le}
 use Rattle.std.proofs.lemmas.List.Elements.{All-head, All-tail, All-push, All-weaker}
+use Rattle.std.proofs.lemmas.List.Sums.{sum_by_push}
+use Rattle.std.specs.Int.{from_bool}
 use Rattle.dym_base.specs.declared.reply.Reply.{Reply}
 use Rattle.dym_base.specs.declared.reply.Reply.TheVariants as reply
 use Rattle.dym_turn.specs.declared.replies.KeptReply.{KeptReply}
 use Rattle.dym_turn.specs.declared.replies.KeptReply.TheVariants.{Bytes}
-use Rattle.dym_turn.specs.Replies.{kept_reply, kept_replies, IsKept}
+use Rattle.dym_turn.specs.Replies.{is_refusal, kept_reply, kept_replies, IsKept, AreKept}
 
 -- what is kept stays the same where the table grows at its end
 same_reply : (table more : List ℕ) (kept : KeptReply) → IsKept table kept → kept_reply (table ++ more) kept ≡ kept_reply table kept
@@ -36,3 +38,18 @@ more_replies table more grown kepts kept said is same are =
 pub more_kept : (table more grown : List ℕ) (kepts : List KeptReply) (kept : KeptReply) → grown ≡ table ++ more → IsKept grown kept → All (IsKept table) kepts → All (IsKept grown) (kepts ++ kept ∷ [])
 more_kept table more grown kepts kept is one are =
     All-push (IsKept grown) kepts kept (subst (λ (t : List ℕ). All (IsKept t) kepts) (sym is) (All-weaker (IsKept table) (IsKept (table ++ more)) (λ k old. still_kept table more k old) kepts are)) one
+
+one_or_none : (b : Bool) → from_bool b ≡ cond b 1 0
+one_or_none true = refl
+one_or_none false = refl
+
+-- and the refusals are counted, one more where that reply is one
+pub more_are_kept : (table more grown : List ℕ) (kepts : List KeptReply) (kept : KeptReply) (said : Reply) (refused added : ℕ) → grown ≡ table ++ more → kept_reply grown kept ≡ said → IsKept grown kept
+    → added ≡ from_bool (is_refusal said) → AreKept table kepts refused → AreKept grown (kepts ++ kept ∷ []) (refused + added)
+more_are_kept table more grown kepts kept said refused added is same one more_refused are = record {
+  each = more_kept table more grown kepts kept is one are.each;
+  count =
+      (λ i. are.count i + (more_refused ∙ one_or_none (is_refusal said)) i)
+      ∙ sym (sum_by_push (λ (r : Reply). cond (is_refusal r) 1 0) (kept_replies table kepts) said)
+      ∙ sym (ap (count_by is_refusal) (more_replies table more grown kepts kept said is same are.each));
+}

@@ -1,5 +1,5 @@
 -- Replies that are kept in little memory, and what they mean.
-use Rattle.std.specs.Prelude.{◌+◌, ◌^◌, ◌≤◌, ◌<◌, ℕ, Bool, true, false, List, [], length, take, drop, map}
+use Rattle.std.specs.Prelude.{◌≡◌, ◌+◌, ◌^◌, ◌≤◌, ◌<◌, ℕ, Bool, true, false, List, [], length, take, drop, map, count_by, All}
 use Rattle.dym_base.specs.declared.reply.Reply.{Reply}
 use Rattle.dym_base.specs.declared.reply.Reply.TheVariants as reply
 use Rattle.dym_base.specs.declared.reply.Refusal.TheVariants as refusal
@@ -58,6 +58,11 @@ kept_replies bytes kepts = map (kept_reply bytes) kepts
 abbrev pub IsKept : List ℕ → KeptReply → Type 0
 IsKept bytes (kept.Bytes len place) = place + len ≤ length bytes
 IsKept bytes _ = Unit {0}
+
+-- the bytes of all stand in the table, and so many of them are refusals
+pub record AreKept (bytes : List ℕ) (kepts : List KeptReply) (refused : ℕ) : Type 0 where
+  pub each : All (IsKept bytes) kepts
+  pub count : refused ≡ count_by is_refusal (kept_replies bytes kepts)
 
 -- a kept reply that isn't one of bytes that were read
 abbrev pub IsPlain : KeptReply → Type 0

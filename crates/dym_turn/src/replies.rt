@@ -34,22 +34,23 @@ pub enum KeptReply {
 const _: () = prove!(size_of::<KeptReply>() == 16);
 
 /// The replies to commands, in the order in which they were pushed. Each is kept in 16 bytes, those to reads with their bytes beside
-/// them. The room for all of them is taken at once, so that to push one takes no memory.
+/// them. The room for all of them is taken at once, so that to push one takes no memory. Those that are refusals are counted.
 #[derive(Drop)]
 pub struct Replies {
     kept: Vec<KeptReply>,
     bytes: Vec<u8>,
+    refused: usize,
 }
 
 impl Model for Replies {
-    ghost use Rattle.std.specs.Prelude.{All, vec_len, vec_capacity, ◌-◌};
-    ghost use Rattle.dym_turn.specs.Replies.{RepliesMeaning, replies_with, kept_replies, IsKept};
+    ghost use Rattle.std.specs.Prelude.{vec_len, vec_capacity, ◌-◌};
+    ghost use Rattle.dym_turn.specs.Replies.{RepliesMeaning, replies_with, kept_replies, AreKept};
 
     ghost Value = { RepliesMeaning };
 
     ghost view = { λ r. replies_with (kept_replies r.bytes.items r.kept.items) (vec_capacity r.kept - vec_len r.kept) (vec_capacity r.bytes - vec_len r.bytes) };
 
-    ghost invariant = { λ r. All (IsKept r.bytes.items) r.kept.items };
+    ghost invariant = { λ r. AreKept r.bytes.items r.kept.items r.refused };
 }
 
 impl Replies {
@@ -59,7 +60,11 @@ impl Replies {
     {
         let kept = Vec::with_capacity(alloc, count)?;
         let bytes = Vec::with_capacity(alloc, bytes)?;
-        Ok(Replies { kept, bytes })
+        Ok(Replies {
+            kept,
+            bytes,
+            refused: 0,
+        })
     }
 
     /// How many they are.
@@ -73,7 +78,7 @@ impl Replies {
     pub fn refusals(&self) -> usize
         ensures { result ≡ count_by is_refusal self.now.replies }
     {
-        self.kept.iter().filter(|kept| kept.is_refusal()).count()
+        self.refused
     }
 
     /// Whether there is room for a reply more, and for the bytes that it tells.
@@ -99,6 +104,7 @@ impl Replies {
     {
         let kept = keep(&mut self.bytes, reply);
         self.kept.push_reserved(kept);
+        self.refused += usize::from(is_refusal(reply));
     }
 
     /// Reply `k`, which counts from 0 on. Bytes that were read are answered as they stand here, and any other reply is put into its
@@ -106,7 +112,8 @@ impl Replies {
     #[inline(always)]
     pub fn tell(&self, k: usize, reply: &mut Reply) -> Option<&[u8]>
         requires { k < length self.now.replies }
-        ensures { MatchOption result (slice_get self.now.replies k ≡ Some reply.new) (λ bytes. slice_get self.now.replies k ≡ Some (Bytes bytes.now)) }
+        ensures { MatchOption result (slice_get self.now.replies k ≡ Some reply.new)
+            (λ bytes. slice_get self.now.replies k ≡ Some (Bytes bytes.now)) }
     {
         let kept = self.kept[k];
         match kept {
@@ -149,22 +156,14 @@ impl KeptReply {
             KeptReply::NoLog => Reply::Refused(Refusal::NoLog),
         }
     }
+}
 
-    /// Whether it is a refusal.
-    fn is_refusal(&self) -> bool
-        ensures { (bytes : List ℕ) → result ≡ is_refusal (kept_reply bytes self.now) }
-    {
-        matches!(
-            self,
-            KeptReply::TooLarge
-                | KeptReply::Quota
-                | KeptReply::Dead
-                | KeptReply::Range
-                | KeptReply::NotAfter { .. }
-                | KeptReply::LogsFull
-                | KeptReply::NoLog
-        )
-    }
+/// Whether a reply is a refusal.
+#[inline(always)]
+fn is_refusal(reply: &Reply) -> bool
+    ensures { result ≡ is_refusal reply.now }
+{
+    matches!(reply, Reply::Refused(_))
 }
 
 /// Keeps a reply, with the bytes that it tells behind those of a table that has room for them.
