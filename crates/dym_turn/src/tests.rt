@@ -1,5 +1,5 @@
 use crate::{Replies, Turn};
-use dym_base::{Blob, Handle, Kind, Refusal, Reply, Version};
+use dym_base::{Blob, Command, Handle, Kind, Refusal, Reply, Version};
 use dym_chain::VecKeep;
 use dym_commands::{Asked, Commands, HexBytes};
 use dym_object::Object;
@@ -55,15 +55,15 @@ fn commands_get_their_replies(rt: HostRuntime) -> Result<(), Fail> {
         return Ok(());
     };
     let asked = [
-        Asked::Malloc { len: 10 },
+        Asked::Plain(Command::Malloc { len: 10 }),
         Asked::Write { h, at: 1, bytes },
-        Asked::Read { h, at: 0, len: 4 },
-        Asked::Log { time: 5 },
-        Asked::Free { h: Some(h) },
-        Asked::Sum { h },
-        Asked::Restore { time: 7 },
-        Asked::Sum { h },
-        Asked::Logs,
+        Asked::Plain(Command::Read { h, at: 0, len: 4 }),
+        Asked::Plain(Command::Log { time: 5 }),
+        Asked::Plain(Command::Free { h: Some(h) }),
+        Asked::Plain(Command::Sum { h }),
+        Asked::Plain(Command::Restore { time: 7 }),
+        Asked::Plain(Command::Sum { h }),
+        Asked::Plain(Command::Logs),
     ];
     let replies = replied(&rt, &asked)?;
     let wanted = [

@@ -6,8 +6,8 @@ ghost use Rattle.dym_region.specs.Identity.{ids_of};
 ghost use Rattle.dym_wave.specs.Works.{OriginMeaning, origin_of};
 
 use crate::{Seen, run_viewed};
-use dym_base::Handle;
 use dym_base::limits::{MOST_QUANTUM, MOST_QUOTA};
+use dym_base::{Command, Handle};
 use dym_chain::SlotKeep;
 use dym_commands::{Asked, Commands};
 use dym_object::Object;
@@ -135,19 +135,19 @@ fn script(rt: &impl Abort, alloc: Global, asked: &[Asked<'_>]) -> Commands {
 fn the_oldest_kept_log_is_seen(rt: HostRuntime) -> Result<(), Fail> {
     let alloc = rt.alloc();
     let h = Handle { exp: 6, index: 0 };
-    let fill = Asked::Fill {
+    let fill = Asked::Plain(Command::Fill {
         h,
         at: 0,
         len: 4,
         byte: 7,
-    };
+    });
     let asked = [
-        Asked::Malloc { len: 40 },
-        Asked::Log { time: 10 },
+        Asked::Plain(Command::Malloc { len: 40 }),
+        Asked::Plain(Command::Log { time: 10 }),
         fill,
-        Asked::Ilog { time: 20 },
-        Asked::Prune { bound: 25 },
-        Asked::Free { h: Some(h) },
+        Asked::Plain(Command::Ilog { time: 20 }),
+        Asked::Plain(Command::Prune { bound: 25 }),
+        Asked::Plain(Command::Free { h: Some(h) }),
     ];
     for quantum in [1, 2, 64] {
         let commands = script(&rt, alloc, &asked);
@@ -158,7 +158,7 @@ fn the_oldest_kept_log_is_seen(rt: HostRuntime) -> Result<(), Fail> {
         };
         assert_eq!(rt; seen(&rt, alloc, quantum, commands), Some(line));
     }
-    let none = script(&rt, alloc, &[Asked::Malloc { len: 40 }]);
+    let none = script(&rt, alloc, &[Asked::Plain(Command::Malloc { len: 40 })]);
     assert_eq!(rt; seen(&rt, alloc, 1, none), None);
     Ok(())
 }
@@ -169,9 +169,9 @@ fn a_thousand_logs_are_published_beside_a_thread_that_looks(rt: HostRuntime) -> 
     let mut commands = Commands::new(alloc);
     for before in 0..MANY {
         assert!(rt; commands.len() < 100_000);
-        commands.push(&Asked::Log { time: before + 1 })?;
+        commands.push(&Asked::Plain(Command::Log { time: before + 1 }))?;
         assert!(rt; commands.len() < 100_000);
-        commands.push(&Asked::Prune { bound: before + 1 })?;
+        commands.push(&Asked::Plain(Command::Prune { bound: before + 1 }))?;
     }
     let last = ViewLine {
         time: MANY,

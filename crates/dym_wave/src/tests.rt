@@ -9,7 +9,7 @@ ghost use Rattle.dym_wave.specs.Works.{number_of};
 
 use crate::{Work, run_wave};
 use dym_base::limits::{MOST_QUANTUM, MOST_QUOTA, MOST_SEGMENTS};
-use dym_base::{Blob, Handle, Kind, Refusal, Reply};
+use dym_base::{Blob, Command, Handle, Kind, Refusal, Reply};
 use dym_chain::SlotKeep;
 use dym_commands::{Asked, Commands, HexBytes};
 use dym_object::Object;
@@ -228,43 +228,43 @@ fn three_works_in_one_wave(rt: HostRuntime) -> Result<(), Fail> {
         &rt,
         alloc,
         &[
-            Asked::Malloc { len: 40 },
-            Asked::Log { time: 10 },
-            Asked::Fill {
+            Asked::Plain(Command::Malloc { len: 40 }),
+            Asked::Plain(Command::Log { time: 10 }),
+            Asked::Plain(Command::Fill {
                 h,
                 at: 0,
                 len: 4,
                 byte: 7,
-            },
-            Asked::Ilog { time: 20 },
-            Asked::Restore { time: 15 },
-            Asked::Sum { h },
-            Asked::Logs,
-            Asked::Read { h, at: 0, len: 3 },
+            }),
+            Asked::Plain(Command::Ilog { time: 20 }),
+            Asked::Plain(Command::Restore { time: 15 }),
+            Asked::Plain(Command::Sum { h }),
+            Asked::Plain(Command::Logs),
+            Asked::Plain(Command::Read { h, at: 0, len: 3 }),
         ],
     );
     let segments = script(
         &rt,
         alloc,
         &[
-            Asked::Malloc { len: 65_536 },
-            Asked::Malloc { len: 65_536 },
-            Asked::Malloc { len: 32 },
-            Asked::Free {
+            Asked::Plain(Command::Malloc { len: 65_536 }),
+            Asked::Plain(Command::Malloc { len: 65_536 }),
+            Asked::Plain(Command::Malloc { len: 32 }),
+            Asked::Plain(Command::Free {
                 h: Some(chunk(16, 1)),
-            },
-            Asked::Malloc { len: 32 },
+            }),
+            Asked::Plain(Command::Malloc { len: 32 }),
         ],
     );
     let prunes = script(
         &rt,
         alloc,
         &[
-            Asked::Log { time: 5 },
-            Asked::Log { time: 5 },
-            Asked::Log { time: 6 },
-            Asked::Prune { bound: 9 },
-            Asked::Restore { time: 5 },
+            Asked::Plain(Command::Log { time: 5 }),
+            Asked::Plain(Command::Log { time: 5 }),
+            Asked::Plain(Command::Log { time: 6 }),
+            Asked::Plain(Command::Prune { bound: 9 }),
+            Asked::Plain(Command::Restore { time: 5 }),
         ],
     );
     let wanted_of_logs = vec![in alloc;
@@ -337,9 +337,9 @@ fn the_pruner_sweeps_while_a_worker_runs(rt: HostRuntime) -> Result<(), Fail> {
     let mut commands = Commands::new(alloc);
     for time in 1..200_001 {
         assert!(rt; commands.len() < 400_000);
-        commands.push(&Asked::Log { time })?;
+        commands.push(&Asked::Plain(Command::Log { time }))?;
         assert!(rt; commands.len() < 400_000);
-        commands.push(&Asked::Prune { bound: time })?;
+        commands.push(&Asked::Plain(Command::Prune { bound: time }))?;
     }
     let scripts = vec![in alloc; commands]?;
     let taken = run_scripts(&rt, alloc, &[1], 400, scripts, Vec::new(alloc), 1, &Yields);
