@@ -1,248 +1,158 @@
--- Works with their names and their sweepers, in lists of one length.
-use Rattle.std.proofs.Common.{◌≡◌, Bool, ℕ, ◌+◌, ◌<◌, ◌⊎◌, inl, inr, List, [], ◌∷◌, ◌++◌, length, map, reverse, sum_by, All, refl, sym, ap, subst, ◌∙◌, arith, append_assoc, length-append, get_or}
+-- The objects of a wave by where they come from, and what is left of them under their names.
+use Rattle.std.proofs.Common.{◌≡◌, ℕ, ◌+◌, ◌<◌, ◌⊎◌, inl, inr, List, [], ◌∷◌, ◌++◌, length, map, reverse, sum, sum_by, All, Option, None, Some, option_to_list, MatchOption, refl, sym, ap, subst, ◌∙◌, arith, append_assoc, length-append, get_or}
 use Rattle.std.specs.Prelude.{slice_index_or}
-use Rattle.std.proofs.lemmas.List.{get_or_append_left, get_or-map, map-append, map_push, length-map, reverse-append}
+use Rattle.std.proofs.lemmas.List.{get_or-map, map-append, map_push, length-map, reverse-append}
 use Rattle.std.proofs.lemmas.List.Elements.{All-map, All-same}
-use Rattle.std.proofs.lemmas.List.Sums.{sum_by-cons}
-use Rattle.std.proofs.Math.Seq.{get_or-append_seam}
+use Rattle.std.proofs.lemmas.List.Sums.{sum-map}
 use Rattle.dym_base.specs.Origins.{Origin, TableName, shared}
-use Rattle.dym_slots.specs.Meanings.{SweeperMeaning}
-use Rattle.dym_pool.specs.Jobs.{Numbered, labels}
-use Rattle.dym_script.specs.declared.parts.Part.{Part}
-use Rattle.dym_wave.specs.Waves.{AreSweptBy, SameTables}
-use Rattle.dym_wave.specs.Works.{WorkMeaning, OriginMeaning, number_of, origin_of}
-use Rattle.dym_run.specs.Ends.{Shown, EndedMeaning, Boarded, all_shown, origin_shown, own_shown, works_shown, work_share, ended_share}
-use Rattle.dym_run.specs.Parts.{own_of}
-use Rattle.dym_run.specs.declared.telling.Telling.{Telling}
+use Rattle.dym_pool.specs.Jobs.{Numbered}
+use Rattle.dym_report.specs.declared.late.ViewLine.{ViewLine}
+use Rattle.dym_wave.specs.Works.{OriginMeaning}
+use Rattle.dym_run.specs.Ends.{EndedMeaning, all_ended, ended_as}
 
 -- a list without any element
 pub none_left : {X : Type 0} → (xs : List X) → length xs ≡ 0 → xs ≡ []
 none_left [] none = refl
 none_left (x ∷ xs) none = absurd (omega (arith, none))
 
--- one more at the end of both lists
-all_more : (views : Bool) (names : List (List ℕ)) (origins : List OriginMeaning) (n : List ℕ) (o : OriginMeaning) → length names ≡ length origins
-    → all_shown views (names ++ n ∷ []) (origins ++ o ∷ []) ≡ all_shown views names origins ++ origin_shown views n o ∷ []
-all_more views [] [] n o same = refl
-all_more views [] (x ∷ origins) n o same = absurd (omega (arith, same))
-all_more views (m ∷ names) [] n o same = absurd (omega (arith, same))
-all_more views (m ∷ names) (x ∷ origins) n o same = ap (λ l. origin_shown views m x ∷ l) (all_more views names origins n o (omega (arith, same)))
-
-pub shown_more : (views : Bool) (names : List (List ℕ)) (works : List WorkMeaning) (n : List ℕ) (w : WorkMeaning) → length names ≡ length works
-    → works_shown views (names ++ n ∷ []) (works ++ w ∷ []) ≡ works_shown views names works ++ origin_shown views n w.origin ∷ []
-shown_more views names works n w same =
-    ap (all_shown views (names ++ n ∷ [])) (map_push (λ (w : WorkMeaning). w.origin) works w)
-    ∙ all_more views names (map (λ (w : WorkMeaning). w.origin) works) n w.origin (same ∙ sym (length-map works (λ (w : WorkMeaning). w.origin)))
-
--- a place of a list with one more is one of the list, or the last
-last_or_before : (k n m : ℕ) → k < m → m ≡ n + 1 → (k < n) ⊎ (k ≡ n)
-last_or_before k n m within is = grind arith
-
-pub length_more : {X : Type 0} → (xs : List X) (x : X) → length (xs ++ x ∷ []) ≡ length xs + 1
-length_more xs x = length-append xs (x ∷ [])
-
-pub swept_more : (works : List WorkMeaning) (sweepers : List SweeperMeaning) (w : WorkMeaning) (s : SweeperMeaning)
-    → AreSweptBy works sweepers → w.origin.keep ≡ shared s.table → AreSweptBy (works ++ w ∷ []) (sweepers ++ s ∷ [])
-swept_more works sweepers w s swept of = record {
-  same = omega (arith, swept.same, length_more works w, length_more sweepers s);
-  tables = λ k d e within. at k d e (last_or_before k (length works) _ within (length_more works w));
-}
-  where
-    at : (k : ℕ) (d : WorkMeaning) (e : SweeperMeaning) → (k < length works) ⊎ (k ≡ length works)
-        → (slice_index_or (works ++ w ∷ []) k d).origin.keep ≡ shared (slice_index_or (sweepers ++ s ∷ []) k e).table
-    at k d e (inl before) =
-        ap (λ (x : WorkMeaning). x.origin.keep) (get_or_append_left works (w ∷ []) d k before)
-        ∙ swept.tables k d e before
-        ∙ ap (λ (x : SweeperMeaning). shared x.table) (sym (get_or_append_left sweepers (s ∷ []) e k (omega (arith, before, swept.same))))
-    at k d e (inr last) =
-        ap (λ (x : WorkMeaning). x.origin.keep) (ap (λ n. get_or (works ++ w ∷ []) n d) last ∙ get_or-append_seam works w [] d)
-        ∙ of
-        ∙ ap (λ (x : SweeperMeaning). shared x.table) (sym (ap (λ n. get_or (sweepers ++ s ∷ []) n e) (last ∙ sym swept.same) ∙ get_or-append_seam sweepers s [] e))
-
-pub swept_front : (works all : List WorkMeaning) (sweepers swept : List SweeperMeaning) (w : WorkMeaning) (s : SweeperMeaning)
-    → all ≡ works ++ w ∷ [] → swept ≡ sweepers ++ s ∷ [] → AreSweptBy all swept → AreSweptBy works sweepers
-swept_front works all sweepers swept w s is are by = record {
-  same = omega (arith, by.same, ap length is, ap length are, length_more works w, length_more sweepers s);
-  tables = λ k d e within.
-      ap (λ (x : WorkMeaning). x.origin.keep) (sym (get_or_append_left works (w ∷ []) d k within) ∙ ap (λ l. get_or l k d) (sym is))
-      ∙ by.tables k d e (omega (arith, within, ap length is, length_more works w))
-      ∙ ap (λ (x : SweeperMeaning). shared x.table) (ap (λ l. get_or l k e) are
-      ∙ get_or_append_left sweepers (s ∷ []) e k (omega (arith, within, by.same, ap length is, ap length are, length_more works w, length_more sweepers s)));
-}
-
-pub swept_last : (works all : List WorkMeaning) (sweepers swept : List SweeperMeaning) (w : WorkMeaning) (s : SweeperMeaning)
-    → all ≡ works ++ w ∷ [] → swept ≡ sweepers ++ s ∷ [] → AreSweptBy all swept → w.origin.keep ≡ shared s.table
-swept_last works all sweepers swept w s is are by =
-    let same : length works ≡ length sweepers = omega (arith, by.same, ap length is, ap length are, length_more works w, length_more sweepers s) in
-    ap (λ (x : WorkMeaning). x.origin.keep) (sym (get_or-append_seam works w [] w) ∙ ap (λ l. get_or l (length works) w) (sym is))
-    ∙ by.tables (length works) w s (omega (arith, ap length is, length_more works w))
-    ∙ ap (λ (x : SweeperMeaning). shared x.table) (ap (λ l. get_or l (length works) s) are ∙ ap (λ n. get_or (sweepers ++ s ∷ []) n s) same ∙ get_or-append_seam sweepers s [] s)
-
-pub numbered_more : (works : List WorkMeaning) (w : WorkMeaning) → Numbered number_of works → w.origin.number ≡ length works → Numbered number_of (works ++ w ∷ [])
-numbered_more works w numbered is = λ k d within. at k d (last_or_before k (length works) _ within (length_more works w))
-  where
-    at : (k : ℕ) (d : WorkMeaning) → (k < length works) ⊎ (k ≡ length works) → number_of (slice_index_or (works ++ w ∷ []) k d) ≡ k
-    at k d (inl before) = ap number_of (get_or_append_left works (w ∷ []) d k before) ∙ numbered k d before
-    at k d (inr last) = ap number_of (ap (λ n. get_or (works ++ w ∷ []) n d) last ∙ get_or-append_seam works w [] d) ∙ is ∙ sym last
-
--- nothing was printed before, and what is printed after is that of the ended objects
-pub boarded_ended : (telling : Telling) (count : ℕ) (before after : List Part) (names : List (List ℕ)) (works : List WorkMeaning) (mid shown : List Shown) → names ≡ []
-    → Boarded telling count before after (works_shown telling.views names works) mid → shown ≡ mid → Boarded telling count before after [] shown
-boarded_ended telling count before after names works mid shown none b is =
-    let shows : Part → Shown = λ x. own_shown telling (own_of x) in
-    record {
-      done = b.done;
-      counted = b.counted;
-      taken = b.taken;
-      shown = is ∙ b.shown ∙ ap (λ l. works_shown telling.views l works ++ map shows b.done) none;
-    }
-
--- ---- works that leave their lists at the end
-
-all_last_two : (views : Bool) (names : List (List ℕ)) (origins : List OriginMeaning) (n : List ℕ) (o : OriginMeaning) (shown rest : List Shown) → length names ≡ length origins
-    → rest ≡ origin_shown views n o ∷ shown → all_shown views names origins ++ rest ≡ all_shown views (names ++ n ∷ []) (origins ++ o ∷ []) ++ shown
-all_last_two views names origins n o shown rest same is =
-    ap (λ l. all_shown views names origins ++ l) is ∙ sym (append_assoc (all_shown views names origins) (origin_shown views n o ∷ []) shown) ∙ ap (λ l. l ++ shown) (sym (all_more views names origins n o same))
-
-reverse_more : {X Y : Type 0} → (f : X → Y) (xs all : List X) (x : X) → all ≡ xs ++ x ∷ [] → reverse (map f all) ≡ f x ∷ reverse (map f xs)
-reverse_more f xs all x is = ap (λ l. reverse (map f l)) is ∙ ap reverse (map_push f xs x) ∙ reverse-append (map f xs) (f x ∷ [])
-
--- what was printed of the works that are left, and of those that were settled, the last one first
-pub settled_more : (views : Bool) (names all_names : List (List ℕ)) (works all_works : List WorkMeaning) (settled more : List EndedMeaning) (n : List ℕ) (w : WorkMeaning) (e : EndedMeaning) (whole : List Shown)
-    → all_names ≡ names ++ n ∷ [] → all_works ≡ works ++ w ∷ [] → length names ≡ length works → more ≡ settled ++ e ∷ [] → e.shown ≡ origin_shown views n w.origin
-    → works_shown views all_names all_works ++ reverse (map (λ (e : EndedMeaning). e.shown) settled) ≡ whole
-    → works_shown views names works ++ reverse (map (λ (e : EndedMeaning). e.shown) more) ≡ whole
-settled_more views names all_names works all_works settled more n w e whole of_names of_works same of_more shown before =
-    let origins = map (λ (w : WorkMeaning). w.origin) works in
-    all_last_two views names origins n w.origin (reverse (map (λ (e : EndedMeaning). e.shown) settled)) (reverse (map (λ (e : EndedMeaning). e.shown) more))
-    (same ∙ sym (length-map works (λ (w : WorkMeaning). w.origin)))
-    (reverse_more (λ (e : EndedMeaning). e.shown) settled more e of_more ∙ ap (λ x. x ∷ reverse (map (λ (e : EndedMeaning). e.shown) settled)) shown)
-    ∙ ap (λ l. all_shown views (names ++ n ∷ []) l ++ reverse (map (λ (e : EndedMeaning). e.shown) settled)) (sym (map_push (λ (w : WorkMeaning). w.origin) works w))
-    ∙ (λ i. works_shown views (sym of_names i) (sym of_works i) ++ reverse (map (λ (e : EndedMeaning). e.shown) settled))
-    ∙ before
-
-pub shares_more : (works all_works : List WorkMeaning) (settled more : List EndedMeaning) (w : WorkMeaning) (e : EndedMeaning) (whole : List (ℕ × Origin))
-    → all_works ≡ works ++ w ∷ [] → more ≡ settled ++ e ∷ [] → e.quota ≡ w.origin.quota → e.supply ≡ w.origin.supply
-    → map work_share all_works ++ reverse (map ended_share settled) ≡ whole → map work_share works ++ reverse (map ended_share more) ≡ whole
-shares_more works all_works settled more w e whole of_works of_more quota supply before =
-    ap (λ l. map work_share works ++ l) (reverse_more ended_share settled more e of_more)
-    ∙ (λ i. map work_share works ++ (quota i, supply i) ∷ reverse (map ended_share settled))
-    ∙ sym (append_assoc (map work_share works) (work_share w ∷ []) (reverse (map ended_share settled)))
-    ∙ ap (λ l. l ++ reverse (map ended_share settled)) (sym (map_push work_share works w) ∙ ap (map work_share) (sym of_works))
-    ∙ before
-
 pub reverse_map : {X Y : Type 0} → (f : X → Y) (xs : List X) → map f (reverse xs) ≡ reverse (map f xs)
 reverse_map f [] = refl
 reverse_map f (x ∷ xs) =
     ap (map f) (reverse-append (x ∷ []) xs) ∙ map-append f (reverse xs) (x ∷ []) ∙ ap (λ l. l ++ f x ∷ []) (reverse_map f xs) ∙ sym (reverse-append (f x ∷ []) (map f xs))
 
-reverse_all : {X Y : Type 0} → (f : X → Y) (xs ys : List X) → ys ≡ reverse xs → map f ys ≡ reverse (map f xs)
-reverse_all f xs ys is = ap (map f) is ∙ reverse_map f xs
+pub map_twice : {X Y Z : Type 0} (f : Y → Z) (g : X → Y) (xs : List X) → map f (map g xs) ≡ map (λ x. f (g x)) xs
+map_twice f g [] = refl
+map_twice {X} {Y} {Z} f g (x ∷ xs) = ap {B = List Z} (λ l. f (g x) ∷ l) (map_twice f g xs)
 
--- no work is left: those that were settled stand in order once their list is turned round
-pub shares_all : (works : List WorkMeaning) (settled turned : List EndedMeaning) (whole : List (ℕ × Origin)) → works ≡ [] → turned ≡ reverse settled
-    → map work_share works ++ reverse (map ended_share settled) ≡ whole → map ended_share turned ≡ whole
-shares_all works settled turned whole none is before =
-    reverse_all ended_share settled turned is ∙ ap (λ l. map work_share l ++ reverse (map ended_share settled)) (sym none) ∙ before
+-- ---- objects that come from there
 
-pub settled_all : (views : Bool) (names : List (List ℕ)) (works : List WorkMeaning) (settled turned : List EndedMeaning) (whole : List Shown) → length names ≡ length works → works ≡ [] → turned ≡ reverse settled
-    → works_shown views names works ++ reverse (map (λ (e : EndedMeaning). e.shown) settled) ≡ whole → map (λ (e : EndedMeaning). e.shown) turned ≡ whole
-settled_all views names works settled turned whole same none is before =
-    reverse_all (λ (e : EndedMeaning). e.shown) settled turned is
-    ∙ (λ i. works_shown views (sym (none_left names (same ∙ ap length none)) i) (sym none i) ++ reverse (map (λ (e : EndedMeaning). e.shown) settled))
-    ∙ before
+module _ {X : Type 0} (from : X → OriginMeaning) (objects : List X) (origins : List OriginMeaning) (same : map from objects ≡ origins) where
+  pub length_as : length objects ≡ length origins
+  length_as = sym (length-map objects from) ∙ ap {B = ℕ} length same
 
--- the numbers of the names, the works and the ended objects of a wave
+  at_place : (k : ℕ) (d : X) → k < length objects → slice_index_or origins k (from d) ≡ from (slice_index_or objects k d)
+  at_place k d within = ap (λ l. get_or l k (from d)) (sym same) ∙ get_or-map from objects k d (from d) within
+
+  pub quotas_as : sum_by (λ x. (from x).quota) objects ≡ sum_by (λ (o : OriginMeaning). o.quota) origins
+  quotas_as =
+      sym (sum-map (λ x. (from x).quota) objects) ∙ ap sum (sym (map_twice (λ (o : OriginMeaning). o.quota) from objects) ∙ ap (map (λ (o : OriginMeaning). o.quota)) same)
+      ∙ sum-map (λ (o : OriginMeaning). o.quota) origins
+
+  pub supplies_as : (queue : TableName) → All (λ (o : OriginMeaning). o.supply ≡ shared queue) origins → All (λ x. (from x).supply ≡ shared queue) objects
+  supplies_as queue h k d within =
+      subst (λ (o : OriginMeaning). o.supply ≡ shared queue) (at_place k d within) (h k (from d) (omega (arith, within, length_as)))
+
+  pub numbered_as : Numbered (λ (o : OriginMeaning). o.number) origins → Numbered (λ x. (from x).number) objects
+  numbered_as h k d within = subst (λ (o : OriginMeaning). o.number ≡ k) (at_place k d within) (h k (from d) (omega (arith, within, length_as)))
+
+-- ---- what is left of them, one after another
+
+ended_one : (names : List (List ℕ)) (origins : List OriginMeaning) (n : List ℕ) (o : OriginMeaning) → length names ≡ length origins
+    → all_ended (names ++ n ∷ []) (origins ++ o ∷ []) [] ≡ all_ended names origins [] ++ ended_as n o None ∷ []
+ended_one [] [] n o same = refl
+ended_one [] (x ∷ origins) n o same = absurd (omega (arith, same))
+ended_one (m ∷ names) [] n o same = absurd (omega (arith, same))
+ended_one (m ∷ names) (x ∷ origins) n o same = ap {B = List EndedMeaning} (λ l. ended_as m x None ∷ l) (ended_one names origins n o (omega (arith, same)))
+
+seen_one : (names : List (List ℕ)) (origins : List OriginMeaning) (lines : List (Option ViewLine)) (n : List ℕ) (o : OriginMeaning) (line : Option ViewLine)
+    → length names ≡ length origins → length lines ≡ length origins
+    → all_ended (names ++ n ∷ []) (origins ++ o ∷ []) (lines ++ line ∷ []) ≡ all_ended names origins lines ++ ended_as n o (Some line) ∷ []
+seen_one [] [] [] n o line same long = refl
+seen_one [] [] (l ∷ lines) n o line same long = absurd (omega (arith, long))
+seen_one [] (x ∷ origins) lines n o line same long = absurd (omega (arith, same))
+seen_one (m ∷ names) [] lines n o line same long = absurd (omega (arith, same))
+seen_one (m ∷ names) (x ∷ origins) [] n o line same long = absurd (omega (arith, long))
+seen_one (m ∷ names) (x ∷ origins) (l ∷ lines) n o line same long =
+    ap {B = List EndedMeaning} (λ t. ended_as m x (Some l) ∷ t) (seen_one names origins lines n o line (omega (arith, same)) (omega (arith, long)))
+
+-- there is a line for each of so many objects, or none
+abbrev pub AreLines : List (Option ViewLine) → ℕ → Type 0
+AreLines lines count = (lines ≡ []) ⊎ (length lines ≡ count)
+
+some_lines : (lines : List (Option ViewLine)) (count : ℕ) → 0 < length lines → AreLines lines count → length lines ≡ count
+some_lines lines count some (inl none) = absurd (omega (arith, some, ap {B = ℕ} length none))
+some_lines lines count some (inr all) = all
+
+-- the last line leaves its list, where there is one
+pub lines_fewer : (P Q : Type 0) (lines rest : List (Option ViewLine)) (line : Option (Option ViewLine)) (k count all : ℕ) → k ≡ length lines → MatchOption line ((k ≡ 0) × P) (λ _. Q)
+    → lines ≡ rest ++ option_to_list line → all ≡ count + 1 → AreLines lines all → AreLines rest count
+lines_fewer P Q lines rest None k count all long cases cut one of = inl (none_left rest (omega (arith, long, cases.0, ap {B = ℕ} length cut, length-append rest [])))
+lines_fewer P Q lines rest (Some x) k count all long cases cut one of =
+    let cut' : length lines ≡ length rest + 1 = ap {B = ℕ} length cut ∙ length-append rest (x ∷ []) in
+    inr (omega (arith, one, cut', some_lines lines all (omega (arith, cut')) of))
+
+ended_last : (P Q : Type 0) (names : List (List ℕ)) (origins : List OriginMeaning) (lines rest : List (Option ViewLine)) (n : List ℕ) (o : OriginMeaning) (line : Option (Option ViewLine)) (k all : ℕ)
+    → k ≡ length lines → MatchOption line ((k ≡ 0) × P) (λ _. Q) → lines ≡ rest ++ option_to_list line → all ≡ length origins + 1 → AreLines lines all → length names ≡ length origins
+    → all_ended (names ++ n ∷ []) (origins ++ o ∷ []) lines ≡ all_ended names origins rest ++ ended_as n o line ∷ []
+ended_last P Q names origins lines rest n o None k all long cases cut one of same =
+    ap (all_ended (names ++ n ∷ []) (origins ++ o ∷ [])) (none_left lines (omega (arith, long, cases.0)))
+    ∙ ended_one names origins n o same
+    ∙ ap (λ l. all_ended names origins l ++ ended_as n o None ∷ []) (sym (none_left rest (omega (arith, long, cases.0, ap {B = ℕ} length cut, length-append rest []))))
+ended_last P Q names origins lines rest n o (Some x) k all long cases cut one of same =
+    let cut' : length lines ≡ length rest + 1 = ap {B = ℕ} length cut ∙ length-append rest (x ∷ []) in
+    ap (all_ended (names ++ n ∷ []) (origins ++ o ∷ [])) cut
+    ∙ seen_one names origins rest n o x same (omega (arith, one, cut', some_lines lines all (omega (arith, cut')) of))
+
+-- lists whose last elements leave together
 pub named_fewer : {X Y : Type 0} → (xs all : List X) (ys both : List Y) (x : X) (y : Y) → all ≡ xs ++ x ∷ [] → both ≡ ys ++ y ∷ [] → length all ≡ length both → length xs ≡ length ys
 named_fewer xs all ys both x y is are same = omega (arith, ap {B = ℕ} length is, ap {B = ℕ} length are, same, length-append xs (x ∷ []), length-append ys (y ∷ []))
 
--- works with the same origins have the same shares, and the same is printed of them
-pub supplies_same : (queue : TableName) (before after : List WorkMeaning) → map origin_of after ≡ map origin_of before
-    → All (λ (w : WorkMeaning). w.origin.supply ≡ shared queue) before → All (λ (w : WorkMeaning). w.origin.supply ≡ shared queue) after
-supplies_same queue before after same h k d within =
-    let in' : k < length before = omega (arith, within, length-map after origin_of, length-map before origin_of, ap {B = ℕ} length same) in
-    ap (λ (o : OriginMeaning). o.supply) (sym (get_or-map origin_of after k d (origin_of d) within) ∙ ap (λ l. get_or l k (origin_of d)) same ∙ get_or-map origin_of before k d (origin_of d) in')
-    ∙ h k d in'
+module _ {X : Type 0} (from : X → OriginMeaning) where
+  -- the last object leaves its list with its name and its line: what is left of it stands behind what is left of others
+  pub settled_more : (P Q : Type 0) (names all_names : List (List ℕ)) (objects all : List X) (lines rest : List (Option ViewLine)) (settled more : List EndedMeaning)
+      (n : List ℕ) (x : X) (line : Option (Option ViewLine)) (k : ℕ) (e : EndedMeaning) (whole : List EndedMeaning)
+      → all_names ≡ names ++ n ∷ [] → all ≡ objects ++ x ∷ [] → length names ≡ length objects → more ≡ settled ++ e ∷ [] → e ≡ ended_as n (from x) line
+      → k ≡ length lines → MatchOption line ((k ≡ 0) × P) (λ _. Q) → lines ≡ rest ++ option_to_list line → AreLines lines (length all)
+      → all_ended all_names (map from all) lines ++ reverse settled ≡ whole → all_ended names (map from objects) rest ++ reverse more ≡ whole
+  settled_more P Q names all_names objects all lines rest settled more n x line k e whole of_names of_all same of_more is long cases cut of before =
+      let origins = map from objects in
+      ap (λ l. all_ended names origins rest ++ l) (ap reverse of_more ∙ reverse-append settled (e ∷ []) ∙ ap {B = List EndedMeaning} (λ y. y ∷ reverse settled) is)
+      ∙ sym (append_assoc (all_ended names origins rest) (ended_as n (from x) line ∷ []) (reverse settled))
+      ∙ ap (λ l. l ++ reverse settled)
+      (sym (ended_last P Q names origins lines rest n (from x) line k (length all) long cases cut
+      (ap {B = ℕ} length of_all ∙ length-append objects (x ∷ []) ∙ ap (λ m. m + 1) (sym (length-map objects from))) of (same ∙ sym (length-map objects from))))
+      ∙ ap (λ l. all_ended (names ++ n ∷ []) l lines ++ reverse settled) (sym (map_push from objects x))
+      ∙ (λ i. all_ended (sym of_names i) (map from (sym of_all i)) lines ++ reverse settled)
+      ∙ before
 
-pub quotas_in : (works : List WorkMeaning) → sum_by (λ (w : WorkMeaning). w.origin.quota) works ≡ sum_by (λ (o : OriginMeaning). o.quota) (map origin_of works)
-quotas_in [] = refl
-quotas_in (w ∷ works) = sum_by-cons (λ (w : WorkMeaning). w.origin.quota) w works ∙ ap (λ n. w.origin.quota + n) (quotas_in works) ∙ sym (sum_by-cons (λ (o : OriginMeaning). o.quota) w.origin (map origin_of works))
+  -- no object is left: what is left of all stands in order once the list is turned round
+  pub settled_all : (names : List (List ℕ)) (objects : List X) (lines : List (Option ViewLine)) (settled turned whole : List EndedMeaning) → length names ≡ length objects → objects ≡ []
+      → turned ≡ reverse settled → all_ended names (map from objects) lines ++ reverse settled ≡ whole → turned ≡ whole
+  settled_all names objects lines settled turned whole same none is before =
+      is ∙ ap (λ l. all_ended l (map from objects) lines ++ reverse settled) (sym (none_left names (same ∙ ap {B = ℕ} length none))) ∙ before
 
-pub quotas_same : (before after : List WorkMeaning) → map origin_of after ≡ map origin_of before
-    → sum_by (λ (w : WorkMeaning). w.origin.quota) after ≡ sum_by (λ (w : WorkMeaning). w.origin.quota) before
-quotas_same before after same = quotas_in after ∙ ap (sum_by (λ (o : OriginMeaning). o.quota)) same ∙ sym (quotas_in before)
+-- ---- the quotas and the supplies of what is left
 
-pub length_same : (before after : List WorkMeaning) → map origin_of after ≡ map origin_of before → length after ≡ length before
-length_same before after same = sym (length-map after origin_of) ∙ ap {B = ℕ} length same ∙ length-map before origin_of
+ended_quotas : (names : List (List ℕ)) (origins : List OriginMeaning) (lines : List (Option ViewLine)) → length names ≡ length origins
+    → map (λ (e : EndedMeaning). e.quota) (all_ended names origins lines) ≡ map (λ (o : OriginMeaning). o.quota) origins
+ended_quotas [] [] lines same = refl
+ended_quotas [] (o ∷ origins) lines same = absurd (omega (arith, same))
+ended_quotas (n ∷ names) [] lines same = absurd (omega (arith, same))
+ended_quotas (n ∷ names) (o ∷ origins) [] same = ap (λ l. o.quota ∷ l) (ended_quotas names origins [] (omega (arith, same)))
+ended_quotas (n ∷ names) (o ∷ origins) (line ∷ lines) same = ap (λ l. o.quota ∷ l) (ended_quotas names origins lines (omega (arith, same)))
 
--- ended objects with the shares of works
-pub quotas_settled : (works : List WorkMeaning) (ended : List EndedMeaning) → map ended_share ended ≡ map work_share works
-    → sum_by (λ (e : EndedMeaning). e.quota) ended ≡ sum_by (λ (w : WorkMeaning). w.origin.quota) works
-quotas_settled works ended same = of_ended ended ∙ ap (sum_by (λ (s : ℕ × Origin). s.0)) same ∙ sym (of_works works)
-  where
-    of_ended : (ended : List EndedMeaning) → sum_by (λ (e : EndedMeaning). e.quota) ended ≡ sum_by (λ (s : ℕ × Origin). s.0) (map ended_share ended)
-    of_ended [] = refl
-    of_ended (e ∷ ended) = sum_by-cons (λ (e : EndedMeaning). e.quota) e ended ∙ ap (λ n. e.quota + n) (of_ended ended) ∙ sym (sum_by-cons (λ (s : ℕ × Origin). s.0) (ended_share e) (map ended_share ended))
+ended_supplies : (names : List (List ℕ)) (origins : List OriginMeaning) (lines : List (Option ViewLine)) → length names ≡ length origins
+    → map (λ (e : EndedMeaning). e.supply) (all_ended names origins lines) ≡ map (λ (o : OriginMeaning). o.supply) origins
+ended_supplies [] [] lines same = refl
+ended_supplies [] (o ∷ origins) lines same = absurd (omega (arith, same))
+ended_supplies (n ∷ names) [] lines same = absurd (omega (arith, same))
+ended_supplies (n ∷ names) (o ∷ origins) [] same = ap {B = List Origin} (λ l. o.supply ∷ l) (ended_supplies names origins [] (omega (arith, same)))
+ended_supplies (n ∷ names) (o ∷ origins) (line ∷ lines) same = ap {B = List Origin} (λ l. o.supply ∷ l) (ended_supplies names origins lines (omega (arith, same)))
 
-    of_works : (works : List WorkMeaning) → sum_by (λ (w : WorkMeaning). w.origin.quota) works ≡ sum_by (λ (s : ℕ × Origin). s.0) (map work_share works)
-    of_works [] = refl
-    of_works (w ∷ works) = sum_by-cons (λ (w : WorkMeaning). w.origin.quota) w works ∙ ap (λ n. w.origin.quota + n) (of_works works) ∙ sym (sum_by-cons (λ (s : ℕ × Origin). s.0) (work_share w) (map work_share works))
+module _ (names : List (List ℕ)) (origins : List OriginMeaning) (lines : List (Option ViewLine)) (ended : List EndedMeaning)
+    (same : length names ≡ length origins) (is : ended ≡ all_ended names origins lines) where
+  quotas : map (λ (e : EndedMeaning). e.quota) ended ≡ map (λ (o : OriginMeaning). o.quota) origins
+  quotas = ap (map (λ (e : EndedMeaning). e.quota)) is ∙ ended_quotas names origins lines same
 
-pub supplies_settled : (queue : TableName) (works : List WorkMeaning) (ended : List EndedMeaning) → map ended_share ended ≡ map work_share works
-    → All (λ (w : WorkMeaning). w.origin.supply ≡ shared queue) works → All (λ (e : EndedMeaning). e.supply ≡ shared queue) ended
-supplies_settled queue works ended same h k d within =
-    let P : ℕ × Origin → Type 0 = λ s. s.1 ≡ shared queue in
-    let of_works : All P (map work_share works) = All-map P work_share works h in
-    let of_ended : All P (map ended_share ended) = All-same P (map ended_share ended) (map work_share works) same of_works in
-    subst P (get_or-map ended_share ended k d (ended_share d) within) (of_ended k (ended_share d) (omega (arith, within, length-map ended ended_share)))
+  pub length_ended : length ended ≡ length origins
+  length_ended = sym (length-map ended (λ (e : EndedMeaning). e.quota)) ∙ ap {B = ℕ} length quotas ∙ length-map origins (λ (o : OriginMeaning). o.quota)
 
-pub length_settled : (works : List WorkMeaning) (ended : List EndedMeaning) → map ended_share ended ≡ map work_share works → length ended ≡ length works
-length_settled works ended same = sym (length-map ended ended_share) ∙ ap {B = ℕ} length same ∙ length-map works work_share
+  pub quotas_ended : sum_by (λ (e : EndedMeaning). e.quota) ended ≡ sum_by (λ (o : OriginMeaning). o.quota) origins
+  quotas_ended = sym (sum-map (λ (e : EndedMeaning). e.quota) ended) ∙ ap sum quotas ∙ sum-map (λ (o : OriginMeaning). o.quota) origins
 
--- works that are back with their labels have their origins
-pub origins_back : (before after : List WorkMeaning) → labels number_of origin_of after ≡ labels number_of origin_of before → map origin_of after ≡ map origin_of before
-origins_back before after same = sym (of after) ∙ ap (map (λ (l : ℕ × OriginMeaning). l.1)) same ∙ of before
-  where
-    of : (works : List WorkMeaning) → map (λ (l : ℕ × OriginMeaning). l.1) (labels number_of origin_of works) ≡ map origin_of works
-    of [] = refl
-    of (w ∷ works) = ap (λ l. w.origin ∷ l) (of works)
-
--- sweepers of the same tables, and works of the same origins
-pub still_swept : (works after : List WorkMeaning) (sweepers swept : List SweeperMeaning) → map origin_of after ≡ map origin_of works → SameTables sweepers swept
-    → AreSweptBy works sweepers → AreSweptBy after swept
-still_swept works after sweepers swept same tables of =
-    let long = length_same works after same in
-    record {
-      same = tables.same ∙ of.same ∙ sym long;
-      tables = λ k w s within.
-          let in' : k < length works = omega (arith, within, long) in
-          ap (λ (o : OriginMeaning). o.keep)
-          (sym (get_or-map origin_of after k w (origin_of w) within) ∙ ap (λ l. get_or l k (origin_of w)) same ∙ get_or-map origin_of works k w (origin_of w) in')
-          ∙ of.tables k w s in' ∙ ap shared (sym (tables.tables k s (omega (arith, in', of.same))));
-    }
-
--- the same is printed of works with the same origins
-pub shown_same : (views : Bool) (names : List (List ℕ)) (before after : List WorkMeaning) → map origin_of after ≡ map origin_of before
-    → works_shown views names after ≡ works_shown views names before
-shown_same views names before after same = ap (all_shown views names) same
-
--- a list with the same works is of the same origins
-pub origins_as : (before after : List WorkMeaning) → after ≡ before → map origin_of after ≡ map origin_of before
-origins_as before after is = ap (map origin_of) is
-
--- a list that is moved, the last one first
-pub moved_more : {X : Type 0} → (xs all : List X) (x : X) (ys more : List X) (y : X) (whole : List X) → all ≡ xs ++ x ∷ [] → more ≡ ys ++ y ∷ [] → y ≡ x
-    → all ++ reverse ys ≡ whole → xs ++ reverse more ≡ whole
-moved_more {X} xs all x ys more y whole last put is before =
-    ap (λ l. xs ++ l) (ap reverse put ∙ reverse-append ys (y ∷ []) ∙ ap {B = List X} (λ z. z ∷ reverse ys) is)
-    ∙ sym (append_assoc xs (x ∷ []) (reverse ys)) ∙ ap (λ l. l ++ reverse ys) (sym last) ∙ before
-
-pub moved_all : {X : Type 0} → (xs ys turned whole : List X) → xs ≡ [] → turned ≡ reverse ys → xs ++ reverse ys ≡ whole → turned ≡ whole
-moved_all xs ys turned whole none is before = is ∙ ap (λ l. l ++ reverse ys) (sym none) ∙ before
-
--- a crew of nobody
-pub no_crew_swept : (works : List WorkMeaning) (sweepers : List SweeperMeaning) → works ≡ [] → sweepers ≡ [] → AreSweptBy works sweepers
-no_crew_swept works sweepers none nothing = record {
-  same = ap {B = ℕ} length nothing ∙ sym (ap {B = ℕ} length none);
-  tables = λ k d e within. absurd (omega (arith, within, ap {B = ℕ} length none));
-}
+  pub supplies_ended : (queue : TableName) → All (λ (o : OriginMeaning). o.supply ≡ shared queue) origins → All (λ (e : EndedMeaning). e.supply ≡ shared queue) ended
+  supplies_ended queue h k d within =
+      let P : Origin → Type 0 = λ s. s ≡ shared queue in
+      let seen : List Origin = map (λ (e : EndedMeaning). e.supply) ended in
+      let of : All P seen = All-same P seen (map (λ (o : OriginMeaning). o.supply) origins) (ap (map (λ (e : EndedMeaning). e.supply)) is ∙ ended_supplies names origins lines same) (All-map P (λ (o : OriginMeaning). o.supply) origins h) in
+      subst P (get_or-map (λ (e : EndedMeaning). e.supply) ended k d d.supply within) (of k d.supply (omega (arith, within, length-map ended (λ (e : EndedMeaning). e.supply))))

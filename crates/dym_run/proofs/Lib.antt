@@ -1,10 +1,12 @@
+pub mod Berthing
 pub mod Berths
-pub mod Boarding
 pub mod Crews
 pub mod KeptLines
 pub mod Leavings
+pub mod Openings
 pub mod Progress
 pub mod QuotaRuns
+pub mod Riders
 pub mod Seen
 pub mod Tallies
 pub mod Texts

@@ -6,12 +6,12 @@ use Rattle.std.proofs.lemmas.List.Sums.{sum_by-append}
 use Rattle.dym_run.specs.declared.telling.Telling.{Telling}
 use Rattle.dym_base.specs.declared.limits.TheConstants.{MOST_OBJECTS, MOST_COMMANDS}
 use Rattle.dym_io.specs.Sink.{Output, Appended, AppendedFront, Blames, WritesOr}
-use Rattle.dym_io.specs.Laws.{appended_nothing, appended_both, front_after, front_within}
+use Rattle.dym_io.specs.Laws.{appended_nothing, appended_both, front_after, front_of_appended, front_within}
 use Rattle.dym_script.specs.declared.parts.Part.{Part}
 use Rattle.std.specs.Prelude.{⊤}
 use Rattle.dym_io.specs.Faults.{RoseOnce}
 use Rattle.dym_run.specs.declared.write_fail.WriteFail.{WriteFail}
-use Rattle.dym_run.specs.declared.write_fail.WriteFail.TheVariants.{Sink as SinkFailed}
+use Rattle.dym_run.specs.declared.write_fail.WriteFail.TheVariants.{Sink as SinkFailed, Memory}
 use Rattle.dym_run.specs.declared.tally.Tally.{Tally}
 use Rattle.dym_run.specs.Ends.{EndedMeaning, Boarded, WritesFirst, TalliesFirst, own_shown, parts_text, parts_shown, shown_text, tally_shown, IsTallyOf}
 use Rattle.dym_run.specs.Parts.{own_of}
@@ -153,6 +153,16 @@ pub fails_first : (v : Telling) (before after : List Part) (old new : Output) (r
     → AppendedFront old new (parts_text v before) → RoseOnce old.faults new.faults → WritesFirst v before after old new r
 fails_first v before after old new (Ok x) is front rose = absurd is
 fails_first v before after old new (Err e) is front rose = (front, ((λ _. rose), λ other. absurd (other is)))
+
+-- memory was wanting: nothing was written, and no call failed
+of_sink : WriteFail → ℕ
+of_sink SinkFailed = 1
+of_sink Memory = 0
+
+pub memory_wanting : {T : Type 0} (a : Output) (t : List ℕ) (r : Result T WriteFail) → IsErrAnd r (λ fail. fail ≡ Memory) → WritesOr (λ fail. fail ≡ SinkFailed) a a t r
+unfolding of_sink
+memory_wanting a t (Ok x) is = absurd is
+memory_wanting a t (Err e) is = (front_of_appended a a [] t (appended_nothing a), ((λ sinks. absurd (omega (arith, ap of_sink (sym is ∙ sinks)))), λ _. refl))
 
 -- ---- wave after wave
 

@@ -1,17 +1,16 @@
 -- What is left of an object that has run: what is printed of it, and whose its segments are.
-use Rattle.std.specs.Prelude.{◌≡◌, ⊤, Bool, true, false, ℕ, ◌+◌, ◌*◌, ◌^◌, ◌<◌, ◌≤◌, not, List, [], ◌∷◌, ◌++◌, length, map, flat_map, sum_by, count_by, Option, Result, MatchResult}
+use Rattle.std.specs.Prelude.{◌≡◌, ⊤, Bool, false, ℕ, ◌+◌, ◌*◌, ◌^◌, ◌<◌, ◌≤◌, not, List, [], ◌∷◌, ◌++◌, length, map, flat_map, sum_by, count_by, Option, None, Some, Result, MatchResult}
 use Rattle.std.specs.FinMap.{len}
 use Rattle.dym_base.specs.Heaps.{HeapState, held}
 use Rattle.dym_base.specs.Objects.{run_replies, run_end, slots}
-use Rattle.dym_base.specs.Origins.{Origin}
+use Rattle.dym_base.specs.Origins.{Origin, own}
 use Rattle.dym_base.specs.declared.command.Version.{Version}
 use Rattle.dym_base.specs.declared.command.Command.{Command}
 use Rattle.dym_base.specs.declared.reply.Reply.{Reply}
-use Rattle.dym_heap.specs.Meaning.{HeapMeaning}
 use Rattle.dym_io.specs.Sink.{Output, Appended, AppendedFront, Blames}
 use Rattle.dym_report.specs.Objects.{object_text}
 use Rattle.dym_script.specs.declared.parts.Part.{Part}
-use Rattle.dym_wave.specs.Works.{OriginMeaning, WorkMeaning}
+use Rattle.dym_wave.specs.Works.{OriginMeaning, WorkMeaning, left_of}
 use Rattle.dym_report.specs.declared.late.ViewLine.{ViewLine}
 use Rattle.dym_views.specs.Watches.{end_view}
 use Rattle.dym_run.specs.declared.telling.Telling.{Telling}
@@ -40,31 +39,49 @@ pub record EndedMeaning : Type 0 where
   pub quota : ℕ
   pub supply : Origin
 
--- what is left of an object of this name, with these replies, this heap, so many logs, so many records that these take, and this view
-abbrev pub ended_with : List ℕ → List Reply → HeapMeaning → ℕ → ℕ → Option (Option ViewLine) → EndedMeaning
-ended_with name replies heap kept slots view = record {
-  shown = record { name = name; version = heap.version; replies = replies; heap = heap.state; kept = kept; slots = slots; view = view };
-  quota = heap.quota;
-  supply = heap.origin;
+-- what is printed of an object of this name and version with these replies, this heap, so many logs in so many records, and this view
+abbrev pub shown_with : List ℕ → Version → List Reply → HeapState → ℕ → ℕ → Option (Option ViewLine) → Shown
+shown_with name version replies heap kept slots view =
+    record { name = name; version = version; replies = replies; heap = heap; kept = kept; slots = slots; view = view }
+
+-- what is printed of an object of this name, quota and version that ran these commands, with this view
+abbrev pub end_shown : List ℕ → Option (Option ViewLine) → Version → ℕ → List Command → Shown
+end_shown name view version quota commands =
+    let s = run_end version quota commands in
+    shown_with name version (run_replies version quota commands) s.heap (length s.logs) (slots s.logs) view
+
+-- the same with its view in the end, where views are told
+abbrev pub run_shown : Bool → List ℕ → Version → ℕ → List Command → Shown
+run_shown views name version quota commands = end_shown name (told_view views (run_end version quota commands)) version quota commands
+
+-- a work that ran all its commands
+abbrev pub RanOut : WorkMeaning → Type 0
+RanOut w = (left_of w ≡ 0) × (w.short ≡ false)
+
+-- an origin without the keep
+abbrev pub unkept : OriginMeaning → OriginMeaning
+unkept o = record o { keep = own }
+
+-- an object from there that ran all its commands, under a name and with what is told of its view
+abbrev pub ended_as : List ℕ → OriginMeaning → Option (Option ViewLine) → EndedMeaning
+ended_as name o view = record {
+  shown = end_shown name view o.version o.quota o.commands;
+  quota = o.quota;
+  supply = o.supply;
 }
 
--- what is left of a work under a name, with what is told of its view
-abbrev pub outcome : List ℕ → WorkMeaning → Option (Option ViewLine) → EndedMeaning
-outcome name w view = ended_with name w.replies w.object.heap (length w.object.chain.logs) (slots w.object.chain.logs) view
+-- its part
+abbrev pub ended_text : List ℕ → OriginMeaning → List ℕ
+ended_text name o =
+    let s = run_end o.version o.quota o.commands in
+    object_text o.version name (run_replies o.version o.quota o.commands) s.heap.live (length s.logs) (slots s.logs)
 
--- what is printed of an object of this name, quota and version that ran these commands, with its view or without
-abbrev pub run_shown : Bool → List ℕ → Version → ℕ → List Command → Shown
-run_shown views name version quota commands =
-    let s = run_end version quota commands in
-    record {
-      name = name;
-      version = version;
-      replies = run_replies version quota commands;
-      heap = s.heap;
-      kept = length s.logs;
-      slots = slots s.logs;
-      view = told_view views s;
-    }
+-- objects from there that ran all their commands, each under its name, and each with its view where there are views
+abbrev pub all_ended : List (List ℕ) → List OriginMeaning → List (Option ViewLine) → List EndedMeaning
+all_ended [] origins lines = []
+all_ended (n ∷ names) [] lines = []
+all_ended (n ∷ names) (o ∷ origins) [] = ended_as n o None ∷ all_ended names origins []
+all_ended (n ∷ names) (o ∷ origins) (line ∷ lines) = ended_as n o (Some line) ∷ all_ended names origins lines
 
 -- the same of a declared object and its own commands, and of a work's origin under a name
 abbrev pub own_shown : Telling → Own → Shown
@@ -94,25 +111,13 @@ shown_tally s = record {
   slots = s.slots;
 }
 
--- what is printed of works, each under its name, once they have run all their commands
-abbrev pub works_shown : Bool → List (List ℕ) → List WorkMeaning → List Shown
-works_shown views names works = all_shown views names (map (λ (w : WorkMeaning). w.origin) works)
-
 -- a work that has run nothing yet
 abbrev pub IsFresh : WorkMeaning → Type 0
 IsFresh w = w.replies ≡ []
 
--- what is seen of works in the end: the view of each, where views are told
-abbrev pub AreSeen : Bool → List (Option ViewLine) → List WorkMeaning → Type 0
-AreSeen true lines works = lines ≡ map (λ (w : WorkMeaning). end_view w.origin) works
-AreSeen false lines works = lines ≡ []
-
--- the share of a work, and of an ended object, in the segments: its quota, and the origin of its supply
-abbrev pub work_share : WorkMeaning → ℕ × Origin
-work_share w = (w.origin.quota, w.origin.supply)
-
-abbrev pub ended_share : EndedMeaning → ℕ × Origin
-ended_share e = (e.quota, e.supply)
+-- the views of objects from there in the end
+abbrev pub end_views : List OriginMeaning → List (Option ViewLine)
+end_views origins = map end_view origins
 
 -- a list of parts lost its first ones, so many, and what is printed of these came behind what was printed before
 pub record Boarded (telling : Telling) (count : ℕ) (before after : List Part) (shown_before shown_after : List Shown) : Type 0 where

@@ -3,5 +3,7 @@ pub mod Summary
 pub mod Parts
 pub mod Views
 pub mod Ends
+pub mod Bodies
 pub mod Places
 pub mod Passengers
+pub mod Boardings

@@ -1,69 +1,96 @@
--- An object of a wave as a job, and what is left of it once it ran all its commands. Both mean a work.
-use Rattle.std.specs.Prelude.{⊤, ◌≡◌, ◌≤◌, false, [], length, None}
-use Rattle.dym_base.specs.Objects.{run_end, slots}
-use Rattle.dym_heap.specs.Meaning.{IsSound}
-use Rattle.dym_object.specs.Meaning.{ObjectMeaning}
-use Rattle.dym_wave.specs.Works.{WorkMeaning, OriginMeaning, RanAll, work_with}
-use Rattle.dym_run.specs.declared.remains.Remains.{Remains}
+-- An object of a wave as a job.
+use Rattle.std.specs.Prelude.{⊤, ◌≡◌, ℕ, ◌<◌, ◌≤◌, ◌⊎◌, Bool, true, false, [], length}
+use Rattle.dym_base.specs.Origins.{own, shared}
+use Rattle.dym_base.specs.declared.limits.TheConstants.{MOST_QUOTA, MOST_COMMANDS}
+use Rattle.dym_quota.specs.QueueShape.{queue_name, known_by}
+use Rattle.dym_wave.specs.Works as W
+use Rattle.dym_wave.specs.Works.{OriginMeaning}
 use Rattle.dym_run.specs.declared.passenger.Stage.{Stage}
-use Rattle.dym_run.specs.declared.passenger.Stage.TheVariants.{Running, Over}
+use Rattle.dym_run.specs.declared.passenger.Stage.TheVariants.{Waiting, Running, Over, Stranded}
+use Rattle.dym_run.specs.declared.ticket.Ticket.{Ticket}
+use Rattle.dym_run.specs.Ends.{RanOut, unkept}
 
--- the object at the end of its run: its heap, and the logs that its commands leave. Its records don't stand any more
-abbrev pub end_object : {R : Type 0} → Remains R → ObjectMeaning
-end_object r = record {
-  heap = r.heap;
-  chain = record {
-    below = [];
-    logs = (run_end r.heap.version r.heap.quota r.commands).logs;
-    records = [];
-    made = r.owner.made;
-    lifted = None;
-    origin = r.owner.origin;
-  };
-  ran = length r.commands;
-}
+-- an object of a wave: where it came from, but for its keep; how many commands are left to run; whether it found its memory wanting
+pub record PassengerMeaning : Type 0 where
+  pub origin : OriginMeaning
+  pub left : ℕ
+  pub short : Bool
 
--- the work that ran all its commands, of which this is left
-abbrev pub end_work : {R : Type 0} → Remains R → WorkMeaning
-end_work r = work_with r.number 1 r.commands r.replies.replies (end_object r) false
+abbrev pub number_of : PassengerMeaning → ℕ
+number_of p = p.origin.number
 
--- where that was from which this is left
-abbrev pub left_origin : {R : Type 0} → Remains R → OriginMeaning
-left_origin r = record {
-  number = r.number;
-  quota = r.heap.quota;
-  version = r.heap.version;
-  commands = r.commands;
-  supply = r.heap.origin;
-  keep = r.owner.origin;
-}
+abbrev pub left_of : PassengerMeaning → ℕ
+left_of p = p.left
 
--- the work that a passenger is, or was
-abbrev pub work_of : {R : Type 0} → Stage R → WorkMeaning
-work_of (Running w) = w
-work_of (Over r) = end_work r
+abbrev pub origin_of : PassengerMeaning → OriginMeaning
+origin_of p = p.origin
 
--- it ran all its commands, and the numbers are those of the logs that these leave. At most one record stands, and none is out
-pub record IsEnd {R : Type 0} (r : Remains R) : Type 0 where
-  pub sound : IsSound r.heap
-  pub ran : RanAll (end_work r)
-  pub kept : r.kept ≡ length (end_object r).chain.logs
-  pub slots : r.slots ≡ slots (end_object r).chain.logs
-  pub few : length r.owner.records ≤ 1
-  pub idle : r.owner.lifted ≡ None
+-- it ran all its commands
+abbrev pub IsOver : PassengerMeaning → Type 0
+IsOver p = (p.left ≡ 0) × (p.short ≡ false)
 
--- what is left is that of a whole run
-abbrev pub IsStage : {R : Type 0} → Stage R → Type 0
-IsStage (Running w) = ⊤
-IsStage (Over r) = IsEnd r
+module _ {R : Type 0} where
+  -- where the object of a ticket comes from
+  abbrev pub ticket_origin : Ticket R → OriginMeaning
+  ticket_origin t = record {
+    number = t.number;
+    quota = t.berth.quota;
+    version = t.version;
+    commands = t.commands;
+    supply = shared (queue_name t.berth.pass);
+    keep = own;
+  }
 
--- this is what is left of a work, with the numbers of its kept logs and of their records, of which at most one stands
-pub record IsLeftOf {R : Type 0} (r : Remains R) (w : WorkMeaning) : Type 0 where
-  pub origin : w.origin ≡ left_origin r
-  pub replies : r.replies.replies ≡ w.replies
-  pub heap : r.heap ≡ w.object.heap
-  pub sound : IsSound r.heap
-  pub kept : r.kept ≡ length w.object.chain.logs
-  pub slots : r.slots ≡ slots w.object.chain.logs
-  pub few : length r.owner.records ≤ 1
-  pub idle : r.owner.lifted ≡ None
+  -- its berth holds nothing
+  abbrev pub HoldsNothing : Ticket R → Type 0
+  HoldsNothing t = (known_by t.berth.pass).held ≡ []
+
+  -- an object may be opened over its berth
+  abbrev pub CanStart : Ticket R → Type 0
+  CanStart t = HoldsNothing t × (1 ≤ t.berth.quota) × (t.berth.quota ≤ MOST_QUOTA)
+
+  -- a ticket that came back: its object comes from where that of the first does, and its berth holds nothing
+  abbrev pub IsBack : Ticket R → Ticket R → Type 0
+  IsBack t back = (ticket_origin back ≡ ticket_origin t) × HoldsNothing back
+
+  -- the object that is at a stage
+  abbrev pub meant_by : Stage R → PassengerMeaning
+  meant_by (Waiting t) = record { origin = ticket_origin t; left = length t.commands; short = false }
+  meant_by (Running w) = record { origin = unkept w.value.origin; left = W.left_of w.value; short = w.value.short }
+  meant_by (Over r) = record { origin = r; left = 0; short = false }
+  meant_by (Stranded t) = record { origin = ticket_origin t; left = 0; short = true }
+
+  -- its berth is one over which an object may be opened, for no more commands than a script has, or over which none stands
+  abbrev pub IsStage : Stage R → Type 0
+  IsStage (Waiting t) = CanStart t × (length t.commands ≤ MOST_COMMANDS)
+  IsStage (Running w) = ⊤
+  IsStage (Over r) = ⊤
+  IsStage (Stranded t) = HoldsNothing t
+
+  -- it has started, or can't
+  abbrev pub IsStarted : Stage R → Type 0
+  IsStarted (Waiting t) = ⊥
+  IsStarted (Running w) = ⊤
+  IsStarted (Over r) = ⊤
+  IsStarted (Stranded t) = ⊤
+
+  -- it found no memory to start
+  abbrev pub IsStranded : Stage R → Type 0
+  IsStranded (Waiting t) = ⊥
+  IsStranded (Running w) = ⊥
+  IsStranded (Over r) = ⊥
+  IsStranded (Stranded t) = ⊤
+
+  -- it has started, or can't; where it has a work, that ran all its commands
+  abbrev pub CanEnd : Stage R → Type 0
+  CanEnd (Waiting t) = ⊥
+  CanEnd (Running w) = RanOut w.value
+  CanEnd (Over r) = ⊤
+  CanEnd (Stranded t) = ⊤
+
+  -- where it isn't over, commands are left to run or memory was wanting
+  abbrev pub IsSettled : Stage R → Type 0
+  IsSettled (Waiting t) = 0 < length t.commands
+  IsSettled (Running w) = (0 < W.left_of w.value) ⊎ (w.value.short ≡ true)
+  IsSettled (Over r) = ⊤
+  IsSettled (Stranded t) = ⊤

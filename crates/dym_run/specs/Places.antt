@@ -42,8 +42,8 @@ module _ {R : Type 0} where
   CanOpen (Refused berth) = ⊥
 
   -- the object of a part that waited: it has the part's name, its number and its commands, stands over the berth and the sweeper's log
-  -- table, and has run nothing
-  pub record IsOpened (version : Version) (number : ℕ) (part : Part) (berth : Berth R) (name : List ℕ) (work : WorkMeaning) (sweeper : SweeperMeaning) : Type 0 where
+  -- table, runs so many commands a turn at most, and has run nothing
+  pub record IsOpened (version : Version) (quantum number : ℕ) (part : Part) (berth : Berth R) (name : List ℕ) (work : WorkMeaning) (sweeper : SweeperMeaning) : Type 0 where
     pub named : name ≡ part.decl.name
     pub origin : work.origin ≡ record {
       number = number;
@@ -53,6 +53,7 @@ module _ {R : Type 0} where
       supply = shared (queue_name berth.pass);
       keep = shared sweeper.table;
     }
+    pub turns : work.quantum ≡ quantum
     pub fresh : IsFresh work
 
   -- a berth that came back: it holds nothing, and is of the same queue with the same quota
@@ -62,12 +63,12 @@ module _ {R : Type 0} where
     pub supply : shared (queue_name back.pass) ≡ shared (queue_name berth.pass)
 
   -- what comes of a part that waits: its object, or its berth
-  abbrev pub ComesOf : Version → Place R → Place R → Type 0
-  ComesOf version (Waiting number part berth) (Open name work sweeper) = IsOpened version number part berth name work sweeper
-  ComesOf version (Waiting number part berth) (Refused back) = IsBack berth back
-  ComesOf version (Waiting number part berth) (Waiting n p b) = ⊥
-  ComesOf version (Open name work sweeper) after = ⊥
-  ComesOf version (Refused berth) after = ⊥
+  abbrev pub ComesOf : Version → ℕ → Place R → Place R → Type 0
+  ComesOf version quantum (Waiting number part berth) (Open name work sweeper) = IsOpened version quantum number part berth name work sweeper
+  ComesOf version quantum (Waiting number part berth) (Refused back) = IsBack berth back
+  ComesOf version quantum (Waiting number part berth) (Waiting n p b) = ⊥
+  ComesOf version quantum (Open name work sweeper) after = ⊥
+  ComesOf version quantum (Refused berth) after = ⊥
 
   -- the places of parts over these berths, one for each, with the numbers from this one on
   abbrev pub places_from : ℕ → List Part → List (Berth R) → List (Place R)

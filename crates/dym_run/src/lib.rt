@@ -7,24 +7,31 @@
 //! commands, the same that one object after another would give.
 #![tactic(auto)]
 
-mod crew;
+mod aboard;
+mod boarding;
+mod body;
 mod ended;
+mod means;
+mod opening;
 mod passenger;
 mod places;
 mod printed;
 mod quotas;
 mod remains;
 mod reversed;
-mod room;
 mod roster;
+mod running;
 mod settled;
 mod shape;
-mod spent_table;
+mod spares;
 mod tally;
 mod telling;
 #[cfg(test)]
 mod tests;
+mod ticket;
 mod total;
+mod viewed;
+mod viewing;
 mod wave;
 mod write_fail;
 mod writing;

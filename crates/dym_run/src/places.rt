@@ -6,15 +6,16 @@ ghost use Rattle.dym_run.specs.declared.places.Place.TheVariants.{Waiting};
 ghost use Rattle.dym_run.specs.Parts.{StandInLine};
 ghost use Rattle.dym_run.specs.Places.{names_at, works_at, sweepers_at, berths_at, CanOpen, ComesOf, TakePlaces};
 
-use crate::crew::open_work;
+use crate::opening::open_work;
 use crate::reversed::reversed;
+use crate::ticket::Ticket;
 use core::mem::replace_with;
 use dym_base::limits::{MOST_OBJECTS, MOST_QUANTUM};
 use dym_base::{Name, Version};
 use dym_quota::{Berth, Supply};
 use dym_script::Part;
 use dym_slots::{LogSlots, Sweeper};
-use dym_wave::Work;
+use dym_wave::{TableKeep, Work};
 use std::alloc::{AllocError, Global};
 use std::collections::VecDeque;
 use std::sync::Wait;
@@ -98,7 +99,7 @@ pub(crate) fn open_places<R: Threads + Wait + Send + Sync>(
     requires least { 1 ≤ quantum }
     requires most { quantum ≤ MOST_QUANTUM }
     requires wait { All CanOpen places.old.items }
-    ensures opens { AllZip (ComesOf version) places.old.items places.new.items }
+    ensures opens { AllZip (ComesOf version quantum) places.old.items places.new.items }
 {
     let threads = (workers as usize).min(1 + places.len() / OBJECTS_OF_ONE);
     thread::for_each_mut(
@@ -124,7 +125,7 @@ fn open_place<R: Wait>(place: Place<R>, manner: Manner<'_, R>) -> (Place<R>, ())
     requires least { 1 ≤ manner.quantum }
     requires most { manner.quantum ≤ MOST_QUANTUM }
     requires waits { CanOpen place }
-    ensures opens { ComesOf manner.entry.version place result.0 }
+    ensures opens { ComesOf manner.entry.version manner.entry.quantum place result.0 }
 {
     match place {
         Place::Waiting {
@@ -141,7 +142,7 @@ fn open_part<R: Wait>(manner: Manner<'_, R>, number: u32, part: Part, berth: Ber
     requires least { 1 ≤ manner.quantum }
     requires most { manner.quantum ≤ MOST_QUANTUM }
     requires waits { CanOpen (Waiting number part berth) }
-    ensures opens { ComesOf manner.entry.version (Waiting number part berth) result }
+    ensures opens { ComesOf manner.entry.version manner.entry.quantum (Waiting number part berth) result }
 {
     let Manner {
         rt,
@@ -153,13 +154,21 @@ fn open_part<R: Wait>(manner: Manner<'_, R>, number: u32, part: Part, berth: Ber
         return Place::Refused { berth };
     };
     let Part { decl, commands } = part;
-    match open_work(rt, alloc, version, number, quantum, commands, berth, owner) {
+    let ticket = Ticket {
+        number,
+        version,
+        commands,
+        berth,
+    };
+    match open_work(rt, alloc, quantum, ticket, TableKeep::new(owner)) {
         Ok(work) => Place::Open {
             name: decl.name,
             work,
             sweeper,
         },
-        Err((_, berth)) => Place::Refused { berth },
+        Err(ticket) => Place::Refused {
+            berth: ticket.berth,
+        },
     }
 }
 

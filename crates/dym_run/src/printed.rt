@@ -2,21 +2,20 @@
 ghost use Rattle.std.specs.Prelude.{◌≡◌, ◌<◌, ◌++◌, length, flat_map, slice_get, IfSome, OnOk, OnErr};
 ghost use Rattle.dym_heap.specs.Meaning.{IsSound};
 ghost use Rattle.dym_io.specs.Sink.{Writes, Leaves, Stopped};
-ghost use Rattle.dym_report.specs.Objects.{object_text};
+ghost use Rattle.dym_run.specs.Bodies.{body_text};
 ghost use Rattle.dym_report.specs.Replies.{reply_line};
 
-use dym_base::{Name, Reply};
+use dym_base::Reply;
 use dym_heap::Heap;
 use dym_io::{Sink, SinkFault};
 use dym_quota::Supply;
-use dym_report::{Page, write_heading, write_state};
+use dym_report::{Page, write_state};
 use dym_turn::Replies;
 
-/// Writes the whole part of one object: its name, its replies, its heap, and how many logs it keeps, which take that many
-/// records. Its only error is that of the sink.
-pub(crate) fn write_part<W: Sink, S: Supply>(
+/// Writes what stands behind an object's name: its replies, its heap, and how many logs it keeps, which take that many records. Its
+/// only error is that of the sink.
+pub(crate) fn write_body<W: Sink, S: Supply>(
     sink: &mut W,
-    name: &Name,
     replies: &Replies,
     heap: &Heap<S>,
     kept: u32,
@@ -24,9 +23,8 @@ pub(crate) fn write_part<W: Sink, S: Supply>(
 ) -> Result<(), SinkFault>
     requires sound { IsSound heap.now }
     ensures { Writes (W.output sink.old) (W.output sink.new)
-        (object_text heap.now.version name.now replies.now.replies heap.now.state.live kept slots) result }
+        (body_text heap.now.version replies.now.replies heap.now.state.live kept slots) result }
 {
-    write_heading(sink, name)?;
     write_kept(sink, replies)?;
     write_state(sink, heap, kept, slots)
 }

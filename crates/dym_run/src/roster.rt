@@ -8,6 +8,7 @@ ghost use Rattle.dym_run.specs.Parts.{quota_of, IsRunnable, IsShape};
 use crate::quotas::{largest_wave, quotas_of};
 use crate::settled::Settled;
 use crate::shape::Shape;
+use crate::spares::Tables;
 use crate::telling::Telling;
 use crate::wave::Wave;
 use dym_base::limits::{MOST_OBJECTS, MOST_SEGMENTS};
@@ -27,6 +28,7 @@ pub(crate) struct Roster {
     pub(crate) shape: Shape,
     pub(crate) parts: VecDeque<Part>,
     pub(crate) most: u32,
+    tables: Tables,
     quotas: Vec<u32>,
     from: usize,
     ghost runnable: { All IsRunnable parts.items },
@@ -44,6 +46,7 @@ impl Roster {
         telling: Telling,
         parts: Vec<Part>,
         shape: Shape,
+        tells: bool,
     ) -> Result<Roster, AllocError>
         requires runnable { All IsRunnable parts.items }
         requires shape { IsShape shape }
@@ -53,15 +56,17 @@ impl Roster {
         ensures telling { IfOk result (λ r. r.telling ≡ telling) }
         ensures parts { IfOk result (λ r. r.parts.items ≡ parts.items) }
         ensures least { IfOk result (λ r. 1 ≤ r.most) }
-        ensures most { IfOk result (λ r. r.most ≤ MOST_SEGMENTS) }
+        ensures most { IfOk result (λ r. r.most ≤ shape.segments) }
     {
         let quotas = quotas_of(alloc, &parts)?;
         let most = largest_wave(&quotas, shape.segments);
+        let tables = Tables::open(alloc, shape.workers, tells)?;
         Ok(Roster {
             telling,
             shape,
             parts: VecDeque::from_vec(parts),
             most,
+            tables,
             quotas,
             from: 0,
         })
@@ -92,20 +97,21 @@ impl Roster {
         let end = waves(&self.quotas, self.most, self.from);
         let wave = Wave::open(rt, alloc, segments, &self.quotas[self.from..end])?;
         self.from = end;
-        let (settled, ran) = wave.run_all(
+        let ran = wave.run_all(
             rt,
             alloc,
             self.telling,
             self.shape,
+            &mut self.tables,
             &mut self.parts,
             gate,
         );
         match ran {
-            Ok(()) => Ok(settled),
-            Err(error) => {
+            Ok(settled) => Ok(settled),
+            Err(refused) => {
                 self.parts.clear();
                 self.from = self.quotas.len();
-                Err((error, settled.close(rt)))
+                Err(refused)
             }
         }
     }

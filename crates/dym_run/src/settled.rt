@@ -1,27 +1,18 @@
 //! A wave whose objects have run.
-ghost use Rattle.std.specs.Prelude.{◌≡◌, ◌+◌, ◌≤◌, Bool, false, [], ◌++◌, length, map, sum_by, vec_len, vec_capacity, All, IsPermutation};
+ghost use Rattle.std.specs.Prelude.{◌≡◌, ◌+◌, ◌≤◌, ◌⊎◌, [], ◌++◌, length, map, sum_by, vec_len, vec_capacity, All, IsPermutation};
 ghost use Rattle.dym_base.specs.Origins.{shared};
-ghost use Rattle.dym_pool.specs.Jobs.{AllEnded};
 ghost use Rattle.dym_quota.specs.Berths.{IsIdleBerth};
 ghost use Rattle.dym_region.specs.Identity.{AreDistinct};
-ghost use Rattle.dym_wave.specs.Waves.{AreSweptBy};
-ghost use Rattle.dym_wave.specs.Works.{left_of};
-ghost use Rattle.dym_run.specs.Ends.{works_shown, work_share, ended_share, AreSeen};
+ghost use Rattle.dym_run.specs.Ends.{all_ended};
 
+use crate::aboard::Aboard;
 use crate::ended::Ended;
-use crate::passenger::Passenger;
 use crate::reversed::reversed;
 use dym_base::Name;
 use dym_quota::{Berth, QuotaQueue, Supply};
 use dym_region::{RawSegment, Segment};
 use dym_report::ViewLine;
-use dym_slots::Sweeper;
 use std::sync::Wait;
-use std::thread;
-use std::thread::Threads;
-
-/// So many log tables are given up by one thread in about the time that another takes to start.
-const TABLES_OF_ONE: usize = 32;
 
 /// The objects of a wave that have run, in order, and the berths over which no object stands. Their queue has all segments once the
 /// objects are ended.
@@ -55,43 +46,49 @@ impl<R: Wait> Settled<R> {
     }
 }
 
-/// What is left of passengers, each under its name and with its line where there are lines, in the same order, in an empty list with room
-/// for it. Their log tables are given up.
-pub(crate) fn settle<R: Threads + Wait + Send + Sync>(
-    rt: &R,
-    workers: u32,
+/// What is left of objects that ran, each under its name and with its line where there are lines, in the same order, in an empty list with
+/// room for it.
+pub(crate) fn settle<R: Wait, A: Aboard<R>>(
     mut names: Vec<Name>,
-    mut passengers: Vec<Passenger<R>>,
-    mut sweepers: Vec<Sweeper>,
+    mut objects: Vec<A>,
     mut lines: Vec<Option<ViewLine>>,
     mut ended: Vec<Ended<R>>,
 ) -> Vec<Ended<R>>
-    requires some { 1 ≤ workers }
-    requires names { length names.items ≡ length passengers.items }
-    requires swept { AreSweptBy passengers.items sweepers.items }
+    requires over { All A.is_over objects.items }
+    requires names { length names.items ≡ length objects.items }
+    requires lines { (lines.items ≡ []) ⊎ (length lines.items ≡ length objects.items) }
     requires none { ended.items ≡ [] }
-    requires room { vec_len passengers ≤ vec_capacity ended }
-    ensures shares { map ended_share result.items ≡ map work_share passengers.items }
-    ensures shown { (views : Bool) → AllEnded left_of passengers.items → All (λ w. w.short ≡ false) passengers.items
-        → AreSeen views lines.items passengers.items → map (λ e. e.shown) result.items ≡ works_shown views names.items passengers.items }
+    requires room { vec_len objects ≤ vec_capacity ended }
+    ensures ended { result.items ≡ all_ended names.items (map A.origin_of objects.items) lines.items }
 {
-    while let Some(passenger) = passengers.pop() {
+    while let Some(object) = objects.pop() {
         let name = names.take_last();
-        let sweeper = sweepers.take_last();
         let line = lines.pop();
-        ended.push_reserved(Ended::of(name, passenger, sweeper, line));
+        ended.push_reserved(Ended::of(name, object.leave(), line));
     }
-    passengers.destroy_empty();
-    let mut ended = reversed(ended);
-    finish_tables(rt, workers, &mut ended);
-    ended
+    objects.destroy_empty();
+    reversed(ended)
 }
 
-/// Gives up the log tables of objects that have run, side by side by these workers where each has many of them.
-fn finish_tables<R: Threads + Wait + Send + Sync>(rt: &R, workers: u32, ended: &mut Vec<Ended<R>>)
-    requires some { 1 ≤ workers }
-    ensures same { ended.new.items ≡ ended.old.items }
+/// Gives objects up, however far they are, and closes their queue. The berths are those over which no object stands.
+pub(crate) fn close_all<R: Wait, A: Aboard<R>>(
+    rt: &R,
+    queue: QuotaQueue,
+    mut objects: Vec<A>,
+    mut berths: Vec<Berth<R>>,
+) -> Vec<RawSegment>
+    requires room { vec_len berths + vec_len objects ≤ vec_capacity berths }
+    requires idle { All (IsIdleBerth queue.name) berths.items }
+    requires of_queue { All (λ a. (A.origin_of a).supply ≡ shared queue.name) objects.items }
+    requires all { sum_by (λ b. b.quota) berths.items + sum_by (λ a. (A.origin_of a).quota) objects.items
+        ≡ length queue.stocked }
+    ensures all { IsPermutation (queue.stocked ++ queue.aside)
+        (map ⟦<RawSegment as Segment>⟧.id result.items) }
+    ensures distinct { AreDistinct (map ⟦<RawSegment as Segment>⟧.id result.items) }
 {
-    let threads = (workers as usize).min(1 + ended.len() / TABLES_OF_ONE);
-    thread::for_each_mut(rt, ended, threads, &|_, object| object.finish_table());
+    while let Some(object) = objects.pop() {
+        berths.push_reserved(object.give_up(rt));
+    }
+    objects.destroy_empty();
+    queue.close(rt, berths)
 }

@@ -1,6 +1,15 @@
 //! What objects come to.
-ghost use Rattle.std.specs.Prelude.{◌≡◌, ◌+◌, ◌^◌, ◌<◌};
+ghost use Rattle.std.specs.Prelude.{◌≡◌, ◌+◌, ◌^◌, ◌<◌, ◌≤◌, [], ◌∷◌, None, length};
+ghost use Rattle.dym_base.specs.declared.limits.TheConstants.{MOST_COMMANDS};
+ghost use Rattle.dym_heap.specs.Meaning.{IsSound};
+ghost use Rattle.dym_run.specs.Ends.{shown_with, IsTallyOf};
 ghost use Rattle.dym_run.specs.Summary.{no_tally, both_tallies};
+
+use dym_base::limits::MOST_COMMANDS;
+use dym_heap::Heap;
+use dym_quota::Supply;
+use dym_report::live_chunks;
+use dym_turn::Replies;
 
 /// What one object comes to, or several together.
 #[derive(Clone, Copy, Debug, PartialEq, Eq)]
@@ -20,6 +29,23 @@ pub struct Tally {
 }
 
 impl Tally {
+    /// Of an object with these replies and this heap, which keeps so many logs in so many records.
+    pub(crate) fn of<S: Supply>(replies: &Replies, heap: &Heap<S>, kept: u32, slots: u32) -> Tally
+        requires few { length replies.now.replies ≤ MOST_COMMANDS }
+        requires sound { IsSound heap.now }
+        ensures { IsTallyOf result (shown_with [] heap.now.version replies.now.replies heap.now.state kept slots None ∷ []) }
+    {
+        let refused = replies.refusals();
+        Tally {
+            ok: (replies.len() - refused) as u32,
+            refused: refused as u32,
+            chunks: live_chunks(heap),
+            segments: wide(heap.held()),
+            kept: wide(kept),
+            slots: wide(slots),
+        }
+    }
+
     /// Of no object.
     pub fn none() -> Tally
         ensures { result ≡ no_tally }
@@ -53,4 +79,12 @@ impl Tally {
             slots: self.slots + other.slots,
         }
     }
+}
+
+/// The same number.
+fn wide(number: u32) -> u64
+    ensures is { result ≡ number }
+    ensures small { result ≤ 2 ^ 32 }
+{
+    u64::from(number)
 }

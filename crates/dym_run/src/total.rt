@@ -48,7 +48,7 @@ pub fn tally_waves<R: Threads + Wait + Send + Sync, G: Gate>(
         version,
         views: false,
     };
-    let mut roster = Roster::of(alloc, telling, parts, shape)?;
+    let mut roster = Roster::of(alloc, telling, parts, shape, false)?;
     let (region, mut segments) = Region::new(alloc, roster.most)?;
     let tally = tally_all(rt, alloc, &mut roster, &mut segments, gate);
     region.close(segments);

@@ -47,7 +47,7 @@ pub fn write_waves<R: Threads + Wait + Send + Sync, G: Gate, W: Sink>(
     if parts.is_empty() {
         return Ok(());
     }
-    let mut roster = Roster::of(alloc, telling, parts, shape)?;
+    let mut roster = Roster::of(alloc, telling, parts, shape, true)?;
     let (region, mut segments) = Region::new(alloc, roster.most)?;
     let written = write_all(rt, alloc, &mut roster, &mut segments, gate, sink);
     region.close(segments);

@@ -8,7 +8,6 @@ ghost use Rattle.dym_wave.specs.Works.{OriginMeaning, origin_of};
 use crate::{Seen, run_viewed};
 use dym_base::limits::{MOST_QUANTUM, MOST_QUOTA};
 use dym_base::{Command, Handle};
-use dym_chain::SlotKeep;
 use dym_commands::{Asked, Commands};
 use dym_object::Object;
 use dym_pool::FreeGate;
@@ -16,7 +15,7 @@ use dym_quota::{Berth, QuotaQueue, Supply};
 use dym_region::{RawSegment, Region};
 use dym_report::ViewLine;
 use dym_slots::{LogSlots, Sweeper};
-use dym_wave::Work;
+use dym_wave::{TableKeep, Work};
 use std::alloc::{AllocError, Global};
 use std::process::Abort;
 use std::sync::Wait;
@@ -65,7 +64,7 @@ fn open_one<R: Wait + Abort>(
     let (quota, held) = (berth.quota(), berth.held());
     assert!(rt; 1 <= quota && quota <= MOST_QUOTA && held == 0);
     let (owner, sweeper) = LogSlots::open(alloc).expect(rt, "memory");
-    let Ok(object) = Object::open(alloc, berth, SlotKeep::new(owner)) else {
+    let Ok(object) = Object::open(alloc, berth, TableKeep::new(owner)) else {
         panic!(rt; "memory")
     };
     match Work::open(alloc, 0, quantum, commands, object) {

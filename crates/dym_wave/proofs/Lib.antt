@@ -1,4 +1,5 @@
 pub mod Oldests
 pub mod Runs
+pub mod Spent
 pub mod Tables
 pub mod Waved

@@ -1,2 +1,3 @@
+pub mod TableKeeps
 pub mod Waves
 pub mod Works

@@ -5,7 +5,7 @@ use Rattle.dym_base.specs.Origins.{Origin, own}
 use Rattle.dym_base.specs.declared.command.Version.{Version}
 use Rattle.dym_base.specs.declared.command.Version.TheVariants.{One}
 use Rattle.dym_base.specs.declared.command.Command.{Command}
-use Rattle.dym_base.specs.declared.limits.TheConstants.{MOST_COMMANDS, MOST_QUANTUM}
+use Rattle.dym_base.specs.declared.limits.TheConstants.{COUNT_LIMIT, MOST_COMMANDS, MOST_QUANTUM}
 use Rattle.dym_base.specs.declared.reply.Reply.{Reply}
 use Rattle.dym_commands.specs.Reads.{read_room}
 use Rattle.dym_object.specs.Meaning.{ObjectMeaning, IsWhole, state_of}
@@ -82,7 +82,8 @@ pub record JobMeaning (w : WorkMeaning) : Type 0 where
   pub within : ran w ≤ length w.origin.commands
   pub replies : w.replies ≡ run_replies w.origin.version w.origin.quota (done_of w)
   pub object : state_of w.object ≡ run_end w.origin.version w.origin.quota (done_of w)
-  pub counted : w.object.ran ≡ ran w
+  -- the count of commands has room for those that are left
+  pub counted : w.object.ran + length w.origin.commands ≤ COUNT_LIMIT + ran w
   pub whole : IsWhole w.object
   -- the object is of its origin
   pub of_origin : w.origin ≡ origin_with w.origin.number w.origin.commands w.object

@@ -8,12 +8,14 @@
 
 mod logs;
 mod swept;
+mod table_keep;
 mod turns;
 mod wave;
 mod work;
 mod work_origin;
 
 pub use swept::run_swept;
+pub use table_keep::TableKeep;
 pub use wave::run_wave;
 pub use work::Work;
 pub use work_origin::WorkOrigin;

@@ -2,9 +2,10 @@
 ghost use Rattle.std.specs.Prelude.{◌≡◌, option_map, IfOk};
 ghost use Rattle.dym_view.specs.Commits.{committed, oldest};
 
+use crate::table_keep::TableKeep;
 use crate::work::Work;
 use core::mem::replace_with;
-use dym_chain::{KeptLogs, SlotKeep};
+use dym_chain::KeptLogs;
 use dym_object::Object;
 use dym_quota::Berth;
 use dym_turn::Turn;
@@ -13,7 +14,7 @@ use std::alloc::{AllocError, Global};
 use std::sync::Wait;
 
 /// The object of a work, with its last reply.
-type Own<R> = Turn<Berth<R>, SlotKeep>;
+type Own<R> = Turn<Berth<R>, TableKeep>;
 
 impl<R: Wait> Work<R> {
     /// The time of the oldest kept log, where one is kept.

@@ -7,12 +7,13 @@ ghost use Rattle.dym_region.specs.Identity.{ids_of};
 ghost use Rattle.dym_wave.specs.Waves.{AreSweptBy};
 ghost use Rattle.dym_wave.specs.Works.{number_of};
 
-use crate::{Work, run_wave};
+use crate::{TableKeep, Work, run_wave};
 use dym_base::limits::{MOST_QUANTUM, MOST_QUOTA, MOST_SEGMENTS};
-use dym_base::{Blob, Command, Handle, Kind, Refusal, Reply};
-use dym_chain::SlotKeep;
+use dym_base::{Blob, Command, Handle, Kind, Refusal, Reply, Version};
+use dym_chain::LogKeep;
 use dym_commands::{Asked, Commands, HexBytes};
 use dym_object::Object;
+use dym_pack::Record;
 use dym_pool::{FreeGate, Gate};
 use dym_quota::{Berth, QuotaQueue, Supply};
 use dym_region::{RawSegment, Region};
@@ -44,7 +45,7 @@ fn open_one<R: Wait + Abort>(
     let (quota, held) = (berth.quota(), berth.held());
     assert!(rt; 1 <= quota && quota <= MOST_QUOTA && held == 0);
     let (owner, sweeper) = LogSlots::open(alloc).expect(rt, "memory");
-    let Ok(object) = Object::open(alloc, berth, SlotKeep::new(owner)) else {
+    let Ok(object) = Object::open(alloc, berth, TableKeep::new(owner)) else {
         panic!(rt; "memory")
     };
     match Work::open(alloc, number, quantum, commands, object) {
@@ -344,5 +345,36 @@ fn the_pruner_sweeps_while_a_worker_runs(rt: HostRuntime) -> Result<(), Fail> {
     let scripts = vec![in alloc; commands]?;
     let taken = run_scripts(&rt, alloc, &[1], 400, scripts, Vec::new(alloc), 1, &Yields);
     assert!(rt; taken > 319, "{taken} records were taken back");
+    Ok(())
+}
+
+/// A full record of an empty heap at a time.
+fn record_at(rt: &impl Abort, alloc: Global, time: u8) -> Record {
+    let bytes = [b'F', time, 0, 0, 0, 0, 0, 0, 0, 0, 0, 0, 0];
+    match Record::of_bytes(alloc, &bytes, Version::One, 1) {
+        Ok(rec) => rec,
+        Err(_) => panic!(rt; "memory"),
+    }
+}
+
+/// A cleared keep has no record, whatever it had, and the next object's first record gets the next number. The last record of the
+/// object before goes then, for the sweeper to take back.
+#[test]
+fn a_cleared_keep_serves_the_next_object(rt: HostRuntime) -> Result<(), Fail> {
+    let alloc = rt.alloc();
+    let (owner, mut sweeper) = LogSlots::open(alloc)?;
+    let mut keep = TableKeep::new(owner);
+    keep.put(record_at(&rt, alloc, 10));
+    keep.put(record_at(&rt, alloc, 11));
+    keep.put(record_at(&rt, alloc, 12));
+    let keep = keep.clear();
+    assert_eq!(rt; (keep.len(), keep.made(), sweeper.sweep()), (0, 3, 0));
+    let mut keep = keep.clear();
+    assert_eq!(rt; (keep.len(), keep.made(), sweeper.sweep()), (0, 3, 0));
+    assert_eq!(rt; keep.put(record_at(&rt, alloc, 20)), 3);
+    assert_eq!(rt; (keep.len(), keep.number_at(0), sweeper.sweep()), (1, 3, 1));
+    let rec = keep.lift(0);
+    assert_eq!(rt; rec.time(), 20);
+    keep.lower(0, rec);
     Ok(())
 }

@@ -1,12 +1,12 @@
 //! An object with its commands, which is run turn by turn.
-ghost use Rattle.std.specs.Prelude.{◌≡◌, ◌≤◌, IfOk, IfErr};
+ghost use Rattle.std.specs.Prelude.{◌≡◌, ◌+◌, ◌≤◌, IfOk, IfErr};
 ghost use Rattle.dym_base.specs.Objects.{object_start};
-ghost use Rattle.dym_base.specs.declared.limits.TheConstants.{MOST_QUANTUM};
+ghost use Rattle.dym_base.specs.declared.limits.TheConstants.{COUNT_LIMIT, MOST_COMMANDS, MOST_QUANTUM};
 ghost use Rattle.dym_object.specs.Meaning.{IsWhole, state_of};
 ghost use Rattle.dym_wave.specs.Works.{JobMeaning, EndsWhole, opened, origin_with};
 
+use crate::table_keep::TableKeep;
 use dym_base::limits::MOST_QUANTUM;
-use dym_chain::SlotKeep;
 use dym_commands::Commands;
 use dym_object::Object;
 use dym_quota::Berth;
@@ -25,7 +25,7 @@ pub struct Work<R: Wait> {
     pub(crate) quantum: u32,
     pub(crate) commands: Commands,
     pub(crate) replies: Replies,
-    pub(crate) turn: Turn<Berth<R>, SlotKeep>,
+    pub(crate) turn: Turn<Berth<R>, TableKeep>,
     pub(crate) short: bool,
 }
 
@@ -52,10 +52,10 @@ impl<R: Wait> Work<R> {
         number: u32,
         quantum: u32,
         commands: Commands,
-        object: Object<Berth<R>, SlotKeep>,
-    ) -> Result<Work<R>, (AllocError, Commands, Object<Berth<R>, SlotKeep>)>
+        object: Object<Berth<R>, TableKeep>,
+    ) -> Result<Work<R>, (AllocError, Commands, Object<Berth<R>, TableKeep>)>
         requires start { state_of object ≡ object_start }
-        requires fresh { object.ran ≡ 0 }
+        requires counts { object.ran + MOST_COMMANDS ≤ COUNT_LIMIT }
         requires whole { IsWhole object }
         requires least { 1 ≤ quantum }
         requires most { quantum ≤ MOST_QUANTUM }
@@ -86,7 +86,7 @@ impl<R: Wait> Work<R> {
     }
 
     /// The object as it stands.
-    pub fn object(&self) -> &Object<Berth<R>, SlotKeep>
+    pub fn object(&self) -> &Object<Berth<R>, TableKeep>
         ensures object { result.now ≡ self.now.object }
         ensures job { JobMeaning self.now }
     {
@@ -103,7 +103,7 @@ impl<R: Wait> Work<R> {
     }
 
     /// Gives up the work, and answers the replies and the object as it stands.
-    pub fn split(self) -> (Replies, Object<Berth<R>, SlotKeep>)
+    pub fn split(self) -> (Replies, Object<Berth<R>, TableKeep>)
         ensures replies { result.0.replies ≡ self.replies }
         ensures object { result.1 ≡ self.object }
         ensures job { JobMeaning self }
@@ -114,7 +114,7 @@ impl<R: Wait> Work<R> {
     }
 
     /// Takes the work apart: its number, its commands, the replies, and the object as it stands.
-    pub fn into_parts(self) -> (u32, Commands, Replies, Object<Berth<R>, SlotKeep>)
+    pub fn into_parts(self) -> (u32, Commands, Replies, Object<Berth<R>, TableKeep>)
         ensures origin { self.origin ≡ origin_with result.0 result.1 result.3 }
         ensures replies { result.2.replies ≡ self.replies }
         ensures object { result.3 ≡ self.object }

@@ -3,7 +3,7 @@ use Rattle.std.proofs.lemmas.List.{take_at}
 use Rattle.std.specs.List.{AllZip}
 use Rattle.dym_run.specs.declared.places.Place.{Place}
 use Rattle.dym_run.specs.Places.{ComesOf}
-use Rattle.dym_run.proofs.Boarding.{zip_from}
+use Rattle.dym_run.proofs.Berthing.{zip_from}
 use Rattle.dym_run.proofs.places.open_places.Goals as goal
 
 pub returns : goal.returns
@@ -11,8 +11,9 @@ returns g c =
     let old = c.deref_mut.result.now in
     let new = c.for_each_mut.new.s in
     let all = c.args.places.now.items in
-    let each : (k : ℕ) (d : Place g.row.R.Denot) → k < length old → ComesOf c.args.version (slice_index_or old k d) (slice_index_or new k d) = search rules in
+    let each : (k : ℕ) (d : Place g.row.R.Denot) → k < length old → ComesOf c.args.version c.args.quantum (slice_index_or old k d) (slice_index_or new k d) = search rules in
     let ran = take_at new (drop (length new) all) (vec_len c.args.places.now) (c.for_each_mut.auto.s ∙ c.deref_mut.ensures.len) in
     record {
-      opens = subst (AllZip (ComesOf c.args.version) all) (sym ran) (subst (λ l. AllZip (ComesOf c.args.version) l new) c.deref_mut.ensures.value (zip_from (ComesOf c.args.version) old new c.for_each_mut.auto.s each));
+      opens = subst (AllZip (ComesOf c.args.version c.args.quantum) all) (sym ran)
+          (subst (λ l. AllZip (ComesOf c.args.version c.args.quantum) l new) c.deref_mut.ensures.value (zip_from (ComesOf c.args.version c.args.quantum) old new c.for_each_mut.auto.s each));
     }

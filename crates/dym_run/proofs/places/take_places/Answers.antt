@@ -1,6 +1,6 @@
 use Rattle.std.proofs.Common.{arith}
 use Rattle.dym_run.proofs.Berths.{next_quota, still_lined}
-use Rattle.dym_run.proofs.Boarding.{taking_more}
+use Rattle.dym_run.proofs.Berthing.{taking_more}
 use Rattle.dym_run.proofs.places.take_places.Goals as goal
 
 pub loop-parts-preserved : goal.loop-parts-preserved

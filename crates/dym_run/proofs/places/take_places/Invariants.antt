@@ -1,6 +1,6 @@
 use Rattle.std.proofs.Common.{◌≡◌, ℕ, ◌+◌, ◌≤◌, List, ◌++◌, map, reverse, vec_len, vec_capacity}
 use Rattle.dym_run.specs.Parts.{quota_of}
-use Rattle.dym_run.proofs.Boarding.{Taking}
+use Rattle.dym_run.proofs.Berthing.{Taking}
 use Rattle.dym_run.proofs.places.take_places.Given as goal
 
 abbrev pub invariant-loop-parts : goal.invariant-loop-parts

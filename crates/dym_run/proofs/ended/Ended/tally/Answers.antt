@@ -1,32 +1,7 @@
-use Rattle.std.proofs.Common.{◌-◌, [], ◌∷◌, subst, ◌∙◌, arith}
-use Rattle.dym_run.specs.declared.tally.Tally.{Tally}
+use Rattle.std.proofs.Common.{[], ◌∷◌, subst}
 use Rattle.dym_run.specs.Ends.{EndedMeaning, IsTallyOf}
-use Rattle.dym_run.proofs.Tallies.{tally_of_one, not_refused, count_not}
 use Rattle.dym_run.proofs.ended.Ended.tally.Goals as goal
 
 pub returns : goal.returns
 returns g c =
-    let replies = c.self.inside.replies.replies in
-    let refused = c.refusals-refused.ensures in
-    let all = c.len.ensures in
-    let ok = not_refused replies c.len.result c.refusals-refused.result all refused in
-    let tally : Tally = record {
-      ok = c.len.result - c.refusals-refused.result;
-      refused = c.refusals-refused.result;
-      chunks = c.live_chunks.result;
-      segments = c.wide.result;
-      kept = c.wide-2.result;
-      slots = c.wide-3.result;
-    } in
-    subst (λ (e : EndedMeaning). IsTallyOf tally (e.shown ∷ [])) c.self.view_is
-    (tally_of_one tally _
-    (λ i. record {
-      ok = ok i;
-      refused = refused i;
-      chunks = c.live_chunks.ensures.counted i;
-      segments = (c.wide.ensures.is ∙ c.held.ensures ∙ c.self.invariant.holds) i;
-      kept = c.wide-2.ensures.is i;
-      slots = c.wide-3.ensures.is i;
-    })
-    (omega (arith, ok, refused, count_not replies))
-    c.live_chunks.ensures.few c.wide.ensures.small c.wide-2.ensures.small c.wide-3.ensures.small)
+    subst (λ (e : EndedMeaning). IsTallyOf c.tally.result (e.shown ∷ [])) c.self.view_is (c.tally.ensures c.self.inside.name c.self.inside.view)

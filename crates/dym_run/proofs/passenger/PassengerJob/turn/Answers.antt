@@ -1,6 +1,65 @@
-use Rattle.std.proofs.Common.{arith}
-use Rattle.dym_run.proofs.Leavings.{over_none}
+use Rattle.std.proofs.Common.{◌≡◌, ◌<◌, inl, inr, sym, ap, subst, ◌∙◌, arith}
+use Rattle.dym_wave.specs.Works.{OriginMeaning}
+use Rattle.dym_run.proofs.Riders.{started, turned}
+use Rattle.dym_run.proofs.passenger.PassengerJob.turn.Goals.{else-left-eq0-via-then-left-eq0+else-not-short, else-left-eq0-via-else-left-eq0}
 use Rattle.dym_run.proofs.passenger.PassengerJob.turn.Goals as goal
 
-pub unreachable-requires : goal.unreachable-requires
-unreachable-requires g c = omega (arith, c.requires, over_none c.self.inside.stage c.args.self.now c.in-Over.field-0 c.in-Over.is c.self.invariant c.self.view_is)
+pub replace_with-requires-then-not-short : goal.replace_with-requires-then-not-short
+replace_with-requires-then-not-short g c = (tt, (sym c.left-left.ensures ∙ c.if-left-eq0.true, sym c.short-short.ensures.short ∙ c.if-not-short.true))
+
+pub invariant_of-self-else-not-short : goal.invariant_of-self-else-not-short
+invariant_of-self-else-not-short g c = (tt, inr (sym c.short-short.ensures.short ∙ c.if-not-short.false))
+
+pub invariant_of-self-else-left-eq0 : goal.invariant_of-self-else-left-eq0
+invariant_of-self-else-left-eq0 g c = (tt, inl (subst (λ n. 0 < n) c.left-left.ensures (omega (arith, c.if-left-eq0.false))))
+
+pub returns-then-not-short-clause-number : goal.returns-then-not-short-clause-number
+returns-then-not-short-clause-number g c =
+    let work = c.in-Running.work in
+    let before = started c.self.inside.stage c.replace_with.new.dest work c.args.self.now c.in-Running.is c.replace_with.ensures.1.1.1 c.self.view_is in
+    let here = c.deref_mut-work.ensures.value in
+    ap (λ (o : OriginMeaning). o.number) (turned work.value c.deref_mut-work.result.now c.turn.new.self c.args.self.now _ before here c.turn.ensures.origin c.turn.ensures.left c.replace_with-then-not-short.ensures.1.1).0
+
+pub returns-else-left-eq0-clause-number : goal.returns-else-left-eq0-clause-number
+returns-else-left-eq0-clause-number g c =
+    let work = c.in-Running.work in
+    let before = started c.self.inside.stage c.replace_with.new.dest work c.args.self.now c.in-Running.is c.replace_with.ensures.1.1.1 c.self.view_is in
+    let here = c.deref_mut-work.ensures.value in
+    elim c.else-left-eq0.branch [
+      | else-left-eq0-via-then-left-eq0+else-not-short w ↦ ap (λ (o : OriginMeaning). o.number) (turned work.value c.deref_mut-work.result.now c.turn.new.self c.args.self.now _ before here c.turn.ensures.origin c.turn.ensures.left w.self-is).0
+      | else-left-eq0-via-else-left-eq0 w ↦ ap (λ (o : OriginMeaning). o.number) (turned work.value c.deref_mut-work.result.now c.turn.new.self c.args.self.now _ before here c.turn.ensures.origin c.turn.ensures.left w.self-is).0
+    ]
+
+pub returns-then-not-short-clause-origin : goal.returns-then-not-short-clause-origin
+returns-then-not-short-clause-origin g c =
+    let work = c.in-Running.work in
+    let before = started c.self.inside.stage c.replace_with.new.dest work c.args.self.now c.in-Running.is c.replace_with.ensures.1.1.1 c.self.view_is in
+    let here = c.deref_mut-work.ensures.value in
+    (turned work.value c.deref_mut-work.result.now c.turn.new.self c.args.self.now _ before here c.turn.ensures.origin c.turn.ensures.left c.replace_with-then-not-short.ensures.1.1).0
+
+pub returns-else-left-eq0-clause-origin : goal.returns-else-left-eq0-clause-origin
+returns-else-left-eq0-clause-origin g c =
+    let work = c.in-Running.work in
+    let before = started c.self.inside.stage c.replace_with.new.dest work c.args.self.now c.in-Running.is c.replace_with.ensures.1.1.1 c.self.view_is in
+    let here = c.deref_mut-work.ensures.value in
+    elim c.else-left-eq0.branch [
+      | else-left-eq0-via-then-left-eq0+else-not-short w ↦ (turned work.value c.deref_mut-work.result.now c.turn.new.self c.args.self.now _ before here c.turn.ensures.origin c.turn.ensures.left w.self-is).0
+      | else-left-eq0-via-else-left-eq0 w ↦ (turned work.value c.deref_mut-work.result.now c.turn.new.self c.args.self.now _ before here c.turn.ensures.origin c.turn.ensures.left w.self-is).0
+    ]
+
+pub returns-then-not-short-clause-left : goal.returns-then-not-short-clause-left
+returns-then-not-short-clause-left g c =
+    let work = c.in-Running.work in
+    let before = started c.self.inside.stage c.replace_with.new.dest work c.args.self.now c.in-Running.is c.replace_with.ensures.1.1.1 c.self.view_is in
+    let here = c.deref_mut-work.ensures.value in
+    (turned work.value c.deref_mut-work.result.now c.turn.new.self c.args.self.now _ before here c.turn.ensures.origin c.turn.ensures.left c.replace_with-then-not-short.ensures.1.1).1
+
+pub returns-else-left-eq0-clause-left : goal.returns-else-left-eq0-clause-left
+returns-else-left-eq0-clause-left g c =
+    let work = c.in-Running.work in
+    let before = started c.self.inside.stage c.replace_with.new.dest work c.args.self.now c.in-Running.is c.replace_with.ensures.1.1.1 c.self.view_is in
+    let here = c.deref_mut-work.ensures.value in
+    elim c.else-left-eq0.branch [
+      | else-left-eq0-via-then-left-eq0+else-not-short w ↦ (turned work.value c.deref_mut-work.result.now c.turn.new.self c.args.self.now _ before here c.turn.ensures.origin c.turn.ensures.left w.self-is).1
+      | else-left-eq0-via-else-left-eq0 w ↦ (turned work.value c.deref_mut-work.result.now c.turn.new.self c.args.self.now _ before here c.turn.ensures.origin c.turn.ensures.left w.self-is).1
+    ]
