@@ -1,8 +1,8 @@
 -- Lists of kept commands, and tables that grow.
-use Rattle.std.proofs.Common.{◌≡◌, ℕ, ◌+◌, ◌*◌, ◌≤◌, ◌<◌, true, false, nat_le, if◌then◌else◌, List, [], ◌∷◌, ◌++◌, All, length, get_or, sum_by, refl, sym, ap, ◌∙◌, arith, length-append, OnErr, Result, Ok, Err}
+use Rattle.std.proofs.Common.{◌≡◌, ◌+◌, ◌*◌, ◌≤◌, ◌<◌, true, false, nat_le, if◌then◌else◌, List, [], ◌∷◌, ◌++◌, All, length, get_or, sum_by, refl, ◌∙◌, arith, length-append, OnErr, Result, Ok, Err}
 use Rattle.std.proofs.lemmas.List.{map-append}
 use Rattle.std.proofs.lemmas.Bool.Decides.{nat_tests}
-use Rattle.std.proofs.lemmas.List.Sums.{sum_by_push, sum_by-le}
+use Rattle.std.proofs.lemmas.List.Sums.{sum_by-le}
 use Rattle.std.proofs.lemmas.List.Elements.{All-head, All-tail, All-push, All-weaker}
 use Rattle.std.specs.declared.alloc.AllocError.{AllocError}
 use Rattle.dym_base.specs.declared.limits.TheConstants.{MOST_COMMANDS}
@@ -28,22 +28,19 @@ more_commands t u kepts kept command still fit is =
     map-append (kept_command u) kepts (kept ∷ []) ∙ (λ i. same i ++ is i ∷ [])
 
 -- and it fits
-pub more_fit : (t u : Tables) (kepts : List Kept) (kept : Kept) (command : Command) (bytes : ℕ) → Still t u → length kepts < MOST_COMMANDS → length u.wide.items ≤ length t.wide.items + 1 → IsFit u kept → kept_command u kept ≡ command
-    → AreFit t kepts bytes → AreFit u (kepts ++ kept ∷ []) (bytes + read_room command)
-more_fit t u kepts kept command bytes still room rows is same fit = record {
+pub more_fit : (t u : Tables) (kepts : List Kept) (kept : Kept) → Still t u → length kepts < MOST_COMMANDS → length u.wide.items ≤ length t.wide.items + 1 → IsFit u kept → AreFit t kepts → AreFit u (kepts ++ kept ∷ [])
+more_fit t u kepts kept still room rows is fit = record {
   few = omega (arith, length-append kepts (kept ∷ []), room);
   rows = omega (arith, length-append kepts (kept ∷ []), rows, fit.rows);
   fit = All-push (IsFit u) kepts kept (All-weaker (IsFit t) (IsFit u) (λ k old. (still k old).0) kepts fit.fit) is;
-  reads = ap (λ (n : ℕ). n + read_room command) fit.reads ∙ sym (sum_by_push read_room (kept_commands t kepts) command) ∙ ap (sum_by read_room) (sym (more_commands t u kepts kept command still fit.fit same));
 }
 
 -- no command more
-pub same_fit : (t u : Tables) (kepts : List Kept) (bytes : ℕ) → Still t u → length u.wide.items ≡ length t.wide.items → AreFit t kepts bytes → AreFit u kepts bytes
-same_fit t u kepts bytes still rows fit = record {
+pub same_fit : (t u : Tables) (kepts : List Kept) → Still t u → length u.wide.items ≡ length t.wide.items → AreFit t kepts → AreFit u kepts
+same_fit t u kepts still rows fit = record {
   few = fit.few;
   rows = omega (arith, rows, fit.rows);
   fit = All-weaker (IsFit t) (IsFit u) (λ k old. (still k old).0) kepts fit.fit;
-  reads = fit.reads ∙ ap (sum_by read_room) (sym (same_commands t u kepts still fit.fit));
 }
 
 -- what the reply to one command tells is no more than a chunk has

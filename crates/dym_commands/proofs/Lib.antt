@@ -1,2 +1,3 @@
 pub mod HexFacts
 pub mod KeptLists
+pub mod PieceLists

@@ -1,9 +1,8 @@
 -- Commands that are kept in little memory, and what they mean.
-use Rattle.std.specs.Prelude.{◌≡◌, ◌+◌, ◌≤◌, ◌<◌, ℕ, List, length, take, drop, map, sum_by, All, slice_index_or}
+use Rattle.std.specs.Prelude.{◌≡◌, ◌+◌, ◌≤◌, ◌<◌, ℕ, List, length, take, drop, map, All, slice_index_or}
 use Rattle.dym_base.specs.declared.limits.TheConstants.{MOST_COMMANDS}
 use Rattle.dym_base.specs.declared.command.Command.{Command}
 use Rattle.dym_base.specs.declared.command.Command.TheVariants as command
-use Rattle.dym_commands.specs.Reads.{read_room}
 use Rattle.dym_commands.specs.Handles.{handle_of, handle_or_nil_of}
 use Rattle.dym_commands.specs.declared.kept.Wide.{Wide}
 use Rattle.dym_commands.specs.declared.kept.Kept.{Kept}
@@ -59,10 +58,8 @@ pub record IsKept (tables more : Tables) (command : Command) (kept : Kept) : Typ
 abbrev pub kept_commands : Tables → List Kept → List Command
 kept_commands tables kepts = map (kept_command tables) kepts
 
--- they are no more than a script has, with no more rows, the tables have what they need, and so many bytes are the most that
--- their replies tell
-pub record AreFit (tables : Tables) (kepts : List Kept) (read_bytes : ℕ) : Type 0 where
+-- they are no more than a script has, with no more rows, and the tables have what they need
+pub record AreFit (tables : Tables) (kepts : List Kept) : Type 0 where
   pub few : length kepts ≤ MOST_COMMANDS
   pub rows : length tables.wide.items ≤ length kepts
   pub fit : All (IsFit tables) kepts
-  pub reads : read_bytes ≡ sum_by read_room (kept_commands tables kepts)

@@ -1,34 +1,44 @@
 //! The commands of one object.
-ghost use Rattle.std.specs.Prelude.{◌≡◌, ◌<◌, ◌≤◌, [], ◌∷◌, ◌++◌, length, sum_by, slice_get, IfSome, OnOk, OnErr};
+ghost use Rattle.std.specs.Prelude.{◌≡◌, ◌==◌, ◌+◌, ◌<◌, ◌≤◌, ℕ, [], ◌∷◌, ◌++◌, All, length, map, sum_by, slice_get, IfSome, OnOk, OnErr, vec_len, vec_capacity};
 ghost use Rattle.dym_base.specs.declared.limits.TheConstants.{MOST_COMMANDS};
 ghost use Rattle.dym_commands.specs.Asks.{asks};
 ghost use Rattle.dym_commands.specs.Reads.{read_room};
+ghost use Rattle.dym_commands.specs.Pieces.{behind, commands_in, Follow, IsAt};
 
 use crate::asked::Asked;
-use crate::kept::{Kept, Tables};
+use crate::piece::Piece;
 use crate::runner::Runner;
 use std::alloc::{AllocError, Global};
 use std::marker::Model;
 
-/// The commands of one object, in the order in which they were pushed. Each is kept in 16 bytes, a write with its bytes beside
-/// them. Nothing is borrowed or shared, so that they move to a worker whole.
+/// The commands of one object, in the order in which they were pushed and appended. What is appended stays in the pieces that it
+/// came in, so that no command is copied. Nothing is borrowed or shared, so that they move to a worker whole.
 #[derive(Drop)]
 pub struct Commands {
-    kept: Vec<Kept>,
-    tables: Tables,
+    first: Piece,
+    /// The pieces behind the first.
+    others: Vec<Later>,
+    len: usize,
     read_bytes: usize,
+}
+
+/// A piece behind others, and how many commands stand before it.
+#[derive(Drop)]
+pub(crate) struct Later {
+    pub start: usize,
+    pub piece: Piece,
 }
 
 impl Model for Commands {
     ghost use Rattle.std.specs.Prelude.{List};
     ghost use Rattle.dym_base.specs.declared.command.Command.{Command};
-    ghost use Rattle.dym_commands.specs.Kept.{kept_commands, AreFit};
+    ghost use Rattle.dym_commands.specs.Pieces.{all_of, AreWhole};
 
     ghost Value = { List Command };
 
-    ghost view = { λ c. kept_commands c.tables c.kept.items };
+    ghost view = { λ c. all_of c.first c.others.items };
 
-    ghost invariant = { λ c. AreFit c.tables c.kept.items c.read_bytes };
+    ghost invariant = { λ c. AreWhole c.first c.others.items c.len c.read_bytes };
 }
 
 impl Commands {
@@ -37,8 +47,9 @@ impl Commands {
         ensures { result ≡ [] }
     {
         Commands {
-            kept: Vec::new(alloc),
-            tables: Tables::new(alloc),
+            first: Piece::new(alloc),
+            others: Vec::new(alloc),
+            len: 0,
             read_bytes: 0,
         }
     }
@@ -48,7 +59,14 @@ impl Commands {
         ensures length { result ≡ length self.now }
         ensures few { result ≤ MOST_COMMANDS }
     {
-        self.kept.len()
+        self.len
+    }
+
+    /// Whether they are none.
+    pub fn is_empty(&self) -> bool
+        ensures { result ≡ (length self.now == 0) }
+    {
+        self.len == 0
     }
 
     /// How many bytes the replies to its reads have at most, all together.
@@ -65,10 +83,42 @@ impl Commands {
         ensures pushed { OnOk result (self.new ≡ self.old ++ asks asked.now ∷ []) }
         ensures same { OnErr result (self.new ≡ self.old) }
     {
-        self.kept.reserve(1)?;
-        let kept = self.tables.keep(asked)?;
-        self.kept.push(kept)?;
+        match self.others.last_mut() {
+            Some(last) => last.piece.push(asked)?,
+            None => self.first.push(asked)?,
+        }
+        self.len += 1;
         self.read_bytes += asked.read_room();
+        Ok(())
+    }
+
+    /// Appends other commands. Only memory can be wanting.
+    pub fn append(&mut self, other: Commands) -> Result<(), AllocError>
+        requires { length self.old + length other ≤ MOST_COMMANDS }
+        ensures appended { OnOk result (self.new ≡ self.old ++ other) }
+        ensures same { OnErr result (self.new ≡ self.old) }
+    {
+        if other.is_empty() {
+            return Ok(());
+        }
+        if self.is_empty() {
+            *self = other;
+            return Ok(());
+        }
+        self.others.reserve(1 + other.others.len())?;
+        let Commands {
+            first,
+            others,
+            len,
+            read_bytes,
+        } = other;
+        self.others.push_reserved(Later {
+            start: self.len,
+            piece: first,
+        });
+        append_behind(&mut self.others, self.len, others);
+        self.len += len;
+        self.read_bytes += read_bytes;
         Ok(())
     }
 
@@ -81,6 +131,34 @@ impl Commands {
             (λ command. R.does runner.old command runner.new)) }
         ensures stays { OnErr result (R.stays runner.old runner.new) }
     {
-        self.tables.run(&self.kept[k], way, runner)
+        if k < self.first.len() {
+            return self.first.run(k, way, runner);
+        }
+        let later = later_at(&self.others, k);
+        later.piece.run(k - later.start, way, runner)
     }
+}
+
+/// Appends pieces, behind so many commands more. There is room for them.
+fn append_behind(list: &mut Vec<Later>, before: usize, pieces: Vec<Later>)
+    requires room { vec_len list.old + vec_len pieces ≤ vec_capacity list.old }
+    requires before { before ≤ MOST_COMMANDS }
+    requires starts { All (λ later. later.start ≤ MOST_COMMANDS) pieces.items }
+    ensures { list.new.items ≡ list.old.items ++ map (behind before) pieces.items }
+{
+    for later in pieces {
+        list.push_reserved(Later {
+            start: before + later.start,
+            piece: later.piece,
+        });
+    }
+}
+
+/// The piece in which a command stands.
+fn later_at(others: &[Later], k: usize) -> &Later
+    requires { (n : ℕ) × Follow n others.now × (n ≤ k) × (k < n + length (commands_in others.now)) }
+    ensures { (n : ℕ) → Follow n others.now → n ≤ k → k < n + length (commands_in others.now) → IsAt n others.now k result.now }
+{
+    let reached = others.partition_point(|later| later.start <= k);
+    &others[reached - 1]
 }

@@ -1,6 +1,6 @@
 //! The commands of one object, kept in little memory until they run. It stands on `dym_base`; the reader of scripts, which
 //! pushes what each line asks, and whatever runs an object's commands stand above it. Its one contract: `Commands` is the
-//! list of the commands that were pushed, and runs each as the command that it is. Nothing above sees how they are kept.
+//! list of what was pushed and appended, and runs each as the command that it is. Nothing above sees how they are kept.
 #![tactic(auto)]
 
 mod asked;
@@ -8,6 +8,7 @@ mod commands;
 mod digits;
 mod hex_bytes;
 mod kept;
+mod piece;
 mod runner;
 mod tight;
 

@@ -113,6 +113,45 @@ fn commands_of_each_kind(rt: HostRuntime) -> Result<(), Fail> {
     Ok(())
 }
 
+/// Appends commands that log at these times.
+fn append_logs(alloc: Global, to: &mut Commands, times: &[u64]) -> Result<(), AllocError> {
+    let mut logs = Commands::new(alloc);
+    for time in times {
+        if logs.len() < 32 {
+            logs.push(&Asked::Plain(Command::Log { time: *time }))?;
+        }
+    }
+    append_few(to, logs)
+}
+
+/// Appends a few commands to a few.
+fn append_few(to: &mut Commands, other: Commands) -> Result<(), AllocError> {
+    if to.len() + other.len() < 32 {
+        to.append(other)?;
+    }
+    Ok(())
+}
+
+#[test]
+fn appended_commands_run_in_order(rt: HostRuntime) -> Result<(), Fail> {
+    let alloc = rt.alloc();
+    let mut inner = Commands::new(alloc);
+    append_logs(alloc, &mut inner, &[2])?;
+    append_logs(alloc, &mut inner, &[3, 4])?;
+    let mut commands = Commands::new(alloc);
+    append_logs(alloc, &mut commands, &[0, 1])?;
+    append_logs(alloc, &mut commands, &[])?;
+    append_few(&mut commands, inner)?;
+    if commands.len() < 32 {
+        commands.push(&Asked::Plain(Command::Log { time: 5 }))?;
+    }
+    append_logs(alloc, &mut commands, &[6])?;
+    let run = recorded(alloc, &commands)?;
+    let wanted = [0, 1, 2, 3, 4, 5, 6].map(|time| Command::Log { time });
+    assert!(rt; run.as_slice() == wanted.as_slice());
+    Ok(())
+}
+
 #[test]
 fn words_for_bytes(rt: HostRuntime) -> Result<(), Fail> {
     let table: [(&[u8], Option<&[u8]>); 10] = [

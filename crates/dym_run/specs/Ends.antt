@@ -83,18 +83,9 @@ all_ended (n ∷ names) [] lines = []
 all_ended (n ∷ names) (o ∷ origins) [] = ended_as n o None ∷ all_ended names origins []
 all_ended (n ∷ names) (o ∷ origins) (line ∷ lines) = ended_as n o (Some line) ∷ all_ended names origins lines
 
--- the same of a declared object and its own commands, and of a work's origin under a name
+-- the same of a declared object and its own commands
 abbrev pub own_shown : Telling → Own → Shown
 own_shown t o = run_shown t.views o.decl.name t.version o.decl.quota o.commands
-
-abbrev pub origin_shown : Bool → List ℕ → OriginMeaning → Shown
-origin_shown views name o = run_shown views name o.version o.quota o.commands
-
--- the works of these origins, each under its name
-abbrev pub all_shown : Bool → List (List ℕ) → List OriginMeaning → List Shown
-all_shown views [] origins = []
-all_shown views (n ∷ names) [] = []
-all_shown views (n ∷ names) (o ∷ origins) = origin_shown views n o ∷ all_shown views names origins
 
 -- its text
 abbrev pub shown_text : Shown → List ℕ

@@ -1,5 +1,5 @@
 //! How an object is opened as a work.
-ghost use Rattle.std.specs.Prelude.{◌≡◌, ◌+◌, ◌≤◌, false, [], None, IfOk, IfErr, length};
+ghost use Rattle.std.specs.Prelude.{◌≡◌, ◌+◌, ◌≤◌, false, [], None, IfOk, IfErr};
 ghost use Rattle.dym_base.specs.Objects.{object_start};
 ghost use Rattle.dym_base.specs.declared.limits.TheConstants.{MOST_COMMANDS, COUNT_LIMIT, MOST_QUANTUM, MOST_QUOTA};
 ghost use Rattle.dym_object.specs.Meaning.{IsWhole, state_of};
@@ -29,7 +29,6 @@ pub(crate) fn open_work<R: Wait>(
     requires idle { keep.lifted ≡ None }
     requires counts { keep.made + MOST_COMMANDS ≤ COUNT_LIMIT }
     requires start { CanStart ticket }
-    requires few { length ticket.commands ≤ MOST_COMMANDS }
     requires least { 1 ≤ quantum }
     requires most { quantum ≤ MOST_QUANTUM }
     ensures origin { IfOk result (λ work. work.origin ≡ record (ticket_origin ticket) { keep = keep.origin }) }

@@ -1,6 +1,5 @@
 //! An object of a wave as a job.
-ghost use Rattle.std.specs.Prelude.{◌≡◌, ◌≤◌, ◌⊎◌, false, [], IfOk, IfErr, length};
-ghost use Rattle.dym_base.specs.declared.limits.TheConstants.{MOST_COMMANDS};
+ghost use Rattle.std.specs.Prelude.{◌≡◌, ◌⊎◌, false, [], IfOk, IfErr};
 ghost use Rattle.dym_run.specs.Ends.{IsFresh, unkept};
 ghost use Rattle.dym_run.specs.Passengers.{CanEnd, CanStart, HoldsNothing, IsBack, IsSettled, IsStage, IsStarted, IsStranded, meant_by, ticket_origin};
 
@@ -168,7 +167,6 @@ fn start_stage<R: Wait>(stage: Stage<R>, with: (&R, &Means)) -> (Stage<R>, ())
 /// Opens the object of a ticket as a work in a box. Where memory is wanting the ticket comes back.
 fn open_box<R: Wait>(rt: &R, means: &Means, ticket: Ticket<R>) -> Result<Box<Work<R>>, Ticket<R>>
     requires start { CanStart ticket }
-    requires few { length ticket.commands ≤ MOST_COMMANDS }
     ensures origin { IfOk result (λ work. unkept work.value.origin ≡ ticket_origin ticket) }
     ensures quantum { IfOk result (λ work. work.value.quantum ≡ means.now.quantum) }
     ensures fresh { IfOk result (λ work. IsFresh work.value) }

@@ -54,13 +54,14 @@ impl Roster {
         requires some { 0 < vec_len parts }
         requires objects { vec_len parts ≤ MOST_OBJECTS }
         ensures telling { IfOk result (λ r. r.telling ≡ telling) }
+        ensures shape { IfOk result (λ r. r.shape ≡ shape) }
         ensures parts { IfOk result (λ r. r.parts.items ≡ parts.items) }
         ensures least { IfOk result (λ r. 1 ≤ r.most) }
         ensures most { IfOk result (λ r. r.most ≤ shape.segments) }
     {
         let quotas = quotas_of(alloc, &parts)?;
         let most = largest_wave(&quotas, shape.segments);
-        let tables = Tables::open(alloc, shape.workers, tells)?;
+        let tables = Tables::open(alloc, shape.workers.min(parts.len() as u32), tells)?;
         Ok(Roster {
             telling,
             shape,
@@ -85,6 +86,7 @@ impl Roster {
         requires enough { self.old.most ≤ vec_len segments }
         requires distinct { AreDistinct (map ⟦<RawSegment as Segment>⟧.id segments.items) }
         ensures telling { self.new.telling ≡ self.old.telling }
+        ensures shape { self.new.shape ≡ self.old.shape }
         ensures most { self.new.most ≡ self.old.most }
         ensures ran { IfOk result (λ s. (count : ℕ) × (0 < count)
             × Boarded self.old.telling count self.old.parts.items self.new.parts.items [] (map (λ e. e.shown) s.ended.items)) }

@@ -42,6 +42,8 @@ impl Tables {
     /// So many log tables.
     pub(crate) fn open(alloc: Global, count: u32, tells: bool) -> Result<Tables, AllocError>
         requires some { 0 < count }
+        ensures sweepers { IfOk result (λ tables. vec_len tables.sweepers ≡ count) }
+        ensures tells { IfOk result (λ tables. tables.tells ≡ tells) }
     {
         let mut queue = ArrayQueue::new(alloc, count as usize)?;
         let mut sweepers = Vec::with_capacity(alloc, count as usize)?;

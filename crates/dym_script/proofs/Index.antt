@@ -95,3 +95,15 @@ found_name ds name (Some k) names found = search (rules, object_of_name ds name 
 pub object_of_none : (name : List ℕ) → object_of [] name ≡ None
 unfolding object_of
 object_of_none name = refl
+
+position_from_more : (test : Decl → Bool) (i : ℕ) (ds more : List Decl) (k : ℕ) → position_from test i ds ≡ Some k → position_from test i (ds ++ more) ≡ Some k
+position_from_more test i [] more k found = absurd (cc)
+position_from_more test i (d ∷ ds) more k found = elim (test d) as (λ b. cond b (Some i) (position_from test (i + 1) ds) ≡ Some k → cond b (Some i) (position_from test (i + 1) (ds ++ more)) ≡ Some k) [
+  | true ↦ λ here. here
+  | false ↦ λ later. position_from_more test (i + 1) ds more k later
+] found
+
+-- a name that is found keeps its place, whatever is declared behind
+pub object_of_more : (ds more : List Decl) (name : List ℕ) (k : ℕ) → object_of ds name ≡ Some k → object_of (ds ++ more) name ≡ Some k
+unfolding object_of
+object_of_more ds more name k found = position_from_more (λ d. bytes_eq d.name name) 0 ds more k found

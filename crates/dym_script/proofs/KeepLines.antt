@@ -1,5 +1,5 @@
 -- How what is kept of a script goes on line by line.
-use Rattle.std.proofs.Common.{◌≡◌, ℕ, ◌+◌, ◌<◌, ◌≤◌, ◌==◌, inl, inr, true, false, List, [], ◌∷◌, ◌++◌, length, get_or, refl, sym, ap, ◌∙◌, arith, length-append, eq-eqb, Option, Some, None, Result, Ok, Err, IfOk, subst}
+use Rattle.std.proofs.Common.{◌≡◌, ℕ, ◌+◌, ◌<◌, ◌≤◌, ◌==◌, inl, inr, true, false, List, [], ◌∷◌, ◌++◌, length, get_or, refl, sym, ap, ◌∙◌, arith, append_assoc, length-append, eq-eqb, Option, Some, None, Result, Ok, Err, IfOk, subst}
 use Rattle.std.proofs.Math.Seq.{get_or-append_seam}
 use Rattle.std.proofs.lemmas.List.Elements.{All-push, All-weaker}
 use Rattle.std.proofs.lemmas.Bool.Decides.{nat_tests}
@@ -19,8 +19,12 @@ use Rattle.dym_base.specs.Lines.{lines_of}
 use Rattle.dym_script.specs.Scripts.{Reading, ask_at, read_line, read_lines, start}
 use Rattle.dym_script.specs.Keeping.{Asks, Declares, CanAsk, Holds, Stands, IsReady, HoldsLine, IsWhole}
 use Rattle.dym_script.specs.Pieces.{ReadsNext}
-use Rattle.dym_script.specs.Readers.{IsKept, Grows, seen, reading, with_ask}
+use Rattle.dym_script.specs.Readers.{IsKept, Grows, GoesOn, seen, reading, with_ask}
 use Rattle.dym_script.proofs.PiecesRead.{lines_next}
+
+-- declarations that go on twice
+pub goes_on : (old mid new : List Decl) → GoesOn old mid → GoesOn mid new → GoesOn old new
+goes_on old mid new (more, first) (others, second) = (more ++ others, second ∙ ap (λ ds. ds ++ others) first ∙ append_assoc old more others)
 
 -- nothing is read yet
 pub stands_start : (P : List Decl → List Line → Type 0) (r : Reader) → IsKept r → seen r [] ≡ start → P [] [] → Stands P r 0 start

@@ -15,7 +15,7 @@ use Rattle.dym_script.specs.Keeping.{Asks, Declares, CanAsk}
 use Rattle.dym_script.proofs.Moves.{commands_more, decls_more}
 
 -- no line asks something of an object that isn't declared yet
-commands_of_none : (lines : List Line) (n : ℕ) → All (λ line. line.object < n) lines → commands_of lines n ≡ []
+pub commands_of_none : (lines : List Line) (n : ℕ) → All (λ line. line.object < n) lines → commands_of lines n ≡ []
 commands_of_none [] n all = refl
 commands_of_none (line ∷ lines) n all =
     let below : line.object < n = All-head (λ (l : Line). l.object < n) line lines all in
@@ -24,7 +24,7 @@ commands_of_none (line ∷ lines) n all =
     ∙ commands_of_none lines n (All-tail (λ (l : Line). l.object < n) line lines all)
 
 -- an object's commands are no more than all
-commands_few : (lines : List Line) (n : ℕ) → length (commands_of lines n) ≤ length lines
+pub commands_few : (lines : List Line) (n : ℕ) → length (commands_of lines n) ≤ length lines
 commands_few [] n = omega arith
 commands_few (line ∷ lines) n = elim (line.object == n) as (λ b. length (map (λ (l : Line). l.command) (cond b (line ∷ filter (λ l. l.object == n) lines) (filter (λ l. l.object == n) lines))) ≤ length (line ∷ lines)) [
   | true ↦ omega (arith, commands_few lines n)
@@ -32,7 +32,7 @@ commands_few (line ∷ lines) n = elim (line.object == n) as (λ b. length (map 
 ]
 
 -- so many are the parts
-parts_long : (parts : List Part) (objects : List Decl) → map (λ part. part.decl) parts ≡ objects → length objects ≡ length parts
+pub parts_long : (parts : List Part) (objects : List Decl) → map (λ part. part.decl) parts ≡ objects → length objects ≡ length parts
 parts_long parts objects are = ap length (sym are) ∙ length-map parts (λ part. part.decl)
 
 -- the object has a part

@@ -6,6 +6,10 @@ pub mod SpelledLines
 pub mod PiecesRead
 pub mod KeepLines
 pub mod KeptParts
+pub mod AheadLines
+pub mod AheadParts
+pub mod AheadTexts
+pub mod ReadOn
 pub mod LateLines
 pub mod LateVerbs
 pub mod LateRead

@@ -11,8 +11,9 @@ use Rattle.dym_script.specs.declared.script.ScriptFail.{ScriptFail}
 use Rattle.dym_script.specs.declared.script.ScriptFail.TheVariants as fail
 use Rattle.dym_script.specs.Answers.{FailsSo, GivesBy}
 use Rattle.dym_base.specs.Lines.{lines_of}
+use Rattle.dym_lines.proofs.Cuts.{take_rest}
 use Rattle.dym_script.specs.Scripts.{Said, Reading, Fault, read_line, read_lines, go_on, start, script_of}
-use Rattle.dym_script.specs.Pieces.{says, IsEnded, IsOpen, Took, TakesPiece, ReadsText}
+use Rattle.dym_script.specs.Pieces.{says, IsEnded, IsOpen, Took, TakesPiece, ReadsFront, ReadsText}
 
 -- the first line is read, and then the rest and other lines
 pub lines_next : (r : Reading) (number : ℕ) (text line : List ℕ) (after others : List (List ℕ)) (o : Result Reading BadKind) → lines_of text ≡ line ∷ after → read_line r number line ≡ o
@@ -75,6 +76,18 @@ pub long_line : (r : Reading) (number : ℕ) (text more : List ℕ) → MOST_LIN
 long_line r number text more long unended =
     let (rest, others, is) = open_front text (omega arith) unended more in
     ap (read_lines r number) is ∙ ap (λ o. go_on number o (λ next. read_lines next (number + 1) others)) (too_long_line r number (text ++ rest) (omega (arith, length-append text rest)))
+
+-- the lines at the front, and then the others
+pub front_then : (Before Between After : Reading → Type 0) (n m k : ℕ) (lines left same : List (List ℕ)) (result : Result Unit ScriptFail) → same ≡ left → ReadsFront Before Between n m lines left (Ok tt) → ReadsFront Between After m k same [] result
+    → ReadsFront Before After n k lines [] result
+front_then Before Between After n m k lines left same (Ok done) are front back = λ old stands.
+    let (mid, between, reads) = front old stands in
+    let (new, after, more) = back mid between in
+    (new, after, λ others. reads others ∙ ap (λ ls. read_lines mid (m + 1) (ls ++ others)) (sym are) ∙ more others)
+front_then Before Between After n m k lines left same (Err (fail.Bad line kind)) are front back = λ old stands others.
+    let (mid, between, reads) = front old stands in
+    reads others ∙ ap (λ ls. read_lines mid (m + 1) (ls ++ others)) (sym are) ∙ back mid between others
+front_then Before Between After n m k lines left same (Err fail.Memory) are front back = tt
 
 -- ---- a piece at a time
 
@@ -167,6 +180,19 @@ all_failed tells Fit Stands NewStands n m taken text (Err e) (fail.Bad line kind
     says_behind Fit Stands n taken text took ∙ ap (read_lines took.now (n + 1)) (sym (append-nil (lines_of text))) ∙ reads took.now took.stands [] in
     subst (λ f. FailsSo f (says (taken ++ text))) (sym is_that) bad
 all_failed tells Fit Stands NewStands n m taken text (Err e) fail.Memory reads took is is_that = subst (λ f. FailsSo f (says (taken ++ text))) (sym is_that) tt
+
+-- the bytes up to a place and those from there on
+pub last_part : (n : ℕ) (bytes : List ℕ) → take n bytes ++ take (length bytes - n) (drop n bytes) ≡ bytes
+last_part n bytes = ap (λ t. take n bytes ++ t) (take_rest n bytes) ∙ take-append-drop n bytes
+
+-- a piece that is the whole input has a bad line, or memory ran out
+pub piece_is_bad : {M : Type 0} → (tells : M → Said → Type 0) (Before After : List ℕ → Type 0) (text : List ℕ) (result : Result M ScriptFail) (failed : ScriptFail) → TakesPiece Before After text (Err failed) → Before []
+    → IsErr result → IsErrAnd result (λ e. e ≡ failed) → GivesBy tells result (says text)
+piece_is_bad tells Before After text (Ok made) failed takes start is is_that = cc
+piece_is_bad tells Before After text (Err e) (fail.Bad line kind) takes start is is_that =
+    let bad : FailsSo (fail.Bad line kind) (says text) = ap says (sym (append-nil text)) ∙ takes [] [] start in
+    subst (λ f. FailsSo f (says text)) (sym is_that) bad
+piece_is_bad tells Before After text (Err e) fail.Memory takes start is is_that = subst (λ f. FailsSo f (says text)) (sym is_that) tt
 
 -- an input that isn't too long says what its lines say
 pub script_says : (bytes : List ℕ) → length bytes ≤ MOST_INPUT_BYTES → script_of bytes ≡ says bytes

@@ -16,9 +16,10 @@ use Rattle.dym_lines.specs.Lines.{words_of, is_printable}
 use Rattle.dym_script.specs.Scripts.{Said, Reading, object_of, ask_at, is_version, begin, read_line}
 use Rattle.dym_commands.specs.Asks.{asks}
 use Rattle.dym_lines.specs.Table.{verb_of, command_of}
-use Rattle.dym_script.specs.Readers.{seen, reading, IsNext}
+use Rattle.dym_script.specs.Readers.{reading, IsNext}
 use Rattle.dym_quick.specs.Quick.{is_bare, is_bare_word, spelled, Demands}
 use Rattle.dym_lines.proofs.Cuts.{both_true}
+use Rattle.dym_script.proofs.Index.{object_of_more}
 use Rattle.dym_quick.proofs.Spelled.{no_more, all_weaker, words_of_spelled, lines_of_front, line_printable}
 
 and_no : (b : Bool) → (b && false) ≡ false
@@ -101,6 +102,7 @@ next_asked r text name words rest ask front named found within d short =
       first = (
         line,
         ap lines_of is ∙ lines_of_front line rest printable,
-        λ number lines. read_asking (seen r lines) number ask.object line name d.word d.words d.verb (asks ask.asked) (omega arith) printable (words_of_spelled name spoken bare d.bare) named d.named d.makes (sym found),
+        λ now more number are. read_asking now number ask.object line name d.word d.words d.verb (asks ask.asked) (omega arith) printable (words_of_spelled name spoken bare d.bare) named d.named d.makes
+            (ap (λ ds. object_of ds name) are ∙ object_of_more r.objects.items more name ask.object (sym found)),
       );
     }

@@ -6,6 +6,7 @@ pub mod Pieces
 pub mod Wholes
 pub mod Parts
 pub mod ByObjects
+pub mod Aheads
 pub mod Laws
 pub mod Late
 pub mod LateArrivals

@@ -1,5 +1,5 @@
 -- A script that is read piece by piece.
-use Rattle.std.specs.Prelude.{◌≡◌, ◌+◌, ◌-◌, ◌<◌, ◌≤◌, ◌==◌, ℕ, false, List, ◌++◌, length, take, get_or, Result, Ok, Err}
+use Rattle.std.specs.Prelude.{◌≡◌, ◌+◌, ◌-◌, ◌<◌, ◌≤◌, ◌==◌, ℕ, false, List, [], ◌++◌, length, take, get_or, Result, Ok, Err}
 use denote.Ref.{Bor}
 use Rattle.dym_script.specs.declared.line_fail.LineFail.{LineFail}
 use Rattle.dym_script.specs.declared.line_fail.LineFail.TheVariants as line
@@ -37,12 +37,16 @@ TakesPiece Before After text (Ok left) = (taken : List ℕ) → Before taken →
 TakesPiece Before After text (Err (fail.Bad line kind)) = (taken more : List ℕ) → Before taken → says (taken ++ text ++ more) ≡ Err (record { line = line; kind = kind })
 TakesPiece Before After text (Err fail.Memory) = Unit {0}
 
--- from each reading that was stood for before a text, the grammar comes to one that is stood for after it, and reads other lines
--- from there
+-- from each reading that was stood for before these lines, the grammar comes to one that is stood for after them, and reads
+-- the lines that are left, and others behind them, from there
+abbrev pub ReadsFront : (Reading → Type 0) → (Reading → Type 0) → ℕ → ℕ → List (List ℕ) → List (List ℕ) → Result Unit ScriptFail → Type 0
+ReadsFront Before After n m lines left (Ok _) = (old : Reading) → Before old → (new : Reading) × After new × ((others : List (List ℕ)) → read_lines old (n + 1) (lines ++ others) ≡ read_lines new (m + 1) (left ++ others))
+ReadsFront Before After n m lines left (Err (fail.Bad line kind)) = (old : Reading) → Before old → (others : List (List ℕ)) → read_lines old (n + 1) (lines ++ others) ≡ Err (record { line = line; kind = kind })
+ReadsFront Before After n m lines left (Err fail.Memory) = Unit {0}
+
+-- all lines of a text are read so
 abbrev pub ReadsText : (Reading → Type 0) → (Reading → Type 0) → ℕ → ℕ → List ℕ → Result Unit ScriptFail → Type 0
-ReadsText Before After n m text (Ok _) = (old : Reading) → Before old → (new : Reading) × After new × ((others : List (List ℕ)) → read_lines old (n + 1) (lines_of text ++ others) ≡ read_lines new (m + 1) others)
-ReadsText Before After n m text (Err (fail.Bad line kind)) = (old : Reading) → Before old → (others : List (List ℕ)) → read_lines old (n + 1) (lines_of text ++ others) ≡ Err (record { line = line; kind = kind })
-ReadsText Before After n m text (Err fail.Memory) = Unit {0}
+ReadsText Before After n m text result = ReadsFront Before After n m (lines_of text) [] result
 
 -- the same of the first line of a text, where the rest is left
 abbrev pub ReadsNext : (Reading → Type 0) → (Reading → Type 0) → ℕ → List ℕ → Result (Bor (List ℕ)) LineFail → Type 0

@@ -30,6 +30,10 @@ pub record IsKept (r : Reader) : Type 0 where
 abbrev pub Grows : List Decl → List Decl → Type 0
 Grows old new = (new ≡ old) ⊎ ((decl : Decl) × (new ≡ old ++ decl ∷ []))
 
+-- the second declarations go on where the first end
+abbrev pub GoesOn : List Decl → List Decl → Type 0
+GoesOn old new = (more : List Decl) × (new ≡ old ++ more)
+
 -- what is asked is asked of a declared object
 abbrev pub IsWithin : Reader → Option Ask → Type 0
 IsWithin r None = Unit {0}
@@ -69,11 +73,16 @@ Finds (Ok object) objects name = (object_of objects name ≡ Some object) × IsT
 Finds (Err (line.Bad kind)) objects name = (object_of objects name ≡ None) × (kind ≡ name_fault name)
 Finds (Err line.Memory) objects name = Unit {0}
 
--- the first line of the text asks this of a declared object, whatever was asked before, and the other lines are those of the rest
+-- whatever was read before, and whatever is declared behind these objects, the line asks this of one of them
+abbrev pub AsksOf : List Decl → List ℕ → Ask → Type 0
+AsksOf objects line ask =
+    (now : Reading) (more : List Decl) (number : ℕ) → now.said.objects ≡ objects ++ more → read_line now number line ≡ reading true (with_ask now.said (Some ask))
+
+-- the first line of the text asks this of a declared object, and the other lines are those of the rest
 pub record IsNext (r : Reader) (text : List ℕ) (ask : Ask) (rest : List ℕ) : Type 0 where
   pub within : IsWithin r (Some ask)
   pub shorter : length rest < length text
-  pub first : (line : List ℕ) × (lines_of text ≡ line ∷ lines_of rest) × ((number : ℕ) (lines : List Line) → read_line (seen r lines) number line ≡ reading true (with_ask (seen r lines).said (Some ask)))
+  pub first : (line : List ℕ) × (lines_of text ≡ line ∷ lines_of rest) × AsksOf r.objects.items line ask
 
 -- the text has a first line, and whatever was asked before, the grammar says the same of it, unless memory ran out. At Ok the
 -- other lines are those of the rest

@@ -1,5 +1,7 @@
 //! A script by its objects, each with its own commands.
-ghost use Rattle.std.specs.Prelude.{◌≡◌, ◌<◌, length};
+ghost use Rattle.std.specs.Prelude.{◌≡◌, ◌+◌, ◌<◌, ◌≤◌, ℕ, length, slice_index_or, OnOk};
+ghost use Rattle.dym_base.specs.declared.limits.TheConstants.{MOST_COMMANDS};
+ghost use Rattle.dym_script.specs.Aheads.{HasOwn};
 ghost use Rattle.dym_script.specs.Parts.{ArePartsOf};
 
 use crate::keeper::Keeper;
@@ -20,6 +22,23 @@ pub struct Part {
 pub struct Holding {
     /// The declared objects with their own commands, in the order of the declarations.
     pub parts: Vec<Part>,
+}
+
+impl Holding {
+    /// Appends commands to those of the first objects, one list for each. Only memory can be wanting.
+    pub(crate) fn append(&mut self, own: Vec<Commands>) -> Result<(), AllocError>
+        requires within { length own.items ≤ length self.old.parts.items }
+        requires room { (k : ℕ) (d : _) (e : _) → k < length own.items
+            → length (slice_index_or self.old.parts.items k d).commands + length (slice_index_or own.items k e) ≤ MOST_COMMANDS }
+        ensures { OnOk result (HasOwn own.items self.old.parts.items self.new.parts.items) }
+    {
+        let mut place = 0;
+        for commands in own {
+            self.parts[place].commands.append(commands)?;
+            place += 1;
+        }
+        Ok(())
+    }
 }
 
 impl Keeper for Holding {

@@ -7,7 +7,7 @@ ghost use Rattle.dym_script.specs.declared.script.Line.{Line};
 ghost use Rattle.dym_script.specs.Wholes.{GivesWhole};
 ghost use Rattle.dym_script.specs.Keeping.{Holds, Stands, IsReady, TookBy, HoldsLine};
 ghost use Rattle.dym_script.specs.Pieces.{says, IsEnded, IsOpen, TakesPiece, ReadsText, ReadsNext};
-ghost use Rattle.dym_script.specs.Readers.{IsKept, seen, reading, Grows};
+ghost use Rattle.dym_script.specs.Readers.{IsKept, seen, reading, Grows, GoesOn};
 ghost use Rattle.dym_script.specs.Scripts.{ask_at};
 
 use crate::keeper::Keeper;
@@ -35,12 +35,12 @@ pub struct Whole<K> {
 /// A script that is read piece by piece, so that it needs not be kept whole.
 #[derive(Drop)]
 pub struct Pieces<K: Keeper> {
-    reader: Reader,
-    keeper: K,
+    pub(crate) reader: Reader,
+    pub(crate) keeper: K,
     /// How many lines asked something.
-    commands: u32,
+    pub(crate) commands: u32,
     /// How many lines were read.
-    number: u32,
+    pub(crate) number: u32,
 }
 
 impl<K: Keeper + Drop> Pieces<K> {
@@ -108,11 +108,12 @@ impl<K: Keeper + Drop> Pieces<K> {
     }
 
     /// Reads all lines of a text, whose last line may lack its end.
-    fn read_all(&mut self, alloc: Global, text: &[u8]) -> Result<(), ScriptFail>
+    pub(crate) fn read_all(&mut self, alloc: Global, text: &[u8]) -> Result<(), ScriptFail>
         requires ready { IsReady (K.keeps self.old.keeper) self.old.reader self.old.commands }
         requires room { self.old.number + length text.now ≤ MOST_INPUT_BYTES }
         ensures ready { OnOk result (IsReady (K.keeps self.new.keeper) self.new.reader self.new.commands) }
         ensures number { OnOk result (self.new.number ≤ self.old.number + length text.now) }
+        ensures grows { OnOk result (GoesOn self.old.reader.objects.items self.new.reader.objects.items) }
         ensures read { ReadsText
             (Stands (K.keeps self.old.keeper) self.old.reader self.old.commands) (Stands (K.keeps self.new.keeper) self.new.reader self.new.commands)
             self.old.number self.new.number text.now result }
@@ -143,6 +144,7 @@ impl<K: Keeper + Drop> Pieces<K> {
         requires some { 0 < length text.now }
         ensures ready { OnOk result (IsReady (K.keeps self.new.keeper) self.new.reader self.new.commands) }
         ensures shorter { IfOk result (λ rest. length rest.now < length text.now) }
+        ensures grows { OnOk result (GoesOn self.old.reader.objects.items self.new.reader.objects.items) }
         ensures read { ReadsNext
             (Stands (K.keeps self.old.keeper) self.old.reader self.old.commands) (Stands (K.keeps self.new.keeper) self.new.reader self.new.commands)
             number text.now result }
@@ -157,7 +159,7 @@ impl<K: Keeper + Drop> Pieces<K> {
 
     /// The same of a line in any spelling.
     #[inline(never)]
-    fn read_exactly<'a>(
+    pub(crate) fn read_exactly<'a>(
         &mut self,
         alloc: Global,
         number: u32,
@@ -167,6 +169,7 @@ impl<K: Keeper + Drop> Pieces<K> {
         requires some { 0 < length text.now }
         ensures ready { OnOk result (IsReady (K.keeps self.new.keeper) self.new.reader self.new.commands) }
         ensures shorter { IfOk result (λ rest. length rest.now < length text.now) }
+        ensures grows { OnOk result (GoesOn self.old.reader.objects.items self.new.reader.objects.items) }
         ensures read { ReadsNext
             (Stands (K.keeps self.old.keeper) self.old.reader self.old.commands) (Stands (K.keeps self.new.keeper) self.new.reader self.new.commands)
             number text.now result }
@@ -193,6 +196,7 @@ impl<K: Keeper + Drop> Pieces<K> {
         requires within { object < length self.old.reader.objects.items }
         ensures ready { OnOk result (IsReady (K.keeps self.new.keeper) self.new.reader self.new.commands) }
         ensures rest { IfOk result (λ left. left.now ≡ rest.now) }
+        ensures reader { self.new.reader ≡ self.old.reader }
         ensures holds { HoldsLine (Holds (K.keeps self.old.keeper) self.old.reader self.old.commands) (Holds (K.keeps self.new.keeper) self.new.reader self.new.commands)
             (seen self.new.reader) result (λ lines. reading self.old.reader.begun (ask_at (seen self.old.reader lines).said (asks asked.now) (Some object))) }
     {
@@ -223,7 +227,7 @@ fn tell_declared<K: Keeper>(
 }
 
 /// How many bytes of a text stand before its last line, where that isn't ended.
-fn ended_bytes(text: &[u8]) -> usize
+pub(crate) fn ended_bytes(text: &[u8]) -> usize
     ensures within { result ≤ length text.now }
     ensures ended { IsEnded (take result text.now) }
     ensures last { IsOpen (drop result text.now) }

@@ -1,6 +1,7 @@
 //! What a script says.
 
 use dym_base::{BadKind, Command, Name, Version};
+use std::alloc::AllocError;
 
 /// A line that declares an object.
 #[derive(Drop)]
@@ -35,4 +36,15 @@ pub enum ScriptFail {
     Bad { line: u32, kind: BadKind },
     /// Memory ran out.
     Memory,
+}
+
+impl From<AllocError> for ScriptFail {
+    ghost use Rattle.std.specs.Prelude.{◌≡◌};
+    ghost use Rattle.dym_script.specs.declared.script.ScriptFail.TheVariants.{Memory};
+
+    ghost from_gives = { λ _ fail. fail ≡ Memory };
+
+    fn from(_: AllocError) -> ScriptFail {
+        ScriptFail::Memory
+    }
 }

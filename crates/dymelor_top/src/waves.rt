@@ -8,23 +8,23 @@ ghost use Rattle.dym_io.specs.Source.{TookAtMost};
 ghost use Rattle.dym_run.specs.Parts.{IsShape};
 ghost use Rattle.dym_run.specs.Summary.{summary_of, totals_of};
 ghost use Rattle.dym_run.specs.declared.write_fail.WriteFail.TheVariants.{Sink as SinkFailed};
-ghost use Rattle.dym_script.specs.Scripts.{Said, Fault};
+ghost use Rattle.dym_script.specs.Scripts.{Said, Fault, script_of};
 ghost use Rattle.dym_script.specs.ByObjects.{GivesParts, IsByObjects};
 ghost use Rattle.dymelor_top.specs.Answers.{first_above, of_waves, told_text, unless_above, waves_text, IsRead};
 ghost use Rattle.dymelor_top.specs.Headline.{Serves, WritesAnswer, Counted};
 ghost use Rattle.dymelor_top.specs.declared.plan.Reading.TheVariants.{Waves};
 ghost use Rattle.dymelor_top.specs.declared.stop.Stop.TheVariants.{Source as SourceStopped, Sink as SinkStopped};
 
-use crate::blocks::read_source;
 use crate::plan::WaveText;
 use crate::still::flush;
 use crate::stop::Stop;
 use dym_base::BadKind;
-use dym_io::{Sink, Source};
+use dym_base::limits::MOST_INPUT_BYTES;
+use dym_io::{Sink, Source, read_whole};
 use dym_pool::Gate;
 use dym_report::{Totals, write_end, write_error, write_summary};
 use dym_run::{Shape, Telling, WriteFail, tally_waves, write_waves};
-use dym_script::{Holding, Part, ScriptFail, Whole};
+use dym_script::{Holding, Part, ScriptFail, Whole, read_side_by_side};
 use std::alloc::{AllocError, Global};
 use std::sync::Wait;
 use std::thread::Threads;
@@ -55,10 +55,42 @@ pub fn serve_waves<R: Threads + Wait + Send + Sync, S: Source, W: Sink, G: Gate>
     ensures sink_stands { ¬ IsErrOf result SinkStopped
         → (W.output sink.new).faults ≡ (W.output sink.old).faults }
 {
-    let script = read_source::<Holding, S>(alloc, source)?;
+    let bytes = read_whole(alloc, source, MOST_INPUT_BYTES + 1)?;
+    Ok(serve_text(rt, alloc, shape, text, bytes, sink, gate)?)
+}
+
+/// The same of a script that is in memory.
+pub fn serve_text<R: Threads + Wait + Send + Sync, W: Sink, G: Gate>(
+    rt: &R,
+    alloc: Global,
+    shape: Shape,
+    text: WaveText,
+    bytes: Vec<u8>,
+    sink: &mut W,
+    gate: &G,
+) -> Result<u8, WriteFail>
+    requires shape { IsShape shape }
+    ensures served { Serves (IsRead (Waves shape.segments text) bytes.items) (W.output sink.old) (W.output sink.new) result }
+    ensures status { IfOk result (λ status. (status ≡ 0) ⊎ (status ≡ 2)) }
+    ensures counted { Counted (W.output sink.old) (W.output sink.new) result }
+{
+    let script = read_text(rt, alloc, shape.workers, bytes);
     let status = answer_waves(rt, alloc, shape, text, script, sink, gate)?;
     flush(sink)?;
     Ok(status)
+}
+
+/// Reads a script side by side by these workers. Its text is given up, before its objects take memory.
+fn read_text<R: Threads + Sync>(
+    rt: &R,
+    alloc: Global,
+    workers: u32,
+    bytes: Vec<u8>,
+) -> Result<Whole<Holding>, ScriptFail>
+    requires { 1 ≤ workers }
+    ensures { GivesParts result (script_of bytes.items) }
+{
+    read_side_by_side(rt, alloc, workers, &bytes)
 }
 
 /// Writes what is asked for of a script that was read, or the line of its first fault.

@@ -11,11 +11,11 @@ ghost use Rattle.dymelor_top.specs.Plans.{plan_of, run_text, waves_plan, whole_p
 ghost use Rattle.dymelor_top.specs.declared.plan.Reading.TheVariants.{Waves};
 ghost use Rattle.dymelor_top.specs.declared.stop.Stop.TheVariants.{Source as SourceStopped, Sink as SinkStopped};
 
-use crate::made::{MadeSource, made_script};
+use crate::made::made_script;
 use crate::plan::WaveText;
 use crate::still::dymelor_still;
 use crate::stop::Stop;
-use crate::waves::serve_waves;
+use crate::waves::{serve_text, serve_waves};
 use dym_io::{Sink, Source};
 use dym_pool::Gate;
 use dym_run::Shape;
@@ -157,7 +157,7 @@ fn serve_run<R: Threads + Wait + Send + Sync, S: Source, W: Sink, G: Gate>(
     }
 }
 
-/// Runs the objects of the script that a seed makes in waves. The script is read as any input is.
+/// Runs the objects of the script that a seed makes in waves.
 fn serve_made_waves<R: Threads + Wait + Send + Sync, W: Sink, G: Gate>(
     rt: &R,
     alloc: Global,
@@ -181,6 +181,5 @@ fn serve_made_waves<R: Threads + Wait + Send + Sync, W: Sink, G: Gate>(
         → (W.output sink.new).faults ≡ (W.output sink.old).faults }
 {
     let made = made_script(alloc, seed, objects, commands)?;
-    let mut source = MadeSource { rest: &made };
-    serve_waves(rt, alloc, shape, text, &mut source, sink, gate)
+    Ok(serve_text(rt, alloc, shape, text, made, sink, gate)?)
 }

@@ -1,35 +1,45 @@
-use Rattle.std.proofs.Common.{ℕ, List, ◌+◌, ◌<◌, ◌∙◌, ◌++◌, ◌∷◌, [], sym, ap, subst, length, arith}
-use Rattle.std.proofs.lemmas.List.{length-map}
+use Rattle.std.proofs.Common.{◌≡◌, ◌+◌, ◌<◌, ◌++◌, ◌∷◌, [], ◌∙◌, refl, sym, ap, subst, length, arith}
 use Rattle.dym_base.specs.declared.limits.TheConstants.{MOST_COMMANDS}
-use Rattle.dym_commands.specs.declared.kept.Kept.{Kept}
-use Rattle.dym_commands.specs.Reads.{read_room}
-use Rattle.dym_commands.specs.Kept.{kept_command, kept_commands, AreFit}
+use Rattle.dym_commands.specs.declared.commands.Commands.TheInside.{Inside}
+use Rattle.dym_commands.specs.declared.commands.Later.{Later}
 use Rattle.dym_commands.specs.Asks.{asks}
-use Rattle.dym_commands.proofs.KeptLists.{same_commands, more_commands, more_fit, read_bytes_few, on_err}
+use Rattle.dym_commands.specs.Pieces.{all_of, AreWhole}
+use Rattle.dym_commands.proofs.KeptLists.{read_bytes_few}
+use Rattle.dym_commands.proofs.PieceLists.{IsPushed, pushed_first, pushed_last, whole_more}
+use Rattle.dym_commands.proofs.commands.Commands.push.Goals.{in-Some+in_ok-push-in-Some, in-None+in_ok-push-in-None}
 use Rattle.dym_commands.proofs.commands.Commands.push.Goals as goal
 
-pub returns-in_err-kept-clause-same : goal.returns-in_err-kept-clause-same
-returns-in_err-kept-clause-same c =
-    let t = c.self.inside.tables in
-    on_err c.from_residual-in_err-kept.result _
-    (ap (kept_commands c.keep.new.self) c.reserve.ensures.items ∙ same_commands t c.keep.new.self c.self.inside.kept.items c.keep.ensures.still c.self.invariant.fit ∙ c.self.view_is)
+pub overflow_add-self-2 : goal.overflow_add-self-2
+overflow_add-self-2 c =
+    let same : c.match-last_mut.self-inside.read_bytes ≡ c.self.inside.read_bytes = elim c.match-last_mut.branch [
+      | in-Some+in_ok-push-in-Some w ↦ ap (λ (s : Inside). s.read_bytes) w.self-inside-is
+      | in-None+in_ok-push-in-None w ↦ ap (λ (s : Inside). s.read_bytes) w.self-inside-is
+    ] in
+    let all = read_bytes_few (all_of c.self.inside.first c.self.inside.others.items) in
+    omega (arith, c.requires, ap length c.self.view_is, all, c.self.invariant.reads, same, c.read_room.ensures.small)
 
-pub overflow_add-self : goal.overflow_add-self
-overflow_add-self c =
-    let few : length c.self.inside.kept.items < MOST_COMMANDS = subst (λ n. n < MOST_COMMANDS) (ap length (sym c.self.view_is) ∙ length-map c.self.inside.kept.items (kept_command c.self.inside.tables)) c.requires in
-    let all = read_bytes_few (kept_commands c.self.inside.tables c.self.inside.kept.items) in
-    omega (arith, few, all, length-map c.self.inside.kept.items (kept_command c.self.inside.tables), c.self.invariant.reads, c.read_room.ensures.small)
+-- the pieces after the push
+pushed : (c : goal.After-self-3-1) → IsPushed (asks c.args.asked.now) c.self.inside c.match-last_mut.self-inside
+pushed c =
+    let command = asks c.args.asked.now in
+    elim c.match-last_mut.branch [
+      | in-Some+in_ok-push-in-Some w ↦ (
+          let last = w.in-Some.last.now in
+          subst (IsPushed command c.self.inside) (sym w.self-inside-is)
+          (pushed_last command c.self.inside (record last { piece = w.push.new.self }) last c.self.invariant.follow
+          (w.in-Some.ensures.variant.0 refl) (ap (λ (l : Later). l.start) w.in-Some.ensures.value)
+          (w.in_ok-push-in-Some.ensures.pushed ∙ ap (λ (l : Later). l.piece ++ command ∷ []) w.in-Some.ensures.value)))
+      | in-None+in_ok-push-in-None w ↦
+          subst (IsPushed command c.self.inside) (sym w.self-inside-is)
+          (pushed_first command c.self.inside w.push-in-None.new.self w.in-None.ensures.variant.1 w.in_ok-push-in-None.ensures.pushed)
+    ]
 
 pub invariant_of-self-2 : goal.invariant_of-self-2
 invariant_of-self-2 c =
-    let few : length c.self.inside.kept.items < MOST_COMMANDS = subst (λ n. n < MOST_COMMANDS) (ap length (sym c.self.view_is) ∙ length-map c.self.inside.kept.items (kept_command c.self.inside.tables)) c.requires in
-    subst (λ (n : ℕ). AreFit c.keep.new.self c.push.new.self.items n) (ap (λ (n : ℕ). c.self.inside.read_bytes + n) (sym c.read_room.ensures.room))
-    (subst (λ (ks : List Kept). AreFit c.keep.new.self ks (c.self.inside.read_bytes + read_room (asks c.args.asked.now))) (sym (c.in_ok-push.ensures.items ∙ ap (λ ks. ks ++ c.in_ok-kept.kept ∷ []) c.reserve.ensures.items))
-    (more_fit c.self.inside.tables c.keep.new.self c.self.inside.kept.items c.in_ok-kept.kept (asks c.args.asked.now) c.self.inside.read_bytes c.keep.ensures.still few c.in_ok-kept.ensures.kept.rows c.in_ok-kept.ensures.kept.fit c.in_ok-kept.ensures.kept.is
-    c.self.invariant))
+    let few : c.self.inside.len < MOST_COMMANDS = omega (arith, c.requires, c.self.invariant.count, ap length c.self.view_is) in
+    let inside = c.match-last_mut.self-inside in
+    subst (λ room. AreWhole inside.first inside.others.items (inside.len + 1) (inside.read_bytes + room)) (sym c.read_room.ensures.room)
+    (whole_more (asks c.args.asked.now) c.self.inside inside few c.self.invariant (pushed c))
 
 pub returns-clause-pushed : goal.returns-clause-pushed
-returns-clause-pushed c =
-    ap (kept_commands c.keep.new.self) (c.in_ok-push.ensures.items ∙ ap (λ ks. ks ++ c.in_ok-kept.kept ∷ []) c.reserve.ensures.items)
-    ∙ more_commands c.self.inside.tables c.keep.new.self c.self.inside.kept.items c.in_ok-kept.kept (asks c.args.asked.now) c.keep.ensures.still c.self.invariant.fit c.in_ok-kept.ensures.kept.is
-    ∙ ap (λ cs. cs ++ asks c.args.asked.now ∷ []) c.self.view_is
+returns-clause-pushed c = (pushed c).is ∙ ap (λ cs. cs ++ asks c.args.asked.now ∷ []) c.self.view_is

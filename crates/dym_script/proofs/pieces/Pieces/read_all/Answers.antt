@@ -3,13 +3,14 @@ use Rattle.std.proofs.lemmas.Bool.Decides.{nat_tests}
 use Rattle.dym_script.specs.Keeping.{Stands}
 use Rattle.dym_base.specs.Lines.{lines_of}
 use Rattle.dym_script.specs.Scripts.{read_lines}
-use Rattle.dym_script.proofs.KeepLines.{next_bad, empty_is}
+use Rattle.dym_script.proofs.KeepLines.{goes_on, next_bad, empty_is}
 use Rattle.dym_script.proofs.pieces.Pieces.read_all.Goals as goal
 
 pub loop-rest-preserved : goal.loop-rest-preserved
 loop-rest-preserved g c = record {
   ready = c.in-Ok.ensures.ready;
   short = omega (arith, c.in-Ok.ensures.shorter, c.loop-rest.invariant.short);
+  grows = goes_on _ _ _ c.loop-rest.invariant.grows c.in-Ok.ensures.grows;
   read = λ old stands.
       let (mid, between, reads) = c.loop-rest.invariant.read old stands in
       let (new, after, more) = c.in-Ok.ensures.read mid between in
@@ -33,3 +34,6 @@ returns-clause-read g c old stands =
     let none : l.rest.now ≡ [] = empty_is l.rest.now zero in
     let (new, after, reads) = l.invariant.read old stands in
     (new, after, λ others. reads others ∙ ap (λ t. read_lines new (l.number + 1) (lines_of t ++ others)) none)
+
+pub returns-clause-grows : goal.returns-clause-grows
+returns-clause-grows g c = c.loop-rest.invariant.grows
