@@ -17,7 +17,7 @@ pub record AreaMeaning : Type 0 where
   pub identity : SegmentId
 
 -- what is true of every area
-pub record IsLawful (area : AreaMeaning) : Type 0 where
+pub record IsValidArea (area : AreaMeaning) : Type 0 where
   pub least : LEAST_EXPONENT ≤ area.exponent
   pub greatest : area.exponent ≤ GREATEST_EXPONENT
   pub used_len : length area.used ≡ MOST_CHUNKS
@@ -48,8 +48,8 @@ AreFilled used exponent filled = (i : ℕ) → IsSet used i → i * size exponen
 
 -- what an area keeps: a summary of its use bits, and that the bytes of its used chunks are real, as the first `filled` bytes of
 -- its segment are
-pub record IsKept (area : AreaMeaning) (room filled : ℕ) : Type 0 where
-  pub lawful : IsLawful area
+pub record IsSummedArea (area : AreaMeaning) (room filled : ℕ) : Type 0 where
+  pub valid : IsValidArea area
   pub summed : IsSummary area.used (per area.exponent) room
   pub fits : room < 2 ^ 32
   pub real : AreFilled area.used area.exponent filled

@@ -4,7 +4,7 @@ ghost use Rattle.dym_base.specs.Numbers.{size, per};
 ghost use Rattle.dym_base.specs.declared.limits.TheConstants.{LEAST_EXPONENT, GREATEST_EXPONENT};
 ghost use Rattle.dym_bits.specs.Bits.{bit_in, bits_of_bytes, clear_bits, IsSet, IsClear, IsFirstClear, IsNextSet, IsTopSet};
 ghost use Rattle.dym_region.specs.Content.{part_of};
-ghost use Rattle.dym_area.specs.Area.{IsLawful, chunk_start, with_taken, with_released, with_written, with_loaded, with_clean, with_used_bytes};
+ghost use Rattle.dym_area.specs.Area.{IsValidArea, chunk_start, with_taken, with_released, with_written, with_loaded, with_clean, with_used_bytes};
 
 use crate::ends::end_of;
 use crate::summary::{WORD_CHUNKS, after_take, all_words, summary_of, with_room};
@@ -26,13 +26,13 @@ pub struct Area<G: Segment> {
 }
 
 impl<G: Segment> Model for Area<G> {
-    ghost use Rattle.dym_area.specs.Area.{AreaMeaning, IsKept};
+    ghost use Rattle.dym_area.specs.Area.{AreaMeaning, IsSummedArea};
 
     ghost Value = { AreaMeaning };
 
     ghost view = { λ a. record { exponent = a.exp; ordinal = a.ordinal; used = a.used; dirty = a.dirty; content = G.content a.segment; identity = G.id a.segment } };
 
-    ghost invariant = { λ a. IsKept (record { exponent = a.exp; ordinal = a.ordinal; used = a.used; dirty = a.dirty; content = G.content a.segment; identity = G.id a.segment }) a.room (G.filled a.segment) };
+    ghost invariant = { λ a. IsSummedArea (record { exponent = a.exp; ordinal = a.ordinal; used = a.used; dirty = a.dirty; content = G.content a.segment; identity = G.id a.segment }) a.room (G.filled a.segment) };
 }
 
 impl<G: Segment> Area<G> {
@@ -48,7 +48,7 @@ impl<G: Segment> Area<G> {
           content = G.content seg;
           identity = G.id seg;
         } }
-        ensures lawful { IsLawful result }
+        ensures valid { IsValidArea result }
         ensures none { (i : ℕ) → IsClear result.used i }
     {
         Area {
@@ -80,7 +80,7 @@ impl<G: Segment> Area<G> {
         ensures first { MatchOption result ((k : ℕ) → k < per self.old.exponent → IsSet self.old.used k)
             (IsFirstClear self.old.used (per self.old.exponent)) }
         ensures after { MatchOption result (self.new ≡ self.old) (λ i. self.new ≡ with_taken self.old i) }
-        ensures lawful { IsLawful self.new }
+        ensures valid { IsValidArea self.new }
     {
         let i = self.first_free()?;
         let size = size_of_class(self.exp);
@@ -107,7 +107,7 @@ impl<G: Segment> Area<G> {
     pub fn release(&mut self, i: u32)
         requires { IsSet self.old.used i }
         ensures after { self.new ≡ with_released self.old i }
-        ensures lawful { IsLawful self.new }
+        ensures valid { IsValidArea self.new }
     {
         self.used.clear(i);
         self.dirty.clear(i);
@@ -120,7 +120,7 @@ impl<G: Segment> Area<G> {
         requires within { at + length bytes.now ≤ size self.old.exponent }
         ensures after { self.new ≡ with_written self.old i at bytes.now }
         ensures empty { length bytes.now ≡ 0 → self.new ≡ self.old }
-        ensures lawful { IsLawful self.new }
+        ensures valid { IsValidArea self.new }
     {
         let start = i * size_of_class(self.exp) + at;
         if bytes.is_empty() {
@@ -136,7 +136,7 @@ impl<G: Segment> Area<G> {
         requires within { at + len ≤ size self.old.exponent }
         ensures after { self.new ≡ with_written self.old i at (replicate len 0) }
         ensures empty { len ≡ 0 → self.new ≡ self.old }
-        ensures lawful { IsLawful self.new }
+        ensures valid { IsValidArea self.new }
     {
         let start = i * size_of_class(self.exp) + at;
         if len == 0 {
@@ -183,7 +183,7 @@ impl<G: Segment> Area<G> {
     pub fn load_run(&mut self, from: u32, bytes: &[u8])
         requires { chunk_start self.old from + length bytes.now ≤ SEGMENT_BYTES }
         ensures after { self.new ≡ with_loaded self.old from bytes.now }
-        ensures lawful { IsLawful self.new }
+        ensures valid { IsValidArea self.new }
     {
         self.segment.write(from * size_of_class(self.exp), bytes);
     }
@@ -251,7 +251,7 @@ impl<G: Segment> Area<G> {
     /// Marks no chunk dirty.
     pub fn clear_dirty(&mut self)
         ensures after { self.new ≡ with_clean self.old }
-        ensures lawful { IsLawful self.new }
+        ensures valid { IsValidArea self.new }
     {
         self.dirty.clear_all();
     }
@@ -261,7 +261,7 @@ impl<G: Segment> Area<G> {
         requires len { length dirty ≡ MOST_CHUNKS }
         requires used { (i : ℕ) → IsSet dirty i → IsSet self.old.used i }
         ensures after { self.new ≡ record self.old { dirty = dirty } }
-        ensures lawful { IsLawful self.new }
+        ensures valid { IsValidArea self.new }
     {
         self.dirty = dirty;
     }
@@ -272,7 +272,7 @@ impl<G: Segment> Area<G> {
         requires below { (i : ℕ) → IsSet (bits_of_bytes use_bytes.now) i → i < per self.old.exponent }
         ensures after { self.new ≡ with_used_bytes self.old use_bytes.now }
         ensures bits { (i : ℕ) → bit_in self.new.used i ≡ bit_in (bits_of_bytes use_bytes.now) i }
-        ensures lawful { IsLawful self.new }
+        ensures valid { IsValidArea self.new }
     {
         self.used.set_bytes(use_bytes);
         self.dirty = Bits::new();

@@ -32,9 +32,9 @@ found_in_range p (suc m) a j is =
 -- the class of n bytes is e, where the class below is too small and e is not
 pub cls_is : (n e : ℕ) → 5 ≤ e → e ≤ 16 → (e ≡ 5) ⊎ (2 ^ (e - 1) < n) → n ≤ 2 ^ e → cls n ≡ Some e
 unfolding cls
-cls_is n e low high below fits =
+cls_is n e low high base_logs fits =
     find_in_range (λ i. nat_le n (size i)) 12 5 e low (omega arith)
-    (λ i l h. lt-leb n (2 ^ i) (elim below as (λ _. 2 ^ i < n) [
+    (λ i l h. lt-leb n (2 ^ i) (elim base_logs as (λ _. 2 ^ i < n) [
       | inl is ↦ absurd (omega arith)
       | inr big ↦ omega (arith, pow_mono {i = i} {j = e - 1} (omega arith))
     ]))

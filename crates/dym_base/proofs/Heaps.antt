@@ -105,7 +105,7 @@ pub areas_below : (live : Live) (e n : ℕ) → (areas live e ≤ n → (k : ℕ
 areas_below live e n = (
   λ few k has is. (let far = reach_areas live e k has in let there = reach_there e k is in omega arith),
   λ each. areas_least live e n (λ k has. elim (cases_eq (exponent_of k) e) as (λ _. reach e k ≤ n) [
-    | inl is ↦ (let below = each k has is in let there = reach_there e k is in omega arith)
+    | inl is ↦ (let base_logs = each k has is in let there = reach_there e k is in omega arith)
     | inr isnt ↦ (let other = reach_other e k isnt in omega arith)
   ]),
 )

@@ -6,7 +6,7 @@ use Rattle.dym_base.specs.declared.limits.TheConstants.{MOST_QUOTA, MOST_RECORDS
 use Rattle.dym_base.specs.Names.{is_name}
 use Rattle.dym_base.specs.LawfulLists.{IsRecordOf, IsLawfulList}
 use Rattle.dym_base.specs.Objects.{LogEntry, record_of, run_end}
-use Rattle.dym_base.specs.Below.{oldest_depth, run_below}
+use Rattle.dym_base.specs.BaseLogs.{oldest_depth, run_base_logs}
 use Rattle.dym_base.specs.declared.command.Version.{Version}
 use Rattle.dym_base.specs.declared.command.Version.TheVariants.{One, Two}
 use Rattle.dym_base.specs.declared.command.Command.{Command}
@@ -81,18 +81,18 @@ FailsAt bytes part = (HeadFails bytes × (part ≡ 0)) ⊎ NextFails bytes part
 
 -- the header of the file of an object's logs
 abbrev pub head_of : List ℕ → ℕ → Version → List LogEntry → List LogEntry → FileHead
-head_of name quota v below logs = record {
+head_of name quota v base_logs logs = record {
   name = name;
   quota = quota;
   version = v;
-  count = length (below ++ logs);
+  count = length (base_logs ++ logs);
   depth = oldest_depth logs;
 }
 
 -- the file of an object's logs: of those below the oldest kept one, and of the kept ones
 unfoldable pub file_of : List ℕ → ℕ → Version → List LogEntry → List LogEntry → List ℕ
-file_of name quota v below logs = head_bytes (head_of name quota v below logs) ++ flat_map framed (map (record_of v) (below ++ logs))
+file_of name quota v base_logs logs = head_bytes (head_of name quota v base_logs logs) ++ flat_map framed (map (record_of v) (base_logs ++ logs))
 
 -- the file of a run
 abbrev pub run_file : List ℕ → ℕ → Version → List Command → List ℕ
-run_file name quota v commands = file_of name quota v (run_below v quota commands) (run_end v quota commands).logs
+run_file name quota v commands = file_of name quota v (run_base_logs v quota commands) (run_end v quota commands).logs

@@ -8,7 +8,7 @@ pub mod Packed
 pub mod Recorded
 pub mod StandsFor
 pub mod Objects
-pub mod Below
+pub mod BaseLogs
 pub mod LawfulLists
 pub mod Files
 pub mod Origins

@@ -6,6 +6,7 @@ use Rattle.dym_base.specs.declared.limits.TheConstants.{MOST_INPUT_BYTES, MOST_L
 use Rattle.dym_base.specs.declared.limits.TheConstants.{MOST_READ_BYTES, MOST_NAME_BYTES}
 use Rattle.dym_base.specs.declared.limits.TheConstants.{MOST_WORKERS, DEFAULT_WORKERS, MOST_SEGMENTS, DEFAULT_SEGMENTS, MOST_QUANTUM, DEFAULT_QUANTUM}
 use Rattle.dym_base.specs.declared.limits.TheConstants.{COUNT_LIMIT}
+use Rattle.dym_base.specs.declared.limits.TheConstants.{MOST_LATE_LINES, MOST_LATE_EVENTS, EVENTS_PER_LATE_LOG}
 
 -- a segment, its classes and chunks, and how many segments an object may hold
 pub record HeapLimits : Type 0 where
@@ -44,5 +45,11 @@ pub record RunLimits : Type 0 where
   pub usual_quantum : DEFAULT_QUANTUM ≡ 64
   pub counts : COUNT_LIMIT ≡ 2 ^ 60
 
+-- late events: lines of a script, events of an object, and how far apart the logs of its heap are
+pub record LateLimits : Type 0 where
+  pub lines : MOST_LATE_LINES ≡ 65536
+  pub events : MOST_LATE_EVENTS ≡ 4096
+  pub apart : EVENTS_PER_LATE_LOG ≡ 16
+
 abbrev pub LimitsAreThese : Type 0
-LimitsAreThese = HeapLimits × LogLimits × ScriptLimits × RunLimits
+LimitsAreThese = HeapLimits × LogLimits × ScriptLimits × RunLimits × LateLimits

@@ -1,7 +1,10 @@
-//! What every crate of the product speaks of: handles, classes, commands, replies and limits, and in `specs/` the
-//! definitions that contracts cite: a heap as a finite map from handles to bytes, one step of it, logs as whole copies,
-//! and a run. It stands on nothing, and every other crate stands on it. Its one contract: a handle and its number, and a
-//! length and its class, are what the definitions say.
+//! What every crate speaks of: handles, classes, commands, replies, limits, and the definitions
+//! that contracts cite. These stand in `specs/`: a heap as a finite map from handles to bytes, one
+//! step of it, logs as whole copies, and a run.
+//!
+//! Below stands no crate of the repository; above stand nearly all. Its one contract: a handle and
+//! its number, and a length and its class, are what the definitions say: `number` and `of_number`
+//! undo each other, and `class_of` is the least class that fits.
 #![tactic(auto)]
 
 pub mod bad_kind;
@@ -21,6 +24,3 @@ pub use command::{Command, Kind, Version};
 pub use handle::Handle;
 pub use name::{Name, is_name};
 pub use reply::{Refusal, Reply};
-
-#[cfg(test)]
-mod tests;

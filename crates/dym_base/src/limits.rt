@@ -75,3 +75,12 @@ pub const DEFAULT_QUANTUM: u32 = 64;
 /// The counts of commands that ran, of records that were made, of commands that a heap applied and of commits are below
 /// it wherever one more is counted. No run reaches it.
 pub const COUNT_LIMIT: u64 = 1 << 60;
+
+/// The most lines of a script of late events that aren't declarations.
+pub const MOST_LATE_LINES: usize = 65_536;
+
+/// The most late events that an object accepts, and the most lines of one object that have an event.
+pub const MOST_LATE_EVENTS: u32 = 4_096;
+
+/// A heap of late events is logged where so many events more are in it.
+pub const EVENTS_PER_LATE_LOG: usize = 16;

@@ -1,2 +1,3 @@
+pub mod HeldSteps
 pub mod ObjectSteps
 pub mod Sent

@@ -24,8 +24,8 @@ use denote.Struct.Owning.{shape}
 use Rattle.std.specs.contracts.impls.GlobalAllocator.TheImpl.{ghosts}
 use Rattle.std.proofs.GlobalToken.{dealloc_token-Testable}
 use Rattle.std_alloc.specs.Box.Ownership.{box_owns}
-use Rattle.dym_c.specs.Owned.{kept_owns, heap}
-use Rattle.dym_c.specs.contracts.inside.Inside.{the_row as R}
+use Rattle.dym_c.specs.Ownership.{kept_owns, heap}
+use Rattle.dym_c.specs.contracts.object_content.ObjectContent.{the_row as R}
 use Rattle.dym_c.specs.contracts.object.DymObject as kept
 
 abbrev kept_ty : Ty
@@ -59,12 +59,12 @@ module _ {M : Type 1} {𝓤 : Ura M} {𝓛 : Logic 𝓤} {K : Type 0} {Γ : List
   out t d vs k = fsplit t $ fpick t (λ vss. fsplit t $ feq_l t (λ ev. fsplit t $ feq_l t (λ ep. drop t $
       k (subst (λ (ps : List Val). vs ≡ vstruct (of_list (ps ++ [])) ∷ []) ep ev))))
 
-  made : K → (p : Ptr) (v : Option R.Denot) → Step K 𝓛 (‵ (kept.the_row.own_val (record { at = p; value = v }) (word p ∷ [])) ∷ Γ) G (‵ (kept_owns R p v) ∷ Γ) G
-  made t p v = step (λ s. nothing t $ feq_i t (List Val) (ptr_val p ∷ []) (ptr_val p ∷ []) refl $ fjoin t $ feq_i t (List Val) (word p ∷ []) (word p ∷ []) refl $ fjoin t $
+  next_number : K → (p : Ptr) (v : Option R.Denot) → Step K 𝓛 (‵ (kept.the_row.own_val (record { at = p; value = v }) (word p ∷ [])) ∷ Γ) G (‵ (kept_owns R p v) ∷ Γ) G
+  next_number t p v = step (λ s. nothing t $ feq_i t (List Val) (ptr_val p ∷ []) (ptr_val p ∷ []) refl $ fjoin t $ feq_i t (List Val) (word p ∷ []) (word p ∷ []) refl $ fjoin t $
       fpack t (Valss (RawPtr ∷ [])) (within (shape kept.the_type) (p, tt) (word p ∷ [])) (ptr_val p ∷ [], tt) $ fjoin t $ s)
 
   pub closed_in : K → Step K 𝓛 (‵ (kept.the_row.own_val (record { at = null_ptr; value = None }) (word null_ptr ∷ [])) ∷ Γ) G Γ G
-  closed_in t = step (λ s. nothing t $ made t null_ptr None $ s)
+  closed_in t = step (λ s. nothing t $ next_number t null_ptr None $ s)
 
   pub open_in : K → (b o : ℕ) (x : R.Denot) → Step K 𝓛 (‵ (kept.the_row.own_val (record { at = block_ptr b o; value = Some x }) (word (block_ptr b o) ∷ [])) ∷ Γ) G (‵ (owned (block_ptr b o) x) ∷ Γ) G
-  open_in t b o x = step (λ s. made t (block_ptr b o) (Some x) $ s)
+  open_in t b o x = step (λ s. next_number t (block_ptr b o) (Some x) $ s)

@@ -13,8 +13,8 @@ use denote.Struct.Owning.{shape, fields, to}
 use Rattle.std_alloc.proofs.SendSync.{quiet}
 use Rattle.std.proofs.alloc.Global.TheSendSync as global
 use Rattle.std.proofs.Crossing.{frees}
-use Rattle.dym_c.specs.Owned.{kept_owns, heap}
-use Rattle.dym_c.specs.contracts.inside.Inside as inside
+use Rattle.dym_c.specs.Ownership.{kept_owns, heap}
+use Rattle.dym_c.specs.contracts.object_content.ObjectContent as inside
 use Rattle.dym_c.specs.contracts.object.DymObject as kept
 use Rattle.dym_object.specs.contracts.object.Object as Object
 use Rattle.dym_object.proofs.object.Object.TheSendSync as object
@@ -47,8 +47,8 @@ lifted_send = search (sendable, snapshot_send)
 keep_send : IsSend keep.the_row
 keep_send = search (sendable, slot.the_send, vec.the_send, lifted_send, global.the_send, frees) depth 20
 
-process_send : (Way : RattleType) (a : _) (b : _) (c : _) → IsSend (Object.the_row own.the_row keep.the_row segment.the_row Way a b c)
-process_send Way a b c = object.the_send own.the_row keep.the_row segment.the_row Way a b c supply.the_send keep_send sent_segment.the_send
+process_send : (Context : RattleType) (a : _) (b : _) (c : _) → IsSend (Object.the_row own.the_row keep.the_row segment.the_row Context a b c)
+process_send Context a b c = object.the_send own.the_row keep.the_row segment.the_row Context a b c supply.the_send keep_send sent_segment.the_send
 
 inside_send : IsSend inside.the_row
 inside_send = search (sendable, process_send) depth 20

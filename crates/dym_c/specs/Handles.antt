@@ -7,12 +7,12 @@ abbrev pub nil : DymHandle
 nil = record { exp = 0; index = 0 }
 
 -- a chunk's handle goes to C as it is
-abbrev pub crossing : Handle → DymHandle
-crossing h = record { exp = h.exp; index = h.index }
+abbrev pub c_handle : Handle → DymHandle
+c_handle h = record { exp = h.exp; index = h.index }
 
-abbrev pub crossing_or_nil : Option Handle → DymHandle
-crossing_or_nil None = nil
-crossing_or_nil (Some h) = crossing h
+abbrev pub c_handle_or_nil : Option Handle → DymHandle
+c_handle_or_nil None = nil
+c_handle_or_nil (Some h) = c_handle h
 
 -- the chunk that C names, where the exponent is that of a class
 abbrev pub chunk_of : DymHandle → Option Handle

@@ -1,9 +1,9 @@
-pub mod Asked
+pub mod AskedCommands
 pub mod Calls
 pub mod Handles
-pub mod Looks
-pub mod Opened
-pub mod Outs
-pub mod Owned
-pub mod Saving
+pub mod Inspections
+pub mod Openings
+pub mod OutValues
+pub mod Ownership
+pub mod SavedFiles
 pub mod Statuses

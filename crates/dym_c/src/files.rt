@@ -1,15 +1,15 @@
 //! An object as a checkpoint file, and back.
 ghost use Rattle.std.specs.Prelude.{◌≡◌, None, length, IfOk, IfErr, IsTrue};
 ghost use Rattle.dym_base.specs.Names.{is_name};
-ghost use Rattle.dym_ckpt.specs.Loadings.{IsLoaded};
-ghost use Rattle.dym_ckpt.specs.Readings.{FailsAs};
-ghost use Rattle.dym_ckpt.specs.declared.loading.Loaded.{Loaded as LoadedFile};
-ghost use Rattle.dym_ckpt.specs.Saved.{AreOf, file_of_logs};
+ghost use Rattle.dym_ckpt.specs.FileReads.{IsLoaded};
+ghost use Rattle.dym_ckpt.specs.FileRecords.{FailsAs};
+ghost use Rattle.dym_ckpt.specs.declared.file_reader.Loaded.{Loaded as LoadedFile};
+ghost use Rattle.dym_ckpt.specs.SavedFiles.{AreOf, file_of_logs};
 ghost use Rattle.dym_object.specs.Meaning.{IsWhole};
-ghost use Rattle.dym_c.specs.Saving.{IsSaving, IsLoading, IsCopied, file_of_object, object_of};
+ghost use Rattle.dym_c.specs.SavedFiles.{IsSaving, IsLoading, IsCopied, file_of_object, object_of};
 
-use crate::inside::{Inside, Process};
 use crate::object::DymObject;
+use crate::object_content::{ObjectContent, Process};
 use crate::status::{BAD, DONE, MEMORY, refusal_number};
 use core::mem::replace_with;
 use dym_base::{Name, Refusal, Version};
@@ -133,7 +133,7 @@ pub extern "C" fn dym_load(
 }
 
 /// The object of a file.
-fn loaded(alloc: Global, bytes: &[u8]) -> Result<Box<Inside>, FileFail>
+fn loaded(alloc: Global, bytes: &[u8]) -> Result<Box<ObjectContent>, FileFail>
     ensures loaded { IfOk result (λ inside.
         (loaded : LoadedFile) × IsLoaded bytes.now loaded × (inside.value ≡ object_of loaded)) }
     ensures fails { IfErr result (FailsAs bytes.now) }
@@ -143,9 +143,9 @@ fn loaded(alloc: Global, bytes: &[u8]) -> Result<Box<Inside>, FileFail>
         heap,
         chain,
     } = load_file(alloc, bytes)?;
-    let ran = chain.made();
+    let ran = chain.next_number();
     let object = Object::of_parts(heap, chain, ran);
-    match Box::new(alloc, Inside { object }) {
+    match Box::new(alloc, ObjectContent { object }) {
         Ok(inside) => Ok(inside),
         Err(_) => Err(FileFail::Memory),
     }

@@ -1,6 +1,6 @@
 //! Handles as C has them.
 ghost use Rattle.std.specs.Prelude.{◌≡◌};
-ghost use Rattle.dym_c.specs.Handles.{chunk_of, chunk_or_nil_of, crossing, crossing_or_nil};
+ghost use Rattle.dym_c.specs.Handles.{chunk_of, chunk_or_nil_of, c_handle, c_handle_or_nil};
 
 use dym_base::Handle;
 use dym_base::limits::{GREATEST_EXPONENT, LEAST_EXPONENT};
@@ -19,8 +19,8 @@ impl DymHandle {
 }
 
 /// A chunk's handle, for C.
-pub(crate) fn crossing_chunk(h: Handle) -> DymHandle
-    ensures { result ≡ crossing h }
+pub(crate) fn c_chunk(h: Handle) -> DymHandle
+    ensures { result ≡ c_handle h }
 {
     DymHandle {
         exp: h.exp,
@@ -29,17 +29,17 @@ pub(crate) fn crossing_chunk(h: Handle) -> DymHandle
 }
 
 /// A chunk's handle or nil, for C.
-pub(crate) fn crossing_place(h: Option<Handle>) -> DymHandle
-    ensures { result ≡ crossing_or_nil h }
+pub(crate) fn c_chunk_or_nil(h: Option<Handle>) -> DymHandle
+    ensures { result ≡ c_handle_or_nil h }
 {
     match h {
-        Some(h) => crossing_chunk(h),
+        Some(h) => c_chunk(h),
         None => DymHandle::NIL,
     }
 }
 
 /// The chunk that C names, and None where the exponent is that of no class.
-pub(crate) fn named_chunk(h: DymHandle) -> Option<Handle>
+pub(crate) fn chunk_of_c(h: DymHandle) -> Option<Handle>
     ensures { result ≡ chunk_of h }
 {
     if LEAST_EXPONENT <= h.exp && h.exp <= GREATEST_EXPONENT {
@@ -53,11 +53,11 @@ pub(crate) fn named_chunk(h: DymHandle) -> Option<Handle>
 }
 
 /// The chunk or nil that C names, and None where it names neither.
-pub(crate) fn named_place(h: DymHandle) -> Option<Option<Handle>>
+pub(crate) fn chunk_or_nil_of_c(h: DymHandle) -> Option<Option<Handle>>
     ensures { result ≡ chunk_or_nil_of h }
 {
     if h.exp == 0 && h.index == 0 {
         return Some(None);
     }
-    named_chunk(h).map(Some)
+    chunk_of_c(h).map(Some)
 }

@@ -2,13 +2,13 @@
 //! chunks and what the last parameters point to as they were.
 ghost use Rattle.std.specs.Prelude.{◌≡◌, Some, length};
 ghost use Rattle.dym_base.specs.declared.command.Command.TheVariants.{Malloc, Calloc};
-ghost use Rattle.dym_c.specs.Asked.{asked_realloc, asked_free, asked_write, asked_fill, asked_read, asked_link, asked_follow, asked_sum};
+ghost use Rattle.dym_c.specs.AskedCommands.{asked_realloc, asked_free, asked_write, asked_fill, asked_read, asked_link, asked_follow, asked_sum};
 ghost use Rattle.dym_c.specs.Calls.{status_of, reply_of, IsAfter};
-ghost use Rattle.dym_c.specs.Outs.{chunk_told, found_told, bytes_told, total_told};
+ghost use Rattle.dym_c.specs.OutValues.{chunk_after, found_after, bytes_after, total_after};
 
-use crate::handle::{DymHandle, crossing_chunk, crossing_place, named_chunk, named_place};
+use crate::handle::{DymHandle, c_chunk, c_chunk_or_nil, chunk_of_c, chunk_or_nil_of_c};
 use crate::object::DymObject;
-use crate::outs::{DymFound, crossing_found};
+use crate::out_values::{DymFound, c_found};
 use crate::status::{BAD, DONE, done_number, refusal_number};
 use std::alloc::Global;
 
@@ -22,7 +22,7 @@ pub extern "C" fn dym_malloc(
 ) -> u32
     ensures status { result ≡ status_of object.old.value (Some (Malloc len)) }
     ensures after { IsAfter object.old.value (Some (Malloc len)) object.new.value }
-    ensures told { chunk.new ≡ chunk_told (reply_of object.old.value (Some (Malloc len))) chunk.old }
+    ensures out_value { chunk.new ≡ chunk_after (reply_of object.old.value (Some (Malloc len))) chunk.old }
 {
     let mut inside = match object.ready(alloc) {
         Ok(inside) => inside,
@@ -32,7 +32,7 @@ pub extern "C" fn dym_malloc(
     object.put(alloc, inside);
     match answer {
         Ok(h) => {
-            *chunk = crossing_chunk(h);
+            *chunk = c_chunk(h);
             DONE
         }
         Err(why) => refusal_number(why),
@@ -50,7 +50,7 @@ pub extern "C" fn dym_calloc(
 ) -> u32
     ensures status { result ≡ status_of object.old.value (Some (Calloc n len)) }
     ensures after { IsAfter object.old.value (Some (Calloc n len)) object.new.value }
-    ensures told { chunk.new ≡ chunk_told (reply_of object.old.value (Some (Calloc n len))) chunk.old }
+    ensures out_value { chunk.new ≡ chunk_after (reply_of object.old.value (Some (Calloc n len))) chunk.old }
 {
     let mut inside = match object.ready(alloc) {
         Ok(inside) => inside,
@@ -60,7 +60,7 @@ pub extern "C" fn dym_calloc(
     object.put(alloc, inside);
     match answer {
         Ok(h) => {
-            *chunk = crossing_chunk(h);
+            *chunk = c_chunk(h);
             DONE
         }
         Err(why) => refusal_number(why),
@@ -79,9 +79,9 @@ pub extern "C" fn dym_realloc(
 ) -> u32
     ensures status { result ≡ status_of object.old.value (asked_realloc h len) }
     ensures after { IsAfter object.old.value (asked_realloc h len) object.new.value }
-    ensures told { chunk.new ≡ chunk_told (reply_of object.old.value (asked_realloc h len)) chunk.old }
+    ensures out_value { chunk.new ≡ chunk_after (reply_of object.old.value (asked_realloc h len)) chunk.old }
 {
-    let Some(place) = named_place(h) else {
+    let Some(place) = chunk_or_nil_of_c(h) else {
         return BAD;
     };
     let mut inside = match object.ready(alloc) {
@@ -92,7 +92,7 @@ pub extern "C" fn dym_realloc(
     object.put(alloc, inside);
     match answer {
         Ok(place) => {
-            *chunk = crossing_place(place);
+            *chunk = c_chunk_or_nil(place);
             DONE
         }
         Err(why) => refusal_number(why),
@@ -105,7 +105,7 @@ pub extern "C" fn dym_free(alloc: Global, object: &mut DymObject, h: DymHandle) 
     ensures status { result ≡ status_of object.old.value (asked_free h) }
     ensures after { IsAfter object.old.value (asked_free h) object.new.value }
 {
-    let Some(place) = named_place(h) else {
+    let Some(place) = chunk_or_nil_of_c(h) else {
         return BAD;
     };
     let mut inside = match object.ready(alloc) {
@@ -129,7 +129,7 @@ pub extern "C" fn dym_write(
     ensures status { result ≡ status_of object.old.value (asked_write h at bytes.now) }
     ensures after { IsAfter object.old.value (asked_write h at bytes.now) object.new.value }
 {
-    let Some(chunk) = named_chunk(h) else {
+    let Some(chunk) = chunk_of_c(h) else {
         return BAD;
     };
     let mut inside = match object.ready(alloc) {
@@ -154,7 +154,7 @@ pub extern "C" fn dym_fill(
     ensures status { result ≡ status_of object.old.value (asked_fill h at len byte) }
     ensures after { IsAfter object.old.value (asked_fill h at len byte) object.new.value }
 {
-    let Some(chunk) = named_chunk(h) else {
+    let Some(chunk) = chunk_of_c(h) else {
         return BAD;
     };
     let mut inside = match object.ready(alloc) {
@@ -177,10 +177,10 @@ pub extern "C" fn dym_read(
 ) -> u32
     ensures status { result ≡ status_of object.old.value (asked_read h at (length out.old)) }
     ensures after { IsAfter object.old.value (asked_read h at (length out.old)) object.new.value }
-    ensures told { out.new ≡ bytes_told
+    ensures out_value { out.new ≡ bytes_after
         (reply_of object.old.value (asked_read h at (length out.old))) out.old }
 {
-    let Some(chunk) = named_chunk(h) else {
+    let Some(chunk) = chunk_of_c(h) else {
         return BAD;
     };
     let mut inside = match object.ready(alloc) {
@@ -204,10 +204,10 @@ pub extern "C" fn dym_link(
     ensures status { result ≡ status_of object.old.value (asked_link h at to) }
     ensures after { IsAfter object.old.value (asked_link h at to) object.new.value }
 {
-    let Some(chunk) = named_chunk(h) else {
+    let Some(chunk) = chunk_of_c(h) else {
         return BAD;
     };
-    let Some(place) = named_place(to) else {
+    let Some(place) = chunk_or_nil_of_c(to) else {
         return BAD;
     };
     let mut inside = match object.ready(alloc) {
@@ -230,9 +230,9 @@ pub extern "C" fn dym_follow(
 ) -> u32
     ensures status { result ≡ status_of object.old.value (asked_follow h at) }
     ensures after { IsAfter object.old.value (asked_follow h at) object.new.value }
-    ensures told { found.new ≡ found_told (reply_of object.old.value (asked_follow h at)) found.old }
+    ensures out_value { found.new ≡ found_after (reply_of object.old.value (asked_follow h at)) found.old }
 {
-    let Some(chunk) = named_chunk(h) else {
+    let Some(chunk) = chunk_of_c(h) else {
         return BAD;
     };
     let mut inside = match object.ready(alloc) {
@@ -243,7 +243,7 @@ pub extern "C" fn dym_follow(
     object.put(alloc, inside);
     match answer {
         Ok(what) => {
-            *found = crossing_found(what);
+            *found = c_found(what);
             DONE
         }
         Err(why) => refusal_number(why),
@@ -260,9 +260,9 @@ pub extern "C" fn dym_sum(
 ) -> u32
     ensures status { result ≡ status_of object.old.value (asked_sum h) }
     ensures after { IsAfter object.old.value (asked_sum h) object.new.value }
-    ensures told { total.new ≡ total_told (reply_of object.old.value (asked_sum h)) total.old }
+    ensures out_value { total.new ≡ total_after (reply_of object.old.value (asked_sum h)) total.old }
 {
-    let Some(chunk) = named_chunk(h) else {
+    let Some(chunk) = chunk_of_c(h) else {
         return BAD;
     };
     let mut inside = match object.ready(alloc) {

@@ -1,22 +1,26 @@
 //! The object for C: a static library, whose exports `include/dymelor.h` declares.
 //!
-//! Below stand `dym_object`, whose calls these are, and `dym_held`, which keeps a box as its pointer; above stands a program in C. Its
-//! one contract: each export does to the object that C keeps what the call does that it makes, and answers a status. Every number that
-//! C hands in is tested; only that pointers are what the header says is left to C.
+//! Below stand `dym_object` and `dym_ckpt`, whose calls these are; above stands a program in C, and
+//! no crate can. Its one contract: each export does to the object that C keeps what the call does
+//! that it makes, and answers a status (`status_of`, `IsAfter`, `reply_of`). Every number that C
+//! hands in is tested; only that pointers are what the header says is left to C. The object is kept
+//! as a box's bare pointer, and what goes in as a box comes out as a box with the same value
+//! (`Held`).
 #![tactic(auto)]
 
+mod box_pointer;
 mod files;
 mod handle;
 mod heap_calls;
-mod inside;
+mod inspection;
+mod lifetime;
 mod log_calls;
-mod looks;
 mod object;
-mod opening;
-mod outs;
+mod object_content;
+mod out_values;
 mod status;
 
 pub use handle::DymHandle;
-pub use inside::Inside;
 pub use object::DymObject;
-pub use outs::{DymFound, DymLogged, DymSlots};
+pub use object_content::ObjectContent;
+pub use out_values::{DymFound, DymLogged, DymSlots};

@@ -1,12 +1,12 @@
 //! Commands about the logs of an object.
 ghost use Rattle.std.specs.Prelude.{◌≡◌, Some};
 ghost use Rattle.dym_base.specs.declared.command.Command.TheVariants.{Restore, Prune, Logs};
-ghost use Rattle.dym_c.specs.Asked.{asked_log};
+ghost use Rattle.dym_c.specs.AskedCommands.{asked_log};
 ghost use Rattle.dym_c.specs.Calls.{status_of, reply_of, IsAfter, Wanting, IsTaken};
-ghost use Rattle.dym_c.specs.Outs.{logged_told, time_told, dropped_told, slots_told};
+ghost use Rattle.dym_c.specs.OutValues.{logged_after, time_after, dropped_after, slots_after};
 
 use crate::object::DymObject;
-use crate::outs::{DymLogged, DymSlots, crossing_kind, named_kind};
+use crate::out_values::{DymLogged, DymSlots, c_kind, kind_of_c};
 use crate::status::{BAD, DONE, MEMORY, refusal_number};
 use dym_base::Kind;
 use dym_chain::LogError;
@@ -27,11 +27,11 @@ pub extern "C" fn dym_log(
     ensures after { Wanting result
         (object.new.value ≡ object.old.value)
         (IsAfter object.old.value (asked_log kind time) object.new.value) }
-    ensures told { Wanting result
+    ensures out_value { Wanting result
         (logged.new ≡ logged.old)
-        (logged.new ≡ logged_told (reply_of object.old.value (asked_log kind time)) logged.old) }
+        (logged.new ≡ logged_after (reply_of object.old.value (asked_log kind time)) logged.old) }
 {
-    let Some(want) = named_kind(kind) else {
+    let Some(want) = kind_of_c(kind) else {
         return BAD;
     };
     let mut inside = match object.ready(alloc) {
@@ -46,7 +46,7 @@ pub extern "C" fn dym_log(
     match answer {
         Ok((kind, len)) => {
             *logged = DymLogged {
-                kind: crossing_kind(kind),
+                kind: c_kind(kind),
                 len,
             };
             DONE
@@ -61,7 +61,7 @@ pub extern "C" fn dym_log(
 pub extern "C" fn dym_restore(alloc: Global, object: &mut DymObject, time: u64, at: &mut u64) -> u32
     ensures status { result ≡ status_of object.old.value (Some (Restore time)) }
     ensures after { IsAfter object.old.value (Some (Restore time)) object.new.value }
-    ensures told { at.new ≡ time_told (reply_of object.old.value (Some (Restore time))) at.old }
+    ensures out_value { at.new ≡ time_after (reply_of object.old.value (Some (Restore time))) at.old }
 {
     let mut inside = match object.ready(alloc) {
         Ok(inside) => inside,
@@ -88,7 +88,7 @@ pub extern "C" fn dym_prune(
 ) -> u32
     ensures status { result ≡ status_of object.old.value (Some (Prune bound)) }
     ensures after { IsAfter object.old.value (Some (Prune bound)) object.new.value }
-    ensures told { dropped.new ≡ dropped_told (reply_of object.old.value (Some (Prune bound))) dropped.old }
+    ensures out_value { dropped.new ≡ dropped_after (reply_of object.old.value (Some (Prune bound))) dropped.old }
 {
     let mut inside = match object.ready(alloc) {
         Ok(inside) => inside,
@@ -104,7 +104,7 @@ pub extern "C" fn dym_prune(
 pub extern "C" fn dym_logs(alloc: Global, object: &mut DymObject, logs: &mut DymSlots) -> u32
     ensures status { result ≡ status_of object.old.value (Some Logs) }
     ensures after { IsAfter object.old.value (Some Logs) object.new.value }
-    ensures told { logs.new ≡ slots_told (reply_of object.old.value (Some Logs)) logs.old }
+    ensures out_value { logs.new ≡ slots_after (reply_of object.old.value (Some Logs)) logs.old }
 {
     let mut inside = match object.ready(alloc) {
         Ok(inside) => inside,

@@ -4,14 +4,14 @@ ghost use Rattle.std.specs.Coded.{codes};
 ghost use Rattle.dym_base.specs.declared.limits.TheConstants.{COUNT_LIMIT};
 ghost use Rattle.dym_heap.specs.Meaning.{live_code, touched_code};
 ghost use Rattle.dym_object.specs.Meaning.{ObjectMeaning};
-ghost use Rattle.dym_c.specs.Owned.{kept_owns};
+ghost use Rattle.dym_c.specs.Ownership.{kept_owns};
 ghost use Rattle.dym_c.specs.Calls.{status_unready};
-ghost use Rattle.dym_c.specs.contracts.inside.Inside.{the_row};
+ghost use Rattle.dym_c.specs.contracts.object_content.ObjectContent.{the_row};
 
-use crate::inside::Inside;
+use crate::box_pointer::Held;
+use crate::object_content::ObjectContent;
 use crate::status::{BAD, SPENT};
 use dym_base::limits::COUNT_LIMIT;
-use dym_held::Held;
 use std::alloc::Global;
 use std::marker::{Model, Send};
 use std::{mem, ptr};
@@ -40,7 +40,7 @@ impl DymObject {
 
     /// An open object.
     #[inline(always)]
-    fn holding(held: Held<Inside, Global>) -> DymObject
+    fn holding(held: Held<ObjectContent, Global>) -> DymObject
         ensures { result.value ≡ Some held.value }
     {
         let Held { at, alloc: _ } = held;
@@ -49,7 +49,7 @@ impl DymObject {
 
     /// The box that an open object has.
     #[inline(always)]
-    fn into_held(self, alloc: Global) -> Option<Held<Inside, Global>>
+    fn into_held(self, alloc: Global) -> Option<Held<ObjectContent, Global>>
         ensures { MatchOption result (self.value ≡ None) (λ held. self.value ≡ Some held.value) }
     {
         let DymObject { at } = self;
@@ -57,7 +57,7 @@ impl DymObject {
             None
         } else {
             Some(Held {
-                at: at as *mut Inside,
+                at: at as *mut ObjectContent,
                 alloc,
             })
         }
@@ -65,7 +65,7 @@ impl DymObject {
 
     /// Takes out what is inside, and leaves the object closed.
     #[inline(always)]
-    pub(crate) fn take(&mut self, alloc: Global) -> Option<Box<Inside>>
+    pub(crate) fn take(&mut self, alloc: Global) -> Option<Box<ObjectContent>>
         ensures closed { self.new.value ≡ None }
         ensures inside { MatchOption result (self.old.value ≡ None)
             (λ inside. self.old.value ≡ Some inside.value) }
@@ -76,22 +76,24 @@ impl DymObject {
         }
     }
 
-    /// Opens the object. What was inside ends.
+    /// Opens a closed object.
     #[inline(always)]
-    pub(crate) fn put(&mut self, alloc: Global, inside: Box<Inside>)
-        ensures { self.new.value ≡ Some inside.value }
+    pub(crate) fn put(&mut self, alloc: Global, inside: Box<ObjectContent>)
+        requires closed { self.old.value ≡ None }
+        ensures open { self.new.value ≡ Some inside.value }
     {
         let before = mem::replace(self, DymObject::holding(Held::of(inside)));
-        if let Some(held) = before.into_held(alloc) {
-            end(held);
+        if let Some(_held) = before.into_held(alloc) {
+            unreachable!();
         }
     }
 
     /// Takes out what is inside, for one command more. Else the answer is the status that says why there can be none.
     #[inline(always)]
-    pub(crate) fn ready(&mut self, alloc: Global) -> Result<Box<Inside>, u32>
+    pub(crate) fn ready(&mut self, alloc: Global) -> Result<Box<ObjectContent>, u32>
         ensures inside { IfOk result
             (λ inside. (self.old.value ≡ Some inside.value) × (inside.value.ran < COUNT_LIMIT)) }
+        ensures closed { IfOk result (λ _. self.new.value ≡ None) }
         ensures unready { IfErr result (λ status. status_unready self.old.value ≡ Some status) }
         ensures same { IfErr result (λ status. self.new.value ≡ self.old.value) }
     {
@@ -109,14 +111,8 @@ impl DymObject {
 
 unsafe impl Send for DymObject {}
 
-/// Ends what was inside an object.
-#[inline(never)]
-fn end(held: Held<Inside, Global>) {
-    drop(held.into_box());
-}
-
 /// Gives back what it gets, which may cross to another thread.
-fn crossing<T: Send>(sent: T) -> T
+fn c_handle<T: Send>(sent: T) -> T
     ensures { result ≡ sent }
 {
     sent
@@ -126,5 +122,5 @@ fn crossing<T: Send>(sent: T) -> T
 pub fn crosses(object: DymObject) -> DymObject
     ensures { result.value ≡ object.value }
 {
-    crossing(object)
+    c_handle(object)
 }

@@ -10,34 +10,34 @@ use Rattle.dym_base.specs.declared.command.Version.{Version}
 use Rattle.dym_base.proofs.Runs.{all_drop}
 use Rattle.std.proofs.lemmas.List.{drop_at}
 use Rattle.dym_slots.specs.Meanings.{KeepMeaning}
-use Rattle.dym_chain.specs.Adopted.{AreEntriesOf, AreLawful, entries_of}
+use Rattle.dym_chain.specs.AdoptedLogs.{AreEntriesOf, AreLawful, entries_of}
 use Rattle.dym_chain.specs.Chains.{ChainMeaning, all_logs, EachKeeps, KeepsFromNewest, Belongs}
 use Rattle.dym_chain.specs.Keeps.{bytes_of}
 use Rattle.dym_chain.specs.Lawful.{IsLawful, entry_of}
-use Rattle.dym_chain.specs.Told.{Told, IsToldBy, told_of}
-use Rattle.dym_chain.specs.Whole.{chain_of, IsChain}
+use Rattle.dym_chain.specs.Copies.{ChainCopies, AreCopiesOf, copies_of}
+use Rattle.dym_chain.specs.ChainInvariants.{chain_of, IsChain}
 use Rattle.dym_chain.specs.declared.entry.Entry.{Entry}
 use Rattle.dym_chain.proofs.OneReading.{entries_same}
 use Rattle.dym_chain.proofs.Places.{keeps_drop}
 use Rattle.dym_chain.proofs.SaidLists.{IsPlace, InVersion, in_version, lawful_told}
 
 -- records that are a lawful list say something
-pub tells : (first : ℕ) (records : List (List ℕ)) → AreLawful first records → (told : Told) × IsToldBy (record { first = first; records = records }) told
-tells first records is = (told_of first is.1.0, (is.0, is.1.0, is.1.1, is.1.2, refl))
+pub tells : (first : ℕ) (records : List (List ℕ)) → AreLawful first records → (copies : ChainCopies) × AreCopiesOf (record { first = first; records = records }) copies
+tells first records is = (copies_of first is.1.0, (is.0, is.1.0, is.1.1, is.1.2, refl))
 
-module _ (keep : KeepMeaning) (first : ℕ) (place : IsPlace first (length keep.records)) (told : Told) (by : IsToldBy (record { first = first; records = bytes_of keep.records }) told) where
-  pub told_lawful : IsLawful (chain_of told keep)
-  told_lawful = subst (λ (t : Told). IsLawful (chain_of t keep)) (sym by.4) (lawful_told keep first by.0 by.1 by.2 by.3 place)
+module _ (keep : KeepMeaning) (first : ℕ) (place : IsPlace first (length keep.records)) (copies : ChainCopies) (by : AreCopiesOf (record { first = first; records = bytes_of keep.records }) copies) where
+  pub told_lawful : IsLawful (chain_of copies keep)
+  told_lawful = subst (λ (t : ChainCopies). IsLawful (chain_of t keep)) (sym by.4) (lawful_told keep first by.0 by.1 by.2 by.3 place)
 
-  pub told_entries : AreEntriesOf first (bytes_of keep.records) told.below told.logs
+  pub told_entries : AreEntriesOf first (bytes_of keep.records) copies.base_logs copies.logs
   told_entries v logs is are =
       let same : entries_of by.1 ≡ entries_of logs = entries_same by.1 logs 0 [] [] by.2.recorded is.recorded (by.3 ∙ sym are) (λ q. refl) in
-      (ap (λ (t : Told). t.below) by.4 ∙ ap (take first) same, ap (λ (t : Told). t.logs) by.4 ∙ ap (drop first) same)
+      (ap (λ (t : ChainCopies). t.base_logs) by.4 ∙ ap (take first) same, ap (λ (t : ChainCopies). t.logs) by.4 ∙ ap (drop first) same)
 
   pub told_chain : (items : List Entry) (capacity : ℕ) → 256 ≤ capacity → ((v : Version) (logs : List Logged) → lawful.IsLawful v first logs → map packed logs ≡ bytes_of keep.records → items ≡ map entry_of (drop first (entries_of logs)))
-      → IsChain items capacity keep told
+      → IsChain items capacity keep copies
   told_chain items capacity room read = record {
-    shows = record { entries = read by.0 by.1 by.2 by.3 ∙ ap (λ (t : Told). map entry_of t.logs) (sym by.4); room = room };
+    shows = record { entries = read by.0 by.1 by.2 by.3 ∙ ap (λ (t : ChainCopies). map entry_of t.logs) (sym by.4); room = room };
     lawful = told_lawful;
   }
 
@@ -46,10 +46,10 @@ module _ (keep : KeepMeaning) (first : ℕ) (place : IsPlace first (length keep.
 pub belongs_lawful : (c : ChainMeaning) (v : Version) (quota : ℕ) (s : HeapState) → IsLawful c → AllByRecursion (IsRecordOf v quota) (bytes_of c.records) → KeepsFromNewest s (newest c.logs) → Belongs v quota s c
 belongs_lawful c v quota s law each untouched =
     let is : InVersion law.version v quota (all_logs c) = in_version law.version v quota (all_logs c) law.recorded (subst (AllByRecursion (IsRecordOf v quota)) law.records each) in
-    let kept : drop (length c.below) (all_logs c) ≡ c.logs = drop_at c.below c.logs (length c.below) refl in
+    let kept : drop (length c.base_logs) (all_logs c) ≡ c.logs = drop_at c.base_logs c.logs (length c.base_logs) refl in
     record {
       records = law.records ∙ is.same;
       untouched = untouched;
-      keeps = subst EachKeeps kept (keeps_drop (length c.below) (all_logs c) law.keeps);
-      within = subst (AllByRecursion (λ (e : LogEntry). held e.copy ≤ quota)) kept (all_drop (λ (e : LogEntry). held e.copy ≤ quota) (length c.below) (all_logs c) is.within);
+      keeps = subst EachKeeps kept (keeps_drop (length c.base_logs) (all_logs c) law.keeps);
+      within = subst (AllByRecursion (λ (e : LogEntry). held e.copy ≤ quota)) kept (all_drop (λ (e : LogEntry). held e.copy ≤ quota) (length c.base_logs) (all_logs c) is.within);
     }

@@ -3,7 +3,7 @@ use Rattle.std.proofs.Common.{◌≡◌, ℕ, zero, suc, ◌+◌, ◌-◌, ◌<�
 use Rattle.std.proofs.lemmas.Bool.{cond-true, cond-false, eq-eqb, ne_eqb}
 use Rattle.std.proofs.lemmas.List.{length-take, get_or-take}
 use Rattle.std.proofs.Math.Seq.{take-append-add}
-use Rattle.dym_base.specs.Below.{oldest_depth, has_full, from_last_full, left_below, dropped_below}
+use Rattle.dym_base.specs.BaseLogs.{oldest_depth, has_full, from_last_full, left_base_logs, dropped_base_logs}
 use Rattle.dym_base.specs.Objects.{LogEntry}
 use Rattle.dym_base.specs.RunLaws.{EachFollows}
 use Rattle.dym_chain.specs.Chains.{ChainMeaning, all_logs, no_entry, log_at}
@@ -37,10 +37,10 @@ one_full (e ∷ es) (suc i) within none = ap (λ b. (e.depth == 0) || b) (one_fu
 last_full_at : (logs : List LogEntry) (b : ℕ) → b < length logs → (log_at logs b).depth ≡ 0 → ((i : ℕ) → b < i → i < length logs → 0 < (log_at logs i).depth) → from_last_full logs ≡ drop b logs
 last_full_at [] b within none deep = absurd (omega arith)
 last_full_at (e ∷ es) zero within none deep =
-    cond-false (has_full es) (from_last_full es) (e ∷ es) (none_full es (λ i below. deep (suc i) (omega arith) (omega arith)))
+    cond-false (has_full es) (from_last_full es) (e ∷ es) (none_full es (λ i base_logs. deep (suc i) (omega arith) (omega arith)))
 last_full_at (e ∷ es) (suc b) within none deep =
     cond-true (has_full es) (from_last_full es) (e ∷ es) (one_full es b (omega arith) none)
-    ∙ last_full_at es b (omega arith) none (λ i above below. deep (suc i) (omega arith) (omega arith))
+    ∙ last_full_at es b (omega arith) none (λ i above base_logs. deep (suc i) (omega arith) (omega arith))
 
 -- ---- the logs between a full one and one that stands on it
 
@@ -72,22 +72,22 @@ take_drop a zero logs = (let same : 0 + a ≡ a = omega arith in ap (λ n. take 
 take_drop a (suc b) [] = ap (drop (suc b)) (take_nil (suc b + a)) ∙ sym (take_nil a)
 take_drop a (suc b) (e ∷ logs) = (let same : suc b + a ≡ suc (b + a) = omega arith in ap (λ n. drop (suc b) (take n (e ∷ logs))) same) ∙ take_drop a b logs
 
-pub below_left : (c : ChainMeaning) (n : ℕ) → 0 < n → n < length c.logs → IsLawful c → (without n c).below ≡ dropped_below c.below c.logs n
+pub below_left : (c : ChainMeaning) (n : ℕ) → 0 < n → n < length c.logs → IsLawful c → (without n c).base_logs ≡ dropped_base_logs c.base_logs c.logs n
 below_left c n some within law =
     let d : ℕ = oldest_depth (drop n c.logs) in
-    let i : ℕ = length c.below + n in
+    let i : ℕ = length c.base_logs + n in
     let b : ℕ = i - d in
-    let before : List LogEntry = c.below ++ take n c.logs in
+    let before : List LogEntry = c.base_logs ++ take n c.logs in
     let fits : d ≤ i = depth_fits c n within law in
     let sum : b + d ≡ i = omega (arith, fits) in
-    let inside : i < length (all_logs c) = omega (arith, length-append c.below c.logs, within) in
+    let inside : i < length (all_logs c) = omega (arith, length-append c.base_logs c.logs, within) in
     let depth : (log_at (all_logs c) i).depth ≡ d = ap (λ (e : LogEntry). e.depth) (at_place c n) ∙ sym (oldest_drop n c.logs within) in
-    let is : before ≡ take i (all_logs c) = sym (take-append-add c.below c.logs n) in
+    let is : before ≡ take i (all_logs c) = sym (take-append-add c.base_logs c.logs n) in
     let long : length before ≡ i = ap length is ∙ length-take i (all_logs c) ∙ (let least : Rattle.std.specs.Prelude.min i (length (all_logs c)) ≡ i = omega arith in least) in
     let at : (j : ℕ) → j < i → log_at before j ≡ log_at (all_logs c) j = λ j low. ap (λ (l : List LogEntry). log_at l j) is ∙ get_or-take i (all_logs c) j no_entry low in
-    let zero_case : d ≡ 0 → take d (drop b (all_logs c)) ≡ left_below before (drop n c.logs) = λ none.
+    let zero_case : d ≡ 0 → take d (drop b (all_logs c)) ≡ left_base_logs before (drop n c.logs) = λ none.
     ap (λ m. take m (drop b (all_logs c))) none ∙ sym (cond-true (d == 0) [] (from_last_full before) (eq-eqb d 0 none)) in
-    let deep_case : 0 < d → take d (drop b (all_logs c)) ≡ left_below before (drop n c.logs) = λ deep.
+    let deep_case : 0 < d → take d (drop b (all_logs c)) ≡ left_base_logs before (drop n c.logs) = λ deep.
     sym (take_drop d b (all_logs c))
     ∙ ap (λ m. drop b (take m (all_logs c))) sum
     ∙ ap (drop b) (sym is)
@@ -98,8 +98,8 @@ below_left c n some within law =
     let same : (log_at before j).depth ≡ (log_at (all_logs c) j).depth = ap (λ (e : LogEntry). e.depth) (at j (omega (arith, long))) in
     omega (arith, near, same, above, sum)))
     ∙ sym (cond-false (d == 0) [] (from_last_full before) (ne_eqb d 0 (λ none. (let no_such : ⊥ = omega (arith, deep, none) in no_such)))) in
-    let whole : take d (drop b (all_logs c)) ≡ left_below before (drop n c.logs) = elim (Rattle.std.proofs.lemmas.Bool.cases_lt 0 d) as (λ _. take d (drop b (all_logs c)) ≡ left_below before (drop n c.logs)) [
+    let whole : take d (drop b (all_logs c)) ≡ left_base_logs before (drop n c.logs) = elim (Rattle.std.proofs.lemmas.Bool.cases_lt 0 d) as (λ _. take d (drop b (all_logs c)) ≡ left_base_logs before (drop n c.logs)) [
       | inl deep ↦ deep_case deep
       | inr none ↦ zero_case (omega (arith, none))
     ] in
-    whole ∙ sym (cond-false (n == 0) c.below (left_below before (drop n c.logs)) (ne_eqb n 0 (λ none. (let no_such : ⊥ = omega (arith, some, none) in no_such))))
+    whole ∙ sym (cond-false (n == 0) c.base_logs (left_base_logs before (drop n c.logs)) (ne_eqb n 0 (λ none. (let no_such : ⊥ = omega (arith, some, none) in no_such))))

@@ -14,36 +14,36 @@ use Rattle.dym_base.specs.StandsFor.{packed_by}
 use Rattle.dym_base.specs.declared.command.Kind.TheVariants.{Full, Inc}
 use Rattle.dym_base.specs.declared.command.Version.{Version}
 use Rattle.dym_pack.specs.Areas.{IsPackable}
-use Rattle.dym_pack.specs.Reading.{IsRecord, OfLog}
-use Rattle.dym_heap.specs.Wanted.{ChunkMeaning, heap_chunk, marked, is_settled}
+use Rattle.dym_pack.specs.ParsedAreas.{IsRecord, OfLog}
+use Rattle.dym_heap.specs.Fetches.{ChunkMeaning, heap_chunk, marked, is_unmodified}
 use Rattle.dym_slots.specs.Meanings.{Numbered, record_at}
-use Rattle.dym_chain.specs.Beside.{TellsChanges, IsBeside, AreBeside, HasOneMore, beside_at}
+use Rattle.dym_chain.specs.Differences.{TellsChanges, IsBeside, AreDifferences, HasOneMore, beside_at}
 use Rattle.dym_chain.specs.Chains.{EachKeeps, KeepsUntouched, KeepsFromBefore, KeepsFromNewest, no_entry, log_at}
 use Rattle.dym_chain.specs.Lawful.{logged_of}
-use Rattle.dym_chain.specs.Loads.{PacksTouched, KeepsSettled}
+use Rattle.dym_chain.specs.Loads.{PacksTouched, KeepsUnmodified}
 use Rattle.dym_chain.proofs.Places.{keeps_at, newest_there}
 use Rattle.dym_chain.proofs.Stands.{kind_full}
 
 -- ---- a look at what stands beside
 
-any_default : (beside : List (Option (List ℕ))) (i : ℕ) (a b : Option (List ℕ)) → i < length beside → get_or beside i a ≡ get_or beside i b
+any_default : (differences : List (Option (List ℕ))) (i : ℕ) (a b : Option (List ℕ)) → i < length differences → get_or differences i a ≡ get_or differences i b
 any_default [] i a b h = absurd (omega (arith, h))
-any_default (x ∷ beside) zero a b h = refl
-any_default (x ∷ beside) (suc i) a b h = any_default beside i a b (omega (arith, h))
+any_default (x ∷ differences) zero a b h = refl
+any_default (x ∷ differences) (suc i) a b h = any_default differences i a b (omega (arith, h))
 
-pub looked : (beside : List (Option (List ℕ))) (i : ℕ) (o : Option (List ℕ)) → true ≡ ltb i (length beside) → o ≡ slice_index_or beside i o → beside_at beside i ≡ o
-looked beside i o there is = any_default beside i None o (ltb-true i (length beside) (sym there)) ∙ sym is
+pub looked : (differences : List (Option (List ℕ))) (i : ℕ) (o : Option (List ℕ)) → true ≡ ltb i (length differences) → o ≡ slice_index_or differences i o → beside_at differences i ≡ o
+looked differences i o there is = any_default differences i None o (ltb-true i (length differences) (sym there)) ∙ sym is
 
-pub looked_past : (beside : List (Option (List ℕ))) (i : ℕ) → false ≡ ltb i (length beside) → beside_at beside i ≡ None
-looked_past beside i past = get_or_past beside i None (ltb-false i (length beside) (sym past))
+pub looked_past : (differences : List (Option (List ℕ))) (i : ℕ) → false ≡ ltb i (length differences) → beside_at differences i ≡ None
+looked_past differences i past = get_or_past differences i None (ltb-false i (length differences) (sym past))
 
 side_recorded : (v : Version) (before e : LogEntry) (o : Option (List ℕ)) (bytes : List ℕ) → IsBeside before e o → IsRecorded (logged_of v e) → record_of v e ≡ bytes → IsRecord (unwrap_or o bytes)
 side_recorded v before e None bytes side recorded is = (logged_of v e, recorded, is)
 side_recorded v before e (Some x) bytes side recorded is = (side.log, side.recorded, side.are)
 
-pub are_recorded : (v : Version) (logs : List LogEntry) (beside : List (Option (List ℕ))) (i : ℕ) (bytes : List ℕ) → AreBeside logs beside → 0 < i → i < length logs → IsRecorded (logged_of v (log_at logs i)) → bytes ≡ record_of v (log_at logs i) → IsRecord (unwrap_or (beside_at beside i) bytes)
-are_recorded v logs beside zero bytes sides some within recorded is = absurd (omega (arith, some))
-are_recorded v logs beside (suc i) bytes sides some within recorded is = side_recorded v (log_at logs i) (log_at logs (suc i)) (beside_at beside (suc i)) bytes (sides.each i within) recorded (sym is)
+pub are_recorded : (v : Version) (logs : List LogEntry) (differences : List (Option (List ℕ))) (i : ℕ) (bytes : List ℕ) → AreDifferences logs differences → 0 < i → i < length logs → IsRecorded (logged_of v (log_at logs i)) → bytes ≡ record_of v (log_at logs i) → IsRecord (unwrap_or (beside_at differences i) bytes)
+are_recorded v logs differences zero bytes sides some within recorded is = absurd (omega (arith, some))
+are_recorded v logs differences (suc i) bytes sides some within recorded is = side_recorded v (log_at logs i) (log_at logs (suc i)) (beside_at differences (suc i)) bytes (sides.each i within) recorded (sym is)
 
 -- ---- one log that is marked
 
@@ -67,19 +67,19 @@ IsMarked log s m = (k : ℕ) → heap_chunk m k ≡ marked (is_some (packed_by l
 
 pub mark_touches : (log : Logged) (s m : HeapState) → IsMarked log s m → PacksTouched m log
 mark_touches log s m is k was =
-    let parts = settled_parts (contains s.touched k) (is_some (get s.live k)) (is_some (packed_by log k)) (sym (ap is_settled (is k)) ∙ was) in
+    let parts = settled_parts (contains s.touched k) (is_some (get s.live k)) (is_some (packed_by log k)) (sym (ap is_unmodified (is k)) ∙ was) in
     none_packs (packed_by log k) parts.2
 
-pub mark_settles : (log : Logged) (s m : HeapState) → IsMarked log s m → KeepsSettled s m
+pub mark_settles : (log : Logged) (s m : HeapState) → IsMarked log s m → KeepsUnmodified s m
 mark_settles log s m is k was =
-    let parts = settled_parts (contains s.touched k) (is_some (get s.live k)) (is_some (packed_by log k)) (sym (ap is_settled (is k)) ∙ was) in
+    let parts = settled_parts (contains s.touched k) (is_some (get s.live k)) (is_some (packed_by log k)) (sym (ap is_unmodified (is k)) ∙ was) in
     is k ∙ ap (λ b. marked b (heap_chunk s k)) parts.2 ∙ (λ i. record { bytes = get s.live k; touched = unmarked (contains s.touched k) (is_some (get s.live k)) i })
 
-pub settles_on : (s m n : HeapState) → KeepsSettled s m → KeepsSettled m n → KeepsSettled s n
-settles_on s m n first second k was = let same = second k was in same ∙ first k (ap is_settled (sym same) ∙ was)
+pub settles_on : (s m n : HeapState) → KeepsUnmodified s m → KeepsUnmodified m n → KeepsUnmodified s n
+settles_on s m n first second k was = let same = second k was in same ∙ first k (ap is_unmodified (sym same) ∙ was)
 
-pub touches_on : (m n : HeapState) (log : Logged) → PacksTouched m log → KeepsSettled m n → PacksTouched n log
-touches_on m n log touched second k was = touched k (ap is_settled (sym (second k was)) ∙ was)
+pub touches_on : (m n : HeapState) (log : Logged) → PacksTouched m log → KeepsUnmodified m n → PacksTouched n log
+touches_on m n log touched second k was = touched k (ap is_unmodified (sym (second k was)) ∙ was)
 
 and_none : (s t : Bool) → (s && not (t || (s && false))) ≡ (s && not t)
 and_none true true = refl
@@ -110,65 +110,65 @@ own_tells v before e keeps k there none =
     ]
 
 beside_tells : (v : Version) (before e : LogEntry) (o : Option (List ℕ)) (bytes : List ℕ) (m : HeapState) → KeepsFromBefore before e → IsRecorded (logged_of v e) → bytes ≡ record_of v e → IsBeside before e o
-    → OfLog (unwrap_or o bytes) (PacksTouched m) → (k : ℕ) → is_settled (heap_chunk m k) ≡ true → contains_key e.copy k ≡ true → get before.copy k ≡ get e.copy k
+    → OfLog (unwrap_or o bytes) (PacksTouched m) → (k : ℕ) → is_unmodified (heap_chunk m k) ≡ true → contains_key e.copy k ≡ true → get before.copy k ≡ get e.copy k
 beside_tells v before e None bytes m keeps recorded is side touched k was there = own_tells v before e keeps k there (touched (logged_of v e) recorded (sym is) k was)
 beside_tells v before e (Some found) bytes m keeps recorded is side touched k was there = side.keeps k there (touched side.log side.recorded side.are k was)
 
-module _ (v : Version) (logs : List LogEntry) (beside : List (Option (List ℕ))) (records : List Numbered) (base n : ℕ) (s m : HeapState) (keeps : EachKeeps logs) (untouched : KeepsFromNewest s (newest logs)) (sides : AreBeside logs beside)
+module _ (v : Version) (logs : List LogEntry) (differences : List (Option (List ℕ))) (records : List Numbered) (base n : ℕ) (s m : HeapState) (keeps : EachKeeps logs) (untouched : KeepsFromNewest s (newest logs)) (sides : AreDifferences logs differences)
     (recorded : (i : ℕ) → i < length logs → IsRecorded (logged_of v (log_at logs i))) (bytes : (i : ℕ) → i < length logs → (record_at records (base + i)).bytes ≡ record_of v (log_at logs i))
-    (marks : (i : ℕ) → n ≤ i → i < length logs → OfLog (unwrap_or (beside_at beside i) (record_at records (base + i)).bytes) (PacksTouched m)) (settles : KeepsSettled s m) where
+    (marks : (i : ℕ) → n ≤ i → i < length logs → OfLog (unwrap_or (beside_at differences i) (record_at records (base + i)).bytes) (PacksTouched m)) (settles : KeepsUnmodified s m) where
   -- what isn't touched then has in each log from the one before n on the bytes that it has in the heap
-  same_down : (k : ℕ) → is_settled (heap_chunk m k) ≡ true → (d i : ℕ) → n ≤ suc i → suc (i + d) ≡ length logs → get (log_at logs i).copy k ≡ get m.live k
+  same_down : (k : ℕ) → is_unmodified (heap_chunk m k) ≡ true → (d i : ℕ) → n ≤ suc i → suc (i + d) ≡ length logs → get (log_at logs i).copy k ≡ get m.live k
   same_down k was zero i low here =
       let last : newest logs ≡ Some (log_at logs i) = newest_there logs i (omega arith) in
       let same = settles k was in
-      let parts = settled_parts (contains s.touched k) (is_some (get s.live k)) false (and_none (is_some (get s.live k)) (contains s.touched k) ∙ ap is_settled (sym same) ∙ was) in
+      let parts = settled_parts (contains s.touched k) (is_some (get s.live k)) false (and_none (is_some (get s.live k)) (contains s.touched k) ∙ ap is_unmodified (sym same) ∙ was) in
       (subst (KeepsFromNewest s) last untouched) k parts.0 parts.1 ∙ sym (ap (λ (c : ChunkMeaning). c.bytes) same)
   same_down k was (suc d) i low here =
       let within : suc i < length logs = omega arith in
       let above : get (log_at logs (suc i)).copy k ≡ get m.live k = same_down k was d (suc i) (omega arith) (omega arith) in
       let live : is_some (get m.live k) ≡ true = both_first (is_some (get m.live k)) (not (contains m.touched k)) was in
-      beside_tells v (log_at logs i) (log_at logs (suc i)) (beside_at beside (suc i)) (record_at records (base + suc i)).bytes m (keeps_at logs i keeps within) (recorded (suc i) within) (bytes (suc i) within) (sides.each i within)
+      beside_tells v (log_at logs i) (log_at logs (suc i)) (beside_at differences (suc i)) (record_at records (base + suc i)).bytes m (keeps_at logs i keeps within) (recorded (suc i) within) (bytes (suc i) within) (sides.each i within)
       (marks (suc i) low within) k was (ap is_some above ∙ live)
       ∙ above
 
-  pub settled_back : (k : ℕ) → is_settled (heap_chunk m k) ≡ true → 0 < n → n ≤ length logs → get (log_at logs (n - 1)).copy k ≡ get m.live k
+  pub settled_back : (k : ℕ) → is_unmodified (heap_chunk m k) ≡ true → 0 < n → n ≤ length logs → get (log_at logs (n - 1)).copy k ≡ get m.live k
   settled_back k was some within = same_down k was (length logs - n) (n - 1) (omega arith) (omega arith)
 
 -- ---- what stands beside the logs after a step
 
-pub beside_none : (logs : List LogEntry) → AreBeside logs []
+pub beside_none : (logs : List LogEntry) → AreDifferences logs []
 beside_none logs = record { few = omega arith; each = λ k l. tt }
 
-pub beside_take : (n : ℕ) (logs : List LogEntry) (beside : List (Option (List ℕ))) → AreBeside logs beside → AreBeside (take n logs) (take n beside)
-beside_take n logs beside is = record {
-  few = (let a = length-take n logs in let b = length-take n beside in let f = is.few in omega arith);
+pub beside_take : (n : ℕ) (logs : List LogEntry) (differences : List (Option (List ℕ))) → AreDifferences logs differences → AreDifferences (take n logs) (take n differences)
+beside_take n logs differences is = record {
+  few = (let a = length-take n logs in let b = length-take n differences in let f = is.few in omega arith);
   each = λ k l.
       let a = length-take n logs in
-      let below : suc k < n = omega arith in
+      let base_logs : suc k < n = omega arith in
       let e : log_at (take n logs) k ≡ log_at logs k = get_or-take n logs k no_entry (omega arith) in
-      let f : log_at (take n logs) (suc k) ≡ log_at logs (suc k) = get_or-take n logs (suc k) no_entry below in
-      let o : beside_at (take n beside) (suc k) ≡ beside_at beside (suc k) = get_or-take n beside (suc k) None below in
-      subst (λ x. IsBeside x (log_at (take n logs) (suc k)) (beside_at (take n beside) (suc k))) (sym e)
-      (subst (λ x. IsBeside (log_at logs k) x (beside_at (take n beside) (suc k))) (sym f)
+      let f : log_at (take n logs) (suc k) ≡ log_at logs (suc k) = get_or-take n logs (suc k) no_entry base_logs in
+      let o : beside_at (take n differences) (suc k) ≡ beside_at differences (suc k) = get_or-take n differences (suc k) None base_logs in
+      subst (λ x. IsBeside x (log_at (take n logs) (suc k)) (beside_at (take n differences) (suc k))) (sym e)
+      (subst (λ x. IsBeside (log_at logs k) x (beside_at (take n differences) (suc k))) (sym f)
       (subst (IsBeside (log_at logs k) (log_at logs (suc k))) (sym o) (is.each k (omega arith))));
 }
 
-pub beside_drop : (n : ℕ) (logs : List LogEntry) (beside : List (Option (List ℕ))) → AreBeside logs beside → AreBeside (drop n logs) (drop n beside)
-beside_drop n logs beside is = record {
-  few = (let a = length-drop n logs in let b = length-drop n beside in let f = is.few in omega arith);
+pub beside_drop : (n : ℕ) (logs : List LogEntry) (differences : List (Option (List ℕ))) → AreDifferences logs differences → AreDifferences (drop n logs) (drop n differences)
+beside_drop n logs differences is = record {
+  few = (let a = length-drop n logs in let b = length-drop n differences in let f = is.few in omega arith);
   each = λ k l.
       let a = length-drop n logs in
       let at : n + suc k ≡ suc (n + k) = omega arith in
       let e : log_at (drop n logs) k ≡ log_at logs (n + k) = get_or-drop n logs k no_entry in
       let f : log_at (drop n logs) (suc k) ≡ log_at logs (suc (n + k)) = get_or-drop n logs (suc k) no_entry ∙ ap (log_at logs) at in
-      let o : beside_at (drop n beside) (suc k) ≡ beside_at beside (suc (n + k)) = get_or-drop n beside (suc k) None ∙ ap (beside_at beside) at in
-      subst (λ x. IsBeside x (log_at (drop n logs) (suc k)) (beside_at (drop n beside) (suc k))) (sym e)
-      (subst (λ x. IsBeside (log_at logs (n + k)) x (beside_at (drop n beside) (suc k))) (sym f)
+      let o : beside_at (drop n differences) (suc k) ≡ beside_at differences (suc (n + k)) = get_or-drop n differences (suc k) None ∙ ap (beside_at differences) at in
+      subst (λ x. IsBeside x (log_at (drop n logs) (suc k)) (beside_at (drop n differences) (suc k))) (sym e)
+      (subst (λ x. IsBeside (log_at logs (n + k)) x (beside_at (drop n differences) (suc k))) (sym f)
       (subst (IsBeside (log_at logs (n + k)) (log_at logs (suc (n + k)))) (sym o) (is.each (n + k) (omega arith))));
 }
 
-pub beside_same : (logs : List LogEntry) (old new : List (Option (List ℕ))) → AreBeside logs old → length new ≤ length logs → ((k : ℕ) → beside_at new k ≡ beside_at old k) → AreBeside logs new
+pub beside_same : (logs : List LogEntry) (old new : List (Option (List ℕ))) → AreDifferences logs old → length new ≤ length logs → ((k : ℕ) → beside_at new k ≡ beside_at old k) → AreDifferences logs new
 beside_same logs old new is few same = record {
   few = few;
   each = λ k l. subst (IsBeside (log_at logs k) (log_at logs (suc k))) (sym (same (suc k))) (is.each k l);
@@ -192,19 +192,19 @@ tells_found v s t before e keeps packable fits is =
     }
 
 -- a log of a heap is taken, and the record of what it found touched may stand beside it
-pub beside_push : (logs : List LogEntry) (old new : List (Option (List ℕ))) (e : LogEntry) (bytes : List ℕ) → AreBeside logs old → HasOneMore old new (length logs) bytes → ((before : LogEntry) → newest logs ≡ Some before → TellsChanges before e bytes)
-    → AreBeside (logs ++ e ∷ []) new
+pub beside_push : (logs : List LogEntry) (old new : List (Option (List ℕ))) (e : LogEntry) (bytes : List ℕ) → AreDifferences logs old → HasOneMore old new (length logs) bytes → ((before : LogEntry) → newest logs ≡ Some before → TellsChanges before e bytes)
+    → AreDifferences (logs ++ e ∷ []) new
 beside_push logs old new e bytes is more tells = record {
   few = (let f = more.few in let a = length-append logs (e ∷ []) in omega arith);
   each = λ k l.
       let a = length-append logs (e ∷ []) in
       let first : log_at (logs ++ e ∷ []) k ≡ log_at logs k = get_or_append_left logs (e ∷ []) no_entry k (omega arith) in
       elim (cases_lt (suc k) (length logs)) as (λ _. IsBeside (log_at (logs ++ e ∷ []) k) (log_at (logs ++ e ∷ []) (suc k)) (beside_at new (suc k))) [
-        | inl below ↦
-            let second : log_at (logs ++ e ∷ []) (suc k) ≡ log_at logs (suc k) = get_or_append_left logs (e ∷ []) no_entry (suc k) below in
+        | inl base_logs ↦
+            let second : log_at (logs ++ e ∷ []) (suc k) ≡ log_at logs (suc k) = get_or_append_left logs (e ∷ []) no_entry (suc k) base_logs in
             subst (λ x. IsBeside x (log_at (logs ++ e ∷ []) (suc k)) (beside_at new (suc k))) (sym first)
             (subst (λ x. IsBeside (log_at logs k) x (beside_at new (suc k))) (sym second)
-            (subst (IsBeside (log_at logs k) (log_at logs (suc k))) (sym (more.same (suc k) below)) (is.each k below)))
+            (subst (IsBeside (log_at logs k) (log_at logs (suc k))) (sym (more.same (suc k) base_logs)) (is.each k base_logs)))
         | inr past ↦
             let at : suc k ≡ length logs = omega arith in
             let last : newest logs ≡ Some (log_at logs k) = newest_there logs k (sym at) in

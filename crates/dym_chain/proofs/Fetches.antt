@@ -8,7 +8,7 @@ use Rattle.std.proofs.lemmas.Bool.{cond-true, cond-false}
 use Rattle.dym_base.specs.Heaps.{Live, HeapState}
 use Rattle.dym_base.specs.Packed.{Logged}
 use Rattle.dym_base.specs.StandsFor.{packed_by, or_else, newest_packed, LogsStandFor}
-use Rattle.dym_heap.specs.Wanted.{ChunkMeaning, heap_chunk, fetched, is_settled, IsReshaped}
+use Rattle.dym_heap.specs.Fetches.{ChunkMeaning, heap_chunk, fetched, is_unmodified, IsReshaped}
 use Rattle.dym_chain.specs.Loads.{AreFetched}
 use Rattle.dym_chain.proofs.Stands.{or_some}
 
@@ -68,9 +68,9 @@ unwanted true h = refl
 unwanted false h = absurd cc
 
 -- a handle of the copy
-chunk_back : (copy : Live) (k : ℕ) (np : Option (List ℕ)) (m r f : ChunkMeaning) → contains_key copy k ≡ true → np ≡ get copy k → IsReshaped true m r → f ≡ fetched np r → (is_settled m ≡ true → get copy k ≡ m.bytes)
+chunk_back : (copy : Live) (k : ℕ) (np : Option (List ℕ)) (m r f : ChunkMeaning) → contains_key copy k ≡ true → np ≡ get copy k → IsReshaped true m r → f ≡ fetched np r → (is_unmodified m ≡ true → get copy k ≡ m.bytes)
     → f ≡ record { bytes = get copy k; touched = false }
-chunk_back copy k np m r f has packed shaped fetch settled =
+chunk_back copy k np m r f has packed shaped fetch unmodified =
     elim r.touched as (λ b. r.touched ≡ b → f ≡ record { bytes = get copy k; touched = false }) [
       | true ↦ λ t.
           let some : is_some np ≡ true = ap is_some packed ∙ has in
@@ -78,8 +78,8 @@ chunk_back copy k np m r f has packed shaped fetch settled =
           let mark : (r.touched && not (is_some np)) ≡ false = (λ i. t i && not (some i)) in
           fetch ∙ (λ i. record { bytes = bytes i; touched = mark i })
       | false ↦ λ t.
-          let was : is_settled m ≡ true = unwanted (is_settled m) (sym shaped.wanted ∙ t) in
-          let bytes : cond r.touched (or_else np r.bytes) r.bytes ≡ get copy k = cond-false r.touched (or_else np r.bytes) r.bytes t ∙ shaped.kept refl t ∙ sym (settled was) in
+          let was : is_unmodified m ≡ true = unwanted (is_unmodified m) (sym shaped.wanted ∙ t) in
+          let bytes : cond r.touched (or_else np r.bytes) r.bytes ≡ get copy k = cond-false r.touched (or_else np r.bytes) r.bytes t ∙ shaped.valid_shelf refl t ∙ sym (unmodified was) in
           let mark : (r.touched && not (is_some np)) ≡ false = (λ i. t i && not (is_some np)) in
           fetch ∙ (λ i. record { bytes = bytes i; touched = mark i })
     ] refl
@@ -94,13 +94,13 @@ chunk_gone np m r f shaped fetch =
     fetch ∙ (λ i. record { bytes = bytes i; touched = mark i })
 
 -- the heap was shaped to the copy, and what it wants was fetched from the logs that stand for it
-pub restored_state : (m r f : HeapState) (copy : Live) (logs : List Logged) → ((k : ℕ) → is_settled (heap_chunk m k) ≡ true → get copy k ≡ get m.live k)
+pub restored_state : (m r f : HeapState) (copy : Live) (logs : List Logged) → ((k : ℕ) → is_unmodified (heap_chunk m k) ≡ true → get copy k ≡ get m.live k)
     → ((k : ℕ) → IsReshaped (contains_key copy k) (heap_chunk m k) (heap_chunk r k)) → LogsStandFor logs copy → AreFetched logs r f → f ≡ record { live = copy; touched = set.empty }
-restored_state m r f copy logs settled shaped stand fetch =
+restored_state m r f copy logs unmodified shaped stand fetch =
     let each : (k : ℕ) → heap_chunk f k ≡ record { bytes = get copy k; touched = false } = λ k.
     elim (contains_key copy k) as (λ b. contains_key copy k ≡ b → heap_chunk f k ≡ record { bytes = get copy k; touched = false }) [
       | true ↦ λ has.
-          chunk_back copy k (newest_packed logs k) (heap_chunk m k) (heap_chunk r k) (heap_chunk f k) has (stand.bytes k has) (subst (λ b. IsReshaped b (heap_chunk m k) (heap_chunk r k)) has (shaped k)) (fetch k) (settled k)
+          chunk_back copy k (newest_packed logs k) (heap_chunk m k) (heap_chunk r k) (heap_chunk f k) has (stand.bytes k has) (subst (λ b. IsReshaped b (heap_chunk m k) (heap_chunk r k)) has (shaped k)) (fetch k) (unmodified k)
       | false ↦ λ gone.
           chunk_gone (newest_packed logs k) (heap_chunk m k) (heap_chunk r k) (heap_chunk f k) (subst (λ b. IsReshaped b (heap_chunk m k) (heap_chunk r k)) gone (shaped k)) (fetch k)
           ∙ (λ i. record { bytes = sym (none_packs (get copy k) gone) i; touched = false })

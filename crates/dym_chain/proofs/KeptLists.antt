@@ -4,7 +4,7 @@ use Rattle.std.specs.List.{AllByRecursion}
 use Rattle.std.specs.FinMap.{contains_key}
 use Rattle.std.specs.FinSet.{contains}
 use Rattle.std.proofs.Math.Seq.{take-append_seam}
-use Rattle.dym_base.specs.Below.{oldest_depth}
+use Rattle.dym_base.specs.BaseLogs.{oldest_depth}
 use Rattle.dym_base.specs.LawfulLists as lawful
 use Rattle.dym_base.specs.LawfulLists.{IsLawfulList, StartsFull, MayFollow, FirstMayFollow, EachMayFollow, depths_from}
 use Rattle.dym_base.specs.Objects.{LogEntry, kind_of}
@@ -16,7 +16,7 @@ use Rattle.dym_base.specs.declared.command.Kind.TheVariants.{Full, Inc}
 use Rattle.dym_base.proofs.Runs.{follows_take}
 use Rattle.dym_chain.specs.Keeps.{bytes_of}
 use Rattle.dym_chain.specs.Chains.{ChainMeaning, all_logs, log_at, KeepsFromBefore, FirstKeeps, EachKeeps}
-use Rattle.dym_chain.specs.Kept.{AreKept}
+use Rattle.dym_chain.specs.KeptRecords.{AreKeptRecords}
 use Rattle.dym_chain.specs.Lawful.{IsLawful, logged_of}
 use Rattle.dym_chain.proofs.Stands.{kind_full, kind_inc}
 use Rattle.dym_chain.proofs.Lawfuls.{packed_of, logged_all, stands}
@@ -59,13 +59,13 @@ base_between : (v : Version) (logs : List LogEntry) (n : ℕ) → EachFollows lo
 base_between v [] n each full within is = absurd (omega arith)
 base_between v (e ∷ es) n each full within is = all_between v e es n each (omega arith) (omega (arith, is, full))
 
-are_based : (v : Version) (below logs : List LogEntry) → EachFollows (below ++ logs) → oldest_depth (below ++ logs) ≡ 0 → length below ≡ oldest_depth logs → AllByRecursion (λ (l : Logged). l.kind ≡ Inc) (take (oldest_depth logs) (drop 1 (map (logged_of v) (below ++ logs))))
-are_based v below [] each full base = tt
-are_based v below (e ∷ logs) each full base =
-    let at : log_at (below ++ (e ∷ logs)) (length below + 0) ≡ e = Rattle.std.proofs.Math.Seq.get_or-append-add below (e ∷ logs) 0 Rattle.dym_chain.specs.Chains.no_entry in
-    let place : length below + 0 ≡ e.depth = omega (arith, base) in
-    base_between v (below ++ (e ∷ logs)) e.depth each full (omega (arith, length-append below (e ∷ logs), base))
-    (ap (λ n. (log_at (below ++ (e ∷ logs)) n).depth) (sym place) ∙ ap (λ (f : LogEntry). f.depth) at)
+are_based : (v : Version) (base_logs logs : List LogEntry) → EachFollows (base_logs ++ logs) → oldest_depth (base_logs ++ logs) ≡ 0 → length base_logs ≡ oldest_depth logs → AllByRecursion (λ (l : Logged). l.kind ≡ Inc) (take (oldest_depth logs) (drop 1 (map (logged_of v) (base_logs ++ logs))))
+are_based v base_logs [] each full base = tt
+are_based v base_logs (e ∷ logs) each full base =
+    let at : log_at (base_logs ++ (e ∷ logs)) (length base_logs + 0) ≡ e = Rattle.std.proofs.Math.Seq.get_or-append-add base_logs (e ∷ logs) 0 Rattle.dym_chain.specs.Chains.no_entry in
+    let place : length base_logs + 0 ≡ e.depth = omega (arith, base) in
+    base_between v (base_logs ++ (e ∷ logs)) e.depth each full (omega (arith, length-append base_logs (e ∷ logs), base))
+    (ap (λ n. (log_at (base_logs ++ (e ∷ logs)) n).depth) (sym place) ∙ ap (λ (f : LogEntry). f.depth) at)
 
 -- the depth of a log that may stand after one of depth n
 pub depth_is : (e : LogEntry) (n : ℕ) → (e.depth ≡ 0) ⊎ (e.depth ≡ n + 1) → lawful.depth_after n (kind_of e) ≡ e.depth
@@ -94,16 +94,16 @@ few_shallow e (f ∷ es) each few =
     ] in
     (omega arith, few_shallow f es each.1 next)
 
-below_shallow : (below : List LogEntry) → EachFollows below → oldest_depth below ≡ 0 → length below ≤ 31 → AllByRecursion (λ (f : LogEntry). f.depth ≤ 31) below
+below_shallow : (base_logs : List LogEntry) → EachFollows base_logs → oldest_depth base_logs ≡ 0 → length base_logs ≤ 31 → AllByRecursion (λ (f : LogEntry). f.depth ≤ 31) base_logs
 below_shallow [] each full few = tt
 below_shallow (e ∷ es) each full few = few_shallow e es each (omega (arith, full, few))
 
-oldest_below : (below logs : List LogEntry) → oldest_depth (below ++ logs) ≡ 0 → oldest_depth below ≡ 0
+oldest_below : (base_logs logs : List LogEntry) → oldest_depth (base_logs ++ logs) ≡ 0 → oldest_depth base_logs ≡ 0
 oldest_below [] logs full = refl
 oldest_below (e ∷ es) logs full = full
 
-follows_below : (below logs : List LogEntry) → EachFollows (below ++ logs) → EachFollows below
-follows_below below logs each = subst EachFollows (take-append_seam below logs) (follows_take (length below) (below ++ logs) each)
+follows_below : (base_logs logs : List LogEntry) → EachFollows (base_logs ++ logs) → EachFollows base_logs
+follows_below base_logs logs each = subst EachFollows (take-append_seam base_logs logs) (follows_take (length base_logs) (base_logs ++ logs) each)
 
 all_append : (P : LogEntry → Type 0) (xs ys : List LogEntry) → AllByRecursion P xs → AllByRecursion P ys → AllByRecursion P (xs ++ ys)
 all_append P [] ys all others = others
@@ -143,14 +143,14 @@ each_may_follow v (e ∷ es) follows keeps = (first_may_follow v e es follows.0 
 pub lawful_logs : (c : ChainMeaning) (law : IsLawful c) → lawful.IsLawful law.version (oldest_depth c.logs) (map (logged_of law.version) (all_logs c))
 lawful_logs c law =
     let v = law.version in
-    let few : length c.below ≤ 31 = omega (arith, law.base, oldest_small c.logs law.list.1) in
+    let few : length c.base_logs ≤ 31 = omega (arith, law.base, oldest_small c.logs law.list.1) in
     let small : AllByRecursion (λ (f : LogEntry). f.depth ≤ 31) (all_logs c) =
-    all_append (λ (f : LogEntry). f.depth ≤ 31) c.below c.logs (below_shallow c.below (follows_below c.below c.logs law.follows) (oldest_below c.below c.logs law.full) few) law.list.1 in
+    all_append (λ (f : LogEntry). f.depth ≤ 31) c.base_logs c.logs (below_shallow c.base_logs (follows_below c.base_logs c.logs law.follows) (oldest_below c.base_logs c.logs law.full) few) law.list.1 in
     record {
       recorded = logged_all v (all_logs c) law.recorded;
       version = have_version v (all_logs c);
       full = starts_full v (all_logs c) law.full;
-      base = are_based v c.below c.logs law.follows law.full law.base;
+      base = are_based v c.base_logs c.logs law.follows law.full law.base;
       shallow = are_shallow v (all_logs c) law.follows law.full small;
       follow = each_may_follow v (all_logs c) law.follows law.keeps;
     }
@@ -158,7 +158,7 @@ lawful_logs c law =
 pub lawful_list : (c : ChainMeaning) (law : IsLawful c) → IsLawfulList law.version (oldest_depth c.logs) (bytes_of c.records)
 lawful_list c law = (map (logged_of law.version) (all_logs c), lawful_logs c law, packed_of law.version (all_logs c) ∙ sym law.records)
 
-pub are_kept : (c : ChainMeaning) → IsLawful c → AreKept c
+pub are_kept : (c : ChainMeaning) → IsLawful c → AreKeptRecords c
 are_kept c law = record {
   version = law.version;
   records = law.records;

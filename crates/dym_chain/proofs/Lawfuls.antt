@@ -10,7 +10,7 @@ use Rattle.dym_base.specs.StandsFor.{LogsStandFor}
 use Rattle.dym_base.specs.declared.command.Version.{Version}
 use Rattle.dym_base.proofs.Runs.{all_take, all_drop}
 use Rattle.dym_chain.specs.Keeps.{bytes_of}
-use Rattle.dym_base.specs.Below.{oldest_depth}
+use Rattle.dym_base.specs.BaseLogs.{oldest_depth}
 use Rattle.dym_chain.specs.Chains.{ChainMeaning, all_logs, no_entry, log_at, StandsForCopies}
 use Rattle.dym_chain.specs.Lawful.{IsLawful, logged_of}
 use Rattle.dym_chain.proofs.Stands.{stands_at}
@@ -25,19 +25,19 @@ pub logged_all : (v : Version) (logs : List LogEntry) → AllByRecursion (λ (e 
 logged_all v [] all = tt
 logged_all v (e ∷ logs) all = (all.0, logged_all v logs all.1)
 
-pub at_place : (c : ChainMeaning) (k : ℕ) → log_at (all_logs c) (length c.below + k) ≡ log_at c.logs k
-at_place c k = get_or-append-add c.below c.logs k no_entry
+pub at_place : (c : ChainMeaning) (k : ℕ) → log_at (all_logs c) (length c.base_logs + k) ≡ log_at c.logs k
+at_place c k = get_or-append-add c.base_logs c.logs k no_entry
 
 pub stands : (c : ChainMeaning) → IsLawful c → StandsForCopies c
 stands c law k within =
     let v = law.version in
-    let i : ℕ = length c.below + k in
+    let i : ℕ = length c.base_logs + k in
     let e : LogEntry = log_at (all_logs c) i in
     let is : e ≡ log_at c.logs k = at_place c k in
-    let inside : i < length (all_logs c) = omega (arith, length-append c.below c.logs, within) in
+    let inside : i < length (all_logs c) = omega (arith, length-append c.base_logs c.logs, within) in
     let d : ℕ = (log_at c.logs k).depth in
     let part : List LogEntry = take (d + 1) (drop (i - d) (all_logs c)) in
-    let base : length c.below + k - d ≡ oldest_depth c.logs + k - d = ap (λ n. n + k - d) law.base in
+    let base : length c.base_logs + k - d ≡ oldest_depth c.logs + k - d = ap (λ n. n + k - d) law.base in
     let stand : LogsStandFor (map (logged_of v) part) (log_at c.logs k).copy =
     subst (λ (f : LogEntry). LogsStandFor (map (logged_of v) (take (f.depth + 1) (drop (i - f.depth) (all_logs c)))) f.copy) is (stands_at v (all_logs c) law.follows law.keeps law.full i inside) in
     let R : LogEntry → Type 0 = λ f. IsRecorded (logged_of v f) in

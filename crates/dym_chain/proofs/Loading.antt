@@ -7,8 +7,8 @@ use Rattle.dym_base.specs.Packed.{Logged, packed}
 use Rattle.dym_base.specs.declared.command.Version.{Version}
 use Rattle.dym_base.specs.declared.command.Version.TheVariants.{One}
 use Rattle.dym_base.specs.Recorded.{IsRecorded}
-use Rattle.dym_pack.specs.Reading.{OfLog}
-use Rattle.dym_heap.specs.Wanted.{heap_chunk, fetched}
+use Rattle.dym_pack.specs.ParsedAreas.{OfLog}
+use Rattle.dym_heap.specs.Fetches.{heap_chunk, fetched}
 use Rattle.dym_base.specs.StandsFor.{packed_by}
 use Rattle.dym_slots.specs.Meanings.{Numbered, no_record, record_at}
 use Rattle.dym_chain.specs.Keeps.{bytes_of}
@@ -60,19 +60,19 @@ logs_len records first count logs within are = sym (length-map logs packed) ∙ 
 pub fetched_step : (records : List Numbered) (last count back : ℕ) (rec : List ℕ) (logs : List Logged) (old mid new : HeapState) → last < length records → count ≤ last + 1 → back < count → rec ≡ (record_at records (last - back)).bytes
     → AllByRecursion IsRecorded logs → map packed logs ≡ take count (drop (last + 1 - count) (bytes_of records)) → AreFetched (drop (count - back) logs) old mid
     → OfLog rec (λ log. (k : ℕ) → heap_chunk new k ≡ fetched (packed_by log k) (heap_chunk mid k)) → AreFetched (drop (count - (back + 1)) logs) old new
-fetched_step records last count back rec logs old mid new inside_last there below is all are before next =
+fetched_step records last count back rec logs old mid new inside_last there base_logs is all are before next =
     let first : ℕ = last + 1 - count in
     let place : ℕ = last - back in
     let n : ℕ = place - first in
     let within : first + count ≤ length records = omega (arith, inside_last, there) in
-    let low : first ≤ place = omega (arith, there, below) in
-    let high : place < first + count = omega (arith, there, below) in
+    let low : first ≤ place = omega (arith, there, base_logs) in
+    let high : place < first + count = omega (arith, there, base_logs) in
     let len = logs_len records first count logs within are in
     let inside : n < length logs = omega (arith, len, low, high) in
     let l : Logged = get_or logs n some_log in
     let bytes : packed l ≡ rec = log_at_part records first count place rec logs low high within is are inside in
-    let at : count - (back + 1) ≡ n = omega (arith, there, below) in
-    let behind : suc n ≡ count - back = omega (arith, there, below) in
+    let at : count - (back + 1) ≡ n = omega (arith, there, base_logs) in
+    let behind : suc n ≡ count - back = omega (arith, there, base_logs) in
     let split : drop n logs ≡ l ∷ drop (suc n) logs = drop-cons logs n some_log inside in
     subst (λ k. AreFetched (drop k logs) old new) (sym at)
     (subst (λ p. AreFetched p old new) (sym split)

@@ -16,7 +16,7 @@ use Rattle.dym_pack.specs.Areas.{found_by}
 use Rattle.dym_pack.specs.Laws.{SaysTheSame}
 use Rattle.dym_pack.proofs.Tells.{record_tells}
 use Rattle.dym_heap.proofs.AreaLists.{LiesIn, lies_in}
-use Rattle.dym_chain.specs.Adopted.{run_to, entry_in, entries_from}
+use Rattle.dym_chain.specs.AdoptedLogs.{run_to, entry_in, entries_from}
 use Rattle.dym_chain.proofs.Stands.{none_of, packed_push}
 use Rattle.dym_chain.proofs.StoodFor.{stood_same}
 

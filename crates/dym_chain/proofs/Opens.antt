@@ -7,22 +7,22 @@ use Rattle.dym_base.specs.declared.command.Version.TheVariants.{One}
 use Rattle.dym_slots.specs.Meanings.{Numbered, KeepMeaning}
 use Rattle.dym_chain.specs.Chains.{ChainMeaning, Belongs, StandsForCopies}
 use Rattle.dym_chain.specs.Lawful.{IsLawful, entry_of}
-use Rattle.dym_chain.specs.Told.{Told}
-use Rattle.dym_chain.specs.Whole.{chain_of, IsChain}
+use Rattle.dym_chain.specs.Copies.{ChainCopies}
+use Rattle.dym_chain.specs.ChainInvariants.{chain_of, IsChain}
 use Rattle.dym_chain.specs.declared.entry.Entry.{Entry}
 
-abbrev pub no_logs : Told
-no_logs = record { below = []; logs = [] }
+abbrev pub no_logs : ChainCopies
+no_logs = record { base_logs = []; logs = [] }
 
 abbrev pub no_chain : Origin → ChainMeaning
-no_chain origin = record { below = []; logs = []; records = []; made = 0; lifted = None; origin = origin }
+no_chain origin = record { base_logs = []; logs = []; records = []; next_number = 0; lifted = None; origin = origin }
 
-pub opened : (keep : KeepMeaning) (told : Told) → keep.records ≡ [] → keep.made ≡ 0 → keep.lifted ≡ None → told ≡ no_logs → chain_of told keep ≡ no_chain keep.origin
-opened keep told records made idle told_is =
-    ap (λ (t : Told). chain_of t keep) told_is
-    ∙ ap (λ (r : List Numbered). record { below = []; logs = []; records = r; made = keep.made; lifted = keep.lifted; origin = keep.origin }) records
-    ∙ ap (λ m. record { below = []; logs = []; records = []; made = m; lifted = keep.lifted; origin = keep.origin }) made
-    ∙ ap (λ (l : Option ℕ). record { below = []; logs = []; records = []; made = 0; lifted = l; origin = keep.origin }) idle
+pub opened : (keep : KeepMeaning) (copies : ChainCopies) → keep.records ≡ [] → keep.next_number ≡ 0 → keep.lifted ≡ None → copies ≡ no_logs → chain_of copies keep ≡ no_chain keep.origin
+opened keep copies records next_number idle told_is =
+    ap (λ (t : ChainCopies). chain_of t keep) told_is
+    ∙ ap (λ (r : List Numbered). record { base_logs = []; logs = []; records = r; next_number = keep.next_number; lifted = keep.lifted; origin = keep.origin }) records
+    ∙ ap (λ m. record { base_logs = []; logs = []; records = []; next_number = m; lifted = keep.lifted; origin = keep.origin }) next_number
+    ∙ ap (λ (l : Option ℕ). record { base_logs = []; logs = []; records = []; next_number = 0; lifted = l; origin = keep.origin }) idle
 
 pub lawful_open : (origin : Origin) → IsLawful (no_chain origin)
 lawful_open origin = record {
@@ -36,10 +36,10 @@ lawful_open origin = record {
   base = refl;
 }
 
-pub chain_open : (kept : List Entry) (capacity : ℕ) (keep : KeepMeaning) (told : Told) → kept ≡ [] → 256 ≤ capacity → keep.records ≡ [] → keep.made ≡ 0 → keep.lifted ≡ None → told ≡ no_logs → IsChain kept capacity keep told
-chain_open kept capacity keep told items room records made idle told_is = record {
-  shows = record { entries = items ∙ ap (λ (t : Told). Rattle.std.proofs.Common.map entry_of t.logs) (sym told_is); room = room };
-  lawful = subst IsLawful (sym (opened keep told records made idle told_is)) (lawful_open keep.origin);
+pub chain_open : (kept : List Entry) (capacity : ℕ) (keep : KeepMeaning) (copies : ChainCopies) → kept ≡ [] → 256 ≤ capacity → keep.records ≡ [] → keep.next_number ≡ 0 → keep.lifted ≡ None → copies ≡ no_logs → IsChain kept capacity keep copies
+chain_open kept capacity keep copies items room records next_number idle told_is = record {
+  shows = record { entries = items ∙ ap (λ (t : ChainCopies). Rattle.std.proofs.Common.map entry_of t.logs) (sym told_is); room = room };
+  lawful = subst IsLawful (sym (opened keep copies records next_number idle told_is)) (lawful_open keep.origin);
 }
 
 pub belongs_open : (v : Version) (quota : ℕ) (s : HeapState) (origin : Origin) → Belongs v quota s (no_chain origin)

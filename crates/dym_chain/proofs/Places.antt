@@ -4,7 +4,7 @@ use Rattle.std.proofs.Math.Seq.{take-suc}
 use Rattle.std.proofs.lemmas.List.{length-drop, get_or-drop}
 use Rattle.dym_base.specs.Objects.{LogEntry, newest}
 use Rattle.dym_base.specs.RunLaws.{Follows, EachFollows}
-use Rattle.dym_base.specs.Below.{oldest_depth}
+use Rattle.dym_base.specs.BaseLogs.{oldest_depth}
 use Rattle.dym_chain.specs.Chains.{no_entry, log_at, KeepsFromBefore, FirstKeeps, EachKeeps}
 
 pub follows_at : (logs : List LogEntry) (i : ℕ) → EachFollows logs → suc i < length logs → Follows (log_at logs i) (log_at logs (suc i))

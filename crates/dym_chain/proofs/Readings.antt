@@ -13,9 +13,9 @@ use Rattle.dym_base.specs.Recorded.{IsRecorded}
 use Rattle.dym_base.specs.declared.command.Version.{Version}
 use Rattle.dym_base.specs.declared.command.Version.TheVariants.{One}
 use Rattle.dym_base.specs.declared.command.Kind.TheVariants.{Full, Inc}
-use Rattle.dym_pack.specs.Reading.{OfLog}
+use Rattle.dym_pack.specs.ParsedAreas.{OfLog}
 use Rattle.dym_slots.specs.Meanings.{Numbered, no_record, record_at}
-use Rattle.dym_chain.specs.Adopted.{run_to, entries_from, entries_of}
+use Rattle.dym_chain.specs.AdoptedLogs.{run_to, entries_from, entries_of}
 use Rattle.dym_chain.specs.Chains.{no_entry, log_at}
 use Rattle.dym_chain.specs.Keeps.{bytes_of}
 use Rattle.dym_chain.specs.Lawful.{entry_of}
@@ -137,10 +137,10 @@ module _ (v : Version) (first : ℕ) (logs : List Logged) (is : lawful.IsLawful 
   first_small none some =
       elim (cases_lt 0 (length records)) as (λ _. first ≤ 31) [
         | inl more ↦
-            let below : first < length records = some more in
-            let inside : first < length logs = (let n = as_many in omega (arith, n, below)) in
+            let base_logs : first < length records = some more in
+            let inside : first < length logs = (let n = as_many in omega (arith, n, base_logs)) in
             let deep = first_depth logs first inside is.full is.base in
-            let low = depth_small first below in
+            let low = depth_small first base_logs in
             omega (arith, deep, low)
         | inr zero_count ↦ (let start = none (omega (arith, zero_count)) in omega (arith, start))
       ]

@@ -10,18 +10,18 @@ use Rattle.dym_base.specs.Packed.{Logged, packed}
 use Rattle.dym_base.specs.StandsFor.{LogsStandFor}
 use Rattle.dym_base.specs.declared.command.Version.{Version}
 use Rattle.dym_base.specs.Recorded.{IsRecorded}
-use Rattle.dym_pack.specs.Reading.{OfLog}
-use Rattle.dym_heap.specs.Wanted.{heap_chunk, is_settled, IsReshaped}
+use Rattle.dym_pack.specs.ParsedAreas.{OfLog}
+use Rattle.dym_heap.specs.Fetches.{heap_chunk, is_unmodified, IsReshaped}
 use Rattle.dym_heap.specs.Meaning.{HeapMeaning}
 use Rattle.dym_region.specs.declared.segment.SegmentId.{SegmentId}
 use Rattle.dym_slots.specs.Meanings.{Numbered, KeepMeaning, no_record, record_at, up_to}
 use Rattle.dym_chain.specs.Keeps.{bytes_of}
 use Rattle.dym_chain.specs.Chains.{ChainMeaning, Belongs, all_logs, no_entry, log_at, object_of}
 use Rattle.dym_chain.specs.Lawful.{IsLawful, entry_of, logged_of}
-use Rattle.dym_chain.specs.Loads.{AreFetched, HaveVersion, KeepsSettled, PacksTouched}
-use Rattle.dym_chain.specs.Beside.{AreBeside, beside_at}
-use Rattle.dym_chain.specs.Told.{Told}
-use Rattle.dym_chain.specs.Whole.{chain_of, IsChain}
+use Rattle.dym_chain.specs.Loads.{AreFetched, HaveVersion, KeepsUnmodified, PacksTouched}
+use Rattle.dym_chain.specs.Differences.{AreDifferences, beside_at}
+use Rattle.dym_chain.specs.Copies.{ChainCopies}
+use Rattle.dym_chain.specs.ChainInvariants.{chain_of, IsChain}
 use Rattle.dym_chain.specs.declared.entry.Entry.{Entry}
 use Rattle.dym_base.proofs.Runs.{all_take, all_drop}
 use Rattle.dym_chain.proofs.Places.{first_depth, depth_within, newest_there}
@@ -36,7 +36,7 @@ use Rattle.dym_chain.proofs.Prunes.{records_count, base_is}
 
 -- the chain with its first n logs alone
 abbrev pub first_logs : ℕ → ChainMeaning → ChainMeaning
-first_logs n c = record c { logs = take n c.logs; records = take (length c.below + n) c.records }
+first_logs n c = record c { logs = take n c.logs; records = take (length c.base_logs + n) c.records }
 
 -- the answer of a restore
 
@@ -53,34 +53,34 @@ restored_is s c t n is some within =
     ∙ ap (λ o. restore_to (object_of s c) (take n c.logs) o) (last_of_first c.logs n some within)
 
 -- what holds where the first n logs are left
-pub record Restoring (keep : KeepMeaning) (told : Told) (n base depth time : ℕ) : Type 0 where
+pub record Restoring (keep : KeepMeaning) (copies : ChainCopies) (n base depth time : ℕ) : Type 0 where
   pub some : 0 < n
-  pub within : n ≤ length told.logs
-  pub base_is : base ≡ length told.below
-  pub depth_is : depth ≡ (log_at told.logs (n - 1)).depth
-  pub time_is : time ≡ (log_at told.logs (n - 1)).time
+  pub within : n ≤ length copies.logs
+  pub base_is : base ≡ length copies.base_logs
+  pub depth_is : depth ≡ (log_at copies.logs (n - 1)).depth
+  pub time_is : time ≡ (log_at copies.logs (n - 1)).time
   pub fits : depth ≤ base + (n - 1)
   pub inside : base + (n - 1) < length keep.records
   pub small : base + n < 1024
   pub shallow : depth ≤ 31
 
-pub restoring : (kept : List Entry) (capacity : ℕ) (keep : KeepMeaning) (told : Told) (n base depth time : ℕ) (d e : Entry) → IsChain kept capacity keep told → 0 < n → n ≤ length kept → base ≡ (get_or kept 0 d).depth → depth ≡ (get_or kept (n - 1) e).depth → time ≡ (get_or kept (n - 1) e).time → Restoring keep told n base depth time
-restoring kept capacity keep told n base depth time d e chain some within base_of depth_of time_of =
-    let c : ChainMeaning = chain_of told keep in
-    let count = count_same told.logs kept chain.shows.entries in
-    let there : n - 1 < length told.logs = omega (arith, count, some, within) in
-    let first : 0 < length told.logs = omega (arith, there) in
-    let at : base ≡ length told.below = base_of ∙ base_is kept capacity keep told d chain first in
-    let target = entry_at told.logs kept (n - 1) e chain.shows.entries there in
-    let low : depth ≡ (log_at told.logs (n - 1)).depth = depth_of ∙ ap (λ (x : Entry). x.depth) target in
-    let i_within : length told.below + (n - 1) < length (all_logs c) = omega (arith, length-append told.below told.logs, there) in
-    let deep = depth_within (all_logs c) chain.lawful.follows chain.lawful.full (length told.below + (n - 1)) i_within in
+pub restoring : (kept : List Entry) (capacity : ℕ) (keep : KeepMeaning) (copies : ChainCopies) (n base depth time : ℕ) (d e : Entry) → IsChain kept capacity keep copies → 0 < n → n ≤ length kept → base ≡ (get_or kept 0 d).depth → depth ≡ (get_or kept (n - 1) e).depth → time ≡ (get_or kept (n - 1) e).time → Restoring keep copies n base depth time
+restoring kept capacity keep copies n base depth time d e chain some within base_of depth_of time_of =
+    let c : ChainMeaning = chain_of copies keep in
+    let count = count_same copies.logs kept chain.shows.entries in
+    let there : n - 1 < length copies.logs = omega (arith, count, some, within) in
+    let first : 0 < length copies.logs = omega (arith, there) in
+    let at : base ≡ length copies.base_logs = base_of ∙ base_is kept capacity keep copies d chain first in
+    let target = entry_at copies.logs kept (n - 1) e chain.shows.entries there in
+    let low : depth ≡ (log_at copies.logs (n - 1)).depth = depth_of ∙ ap (λ (x : Entry). x.depth) target in
+    let i_within : length copies.base_logs + (n - 1) < length (all_logs c) = omega (arith, length-append copies.base_logs copies.logs, there) in
+    let deep = depth_within (all_logs c) chain.lawful.follows chain.lawful.full (length copies.base_logs + (n - 1)) i_within in
     let same = ap (λ (x : LogEntry). x.depth) (at_place c (n - 1)) in
     let records = records_count c chain.lawful in
     let Small : LogEntry → Type 0 = λ x. x.depth ≤ 31 in
-    let shallow : (log_at told.logs (n - 1)).depth ≤ 31 = all_at Small told.logs (n - 1) chain.lawful.list.1 there in
-    let oldest : (log_at told.logs 0).depth ≤ 31 = all_at Small told.logs 0 chain.lawful.list.1 first in
-    let first_is = first_depth told.logs first in
+    let shallow : (log_at copies.logs (n - 1)).depth ≤ 31 = all_at Small copies.logs (n - 1) chain.lawful.list.1 there in
+    let oldest : (log_at copies.logs 0).depth ≤ 31 = all_at Small copies.logs 0 chain.lawful.list.1 first in
+    let first_is = first_depth copies.logs first in
     let few = chain.lawful.list.0 in
     let base_law = chain.lawful.base in
     record {
@@ -96,10 +96,10 @@ restoring kept capacity keep told n base depth time d e chain some within base_o
     }
 
 -- the record of the log that is restored
-pub target_record : (c : ChainMeaning) (v : Version) (n base : ℕ) → bytes_of c.records ≡ map (record_of v) (all_logs c) → 0 < n → n ≤ length c.logs → base ≡ length c.below → base + (n - 1) < length c.records → (record_at (take (base + (n - 1) + 1) c.records) (base + (n - 1))).bytes ≡ record_of v (log_at c.logs (n - 1))
+pub target_record : (c : ChainMeaning) (v : Version) (n base : ℕ) → bytes_of c.records ≡ map (record_of v) (all_logs c) → 0 < n → n ≤ length c.logs → base ≡ length c.base_logs → base + (n - 1) < length c.records → (record_at (take (base + (n - 1) + 1) c.records) (base + (n - 1))).bytes ≡ record_of v (log_at c.logs (n - 1))
 target_record c v n base are some within base_is inside =
     let place : ℕ = base + (n - 1) in
-    let there : place < length (all_logs c) = omega (arith, length-append c.below c.logs, some, within, base_is) in
+    let there : place < length (all_logs c) = omega (arith, length-append c.base_logs c.logs, some, within, base_is) in
     ap (λ (r : Numbered). r.bytes) (get_or-take (place + 1) c.records place no_record (omega arith))
     ∙ sym (get_or-map (λ (r : Numbered). r.bytes) c.records place no_record [] inside)
     ∙ ap (λ (l : List (List ℕ)). get_or l place []) are
@@ -110,7 +110,7 @@ target_record c v n base are some within base_is inside =
 pub target_recorded : (c : ChainMeaning) (v : Version) (n : ℕ) → IsLawful c → bytes_of c.records ≡ map (record_of v) (all_logs c) → 0 < n → n ≤ length c.logs → IsRecorded (logged_of v (log_at c.logs (n - 1)))
 target_recorded c v n law are some within =
     let R : LogEntry → Type 0 = λ e. IsRecorded (logged_of v e) in
-    subst R (at_place c (n - 1)) (all_at R (all_logs c) (length c.below + (n - 1)) (recorded_at (all_logs c) v law.version (sym law.records ∙ are) law.recorded) (omega (arith, length-append c.below c.logs, some, within)))
+    subst R (at_place c (n - 1)) (all_at R (all_logs c) (length c.base_logs + (n - 1)) (recorded_at (all_logs c) v law.version (sym law.records ∙ are) law.recorded) (omega (arith, length-append c.base_logs c.logs, some, within)))
 
 pub of_version : (rec : List ℕ) (v : Version) (e : LogEntry) → rec ≡ record_of v e → OfLog rec (λ log. log.version ≡ v)
 of_version rec v e is log recorded same = version_same log (logged_of v e) (same ∙ is)
@@ -136,40 +136,40 @@ part_version c v a b are = subst (HaveVersion v) (part_records c v a b are) (hav
 pub lowered : (k k1 k2 k3 : KeepMeaning) (place : ℕ) → k1 ≡ up_to k place → k2 ≡ record k1 { lifted = Some place } → k3 ≡ record k2 { lifted = None } → k.lifted ≡ None → k3 ≡ up_to k place
 lowered k k1 k2 k3 place dropped out back idle =
     back ∙ ap (λ (x : KeepMeaning). record x { lifted = None }) (out ∙ ap (λ (x : KeepMeaning). record x { lifted = Some place }) dropped)
-    ∙ ap (λ (l : Option ℕ). record { records = take (place + 1) k.records; made = k.made; lifted = l; origin = k.origin }) (sym idle)
+    ∙ ap (λ (l : Option ℕ). record { records = take (place + 1) k.records; next_number = k.next_number; lifted = l; origin = k.origin }) (sym idle)
 
 -- the chain that the fields then show
-pub first_is : (keep keep' : KeepMeaning) (told told' : Told) (n base : ℕ) → 0 < n → base ≡ length told.below → keep' ≡ up_to keep (base + (n - 1)) → told' ≡ record { below = told.below; logs = take n told.logs } → chain_of told' keep' ≡ first_logs n (chain_of told keep)
-first_is keep keep' told told' n base some base_is keep_is told_is =
-    let sum : base + (n - 1) + 1 ≡ length told.below + n = omega (arith, some, base_is) in
-    ap (λ (x : Told). chain_of x keep') told_is
-    ∙ ap (chain_of (record { below = told.below; logs = take n told.logs })) keep_is
-    ∙ ap (λ m. record { below = told.below; logs = take n told.logs; records = take m keep.records; made = keep.made; lifted = keep.lifted; origin = keep.origin }) sum
+pub first_is : (keep keep' : KeepMeaning) (copies copies' : ChainCopies) (n base : ℕ) → 0 < n → base ≡ length copies.base_logs → keep' ≡ up_to keep (base + (n - 1)) → copies' ≡ record { base_logs = copies.base_logs; logs = take n copies.logs } → chain_of copies' keep' ≡ first_logs n (chain_of copies keep)
+first_is keep keep' copies copies' n base some base_is keep_is told_is =
+    let sum : base + (n - 1) + 1 ≡ length copies.base_logs + n = omega (arith, some, base_is) in
+    ap (λ (x : ChainCopies). chain_of x keep') told_is
+    ∙ ap (chain_of (record { base_logs = copies.base_logs; logs = take n copies.logs })) keep_is
+    ∙ ap (λ m. record { base_logs = copies.base_logs; logs = take n copies.logs; records = take m keep.records; next_number = keep.next_number; lifted = keep.lifted; origin = keep.origin }) sum
 
-pub chain_first : (kept kept' : List Entry) (capacity capacity' : ℕ) (keep keep' : KeepMeaning) (told told' : Told) (n base : ℕ) → IsChain kept capacity keep told → 0 < n → base ≡ length told.below → kept' ≡ take n kept → capacity' ≡ capacity → keep' ≡ up_to keep (base + (n - 1)) → told' ≡ record { below = told.below; logs = take n told.logs } → IsChain kept' capacity' keep' told'
-chain_first kept kept' capacity capacity' keep keep' told told' n base chain some base_is entries room keep_is told_is = record {
+pub chain_first : (kept kept' : List Entry) (capacity capacity' : ℕ) (keep keep' : KeepMeaning) (copies copies' : ChainCopies) (n base : ℕ) → IsChain kept capacity keep copies → 0 < n → base ≡ length copies.base_logs → kept' ≡ take n kept → capacity' ≡ capacity → keep' ≡ up_to keep (base + (n - 1)) → copies' ≡ record { base_logs = copies.base_logs; logs = take n copies.logs } → IsChain kept' capacity' keep' copies'
+chain_first kept kept' capacity capacity' keep keep' copies copies' n base chain some base_is entries room keep_is told_is = record {
   shows = record {
-    entries = entries ∙ ap (take n) chain.shows.entries ∙ take-map entry_of n told.logs ∙ ap (λ (t : Told). map entry_of t.logs) (sym told_is);
+    entries = entries ∙ ap (take n) chain.shows.entries ∙ take-map entry_of n copies.logs ∙ ap (λ (t : ChainCopies). map entry_of t.logs) (sym told_is);
     room = omega (arith, chain.shows.room, room);
   };
-  lawful = subst IsLawful (sym (first_is keep keep' told told' n base some base_is keep_is told_is)) (lawful_take (chain_of told keep) n some chain.lawful);
+  lawful = subst IsLawful (sym (first_is keep keep' copies copies' n base some base_is keep_is told_is)) (lawful_take (chain_of copies keep) n some chain.lawful);
 }
 
 -- the log that is restored, among all
-pub at_first : (c : ChainMeaning) (n base : ℕ) → 0 < n → base ≡ length c.below → log_at (all_logs (first_logs n c)) (base + (n - 1)) ≡ log_at c.logs (n - 1)
+pub at_first : (c : ChainMeaning) (n base : ℕ) → 0 < n → base ≡ length c.base_logs → log_at (all_logs (first_logs n c)) (base + (n - 1)) ≡ log_at c.logs (n - 1)
 at_first c n base some base_is =
     ap (λ b. log_at (all_logs (first_logs n c)) (b + (n - 1))) base_is ∙ at_place (first_logs n c) (n - 1) ∙ get_or-take n c.logs (n - 1) no_entry (omega (arith, some))
 
-pub first_inside : (c : ChainMeaning) (n base : ℕ) → 0 < n → n ≤ length c.logs → base ≡ length c.below → base + (n - 1) < length (all_logs (first_logs n c))
+pub first_inside : (c : ChainMeaning) (n base : ℕ) → 0 < n → n ≤ length c.logs → base ≡ length c.base_logs → base + (n - 1) < length (all_logs (first_logs n c))
 first_inside c n base some within base_is =
-    let a = length-append c.below (take n c.logs) in
+    let a = length-append c.base_logs (take n c.logs) in
     let b = length-take n c.logs in
     omega (arith, a, b, some, within, base_is)
 
 -- what stays as it was
 pub keeps_rest : (x c now : ChainMeaning) (n : ℕ) → x ≡ first_logs n c → c ≡ now → x ≡ record now { logs = x.logs; records = x.records }
 keeps_rest x c now n is same =
-    is ∙ ap (λ (y : ChainMeaning). record y { logs = take n c.logs; records = take (length c.below + n) c.records }) same
+    is ∙ ap (λ (y : ChainMeaning). record y { logs = take n c.logs; records = take (length c.base_logs + n) c.records }) same
     ∙ ap (λ (y : ChainMeaning). record now { logs = y.logs; records = y.records }) (sym is)
 
 pub heap_rest : (h h1 h2 h3 : HeapMeaning) → h1 ≡ record h { state = h1.state } → h2 ≡ record h1 { state = h2.state; held_ids = h2.held_ids } → h3 ≡ record h2 { state = h3.state } → h3 ≡ record h { state = h3.state; held_ids = h3.held_ids }
@@ -179,10 +179,10 @@ heap_rest h h1 h2 h3 marked shaped fetched =
     ∙ ap (λ (x : List SegmentId). record h { state = h3.state; held_ids = x }) (sym (ap (λ (x : HeapMeaning). x.held_ids) fetched))
 
 -- the record of a kept log
-pub log_record : (c : ChainMeaning) (v : Version) (i : ℕ) → IsLawful c → bytes_of c.records ≡ map (record_of v) (all_logs c) → i < length c.logs → (record_at c.records (length c.below + i)).bytes ≡ record_of v (log_at c.logs i)
+pub log_record : (c : ChainMeaning) (v : Version) (i : ℕ) → IsLawful c → bytes_of c.records ≡ map (record_of v) (all_logs c) → i < length c.logs → (record_at c.records (length c.base_logs + i)).bytes ≡ record_of v (log_at c.logs i)
 log_record c v i law are within =
-    let place : ℕ = length c.below + i in
-    let there : place < length (all_logs c) = omega (arith, length-append c.below c.logs, within) in
+    let place : ℕ = length c.base_logs + i in
+    let there : place < length (all_logs c) = omega (arith, length-append c.base_logs c.logs, within) in
     let count = records_count c law in
     sym (get_or-map (λ (r : Numbered). r.bytes) c.records place no_record [] (omega (arith, count, within)))
     ∙ ap (λ (l : List (List ℕ)). get_or l place []) are
@@ -192,25 +192,25 @@ log_record c v i law are within =
 pub log_recorded : (c : ChainMeaning) (v : Version) (i : ℕ) → IsLawful c → bytes_of c.records ≡ map (record_of v) (all_logs c) → i < length c.logs → IsRecorded (logged_of v (log_at c.logs i))
 log_recorded c v i law are within =
     let R : LogEntry → Type 0 = λ e. IsRecorded (logged_of v e) in
-    subst R (at_place c i) (all_at R (all_logs c) (length c.below + i) (recorded_at (all_logs c) v law.version (sym law.records ∙ are) law.recorded) (omega (arith, length-append c.below c.logs, within)))
+    subst R (at_place c i) (all_at R (all_logs c) (length c.base_logs + i) (recorded_at (all_logs c) v law.version (sym law.records ∙ are) law.recorded) (omega (arith, length-append c.base_logs c.logs, within)))
 
 -- where what the dropped logs changed is touched, what is fetched from those that stand for the copy leaves the copy
-pub restored_all : (c : ChainMeaning) (v : Version) (quota n depth : ℕ) (beside : List (Option (List ℕ))) (s m r f : HeapState) → IsLawful c → Belongs v quota s c → AreBeside c.logs beside → 0 < n → n ≤ length c.logs → depth ≡ (log_at c.logs (n - 1)).depth
-    → ((i : ℕ) → n ≤ i → i < length c.logs → OfLog (unwrap_or (beside_at beside i) (record_at c.records (length c.below + i)).bytes) (PacksTouched m)) → KeepsSettled s m
+pub restored_all : (c : ChainMeaning) (v : Version) (quota n depth : ℕ) (differences : List (Option (List ℕ))) (s m r f : HeapState) → IsLawful c → Belongs v quota s c → AreDifferences c.logs differences → 0 < n → n ≤ length c.logs → depth ≡ (log_at c.logs (n - 1)).depth
+    → ((i : ℕ) → n ≤ i → i < length c.logs → OfLog (unwrap_or (beside_at differences i) (record_at c.records (length c.base_logs + i)).bytes) (PacksTouched m)) → KeepsUnmodified s m
     → ((k : ℕ) → IsReshaped (contains_key (log_at c.logs (n - 1)).copy k) (heap_chunk m k) (heap_chunk r k))
-    → ((logs : List Logged) → AllByRecursion IsRecorded logs → map packed logs ≡ take (depth + 1) (drop (length c.below + (n - 1) - depth) (bytes_of (first_logs n c).records)) → AreFetched logs r f)
+    → ((logs : List Logged) → AllByRecursion IsRecorded logs → map packed logs ≡ take (depth + 1) (drop (length c.base_logs + (n - 1) - depth) (bytes_of (first_logs n c).records)) → AreFetched logs r f)
     → f ≡ record { live = (log_at c.logs (n - 1)).copy; touched = set.empty }
-restored_all c v quota n depth beside s m r f law belongs sides some within depth_is marked settles shaped fetched =
+restored_all c v quota n depth differences s m r f law belongs sides some within depth_is marked settles shaped fetched =
     let R : LogEntry → Type 0 = λ x. IsRecorded (logged_of v x) in
     let e : LogEntry = log_at c.logs (n - 1) in
-    let settled : (k : ℕ) → is_settled (heap_chunk m k) ≡ true → get e.copy k ≡ get m.live k = λ k was.
-    settled_back v c.logs beside c.records (length c.below) n s m belongs.keeps belongs.untouched sides (λ i l. log_recorded c v i law belongs.records l) (λ i l. log_record c v i law belongs.records l) marked settles k was some within in
+    let unmodified : (k : ℕ) → is_unmodified (heap_chunk m k) ≡ true → get e.copy k ≡ get m.live k = λ k was.
+    settled_back v c.logs differences c.records (length c.base_logs) n s m belongs.keeps belongs.untouched sides (λ i l. log_recorded c v i law belongs.records l) (λ i l. log_record c v i law belongs.records l) marked settles k was some within in
     -- those that stand for the copy
     let first : ChainMeaning = first_logs n c in
     let first_law : IsLawful first = lawful_take c n some law in
-    let i : ℕ = length c.below + (n - 1) in
-    let inside : i < length (all_logs first) = first_inside c n (length c.below) some within refl in
-    let at : log_at (all_logs first) i ≡ e = at_first c n (length c.below) some refl in
+    let i : ℕ = length c.base_logs + (n - 1) in
+    let inside : i < length (all_logs first) = first_inside c n (length c.base_logs) some within refl in
+    let at : log_at (all_logs first) i ≡ e = at_first c n (length c.base_logs) some refl in
     let deep : depth ≡ (log_at (all_logs first) i).depth = depth_is ∙ ap (λ (x : LogEntry). x.depth) (sym at) in
     let own : bytes_of first.records ≡ map (record_of v) (all_logs first) =
     records_take c v n belongs.records in
@@ -220,5 +220,5 @@ restored_all c v quota n depth beside s m r f law belongs sides some within dept
     let stand : LogsStandFor (map (logged_of v) part) e.copy =
     subst (λ (x : LogEntry). LogsStandFor (map (logged_of v) part) x.copy) at
     (subst (λ d. LogsStandFor (map (logged_of v) (take (d + 1) (drop (i - d) (all_logs first)))) (log_at (all_logs first) i).copy) (sym deep) (stands_at v (all_logs first) first_law.follows first_law.keeps first_law.full i inside)) in
-    restored_state m r f e.copy (map (logged_of v) part) settled shaped stand
+    restored_state m r f e.copy (map (logged_of v) part) unmodified shaped stand
     (fetched (map (logged_of v) part) part_recorded (packed_of v part ∙ part_records first v (depth + 1) (i - depth) own))

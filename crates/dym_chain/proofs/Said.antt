@@ -20,7 +20,7 @@ use Rattle.dym_base.specs.declared.command.Kind.{Kind}
 use Rattle.dym_base.specs.declared.command.Kind.TheVariants.{Full, Inc}
 use Rattle.dym_base.proofs.Heaps.{held_same}
 use Rattle.dym_pack.specs.Areas.{found_by}
-use Rattle.dym_chain.specs.Adopted.{stood_for, run_to, entry_in, entries_from}
+use Rattle.dym_chain.specs.AdoptedLogs.{stood_for, run_to, entry_in, entries_from}
 use Rattle.dym_chain.specs.Chains.{KeepsUntouched, FirstKeeps, EachKeeps}
 use Rattle.dym_chain.specs.Lawful.{logged_of}
 use Rattle.dym_chain.proofs.SameBytes.{same_bytes}

@@ -4,7 +4,7 @@ use Rattle.std.proofs.lemmas.List.{take_at, drop_at, take-map, drop-map, map-app
 use Rattle.std.specs.FinMap.{get}
 use Rattle.std.specs.FinSet as set
 use Rattle.std.specs.List.{AllByRecursion}
-use Rattle.dym_base.specs.Below.{oldest_depth}
+use Rattle.dym_base.specs.BaseLogs.{oldest_depth}
 use Rattle.dym_base.specs.Heaps.{Live, Touched, HeapState, held}
 use Rattle.dym_base.specs.LawfulLists.{depth_after}
 use Rattle.dym_base.specs.Objects.{LogEntry, kind_of, newest, record_of}
@@ -15,10 +15,10 @@ use Rattle.dym_base.specs.declared.command.Version.{Version}
 use Rattle.dym_base.specs.declared.command.Kind.TheVariants.{Full, Inc}
 use Rattle.dym_base.proofs.Standing.{full_stands_alone}
 use Rattle.dym_pack.specs.Areas.{found_by}
-use Rattle.dym_chain.specs.Adopted.{run_to, entry_in, entries_from, entries_of, as_said, RecordsSayTheirLogs, ReadLogsBelong}
+use Rattle.dym_chain.specs.AdoptedLogs.{run_to, entry_in, entries_from, entries_of, as_said, RecordsSayTheirLogs, ReadLogsBelong}
 use Rattle.dym_chain.specs.Chains.{ChainMeaning, all_logs, KeepsFromBefore, FirstKeeps, EachKeeps, KeepsFromNewest}
 use Rattle.dym_chain.specs.Keeps.{bytes_of}
-use Rattle.dym_chain.specs.Kept.{AreKept}
+use Rattle.dym_chain.specs.KeptRecords.{AreKeptRecords}
 use Rattle.dym_chain.specs.Lawful.{IsLawful, logged_of}
 use Rattle.dym_chain.proofs.KeptLists.{depth_is, lawful_logs}
 use Rattle.dym_chain.proofs.Lawfuls.{packed_of}
@@ -67,7 +67,7 @@ again v (e ∷ es) full follows keeps =
 
 -- ---- kept logs
 
-abbrev lawful_of : (c : ChainMeaning) → AreKept c → IsLawful c
+abbrev lawful_of : (c : ChainMeaning) → AreKeptRecords c → IsLawful c
 lawful_of c kept = record {
   version = kept.version;
   records = kept.records;
@@ -80,14 +80,14 @@ lawful_of c kept = record {
 }
 
 pub say_their_logs : RecordsSayTheirLogs
-say_their_logs c below logs kept are =
+say_their_logs c base_logs logs kept are =
     let v : Version = kept.version in
     let is = are v (map (logged_of v) (all_logs c)) (lawful_logs c (lawful_of c kept)) (packed_of v (all_logs c) ∙ sym kept.records) in
-    let said : entries_of (map (logged_of v) (all_logs c)) ≡ map as_said (all_logs c) = again v (all_logs c) kept.full kept.follows kept.keeps in
-    let first : take (oldest_depth c.logs) (all_logs c) ≡ c.below = take_at c.below c.logs (oldest_depth c.logs) kept.base in
-    let rest : drop (oldest_depth c.logs) (all_logs c) ≡ c.logs = drop_at c.below c.logs (oldest_depth c.logs) kept.base in (
-      is.0 ∙ ap (take (oldest_depth c.logs)) said ∙ take-map as_said (oldest_depth c.logs) (all_logs c) ∙ ap (map as_said) first,
-      is.1 ∙ ap (drop (oldest_depth c.logs)) said ∙ drop-map as_said (oldest_depth c.logs) (all_logs c) ∙ ap (map as_said) rest,
+    let read_records : entries_of (map (logged_of v) (all_logs c)) ≡ map as_said (all_logs c) = again v (all_logs c) kept.full kept.follows kept.keeps in
+    let first : take (oldest_depth c.logs) (all_logs c) ≡ c.base_logs = take_at c.base_logs c.logs (oldest_depth c.logs) kept.base in
+    let rest : drop (oldest_depth c.logs) (all_logs c) ≡ c.logs = drop_at c.base_logs c.logs (oldest_depth c.logs) kept.base in (
+      is.0 ∙ ap (take (oldest_depth c.logs)) read_records ∙ take-map as_said (oldest_depth c.logs) (all_logs c) ∙ ap (map as_said) first,
+      is.1 ∙ ap (drop (oldest_depth c.logs)) read_records ∙ drop-map as_said (oldest_depth c.logs) (all_logs c) ∙ ap (map as_said) rest,
     )
 
 -- ---- what is read belongs to the heap to which the logs belonged
@@ -128,11 +128,11 @@ within_said quota (e ∷ es) all = (all.0, within_said quota es all.1)
 
 pub read_logs_belong : ReadLogsBelong
 read_logs_belong v quota s c d kept also same are belongs =
-    let is = say_their_logs c d.below d.logs kept are in
-    let all : all_logs d ≡ map as_said (all_logs c) = (λ i. is.0 i ++ is.1 i) ∙ sym (map-append as_said c.below c.logs) in
+    let is = say_their_logs c d.base_logs d.logs kept are in
+    let all : all_logs d ≡ map as_said (all_logs c) = (λ i. is.0 i ++ is.1 i) ∙ sym (map-append as_said c.base_logs c.logs) in
     record {
       records = ap bytes_of same ∙ belongs.records ∙ sym (records_said v (all_logs c)) ∙ ap (map (record_of v)) (sym all);
       untouched = subst (λ (es : List LogEntry). KeepsFromNewest s (newest es)) (sym is.1) (newest_said s c.logs belongs.untouched);
-      keeps = subst EachKeeps (drop_at d.below d.logs (length d.below) refl) (keeps_drop (length d.below) (all_logs d) also.keeps);
+      keeps = subst EachKeeps (drop_at d.base_logs d.logs (length d.base_logs) refl) (keeps_drop (length d.base_logs) (all_logs d) also.keeps);
       within = subst (AllByRecursion (λ (e : LogEntry). held e.copy ≤ quota)) (sym is.1) (within_said quota c.logs belongs.within);
     }

@@ -3,7 +3,7 @@ use Rattle.std.proofs.Common.{◌≡◌, ℕ, zero, suc, ◌+◌, ◌<◌, ◌�
 use Rattle.std.specs.List.{AllByRecursion}
 use Rattle.std.proofs.lemmas.Bool.{cases_lt}
 use Rattle.std.proofs.lemmas.List.{length-take, length-drop, length-map, take-append-drop}
-use Rattle.dym_base.specs.Below.{oldest_depth}
+use Rattle.dym_base.specs.BaseLogs.{oldest_depth}
 use Rattle.dym_base.specs.Heaps.{held}
 use Rattle.dym_base.specs.LawfulLists as lawful
 use Rattle.dym_base.specs.LawfulLists.{IsRecordOf, depth_after, depths_from}
@@ -15,12 +15,12 @@ use Rattle.dym_base.specs.declared.command.Version.{Version}
 use Rattle.dym_base.specs.declared.command.Kind.TheVariants.{Inc}
 use Rattle.dym_base.proofs.Runs.{all_drop, follows_drop}
 use Rattle.dym_slots.specs.Meanings.{Numbered, KeepMeaning}
-use Rattle.dym_chain.specs.Adopted.{run_to, entries_from, entries_of}
+use Rattle.dym_chain.specs.AdoptedLogs.{run_to, entries_from, entries_of}
 use Rattle.dym_chain.specs.Chains.{EachKeeps, log_at}
 use Rattle.dym_chain.specs.Keeps.{bytes_of}
 use Rattle.dym_chain.specs.Lawful.{IsLawful, logged_of}
-use Rattle.dym_chain.specs.Told.{told_of}
-use Rattle.dym_chain.specs.Whole.{chain_of}
+use Rattle.dym_chain.specs.Copies.{copies_of}
+use Rattle.dym_chain.specs.ChainInvariants.{chain_of}
 use Rattle.dym_chain.proofs.Moves.{oldest_drop}
 use Rattle.dym_chain.proofs.Records.{version_same, held_same}
 use Rattle.dym_chain.proofs.Said.{run_first, said_from, record_is, recorded_is}
@@ -61,9 +61,9 @@ pub record IsSaid (v : Version) (logs : List Logged) (es : List LogEntry) : Type
   pub follows : EachFollows es
   pub keeps : EachKeeps es
 
-pub said : (v : Version) (d : ℕ) (logs : List Logged) → lawful.IsLawful v d logs → IsSaid v logs (entries_of logs)
-said v d [] is = record { records = refl; recorded = tt; full = refl; follows = tt; keeps = tt }
-said v d (log ∷ logs) is =
+pub read_records : (v : Version) (d : ℕ) (logs : List Logged) → lawful.IsLawful v d logs → IsSaid v logs (entries_of logs)
+read_records v d [] is = record { records = refl; recorded = tt; full = refl; follows = tt; keeps = tt }
+read_records v d (log ∷ logs) is =
     let n : ℕ = depth_after 0 log.kind in
     let run : List Logged = run_to log.kind [] log in
     let first = run_first v log log.kind refl is.full is.recorded.0 is.version.0 in
@@ -87,7 +87,7 @@ pub record IsPlace (first count : ℕ) : Type 0 where
 pub place_within : (first count : ℕ) → IsPlace first count → first ≤ count
 place_within first count is =
     elim (cases_lt 0 count) as (λ _. first ≤ count) [
-      | inl some ↦ (let below = is.some some in omega (arith, below))
+      | inl some ↦ (let base_logs = is.some some in omega (arith, base_logs))
       | inr none ↦ (let at : count ≡ 0 = omega (arith, none) in let start = is.none at in omega (arith, start))
     ]
 
@@ -114,17 +114,17 @@ module _ (keep : KeepMeaning) (first : ℕ) (v : Version) (logs : List Logged) (
       let long : length (take first all) ≡ first = length-take first all ∙ (let w = within in let least : Rattle.std.specs.Prelude.min first (length all) ≡ first = omega arith in least) in
       elim (cases_lt 0 (length keep.records)) as (λ _. length (take first all) ≡ oldest_depth (drop first all)) [
         | inl some ↦
-            let below : first < length all = (let b = place.some some in let n = count in omega (arith, b, n)) in
-            let there : first < length logs = (let n = said_count 0 [] logs in omega (arith, n, below)) in
-            long ∙ sym (oldest_drop first all below ∙ first_depth logs first there is.full is.base)
+            let base_logs : first < length all = (let b = place.some some in let n = count in omega (arith, b, n)) in
+            let there : first < length logs = (let n = said_count 0 [] logs in omega (arith, n, base_logs)) in
+            long ∙ sym (oldest_drop first all base_logs ∙ first_depth logs first there is.full is.base)
         | inr none ↦
             let at : length keep.records ≡ 0 = omega (arith, none) in
             long ∙ place.none at ∙ sym (drop_none first all (count ∙ at))
       ]
 
-  pub lawful_told : IsLawful (chain_of (told_of first logs) keep)
+  pub lawful_told : IsLawful (chain_of (copies_of first logs) keep)
   lawful_told =
-      let whole = said v first logs is in
+      let whole = read_records v first logs is in
       let few : length (drop first all) ≤ 256 = (let n = count in let k = place.kept in let left = length-drop first all in omega (arith, n, k, left)) in
       let back = sym all_is in
       record {

@@ -14,7 +14,7 @@ use Rattle.dym_base.specs.declared.command.Version.{Version}
 use Rattle.dym_base.specs.declared.command.Kind.{Kind}
 use Rattle.dym_base.specs.declared.command.Kind.TheVariants.{Full, Inc}
 use Rattle.dym_base.proofs.Standing.{full_stands_alone}
-use Rattle.dym_base.specs.Below.{oldest_depth}
+use Rattle.dym_base.specs.BaseLogs.{oldest_depth}
 use Rattle.dym_chain.specs.Chains.{KeepsUntouched, EachKeeps, log_at}
 use Rattle.dym_chain.specs.Lawful.{logged_of}
 use Rattle.dym_chain.proofs.Places.{follows_at, keeps_at, first_depth, depth_within, part_more}

@@ -7,7 +7,7 @@ use Rattle.std.proofs.lemmas.Bool.{cases_Bool, cond-true, eqb-true, true≢false
 use Rattle.dym_base.specs.Heaps.{Live}
 use Rattle.dym_base.specs.Packed.{Logged}
 use Rattle.dym_base.specs.StandsFor.{newest_packed, LogsStandFor}
-use Rattle.dym_chain.specs.Adopted.{stood_for}
+use Rattle.dym_chain.specs.AdoptedLogs.{stood_for}
 
 found_here : (g : ℕ → List ℕ) (q k : ℕ) (b : Bool) (o p : Option (List ℕ)) (bytes : List ℕ) → (b ≡ true → q ≡ k) → o ≡ cond (is_some p) (Some (g q)) None
     → cond b (Some (g k)) o ≡ cond (is_some (cond b (Some bytes) p)) (Some (g q)) None

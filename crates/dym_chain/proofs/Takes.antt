@@ -9,12 +9,12 @@ use Rattle.dym_base.specs.declared.command.Kind.{Kind}
 use Rattle.dym_base.specs.declared.command.Kind.TheVariants.{Full, Inc}
 use Rattle.dym_base.specs.declared.reply.Reply.TheVariants as reply
 use Rattle.dym_slots.specs.Meanings.{KeepMeaning, with_record}
-use Rattle.dym_base.specs.Below.{oldest_depth}
+use Rattle.dym_base.specs.BaseLogs.{oldest_depth}
 use Rattle.dym_chain.specs.Chains.{ChainMeaning, logged, object_of}
 use Rattle.dym_chain.specs.Lawful.{IsLawful, entry_of}
 use Rattle.dym_chain.specs.Answers.{log_refusal, IsLogged}
-use Rattle.dym_chain.specs.Told.{Told}
-use Rattle.dym_chain.specs.Whole.{chain_of, IsChain}
+use Rattle.dym_chain.specs.Copies.{ChainCopies}
+use Rattle.dym_chain.specs.ChainInvariants.{chain_of, IsChain}
 use Rattle.dym_chain.specs.declared.entry.Entry.{Entry}
 use Rattle.dym_chain.proofs.Moves.{ComesNext, lawful_push}
 use Rattle.dym_chain.proofs.Logs.{taken_is}
@@ -35,25 +35,25 @@ room_left c law room =
 abbrev pub log_of : HeapState → ℕ → ℕ → LogEntry
 log_of s t depth = record { time = t; depth = depth; copy = s.live; found = found_touched depth s.touched }
 
-abbrev pub told_after : Told → LogEntry → Told
-told_after told e = record { below = told.below; logs = told.logs ++ e ∷ [] }
+abbrev pub told_after : ChainCopies → LogEntry → ChainCopies
+told_after copies e = record { base_logs = copies.base_logs; logs = copies.logs ++ e ∷ [] }
 
 -- the chain that the fields then show
-pub taken_view : (keep keep' : KeepMeaning) (told told' : Told) (v : Version) (s : HeapState) (t depth : ℕ) (want : Kind) (rec : List ℕ) → depth ≡ next_depth want (newest told.logs) → rec ≡ record_of v (log_of s t depth) → keep' ≡ with_record keep rec → told' ≡ told_after told (log_of s t depth) → chain_of told' keep' ≡ logged v (new_entry (object_of s (chain_of told keep)) t want) (chain_of told keep)
-taken_view keep keep' told told' v s t depth want rec depth_is rec_is keep_is told_is =
-    ap (λ (x : Told). chain_of x keep') told_is
-    ∙ ap (chain_of (told_after told (log_of s t depth))) keep_is
-    ∙ ap (λ (b : List ℕ). chain_of (told_after told (log_of s t depth)) (with_record keep b)) rec_is
-    ∙ ap (λ d. logged v (log_of s t d) (chain_of told keep)) depth_is
+pub taken_view : (keep keep' : KeepMeaning) (copies copies' : ChainCopies) (v : Version) (s : HeapState) (t depth : ℕ) (want : Kind) (rec : List ℕ) → depth ≡ next_depth want (newest copies.logs) → rec ≡ record_of v (log_of s t depth) → keep' ≡ with_record keep rec → copies' ≡ told_after copies (log_of s t depth) → chain_of copies' keep' ≡ logged v (new_entry (object_of s (chain_of copies keep)) t want) (chain_of copies keep)
+taken_view keep keep' copies copies' v s t depth want rec depth_is rec_is keep_is told_is =
+    ap (λ (x : ChainCopies). chain_of x keep') told_is
+    ∙ ap (chain_of (told_after copies (log_of s t depth))) keep_is
+    ∙ ap (λ (b : List ℕ). chain_of (told_after copies (log_of s t depth)) (with_record keep b)) rec_is
+    ∙ ap (λ d. logged v (log_of s t d) (chain_of copies keep)) depth_is
 
-pub chain_taken : (kept kept' : List Entry) (capacity capacity' : ℕ) (keep keep' : KeepMeaning) (told told' : Told) (v : Version) (s : HeapState) (t depth : ℕ) (want : Kind) (rec : List ℕ) → IsChain kept capacity keep told → ComesNext (chain_of told keep) v (new_entry (object_of s (chain_of told keep)) t want) → Rattle.dym_chain.specs.Keeps.bytes_of keep.records ≡ map (record_of v) (told.below ++ told.logs) → kept' ≡ kept ++ record { time = t; depth = depth } ∷ [] → capacity' ≡ capacity → depth ≡ next_depth want (newest told.logs) → rec ≡ record_of v (log_of s t depth) → keep' ≡ with_record keep rec → told' ≡ told_after told (log_of s t depth) → IsChain kept' capacity' keep' told'
-chain_taken kept kept' capacity capacity' keep keep' told told' v s t depth want rec chain next are entries room depth_is rec_is keep_is told_is = record {
+pub chain_taken : (kept kept' : List Entry) (capacity capacity' : ℕ) (keep keep' : KeepMeaning) (copies copies' : ChainCopies) (v : Version) (s : HeapState) (t depth : ℕ) (want : Kind) (rec : List ℕ) → IsChain kept capacity keep copies → ComesNext (chain_of copies keep) v (new_entry (object_of s (chain_of copies keep)) t want) → Rattle.dym_chain.specs.Keeps.bytes_of keep.records ≡ map (record_of v) (copies.base_logs ++ copies.logs) → kept' ≡ kept ++ record { time = t; depth = depth } ∷ [] → capacity' ≡ capacity → depth ≡ next_depth want (newest copies.logs) → rec ≡ record_of v (log_of s t depth) → keep' ≡ with_record keep rec → copies' ≡ told_after copies (log_of s t depth) → IsChain kept' capacity' keep' copies'
+chain_taken kept kept' capacity capacity' keep keep' copies copies' v s t depth want rec chain next are entries room depth_is rec_is keep_is told_is = record {
   shows = record {
-    entries = entries ∙ ap (λ (l : List Entry). l ++ record { time = t; depth = depth } ∷ []) chain.shows.entries ∙ sym (map-append entry_of told.logs (log_of s t depth ∷ [])) ∙ ap (λ (x : Told). map entry_of x.logs) (sym told_is);
+    entries = entries ∙ ap (λ (l : List Entry). l ++ record { time = t; depth = depth } ∷ []) chain.shows.entries ∙ sym (map-append entry_of copies.logs (log_of s t depth ∷ [])) ∙ ap (λ (x : ChainCopies). map entry_of x.logs) (sym told_is);
     room = omega (arith, chain.shows.room, room);
   };
-  lawful = subst IsLawful (sym (taken_view keep keep' told told' v s t depth want rec depth_is rec_is keep_is told_is))
-      (lawful_push (chain_of told keep) v (new_entry (object_of s (chain_of told keep)) t want) chain.lawful are next);
+  lawful = subst IsLawful (sym (taken_view keep keep' copies copies' v s t depth want rec depth_is rec_is keep_is told_is))
+      (lawful_push (chain_of copies keep) v (new_entry (object_of s (chain_of copies keep)) t want) chain.lawful are next);
 }
 
 -- its reply

@@ -6,7 +6,7 @@ use Rattle.std.specs.FinMap as map
 use Rattle.std.specs.FinSet.{contains}
 use Rattle.std.specs.FinSet as set
 use Rattle.dym_base.specs.Heaps.{Live, Touched, HeapState, held}
-use Rattle.dym_base.specs.Below.{oldest_depth}
+use Rattle.dym_base.specs.BaseLogs.{oldest_depth}
 use Rattle.dym_base.specs.Objects.{LogEntry, ObjectState, record_of, newest, reached}
 use Rattle.dym_base.specs.Origins.{Origin}
 use Rattle.dym_base.specs.StandsFor.{StandsFor}
@@ -17,16 +17,16 @@ use Rattle.dym_chain.specs.Keeps.{bytes_of}
 -- a chain: the logs before the oldest kept one that later restores read, the kept logs, oldest first, the records of all of
 -- them, the number that the next record gets, the place whose record is out, and where the records have their room
 pub record ChainMeaning : Type 0 where
-  pub below : List LogEntry
+  pub base_logs : List LogEntry
   pub logs : List LogEntry
   pub records : List Numbered
-  pub made : ℕ
+  pub next_number : ℕ
   pub lifted : Option ℕ
   pub origin : Origin
 
 -- the logs whose records stand
 abbrev pub all_logs : ChainMeaning → List LogEntry
-all_logs c = c.below ++ c.logs
+all_logs c = c.base_logs ++ c.logs
 
 -- what stands at a place past the end
 abbrev pub no_entry : LogEntry
@@ -88,10 +88,10 @@ object_of s c = record { heap = s; logs = c.logs }
 -- the chain with one log more, whose record got the number that was next
 abbrev pub logged : Version → LogEntry → ChainMeaning → ChainMeaning
 logged v entry c = record {
-  below = c.below;
+  base_logs = c.base_logs;
   logs = c.logs ++ entry ∷ [];
-  records = c.records ++ record { number = c.made; bytes = record_of v entry } ∷ [];
-  made = c.made + 1;
+  records = c.records ++ record { number = c.next_number; bytes = record_of v entry } ∷ [];
+  next_number = c.next_number + 1;
   lifted = c.lifted;
   origin = c.origin;
 }
@@ -101,15 +101,15 @@ abbrev pub left_by : ℕ → List LogEntry → List LogEntry
 left_by g logs = drop (reached g logs - 1) logs
 
 abbrev pub gone_by : ℕ → ChainMeaning → ℕ
-gone_by g c = length c.below + (reached g c.logs - 1) - oldest_depth (left_by g c.logs)
+gone_by g c = length c.base_logs + (reached g c.logs - 1) - oldest_depth (left_by g c.logs)
 
 -- the chain after a prune at g
 abbrev pub pruned : ChainMeaning → ℕ → ChainMeaning
 pruned c g = record {
-  below = take (oldest_depth (left_by g c.logs)) (drop (gone_by g c) (all_logs c));
+  base_logs = take (oldest_depth (left_by g c.logs)) (drop (gone_by g c) (all_logs c));
   logs = left_by g c.logs;
   records = drop (gone_by g c) c.records;
-  made = c.made;
+  next_number = c.next_number;
   lifted = c.lifted;
   origin = c.origin;
 }

@@ -8,7 +8,7 @@ use Rattle.dym_base.specs.declared.command.Version.{Version}
 use Rattle.dym_base.specs.declared.limits.TheConstants.{MOST_KEPT_LOGS}
 use Rattle.dym_base.specs.Recorded.{IsRecorded}
 use Rattle.dym_chain.specs.Keeps.{bytes_of}
-use Rattle.dym_base.specs.Below.{oldest_depth}
+use Rattle.dym_base.specs.BaseLogs.{oldest_depth}
 use Rattle.dym_chain.specs.Chains.{ChainMeaning, all_logs, EachKeeps}
 use Rattle.dym_chain.specs.declared.entry.Entry.{Entry}
 
@@ -29,7 +29,7 @@ pub record IsLawful (c : ChainMeaning) : Type 0 where
   pub follows : EachFollows (all_logs c)
   pub keeps : EachKeeps (all_logs c)
   -- below the oldest kept log are as many as its depth
-  pub base : length c.below ≡ oldest_depth c.logs
+  pub base : length c.base_logs ≡ oldest_depth c.logs
 
 -- the time and the depth of a log
 abbrev pub entry_of : LogEntry → Entry

@@ -1,12 +1,12 @@
 pub mod Keeps
 pub mod VecKeeps
 pub mod Chains
-pub mod Told
+pub mod Copies
 pub mod Lawful
-pub mod Whole
+pub mod ChainInvariants
 pub mod Answers
 pub mod Loads
-pub mod Beside
-pub mod Kept
-pub mod Adopted
+pub mod Differences
+pub mod KeptRecords
+pub mod AdoptedLogs
 pub mod ChainLaws

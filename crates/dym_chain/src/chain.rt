@@ -1,6 +1,6 @@
 //! The logs of one object.
 ghost use Rattle.std.specs.Prelude.{◌≡◌, ℕ, ◌+◌, ◌-◌, ◌<◌, ◌≤◌, None, [], ◌∷◌, ◌++◌, length, option_map, OnOk, OnErr, IfOk, IfErr};
-ghost use Rattle.dym_base.specs.Below.{dropped_below};
+ghost use Rattle.dym_base.specs.BaseLogs.{dropped_base_logs};
 ghost use Rattle.dym_base.specs.Heaps.{HeapState};
 ghost use Rattle.dym_base.specs.Objects as Objects;
 ghost use Rattle.dym_base.specs.Objects.{LogEntry, record_of};
@@ -8,22 +8,24 @@ ghost use Rattle.dym_base.specs.declared.command.Version.{Version};
 ghost use Rattle.dym_base.specs.declared.reply.Reply.TheVariants as reply;
 ghost use Rattle.dym_base.specs.declared.limits.TheConstants.{COUNT_LIMIT};
 ghost use Rattle.dym_heap.specs.Meaning.{IsSound};
-ghost use Rattle.dym_chain.specs.Adopted.{AreEntriesOf, AreLawful, BelongsByRecords};
+ghost use Rattle.dym_chain.specs.AdoptedLogs.{AreEntriesOf, AreLawful, BelongsByRecords};
 ghost use Rattle.dym_chain.specs.Chains.{ChainMeaning, Belongs, StandsForCopies, object_of, log_at, logged, pruned};
 ghost use Rattle.dym_chain.specs.Keeps.{bytes_of};
-ghost use Rattle.dym_chain.specs.Kept.{AreKept};
+ghost use Rattle.dym_chain.specs.KeptRecords.{AreKeptRecords};
 ghost use Rattle.dym_chain.specs.Lawful.{entry_of};
 ghost use Rattle.dym_chain.specs.Answers.{IsLogAnswer, restored_reply};
-ghost use Rattle.dym_chain.specs.Whole.{chain_of};
+ghost use Rattle.dym_chain.specs.ChainInvariants.{chain_of};
 
-use crate::beside::{drop_beside, keep_beside};
+use crate::differences::{drop_difference, keep_difference};
 use crate::entry::Entry;
-use crate::find::{depth_of_next, drop_first, dropped_by, kind_at, newest_of, reached, refusal_of};
-use crate::keep::LogKeep;
-use crate::ledger::Ledger;
-use crate::load::{fetch_down, mark_logs};
+use crate::entry_reader::read_entries;
+use crate::ghost_copies::GhostCopies;
 use crate::log_error::LogError;
-use crate::read::read_entries;
+use crate::log_keep::LogKeep;
+use crate::positions::{
+    depth_of_next, drop_first, dropped_by, kind_at, newest_of, reached, refusal_of,
+};
+use crate::record_replay::{fetch_down, mark_logs};
 use dym_base::limits::MOST_KEPT_LOGS;
 use dym_base::{Kind, Refusal};
 use dym_heap::Heap;
@@ -39,9 +41,9 @@ use std::marker::Model;
 pub struct Chain<K: LogKeep> {
     entries: Vec<Entry>,
     /// For each log the record that stands beside its own, as far as there are such. A missing one costs time alone.
-    beside: Vec<Option<Record>>,
+    differences: Vec<Option<Record>>,
     pub(crate) keep: K,
-    ledger: Ledger,
+    ghost_copies: GhostCopies,
 }
 
 impl<K: LogKeep> Model for Chain<K> {
@@ -55,24 +57,24 @@ impl<K: LogKeep> Model for Chain<K> {
     ghost coded = { Prim.hlevel (codes, live_code, touched_code) };
 
     ghost use Rattle.std.specs.Prelude.{vec_capacity};
-    ghost use Rattle.dym_chain.specs.Whole.{chain_of, IsChainBeside};
+    ghost use Rattle.dym_chain.specs.ChainInvariants.{chain_of, IsChainWithDifferences};
 
-    ghost view = { λ c. chain_of c.ledger.told (K.meaning c.keep) };
+    ghost view = { λ c. chain_of c.ghost_copies.copies (K.meaning c.keep) };
 
-    ghost invariant = { λ c. IsChainBeside c.entries.items (vec_capacity c.entries) c.beside.items (K.meaning c.keep) c.ledger.told };
+    ghost invariant = { λ c. IsChainWithDifferences c.entries.items (vec_capacity c.entries) c.differences.items (K.meaning c.keep) c.ghost_copies.copies };
 }
 
 impl<K: LogKeep> Chain<K> {
     /// A chain with no log over a keep with no record. Room for all entries is taken here.
     pub fn open(alloc: Global, keep: K) -> Result<Chain<K>, (AllocError, K)>
         requires empty { (K.meaning keep).records ≡ [] }
-        requires made { (K.meaning keep).made ≡ 0 }
+        requires next_number { (K.meaning keep).next_number ≡ 0 }
         requires idle { (K.meaning keep).lifted ≡ None }
         ensures opened { IfOk result (λ c. c ≡ record {
-          below = [];
+          base_logs = [];
           logs = [];
           records = [];
-          made = 0;
+          next_number = 0;
           lifted = None;
           origin = (K.meaning keep).origin;
         }) }
@@ -83,9 +85,9 @@ impl<K: LogKeep> Chain<K> {
         match Vec::with_capacity(alloc, MOST_KEPT_LOGS as usize) {
             Ok(entries) => Ok(Chain {
                 entries,
-                beside: Vec::new(alloc),
+                differences: Vec::new(alloc),
                 keep,
-                ledger: Ledger::open(),
+                ghost_copies: GhostCopies::open(),
             }),
             Err(error) => Err((error, keep)),
         }
@@ -99,11 +101,11 @@ impl<K: LogKeep> Chain<K> {
         requires kept { length (K.meaning keep).records ≤ first + MOST_KEPT_LOGS }
         requires none { length (K.meaning keep).records ≡ 0 → first ≡ 0 }
         requires some { 0 < length (K.meaning keep).records → first < length (K.meaning keep).records }
-        ensures adopted { IfOk result (λ c. c ≡ chain_of (record { below = c.below; logs = c.logs })
+        ensures adopted { IfOk result (λ c. c ≡ chain_of (record { base_logs = c.base_logs; logs = c.logs })
             (K.meaning keep)) }
         ensures entries { IfOk result (λ c. AreEntriesOf first
-            (bytes_of (K.meaning keep).records) c.below c.logs) }
-        ensures kept { IfOk result AreKept }
+            (bytes_of (K.meaning keep).records) c.base_logs c.logs) }
+        ensures kept { IfOk result AreKeptRecords }
         ensures stands { IfOk result StandsForCopies }
         ensures belongs { IfOk result BelongsByRecords }
         ensures back { IfErr result (λ e. e.1 ≡ keep) }
@@ -112,12 +114,12 @@ impl<K: LogKeep> Chain<K> {
             Ok(room) => {
                 let mut keep = keep;
                 let entries = read_entries(room, &mut keep, first);
-                let ledger = Ledger::read(&keep, first);
+                let ghost_copies = GhostCopies::read(&keep, first);
                 Ok(Chain {
                     entries,
-                    beside: Vec::new(alloc),
+                    differences: Vec::new(alloc),
                     keep,
-                    ledger,
+                    ghost_copies,
                 })
             }
             Err(error) => Err((error, keep)),
@@ -134,7 +136,7 @@ impl<K: LogKeep> Chain<K> {
     ) -> Result<(Kind, u64), LogError>
         requires belongs { Belongs heap.old.version heap.old.quota heap.old.state self.old }
         requires sound { IsSound heap.old }
-        requires made { self.old.made < COUNT_LIMIT }
+        requires next_number { self.old.next_number < COUNT_LIMIT }
         requires idle { self.old.lifted ≡ None }
         ensures answer { IsLogAnswer result (Objects.log heap.old.version
             (object_of heap.old.state self.old) time want).reply }
@@ -161,11 +163,11 @@ impl<K: LogKeep> Chain<K> {
             return Err(LogError::Memory);
         };
         let count = self.entries.len();
-        let Ok(()) = keep_beside(&mut self.beside, alloc, heap, time, depth, count) else {
+        let Ok(()) = keep_difference(&mut self.differences, alloc, heap, time, depth, count) else {
             return Err(LogError::Memory);
         };
         let len = rec.len();
-        self.ledger = self.ledger.logged(heap, time, depth);
+        self.ghost_copies = self.ghost_copies.logged(heap, time, depth);
         self.keep.put(rec);
         self.entries.push_reserved(Entry { time, depth });
         heap.clear_dirty();
@@ -176,7 +178,7 @@ impl<K: LogKeep> Chain<K> {
     /// that may have changed since: those that are touched, and those that a dropped log found touched.
     pub fn restore<S: Supply>(
         &mut self,
-        way: &S::Way,
+        context: &S::Context,
         heap: &mut Heap<S>,
         time: u64,
     ) -> Result<u64, Refusal>
@@ -204,13 +206,13 @@ impl<K: LogKeep> Chain<K> {
         let depth = u32::from(target.depth);
         let place = base + (kept - 1) as u32;
         let count = self.entries.len();
-        mark_logs(&mut self.keep, &self.beside, heap, base, kept, count);
+        mark_logs(&mut self.keep, &self.differences, heap, base, kept, count);
         self.entries.truncate(kept);
-        self.beside.truncate(kept);
+        self.differences.truncate(kept);
         self.keep.drop_after(place);
-        self.ledger = self.ledger.cut(0, kept);
+        self.ghost_copies = self.ghost_copies.cut(0, kept);
         let rec = self.keep.lift(place);
-        heap.reshape(way, &rec);
+        heap.reshape(context, &rec);
         self.keep.lower(place, rec);
         fetch_down(&mut self.keep, heap, place, depth + 1);
         Ok(target.time)
@@ -223,7 +225,7 @@ impl<K: LogKeep> Chain<K> {
         ensures answer { (s : HeapState) → reply.Dropped result
             ≡ (Objects.prune (object_of s self.old) bound).reply }
         ensures after { self.new ≡ pruned self.old bound }
-        ensures below { self.new.below ≡ dropped_below self.old.below self.old.logs
+        ensures base_logs { self.new.base_logs ≡ dropped_base_logs self.old.base_logs self.old.logs
             (Objects.reached bound self.old.logs - 1) }
         ensures belongs { (v : Version) (quota : ℕ) (s : HeapState) → Belongs v quota s self.old
             → Belongs v quota s self.new }
@@ -236,10 +238,10 @@ impl<K: LogKeep> Chain<K> {
         }
         let base = u32::from(self.entries[0].depth);
         let depth = u32::from(self.entries[dropped].depth);
-        self.keep.raise(base + dropped as u32 - depth);
+        self.keep.drop_before(base + dropped as u32 - depth);
         drop_first(&mut self.entries, dropped);
-        drop_beside(&mut self.beside, dropped);
-        self.ledger = self.ledger.cut(dropped, depth as usize);
+        drop_difference(&mut self.differences, dropped);
+        self.ghost_copies = self.ghost_copies.cut(dropped, depth as usize);
         dropped as u32
     }
 
@@ -254,7 +256,7 @@ impl<K: LogKeep> Chain<K> {
     pub fn slots(&self) -> u32
         ensures slots { result ≡ Objects.slots self.now.logs }
         ensures records { result ≡ length self.now.records }
-        ensures kept { AreKept self.now }
+        ensures kept { AreKeptRecords self.now }
     {
         match self.entries.first() {
             None => 0,
@@ -263,10 +265,10 @@ impl<K: LogKeep> Chain<K> {
     }
 
     /// How many records were made.
-    pub fn made(&self) -> u64
-        ensures { result ≡ self.now.made }
+    pub fn next_number(&self) -> u64
+        ensures { result ≡ self.now.next_number }
     {
-        self.keep.made()
+        self.keep.next_number()
     }
 
     /// The time of the newest log.
@@ -292,7 +294,7 @@ impl<K: LogKeep> Chain<K> {
         requires idle { self.lifted ≡ None }
         ensures keep { K.meaning result ≡ record {
           records = self.records;
-          made = self.made;
+          next_number = self.next_number;
           lifted = None;
           origin = self.origin;
         } }
@@ -300,9 +302,9 @@ impl<K: LogKeep> Chain<K> {
     {
         let Chain {
             entries: _,
-            beside: _,
+            differences: _,
             keep,
-            ledger: _,
+            ghost_copies: _,
         } = self;
         keep
     }

@@ -3,12 +3,12 @@ ghost use Rattle.std.specs.Prelude.{◌≡◌, ◌<◌, None, Some, length};
 ghost use Rattle.dym_base.specs.Objects as Objects;
 ghost use Rattle.dym_chain.specs.Chains.{ChainMeaning, log_at};
 ghost use Rattle.dym_slots.specs.Meanings.{record_at};
-ghost use Rattle.dym_chain.specs.Kept.{AreKept};
+ghost use Rattle.dym_chain.specs.KeptRecords.{AreKeptRecords};
 ghost use Rattle.dym_chain.specs.Lawful.{entry_of};
 
 use crate::chain::Chain;
 use crate::entry::Entry;
-use crate::keep::LogKeep;
+use crate::log_keep::LogKeep;
 use dym_pack::Record;
 
 /// The kept logs of an object, with their records and those before the oldest that it needs.
@@ -26,7 +26,7 @@ pub trait KeptLogs {
     fn slots(&self) -> u32
         ensures slots { result ≡ Objects.slots (meaning self.now).logs }
         ensures records { result ≡ length (meaning self.now).records }
-        ensures kept { AreKept (meaning self.now) };
+        ensures kept { AreKeptRecords (meaning self.now) };
 
     /// Log `k`, the oldest first.
     fn entry(&self, k: u32) -> Entry

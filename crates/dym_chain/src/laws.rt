@@ -1,5 +1,5 @@
 //! What keeps a chain with its heap and with its records, each law the contract of a function that does nothing.
-ghost use Rattle.dym_chain.specs.Adopted.{RecordsSayTheirLogs, ReadLogsBelong};
+ghost use Rattle.dym_chain.specs.AdoptedLogs.{RecordsSayTheirLogs, ReadLogsBelong};
 ghost use Rattle.dym_chain.specs.ChainLaws.{HeapStepsKeepBelonging, NoLogsBelong};
 
 /// A chain with no log belongs to every heap, and each command to the heap leaves its chain belonging to it.

@@ -1,7 +1,7 @@
 //! A keep of records in log slots, which a sweeper shares.
 ghost use Rattle.std.specs.Prelude.{◌≡◌};
 
-use crate::keep::LogKeep;
+use crate::log_keep::LogKeep;
 use dym_pack::Record;
 use dym_slots::Owner;
 use std::marker::Model;
@@ -49,8 +49,8 @@ impl LogKeep for SlotKeep {
         self.owner.number_at(place)
     }
 
-    fn made(&self) -> u64 {
-        self.owner.made()
+    fn next_number(&self) -> u64 {
+        self.owner.next_number()
     }
 
     fn put(&mut self, rec: Record) -> u64 {
@@ -69,7 +69,7 @@ impl LogKeep for SlotKeep {
         self.owner.drop_after(place);
     }
 
-    fn raise(&mut self, place: u32) {
-        self.owner.raise(place);
+    fn drop_before(&mut self, place: u32) {
+        self.owner.drop_before(place);
     }
 }

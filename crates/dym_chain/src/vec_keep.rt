@@ -2,7 +2,7 @@
 ghost use Rattle.std.specs.Prelude.{◌≡◌, ◌≤◌, None, [], IfOk};
 ghost use Rattle.dym_base.specs.Origins.{own};
 
-use crate::keep::LogKeep;
+use crate::log_keep::LogKeep;
 use dym_base::limits::RECORD_ROOM;
 use dym_pack::Record;
 use std::alloc::{AllocError, Global};
@@ -27,7 +27,7 @@ pub(crate) struct Lifted {
 #[derive(Drop)]
 pub struct VecKeep {
     slots: Vec<Slot>,
-    made: u64,
+    next_number: u64,
     lifted: Option<Lifted>,
 }
 
@@ -37,21 +37,21 @@ impl Model for VecKeep {
     ghost Value = { KeepMeaning };
 
     ghost use Rattle.std.specs.Prelude.{vec_capacity};
-    ghost use Rattle.dym_chain.specs.VecKeeps.{keep_of, IsKept};
+    ghost use Rattle.dym_chain.specs.VecKeeps.{keep_of, IsValidKeep};
 
     ghost view = { keep_of };
 
-    ghost invariant = { λ k. IsKept k.slots.items k.lifted k.made (vec_capacity k.slots) };
+    ghost invariant = { λ k. IsValidKeep k.slots.items k.lifted k.next_number (vec_capacity k.slots) };
 }
 
 impl VecKeep {
     /// An empty keep. Only memory can be wanting.
     pub fn open(alloc: Global) -> Result<VecKeep, AllocError>
-        ensures { IfOk result (λ k. k ≡ record { records = []; made = 0; lifted = None; origin = own }) }
+        ensures { IfOk result (λ k. k ≡ record { records = []; next_number = 0; lifted = None; origin = own }) }
     {
         Ok(VecKeep {
             slots: Vec::with_capacity(alloc, RECORD_ROOM as usize)?,
-            made: 0,
+            next_number: 0,
             lifted: None,
         })
     }
@@ -68,17 +68,17 @@ impl LogKeep for VecKeep {
         self.slots[place as usize].number
     }
 
-    fn made(&self) -> u64 {
-        self.made
+    fn next_number(&self) -> u64 {
+        self.next_number
     }
 
     fn put(&mut self, rec: Record) -> u64 {
-        let number = self.made;
+        let number = self.next_number;
         self.slots.push_reserved(Slot {
             number,
             held: Some(rec),
         });
-        self.made += 1;
+        self.next_number += 1;
         number
     }
 
@@ -102,7 +102,7 @@ impl LogKeep for VecKeep {
         self.slots.truncate(place as usize + 1);
     }
 
-    fn raise(&mut self, place: u32) {
+    fn drop_before(&mut self, place: u32) {
         self.slots.drain(..place as usize);
     }
 }

@@ -10,12 +10,12 @@ use Rattle.dym_base.specs.Recorded.{IsRecorded}
 use Rattle.dym_base.proofs.Sizes.{exponent_of_number}
 use Rattle.dym_bits.specs.Bits.{bit_in}
 use Rattle.dym_pack.specs.Areas.{AreaName, area_at, chunks_of, chunk_number, is_used_at}
-use Rattle.dym_pack.specs.Reading.{packs_at}
+use Rattle.dym_pack.specs.ParsedAreas.{packs_at}
 use Rattle.dym_pack.proofs.Bitmaps.{bit_told, clear_past}
 use Rattle.dym_pack.proofs.Chunks.{parts, packable}
 use Rattle.dym_pack.proofs.Named.{few_chunks, index_small, ordinal_small}
 use Rattle.dym_heap.proofs.AreaLists.{LiesIn, lies_in}
-use Rattle.dym_ckpt.specs.Follow.{IsBased, AreaIsBased, named}
+use Rattle.dym_ckpt.specs.RecordOrder.{IsBased, AreaIsBased, named}
 
 -- a chunk of a log lies in one of its areas
 pub chunk_lies : (log : Logged) → IsRecorded log → (k : ℕ) → contains_key log.copy k ≡ true → LiesIn log.copy k

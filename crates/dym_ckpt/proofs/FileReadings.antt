@@ -11,20 +11,20 @@ use Rattle.dym_pack.proofs.Unique.{split_same}
 use Rattle.dym_slots.specs.Meanings.{Numbered}
 use Rattle.dym_chain.specs.Keeps.{bytes_of}
 use Rattle.dym_ckpt.specs.Lists.{IsListed}
-use Rattle.dym_ckpt.specs.Readings.{AreRead, StopsAt, StopsAs, FailsAs}
-use Rattle.dym_ckpt.specs.declared.records.Listed.{Listed}
-use Rattle.dym_ckpt.specs.declared.loading.FileFail.{FileFail}
-use Rattle.dym_ckpt.specs.declared.loading.FileFail.TheVariants.{Bad, Memory}
-use Rattle.dym_ckpt.proofs.Lists.{all_more, all_last}
+use Rattle.dym_ckpt.specs.FileRecords.{AreRead, StopsAt, SomeAreRead, StopsAs, FailsAs}
+use Rattle.dym_ckpt.specs.declared.records.RecordList.{RecordList}
+use Rattle.dym_ckpt.specs.declared.file_reader.FileFail.{FileFail}
+use Rattle.dym_ckpt.specs.declared.file_reader.FileFail.TheVariants.{Bad, Memory}
+use Rattle.dym_ckpt.proofs.Lists.{all_more, all_last, nothing_lawful}
 
 -- ---- the records
 
 framed_more : (records : List (List ℕ)) (x : List ℕ) → flat_map framed (records ++ x ∷ []) ≡ flat_map framed records ++ framed x
 framed_more records x = flat_map-append framed records (x ∷ []) ∙ ap (λ ys. flat_map framed records ++ ys) (append-nil (framed x))
 
-pub read_none : (v : Version) (quota d : ℕ) (bytes : List ℕ) (listed : Listed) → IsListed v d listed → listed.keep.records ≡ [] → AreRead v quota d bytes listed 0 bytes
-read_none v quota d bytes listed is none =
-    let empty : bytes_of listed.keep.records ≡ [] = ap bytes_of none in
+pub read_none : (v : Version) (quota d : ℕ) (bytes : List ℕ) (record_list : RecordList) → IsListed v d record_list → record_list.keep.records ≡ [] → AreRead v quota d bytes record_list 0 bytes
+read_none v quota d bytes record_list is none =
+    let empty : bytes_of record_list.keep.records ≡ [] = ap bytes_of none in
     record {
       is = is;
       each = subst (AllByRecursion (IsRecordOf v quota)) (sym empty) tt;
@@ -32,24 +32,24 @@ read_none v quota d bytes listed is none =
       are = ap (λ rs. flat_map framed rs ++ bytes) (sym empty);
     }
 
-pub read_more : (v : Version) (quota d : ℕ) (bytes : List ℕ) (listed new : Listed) (n : ℕ) (left rest x : List ℕ) → AreRead v quota d bytes listed n left → IsListed v d new → IsRecordOf v quota x → bytes_of new.keep.records ≡ bytes_of listed.keep.records ++ x ∷ [] → left ≡ framed x ++ rest → AreRead v quota d bytes new (n + 1) rest
-read_more v quota d bytes listed new n left rest x read is of all next =
-    let old = bytes_of listed.keep.records in
+pub read_more : (v : Version) (quota d : ℕ) (bytes : List ℕ) (record_list new : RecordList) (n : ℕ) (left rest x : List ℕ) → AreRead v quota d bytes record_list n left → IsListed v d new → IsRecordOf v quota x → bytes_of new.keep.records ≡ bytes_of record_list.keep.records ++ x ∷ [] → left ≡ framed x ++ rest → AreRead v quota d bytes new (n + 1) rest
+read_more v quota d bytes record_list new n left rest x read is of all next =
+    let old = bytes_of record_list.keep.records in
     record {
       is = is;
       each = subst (AllByRecursion (IsRecordOf v quota)) (sym all) (all_more (IsRecordOf v quota) old x read.each of);
-      many = omega (arith, length-map new.keep.records (λ (r : Numbered). r.bytes), ap length all, length-append old (x ∷ []), length-map listed.keep.records (λ (r : Numbered). r.bytes), read.many);
+      many = omega (arith, length-map new.keep.records (λ (r : Numbered). r.bytes), ap length all, length-append old (x ∷ []), length-map record_list.keep.records (λ (r : Numbered). r.bytes), read.many);
       are = read.are ∙ ap (λ ys. flat_map framed old ++ ys) next ∙ sym (append_assoc (flat_map framed old) (framed x) rest)
           ∙ ap (λ ys. ys ++ rest) (sym (framed_more old x)) ∙ ap (λ rs. flat_map framed rs ++ rest) (sym all);
     }
 
-pub stops_here : (v : Version) (quota d count : ℕ) (bytes : List ℕ) (listed : Listed) (n part : ℕ) (left : List ℕ) → AreRead v quota d bytes listed n left → n < count → part ≡ n + 1
-    → ((more rest : List ℕ) → IsRecordOf v quota more → IsLawfulList v d (bytes_of listed.keep.records ++ more ∷ []) → left ≡ framed more ++ rest → ⊥)
+pub stops_here : (v : Version) (quota d count : ℕ) (bytes : List ℕ) (record_list : RecordList) (n part : ℕ) (left : List ℕ) → AreRead v quota d bytes record_list n left → n < count → part ≡ n + 1
+    → ((more rest : List ℕ) → IsRecordOf v quota more → IsLawfulList v d (bytes_of record_list.keep.records ++ more ∷ []) → left ≡ framed more ++ rest → ⊥)
     → StopsAt v quota d count bytes part
-stops_here v quota d count bytes listed n part left read few at next =
-    let long = length-map listed.keep.records (λ (r : Numbered). r.bytes) in
+stops_here v quota d count bytes record_list n part left read few at next =
+    let long = length-map record_list.keep.records (λ (r : Numbered). r.bytes) in
     record {
-      records = bytes_of listed.keep.records;
+      records = bytes_of record_list.keep.records;
       left = left;
       few = omega (arith, long, read.many, few);
       each = read.each;
@@ -58,6 +58,10 @@ stops_here v quota d count bytes listed n part left read few at next =
       at = omega (arith, long, read.many, at);
       next = next;
     }
+
+-- memory is wanting before the first record
+pub none_are_read : (v : Version) (quota d count : ℕ) (bytes : List ℕ) → SomeAreRead v quota d count bytes
+none_are_read v quota d count bytes = record { records = []; left = bytes; few = omega arith; each = tt; lawful = nothing_lawful v d; are = refl }
 
 -- ---- the whole
 
@@ -85,7 +89,12 @@ pub head_fails : (bytes : List ℕ) → ((head : FileHead) (left : List ℕ) →
 head_fails bytes never = inl ((λ head left read. never head left read.good (read.are ∙ ap (λ ys. ys ++ left) (append-nil (head_bytes head)))), refl)
 
 pub stops_fails : (bytes behind : List ℕ) (head : FileHead) (why : FileFail) → IsFileHead head → bytes ≡ head_bytes head ++ behind → StopsAs head.version head.quota head.depth head.count behind why → FailsAs bytes why
-stops_fails bytes behind head Memory good are stops = tt
+stops_fails bytes behind head Memory good are some = record {
+  head = head;
+  records = some.records;
+  left = some.left;
+  read = reads_to bytes behind head some.records some.left good some.few some.each some.lawful are some.are;
+}
 stops_fails bytes behind head (Bad part) good are stops =
     let read = reads_to bytes behind head stops.records stops.left good (omega (arith, stops.few)) stops.each stops.lawful are stops.are in
     inr (record {
@@ -98,12 +107,12 @@ stops_fails bytes behind head (Bad part) good are stops =
       end = λ all none. omega (arith, stops.few, all);
     })
 
-pub all_read : (bytes behind : List ℕ) (head : FileHead) (listed : Listed) (left : List ℕ) → IsFileHead head → bytes ≡ head_bytes head ++ behind → AreRead head.version head.quota head.depth behind listed head.count left → ReadsTo bytes head (bytes_of listed.keep.records) left
-all_read bytes behind head listed left good are read =
-    reads_to bytes behind head (bytes_of listed.keep.records) left good (omega (arith, length-map listed.keep.records (λ (r : Numbered). r.bytes), read.many)) read.each read.is.lawful are read.are
+pub all_read : (bytes behind : List ℕ) (head : FileHead) (record_list : RecordList) (left : List ℕ) → IsFileHead head → bytes ≡ head_bytes head ++ behind → AreRead head.version head.quota head.depth behind record_list head.count left → ReadsTo bytes head (bytes_of record_list.keep.records) left
+all_read bytes behind head record_list left good are read =
+    reads_to bytes behind head (bytes_of record_list.keep.records) left good (omega (arith, length-map record_list.keep.records (λ (r : Numbered). r.bytes), read.many)) read.each read.is.lawful are read.are
 
-pub all_many : (v : Version) (quota d : ℕ) (bytes : List ℕ) (listed : Listed) (count : ℕ) (left : List ℕ) → AreRead v quota d bytes listed count left → length (bytes_of listed.keep.records) ≡ count
-all_many v quota d bytes listed count left read = length-map listed.keep.records (λ (r : Numbered). r.bytes) ∙ read.many
+pub all_many : (v : Version) (quota d : ℕ) (bytes : List ℕ) (record_list : RecordList) (count : ℕ) (left : List ℕ) → AreRead v quota d bytes record_list count left → length (bytes_of record_list.keep.records) ≡ count
+all_many v quota d bytes record_list count left read = length-map record_list.keep.records (λ (r : Numbered). r.bytes) ∙ read.many
 
 pub end_fails : (bytes : List ℕ) (head : FileHead) (records : List (List ℕ)) (left : List ℕ) (part : ℕ) → ReadsTo bytes head records left → length records ≡ head.count → part ≡ head.count + 1 → (left ≡ [] → ⊥) → FailsAt bytes part
 end_fails bytes head records left part read all at some =
@@ -119,6 +128,9 @@ end_fails bytes head records left part read all at some =
 
 pub is_file : (bytes : List ℕ) (head : FileHead) (records : List (List ℕ)) (left : List ℕ) → ReadsTo bytes head records left → length records ≡ head.count → left ≡ [] → IsFile bytes head records
 is_file bytes head records left read all none = record { read = subst (ReadsTo bytes head records) none read; whole = all }
+
+pub file_begins_well : (bytes : List ℕ) (head : FileHead) (records : List (List ℕ)) → IsFile bytes head records → FailsAs bytes Memory
+file_begins_well bytes head records file = record { head = head; records = records; left = []; read = file.read }
 
 -- an error that `?` passes on
 pub passed_on : {T E : Type 0} → (r : Result T E) (why : E) (P : E → Type 0) → IsErrAnd r (λ e. e ≡ why) → P why → IfErr r P

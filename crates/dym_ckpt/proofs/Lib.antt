@@ -9,3 +9,4 @@ pub mod FileReadings
 pub mod OneReading
 pub mod Restored
 pub mod SavedAgain
+pub mod WithinQuotas

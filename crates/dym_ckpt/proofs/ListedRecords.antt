@@ -9,11 +9,11 @@ use Rattle.dym_base.specs.Packed.{Logged, packed}
 use Rattle.dym_base.specs.Recorded.{IsRecorded}
 use Rattle.dym_base.specs.declared.command.Version.{Version}
 use Rattle.dym_base.specs.declared.command.Kind.{Kind}
-use Rattle.dym_pack.specs.Reading.{OfLog}
+use Rattle.dym_pack.specs.ParsedAreas.{OfLog}
 use Rattle.dym_slots.specs.Meanings.{Numbered, KeepMeaning, no_record, with_record}
 use Rattle.dym_chain.specs.Keeps.{bytes_of}
 use Rattle.dym_ckpt.specs.Lists.{OfLogs, last_depth, FitsPlace, IsListed, last_bytes}
-use Rattle.dym_ckpt.specs.declared.records.Listed.{Listed}
+use Rattle.dym_ckpt.specs.declared.records.RecordList.{RecordList}
 use Rattle.dym_ckpt.proofs.Lists.{all_front, all_last, lawful_more, lawful_fits, lawful_follows, last_depth_more}
 
 -- ---- the last of a list
@@ -119,22 +119,22 @@ depth_next records depth rec more kind is_rec deep kinds logs recorded are =
     ∙ sym (last_depth_more 0 parts.front parts.last)
     ∙ ap (last_depth 0) (sym parts.is)
 
-pub listed_next : (v : Version) (quota d : ℕ) (listed : Listed) (keep mid : KeepMeaning) (rec more : List ℕ) (kind : Kind) (depth : ℕ) → IsListed v d listed → rec ≡ more → IsRecordOf v quota more
-    → OfLog rec (λ log. FitsPlace d (length listed.keep.records) listed.depth log.kind)
-    → (0 < length listed.keep.records → OfLog (last_bytes listed.keep.records) (λ b. OfLog rec (λ log. MayFollow b log)))
-    → OfLog rec (λ log. kind ≡ log.kind) → depth ≡ depth_after listed.depth kind → mid ≡ listed.keep → keep ≡ with_record mid rec
+pub listed_next : (v : Version) (quota d : ℕ) (record_list : RecordList) (keep mid : KeepMeaning) (rec more : List ℕ) (kind : Kind) (depth : ℕ) → IsListed v d record_list → rec ≡ more → IsRecordOf v quota more
+    → OfLog rec (λ log. FitsPlace d (length record_list.keep.records) record_list.depth log.kind)
+    → (0 < length record_list.keep.records → OfLog (last_bytes record_list.keep.records) (λ b. OfLog rec (λ log. MayFollow b log)))
+    → OfLog rec (λ log. kind ≡ log.kind) → depth ≡ depth_after record_list.depth kind → mid ≡ record_list.keep → keep ≡ with_record mid rec
     → IsListed v d (record { keep = keep; depth = depth })
-listed_next v quota d listed keep mid rec more kind depth is is_rec of fits follows kinds depths same put =
-    let put_here : keep ≡ with_record listed.keep rec = put ∙ ap (λ k. with_record k rec) same in
-    let all : bytes_of keep.records ≡ bytes_of listed.keep.records ++ more ∷ []
+listed_next v quota d record_list keep mid rec more kind depth is is_rec of fits follows kinds depths same put =
+    let put_here : keep ≡ with_record record_list.keep rec = put ∙ ap (λ k. with_record k rec) same in
+    let all : bytes_of keep.records ≡ bytes_of record_list.keep.records ++ more ∷ []
     = ap (λ (k : KeepMeaning). bytes_of k.records) put_here
-    ∙ map-append (λ (r : Numbered). r.bytes) listed.keep.records (record { number = listed.keep.made; bytes = rec } ∷ [])
-    ∙ ap (λ x. bytes_of listed.keep.records ++ x ∷ []) is_rec in
+    ∙ map-append (λ (r : Numbered). r.bytes) record_list.keep.records (record { number = record_list.keep.next_number; bytes = rec } ∷ [])
+    ∙ ap (λ x. bytes_of record_list.keep.records ++ x ∷ []) is_rec in
     record {
       idle = ap (λ (k : KeepMeaning). k.lifted) put_here ∙ is.idle;
-      made = ap (λ (k : KeepMeaning). k.made) put_here ∙ ap (λ n. n + 1) is.made
-          ∙ sym (ap (λ (k : KeepMeaning). length k.records) put_here ∙ length-append listed.keep.records (record { number = listed.keep.made; bytes = rec } ∷ []));
+      next_number = ap (λ (k : KeepMeaning). k.next_number) put_here ∙ ap (λ n. n + 1) is.next_number
+          ∙ sym (ap (λ (k : KeepMeaning). length k.records) put_here ∙ length-append record_list.keep.records (record { number = record_list.keep.next_number; bytes = rec } ∷ []));
       own_room = ap (λ (k : KeepMeaning). k.origin) put_here ∙ is.own_room;
-      lawful = subst (IsLawfulList v d) (sym all) (list_next v quota d listed.keep.records listed.depth rec more is_rec is.lawful is.depth of fits follows);
-      depth = λ logs recorded are. depths ∙ depth_next (bytes_of listed.keep.records) listed.depth rec more kind is_rec is.depth kinds logs recorded (are ∙ all);
+      lawful = subst (IsLawfulList v d) (sym all) (list_next v quota d record_list.keep.records record_list.depth rec more is_rec is.lawful is.depth of fits follows);
+      depth = λ logs recorded are. depths ∙ depth_next (bytes_of record_list.keep.records) record_list.depth rec more kind is_rec is.depth kinds logs recorded (are ∙ all);
     }

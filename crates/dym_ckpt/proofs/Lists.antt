@@ -2,7 +2,7 @@
 use Rattle.std.proofs.Common.{◌≡◌, ℕ, zero, suc, ◌<◌, ◌≤◌, List, [], ◌∷◌, ◌++◌, length, take, drop, refl, ap, subst, arith}
 use Rattle.std.specs.List.{AllByRecursion}
 use Rattle.std.proofs.lemmas.List.{append_assoc}
-use Rattle.dym_base.specs.LawfulLists.{IsLawful, StartsFull, EachMayFollow, MayFollow, depth_after, depths_from}
+use Rattle.dym_base.specs.LawfulLists.{IsLawful, IsLawfulList, StartsFull, EachMayFollow, MayFollow, depth_after, depths_from}
 use Rattle.dym_base.specs.Packed.{Logged}
 use Rattle.dym_base.specs.Recorded.{IsRecorded}
 use Rattle.dym_base.specs.declared.limits.TheConstants.{MOST_DEPTH}
@@ -31,12 +31,12 @@ take_more P (suc d) [] x each last = (last (omega arith), take_none P d)
     take_none : (P : Logged → Type 0) (d : ℕ) → AllByRecursion P (take d [])
     take_none P zero = tt
     take_none P (suc d) = tt
-take_more P (suc d) (y ∷ xs) x each last = (each.0, take_more P d xs x each.1 (λ below. last (omega (arith, below))))
+take_more P (suc d) (y ∷ xs) x each last = (each.0, take_more P d xs x each.1 (λ base_logs. last (omega (arith, base_logs))))
 
 take_last : (P : Logged → Type 0) (d : ℕ) (xs : List Logged) (x : Logged) → AllByRecursion P (take d (xs ++ x ∷ [])) → length xs < d → P x
-take_last P zero xs x each below = absurd (omega (arith, below))
-take_last P (suc d) [] x each below = each.0
-take_last P (suc d) (y ∷ xs) x each below = take_last P d xs x each.1 (omega (arith, below))
+take_last P zero xs x each base_logs = absurd (omega (arith, base_logs))
+take_last P (suc d) [] x each base_logs = each.0
+take_last P (suc d) (y ∷ xs) x each base_logs = take_last P d xs x each.1 (omega (arith, base_logs))
 
 -- ---- depths
 
@@ -85,7 +85,7 @@ lawful_more v d logs log is ok version fits follows = record {
 
     base : (xs : List Logged) → AllByRecursion (λ (x : Logged). x.kind ≡ Inc) (take d (drop 1 xs)) → (0 < length xs → length xs ≤ d → log.kind ≡ Inc) → AllByRecursion (λ (x : Logged). x.kind ≡ Inc) (take d (drop 1 (xs ++ log ∷ [])))
     base [] each inc = each
-    base (x ∷ xs) each inc = take_more (λ (y : Logged). y.kind ≡ Inc) d xs log each (λ below. inc (omega arith) (omega (arith, below)))
+    base (x ∷ xs) each inc = take_more (λ (y : Logged). y.kind ≡ Inc) d xs log each (λ base_logs. inc (omega arith) (omega (arith, base_logs)))
 
 pub lawful_fits : (v : Version) (d : ℕ) (logs : List Logged) (log : Logged) → IsLawful v d (logs ++ log ∷ []) → FitsPlace d (length logs) (last_depth 0 logs) log.kind
 lawful_fits v d logs log is = record {
@@ -99,8 +99,17 @@ lawful_fits v d logs log is = record {
     full (x ∷ xs) starts none = absurd (omega (arith, none))
 
     base : (xs : List Logged) → AllByRecursion (λ (x : Logged). x.kind ≡ Inc) (take d (drop 1 (xs ++ log ∷ []))) → 0 < length xs → length xs ≤ d → log.kind ≡ Inc
-    base [] each some below = absurd (omega (arith, some))
-    base (x ∷ xs) each some below = take_last (λ (y : Logged). y.kind ≡ Inc) d xs log each (omega (arith, below))
+    base [] each some base_logs = absurd (omega (arith, some))
+    base (x ∷ xs) each some base_logs = take_last (λ (y : Logged). y.kind ≡ Inc) d xs log each (omega (arith, base_logs))
 
 pub lawful_follows : (v : Version) (d : ℕ) (front : List Logged) (b log : Logged) → IsLawful v d ((front ++ b ∷ []) ++ log ∷ []) → MayFollow b log
 lawful_follows v d front b log is = follow_last front b log (subst EachMayFollow (append_assoc front (b ∷ []) (log ∷ [])) is.follow)
+
+-- ---- no element
+
+pub nothing_lawful : (v : Version) (d : ℕ) → IsLawfulList v d []
+nothing_lawful v d = ([], record { recorded = tt; version = tt; full = tt; base = none d; shallow = tt; follow = tt }, refl)
+  where
+    none : (d : ℕ) → AllByRecursion (λ (x : Logged). x.kind ≡ Inc) (take d [])
+    none zero = tt
+    none (suc d) = tt

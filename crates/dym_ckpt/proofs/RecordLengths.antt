@@ -8,7 +8,7 @@ use Rattle.dym_base.specs.Recorded.{IsRecorded}
 use Rattle.dym_base.specs.declared.command.Version.{Version}
 use Rattle.dym_base.specs.declared.command.Kind.TheVariants.{Full, Inc}
 use Rattle.dym_pack.specs.Areas.{area_at}
-use Rattle.dym_pack.specs.Places.{area_bytes, start_of}
+use Rattle.dym_pack.specs.Offsets.{area_bytes, start_of}
 use Rattle.dym_pack.proofs.Chunks.{packable, body_most}
 use Rattle.dym_pack.proofs.Fronts.{start_none, start_more, start_last, area_len_is}
 use Rattle.dym_pack.proofs.Heads.{maps, maps_len_full, maps_len_inc, map_few, head_len}

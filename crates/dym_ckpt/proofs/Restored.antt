@@ -17,9 +17,9 @@ use Rattle.dym_heap.specs.Meaning.{HeapMeaning}
 use Rattle.dym_base.specs.Origins.{own}
 use Rattle.dym_slots.specs.Meanings.{Numbered, KeepMeaning}
 use Rattle.std.proofs.lemmas.List.{length-map}
-use Rattle.dym_chain.specs.Adopted.{AreEntriesOf, BelongsByRecords}
+use Rattle.dym_chain.specs.AdoptedLogs.{AreEntriesOf, BelongsByRecords}
 use Rattle.dym_chain.specs.Keeps.{bytes_of}
-use Rattle.dym_ckpt.specs.Loadings.{heap_at}
+use Rattle.dym_ckpt.specs.FileReads.{heap_at}
 
 all_before : (e : LogEntry) (logs : List LogEntry) (n : LogEntry) → EachFollows (e ∷ logs) → newest (e ∷ logs) ≡ Some n → AllByRecursion (λ (x : LogEntry). x.time ≤ n.time) (e ∷ logs)
 all_before e [] n each is = (omega (arith, ap (λ (x : LogEntry). x.time) (same_Some e n is)), tt)
@@ -56,12 +56,12 @@ pub same_chain : (c d : ChainMeaning) → d ≡ record c { logs = d.logs; record
 same_chain c d is logs = is ∙ ap (λ (ls : List LogEntry). record c { logs = ls; records = d.records }) logs
 
 -- the records after it are those before
-pub same_records : (v w : Version) (quota : ℕ) (s t : HeapState) (c d : ChainMeaning) → Belongs v quota s c → Belongs w quota t d → w ≡ v → d.below ≡ c.below → d.logs ≡ c.logs → bytes_of d.records ≡ bytes_of c.records
-same_records v w quota s t c d before after versions below logs =
+pub same_records : (v w : Version) (quota : ℕ) (s t : HeapState) (c d : ChainMeaning) → Belongs v quota s c → Belongs w quota t d → w ≡ v → d.base_logs ≡ c.base_logs → d.logs ≡ c.logs → bytes_of d.records ≡ bytes_of c.records
+same_records v w quota s t c d before after versions base_logs logs =
     after.records
     ∙ ap (λ x. map (record_of x) (all_logs d)) versions
-    ∙ ap (λ (b : List LogEntry). map (record_of v) (b ++ d.logs)) below
-    ∙ ap (λ (l : List LogEntry). map (record_of v) (c.below ++ l)) logs
+    ∙ ap (λ (b : List LogEntry). map (record_of v) (b ++ d.logs)) base_logs
+    ∙ ap (λ (l : List LogEntry). map (record_of v) (c.base_logs ++ l)) logs
     ∙ sym before.records
 
 -- of an empty heap nothing is to be kept
@@ -77,22 +77,22 @@ first_belongs h c v quota records versions quotas state are each belongs =
     (subst (λ x. Belongs v x h.state c) (sym quotas)
     (subst (λ (x : HeapState). Belongs v quota x c) (sym state) empty))
 
-pub entries_again : (d : ℕ) (rs qs : List (List ℕ)) (below kept other more : List LogEntry) → AreEntriesOf d rs below kept → qs ≡ rs → other ≡ below → more ≡ kept → AreEntriesOf d qs other more
-entries_again d rs qs below kept other more entries records belows logs v read is are =
+pub entries_again : (d : ℕ) (rs qs : List (List ℕ)) (base_logs kept other more : List LogEntry) → AreEntriesOf d rs base_logs kept → qs ≡ rs → other ≡ base_logs → more ≡ kept → AreEntriesOf d qs other more
+entries_again d rs qs base_logs kept other more entries records belows logs v read is are =
     let said = entries v read is (are ∙ records) in
     (belows ∙ said.0, logs ∙ said.1)
 
 -- the chain and the heap at the end
-pub loaded_chain : (c d : ChainMeaning) (keep listed : KeepMeaning) → d ≡ record c { records = d.records } → c.made ≡ keep.made → c.lifted ≡ keep.lifted → c.origin ≡ keep.origin → keep ≡ listed → listed.made ≡ length listed.records → listed.lifted ≡ None → listed.origin ≡ own
-    → d ≡ record d { made = length (bytes_of listed.records); lifted = None; origin = own }
-loaded_chain c d keep listed after made lifted origin is counted idle own_room =
-    let made_is : d.made ≡ length (bytes_of listed.records)
-    = ap (λ (x : ChainMeaning). x.made) after ∙ made ∙ ap (λ (k : KeepMeaning). k.made) is ∙ counted ∙ sym (length-map listed.records (λ (r : Numbered). r.bytes)) in
+pub loaded_chain : (c d : ChainMeaning) (keep record_list : KeepMeaning) → d ≡ record c { records = d.records } → c.next_number ≡ keep.next_number → c.lifted ≡ keep.lifted → c.origin ≡ keep.origin → keep ≡ record_list → record_list.next_number ≡ length record_list.records → record_list.lifted ≡ None → record_list.origin ≡ own
+    → d ≡ record d { next_number = length (bytes_of record_list.records); lifted = None; origin = own }
+loaded_chain c d keep record_list after next_number lifted origin is counted idle own_room =
+    let made_is : d.next_number ≡ length (bytes_of record_list.records)
+    = ap (λ (x : ChainMeaning). x.next_number) after ∙ next_number ∙ ap (λ (k : KeepMeaning). k.next_number) is ∙ counted ∙ sym (length-map record_list.records (λ (r : Numbered). r.bytes)) in
     let lifted_is : d.lifted ≡ None = ap (λ (x : ChainMeaning). x.lifted) after ∙ lifted ∙ ap (λ (k : KeepMeaning). k.lifted) is ∙ idle in
     let origin_is : d.origin ≡ own = ap (λ (x : ChainMeaning). x.origin) after ∙ origin ∙ ap (λ (k : KeepMeaning). k.origin) is ∙ own_room in
-    ap (λ n. record d { made = n }) made_is
-    ∙ ap (λ l. record d { made = length (bytes_of listed.records); lifted = l }) lifted_is
-    ∙ ap (λ o. record d { made = length (bytes_of listed.records); lifted = None; origin = o }) origin_is
+    ap (λ n. record d { next_number = n }) made_is
+    ∙ ap (λ l. record d { next_number = length (bytes_of record_list.records); lifted = l }) lifted_is
+    ∙ ap (λ o. record d { next_number = length (bytes_of record_list.records); lifted = None; origin = o }) origin_is
 
 pub loaded_heap : (h g : HeapMeaning) (v : Version) (quota : ℕ) (logs now : List LogEntry) → h ≡ record { version = v; quota = quota; state = empty_heap; held_ids = []; origin = own; applied = 0 } → g ≡ record h { state = g.state; held_ids = g.held_ids } → g.state ≡ heap_at (newest logs) → now ≡ logs
     → g ≡ record { version = v; quota = quota; state = heap_at (newest now); held_ids = g.held_ids; origin = own; applied = 0 }

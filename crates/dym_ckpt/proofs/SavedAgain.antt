@@ -1,13 +1,13 @@
 -- What is saved is a file, and comes back.
-use Rattle.std.proofs.Common.{◌≡◌, ℕ, zero, suc, ◌+◌, ◌<◌, ◌≤◌, ◌⊎◌, List, [], ◌∷◌, length, get_or, map, take, refl, sym, ap, subst, ◌∙◌, arith, inl, inr}
+use Rattle.std.proofs.Common.{◌≡◌, ℕ, ◌+◌, ◌<◌, ◌≤◌, ◌⊎◌, List, [], ◌∷◌, length, get_or, map, refl, sym, ap, subst, ◌∙◌, arith, inl, inr}
 use Rattle.std.specs.List.{AllByRecursion, flat_map}
 use Rattle.std.proofs.lemmas.List.{append-nil, length-append, length-map}
-use Rattle.dym_base.specs.Below.{oldest_depth}
+use Rattle.dym_base.specs.BaseLogs.{oldest_depth}
 use Rattle.dym_base.specs.Files.{FileHead, IsFileHead, head_of, framed}
 use Rattle.dym_base.specs.Heaps.{held}
 use Rattle.dym_base.specs.LawfulLists.{IsRecordOf, IsLawfulList}
 use Rattle.dym_base.specs.Objects.{LogEntry, record_of, kind_of}
-use Rattle.dym_base.specs.Packed.{Logged, kind_byte}
+use Rattle.dym_base.specs.Packed.{kind_byte}
 use Rattle.dym_base.specs.Recorded.{IsRecorded}
 use Rattle.dym_base.specs.declared.limits.TheConstants.{MOST_DEPTH}
 use Rattle.dym_base.specs.declared.command.Version.{Version}
@@ -16,13 +16,14 @@ use Rattle.dym_base.specs.declared.command.Kind.{Kind}
 use Rattle.dym_base.specs.declared.command.Kind.TheVariants.{Full, Inc}
 use Rattle.dym_pack.proofs.Slices.{first_byte}
 use Rattle.dym_heap.specs.Meaning.{HeapMeaning}
-use Rattle.dym_chain.specs.Adopted.{AreEntriesOf, RecordsSayTheirLogs}
+use Rattle.dym_chain.specs.AdoptedLogs.{AreEntriesOf, RecordsSayTheirLogs}
 use Rattle.dym_chain.specs.Chains.{ChainMeaning, all_logs}
 use Rattle.dym_chain.specs.Keeps.{bytes_of}
 use Rattle.dym_chain.specs.Lawful.{logged_of}
 use Rattle.dym_ckpt.specs.Laws.{SavedIsFile, SavedComesBack}
-use Rattle.dym_ckpt.specs.Saved.{MayBeSaved, file_of_logs, framed_from}
+use Rattle.dym_ckpt.specs.SavedFiles.{MayBeSaved, file_of_logs, framed_from}
 use Rattle.dym_ckpt.proofs.FileReadings.{reads_to}
+use Rattle.dym_ckpt.proofs.Lists.{nothing_lawful}
 use Rattle.dym_ckpt.proofs.OneReading.{one_reading}
 use Rattle.dym_ckpt.proofs.SavedFiles.{count_of, file_parts}
 
@@ -51,13 +52,6 @@ each_record v quota [] recorded within = tt
 each_record v quota (e ∷ logs) recorded within =
     ((logged_of v e, record { recorded = recorded.0; version = refl; within = within.0 }, refl), each_record v quota logs recorded.1 within.1)
 
-nothing_lawful : (v : Version) (d : ℕ) → IsLawfulList v d []
-nothing_lawful v d = ([], record { recorded = tt; version = tt; full = tt; base = none d; shallow = tt; follow = tt }, refl)
-  where
-    none : (d : ℕ) → AllByRecursion (λ (x : Logged). x.kind ≡ Inc) (take d [])
-    none zero = tt
-    none (suc d) = tt
-
 -- what is asked of the records of a file
 record AreGood (v : Version) (quota d : ℕ) (records : List (List ℕ)) : Type 0 where
   each : AllByRecursion (IsRecordOf v quota) records
@@ -85,9 +79,9 @@ depth_below : (logs : List LogEntry) (n : ℕ) → n ≡ oldest_depth logs → 0
 depth_below [] n is some = absurd (omega (arith, is, some))
 depth_below (e ∷ logs) n is some = omega (arith, is)
 
-good_head : (name : List ℕ) (quota : ℕ) (v : Version) (c : ChainMeaning) → MayBeSaved name quota v c → IsFileHead (head_of name quota v c.below c.logs)
+good_head : (name : List ℕ) (quota : ℕ) (v : Version) (c : ChainMeaning) → MayBeSaved name quota v c → IsFileHead (head_of name quota v c.base_logs c.logs)
 good_head name quota v c may =
-    let count = length-append c.below c.logs in
+    let count = length-append c.base_logs c.logs in
     let shallow = oldest_shallow c.logs may.kept.list.1 in
     record {
       named = may.named;
@@ -97,14 +91,14 @@ good_head name quota v c may =
       shallow = shallow;
       kept = omega (arith, count, may.kept.base, may.kept.list.0);
       none = λ is. omega (arith, count, may.kept.base, is);
-      some = λ some. omega (arith, count, depth_below c.logs (length c.below) may.kept.base (omega (arith, count, some)));
+      some = λ some. omega (arith, count, depth_below c.logs (length c.base_logs) may.kept.base (omega (arith, count, some)));
     }
 
 -- ---- the file
 
 pub saved_is_file : SavedIsFile
 saved_is_file name quota v c may =
-    let head = head_of name quota v c.below c.logs in
+    let head = head_of name quota v c.base_logs c.logs in
     let records = bytes_of c.records in
     let good = are_good name quota v c may in
     let many : length records ≡ head.count = length-map c.records (λ r. r.bytes) ∙ count_of v c may.are in
@@ -116,11 +110,11 @@ saved_is_file name quota v c may =
 
 pub saved_comes_back : RecordsSayTheirLogs → SavedComesBack
 saved_comes_back say name quota v c loaded may is =
-    let same = one_reading (file_of_logs name quota v c) is.head (head_of name quota v c.below c.logs) is.records (bytes_of c.records) is.file (saved_is_file name quota v c may) in
-    let entries : AreEntriesOf (oldest_depth c.logs) (bytes_of c.records) loaded.chain.below loaded.chain.logs
-    = subst (λ d. AreEntriesOf d (bytes_of c.records) loaded.chain.below loaded.chain.logs) (ap (λ (h : FileHead). h.depth) same.0)
-    (subst (λ rs. AreEntriesOf is.head.depth rs loaded.chain.below loaded.chain.logs) same.1 is.entries) in
-    let said = say c loaded.chain.below loaded.chain.logs may.kept entries in
+    let same = one_reading (file_of_logs name quota v c) is.head (head_of name quota v c.base_logs c.logs) is.records (bytes_of c.records) is.file (saved_is_file name quota v c may) in
+    let entries : AreEntriesOf (oldest_depth c.logs) (bytes_of c.records) loaded.chain.base_logs loaded.chain.logs
+    = subst (λ d. AreEntriesOf d (bytes_of c.records) loaded.chain.base_logs loaded.chain.logs) (ap (λ (h : FileHead). h.depth) same.0)
+    (subst (λ rs. AreEntriesOf is.head.depth rs loaded.chain.base_logs loaded.chain.logs) same.1 is.entries) in
+    let said = say c loaded.chain.base_logs loaded.chain.logs may.kept entries in
     record {
       name_is = is.name ∙ ap (λ (h : FileHead). h.name) same.0;
       quota_is = ap (λ (h : HeapMeaning). h.quota) is.heap ∙ ap (λ (h : FileHead). h.quota) same.0;

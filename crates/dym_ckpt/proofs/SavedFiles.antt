@@ -12,9 +12,9 @@ use Rattle.dym_base.specs.declared.command.Version.{Version}
 use Rattle.dym_slots.specs.Meanings.{Numbered, record_at, no_record}
 use Rattle.dym_chain.specs.Chains.{ChainMeaning, all_logs}
 use Rattle.dym_chain.specs.Keeps.{bytes_of}
-use Rattle.dym_chain.specs.Kept.{AreKept}
+use Rattle.dym_chain.specs.KeptRecords.{AreKeptRecords}
 use Rattle.dym_ckpt.specs.Heads.{from_name}
-use Rattle.dym_ckpt.specs.Saved.{AreOf, file_of_logs, framed_from}
+use Rattle.dym_ckpt.specs.SavedFiles.{AreOf, file_of_logs, framed_from}
 use Rattle.dym_ckpt.proofs.Headers.{head_parts}
 use Rattle.dym_ckpt.proofs.RecordLengths.{list_short}
 
@@ -44,7 +44,7 @@ head_long h =
 pub count_of : (v : Version) (c : ChainMeaning) → AreOf v c → length c.records ≡ length (all_logs c)
 count_of v c are = sym (length-map c.records (λ (r : Numbered). r.bytes)) ∙ ap length are ∙ length-map (all_logs c) (record_of v)
 
-pub record_is_short : (c : ChainMeaning) → AreKept c → (place : ℕ) → place < length c.records → length (record_at c.records place).bytes < 2 ^ 32
+pub record_is_short : (c : ChainMeaning) → AreKeptRecords c → (place : ℕ) → place < length c.records → length (record_at c.records place).bytes < 2 ^ 32
 record_is_short c kept place within =
     let bytes = bytes_of c.records in
     let inside : place < length bytes = omega (arith, within, length-map c.records (λ (r : Numbered). r.bytes)) in
@@ -68,11 +68,11 @@ framed_long bytes = omega arith
 
 -- ---- the file
 
-pub file_parts : (name : List ℕ) (quota : ℕ) (v : Version) (c : ChainMeaning) → AreOf v c → file_of_logs name quota v c ≡ head_bytes (head_of name quota v c.below c.logs) ++ framed_from 0 c.records
+pub file_parts : (name : List ℕ) (quota : ℕ) (v : Version) (c : ChainMeaning) → AreOf v c → file_of_logs name quota v c ≡ head_bytes (head_of name quota v c.base_logs c.logs) ++ framed_from 0 c.records
 unfolding file_of
-file_parts name quota v c are = ap (λ records. head_bytes (head_of name quota v c.below c.logs) ++ flat_map framed records) (sym are)
+file_parts name quota v c are = ap (λ records. head_bytes (head_of name quota v c.base_logs c.logs) ++ flat_map framed records) (sym are)
 
 pub file_long : (name : List ℕ) (quota : ℕ) (v : Version) (c : ChainMeaning) → AreOf v c → length (file_of_logs name quota v c) ≡ 19 + length name + length (framed_from 0 c.records)
 file_long name quota v c are =
-    let head = head_of name quota v c.below c.logs in
+    let head = head_of name quota v c.base_logs c.logs in
     omega (arith, ap length (file_parts name quota v c are), length-append (head_bytes head) (framed_from 0 c.records), head_long head)

@@ -1,7 +1,7 @@
 pub mod Heads
-pub mod Follow
+pub mod RecordOrder
 pub mod Lists
-pub mod Saved
-pub mod Readings
+pub mod SavedFiles
+pub mod FileRecords
 pub mod Laws
-pub mod Loadings
+pub mod FileReads

@@ -9,10 +9,10 @@ use Rattle.dym_base.specs.declared.limits.TheConstants.{MOST_DEPTH}
 use Rattle.dym_base.specs.declared.command.Version.{Version}
 use Rattle.dym_base.specs.declared.command.Kind.{Kind}
 use Rattle.dym_base.specs.declared.command.Kind.TheVariants.{Full, Inc}
-use Rattle.dym_pack.specs.Reading.{OfLog}
+use Rattle.dym_pack.specs.ParsedAreas.{OfLog}
 use Rattle.dym_slots.specs.Meanings.{Numbered, record_at}
 use Rattle.dym_chain.specs.Keeps.{bytes_of}
-use Rattle.dym_ckpt.specs.declared.records.Listed.{Listed}
+use Rattle.dym_ckpt.specs.declared.records.RecordList.{RecordList}
 
 -- what is true of whatever logs have these bytes
 abbrev pub OfLogs : List (List ℕ) → (List Logged → Type 0) → Type 0
@@ -53,9 +53,9 @@ abbrev pub CantBeNext : Version → ℕ → ℕ → List (List ℕ) → List ℕ
 CantBeNext v quota d records more = IsRecordOf v quota more → IsLawfulList v d (records ++ more ∷ []) → ⊥
 
 -- the records that were read so far: a lawful list in a keep of their own, with the depth of the last
-pub record IsListed (v : Version) (d : ℕ) (listed : Listed) : Type 0 where
-  pub idle : listed.keep.lifted ≡ None
-  pub made : listed.keep.made ≡ length listed.keep.records
-  pub own_room : listed.keep.origin ≡ own
-  pub lawful : IsLawfulList v d (bytes_of listed.keep.records)
-  pub depth : OfLogs (bytes_of listed.keep.records) (λ logs. listed.depth ≡ last_depth 0 logs)
+pub record IsListed (v : Version) (d : ℕ) (record_list : RecordList) : Type 0 where
+  pub idle : record_list.keep.lifted ≡ None
+  pub next_number : record_list.keep.next_number ≡ length record_list.keep.records
+  pub own_room : record_list.keep.origin ≡ own
+  pub lawful : IsLawfulList v d (bytes_of record_list.keep.records)
+  pub depth : OfLogs (bytes_of record_list.keep.records) (λ logs. record_list.depth ≡ last_depth 0 logs)

@@ -1,5 +1,5 @@
 //! What the definition of files comes to, each law the contract of a function that does nothing.
-ghost use Rattle.dym_ckpt.specs.Laws.{FilesHaveOneReading, NoFileFails, OnePartFails, SavedIsFile, SavedComesBack};
+ghost use Rattle.dym_ckpt.specs.Laws.{FilesHaveOneReading, NoFileFails, OnePartFails, SavedIsFile, SavedComesBack, StartIsWithin, StepsKeepWithin, RunsAreWithin, LoadedIsWithin, WithinMayBeSaved};
 
 use dym_chain::laws::records_say_their_logs;
 
@@ -25,3 +25,13 @@ pub fn what_is_saved_comes_back()
 {
     records_say_their_logs();
 }
+
+/// What an object keeps may be saved, whatever it pruned: its heap, its logs and those below them are within its quota at its start
+/// or where it was loaded, and after each command.
+pub fn what_objects_keep_may_be_saved()
+    ensures start { StartIsWithin }
+    ensures step { StepsKeepWithin }
+    ensures run { RunsAreWithin }
+    ensures loaded { LoadedIsWithin }
+    ensures saved { WithinMayBeSaved }
+{}

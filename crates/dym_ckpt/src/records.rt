@@ -4,13 +4,13 @@ ghost use Rattle.dym_base.specs.Files.{framed};
 ghost use Rattle.dym_base.specs.LawfulLists.{IsRecordOf, IsLawfulList, MayFollow, depth_after};
 ghost use Rattle.dym_base.specs.declared.limits.TheConstants.{MOST_DEPTH, MOST_RECORDS};
 ghost use Rattle.dym_base.specs.declared.command.Version.{Version};
-ghost use Rattle.dym_pack.specs.Reading.{OfLog};
-ghost use Rattle.dym_pack.specs.declared.of_bytes.RecordFail.TheVariants.{Bad};
+ghost use Rattle.dym_pack.specs.ParsedAreas.{OfLog};
+ghost use Rattle.dym_pack.specs.declared.record_parser.RecordFail.TheVariants.{Bad};
 ghost use Rattle.dym_chain.specs.Keeps.{bytes_of};
 ghost use Rattle.dym_ckpt.specs.Lists.{FitsPlace, IsListed, FitsBehind, FollowsLast, NeverFollowsLast, NeverFits, CantBeNext};
 
-use crate::follow::may_follow;
 use crate::head::number_in;
+use crate::record_order::may_follow;
 use dym_base::limits::MOST_DEPTH;
 use dym_base::{Kind, Version};
 use dym_chain::{LogKeep, VecKeep};
@@ -27,18 +27,18 @@ pub(crate) struct Rule {
 
 /// The records that were read so far, and how many stand between the last one and the last full one.
 #[derive(Drop)]
-pub(crate) struct Listed {
+pub(crate) struct RecordList {
     pub(crate) keep: VecKeep,
     pub(crate) depth: u8,
 }
 
-impl Listed {
+impl RecordList {
     /// No record yet.
-    pub(crate) fn open(alloc: Global) -> Result<Listed, AllocError>
-        ensures listed { IfOk result (λ listed. (v : Version) (d : ℕ) → IsListed v d listed) }
-        ensures none { IfOk result (λ listed. listed.keep.records ≡ []) }
+    pub(crate) fn open(alloc: Global) -> Result<RecordList, AllocError>
+        ensures record_list { IfOk result (λ record_list. (v : Version) (d : ℕ) → IsListed v d record_list) }
+        ensures none { IfOk result (λ record_list. record_list.keep.records ≡ []) }
     {
-        Ok(Listed {
+        Ok(RecordList {
             keep: VecKeep::open(alloc)?,
             depth: 0,
         })
@@ -54,9 +54,9 @@ impl Listed {
     /// Appends the record of these bytes. Bad exactly where they are none within the quota, or where it may not stand behind those
     /// that were read.
     pub(crate) fn add(&mut self, alloc: Global, rule: Rule, bytes: &[u8]) -> Result<(), RecordFail>
-        requires listed { IsListed rule.version rule.depth self.old }
+        requires record_list { IsListed rule.version rule.depth self.old }
         requires few { length self.old.keep.records < MOST_RECORDS }
-        ensures listed { OnOk result (IsListed rule.version rule.depth self.new) }
+        ensures record_list { OnOk result (IsListed rule.version rule.depth self.new) }
         ensures added { OnOk result (bytes_of self.new.keep.records
             ≡ bytes_of self.old.keep.records ++ bytes.now ∷ []) }
         ensures good { OnOk result (IsRecordOf rule.version rule.quota bytes.now) }

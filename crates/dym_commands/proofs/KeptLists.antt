@@ -8,13 +8,13 @@ use Rattle.std.specs.declared.alloc.AllocError.{AllocError}
 use Rattle.dym_base.specs.declared.limits.TheConstants.{MOST_COMMANDS}
 use Rattle.dym_base.specs.declared.command.Command.{Command}
 use Rattle.dym_base.specs.declared.command.Command.TheVariants.{Read}
-use Rattle.dym_commands.specs.declared.kept.Kept.{Kept}
-use Rattle.dym_commands.specs.declared.kept.Tables.{Tables}
+use Rattle.dym_commands.specs.declared.stored_command.StoredCommand.{StoredCommand}
+use Rattle.dym_commands.specs.declared.stored_command.Tables.{Tables}
 use Rattle.dym_commands.specs.Reads.{read_room}
-use Rattle.dym_commands.specs.Kept.{kept_command, kept_commands, IsFit, AreFit, Still}
+use Rattle.dym_commands.specs.StoredCommands.{command_of, commands_of, IsFit, AreFit, Still}
 
 -- what is kept stays the same
-pub same_commands : (t u : Tables) (kepts : List Kept) → Still t u → All (IsFit t) kepts → kept_commands u kepts ≡ kept_commands t kepts
+pub same_commands : (t u : Tables) (stored_list : List StoredCommand) → Still t u → All (IsFit t) stored_list → commands_of u stored_list ≡ commands_of t stored_list
 same_commands t u [] still fit = refl
 same_commands t u (k ∷ ks) still fit =
     let first = (still k (All-head (IsFit t) k ks fit)).1 in
@@ -22,25 +22,25 @@ same_commands t u (k ∷ ks) still fit =
     λ i. first i ∷ rest i
 
 -- one command more
-pub more_commands : (t u : Tables) (kepts : List Kept) (kept : Kept) (command : Command) → Still t u → All (IsFit t) kepts → kept_command u kept ≡ command → kept_commands u (kepts ++ kept ∷ []) ≡ kept_commands t kepts ++ command ∷ []
-more_commands t u kepts kept command still fit is =
-    let same = same_commands t u kepts still fit in
-    map-append (kept_command u) kepts (kept ∷ []) ∙ (λ i. same i ++ is i ∷ [])
+pub more_commands : (t u : Tables) (stored_list : List StoredCommand) (stored : StoredCommand) (command : Command) → Still t u → All (IsFit t) stored_list → command_of u stored ≡ command → commands_of u (stored_list ++ stored ∷ []) ≡ commands_of t stored_list ++ command ∷ []
+more_commands t u stored_list stored command still fit is =
+    let same = same_commands t u stored_list still fit in
+    map-append (command_of u) stored_list (stored ∷ []) ∙ (λ i. same i ++ is i ∷ [])
 
 -- and it fits
-pub more_fit : (t u : Tables) (kepts : List Kept) (kept : Kept) → Still t u → length kepts < MOST_COMMANDS → length u.wide.items ≤ length t.wide.items + 1 → IsFit u kept → AreFit t kepts → AreFit u (kepts ++ kept ∷ [])
-more_fit t u kepts kept still room rows is fit = record {
-  few = omega (arith, length-append kepts (kept ∷ []), room);
-  rows = omega (arith, length-append kepts (kept ∷ []), rows, fit.rows);
-  fit = All-push (IsFit u) kepts kept (All-weaker (IsFit t) (IsFit u) (λ k old. (still k old).0) kepts fit.fit) is;
+pub more_fit : (t u : Tables) (stored_list : List StoredCommand) (stored : StoredCommand) → Still t u → length stored_list < MOST_COMMANDS → length u.wide.items ≤ length t.wide.items + 1 → IsFit u stored → AreFit t stored_list → AreFit u (stored_list ++ stored ∷ [])
+more_fit t u stored_list stored still room rows is fit = record {
+  few = omega (arith, length-append stored_list (stored ∷ []), room);
+  rows = omega (arith, length-append stored_list (stored ∷ []), rows, fit.rows);
+  fit = All-push (IsFit u) stored_list stored (All-weaker (IsFit t) (IsFit u) (λ k old. (still k old).0) stored_list fit.fit) is;
 }
 
 -- no command more
-pub same_fit : (t u : Tables) (kepts : List Kept) → Still t u → length u.wide.items ≡ length t.wide.items → AreFit t kepts → AreFit u kepts
-same_fit t u kepts still rows fit = record {
+pub same_fit : (t u : Tables) (stored_list : List StoredCommand) → Still t u → length u.wide.items ≡ length t.wide.items → AreFit t stored_list → AreFit u stored_list
+same_fit t u stored_list still rows fit = record {
   few = fit.few;
   rows = omega (arith, rows, fit.rows);
-  fit = All-weaker (IsFit t) (IsFit u) (λ k old. (still k old).0) kepts fit.fit;
+  fit = All-weaker (IsFit t) (IsFit u) (λ k old. (still k old).0) stored_list fit.fit;
 }
 
 -- what the reply to one command tells is no more than a chunk has

@@ -1,6 +1,6 @@
-pub mod Asks
+pub mod Requests
 pub mod Handles
 pub mod Hexes
-pub mod Kept
+pub mod StoredCommands
 pub mod Pieces
 pub mod Reads

@@ -1,12 +1,12 @@
 //! The commands of one object.
 ghost use Rattle.std.specs.Prelude.{◌≡◌, ◌==◌, ◌+◌, ◌<◌, ◌≤◌, ℕ, [], ◌∷◌, ◌++◌, All, length, map, sum_by, slice_get, IfSome, OnOk, OnErr, vec_len, vec_capacity};
 ghost use Rattle.dym_base.specs.declared.limits.TheConstants.{MOST_COMMANDS};
-ghost use Rattle.dym_commands.specs.Asks.{asks};
+ghost use Rattle.dym_commands.specs.Requests.{asks};
 ghost use Rattle.dym_commands.specs.Reads.{read_room};
 ghost use Rattle.dym_commands.specs.Pieces.{behind, commands_in, Follow, IsAt};
 
-use crate::asked::Asked;
 use crate::piece::Piece;
+use crate::request::Asked;
 use crate::runner::Runner;
 use std::alloc::{AllocError, Global};
 use std::marker::Model;
@@ -124,7 +124,12 @@ impl Commands {
 
     /// Has a command run, which counts from 0 on.
     #[inline(always)]
-    pub fn run<R: Runner>(&self, k: usize, way: &R::Way, runner: &mut R) -> Result<(), R::Fail>
+    pub fn run<R: Runner>(
+        &self,
+        k: usize,
+        context: &R::Context,
+        runner: &mut R,
+    ) -> Result<(), R::Fail>
         requires within { k < length self.now }
         requires ready { R.ready runner.old }
         ensures does { OnOk result (IfSome (slice_get self.now k)
@@ -132,10 +137,10 @@ impl Commands {
         ensures stays { OnErr result (R.stays runner.old runner.new) }
     {
         if k < self.first.len() {
-            return self.first.run(k, way, runner);
+            return self.first.run(k, context, runner);
         }
         let later = later_at(&self.others, k);
-        later.piece.run(k - later.start, way, runner)
+        later.piece.run(k - later.start, context, runner)
     }
 }
 

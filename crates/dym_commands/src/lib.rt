@@ -1,21 +1,21 @@
-//! The commands of one object, kept in little memory until they run. It stands on `dym_base`; the reader of scripts, which
-//! pushes what each line asks, and whatever runs an object's commands stand above it. Its one contract: `Commands` is the
-//! list of what was pushed and appended, and runs each as the command that it is. Nothing above sees how they are kept.
+//! The commands of one object, kept in little memory until they run.
+//!
+//! Below stands `dym_base`; above stand the reader of scripts, which pushes what each line asks,
+//! and whatever runs an object's commands. Its one contract: `Commands` is the list of what was
+//! pushed and appended, and `run` has a `Runner` run each as the command that it is; how many bytes
+//! its reads ask for is told. Nothing above sees how they are kept.
 #![tactic(auto)]
 
-mod asked;
 mod commands;
 mod digits;
 mod hex_bytes;
-mod kept;
+mod packed_handle;
 mod piece;
+mod request;
 mod runner;
-mod tight;
+mod stored_command;
 
-pub use asked::Asked;
 pub use commands::Commands;
 pub use hex_bytes::HexBytes;
+pub use request::Asked;
 pub use runner::Runner;
-
-#[cfg(test)]
-mod tests;

@@ -1,31 +1,31 @@
 //! Commands that were pushed one behind the other.
 ghost use Rattle.std.specs.Prelude.{◌≡◌, ◌<◌, ◌≤◌, [], ◌∷◌, ◌++◌, length, slice_get, IfSome, OnOk, OnErr};
 ghost use Rattle.dym_base.specs.declared.limits.TheConstants.{MOST_COMMANDS};
-ghost use Rattle.dym_commands.specs.Asks.{asks};
+ghost use Rattle.dym_commands.specs.Requests.{asks};
 
-use crate::asked::Asked;
-use crate::kept::{Kept, Tables};
+use crate::request::Asked;
 use crate::runner::Runner;
+use crate::stored_command::{StoredCommand, Tables};
 use std::alloc::{AllocError, Global};
 use std::marker::Model;
 
 /// Commands in the order in which they were pushed. Each is kept in 16 bytes, a write with its bytes beside them.
 #[derive(Drop)]
 pub(crate) struct Piece {
-    kept: Vec<Kept>,
+    stored: Vec<StoredCommand>,
     tables: Tables,
 }
 
 impl Model for Piece {
     ghost use Rattle.std.specs.Prelude.{List};
     ghost use Rattle.dym_base.specs.declared.command.Command.{Command};
-    ghost use Rattle.dym_commands.specs.Kept.{kept_commands, AreFit};
+    ghost use Rattle.dym_commands.specs.StoredCommands.{commands_of, AreFit};
 
     ghost Value = { List Command };
 
-    ghost view = { λ c. kept_commands c.tables c.kept.items };
+    ghost view = { λ c. commands_of c.tables c.stored.items };
 
-    ghost invariant = { λ c. AreFit c.tables c.kept.items };
+    ghost invariant = { λ c. AreFit c.tables c.stored.items };
 }
 
 impl Piece {
@@ -34,7 +34,7 @@ impl Piece {
         ensures { result ≡ [] }
     {
         Piece {
-            kept: Vec::new(alloc),
+            stored: Vec::new(alloc),
             tables: Tables::new(alloc),
         }
     }
@@ -44,7 +44,7 @@ impl Piece {
         ensures length { result ≡ length self.now }
         ensures few { result ≤ MOST_COMMANDS }
     {
-        self.kept.len()
+        self.stored.len()
     }
 
     /// Appends what a line asks. Only memory can be wanting.
@@ -54,21 +54,26 @@ impl Piece {
         ensures pushed { OnOk result (self.new ≡ self.old ++ asks asked.now ∷ []) }
         ensures same { OnErr result (self.new ≡ self.old) }
     {
-        self.kept.reserve(1)?;
-        let kept = self.tables.keep(asked)?;
-        self.kept.push(kept)?;
+        self.stored.reserve(1)?;
+        let stored = self.tables.store(asked)?;
+        self.stored.push(stored)?;
         Ok(())
     }
 
     /// Has a command run, which counts from 0 on.
     #[inline(always)]
-    pub fn run<R: Runner>(&self, k: usize, way: &R::Way, runner: &mut R) -> Result<(), R::Fail>
+    pub fn run<R: Runner>(
+        &self,
+        k: usize,
+        context: &R::Context,
+        runner: &mut R,
+    ) -> Result<(), R::Fail>
         requires within { k < length self.now }
         requires ready { R.ready runner.old }
         ensures does { OnOk result (IfSome (slice_get self.now k)
             (λ command. R.does runner.old command runner.new)) }
         ensures stays { OnErr result (R.stays runner.old runner.new) }
     {
-        self.tables.run(&self.kept[k], way, runner)
+        self.tables.run(&self.stored[k], context, runner)
     }
 }

@@ -9,7 +9,7 @@ use dym_base::{Command, Handle};
 /// kind's code is left.
 pub trait Runner {
     /// By what commands are run, as a supply's way.
-    type Way;
+    type Context;
 
     /// Why a command wasn't run.
     type Fail: Drop;
@@ -24,13 +24,19 @@ pub trait Runner {
     ghost stays: { Self → Self → Type 0 };
 
     /// Runs a command.
-    fn run(&mut self, way: &Self::Way, command: Command) -> Result<(), Self::Fail>
+    fn run(&mut self, context: &Self::Context, command: Command) -> Result<(), Self::Fail>
         requires { ready self.old }
         ensures does { OnOk result (does self.old command self.new) }
         ensures stays { OnErr result (stays self.old self.new) };
 
     /// Runs a write of bytes that stand elsewhere, so that they aren't copied into a command.
-    fn write(&mut self, way: &Self::Way, h: Handle, at: u32, bytes: &[u8]) -> Result<(), Self::Fail>
+    fn write(
+        &mut self,
+        context: &Self::Context,
+        h: Handle,
+        at: u32,
+        bytes: &[u8],
+    ) -> Result<(), Self::Fail>
         requires { ready self.old }
         ensures does { OnOk result (does self.old (Write h at bytes.now) self.new) }
         ensures stays { OnErr result (stays self.old self.new) };

@@ -1,3 +1,7 @@
 pub mod Lines
 pub mod Sizes
 pub mod Lengths
+pub mod GoodWords
+pub mod GoodCommands
+pub mod GoodLines
+pub mod GoodScripts

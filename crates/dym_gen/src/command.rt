@@ -3,14 +3,14 @@ ghost use Rattle.std.specs.Prelude.{◌≡◌, ◌+◌, ◌<◌, ◌≤◌, [], 
 ghost use Rattle.dym_gen.specs.Draws.{word as said, number as drawn, size as drawn_size, next, below, size_at, text_from, state_after};
 ghost use Rattle.dym_gen.specs.Commands.{drawn_command, fixed_command, goes_back as does_go_back, command_text, command_state};
 
+use crate::command_place::CommandPlace;
 use crate::draws::Draws;
-use crate::place::Place;
 use crate::word::size;
-use dym_text::{put_named, put_short, put_text, put_word};
+use dym_io::{put_named, put_short, put_text, put_word};
 
 /// Puts the command of a place.
 #[inline(always)]
-pub fn put_command(page: &mut [u8], end: usize, draws: &mut Draws, place: Place) -> usize
+pub fn put_command(page: &mut [u8], end: usize, draws: &mut Draws, place: CommandPlace) -> usize
     requires number { place.number < 1000000 }
     requires room { end + 32 ≤ length page.old }
     ensures state { draws.new.state ≡ command_state

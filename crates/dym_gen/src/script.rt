@@ -6,10 +6,9 @@ ghost use Rattle.dym_io.specs.Sink.{Writes};
 ghost use Rattle.dym_gen.specs.Scripts.{object_line, object_lines, command_line, line_state, command_lines, generated};
 
 use crate::command::put_command;
+use crate::command_place::CommandPlace;
 use crate::draws::Draws;
-use crate::place::Place;
-use dym_io::{Sink, SinkFault, push_all};
-use dym_text::{put_named, put_short, put_text};
+use dym_io::{Sink, SinkFault, push_all, put_named, put_short, put_text};
 
 /// The most lines that are pushed together.
 const GROUP: u32 = 256;
@@ -116,7 +115,7 @@ fn put_commands(page: &mut [u8], draws: &mut Draws, objects: u32, first: u32, co
     ensures lines { (n : ℕ) → command_lines objects (count + n) first draws.old.state
         ≡ take result page.new ++ command_lines objects n (first + count) draws.new.state }
 {
-    let mut place = Place::of(first, objects);
+    let mut place = CommandPlace::of(first, objects);
     let mut current = *draws;
     let mut end = 0;
     for _i in 0..count {
@@ -129,7 +128,7 @@ fn put_commands(page: &mut [u8], draws: &mut Draws, objects: u32, first: u32, co
 
 /// Puts the line of the command at a place.
 #[inline(always)]
-fn put_line(page: &mut [u8], end: usize, draws: &mut Draws, place: Place) -> usize
+fn put_line(page: &mut [u8], end: usize, draws: &mut Draws, place: CommandPlace) -> usize
     requires object { place.object < MOST_OBJECTS }
     requires number { place.number < MOST_MADE_COMMANDS }
     requires room { end + 40 ≤ length page.old }

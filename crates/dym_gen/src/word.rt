@@ -1,7 +1,7 @@
 //! The sizes of chunks as words.
 ghost use Rattle.std.specs.Prelude.{◌≡◌, ◌*◌, ◌^◌, ◌<◌, ◌++◌, take, codes, decimal};
 
-use dym_text::Word;
+use dym_io::Word;
 
 /// One of the sizes 32, 64, 128 and 256, and a colon.
 #[inline(always)]

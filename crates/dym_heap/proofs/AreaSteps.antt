@@ -7,8 +7,8 @@ use Rattle.dym_base.specs.Numbers.{per, number, exponent_of}
 use Rattle.dym_base.specs.Heaps.{Live, HeapState, held}
 use Rattle.dym_pack.specs.Areas.{area_at, chunks_of, chunk_number}
 use Rattle.dym_heap.specs.Table.{Row, row_at, chunk_at, state_of}
-use Rattle.dym_heap.specs.Shelves.{ShelfMeaning, IsKept, IsTidy}
-use Rattle.dym_heap.specs.Wanted.{ChunkMeaning, heap_chunk, row_chunk, IsChangedArea}
+use Rattle.dym_heap.specs.Shelves.{ShelfMeaning, IsValidShelf, IsTidy}
+use Rattle.dym_heap.specs.Fetches.{ChunkMeaning, heap_chunk, row_chunk, IsChangedArea}
 use Rattle.dym_heap.proofs.Entries.{below, at, splits, get-live_of, get-live_of_below, contains-touched_of, contains-touched_of_below}
 use Rattle.dym_heap.proofs.Steps.{kept_fits, kept_marks_fit}
 use Rattle.dym_heap.proofs.AreaLists.{Named, named, lies_in, small_k}
@@ -16,10 +16,10 @@ use Rattle.dym_heap.proofs.Wants.{no_chunk}
 
 -- ---- chunks by their numbers and by their rows
 
-pub chunk_in_row : (s : ShelfMeaning) → IsKept s → (d j q : ℕ) → q ≡ number (d + 5) j → j < 2 ^ 32 → heap_chunk (state_of s.rows) q ≡ row_chunk s.rows d j
-chunk_in_row s kept d j q is small = λ i. record {
-  bytes = get-live_of s.rows (kept_fits s kept) d j q is small i;
-  touched = contains-touched_of s.rows (kept_marks_fit s kept) d j q is small i;
+pub chunk_in_row : (s : ShelfMeaning) → IsValidShelf s → (d j q : ℕ) → q ≡ number (d + 5) j → j < 2 ^ 32 → heap_chunk (state_of s.rows) q ≡ row_chunk s.rows d j
+chunk_in_row s valid_shelf d j q is small = λ i. record {
+  bytes = get-live_of s.rows (kept_fits s valid_shelf) d j q is small i;
+  touched = contains-touched_of s.rows (kept_marks_fit s valid_shelf) d j q is small i;
 }
 
 pub chunk_below : (s : ShelfMeaning) (q : ℕ) → q < number 5 0 → heap_chunk (state_of s.rows) q ≡ no_chunk
@@ -53,7 +53,7 @@ upto_all R copy old new n all classed idle each q =
     ]
 
 module _ (R : ℕ → ChunkMeaning → ChunkMeaning → Type 0) (trans : (q : ℕ) (a b c : ChunkMeaning) → R q a b → R q b c → R q a c) (copy : Live) (few : held copy ≤ 1024) (k : ℕ) (l : k < held copy)
-    (old : HeapState) (mid new : ShelfMeaning) (kept_mid : IsKept mid) (kept : IsKept new)
+    (old : HeapState) (mid new : ShelfMeaning) (kept_mid : IsValidShelf mid) (valid_shelf : IsValidShelf new)
     (changes : IsChangedArea mid.rows new.rows ((area_at copy k).exponent - 5) (area_at copy k).ordinal (λ i. R (chunk_number copy k i))) where
   abbrev e : ℕ
   e = (area_at copy k).exponent
@@ -112,7 +112,7 @@ module _ (R : ℕ → ChunkMeaning → ChunkMeaning → Type 0) (trans : (q : �
       (subst (λ x. R (chunk_number copy k i) (row_chunk mid.rows (e - 5) x) (row_chunk new.rows (e - 5) x)) j_is (changes.here i (omega arith))) in
       let step : R q (heap_chunk (state_of mid.rows) q) (heap_chunk (state_of new.rows) q) =
       subst (λ x. R q x (heap_chunk (state_of new.rows) q)) (sym (chunk_in_row mid kept_mid (e - 5) j q q_row small))
-      (subst (λ x. R q (row_chunk mid.rows (e - 5) j) x) (sym (chunk_in_row new kept (e - 5) j q q_row small)) here) in
+      (subst (λ x. R q (row_chunk mid.rows (e - 5) j) x) (sym (chunk_in_row new valid_shelf (e - 5) j q q_row small)) here) in
       inl (elim done as (λ _. R q (heap_chunk old q) (heap_chunk (state_of new.rows) q)) [
         | inl was ↦ trans q (heap_chunk old q) (heap_chunk (state_of mid.rows) q) (heap_chunk (state_of new.rows) q) was step
         | inr rest ↦ subst (λ x. R q x (heap_chunk (state_of new.rows) q)) rest.0 step
@@ -126,7 +126,7 @@ module _ (R : ℕ → ChunkMeaning → ChunkMeaning → Type 0) (trans : (q : �
         | below b ↦ outside q (chunk_below new q b ∙ sym (chunk_below mid q b)) (λ i m q_is. let low = e_low in omega arith) done
         | at d j q_is small ↦
             let same : (d ≡ e - 5 → j / n ≡ o → ⊥) → (heap_chunk (state_of new.rows) q ≡ heap_chunk (state_of mid.rows) q) = λ ne.
-            chunk_in_row new kept d j q q_is small ∙ changes.others d j ne ∙ sym (chunk_in_row mid kept_mid d j q q_is small) in
+            chunk_in_row new valid_shelf d j q q_is small ∙ changes.others d j ne ∙ sym (chunk_in_row mid kept_mid d j q q_is small) in
             elim (cases_eq d (e - 5)) as (λ _. UpTo R copy old (state_of new.rows) (k + 1) q) [
               | inr ne ↦ outside q (same (λ x y. ne x)) (λ i m at_q. let s = small_n i m in let r = row_is in ne (omega arith)) done
               | inl one ↦
@@ -167,10 +167,10 @@ area_some mid new c o Change changes keeps d i =
           ]
     ]
 
-pub tidy_changed : (mid new : ShelfMeaning) (c o : ℕ) (Change : ℕ → ChunkMeaning → ChunkMeaning → Type 0) → IsTidy mid → IsKept new → ((d : ℕ) → length (row_at new.rows d).chunks ≡ length (row_at mid.rows d).chunks)
+pub tidy_changed : (mid new : ShelfMeaning) (c o : ℕ) (Change : ℕ → ChunkMeaning → ChunkMeaning → Type 0) → IsTidy mid → IsValidShelf new → ((d : ℕ) → length (row_at new.rows d).chunks ≡ length (row_at mid.rows d).chunks)
     → IsChangedArea mid.rows new.rows c o Change → ((i j : ℕ) → Change i (row_chunk mid.rows c j) (row_chunk new.rows c j) → is_some (chunk_at new.rows c j) ≡ is_some (chunk_at mid.rows c j)) → IsTidy new
-tidy_changed mid new c o Change tidy kept long changes keeps = record {
-  kept = kept;
+tidy_changed mid new c o Change tidy valid_shelf long changes keeps = record {
+  valid_shelf = valid_shelf;
   trimmed = λ d l.
       let was = tidy.trimmed d l in
       let same = long d in

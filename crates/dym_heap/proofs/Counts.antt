@@ -9,10 +9,10 @@ use Rattle.dym_base.specs.Heaps.{areas, held}
 use Rattle.dym_base.specs.Packed.{Logged, packed}
 use Rattle.dym_pack.specs.Areas.{AreaName, area_at}
 use Rattle.dym_base.specs.Recorded.{IsRecorded}
-use Rattle.dym_pack.specs.Reading.{IsRecord, OfLog}
+use Rattle.dym_pack.specs.ParsedAreas.{IsRecord, OfLog}
 use Rattle.dym_heap.specs.Table.{Row, row_at}
 use Rattle.dym_heap.specs.Shape.{areas_in}
-use Rattle.dym_heap.specs.Shelves.{ShelfMeaning, IsKept}
+use Rattle.dym_heap.specs.Shelves.{ShelfMeaning, IsValidShelf}
 use Rattle.dym_heap.proofs.AreaLists.{named, stands_in}
 
 -- ---- sums
@@ -64,10 +64,10 @@ areas_lt e (r ∷ rows) (n ∷ counts) (suc d) long each l strict =
     omega arith
 
 -- where one class has fewer areas than it should, and none has more, a segment may still be taken
-pub room_left : (s : ShelfMeaning) (counts : List ℕ) (c n : ℕ) → IsKept s → length counts ≡ 12 → ((d : ℕ) → d < 12 → length (row_at s.rows d).chunks ≤ get_or counts d 0 * per (d + 5)) → c < 12
+pub room_left : (s : ShelfMeaning) (counts : List ℕ) (c n : ℕ) → IsValidShelf s → length counts ≡ 12 → ((d : ℕ) → d < 12 → length (row_at s.rows d).chunks ≤ get_or counts d 0 * per (d + 5)) → c < 12
     → length (row_at s.rows c).chunks ≡ n * per (c + 5) → n < get_or counts c 0 → sum counts ≤ s.quota → length s.held_ids < s.quota
-room_left s counts c n kept long each l many less within =
-    let classes = kept.classes in
+room_left s counts c n valid_shelf long each l many less within =
+    let classes = valid_shelf.classes in
     let positive : (d : ℕ) → 0 < per (d + 5) = λ d. pow_pos (16 - (d + 5)) in
     let turn : (d : ℕ) → (5 + d ≡ d + 5) = λ d. omega arith in
     let strict = areas_lt 5 s.rows counts c (omega arith)
@@ -75,7 +75,7 @@ room_left s counts c n kept long each l many less within =
     (omega arith)
     (subst (λ x. length (row_at s.rows c).chunks / per x < get_or counts c 0) (sym (turn c))
     (let e : length (row_at s.rows c).chunks ≡ n * per (c + 5) + 0 = omega arith in let q = ap (λ x. x / per (c + 5)) e ∙ div-mul-add n (per (c + 5)) 0 (positive c) in omega arith)) in
-    let holds = kept.holds in
+    let holds = valid_shelf.holds in
     omega arith
 
 -- ---- the areas of a record

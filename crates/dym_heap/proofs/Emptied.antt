@@ -9,8 +9,8 @@ use Rattle.dym_bits.specs.Bits.{bit_in, bits_of_bytes, IsSet}
 use Rattle.dym_region.specs.declared.segment.SegmentId.{SegmentId}
 use Rattle.dym_heap.specs.Table.{Row, empty_row, row_at, chunk_at}
 use Rattle.dym_heap.specs.Shelves.{EndsFree}
-use Rattle.dym_heap.specs.Shelves.{ShelfMeaning, IsKept, shorter, without_last}
-use Rattle.dym_heap.specs.Wanted.{ChunkMeaning, row_chunk, IsReshaped, IsChangedArea}
+use Rattle.dym_heap.specs.Shelves.{ShelfMeaning, IsValidShelf, shorter, without_last}
+use Rattle.dym_heap.specs.Fetches.{ChunkMeaning, row_chunk, IsReshaped, IsChangedArea}
 use Rattle.dym_heap.proofs.PlaceShapes.{zero_bits}
 
 none_of : (o : Option (List ℕ)) → is_some o ≡ false → o ≡ None
@@ -65,7 +65,7 @@ module _ (rows : List Row) (e r : ℕ) (low : 5 ≤ e) (high : e ≤ 16) (many :
 
 -- the chunks before the last area stay as they are
 module _ (old mid new : ShelfMeaning) (ids : List SegmentId) (e r : ℕ) (low : 5 ≤ e) (high : e ≤ 16) (many : length (row_at old.rows (e - 5)).chunks ≡ r * per (e - 5 + 5)) (some : per e ≤ length (row_at old.rows (e - 5)).chunks)
-    (Change : ℕ → ChunkMeaning → ChunkMeaning → Type 0) (shaped : IsChangedArea old.rows mid.rows (e - 5) (r - 1) Change) (long : length (row_at mid.rows (e - 5)).chunks ≡ length (row_at old.rows (e - 5)).chunks) (kept : IsKept mid)
+    (Change : ℕ → ChunkMeaning → ChunkMeaning → Type 0) (shaped : IsChangedArea old.rows mid.rows (e - 5) (r - 1) Change) (long : length (row_at mid.rows (e - 5)).chunks ≡ length (row_at old.rows (e - 5)).chunks) (valid_shelf : IsValidShelf mid)
     (dropped : new ≡ without_last mid (e - 5) (per e) ids) (positive : 0 < per e) where
   abbrev left : ℕ
   left = length (row_at mid.rows (e - 5)).chunks - per e
@@ -73,7 +73,7 @@ module _ (old mid new : ShelfMeaning) (ids : List SegmentId) (e r : ℕ) (low : 
   row_there : row_at new.rows (e - 5) ≡ shorter left (row_at mid.rows (e - 5))
   row_there =
       ap (λ (s : ShelfMeaning). row_at s.rows (e - 5)) dropped
-      ∙ get_or-set_same mid.rows (e - 5) (shorter left (row_at mid.rows (e - 5))) empty_row (let n = kept.classes in omega arith)
+      ∙ get_or-set_same mid.rows (e - 5) (shorter left (row_at mid.rows (e - 5))) empty_row (let n = valid_shelf.classes in omega arith)
 
   row_other : (d : ℕ) → (d ≡ e - 5 → ⊥) → row_at new.rows d ≡ row_at mid.rows d
   row_other d ne = ap (λ (s : ShelfMeaning). row_at s.rows d) dropped ∙ get_or-set_other mid.rows (e - 5) d (shorter left (row_at mid.rows (e - 5))) empty_row ne

@@ -15,10 +15,10 @@ use Rattle.dym_base.specs.declared.command.Version.{Version}
 use Rattle.dym_base.specs.declared.command.Version.TheVariants.{One, Two}
 use Rattle.dym_bits.specs.Bits.{bit_in}
 use Rattle.dym_pack.specs.Areas.{area_at, chunks_of, chunk_number, bytes_at}
-use Rattle.dym_pack.specs.Reading.{packs_at, body_from}
+use Rattle.dym_pack.specs.ParsedAreas.{packs_at, body_from}
 use Rattle.dym_heap.specs.Table.{Row, row_at, chunk_at}
-use Rattle.dym_heap.specs.Shelves.{ShelfMeaning, IsKept, IsTidy}
-use Rattle.dym_heap.specs.Wanted.{ChunkMeaning, row_chunk, marked, fetched, packed_at, IsReshaped, IsChangedArea, IsAreaChange}
+use Rattle.dym_heap.specs.Shelves.{ShelfMeaning, IsValidShelf, IsTidy}
+use Rattle.dym_heap.specs.Fetches.{ChunkMeaning, row_chunk, marked, fetched, packed_at, IsReshaped, IsChangedArea, IsAreaChange}
 use Rattle.dym_heap.proofs.Sizes.{size_least}
 use Rattle.dym_heap.proofs.AreaSteps.{tidy_changed}
 use Rattle.dym_heap.proofs.RecordLoads.{class_low, class_high, packs_live, packed_is, some_bytes}
@@ -68,18 +68,18 @@ class_k log is k l = let low = class_low log is k l in let high = class_high log
 
 -- ---- the shelf stays tidy
 
-pub tidy_marked : (log : Logged) (k : ℕ) (mid new : ShelfMeaning) → (area_at log.copy k).exponent - 5 < 12 → IsTidy mid → IsKept new → ((d : ℕ) → length (row_at new.rows d).chunks ≡ length (row_at mid.rows d).chunks)
+pub tidy_marked : (log : Logged) (k : ℕ) (mid new : ShelfMeaning) → (area_at log.copy k).exponent - 5 < 12 → IsTidy mid → IsValidShelf new → ((d : ℕ) → length (row_at new.rows d).chunks ≡ length (row_at mid.rows d).chunks)
     → IsAreaChange log k mid.rows new.rows (Marked log) → IsTidy new
-tidy_marked log k mid new small tidy kept long changes =
-    tidy_changed mid new ((area_at log.copy k).exponent - 5) (area_at log.copy k).ordinal (λ i. Marked log (chunk_number log.copy k i)) tidy kept long changes
+tidy_marked log k mid new small tidy valid_shelf long changes =
+    tidy_changed mid new ((area_at log.copy k).exponent - 5) (area_at log.copy k).ordinal (λ i. Marked log (chunk_number log.copy k i)) tidy valid_shelf long changes
     (λ i j e. ap (λ (x : ChunkMeaning). is_some x.bytes) e)
 
-pub tidy_fetched : (log : Logged) (k : ℕ) (mid new : ShelfMeaning) → (area_at log.copy k).exponent - 5 < 12 → IsTidy mid → IsKept new → ((d : ℕ) → length (row_at new.rows d).chunks ≡ length (row_at mid.rows d).chunks)
+pub tidy_fetched : (log : Logged) (k : ℕ) (mid new : ShelfMeaning) → (area_at log.copy k).exponent - 5 < 12 → IsTidy mid → IsValidShelf new → ((d : ℕ) → length (row_at new.rows d).chunks ≡ length (row_at mid.rows d).chunks)
     → IsAreaChange log k mid.rows new.rows (Fetched log) → IsTidy new
-tidy_fetched log k mid new small tidy kept long changes =
+tidy_fetched log k mid new small tidy valid_shelf long changes =
     let c : ℕ = (area_at log.copy k).exponent - 5 in
-    tidy_changed mid new c (area_at log.copy k).ordinal (λ i. Fetched log (chunk_number log.copy k i)) tidy kept long changes
-    (λ i j e. ap (λ (x : ChunkMeaning). is_some x.bytes) e ∙ fetched_some (packed_by log (chunk_number log.copy k i)) (row_chunk mid.rows c j) (λ t. (tidy.kept.row c small).touched_used j t))
+    tidy_changed mid new c (area_at log.copy k).ordinal (λ i. Fetched log (chunk_number log.copy k i)) tidy valid_shelf long changes
+    (λ i j e. ap (λ (x : ChunkMeaning). is_some x.bytes) e ∙ fetched_some (packed_by log (chunk_number log.copy k i)) (row_chunk mid.rows c j) (λ t. (tidy.valid_shelf.row c small).touched_used j t))
 
 -- ---- one area
 

@@ -10,9 +10,9 @@ use Rattle.dym_base.specs.Heaps.{Live, areas, held}
 use Rattle.dym_base.specs.Packed.{bitmap}
 use Rattle.dym_pack.specs.Areas.{AreaName, area_at}
 use Rattle.dym_heap.specs.Table.{Row, empty_row, row_at}
-use Rattle.dym_heap.specs.Shelves.{ShelfMeaning, IsKept, Keeps, with_row, longer}
-use Rattle.dym_heap.specs.Shaping.{HasAreas, HasAtMost, AgreeTo}
-use Rattle.dym_heap.specs.Wanted.{row_chunk}
+use Rattle.dym_heap.specs.Shelves.{ShelfMeaning, IsValidShelf, Keeps, with_row, longer}
+use Rattle.dym_heap.specs.ShapeSteps.{HasAreas, HasAtMost, AgreeTo}
+use Rattle.dym_heap.specs.Fetches.{row_chunk}
 use Rattle.dym_heap.proofs.AreaLists.{named}
 
 -- a class has one area more
@@ -21,9 +21,9 @@ pub record Longer (old new : ShelfMeaning) (e : ℕ) : Type 0 where
   pub others : (d : ℕ) → (d ≡ e - 5 → ⊥) → length (row_at new.rows d).chunks ≡ length (row_at old.rows d).chunks
   pub keeps : Keeps old new
 
-pub longer_is : (old new : ShelfMeaning) (e : ℕ) → IsKept old → 5 ≤ e → e ≤ 16 → new ≡ record (with_row old (e - 5) (longer (per e) (row_at old.rows (e - 5)))) { held_ids = new.held_ids } → Longer old new e
-longer_is old new e kept low high added =
-    let classes = kept.classes in
+pub longer_is : (old new : ShelfMeaning) (e : ℕ) → IsValidShelf old → 5 ≤ e → e ≤ 16 → new ≡ record (with_row old (e - 5) (longer (per e) (row_at old.rows (e - 5)))) { held_ids = new.held_ids } → Longer old new e
+longer_is old new e valid_shelf low high added =
+    let classes = valid_shelf.classes in
     let row : Row = row_at old.rows (e - 5) in
     record {
       here =
@@ -54,9 +54,9 @@ get_behind {A = A} xs n i d =
     ]
 
 -- the chunks that were there stay
-pub longer_rows : (old new : ShelfMeaning) (e : ℕ) → IsKept old → 5 ≤ e → e ≤ 16 → new ≡ record (with_row old (e - 5) (longer (per e) (row_at old.rows (e - 5)))) { held_ids = new.held_ids } → (d i : ℕ) → row_chunk new.rows d i ≡ row_chunk old.rows d i
-longer_rows old new e kept low high added d i =
-    let classes = kept.classes in
+pub longer_rows : (old new : ShelfMeaning) (e : ℕ) → IsValidShelf old → 5 ≤ e → e ≤ 16 → new ≡ record (with_row old (e - 5) (longer (per e) (row_at old.rows (e - 5)))) { held_ids = new.held_ids } → (d i : ℕ) → row_chunk new.rows d i ≡ row_chunk old.rows d i
+longer_rows old new e valid_shelf low high added d i =
+    let classes = valid_shelf.classes in
     let row : Row = row_at old.rows (e - 5) in
     elim (cases_eq d (e - 5)) as (λ _. row_chunk new.rows d i ≡ row_chunk old.rows d i) [
       | inr ne ↦

@@ -11,7 +11,7 @@ use Rattle.dym_base.specs.Heaps.{fresh, held}
 use Rattle.dym_base.specs.HeapStep.{held_with_fresh}
 use Rattle.dym_heap.specs.Table.{Row, row_at, chunk_at, live_of}
 use Rattle.dym_heap.specs.Shape.{IsTrimmed, areas_in}
-use Rattle.dym_heap.specs.Shelves.{ShelfMeaning, IsFirstFree, IsKept, IsTidy, put}
+use Rattle.dym_heap.specs.Shelves.{ShelfMeaning, IsFirstFree, IsValidShelf, IsTidy, put}
 use Rattle.dym_heap.proofs.Counting.{fresh-is, held-is}
 use Rattle.dym_heap.proofs.Entries.{Fits, ChangesChunk, get-live_of, live_of-changed}
 use Rattle.dym_heap.proofs.Steps.{kept_fits, row_room, short_row, row_here, row_other, areas_in-set, put_chunk}
@@ -21,26 +21,26 @@ use Rattle.dym_heap.proofs.Steps.{kept_fits, row_room, short_row, row_here, row_
 has_at : (rows : List Row) → Fits rows → (c i : ℕ) → i < 2 ^ 32 → contains_key (live_of rows) (number (c + 5) i) ≡ is_some (chunk_at rows c i)
 has_at rows fits c i l = ap is_some (get-live_of rows fits c i (number (c + 5) i) refl l)
 
-pub fresh_first : (s : ShelfMeaning) (c i : ℕ) → IsKept s → IsFirstFree s.rows c i → fresh (live_of s.rows) (c + 5) ≡ i
-fresh_first s c i kept first =
-    let fits = kept_fits s kept in
+pub fresh_first : (s : ShelfMeaning) (c i : ℕ) → IsValidShelf s → IsFirstFree s.rows c i → fresh (live_of s.rows) (c + 5) ≡ i
+fresh_first s c i valid_shelf first =
+    let fits = kept_fits s valid_shelf in
     let short = fits c in
     let within = first.within in
     fresh-is (live_of s.rows) (c + 5) i (has_at s.rows fits c i (omega arith) ∙ ap is_some first.free)
     (λ k l. has_at s.rows fits c k (omega arith) ∙ first.least k l)
 
-row_shorter : (s : ShelfMeaning) (c : ℕ) → IsKept s → c < 12 → length (row_at s.rows c).chunks < 2 ^ 32
-row_shorter s c kept small = short_row s.version (c + 5) (row_at s.rows c) (kept.row c small)
+row_shorter : (s : ShelfMeaning) (c : ℕ) → IsValidShelf s → c < 12 → length (row_at s.rows c).chunks < 2 ^ 32
+row_shorter s c valid_shelf small = short_row s.version (c + 5) (row_at s.rows c) (valid_shelf.row c small)
 
 -- no chunk of row c is free
 abbrev pub IsFull : List Row → ℕ → Type 0
 IsFull rows c = (k : ℕ) → k < length (row_at rows c).chunks → IsSome (chunk_at rows c k)
 
-pub fresh_full : (s : ShelfMeaning) (c : ℕ) → IsKept s → c < 12 → IsFull s.rows c → fresh (live_of s.rows) (c + 5) ≡ length (row_at s.rows c).chunks
-fresh_full s c kept small full =
-    let fits = kept_fits s kept in
+pub fresh_full : (s : ShelfMeaning) (c : ℕ) → IsValidShelf s → c < 12 → IsFull s.rows c → fresh (live_of s.rows) (c + 5) ≡ length (row_at s.rows c).chunks
+fresh_full s c valid_shelf small full =
+    let fits = kept_fits s valid_shelf in
     let n : ℕ = length (row_at s.rows c).chunks in
-    let short : n < 2 ^ 32 = row_shorter s c kept small in
+    let short : n < 2 ^ 32 = row_shorter s c valid_shelf small in
     fresh-is (live_of s.rows) (c + 5) n (has_at s.rows fits c n short ∙ ap is_some (get_or_past (row_at s.rows c).chunks n None (omega arith)))
     (λ k l. has_at s.rows fits c k (omega arith) ∙ full k l)
 
@@ -66,8 +66,8 @@ held_added : (s : ShelfMeaning) (c i : ℕ) (r : Row) → IsTidy s → c < 12 �
     → ChangesChunk s.rows (set s.rows c r) c i (Some [])
     → held (insert (live_of s.rows) (number (c + 5) i) []) + length (row_at s.rows c).chunks / per (c + 5) ≡ length s.held_ids + length r.chunks / per (c + 5)
 held_added s c i r tidy small l short is change =
-    let n = tidy.kept.classes in
-    let fits = kept_fits s tidy.kept in
+    let n = tidy.valid_shelf.classes in
+    let fits = kept_fits s tidy.valid_shelf in
     let fits' : Fits (set s.rows c r) = set_fits s.rows c r (omega arith) fits short in
     let lives : live_of (set s.rows c r) ≡ insert (live_of s.rows) (number (c + 5) i) [] = live_of-changed s.rows (set s.rows c r) c i (Some []) fits fits' l change in
     let holds : held (insert (live_of s.rows) (number (c + 5) i) []) ≡ areas_in 5 (set s.rows c r) =
@@ -76,7 +76,7 @@ held_added s c i r tidy small l short is change =
     let a : length (row_at s.rows c).chunks / per (5 + c) ≡ length (row_at s.rows c).chunks / per (c + 5) = ap (λ n. length (row_at s.rows c).chunks / n) turned in
     let b : length r.chunks / per (5 + c) ≡ length r.chunks / per (c + 5) = ap (λ n. length r.chunks / n) turned in
     let change_of = areas_in-set 5 s.rows c r (omega arith) in
-    let before = tidy.kept.holds in
+    let before = tidy.valid_shelf.holds in
     omega arith
 
 pub put_trimmed : (n : ℕ) (row : Row) (i : ℕ) (bytes : List ℕ) (b : Bool) → i < length row.chunks → IsTrimmed n row → IsTrimmed n (put row i (Some bytes) b)
@@ -99,15 +99,15 @@ put_trimmed n row i bytes b within is = record {
 -- where a chunk is free, no segment more is needed
 pub held_with_first : (s : ShelfMeaning) (c i : ℕ) → IsTidy s → c < 12 → IsFirstFree s.rows c i → held_with_fresh (live_of s.rows) (c + 5) ≡ length s.held_ids
 held_with_first s c i tidy small first =
-    let n = tidy.kept.classes in
+    let n = tidy.valid_shelf.classes in
     let within = first.within in
-    let short = kept_fits s tidy.kept c in
+    let short = kept_fits s tidy.valid_shelf c in
     let r : Row = put (row_at s.rows c) i (Some []) false in
     let same : length r.chunks ≡ length (row_at s.rows c).chunks = length-set (row_at s.rows c).chunks i (Some []) in
     let parts : length r.chunks / per (c + 5) ≡ length (row_at s.rows c).chunks / per (c + 5) = ap (λ n. n / per (c + 5)) same in
     let added = held_added s c i r tidy small (omega arith) (omega arith) (put_trimmed (per (c + 5)) (row_at s.rows c) i [] false within (tidy.trimmed c small))
     (put_chunk s.rows c i (Some []) false (omega arith) within) in
-    ap (λ k. held (insert (live_of s.rows) (number (c + 5) k) [])) (fresh_first s c i tidy.kept first) ∙ (omega arith)
+    ap (λ k. held (insert (live_of s.rows) (number (c + 5) k) [])) (fresh_first s c i tidy.valid_shelf first) ∙ (omega arith)
 
 free_after : (n j : ℕ) → 0 < j → get_or {A = Option (List ℕ)} (Some [] ∷ replicate n None) j None ≡ None
 free_after n zero l = absurd (omega arith)
@@ -141,11 +141,11 @@ grown_other n row i ne =
 -- where none is, one is
 pub held_with_full : (s : ShelfMeaning) (c : ℕ) → IsTidy s → c < 12 → IsFull s.rows c → held_with_fresh (live_of s.rows) (c + 5) ≡ length s.held_ids + 1
 held_with_full s c tidy small full =
-    let n = tidy.kept.classes in
+    let n = tidy.valid_shelf.classes in
     let row : Row = row_at s.rows c in
     let m : ℕ = per (c + 5) in
     let positive : 0 < m = pow_pos (16 - (c + 5)) in
-    let is = tidy.kept.row c small in
+    let is = tidy.valid_shelf.row c small in
     let short : length row.chunks + m ≤ 2 ^ 32 = row_room s.version (c + 5) row is in
     let r : Row = grown m row in
     let more : length r.chunks ≡ length row.chunks + m = grown_length m row positive in
@@ -170,4 +170,4 @@ held_with_full s c tidy small full =
             | inr ne ↦ ap (λ (q : Row). get_or q.chunks i None) (row_other s.rows c d r ne)
           ];
     }) in
-    ap (λ k. held (insert (live_of s.rows) (number (c + 5) k) [])) (fresh_full s c tidy.kept small full) ∙ (omega arith)
+    ap (λ k. held (insert (live_of s.rows) (number (c + 5) k) [])) (fresh_full s c tidy.valid_shelf small full) ∙ (omega arith)

@@ -19,8 +19,8 @@ use Rattle.dym_pack.specs.Areas.{area_at, chunks_of, chunk_number, is_used_at, b
 use Rattle.dym_heap.specs.Meaning.{HeapMeaning}
 use Rattle.dym_heap.specs.Table.{live_of, touched_of}
 use Rattle.dym_heap.specs.Shelves.{ShelfMeaning, IsTidy}
-use Rattle.dym_heap.specs.Places.{PlaceMeaning, len_of, version_by, place_of, IsMeasured}
-use Rattle.dym_heap.specs.Lending.{IsAreaOf, IsUsedRun}
+use Rattle.dym_heap.specs.SizedAreas.{SizedAreaMeaning, len_of, version_by, place_of, IsMeasured}
+use Rattle.dym_heap.specs.AreaViews.{IsAreaOf, IsUsedRun}
 use Rattle.dym_heap.proofs.Sizes.{whole_area}
 use Rattle.dym_heap.proofs.Steps.{tidy_held}
 use Rattle.dym_heap.proofs.Soundness.{heap_of}
@@ -30,12 +30,12 @@ use Rattle.dym_heap.proofs.PlaceFacts.{chunk_at_p, set_p}
 
 -- ---- the bits and the bytes of a place, from its area
 
-module _ (area : AreaMeaning) (ls : Option (List ℕ)) (p : PlaceMeaning) (v : place_of area ls ≡ p) (m : IsMeasured area ls) where
+module _ (area : AreaMeaning) (ls : Option (List ℕ)) (p : SizedAreaMeaning) (v : place_of area ls ≡ p) (m : IsMeasured area ls) where
   pub used_p : (i : ℕ) → bit_in area.used i ≡ is_some (get_or p.chunks i None)
   used_p i = sym (ap is_some (chunk_at_p area ls p v m i) ∙ some_used area ls i)
 
   pub touched_p : (i : ℕ) → bit_in area.dirty i ≡ get_or p.touched i false
-  touched_p i = sym (sym (ap (λ (q : PlaceMeaning). get_or q.touched i false) v) ∙ mark_of area i m.lawful)
+  touched_p i = sym (sym (ap (λ (q : SizedAreaMeaning). get_or q.touched i false) v) ∙ mark_of area i m.valid)
 
   len_one : (i : ℕ) → version_by ls ≡ One → len_of area.exponent ls i ≡ size area.exponent
   len_one i one = elim ls as (λ x. version_by x ≡ One → len_of area.exponent x i ≡ size area.exponent) [ None ↦ λ e. refl | Some ns ↦ λ e. cc ] one
@@ -50,7 +50,7 @@ module _ (area : AreaMeaning) (ls : Option (List ℕ)) (p : PlaceMeaning) (v : p
       let more = suc-mul n e in
       let next = add-mul from 1 e in
       let first = used from (omega arith) (omega arith) in
-      let version : version_by ls ≡ One = ap (λ (q : PlaceMeaning). q.version) v ∙ one in
+      let version : version_by ls ≡ One = ap (λ (q : SizedAreaMeaning). q.version) v ∙ one in
       let here : get_or p.chunks from None ≡ Some (between (from * e) (from * e + e) area.content) =
       chunk_at_p area ls p v m from ∙ used_chunk area ls from (set_p area ls p v m from first) ∙ ap (λ k. Some (part_of area.content (from * e) k)) (len_one from version) in
       let rest = run_p (from + 1) n one (λ i low high. used i (omega arith) (omega arith)) (omega arith) in
@@ -66,9 +66,9 @@ length_there : (o : Option (List ℕ)) (n : ℕ) → Some n ≡ option_map lengt
 length_there None n e = absurd cc
 length_there (Some xs) n e = cc
 
-module _ (live : Live) (touched : Touched) (k : ℕ) (p : PlaceMeaning) (is : IsAreaOf live touched k p) where
+module _ (live : Live) (touched : Touched) (k : ℕ) (p : SizedAreaMeaning) (is : IsAreaOf live touched k p) where
   pub long_a : length p.chunks ≡ chunks_of live k
-  long_a = is.place.whole ∙ ap per is.exponent
+  long_a = is.sized_area.whole ∙ ap per is.exponent
 
   pub used_a : (i : ℕ) → is_some (get_or p.chunks i None) ≡ (ltb i (chunks_of live k) && is_used_at live k i)
   used_a i =
@@ -81,7 +81,7 @@ module _ (live : Live) (touched : Touched) (k : ℕ) (p : PlaceMeaning) (is : Is
   pub touched_a : (i : ℕ) → get_or p.touched i false ≡ (ltb i (chunks_of live k) && contains touched (chunk_number live k i))
   touched_a i =
       let long = long_a in
-      let marks = is.place.marks in
+      let marks = is.sized_area.marks in
       elim (cases_lt i (length p.chunks)) as (λ _. get_or p.touched i false ≡ (ltb i (chunks_of live k) && contains touched (chunk_number live k i))) [
         | inl l ↦ is.mark i l ∙ sym (ap (λ b. b && contains touched (chunk_number live k i)) (lt-ltb i (chunks_of live k) (omega arith)))
         | inr past ↦ get_or_past p.touched i false (omega arith) ∙ sym (ap (λ b. b && contains touched (chunk_number live k i)) (le-ltb i (chunks_of live k) (omega arith)))
@@ -109,7 +109,7 @@ module _ (live : Live) (touched : Touched) (k : ℕ) (p : PlaceMeaning) (is : Is
       let e : ℕ = (area_at live k).exponent in
       let same : from * size p.exponent ≡ from * size e = ap (λ x. from * size x) is.exponent in
       let long : count * size p.exponent ≡ count * size e = ap (λ x. count * size x) is.exponent in
-      let high : e ≤ 16 = let m = is.place.most in let x = is.exponent in omega arith in
+      let high : e ≤ 16 = let m = is.sized_area.most in let x = is.exponent in omega arith in
       let whole = whole_area e high in
       let m = mul-le (from + count) (size e) (per e) (size e) inside (omega arith) in
       let sum = add-mul from count (size e) in
@@ -130,8 +130,8 @@ module _ (s : ShelfMeaning) (applied : ℕ) (h : HeapMeaning) (view : heap_of s 
   pub within_h : (k : ℕ) → k < held h.state.live → k < length s.held_ids
   within_h k l = let n = held_h in omega arith
 
-  pub area_h : (k : ℕ) (p : PlaceMeaning) → IsAreaOf (live_of s.rows) (touched_of s.rows) k p → IsAreaOf h.state.live h.state.touched k p
+  pub area_h : (k : ℕ) (p : SizedAreaMeaning) → IsAreaOf (live_of s.rows) (touched_of s.rows) k p → IsAreaOf h.state.live h.state.touched k p
   area_h k p is = subst (λ (x : HeapMeaning). IsAreaOf x.state.live x.state.touched k p) view is
 
-  pub version_h : (p : PlaceMeaning) → p.version ≡ s.version → p.version ≡ h.version
+  pub version_h : (p : SizedAreaMeaning) → p.version ≡ s.version → p.version ≡ h.version
   version_h p e = e ∙ ap (λ (x : HeapMeaning). x.version) view

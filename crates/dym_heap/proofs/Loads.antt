@@ -14,7 +14,7 @@ use Rattle.dym_base.specs.declared.command.Version.{Version}
 use Rattle.dym_base.specs.declared.command.Version.TheVariants.{One, Two}
 use Rattle.dym_bits.specs.Bits.{bit_in, IsSet, IsClear, IsNextSet}
 use Rattle.dym_region.specs.Content.{part_of, with_part}
-use Rattle.dym_area.specs.Area.{AreaMeaning, IsLawful, with_loaded}
+use Rattle.dym_area.specs.Area.{AreaMeaning, IsValidArea, with_loaded}
 use Rattle.dym_heap.specs.Bodies.{IsBodyOf, IsBody, HoldsLoaded, IsLoadedRange, NotesLoaded}
 use Rattle.dym_heap.proofs.Flats.{length-flat, get_or-flat}
 use Rattle.dym_heap.proofs.Parts.{length-part_of, get_or-part_of, part_of-apart, part_of-inside, length-with_part}
@@ -84,7 +84,7 @@ module _ (v : Version) (old : AreaMeaning) (bits wanted : List Bool) (body : Lis
     pub same : now ≡ record old { content = now.content }
     pub rest : drop at body ≡ after from
     pub done : (i : ℕ) → i < from → IsSet wanted i → part_of now.content (i * size old.exponent) (length (f i)) ≡ f i
-    pub kept : (i n : ℕ) → i < per old.exponent → n ≤ size old.exponent → (from ≤ i) ⊎ IsClear wanted i → part_of now.content (i * size old.exponent) n ≡ part_of old.content (i * size old.exponent) n
+    pub valid_shelf : (i n : ℕ) → i < per old.exponent → n ≤ size old.exponent → (from ≤ i) ⊎ IsClear wanted i → part_of now.content (i * size old.exponent) n ≡ part_of old.content (i * size old.exponent) n
 
   -- the bits from start up to end are the first that are set from `from` on
   pub record NextRun (from start end : ℕ) : Type 0 where
@@ -93,13 +93,13 @@ module _ (v : Version) (old : AreaMeaning) (bits wanted : List Bool) (body : Lis
     pub clear : (k : ℕ) → from ≤ k → k < start → IsClear bits k
     pub set : (k : ℕ) → start ≤ k → k < end → IsSet bits k
 
-  module _ (is : IsBodyOf v old.exponent bits body f) (sub : (i : ℕ) → IsSet wanted i → IsSet bits i) (lawful : IsLawful old) where
+  module _ (is : IsBodyOf v old.exponent bits body f) (sub : (i : ℕ) → IsSet wanted i → IsSet bits i) (valid : IsValidArea old) where
     pub loaded_none : LoadedTo old 0 0
     loaded_none = record {
       same = refl;
       rest = is.is ∙ (let z : per old.exponent ≡ per old.exponent - 0 = omega arith in ap (λ n. packs (filter (bit_in bits) (range_with_len 0 n))) z);
       done = λ i l h. absurd (omega arith);
-      kept = λ i n l m out. refl;
+      valid_shelf = λ i n l m out. refl;
     }
 
     pub loaded_all : (now : AreaMeaning) (from at : ℕ) → LoadedTo now from at → ((k : ℕ) → from ≤ k → IsClear bits k) → HoldsLoaded old now wanted f
@@ -110,7 +110,7 @@ module _ (v : Version) (old : AreaMeaning) (bits wanted : List Bool) (body : Lis
             | inl l ↦ done.done i l h
             | inr past ↦ absurd (true≢false (sym (sub i h) ∙ none i past))
           ];
-      kept = λ i n l m clear. done.kept i n l m (inr clear);
+      valid_shelf = λ i n l m clear. done.valid_shelf i n l m (inr clear);
     }
 
     module _ (now : AreaMeaning) (from at start end : ℕ) (done : LoadedTo now from at) (run : NextRun from start end) where
@@ -147,7 +147,7 @@ module _ (v : Version) (old : AreaMeaning) (bits wanted : List Bool) (body : Lis
           let at_old : (i n : ℕ) → i < per e → n ≤ size e → (start ≤ i → i < end → IsSet wanted i → ⊥) → part_of now'.content (i * size e) n ≡ part_of now.content (i * size e) n =
           λ i n l m out.
           subst (λ x. part_of now'.content (i * size x) n ≡ part_of now.content (i * size x) n) exponent_now
-          (range.kept i n (subst (λ x. i < per x) (sym exponent_now) l) (subst (λ x. n ≤ size x) (sym exponent_now) m) out) in
+          (range.valid_shelf i n (subst (λ x. i < per x) (sym exponent_now) l) (subst (λ x. n ≤ size x) (sym exponent_now) m) out) in
           record {
             same = range.same ∙ ap (λ (a : AreaMeaning). record a { content = now'.content }) done.same;
             rest = rest;
@@ -165,14 +165,14 @@ module _ (v : Version) (old : AreaMeaning) (bits wanted : List Bool) (body : Lis
                       subst (λ x. part_of now'.content (i * size e) (length x) ≡ x) (same_bytes i inside l)
                       (subst (λ x. part_of now'.content (i * size x) (length (g i)) ≡ g i) exponent_now (range.loaded i inside l h))
                 ];
-            kept = λ i n l m out.
+            valid_shelf = λ i n l m out.
                 at_old i n l m (λ x y z. elim out as (λ _. ⊥) [ inl past ↦ omega arith | inr clear ↦ true≢false (sym z ∙ clear) ])
-                ∙ done.kept i n l m (elim out as (λ _. (from ≤ i) ⊎ IsClear wanted i) [ inl past ↦ inl (omega arith) | inr clear ↦ inr clear ]);
+                ∙ done.valid_shelf i n l m (elim out as (λ _. (from ≤ i) ⊎ IsClear wanted i) [ inl past ↦ inl (omega arith) | inr clear ↦ inr clear ]);
           }
 
 -- ---- version 1: a run by one copy
 
-module _ (old : AreaMeaning) (bits wanted : List Bool) (body : List ℕ) (f : ℕ → List ℕ) (is : IsBodyOf One old.exponent bits body f) (sub : (i : ℕ) → IsSet wanted i → IsSet bits i) (lawful : IsLawful old)
+module _ (old : AreaMeaning) (bits wanted : List Bool) (body : List ℕ) (f : ℕ → List ℕ) (is : IsBodyOf One old.exponent bits body f) (sub : (i : ℕ) → IsSet wanted i → IsSet bits i) (valid : IsValidArea old)
     (now : AreaMeaning) (from at start end : ℕ) (done : LoadedTo One old bits wanted body f now from at) (run : NextRun One old bits wanted body f from start end) where
   abbrev run_bytes : List ℕ
   run_bytes = flat_map f (range_with_len start (end - start))
@@ -186,7 +186,7 @@ module _ (old : AreaMeaning) (bits wanted : List Bool) (body : List ℕ) (f : �
   run_len = length-flat f (size old.exponent) (range_with_len start (end - start)) each_whole ∙ ap (λ n. n * size old.exponent) (length-range_with_len start (end - start))
 
   split_one : drop at body ≡ run_bytes ++ after One old bits wanted body f end
-  split_one = split_rest One old bits wanted body f is sub lawful now from at start end done run
+  split_one = split_rest One old bits wanted body f is sub valid now from at start end done run
 
   pub run_fits : (n : ℕ) → n ≡ (end - start) * size old.exponent → at ≤ length body → at + n ≤ length body
   run_fits n many low =
@@ -222,8 +222,8 @@ module _ (old : AreaMeaning) (bits wanted : List Bool) (body : List ℕ) (f : �
       → LoadedTo One old bits wanted body f now' end (at + n)
   more_run now' n ys many read range =
       let same : ys ≡ run_bytes = read ∙ taken_run n many in
-      let exponent = exponent_now One old bits wanted body f is sub lawful now from at start end done run in
-      loaded_more One old bits wanted body f is sub lawful now from at start end done run now' (at + n) (λ i. part_of ys ((i - start) * size now.exponent) (size now.exponent)) range
+      let exponent = exponent_now One old bits wanted body f is sub valid now from at start end done run in
+      loaded_more One old bits wanted body f is sub valid now from at start end done run now' (at + n) (λ i. part_of ys ((i - start) * size now.exponent) (size now.exponent)) range
       (λ i low high. (λ j. part_of ys ((i - start) * size (exponent j)) (size (exponent j))) ∙ run_part ys same i low high) (rest_run n many)
 
 -- ---- version 2: a chunk after its length
@@ -231,7 +231,7 @@ module _ (old : AreaMeaning) (bits wanted : List Bool) (body : List ℕ) (f : �
 small_length : (e n : ℕ) → e ≤ 16 → n ≤ size e → n < 2 ^ 32
 small_length e n high l = let m = size_most e high in omega arith
 
-module _ (old : AreaMeaning) (bits wanted : List Bool) (body : List ℕ) (f : ℕ → List ℕ) (is : IsBodyOf Two old.exponent bits body f) (sub : (i : ℕ) → IsSet wanted i → IsSet bits i) (lawful : IsLawful old)
+module _ (old : AreaMeaning) (bits wanted : List Bool) (body : List ℕ) (f : ℕ → List ℕ) (is : IsBodyOf Two old.exponent bits body f) (sub : (i : ℕ) → IsSet wanted i → IsSet bits i) (valid : IsValidArea old)
     (now : AreaMeaning) (from at i : ℕ) (done : LoadedTo Two old bits wanted body f now from at) (run : NextRun Two old bits wanted body f from i (i + 1)) where
   abbrev head : List ℕ
   head = to_le_bytes w32 (length (f i))
@@ -248,7 +248,7 @@ module _ (old : AreaMeaning) (bits wanted : List Bool) (body : List ℕ) (f : �
   split_two : drop at body ≡ head ++ (f i ++ left)
   split_two =
       let one : i + 1 - i ≡ 1 = omega arith in
-      split_rest Two old bits wanted body f is sub lawful now from at i (i + 1) done run
+      split_rest Two old bits wanted body f is sub valid now from at i (i + 1) done run
       ∙ ap (λ n. flat_map (λ k. packed_chunk Two (f k)) (range_with_len i n) ++ left) one
       ∙ ap (λ xs. xs ++ left) (append-nil (head ++ f i))
       ∙ append_assoc head (f i) left
@@ -265,7 +265,7 @@ module _ (old : AreaMeaning) (bits wanted : List Bool) (body : List ℕ) (f : �
   number_is four n read is_n =
       let e : at + 4 - at ≡ 4 = omega arith in
       let same : four ≡ head = read ∙ ap (λ k. take k (drop at body)) e ∙ ap (take 4) split_two ∙ take_at head (f i ++ left) 4 head_len in
-      is_n ∙ ap (from_le_bytes w32) same ∙ from_le_bytes-to_le_bytes_4 (length (f i)) (small_length old.exponent (length (f i)) lawful.greatest len_i)
+      is_n ∙ ap (from_le_bytes w32) same ∙ from_le_bytes-to_le_bytes_4 (length (f i)) (small_length old.exponent (length (f i)) valid.greatest len_i)
 
   after_head : drop (at + 4) body ≡ f i ++ left
   after_head = sym (drop-drop 4 at body) ∙ ap (drop 4) split_two ∙ drop_at head (f i ++ left) 4 head_len
@@ -275,7 +275,7 @@ module _ (old : AreaMeaning) (bits wanted : List Bool) (body : List ℕ) (f : �
   more_two now' n ys many read range =
       let e : at + 4 + n - (at + 4) ≡ length (f i) = omega arith in
       let same : ys ≡ f i = read ∙ ap (λ k. take k (drop (at + 4) body)) e ∙ ap (take (length (f i))) after_head ∙ take_at (f i) left (length (f i)) refl in
-      loaded_more Two old bits wanted body f is sub lawful now from at i (i + 1) done run now' (at + 4 + n) (λ _. ys) range
+      loaded_more Two old bits wanted body f is sub valid now from at i (i + 1) done run now' (at + 4 + n) (λ _. ys) range
       (λ k low high. let same_k : i ≡ k = omega arith in same ∙ ap f same_k)
       (sym (drop-drop n (at + 4) body) ∙ ap (drop n) after_head ∙ drop_at (f i) left n (sym many))
 
@@ -288,41 +288,41 @@ module _ (old : AreaMeaning) (bits wanted : List Bool) (body : List ℕ) (f : �
 -- ---- what the loops ask for
 
 -- version 1, with the bytes that the body has
-module _ (old : AreaMeaning) (bits wanted : List Bool) (body : List ℕ) (sub : (i : ℕ) → IsSet wanted i → IsSet bits i) (lawful : IsLawful old) (has : IsBody One old.exponent bits body) (now : AreaMeaning) (from at : ℕ)
+module _ (old : AreaMeaning) (bits wanted : List Bool) (body : List ℕ) (sub : (i : ℕ) → IsSet wanted i → IsSet bits i) (valid : IsValidArea old) (has : IsBody One old.exponent bits body) (now : AreaMeaning) (from at : ℕ)
     (inv : (f : ℕ → List ℕ) → IsBodyOf One old.exponent bits body f → LoadedTo One old bits wanted body f now from at) (start end : ℕ) (next : IsNextSet bits from start) (more : start < end)
     (all : (k : ℕ) → start ≤ k → k < end → IsSet bits k) where
   next_run : (f : ℕ → List ℕ) → NextRun One old bits wanted body f from start end
   next_run f = record { low = next.at_least; some = more; clear = next.least; set = all }
 
   pub one_end : end ≤ per old.exponent
-  one_end = end_in One old bits wanted body has.0 has.1 sub lawful now from at start end (inv has.0 has.1) (next_run has.0)
+  one_end = end_in One old bits wanted body has.0 has.1 sub valid now from at start end (inv has.0 has.1) (next_run has.0)
 
   pub one_exponent : now.exponent ≡ old.exponent
-  one_exponent = exponent_now One old bits wanted body has.0 has.1 sub lawful now from at start end (inv has.0 has.1) (next_run has.0)
+  one_exponent = exponent_now One old bits wanted body has.0 has.1 sub valid now from at start end (inv has.0 has.1) (next_run has.0)
 
   pub one_size : (s : ℕ) → s ≡ size old.exponent → (end - start) * s ≤ 65536
   one_size s is_s =
       let top = one_end in
       let all = mul-le (end - start) (size old.exponent) (per old.exponent) (size old.exponent) (omega arith) (omega arith) in
-      let whole = whole_area old.exponent lawful.greatest in
+      let whole = whole_area old.exponent valid.greatest in
       let e = ap (λ k. (end - start) * k) is_s in
       omega arith
 
   pub one_fits : (s : ℕ) → s ≡ size old.exponent → at ≤ length body → at + (end - start) * s ≤ length body
   one_fits s is_s low =
-      run_fits old bits wanted body has.0 has.1 sub lawful now from at start end (inv has.0 has.1) (next_run has.0) ((end - start) * s) (ap (λ k. (end - start) * k) is_s) low
+      run_fits old bits wanted body has.0 has.1 sub valid now from at start end (inv has.0 has.1) (next_run has.0) ((end - start) * s) (ap (λ k. (end - start) * k) is_s) low
 
   pub one_more : (s : ℕ) (now' : AreaMeaning) → s ≡ size old.exponent
       → IsLoadedRange now now' wanted start end (λ i. part_of (between at (at + (end - start) * s) body) ((i - start) * size now.exponent) (size now.exponent))
       → (f : ℕ → List ℕ) → IsBodyOf One old.exponent bits body f → LoadedTo One old bits wanted body f now' end (at + (end - start) * s)
   one_more s now' is_s range f is =
-      more_run old bits wanted body f is sub lawful now from at start end (inv f is) (next_run f) now' ((end - start) * s) (between at (at + (end - start) * s) body) (ap (λ k. (end - start) * k) is_s) refl range
+      more_run old bits wanted body f is sub valid now from at start end (inv f is) (next_run f) now' ((end - start) * s) (between at (at + (end - start) * s) body) (ap (λ k. (end - start) * k) is_s) refl range
 
 pub first_below : (v : Version) (e : ℕ) (bits : List Bool) (body : List ℕ) (i : ℕ) → 5 ≤ e → IsBody v e bits body → IsSet bits i → i < 2048
 first_below v e bits body i low has h = let l = has.1.below i h in let p = per_fits e low in omega arith
 
 -- version 2
-module _ (old : AreaMeaning) (bits wanted : List Bool) (body : List ℕ) (sub : (i : ℕ) → IsSet wanted i → IsSet bits i) (lawful : IsLawful old) (has : IsBody Two old.exponent bits body) (now : AreaMeaning) (from at : ℕ)
+module _ (old : AreaMeaning) (bits wanted : List Bool) (body : List ℕ) (sub : (i : ℕ) → IsSet wanted i → IsSet bits i) (valid : IsValidArea old) (has : IsBody Two old.exponent bits body) (now : AreaMeaning) (from at : ℕ)
     (inv : (f : ℕ → List ℕ) → IsBodyOf Two old.exponent bits body f → LoadedTo Two old bits wanted body f now from at) (i : ℕ) (next : IsNextSet bits from i) where
   next_one : (f : ℕ → List ℕ) → NextRun Two old bits wanted body f from i (i + 1)
   next_one f = record {
@@ -333,20 +333,20 @@ module _ (old : AreaMeaning) (bits wanted : List Bool) (body : List ℕ) (sub : 
   }
 
   pub two_end : i + 1 ≤ per old.exponent
-  two_end = end_in Two old bits wanted body has.0 has.1 sub lawful now from at i (i + 1) (inv has.0 has.1) (next_one has.0)
+  two_end = end_in Two old bits wanted body has.0 has.1 sub valid now from at i (i + 1) (inv has.0 has.1) (next_one has.0)
 
   pub two_exponent : now.exponent ≡ old.exponent
-  two_exponent = exponent_now Two old bits wanted body has.0 has.1 sub lawful now from at i (i + 1) (inv has.0 has.1) (next_one has.0)
+  two_exponent = exponent_now Two old bits wanted body has.0 has.1 sub valid now from at i (i + 1) (inv has.0 has.1) (next_one has.0)
 
   pub two_four : at ≤ length body → at + 4 ≤ length body
-  two_four low = let a = two_fits old bits wanted body has.0 has.1 sub lawful now from at i (inv has.0 has.1) (next_one has.0) low in omega arith
+  two_four low = let a = two_fits old bits wanted body has.0 has.1 sub valid now from at i (inv has.0 has.1) (next_one has.0) low in omega arith
 
   pub two_number : (n : ℕ) → n ≡ from_le_bytes w32 (between at (at + 4) body) → (f : ℕ → List ℕ) → IsBodyOf Two old.exponent bits body f → n ≡ length (f i)
-  two_number n is_n f is = number_is old bits wanted body f is sub lawful now from at i (inv f is) (next_one f) (between at (at + 4) body) n refl is_n
+  two_number n is_n f is = number_is old bits wanted body f is sub valid now from at i (inv f is) (next_one f) (between at (at + 4) body) n refl is_n
 
   pub two_whole : (n : ℕ) → n ≡ from_le_bytes w32 (between at (at + 4) body) → at ≤ length body → at + 4 + n ≤ length body
   two_whole n is_n low =
-      let a = two_fits old bits wanted body has.0 has.1 sub lawful now from at i (inv has.0 has.1) (next_one has.0) low in
+      let a = two_fits old bits wanted body has.0 has.1 sub valid now from at i (inv has.0 has.1) (next_one has.0) low in
       let e = two_number n is_n has.0 has.1 in
       omega arith
 
@@ -354,24 +354,24 @@ module _ (old : AreaMeaning) (bits wanted : List Bool) (body : List ℕ) (sub : 
   pub two_bytes : (n : ℕ) → n ≡ from_le_bytes w32 (between at (at + 4) body) → length (between (at + 4) (at + 4 + n) body) ≡ n
   two_bytes n is_n =
       let e = two_number n is_n has.0 has.1 in
-      ap length (bytes_two old bits wanted body has.0 has.1 sub lawful now from at i (inv has.0 has.1) (next_one has.0) n e) ∙ sym e
+      ap length (bytes_two old bits wanted body has.0 has.1 sub valid now from at i (inv has.0 has.1) (next_one has.0) n e) ∙ sym e
 
   pub two_room : (n : ℕ) → n ≡ from_le_bytes w32 (between at (at + 4) body) → length (between (at + 4) (at + 4 + n) body) ≤ size now.exponent
   two_room n is_n =
       let e = two_number n is_n has.0 has.1 in
       let b = two_bytes n is_n in
-      let fits = len_i old bits wanted body has.0 has.1 sub lawful now from at i (inv has.0 has.1) (next_one has.0) in
+      let fits = len_i old bits wanted body has.0 has.1 sub valid now from at i (inv has.0 has.1) (next_one has.0) in
       let x = ap size two_exponent in
       omega arith
 
   pub two_more : (n : ℕ) (now' : AreaMeaning) → n ≡ from_le_bytes w32 (between at (at + 4) body) → IsLoadedRange now now' wanted i (i + 1) (λ _. between (at + 4) (at + 4 + n) body)
       → (f : ℕ → List ℕ) → IsBodyOf Two old.exponent bits body f → LoadedTo Two old bits wanted body f now' (i + 1) (at + 4 + n)
   two_more n now' is_n range f is =
-      more_two old bits wanted body f is sub lawful now from at i (inv f is) (next_one f) now' n (between (at + 4) (at + 4 + n) body) (two_number n is_n f is) refl range
+      more_two old bits wanted body f is sub valid now from at i (inv f is) (next_one f) now' n (between (at + 4) (at + 4 + n) body) (two_number n is_n f is) refl range
 
   pub two_noted : (n m : ℕ) (ls ls' ls0 : List ℕ) → i < length ls → n ≡ from_le_bytes w32 (between at (at + 4) body) → m ≡ n → ls' ≡ cond (bit_in wanted i) (set ls i m) ls
       → (f : ℕ → List ℕ) → IsBodyOf Two old.exponent bits body f → NotedTo ls0 ls wanted f from → NotedTo ls0 ls' wanted f (i + 1)
-  two_noted n m ls ls' ls0 l is_n m_is step f is noted =
+  two_noted n m ls ls' ls0 l is_n m_is step f is with_length =
       let low = next.at_least in
       -- another chunk's length stays
       let other : (k : ℕ) → (k ≡ i → ⊥) → get_or ls' k 0 ≡ get_or ls k 0 = λ k ne.
@@ -386,7 +386,7 @@ module _ (old : AreaMeaning) (bits wanted : List Bool) (body : List ℕ) (sub : 
               | inr ne ↦
                   other k ne
                   ∙ elim (cases_lt k from) as (λ _. get_or ls k 0 ≡ length (f k)) [
-                    | inl before ↦ noted.0 k before h
+                    | inl before ↦ with_length.0 k before h
                     | inr past ↦ absurd (true≢false (sym (sub k h) ∙ next.least k past (omega arith)))
                   ]
             ],
@@ -394,15 +394,15 @@ module _ (old : AreaMeaning) (bits wanted : List Bool) (body : List ℕ) (sub : 
             elim (cases_eq k i) as (λ _. get_or ls' k 0 ≡ get_or ls0 k 0) [
               | inl same ↦
                   let clear : IsClear wanted k = elim out as (λ _. IsClear wanted k) [ inl past ↦ absurd (omega arith) | inr c ↦ c ] in
-                  subst (λ j. get_or ls' j 0 ≡ get_or ls0 j 0) (sym same) (stays (sym (ap (bit_in wanted) same) ∙ clear) ∙ noted.1 i (inl low))
-              | inr ne ↦ other k ne ∙ noted.1 k (elim out as (λ _. (from ≤ k) ⊎ IsClear wanted k) [ inl past ↦ inl (omega arith) | inr clear ↦ inr clear ])
+                  subst (λ j. get_or ls' j 0 ≡ get_or ls0 j 0) (sym same) (stays (sym (ap (bit_in wanted) same) ∙ clear) ∙ with_length.1 i (inl low))
+              | inr ne ↦ other k ne ∙ with_length.1 k (elim out as (λ _. (from ≤ k) ⊎ IsClear wanted k) [ inl past ↦ inl (omega arith) | inr clear ↦ inr clear ])
             ],
       )
 
 pub noted_all : (ls0 ls : List ℕ) (bits wanted : List Bool) (f : ℕ → List ℕ) (from : ℕ) → ((i : ℕ) → IsSet wanted i → IsSet bits i) → NotedTo ls0 ls wanted f from → ((k : ℕ) → from ≤ k → IsClear bits k) → NotesLoaded ls0 ls wanted f
-noted_all ls0 ls bits wanted f from sub noted none = record {
-  noted = λ i h. elim (cases_lt i from) as (λ _. get_or ls i 0 ≡ length (f i)) [ inl l ↦ noted.0 i l h | inr past ↦ absurd (true≢false (sym (sub i h) ∙ none i past)) ];
-  kept = λ i clear. noted.1 i (inr clear);
+noted_all ls0 ls bits wanted f from sub with_length none = record {
+  with_length = λ i h. elim (cases_lt i from) as (λ _. get_or ls i 0 ≡ length (f i)) [ inl l ↦ with_length.0 i l h | inr past ↦ absurd (true≢false (sym (sub i h) ∙ none i past)) ];
+  valid_shelf = λ i clear. with_length.1 i (inr clear);
 }
 
 -- ---- the wanted ones of a run, each run of them by one copy
@@ -418,9 +418,9 @@ module _ (old : AreaMeaning) (wanted : List Bool) (first end : ℕ) (bytes : Lis
     pub low : first ≤ from
     pub high : from ≤ end
     pub done : (i : ℕ) → first ≤ i → i < from → IsSet wanted i → part_of now.content (i * size old.exponent) (length (part i)) ≡ part i
-    pub kept : (i n : ℕ) → i < per old.exponent → n ≤ size old.exponent → (first ≤ i → i < from → IsSet wanted i → ⊥) → part_of now.content (i * size old.exponent) n ≡ part_of old.content (i * size old.exponent) n
+    pub valid_shelf : (i n : ℕ) → i < per old.exponent → n ≤ size old.exponent → (first ≤ i → i < from → IsSet wanted i → ⊥) → part_of now.content (i * size old.exponent) n ≡ part_of old.content (i * size old.exponent) n
 
-  module _ (lawful : IsLawful old) (within : end ≤ per old.exponent) (long : length bytes ≡ (end - first) * size old.exponent) where
+  module _ (valid : IsValidArea old) (within : end ≤ per old.exponent) (long : length bytes ≡ (end - first) * size old.exponent) where
     part_len : (i : ℕ) → first ≤ i → i < end → length (part i) ≡ size old.exponent
     part_len i low high =
         let r = row_fits (i - first) (size old.exponent) (end - first) (size old.exponent) (omega arith) (omega arith) in
@@ -430,11 +430,11 @@ module _ (old : AreaMeaning) (wanted : List Bool) (first end : ℕ) (bytes : Lis
     pub range_room : (s : ℕ) → s ≡ size old.exponent → length bytes ≤ 65536
     range_room s is_s =
         let a = mul-le (end - first) (size old.exponent) (per old.exponent) (size old.exponent) (omega arith) (omega arith) in
-        let w = whole_area old.exponent lawful.greatest in
+        let w = whole_area old.exponent valid.greatest in
         omega arith
 
     pub range_none : first ≤ end → RangeTo old first
-    range_none l = record { same = refl; low = omega arith; high = l; done = λ i a b. absurd (omega arith); kept = λ i n l m out. refl }
+    range_none l = record { same = refl; low = omega arith; high = l; done = λ i a b. absurd (omega arith); valid_shelf = λ i n l m out. refl }
 
     pub range_all : (now : AreaMeaning) (from : ℕ) → RangeTo now from → ((k : ℕ) → from ≤ k → k < end → IsClear wanted k) → IsLoadedRange old now wanted first end part
     range_all now from done none = record {
@@ -444,7 +444,7 @@ module _ (old : AreaMeaning) (wanted : List Bool) (first end : ℕ) (bytes : Lis
             | inl l ↦ done.done i a l h
             | inr past ↦ absurd (true≢false (sym h ∙ none i past b))
           ];
-      kept = λ i n l m out. done.kept i n l m (λ a b h. out a (let top = done.high in omega arith) h);
+      valid_shelf = λ i n l m out. done.valid_shelf i n l m (λ a b h. out a (let top = done.high in omega arith) h);
     }
 
     module _ (now : AreaMeaning) (from start stop : ℕ) (done : RangeTo now from) (next : IsNextSet wanted from start) (some : start < stop) (top : stop ≤ end) (all : (k : ℕ) → start ≤ k → k < stop → IsSet wanted k) where
@@ -462,7 +462,7 @@ module _ (old : AreaMeaning) (wanted : List Bool) (first end : ℕ) (bytes : Lis
           let d = add-mul start (stop - start) s in
           let f = mul-le (start + (stop - start)) s (per old.exponent) s (omega arith) (omega arith) in
           let g = ap (λ x. per old.exponent * x) is_s in
-          let w = whole_area old.exponent lawful.greatest in
+          let w = whole_area old.exponent valid.greatest in
           (omega arith, omega arith)
 
       pub range_more : (s at len : ℕ) (now' : AreaMeaning) (ys : List ℕ) → s ≡ size old.exponent → at ≡ (start - first) * s → len ≡ (stop - start) * s → ys ≡ between at (at + len) bytes → length now.content ≡ 65536 → now' ≡ with_loaded now start ys → RangeTo now' stop
@@ -483,7 +483,7 @@ module _ (old : AreaMeaning) (wanted : List Bool) (first end : ℕ) (bytes : Lis
           let sum = add-mul start (stop - start) n in
           let outside : (i m : ℕ) → i < per e → m ≤ n → (i < start) ⊎ (stop ≤ i) → part_of now'.content (i * n) m ≡ part_of now.content (i * n) m =
           λ i m l short out.
-          let lies = chunk_fits e i lawful.greatest l in
+          let lies = chunk_fits e i valid.greatest l in
           ap (λ xs. part_of xs (i * n) m) content
           ∙ part_of-apart now.content (i * n) m (start * n) ys (omega arith) (omega arith)
           (elim out as (λ _. (i * n + m ≤ start * n) ⊎ (start * n + length ys ≤ i * n)) [
@@ -525,33 +525,33 @@ module _ (old : AreaMeaning) (wanted : List Bool) (first end : ℕ) (bytes : Lis
                       ∙ (let z : at + (o * n + k) ≡ (i - first) * n + k = omega arith in ap (λ q. get_or bytes q d) z)
                       ∙ sym (get_or-part_of bytes ((i - first) * n) n k d small))
                 ];
-            kept = λ i m l short out.
+            valid_shelf = λ i m l short out.
                 elim (cases_lt i start) as (λ _. part_of now'.content (i * n) m ≡ part_of old.content (i * n) m) [
-                  | inl before ↦ outside i m l short (inl before) ∙ done.kept i m l short (λ a b h. out a (omega arith) h)
+                  | inl before ↦ outside i m l short (inl before) ∙ done.valid_shelf i m l short (λ a b h. out a (omega arith) h)
                   | inr at_least ↦
                       elim (cases_lt i stop) as (λ _. part_of now'.content (i * n) m ≡ part_of old.content (i * n) m) [
                         | inl inside ↦ absurd (out (omega arith) inside (all i at_least inside))
-                        | inr past ↦ outside i m l short (inr past) ∙ done.kept i m l short (λ a b h. out a (omega arith) h)
+                        | inr past ↦ outside i m l short (inr past) ∙ done.valid_shelf i m l short (λ a b h. out a (omega arith) h)
                       ]
                 ];
           }
 
 -- ---- one chunk
 
-pub loaded_chunk : (old now : AreaMeaning) (wanted : List Bool) (i : ℕ) (bytes : List ℕ) → IsLawful old → i < per old.exponent → length bytes ≤ size old.exponent → IsSet wanted i → now ≡ with_loaded old i bytes → IsLoadedRange old now wanted i (i + 1) (λ _. bytes)
-loaded_chunk old now wanted i bytes lawful within fits set step =
+pub loaded_chunk : (old now : AreaMeaning) (wanted : List Bool) (i : ℕ) (bytes : List ℕ) → IsValidArea old → i < per old.exponent → length bytes ≤ size old.exponent → IsSet wanted i → now ≡ with_loaded old i bytes → IsLoadedRange old now wanted i (i + 1) (λ _. bytes)
+loaded_chunk old now wanted i bytes valid within fits set step =
     let e : ℕ = old.exponent in
     let n : ℕ = size e in
     let content : now.content ≡ with_part old.content (i * n) bytes = ap (λ (a : AreaMeaning). a.content) step in
-    let whole = lawful.content_len in
-    let here = chunk_fits e i lawful.greatest within in
+    let whole = valid.content_len in
+    let here = chunk_fits e i valid.greatest within in
     record {
       same = step ∙ ap (λ xs. record old { content = xs }) (sym content);
       loaded = λ k low high h.
           let same : k ≡ i = omega arith in
           ap (λ j. part_of now.content (j * n) (length bytes)) same ∙ ap (λ xs. part_of xs (i * n) (length bytes)) content ∙ written_whole old.content (i * n) bytes (omega arith);
-      kept = λ k m l short out.
-          let lies = chunk_fits e k lawful.greatest l in
+      valid_shelf = λ k m l short out.
+          let lies = chunk_fits e k valid.greatest l in
           elim (cases_eq k i) as (λ _. part_of now.content (k * n) m ≡ part_of old.content (k * n) m) [
             | inl same ↦ absurd (out (omega arith) (omega arith) (ap (bit_in wanted) same ∙ set))
             | inr ne ↦
@@ -566,5 +566,5 @@ pub loaded_nothing : (old : AreaMeaning) (wanted : List Bool) (i : ℕ) (f : ℕ
 loaded_nothing old wanted i f clear = record {
   same = refl;
   loaded = λ k low high h. (let same : k ≡ i = omega arith in absurd (true≢false (sym h ∙ ap (bit_in wanted) same ∙ clear)));
-  kept = λ k m l short out. refl;
+  valid_shelf = λ k m l short out. refl;
 }

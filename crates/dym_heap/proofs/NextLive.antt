@@ -4,7 +4,7 @@ use Rattle.std.proofs.lemmas.Bool.{cases_lt}
 use Rattle.std.specs.FinMap.{get, contains_key}
 use Rattle.dym_base.specs.Numbers.{number}
 use Rattle.dym_heap.specs.Table.{chunk_at, live_of}
-use Rattle.dym_heap.specs.Shelves.{ShelfMeaning, IsKept, IsNextUsed}
+use Rattle.dym_heap.specs.Shelves.{ShelfMeaning, IsValidShelf, IsNextUsed}
 use Rattle.dym_heap.specs.Replies.{IsNextLive}
 use Rattle.dym_heap.proofs.HandleSteps.{get_handle}
 use Rattle.dym_heap.proofs.Soundness.{outside}
@@ -14,39 +14,39 @@ abbrev pub NoneUpTo : ShelfMeaning → ℕ → ℕ → Type 0
 NoneUpTo s from to = (k : ℕ) → from ≤ k → k < to → contains_key (live_of s.rows) k ≡ false
 
 -- the start: at the number sought from, or at that of the first class where no live chunk lies between
-pub none_before : (s : ShelfMeaning) (from e i : ℕ) → IsKept s → from ≤ number e i → (number e i ≡ from) ⊎ (number e i ≡ number 5 0) → NoneUpTo s from (number e i)
-none_before s from e i kept le cases k a b =
+pub none_before : (s : ShelfMeaning) (from e i : ℕ) → IsValidShelf s → from ≤ number e i → (number e i ≡ from) ⊎ (number e i ≡ number 5 0) → NoneUpTo s from (number e i)
+none_before s from e i valid_shelf le cases k a b =
     elim cases as (λ _. contains_key (live_of s.rows) k ≡ false) [
       | inl same ↦ absurd (omega arith)
-      | inr first ↦ outside s k kept (inl (omega arith))
+      | inr first ↦ outside s k valid_shelf (inl (omega arith))
     ]
 
-at_class : (s : ShelfMeaning) (e k : ℕ) → IsKept s → 5 ≤ e → number e 0 ≤ k → k < number (e + 1) 0 → get (live_of s.rows) k ≡ chunk_at s.rows (e - 5) (k - number e 0)
-at_class s e k kept low a b = (let h : k ≡ number e (k - number e 0) = omega arith in ap (get (live_of s.rows)) h) ∙ get_handle s e (k - number e 0) kept low (omega arith)
+at_class : (s : ShelfMeaning) (e k : ℕ) → IsValidShelf s → 5 ≤ e → number e 0 ≤ k → k < number (e + 1) 0 → get (live_of s.rows) k ≡ chunk_at s.rows (e - 5) (k - number e 0)
+at_class s e k valid_shelf low a b = (let h : k ≡ number e (k - number e 0) = omega arith in ap (get (live_of s.rows)) h) ∙ get_handle s e (k - number e 0) valid_shelf low (omega arith)
 
-pub none_after : (s : ShelfMeaning) (from e i : ℕ) → IsKept s → 5 ≤ e → NoneUpTo s from (number e i) → ((j : ℕ) → i ≤ j → chunk_at s.rows (e - 5) j ≡ None) → NoneUpTo s from (number (e + 1) 0)
-none_after s from e i kept low none free k a b =
+pub none_after : (s : ShelfMeaning) (from e i : ℕ) → IsValidShelf s → 5 ≤ e → NoneUpTo s from (number e i) → ((j : ℕ) → i ≤ j → chunk_at s.rows (e - 5) j ≡ None) → NoneUpTo s from (number (e + 1) 0)
+none_after s from e i valid_shelf low none free k a b =
     elim (cases_lt k (number e i)) as (λ _. contains_key (live_of s.rows) k ≡ false) [
       | inl before ↦ none k a before
-      | inr past ↦ ap is_some (at_class s e k kept low (omega arith) b ∙ free (k - number e 0) (omega arith))
+      | inr past ↦ ap is_some (at_class s e k valid_shelf low (omega arith) b ∙ free (k - number e 0) (omega arith))
     ]
 
-pub next_here : (s : ShelfMeaning) (from e i j : ℕ) → IsKept s → 5 ≤ e → j < 2 ^ 32 → from ≤ number e i → NoneUpTo s from (number e i) → IsNextUsed s.rows (e - 5) i j → IsNextLive (live_of s.rows) from (number e j)
-next_here s from e i j kept low small start none next =
+pub next_here : (s : ShelfMeaning) (from e i j : ℕ) → IsValidShelf s → 5 ≤ e → j < 2 ^ 32 → from ≤ number e i → NoneUpTo s from (number e i) → IsNextUsed s.rows (e - 5) i j → IsNextLive (live_of s.rows) from (number e j)
+next_here s from e i j valid_shelf low small start none next =
     let at = next.at_least in
     record {
       at_least = omega arith;
-      is_live = ap is_some (get_handle s e j kept low small) ∙ next.used;
+      is_live = ap is_some (get_handle s e j valid_shelf low small) ∙ next.used;
       least = λ k a b.
           elim (cases_lt k (number e i)) as (λ _. contains_key (live_of s.rows) k ≡ false) [
             | inl before ↦ none k a before
-            | inr past ↦ ap is_some (at_class s e k kept low (omega arith) (omega arith) ∙ next.least (k - number e 0) (omega arith) (omega arith))
+            | inr past ↦ ap is_some (at_class s e k valid_shelf low (omega arith) (omega arith) ∙ next.least (k - number e 0) (omega arith) (omega arith))
           ];
     }
 
-pub none_left : (s : ShelfMeaning) (from e i k : ℕ) → IsKept s → 16 < e → NoneUpTo s from (number e i) → from ≤ k → contains_key (live_of s.rows) k ≡ false
-none_left s from e i k kept past none a =
+pub none_left : (s : ShelfMeaning) (from e i k : ℕ) → IsValidShelf s → 16 < e → NoneUpTo s from (number e i) → from ≤ k → contains_key (live_of s.rows) k ≡ false
+none_left s from e i k valid_shelf past none a =
     elim (cases_lt k (number e i)) as (λ _. contains_key (live_of s.rows) k ≡ false) [
       | inl before ↦ none k a before
-      | inr far ↦ outside s k kept (inr (omega arith))
+      | inr far ↦ outside s k valid_shelf (inr (omega arith))
     ]

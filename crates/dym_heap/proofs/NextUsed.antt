@@ -10,19 +10,19 @@ use Rattle.dym_base.specs.declared.command.Version.{Version}
 use Rattle.dym_region.specs.declared.segment.SegmentId.{SegmentId}
 use Rattle.dym_heap.specs.Table.{Row, chunk_at}
 use Rattle.dym_heap.specs.Shelves.{ShelfMeaning, IsNextUsed}
-use Rattle.dym_heap.specs.Places.{PlaceMeaning, IsUsedFrom}
+use Rattle.dym_heap.specs.SizedAreas.{SizedAreaMeaning, IsUsedFrom}
 use Rattle.dym_heap.specs.Arrangement.{IsShelf, shelf_of}
 use Rattle.dym_heap.proofs.Rows.{class_end}
 use Rattle.dym_heap.proofs.Sizes.{per_fits}
 use Rattle.dym_heap.proofs.ShelfFacts as facts
-use Rattle.dym_heap.proofs.ShelfFacts.{Spot}
+use Rattle.dym_heap.proofs.ShelfFacts.{ChunkLocation}
 
 -- no chunk of a row is in use from `from` up to `to`
 abbrev pub FreeUpTo : List Row → ℕ → ℕ → ℕ → Type 0
 FreeUpTo rows c from to = (i : ℕ) → from ≤ i → i < to → chunk_at rows c i ≡ None
 
-module _ (v : Version) (quota : ℕ) (ids : List SegmentId) (origin : Origin) (starts : List ℕ) (places : List PlaceMeaning) (full : List (List Bool)) (room spare spare_room : ℕ)
-    (s : ShelfMeaning) (view : shelf_of v quota ids origin starts places ≡ s) (is : IsShelf v quota ids starts places full room spare spare_room) (e : ℕ) (low : 5 ≤ e) (high : e ≤ 16) where
+module _ (v : Version) (quota : ℕ) (ids : List SegmentId) (origin : Origin) (starts : List ℕ) (sized_areas : List SizedAreaMeaning) (full : List (List Bool)) (room spare spare_room : ℕ)
+    (s : ShelfMeaning) (view : shelf_of v quota ids origin starts sized_areas ≡ s) (is : IsShelf v quota ids starts sized_areas full room spare spare_room) (e : ℕ) (low : 5 ≤ e) (high : e ≤ 16) where
   per_is : per (e - 5 + 5) ≡ per e
   per_is = ap per (let h : e - 5 + 5 ≡ e = omega arith in h)
 
@@ -32,9 +32,9 @@ module _ (v : Version) (quota : ℕ) (ids : List SegmentId) (origin : Origin) (s
   many : ℕ → ℕ
   many k = get_or starts (k + 1) 0 - get_or starts k 0
 
-  pub count_k : (k : ℕ) → k ≡ e - 5 → (get_or starts (k + 1) 0 - get_or starts k 0 ≤ 1024) × (get_or starts k 0 ≤ get_or starts (k + 1) 0) × (get_or starts (k + 1) 0 ≤ length places)
+  pub count_k : (k : ℕ) → k ≡ e - 5 → (get_or starts (k + 1) 0 - get_or starts k 0 ≤ 1024) × (get_or starts k 0 ≤ get_or starts (k + 1) 0) × (get_or starts (k + 1) 0 ≤ length sized_areas)
   count_k k same =
-      let top = class_end v starts places full (e - 5) is.arranged class_in in
+      let top = class_end v starts sized_areas full (e - 5) is.arranged class_in in
       let up = is.arranged.rising (e - 5) class_in in
       let fits = is.supplied.within in
       let most = is.supplied.most in
@@ -60,11 +60,11 @@ module _ (v : Version) (quota : ℕ) (ids : List SegmentId) (origin : Origin) (s
       let p : per (e - 5 + 5) ≡ r = per_is ∙ sym is_r in
       let m : (get_or starts (k + 1) 0 - get_or starts k 0) * per (e - 5 + 5) ≡ (get_or starts (k + 1) 0 - get_or starts k 0) * r = ap (λ x. (get_or starts (k + 1) 0 - get_or starts k 0) * x) p in
       let d = le-div (get_or starts (k + 1) 0 - get_or starts k 0) i (per (e - 5 + 5)) (pow_pos (16 - (e - 5 + 5))) (omega arith) in
-      facts.past_s v quota ids origin starts places full room spare spare_room s view is (e - 5) i class_in (omega arith)
+      facts.past_s v quota ids origin starts sized_areas full room spare spare_room s view is (e - 5) i class_in (omega arith)
 
-  module _ (k r o : ℕ) (same : k ≡ e - 5) (is_r : r ≡ per e) (l : o < get_or starts (k + 1) 0 - get_or starts k 0) (q : PlaceMeaning) (here : q ≡ get_or places (get_or starts k 0 + o) q) where
-    spot : (j : ℕ) → j < r → Spot v quota ids origin starts places full room spare spare_room s view is (e - 5) o j (get_or starts k 0 + o)
-    spot j below =
+  module _ (k r o : ℕ) (same : k ≡ e - 5) (is_r : r ≡ per e) (l : o < get_or starts (k + 1) 0 - get_or starts k 0) (q : SizedAreaMeaning) (here : q ≡ get_or sized_areas (get_or starts k 0 + o) q) where
+    location : (j : ℕ) → j < r → ChunkLocation v quota ids origin starts sized_areas full room spare spare_room s view is (e - 5) o j (get_or starts k 0 + o)
+    location j below =
         let a : get_or starts (k + 1) 0 ≡ get_or starts (e - 5 + 1) 0 = ap (λ x. get_or starts (x + 1) 0) same in
         let b : get_or starts k 0 ≡ get_or starts (e - 5) 0 = ap (λ x. get_or starts x 0) same in
         let up = (count_k k same).1 in
@@ -73,14 +73,14 @@ module _ (v : Version) (quota : ℕ) (ids : List SegmentId) (origin : Origin) (s
     chunk_q : (j : ℕ) → j < r → chunk_at s.rows (e - 5) (o * r + j) ≡ get_or q.chunks j None
     chunk_q j below =
         (let p : r ≡ per (e - 5 + 5) = is_r ∙ sym per_is in ap (λ x. chunk_at s.rows (e - 5) (o * x + j)) p)
-        ∙ facts.chunk_s v quota ids origin starts places full room spare spare_room s view is (e - 5) o j (get_or starts k 0 + o) (spot j below) q
-        ∙ ap (λ (z : PlaceMeaning). get_or z.chunks j None) (sym here)
+        ∙ facts.chunk_s v quota ids origin starts sized_areas full room spare spare_room s view is (e - 5) o j (get_or starts k 0 + o) (location j below) q
+        ∙ ap (λ (z : SizedAreaMeaning). get_or z.chunks j None) (sym here)
 
     long_q : length q.chunks ≡ r
     long_q =
-        let sp = spot 0 (per_least r is_r) in
-        let p = facts.placed_s v quota ids origin starts places full room spare spare_room s view is (e - 5) o 0 (get_or starts k 0 + o) sp q in
-        ap (λ (z : PlaceMeaning). length z.chunks) here ∙ p.place.whole ∙ ap per p.exponent ∙ per_is ∙ sym is_r
+        let sp = location 0 (per_least r is_r) in
+        let p = facts.placed_s v quota ids origin starts sized_areas full room spare spare_room s view is (e - 5) o 0 (get_or starts k 0 + o) sp q in
+        ap (λ (z : SizedAreaMeaning). length z.chunks) here ∙ p.sized_area.whole ∙ ap per p.exponent ∙ per_is ∙ sym is_r
 
     inside_q : (j : ℕ) → IsSome (get_or q.chunks j None) → j < r
     inside_q j some =
@@ -89,7 +89,7 @@ module _ (v : Version) (quota : ℕ) (ids : List SegmentId) (origin : Origin) (s
           | inr past ↦ (let gone : is_some (get_or q.chunks j None) ≡ false = ap is_some (get_or_past q.chunks j None (let n = long_q in omega arith)) in absurd cc)
         ]
 
-    pub place_n : get_or starts k 0 + o < length places
+    pub place_n : get_or starts k 0 + o < length sized_areas
     place_n = let c = count_k k same in let top = c.2 in let up = c.1 in omega arith
 
     pub below_n : (j : ℕ) → IsUsedFrom q.chunks 0 j → j < r

@@ -17,8 +17,8 @@ use Rattle.dym_bits.specs.Bits.{IsClear}
 use Rattle.dym_region.specs.declared.segment.SegmentId.{SegmentId}
 use Rattle.dym_heap.specs.Table.{Row, empty_row, row_at, live_of, touched_of, state_of}
 use Rattle.dym_heap.specs.Shape.{IsTrimmed}
-use Rattle.dym_heap.specs.Shelves.{ShelfMeaning, IsKept, IsTidy, empty_rows}
-use Rattle.dym_heap.specs.Places.{PlaceMeaning}
+use Rattle.dym_heap.specs.Shelves.{ShelfMeaning, IsValidShelf, IsTidy, empty_rows}
+use Rattle.dym_heap.specs.SizedAreas.{SizedAreaMeaning}
 use Rattle.dym_heap.specs.Arrangement.{row_of, rows_upto, HasTables, AreClear, IsShelf, shelf_of, marks_of_class}
 use Rattle.dym_heap.proofs.Rows.{length-rows, row-rows}
 use Rattle.dym_heap.proofs.Entries.{below, at, splits, get-live_of, get-live_of_below, contains-touched_of, contains-touched_of_below}
@@ -59,9 +59,9 @@ no_starts starts is = record {
   zeros = λ c. ap (λ xs. get_or xs c 0) is ∙ nowhere 13 c;
 }
 
-pub no_areas : (v : Version) (quota : ℕ) (ids : List SegmentId) (starts : List ℕ) (places : List PlaceMeaning) (full : List (List Bool)) (room spare spare_room : ℕ) → NoStarts starts → places ≡ [] → AreClear full → ids ≡ [] → 1 ≤ quota → quota ≤ 1024 → quota ≤ room
-    → HasTables v quota 0 spare spare_room → IsShelf v quota ids starts places full room spare spare_room
-no_areas v quota ids starts places full room spare spare_room none empty clear held least most fits tables =
+pub no_areas : (v : Version) (quota : ℕ) (ids : List SegmentId) (starts : List ℕ) (sized_areas : List SizedAreaMeaning) (full : List (List Bool)) (room spare spare_room : ℕ) → NoStarts starts → sized_areas ≡ [] → AreClear full → ids ≡ [] → 1 ≤ quota → quota ≤ 1024 → quota ≤ room
+    → HasTables v quota 0 spare spare_room → IsShelf v quota ids starts sized_areas full room spare spare_room
+no_areas v quota ids starts sized_areas full room spare spare_room none empty clear held least most fits tables =
     subst (λ ps. IsShelf v quota ids starts ps full room spare spare_room) (sym empty) (record {
       arranged = record {
         starts_len = none.long;
@@ -84,11 +84,11 @@ no_areas v quota ids starts places full room spare spare_room none empty clear h
       };
     })
 
-abbrev nil_places : List PlaceMeaning
+abbrev nil_places : List SizedAreaMeaning
 nil_places = []
 
 drop_none : (n a : ℕ) → take n (drop a []) ≡ nil_places
-drop_none n a = nil_from_length (take n (drop a [])) (omega (arith, length-take {A = PlaceMeaning} n (drop a []), length-drop {A = PlaceMeaning} a []))
+drop_none n a = nil_from_length (take n (drop a [])) (omega (arith, length-take {A = SizedAreaMeaning} n (drop a []), length-drop {A = SizedAreaMeaning} a []))
 
 nothing : (a b : ℕ) → row_of (slice_range [] a b) ≡ empty_row
 nothing a b = ap row_of (drop_none (b - a) a)
@@ -104,10 +104,10 @@ no_rows starts none =
     ∙ nothing (get_or starts c 0) (get_or starts (c + 1) 0)
     ∙ sym (get_or-replicate 12 c empty_row empty_row within))
 
-pub opened : (v : Version) (quota : ℕ) (ids : List SegmentId) (origin : Origin) (starts : List ℕ) (places : List PlaceMeaning) → NoStarts starts → places ≡ [] → ids ≡ []
-    → shelf_of v quota ids origin starts places ≡ record { version = v; quota = quota; held_ids = []; origin = origin; rows = empty_rows }
-opened v quota ids origin starts places none empty held =
-    let rows : rows_upto 12 starts places ≡ empty_rows = ap (λ ps. rows_upto 12 starts ps) empty ∙ no_rows starts none in
+pub opened : (v : Version) (quota : ℕ) (ids : List SegmentId) (origin : Origin) (starts : List ℕ) (sized_areas : List SizedAreaMeaning) → NoStarts starts → sized_areas ≡ [] → ids ≡ []
+    → shelf_of v quota ids origin starts sized_areas ≡ record { version = v; quota = quota; held_ids = []; origin = origin; rows = empty_rows }
+opened v quota ids origin starts sized_areas none empty held =
+    let rows : rows_upto 12 starts sized_areas ≡ empty_rows = ap (λ ps. rows_upto 12 starts ps) empty ∙ no_rows starts none in
     λ j. record { version = v; quota = quota; held_ids = held j; origin = origin; rows = rows j }
 
 -- ---- the empty heap
@@ -120,25 +120,25 @@ no_row c =
       | inr past ↦ get_or_past (replicate 12 empty_row) c empty_row (omega (arith, length-replicate {A = Row} 12 empty_row))
     ]
 
-pub empty_state : (s : ShelfMeaning) → IsKept s → s.rows ≡ empty_rows → state_of s.rows ≡ empty_heap
-empty_state s kept is =
+pub empty_state : (s : ShelfMeaning) → IsValidShelf s → s.rows ≡ empty_rows → state_of s.rows ≡ empty_heap
+empty_state s valid_shelf is =
     let row : (c : ℕ) → (row_at s.rows c ≡ empty_row) = λ c. ap (λ rs. row_at rs c) is ∙ no_row c in
     let lives : live_of s.rows ≡ map_of.empty {X = List ℕ} {R = nat_cmp} =
     same_map nat_cmp_total nat_cmp-IsAntisymmetric (live_of s.rows) (map_of.empty {X = List ℕ} {R = nat_cmp}) (λ q.
     elim (splits q) as (λ _. get (live_of s.rows) q ≡ get (map_of.empty {X = List ℕ} {R = nat_cmp}) q) [
       | below b ↦ get-live_of_below s.rows q b ∙ sym (get-empty nat_cmp q)
-      | at c j e l ↦ get-live_of s.rows (kept_fits s kept) c j q e l ∙ ap (λ (r : Row). get_or r.chunks j None) (row c) ∙ sym (get-empty nat_cmp q)
+      | at c j e l ↦ get-live_of s.rows (kept_fits s valid_shelf) c j q e l ∙ ap (λ (r : Row). get_or r.chunks j None) (row c) ∙ sym (get-empty nat_cmp q)
     ]) in
     let marks : touched_of s.rows ≡ set_of.empty {R = nat_cmp} =
     same_set nat_cmp_total nat_cmp-IsAntisymmetric (touched_of s.rows) (set_of.empty {R = nat_cmp}) (λ q.
     elim (splits q) as (λ _. set_of.contains (touched_of s.rows) q ≡ set_of.contains (set_of.empty {R = nat_cmp}) q) [
       | below b ↦ contains-touched_of_below s.rows q b ∙ sym (contains-empty nat_cmp q)
-      | at c j e l ↦ contains-touched_of s.rows (kept_marks_fit s kept) c j q e l ∙ ap (λ (r : Row). get_or r.touched j false) (row c) ∙ sym (contains-empty nat_cmp q)
+      | at c j e l ↦ contains-touched_of s.rows (kept_marks_fit s valid_shelf) c j q e l ∙ ap (λ (r : Row). get_or r.touched j false) (row c) ∙ sym (contains-empty nat_cmp q)
     ]) in
     λ i. record { live = lives i; touched = marks i }
 
-pub empty_tidy : (s : ShelfMeaning) → IsKept s → s.rows ≡ empty_rows → IsTidy s
-empty_tidy s kept is = record {
-  kept = kept;
+pub empty_tidy : (s : ShelfMeaning) → IsValidShelf s → s.rows ≡ empty_rows → IsTidy s
+empty_tidy s valid_shelf is = record {
+  valid_shelf = valid_shelf;
   trimmed = λ c l. subst (IsTrimmed (per (c + 5))) (sym (ap (λ rs. row_at rs c) is ∙ no_row c)) (record { count = 0; whole = omega arith; ends = inl refl });
 }

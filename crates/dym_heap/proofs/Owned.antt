@@ -9,7 +9,7 @@ use Rattle.dym_base.specs.declared.command.Version.{Version}
 use Rattle.dym_base.specs.declared.command.Version.TheVariants.{One, Two}
 use Rattle.dym_region.specs.declared.segment.SegmentId.{SegmentId}
 use Rattle.dym_quota.specs.HeldIds.{IsHeld, GivesBack}
-use Rattle.dym_heap.specs.Places.{PlaceMeaning}
+use Rattle.dym_heap.specs.SizedAreas.{SizedAreaMeaning}
 use Rattle.dym_heap.specs.Arrangement.{IsSupplied, HasTables, Owns}
 
 -- ---- an identity that weighs something is there
@@ -41,29 +41,29 @@ held_by_weight x (y ∷ ids) some =
           record { front = y ∷ rest.front; back = rest.back; is = ap (λ zs. y ∷ zs) rest.is }
     ] refl
 
-pub place_held : (v : Version) (quota : ℕ) (ids : List SegmentId) (places : List PlaceMeaning) (room spare spare_room k : ℕ) (d : PlaceMeaning) → IsSupplied v quota ids places room spare spare_room → k < length places
-    → IsHeld ids (get_or places k d).identity
-place_held v quota ids places room spare spare_room k d is l =
-    let x : SegmentId = (get_or places k d).identity in
+pub place_held : (v : Version) (quota : ℕ) (ids : List SegmentId) (sized_areas : List SizedAreaMeaning) (room spare spare_room k : ℕ) (d : SizedAreaMeaning) → IsSupplied v quota ids sized_areas room spare spare_room → k < length sized_areas
+    → IsHeld ids (get_or sized_areas k d).identity
+place_held v quota ids sized_areas room spare spare_room k d is l =
+    let x : SegmentId = (get_or sized_areas k d).identity in
     let one : weight_of x x ≡ 1 = ap (λ b. cond b 1 0) (same_id-self x) in
-    let le = get_or-le-sum_by (λ (p : PlaceMeaning). weight_of x p.identity) places k d l in
+    let le = get_or-le-sum_by (λ (p : SizedAreaMeaning). weight_of x p.identity) sized_areas k d l in
     let same = is.owned (weight_of x) in
     held_by_weight x ids (omega arith)
 
 -- ---- an area changes, comes or goes
 
-pub supplied-put : (v : Version) (quota : ℕ) (ids : List SegmentId) (places : List PlaceMeaning) (room spare spare_room k : ℕ) (d p : PlaceMeaning) → IsSupplied v quota ids places room spare spare_room → k < length places
-    → p.identity ≡ (get_or places k d).identity → IsSupplied v quota ids (set places k p) room spare spare_room
-supplied-put v quota ids places room spare spare_room k d p is l same = record {
+pub supplied-put : (v : Version) (quota : ℕ) (ids : List SegmentId) (sized_areas : List SizedAreaMeaning) (room spare spare_room k : ℕ) (d p : SizedAreaMeaning) → IsSupplied v quota ids sized_areas room spare spare_room → k < length sized_areas
+    → p.identity ≡ (get_or sized_areas k d).identity → IsSupplied v quota ids (set sized_areas k p) room spare spare_room
+supplied-put v quota ids sized_areas room spare spare_room k d p is l same = record {
   least = is.least;
   most = is.most;
-  within = (let w = is.within in omega (arith, length-set places k p));
+  within = (let w = is.within in omega (arith, length-set sized_areas k p));
   has_room = is.has_room;
-  tables = subst (λ n. HasTables v quota n spare spare_room) (sym (length-set places k p)) is.tables;
+  tables = subst (λ n. HasTables v quota n spare spare_room) (sym (length-set sized_areas k p)) is.tables;
   owned = λ weight.
       let before = is.owned weight in
-      let after = sum_by-set (λ (p : PlaceMeaning). weight p.identity) places k p d l in
-      let e : weight p.identity ≡ weight (get_or places k d).identity = ap weight same in
+      let after = sum_by-set (λ (p : SizedAreaMeaning). weight p.identity) sized_areas k p d l in
+      let e : weight p.identity ≡ weight (get_or sized_areas k d).identity = ap weight same in
       omega arith;
 }
 
@@ -77,35 +77,35 @@ pub table_there : (v : Version) (quota areas spare room : ℕ) → HasTables v q
 table_there One quota areas spare room has less = inl (refl, has)
 table_there Two quota areas spare room has less = let a = has.0 in inr (refl, omega arith)
 
-pub supplied-insert : (v : Version) (quota : ℕ) (ids ids' : List SegmentId) (places : List PlaceMeaning) (room room' spare spare' spare_room at : ℕ) (p : PlaceMeaning)
-    → IsSupplied v quota ids places room spare spare_room → length places < quota → at ≤ length places → ids' ≡ ids ++ p.identity ∷ [] → room ≤ room' → spare' ≡ spare - 1
-    → IsSupplied v quota ids' (insert places at p) room' spare' spare_room
-supplied-insert v quota ids ids' places room room' spare spare' spare_room at p is less fits more bigger fewer = record {
+pub supplied-insert : (v : Version) (quota : ℕ) (ids ids' : List SegmentId) (sized_areas : List SizedAreaMeaning) (room room' spare spare' spare_room at : ℕ) (p : SizedAreaMeaning)
+    → IsSupplied v quota ids sized_areas room spare spare_room → length sized_areas < quota → at ≤ length sized_areas → ids' ≡ ids ++ p.identity ∷ [] → room ≤ room' → spare' ≡ spare - 1
+    → IsSupplied v quota ids' (insert sized_areas at p) room' spare' spare_room
+supplied-insert v quota ids ids' sized_areas room room' spare spare' spare_room at p is less fits more bigger fewer = record {
   least = is.least;
   most = is.most;
-  within = omega (arith, length-insert places at p fits);
+  within = omega (arith, length-insert sized_areas at p fits);
   has_room = (let r = is.has_room in omega arith);
-  tables = subst (λ n. HasTables v quota n spare' spare_room) (sym (length-insert places at p fits)) (fewer_tables v quota (length places) spare spare' spare_room is.tables less fewer);
+  tables = subst (λ n. HasTables v quota n spare' spare_room) (sym (length-insert sized_areas at p fits)) (fewer_tables v quota (length sized_areas) spare spare' spare_room is.tables less fewer);
   owned = λ weight.
       let before = is.owned weight in
-      let after = sum_by-insert (λ (p : PlaceMeaning). weight p.identity) places at p in
+      let after = sum_by-insert (λ (p : SizedAreaMeaning). weight p.identity) sized_areas at p in
       let held = ap (sum_by weight) more ∙ sum_by_push weight ids p.identity in
       omega arith;
 }
 
-pub supplied-remove : (v : Version) (quota : ℕ) (ids ids' : List SegmentId) (places : List PlaceMeaning) (room spare spare' spare_room spare_room' k : ℕ) (d : PlaceMeaning)
-    → IsSupplied v quota ids places room spare spare_room → k < length places → GivesBack ids ids' (get_or places k d).identity → HasTables v quota (length (remove places k)) spare' spare_room'
-    → IsSupplied v quota ids' (remove places k) room spare' spare_room'
-supplied-remove v quota ids ids' places room spare spare' spare_room spare_room' k d is l back tables = record {
+pub supplied-remove : (v : Version) (quota : ℕ) (ids ids' : List SegmentId) (sized_areas : List SizedAreaMeaning) (room spare spare' spare_room spare_room' k : ℕ) (d : SizedAreaMeaning)
+    → IsSupplied v quota ids sized_areas room spare spare_room → k < length sized_areas → GivesBack ids ids' (get_or sized_areas k d).identity → HasTables v quota (length (remove sized_areas k)) spare' spare_room'
+    → IsSupplied v quota ids' (remove sized_areas k) room spare' spare_room'
+supplied-remove v quota ids ids' sized_areas room spare spare' spare_room spare_room' k d is l back tables = record {
   least = is.least;
   most = is.most;
-  within = (let w = is.within in omega (arith, length-remove places k l));
+  within = (let w = is.within in omega (arith, length-remove sized_areas k l));
   has_room = is.has_room;
   tables = tables;
   owned = λ weight.
       let before = is.owned weight in
-      let after = sum_by-remove (λ (p : PlaceMeaning). weight p.identity) places k d l in
-      let x : SegmentId = (get_or places k d).identity in
+      let after = sum_by-remove (λ (p : SizedAreaMeaning). weight p.identity) sized_areas k d l in
+      let x : SegmentId = (get_or sized_areas k d).identity in
       let was = ap (sum_by weight) back.was ∙ sum_by-append weight back.front (x ∷ back.back) in
       let first = sum_by-cons weight x back.back in
       let now = ap (sum_by weight) back.is ∙ sum_by-append weight back.front back.back in
@@ -120,23 +120,23 @@ more_tables_two quota areas areas' spare spare' room room' has less more bigger 
 
 -- ---- giving all areas back
 
-pub owns_held : (ids : List SegmentId) (places : List PlaceMeaning) (k : ℕ) (d : PlaceMeaning) → Owns ids places → k < length places → IsHeld ids (get_or places k d).identity
-owns_held ids places k d owns l =
-    let x : SegmentId = (get_or places k d).identity in
+pub owns_held : (ids : List SegmentId) (sized_areas : List SizedAreaMeaning) (k : ℕ) (d : SizedAreaMeaning) → Owns ids sized_areas → k < length sized_areas → IsHeld ids (get_or sized_areas k d).identity
+owns_held ids sized_areas k d owns l =
+    let x : SegmentId = (get_or sized_areas k d).identity in
     let one : weight_of x x ≡ 1 = ap (λ b. cond b 1 0) (same_id-self x) in
-    let le = get_or-le-sum_by (λ (p : PlaceMeaning). weight_of x p.identity) places k d l in
+    let le = get_or-le-sum_by (λ (p : SizedAreaMeaning). weight_of x p.identity) sized_areas k d l in
     let same = owns (weight_of x) in
     held_by_weight x ids (omega arith)
 
-pub last_owned : (ids : List SegmentId) (places places' : List PlaceMeaning) (p : PlaceMeaning) → Owns ids places → places ≡ places' ++ p ∷ [] → IsHeld ids p.identity
-last_owned ids places places' p owns is =
-    subst (λ (q : PlaceMeaning). IsHeld ids q.identity) (ap (λ xs. get_or xs (length places') p) is ∙ get_or_push places' p p (length places') refl)
-    (owns_held ids places (length places') p owns (let n = ap length is in omega (arith, length_push places' p)))
+pub last_owned : (ids : List SegmentId) (sized_areas sized_areas' : List SizedAreaMeaning) (p : SizedAreaMeaning) → Owns ids sized_areas → sized_areas ≡ sized_areas' ++ p ∷ [] → IsHeld ids p.identity
+last_owned ids sized_areas sized_areas' p owns is =
+    subst (λ (q : SizedAreaMeaning). IsHeld ids q.identity) (ap (λ xs. get_or xs (length sized_areas') p) is ∙ get_or_push sized_areas' p p (length sized_areas') refl)
+    (owns_held ids sized_areas (length sized_areas') p owns (let n = ap length is in omega (arith, length_push sized_areas' p)))
 
-pub owns_less : (ids ids' : List SegmentId) (places places' : List PlaceMeaning) (p : PlaceMeaning) → Owns ids places → places ≡ places' ++ p ∷ [] → GivesBack ids ids' p.identity → Owns ids' places'
-owns_less ids ids' places places' p owns is back weight =
+pub owns_less : (ids ids' : List SegmentId) (sized_areas sized_areas' : List SizedAreaMeaning) (p : SizedAreaMeaning) → Owns ids sized_areas → sized_areas ≡ sized_areas' ++ p ∷ [] → GivesBack ids ids' p.identity → Owns ids' sized_areas'
+owns_less ids ids' sized_areas sized_areas' p owns is back weight =
     let before = owns weight in
-    let all = ap (sum_by (λ (q : PlaceMeaning). weight q.identity)) is ∙ sum_by_push (λ (q : PlaceMeaning). weight q.identity) places' p in
+    let all = ap (sum_by (λ (q : SizedAreaMeaning). weight q.identity)) is ∙ sum_by_push (λ (q : SizedAreaMeaning). weight q.identity) sized_areas' p in
     let was = ap (sum_by weight) back.was ∙ sum_by-append weight back.front (p.identity ∷ back.back) in
     let first = sum_by-cons weight p.identity back.back in
     let now = ap (sum_by weight) back.is ∙ sum_by-append weight back.front back.back in
@@ -146,5 +146,5 @@ ones : {A : Type 0} (xs : List A) → sum_by (λ x. 1) xs ≡ length xs
 ones [] = refl
 ones (x ∷ xs) = sum_by-cons (λ x. 1) x xs ∙ (let rest = ones xs in omega arith)
 
-pub owns_none : (ids : List SegmentId) (places : List PlaceMeaning) → Owns ids places → length places ≡ 0 → ids ≡ []
-owns_none ids places owns none = nil_from_length ids (let a = owns (λ x. 1) in let b = ones ids in let c = ones places in omega arith)
+pub owns_none : (ids : List SegmentId) (sized_areas : List SizedAreaMeaning) → Owns ids sized_areas → length sized_areas ≡ 0 → ids ≡ []
+owns_none ids sized_areas owns none = nil_from_length ids (let a = owns (λ x. 1) in let b = ones ids in let c = ones sized_areas in omega arith)

@@ -9,15 +9,15 @@ use Rattle.dym_base.specs.declared.command.Version.{Version}
 use Rattle.dym_base.specs.declared.limits.TheConstants.{MOST_CHUNKS}
 use Rattle.dym_bits.specs.Bits.{bit_in, IsSet, IsClear, IsFirstClear, clear_bits}
 use Rattle.dym_region.specs.Content.{part_of, with_part}
-use Rattle.dym_area.specs.Area.{AreaMeaning, IsLawful, dirty_after, with_taken, with_released, with_written, with_clean}
+use Rattle.dym_area.specs.Area.{AreaMeaning, IsValidArea, dirty_after, with_taken, with_released, with_written, with_clean}
 use Rattle.dym_heap.specs.Meaning.{IsSizeOf}
-use Rattle.dym_heap.specs.Places.{PlaceMeaning, len_of, chunk_in, chunks_in, touched_in, version_by, place_of, IsMeasured, place_put, IsFreeIn, noted}
+use Rattle.dym_heap.specs.SizedAreas.{SizedAreaMeaning, len_of, chunk_in, chunks_in, touched_in, version_by, place_of, IsMeasured, area_with_chunk, IsFreeIn, with_length}
 use Rattle.dym_heap.proofs.Parts.{length-part_of, part_of-apart, part_of-inside, part_of-filled}
 use Rattle.dym_heap.proofs.Sizes.{size_fits, chunk_fits, per_fits}
-use Rattle.dym_heap.proofs.PlaceSteps.{length-chunks_in, length-touched_in, chunk_of, mark_of, used_chunk, unused_chunk, some_used, chunk_room, length_of_chunk, place-put, set_bit, chunk_same, bytes_same, noted_version, noted_other, noted_here, Reaches}
+use Rattle.dym_heap.proofs.PlaceSteps.{length-chunks_in, length-touched_in, chunk_of, mark_of, used_chunk, unused_chunk, some_used, chunk_room, length_of_chunk, sized_area-put, set_bit, chunk_same, bytes_same, noted_version, noted_other, noted_here, Reaches}
 
 -- the place after a step, and that its lengths still fit
-pub record Steps (area' : AreaMeaning) (ls' : Option (List ℕ)) (p : PlaceMeaning) : Type 0 where
+pub record Steps (area' : AreaMeaning) (ls' : Option (List ℕ)) (p : SizedAreaMeaning) : Type 0 where
   pub is : place_of area' ls' ≡ p
   pub measured : IsMeasured area' ls'
 
@@ -26,45 +26,45 @@ long_enough e i low l = omega (arith, per_fits e low)
 
 -- ---- a chunk is taken
 
-pub first_free : (area : AreaMeaning) (ls : Option (List ℕ)) (i : ℕ) → IsLawful area → IsFirstClear area.used (per area.exponent) i → IsFreeIn (chunks_in area ls) i
-first_free area ls i lawful first = record {
+pub first_free : (area : AreaMeaning) (ls : Option (List ℕ)) (i : ℕ) → IsValidArea area → IsFirstClear area.used (per area.exponent) i → IsFreeIn (chunks_in area ls) i
+first_free area ls i valid first = record {
   within = (let b = first.below in omega (arith, length-chunks_in area ls));
-  free = chunk_of area ls i lawful ∙ unused_chunk area ls i first.is_clear;
-  least = λ k l. ap is_some (chunk_of area ls k lawful) ∙ some_used area ls k ∙ first.least k l;
+  free = chunk_of area ls i valid ∙ unused_chunk area ls i first.is_clear;
+  least = λ k l. ap is_some (chunk_of area ls k valid) ∙ some_used area ls k ∙ first.least k l;
 }
 
-pub all_used : (area : AreaMeaning) (ls : Option (List ℕ)) → IsLawful area → ((k : ℕ) → k < per area.exponent → IsSet area.used k) → (k : ℕ) → k < length (chunks_in area ls) → IsSome (get_or (chunks_in area ls) k None)
-all_used area ls lawful used k l = ap is_some (chunk_of area ls k lawful) ∙ some_used area ls k ∙ used k (omega (arith, length-chunks_in area ls))
+pub all_used : (area : AreaMeaning) (ls : Option (List ℕ)) → IsValidArea area → ((k : ℕ) → k < per area.exponent → IsSet area.used k) → (k : ℕ) → k < length (chunks_in area ls) → IsSome (get_or (chunks_in area ls) k None)
+all_used area ls valid used k l = ap is_some (chunk_of area ls k valid) ∙ some_used area ls k ∙ used k (omega (arith, length-chunks_in area ls))
 
-pub taken : (area : AreaMeaning) (ls : Option (List ℕ)) (i n : ℕ) → IsMeasured area ls → i < per area.exponent → IsLawful (with_taken area i) → Reaches ls i → IsSizeOf (version_by ls) area.exponent n
-    → Steps (with_taken area i) (noted ls i n) (place_put (place_of area ls) i (Some (replicate n 0)) true)
-taken area ls i n is l lawful' reaches sized =
+pub taken : (area : AreaMeaning) (ls : Option (List ℕ)) (i n : ℕ) → IsMeasured area ls → i < per area.exponent → IsValidArea (with_taken area i) → Reaches ls i → IsSizeOf (version_by ls) area.exponent n
+    → Steps (with_taken area i) (with_length ls i n) (area_with_chunk (place_of area ls) i (Some (replicate n 0)) true)
+taken area ls i n is l valid' reaches sized =
     let e : ℕ = area.exponent in
-    let whole = is.lawful.content_len in
-    let long = is.lawful.used_len in
-    let long' = is.lawful.dirty_len in
-    let in_bits = long_enough e i is.lawful.least l in
-    let len : len_of e (noted ls i n) i ≡ n = noted_here e ls i n reaches sized in
+    let whole = is.valid.content_len in
+    let long = is.valid.used_len in
+    let long' = is.valid.dirty_len in
+    let in_bits = long_enough e i is.valid.least l in
+    let len : len_of e (with_length ls i n) i ≡ n = noted_here e ls i n reaches sized in
     let small = size_fits (version_by ls) e n sized in
-    let lies = chunk_fits e i is.lawful.greatest l in
+    let lies = chunk_fits e i is.valid.greatest l in
     let bit : bit_in (set area.used i true) i ≡ true = get_or-set_same area.used i true false (omega arith) in
     let content' : List ℕ = with_part area.content (i * size e) (replicate (size e) 0) in
     record {
-      is = place-put area ls (noted ls i n) (set area.used i true) (set area.dirty i true) content' i (Some (replicate n 0)) true
-          is.lawful lawful' (noted_version ls i n) l
-          (used_chunk (with_taken area i) (noted ls i n) i bit
+      is = sized_area-put area ls (with_length ls i n) (set area.used i true) (set area.dirty i true) content' i (Some (replicate n 0)) true
+          is.valid valid' (noted_version ls i n) l
+          (used_chunk (with_taken area i) (with_length ls i n) i bit
           ∙ ap (λ m. Some (part_of content' (i * size e) m)) len
           ∙ ap Some (part_of-filled area.content (i * size e) (size e) n 0 (omega arith) small))
-          (λ k ne. chunk_same area ls (noted ls i n) (set area.used i true) (set area.dirty i true) content' k (set_bit area.used i k true ne) (noted_other e ls i n k ne)
+          (λ k ne. chunk_same area ls (with_length ls i n) (set area.used i true) (set area.dirty i true) content' k (set_bit area.used i k true ne) (noted_other e ls i n k ne)
           (bytes_same area ls i k 0 (i * size e) (replicate (size e) 0) is l (omega (arith, length-replicate {A = ℕ} (size e) 0)) (omega arith) ne))
           (get_or-set_same area.dirty i true false (omega arith))
           (λ k ne. set_bit area.dirty i k true ne);
       measured = record {
-        lawful = lawful';
+        valid = valid';
         fits = λ k h.
-            elim (cases_eq k i) as (λ _. IsSizeOf (version_by (noted ls i n)) e (len_of e (noted ls i n) k)) [
-              | inl same ↦ subst (λ v. IsSizeOf v e (len_of e (noted ls i n) k)) (sym (noted_version ls i n)) (subst (IsSizeOf (version_by ls) e) (sym (ap (λ j. len_of e (noted ls i n) j) same ∙ len)) sized)
-              | inr ne ↦ subst (λ v. IsSizeOf v e (len_of e (noted ls i n) k)) (sym (noted_version ls i n))
+            elim (cases_eq k i) as (λ _. IsSizeOf (version_by (with_length ls i n)) e (len_of e (with_length ls i n) k)) [
+              | inl same ↦ subst (λ v. IsSizeOf v e (len_of e (with_length ls i n) k)) (sym (noted_version ls i n)) (subst (IsSizeOf (version_by ls) e) (sym (ap (λ j. len_of e (with_length ls i n) j) same ∙ len)) sized)
+              | inr ne ↦ subst (λ v. IsSizeOf v e (len_of e (with_length ls i n) k)) (sym (noted_version ls i n))
                   (subst (IsSizeOf (version_by ls) e) (sym (noted_other e ls i n k ne)) (is.fits k (sym (set_bit area.used i k true ne) ∙ h)))
             ];
       };
@@ -72,23 +72,23 @@ taken area ls i n is l lawful' reaches sized =
 
 -- ---- a chunk is given up
 
-pub released : (area : AreaMeaning) (ls : Option (List ℕ)) (i : ℕ) → IsMeasured area ls → IsSet area.used i → IsLawful (with_released area i)
-    → Steps (with_released area i) ls (place_put (place_of area ls) i None false)
-released area ls i is h lawful' =
+pub released : (area : AreaMeaning) (ls : Option (List ℕ)) (i : ℕ) → IsMeasured area ls → IsSet area.used i → IsValidArea (with_released area i)
+    → Steps (with_released area i) ls (area_with_chunk (place_of area ls) i None false)
+released area ls i is h valid' =
     let e : ℕ = area.exponent in
-    let l = is.lawful.used_below i h in
-    let long = is.lawful.used_len in
-    let long' = is.lawful.dirty_len in
-    let in_bits = long_enough e i is.lawful.least l in
+    let l = is.valid.used_below i h in
+    let long = is.valid.used_len in
+    let long' = is.valid.dirty_len in
+    let in_bits = long_enough e i is.valid.least l in
     let bit : bit_in (set area.used i false) i ≡ false = get_or-set_same area.used i false false (omega arith) in
     record {
-      is = place-put area ls ls (set area.used i false) (set area.dirty i false) area.content i None false is.lawful lawful' refl l
+      is = sized_area-put area ls ls (set area.used i false) (set area.dirty i false) area.content i None false is.valid valid' refl l
           (unused_chunk (with_released area i) ls i bit)
           (λ k ne. chunk_same area ls ls (set area.used i false) (set area.dirty i false) area.content k (set_bit area.used i k false ne) refl (λ _. refl))
           (get_or-set_same area.dirty i false false (omega arith))
           (λ k ne. set_bit area.dirty i k false ne);
       measured = record {
-        lawful = lawful';
+        valid = valid';
         fits = λ k h'.
             elim (cases_eq k i) as (λ _. IsSizeOf (version_by ls) e (len_of e ls k)) [
               | inl same ↦ (let gone = ap (bit_in (set area.used i false)) same ∙ bit in absurd cc)
@@ -105,14 +105,14 @@ dirty_marked dirty i (suc n) some = refl
 
 -- the bytes ys were written into chunk i from `at` on, and its length is now n
 pub written_as : (area : AreaMeaning) (ls ls' : Option (List ℕ)) (i at n : ℕ) (ys now : List ℕ) → IsMeasured area ls → IsSet area.used i → 0 < length ys → at + length ys ≤ size area.exponent
-    → IsLawful (with_written area i at ys) → ls' ≡ noted ls i n → Reaches ls i → IsSizeOf (version_by ls) area.exponent n
+    → IsValidArea (with_written area i at ys) → ls' ≡ with_length ls i n → Reaches ls i → IsSizeOf (version_by ls) area.exponent n
     → part_of (with_part area.content (i * size area.exponent + at) ys) (i * size area.exponent) n ≡ now
-    → Steps (with_written area i at ys) ls' (place_put (place_of area ls) i (Some now) true)
-written_as area ls ls' i at n ys now is h some within lawful' lengths reaches sized bytes =
+    → Steps (with_written area i at ys) ls' (area_with_chunk (place_of area ls) i (Some now) true)
+written_as area ls ls' i at n ys now is h some within valid' lengths reaches sized bytes =
     let e : ℕ = area.exponent in
-    let l = is.lawful.used_below i h in
-    let long' = is.lawful.dirty_len in
-    let in_bits = long_enough e i is.lawful.least l in
+    let l = is.valid.used_below i h in
+    let long' = is.valid.dirty_len in
+    let in_bits = long_enough e i is.valid.least l in
     let dirty' : List Bool = dirty_after area.dirty i (length ys) in
     let marked : dirty' ≡ set area.dirty i true = dirty_marked area.dirty i (length ys) some in
     let content' : List ℕ = with_part area.content (i * size e + at) ys in
@@ -120,13 +120,13 @@ written_as area ls ls' i at n ys now is h some within lawful' lengths reaches si
     let same : version_by ls' ≡ version_by ls = ap version_by lengths ∙ noted_version ls i n in
     let other : (k : ℕ) → (k ≡ i → ⊥) → len_of e ls' k ≡ len_of e ls k = λ k ne. ap (λ x. len_of e x k) lengths ∙ noted_other e ls i n k ne in
     record {
-      is = place-put area ls ls' area.used dirty' content' i (Some now) true is.lawful lawful' same l
+      is = sized_area-put area ls ls' area.used dirty' content' i (Some now) true is.valid valid' same l
           (used_chunk (with_written area i at ys) ls' i h ∙ ap (λ m. Some (part_of content' (i * size e) m)) len ∙ ap Some bytes)
           (λ k ne. chunk_same area ls ls' area.used dirty' content' k refl (other k ne) (bytes_same area ls i k at (i * size e + at) ys is l within refl ne))
           (ap (λ d. bit_in d i) marked ∙ get_or-set_same area.dirty i true false (omega arith))
           (λ k ne. ap (λ d. bit_in d k) marked ∙ set_bit area.dirty i k true ne);
       measured = record {
-        lawful = lawful';
+        valid = valid';
         fits = λ k h'. subst (λ v. IsSizeOf v e (len_of e ls' k)) (sym same)
             (elim (cases_eq k i) as (λ _. IsSizeOf (version_by ls) e (len_of e ls' k)) [
               | inl at_i ↦ subst (IsSizeOf (version_by ls) e) (sym (ap (λ j. len_of e ls' j) at_i ∙ len)) sized
@@ -135,20 +135,20 @@ written_as area ls ls' i at n ys now is h some within lawful' lengths reaches si
       };
     }
 
-noted_same : (e : ℕ) (ls : Option (List ℕ)) (i : ℕ) → ls ≡ noted ls i (len_of e ls i)
+noted_same : (e : ℕ) (ls : Option (List ℕ)) (i : ℕ) → ls ≡ with_length ls i (len_of e ls i)
 noted_same e None i = refl
 noted_same e (Some ns) i = ap Some (sym (set-get_or ns i 0))
 
 pub written : (area : AreaMeaning) (ls : Option (List ℕ)) (i at : ℕ) (ys old : List ℕ) → IsMeasured area ls → chunk_in area ls i ≡ Some old → 0 < length ys → at + length ys ≤ length old
-    → IsLawful (with_written area i at ys) → Reaches ls i → Steps (with_written area i at ys) ls (place_put (place_of area ls) i (Some (splice at ys old)) true)
-written area ls i at ys old is chunk some within lawful' reaches =
+    → IsValidArea (with_written area i at ys) → Reaches ls i → Steps (with_written area i at ys) ls (area_with_chunk (place_of area ls) i (Some (splice at ys old)) true)
+written area ls i at ys old is chunk some within valid' reaches =
     let e : ℕ = area.exponent in
     let h : IsSet area.used i = sym (some_used area ls i) ∙ ap is_some chunk in
     let n : ℕ = len_of e ls i in
     let len : length old ≡ n = length_of_chunk area ls i old is chunk in
     let bytes : part_of area.content (i * size e) n ≡ old = (let u = used_chunk area ls i h in cc) in
     let fits = size_fits (version_by ls) e n (is.fits i h) in
-    written_as area ls ls i at n ys (splice at ys old) is h some (omega arith) lawful' (noted_same e ls i) reaches (is.fits i h)
+    written_as area ls ls i at n ys (splice at ys old) is h some (omega arith) valid' (noted_same e ls i) reaches (is.fits i h)
     (part_of-inside area.content (i * size e) n at ys (chunk_room area ls i is h) (omega arith) ∙ ap (splice at ys) bytes)
 
 -- ---- a chunk gets another length
@@ -167,41 +167,41 @@ front_of xs a m n less = take-take m (a + n - a) (drop a xs) (omega arith) ∙ (
 
 -- it grows, by zeros
 pub grown : (area : AreaMeaning) (ls : Option (List ℕ)) (i n : ℕ) (old : List ℕ) → IsMeasured area ls → chunk_in area ls i ≡ Some old → length old < n → IsSizeOf (version_by ls) area.exponent n
-    → IsLawful (with_written area i (length old) (replicate (n - length old) 0)) → Reaches ls i
-    → Steps (with_written area i (length old) (replicate (n - length old) 0)) (noted ls i n) (place_put (place_of area ls) i (Some (fitted n old)) true)
-grown area ls i n old is chunk more sized lawful' reaches =
+    → IsValidArea (with_written area i (length old) (replicate (n - length old) 0)) → Reaches ls i
+    → Steps (with_written area i (length old) (replicate (n - length old) 0)) (with_length ls i n) (area_with_chunk (place_of area ls) i (Some (fitted n old)) true)
+grown area ls i n old is chunk more sized valid' reaches =
     let e : ℕ = area.exponent in
     let m : ℕ = length old in
     let h : IsSet area.used i = sym (some_used area ls i) ∙ ap is_some chunk in
-    let l = is.lawful.used_below i h in
+    let l = is.valid.used_below i h in
     let len : m ≡ len_of e ls i = length_of_chunk area ls i old is chunk in
     let bytes : part_of area.content (i * size e) m ≡ old = (let u = used_chunk area ls i h in let v = ap (λ k. part_of area.content (i * size e) k) len in cc) in
     let fits = size_fits (version_by ls) e n sized in
-    let lies = chunk_fits e i is.lawful.greatest l in
-    let whole = is.lawful.content_len in
+    let lies = chunk_fits e i is.valid.greatest l in
+    let whole = is.valid.content_len in
     let zeros : List ℕ = replicate (n - m) 0 in
     let long : length zeros ≡ n - m = length-replicate {A = ℕ} (n - m) 0 in
     let p : List ℕ = part_of area.content (i * size e) n in
-    written_as area ls (noted ls i n) i m n (replicate (n - m) 0) (fitted n old) is h (omega arith) (omega arith) lawful' refl reaches sized
+    written_as area ls (with_length ls i n) i m n (replicate (n - m) 0) (fitted n old) is h (omega arith) (omega arith) valid' refl reaches sized
     (part_of-inside area.content (i * size e) n m (replicate (n - m) 0) (omega arith) (omega arith)
     ∙ split_fitted n m p old (front_of area.content (i * size e) m n (omega arith) ∙ bytes) (length-part_of area.content (i * size e) n (omega arith)) (omega arith) refl)
 
 -- it shrinks; a zero behind its new end marks it as touched
 pub shrunk : (area : AreaMeaning) (ls : Option (List ℕ)) (i n : ℕ) (old : List ℕ) → IsMeasured area ls → chunk_in area ls i ≡ Some old → n < length old → IsSizeOf (version_by ls) area.exponent n
-    → IsLawful (with_written area i n (replicate 1 0)) → Reaches ls i
-    → Steps (with_written area i n (replicate 1 0)) (noted ls i n) (place_put (place_of area ls) i (Some (fitted n old)) true)
-shrunk area ls i n old is chunk less sized lawful' reaches =
+    → IsValidArea (with_written area i n (replicate 1 0)) → Reaches ls i
+    → Steps (with_written area i n (replicate 1 0)) (with_length ls i n) (area_with_chunk (place_of area ls) i (Some (fitted n old)) true)
+shrunk area ls i n old is chunk less sized valid' reaches =
     let e : ℕ = area.exponent in
     let m : ℕ = length old in
     let h : IsSet area.used i = sym (some_used area ls i) ∙ ap is_some chunk in
-    let l = is.lawful.used_below i h in
+    let l = is.valid.used_below i h in
     let len : m ≡ len_of e ls i = length_of_chunk area ls i old is chunk in
     let bytes : part_of area.content (i * size e) m ≡ old = (let u = used_chunk area ls i h in let v = ap (λ k. part_of area.content (i * size e) k) len in cc) in
     let fits = size_fits (version_by ls) e (len_of e ls i) (is.fits i h) in
-    let lies = chunk_fits e i is.lawful.greatest l in
-    let whole = is.lawful.content_len in
+    let lies = chunk_fits e i is.valid.greatest l in
+    let whole = is.valid.content_len in
     let none : n - m ≡ 0 = omega arith in
-    written_as area ls (noted ls i n) i n n (replicate 1 0) (fitted n old) is h (omega arith) (omega arith) lawful' refl reaches sized
+    written_as area ls (with_length ls i n) i n n (replicate 1 0) (fitted n old) is h (omega arith) (omega arith) valid' refl reaches sized
     (part_of-apart area.content (i * size e) n (i * size e + n) (replicate 1 0) (omega arith) (omega arith) (inl (omega arith))
     ∙ sym (front_of area.content (i * size e) n m (omega arith)) ∙ ap (take n) bytes
     ∙ sym (ap (λ k. take n old ++ replicate k 0) none ∙ append-nil (take n old)))
@@ -220,40 +220,40 @@ touched_clean : (area : AreaMeaning) (n : ℕ) → per area.exponent ≤ n → l
 unfolding touched_in
 touched_clean area n less long = take_clear (per area.exponent) n less ∙ ap (λ k. replicate k false) (sym long)
 
-pub cleaned : (area : AreaMeaning) (ls : Option (List ℕ)) → IsMeasured area ls → IsLawful (with_clean area)
+pub cleaned : (area : AreaMeaning) (ls : Option (List ℕ)) → IsMeasured area ls → IsValidArea (with_clean area)
     → Steps (with_clean area) ls (record (place_of area ls) { touched = replicate (length (touched_in area)) false })
-cleaned area ls is lawful' =
+cleaned area ls is valid' =
     let chunks = chunks_clean area (clear_bits MOST_CHUNKS) ls in
-    let touches = touched_clean area MOST_CHUNKS (per_fits area.exponent is.lawful.least) (length-touched_in area is.lawful) in
+    let touches = touched_clean area MOST_CHUNKS (per_fits area.exponent is.valid.least) (length-touched_in area is.valid) in
     record {
       is = λ j. record (place_of area ls) { chunks = chunks j; touched = touches j };
-      measured = record { lawful = lawful'; fits = is.fits };
+      measured = record { valid = valid'; fits = is.fits };
     }
 
 -- ---- a new place
 
-new_chunks : (area : AreaMeaning) (ls : Option (List ℕ)) → IsLawful area → ((i : ℕ) → IsClear area.used i) → chunks_in area ls ≡ replicate (per area.exponent) None
-new_chunks area ls lawful clear =
+new_chunks : (area : AreaMeaning) (ls : Option (List ℕ)) → IsValidArea area → ((i : ℕ) → IsClear area.used i) → chunks_in area ls ≡ replicate (per area.exponent) None
+new_chunks area ls valid clear =
     ext_get_or None (chunks_in area ls) (replicate (per area.exponent) None) (length-chunks_in area ls ∙ sym (length-replicate {A = Option (List ℕ)} (per area.exponent) None))
-    (λ k l. chunk_of area ls k lawful ∙ unused_chunk area ls k (clear k) ∙ sym (get_or-replicate (per area.exponent) k None None (omega (arith, length-chunks_in area ls))))
+    (λ k l. chunk_of area ls k valid ∙ unused_chunk area ls k (clear k) ∙ sym (get_or-replicate (per area.exponent) k None None (omega (arith, length-chunks_in area ls))))
 
-new_marks : (area : AreaMeaning) → IsLawful area → ((i : ℕ) → IsClear area.used i) → touched_in area ≡ replicate (per area.exponent) false
-new_marks area lawful clear =
-    ext_get_or false (touched_in area) (replicate (per area.exponent) false) (length-touched_in area lawful ∙ sym (length-replicate {A = Bool} (per area.exponent) false))
-    (λ k l. mark_of area k lawful
-    ∙ elim (bit_in area.dirty k) as (λ b. bit_in area.dirty k ≡ b → b ≡ false) [ true ↦ λ h. (let u = lawful.dirty_used k h in let c = clear k in absurd cc) | false ↦ λ h. refl ] refl
-    ∙ sym (get_or-replicate (per area.exponent) k false false (omega (arith, length-touched_in area lawful))))
+new_marks : (area : AreaMeaning) → IsValidArea area → ((i : ℕ) → IsClear area.used i) → touched_in area ≡ replicate (per area.exponent) false
+new_marks area valid clear =
+    ext_get_or false (touched_in area) (replicate (per area.exponent) false) (length-touched_in area valid ∙ sym (length-replicate {A = Bool} (per area.exponent) false))
+    (λ k l. mark_of area k valid
+    ∙ elim (bit_in area.dirty k) as (λ b. bit_in area.dirty k ≡ b → b ≡ false) [ true ↦ λ h. (let u = valid.dirty_used k h in let c = clear k in absurd cc) | false ↦ λ h. refl ] refl
+    ∙ sym (get_or-replicate (per area.exponent) k false false (omega (arith, length-touched_in area valid))))
 
 -- a place in which no chunk is in use
-abbrev pub empty_place : Version → ℕ → ℕ → SegmentId → PlaceMeaning
+abbrev pub empty_place : Version → ℕ → ℕ → SegmentId → SizedAreaMeaning
 empty_place v e o id = record { version = v; exponent = e; ordinal = o; identity = id; chunks = replicate (per e) None; touched = replicate (per e) false }
 
-pub made : (area : AreaMeaning) (ls : Option (List ℕ)) → IsLawful area → ((i : ℕ) → IsClear area.used i)
+pub made : (area : AreaMeaning) (ls : Option (List ℕ)) → IsValidArea area → ((i : ℕ) → IsClear area.used i)
     → Steps area ls (empty_place (version_by ls) area.exponent area.ordinal area.identity)
-made area ls lawful clear =
-    let chunks = new_chunks area ls lawful clear in
-    let marks = new_marks area lawful clear in
+made area ls valid clear =
+    let chunks = new_chunks area ls valid clear in
+    let marks = new_marks area valid clear in
     record {
       is = λ j. record (place_of area ls) { chunks = chunks j; touched = marks j };
-      measured = record { lawful = lawful; fits = λ i h. (let c = clear i in absurd cc) };
+      measured = record { valid = valid; fits = λ i h. (let c = clear i in absurd cc) };
     }

@@ -8,10 +8,10 @@ use Rattle.dym_base.specs.declared.command.Version.TheVariants.{Two}
 use Rattle.dym_base.specs.declared.limits.TheConstants.{MOST_CHUNKS}
 use Rattle.dym_bits.specs.Bits.{IsSet, IsClear, IsFirstClear, IsNextSet}
 use Rattle.dym_region.specs.Content.{part_of}
-use Rattle.dym_area.specs.Area.{AreaMeaning, IsLawful, chunk_start, with_taken, with_released, with_written, with_clean}
+use Rattle.dym_area.specs.Area.{AreaMeaning, IsValidArea, chunk_start, with_taken, with_released, with_written, with_clean}
 use Rattle.dym_heap.specs.Meaning.{IsSizeOf}
 use Rattle.dym_heap.specs.Shelves.{FitsIn}
-use Rattle.dym_heap.specs.Places.{PlaceMeaning, len_of, chunk_in, version_by, place_of, IsMeasured, IsPlace, place_put, IsFreeIn, IsUsedFrom, noted}
+use Rattle.dym_heap.specs.SizedAreas.{SizedAreaMeaning, len_of, chunk_in, version_by, place_of, IsMeasured, IsSizedArea, area_with_chunk, IsFreeIn, IsUsedFrom, with_length}
 use Rattle.dym_heap.specs.declared.lengths.Lengths.{Lengths}
 use Rattle.dym_heap.specs.Lengths.{numbers_of}
 use Rattle.dym_heap.proofs.Parts.{length-part_of, get_or-part_of}
@@ -26,24 +26,24 @@ reaches (Some lengths) i l = let whole = lengths.whole in omega arith
 pub match_some : {A : Type 0} (o : Option A) (x : A) (Q : A → Type 0) → o ≡ Some x → Q x → MatchOption o ⊥ Q
 match_some o x Q is q = subst (λ o. MatchOption o ⊥ Q) (sym is) q
 
-module _ (area : AreaMeaning) (ls : Option (List ℕ)) (p : PlaceMeaning) (v : place_of area ls ≡ p) (m : IsMeasured area ls) where
+module _ (area : AreaMeaning) (ls : Option (List ℕ)) (p : SizedAreaMeaning) (v : place_of area ls ≡ p) (m : IsMeasured area ls) where
   pub chunk_at_p : (i : ℕ) → get_or p.chunks i None ≡ chunk_in area ls i
-  chunk_at_p i = sym (ap (λ (q : PlaceMeaning). get_or q.chunks i None) v) ∙ chunk_of area ls i m.lawful
+  chunk_at_p i = sym (ap (λ (q : SizedAreaMeaning). get_or q.chunks i None) v) ∙ chunk_of area ls i m.valid
 
   pub long_p : length p.chunks ≡ per area.exponent
-  long_p = sym (ap (λ (q : PlaceMeaning). length q.chunks) v) ∙ length-chunks_in area ls
+  long_p = sym (ap (λ (q : SizedAreaMeaning). length q.chunks) v) ∙ length-chunks_in area ls
 
   pub below_p : (i : ℕ) → i < length p.chunks → i < per area.exponent
   below_p i l = let long = long_p in omega arith
 
   pub few_p : (i : ℕ) → i < per area.exponent → i < MOST_CHUNKS
-  few_p i l = let few = per_fits area.exponent m.lawful.least in omega arith
+  few_p i l = let few = per_fits area.exponent m.valid.least in omega arith
 
   pub set_p : (i : ℕ) → IsSome (get_or p.chunks i None) → IsSet area.used i
   set_p i some = sym (some_used area ls i) ∙ sym (ap is_some (chunk_at_p i)) ∙ some
 
-  pub lawful_p : IsPlace p
-  lawful_p = subst IsPlace v (is_place area ls m)
+  pub lawful_p : IsSizedArea p
+  lawful_p = subst IsSizedArea v (is_place area ls m)
 
   -- ---- queries
 
@@ -54,7 +54,7 @@ module _ (area : AreaMeaning) (ls : Option (List ℕ)) (p : PlaceMeaning) (v : p
   not_full_p full k l = set_p k (full k (let long = long_p in omega arith))
 
   pub first_p : (i : ℕ) → IsFirstClear area.used (per area.exponent) i → IsFreeIn p.chunks i
-  first_p i first = subst (λ (q : PlaceMeaning). IsFreeIn q.chunks i) v (first_free area ls i m.lawful first)
+  first_p i first = subst (λ (q : SizedAreaMeaning). IsFreeIn q.chunks i) v (first_free area ls i m.valid first)
 
   pub free_p : (i : ℕ) → IsClear area.used i → get_or p.chunks i None ≡ None
   free_p i clear = chunk_at_p i ∙ unused_chunk area ls i clear
@@ -113,7 +113,7 @@ module _ (area : AreaMeaning) (ls : Option (List ℕ)) (p : PlaceMeaning) (v : p
         chunk = chunk;
         at = at;
         is_set = h;
-        below = m.lawful.used_below i h;
+        below = m.valid.used_below i h;
         fits = fits;
         noted_as = len;
         small = (let s = size_fits (version_by ls) area.exponent (len_of area.exponent ls i) (m.fits i h) in omega arith);
@@ -138,42 +138,42 @@ module _ (area : AreaMeaning) (ls : Option (List ℕ)) (p : PlaceMeaning) (v : p
   -- ---- steps
 
   -- the place after a step, as a place with a chunk put
-  put_p : (area' : AreaMeaning) (ls' : Option (List ℕ)) (i : ℕ) (x : Option (List ℕ)) (b : Bool) → Steps area' ls' (place_put (place_of area ls) i x b) → Steps area' ls' (place_put p i x b)
-  put_p area' ls' i x b steps = record { is = steps.is ∙ ap (λ q. place_put q i x b) v; measured = steps.measured }
+  put_p : (area' : AreaMeaning) (ls' : Option (List ℕ)) (i : ℕ) (x : Option (List ℕ)) (b : Bool) → Steps area' ls' (area_with_chunk (place_of area ls) i x b) → Steps area' ls' (area_with_chunk p i x b)
+  put_p area' ls' i x b steps = record { is = steps.is ∙ ap (λ q. area_with_chunk q i x b) v; measured = steps.measured }
 
-  pub taken_p : (area' : AreaMeaning) (ls' : Option (List ℕ)) (i n : ℕ) → area' ≡ with_taken area i → IsLawful area' → ls' ≡ noted ls i n → Reaches ls i → i < per area.exponent → IsSizeOf p.version p.exponent n
-      → Steps area' ls' (place_put p i (Some (replicate n 0)) true)
-  taken_p area' ls' i n after lawful' lengths r l sized =
-      subst (λ a. Steps a ls' (place_put p i (Some (replicate n 0)) true)) (sym after) (subst (λ x. Steps (with_taken area i) x (place_put p i (Some (replicate n 0)) true)) (sym lengths)
-      (put_p _ _ i _ true (taken area ls i n m l (subst IsLawful after lawful') r (subst (λ (q : PlaceMeaning). IsSizeOf q.version q.exponent n) (sym v) sized))))
+  pub taken_p : (area' : AreaMeaning) (ls' : Option (List ℕ)) (i n : ℕ) → area' ≡ with_taken area i → IsValidArea area' → ls' ≡ with_length ls i n → Reaches ls i → i < per area.exponent → IsSizeOf p.version p.exponent n
+      → Steps area' ls' (area_with_chunk p i (Some (replicate n 0)) true)
+  taken_p area' ls' i n after valid' lengths r l sized =
+      subst (λ a. Steps a ls' (area_with_chunk p i (Some (replicate n 0)) true)) (sym after) (subst (λ x. Steps (with_taken area i) x (area_with_chunk p i (Some (replicate n 0)) true)) (sym lengths)
+      (put_p _ _ i _ true (taken area ls i n m l (subst IsValidArea after valid') r (subst (λ (q : SizedAreaMeaning). IsSizeOf q.version q.exponent n) (sym v) sized))))
 
-  pub released_p : (area' : AreaMeaning) (i : ℕ) → area' ≡ with_released area i → IsLawful area' → IsSet area.used i → Steps area' ls (place_put p i None false)
-  released_p area' i after lawful' h =
-      subst (λ a. Steps a ls (place_put p i None false)) (sym after) (put_p _ _ i None false (released area ls i m h (subst IsLawful after lawful')))
+  pub released_p : (area' : AreaMeaning) (i : ℕ) → area' ≡ with_released area i → IsValidArea area' → IsSet area.used i → Steps area' ls (area_with_chunk p i None false)
+  released_p area' i after valid' h =
+      subst (λ a. Steps a ls (area_with_chunk p i None false)) (sym after) (put_p _ _ i None false (released area ls i m h (subst IsValidArea after valid')))
 
-  pub written_p : (area' : AreaMeaning) (i at : ℕ) (ys : List ℕ) (u : InUse i (at + length ys)) → area' ≡ with_written area i at ys → IsLawful area' → Reaches ls i → 0 < length ys
-      → Steps area' ls (place_put p i (Some (splice at ys u.old)) true)
-  written_p area' i at ys u after lawful' r some =
-      subst (λ a. Steps a ls (place_put p i (Some (splice at ys u.old)) true)) (sym after)
-      (put_p _ _ i _ true (written area ls i at ys u.old m u.chunk some u.fits (subst IsLawful after lawful') r))
+  pub written_p : (area' : AreaMeaning) (i at : ℕ) (ys : List ℕ) (u : InUse i (at + length ys)) → area' ≡ with_written area i at ys → IsValidArea area' → Reaches ls i → 0 < length ys
+      → Steps area' ls (area_with_chunk p i (Some (splice at ys u.old)) true)
+  written_p area' i at ys u after valid' r some =
+      subst (λ a. Steps a ls (area_with_chunk p i (Some (splice at ys u.old)) true)) (sym after)
+      (put_p _ _ i _ true (written area ls i at ys u.old m u.chunk some u.fits (subst IsValidArea after valid') r))
 
-  pub grown_p : (area' : AreaMeaning) (ls' : Option (List ℕ)) (i n : ℕ) (u : InUse i 0) → area' ≡ with_written area i (length u.old) (replicate (n - length u.old) 0) → IsLawful area' → ls' ≡ noted ls i n → Reaches ls i
-      → length u.old < n → IsSizeOf (version_by ls) area.exponent n → Steps area' ls' (place_put p i (Some (fitted n u.old)) true)
-  grown_p area' ls' i n u after lawful' lengths r more sized =
-      subst (λ a. Steps a ls' (place_put p i (Some (fitted n u.old)) true)) (sym after) (subst (λ x. Steps (with_written area i (length u.old) (replicate (n - length u.old) 0)) x (place_put p i (Some (fitted n u.old)) true)) (sym lengths)
-      (put_p _ _ i _ true (grown area ls i n u.old m u.chunk more sized (subst IsLawful after lawful') r)))
+  pub grown_p : (area' : AreaMeaning) (ls' : Option (List ℕ)) (i n : ℕ) (u : InUse i 0) → area' ≡ with_written area i (length u.old) (replicate (n - length u.old) 0) → IsValidArea area' → ls' ≡ with_length ls i n → Reaches ls i
+      → length u.old < n → IsSizeOf (version_by ls) area.exponent n → Steps area' ls' (area_with_chunk p i (Some (fitted n u.old)) true)
+  grown_p area' ls' i n u after valid' lengths r more sized =
+      subst (λ a. Steps a ls' (area_with_chunk p i (Some (fitted n u.old)) true)) (sym after) (subst (λ x. Steps (with_written area i (length u.old) (replicate (n - length u.old) 0)) x (area_with_chunk p i (Some (fitted n u.old)) true)) (sym lengths)
+      (put_p _ _ i _ true (grown area ls i n u.old m u.chunk more sized (subst IsValidArea after valid') r)))
 
-  pub shrunk_p : (area' : AreaMeaning) (ls' : Option (List ℕ)) (i n : ℕ) (u : InUse i 0) → area' ≡ with_written area i n (replicate 1 0) → IsLawful area' → ls' ≡ noted ls i n → Reaches ls i
-      → n < length u.old → IsSizeOf (version_by ls) area.exponent n → Steps area' ls' (place_put p i (Some (fitted n u.old)) true)
-  shrunk_p area' ls' i n u after lawful' lengths r less sized =
-      subst (λ a. Steps a ls' (place_put p i (Some (fitted n u.old)) true)) (sym after) (subst (λ x. Steps (with_written area i n (replicate 1 0)) x (place_put p i (Some (fitted n u.old)) true)) (sym lengths)
-      (put_p _ _ i _ true (shrunk area ls i n u.old m u.chunk less sized (subst IsLawful after lawful') r)))
+  pub shrunk_p : (area' : AreaMeaning) (ls' : Option (List ℕ)) (i n : ℕ) (u : InUse i 0) → area' ≡ with_written area i n (replicate 1 0) → IsValidArea area' → ls' ≡ with_length ls i n → Reaches ls i
+      → n < length u.old → IsSizeOf (version_by ls) area.exponent n → Steps area' ls' (area_with_chunk p i (Some (fitted n u.old)) true)
+  shrunk_p area' ls' i n u after valid' lengths r less sized =
+      subst (λ a. Steps a ls' (area_with_chunk p i (Some (fitted n u.old)) true)) (sym after) (subst (λ x. Steps (with_written area i n (replicate 1 0)) x (area_with_chunk p i (Some (fitted n u.old)) true)) (sym lengths)
+      (put_p _ _ i _ true (shrunk area ls i n u.old m u.chunk less sized (subst IsValidArea after valid') r)))
 
-  pub cleaned_p : (area' : AreaMeaning) → area' ≡ with_clean area → IsLawful area' → Steps area' ls (record p { touched = replicate (length p.touched) false })
-  cleaned_p area' after lawful' =
-      let steps = cleaned area ls m (subst IsLawful after lawful') in
+  pub cleaned_p : (area' : AreaMeaning) → area' ≡ with_clean area → IsValidArea area' → Steps area' ls (record p { touched = replicate (length p.touched) false })
+  cleaned_p area' after valid' =
+      let steps = cleaned area ls m (subst IsValidArea after valid') in
       subst (λ a. Steps a ls (record p { touched = replicate (length p.touched) false })) (sym after)
-      (record { is = steps.is ∙ ap (λ (q : PlaceMeaning). record q { touched = replicate (length q.touched) false }) v; measured = steps.measured })
+      (record { is = steps.is ∙ ap (λ (q : SizedAreaMeaning). record q { touched = replicate (length q.touched) false }) v; measured = steps.measured })
 
 -- ---- what a chunk's bytes read as
 
@@ -187,7 +187,7 @@ part_of-part xs a n at k fits within =
     ∙ (let e : a + at + j ≡ a + (at + j) = omega arith in ap (λ i. get_or xs i d) e)
     ∙ sym (get_or-take k (drop at (part_of xs a n)) j d below ∙ get_or-drop at (part_of xs a n) j d ∙ get_or-part_of xs a n (at + j) d (omega arith)))
 
-pub read_p : (area : AreaMeaning) (ls : Option (List ℕ)) (p : PlaceMeaning) (v : place_of area ls ≡ p) (m : IsMeasured area ls) (i at n : ℕ) (u : InUse area ls p v m i (at + n))
+pub read_p : (area : AreaMeaning) (ls : Option (List ℕ)) (p : SizedAreaMeaning) (v : place_of area ls ≡ p) (m : IsMeasured area ls) (i at n : ℕ) (u : InUse area ls p v m i (at + n))
     → part_of area.content (chunk_start area i + at) n ≡ take n (drop at u.old)
 read_p area ls p v m i at n u =
     let room = chunk_room area ls i m u.is_set in
@@ -196,42 +196,42 @@ read_p area ls p v m i at n u =
     part_of-part area.content (chunk_start area i) (length u.old) at n (omega arith) fits ∙ sym (ap (λ xs. take n (drop at xs)) u.bytes)
 
 -- the version and the class of a place
-pub version_p : (area : AreaMeaning) (ls : Option (List ℕ)) (p : PlaceMeaning) (v : place_of area ls ≡ p) (n : ℕ) → p.version ≡ Two → IsSizeOf Two p.exponent n → IsSizeOf (version_by ls) area.exponent n
+pub version_p : (area : AreaMeaning) (ls : Option (List ℕ)) (p : SizedAreaMeaning) (v : place_of area ls ≡ p) (n : ℕ) → p.version ≡ Two → IsSizeOf Two p.exponent n → IsSizeOf (version_by ls) area.exponent n
 version_p area ls p v n two sized =
-    subst (λ (q : PlaceMeaning). IsSizeOf q.version q.exponent n) (sym v) (subst (λ w. IsSizeOf w p.exponent n) (sym two) sized)
+    subst (λ (q : SizedAreaMeaning). IsSizeOf q.version q.exponent n) (sym v) (subst (λ w. IsSizeOf w p.exponent n) (sym two) sized)
 
 -- ---- another length
 
 -- the place after chunk i got the length n, and the step that led there
-pub record Resized (area : AreaMeaning) (ls : Option (List ℕ)) (p : PlaceMeaning) (area' : AreaMeaning) (ls' : Option (List ℕ)) (i n : ℕ) : Type 0 where
+pub record Resized (area : AreaMeaning) (ls : Option (List ℕ)) (p : SizedAreaMeaning) (area' : AreaMeaning) (ls' : Option (List ℕ)) (i n : ℕ) : Type 0 where
   pub old : List ℕ
   pub at : get_or p.chunks i None ≡ Some old
-  pub steps : Steps area' ls' (place_put p i (Some (fitted n old)) true)
+  pub steps : Steps area' ls' (area_with_chunk p i (Some (fitted n old)) true)
 
-pub grows_p : (area : AreaMeaning) (lengths : Option Lengths) (p : PlaceMeaning) (v : place_of area (numbers_of lengths) ≡ p) (m : IsMeasured area (numbers_of lengths)) (area' : AreaMeaning) (ls' : Option (List ℕ)) (i n k : ℕ)
+pub grows_p : (area : AreaMeaning) (lengths : Option Lengths) (p : SizedAreaMeaning) (v : place_of area (numbers_of lengths) ≡ p) (m : IsMeasured area (numbers_of lengths)) (area' : AreaMeaning) (ls' : Option (List ℕ)) (i n k : ℕ)
     → MatchOption (get_or p.chunks i None) ⊥ (λ old. length old ≡ n → ⊥) → p.version ≡ Two → IsSizeOf Two p.exponent n → k ≡ len_of area.exponent (numbers_of lengths) i
-    → area' ≡ with_written area i k (replicate (n - k) 0) → IsLawful area' → ls' ≡ noted (numbers_of lengths) i n → k < n → Resized area (numbers_of lengths) p area' ls' i n
-grows_p area lengths p v m area' ls' i n k another two sized is after lawful' noted_as more =
+    → area' ≡ with_written area i k (replicate (n - k) 0) → IsValidArea area' → ls' ≡ with_length (numbers_of lengths) i n → k < n → Resized area (numbers_of lengths) p area' ls' i n
+grows_p area lengths p v m area' ls' i n k another two sized is after valid' noted_as more =
     let u = another_in_use area (numbers_of lengths) p v m i n another in
     let same : k ≡ length u.0.old = is ∙ sym u.0.noted_as in
     record {
       old = u.0.old;
       at = u.0.at;
-      steps = grown_p area (numbers_of lengths) p v m area' ls' i n u.0 (after ∙ ap (λ x. with_written area i x (replicate (n - x) 0)) same) lawful' noted_as
+      steps = grown_p area (numbers_of lengths) p v m area' ls' i n u.0 (after ∙ ap (λ x. with_written area i x (replicate (n - x) 0)) same) valid' noted_as
           (reaches lengths i (few_p area (numbers_of lengths) p v m i u.0.below)) (omega arith) (version_p area (numbers_of lengths) p v n two sized);
     }
 
-pub shrinks_p : (area : AreaMeaning) (lengths : Option Lengths) (p : PlaceMeaning) (v : place_of area (numbers_of lengths) ≡ p) (m : IsMeasured area (numbers_of lengths)) (area' : AreaMeaning) (ls' : Option (List ℕ)) (i n k : ℕ)
+pub shrinks_p : (area : AreaMeaning) (lengths : Option Lengths) (p : SizedAreaMeaning) (v : place_of area (numbers_of lengths) ≡ p) (m : IsMeasured area (numbers_of lengths)) (area' : AreaMeaning) (ls' : Option (List ℕ)) (i n k : ℕ)
     → MatchOption (get_or p.chunks i None) ⊥ (λ old. length old ≡ n → ⊥) → p.version ≡ Two → IsSizeOf Two p.exponent n → k ≡ len_of area.exponent (numbers_of lengths) i
-    → area' ≡ with_written area i n (replicate 1 0) → IsLawful area' → ls' ≡ noted (numbers_of lengths) i n → n ≤ k → Resized area (numbers_of lengths) p area' ls' i n
-shrinks_p area lengths p v m area' ls' i n k another two sized is after lawful' noted_as less =
+    → area' ≡ with_written area i n (replicate 1 0) → IsValidArea area' → ls' ≡ with_length (numbers_of lengths) i n → n ≤ k → Resized area (numbers_of lengths) p area' ls' i n
+shrinks_p area lengths p v m area' ls' i n k another two sized is after valid' noted_as less =
     let u = another_in_use area (numbers_of lengths) p v m i n another in
     let same : k ≡ length u.0.old = is ∙ sym u.0.noted_as in
     let ne = u.1 in
     record {
       old = u.0.old;
       at = u.0.at;
-      steps = shrunk_p area (numbers_of lengths) p v m area' ls' i n u.0 after lawful' noted_as
+      steps = shrunk_p area (numbers_of lengths) p v m area' ls' i n u.0 after valid' noted_as
           (reaches lengths i (few_p area (numbers_of lengths) p v m i u.0.below)) (omega arith) (version_p area (numbers_of lengths) p v n two sized);
     }
 

@@ -6,9 +6,9 @@ use Rattle.std.proofs.lemmas.List.FromFn.{length-map-range_with_len, get_or-map-
 use Rattle.dym_base.specs.Numbers.{size, per}
 use Rattle.dym_bits.specs.Bits.{bit_in, IsSet, IsClear}
 use Rattle.dym_region.specs.Content.{part_of, with_part}
-use Rattle.dym_area.specs.Area.{AreaMeaning, IsLawful, chunk_start}
+use Rattle.dym_area.specs.Area.{AreaMeaning, IsValidArea, chunk_start}
 use Rattle.dym_heap.specs.Meaning.{IsSizeOf}
-use Rattle.dym_heap.specs.Places.{len_of, chunk_in, chunks_in, touched_in, version_by, place_of, IsMeasured, IsPlace, place_put, noted}
+use Rattle.dym_heap.specs.SizedAreas.{len_of, chunk_in, chunks_in, touched_in, version_by, place_of, IsMeasured, IsSizedArea, area_with_chunk, with_length}
 use Rattle.dym_heap.proofs.Parts.{length-part_of, part_of-apart}
 use Rattle.dym_heap.proofs.Sizes.{size_fits, chunk_fits, chunks_apart, per_fits}
 
@@ -22,28 +22,28 @@ unset : (bits : List Bool) (i n : ℕ) → ((k : ℕ) → IsSet bits k → k < n
 unset bits i n below past =
     elim (bit_in bits i) as (λ b. bit_in bits i ≡ b → b ≡ false) [ true ↦ λ h. (let l = below i h in absurd (omega arith)) | false ↦ λ h. refl ] refl
 
-pub chunk_of : (area : AreaMeaning) (ls : Option (List ℕ)) (i : ℕ) → IsLawful area → get_or (chunks_in area ls) i None ≡ chunk_in area ls i
+pub chunk_of : (area : AreaMeaning) (ls : Option (List ℕ)) (i : ℕ) → IsValidArea area → get_or (chunks_in area ls) i None ≡ chunk_in area ls i
 unfolding chunks_in
-chunk_of area ls i lawful =
+chunk_of area ls i valid =
     elim (cases_lt i (per area.exponent)) as (λ _. get_or (chunks_in area ls) i None ≡ chunk_in area ls i) [
       | inl l ↦ get_or-map-range_with_len (chunk_in area ls) 0 (per area.exponent) i i None l (omega arith)
       | inr past ↦
           get_or_past (chunks_in area ls) i None (omega (arith, length-chunks_in area ls))
-          ∙ sym (ap (λ b. cond b (Some (part_of area.content (chunk_start area i) (len_of area.exponent ls i))) None) (unset area.used i (per area.exponent) lawful.used_below past))
+          ∙ sym (ap (λ b. cond b (Some (part_of area.content (chunk_start area i) (len_of area.exponent ls i))) None) (unset area.used i (per area.exponent) valid.used_below past))
     ]
 
-pub length-touched_in : (area : AreaMeaning) → IsLawful area → length (touched_in area) ≡ per area.exponent
+pub length-touched_in : (area : AreaMeaning) → IsValidArea area → length (touched_in area) ≡ per area.exponent
 unfolding touched_in
-length-touched_in area lawful = let long = lawful.dirty_len in omega (arith, length-take (per area.exponent) area.dirty, per_fits area.exponent lawful.least)
+length-touched_in area valid = let long = valid.dirty_len in omega (arith, length-take (per area.exponent) area.dirty, per_fits area.exponent valid.least)
 
-pub mark_of : (area : AreaMeaning) (i : ℕ) → IsLawful area → get_or (touched_in area) i false ≡ bit_in area.dirty i
+pub mark_of : (area : AreaMeaning) (i : ℕ) → IsValidArea area → get_or (touched_in area) i false ≡ bit_in area.dirty i
 unfolding touched_in
-mark_of area i lawful =
+mark_of area i valid =
     elim (cases_lt i (per area.exponent)) as (λ _. get_or (touched_in area) i false ≡ bit_in area.dirty i) [
       | inl l ↦ get_or-take (per area.exponent) area.dirty i false l
       | inr past ↦
-          get_or_past (touched_in area) i false (omega (arith, length-touched_in area lawful))
-          ∙ sym (unset area.dirty i (per area.exponent) (λ k h. lawful.used_below k (lawful.dirty_used k h)) past)
+          get_or_past (touched_in area) i false (omega (arith, length-touched_in area valid))
+          ∙ sym (unset area.dirty i (per area.exponent) (λ k h. valid.used_below k (valid.dirty_used k h)) past)
     ]
 
 pub used_chunk : (area : AreaMeaning) (ls : Option (List ℕ)) (i : ℕ) → IsSet area.used i → chunk_in area ls i ≡ Some (part_of area.content (chunk_start area i) (len_of area.exponent ls i))
@@ -58,9 +58,9 @@ some_used area ls i = elim (bit_in area.used i) as (λ b. is_some (cond b (Some 
 -- the bytes of a chunk in use lie in its area
 pub chunk_room : (area : AreaMeaning) (ls : Option (List ℕ)) (i : ℕ) → IsMeasured area ls → IsSet area.used i → chunk_start area i + len_of area.exponent ls i ≤ length area.content
 chunk_room area ls i is h =
-    let whole = is.lawful.content_len in
+    let whole = is.valid.content_len in
     let fits = size_fits (version_by ls) area.exponent (len_of area.exponent ls i) (is.fits i h) in
-    let lies = chunk_fits area.exponent i is.lawful.greatest (is.lawful.used_below i h) in
+    let lies = chunk_fits area.exponent i is.valid.greatest (is.valid.used_below i h) in
     omega arith
 
 pub length_of_chunk : (area : AreaMeaning) (ls : Option (List ℕ)) (i : ℕ) (bytes : List ℕ) → IsMeasured area ls → chunk_in area ls i ≡ Some bytes → length bytes ≡ len_of area.exponent ls i
@@ -69,17 +69,17 @@ length_of_chunk area ls i bytes is e =
     let same : part_of area.content (chunk_start area i) (len_of area.exponent ls i) ≡ bytes = (let u = used_chunk area ls i h in cc) in
     sym (ap length same) ∙ length-part_of area.content (chunk_start area i) (len_of area.exponent ls i) (chunk_room area ls i is h)
 
-pub is_place : (area : AreaMeaning) (ls : Option (List ℕ)) → IsMeasured area ls → IsPlace (place_of area ls)
+pub is_place : (area : AreaMeaning) (ls : Option (List ℕ)) → IsMeasured area ls → IsSizedArea (place_of area ls)
 is_place area ls is = record {
-  least = is.lawful.least;
-  most = is.lawful.greatest;
+  least = is.valid.least;
+  most = is.valid.greatest;
   whole = length-chunks_in area ls;
-  marks = length-touched_in area is.lawful ∙ sym (length-chunks_in area ls);
+  marks = length-touched_in area is.valid ∙ sym (length-chunks_in area ls);
   sized = λ i bytes e.
-      let at : chunk_in area ls i ≡ Some bytes = sym (chunk_of area ls i is.lawful) ∙ e in
+      let at : chunk_in area ls i ≡ Some bytes = sym (chunk_of area ls i is.valid) ∙ e in
       let h : IsSet area.used i = sym (some_used area ls i) ∙ ap is_some at in
       subst (IsSizeOf (version_by ls) area.exponent) (sym (length_of_chunk area ls i bytes is at)) (is.fits i h);
-  touched_used = λ i e. ap is_some (chunk_of area ls i is.lawful) ∙ some_used area ls i ∙ is.lawful.dirty_used i (sym (mark_of area i is.lawful) ∙ e);
+  touched_used = λ i e. ap is_some (chunk_of area ls i is.valid) ∙ some_used area ls i ∙ is.valid.dirty_used i (sym (mark_of area i is.valid) ∙ e);
 }
 
 -- a list that agrees with another after a write
@@ -107,19 +107,19 @@ ext_marks new old i x n long long' l here others =
 abbrev pub altered : AreaMeaning → List Bool → List Bool → List ℕ → AreaMeaning
 altered area used dirty content = record area { used = used; dirty = dirty; content = content }
 
-pub place-put : (area : AreaMeaning) (ls ls' : Option (List ℕ)) (used dirty : List Bool) (content : List ℕ) (i : ℕ) (x : Option (List ℕ)) (b : Bool)
-    → IsLawful area → IsLawful (altered area used dirty content) → version_by ls' ≡ version_by ls → i < per area.exponent
+pub sized_area-put : (area : AreaMeaning) (ls ls' : Option (List ℕ)) (used dirty : List Bool) (content : List ℕ) (i : ℕ) (x : Option (List ℕ)) (b : Bool)
+    → IsValidArea area → IsValidArea (altered area used dirty content) → version_by ls' ≡ version_by ls → i < per area.exponent
     → chunk_in (altered area used dirty content) ls' i ≡ x → ((k : ℕ) → (k ≡ i → ⊥) → chunk_in (altered area used dirty content) ls' k ≡ chunk_in area ls k)
     → bit_in dirty i ≡ b → ((k : ℕ) → (k ≡ i → ⊥) → bit_in dirty k ≡ bit_in area.dirty k)
-    → place_of (altered area used dirty content) ls' ≡ place_put (place_of area ls) i x b
-place-put area ls ls' used dirty content i x b lawful lawful' same l here others mark marks =
+    → place_of (altered area used dirty content) ls' ≡ area_with_chunk (place_of area ls) i x b
+sized_area-put area ls ls' used dirty content i x b valid valid' same l here others mark marks =
     let new : AreaMeaning = altered area used dirty content in
     let chunks : chunks_in new ls' ≡ set (chunks_in area ls) i x =
     ext (chunks_in new ls') (chunks_in area ls) i x (per area.exponent) (length-chunks_in new ls') (length-chunks_in area ls) l
-    (chunk_of new ls' i lawful' ∙ here) (λ k ne. chunk_of new ls' k lawful' ∙ others k ne ∙ sym (chunk_of area ls k lawful)) in
+    (chunk_of new ls' i valid' ∙ here) (λ k ne. chunk_of new ls' k valid' ∙ others k ne ∙ sym (chunk_of area ls k valid)) in
     let touches : touched_in new ≡ set (touched_in area) i b =
-    ext_marks (touched_in new) (touched_in area) i b (per area.exponent) (length-touched_in new lawful') (length-touched_in area lawful) l
-    (mark_of new i lawful' ∙ mark) (λ k ne. mark_of new k lawful' ∙ marks k ne ∙ sym (mark_of area k lawful)) in
+    ext_marks (touched_in new) (touched_in area) i b (per area.exponent) (length-touched_in new valid') (length-touched_in area valid) l
+    (mark_of new i valid' ∙ mark) (λ k ne. mark_of new k valid' ∙ marks k ne ∙ sym (mark_of area k valid)) in
     λ j. record { version = same j; exponent = area.exponent; ordinal = area.ordinal; identity = area.identity; chunks = chunks j; touched = touches j }
 
 -- ---- bits
@@ -145,8 +145,8 @@ chunk_same area ls ls' used dirty content k bit len bytes =
 pub bytes_same : (area : AreaMeaning) (ls : Option (List ℕ)) (i k at s : ℕ) (ys : List ℕ) → IsMeasured area ls → i < per area.exponent → at + length ys ≤ size area.exponent → s ≡ i * size area.exponent + at
     → (k ≡ i → ⊥) → IsSet area.used k → part_of (with_part area.content s ys) (k * size area.exponent) (len_of area.exponent ls k) ≡ part_of area.content (k * size area.exponent) (len_of area.exponent ls k)
 bytes_same area ls i k at s ys is l within is_at ne h =
-    let whole = is.lawful.content_len in
-    let lies = chunk_fits area.exponent i is.lawful.greatest l in
+    let whole = is.valid.content_len in
+    let lies = chunk_fits area.exponent i is.valid.greatest l in
     let fits = size_fits (version_by ls) area.exponent (len_of area.exponent ls k) (is.fits k h) in
     let room = chunk_room area ls k is h in
     part_of-apart area.content (k * size area.exponent) (len_of area.exponent ls k) s ys room (omega arith)
@@ -157,11 +157,11 @@ bytes_same area ls i k at s ys is l within is_at ne h =
 
 -- ---- the lengths that are noted
 
-pub noted_version : (ls : Option (List ℕ)) (i n : ℕ) → version_by (noted ls i n) ≡ version_by ls
+pub noted_version : (ls : Option (List ℕ)) (i n : ℕ) → version_by (with_length ls i n) ≡ version_by ls
 noted_version None i n = refl
 noted_version (Some ns) i n = refl
 
-pub noted_other : (e : ℕ) (ls : Option (List ℕ)) (i n k : ℕ) → (k ≡ i → ⊥) → len_of e (noted ls i n) k ≡ len_of e ls k
+pub noted_other : (e : ℕ) (ls : Option (List ℕ)) (i n k : ℕ) → (k ≡ i → ⊥) → len_of e (with_length ls i n) k ≡ len_of e ls k
 noted_other e None i n k ne = refl
 noted_other e (Some ns) i n k ne = get_or-set_other ns i k n 0 ne
 
@@ -170,6 +170,6 @@ abbrev pub Reaches : Option (List ℕ) → ℕ → Type 0
 Reaches None i = Unit {0}
 Reaches (Some ns) i = i < length ns
 
-pub noted_here : (e : ℕ) (ls : Option (List ℕ)) (i n : ℕ) → Reaches ls i → IsSizeOf (version_by ls) e n → len_of e (noted ls i n) i ≡ n
+pub noted_here : (e : ℕ) (ls : Option (List ℕ)) (i n : ℕ) → Reaches ls i → IsSizeOf (version_by ls) e n → len_of e (with_length ls i n) i ≡ n
 noted_here e None i n r is = sym is
 noted_here e (Some ns) i n r is = get_or-set_same ns i n 0 r

@@ -16,11 +16,11 @@ use Rattle.dym_base.specs.declared.command.Kind.TheVariants.{Full, Inc}
 use Rattle.dym_bits.specs.Bits.{bit_in, IsSet}
 use Rattle.dym_pack.specs.Areas.{area_at, chunks_of, chunk_number, bytes_at}
 use Rattle.dym_base.specs.Recorded.{IsRecorded}
-use Rattle.dym_pack.specs.Reading.{packs_at, body_from}
-use Rattle.dym_heap.specs.Loading.{loaded_at, IsLoaded}
+use Rattle.dym_pack.specs.ParsedAreas.{packs_at, body_from}
+use Rattle.dym_heap.specs.RecordLoads.{loaded_at, IsLoaded}
 use Rattle.dym_heap.specs.Meaning.{IsSizeOf}
 use Rattle.dym_heap.specs.Table.{row_at, chunk_at, live_of, touched_of}
-use Rattle.dym_heap.specs.Shelves.{ShelfMeaning, IsKept, IsTidy}
+use Rattle.dym_heap.specs.Shelves.{ShelfMeaning, IsValidShelf, IsTidy}
 use Rattle.dym_heap.specs.Bodies.{IsBodyOf, loaded_over, IsLoadedArea}
 use Rattle.dym_heap.proofs.Entries.{below, at, splits, get-live_of, get-live_of_below, touched_of-same}
 use Rattle.dym_heap.proofs.Steps.{kept_fits, kept_marks_fit}
@@ -155,7 +155,7 @@ upto_all log old new n is all each q =
           ] refl
     ]
 
-module _ (log : Logged) (is : IsRecorded log) (k : ℕ) (l : k < held log.copy) (old mid new : ShelfMeaning) (kept_mid : IsKept mid) (kept : IsKept new)
+module _ (log : Logged) (is : IsRecorded log) (k : ℕ) (l : k < held log.copy) (old mid new : ShelfMeaning) (kept_mid : IsValidShelf mid) (valid_shelf : IsValidShelf new)
     (e o : ℕ) (bits : List Bool) (e_is : e ≡ (area_at log.copy k).exponent) (o_is : o ≡ (area_at log.copy k).ordinal) (packs : (i : ℕ) → bit_in bits i ≡ (ltb i (chunks_of log.copy k) && packs_at log k i))
     (loads : IsLoadedArea mid.rows new.rows (e - 5) o bits (bytes_at log.copy k)) where
   area_n : Named log.copy k
@@ -211,7 +211,7 @@ module _ (log : Logged) (is : IsRecorded log) (k : ℕ) (l : k < held log.copy) 
       let q_row : q ≡ number (e - 5 + 5) j = q_is ∙ ap (λ x. number x j) (sym row_is) in
       let j_is : o * n + i ≡ j = ap (λ x. o * x + i) n_is in
       let old_at : get (live_of mid.rows) q ≡ chunk_at mid.rows (e - 5) j = get-live_of mid.rows (kept_fits mid kept_mid) (e - 5) j q q_row small in
-      let new_at : get (live_of new.rows) q ≡ chunk_at new.rows (e - 5) j = get-live_of new.rows (kept_fits new kept) (e - 5) j q q_row small in
+      let new_at : get (live_of new.rows) q ≡ chunk_at new.rows (e - 5) j = get-live_of new.rows (kept_fits new valid_shelf) (e - 5) j q q_row small in
       let q_k : q ≡ chunk_number log.copy k i = q_is ∙ sym (number_n i) in
       let bit : bit_in bits i ≡ packs_by log.kind log.copy log.found q =
       packs i ∙ ap (λ x. x && packs_at log k i) (lt-ltb i (chunks_of log.copy k) (let p = per_n in omega arith)) ∙ ap (packs_by log.kind log.copy log.found) (sym q_k) in
@@ -233,7 +233,7 @@ module _ (log : Logged) (is : IsRecorded log) (k : ℕ) (l : k < held log.copy) 
         | below b ↦ outside q (get-live_of_below new.rows q b ∙ sym (get-live_of_below mid.rows q b)) (λ i m q_is. let low = e_low in omega arith) done
         | at d j q_is small ↦
             let same : (d ≡ e - 5 → j / n ≡ o → ⊥) → (get (live_of new.rows) q ≡ get (live_of mid.rows) q) = λ ne.
-            get-live_of new.rows (kept_fits new kept) d j q q_is small ∙ loads.others d j ne ∙ sym (get-live_of mid.rows (kept_fits mid kept_mid) d j q q_is small) in
+            get-live_of new.rows (kept_fits new valid_shelf) d j q q_is small ∙ loads.others d j ne ∙ sym (get-live_of mid.rows (kept_fits mid kept_mid) d j q q_is small) in
             elim (cases_eq d (e - 5)) as (λ _. LoadedUpTo log (live_of old.rows) (live_of new.rows) (k + 1) q) [
               | inr ne ↦ outside q (same (λ x y. ne x)) (λ i m at_q. let s = small_n i m in let r = row_is in ne (omega arith)) done
               | inl one ↦
@@ -273,10 +273,10 @@ area_some mid new c o bits f loads d i =
           ]
     ]
 
-pub tidy_loaded : (mid new : ShelfMeaning) (c o : ℕ) (bits : List Bool) (f : ℕ → List ℕ) → IsTidy mid → IsKept new → ((d : ℕ) → length (row_at new.rows d).chunks ≡ length (row_at mid.rows d).chunks) → IsLoadedArea mid.rows new.rows c o bits f
+pub tidy_loaded : (mid new : ShelfMeaning) (c o : ℕ) (bits : List Bool) (f : ℕ → List ℕ) → IsTidy mid → IsValidShelf new → ((d : ℕ) → length (row_at new.rows d).chunks ≡ length (row_at mid.rows d).chunks) → IsLoadedArea mid.rows new.rows c o bits f
     → IsTidy new
-tidy_loaded mid new c o bits f tidy kept long loads = record {
-  kept = kept;
+tidy_loaded mid new c o bits f tidy valid_shelf long loads = record {
+  valid_shelf = valid_shelf;
   trimmed = λ d l.
       let was = tidy.trimmed d l in
       let same = long d in
@@ -290,5 +290,5 @@ tidy_loaded mid new c o bits f tidy kept long loads = record {
       };
 }
 
-pub touched_loaded : (mid new : ShelfMeaning) (c o : ℕ) (bits : List Bool) (f : ℕ → List ℕ) → IsKept mid → IsKept new → IsLoadedArea mid.rows new.rows c o bits f → touched_of new.rows ≡ touched_of mid.rows
-touched_loaded mid new c o bits f kept_mid kept loads = touched_of-same mid.rows new.rows (kept_marks_fit mid kept_mid) (kept_marks_fit new kept) loads.marks
+pub touched_loaded : (mid new : ShelfMeaning) (c o : ℕ) (bits : List Bool) (f : ℕ → List ℕ) → IsValidShelf mid → IsValidShelf new → IsLoadedArea mid.rows new.rows c o bits f → touched_of new.rows ≡ touched_of mid.rows
+touched_loaded mid new c o bits f kept_mid valid_shelf loads = touched_of-same mid.rows new.rows (kept_marks_fit mid kept_mid) (kept_marks_fit new valid_shelf) loads.marks

@@ -14,9 +14,9 @@ use Rattle.dym_base.specs.declared.command.Version.{Version}
 use Rattle.dym_pack.specs.Areas.{AreaName, chunks_of, chunk_number}
 use Rattle.dym_heap.specs.Table.{Row, empty_row, row_at, chunk_at, state_of}
 use Rattle.dym_heap.specs.Shape.{IsTrimmed}
-use Rattle.dym_heap.specs.Shelves.{ShelfMeaning, IsKept, IsTidy}
-use Rattle.dym_heap.specs.Shaping.{HasAreas}
-use Rattle.dym_heap.specs.Wanted.{ChunkMeaning, heap_chunk, row_chunk, IsReshaped}
+use Rattle.dym_heap.specs.Shelves.{ShelfMeaning, IsValidShelf, IsTidy}
+use Rattle.dym_heap.specs.ShapeSteps.{HasAreas}
+use Rattle.dym_heap.specs.Fetches.{ChunkMeaning, heap_chunk, row_chunk, IsReshaped}
 use Rattle.dym_heap.proofs.Entries.{below, at, splits}
 use Rattle.dym_heap.proofs.AreaLists.{lies_in, stands_in}
 use Rattle.dym_heap.proofs.AreaSteps.{UpTo, chunk_in_row, chunk_below}
@@ -39,7 +39,7 @@ class_of v copy sized q h =
     let fits = sized q (unwrap_or (get copy q) []) (some_value (get copy q) h) in
     (fits.0, fits.1)
 
-module _ (v : Version) (copy : Live) (old : HeapState) (s : ShelfMeaning) (sized : IsWellSized v copy) (few : held copy ≤ 1024) (kept : IsKept s) (are : (c : ℕ) → c < 12 → HasAreas s.rows c (areas copy (c + 5)))
+module _ (v : Version) (copy : Live) (old : HeapState) (s : ShelfMeaning) (sized : IsWellSized v copy) (few : held copy ≤ 1024) (valid_shelf : IsValidShelf s) (are : (c : ℕ) → c < 12 → HasAreas s.rows c (areas copy (c + 5)))
     (upto : (q : ℕ) → UpTo (Reshaped copy) copy old (state_of s.rows) (held copy) q) where
   positive : (d : ℕ) → 0 < per (d + 5)
   positive d = pow_pos (16 - (d + 5))
@@ -53,13 +53,13 @@ module _ (v : Version) (copy : Live) (old : HeapState) (s : ShelfMeaning) (sized
   -- past the areas of the copy there is no chunk
   no_row : (d j : ℕ) → 12 ≤ d → row_chunk s.rows d j ≡ no_chunk
   no_row d j past =
-      let gone : row_at s.rows d ≡ empty_row = get_or_past s.rows d empty_row (let n = kept.classes in omega arith) in
+      let gone : row_at s.rows d ≡ empty_row = get_or_past s.rows d empty_row (let n = valid_shelf.classes in omega arith) in
       λ i. record { bytes = get_or (gone i).chunks j None; touched = get_or (gone i).touched j false }
 
   no_area : (d j : ℕ) → d < 12 → areas copy (d + 5) ≤ j / per (d + 5) → row_chunk s.rows d j ≡ no_chunk
   no_area d j l out =
       let past = past_row d j l out in
-      let marks = (kept.row d l).marks in
+      let marks = (valid_shelf.row d l).marks in
       let bytes : chunk_at s.rows d j ≡ None = get_or_past (row_at s.rows d).chunks j None past in
       let touched : get_or (row_at s.rows d).touched j false ≡ false = get_or_past (row_at s.rows d).touched j false (omega arith) in
       λ i. record { bytes = bytes i; touched = touched i }
@@ -70,7 +70,7 @@ module _ (v : Version) (copy : Live) (old : HeapState) (s : ShelfMeaning) (sized
       elim (splits q) as (λ _. heap_chunk (state_of s.rows) q ≡ no_chunk) [
         | below b ↦ chunk_below s q b
         | at d j q_is small ↦
-            chunk_in_row s kept d j q q_is small
+            chunk_in_row s valid_shelf d j q q_is small
             ∙ elim (cases_lt d 12) as (λ _. row_chunk s.rows d j ≡ no_chunk) [
               | inr past ↦ no_row d j past
               | inl l ↦
@@ -101,7 +101,7 @@ module _ (v : Version) (copy : Live) (old : HeapState) (s : ShelfMeaning) (sized
 
   pub tidy : IsTidy s
   tidy = record {
-    kept = kept;
+    valid_shelf = valid_shelf;
     trimmed = λ d l.
         let whole = are d l in
         elim (cases_lt 0 (areas copy (d + 5))) as (λ _. IsTrimmed (per (d + 5)) (row_at s.rows d)) [
@@ -126,14 +126,14 @@ module _ (v : Version) (copy : Live) (old : HeapState) (s : ShelfMeaning) (sized
                 ends = inr (
                   i,
                   omega arith,
-                  ap (λ (x : ChunkMeaning). is_some x.bytes) (sym (chunk_in_row s kept d i q q_is small)) ∙ (shaped q).used ∙ reached.1,
+                  ap (λ (x : ChunkMeaning). is_some x.bytes) (sym (chunk_in_row s valid_shelf d i q q_is small)) ∙ (shaped q).used ∙ reached.1,
                 );
               }
         ];
   }
 
 -- areas that were given back or taken before don't matter: the copy's had the same chunks
-pub shaped_from : (v : Version) (copy : Live) (old mid : ShelfMeaning) (new : HeapState) → IsWellSized v copy → IsKept old → IsKept mid
+pub shaped_from : (v : Version) (copy : Live) (old mid : ShelfMeaning) (new : HeapState) → IsWellSized v copy → IsValidShelf old → IsValidShelf mid
     → ((c i : ℕ) → c < 12 → i < areas copy (c + 5) * per (c + 5) → row_chunk mid.rows c i ≡ row_chunk old.rows c i)
     → ((q : ℕ) → Reshaped copy q (heap_chunk (state_of mid.rows) q) (heap_chunk new q)) → (q : ℕ) → Reshaped copy q (heap_chunk (state_of old.rows) q) (heap_chunk new q)
 shaped_from v copy old mid new sized kept_old kept_mid agree shaped q =

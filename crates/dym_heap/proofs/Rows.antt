@@ -14,118 +14,118 @@ use Rattle.dym_region.specs.declared.segment.SegmentId.{SegmentId}
 use Rattle.dym_heap.specs.Meaning.{IsSizeOf}
 use Rattle.dym_heap.specs.Table.{Row, empty_row, row_at}
 use Rattle.dym_heap.specs.Shape.{areas_in}
-use Rattle.dym_heap.specs.Shelves.{IsRow, IsKept}
-use Rattle.dym_heap.specs.Places.{PlaceMeaning}
-use Rattle.dym_heap.specs.Arrangement.{row_of, class_places, rows_upto, IsPlaced, IsArranged, IsSupplied, shelf_of}
+use Rattle.dym_heap.specs.Shelves.{IsRow, IsValidShelf}
+use Rattle.dym_heap.specs.SizedAreas.{SizedAreaMeaning}
+use Rattle.dym_heap.specs.Arrangement.{row_of, class_sized_areas, rows_upto, IsPlaced, IsArranged, IsSupplied, shelf_of}
 use Rattle.dym_heap.proofs.Flats.{length-flat, get_or-flat}
 
 -- ---- starts
 
-pub starts_mono : (v : Version) (starts : List ℕ) (places : List PlaceMeaning) (full : List (List Bool)) (c n : ℕ) → IsArranged v starts places full → c + n ≤ 12 → get_or starts c 0 ≤ get_or starts (c + n) 0
-starts_mono v starts places full c zero is l = let e : get_or starts c 0 ≡ get_or starts (c + zero) 0 = ap (λ k. get_or starts k 0) (sym (add-zero c)) in omega arith
-starts_mono v starts places full c (suc n) is l =
-    let before = starts_mono v starts places full c n is (omega arith) in
+pub starts_mono : (v : Version) (starts : List ℕ) (sized_areas : List SizedAreaMeaning) (full : List (List Bool)) (c n : ℕ) → IsArranged v starts sized_areas full → c + n ≤ 12 → get_or starts c 0 ≤ get_or starts (c + n) 0
+starts_mono v starts sized_areas full c zero is l = let e : get_or starts c 0 ≡ get_or starts (c + zero) 0 = ap (λ k. get_or starts k 0) (sym (add-zero c)) in omega arith
+starts_mono v starts sized_areas full c (suc n) is l =
+    let before = starts_mono v starts sized_areas full c n is (omega arith) in
     let step = is.rising (c + n) (omega arith) in
     let e : get_or starts (c + n + 1) 0 ≡ get_or starts (c + suc n) 0 = ap (λ k. get_or starts k 0) (let h : c + n + 1 ≡ c + suc n = omega arith in h) in
     omega arith
 
-pub class_end : (v : Version) (starts : List ℕ) (places : List PlaceMeaning) (full : List (List Bool)) (c : ℕ) → IsArranged v starts places full → c < 12 → get_or starts (c + 1) 0 ≤ length places
-class_end v starts places full c is l =
-    let up = starts_mono v starts places full (c + 1) (11 - c) is (omega arith) in
+pub class_end : (v : Version) (starts : List ℕ) (sized_areas : List SizedAreaMeaning) (full : List (List Bool)) (c : ℕ) → IsArranged v starts sized_areas full → c < 12 → get_or starts (c + 1) 0 ≤ length sized_areas
+class_end v starts sized_areas full c is l =
+    let up = starts_mono v starts sized_areas full (c + 1) (11 - c) is (omega arith) in
     let e : get_or starts (c + 1 + (11 - c)) 0 ≡ get_or starts 12 0 = ap (λ k. get_or starts k 0) (let h : c + 1 + (11 - c) ≡ 12 = omega arith in h) in
     let last = is.last in
     omega arith
 
 -- ---- rows
 
-pub length-rows : (n : ℕ) (starts : List ℕ) (places : List PlaceMeaning) → length (rows_upto n starts places) ≡ n
+pub length-rows : (n : ℕ) (starts : List ℕ) (sized_areas : List SizedAreaMeaning) → length (rows_upto n starts sized_areas) ≡ n
 unfolding rows_upto
-length-rows n starts places = length-map-range_with_len (λ c. row_of (class_places starts places c)) 0 n
+length-rows n starts sized_areas = length-map-range_with_len (λ c. row_of (class_sized_areas starts sized_areas c)) 0 n
 
-pub row-rows : (n : ℕ) (starts : List ℕ) (places : List PlaceMeaning) (c : ℕ) → c < n → row_at (rows_upto n starts places) c ≡ row_of (class_places starts places c)
+pub row-rows : (n : ℕ) (starts : List ℕ) (sized_areas : List SizedAreaMeaning) (c : ℕ) → c < n → row_at (rows_upto n starts sized_areas) c ≡ row_of (class_sized_areas starts sized_areas c)
 unfolding rows_upto
-row-rows n starts places c l = get_or-map-range_with_len (λ c. row_of (class_places starts places c)) 0 n c c empty_row l (omega arith)
+row-rows n starts sized_areas c l = get_or-map-range_with_len (λ c. row_of (class_sized_areas starts sized_areas c)) 0 n c c empty_row l (omega arith)
 
 -- rows that agree with others but for one
-pub rows-set : (n : ℕ) (starts starts' : List ℕ) (places places' : List PlaceMeaning) (c : ℕ) (r : Row) → c < n → row_of (class_places starts' places' c) ≡ r
-    → ((d : ℕ) → d < n → (d ≡ c → ⊥) → class_places starts' places' d ≡ class_places starts places d) → rows_upto n starts' places' ≡ set (rows_upto n starts places) c r
-rows-set n starts starts' places places' c r l here others =
-    ext_get_or empty_row (rows_upto n starts' places') (set (rows_upto n starts places) c r)
-    (length-rows n starts' places' ∙ sym (length-set (rows_upto n starts places) c r ∙ length-rows n starts places))
+pub rows-set : (n : ℕ) (starts starts' : List ℕ) (sized_areas sized_areas' : List SizedAreaMeaning) (c : ℕ) (r : Row) → c < n → row_of (class_sized_areas starts' sized_areas' c) ≡ r
+    → ((d : ℕ) → d < n → (d ≡ c → ⊥) → class_sized_areas starts' sized_areas' d ≡ class_sized_areas starts sized_areas d) → rows_upto n starts' sized_areas' ≡ set (rows_upto n starts sized_areas) c r
+rows-set n starts starts' sized_areas sized_areas' c r l here others =
+    ext_get_or empty_row (rows_upto n starts' sized_areas') (set (rows_upto n starts sized_areas) c r)
+    (length-rows n starts' sized_areas' ∙ sym (length-set (rows_upto n starts sized_areas) c r ∙ length-rows n starts sized_areas))
     (λ d m.
-    let within : d < n = omega (arith, length-rows n starts' places') in
-    row-rows n starts' places' d within
-    ∙ elim (cases_eq d c) as (λ _. row_of (class_places starts' places' d) ≡ get_or (set (rows_upto n starts places) c r) d empty_row) [
+    let within : d < n = omega (arith, length-rows n starts' sized_areas') in
+    row-rows n starts' sized_areas' d within
+    ∙ elim (cases_eq d c) as (λ _. row_of (class_sized_areas starts' sized_areas' d) ≡ get_or (set (rows_upto n starts sized_areas) c r) d empty_row) [
       | inl same ↦
-          ap (λ k. row_of (class_places starts' places' k)) same ∙ here
-          ∙ sym (ap (λ k. get_or (set (rows_upto n starts places) c r) k empty_row) same ∙ get_or-set_same (rows_upto n starts places) c r empty_row (omega (arith, length-rows n starts places)))
+          ap (λ k. row_of (class_sized_areas starts' sized_areas' k)) same ∙ here
+          ∙ sym (ap (λ k. get_or (set (rows_upto n starts sized_areas) c r) k empty_row) same ∙ get_or-set_same (rows_upto n starts sized_areas) c r empty_row (omega (arith, length-rows n starts sized_areas)))
       | inr ne ↦
-          ap row_of (others d within ne) ∙ sym (get_or-set_other (rows_upto n starts places) c d r empty_row ne ∙ row-rows n starts places d within)
+          ap row_of (others d within ne) ∙ sym (get_or-set_other (rows_upto n starts sized_areas) c d r empty_row ne ∙ row-rows n starts sized_areas d within)
     ])
 
 -- ---- the areas of one class
 
-module _ (v : Version) (starts : List ℕ) (places : List PlaceMeaning) (full : List (List Bool)) (is : IsArranged v starts places full) (c : ℕ) (l : c < 12) where
+module _ (v : Version) (starts : List ℕ) (sized_areas : List SizedAreaMeaning) (full : List (List Bool)) (is : IsArranged v starts sized_areas full) (c : ℕ) (l : c < 12) where
   pub from_c : ℕ
   from_c = get_or starts c 0
 
   pub count_c : ℕ
   count_c = get_or starts (c + 1) 0 - get_or starts c 0
 
-  row_c : List PlaceMeaning
-  row_c = class_places starts places c
+  row_c : List SizedAreaMeaning
+  row_c = class_sized_areas starts sized_areas c
 
   pub count_is : count_c + get_or starts c 0 ≡ get_or starts (c + 1) 0
   unfolding count_c
   count_is = let up = is.rising c l in omega arith
 
-  pub in_places : (o : ℕ) → o < count_c → get_or starts c 0 + o < length places
+  pub in_places : (o : ℕ) → o < count_c → get_or starts c 0 + o < length sized_areas
   unfolding count_c
-  in_places o m = let top = class_end v starts places full c is l in omega arith
+  in_places o m = let top = class_end v starts sized_areas full c is l in omega arith
 
-  pub length-row : length (class_places starts places c) ≡ count_c
+  pub length-row : length (class_sized_areas starts sized_areas c) ≡ count_c
   unfolding count_c
-  length-row = length-between places (get_or starts c 0) (get_or starts (c + 1) 0) (class_end v starts places full c is l)
+  length-row = length-between sized_areas (get_or starts c 0) (get_or starts (c + 1) 0) (class_end v starts sized_areas full c is l)
 
-  pub place-row : (o : ℕ) (d : PlaceMeaning) → o < count_c → get_or (class_places starts places c) o d ≡ get_or places (get_or starts c 0 + o) d
+  pub sized_area-row : (o : ℕ) (d : SizedAreaMeaning) → o < count_c → get_or (class_sized_areas starts sized_areas c) o d ≡ get_or sized_areas (get_or starts c 0 + o) d
   unfolding count_c
-  place-row o d m = get_or-between places (get_or starts c 0) (get_or starts (c + 1) 0) o d (omega arith)
+  sized_area-row o d m = get_or-between sized_areas (get_or starts c 0) (get_or starts (c + 1) 0) o d (omega arith)
 
-  pub placed_c : (o : ℕ) (d : PlaceMeaning) → o < count_c → IsPlaced v (c + 5) o (get_or places (get_or starts c 0 + o) d)
+  pub placed_c : (o : ℕ) (d : SizedAreaMeaning) → o < count_c → IsPlaced v (c + 5) o (get_or sized_areas (get_or starts c 0 + o) d)
   unfolding count_c
   placed_c o d m = is.placed c o d l (omega arith)
 
   positive : 0 < per (c + 5)
   positive = pow_pos (16 - (c + 5))
 
-  pub even_chunks : (k : ℕ) (d : PlaceMeaning) → k < length (class_places starts places c) → length (get_or (class_places starts places c) k d).chunks ≡ per (c + 5)
+  pub even_chunks : (k : ℕ) (d : SizedAreaMeaning) → k < length (class_sized_areas starts sized_areas c) → length (get_or (class_sized_areas starts sized_areas c) k d).chunks ≡ per (c + 5)
   even_chunks k d m =
       let within : k < count_c = omega (arith, length-row) in
       let p = placed_c k d within in
-      ap (λ (q : PlaceMeaning). length q.chunks) (place-row k d within) ∙ p.place.whole ∙ ap per p.exponent
+      ap (λ (q : SizedAreaMeaning). length q.chunks) (sized_area-row k d within) ∙ p.sized_area.whole ∙ ap per p.exponent
 
-  pub even_marks : (k : ℕ) (d : PlaceMeaning) → k < length (class_places starts places c) → length (get_or (class_places starts places c) k d).touched ≡ per (c + 5)
+  pub even_marks : (k : ℕ) (d : SizedAreaMeaning) → k < length (class_sized_areas starts sized_areas c) → length (get_or (class_sized_areas starts sized_areas c) k d).touched ≡ per (c + 5)
   even_marks k d m =
       let within : k < count_c = omega (arith, length-row) in
       let p = placed_c k d within in
-      ap (λ (q : PlaceMeaning). length q.touched) (place-row k d within) ∙ p.place.marks ∙ p.place.whole ∙ ap per p.exponent
+      ap (λ (q : SizedAreaMeaning). length q.touched) (sized_area-row k d within) ∙ p.sized_area.marks ∙ p.sized_area.whole ∙ ap per p.exponent
 
-  pub whole_row : length (row_of (class_places starts places c)).chunks ≡ count_c * per (c + 5)
-  whole_row = length-flat (λ (p : PlaceMeaning). p.chunks) (per (c + 5)) (class_places starts places c) even_chunks ∙ ap (λ n. n * per (c + 5)) length-row
+  pub whole_row : length (row_of (class_sized_areas starts sized_areas c)).chunks ≡ count_c * per (c + 5)
+  whole_row = length-flat (λ (p : SizedAreaMeaning). p.chunks) (per (c + 5)) (class_sized_areas starts sized_areas c) even_chunks ∙ ap (λ n. n * per (c + 5)) length-row
 
-  pub whole_marks : length (row_of (class_places starts places c)).touched ≡ count_c * per (c + 5)
-  whole_marks = length-flat (λ (p : PlaceMeaning). p.touched) (per (c + 5)) (class_places starts places c) even_marks ∙ ap (λ n. n * per (c + 5)) length-row
+  pub whole_marks : length (row_of (class_sized_areas starts sized_areas c)).touched ≡ count_c * per (c + 5)
+  whole_marks = length-flat (λ (p : SizedAreaMeaning). p.touched) (per (c + 5)) (class_sized_areas starts sized_areas c) even_marks ∙ ap (λ n. n * per (c + 5)) length-row
 
   -- chunk j of area o is chunk o * per + j of the class
-  pub chunk-row : (o j : ℕ) (d : PlaceMeaning) → o < count_c → j < per (c + 5) → get_or (row_of (class_places starts places c)).chunks (o * per (c + 5) + j) None ≡ get_or (get_or places (get_or starts c 0 + o) d).chunks j None
+  pub chunk-row : (o j : ℕ) (d : SizedAreaMeaning) → o < count_c → j < per (c + 5) → get_or (row_of (class_sized_areas starts sized_areas c)).chunks (o * per (c + 5) + j) None ≡ get_or (get_or sized_areas (get_or starts c 0 + o) d).chunks j None
   chunk-row o j d m within =
-      get_or-flat (λ (p : PlaceMeaning). p.chunks) (per (c + 5)) (class_places starts places c) o j d None even_chunks (omega (arith, length-row)) within
-      ∙ ap (λ (q : PlaceMeaning). get_or q.chunks j None) (place-row o d m)
+      get_or-flat (λ (p : SizedAreaMeaning). p.chunks) (per (c + 5)) (class_sized_areas starts sized_areas c) o j d None even_chunks (omega (arith, length-row)) within
+      ∙ ap (λ (q : SizedAreaMeaning). get_or q.chunks j None) (sized_area-row o d m)
 
-  pub mark-row : (o j : ℕ) (d : PlaceMeaning) → o < count_c → j < per (c + 5) → get_or (row_of (class_places starts places c)).touched (o * per (c + 5) + j) false ≡ get_or (get_or places (get_or starts c 0 + o) d).touched j false
+  pub mark-row : (o j : ℕ) (d : SizedAreaMeaning) → o < count_c → j < per (c + 5) → get_or (row_of (class_sized_areas starts sized_areas c)).touched (o * per (c + 5) + j) false ≡ get_or (get_or sized_areas (get_or starts c 0 + o) d).touched j false
   mark-row o j d m within =
-      get_or-flat (λ (p : PlaceMeaning). p.touched) (per (c + 5)) (class_places starts places c) o j d false even_marks (omega (arith, length-row)) within
-      ∙ ap (λ (q : PlaceMeaning). get_or q.touched j false) (place-row o d m)
+      get_or-flat (λ (p : SizedAreaMeaning). p.touched) (per (c + 5)) (class_sized_areas starts sized_areas c) o j d false even_marks (omega (arith, length-row)) within
+      ∙ ap (λ (q : SizedAreaMeaning). get_or q.touched j false) (sized_area-row o d m)
 
   -- an index of the class as an area and a chunk of it
   pub record At (i : ℕ) : Type 0 where
@@ -144,24 +144,24 @@ module _ (v : Version) (starts : List ℕ) (places : List PlaceMeaning) (full : 
     below = mod_below i (per (c + 5)) positive;
   }
 
-  any_place : PlaceMeaning
+  any_place : SizedAreaMeaning
   any_place = record { version = v; exponent = 0; ordinal = 0; identity = record { region = 0; number = 0 }; chunks = []; touched = [] }
 
-  in_row : (i : ℕ) → is_some (get_or (row_of (class_places starts places c)).chunks i None) ≡ true → i < count_c * per (c + 5)
+  in_row : (i : ℕ) → is_some (get_or (row_of (class_sized_areas starts sized_areas c)).chunks i None) ≡ true → i < count_c * per (c + 5)
   in_row i h =
       elim (cases_lt i (count_c * per (c + 5))) as (λ _. i < count_c * per (c + 5)) [
         | inl m ↦ m
-        | inr past ↦ (let gone : is_some (get_or (row_of (class_places starts places c)).chunks i None) ≡ false = ap is_some (get_or_past (row_of (class_places starts places c)).chunks i None (omega (arith, whole_row))) in absurd cc)
+        | inr past ↦ (let gone : is_some (get_or (row_of (class_sized_areas starts sized_areas c)).chunks i None) ≡ false = ap is_some (get_or_past (row_of (class_sized_areas starts sized_areas c)).chunks i None (omega (arith, whole_row))) in absurd cc)
       ]
 
-  marked_in_row : (i : ℕ) → get_or (row_of (class_places starts places c)).touched i false ≡ true → i < count_c * per (c + 5)
+  marked_in_row : (i : ℕ) → get_or (row_of (class_sized_areas starts sized_areas c)).touched i false ≡ true → i < count_c * per (c + 5)
   marked_in_row i h =
       elim (cases_lt i (count_c * per (c + 5))) as (λ _. i < count_c * per (c + 5)) [
         | inl m ↦ m
-        | inr past ↦ (let gone : get_or (row_of (class_places starts places c)).touched i false ≡ false = get_or_past (row_of (class_places starts places c)).touched i false (omega (arith, whole_marks)) in absurd cc)
+        | inr past ↦ (let gone : get_or (row_of (class_sized_areas starts sized_areas c)).touched i false ≡ false = get_or_past (row_of (class_sized_areas starts sized_areas c)).touched i false (omega (arith, whole_marks)) in absurd cc)
       ]
 
-  pub is_row : count_c ≤ 1024 → IsRow v (c + 5) (row_of (class_places starts places c))
+  pub is_row : count_c ≤ 1024 → IsRow v (c + 5) (row_of (class_sized_areas starts sized_areas c))
   is_row few = record {
     areas = count_c;
     few = few;
@@ -170,16 +170,16 @@ module _ (v : Version) (starts : List ℕ) (places : List PlaceMeaning) (full : 
     sized = λ i bytes e.
         let at = at_index i (in_row i (ap is_some e)) in
         let p = placed_c at.o any_place at.within in
-        let chunk : get_or (get_or places (get_or starts c 0 + at.o) any_place).chunks at.j None ≡ Some bytes =
-        sym (chunk-row at.o at.j any_place at.within at.below) ∙ ap (λ k. get_or (row_of (class_places starts places c)).chunks k None) (sym at.is_at) ∙ e in
-        let q : PlaceMeaning = get_or places (get_or starts c 0 + at.o) any_place in
-        subst (λ n. IsSizeOf v n (length bytes)) p.exponent (subst (λ w. IsSizeOf w q.exponent (length bytes)) p.version (p.place.sized at.j bytes chunk));
+        let chunk : get_or (get_or sized_areas (get_or starts c 0 + at.o) any_place).chunks at.j None ≡ Some bytes =
+        sym (chunk-row at.o at.j any_place at.within at.below) ∙ ap (λ k. get_or (row_of (class_sized_areas starts sized_areas c)).chunks k None) (sym at.is_at) ∙ e in
+        let q : SizedAreaMeaning = get_or sized_areas (get_or starts c 0 + at.o) any_place in
+        subst (λ n. IsSizeOf v n (length bytes)) p.exponent (subst (λ w. IsSizeOf w q.exponent (length bytes)) p.version (p.sized_area.sized at.j bytes chunk));
     touched_used = λ i e.
         let at = at_index i (marked_in_row i e) in
         let p = placed_c at.o any_place at.within in
-        let mark : get_or (get_or places (get_or starts c 0 + at.o) any_place).touched at.j false ≡ true =
-        sym (mark-row at.o at.j any_place at.within at.below) ∙ ap (λ k. get_or (row_of (class_places starts places c)).touched k false) (sym at.is_at) ∙ e in
-        ap is_some (ap (λ k. get_or (row_of (class_places starts places c)).chunks k None) at.is_at ∙ chunk-row at.o at.j any_place at.within at.below) ∙ p.place.touched_used at.j mark;
+        let mark : get_or (get_or sized_areas (get_or starts c 0 + at.o) any_place).touched at.j false ≡ true =
+        sym (mark-row at.o at.j any_place at.within at.below) ∙ ap (λ k. get_or (row_of (class_sized_areas starts sized_areas c)).touched k false) (sym at.is_at) ∙ e in
+        ap is_some (ap (λ k. get_or (row_of (class_sized_areas starts sized_areas c)).chunks k None) at.is_at ∙ chunk-row at.o at.j any_place at.within at.below) ∙ p.sized_area.touched_used at.j mark;
   }
 
 -- ---- all classes
@@ -200,20 +200,20 @@ areas_from f starts e a (suc n) each =
     let e : get_or starts (a + 1 + n) 0 ≡ get_or starts (a + suc n) 0 = ap (λ k. get_or starts k 0) (let h : a + 1 + n ≡ a + suc n = omega arith in h) in
     omega arith
 
-pub areas_all : (v : Version) (starts : List ℕ) (places : List PlaceMeaning) (full : List (List Bool)) → IsArranged v starts places full → areas_in 5 (rows_upto 12 starts places) ≡ length places
+pub areas_all : (v : Version) (starts : List ℕ) (sized_areas : List SizedAreaMeaning) (full : List (List Bool)) → IsArranged v starts sized_areas full → areas_in 5 (rows_upto 12 starts sized_areas) ≡ length sized_areas
 unfolding rows_upto
-areas_all v starts places full is =
-    let all = areas_from (λ c. row_of (class_places starts places c)) starts 5 0 12 (λ i m.
+areas_all v starts sized_areas full is =
+    let all = areas_from (λ c. row_of (class_sized_areas starts sized_areas c)) starts 5 0 12 (λ i m.
     let positive : 0 < per (i + 5) = pow_pos (16 - (i + 5)) in
-    let n : ℕ = count_c v starts places full is i m in
-    let parts : length (row_of (class_places starts places i)).chunks / per (i + 5) ≡ n =
-    ap (λ k. k / per (i + 5)) (whole_row v starts places full is i m ∙ sym (add-zero (n * per (i + 5)))) ∙ div-mul-add n (per (i + 5)) 0 positive in
+    let n : ℕ = count_c v starts sized_areas full is i m in
+    let parts : length (row_of (class_sized_areas starts sized_areas i)).chunks / per (i + 5) ≡ n =
+    ap (λ k. k / per (i + 5)) (whole_row v starts sized_areas full is i m ∙ sym (add-zero (n * per (i + 5)))) ∙ div-mul-add n (per (i + 5)) 0 positive in
     let z : 0 + i ≡ i = omega arith in
     let t : 5 + i ≡ i + 5 = omega arith in
-    ap (λ (x : ℕ). (length (row_of (class_places starts places x)).chunks / per (5 + i)) + get_or starts x 0) z
-    ∙ ap (λ x. (length (row_of (class_places starts places i)).chunks / per x) + get_or starts i 0) t
+    ap (λ (x : ℕ). (length (row_of (class_sized_areas starts sized_areas x)).chunks / per (5 + i)) + get_or starts x 0) z
+    ∙ ap (λ x. (length (row_of (class_sized_areas starts sized_areas i)).chunks / per x) + get_or starts i 0) t
     ∙ ap (λ x. x + get_or starts i 0) parts
-    ∙ count_is v starts places full is i m ∙ ap (λ x. get_or starts (x + 1) 0) (sym z)) in
+    ∙ count_is v starts sized_areas full is i m ∙ ap (λ x. get_or starts (x + 1) 0) (sym z)) in
     let first = is.first in
     let last = is.last in
     omega arith
@@ -224,17 +224,17 @@ sum_ones : {A : Type 0} (xs : List A) → sum_by (λ x. 1) xs ≡ length xs
 sum_ones [] = refl
 sum_ones (x ∷ xs) = sum_by-cons (λ x. 1) x xs ∙ (let rest = sum_ones xs in omega arith)
 
-pub ids_are : (v : Version) (quota : ℕ) (ids : List SegmentId) (places : List PlaceMeaning) (room spare spare_room : ℕ) → IsSupplied v quota ids places room spare spare_room → length ids ≡ length places
-ids_are v quota ids places room spare spare_room is = sym (sum_ones ids) ∙ is.owned (λ x. 1) ∙ sum_ones places
+pub ids_are : (v : Version) (quota : ℕ) (ids : List SegmentId) (sized_areas : List SizedAreaMeaning) (room spare spare_room : ℕ) → IsSupplied v quota ids sized_areas room spare spare_room → length ids ≡ length sized_areas
+ids_are v quota ids sized_areas room spare spare_room is = sym (sum_ones ids) ∙ is.owned (λ x. 1) ∙ sum_ones sized_areas
 
-pub is_kept : (v : Version) (quota : ℕ) (ids : List SegmentId) (origin : Origin) (starts : List ℕ) (places : List PlaceMeaning) (full : List (List Bool)) (room spare spare_room : ℕ)
-    → IsArranged v starts places full → IsSupplied v quota ids places room spare spare_room → IsKept (shelf_of v quota ids origin starts places)
-is_kept v quota ids origin starts places full room spare spare_room is supplied = record {
+pub is_kept : (v : Version) (quota : ℕ) (ids : List SegmentId) (origin : Origin) (starts : List ℕ) (sized_areas : List SizedAreaMeaning) (full : List (List Bool)) (room spare spare_room : ℕ)
+    → IsArranged v starts sized_areas full → IsSupplied v quota ids sized_areas room spare spare_room → IsValidShelf (shelf_of v quota ids origin starts sized_areas)
+is_kept v quota ids origin starts sized_areas full room spare spare_room is supplied = record {
   quota_least = supplied.least;
   quota_most = supplied.most;
-  classes = length-rows 12 starts places;
-  row = λ c l. subst (IsRow v (c + 5)) (sym (row-rows 12 starts places c l))
-      (is_row v starts places full is c l (let n = count_is v starts places full is c l in let top = class_end v starts places full c is l in let fits = supplied.within in let most = supplied.most in omega arith));
-  holds = ids_are v quota ids places room spare spare_room supplied ∙ sym (areas_all v starts places full is);
-  within = (let n = ids_are v quota ids places room spare spare_room supplied in let fits = supplied.within in omega arith);
+  classes = length-rows 12 starts sized_areas;
+  row = λ c l. subst (IsRow v (c + 5)) (sym (row-rows 12 starts sized_areas c l))
+      (is_row v starts sized_areas full is c l (let n = count_is v starts sized_areas full is c l in let top = class_end v starts sized_areas full c is l in let fits = supplied.within in let most = supplied.most in omega arith));
+  holds = ids_are v quota ids sized_areas room spare spare_room supplied ∙ sym (areas_all v starts sized_areas full is);
+  within = (let n = ids_are v quota ids sized_areas room spare spare_room supplied in let fits = supplied.within in omega arith);
 }

@@ -10,15 +10,15 @@ use Rattle.dym_bits.specs.Bits.{IsSet, IsClear, IsFirstClear}
 use Rattle.dym_region.specs.declared.segment.SegmentId.{SegmentId}
 use Rattle.dym_heap.specs.Meaning.{IsSizeOf}
 use Rattle.dym_heap.specs.Table.{row_at, chunk_at}
-use Rattle.dym_heap.specs.Shelves.{ShelfMeaning, IsKept, IsFirstFree, with_put, FitsIn}
-use Rattle.dym_heap.specs.Places.{PlaceMeaning, IsPlace, IsFreeIn, place_put}
-use Rattle.dym_heap.specs.Arrangement.{IsPlaced, IsFullPlace, HasFree, IsShelf, shelf_of, marks_of_class}
+use Rattle.dym_heap.specs.Shelves.{ShelfMeaning, IsValidShelf, IsFirstFree, with_put, FitsIn}
+use Rattle.dym_heap.specs.SizedAreas.{SizedAreaMeaning, IsSizedArea, IsFreeIn, area_with_chunk}
+use Rattle.dym_heap.specs.Arrangement.{IsPlaced, IsFullArea, HasFree, IsShelf, shelf_of, marks_of_class}
 use Rattle.dym_heap.proofs.Rows.{class_end}
 use Rattle.dym_heap.proofs.RowSteps.{Remarks}
 use Rattle.dym_heap.proofs.Marks.{marks_with, remarks_kept, remarks_taken, remarks_released, free_from}
 use Rattle.dym_heap.proofs.Sizes.{per_fits}
 use Rattle.dym_heap.proofs.ShelfFacts as facts
-use Rattle.dym_heap.proofs.ShelfFacts.{Spot}
+use Rattle.dym_heap.proofs.ShelfFacts.{ChunkLocation}
 
 pub some_fits : (o : Option (List ℕ)) (n : ℕ) → FitsIn o n → IsSome o
 some_fits None n h = absurd h
@@ -39,8 +39,8 @@ pub marks_written : (full : List (List Bool)) (c k o : ℕ) (bits bits' : List B
 marks_written full c k o bits bits' b same read l is =
     ap (λ x. set full x bits') same ∙ ap (set full c) (is ∙ ap (λ x. set x o b) (marks_read full c k bits same read l))
 
-module _ (v : Version) (quota : ℕ) (ids : List SegmentId) (origin : Origin) (starts : List ℕ) (places : List PlaceMeaning) (full : List (List Bool)) (room spare spare_room : ℕ)
-    (s : ShelfMeaning) (view : shelf_of v quota ids origin starts places ≡ s) (is : IsShelf v quota ids starts places full room spare spare_room) (e : ℕ) (low : 5 ≤ e) (high : e ≤ 16) where
+module _ (v : Version) (quota : ℕ) (ids : List SegmentId) (origin : Origin) (starts : List ℕ) (sized_areas : List SizedAreaMeaning) (full : List (List Bool)) (room spare spare_room : ℕ)
+    (s : ShelfMeaning) (view : shelf_of v quota ids origin starts sized_areas ≡ s) (is : IsShelf v quota ids starts sized_areas full room spare spare_room) (e : ℕ) (low : 5 ≤ e) (high : e ≤ 16) where
   per_is : per (e - 5 + 5) ≡ per e
   per_is = ap per (let h : e - 5 + 5 ≡ e = omega arith in h)
 
@@ -56,7 +56,7 @@ module _ (v : Version) (quota : ℕ) (ids : List SegmentId) (origin : Origin) (s
   -- no chunk lies past the areas of the class
   pub past_e : (i : ℕ) → get_or starts (e - 5 + 1) 0 ≤ get_or starts (e - 5) 0 + i / per e → chunk_at s.rows (e - 5) i ≡ None
   past_e i past =
-      facts.past_s v quota ids origin starts places full room spare spare_room s view is (e - 5) i class_in
+      facts.past_s v quota ids origin starts sized_areas full room spare spare_room s view is (e - 5) i class_in
       (let d : i / per (e - 5 + 5) ≡ i / per e = ap (λ n. i / n) per_is in omega arith)
 
   pub not_past : (i : ℕ) → IsSome (chunk_at s.rows (e - 5) i) → get_or starts (e - 5 + 1) 0 ≤ get_or starts (e - 5) 0 + i / per e → ⊥
@@ -67,16 +67,16 @@ module _ (v : Version) (quota : ℕ) (ids : List SegmentId) (origin : Origin) (s
   Finds i o j k = (o ≡ i / per e) × (j ≡ i % per e) × (k ≡ get_or starts (e - 5) 0 + i / per e) × (get_or starts (e - 5) 0 + i / per e < get_or starts (e - 5 + 1) 0)
 
   Spot_e : ℕ → ℕ → ℕ → Type 0
-  Spot_e o j k = Spot v quota ids origin starts places full room spare spare_room s view is (e - 5) o j k
+  Spot_e o j k = ChunkLocation v quota ids origin starts sized_areas full room spare spare_room s view is (e - 5) o j k
 
-  pub spot_e : (i o j k : ℕ) → Finds i o j k → Spot v quota ids origin starts places full room spare spare_room s view is (e - 5) o j k
+  pub spot_e : (i o j k : ℕ) → Finds i o j k → ChunkLocation v quota ids origin starts sized_areas full room spare spare_room s view is (e - 5) o j k
   spot_e i o j k finds =
       let a = finds.0 in let b = finds.1 in let d = finds.2 in let w = finds.3 in
       let below = mod_below i (per e) (pow_pos (16 - e)) in
       record { small = class_in; within = omega arith; at = omega arith; below = (let p = per_is in omega arith) }
 
-  pub in_e_at : (i o j k : ℕ) → Finds i o j k → k < length places
-  in_e_at i o j k finds = facts.in_s v quota ids origin starts places full room spare spare_room s view is (e - 5) o j k (spot_e i o j k finds)
+  pub in_e_at : (i o j k : ℕ) → Finds i o j k → k < length sized_areas
+  in_e_at i o j k finds = facts.in_s v quota ids origin starts sized_areas full room spare spare_room s view is (e - 5) o j k (spot_e i o j k finds)
 
   pub index_e : (i o j k : ℕ) → Finds i o j k → o * per (e - 5 + 5) + j ≡ i
   index_e i o j k finds =
@@ -85,25 +85,25 @@ module _ (v : Version) (quota : ℕ) (ids : List SegmentId) (origin : Origin) (s
       let b = finds.1 in
       omega arith
 
-  pub chunk_there : (i o j k : ℕ) → Finds i o j k → (d : PlaceMeaning) → chunk_at s.rows (e - 5) i ≡ get_or (get_or places k d).chunks j None
+  pub chunk_there : (i o j k : ℕ) → Finds i o j k → (d : SizedAreaMeaning) → chunk_at s.rows (e - 5) i ≡ get_or (get_or sized_areas k d).chunks j None
   chunk_there i o j k finds d =
-      ap (chunk_at s.rows (e - 5)) (sym (index_e i o j k finds)) ∙ facts.chunk_s v quota ids origin starts places full room spare spare_room s view is (e - 5) o j k (spot_e i o j k finds) d
+      ap (chunk_at s.rows (e - 5)) (sym (index_e i o j k finds)) ∙ facts.chunk_s v quota ids origin starts sized_areas full room spare spare_room s view is (e - 5) o j k (spot_e i o j k finds) d
 
-  module _ (o j k : ℕ) (spot : Spot v quota ids origin starts places full room spare spare_room s view is (e - 5) o j k) (q : PlaceMeaning) (here : q ≡ get_or places k q) where
-    pub in_e : k < length places
-    in_e = facts.in_s v quota ids origin starts places full room spare spare_room s view is (e - 5) o j k spot
+  module _ (o j k : ℕ) (location : ChunkLocation v quota ids origin starts sized_areas full room spare spare_room s view is (e - 5) o j k) (q : SizedAreaMeaning) (here : q ≡ get_or sized_areas k q) where
+    pub in_e : k < length sized_areas
+    in_e = facts.in_s v quota ids origin starts sized_areas full room spare spare_room s view is (e - 5) o j k location
 
     -- the ordinal is small
     pub few_e : o < MOST_CHUNKS
     few_e =
-        let top = class_end v starts places full (e - 5) is.arranged class_in in
-        let w = spot.within in
+        let top = class_end v starts sized_areas full (e - 5) is.arranged class_in in
+        let w = location.within in
         let fits = is.supplied.within in
         let most = is.supplied.most in
         omega arith
 
     pub placed_e : IsPlaced v (e - 5 + 5) o q
-    placed_e = subst (IsPlaced v (e - 5 + 5) o) (sym here) (facts.placed_s v quota ids origin starts places full room spare spare_room s view is (e - 5) o j k spot q)
+    placed_e = subst (IsPlaced v (e - 5 + 5) o) (sym here) (facts.placed_s v quota ids origin starts sized_areas full room spare spare_room s view is (e - 5) o j k location q)
 
     pub exponent_e : q.exponent ≡ e
     exponent_e = let p = placed_e.exponent in omega arith
@@ -112,91 +112,91 @@ module _ (v : Version) (quota : ℕ) (ids : List SegmentId) (origin : Origin) (s
     version_e = placed_e.version ∙ ap (λ (t : ShelfMeaning). t.version) view
 
     pub inside_e : j < length q.chunks
-    inside_e = subst (λ (p : PlaceMeaning). j < length p.chunks) (sym here) (facts.chunk_in_s v quota ids origin starts places full room spare spare_room s view is (e - 5) o j k spot q)
+    inside_e = subst (λ (p : SizedAreaMeaning). j < length p.chunks) (sym here) (facts.chunk_in_s v quota ids origin starts sized_areas full room spare spare_room s view is (e - 5) o j k location q)
 
     pub chunk_e : chunk_at s.rows (e - 5) (o * per (e - 5 + 5) + j) ≡ get_or q.chunks j None
-    chunk_e = facts.chunk_s v quota ids origin starts places full room spare spare_room s view is (e - 5) o j k spot q ∙ ap (λ (p : PlaceMeaning). get_or p.chunks j None) (sym here)
+    chunk_e = facts.chunk_s v quota ids origin starts sized_areas full room spare spare_room s view is (e - 5) o j k location q ∙ ap (λ (p : SizedAreaMeaning). get_or p.chunks j None) (sym here)
 
     pub chunk_i : (i : ℕ) → o * per (e - 5 + 5) + j ≡ i → chunk_at s.rows (e - 5) i ≡ get_or q.chunks j None
     chunk_i i at = ap (chunk_at s.rows (e - 5)) (sym at) ∙ chunk_e
 
     -- the shelf after the area became p
-    pub record Now (p : PlaceMeaning) (full' : List (List Bool)) (i : ℕ) (x : Option (List ℕ)) (b : Bool) : Type 0 where
-      pub shelf : IsShelf v quota ids starts (set places k p) full' room spare spare_room
-      pub gives : shelf_of v quota ids origin starts (set places k p) ≡ with_put s (e - 5) i x b
-      pub kept : IsKept (shelf_of v quota ids origin starts (set places k p))
+    pub record Now (p : SizedAreaMeaning) (full' : List (List Bool)) (i : ℕ) (x : Option (List ℕ)) (b : Bool) : Type 0 where
+      pub shelf : IsShelf v quota ids starts (set sized_areas k p) full' room spare spare_room
+      pub gives : shelf_of v quota ids origin starts (set sized_areas k p) ≡ with_put s (e - 5) i x b
+      pub valid_shelf : IsValidShelf (shelf_of v quota ids origin starts (set sized_areas k p))
 
-    now_put : (p : PlaceMeaning) (full' : List (List Bool)) (i : ℕ) (x : Option (List ℕ)) (b : Bool) → o * per (e - 5 + 5) + j ≡ i → p ≡ place_put q j x b → IsPlace p → Remarks full full' (e - 5) o p → Now p full' i x b
-    now_put p full' i x b at step lawful marks =
-        let step' : p ≡ place_put (get_or places k q) j x b = step ∙ ap (λ z. place_put z j x b) here in
+    now_put : (p : SizedAreaMeaning) (full' : List (List Bool)) (i : ℕ) (x : Option (List ℕ)) (b : Bool) → o * per (e - 5 + 5) + j ≡ i → p ≡ area_with_chunk q j x b → IsSizedArea p → Remarks full full' (e - 5) o p → Now p full' i x b
+    now_put p full' i x b at step valid marks =
+        let step' : p ≡ area_with_chunk (get_or sized_areas k q) j x b = step ∙ ap (λ z. area_with_chunk z j x b) here in
         record {
-          shelf = facts.shelf_put v quota ids origin starts places full room spare spare_room s view is (e - 5) o j k spot q p x b full' step' lawful marks;
-          gives = facts.view_put v quota ids origin starts places full room spare spare_room s view is (e - 5) o j k spot q p x b full' step' lawful marks ∙ ap (λ n. with_put s (e - 5) n x b) at;
-          kept = facts.kept_put v quota ids origin starts places full room spare spare_room s view is (e - 5) o j k spot q p x b full' step' lawful marks;
+          shelf = facts.shelf_put v quota ids origin starts sized_areas full room spare spare_room s view is (e - 5) o j k location q p x b full' step' valid marks;
+          gives = facts.view_put v quota ids origin starts sized_areas full room spare spare_room s view is (e - 5) o j k location q p x b full' step' valid marks ∙ ap (λ n. with_put s (e - 5) n x b) at;
+          valid_shelf = facts.kept_put v quota ids origin starts sized_areas full room spare spare_room s view is (e - 5) o j k location q p x b full' step' valid marks;
         }
 
     -- ---- bytes of a chunk in use change
 
-    pub record Changed (p : PlaceMeaning) (i : ℕ) (f : List ℕ → List ℕ) : Type 0 where
-      pub shelf : IsShelf v quota ids starts (set places k p) full room spare spare_room
-      pub gives : MatchOption (chunk_at s.rows (e - 5) i) ⊥ (λ old. shelf_of v quota ids origin starts (set places k p) ≡ with_put s (e - 5) i (Some (f old)) true)
-      pub kept : IsKept (shelf_of v quota ids origin starts (set places k p))
+    pub record Changed (p : SizedAreaMeaning) (i : ℕ) (f : List ℕ → List ℕ) : Type 0 where
+      pub shelf : IsShelf v quota ids starts (set sized_areas k p) full room spare spare_room
+      pub gives : MatchOption (chunk_at s.rows (e - 5) i) ⊥ (λ old. shelf_of v quota ids origin starts (set sized_areas k p) ≡ with_put s (e - 5) i (Some (f old)) true)
+      pub valid_shelf : IsValidShelf (shelf_of v quota ids origin starts (set sized_areas k p))
 
-    changed_at : (p : PlaceMeaning) (i : ℕ) (f : List ℕ → List ℕ) (old : List ℕ) → o * per (e - 5 + 5) + j ≡ i → get_or q.chunks j None ≡ Some old → p ≡ place_put q j (Some (f old)) true → IsPlace p → Changed p i f
-    changed_at p i f old at there step lawful =
-        let step' : p ≡ place_put (get_or places k q) j (Some (f old)) true = step ∙ ap (λ z. place_put z j (Some (f old)) true) here in
-        let there' : get_or (get_or places k q).chunks j None ≡ Some old = sym (ap (λ (z : PlaceMeaning). get_or z.chunks j None) here) ∙ there in
-        let marks = remarks_kept v starts places full (e - 5) o j k q p (f old) true is.arranged class_in spot.within spot.at step' (ap is_some there')
-        (facts.chunk_in_s v quota ids origin starts places full room spare spare_room s view is (e - 5) o j k spot q) in
-        let now = now_put p full i (Some (f old)) true at step lawful marks in
+    changed_at : (p : SizedAreaMeaning) (i : ℕ) (f : List ℕ → List ℕ) (old : List ℕ) → o * per (e - 5 + 5) + j ≡ i → get_or q.chunks j None ≡ Some old → p ≡ area_with_chunk q j (Some (f old)) true → IsSizedArea p → Changed p i f
+    changed_at p i f old at there step valid =
+        let step' : p ≡ area_with_chunk (get_or sized_areas k q) j (Some (f old)) true = step ∙ ap (λ z. area_with_chunk z j (Some (f old)) true) here in
+        let there' : get_or (get_or sized_areas k q).chunks j None ≡ Some old = sym (ap (λ (z : SizedAreaMeaning). get_or z.chunks j None) here) ∙ there in
+        let marks = remarks_kept v starts sized_areas full (e - 5) o j k q p (f old) true is.arranged class_in location.within location.at step' (ap is_some there')
+        (facts.chunk_in_s v quota ids origin starts sized_areas full room spare spare_room s view is (e - 5) o j k location q) in
+        let now = now_put p full i (Some (f old)) true at step valid marks in
         record {
           shelf = now.shelf;
-          gives = subst (λ z. MatchOption z ⊥ (λ old. shelf_of v quota ids origin starts (set places k p) ≡ with_put s (e - 5) i (Some (f old)) true)) (sym (chunk_i i at ∙ there)) now.gives;
-          kept = now.kept;
+          gives = subst (λ z. MatchOption z ⊥ (λ old. shelf_of v quota ids origin starts (set sized_areas k p) ≡ with_put s (e - 5) i (Some (f old)) true)) (sym (chunk_i i at ∙ there)) now.gives;
+          valid_shelf = now.valid_shelf;
         }
 
-    pub changed : (p : PlaceMeaning) (i : ℕ) (f : List ℕ → List ℕ) → o * per (e - 5 + 5) + j ≡ i → MatchOption (get_or q.chunks j None) ⊥ (λ old. p ≡ place_put q j (Some (f old)) true) → IsPlace p → Changed p i f
-    changed p i f at step lawful =
-        elim (get_or q.chunks j None) as (λ z. get_or q.chunks j None ≡ z → MatchOption z ⊥ (λ old. p ≡ place_put q j (Some (f old)) true) → Changed p i f) [
+    pub changed : (p : SizedAreaMeaning) (i : ℕ) (f : List ℕ → List ℕ) → o * per (e - 5 + 5) + j ≡ i → MatchOption (get_or q.chunks j None) ⊥ (λ old. p ≡ area_with_chunk q j (Some (f old)) true) → IsSizedArea p → Changed p i f
+    changed p i f at step valid =
+        elim (get_or q.chunks j None) as (λ z. get_or q.chunks j None ≡ z → MatchOption z ⊥ (λ old. p ≡ area_with_chunk q j (Some (f old)) true) → Changed p i f) [
           | None ↦ λ there h. absurd h
-          | Some old ↦ λ there h. changed_at p i f old at there h lawful
+          | Some old ↦ λ there h. changed_at p i f old at there h valid
         ] refl step
 
     -- ---- a chunk is given up
 
-    pub released : (p : PlaceMeaning) (full' : List (List Bool)) (i : ℕ) → o * per (e - 5 + 5) + j ≡ i → p ≡ place_put q j None false → IsPlace p → full' ≡ marks_with full (e - 5) o false → Now p full' i None false
-    released p full' i at step lawful marks =
+    pub released : (p : SizedAreaMeaning) (full' : List (List Bool)) (i : ℕ) → o * per (e - 5 + 5) + j ≡ i → p ≡ area_with_chunk q j None false → IsSizedArea p → full' ≡ marks_with full (e - 5) o false → Now p full' i None false
+    released p full' i at step valid marks =
         let free : HasFree p = subst HasFree (sym step) (j, (let l = inside_e in omega (arith, length-set q.chunks j None)), none_there q.chunks j inside_e) in
-        now_put p full' i None false at step lawful (subst (λ f. Remarks full f (e - 5) o p) (sym marks) (remarks_released v starts places full (e - 5) o p is.arranged class_in few_e free))
+        now_put p full' i None false at step valid (subst (λ f. Remarks full f (e - 5) o p) (sym marks) (remarks_released v starts sized_areas full (e - 5) o p is.arranged class_in few_e free))
 
     -- ---- a chunk is taken
 
-    pub taken : (p : PlaceMeaning) (full' : List (List Bool)) (i n : ℕ) (b : Bool) → o * per (e - 5 + 5) + j ≡ i → p ≡ place_put q j (Some (replicate n 0)) true → IsPlace p
-        → IsClear (marks_of_class full (e - 5)) o → full' ≡ cond b (marks_with full (e - 5) o true) full → IsTrue b ↔ IsFullPlace p → Now p full' i (Some (replicate n 0)) true
-    taken p full' i n b at step lawful clear after filled =
-        now_put p full' i (Some (replicate n 0)) true at step lawful
-        (remarks_taken v starts places full full' (e - 5) o p b is.arranged class_in few_e clear after filled (λ h. free_from p (λ all. (let t = filled.1 all in absurd cc))))
+    pub taken : (p : SizedAreaMeaning) (full' : List (List Bool)) (i n : ℕ) (b : Bool) → o * per (e - 5 + 5) + j ≡ i → p ≡ area_with_chunk q j (Some (replicate n 0)) true → IsSizedArea p
+        → IsClear (marks_of_class full (e - 5)) o → full' ≡ cond b (marks_with full (e - 5) o true) full → IsTrue b ↔ IsFullArea p → Now p full' i (Some (replicate n 0)) true
+    taken p full' i n b at step valid clear after filled =
+        now_put p full' i (Some (replicate n 0)) true at step valid
+        (remarks_taken v starts sized_areas full full' (e - 5) o p b is.arranged class_in few_e clear after filled (λ h. free_from p (λ all. (let t = filled.1 all in absurd cc))))
 
   -- the spot of the first free chunk
-  pub first_spot : (n o j k : ℕ) (q : PlaceMeaning) → n + get_or starts (e - 5) 0 ≡ get_or starts (e - 5 + 1) 0 → o < n → k ≡ get_or starts (e - 5) 0 + o → q ≡ get_or places k q → j < length q.chunks
-      → Spot v quota ids origin starts places full room spare spare_room s view is (e - 5) o j k
+  pub first_spot : (n o j k : ℕ) (q : SizedAreaMeaning) → n + get_or starts (e - 5) 0 ≡ get_or starts (e - 5 + 1) 0 → o < n → k ≡ get_or starts (e - 5) 0 + o → q ≡ get_or sized_areas k q → j < length q.chunks
+      → ChunkLocation v quota ids origin starts sized_areas full room spare spare_room s view is (e - 5) o j k
   first_spot n o j k q many l at here inside =
-      let placed : IsPlaced v (e - 5 + 5) o q = subst (IsPlaced v (e - 5 + 5) o) (sym (here ∙ ap (λ x. get_or places x q) at)) (is.arranged.placed (e - 5) o q class_in (omega arith)) in
-      let long : length q.chunks ≡ per (e - 5 + 5) = placed.place.whole ∙ ap per placed.exponent in
+      let placed : IsPlaced v (e - 5 + 5) o q = subst (IsPlaced v (e - 5 + 5) o) (sym (here ∙ ap (λ x. get_or sized_areas x q) at)) (is.arranged.placed (e - 5) o q class_in (omega arith)) in
+      let long : length q.chunks ≡ per (e - 5 + 5) = placed.sized_area.whole ∙ ap per placed.exponent in
       record { small = class_in; within = omega arith; at = at; below = omega arith }
 
-  pub first_e : (n o j k : ℕ) (q : PlaceMeaning) (spot : Spot v quota ids origin starts places full room spare spare_room s view is (e - 5) o j k) → q ≡ get_or places k q → IsFirstClear (marks_of_class full (e - 5)) n o → IsFreeIn q.chunks j
+  pub first_e : (n o j k : ℕ) (q : SizedAreaMeaning) (location : ChunkLocation v quota ids origin starts sized_areas full room spare spare_room s view is (e - 5) o j k) → q ≡ get_or sized_areas k q → IsFirstClear (marks_of_class full (e - 5)) n o → IsFreeIn q.chunks j
       → IsFirstFree s.rows (e - 5) (o * per (e - 5 + 5) + j)
-  first_e n o j k q spot here clear free =
-      facts.first_s v quota ids origin starts places full room spare spare_room s view is (e - 5) n o j k q spot clear (subst (λ (p : PlaceMeaning). IsFreeIn p.chunks j) here free)
+  first_e n o j k q location here clear free =
+      facts.first_s v quota ids origin starts sized_areas full room spare spare_room s view is (e - 5) n o j k q location clear (subst (λ (p : SizedAreaMeaning). IsFreeIn p.chunks j) here free)
 
   pub full_e : (n : ℕ) → n + get_or starts (e - 5) 0 ≡ get_or starts (e - 5 + 1) 0 → ((o : ℕ) → o < n → IsSet (marks_of_class full (e - 5)) o) → (i : ℕ) → i < length (row_at s.rows (e - 5)).chunks → IsSome (chunk_at s.rows (e - 5) i)
-  full_e n many marked = facts.all_full v quota ids origin starts places full room spare spare_room s view is (e - 5) n class_in many marked
+  full_e n many marked = facts.all_full v quota ids origin starts sized_areas full room spare spare_room s view is (e - 5) n class_in many marked
 
   -- an area without a mark is not full
-  pub not_full_e : (o k : ℕ) (q : PlaceMeaning) → get_or starts (e - 5) 0 + o < get_or starts (e - 5 + 1) 0 → k ≡ get_or starts (e - 5) 0 + o → q ≡ get_or places k q → IsClear (marks_of_class full (e - 5)) o → IsFullPlace q → ⊥
+  pub not_full_e : (o k : ℕ) (q : SizedAreaMeaning) → get_or starts (e - 5) 0 + o < get_or starts (e - 5 + 1) 0 → k ≡ get_or starts (e - 5) 0 + o → q ≡ get_or sized_areas k q → IsClear (marks_of_class full (e - 5)) o → IsFullArea q → ⊥
   not_full_e o k q within at here clear filled =
-      let free : HasFree q = subst HasFree (sym (here ∙ ap (λ x. get_or places x q) at)) (is.arranged.unmarked (e - 5) o q class_in within clear) in
+      let free : HasFree q = subst HasFree (sym (here ∙ ap (λ x. get_or sized_areas x q) at)) (is.arranged.unmarked (e - 5) o q class_in within clear) in
       let used = filled free.0 free.1 in
       let gone = ap is_some free.2 in
       absurd cc
@@ -204,7 +204,7 @@ module _ (v : Version) (quota : ℕ) (ids : List SegmentId) (origin : Origin) (s
   -- the counts of a class
   pub count_e : (n : ℕ) → n ≡ get_or starts (e - 5 + 1) 0 - get_or starts (e - 5) 0 → (n + get_or starts (e - 5) 0 ≡ get_or starts (e - 5 + 1) 0) × (n ≤ 1024)
   count_e n same =
-      let top = class_end v starts places full (e - 5) is.arranged class_in in
+      let top = class_end v starts sized_areas full (e - 5) is.arranged class_in in
       let up = rising_e in
       let fits = is.supplied.within in
       let most = is.supplied.most in
@@ -244,8 +244,8 @@ module _ (v : Version) (quota : ℕ) (ids : List SegmentId) (origin : Origin) (s
     pub within_k : get_or starts (e - 5) 0 + o < get_or starts (e - 5 + 1) 0
     within_k = let l = clear_e.below in let up = rising_e in omega arith
 
-    pub place_k : get_or starts k 0 + o < length places
-    place_k = let w = within_k in let top = class_end v starts places full (e - 5) is.arranged class_in in let a = start_same in omega arith
+    pub place_k : get_or starts k 0 + o < length sized_areas
+    place_k = let w = within_k in let top = class_end v starts sized_areas full (e - 5) is.arranged class_in in let a = start_same in omega arith
 
     pub few_k : o < 1024
     few_k = let l = clear_e.below in let m = (count_e (many_of (e - 5)) refl).1 in omega arith
@@ -253,9 +253,9 @@ module _ (v : Version) (quota : ℕ) (ids : List SegmentId) (origin : Origin) (s
     pub small_k : o < MOST_CHUNKS
     small_k = let l = few_k in omega arith
 
-    module _ (q : PlaceMeaning) (here : q ≡ get_or places (get_or starts k 0 + o) q) where
+    module _ (q : SizedAreaMeaning) (here : q ≡ get_or sized_areas (get_or starts k 0 + o) q) where
       pub placed_k : IsPlaced v (e - 5 + 5) o q
-      placed_k = subst (IsPlaced v (e - 5 + 5) o) (sym (here ∙ ap (λ x. get_or places (x + o) q) start_same)) (is.arranged.placed (e - 5) o q class_in within_k)
+      placed_k = subst (IsPlaced v (e - 5 + 5) o) (sym (here ∙ ap (λ x. get_or sized_areas (x + o) q) start_same)) (is.arranged.placed (e - 5) o q class_in within_k)
 
       pub sized_k : (n : ℕ) → IsSizeOf s.version e n → IsSizeOf q.version q.exponent n
       sized_k n sized =
@@ -267,7 +267,7 @@ module _ (v : Version) (quota : ℕ) (ids : List SegmentId) (origin : Origin) (s
       not_full_k filled = not_full_e o (get_or starts k 0 + o) q within_k (ap (λ x. x + o) start_same) here clear_e.is_clear filled
 
       module _ (j : ℕ) (free : IsFreeIn q.chunks j) where
-        pub spot_k : Spot v quota ids origin starts places full room spare spare_room s view is (e - 5) o j (get_or starts k 0 + o)
+        pub spot_k : ChunkLocation v quota ids origin starts sized_areas full room spare spare_room s view is (e - 5) o j (get_or starts k 0 + o)
         spot_k = first_spot (many_of (e - 5)) o j (get_or starts k 0 + o) q (count_e (many_of (e - 5)) refl).0 clear_e.below (ap (λ x. x + o) start_same) here free.within
 
         pub below_k : j < per e
@@ -279,8 +279,8 @@ module _ (v : Version) (quota : ℕ) (ids : List SegmentId) (origin : Origin) (s
         pub first_k : (r : ℕ) → r ≡ per e → IsFirstFree s.rows (e - 5) (o * r + j)
         first_k r is_per = subst (IsFirstFree s.rows (e - 5)) (index_k r is_per) (first_e (many_of (e - 5)) o j (get_or starts k 0 + o) q spot_k here clear_e free)
 
-        pub taken_k : (r : ℕ) → r ≡ per e → (p : PlaceMeaning) (full' : List (List Bool)) (n : ℕ) (b : Bool) → p ≡ place_put q j (Some (replicate n 0)) true → IsPlace p
-            → full' ≡ cond b (set full k (set (marks_of_class full k) o true)) full → IsTrue b ↔ IsFullPlace p → Now o j (get_or starts k 0 + o) spot_k q here p full' (o * r + j) (Some (replicate n 0)) true
-        taken_k r is_per p full' n b step lawful after filled =
-            taken o j (get_or starts k 0 + o) spot_k q here p full' (o * r + j) n b (index_k r is_per) step lawful clear_e.is_clear
+        pub taken_k : (r : ℕ) → r ≡ per e → (p : SizedAreaMeaning) (full' : List (List Bool)) (n : ℕ) (b : Bool) → p ≡ area_with_chunk q j (Some (replicate n 0)) true → IsSizedArea p
+            → full' ≡ cond b (set full k (set (marks_of_class full k) o true)) full → IsTrue b ↔ IsFullArea p → Now o j (get_or starts k 0 + o) spot_k q here p full' (o * r + j) (Some (replicate n 0)) true
+        taken_k r is_per p full' n b step valid after filled =
+            taken o j (get_or starts k 0 + o) spot_k q here p full' (o * r + j) n b (index_k r is_per) step valid clear_e.is_clear
             (after ∙ ap (λ x. cond b (set full x (set (marks_of_class full x) o true)) full) same) filled

@@ -6,8 +6,8 @@ use Rattle.dym_base.specs.Origins.{Origin}
 use Rattle.dym_base.specs.declared.command.Version.{Version}
 use Rattle.dym_region.specs.declared.segment.SegmentId.{SegmentId}
 use Rattle.dym_heap.specs.Table.{chunk_at}
-use Rattle.dym_heap.specs.Shelves.{ShelfMeaning, IsKept, with_put, FitsIn}
-use Rattle.dym_heap.specs.Places.{PlaceMeaning, IsCopiedOver, place_put}
+use Rattle.dym_heap.specs.Shelves.{ShelfMeaning, IsValidShelf, with_put, FitsIn}
+use Rattle.dym_heap.specs.SizedAreas.{SizedAreaMeaning, IsCopiedOver, area_with_chunk}
 use Rattle.dym_heap.specs.Arrangement.{IsShelf, shelf_of}
 use Rattle.dym_heap.proofs.RowSteps.{apart}
 use Rattle.dym_heap.proofs.ShelfCalls as calls
@@ -17,40 +17,40 @@ fits_some : (o : Option (List ℕ)) (n : ℕ) → FitsIn o n → (x : List ℕ) 
 fits_some None n h = absurd h
 fits_some (Some x) n h = (x, refl)
 
-module _ (v : Version) (quota : ℕ) (ids : List SegmentId) (origin : Origin) (starts : List ℕ) (places : List PlaceMeaning) (full : List (List Bool)) (room spare spare_room : ℕ)
-    (s : ShelfMeaning) (view : shelf_of v quota ids origin starts places ≡ s) (is : IsShelf v quota ids starts places full room spare spare_room) (e : ℕ) (low : 5 ≤ e) (high : e ≤ 16) (f : ℕ) (low' : 5 ≤ f) (high' : f ≤ 16) where
+module _ (v : Version) (quota : ℕ) (ids : List SegmentId) (origin : Origin) (starts : List ℕ) (sized_areas : List SizedAreaMeaning) (full : List (List Bool)) (room spare spare_room : ℕ)
+    (s : ShelfMeaning) (view : shelf_of v quota ids origin starts sized_areas ≡ s) (is : IsShelf v quota ids starts sized_areas full room spare spare_room) (e : ℕ) (low : 5 ≤ e) (high : e ≤ 16) (f : ℕ) (low' : 5 ≤ f) (high' : f ≤ 16) where
   -- the areas are not the same
-  pub other_place : (i o j k i' o' j' k' : ℕ) → (e ≡ f → ⊥) → Finds v quota ids origin starts places full room spare spare_room s view is e low high i o j k
-      → Finds v quota ids origin starts places full room spare spare_room s view is f low' high' i' o' j' k' → k ≡ k' → ⊥
+  pub other_place : (i o j k i' o' j' k' : ℕ) → (e ≡ f → ⊥) → Finds v quota ids origin starts sized_areas full room spare spare_room s view is e low high i o j k
+      → Finds v quota ids origin starts sized_areas full room spare spare_room s view is f low' high' i' o' j' k' → k ≡ k' → ⊥
   other_place i o j k i' o' j' k' other finds finds' same =
-      let a = calls.spot_e v quota ids origin starts places full room spare spare_room s view is e low high i o j k finds in
-      let b = calls.spot_e v quota ids origin starts places full room spare spare_room s view is f low' high' i' o' j' k' finds' in
-      let one = (apart v starts places full (e - 5) (f - 5) o o' is.arranged a.small b.small a.within b.within (sym a.at ∙ same ∙ b.at)).0 in
+      let a = calls.spot_e v quota ids origin starts sized_areas full room spare spare_room s view is e low high i o j k finds in
+      let b = calls.spot_e v quota ids origin starts sized_areas full room spare spare_room s view is f low' high' i' o' j' k' finds' in
+      let one = (apart v starts sized_areas full (e - 5) (f - 5) o o' is.arranged a.small b.small a.within b.within (sym a.at ∙ same ∙ b.at)).0 in
       other (omega (arith, one, low, low'))
 
-  pub record Now (new : List PlaceMeaning) (i i' n : ℕ) : Type 0 where
+  pub record Now (new : List SizedAreaMeaning) (i i' n : ℕ) : Type 0 where
     pub shelf : IsShelf v quota ids starts new full room spare spare_room
     pub gives : MatchOption (chunk_at s.rows (e - 5) i) ⊥ (λ source. MatchOption (chunk_at s.rows (f - 5) i') ⊥ (λ old. shelf_of v quota ids origin starts new ≡ with_put s (f - 5) i' (Some (splice 0 (take n source) old)) true))
-    pub kept : IsKept (shelf_of v quota ids origin starts new)
+    pub valid_shelf : IsValidShelf (shelf_of v quota ids origin starts new)
 
-  pub copied : (new : List PlaceMeaning) (i o j k i' o' j' k' n : ℕ) → Finds v quota ids origin starts places full room spare spare_room s view is e low high i o j k
-      → Finds v quota ids origin starts places full room spare spare_room s view is f low' high' i' o' j' k' → FitsIn (chunk_at s.rows (e - 5) i) n → IsCopiedOver places new k j k' j' n → Now new i i' n
+  pub copied : (new : List SizedAreaMeaning) (i o j k i' o' j' k' n : ℕ) → Finds v quota ids origin starts sized_areas full room spare spare_room s view is e low high i o j k
+      → Finds v quota ids origin starts sized_areas full room spare spare_room s view is f low' high' i' o' j' k' → FitsIn (chunk_at s.rows (e - 5) i) n → IsCopiedOver sized_areas new k j k' j' n → Now new i i' n
   copied new i o j k i' o' j' k' n finds finds' fits over =
-      let place = over.place in
-      let q : PlaceMeaning = get_or places k' place in
-      let here : q ≡ get_or places k' q = get_or_default places k' place q (calls.in_e_at v quota ids origin starts places full room spare spare_room s view is f low' high' i' o' j' k' finds') in
+      let sized_area = over.sized_area in
+      let q : SizedAreaMeaning = get_or sized_areas k' sized_area in
+      let here : q ≡ get_or sized_areas k' q = get_or_default sized_areas k' sized_area q (calls.in_e_at v quota ids origin starts sized_areas full room spare spare_room s view is f low' high' i' o' j' k' finds') in
       let source = fits_some (chunk_at s.rows (e - 5) i) n fits in
       let bytes : List ℕ = source.0 in
-      let there : get_or (get_or places k place).chunks j None ≡ Some bytes =
-      sym (calls.chunk_there v quota ids origin starts places full room spare spare_room s view is e low high i o j k finds place) ∙ source.1 in
-      let step : MatchOption (get_or q.chunks j' None) ⊥ (λ old. place ≡ place_put q j' (Some (splice 0 (take n bytes) old)) true) =
-      subst (λ z. MatchOption z ⊥ (λ x. MatchOption (get_or q.chunks j' None) ⊥ (λ old. place ≡ place_put q j' (Some (splice 0 (take n x) old)) true))) there over.chunk in
-      let now = calls.changed v quota ids origin starts places full room spare spare_room s view is f low' high' o' j' k' (calls.spot_e v quota ids origin starts places full room spare spare_room s view is f low' high' i' o' j' k' finds') q here place i' (splice 0 (take n bytes))
-      (calls.index_e v quota ids origin starts places full room spare spare_room s view is f low' high' i' o' j' k' finds') step over.lawful in
+      let there : get_or (get_or sized_areas k sized_area).chunks j None ≡ Some bytes =
+      sym (calls.chunk_there v quota ids origin starts sized_areas full room spare spare_room s view is e low high i o j k finds sized_area) ∙ source.1 in
+      let step : MatchOption (get_or q.chunks j' None) ⊥ (λ old. sized_area ≡ area_with_chunk q j' (Some (splice 0 (take n bytes) old)) true) =
+      subst (λ z. MatchOption z ⊥ (λ x. MatchOption (get_or q.chunks j' None) ⊥ (λ old. sized_area ≡ area_with_chunk q j' (Some (splice 0 (take n x) old)) true))) there over.chunk in
+      let now = calls.changed v quota ids origin starts sized_areas full room spare spare_room s view is f low' high' o' j' k' (calls.spot_e v quota ids origin starts sized_areas full room spare spare_room s view is f low' high' i' o' j' k' finds') q here sized_area i' (splice 0 (take n bytes))
+      (calls.index_e v quota ids origin starts sized_areas full room spare spare_room s view is f low' high' i' o' j' k' finds') step over.valid in
       record {
         shelf = subst (λ l. IsShelf v quota ids starts l full room spare spare_room) (sym over.areas) now.shelf;
         gives =
             subst (λ z. MatchOption z ⊥ (λ x. MatchOption (chunk_at s.rows (f - 5) i') ⊥ (λ old. shelf_of v quota ids origin starts new ≡ with_put s (f - 5) i' (Some (splice 0 (take n x) old)) true))) (sym source.1)
             (subst (λ l. MatchOption (chunk_at s.rows (f - 5) i') ⊥ (λ old. shelf_of v quota ids origin starts l ≡ with_put s (f - 5) i' (Some (splice 0 (take n bytes) old)) true)) (sym over.areas) now.gives);
-        kept = subst (λ l. IsKept (shelf_of v quota ids origin starts l)) (sym over.areas) now.kept;
+        valid_shelf = subst (λ l. IsValidShelf (shelf_of v quota ids origin starts l)) (sym over.areas) now.valid_shelf;
       }

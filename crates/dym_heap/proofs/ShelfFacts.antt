@@ -9,9 +9,9 @@ use Rattle.dym_base.specs.declared.command.Version.{Version}
 use Rattle.dym_bits.specs.Bits.{IsSet, IsFirstClear}
 use Rattle.dym_region.specs.declared.segment.SegmentId.{SegmentId}
 use Rattle.dym_heap.specs.Table.{Row, row_at, chunk_at}
-use Rattle.dym_heap.specs.Shelves.{ShelfMeaning, IsKept, IsFirstFree, with_put}
-use Rattle.dym_heap.specs.Places.{PlaceMeaning, IsPlace, IsFreeIn, place_put}
-use Rattle.dym_heap.specs.Arrangement.{row_of, class_places, rows_upto, IsPlaced, IsFullPlace, IsShelf, shelf_of, marks_of_class}
+use Rattle.dym_heap.specs.Shelves.{ShelfMeaning, IsValidShelf, IsFirstFree, with_put}
+use Rattle.dym_heap.specs.SizedAreas.{SizedAreaMeaning, IsSizedArea, IsFreeIn, area_with_chunk}
+use Rattle.dym_heap.specs.Arrangement.{row_of, class_sized_areas, rows_upto, IsPlaced, IsFullArea, IsShelf, shelf_of, marks_of_class}
 use Rattle.dym_heap.proofs.Rows.{class_end, row-rows, count_c, count_is, whole_row, chunk-row, at_index, is_kept}
 use Rattle.dym_heap.proofs.RowSteps.{Remarks, arranged-put, rows-put}
 use Rattle.dym_heap.proofs.Owned.{supplied-put}
@@ -24,128 +24,128 @@ not_above q o r j n high less small =
       | inr ne ↦ absurd (let m = row_fits o n q n (omega arith) (omega arith) in omega arith)
     ]
 
-module _ (v : Version) (quota : ℕ) (ids : List SegmentId) (origin : Origin) (starts : List ℕ) (places : List PlaceMeaning) (full : List (List Bool)) (room spare spare_room : ℕ)
-    (s : ShelfMeaning) (view : shelf_of v quota ids origin starts places ≡ s) (is : IsShelf v quota ids starts places full room spare spare_room) where
-  pub kept_s : IsKept s
-  kept_s = subst IsKept view (is_kept v quota ids origin starts places full room spare spare_room is.arranged is.supplied)
+module _ (v : Version) (quota : ℕ) (ids : List SegmentId) (origin : Origin) (starts : List ℕ) (sized_areas : List SizedAreaMeaning) (full : List (List Bool)) (room spare spare_room : ℕ)
+    (s : ShelfMeaning) (view : shelf_of v quota ids origin starts sized_areas ≡ s) (is : IsShelf v quota ids starts sized_areas full room spare spare_room) where
+  pub kept_s : IsValidShelf s
+  kept_s = subst IsValidShelf view (is_kept v quota ids origin starts sized_areas full room spare spare_room is.arranged is.supplied)
 
-  rows_s : s.rows ≡ rows_upto 12 starts places
+  rows_s : s.rows ≡ rows_upto 12 starts sized_areas
   rows_s = sym (ap (λ (t : ShelfMeaning). t.rows) view)
 
-  pub row_s : (c : ℕ) → c < 12 → row_at s.rows c ≡ row_of (class_places starts places c)
-  row_s c l = ap (λ rs. row_at rs c) rows_s ∙ row-rows 12 starts places c l
+  pub row_s : (c : ℕ) → c < 12 → row_at s.rows c ≡ row_of (class_sized_areas starts sized_areas c)
+  row_s c l = ap (λ rs. row_at rs c) rows_s ∙ row-rows 12 starts sized_areas c l
 
   -- area o of class c at place k, and chunk j of it
-  pub record Spot (c o j k : ℕ) : Type 0 where
+  pub record ChunkLocation (c o j k : ℕ) : Type 0 where
     pub small : c < 12
     pub within : get_or starts c 0 + o < get_or starts (c + 1) 0
     pub at : k ≡ get_or starts c 0 + o
     pub below : j < per (c + 5)
 
-  module _ (c o j k : ℕ) (spot : Spot c o j k) where
-    pub in_s : k < length places
-    in_s = let top = class_end v starts places full c is.arranged spot.small in let w = spot.within in let a = spot.at in omega arith
+  module _ (c o j k : ℕ) (location : ChunkLocation c o j k) where
+    pub in_s : k < length sized_areas
+    in_s = let top = class_end v starts sized_areas full c is.arranged location.small in let w = location.within in let a = location.at in omega arith
 
-    pub few_s : o < count_c v starts places full is.arranged c spot.small
-    few_s = let n = count_is v starts places full is.arranged c spot.small in let w = spot.within in omega arith
+    pub few_s : o < count_c v starts sized_areas full is.arranged c location.small
+    few_s = let n = count_is v starts sized_areas full is.arranged c location.small in let w = location.within in omega arith
 
-    pub chunk_s : (d : PlaceMeaning) → chunk_at s.rows c (o * per (c + 5) + j) ≡ get_or (get_or places k d).chunks j None
+    pub chunk_s : (d : SizedAreaMeaning) → chunk_at s.rows c (o * per (c + 5) + j) ≡ get_or (get_or sized_areas k d).chunks j None
     chunk_s d =
-        ap (λ (r : Row). get_or r.chunks (o * per (c + 5) + j) None) (row_s c spot.small)
-        ∙ chunk-row v starts places full is.arranged c spot.small o j d few_s spot.below
-        ∙ ap (λ i. get_or (get_or places i d).chunks j None) (sym spot.at)
+        ap (λ (r : Row). get_or r.chunks (o * per (c + 5) + j) None) (row_s c location.small)
+        ∙ chunk-row v starts sized_areas full is.arranged c location.small o j d few_s location.below
+        ∙ ap (λ i. get_or (get_or sized_areas i d).chunks j None) (sym location.at)
 
-    pub placed_s : (d : PlaceMeaning) → IsPlaced v (c + 5) o (get_or places k d)
-    placed_s d = subst (λ i. IsPlaced v (c + 5) o (get_or places i d)) (sym spot.at) (is.arranged.placed c o d spot.small spot.within)
+    pub placed_s : (d : SizedAreaMeaning) → IsPlaced v (c + 5) o (get_or sized_areas k d)
+    placed_s d = subst (λ i. IsPlaced v (c + 5) o (get_or sized_areas i d)) (sym location.at) (is.arranged.placed c o d location.small location.within)
 
-    pub chunk_in_s : (d : PlaceMeaning) → j < length (get_or places k d).chunks
-    chunk_in_s d = let p = placed_s d in let e : length (get_or places k d).chunks ≡ per (c + 5) = p.place.whole ∙ ap per p.exponent in let b = spot.below in omega arith
+    pub chunk_in_s : (d : SizedAreaMeaning) → j < length (get_or sized_areas k d).chunks
+    chunk_in_s d = let p = placed_s d in let e : length (get_or sized_areas k d).chunks ≡ per (c + 5) = p.sized_area.whole ∙ ap per p.exponent in let b = location.below in omega arith
 
     -- a step of that area
-    module _ (d p : PlaceMeaning) (x : Option (List ℕ)) (b : Bool) (full' : List (List Bool)) (step : p ≡ place_put (get_or places k d) j x b) (lawful : IsPlace p) (marks : Remarks full full' c o p) where
+    module _ (d p : SizedAreaMeaning) (x : Option (List ℕ)) (b : Bool) (full' : List (List Bool)) (step : p ≡ area_with_chunk (get_or sized_areas k d) j x b) (valid : IsSizedArea p) (marks : Remarks full full' c o p) where
       placed_p : IsPlaced v (c + 5) o p
       placed_p =
           let was = placed_s d in
           record {
-            place = lawful;
-            version = ap (λ (q : PlaceMeaning). q.version) step ∙ was.version;
-            exponent = ap (λ (q : PlaceMeaning). q.exponent) step ∙ was.exponent;
-            ordinal = ap (λ (q : PlaceMeaning). q.ordinal) step ∙ was.ordinal;
+            sized_area = valid;
+            version = ap (λ (q : SizedAreaMeaning). q.version) step ∙ was.version;
+            exponent = ap (λ (q : SizedAreaMeaning). q.exponent) step ∙ was.exponent;
+            ordinal = ap (λ (q : SizedAreaMeaning). q.ordinal) step ∙ was.ordinal;
           }
 
-      pub shelf_put : IsShelf v quota ids starts (set places k p) full' room spare spare_room
+      pub shelf_put : IsShelf v quota ids starts (set sized_areas k p) full' room spare spare_room
       shelf_put = record {
-        arranged = arranged-put v starts places full full' c o k p is.arranged spot.small spot.within spot.at placed_p marks;
-        supplied = supplied-put v quota ids places room spare spare_room k d p is.supplied in_s (ap (λ (q : PlaceMeaning). q.identity) step);
+        arranged = arranged-put v starts sized_areas full full' c o k p is.arranged location.small location.within location.at placed_p marks;
+        supplied = supplied-put v quota ids sized_areas room spare spare_room k d p is.supplied in_s (ap (λ (q : SizedAreaMeaning). q.identity) step);
       }
 
-      pub view_put : shelf_of v quota ids origin starts (set places k p) ≡ with_put s c (o * per (c + 5) + j) x b
+      pub view_put : shelf_of v quota ids origin starts (set sized_areas k p) ≡ with_put s c (o * per (c + 5) + j) x b
       view_put =
-          ap (λ q. shelf_of v quota ids origin starts (set places k q)) step
-          ∙ ap (λ rs. record { version = v; quota = quota; held_ids = ids; origin = origin; rows = rs }) (rows-put v starts places full c o j k d x b is.arranged spot.small spot.within spot.at spot.below)
+          ap (λ q. shelf_of v quota ids origin starts (set sized_areas k q)) step
+          ∙ ap (λ rs. record { version = v; quota = quota; held_ids = ids; origin = origin; rows = rs }) (rows-put v starts sized_areas full c o j k d x b is.arranged location.small location.within location.at location.below)
           ∙ ap (λ t. with_put t c (o * per (c + 5) + j) x b) view
 
-      pub kept_put : IsKept (shelf_of v quota ids origin starts (set places k p))
-      kept_put = is_kept v quota ids origin starts (set places k p) full' room spare spare_room shelf_put.arranged shelf_put.supplied
+      pub kept_put : IsValidShelf (shelf_of v quota ids origin starts (set sized_areas k p))
+      kept_put = is_kept v quota ids origin starts (set sized_areas k p) full' room spare spare_room shelf_put.arranged shelf_put.supplied
 
   -- ---- look-ups
 
   positive : (c : ℕ) → 0 < per (c + 5)
   positive c = pow_pos (16 - (c + 5))
 
-  pub spot_of : (c i k : ℕ) → c < 12 → get_or starts c 0 + i / per (c + 5) < get_or starts (c + 1) 0 → k ≡ get_or starts c 0 + i / per (c + 5) → Spot c (i / per (c + 5)) (i % per (c + 5)) k
+  pub spot_of : (c i k : ℕ) → c < 12 → get_or starts c 0 + i / per (c + 5) < get_or starts (c + 1) 0 → k ≡ get_or starts c 0 + i / per (c + 5) → ChunkLocation c (i / per (c + 5)) (i % per (c + 5)) k
   spot_of c i k l within at = record { small = l; within = within; at = at; below = mod_below i (per (c + 5)) (positive c) }
 
   pub index_s : (c i : ℕ) → i / per (c + 5) * per (c + 5) + i % per (c + 5) ≡ i
   index_s c i = div-add-mod' i (per (c + 5))
 
-  pub found_s : (c i k : ℕ) (d : PlaceMeaning) (l : c < 12) (within : get_or starts c 0 + i / per (c + 5) < get_or starts (c + 1) 0) (at : k ≡ get_or starts c 0 + i / per (c + 5))
-      → chunk_at s.rows c i ≡ get_or (get_or places k d).chunks (i % per (c + 5)) None
+  pub found_s : (c i k : ℕ) (d : SizedAreaMeaning) (l : c < 12) (within : get_or starts c 0 + i / per (c + 5) < get_or starts (c + 1) 0) (at : k ≡ get_or starts c 0 + i / per (c + 5))
+      → chunk_at s.rows c i ≡ get_or (get_or sized_areas k d).chunks (i % per (c + 5)) None
   found_s c i k d l within at =
       ap (chunk_at s.rows c) (sym (index_s c i)) ∙ chunk_s c (i / per (c + 5)) (i % per (c + 5)) k (spot_of c i k l within at) d
 
   -- past the areas of a class no chunk is in use
   pub past_s : (c i : ℕ) → c < 12 → get_or starts (c + 1) 0 ≤ get_or starts c 0 + i / per (c + 5) → chunk_at s.rows c i ≡ None
   past_s c i l past =
-      let n = count_is v starts places full is.arranged c l in
-      let many : count_c v starts places full is.arranged c l ≤ i / per (c + 5) = omega arith in
+      let n = count_is v starts sized_areas full is.arranged c l in
+      let many : count_c v starts sized_areas full is.arranged c l ≤ i / per (c + 5) = omega arith in
       ap (λ (r : Row). get_or r.chunks i None) (row_s c l)
-      ∙ get_or_past (row_of (class_places starts places c)).chunks i None
-      (elim (cases_lt i (count_c v starts places full is.arranged c l * per (c + 5))) as (λ _. length (row_of (class_places starts places c)).chunks ≤ i) [
-        | inl low ↦ absurd (let b = div_below i (per (c + 5)) (count_c v starts places full is.arranged c l) (positive c) low in omega arith)
-        | inr high ↦ omega (arith, whole_row v starts places full is.arranged c l)
+      ∙ get_or_past (row_of (class_sized_areas starts sized_areas c)).chunks i None
+      (elim (cases_lt i (count_c v starts sized_areas full is.arranged c l * per (c + 5))) as (λ _. length (row_of (class_sized_areas starts sized_areas c)).chunks ≤ i) [
+        | inl low ↦ absurd (let b = div_below i (per (c + 5)) (count_c v starts sized_areas full is.arranged c l) (positive c) low in omega arith)
+        | inr high ↦ omega (arith, whole_row v starts sized_areas full is.arranged c l)
       ])
 
   -- ---- the least free chunk
 
-  any : PlaceMeaning
+  any : SizedAreaMeaning
   any = record { version = v; exponent = 0; ordinal = 0; identity = record { region = 0; number = 0 }; chunks = []; touched = [] }
 
   -- every chunk of an area that is full
-  full_chunk : (c o j : ℕ) (l : c < 12) → get_or starts c 0 + o < get_or starts (c + 1) 0 → j < per (c + 5) → IsFullPlace (get_or places (get_or starts c 0 + o) any) → IsSome (chunk_at s.rows c (o * per (c + 5) + j))
+  full_chunk : (c o j : ℕ) (l : c < 12) → get_or starts c 0 + o < get_or starts (c + 1) 0 → j < per (c + 5) → IsFullArea (get_or sized_areas (get_or starts c 0 + o) any) → IsSome (chunk_at s.rows c (o * per (c + 5) + j))
   full_chunk c o j l within below filled =
-      let spot : Spot c o j (get_or starts c 0 + o) = record { small = l; within = within; at = refl; below = below } in
-      ap is_some (chunk_s c o j (get_or starts c 0 + o) spot any) ∙ filled j (chunk_in_s c o j (get_or starts c 0 + o) spot any)
+      let location : ChunkLocation c o j (get_or starts c 0 + o) = record { small = l; within = within; at = refl; below = below } in
+      ap is_some (chunk_s c o j (get_or starts c 0 + o) location any) ∙ filled j (chunk_in_s c o j (get_or starts c 0 + o) location any)
 
   -- where all areas are marked as full, no chunk is free
   pub all_full : (c n : ℕ) → c < 12 → n + get_or starts c 0 ≡ get_or starts (c + 1) 0 → ((o : ℕ) → o < n → IsSet (marks_of_class full c) o) → (i : ℕ) → i < length (row_at s.rows c).chunks → IsSome (chunk_at s.rows c i)
   all_full c n l many marked i within =
-      let count = count_is v starts places full is.arranged c l in
-      let long = ap (λ (r : Row). length r.chunks) (row_s c l) ∙ whole_row v starts places full is.arranged c l in
-      let a = at_index v starts places full is.arranged c l i (omega arith) in
+      let count = count_is v starts sized_areas full is.arranged c l in
+      let long = ap (λ (r : Row). length r.chunks) (row_s c l) ∙ whole_row v starts sized_areas full is.arranged c l in
+      let a = at_index v starts sized_areas full is.arranged c l i (omega arith) in
       let w = a.within in
       let o_in : a.o < n = omega arith in
       let m = is.arranged.marked c a.o any l (marked a.o o_in) in
       ap is_some (ap (chunk_at s.rows c) a.is_at) ∙ full_chunk c a.o a.j l m.0 a.below m.1
 
   -- the first area that is not marked, and the first free chunk of it
-  pub first_s : (c n o j k : ℕ) (d : PlaceMeaning) (spot : Spot c o j k) → IsFirstClear (marks_of_class full c) n o → IsFreeIn (get_or places k d).chunks j → IsFirstFree s.rows c (o * per (c + 5) + j)
-  first_s c n o j k d spot clear free =
-      let l = spot.small in
-      let long = ap (λ (r : Row). length r.chunks) (row_s c l) ∙ whole_row v starts places full is.arranged c l in
+  pub first_s : (c n o j k : ℕ) (d : SizedAreaMeaning) (location : ChunkLocation c o j k) → IsFirstClear (marks_of_class full c) n o → IsFreeIn (get_or sized_areas k d).chunks j → IsFirstFree s.rows c (o * per (c + 5) + j)
+  first_s c n o j k d location clear free =
+      let l = location.small in
+      let long = ap (λ (r : Row). length r.chunks) (row_s c l) ∙ whole_row v starts sized_areas full is.arranged c l in
       record {
-        within = (let few = few_s c o j k spot in omega (arith, mul-add-lt o (per (c + 5)) j (count_c v starts places full is.arranged c l) few spot.below));
-        free = chunk_s c o j k spot d ∙ free.free;
+        within = (let few = few_s c o j k location in omega (arith, mul-add-lt o (per (c + 5)) j (count_c v starts sized_areas full is.arranged c l) few location.below));
+        free = chunk_s c o j k location d ∙ free.free;
         least = λ i less.
             let b = mod_below i (per (c + 5)) (positive c) in
             let e = index_s c i in
@@ -155,9 +155,9 @@ module _ (v : Version) (quota : ℕ) (ids : List SegmentId) (origin : Origin) (s
               | inl low ↦ (let m = is.arranged.marked c q any l (clear.least q low) in
                   ap is_some (ap (chunk_at s.rows c) (sym e)) ∙ full_chunk c q r l m.0 b m.1)
               | inr high ↦
-                  let same : q ≡ o = not_above q o r j (per (c + 5)) high (omega arith) spot.below in
+                  let same : q ≡ o = not_above q o r j (per (c + 5)) high (omega arith) location.below in
                   let less' : r < j = (let f : o * per (c + 5) ≡ q * per (c + 5) = ap (λ x. x * per (c + 5)) (sym same) in omega arith) in
-                  let spot' : Spot c o r k = record { small = l; within = spot.within; at = spot.at; below = b } in
-                  ap is_some (ap (chunk_at s.rows c) (sym e ∙ ap (λ x. x * per (c + 5) + r) same) ∙ chunk_s c o r k spot' d) ∙ free.least r less'
+                  let location' : ChunkLocation c o r k = record { small = l; within = location.within; at = location.at; below = b } in
+                  ap is_some (ap (chunk_at s.rows c) (sym e ∙ ap (λ x. x * per (c + 5) + r) same) ∙ chunk_s c o r k location' d) ∙ free.least r less'
             ];
       }

@@ -14,11 +14,11 @@ use Rattle.dym_region.specs.declared.segment.SegmentId.{SegmentId}
 use Rattle.dym_quota.specs.HeldIds.{IsHeld, GivesBack}
 use Rattle.dym_heap.specs.Table.{Row, empty_row, row_at, chunk_at}
 use Rattle.dym_heap.specs.Shape.{IsTrimmed}
-use Rattle.dym_heap.specs.Shelves.{ShelfMeaning, IsKept, with_row, longer, shorter, EndsFree, without_last}
-use Rattle.dym_heap.specs.Places.{PlaceMeaning, IsPlace}
+use Rattle.dym_heap.specs.Shelves.{ShelfMeaning, IsValidShelf, with_row, longer, shorter, EndsFree, without_last}
+use Rattle.dym_heap.specs.SizedAreas.{SizedAreaMeaning, IsSizedArea}
 use Rattle.dym_heap.specs.Lengths.{version_of}
 use Rattle.dym_heap.specs.declared.lengths.Lengths.{Lengths}
-use Rattle.dym_heap.specs.Arrangement.{row_of, class_places, rows_upto, IsPlaced, HasFree, HasTables, IsShelf, shelf_of, Shifts, Unshifts}
+use Rattle.dym_heap.specs.Arrangement.{row_of, class_sized_areas, rows_upto, IsPlaced, HasFree, HasTables, IsShelf, shelf_of, Shifts, Unshifts}
 use Rattle.dym_heap.proofs.Rows as Rows
 use Rattle.dym_heap.proofs.Rows.{class_end, row-rows, count_c, count_is, whole_row, chunk-row, is_kept, ids_are}
 use Rattle.dym_heap.proofs.RowSteps.{arranged-insert, rows-insert, arranged-remove, rows-remove}
@@ -54,9 +54,9 @@ table_room One quota areas spare room (Some t) has some is h = absurd cc
 table_room One quota areas spare room None has some is h = absurd cc
 table_room Two quota areas spare room o has some is h = let a = has.0 in let b = has.1 in omega arith
 
-pub roomy : (v : Version) (quota : ℕ) (ids : List SegmentId) (starts : List ℕ) (places : List PlaceMeaning) (full : List (List Bool)) (room room' spare spare_room : ℕ) → room' ≡ room
-    → IsShelf v quota ids starts places full room spare spare_room → IsShelf v quota ids starts places full room' spare spare_room
-roomy v quota ids starts places full room room' spare spare_room same is = subst (λ r. IsShelf v quota ids starts places full r spare spare_room) (sym same) is
+pub roomy : (v : Version) (quota : ℕ) (ids : List SegmentId) (starts : List ℕ) (sized_areas : List SizedAreaMeaning) (full : List (List Bool)) (room room' spare spare_room : ℕ) → room' ≡ room
+    → IsShelf v quota ids starts sized_areas full room spare spare_room → IsShelf v quota ids starts sized_areas full room' spare spare_room
+roomy v quota ids starts sized_areas full room room' spare spare_room same is = subst (λ r. IsShelf v quota ids starts sized_areas full r spare spare_room) (sym same) is
 
 -- the last of o + 1 areas is empty, or has a chunk in use
 ends_of : (b : Bool) (len n o c : ℕ) (rows : List Row) (cs : List (Option (List ℕ))) → length (row_at rows c).chunks ≡ (o + 1) * n → len ≡ length (row_at rows c).chunks
@@ -127,8 +127,8 @@ cuts_more old mid new c n l cuts ends dropped =
           ];
     }
 
-module _ (v : Version) (quota : ℕ) (ids : List SegmentId) (origin : Origin) (starts : List ℕ) (places : List PlaceMeaning) (full : List (List Bool)) (room spare spare_room : ℕ)
-    (s : ShelfMeaning) (view : shelf_of v quota ids origin starts places ≡ s) (is : IsShelf v quota ids starts places full room spare spare_room) (e : ℕ) (low : 5 ≤ e) (high : e ≤ 16) where
+module _ (v : Version) (quota : ℕ) (ids : List SegmentId) (origin : Origin) (starts : List ℕ) (sized_areas : List SizedAreaMeaning) (full : List (List Bool)) (room spare spare_room : ℕ)
+    (s : ShelfMeaning) (view : shelf_of v quota ids origin starts sized_areas ≡ s) (is : IsShelf v quota ids starts sized_areas full room spare spare_room) (e : ℕ) (low : 5 ≤ e) (high : e ≤ 16) where
   per_is : per (e - 5 + 5) ≡ per e
   per_is = ap per (let h : e - 5 + 5 ≡ e = omega arith in h)
 
@@ -138,31 +138,31 @@ module _ (v : Version) (quota : ℕ) (ids : List SegmentId) (origin : Origin) (s
   per_some : 0 < per e
   per_some = pow_pos (16 - e)
 
-  pub ids_s : length s.held_ids ≡ length places
-  ids_s = sym (ap (λ (t : ShelfMeaning). length t.held_ids) view) ∙ ids_are v quota ids places room spare spare_room is.supplied
+  pub ids_s : length s.held_ids ≡ length sized_areas
+  ids_s = sym (ap (λ (t : ShelfMeaning). length t.held_ids) view) ∙ ids_are v quota ids sized_areas room spare spare_room is.supplied
 
   pub quota_s : s.quota ≡ quota
   quota_s = sym (ap (λ (t : ShelfMeaning). t.quota) view)
 
-  pub below_quota : length s.held_ids < s.quota → length places < quota
+  pub below_quota : length s.held_ids < s.quota → length sized_areas < quota
   below_quota l = let a = ids_s in let b = quota_s in omega arith
 
   pub ids_below : length s.held_ids < s.quota → length ids < quota
-  ids_below l = let a = ids_are v quota ids places room spare spare_room is.supplied in let b = below_quota l in omega arith
+  ids_below l = let a = ids_are v quota ids sized_areas room spare spare_room is.supplied in let b = below_quota l in omega arith
 
-  pub end_in : (k : ℕ) → k ≡ e - 5 → get_or starts (k + 1) 0 ≤ length places
-  end_in k same = let top = class_end v starts places full (e - 5) is.arranged class_in in let a : get_or starts (k + 1) 0 ≡ get_or starts (e - 5 + 1) 0 = ap (λ x. get_or starts (x + 1) 0) same in omega arith
+  pub end_in : (k : ℕ) → k ≡ e - 5 → get_or starts (k + 1) 0 ≤ length sized_areas
+  end_in k same = let top = class_end v starts sized_areas full (e - 5) is.arranged class_in in let a : get_or starts (k + 1) 0 ≡ get_or starts (e - 5 + 1) 0 = ap (λ x. get_or starts (x + 1) 0) same in omega arith
 
   pub rising_k : (k : ℕ) → k ≡ e - 5 → get_or starts k 0 ≤ get_or starts (k + 1) 0
   rising_k k same = subst (λ x. get_or starts x 0 ≤ get_or starts (x + 1) 0) (sym same) (is.arranged.rising (e - 5) class_in)
 
-  pub room_in : length s.held_ids < s.quota → length places < room
+  pub room_in : length s.held_ids < s.quota → length sized_areas < room
   room_in l = let a = below_quota l in let b = is.supplied.has_room in omega arith
 
   pub starts_small : (d : ℕ) → get_or starts d 0 ≤ 1024
   starts_small d =
       elim (cases_lt d 13) as (λ _. get_or starts d 0 ≤ 1024) [
-        | inl l ↦ (let up = Rows.starts_mono v starts places full d (12 - d) is.arranged (omega arith) in
+        | inl l ↦ (let up = Rows.starts_mono v starts sized_areas full d (12 - d) is.arranged (omega arith) in
             let a : get_or starts (d + (12 - d)) 0 ≡ get_or starts 12 0 = ap (λ x. get_or starts x 0) (let h : d + (12 - d) ≡ 12 = omega arith in h) in
             let last = is.arranged.last in let fits = is.supplied.within in let most = is.supplied.most in omega arith)
         | inr past ↦ (let z = get_or_past starts d 0 (let n = is.arranged.starts_len in omega arith) in omega arith)
@@ -170,62 +170,62 @@ module _ (v : Version) (quota : ℕ) (ids : List SegmentId) (origin : Origin) (s
 
   -- ---- an area comes
 
-  pub record Grown (ids' : List SegmentId) (quota' : ℕ) (origin' : Origin) (starts' : List ℕ) (places' : List PlaceMeaning) (room' spare' spare_room' : ℕ) : Type 0 where
-    pub shelf : IsShelf v quota' ids' starts' places' full room' spare' spare_room'
-    pub gives : shelf_of v quota' ids' origin' starts' places' ≡ record (with_row s (e - 5) (longer (per e) (row_at s.rows (e - 5)))) { held_ids = ids' }
-    pub kept : IsKept (shelf_of v quota' ids' origin' starts' places')
+  pub record Grown (ids' : List SegmentId) (quota' : ℕ) (origin' : Origin) (starts' : List ℕ) (sized_areas' : List SizedAreaMeaning) (room' spare' spare_room' : ℕ) : Type 0 where
+    pub shelf : IsShelf v quota' ids' starts' sized_areas' full room' spare' spare_room'
+    pub gives : shelf_of v quota' ids' origin' starts' sized_areas' ≡ record (with_row s (e - 5) (longer (per e) (row_at s.rows (e - 5)))) { held_ids = ids' }
+    pub valid_shelf : IsValidShelf (shelf_of v quota' ids' origin' starts' sized_areas')
 
-  grown_at : (o : ℕ) (lengths : Option Lengths) (p : PlaceMeaning) (id : SegmentId) (ids' : List SegmentId) (starts' : List ℕ) (room' spare' : ℕ)
-      → length s.held_ids < s.quota → version_of lengths ≡ v → spare' ≡ spare - 1 → p ≡ empty_place (version_of lengths) e o id → IsPlace p → o ≡ get_or starts (e - 5 + 1) 0 - get_or starts (e - 5) 0
-      → ids' ≡ ids ++ id ∷ [] → Shifts starts starts' (e - 5) → room ≤ room' → Grown ids' quota origin starts' (insert places (get_or starts (e - 5 + 1) 0) p) room' spare' spare_room
-  grown_at o lengths p id ids' starts' room' spare' less version fewer made lawful ordinal more shift bigger =
+  grown_at : (o : ℕ) (lengths : Option Lengths) (p : SizedAreaMeaning) (id : SegmentId) (ids' : List SegmentId) (starts' : List ℕ) (room' spare' : ℕ)
+      → length s.held_ids < s.quota → version_of lengths ≡ v → spare' ≡ spare - 1 → p ≡ empty_place (version_of lengths) e o id → IsSizedArea p → o ≡ get_or starts (e - 5 + 1) 0 - get_or starts (e - 5) 0
+      → ids' ≡ ids ++ id ∷ [] → Shifts starts starts' (e - 5) → room ≤ room' → Grown ids' quota origin starts' (insert sized_areas (get_or starts (e - 5 + 1) 0) p) room' spare' spare_room
+  grown_at o lengths p id ids' starts' room' spare' less version fewer made valid ordinal more shift bigger =
       let c : ℕ = e - 5 in
       let at : ℕ = get_or starts (c + 1) 0 in
-      let top = class_end v starts places full c is.arranged class_in in
-      let chunks : p.chunks ≡ replicate (per (c + 5)) None = ap (λ (q : PlaceMeaning). q.chunks) made ∙ sym (ap (λ n. replicate n None) per_is) in
-      let touched : p.touched ≡ replicate (per (c + 5)) false = ap (λ (q : PlaceMeaning). q.touched) made ∙ sym (ap (λ n. replicate n false) per_is) in
+      let top = class_end v starts sized_areas full c is.arranged class_in in
+      let chunks : p.chunks ≡ replicate (per (c + 5)) None = ap (λ (q : SizedAreaMeaning). q.chunks) made ∙ sym (ap (λ n. replicate n None) per_is) in
+      let touched : p.touched ≡ replicate (per (c + 5)) false = ap (λ (q : SizedAreaMeaning). q.touched) made ∙ sym (ap (λ n. replicate n false) per_is) in
       let placed : IsPlaced v (c + 5) (at - get_or starts c 0) p = record {
-        place = lawful;
-        version = ap (λ (q : PlaceMeaning). q.version) made ∙ version;
-        exponent = ap (λ (q : PlaceMeaning). q.exponent) made ∙ (let h : e ≡ e - 5 + 5 = omega arith in h);
-        ordinal = ap (λ (q : PlaceMeaning). q.ordinal) made ∙ ordinal;
+        sized_area = valid;
+        version = ap (λ (q : SizedAreaMeaning). q.version) made ∙ version;
+        exponent = ap (λ (q : SizedAreaMeaning). q.exponent) made ∙ (let h : e ≡ e - 5 + 5 = omega arith in h);
+        ordinal = ap (λ (q : SizedAreaMeaning). q.ordinal) made ∙ ordinal;
       } in
       let long : length p.chunks ≡ per e = ap length chunks ∙ length-replicate {A = Option (List ℕ)} (per (c + 5)) None ∙ per_is in
       let free : HasFree p = (0, (let z = per_some in omega arith), ap (λ cs. get_or cs 0 None) chunks ∙ get_or-replicate (per (c + 5)) 0 None None (let z = per_some in let y = per_is in omega arith)) in
-      let arranged = arranged-insert v starts starts' places full c p is.arranged class_in shift placed free in
-      let supplied = supplied-insert v quota ids ids' places room room' spare spare' spare_room at p is.supplied (below_quota less) top
-      (more ∙ ap (λ x. ids ++ x ∷ []) (sym (ap (λ (q : PlaceMeaning). q.identity) made))) bigger fewer in
-      let rows = rows-insert v starts starts' places full c p is.arranged class_in shift chunks touched in
+      let arranged = arranged-insert v starts starts' sized_areas full c p is.arranged class_in shift placed free in
+      let supplied = supplied-insert v quota ids ids' sized_areas room room' spare spare' spare_room at p is.supplied (below_quota less) top
+      (more ∙ ap (λ x. ids ++ x ∷ []) (sym (ap (λ (q : SizedAreaMeaning). q.identity) made))) bigger fewer in
+      let rows = rows-insert v starts starts' sized_areas full c p is.arranged class_in shift chunks touched in
       record {
         shelf = record { arranged = arranged; supplied = supplied };
         gives =
-            ap (λ rs. record { version = v; quota = quota; held_ids = ids'; origin = origin; rows = rs }) (rows ∙ ap (λ n. set (rows_upto 12 starts places) c (longer n (row_at (rows_upto 12 starts places) c))) per_is)
+            ap (λ rs. record { version = v; quota = quota; held_ids = ids'; origin = origin; rows = rs }) (rows ∙ ap (λ n. set (rows_upto 12 starts sized_areas) c (longer n (row_at (rows_upto 12 starts sized_areas) c))) per_is)
             ∙ ap (λ (t : ShelfMeaning). record (with_row t c (longer (per e) (row_at t.rows c))) { held_ids = ids' }) view;
-        kept = is_kept v quota ids' origin starts' (insert places at p) full room' spare' spare_room arranged supplied;
+        valid_shelf = is_kept v quota ids' origin starts' (insert sized_areas at p) full room' spare' spare_room arranged supplied;
       }
 
-  pub grown : (k o : ℕ) (lengths : Option Lengths) (p : PlaceMeaning) (id : SegmentId) (ids' : List SegmentId) (quota' : ℕ) (origin' : Origin) (starts' : List ℕ) (room' spare' spare_room' : ℕ)
-      → k ≡ e - 5 → length s.held_ids < s.quota → MatchOption lengths ((spare ≡ 0) × (spare' ≡ 0)) (λ _. spare' + 1 ≡ spare) → p ≡ empty_place (version_of lengths) e o id → IsPlace p → o ≡ get_or starts (k + 1) 0 - get_or starts k 0
+  pub grown : (k o : ℕ) (lengths : Option Lengths) (p : SizedAreaMeaning) (id : SegmentId) (ids' : List SegmentId) (quota' : ℕ) (origin' : Origin) (starts' : List ℕ) (room' spare' spare_room' : ℕ)
+      → k ≡ e - 5 → length s.held_ids < s.quota → MatchOption lengths ((spare ≡ 0) × (spare' ≡ 0)) (λ _. spare' + 1 ≡ spare) → p ≡ empty_place (version_of lengths) e o id → IsSizedArea p → o ≡ get_or starts (k + 1) 0 - get_or starts k 0
       → ids' ≡ ids ++ id ∷ [] → quota' ≡ quota → origin' ≡ origin → Shifts starts starts' k → room ≤ room' → spare_room' ≡ spare_room
-      → (places' : List PlaceMeaning) → places' ≡ insert places (get_or starts (k + 1) 0) p → Grown ids' quota' origin' starts' places' room' spare' spare_room'
-  grown k o lengths p id ids' quota' origin' starts' room' spare' spare_room' same less cases made lawful ordinal more quota_is origin_is shift bigger room_is places' items =
-      let tables = popped v quota (length places) spare spare' spare_room lengths is.supplied.tables (below_quota less) cases in
-      let at_k = grown_at o lengths p id ids' starts' room' spare' less tables.0 tables.1 made lawful (ordinal ∙ ap (λ x. get_or starts (x + 1) 0 - get_or starts x 0) same) more (subst (Shifts starts starts') same shift) bigger in
-      subst (λ xs. Grown ids' quota' origin' starts' xs room' spare' spare_room') (sym items) (subst (λ x. Grown ids' quota' origin' starts' (insert places (get_or starts (x + 1) 0) p) room' spare' spare_room') (sym same)
-      (subst (λ x. Grown ids' x origin' starts' (insert places (get_or starts (e - 5 + 1) 0) p) room' spare' spare_room') (sym quota_is)
-      (subst (λ x. Grown ids' quota x starts' (insert places (get_or starts (e - 5 + 1) 0) p) room' spare' spare_room') (sym origin_is)
-      (subst (λ x. Grown ids' quota origin starts' (insert places (get_or starts (e - 5 + 1) 0) p) room' spare' x) (sym room_is) at_k))))
+      → (sized_areas' : List SizedAreaMeaning) → sized_areas' ≡ insert sized_areas (get_or starts (k + 1) 0) p → Grown ids' quota' origin' starts' sized_areas' room' spare' spare_room'
+  grown k o lengths p id ids' quota' origin' starts' room' spare' spare_room' same less cases made valid ordinal more quota_is origin_is shift bigger room_is sized_areas' items =
+      let tables = popped v quota (length sized_areas) spare spare' spare_room lengths is.supplied.tables (below_quota less) cases in
+      let at_k = grown_at o lengths p id ids' starts' room' spare' less tables.0 tables.1 made valid (ordinal ∙ ap (λ x. get_or starts (x + 1) 0 - get_or starts x 0) same) more (subst (Shifts starts starts') same shift) bigger in
+      subst (λ xs. Grown ids' quota' origin' starts' xs room' spare' spare_room') (sym items) (subst (λ x. Grown ids' quota' origin' starts' (insert sized_areas (get_or starts (x + 1) 0) p) room' spare' spare_room') (sym same)
+      (subst (λ x. Grown ids' x origin' starts' (insert sized_areas (get_or starts (e - 5 + 1) 0) p) room' spare' spare_room') (sym quota_is)
+      (subst (λ x. Grown ids' quota x starts' (insert sized_areas (get_or starts (e - 5 + 1) 0) p) room' spare' spare_room') (sym origin_is)
+      (subst (λ x. Grown ids' quota origin starts' (insert sized_areas (get_or starts (e - 5 + 1) 0) p) room' spare' x) (sym room_is) at_k))))
 
   -- ---- the last area goes
 
-  row_e : row_at s.rows (e - 5) ≡ row_of (class_places starts places (e - 5))
-  row_e = facts.row_s v quota ids origin starts places full room spare spare_room s view is (e - 5) class_in
+  row_e : row_at s.rows (e - 5) ≡ row_of (class_sized_areas starts sized_areas (e - 5))
+  row_e = facts.row_s v quota ids origin starts sized_areas full room spare spare_room s view is (e - 5) class_in
 
   pub long_e : length (row_at s.rows (e - 5)).chunks + get_or starts (e - 5) 0 * per e ≡ get_or starts (e - 5 + 1) 0 * per e
   long_e =
-      let n : ℕ = count_c v starts places full is.arranged (e - 5) class_in in
-      let whole = ap (λ (r : Row). length r.chunks) row_e ∙ whole_row v starts places full is.arranged (e - 5) class_in ∙ ap (λ x. n * x) per_is in
-      let count = count_is v starts places full is.arranged (e - 5) class_in in
+      let n : ℕ = count_c v starts sized_areas full is.arranged (e - 5) class_in in
+      let whole = ap (λ (r : Row). length r.chunks) row_e ∙ whole_row v starts sized_areas full is.arranged (e - 5) class_in ∙ ap (λ x. n * x) per_is in
+      let count = count_is v starts sized_areas full is.arranged (e - 5) class_in in
       let parts = add-mul n (get_or starts (e - 5) 0) (per e) in
       let all : (n + get_or starts (e - 5) 0) * per e ≡ get_or starts (e - 5 + 1) 0 * per e = ap (λ x. x * per e) count in
       omega arith
@@ -240,43 +240,43 @@ module _ (v : Version) (quota : ℕ) (ids : List SegmentId) (origin : Origin) (s
             let l = long_e in let t = ends.there in let p = per_some in omega arith)
       ]
 
-  pub last_in : (k : ℕ) → k ≡ e - 5 → EndsFree s.rows (e - 5) (per e) → (1 ≤ get_or starts (k + 1) 0) × (get_or starts (k + 1) 0 - 1 < length places)
+  pub last_in : (k : ℕ) → k ≡ e - 5 → EndsFree s.rows (e - 5) (per e) → (1 ≤ get_or starts (k + 1) 0) × (get_or starts (k + 1) 0 - 1 < length sized_areas)
   last_in k same ends =
       let l = some_area ends in
       let a : get_or starts (k + 1) 0 ≡ get_or starts (e - 5 + 1) 0 = ap (λ x. get_or starts (x + 1) 0) same in
-      let top = class_end v starts places full (e - 5) is.arranged class_in in
+      let top = class_end v starts sized_areas full (e - 5) is.arranged class_in in
       (omega arith, omega arith)
 
-  pub last_held : (k : ℕ) (d : PlaceMeaning) → k ≡ e - 5 → EndsFree s.rows (e - 5) (per e) → IsHeld ids (get_or places (get_or starts (k + 1) 0 - 1) d).identity
-  last_held k d same ends = place_held v quota ids places room spare spare_room (get_or starts (k + 1) 0 - 1) d is.supplied (last_in k same ends).1
+  pub last_held : (k : ℕ) (d : SizedAreaMeaning) → k ≡ e - 5 → EndsFree s.rows (e - 5) (per e) → IsHeld ids (get_or sized_areas (get_or starts (k + 1) 0 - 1) d).identity
+  last_held k d same ends = place_held v quota ids sized_areas room spare spare_room (get_or starts (k + 1) 0 - 1) d is.supplied (last_in k same ends).1
 
-  pub last_version : (k : ℕ) (d : PlaceMeaning) → k ≡ e - 5 → EndsFree s.rows (e - 5) (per e) → (get_or places (get_or starts (k + 1) 0 - 1) d).version ≡ v
+  pub last_version : (k : ℕ) (d : SizedAreaMeaning) → k ≡ e - 5 → EndsFree s.rows (e - 5) (per e) → (get_or sized_areas (get_or starts (k + 1) 0 - 1) d).version ≡ v
   last_version k d same ends =
       let l = some_area ends in
       let at : get_or starts (k + 1) 0 - 1 ≡ get_or starts (e - 5) 0 + (get_or starts (e - 5 + 1) 0 - 1 - get_or starts (e - 5) 0) =
       (let a : get_or starts (k + 1) 0 ≡ get_or starts (e - 5 + 1) 0 = ap (λ x. get_or starts (x + 1) 0) same in omega arith) in
       let p = is.arranged.placed (e - 5) (get_or starts (e - 5 + 1) 0 - 1 - get_or starts (e - 5) 0) d class_in (omega arith) in
-      ap (λ i. (get_or places i d).version) at ∙ p.version
+      ap (λ i. (get_or sized_areas i d).version) at ∙ p.version
 
   pub starts_some : (k : ℕ) → k ≡ e - 5 → EndsFree s.rows (e - 5) (per e) → (d : ℕ) → k < d → d < 13 → 1 ≤ get_or starts d 0
   starts_some k same ends d past small =
       let l = some_area ends in
-      let up = Rows.starts_mono v starts places full (e - 5 + 1) (d - (e - 5 + 1)) is.arranged (omega arith) in
+      let up = Rows.starts_mono v starts sized_areas full (e - 5 + 1) (d - (e - 5 + 1)) is.arranged (omega arith) in
       let a : get_or starts (e - 5 + 1 + (d - (e - 5 + 1))) 0 ≡ get_or starts d 0 = ap (λ x. get_or starts x 0) (let h : e - 5 + 1 + (d - (e - 5 + 1)) ≡ d = omega arith in h) in
       omega arith
 
-  pub some_places : EndsFree s.rows (e - 5) (per e) → 0 < length places
+  pub some_places : EndsFree s.rows (e - 5) (per e) → 0 < length sized_areas
   some_places ends = let l = (last_in (e - 5) refl ends).1 in omega arith
 
-  pub record Dropped (ids' : List SegmentId) (quota' : ℕ) (origin' : Origin) (starts' : List ℕ) (places' : List PlaceMeaning) (spare' spare_room' : ℕ) : Type 0 where
-    pub shelf : IsShelf v quota' ids' starts' places' full room spare' spare_room'
-    pub gives : shelf_of v quota' ids' origin' starts' places' ≡ without_last s (e - 5) (per e) ids'
+  pub record Dropped (ids' : List SegmentId) (quota' : ℕ) (origin' : Origin) (starts' : List ℕ) (sized_areas' : List SizedAreaMeaning) (spare' spare_room' : ℕ) : Type 0 where
+    pub shelf : IsShelf v quota' ids' starts' sized_areas' full room spare' spare_room'
+    pub gives : shelf_of v quota' ids' origin' starts' sized_areas' ≡ without_last s (e - 5) (per e) ids'
     pub fewer : length ids' + 1 ≡ length s.held_ids
-    pub kept : IsKept (shelf_of v quota' ids' origin' starts' places')
+    pub valid_shelf : IsValidShelf (shelf_of v quota' ids' origin' starts' sized_areas')
 
-  dropped_at : (ids' : List SegmentId) (starts' : List ℕ) (spare' spare_room' : ℕ) (d : PlaceMeaning) → EndsFree s.rows (e - 5) (per e) → GivesBack ids ids' (get_or places (get_or starts (e - 5 + 1) 0 - 1) d).identity
-      → HasTables v quota (length (remove places (get_or starts (e - 5 + 1) 0 - 1))) spare' spare_room' → Unshifts starts starts' (e - 5)
-      → Dropped ids' quota origin starts' (remove places (get_or starts (e - 5 + 1) 0 - 1)) spare' spare_room'
+  dropped_at : (ids' : List SegmentId) (starts' : List ℕ) (spare' spare_room' : ℕ) (d : SizedAreaMeaning) → EndsFree s.rows (e - 5) (per e) → GivesBack ids ids' (get_or sized_areas (get_or starts (e - 5 + 1) 0 - 1) d).identity
+      → HasTables v quota (length (remove sized_areas (get_or starts (e - 5 + 1) 0 - 1))) spare' spare_room' → Unshifts starts starts' (e - 5)
+      → Dropped ids' quota origin starts' (remove sized_areas (get_or starts (e - 5 + 1) 0 - 1)) spare' spare_room'
   dropped_at ids' starts' spare' spare_room' d ends back tables shift =
       let c : ℕ = e - 5 in
       let k : ℕ = get_or starts (c + 1) 0 - 1 in
@@ -290,41 +290,41 @@ module _ (v : Version) (quota : ℕ) (ids : List SegmentId) (origin : Origin) (s
       let ends_at : get_or starts (c + 1) 0 * per e ≡ (k + 1) * per e = ap (λ x. x * per e) (let h : get_or starts (c + 1) 0 ≡ k + 1 = omega arith in h) in
       let k_parts : k * per e ≡ (o + get_or starts c 0) * per e = ap (λ x. x * per e) (let h : k ≡ o + get_or starts c 0 = omega arith in h) in
       let front : o * per e ≡ length (row_at s.rows c).chunks - per e = omega arith in
-      let spot : facts.Spot v quota ids origin starts places full room spare spare_room s view is c o 0 k = record { small = class_in; within = omega arith; at = sym at_o; below = (let p = per_some in let q = per_is in omega arith) } in
-      let there : chunk_at s.rows c (o * per (c + 5) + 0) ≡ get_or (get_or places k d).chunks 0 None = facts.chunk_s v quota ids origin starts places full room spare spare_room s view is c o 0 k spot d in
+      let location : facts.ChunkLocation v quota ids origin starts sized_areas full room spare spare_room s view is c o 0 k = record { small = class_in; within = omega arith; at = sym at_o; below = (let p = per_some in let q = per_is in omega arith) } in
+      let there : chunk_at s.rows c (o * per (c + 5) + 0) ≡ get_or (get_or sized_areas k d).chunks 0 None = facts.chunk_s v quota ids origin starts sized_areas full room spare spare_room s view is c o 0 k location d in
       let first_free : chunk_at s.rows c (o * per (c + 5) + 0) ≡ None =
       ends.free (o * per (c + 5) + 0) (let q : o * per (c + 5) ≡ o * per e = ap (λ x. o * x) per_is in let t = ends.there in omega arith) in
-      let free : HasFree (get_or places k d) = (0, facts.chunk_in_s v quota ids origin starts places full room spare spare_room s view is c o 0 k spot d, sym there ∙ first_free) in
+      let free : HasFree (get_or sized_areas k d) = (0, facts.chunk_in_s v quota ids origin starts sized_areas full room spare spare_room s view is c o 0 k location d, sym there ∙ first_free) in
       let up : k + 1 ≡ get_or starts (c + 1) 0 = omega arith in
-      let arranged = arranged-remove v starts starts' places full c k d is.arranged class_in shift up (omega arith) free in
-      let supplied = supplied-remove v quota ids ids' places room spare spare' spare_room spare_room' k d is.supplied in_k back tables in
-      let rows = rows-remove v starts starts' places full c k is.arranged class_in shift up (omega arith) in
+      let arranged = arranged-remove v starts starts' sized_areas full c k d is.arranged class_in shift up (omega arith) free in
+      let supplied = supplied-remove v quota ids ids' sized_areas room spare spare' spare_room spare_room' k d is.supplied in_k back tables in
+      let rows = rows-remove v starts starts' sized_areas full c k is.arranged class_in shift up (omega arith) in
       record {
         shelf = record { arranged = arranged; supplied = supplied };
         gives =
             ap (λ rs. record { version = v; quota = quota; held_ids = ids'; origin = origin; rows = rs })
-            (rows ∙ ap (λ n. set (rows_upto 12 starts places) c (shorter n (row_at (rows_upto 12 starts places) c))) (ap (λ x. o * x) per_is ∙ front ∙ ap (λ rs. length (row_at rs c).chunks - per e) (sym (ap (λ (t : ShelfMeaning). t.rows) view))))
+            (rows ∙ ap (λ n. set (rows_upto 12 starts sized_areas) c (shorter n (row_at (rows_upto 12 starts sized_areas) c))) (ap (λ x. o * x) per_is ∙ front ∙ ap (λ rs. length (row_at rs c).chunks - per e) (sym (ap (λ (t : ShelfMeaning). t.rows) view))))
             ∙ ap (λ (t : ShelfMeaning). without_last t c (per e) ids') view;
-        fewer = (let a = ids_are v quota ids' (remove places k) room spare' spare_room' supplied in let b = length-remove places k in_k in let n = ids_s in omega arith);
-        kept = is_kept v quota ids' origin starts' (remove places k) full room spare' spare_room' arranged supplied;
+        fewer = (let a = ids_are v quota ids' (remove sized_areas k) room spare' spare_room' supplied in let b = length-remove sized_areas k in_k in let n = ids_s in omega arith);
+        valid_shelf = is_kept v quota ids' origin starts' (remove sized_areas k) full room spare' spare_room' arranged supplied;
       }
 
-  pub dropped : (k : ℕ) (p : PlaceMeaning) (id : SegmentId) (lengths : Option Lengths) (ids' : List SegmentId) (quota' : ℕ) (origin' : Origin) (starts' : List ℕ) (spare' spare_room' : ℕ)
-      → k ≡ e - 5 → EndsFree s.rows (e - 5) (per e) → p ≡ get_or places (get_or starts (k + 1) 0 - 1) p → id ≡ p.identity → version_of lengths ≡ p.version → GivesBack ids ids' id → quota' ≡ quota → origin' ≡ origin
+  pub dropped : (k : ℕ) (p : SizedAreaMeaning) (id : SegmentId) (lengths : Option Lengths) (ids' : List SegmentId) (quota' : ℕ) (origin' : Origin) (starts' : List ℕ) (spare' spare_room' : ℕ)
+      → k ≡ e - 5 → EndsFree s.rows (e - 5) (per e) → p ≡ get_or sized_areas (get_or starts (k + 1) 0 - 1) p → id ≡ p.identity → version_of lengths ≡ p.version → GivesBack ids ids' id → quota' ≡ quota → origin' ≡ origin
       → spare' ≡ cond (is_some lengths) (spare + 1) spare → spare_room ≤ spare_room' → Unshifts starts starts' k
-      → (places' : List PlaceMeaning) → places' ≡ remove places (get_or starts (k + 1) 0 - 1) → Dropped ids' quota' origin' starts' places' spare' spare_room'
-  dropped k p id lengths ids' quota' origin' starts' spare' spare_room' same ends read id_is version_is back quota_is origin_is kept bigger shift places' items =
+      → (sized_areas' : List SizedAreaMeaning) → sized_areas' ≡ remove sized_areas (get_or starts (k + 1) 0 - 1) → Dropped ids' quota' origin' starts' sized_areas' spare' spare_room'
+  dropped k p id lengths ids' quota' origin' starts' spare' spare_room' same ends read id_is version_is back quota_is origin_is valid_shelf bigger shift sized_areas' items =
       let at : ℕ → ℕ = λ x. get_or starts (x + 1) 0 - 1 in
       let at_same : at k ≡ at (e - 5) = ap at same in
       let in_k = (last_in (e - 5) refl ends).1 in
-      let read' : p ≡ get_or places (at (e - 5)) p = read ∙ ap (λ i. get_or places i p) at_same in
-      let tables = returned v quota (length places) (length (remove places (at (e - 5)))) spare spare' spare_room spare_room' lengths is.supplied.tables (length-remove places (at (e - 5)) in_k)
-      (version_is ∙ ap (λ (q : PlaceMeaning). q.version) read ∙ last_version k p same ends) kept bigger in
-      let gave : GivesBack ids ids' (get_or places (at (e - 5)) p).identity = subst (GivesBack ids ids') (id_is ∙ ap (λ (q : PlaceMeaning). q.identity) read') back in
+      let read' : p ≡ get_or sized_areas (at (e - 5)) p = read ∙ ap (λ i. get_or sized_areas i p) at_same in
+      let tables = returned v quota (length sized_areas) (length (remove sized_areas (at (e - 5)))) spare spare' spare_room spare_room' lengths is.supplied.tables (length-remove sized_areas (at (e - 5)) in_k)
+      (version_is ∙ ap (λ (q : SizedAreaMeaning). q.version) read ∙ last_version k p same ends) valid_shelf bigger in
+      let gave : GivesBack ids ids' (get_or sized_areas (at (e - 5)) p).identity = subst (GivesBack ids ids') (id_is ∙ ap (λ (q : SizedAreaMeaning). q.identity) read') back in
       let it = dropped_at ids' starts' spare' spare_room' p ends gave tables (subst (Unshifts starts starts') same shift) in
-      subst (λ xs. Dropped ids' quota' origin' starts' xs spare' spare_room') (sym items) (subst (λ x. Dropped ids' quota' origin' starts' (remove places x) spare' spare_room') (sym at_same)
-      (subst (λ x. Dropped ids' x origin' starts' (remove places (at (e - 5))) spare' spare_room') (sym quota_is)
-      (subst (λ x. Dropped ids' quota x starts' (remove places (at (e - 5))) spare' spare_room') (sym origin_is) it)))
+      subst (λ xs. Dropped ids' quota' origin' starts' xs spare' spare_room') (sym items) (subst (λ x. Dropped ids' quota' origin' starts' (remove sized_areas x) spare' spare_room') (sym at_same)
+      (subst (λ x. Dropped ids' x origin' starts' (remove sized_areas (at (e - 5))) spare' spare_room') (sym quota_is)
+      (subst (λ x. Dropped ids' quota x starts' (remove sized_areas (at (e - 5))) spare' spare_room') (sym origin_is) it)))
 
   -- ---- whether the class ends with an empty area
 
@@ -337,12 +337,12 @@ module _ (v : Version) (quota : ℕ) (ids : List SegmentId) (origin : Origin) (s
       let long = long_e in
       record { count = 0; whole = (let z : length (row_at s.rows (e - 5)).chunks ≡ 0 = omega arith in z ∙ (let y : 0 ≡ 0 * per e = omega arith in y)); ends = inl refl }
 
-  long_place : (o last : ℕ) → get_or starts (e - 5) 0 + o < get_or starts (e - 5 + 1) 0 → last ≡ get_or starts (e - 5) 0 + o → (d : PlaceMeaning) → length (get_or places last d).chunks ≡ per e
+  long_place : (o last : ℕ) → get_or starts (e - 5) 0 + o < get_or starts (e - 5 + 1) 0 → last ≡ get_or starts (e - 5) 0 + o → (d : SizedAreaMeaning) → length (get_or sized_areas last d).chunks ≡ per e
   long_place o last within at d =
       let p = is.arranged.placed (e - 5) o d class_in within in
-      ap (λ i. length (get_or places i d).chunks) at ∙ p.place.whole ∙ ap per (p.exponent ∙ (let h : e - 5 + 5 ≡ e = omega arith in h))
+      ap (λ i. length (get_or sized_areas i d).chunks) at ∙ p.sized_area.whole ∙ ap per (p.exponent ∙ (let h : e - 5 + 5 ≡ e = omega arith in h))
 
-  pub ends_k : (k : ℕ) (q : PlaceMeaning) (b : Bool) → k ≡ e - 5 → (get_or starts (k + 1) 0 ≡ get_or starts k 0 → ⊥) → q ≡ get_or places (get_or starts (k + 1) 0 - 1) q
+  pub ends_k : (k : ℕ) (q : SizedAreaMeaning) (b : Bool) → k ≡ e - 5 → (get_or starts (k + 1) 0 ≡ get_or starts k 0 → ⊥) → q ≡ get_or sized_areas (get_or starts (k + 1) 0 - 1) q
       → MatchBool b ((i : ℕ) → get_or q.chunks i None ≡ None) ((i : ℕ) × IsSome (get_or q.chunks i None))
       → MatchBool b (EndsFree s.rows (e - 5) (per e)) (IsTrimmed (per e) (row_at s.rows (e - 5)))
   ends_k k q b same some read empty =
@@ -353,20 +353,20 @@ module _ (v : Version) (quota : ℕ) (ids : List SegmentId) (origin : Origin) (s
       let last : ℕ = get_or starts (c + 1) 0 - 1 in
       let o : ℕ = last - get_or starts c 0 in
       let at_o : last ≡ get_or starts c 0 + o = omega arith in
-      let read' : q ≡ get_or places last q = read ∙ (let h : get_or starts (k + 1) 0 - 1 ≡ last = omega arith in ap (λ i. get_or places i q) h) in
+      let read' : q ≡ get_or sized_areas last q = read ∙ (let h : get_or starts (k + 1) 0 - 1 ≡ last = omega arith in ap (λ i. get_or sized_areas i q) h) in
       let m = add-mul o 1 (per e) in
       let m' : get_or starts (c + 1) 0 * per e ≡ (o + 1 + get_or starts c 0) * per e = ap (λ x. x * per e) (let h : get_or starts (c + 1) 0 ≡ o + 1 + get_or starts c 0 = omega arith in h) in
       let m'' = add-mul (o + 1) (get_or starts c 0) (per e) in
       let long = long_e in
       let whole : length (row_at s.rows c).chunks ≡ (o + 1) * per e = omega arith in
       let per_o : o * per (c + 5) ≡ o * per e = ap (λ x. o * x) per_is in
-      let spot : (j : ℕ) → j < per e → facts.Spot v quota ids origin starts places full room spare spare_room s view is c o j last =
+      let location : (j : ℕ) → j < per e → facts.ChunkLocation v quota ids origin starts sized_areas full room spare spare_room s view is c o j last =
       λ j l. record { small = class_in; within = omega arith; at = at_o; below = (let p = per_is in omega arith) } in
       let chunk : (j : ℕ) → j < per e → (chunk_at s.rows c (o * per e + j) ≡ get_or q.chunks j None) =
-      λ j l. ap (λ x. chunk_at s.rows c (x + j)) (sym per_o) ∙ facts.chunk_s v quota ids origin starts places full room spare spare_room s view is c o j last (spot j l) q ∙ ap (λ (z : PlaceMeaning). get_or z.chunks j None) (sym read') in
+      λ j l. ap (λ x. chunk_at s.rows c (x + j)) (sym per_o) ∙ facts.chunk_s v quota ids origin starts sized_areas full room spare spare_room s view is c o j last (location j l) q ∙ ap (λ (z : SizedAreaMeaning). get_or z.chunks j None) (sym read') in
       ends_of b (length (row_at s.rows c).chunks) (per e) o c s.rows q.chunks whole refl chunk
-      (λ i h. (let n : length q.chunks ≡ per e = ap (λ (z : PlaceMeaning). length z.chunks) read' ∙ long_place o last (omega arith) at_o q in
+      (λ i h. (let n : length q.chunks ≡ per e = ap (λ (z : SizedAreaMeaning). length z.chunks) read' ∙ long_place o last (omega arith) at_o q in
       elim (cases_lt i (per e)) as (λ _. i < per e) [ inl l ↦ l | inr past ↦ (let gone : is_some (get_or q.chunks i None) ≡ false = ap is_some (get_or_past q.chunks i None (omega arith)) in absurd cc) ])) empty
 
   pub table_room_e : (o : Option Lengths) → EndsFree s.rows (e - 5) (per e) → version_of o ≡ v → IsSome o → spare < spare_room
-  table_room_e o ends is_v h = table_room v quota (length places) spare spare_room o is.supplied.tables (some_places ends) is_v h
+  table_room_e o ends is_v h = table_room v quota (length sized_areas) spare spare_room o is.supplied.tables (some_places ends) is_v h

@@ -7,10 +7,10 @@ use Rattle.dym_base.specs.Origins.{Origin}
 use Rattle.dym_base.specs.declared.command.Version.{Version}
 use Rattle.dym_region.specs.declared.segment.SegmentId.{SegmentId}
 use Rattle.dym_heap.specs.Table.{Row, row_at, chunk_at, touch_at}
-use Rattle.dym_heap.specs.Shelves.{ShelfMeaning, IsKept}
-use Rattle.dym_heap.specs.Places.{PlaceMeaning, IsPlace}
-use Rattle.dym_heap.specs.Arrangement.{IsPlaced, IsFullPlace, HasFree, IsShelf, shelf_of, rows_upto}
-use Rattle.dym_heap.specs.Bodies.{IsBodyOf, IsBody, loaded_over, IsLoadedPlace, IsLoadedArea}
+use Rattle.dym_heap.specs.Shelves.{ShelfMeaning, IsValidShelf}
+use Rattle.dym_heap.specs.SizedAreas.{SizedAreaMeaning, IsSizedArea}
+use Rattle.dym_heap.specs.Arrangement.{IsPlaced, IsFullArea, HasFree, IsShelf, shelf_of, rows_upto}
+use Rattle.dym_heap.specs.Bodies.{IsBodyOf, IsBody, loaded_over, IsLoadedSizedArea, IsLoadedArea}
 use Rattle.dym_heap.proofs.Rows.{class_end}
 use Rattle.dym_heap.proofs.RowSteps.{Remarks}
 use Rattle.dym_heap.proofs.ShelfFacts.{past_s}
@@ -21,8 +21,8 @@ use Rattle.dym_heap.proofs.Swaps as swaps
 same_area : (n o i d : ℕ) → i < n → 0 < n → (o * n + i) / n ≡ o
 same_area n o i d l some = div-mul-add o n i l
 
-module _ (v : Version) (quota : ℕ) (ids : List SegmentId) (origin : Origin) (starts : List ℕ) (places : List PlaceMeaning) (full : List (List Bool)) (room spare spare_room : ℕ)
-    (s : ShelfMeaning) (view : shelf_of v quota ids origin starts places ≡ s) (is : IsShelf v quota ids starts places full room spare spare_room) (e : ℕ) (low : 5 ≤ e) (high : e ≤ 16) where
+module _ (v : Version) (quota : ℕ) (ids : List SegmentId) (origin : Origin) (starts : List ℕ) (sized_areas : List SizedAreaMeaning) (full : List (List Bool)) (room spare spare_room : ℕ)
+    (s : ShelfMeaning) (view : shelf_of v quota ids origin starts sized_areas ≡ s) (is : IsShelf v quota ids starts sized_areas full room spare spare_room) (e : ℕ) (low : 5 ≤ e) (high : e ≤ 16) where
   per_is : per (e - 5 + 5) ≡ per e
   per_is = ap per (let h : e - 5 + 5 ≡ e = omega arith in h)
 
@@ -40,7 +40,7 @@ module _ (v : Version) (quota : ℕ) (ids : List SegmentId) (origin : Origin) (s
       let b : get_or starts k 0 ≡ get_or starts (e - 5) 0 = ap (λ x. get_or starts x 0) same in
       let gone : (i : ℕ) → i < per (e - 5 + 5) → (chunk_at s.rows (e - 5) (o * per (e - 5 + 5) + i) ≡ None) = λ i l.
       let q = div-mul-add o (per (e - 5 + 5)) i l in
-      past_s v quota ids origin starts places full room spare spare_room s view is (e - 5) (o * per (e - 5 + 5) + i) class_in (omega arith) in
+      past_s v quota ids origin starts sized_areas full room spare spare_room s view is (e - 5) (o * per (e - 5 + 5) + i) class_in (omega arith) in
       record {
         here = λ i l. gone i l ∙ sym (ap (loaded_over (get_or bits i false) (f i)) (gone i l));
         others = λ d i ne. refl;
@@ -57,12 +57,12 @@ module _ (v : Version) (quota : ℕ) (ids : List SegmentId) (origin : Origin) (s
     at : get_or starts k 0 + o ≡ get_or starts (e - 5) 0 + o
     at = ap (λ x. get_or starts x 0 + o) same
 
-    pub place_in : get_or starts k 0 + o < length places
-    place_in = let top = class_end v starts places full (e - 5) is.arranged class_in in let w = within in let a = at in omega arith
+    pub place_in : get_or starts k 0 + o < length sized_areas
+    place_in = let top = class_end v starts sized_areas full (e - 5) is.arranged class_in in let w = within in let a = at in omega arith
 
-    module _ (q : PlaceMeaning) (here : q ≡ get_or places (get_or starts k 0 + o) q) where
+    module _ (q : SizedAreaMeaning) (here : q ≡ get_or sized_areas (get_or starts k 0 + o) q) where
       placed_q : IsPlaced v (e - 5 + 5) o q
-      placed_q = subst (IsPlaced v (e - 5 + 5) o) (sym (here ∙ ap (λ x. get_or places x q) at)) (is.arranged.placed (e - 5) o q class_in within)
+      placed_q = subst (IsPlaced v (e - 5 + 5) o) (sym (here ∙ ap (λ x. get_or sized_areas x q) at)) (is.arranged.placed (e - 5) o q class_in within)
 
       pub exponent_q : q.exponent ≡ e
       exponent_q = let p = placed_q.exponent in omega arith
@@ -76,22 +76,22 @@ module _ (v : Version) (quota : ℕ) (ids : List SegmentId) (origin : Origin) (s
       pub has_q : (bits : List Bool) (body : List ℕ) → IsBody s.version e bits body → IsBody q.version q.exponent bits body
       has_q bits body has = (has.0, body_q bits body has.0 has.1)
 
-      module _ (p : PlaceMeaning) (lawful : IsPlace p) (bits : List Bool) (f : ℕ → List ℕ) (loads : IsLoadedPlace q p bits f) where
+      module _ (p : SizedAreaMeaning) (valid : IsSizedArea p) (bits : List Bool) (f : ℕ → List ℕ) (loads : IsLoadedSizedArea q p bits f) where
         some_same : (i : ℕ) → is_some (get_or p.chunks i None) ≡ is_some (get_or q.chunks i None)
         some_same i = ap is_some (loads.chunk i) ∙ loaded_some (get_or bits i false) (f i) (get_or q.chunks i None)
 
         exponent_p : p.exponent ≡ q.exponent
-        exponent_p = ap (λ (x : PlaceMeaning). x.exponent) loads.same
+        exponent_p = ap (λ (x : SizedAreaMeaning). x.exponent) loads.same
 
         long_p : length p.chunks ≡ length q.chunks
-        long_p = lawful.whole ∙ ap per exponent_p ∙ sym placed_q.place.whole
+        long_p = valid.whole ∙ ap per exponent_p ∙ sym placed_q.sized_area.whole
 
         placed_p : IsPlaced v (e - 5 + 5) o p
         placed_p = record {
-          place = lawful;
-          version = ap (λ (x : PlaceMeaning). x.version) loads.same ∙ placed_q.version;
+          sized_area = valid;
+          version = ap (λ (x : SizedAreaMeaning). x.version) loads.same ∙ placed_q.version;
           exponent = exponent_p ∙ placed_q.exponent;
-          ordinal = ap (λ (x : PlaceMeaning). x.ordinal) loads.same ∙ placed_q.ordinal;
+          ordinal = ap (λ (x : SizedAreaMeaning). x.ordinal) loads.same ∙ placed_q.ordinal;
         }
 
         marks : Remarks full full (e - 5) o p
@@ -100,41 +100,41 @@ module _ (v : Version) (quota : ℕ) (ids : List SegmentId) (origin : Origin) (s
           bits_len = is.arranged.bits_len;
           others = λ d r ne. refl;
           marked = λ h.
-              let was : IsFullPlace q = subst IsFullPlace (sym (here ∙ ap (λ x. get_or places x q) at)) (is.arranged.marked (e - 5) o q class_in h).1 in
+              let was : IsFullArea q = subst IsFullArea (sym (here ∙ ap (λ x. get_or sized_areas x q) at)) (is.arranged.marked (e - 5) o q class_in h).1 in
               λ i m. some_same i ∙ was i (let n = long_p in omega arith);
           unmarked = λ h.
-              let was : HasFree q = subst HasFree (sym (here ∙ ap (λ x. get_or places x q) at)) (is.arranged.unmarked (e - 5) o q class_in within h) in
+              let was : HasFree q = subst HasFree (sym (here ∙ ap (λ x. get_or sized_areas x q) at)) (is.arranged.unmarked (e - 5) o q class_in within h) in
               (was.0, (let m = was.1 in let n = long_p in omega arith), loads.chunk was.0 ∙ ap (loaded_over (get_or bits was.0 false) (f was.0)) was.2);
         }
 
         same_id : p.identity ≡ q.identity
-        same_id = ap (λ (x : PlaceMeaning). x.identity) loads.same
+        same_id = ap (λ (x : SizedAreaMeaning). x.identity) loads.same
 
-        pub load_shelf : IsShelf v quota ids starts (set places (get_or starts k 0 + o) p) full room spare spare_room
-        load_shelf = swaps.swap_shelf v quota ids origin starts places full room spare spare_room s view is (e - 5) o (get_or starts k 0 + o) class_in within at q p here placed_p same_id full marks
+        pub load_shelf : IsShelf v quota ids starts (set sized_areas (get_or starts k 0 + o) p) full room spare spare_room
+        load_shelf = swaps.swap_shelf v quota ids origin starts sized_areas full room spare spare_room s view is (e - 5) o (get_or starts k 0 + o) class_in within at q p here placed_p same_id full marks
 
-        pub load_kept : IsKept (shelf_of v quota ids origin starts (set places (get_or starts k 0 + o) p))
-        load_kept = swaps.swap_kept v quota ids origin starts places full room spare spare_room s view is (e - 5) o (get_or starts k 0 + o) class_in within at q p here placed_p same_id full marks
+        pub load_kept : IsValidShelf (shelf_of v quota ids origin starts (set sized_areas (get_or starts k 0 + o) p))
+        load_kept = swaps.swap_kept v quota ids origin starts sized_areas full room spare spare_room s view is (e - 5) o (get_or starts k 0 + o) class_in within at q p here placed_p same_id full marks
 
-        pub load_same : shelf_of v quota ids origin starts (set places (get_or starts k 0 + o) p) ≡ record s { rows = rows_upto 12 starts (set places (get_or starts k 0 + o) p) }
-        load_same = swaps.swap_same v quota ids origin starts places full room spare spare_room s view is (e - 5) o (get_or starts k 0 + o) class_in within at q p here placed_p same_id full marks
+        pub load_same : shelf_of v quota ids origin starts (set sized_areas (get_or starts k 0 + o) p) ≡ record s { rows = rows_upto 12 starts (set sized_areas (get_or starts k 0 + o) p) }
+        load_same = swaps.swap_same v quota ids origin starts sized_areas full room spare spare_room s view is (e - 5) o (get_or starts k 0 + o) class_in within at q p here placed_p same_id full marks
 
-        pub load_long : (d : ℕ) → length (row_at (rows_upto 12 starts (set places (get_or starts k 0 + o) p)) d).chunks ≡ length (row_at s.rows d).chunks
-        load_long = swaps.swap_long v quota ids origin starts places full room spare spare_room s view is (e - 5) o (get_or starts k 0 + o) class_in within at q p here placed_p same_id full marks
+        pub load_long : (d : ℕ) → length (row_at (rows_upto 12 starts (set sized_areas (get_or starts k 0 + o) p)) d).chunks ≡ length (row_at s.rows d).chunks
+        load_long = swaps.swap_long v quota ids origin starts sized_areas full room spare spare_room s view is (e - 5) o (get_or starts k 0 + o) class_in within at q p here placed_p same_id full marks
 
         abbrev new : List Row
-        new = rows_upto 12 starts (set places (get_or starts k 0 + o) p)
+        new = rows_upto 12 starts (set sized_areas (get_or starts k 0 + o) p)
 
-        pub load_area : IsLoadedArea s.rows (rows_upto 12 starts (set places (get_or starts k 0 + o) p)) (e - 5) o bits f
+        pub load_area : IsLoadedArea s.rows (rows_upto 12 starts (set sized_areas (get_or starts k 0 + o) p)) (e - 5) o bits f
         load_area = record {
           here = λ i b.
-              swaps.swap_here v quota ids origin starts places full room spare spare_room s view is (e - 5) o (get_or starts k 0 + o) class_in within at q p here placed_p same_id full marks i b
+              swaps.swap_here v quota ids origin starts sized_areas full room spare spare_room s view is (e - 5) o (get_or starts k 0 + o) class_in within at q p here placed_p same_id full marks i b
               ∙ loads.chunk i
-              ∙ sym (ap (loaded_over (get_or bits i false) (f i)) (swaps.swap_was v quota ids origin starts places full room spare spare_room s view is (e - 5) o (get_or starts k 0 + o) class_in within at q p here placed_p same_id full marks i b));
-          others = swaps.swap_other v quota ids origin starts places full room spare spare_room s view is (e - 5) o (get_or starts k 0 + o) class_in within at q p here placed_p same_id full marks;
+              ∙ sym (ap (loaded_over (get_or bits i false) (f i)) (swaps.swap_was v quota ids origin starts sized_areas full room spare spare_room s view is (e - 5) o (get_or starts k 0 + o) class_in within at q p here placed_p same_id full marks i b));
+          others = swaps.swap_other v quota ids origin starts sized_areas full room spare spare_room s view is (e - 5) o (get_or starts k 0 + o) class_in within at q p here placed_p same_id full marks;
           marks = λ d i.
               let n : ℕ = per (e - 5 + 5) in
-              let other = swaps.marks_other v quota ids origin starts places full room spare spare_room s view is (e - 5) o (get_or starts k 0 + o) class_in within at q p here placed_p same_id full marks in
+              let other = swaps.marks_other v quota ids origin starts sized_areas full room spare spare_room s view is (e - 5) o (get_or starts k 0 + o) class_in within at q p here placed_p same_id full marks in
               elim (cases_eq d (e - 5)) as (λ _. touch_at new d i ≡ touch_at s.rows d i) [
                 | inr ne ↦ other d i (λ x y. ne x)
                 | inl one ↦
@@ -144,10 +144,10 @@ module _ (v : Version) (quota : ℕ) (ids : List SegmentId) (origin : Origin) (s
                           let below : i % n < n = mod_below i n (pow_pos (16 - (e - 5 + 5))) in
                           let split : o * n + i % n ≡ i = ap (λ x. x * n + i % n) (sym two) ∙ div-add-mod' i n in
                           ap (λ x. touch_at new x i) one ∙ ap (touch_at new (e - 5)) (sym split)
-                          ∙ swaps.marks_here v quota ids origin starts places full room spare spare_room s view is (e - 5) o (get_or starts k 0 + o) class_in within at q p here placed_p same_id full marks (i % n) below
-                          ∙ ap (λ (x : PlaceMeaning). get_or x.touched (i % n) false) loads.same
+                          ∙ swaps.marks_here v quota ids origin starts sized_areas full room spare spare_room s view is (e - 5) o (get_or starts k 0 + o) class_in within at q p here placed_p same_id full marks (i % n) below
+                          ∙ ap (λ (x : SizedAreaMeaning). get_or x.touched (i % n) false) loads.same
                           ∙ sym (ap (λ x. touch_at s.rows x i) one ∙ ap (touch_at s.rows (e - 5)) (sym split)
-                          ∙ swaps.marks_was v quota ids origin starts places full room spare spare_room s view is (e - 5) o (get_or starts k 0 + o) class_in within at q p here placed_p same_id full marks (i % n) below)
+                          ∙ swaps.marks_was v quota ids origin starts sized_areas full room spare spare_room s view is (e - 5) o (get_or starts k 0 + o) class_in within at q p here placed_p same_id full marks (i % n) below)
                     ]
               ];
         }

@@ -7,11 +7,11 @@ use Rattle.dym_base.specs.Origins.{Origin}
 use Rattle.dym_base.specs.declared.command.Version.{Version}
 use Rattle.dym_region.specs.declared.segment.SegmentId.{SegmentId}
 use Rattle.dym_heap.specs.Table.{Row, row_at}
-use Rattle.dym_heap.specs.Shelves.{ShelfMeaning, IsKept}
-use Rattle.dym_heap.specs.Places.{PlaceMeaning, IsPlace}
-use Rattle.dym_heap.specs.Arrangement.{IsPlaced, IsFullPlace, HasFree, IsArranged, IsShelf, shelf_of, rows_upto, marks_of_class}
+use Rattle.dym_heap.specs.Shelves.{ShelfMeaning, IsValidShelf}
+use Rattle.dym_heap.specs.SizedAreas.{SizedAreaMeaning, IsSizedArea}
+use Rattle.dym_heap.specs.Arrangement.{IsPlaced, IsFullArea, HasFree, IsArranged, IsShelf, shelf_of, rows_upto, marks_of_class}
 use Rattle.dym_base.specs.declared.limits.TheConstants.{MOST_CHUNKS}
-use Rattle.dym_heap.specs.Wanted.{place_chunk, IsReshaped, IsChangedArea}
+use Rattle.dym_heap.specs.Fetches.{area_chunk, IsReshaped, IsChangedArea}
 use Rattle.dym_heap.proofs.Rows.{class_end, count_c, count_is, whole_row}
 use Rattle.dym_heap.proofs.RowSteps.{Remarks}
 use Rattle.dym_heap.proofs.ShelfFacts.{row_s}
@@ -19,9 +19,9 @@ use Rattle.dym_heap.proofs.Marks.{free_from}
 use Rattle.dym_heap.proofs.Swaps as swaps
 
 -- a mark is set or cleared
-remarks_set : (v : Version) (starts : List ℕ) (places : List PlaceMeaning) (full : List (List Bool)) (c o : ℕ) (p : PlaceMeaning) (b : Bool) → IsArranged v starts places full → c < 12 → o < MOST_CHUNKS
-    → (b ≡ true → IsFullPlace p) → (b ≡ false → HasFree p) → Remarks full (set full c (set (marks_of_class full c) o b)) c o p
-remarks_set v starts places full c o p b is l small filled free =
+remarks_set : (v : Version) (starts : List ℕ) (sized_areas : List SizedAreaMeaning) (full : List (List Bool)) (c o : ℕ) (p : SizedAreaMeaning) (b : Bool) → IsArranged v starts sized_areas full → c < 12 → o < MOST_CHUNKS
+    → (b ≡ true → IsFullArea p) → (b ≡ false → HasFree p) → Remarks full (set full c (set (marks_of_class full c) o b)) c o p
+remarks_set v starts sized_areas full c o p b is l small filled free =
     let many = is.full_len in
     let long = is.bits_len c l in
     let full' : List (List Bool) = set full c (set (marks_of_class full c) o b) in
@@ -46,8 +46,8 @@ remarks_set v starts places full c o p b is l small filled free =
       unmarked = λ h. free (sym here ∙ h);
     }
 
-module _ (v : Version) (quota : ℕ) (ids : List SegmentId) (origin : Origin) (starts : List ℕ) (places : List PlaceMeaning) (full : List (List Bool)) (room spare spare_room : ℕ)
-    (s : ShelfMeaning) (view : shelf_of v quota ids origin starts places ≡ s) (is : IsShelf v quota ids starts places full room spare spare_room) (e : ℕ) (low : 5 ≤ e) (high : e ≤ 16) where
+module _ (v : Version) (quota : ℕ) (ids : List SegmentId) (origin : Origin) (starts : List ℕ) (sized_areas : List SizedAreaMeaning) (full : List (List Bool)) (room spare spare_room : ℕ)
+    (s : ShelfMeaning) (view : shelf_of v quota ids origin starts sized_areas ≡ s) (is : IsShelf v quota ids starts sized_areas full room spare spare_room) (e : ℕ) (low : 5 ≤ e) (high : e ≤ 16) where
   per_is : per (e - 5 + 5) ≡ per e
   per_is = ap per (let h : e - 5 + 5 ≡ e = omega arith in h)
 
@@ -62,9 +62,9 @@ module _ (v : Version) (quota : ℕ) (ids : List SegmentId) (origin : Origin) (s
   area_in k o same l =
       let a : get_or starts (k + 1) 0 ≡ get_or starts (e - 5 + 1) 0 = ap (λ x. get_or starts (x + 1) 0) same in
       let b : get_or starts k 0 ≡ get_or starts (e - 5) 0 = ap (λ x. get_or starts x 0) same in
-      let n = count_is v starts places full is.arranged (e - 5) class_in in
-      let long = ap (λ (r : Row). length r.chunks) (row_s v quota ids origin starts places full room spare spare_room s view is (e - 5) class_in) ∙ whole_row v starts places full is.arranged (e - 5) class_in in
-      let m : ℕ = count_c v starts places full is.arranged (e - 5) class_in in
+      let n = count_is v starts sized_areas full is.arranged (e - 5) class_in in
+      let long = ap (λ (r : Row). length r.chunks) (row_s v quota ids origin starts sized_areas full room spare spare_room s view is (e - 5) class_in) ∙ whole_row v starts sized_areas full is.arranged (e - 5) class_in in
+      let m : ℕ = count_c v starts sized_areas full is.arranged (e - 5) class_in in
       let p : m * per (e - 5 + 5) ≡ m * per e = ap (λ x. m * x) per_is in
       elim (cases_lt o m) as (λ _. o < get_or starts (k + 1) 0 - get_or starts k 0) [
         | inl below ↦ omega arith
@@ -76,9 +76,9 @@ module _ (v : Version) (quota : ℕ) (ids : List SegmentId) (origin : Origin) (s
   areas_k k same =
       let a : get_or starts (k + 1) 0 ≡ get_or starts (e - 5 + 1) 0 = ap (λ x. get_or starts (x + 1) 0) same in
       let b : get_or starts k 0 ≡ get_or starts (e - 5) 0 = ap (λ x. get_or starts x 0) same in
-      let n = count_is v starts places full is.arranged (e - 5) class_in in
-      let long = ap (λ (r : Row). length r.chunks) (row_s v quota ids origin starts places full room spare spare_room s view is (e - 5) class_in) ∙ whole_row v starts places full is.arranged (e - 5) class_in in
-      let m : count_c v starts places full is.arranged (e - 5) class_in ≡ get_or starts (k + 1) 0 - get_or starts k 0 = omega arith in
+      let n = count_is v starts sized_areas full is.arranged (e - 5) class_in in
+      let long = ap (λ (r : Row). length r.chunks) (row_s v quota ids origin starts sized_areas full room spare spare_room s view is (e - 5) class_in) ∙ whole_row v starts sized_areas full is.arranged (e - 5) class_in in
+      let m : count_c v starts sized_areas full is.arranged (e - 5) class_in ≡ get_or starts (k + 1) 0 - get_or starts k 0 = omega arith in
       long ∙ ap (λ x. x * per (e - 5 + 5)) m
 
   module _ (k o : ℕ) (same : k ≡ e - 5) (l : o < get_or starts (k + 1) 0 - get_or starts k 0) where
@@ -91,15 +91,15 @@ module _ (v : Version) (quota : ℕ) (ids : List SegmentId) (origin : Origin) (s
     at : get_or starts k 0 + o ≡ get_or starts (e - 5) 0 + o
     at = ap (λ x. get_or starts x 0 + o) same
 
-    pub place_in : get_or starts k 0 + o < length places
-    place_in = let top = class_end v starts places full (e - 5) is.arranged class_in in let w = within in let a = at in omega arith
+    pub place_in : get_or starts k 0 + o < length sized_areas
+    place_in = let top = class_end v starts sized_areas full (e - 5) is.arranged class_in in let w = within in let a = at in omega arith
 
     pub place_small : get_or starts k 0 + o < 1024
     place_small = let l = place_in in let fits = is.supplied.within in let most = is.supplied.most in omega arith
 
-    module _ (q : PlaceMeaning) (here : q ≡ get_or places (get_or starts k 0 + o) q) where
+    module _ (q : SizedAreaMeaning) (here : q ≡ get_or sized_areas (get_or starts k 0 + o) q) where
       placed_q : IsPlaced v (e - 5 + 5) o q
-      placed_q = subst (IsPlaced v (e - 5 + 5) o) (sym (here ∙ ap (λ x. get_or places x q) at)) (is.arranged.placed (e - 5) o q class_in within)
+      placed_q = subst (IsPlaced v (e - 5 + 5) o) (sym (here ∙ ap (λ x. get_or sized_areas x q) at)) (is.arranged.placed (e - 5) o q class_in within)
 
       pub exponent_q : q.exponent ≡ e
       exponent_q = let p = placed_q.exponent in omega arith
@@ -108,7 +108,7 @@ module _ (v : Version) (quota : ℕ) (ids : List SegmentId) (origin : Origin) (s
       version_q = placed_q.version ∙ sym version_s
 
       pub ordinal_small : o < MOST_CHUNKS
-      ordinal_small = let w = within in let top = class_end v starts places full (e - 5) is.arranged class_in in let fits = is.supplied.within in let most = is.supplied.most in omega arith
+      ordinal_small = let w = within in let top = class_end v starts sized_areas full (e - 5) is.arranged class_in in let fits = is.supplied.within in let most = is.supplied.most in omega arith
 
       pub len_q : (n : ℕ) → n ≡ max 1 (per e / 8) → n ≡ max 1 (per q.exponent / 8)
       len_q n is_n = is_n ∙ ap (λ x. max 1 (per x / 8)) (sym exponent_q)
@@ -116,40 +116,40 @@ module _ (v : Version) (quota : ℕ) (ids : List SegmentId) (origin : Origin) (s
       pub below_q : (i : ℕ) → i < per e → i < per q.exponent
       below_q i b = let x = ap per exponent_q in omega arith
 
-      module _ (p : PlaceMeaning) (lawful : IsPlace p) (is_set : ℕ → Bool) (same_place : p ≡ record q { chunks = p.chunks; touched = p.touched }) (shaped : (i : ℕ) → IsReshaped (is_set i) (place_chunk q i) (place_chunk p i)) (b : Bool) (filled : IsTrue b ↔ IsFullPlace p) (full' : List (List Bool))
+      module _ (p : SizedAreaMeaning) (valid : IsSizedArea p) (is_set : ℕ → Bool) (same_place : p ≡ record q { chunks = p.chunks; touched = p.touched }) (shaped : (i : ℕ) → IsReshaped (is_set i) (area_chunk q i) (area_chunk p i)) (b : Bool) (filled : IsTrue b ↔ IsFullArea p) (full' : List (List Bool))
           (after : full' ≡ set full k (set (marks_of_class full k) o b)) where
         exponent_p : p.exponent ≡ q.exponent
-        exponent_p = ap (λ (x : PlaceMeaning). x.exponent) same_place
+        exponent_p = ap (λ (x : SizedAreaMeaning). x.exponent) same_place
 
         long_p : length p.chunks ≡ length q.chunks
-        long_p = lawful.whole ∙ ap per exponent_p ∙ sym placed_q.place.whole
+        long_p = valid.whole ∙ ap per exponent_p ∙ sym placed_q.sized_area.whole
 
         placed_p : IsPlaced v (e - 5 + 5) o p
         placed_p = record {
-          place = lawful;
-          version = ap (λ (x : PlaceMeaning). x.version) same_place ∙ placed_q.version;
+          sized_area = valid;
+          version = ap (λ (x : SizedAreaMeaning). x.version) same_place ∙ placed_q.version;
           exponent = exponent_p ∙ placed_q.exponent;
-          ordinal = ap (λ (x : PlaceMeaning). x.ordinal) same_place ∙ placed_q.ordinal;
+          ordinal = ap (λ (x : SizedAreaMeaning). x.ordinal) same_place ∙ placed_q.ordinal;
         }
 
         marks : Remarks full full' (e - 5) o p
         marks = subst (λ f. Remarks full f (e - 5) o p) (sym (after ∙ ap (λ x. set full x (set (marks_of_class full x) o b)) same))
-            (remarks_set v starts places full (e - 5) o p b is.arranged class_in ordinal_small (λ h. filled.0 h) (λ h. free_from p (λ all. (let t = filled.1 all in absurd (true≢false (sym t ∙ h))))))
+            (remarks_set v starts sized_areas full (e - 5) o p b is.arranged class_in ordinal_small (λ h. filled.0 h) (λ h. free_from p (λ all. (let t = filled.1 all in absurd (true≢false (sym t ∙ h))))))
 
         same_id : p.identity ≡ q.identity
-        same_id = ap (λ (x : PlaceMeaning). x.identity) same_place
+        same_id = ap (λ (x : SizedAreaMeaning). x.identity) same_place
 
-        pub shape_shelf : IsShelf v quota ids starts (set places (get_or starts k 0 + o) p) full' room spare spare_room
-        shape_shelf = swaps.swap_shelf v quota ids origin starts places full room spare spare_room s view is (e - 5) o (get_or starts k 0 + o) class_in within at q p here placed_p same_id full' marks
+        pub shape_shelf : IsShelf v quota ids starts (set sized_areas (get_or starts k 0 + o) p) full' room spare spare_room
+        shape_shelf = swaps.swap_shelf v quota ids origin starts sized_areas full room spare spare_room s view is (e - 5) o (get_or starts k 0 + o) class_in within at q p here placed_p same_id full' marks
 
-        pub shape_kept : IsKept (shelf_of v quota ids origin starts (set places (get_or starts k 0 + o) p))
-        shape_kept = swaps.swap_kept v quota ids origin starts places full room spare spare_room s view is (e - 5) o (get_or starts k 0 + o) class_in within at q p here placed_p same_id full' marks
+        pub shape_kept : IsValidShelf (shelf_of v quota ids origin starts (set sized_areas (get_or starts k 0 + o) p))
+        shape_kept = swaps.swap_kept v quota ids origin starts sized_areas full room spare spare_room s view is (e - 5) o (get_or starts k 0 + o) class_in within at q p here placed_p same_id full' marks
 
-        pub shape_same : shelf_of v quota ids origin starts (set places (get_or starts k 0 + o) p) ≡ record s { rows = rows_upto 12 starts (set places (get_or starts k 0 + o) p) }
-        shape_same = swaps.swap_same v quota ids origin starts places full room spare spare_room s view is (e - 5) o (get_or starts k 0 + o) class_in within at q p here placed_p same_id full' marks
+        pub shape_same : shelf_of v quota ids origin starts (set sized_areas (get_or starts k 0 + o) p) ≡ record s { rows = rows_upto 12 starts (set sized_areas (get_or starts k 0 + o) p) }
+        shape_same = swaps.swap_same v quota ids origin starts sized_areas full room spare spare_room s view is (e - 5) o (get_or starts k 0 + o) class_in within at q p here placed_p same_id full' marks
 
-        pub shape_long : (d : ℕ) → length (row_at (rows_upto 12 starts (set places (get_or starts k 0 + o) p)) d).chunks ≡ length (row_at s.rows d).chunks
-        shape_long = swaps.swap_long v quota ids origin starts places full room spare spare_room s view is (e - 5) o (get_or starts k 0 + o) class_in within at q p here placed_p same_id full' marks
+        pub shape_long : (d : ℕ) → length (row_at (rows_upto 12 starts (set sized_areas (get_or starts k 0 + o) p)) d).chunks ≡ length (row_at s.rows d).chunks
+        shape_long = swaps.swap_long v quota ids origin starts sized_areas full room spare spare_room s view is (e - 5) o (get_or starts k 0 + o) class_in within at q p here placed_p same_id full' marks
 
-        pub shape_area : IsChangedArea s.rows (rows_upto 12 starts (set places (get_or starts k 0 + o) p)) (e - 5) o (λ i old new. IsReshaped (is_set i) old new)
-        shape_area = swaps.swap_changes v quota ids origin starts places full room spare spare_room s view is (e - 5) o (get_or starts k 0 + o) class_in within at q p here placed_p same_id full' marks (λ i old new. IsReshaped (is_set i) old new) (λ i b. shaped i)
+        pub shape_area : IsChangedArea s.rows (rows_upto 12 starts (set sized_areas (get_or starts k 0 + o) p)) (e - 5) o (λ i old new. IsReshaped (is_set i) old new)
+        shape_area = swaps.swap_changes v quota ids origin starts sized_areas full room spare spare_room s view is (e - 5) o (get_or starts k 0 + o) class_in within at q p here placed_p same_id full' marks (λ i old new. IsReshaped (is_set i) old new) (λ i b. shaped i)

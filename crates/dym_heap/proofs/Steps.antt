@@ -9,7 +9,7 @@ use Rattle.dym_base.specs.Numbers.{number, per}
 use Rattle.dym_base.specs.Heaps.{held}
 use Rattle.dym_heap.specs.Table.{Row, empty_row, row_at, chunk_at, touch_at, live_of, touched_of, state_of}
 use Rattle.dym_heap.specs.Shape.{areas_in}
-use Rattle.dym_heap.specs.Shelves.{ShelfMeaning, IsRow, IsKept, IsTidy, put, with_put, longer, shorter}
+use Rattle.dym_heap.specs.Shelves.{ShelfMeaning, IsRow, IsValidShelf, IsTidy, put, with_put, longer, shorter}
 use Rattle.dym_heap.proofs.Counting.{held-is}
 use Rattle.dym_heap.proofs.Entries.{Fits, MarksFit, ChangesChunk, ChangesMark, with_option, with_mark, live_of-changed, live_of-same, touched_of-changed, touched_of-same}
 
@@ -30,18 +30,18 @@ row_short v e row is = let less = short_row v e row is in omega arith
 past_rows : (rows : List Row) (c : ℕ) → length rows ≤ c → row_at rows c ≡ empty_row
 past_rows rows c past = get_or_past rows c empty_row past
 
-pub kept_fits : (s : ShelfMeaning) → IsKept s → Fits s.rows
-kept_fits s kept c =
+pub kept_fits : (s : ShelfMeaning) → IsValidShelf s → Fits s.rows
+kept_fits s valid_shelf c =
     elim (cases_lt c 12) as (λ _. length (row_at s.rows c).chunks ≤ 2 ^ 32) [
-      | inl l ↦ row_short s.version (c + 5) (row_at s.rows c) (kept.row c l)
-      | inr past ↦ (let none = ap (λ (r : Row). length r.chunks) (past_rows s.rows c (let n = kept.classes in omega arith)) in omega arith)
+      | inl l ↦ row_short s.version (c + 5) (row_at s.rows c) (valid_shelf.row c l)
+      | inr past ↦ (let none = ap (λ (r : Row). length r.chunks) (past_rows s.rows c (let n = valid_shelf.classes in omega arith)) in omega arith)
     ]
 
-pub kept_marks_fit : (s : ShelfMeaning) → IsKept s → MarksFit s.rows
-kept_marks_fit s kept c =
+pub kept_marks_fit : (s : ShelfMeaning) → IsValidShelf s → MarksFit s.rows
+kept_marks_fit s valid_shelf c =
     elim (cases_lt c 12) as (λ _. length (row_at s.rows c).touched ≤ 2 ^ 32) [
-      | inl l ↦ (let short = row_short s.version (c + 5) (row_at s.rows c) (kept.row c l) in let same = (kept.row c l).marks in omega arith)
-      | inr past ↦ (let none = ap (λ (r : Row). length r.touched) (past_rows s.rows c (let n = kept.classes in omega arith)) in omega arith)
+      | inl l ↦ (let short = row_short s.version (c + 5) (row_at s.rows c) (valid_shelf.row c l) in let same = (valid_shelf.row c l).marks in omega arith)
+      | inr past ↦ (let none = ap (λ (r : Row). length r.touched) (past_rows s.rows c (let n = valid_shelf.classes in omega arith)) in omega arith)
     ]
 
 -- ---- a row among the rows
@@ -85,14 +85,14 @@ put_mark rows c i o b l within = record {
 }
 
 -- the state after a chunk is put
-pub state-put : (s : ShelfMeaning) (c i : ℕ) (o : Option (List ℕ)) (b : Bool) → IsKept s → IsKept (with_put s c i o b) → c < 12 → i < length (row_at s.rows c).chunks
+pub state-put : (s : ShelfMeaning) (c i : ℕ) (o : Option (List ℕ)) (b : Bool) → IsValidShelf s → IsValidShelf (with_put s c i o b) → c < 12 → i < length (row_at s.rows c).chunks
     → state_of (with_put s c i o b).rows ≡ record { live = with_option (live_of s.rows) (number (c + 5) i) o; touched = with_mark (touched_of s.rows) (number (c + 5) i) b }
-state-put s c i o b kept kept' l within =
-    let n = kept.classes in
-    let m = (kept.row c l).marks in
-    let short = kept_fits s kept c in
-    let lives = live_of-changed s.rows (with_put s c i o b).rows c i o (kept_fits s kept) (kept_fits _ kept') (omega arith) (put_chunk s.rows c i o b (omega arith) within) in
-    let marks = touched_of-changed s.rows (with_put s c i o b).rows c i b (kept_marks_fit s kept) (kept_marks_fit _ kept') (omega arith) (put_mark s.rows c i o b (omega arith) (omega arith)) in
+state-put s c i o b valid_shelf valid_shelf' l within =
+    let n = valid_shelf.classes in
+    let m = (valid_shelf.row c l).marks in
+    let short = kept_fits s valid_shelf c in
+    let lives = live_of-changed s.rows (with_put s c i o b).rows c i o (kept_fits s valid_shelf) (kept_fits _ valid_shelf') (omega arith) (put_chunk s.rows c i o b (omega arith) within) in
+    let marks = touched_of-changed s.rows (with_put s c i o b).rows c i b (kept_marks_fit s valid_shelf) (kept_marks_fit _ valid_shelf') (omega arith) (put_mark s.rows c i o b (omega arith) (omega arith)) in
     λ j. record { live = lives j; touched = marks j }
 
 -- ---- a row gets longer by an empty area, or shorter by some
@@ -118,14 +118,14 @@ get_or_cut xs n i d gone =
     ]
 
 -- a change of one row that keeps each of its chunks and marks keeps the state
-pub state_of-same : (s t : ShelfMeaning) (c : ℕ) (r : Row) → IsKept s → IsKept t → t.rows ≡ set s.rows c r → c < 12
+pub state_of-same : (s t : ShelfMeaning) (c : ℕ) (r : Row) → IsValidShelf s → IsValidShelf t → t.rows ≡ set s.rows c r → c < 12
     → ((i : ℕ) → get_or r.chunks i None ≡ chunk_at s.rows c i) → ((i : ℕ) → get_or r.touched i false ≡ touch_at s.rows c i)
     → state_of t.rows ≡ state_of s.rows
-state_of-same s t c r kept kept' is l chunks marks =
-    let n = kept.classes in
+state_of-same s t c r valid_shelf valid_shelf' is l chunks marks =
+    let n = valid_shelf.classes in
     let at : (d : ℕ) → (row_at t.rows d ≡ row_at (set s.rows c r) d) = λ d. ap (λ rs. row_at rs d) is in
     let lives : live_of t.rows ≡ live_of s.rows =
-    live_of-same s.rows t.rows (kept_fits s kept) (kept_fits t kept') (λ d i.
+    live_of-same s.rows t.rows (kept_fits s valid_shelf) (kept_fits t valid_shelf') (λ d i.
     ap (λ (r : Row). get_or r.chunks i None) (at d)
     ∙ elim (cases_eq d c) as (λ _. chunk_at (set s.rows c r) d i ≡ chunk_at s.rows d i) [
       | inl same ↦
@@ -134,7 +134,7 @@ state_of-same s t c r kept kept' is l chunks marks =
       | inr ne ↦ ap (λ (q : Row). get_or q.chunks i None) (row_other s.rows c d r ne)
     ]) in
     let marked : touched_of t.rows ≡ touched_of s.rows =
-    touched_of-same s.rows t.rows (kept_marks_fit s kept) (kept_marks_fit t kept') (λ d i.
+    touched_of-same s.rows t.rows (kept_marks_fit s valid_shelf) (kept_marks_fit t valid_shelf') (λ d i.
     ap (λ (r : Row). get_or r.touched i false) (at d)
     ∙ elim (cases_eq d c) as (λ _. touch_at (set s.rows c r) d i ≡ touch_at s.rows d i) [
       | inl same ↦
@@ -181,4 +181,4 @@ areas_in-set e (q ∷ rows) (suc c) r l =
     omega arith
 
 pub tidy_held : (s : ShelfMeaning) → IsTidy s → held (live_of s.rows) ≡ length s.held_ids
-tidy_held s tidy = held-is s.rows (kept_fits s tidy.kept) tidy.kept.classes tidy.trimmed ∙ sym tidy.kept.holds
+tidy_held s tidy = held-is s.rows (kept_fits s tidy.valid_shelf) tidy.valid_shelf.classes tidy.trimmed ∙ sym tidy.valid_shelf.holds

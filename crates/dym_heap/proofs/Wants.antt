@@ -1,7 +1,7 @@
 -- One chunk that is marked, fetched or reshaped, and again.
 use Rattle.std.proofs.Common.{◌≡◌, ℕ, Bool, true, false, cond, not, ◌&&◌, ◌||◌, is_some, Option, Some, None, List, refl, sym, ap, ◌∙◌}
 use Rattle.dym_base.specs.StandsFor.{or_else}
-use Rattle.dym_heap.specs.Wanted.{ChunkMeaning, marked, fetched, is_settled, IsReshaped}
+use Rattle.dym_heap.specs.Fetches.{ChunkMeaning, marked, fetched, is_unmodified, IsReshaped}
 
 pub both_first : (a b : Bool) → (a && b) ≡ true → a ≡ true
 both_first true b h = refl
@@ -77,16 +77,16 @@ settled_again false s = refl
 
 pub reshaped_again : (u : Bool) (a b c : ChunkMeaning) → IsReshaped u a b → IsReshaped u b c → IsReshaped u a c
 reshaped_again u a b c first second =
-    let wanted : c.touched ≡ (u && not (is_settled a)) = second.wanted ∙ (λ i. u && not (first.used i && not (first.wanted i))) ∙ settled_again u (is_settled a) in
+    let wanted : c.touched ≡ (u && not (is_unmodified a)) = second.wanted ∙ (λ i. u && not (first.used i && not (first.wanted i))) ∙ settled_again u (is_unmodified a) in
     record {
       used = second.used;
       wanted = wanted;
-      kept = λ live quiet. second.kept live quiet ∙ first.kept live (first.wanted ∙ sym wanted ∙ quiet);
+      valid_shelf = λ live quiet. second.valid_shelf live quiet ∙ first.valid_shelf live (first.wanted ∙ sym wanted ∙ quiet);
     }
 
 -- where the chunk isn't among the handles it doesn't matter what it was
 pub reshaped_free : (a d b : ChunkMeaning) → IsReshaped false a b → IsReshaped false d b
-reshaped_free a d b is = record { used = is.used; wanted = is.wanted; kept = λ live. absurd cc }
+reshaped_free a d b is = record { used = is.used; wanted = is.wanted; valid_shelf = λ live. absurd cc }
 
 pub reshaped_gone : (a : ChunkMeaning) → IsReshaped false a no_chunk
-reshaped_gone a = record { used = refl; wanted = refl; kept = λ live. absurd cc }
+reshaped_gone a = record { used = refl; wanted = refl; valid_shelf = λ live. absurd cc }

@@ -9,23 +9,23 @@ use Rattle.dym_region.specs.declared.segment.SegmentId.{SegmentId}
 use Rattle.dym_base.specs.Origins.{Origin}
 use Rattle.dym_heap.specs.Table.{Row}
 use Rattle.dym_heap.specs.Shelves.{ShelfMeaning}
-use Rattle.dym_heap.specs.Places.{PlaceMeaning, IsPlace}
+use Rattle.dym_heap.specs.SizedAreas.{SizedAreaMeaning, IsSizedArea}
 
 -- the chunks of areas of one class, one area after the other
-abbrev pub row_of : List PlaceMeaning → Row
-row_of places = record { chunks = flat_map (λ p. p.chunks) places; touched = flat_map (λ p. p.touched) places }
+abbrev pub row_of : List SizedAreaMeaning → Row
+row_of sized_areas = record { chunks = flat_map (λ p. p.chunks) sized_areas; touched = flat_map (λ p. p.touched) sized_areas }
 
 -- the areas of class c + 5: they stand from start c up to start c + 1
-abbrev pub class_places : List ℕ → List PlaceMeaning → ℕ → List PlaceMeaning
-class_places starts places c = slice_range places (slice_index starts c) (slice_index starts (c + 1))
+abbrev pub class_sized_areas : List ℕ → List SizedAreaMeaning → ℕ → List SizedAreaMeaning
+class_sized_areas starts sized_areas c = slice_range sized_areas (slice_index starts c) (slice_index starts (c + 1))
 
 -- the rows of the first n classes
-unfoldable pub rows_upto : ℕ → List ℕ → List PlaceMeaning → List Row
-rows_upto n starts places = map (λ c. row_of (class_places starts places c)) (range_with_len 0 n)
+unfoldable pub rows_upto : ℕ → List ℕ → List SizedAreaMeaning → List Row
+rows_upto n starts sized_areas = map (λ c. row_of (class_sized_areas starts sized_areas c)) (range_with_len 0 n)
 
 -- an area of class e, at its place in the class
-pub record IsPlaced (v : Version) (e o : ℕ) (p : PlaceMeaning) : Type 0 where
-  pub place : IsPlace p
+pub record IsPlaced (v : Version) (e o : ℕ) (p : SizedAreaMeaning) : Type 0 where
+  pub sized_area : IsSizedArea p
   pub version : p.version ≡ v
   pub exponent : p.exponent ≡ e
   pub ordinal : p.ordinal ≡ o
@@ -35,28 +35,28 @@ abbrev pub marks_of_class : List (List Bool) → ℕ → List Bool
 marks_of_class full c = slice_index_or full c []
 
 -- each chunk of the area is in use
-abbrev pub IsFullPlace : PlaceMeaning → Type 0
-IsFullPlace p = (i : ℕ) → i < length p.chunks → IsSome (slice_index_or p.chunks i None)
+abbrev pub IsFullArea : SizedAreaMeaning → Type 0
+IsFullArea p = (i : ℕ) → i < length p.chunks → IsSome (slice_index_or p.chunks i None)
 
 -- a chunk of the area is free
-abbrev pub HasFree : PlaceMeaning → Type 0
+abbrev pub HasFree : SizedAreaMeaning → Type 0
 HasFree p = (i : ℕ) × (i < length p.chunks) × (slice_index_or p.chunks i None ≡ None)
 
 -- the thirteen starts, the areas and the marks belong together
-pub record IsArranged (v : Version) (starts : List ℕ) (places : List PlaceMeaning) (full : List (List Bool)) : Type 0 where
+pub record IsArranged (v : Version) (starts : List ℕ) (sized_areas : List SizedAreaMeaning) (full : List (List Bool)) : Type 0 where
   pub starts_len : length starts ≡ 13
   pub first : slice_index starts 0 ≡ 0
   pub rising : (c : ℕ) → c < 12 → slice_index starts c ≤ slice_index starts (c + 1)
-  pub last : slice_index starts 12 ≡ length places
-  pub placed : (c o : ℕ) (d : PlaceMeaning) → c < 12 → slice_index starts c + o < slice_index starts (c + 1)
-      → IsPlaced v (c + 5) o (slice_index_or places (slice_index starts c + o) d)
+  pub last : slice_index starts 12 ≡ length sized_areas
+  pub placed : (c o : ℕ) (d : SizedAreaMeaning) → c < 12 → slice_index starts c + o < slice_index starts (c + 1)
+      → IsPlaced v (c + 5) o (slice_index_or sized_areas (slice_index starts c + o) d)
   pub full_len : length full ≡ 12
   pub bits_len : (c : ℕ) → c < 12 → length (marks_of_class full c) ≡ MOST_CHUNKS
   -- a mark says that the area is full, and only an area that is not lacks one
-  pub marked : (c o : ℕ) (d : PlaceMeaning) → c < 12 → IsSet (marks_of_class full c) o
-      → (slice_index starts c + o < slice_index starts (c + 1)) × IsFullPlace (slice_index_or places (slice_index starts c + o) d)
-  pub unmarked : (c o : ℕ) (d : PlaceMeaning) → c < 12 → slice_index starts c + o < slice_index starts (c + 1) → IsClear (marks_of_class full c) o
-      → HasFree (slice_index_or places (slice_index starts c + o) d)
+  pub marked : (c o : ℕ) (d : SizedAreaMeaning) → c < 12 → IsSet (marks_of_class full c) o
+      → (slice_index starts c + o < slice_index starts (c + 1)) × IsFullArea (slice_index_or sized_areas (slice_index starts c + o) d)
+  pub unmarked : (c o : ℕ) (d : SizedAreaMeaning) → c < 12 → slice_index starts c + o < slice_index starts (c + 1) → IsClear (marks_of_class full c) o
+      → HasFree (slice_index_or sized_areas (slice_index starts c + o) d)
 
 -- in version 2 there are tables of lengths for as many areas as the quota allows, and in version 1 none
 abbrev pub HasTables : Version → ℕ → ℕ → ℕ → ℕ → Type 0
@@ -64,26 +64,26 @@ HasTables One quota areas spare room = spare ≡ 0
 HasTables Two quota areas spare room = (spare + areas ≡ quota) × (quota ≤ room)
 
 -- whatever each identity weighs, those that are held weigh as much as those of the areas
-abbrev pub Owns : List SegmentId → List PlaceMeaning → Type 0
-Owns ids places = (weight : SegmentId → ℕ) → sum_by weight ids ≡ sum_by (λ (p : PlaceMeaning). weight p.identity) places
+abbrev pub Owns : List SegmentId → List SizedAreaMeaning → Type 0
+Owns ids sized_areas = (weight : SegmentId → ℕ) → sum_by weight ids ≡ sum_by (λ (p : SizedAreaMeaning). weight p.identity) sized_areas
 
 -- the areas are over the segments that are held, and there is room for as many as the quota allows
-pub record IsSupplied (v : Version) (quota : ℕ) (ids : List SegmentId) (places : List PlaceMeaning) (room spare spare_room : ℕ) : Type 0 where
+pub record IsSupplied (v : Version) (quota : ℕ) (ids : List SegmentId) (sized_areas : List SizedAreaMeaning) (room spare spare_room : ℕ) : Type 0 where
   pub least : 1 ≤ quota
   pub most : quota ≤ MOST_QUOTA
-  pub within : length places ≤ quota
+  pub within : length sized_areas ≤ quota
   pub has_room : quota ≤ room
-  pub tables : HasTables v quota (length places) spare spare_room
-  pub owned : Owns ids places
+  pub tables : HasTables v quota (length sized_areas) spare spare_room
+  pub owned : Owns ids sized_areas
 
 -- a shelf, read from its starts and its areas
-abbrev pub shelf_of : Version → ℕ → List SegmentId → Origin → List ℕ → List PlaceMeaning → ShelfMeaning
-shelf_of v quota ids origin starts places = record { version = v; quota = quota; held_ids = ids; origin = origin; rows = rows_upto 12 starts places }
+abbrev pub shelf_of : Version → ℕ → List SegmentId → Origin → List ℕ → List SizedAreaMeaning → ShelfMeaning
+shelf_of v quota ids origin starts sized_areas = record { version = v; quota = quota; held_ids = ids; origin = origin; rows = rows_upto 12 starts sized_areas }
 
 -- what a shelf keeps
-pub record IsShelf (v : Version) (quota : ℕ) (ids : List SegmentId) (starts : List ℕ) (places : List PlaceMeaning) (full : List (List Bool)) (room spare spare_room : ℕ) : Type 0 where
-  pub arranged : IsArranged v starts places full
-  pub supplied : IsSupplied v quota ids places room spare spare_room
+pub record IsShelf (v : Version) (quota : ℕ) (ids : List SegmentId) (starts : List ℕ) (sized_areas : List SizedAreaMeaning) (full : List (List Bool)) (room spare spare_room : ℕ) : Type 0 where
+  pub arranged : IsArranged v starts sized_areas full
+  pub supplied : IsSupplied v quota ids sized_areas room spare spare_room
 
 -- each start past class c is one higher
 pub record Shifts (starts starts' : List ℕ) (c : ℕ) : Type 0 where

@@ -9,7 +9,7 @@ use Rattle.dym_region.specs.Content.{part_of}
 use Rattle.dym_area.specs.Area.{AreaMeaning}
 use Rattle.dym_heap.specs.Meaning.{IsSizeOf}
 use Rattle.dym_heap.specs.Table.{Row, chunk_at, touch_at}
-use Rattle.dym_heap.specs.Places.{PlaceMeaning}
+use Rattle.dym_heap.specs.SizedAreas.{SizedAreaMeaning}
 
 -- the body packs the chunks of an area of class e whose bits are set: of chunk i the bytes f i
 pub record IsBodyOf (v : Version) (e : ℕ) (bits : List Bool) (body : List ℕ) (f : ℕ → List ℕ) : Type 0 where
@@ -25,18 +25,18 @@ IsBody v e bits body = (f : ℕ → List ℕ) × IsBodyOf v e bits body f
 pub record HoldsLoaded (old new : AreaMeaning) (bits : List Bool) (f : ℕ → List ℕ) : Type 0 where
   pub same : new ≡ record old { content = new.content }
   pub loaded : (i : ℕ) → IsSet bits i → part_of new.content (i * size old.exponent) (length (f i)) ≡ f i
-  pub kept : (i n : ℕ) → i < per old.exponent → n ≤ size old.exponent → IsClear bits i → part_of new.content (i * size old.exponent) n ≡ part_of old.content (i * size old.exponent) n
+  pub valid_shelf : (i n : ℕ) → i < per old.exponent → n ≤ size old.exponent → IsClear bits i → part_of new.content (i * size old.exponent) n ≡ part_of old.content (i * size old.exponent) n
 
 -- so has it of those chunks from `first` up to `end` whose bits are set
 pub record IsLoadedRange (old new : AreaMeaning) (wanted : List Bool) (first end : ℕ) (f : ℕ → List ℕ) : Type 0 where
   pub same : new ≡ record old { content = new.content }
   pub loaded : (i : ℕ) → first ≤ i → i < end → IsSet wanted i → part_of new.content (i * size old.exponent) (length (f i)) ≡ f i
-  pub kept : (i n : ℕ) → i < per old.exponent → n ≤ size old.exponent → (first ≤ i → i < end → IsSet wanted i → ⊥) → part_of new.content (i * size old.exponent) n ≡ part_of old.content (i * size old.exponent) n
+  pub valid_shelf : (i n : ℕ) → i < per old.exponent → n ≤ size old.exponent → (first ≤ i → i < end → IsSet wanted i → ⊥) → part_of new.content (i * size old.exponent) n ≡ part_of old.content (i * size old.exponent) n
 
 -- the table has their lengths where a bit is set, and the old ones elsewhere
 pub record NotesLoaded (old new : List ℕ) (bits : List Bool) (f : ℕ → List ℕ) : Type 0 where
-  pub noted : (i : ℕ) → IsSet bits i → slice_index new i ≡ length (f i)
-  pub kept : (i : ℕ) → IsClear bits i → slice_index new i ≡ slice_index old i
+  pub with_length : (i : ℕ) → IsSet bits i → slice_index new i ≡ length (f i)
+  pub valid_shelf : (i : ℕ) → IsClear bits i → slice_index new i ≡ slice_index old i
 
 -- what a chunk is after these bytes were loaded into it, where it is packed
 abbrev pub loaded_over : Bool → List ℕ → Option (List ℕ) → Option (List ℕ)
@@ -45,7 +45,7 @@ loaded_over true bytes (Some old) = Some bytes
 loaded_over false bytes (Some old) = Some old
 
 -- each chunk of the place is loaded
-pub record IsLoadedPlace (old new : PlaceMeaning) (bits : List Bool) (f : ℕ → List ℕ) : Type 0 where
+pub record IsLoadedSizedArea (old new : SizedAreaMeaning) (bits : List Bool) (f : ℕ → List ℕ) : Type 0 where
   pub same : new ≡ record old { chunks = new.chunks }
   pub chunk : (i : ℕ) → slice_index_or new.chunks i None ≡ loaded_over (bit_in bits i) (f i) (slice_index_or old.chunks i None)
 

@@ -2,7 +2,7 @@
 use Rattle.std.specs.Prelude.{ℕ, List, Option, None, Some}
 use Rattle.dym_base.specs.declared.command.Version.{Version}
 use Rattle.dym_heap.specs.declared.lengths.Lengths.{Lengths}
-use Rattle.dym_heap.specs.Places.{version_by}
+use Rattle.dym_heap.specs.SizedAreas.{version_by}
 
 abbrev pub numbers_of : Option Lengths → Option (List ℕ)
 numbers_of None = None

@@ -3,11 +3,11 @@ pub mod Table
 pub mod Shape
 pub mod Shelves
 pub mod Replies
-pub mod Places
+pub mod SizedAreas
 pub mod Lengths
 pub mod Arrangement
-pub mod Lending
-pub mod Loading
+pub mod AreaViews
+pub mod RecordLoads
 pub mod Bodies
-pub mod Shaping
-pub mod Wanted
+pub mod ShapeSteps
+pub mod Fetches

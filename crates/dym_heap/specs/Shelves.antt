@@ -29,7 +29,7 @@ pub record IsRow (v : Version) (e : ℕ) (row : Row) : Type 0 where
   pub touched_used : (i : ℕ) → slice_index_or row.touched i false ≡ true → IsSome (slice_index_or row.chunks i None)
 
 -- what is true of every shelf
-pub record IsKept (s : ShelfMeaning) : Type 0 where
+pub record IsValidShelf (s : ShelfMeaning) : Type 0 where
   pub quota_least : 1 ≤ s.quota
   pub quota_most : s.quota ≤ MOST_QUOTA
   pub classes : length s.rows ≡ 12
@@ -39,7 +39,7 @@ pub record IsKept (s : ShelfMeaning) : Type 0 where
 
 -- what is true of a shelf between two commands: no class ends with an empty area
 pub record IsTidy (s : ShelfMeaning) : Type 0 where
-  pub kept : IsKept s
+  pub valid_shelf : IsValidShelf s
   pub trimmed : (c : ℕ) → c < 12 → IsTrimmed (per (c + 5)) (row_at s.rows c)
 
 abbrev pub with_row : ShelfMeaning → ℕ → Row → ShelfMeaning

@@ -1,5 +1,5 @@
 //! A heap lends its areas to be packed.
-ghost use Rattle.dym_heap.specs.Loading.{areas_of};
+ghost use Rattle.dym_heap.specs.RecordLoads.{areas_of};
 
 use crate::heap::Heap;
 use dym_base::Version;
@@ -19,38 +19,38 @@ impl<S: Supply> Areas for Heap<S> {
     }
 
     fn area_exp(&self, k: u32) -> u8 {
-        self.shelf.place(k).exp()
+        self.shelf.sized_area(k).exp()
     }
 
     fn area_ordinal(&self, k: u32) -> u32 {
-        self.shelf.place(k).ordinal()
+        self.shelf.sized_area(k).ordinal()
     }
 
     fn used_bits(&self, k: u32) -> &Bits {
-        self.shelf.place(k).used_bits()
+        self.shelf.sized_area(k).used_bits()
     }
 
     fn dirty_bits(&self, k: u32) -> &Bits {
-        self.shelf.place(k).dirty_bits()
+        self.shelf.sized_area(k).dirty_bits()
     }
 
     fn chunk_used(&self, k: u32, i: u32) -> bool {
-        self.shelf.place(k).is_used(i)
+        self.shelf.sized_area(k).is_used(i)
     }
 
     fn chunk_dirty(&self, k: u32, i: u32) -> bool {
-        self.shelf.place(k).is_dirty(i)
+        self.shelf.sized_area(k).is_dirty(i)
     }
 
     fn chunk_len(&self, k: u32, i: u32) -> u32 {
-        self.shelf.place(k).used_len(i)
+        self.shelf.sized_area(k).used_len(i)
     }
 
     fn chunk_bytes(&self, k: u32, i: u32) -> &[u8] {
-        self.shelf.place(k).used_bytes(i)
+        self.shelf.sized_area(k).used_bytes(i)
     }
 
     fn run_bytes(&self, k: u32, from: u32, count: u32) -> &[u8] {
-        self.shelf.place(k).run_bytes(from, count)
+        self.shelf.sized_area(k).run_bytes(from, count)
     }
 }

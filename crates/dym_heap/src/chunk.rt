@@ -9,7 +9,7 @@ ghost use Rattle.dym_base.specs.declared.limits.TheConstants.{LEAST_EXPONENT, GR
 ghost use Rattle.dym_heap.specs.Meaning.{IsSizeOf};
 ghost use Rattle.dym_heap.specs.Replies.{found_reply};
 ghost use Rattle.dym_heap.specs.Table.{chunk_at, live_of, state_of};
-ghost use Rattle.dym_heap.specs.Shelves.{ShelfMeaning, IsTidy, IsKept, Keeps, FitsIn, Copied};
+ghost use Rattle.dym_heap.specs.Shelves.{ShelfMeaning, IsTidy, IsValidShelf, Keeps, FitsIn, Copied};
 
 use crate::found::Found;
 use crate::fresh::take_fresh;
@@ -22,7 +22,7 @@ use dym_quota::Supply;
 pub(crate) fn len_of_handle<S: Supply>(shelf: &Shelf<S>, h: Handle) -> Option<u32>
     requires { IsTidy shelf.now }
     ensures len { result ≡ option_map length (get (live_of shelf.now.rows) (key h)) }
-    ensures place { IsSome result → (LEAST_EXPONENT ≤ h.exp) × (h.exp ≤ GREATEST_EXPONENT)
+    ensures sized_area { IsSome result → (LEAST_EXPONENT ≤ h.exp) × (h.exp ≤ GREATEST_EXPONENT)
         × (get (live_of shelf.now.rows) (key h) ≡ chunk_at shelf.now.rows (h.exp - 5) h.index) }
 {
     if h.exp < LEAST_EXPONENT {
@@ -50,7 +50,7 @@ pub(crate) fn bytes_of_handle<S: Supply>(shelf: &Shelf<S>, h: Handle) -> Option<
 }
 
 /// Frees a chunk that is live, and gives back the areas that its class needs no more.
-pub(crate) fn free_chunk<S: Supply>(shelf: &mut Shelf<S>, way: &S::Way, exp: u8, index: u32)
+pub(crate) fn free_chunk<S: Supply>(shelf: &mut Shelf<S>, context: &S::Context, exp: u8, index: u32)
     requires least { LEAST_EXPONENT ≤ exp }
     requires most { exp ≤ GREATEST_EXPONENT }
     requires tidy { IsTidy shelf.old }
@@ -60,11 +60,11 @@ pub(crate) fn free_chunk<S: Supply>(shelf: &mut Shelf<S>, way: &S::Way, exp: u8,
     ensures tidy { IsTidy shelf.new }
 {
     let _used = shelf.release(exp, index);
-    shelf.trim(way, exp);
+    shelf.trim(context, exp);
 }
 
 /// Frees a chunk, and gives back the areas that its class needs no more. False where it isn't live, and nothing changes then.
-pub(crate) fn free_handle<S: Supply>(shelf: &mut Shelf<S>, way: &S::Way, h: Handle) -> bool
+pub(crate) fn free_handle<S: Supply>(shelf: &mut Shelf<S>, context: &S::Context, h: Handle) -> bool
     requires tidy { IsTidy shelf.old }
     ensures live { result ≡ is_some (get (live_of shelf.old.rows) (key h)) }
     ensures after { MatchBool result (state_of shelf.new.rows
@@ -81,7 +81,7 @@ pub(crate) fn free_handle<S: Supply>(shelf: &mut Shelf<S>, way: &S::Way, h: Hand
     if !shelf.release(h.exp, h.index) {
         return false;
     }
-    shelf.trim(way, h.exp);
+    shelf.trim(context, h.exp);
     true
 }
 
@@ -177,11 +177,11 @@ fn copy_chunk<S: Supply>(shelf: &mut Shelf<S>, from: Handle, to: Handle, len: u3
     requires from_class { IsClass from.exp }
     requires to_class { IsClass to.exp }
     requires apart { from.exp ≡ to.exp → ⊥ }
-    requires kept { IsKept shelf.old }
+    requires valid_shelf { IsValidShelf shelf.old }
     requires source { FitsIn (chunk_at shelf.old.rows (from.exp - 5) from.index) len }
     requires target { FitsIn (chunk_at shelf.old.rows (to.exp - 5) to.index) len }
     ensures copied { Copied shelf.old shelf.new (from.exp - 5) from.index (to.exp - 5) to.index len }
-    ensures kept { IsKept shelf.new }
+    ensures valid_shelf { IsValidShelf shelf.new }
 {
     if len == 0 {
         return;
@@ -193,7 +193,7 @@ fn copy_chunk<S: Supply>(shelf: &mut Shelf<S>, from: Handle, to: Handle, len: u3
 /// them up to `len`.
 pub(crate) fn move_chunk<S: Supply>(
     shelf: &mut Shelf<S>,
-    way: &S::Way,
+    context: &S::Context,
     from: Handle,
     old: u32,
     exp: u8,
@@ -213,10 +213,10 @@ pub(crate) fn move_chunk<S: Supply>(
     ensures keeps { Keeps shelf.old shelf.new }
     ensures tidy { IsTidy shelf.new }
 {
-    let Some(index) = take_fresh(shelf, way, exp, len) else {
+    let Some(index) = take_fresh(shelf, context, exp, len) else {
         return None;
     };
     copy_chunk(shelf, from, Handle { exp, index }, old.min(len));
-    free_chunk(shelf, way, from.exp, from.index);
+    free_chunk(shelf, context, from.exp, from.index);
     Some(index)
 }

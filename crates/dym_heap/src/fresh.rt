@@ -15,7 +15,7 @@ use dym_quota::Supply;
 #[inline(always)]
 pub(crate) fn take_fresh<S: Supply>(
     shelf: &mut Shelf<S>,
-    way: &S::Way,
+    context: &S::Context,
     exp: u8,
     len: u32,
 ) -> Option<u32>
@@ -36,7 +36,7 @@ pub(crate) fn take_fresh<S: Supply>(
     if shelf.held() == shelf.quota() {
         return None;
     }
-    shelf.add_area(way, exp);
+    shelf.add_area(context, exp);
     let Some(index) = shelf.take_chunk(exp, len) else {
         unreachable!();
     };

@@ -9,21 +9,21 @@ ghost use Rattle.dym_base.specs.declared.command.Command.TheVariants.{Malloc, Ca
 ghost use Rattle.dym_base.specs.declared.limits.TheConstants.{MOST_QUOTA, LEAST_EXPONENT, GREATEST_EXPONENT};
 ghost use Rattle.dym_base.specs.Heaps.{held};
 ghost use Rattle.dym_base.specs.StandsFor.{packed_by};
-ghost use Rattle.dym_pack.specs.Reading.{OfLog};
-ghost use Rattle.dym_heap.specs.Loading.{HaveOneSetOfHandles, IsLoaded};
+ghost use Rattle.dym_pack.specs.ParsedAreas.{OfLog};
+ghost use Rattle.dym_heap.specs.RecordLoads.{HaveOneSetOfHandles, IsLoaded};
 ghost use Rattle.dym_heap.specs.Meaning.{HeapMeaning, IsSound};
-ghost use Rattle.dym_heap.specs.Wanted.{heap_chunk, marked, fetched, IsReshaped};
+ghost use Rattle.dym_heap.specs.Fetches.{heap_chunk, marked, fetched, IsReshaped};
 ghost use Rattle.dym_heap.specs.Replies.{step_of, stepped, done_reply, chunk_reply, moved_reply, bytes_reply, found_reply, total_reply, after_key, IsNextLive};
 
 use crate::chunk::{
     bytes_of_handle, fill_chunk, find_number, free_handle, len_of_handle, move_chunk, resize_chunk,
     write_chunk,
 };
-use crate::fetching::{fetch_record, mark_record};
 use crate::found::Found;
 use crate::fresh::take_fresh;
-use crate::loading::load_record;
-use crate::next::next_from;
+use crate::live_walk::next_from;
+use crate::record_fetch::{fetch_record, mark_record};
+use crate::record_load::load_record;
 use crate::shape::shape_shelf;
 use crate::shelf::Shelf;
 use crate::sum::sum_bytes;
@@ -132,7 +132,7 @@ impl<S: Supply> Heap<S> {
     }
 
     /// A fresh chunk of `len` zero bytes. In version 1 it has all bytes of its class.
-    pub fn malloc(&mut self, way: &S::Way, len: u64) -> Result<Handle, Refusal>
+    pub fn malloc(&mut self, context: &S::Context, len: u64) -> Result<Handle, Refusal>
         ensures reply { chunk_reply result ≡ (step_of self.old (Malloc len)).reply }
         ensures after { self.new ≡ record (stepped self.old (Malloc len)) { held_ids = self.new.held_ids } }
         ensures refused { OnErr result (self.new ≡ self.old) }
@@ -143,27 +143,27 @@ impl<S: Supply> Heap<S> {
             return Err(Refusal::TooLarge);
         };
         let bytes = new_len(version, exp, len);
-        match take_fresh(&mut self.shelf, way, exp, bytes) {
+        match take_fresh(&mut self.shelf, context, exp, bytes) {
             Some(index) => Ok(Handle { exp, index }),
             None => Err(Refusal::Quota),
         }
     }
 
     /// A fresh chunk of `n * len` zero bytes.
-    pub fn calloc(&mut self, way: &S::Way, n: u64, len: u64) -> Result<Handle, Refusal>
+    pub fn calloc(&mut self, context: &S::Context, n: u64, len: u64) -> Result<Handle, Refusal>
         ensures reply { chunk_reply result ≡ (step_of self.old (Calloc n len)).reply }
         ensures after { self.new ≡ record (stepped self.old (Calloc n len)) { held_ids = self.new.held_ids } }
         ensures refused { OnErr result (self.new ≡ self.old) }
         ensures sound { IsSound self.new }
     {
-        self.malloc(way, n.saturating_mul(len))
+        self.malloc(context, n.saturating_mul(len))
     }
 
     /// A chunk of `len` bytes with the old bytes up to the smaller length, then zeros. A chunk of its own class keeps its
     /// handle; nil is as `malloc`, and a `len` of 0 frees the chunk.
     pub fn realloc(
         &mut self,
-        way: &S::Way,
+        context: &S::Context,
         h: Option<Handle>,
         len: u64,
     ) -> Result<Option<Handle>, Refusal>
@@ -174,22 +174,27 @@ impl<S: Supply> Heap<S> {
         ensures sound { IsSound self.new }
     {
         let Some(h) = h else {
-            return match self.malloc(way, len) {
+            return match self.malloc(context, len) {
                 Ok(fresh) => Ok(Some(fresh)),
                 Err(refusal) => Err(refusal),
             };
         };
         if len == 0 {
-            return match self.free(way, Some(h)) {
+            return match self.free(context, Some(h)) {
                 Ok(()) => Ok(None),
                 Err(refusal) => Err(refusal),
             };
         }
-        self.realloc_live(way, h, len)
+        self.realloc_live(context, h, len)
     }
 
     /// As `realloc` of a handle and at least one byte.
-    fn realloc_live(&mut self, way: &S::Way, h: Handle, len: u64) -> Result<Option<Handle>, Refusal>
+    fn realloc_live(
+        &mut self,
+        context: &S::Context,
+        h: Handle,
+        len: u64,
+    ) -> Result<Option<Handle>, Refusal>
         requires { 0 < len }
         ensures reply { moved_reply result ≡ (step_of self.old (Realloc (Some h) len)).reply }
         ensures after { self.new ≡ record (stepped self.old
@@ -208,14 +213,14 @@ impl<S: Supply> Heap<S> {
             return Ok(Some(h));
         }
         let bytes = new_len(self.shelf.version(), exp, len);
-        match move_chunk(&mut self.shelf, way, h, old, exp, bytes) {
+        match move_chunk(&mut self.shelf, context, h, old, exp, bytes) {
             Some(index) => Ok(Some(Handle { exp, index })),
             None => Err(Refusal::Quota),
         }
     }
 
     /// Frees a chunk. Nil does nothing.
-    pub fn free(&mut self, way: &S::Way, h: Option<Handle>) -> Result<(), Refusal>
+    pub fn free(&mut self, context: &S::Context, h: Option<Handle>) -> Result<(), Refusal>
         ensures reply { done_reply result ≡ (step_of self.old (Free h)).reply }
         ensures after { self.new ≡ record (stepped self.old (Free h)) { held_ids = self.new.held_ids } }
         ensures refused { OnErr result (self.new ≡ self.old) }
@@ -225,7 +230,7 @@ impl<S: Supply> Heap<S> {
         let Some(h) = h else {
             return Ok(());
         };
-        if !free_handle(shelf, way, h) {
+        if !free_handle(shelf, context, h) {
             return Err(Refusal::Dead);
         }
         Ok(())
@@ -369,7 +374,7 @@ impl<S: Supply> Heap<S> {
     /// Shapes the heap to a record's areas and use bits: areas that the record lacks are given back, then those that are
     /// missing are taken. Live are then the handles that the record has in use, with bytes that no clause tells; nothing is
     /// touched.
-    pub fn shape_to(&mut self, way: &S::Way, rec: &Record)
+    pub fn shape_to(&mut self, context: &S::Context, rec: &Record)
         requires version { OfLog rec.now (λ log. log.version ≡ self.old.version) }
         requires within { OfLog rec.now (λ log. held log.copy ≤ self.old.quota) }
         ensures handles { OfLog rec.now (λ log. HaveOneSetOfHandles self.new.state.live log.copy) }
@@ -377,7 +382,7 @@ impl<S: Supply> Heap<S> {
         ensures same { self.new ≡ record self.old { state = self.new.state; held_ids = self.new.held_ids } }
         ensures sound { IsSound self.new }
     {
-        shape_shelf(&mut self.shelf, way, rec);
+        shape_shelf(&mut self.shelf, context, rec);
         self.shelf.clear_touched();
     }
 
@@ -410,14 +415,14 @@ impl<S: Supply> Heap<S> {
 
     /// Shapes the heap to a record's areas and use bits, as `shape_to`. A chunk that was live and not touched keeps its bytes;
     /// each other one that is live then is touched, and no clause tells its bytes.
-    pub fn reshape(&mut self, way: &S::Way, rec: &Record)
+    pub fn reshape(&mut self, context: &S::Context, rec: &Record)
         requires within { OfLog rec.now (λ log. held log.copy ≤ self.old.quota) }
         ensures shaped { OfLog rec.now (λ log.
             (k : ℕ) → IsReshaped (contains_key log.copy k) (heap_chunk self.old.state k) (heap_chunk self.new.state k)) }
         ensures same { self.new ≡ record self.old { state = self.new.state; held_ids = self.new.held_ids } }
         ensures sound { IsSound self.new }
     {
-        shape_shelf(&mut self.shelf, way, rec);
+        shape_shelf(&mut self.shelf, context, rec);
     }
 
     /// Writes the bytes, and in version 2 the length, of each touched chunk that the record packs. It is touched no more.
@@ -432,20 +437,20 @@ impl<S: Supply> Heap<S> {
     }
 
     /// Whether nothing is touched. Where the answer is no, no clause tells that something is.
-    pub fn is_settled(&self) -> bool
+    pub fn is_unmodified(&self) -> bool
         ensures { IsTrue result → self.now.state.touched ≡ FinSet.empty }
     {
-        self.shelf.is_settled()
+        self.shelf.is_unmodified()
     }
 
     /// Gives all segments back, and answers the supply.
-    pub fn end(self, way: &S::Way) -> S
+    pub fn end(self, context: &S::Context) -> S
         ensures nothing_held { S.held_ids result ≡ [] }
         ensures quota { S.quota_of result ≡ self.quota }
         ensures origin { S.origin result ≡ self.origin }
     {
         let Heap { shelf, applied: _ } = self;
-        shelf.close(way)
+        shelf.close(context)
     }
 }
 

@@ -2,21 +2,21 @@
 ghost use Rattle.std.specs.Prelude.{◌≡◌, ℕ, ◌+◌, ◌≤◌, ◌<◌, length, slice_index, sum};
 ghost use Rattle.std.specs.FinMap.{contains_key};
 ghost use Rattle.dym_base.specs.Heaps.{areas, held};
-ghost use Rattle.dym_pack.specs.Reading.{OfLog, IsRecord};
+ghost use Rattle.dym_pack.specs.ParsedAreas.{OfLog, IsRecord};
 ghost use Rattle.dym_heap.specs.Table.{row_at, state_of};
-ghost use Rattle.dym_heap.specs.Shelves.{IsKept, IsTidy, Keeps};
-ghost use Rattle.dym_heap.specs.Shaping.{HasAreas, HasAtMost, AgreeTo};
-ghost use Rattle.dym_heap.specs.Wanted.{heap_chunk, row_chunk, IsReshaped, IsAreaChange};
+ghost use Rattle.dym_heap.specs.Shelves.{IsValidShelf, IsTidy, Keeps};
+ghost use Rattle.dym_heap.specs.ShapeSteps.{HasAreas, HasAtMost, AgreeTo};
+ghost use Rattle.dym_heap.specs.Fetches.{heap_chunk, row_chunk, IsReshaped, IsAreaChange};
 
+use crate::chunk_location::class_index;
 use crate::shelf::Shelf;
-use crate::spot::class_index;
 use dym_base::limits::{GREATEST_EXPONENT, LEAST_EXPONENT};
 use dym_pack::Record;
 use dym_quota::Supply;
 
 /// Gives back the areas that a record lacks, takes those that are missing, and takes the use bits from the record. Chunks that were
 /// live and not touched keep their bytes; each other live one is touched.
-pub(crate) fn shape_shelf<S: Supply>(shelf: &mut Shelf<S>, way: &S::Way, rec: &Record)
+pub(crate) fn shape_shelf<S: Supply>(shelf: &mut Shelf<S>, context: &S::Context, rec: &Record)
     requires tidy { IsTidy shelf.old }
     requires within { OfLog rec.now (λ log. held log.copy ≤ shelf.old.quota) }
     ensures shaped { OfLog rec.now (λ log.
@@ -26,8 +26,8 @@ pub(crate) fn shape_shelf<S: Supply>(shelf: &mut Shelf<S>, way: &S::Way, rec: &R
     ensures tidy { IsTidy shelf.new }
 {
     let counts = count_areas(rec);
-    give_areas(shelf, way, &counts);
-    take_areas(shelf, way, &counts);
+    give_areas(shelf, context, &counts);
+    take_areas(shelf, context, &counts);
     use_areas(shelf, rec);
 }
 
@@ -45,42 +45,42 @@ fn count_areas(rec: &Record) -> [u32; 12]
 }
 
 /// Gives back the last areas of each class that has more than it should have.
-fn give_areas<S: Supply>(shelf: &mut Shelf<S>, way: &S::Way, counts: &[u32; 12])
-    requires kept { IsKept shelf.old }
+fn give_areas<S: Supply>(shelf: &mut Shelf<S>, context: &S::Context, counts: &[u32; 12])
+    requires valid_shelf { IsValidShelf shelf.old }
     ensures most { (c : ℕ) → c < 12 → HasAtMost shelf.new.rows c (slice_index counts.now c) }
     ensures agree { (c : ℕ) → c < 12 → AgreeTo shelf.old.rows shelf.new.rows c (slice_index counts.now c) }
     ensures keeps { Keeps shelf.old shelf.new }
-    ensures kept { IsKept shelf.new }
+    ensures valid_shelf { IsValidShelf shelf.new }
 {
     for exp in LEAST_EXPONENT..GREATEST_EXPONENT + 1 {
         let count = counts[class_index(exp)];
         while shelf.areas(exp) > count {
-            shelf.give_last(way, exp);
+            shelf.give_last(context, exp);
         }
     }
 }
 
 /// Takes areas for each class that has fewer than it should have.
-fn take_areas<S: Supply>(shelf: &mut Shelf<S>, way: &S::Way, counts: &[u32; 12])
-    requires kept { IsKept shelf.old }
+fn take_areas<S: Supply>(shelf: &mut Shelf<S>, context: &S::Context, counts: &[u32; 12])
+    requires valid_shelf { IsValidShelf shelf.old }
     requires most { (c : ℕ) → c < 12 → HasAtMost shelf.old.rows c (slice_index counts.now c) }
     requires within { sum counts.now ≤ shelf.old.quota }
     ensures are { (c : ℕ) → c < 12 → HasAreas shelf.new.rows c (slice_index counts.now c) }
     ensures rows { (c i : ℕ) → row_chunk shelf.new.rows c i ≡ row_chunk shelf.old.rows c i }
     ensures keeps { Keeps shelf.old shelf.new }
-    ensures kept { IsKept shelf.new }
+    ensures valid_shelf { IsValidShelf shelf.new }
 {
     for exp in LEAST_EXPONENT..GREATEST_EXPONENT + 1 {
         let count = counts[class_index(exp)];
         while shelf.areas(exp) < count {
-            shelf.add_area(way, exp);
+            shelf.add_area(context, exp);
         }
     }
 }
 
 /// Takes the use bits of each area from the record.
 fn use_areas<S: Supply>(shelf: &mut Shelf<S>, rec: &Record)
-    requires kept { IsKept shelf.old }
+    requires valid_shelf { IsValidShelf shelf.old }
     requires are { OfLog rec.now (λ log.
         (c : ℕ) → c < 12 → HasAreas shelf.old.rows c (areas log.copy (c + 5))) }
     ensures shaped { OfLog rec.now (λ log.
@@ -106,7 +106,7 @@ fn use_area<S: Supply>(shelf: &mut Shelf<S>, rec: &Record, k: u32)
     ensures long { (d : ℕ) → length (row_at shelf.new.rows d).chunks
         ≡ length (row_at shelf.old.rows d).chunks }
     ensures same { shelf.new ≡ record shelf.old { rows = shelf.new.rows } }
-    ensures kept { IsKept shelf.new }
+    ensures valid_shelf { IsValidShelf shelf.new }
 {
     shelf.shape_area(rec.area_exp(k), rec.area_ordinal(k), rec.use_bytes(k));
 }

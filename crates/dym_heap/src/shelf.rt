@@ -8,18 +8,20 @@ ghost use Rattle.dym_bits.specs.Bits.{bit_in, bits_of_bytes, IsSet};
 ghost use Rattle.dym_heap.specs.Meaning.{IsSizeOf};
 ghost use Rattle.dym_heap.specs.Table.{row_at, chunk_at, live_of, touched_of};
 ghost use Rattle.dym_heap.specs.Shape.{IsTrimmed};
-ghost use Rattle.dym_heap.specs.Places.{clean};
+ghost use Rattle.dym_heap.specs.SizedAreas.{clean};
 ghost use Rattle.dym_heap.specs.Bodies.{IsBodyOf, IsBody, IsLoadedArea};
-ghost use Rattle.dym_heap.specs.Shaping.{HasAreas};
-ghost use Rattle.dym_heap.specs.Wanted.{row_chunk, marked, fetched, packed_at, IsReshaped, IsChangedArea};
-ghost use Rattle.dym_heap.specs.Lending.{IsAreaOf};
+ghost use Rattle.dym_heap.specs.ShapeSteps.{HasAreas};
+ghost use Rattle.dym_heap.specs.Fetches.{row_chunk, marked, fetched, packed_at, IsReshaped, IsChangedArea};
+ghost use Rattle.dym_heap.specs.AreaViews.{IsAreaOf};
 ghost use Rattle.dym_heap.specs.Arrangement.{AreClear, HasTables, Owns};
-ghost use Rattle.dym_heap.specs.Shelves.{ShelfMeaning, IsKept, IsTidy, IsFirstFree, IsNextUsed, Keeps, with_row, with_put, longer, Trims, EndsFree, without_last, FitsIn, empty_rows, untouched_rows};
+ghost use Rattle.dym_heap.specs.Shelves.{ShelfMeaning, IsValidShelf, IsTidy, IsFirstFree, IsNextUsed, Keeps, with_row, with_put, longer, Trims, EndsFree, without_last, FitsIn, empty_rows, untouched_rows};
 
+use crate::area_order::{copy_between, put_in, take_out};
+use crate::chunk_location::{
+    class_index, find, keep_table, mark_full, set_mark, shift_down, shift_up,
+};
 use crate::lengths::Lengths;
-use crate::order::{copy_between, put_in, take_out};
-use crate::place::Place;
-use crate::spot::{class_index, find, keep_table, mark_full, set_mark, shift_down, shift_up};
+use crate::sized_area::SizedArea;
 use dym_base::limits::MOST_QUOTA;
 use dym_base::{Handle, Version, per_area};
 use dym_bits::Bits;
@@ -39,7 +41,7 @@ pub(crate) struct Shelf<S: Supply> {
     version: Version,
     supply: S,
     /// The areas of all classes, class after class, ordinals rising.
-    places: Vec<Place<S::Seg>>,
+    sized_areas: Vec<SizedArea<S::Seg>>,
     /// Where the areas of each class begin, and at the end where those of the last class end.
     starts: [u32; 13],
     /// For each class which of its areas are full.
@@ -56,9 +58,9 @@ impl<S: Supply> Model for Shelf<S> {
     ghost use Rattle.std.specs.Prelude.{vec_len, vec_capacity};
     ghost use Rattle.dym_heap.specs.Arrangement.{shelf_of, IsShelf};
 
-    ghost view = { λ s. shelf_of s.version (S.quota_of s.supply) (S.held_ids s.supply) (S.origin s.supply) s.starts s.places.items };
+    ghost view = { λ s. shelf_of s.version (S.quota_of s.supply) (S.held_ids s.supply) (S.origin s.supply) s.starts s.sized_areas.items };
 
-    ghost invariant = { λ s. IsShelf s.version (S.quota_of s.supply) (S.held_ids s.supply) s.starts s.places.items s.full.items (vec_capacity s.places) (vec_len s.spare) (vec_capacity s.spare) };
+    ghost invariant = { λ s. IsShelf s.version (S.quota_of s.supply) (S.held_ids s.supply) s.starts s.sized_areas.items s.full.items (vec_capacity s.sized_areas) (vec_len s.spare) (vec_capacity s.spare) };
 }
 
 impl<S: Supply> Shelf<S> {
@@ -78,7 +80,7 @@ impl<S: Supply> Shelf<S> {
           origin = S.origin supply;
           rows = empty_rows;
         }) }
-        ensures kept { IfOk result IsKept }
+        ensures valid_shelf { IfOk result IsValidShelf }
         ensures back { IfErr result (λ e. e.1 ≡ supply) }
     {
         let full = match clear_marks(alloc) {
@@ -90,14 +92,14 @@ impl<S: Supply> Shelf<S> {
             Ok(spare) => spare,
             Err(refused) => return Err((refused, supply)),
         };
-        let places = match Vec::with_capacity(alloc, quota as usize) {
-            Ok(places) => places,
+        let sized_areas = match Vec::with_capacity(alloc, quota as usize) {
+            Ok(sized_areas) => sized_areas,
             Err(refused) => return Err((refused, supply)),
         };
         Ok(Shelf {
             version,
             supply,
-            places,
+            sized_areas,
             starts: [0; 13],
             full,
             spare,
@@ -131,9 +133,9 @@ impl<S: Supply> Shelf<S> {
         requires sized { IsSizeOf self.old.version exp len }
         ensures taken { MatchOption result (self.new ≡ self.old)
             (λ i. self.new ≡ with_put self.old (exp - 5) i (Some (replicate len 0)) true) }
-        ensures place { MatchOption result ((i : ℕ) → i < length (row_at self.old.rows (exp - 5)).chunks
+        ensures sized_area { MatchOption result ((i : ℕ) → i < length (row_at self.old.rows (exp - 5)).chunks
             → IsSome (chunk_at self.old.rows (exp - 5) i)) (λ i. IsFirstFree self.old.rows (exp - 5) i) }
-        ensures kept { IsKept self.new }
+        ensures valid_shelf { IsValidShelf self.new }
     {
         let class = class_index(exp);
         let first = self.starts[class];
@@ -141,45 +143,45 @@ impl<S: Supply> Shelf<S> {
         let Some(ordinal) = self.full[class].first_clear(count) else {
             return None;
         };
-        let place = &mut self.places[(first + ordinal) as usize];
-        let Some(chunk) = place.take_chunk(len) else {
+        let sized_area = &mut self.sized_areas[(first + ordinal) as usize];
+        let Some(chunk) = sized_area.take_chunk(len) else {
             unreachable!();
         };
-        let is_full = place.is_full();
+        let is_full = sized_area.is_full();
         mark_full(&mut self.full, class, ordinal, is_full);
         Some(ordinal * per_area(exp) + chunk)
     }
 
     /// A new area at the end of a class.
     #[inline(never)]
-    pub(crate) fn add_area(&mut self, way: &S::Way, exp: u8)
+    pub(crate) fn add_area(&mut self, context: &S::Context, exp: u8)
         requires least { LEAST_EXPONENT ≤ exp }
         requires most { exp ≤ GREATEST_EXPONENT }
         requires room { length self.old.held_ids < self.old.quota }
         ensures added { self.new ≡ record (with_row self.old (exp - 5)
             (longer (per exp) (row_at self.old.rows (exp - 5)))) { held_ids = self.new.held_ids } }
-        ensures kept { IsKept self.new }
+        ensures valid_shelf { IsValidShelf self.new }
     {
         let class = class_index(exp);
         let at = self.starts[class + 1];
         let ordinal = at - self.starts[class];
         let lengths = self.spare.pop();
-        let segment = self.supply.take(way);
-        let place = Place::new(exp, ordinal, segment, lengths);
-        put_in(&mut self.places, at as usize, place);
+        let segment = self.supply.take(context);
+        let sized_area = SizedArea::new(exp, ordinal, segment, lengths);
+        put_in(&mut self.sized_areas, at as usize, sized_area);
         shift_up(&mut self.starts, class);
     }
 
     /// Gives back the empty areas at the end of a class.
-    pub(crate) fn trim(&mut self, way: &S::Way, exp: u8)
+    pub(crate) fn trim(&mut self, context: &S::Context, exp: u8)
         requires least { LEAST_EXPONENT ≤ exp }
         requires most { exp ≤ GREATEST_EXPONENT }
-        requires kept { IsKept self.old }
+        requires valid_shelf { IsValidShelf self.old }
         ensures trims { Trims self.old self.new (exp - 5) }
-        ensures kept { IsKept self.new }
+        ensures valid_shelf { IsValidShelf self.new }
     {
         while self.ends_free(exp) {
-            self.drop_area(way, exp);
+            self.drop_area(context, exp);
         }
     }
 
@@ -195,35 +197,35 @@ impl<S: Supply> Shelf<S> {
         if end == self.starts[class] {
             return false;
         }
-        self.places[end as usize - 1].is_empty()
+        self.sized_areas[end as usize - 1].is_empty()
     }
 
     /// Gives back the last area of a class, which is empty.
-    fn drop_area(&mut self, way: &S::Way, exp: u8)
+    fn drop_area(&mut self, context: &S::Context, exp: u8)
         requires least { LEAST_EXPONENT ≤ exp }
         requires most { exp ≤ GREATEST_EXPONENT }
         requires free { EndsFree self.old.rows (exp - 5) (per exp) }
         ensures dropped { self.new ≡ without_last self.old (exp - 5) (per exp) self.new.held_ids }
         ensures fewer { length self.new.held_ids + 1 ≡ length self.old.held_ids }
-        ensures kept { IsKept self.new }
+        ensures valid_shelf { IsValidShelf self.new }
     {
         let class = class_index(exp);
         let last = self.starts[class + 1] as usize - 1;
-        let place = take_out(&mut self.places, last);
-        let (segment, lengths) = place.into_parts();
-        self.supply.give(way, segment);
+        let sized_area = take_out(&mut self.sized_areas, last);
+        let (segment, lengths) = sized_area.into_parts();
+        self.supply.give(context, segment);
         keep_table(&mut self.spare, lengths);
         shift_down(&mut self.starts, class);
     }
 
     /// Area `k` of all areas.
-    pub(crate) fn place(&self, k: u32) -> &Place<S::Seg>
+    pub(crate) fn sized_area(&self, k: u32) -> &SizedArea<S::Seg>
         requires tidy { IsTidy self.now }
         requires within { k < length self.now.held_ids }
         ensures area { IsAreaOf (live_of self.now.rows) (touched_of self.now.rows) k result.now }
         ensures version { result.now.version ≡ self.now.version }
     {
-        &self.places[k as usize]
+        &self.sized_areas[k as usize]
     }
 
     /// The bytes of a chunk, and None where it isn't in use.
@@ -233,10 +235,10 @@ impl<S: Supply> Shelf<S> {
         ensures { MatchOption result (chunk_at self.now.rows (exp - 5) index ≡ None)
             (λ bytes. chunk_at self.now.rows (exp - 5) index ≡ Some bytes.now) }
     {
-        let Some(spot) = find(&self.starts, exp, index) else {
+        let Some(location) = find(&self.starts, exp, index) else {
             return None;
         };
-        self.places[spot.place].chunk_bytes(spot.chunk)
+        self.sized_areas[location.sized_area].chunk_bytes(location.chunk)
     }
 
     /// How many bytes a chunk has that is in use.
@@ -245,10 +247,10 @@ impl<S: Supply> Shelf<S> {
         requires most { exp ≤ GREATEST_EXPONENT }
         ensures { result ≡ option_map length (chunk_at self.now.rows (exp - 5) index) }
     {
-        let Some(spot) = find(&self.starts, exp, index) else {
+        let Some(location) = find(&self.starts, exp, index) else {
             return None;
         };
-        self.places[spot.place].chunk_len(spot.chunk)
+        self.sized_areas[location.sized_area].chunk_len(location.chunk)
     }
 
     /// The least index from `from` on of a chunk that is in use.
@@ -269,8 +271,8 @@ impl<S: Supply> Shelf<S> {
         let mut ordinal = from as u32 / per;
         let mut chunk = from as u32 % per;
         while ordinal < count {
-            let place = &self.places[(first + ordinal) as usize];
-            if let Some(found) = place.next_used(chunk) {
+            let sized_area = &self.sized_areas[(first + ordinal) as usize];
+            if let Some(found) = sized_area.next_used(chunk) {
                 return Some(ordinal * per + found);
             }
             ordinal += 1;
@@ -286,18 +288,18 @@ impl<S: Supply> Shelf<S> {
         ensures used { result ≡ is_some (chunk_at self.old.rows (exp - 5) index) }
         ensures freed { MatchBool result (self.new ≡ with_put self.old (exp - 5) index None false)
             (self.new ≡ self.old) }
-        ensures kept { IsKept self.new }
+        ensures valid_shelf { IsValidShelf self.new }
     {
-        let Some(spot) = find(&self.starts, exp, index) else {
+        let Some(location) = find(&self.starts, exp, index) else {
             return false;
         };
-        if !self.places[spot.place].is_used(spot.chunk) {
+        if !self.sized_areas[location.sized_area].is_used(location.chunk) {
             return false;
         }
-        let place = &mut self.places[spot.place];
-        place.release(spot.chunk);
+        let sized_area = &mut self.sized_areas[location.sized_area];
+        sized_area.release(location.chunk);
         let marks = &mut self.full[class_index(exp)];
-        marks.clear(spot.ordinal);
+        marks.clear(location.ordinal);
         true
     }
 
@@ -309,10 +311,10 @@ impl<S: Supply> Shelf<S> {
         ensures { MatchOption (chunk_at self.now.rows (exp - 5) index) ⊥
             (λ bytes. out.new ≡ take (length out.old) (drop at bytes)) }
     {
-        let Some(spot) = find(&self.starts, exp, index) else {
+        let Some(location) = find(&self.starts, exp, index) else {
             unreachable!();
         };
-        self.places[spot.place].read(spot.chunk, at, out);
+        self.sized_areas[location.sized_area].read(location.chunk, at, out);
     }
 
     /// Copies the first `len` bytes, of which there is at least one, of a chunk over those of a chunk of another class.
@@ -327,7 +329,7 @@ impl<S: Supply> Shelf<S> {
             (λ source. MatchOption (chunk_at self.old.rows (to.exp - 5) to.index) ⊥
             (λ old. self.new ≡ with_put self.old (to.exp - 5) to.index
             (Some (splice 0 (take len source) old)) true)) }
-        ensures kept { IsKept self.new }
+        ensures valid_shelf { IsValidShelf self.new }
     {
         let Some(source) = find(&self.starts, from.exp, from.index) else {
             unreachable!();
@@ -335,7 +337,7 @@ impl<S: Supply> Shelf<S> {
         let Some(target) = find(&self.starts, to.exp, to.index) else {
             unreachable!();
         };
-        copy_between(&mut self.places, source, target, len);
+        copy_between(&mut self.sized_areas, source, target, len);
     }
 
     /// Writes at least one byte.
@@ -346,13 +348,13 @@ impl<S: Supply> Shelf<S> {
         requires within { FitsIn (chunk_at self.old.rows (exp - 5) index) (at + length bytes.now) }
         ensures written { MatchOption (chunk_at self.old.rows (exp - 5) index) ⊥
             (λ old. self.new ≡ with_put self.old (exp - 5) index (Some (splice at bytes.now old)) true) }
-        ensures kept { IsKept self.new }
+        ensures valid_shelf { IsValidShelf self.new }
     {
-        let Some(spot) = find(&self.starts, exp, index) else {
+        let Some(location) = find(&self.starts, exp, index) else {
             unreachable!();
         };
-        let place = &mut self.places[spot.place];
-        place.write(spot.chunk, at, bytes);
+        let sized_area = &mut self.sized_areas[location.sized_area];
+        sized_area.write(location.chunk, at, bytes);
     }
 
     /// Makes at least one byte `byte`.
@@ -364,13 +366,13 @@ impl<S: Supply> Shelf<S> {
         ensures filled { MatchOption (chunk_at self.old.rows (exp - 5) index) ⊥
             (λ old. self.new ≡ with_put self.old (exp - 5) index
             (Some (splice at (replicate len byte) old)) true) }
-        ensures kept { IsKept self.new }
+        ensures valid_shelf { IsValidShelf self.new }
     {
-        let Some(spot) = find(&self.starts, exp, index) else {
+        let Some(location) = find(&self.starts, exp, index) else {
             unreachable!();
         };
-        let place = &mut self.places[spot.place];
-        place.fill(spot.chunk, at, len, byte);
+        let sized_area = &mut self.sized_areas[location.sized_area];
+        sized_area.fill(location.chunk, at, len, byte);
     }
 
     /// Another length for a chunk, of version 2: its first bytes stay, and zeros follow.
@@ -383,13 +385,13 @@ impl<S: Supply> Shelf<S> {
             (λ old. length old ≡ len → ⊥) }
         ensures resized { MatchOption (chunk_at self.old.rows (exp - 5) index) ⊥
             (λ old. self.new ≡ with_put self.old (exp - 5) index (Some (fitted len old)) true) }
-        ensures kept { IsKept self.new }
+        ensures valid_shelf { IsValidShelf self.new }
     {
-        let Some(spot) = find(&self.starts, exp, index) else {
+        let Some(location) = find(&self.starts, exp, index) else {
             unreachable!();
         };
-        let place = &mut self.places[spot.place];
-        place.resize(spot.chunk, len);
+        let sized_area = &mut self.sized_areas[location.sized_area];
+        sized_area.resize(location.chunk, len);
     }
 
     /// Puts the chunks that a body packs over those in use of an area of a class, where the class has that area.
@@ -402,15 +404,15 @@ impl<S: Supply> Shelf<S> {
         ensures long { (d : ℕ) → length (row_at self.new.rows d).chunks
             ≡ length (row_at self.old.rows d).chunks }
         ensures same { self.new ≡ record self.old { rows = self.new.rows } }
-        ensures kept { IsKept self.new }
+        ensures valid_shelf { IsValidShelf self.new }
     {
         let class = class_index(exp);
         let first = self.starts[class];
         if ordinal >= self.starts[class + 1] - first {
             return;
         }
-        let place = &mut self.places[(first + ordinal) as usize];
-        place.load(packed, packed, body);
+        let sized_area = &mut self.sized_areas[(first + ordinal) as usize];
+        sized_area.load(packed, packed, body);
     }
 
     /// How many areas a class has.
@@ -436,12 +438,12 @@ impl<S: Supply> Shelf<S> {
         ensures long { (d : ℕ) → length (row_at self.new.rows d).chunks
             ≡ length (row_at self.old.rows d).chunks }
         ensures same { self.new ≡ record self.old { rows = self.new.rows } }
-        ensures kept { IsKept self.new }
+        ensures valid_shelf { IsValidShelf self.new }
     {
         let class = class_index(exp);
-        let place = &mut self.places[(self.starts[class] + ordinal) as usize];
-        place.shape(use_bytes);
-        let is_full = place.is_full();
+        let sized_area = &mut self.sized_areas[(self.starts[class] + ordinal) as usize];
+        sized_area.shape(use_bytes);
+        let is_full = sized_area.is_full();
         set_mark(&mut self.full, class, ordinal, is_full);
     }
 
@@ -454,15 +456,15 @@ impl<S: Supply> Shelf<S> {
         ensures long { (d : ℕ) → length (row_at self.new.rows d).chunks
             ≡ length (row_at self.old.rows d).chunks }
         ensures same { self.new ≡ record self.old { rows = self.new.rows } }
-        ensures kept { IsKept self.new }
+        ensures valid_shelf { IsValidShelf self.new }
     {
         let class = class_index(exp);
         let first = self.starts[class];
         if ordinal >= self.starts[class + 1] - first {
             return;
         }
-        let place = &mut self.places[(first + ordinal) as usize];
-        place.mark(packed);
+        let sized_area = &mut self.sized_areas[(first + ordinal) as usize];
+        sized_area.mark(packed);
     }
 
     /// Puts the touched ones of the chunks that a body packs over those in use of an area of a class, where the class has that
@@ -477,23 +479,23 @@ impl<S: Supply> Shelf<S> {
         ensures long { (d : ℕ) → length (row_at self.new.rows d).chunks
             ≡ length (row_at self.old.rows d).chunks }
         ensures same { self.new ≡ record self.old { rows = self.new.rows } }
-        ensures kept { IsKept self.new }
+        ensures valid_shelf { IsValidShelf self.new }
     {
         let class = class_index(exp);
         let first = self.starts[class];
         if ordinal >= self.starts[class + 1] - first {
             return;
         }
-        let place = &mut self.places[(first + ordinal) as usize];
-        place.fetch(packed, body);
+        let sized_area = &mut self.sized_areas[(first + ordinal) as usize];
+        sized_area.fetch(packed, body);
     }
 
     /// Gives back the last area of a class, whatever its chunks are.
-    pub(crate) fn give_last(&mut self, way: &S::Way, exp: u8)
+    pub(crate) fn give_last(&mut self, context: &S::Context, exp: u8)
         requires least { LEAST_EXPONENT ≤ exp }
         requires most { exp ≤ GREATEST_EXPONENT }
         requires some { per exp ≤ length (row_at self.old.rows (exp - 5)).chunks }
-        requires kept { IsKept self.old }
+        requires valid_shelf { IsValidShelf self.old }
         ensures fewer { length (row_at self.new.rows (exp - 5)).chunks + per exp
             ≡ length (row_at self.old.rows (exp - 5)).chunks }
         ensures others { (d : ℕ) → (d ≡ exp - 5 → ⊥)
@@ -501,32 +503,32 @@ impl<S: Supply> Shelf<S> {
         ensures rows { (d i : ℕ) → (d ≡ exp - 5 → i < length (row_at self.new.rows d).chunks)
             → row_chunk self.new.rows d i ≡ row_chunk self.old.rows d i }
         ensures keeps { Keeps self.old self.new }
-        ensures kept { IsKept self.new }
+        ensures valid_shelf { IsValidShelf self.new }
     {
         let last = self.areas(exp) - 1;
         self.shape_area(exp, last, &NO_CHUNK[..(per_area(exp) as usize / 8).max(1)]);
-        self.drop_area(way, exp);
+        self.drop_area(context, exp);
     }
 
     /// No chunk is touched.
     pub(crate) fn clear_touched(&mut self)
         ensures cleared { self.new ≡ record self.old { rows = untouched_rows self.old.rows } }
-        ensures kept { IsKept self.new }
+        ensures valid_shelf { IsValidShelf self.new }
     {
-        clear_places(&mut self.places);
+        clear_sized_areas(&mut self.sized_areas);
     }
 
     /// Whether no chunk is touched. Where the answer is no, no clause tells that one is.
-    pub(crate) fn is_settled(&self) -> bool
-        ensures settled { IsTrue result → self.now ≡ record self.now { rows = untouched_rows self.now.rows } }
-        ensures kept { IsKept self.now }
+    pub(crate) fn is_unmodified(&self) -> bool
+        ensures unmodified { IsTrue result → self.now ≡ record self.now { rows = untouched_rows self.now.rows } }
+        ensures valid_shelf { IsValidShelf self.now }
     {
-        are_settled(&self.places)
+        are_unmodified(&self.sized_areas)
     }
 
     /// Gives all segments back.
-    pub(crate) fn close(self, way: &S::Way) -> S
-        requires { IsKept self }
+    pub(crate) fn close(self, context: &S::Context) -> S
+        requires { IsValidShelf self }
         ensures nothing_held { S.held_ids result ≡ [] }
         ensures quota { S.quota_of result ≡ self.quota }
         ensures origin { S.origin result ≡ self.origin }
@@ -534,12 +536,12 @@ impl<S: Supply> Shelf<S> {
         let Shelf {
             version: _,
             supply,
-            places,
+            sized_areas,
             starts: _,
             full: _,
             spare: _,
         } = self;
-        give_all(supply, way, places)
+        give_all(supply, context, sized_areas)
     }
 }
 
@@ -576,26 +578,30 @@ fn all_tables(alloc: Global, quota: u32) -> Result<Vec<Lengths>, AllocError>
 }
 
 /// Gives back the segments of all areas.
-fn give_all<S: Supply>(mut supply: S, way: &S::Way, mut places: Vec<Place<S::Seg>>) -> S
-    requires { Owns (S.held_ids supply) places.items }
+fn give_all<S: Supply>(
+    mut supply: S,
+    context: &S::Context,
+    mut sized_areas: Vec<SizedArea<S::Seg>>,
+) -> S
+    requires { Owns (S.held_ids supply) sized_areas.items }
     ensures nothing_held { S.held_ids result ≡ [] }
     ensures quota { S.quota_of result ≡ S.quota_of supply }
     ensures origin { S.origin result ≡ S.origin supply }
 {
-    while let Some(place) = places.pop() {
-        let (segment, _lengths) = place.into_parts();
-        supply.give(way, segment);
+    while let Some(sized_area) = sized_areas.pop() {
+        let (segment, _lengths) = sized_area.into_parts();
+        supply.give(context, segment);
     }
-    places.destroy_empty();
+    sized_areas.destroy_empty();
     supply
 }
 
 /// Whether no chunk of these areas is touched.
-fn are_settled<G: Segment>(places: &Vec<Place<G>>) -> bool
-    ensures { IsTrue result → map clean places.now.items ≡ places.now.items }
+fn are_unmodified<G: Segment>(sized_areas: &Vec<SizedArea<G>>) -> bool
+    ensures { IsTrue result → map clean sized_areas.now.items ≡ sized_areas.now.items }
 {
-    for i in 0..places.len() {
-        if !places[i].is_settled() {
+    for i in 0..sized_areas.len() {
+        if !sized_areas[i].is_unmodified() {
             return false;
         }
     }
@@ -603,12 +609,12 @@ fn are_settled<G: Segment>(places: &Vec<Place<G>>) -> bool
 }
 
 /// No chunk of these areas is touched.
-fn clear_places<G: Segment>(places: &mut Vec<Place<G>>)
-    ensures cleaned { places.new.items ≡ map clean places.old.items }
-    ensures room { vec_capacity places.new ≡ vec_capacity places.old }
+fn clear_sized_areas<G: Segment>(sized_areas: &mut Vec<SizedArea<G>>)
+    ensures cleaned { sized_areas.new.items ≡ map clean sized_areas.old.items }
+    ensures room { vec_capacity sized_areas.new ≡ vec_capacity sized_areas.old }
 {
-    for i in 0..places.len() {
-        let place = &mut places[i];
-        place.clear_touched();
+    for i in 0..sized_areas.len() {
+        let sized_area = &mut sized_areas[i];
+        sized_area.clear_touched();
     }
 }

@@ -1,2 +1,4 @@
 pub mod Pieces
 pub mod ReadSoFar
+pub mod Digits
+pub mod Fronts

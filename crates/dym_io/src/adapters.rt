@@ -1,7 +1,7 @@
 //! The standard library's readers and writers as sources and sinks: the edge of what is proved.
 ghost use Rattle.std.specs.Prelude.{◌≡◌, false, None};
 
-use crate::fault::Count;
+use crate::faults::Count;
 use crate::{Failed, Sink, Source};
 use std::io::{Read, Write};
 

@@ -6,7 +6,7 @@ ghost use Rattle.dym_io.specs.Source.{Takes, IsEmptyAtEnd};
 ghost use Rattle.dym_io.specs.Sink.{Pushes, AllFlushed};
 ghost use Rattle.dym_io.specs.Memory.{given, accepted, output_of, SourceFails, SinkFails, IsFull};
 
-use crate::fault::Count;
+use crate::faults::Count;
 use crate::{Failed, Sink, Source};
 use std::alloc::{AllocError, Global};
 use std::marker::Model;

@@ -5,11 +5,11 @@ use Rattle.dym_base.specs.Heaps.{Live}
 use Rattle.dym_base.specs.Objects.{LogEntry, empty_heap}
 use Rattle.dym_base.specs.LateRun.{LateEvent, events_before, heap_after, events_a_log, log_before}
 use Rattle.dym_base.specs.declared.command.Version.TheVariants.{One}
-use Rattle.dym_late.specs.declared.limits.TheConstants.{MOST_EVENTS}
+use Rattle.dym_base.specs.declared.limits.TheConstants.{MOST_LATE_EVENTS}
 
 -- the last log that is taken at or before n events
 abbrev pub last_mark : ℕ → ℕ
-last_mark n = min (MOST_EVENTS / events_a_log - 1) (n / events_a_log)
+last_mark n = min (MOST_LATE_EVENTS / events_a_log - 1) (n / events_a_log)
 
 -- the oldest log that is kept: the last one at or before the number of events with a time before the bound
 abbrev pub oldest_mark : ℕ → List LateEvent → ℕ
@@ -27,7 +27,7 @@ AreMarks quota ordered b (log ∷ logs) =
 
 -- a log is taken where this many events are in the heap
 abbrev pub IsMark : ℕ → Type 0
-IsMark n = (n % events_a_log ≡ 0) × (n < MOST_EVENTS)
+IsMark n = (n % events_a_log ≡ 0) × (n < MOST_LATE_EVENTS)
 
 -- from which of n events on commands are run where an event is put behind p of them
 abbrev pub start_of : ℕ → ℕ → ℕ

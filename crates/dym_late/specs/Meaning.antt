@@ -5,7 +5,7 @@ use Rattle.dym_base.specs.Objects.{empty_heap}
 use Rattle.dym_base.specs.Origins.{Origin}
 use Rattle.dym_base.specs.declared.command.Version.TheVariants.{One}
 use Rattle.dym_heap.specs.Meaning.{HeapMeaning, IsSound}
-use Rattle.dym_late.specs.declared.limits.TheConstants.{MOST_EVENTS}
+use Rattle.dym_base.specs.declared.limits.TheConstants.{MOST_LATE_EVENTS}
 use Rattle.dym_late.specs.Orders.{event_at}
 
 -- a heap of late events: its heap, the accepted events in the order of arrival, the greatest time that was committed, and whether
@@ -31,5 +31,5 @@ pub record IsLate (m : LateMeaning) : Type 0 where
   pub sound : IsSound m.heap
   pub live : m.heap.state.live ≡ (late_heap One m.heap.quota m.events).live
   pub applied : m.heap.applied ≡ replayed m.events
-  pub few : length m.events ≤ MOST_EVENTS
+  pub few : length m.events ≤ MOST_LATE_EVENTS
   pub commands : (k : ℕ) → k < length m.events → IsEventCommand (event_at m.events k).command

@@ -9,7 +9,7 @@ use Rattle.dym_heap.specs.Meaning.{HeapMeaning, IsSound}
 use Rattle.dym_chain.specs.Chains.{ChainMeaning, Belongs}
 use Rattle.dym_late.specs.Marks.{last_mark, oldest_mark, live_after, AreMarks}
 use Rattle.dym_late.specs.Orders.{event_at, spot, IsOrder}
-use Rattle.dym_late.specs.declared.limits.TheConstants.{MOST_EVENTS}
+use Rattle.dym_base.specs.declared.limits.TheConstants.{MOST_LATE_EVENTS}
 use Rattle.dym_late.specs.declared.event.Event.{Event}
 
 -- an accepted event as the definition has it
@@ -27,7 +27,7 @@ replies_of events = map (λ (e : Event). e.reply) events
 pub record IsRunTo (n m bound : ℕ) (events : List Event) (numbers : List ℕ) (heap : HeapMeaning) (chain : ChainMeaning) : Type 0 where
   pub order : IsOrder (late_events events) numbers
   pub commands : (k : ℕ) → k < length events → IsEventCommand (event_at (late_events events) k).command
-  pub few : length events ≤ MOST_EVENTS
+  pub few : length events ≤ MOST_LATE_EVENTS
   pub version : heap.version ≡ One
   pub sound : IsSound heap
   pub belongs : Belongs heap.version heap.quota heap.state chain
@@ -46,8 +46,8 @@ IsRun n bound events numbers heap chain = IsRunTo n n bound events numbers heap 
 pub record IsWhole (bound : ℕ) (events : List Event) (numbers : List ℕ) (heap : HeapMeaning) (chain : ChainMeaning) : Type 0 where
   pub run : IsRun (length events) bound events numbers heap chain
   pub applied : heap.applied ≡ LateRun.replayed (late_events events)
-  pub applied_few : heap.applied ≤ MOST_EVENTS * length events
-  pub made_few : chain.made ≤ MOST_EVENTS * length events + 1
+  pub applied_few : heap.applied ≤ MOST_LATE_EVENTS * length events
+  pub made_few : chain.next_number ≤ MOST_LATE_EVENTS * length events + 1
 
 -- between two calls: all events are run, unless memory was wanting for one, and no record of the chain is out
 pub record IsWholeUnless (broken : Bool) (bound : ℕ) (events : List Event) (numbers : List ℕ) (heap : HeapMeaning) (chain : ChainMeaning) : Type 0 where

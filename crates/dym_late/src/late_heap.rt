@@ -4,9 +4,9 @@ ghost use Rattle.dym_base.specs.LateRun as LateRun;
 ghost use Rattle.dym_base.specs.LateRun.{IsEventCommand, events_to, late_reply, replayed_by};
 ghost use Rattle.dym_base.specs.declared.command.Version.TheVariants.{One};
 ghost use Rattle.dym_base.specs.declared.limits.TheConstants.{MOST_QUOTA};
-ghost use Rattle.dym_late.specs.declared.limits.TheConstants.{MOST_EVENTS};
+ghost use Rattle.dym_base.specs.declared.limits.TheConstants.{MOST_LATE_EVENTS};
 ghost use Rattle.dym_late.specs.Answers.{IsEarly, IfEarly, IsMemory};
-ghost use Rattle.dym_late.specs.Marks.{oldest_mark};
+ghost use Rattle.dym_late.specs.Marks.{last_mark, oldest_mark};
 ghost use Rattle.dym_late.specs.Meaning.{IsLate, fresh_late};
 
 use crate::late_error::LateError;
@@ -48,7 +48,11 @@ impl<S: Supply> Model for LateHeap<S> {
 impl<S: Supply> LateHeap<S> {
     /// An empty heap of version 1 with no event and the bound 0. Where memory is wanting, the supply comes back, with nothing
     /// held.
-    pub fn open(way: &S::Way, alloc: Global, supply: S) -> Result<LateHeap<S>, (AllocError, S)>
+    pub fn open(
+        context: &S::Context,
+        alloc: Global,
+        supply: S,
+    ) -> Result<LateHeap<S>, (AllocError, S)>
         requires nothing_held { S.held_ids supply ≡ [] }
         requires least { 1 ≤ S.quota_of supply }
         requires most { S.quota_of supply ≤ MOST_QUOTA }
@@ -58,7 +62,7 @@ impl<S: Supply> LateHeap<S> {
         ensures quota { IfErr result (λ e. S.quota_of e.1 ≡ S.quota_of supply) }
         ensures origin { IfErr result (λ e. S.origin e.1 ≡ S.origin supply) }
     {
-        match Timeline::open(way, alloc, supply) {
+        match Timeline::open(context, alloc, supply) {
             Ok(timeline) => Ok(LateHeap {
                 timeline,
                 broken: false,
@@ -73,13 +77,13 @@ impl<S: Supply> LateHeap<S> {
     /// Where memory is wanting, its command is gone and the heap of late events is broken.
     pub fn put(
         &mut self,
-        way: &S::Way,
+        context: &S::Context,
         alloc: Global,
         time: u64,
         command: Command,
     ) -> Result<Placed, LateError>
         requires whole { self.old.broken ≡ false }
-        requires room { length self.old.events < MOST_EVENTS }
+        requires room { length self.old.events < MOST_LATE_EVENTS }
         requires command { IsEventCommand command }
         ensures early { IsEarly result ↔ time < self.old.bound }
         ensures back { IfEarly result (λ b c. (b ≡ self.old.bound) × (c ≡ command)) }
@@ -101,7 +105,7 @@ impl<S: Supply> LateHeap<S> {
         if time < bound {
             return Err(LateError::Early { bound, command });
         }
-        match self.timeline.accept(way, alloc, time, command) {
+        match self.timeline.accept(context, alloc, time, command) {
             Ok(placed) => Ok(placed),
             Err(_) => {
                 self.broken = true;
@@ -129,6 +133,15 @@ impl<S: Supply> LateHeap<S> {
         ensures late { IsLate self.now }
     {
         self.timeline.events.len() as u32
+    }
+
+    /// How many logs are kept: one at every 16 events of the order, from the newest one on that no event to come can stand before.
+    pub fn logs(&self) -> u32
+        requires { self.now.broken ≡ false }
+        ensures kept { result + oldest_mark self.now.bound self.now.events
+            ≡ last_mark (length self.now.events) + 1 }
+    {
+        self.timeline.chain.kept()
     }
 
     /// The greatest time that was committed, and 0 before the first commit.
@@ -173,7 +186,7 @@ impl<S: Supply> LateHeap<S> {
     }
 
     /// Gives all segments back, and answers the supply.
-    pub fn end(self, way: &S::Way) -> S
+    pub fn end(self, context: &S::Context) -> S
         ensures nothing_held { S.held_ids result ≡ [] }
         ensures quota { S.quota_of result ≡ self.heap.quota }
         ensures origin { S.origin result ≡ self.heap.origin }
@@ -182,6 +195,6 @@ impl<S: Supply> LateHeap<S> {
             timeline,
             broken: _,
         } = self;
-        timeline.end(way)
+        timeline.end(context)
     }
 }

@@ -12,8 +12,8 @@ ghost use Rattle.dym_chain.specs.Chains.{Belongs, object_of};
 ghost use Rattle.dym_late.specs.Marks.{IsMark, start_of};
 
 use crate::event::Event;
-use crate::limits::{EVENTS_A_LOG, MOST_EVENTS};
 use dym_base::Kind;
+use dym_base::limits::{EVENTS_PER_LATE_LOG, MOST_LATE_EVENTS};
 use dym_chain::{Chain, LogError, VecKeep};
 use dym_heap::Heap;
 use dym_quota::Supply;
@@ -23,18 +23,18 @@ use std::alloc::{AllocError, Global};
 pub(crate) fn is_mark(position: usize) -> bool
     ensures { IsTrue result ↔ IsMark position }
 {
-    position % EVENTS_A_LOG == 0 && position < MOST_EVENTS as usize
+    position % EVENTS_PER_LATE_LOG == 0 && position < MOST_LATE_EVENTS as usize
 }
 
 /// The last position at or before a place at which a log is taken.
 fn mark_before(place: usize) -> usize
     ensures { result ≡ log_before place }
 {
-    place - place % EVENTS_A_LOG
+    place - place % EVENTS_PER_LATE_LOG
 }
 
 /// Runs an event's command, and keeps its reply.
-pub(crate) fn run_event<S: Supply>(heap: &mut Heap<S>, way: &S::Way, event: &mut Event)
+pub(crate) fn run_event<S: Supply>(heap: &mut Heap<S>, context: &S::Context, event: &mut Event)
     requires applied { heap.old.applied < COUNT_LIMIT }
     requires command { IsEventCommand event.old.command }
     ensures event { event.new ≡ record event.old { reply = (step_of heap.old event.old.command).reply } }
@@ -42,7 +42,7 @@ pub(crate) fn run_event<S: Supply>(heap: &mut Heap<S>, way: &S::Way, event: &mut
         (counted heap.old) event.old.command) { held_ids = heap.new.held_ids } }
     ensures sound { IsSound heap.new }
 {
-    event.reply = heap.apply(way, &event.command);
+    event.reply = heap.apply(context, &event.command);
 }
 
 /// Logs the heap at a position. Only memory can be wanting.
@@ -55,7 +55,7 @@ pub(crate) fn take_log<S: Supply>(
 ) -> Result<(), AllocError>
     requires belongs { Belongs heap.old.version heap.old.quota heap.old.state chain.old }
     requires sound { IsSound heap.old }
-    requires made { chain.old.made < COUNT_LIMIT }
+    requires next_number { chain.old.next_number < COUNT_LIMIT }
     requires idle { chain.old.lifted ≡ None }
     requires room { length chain.old.logs < 256 }
     requires later { (log : LogEntry) → newest chain.old.logs ≡ Some log → log.time < position }
@@ -64,7 +64,7 @@ pub(crate) fn take_log<S: Supply>(
     ensures heap { heap.new ≡ record heap.old { state = heap.new.state } }
     ensures logs { OnOk result (chain.new.logs
         ≡ chain.old.logs ++ Objects.new_entry (object_of heap.old.state chain.old) position kind ∷ []) }
-    ensures made { chain.new.made ≤ chain.old.made + 1 }
+    ensures next_number { chain.new.next_number ≤ chain.old.next_number + 1 }
     ensures belongs { Belongs heap.new.version heap.new.quota heap.new.state chain.new }
     ensures idle { chain.new.lifted ≡ None }
     ensures sound { IsSound heap.new }
@@ -85,7 +85,7 @@ pub(crate) fn log_if_due<S: Supply>(
 ) -> Result<(), AllocError>
     requires belongs { Belongs heap.old.version heap.old.quota heap.old.state chain.old }
     requires sound { IsSound heap.old }
-    requires made { chain.old.made < COUNT_LIMIT }
+    requires next_number { chain.old.next_number < COUNT_LIMIT }
     requires idle { chain.old.lifted ≡ None }
     requires room { IsMark position → length chain.old.logs < 256 }
     requires later { IsMark position → (log : LogEntry) → newest chain.old.logs ≡ Some log
@@ -96,7 +96,7 @@ pub(crate) fn log_if_due<S: Supply>(
         → chain.new.logs ≡ chain.old.logs
         ++ Objects.new_entry (object_of heap.old.state chain.old) position Inc ∷ []) }
     ensures none { (IsMark position → ⊥) → chain.new.logs ≡ chain.old.logs }
-    ensures made { chain.new.made ≤ chain.old.made + 1 }
+    ensures next_number { chain.new.next_number ≤ chain.old.next_number + 1 }
     ensures belongs { Belongs heap.new.version heap.new.quota heap.new.state chain.new }
     ensures idle { chain.new.lifted ≡ None }
     ensures sound { IsSound heap.new }
@@ -108,7 +108,12 @@ pub(crate) fn log_if_due<S: Supply>(
 }
 
 /// Restores the last log at or before a position, which is there.
-fn rewind<S: Supply>(way: &S::Way, heap: &mut Heap<S>, chain: &mut Chain<VecKeep>, position: usize)
+fn rewind<S: Supply>(
+    context: &S::Context,
+    heap: &mut Heap<S>,
+    chain: &mut Chain<VecKeep>,
+    position: usize,
+)
     requires belongs { Belongs heap.old.version heap.old.quota heap.old.state chain.old }
     requires sound { IsSound heap.old }
     requires idle { chain.old.lifted ≡ None }
@@ -121,15 +126,15 @@ fn rewind<S: Supply>(way: &S::Way, heap: &mut Heap<S>, chain: &mut Chain<VecKeep
     ensures idle { chain.new.lifted ≡ None }
     ensures sound { IsSound heap.new }
 {
-    if chain.restore(way, heap, position as u64).is_err() {
+    if chain.restore(context, heap, position as u64).is_err() {
         unreachable!();
     }
 }
 
 /// Brings the heap and its logs back to where the event of this place of so many can run, and answers from which place on
 /// events are run. An event behind all others runs where the heap is.
-pub(crate) fn make_way<S: Supply>(
-    way: &S::Way,
+pub(crate) fn drop_logs_after<S: Supply>(
+    context: &S::Context,
     heap: &mut Heap<S>,
     chain: &mut Chain<VecKeep>,
     count: usize,
@@ -153,6 +158,6 @@ pub(crate) fn make_way<S: Supply>(
         return count;
     }
     let position = mark_before(place);
-    rewind(way, heap, chain, position);
+    rewind(context, heap, chain, position);
     position
 }

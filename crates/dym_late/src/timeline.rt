@@ -6,15 +6,15 @@ ghost use Rattle.dym_base.specs.declared.command.Version.TheVariants.{One};
 ghost use Rattle.dym_base.specs.declared.limits.TheConstants.{MOST_QUOTA};
 ghost use Rattle.dym_heap.specs.Meaning.{IsSound};
 ghost use Rattle.dym_chain.specs.Chains.{Belongs};
-ghost use Rattle.dym_late.specs.declared.limits.TheConstants.{MOST_EVENTS};
+ghost use Rattle.dym_base.specs.declared.limits.TheConstants.{MOST_LATE_EVENTS};
 ghost use Rattle.dym_late.specs.Marks.{oldest_mark};
 ghost use Rattle.dym_late.specs.Meaning.{fresh_heap};
 ghost use Rattle.dym_late.specs.Timelines.{late_events, IsRun, IsWhole};
 
 use crate::event::Event;
-use crate::find::{count_before, count_to};
 use crate::placed::Placed;
-use crate::steps::{log_if_due, make_way, run_event, take_log};
+use crate::positions::{count_before, count_to};
+use crate::steps::{drop_logs_after, log_if_due, run_event, take_log};
 use dym_base::{Command, Kind, Reply};
 use dym_chain::laws::heap_steps_keep_belonging;
 use dym_chain::{Chain, VecKeep};
@@ -34,7 +34,7 @@ pub(crate) struct Timeline<S: Supply> {
 impl<S: Supply> Timeline<S> {
     /// A heap with no event, and a full log of it. Where memory is wanting, the supply comes back, with nothing held.
     pub(crate) fn open(
-        way: &S::Way,
+        context: &S::Context,
         alloc: Global,
         supply: S,
     ) -> Result<Timeline<S>, (AllocError, S)>
@@ -49,14 +49,16 @@ impl<S: Supply> Timeline<S> {
         ensures quota { IfErr result (λ e. S.quota_of e.1 ≡ S.quota_of supply) }
         ensures origin { IfErr result (λ e. S.origin e.1 ≡ S.origin supply) }
     {
-        let Ok(keep) = VecKeep::open(alloc) else {
-            return Err((AllocError, supply));
+        let keep = match VecKeep::open(alloc) {
+            Ok(keep) => keep,
+            Err(why) => return Err((why, supply)),
         };
-        let Ok(chain) = Chain::open(alloc, keep) else {
-            return Err((AllocError, supply));
+        let chain = match Chain::open(alloc, keep) {
+            Ok(chain) => chain,
+            Err((why, _keep)) => return Err((why, supply)),
         };
         match Heap::open(alloc, supply) {
-            Ok(heap) => Timeline::with_log(way, alloc, heap, chain),
+            Ok(heap) => Timeline::with_log(context, alloc, heap, chain),
             Err(refused) => {
                 chain.into_keep();
                 Err(refused)
@@ -66,7 +68,7 @@ impl<S: Supply> Timeline<S> {
 
     /// A heap with no event and a chain with no log, of which a full log is taken.
     fn with_log(
-        way: &S::Way,
+        context: &S::Context,
         alloc: Global,
         mut heap: Heap<S>,
         mut chain: Chain<VecKeep>,
@@ -76,7 +78,7 @@ impl<S: Supply> Timeline<S> {
         requires applied { heap.applied ≡ 0 }
         requires sound { IsSound heap }
         requires logs { chain.logs ≡ [] }
-        requires made { chain.made ≡ 0 }
+        requires next_number { chain.next_number ≡ 0 }
         requires idle { chain.lifted ≡ None }
         requires belongs { Belongs heap.version heap.quota heap.state chain }
         ensures whole { IfOk result (λ t. IsWhole 0 t.events.items t.order.items t.heap t.chain) }
@@ -97,7 +99,7 @@ impl<S: Supply> Timeline<S> {
             }),
             Err(error) => {
                 chain.into_keep();
-                Err((error, heap.end(way)))
+                Err((error, heap.end(context)))
             }
         }
     }
@@ -105,13 +107,13 @@ impl<S: Supply> Timeline<S> {
     /// Puts an event into its place of the order and runs it, after it those that stand behind it.
     pub(crate) fn accept(
         &mut self,
-        way: &S::Way,
+        context: &S::Context,
         alloc: Global,
         time: u64,
         command: Command,
     ) -> Result<Placed, AllocError>
         requires whole { IsWhole self.old.bound self.old.events.items self.old.order.items self.old.heap self.old.chain }
-        requires room { length self.old.events.items < MOST_EVENTS }
+        requires room { length self.old.events.items < MOST_LATE_EVENTS }
         requires time { self.old.bound ≤ time }
         requires command { IsEventCommand command }
         ensures whole { OnOk result (IsWhole self.new.bound self.new.events.items self.new.order.items self.new.heap self.new.chain) }
@@ -137,8 +139,8 @@ impl<S: Supply> Timeline<S> {
             command,
             reply: Reply::Done,
         })?;
-        let start = make_way(way, &mut self.heap, &mut self.chain, count, place);
-        self.replay(way, alloc, start)?;
+        let start = drop_logs_after(context, &mut self.heap, &mut self.chain, count, place);
+        self.replay(context, alloc, start)?;
         Ok(Placed {
             at: place as u32,
             replayed: (count + 1 - start) as u32,
@@ -164,21 +166,21 @@ impl<S: Supply> Timeline<S> {
     /// Runs the events of the order from a place on, and takes a log wherever one is due.
     pub(crate) fn replay(
         &mut self,
-        way: &S::Way,
+        context: &S::Context,
         alloc: Global,
         start: usize,
     ) -> Result<(), AllocError>
         requires run { IsRun start self.old.bound self.old.events.items self.old.order.items self.old.heap self.old.chain }
         requires start { start ≤ length self.old.events.items }
         requires applied { self.old.heap.applied < 2 ^ 30 }
-        requires made { self.old.chain.made < 2 ^ 30 }
+        requires next_number { self.old.chain.next_number < 2 ^ 30 }
         ensures run { OnOk result (IsRun (length self.new.events.items) self.old.bound self.new.events.items self.old.order.items self.new.heap self.new.chain) }
         ensures events { late_events self.new.events.items ≡ late_events self.old.events.items }
         ensures order { self.new.order ≡ self.old.order }
         ensures bound { self.new.bound ≡ self.old.bound }
         ensures applied { OnOk result (self.new.heap.applied + start
             ≡ self.old.heap.applied + length self.old.events.items) }
-        ensures made { OnOk result (self.new.chain.made + start ≤ self.old.chain.made + length self.old.events.items) }
+        ensures next_number { OnOk result (self.new.chain.next_number + start ≤ self.old.chain.next_number + length self.old.events.items) }
         ensures quota { self.new.heap.quota ≡ self.old.heap.quota }
         ensures origin { self.new.heap.origin ≡ self.old.heap.origin }
         ensures idle { self.new.chain.lifted ≡ None }
@@ -186,14 +188,14 @@ impl<S: Supply> Timeline<S> {
         heap_steps_keep_belonging();
         for place in start..self.order.len() {
             let event = &mut self.events[self.order[place] as usize];
-            run_event(&mut self.heap, way, event);
+            run_event(&mut self.heap, context, event);
             log_if_due(alloc, &mut self.heap, &mut self.chain, place + 1)?;
         }
         Ok(())
     }
 
     /// Gives all segments back, and answers the supply.
-    pub(crate) fn end(self, way: &S::Way) -> S
+    pub(crate) fn end(self, context: &S::Context) -> S
         requires { self.chain.lifted ≡ None }
         ensures nothing_held { S.held_ids result ≡ [] }
         ensures quota { S.quota_of result ≡ self.heap.quota }
@@ -207,6 +209,6 @@ impl<S: Supply> Timeline<S> {
             bound: _,
         } = self;
         chain.into_keep();
-        heap.end(way)
+        heap.end(context)
     }
 }

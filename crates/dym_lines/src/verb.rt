@@ -2,7 +2,7 @@
 ghost use Rattle.std.specs.Prelude.{◌≡◌};
 ghost use Rattle.dym_lines.specs.Table.{command_of, verb_of, Gives};
 ghost use Rattle.dym_lines.specs.Lines.{words_of};
-ghost use Rattle.dym_commands.specs.Asks.{asks};
+ghost use Rattle.dym_commands.specs.Requests.{asks};
 
 use crate::lines::{four_words, next_word, one_word, three_words, two_words};
 use crate::operands::{

@@ -78,12 +78,12 @@ counted_here (Ok x) heap chain ran old view = tt
 counted_here (Err why) heap chain ran old view = ap counted view
 
 -- a chain that lost logs, and made no record
-pub pruned_here : (heap : HeapMeaning) (chain new : ChainMeaning) (ran : ℕ) → IsWhole (record { heap = heap; chain = chain; ran = ran }) → new.made ≡ chain.made → new.lifted ≡ None → Belongs heap.version heap.quota heap.state new → StandsForCopies new
+pub pruned_here : (heap : HeapMeaning) (chain new : ChainMeaning) (ran : ℕ) → IsWhole (record { heap = heap; chain = chain; ran = ran }) → new.next_number ≡ chain.next_number → new.lifted ≡ None → Belongs heap.version heap.quota heap.state new → StandsForCopies new
     → IsWhole (record { heap = heap; chain = new; ran = ran + 1 })
-pruned_here heap chain new ran whole made idle belongs stands = record {
+pruned_here heap chain new ran whole next_number idle belongs stands = record {
   sound = whole.sound;
   belongs = belongs;
   stands = stands;
   idle = idle;
-  counted = (let few = whole.counted in omega (arith, few, made));
+  counted = (let few = whole.counted in omega (arith, few, next_number));
 }

@@ -1,6 +1,6 @@
 -- The end of a run with one command more.
 use Rattle.std.proofs.Common.{◌≡◌, ℕ, List, [], ◌∷◌, ◌++◌, refl, sym, ap, ◌∙◌}
-use Rattle.dym_base.specs.Below.{below_step, below_after}
+use Rattle.dym_base.specs.BaseLogs.{base_logs_step, base_logs_after}
 use Rattle.dym_base.specs.Objects.{LogEntry, ObjectState, object_start, object_step, object_after, run_end}
 use Rattle.dym_base.specs.declared.command.Version.{Version}
 use Rattle.dym_base.specs.declared.command.Command.{Command}
@@ -11,12 +11,12 @@ after_one : (v : Version) (quota : ℕ) (s : ObjectState) (commands : List Comma
 after_one v quota s [] c = refl
 after_one v quota s (d ∷ commands) c = after_one v quota (object_step v quota s d).object commands c
 
-below_one : (v : Version) (quota : ℕ) (s : ObjectState) (below : List LogEntry) (commands : List Command) (c : Command) → below_after v quota s below (commands ++ c ∷ []) ≡ below_step (below_after v quota s below commands) (object_after v quota s commands) c
-below_one v quota s below [] c = refl
-below_one v quota s below (d ∷ commands) c = below_one v quota (object_step v quota s d).object (below_step below s d) commands c
+below_one : (v : Version) (quota : ℕ) (s : ObjectState) (base_logs : List LogEntry) (commands : List Command) (c : Command) → base_logs_after v quota s base_logs (commands ++ c ∷ []) ≡ base_logs_step (base_logs_after v quota s base_logs commands) (object_after v quota s commands) c
+below_one v quota s base_logs [] c = refl
+below_one v quota s base_logs (d ∷ commands) c = below_one v quota (object_step v quota s d).object (base_logs_step base_logs s d) commands c
 
 pub goes_on : RunsGoOn
-goes_on commands old new c run object below heap =
+goes_on commands old new c run object base_logs heap =
     let v : new.heap.version ≡ old.heap.version = ap (λ (h : HeapMeaning). h.version) heap in
     let q : new.heap.quota ≡ old.heap.quota = ap (λ (h : HeapMeaning). h.quota) heap in
     record {
@@ -24,8 +24,8 @@ goes_on commands old new c run object below heap =
           ∙ ap (λ (s : ObjectState). (object_step old.heap.version old.heap.quota s c).object) run.object
           ∙ sym (after_one old.heap.version old.heap.quota object_start commands c)
           ∙ (λ i. run_end (sym v i) (sym q i) (commands ++ c ∷ []));
-      below = below
-          ∙ (λ i. below_step (run.below i) (run.object i) c)
+      base_logs = base_logs
+          ∙ (λ i. base_logs_step (run.base_logs i) (run.object i) c)
           ∙ sym (below_one old.heap.version old.heap.quota object_start [] commands c)
-          ∙ (λ i. below_after (sym v i) (sym q i) object_start [] (commands ++ c ∷ []));
+          ∙ (λ i. base_logs_after (sym v i) (sym q i) object_start [] (commands ++ c ∷ []));
     }

@@ -1,6 +1,6 @@
 -- A call of an object as the run of a command that is a value.
 use Rattle.std.proofs.Common.{◌≡◌, ℕ, ◌+◌, Result, Ok, Err, OnErr, sym, ap, subst, ◌∙◌}
-use Rattle.dym_base.specs.Below.{below_step}
+use Rattle.dym_base.specs.BaseLogs.{base_logs_step}
 use Rattle.dym_base.specs.declared.command.Command.{Command}
 use Rattle.dym_base.specs.declared.reply.Refusal.{Refusal}
 use Rattle.dym_base.specs.declared.reply.Reply.{Reply}
@@ -12,7 +12,7 @@ use Rattle.dym_object.specs.Meaning.{ObjectMeaning, IsStep, counted, state_of, s
 pub record Ran (old new : ObjectMeaning) (command : Command) (reply : Reply) : Type 0 where
   pub replied : reply ≡ (step_by old command).reply
   pub after : state_of new ≡ (step_by old command).object
-  pub below : new.chain.below ≡ below_step old.chain.below (state_of old) command
+  pub base_logs : new.chain.base_logs ≡ base_logs_step old.chain.base_logs (state_of old) command
   pub ran : new.ran ≡ old.ran + 1
   pub refused : OnRefusal reply (new ≡ counted old)
   pub heap : new.heap ≡ record old.heap { state = new.heap.state; held_ids = new.heap.held_ids }
@@ -22,7 +22,7 @@ pub ran_by : (old new : ObjectMeaning) (command c : Command) (reply r : Reply) �
 ran_by old new command c reply r is same replied step refused = record {
   replied = same ∙ replied ∙ sym (ap (λ (k : Command). (step_by old k).reply) is);
   after = step.object ∙ sym (ap (λ (k : Command). (step_by old k).object) is);
-  below = step.below ∙ sym (ap (λ (k : Command). below_step old.chain.below (state_of old) k) is);
+  base_logs = step.base_logs ∙ sym (ap (λ (k : Command). base_logs_step old.chain.base_logs (state_of old) k) is);
   ran = step.ran;
   refused = subst (λ (x : Reply). OnRefusal x (new ≡ counted old)) (sym same) refused;
   heap = step.heap;

@@ -1,7 +1,7 @@
 -- A command to the heap of an object: the step of the object is that of its heap.
 use Rattle.std.proofs.Common.{◌≡◌, ℕ, List, refl, ap, sym, subst, ◌∙◌, arith}
 use Rattle.dym_base.specs.HeapStep.{heap_step, IsHeapCommand}
-use Rattle.dym_base.specs.Below.{below_step}
+use Rattle.dym_base.specs.BaseLogs.{base_logs_step}
 use Rattle.dym_base.specs.LateRun.{IsEventCommand}
 use Rattle.dym_base.specs.Objects.{LogEntry, ObjectState, ObjectAnswer, of_heap, object_step}
 use Rattle.dym_base.specs.declared.command.Version.{Version}
@@ -32,13 +32,13 @@ pub reply_is : (v : Version) (quota : ℕ) (s : ObjectState) (c : Command) → I
 reply_is v quota s c is = sym (ap (λ (a : ObjectAnswer). a.reply) (step_is v quota s c is))
 
 -- a command to the heap leaves what stands below the kept logs
-pub below_is : (below : List LogEntry) (s : ObjectState) (c : Command) → IsHeapCommand c → below ≡ below_step below s c
-below_is below s (Log t) is = absurd is
-below_is below s (Ilog t) is = absurd is
-below_is below s (Restore t) is = absurd is
-below_is below s (Prune g) is = absurd is
-below_is below s Logs is = absurd is
-below_is below s c is = refl
+pub below_is : (base_logs : List LogEntry) (s : ObjectState) (c : Command) → IsHeapCommand c → base_logs ≡ base_logs_step base_logs s c
+below_is base_logs s (Log t) is = absurd is
+below_is base_logs s (Ilog t) is = absurd is
+below_is base_logs s (Restore t) is = absurd is
+below_is base_logs s (Prune g) is = absurd is
+below_is base_logs s Logs is = absurd is
+below_is base_logs s c is = refl
 
 -- the object after, where its heap is that of the step
 object_is : (h new : HeapMeaning) (chain : ChainMeaning) (c : Command) → IsHeapCommand c → new ≡ record (stepped h c) { held_ids = new.held_ids } → object_of new.state chain ≡ (object_step h.version h.quota (object_of h.state chain) c).object
@@ -61,7 +61,7 @@ pub steps_keep : HeapStepsKeepBelonging → StepsKeepWhole
 steps_keep law o heap c is after sound whole = (
   record {
     object = object_is o.heap heap o.chain c is after;
-    below = below_is o.chain.below (object_of o.heap.state o.chain) c is;
+    base_logs = below_is o.chain.base_logs (object_of o.heap.state o.chain) c is;
     ran = refl;
     heap = rest_stays o.heap heap c after;
     origin = refl;
@@ -71,6 +71,6 @@ steps_keep law o heap c is after sound whole = (
     belongs = still_belongs law o.heap heap o.chain c after whole.belongs;
     stands = whole.stands;
     idle = whole.idle;
-    counted = (let made = whole.counted in omega (arith, made));
+    counted = (let next_number = whole.counted in omega (arith, next_number));
   },
 )

@@ -1,6 +1,6 @@
 -- What keeps an object whole, and what runs come to.
 use Rattle.std.specs.Prelude.{◌≡◌, ◌+◌, List, [], ◌∷◌, ◌++◌}
-use Rattle.dym_base.specs.Below.{below_step}
+use Rattle.dym_base.specs.BaseLogs.{base_logs_step}
 use Rattle.dym_base.specs.HeapStep.{IsHeapCommand}
 use Rattle.dym_base.specs.Objects.{object_start}
 use Rattle.dym_base.specs.declared.command.Command.{Command}
@@ -18,11 +18,11 @@ StepsKeepWhole = (o : ObjectMeaning) (heap : HeapMeaning) (command : Command) �
 
 -- an object at its start has run no command
 abbrev pub RunsBegin : Type 0
-RunsBegin = (o : ObjectMeaning) → state_of o ≡ object_start → o.chain.below ≡ [] → HasRun [] o
+RunsBegin = (o : ObjectMeaning) → state_of o ≡ object_start → o.chain.base_logs ≡ [] → HasRun [] o
 
 -- where an object ran commands from its start, and then this one, it ran all of these
 abbrev pub RunsGoOn : Type 0
 RunsGoOn =
     (commands : List Command) (old new : ObjectMeaning) (command : Command) → HasRun commands old
-    → state_of new ≡ (step_by old command).object → new.chain.below ≡ below_step old.chain.below (state_of old) command
+    → state_of new ≡ (step_by old command).object → new.chain.base_logs ≡ base_logs_step old.chain.base_logs (state_of old) command
     → new.heap ≡ record old.heap { state = new.heap.state; held_ids = new.heap.held_ids } → HasRun (commands ++ command ∷ []) new

@@ -1,6 +1,6 @@
 -- What an object stands for, as its callers see it.
 use Rattle.std.specs.Prelude.{◌≡◌, ℕ, ◌+◌, ◌≤◌, List, None}
-use Rattle.dym_base.specs.Below.{below_step, run_below}
+use Rattle.dym_base.specs.BaseLogs.{base_logs_step, run_base_logs}
 use Rattle.dym_base.specs.Objects.{ObjectState, ObjectAnswer, object_step, run_end}
 use Rattle.dym_base.specs.declared.command.Command.{Command}
 use Rattle.dym_heap.specs.Meaning.{HeapMeaning, IsSound}
@@ -28,7 +28,7 @@ counted o = record o { ran = o.ran + 1 }
 -- was run, and of the heap and the chain no more changed than a step changes
 pub record IsStep (old new : ObjectMeaning) (command : Command) : Type 0 where
   pub object : state_of new ≡ (step_by old command).object
-  pub below : new.chain.below ≡ below_step old.chain.below (state_of old) command
+  pub base_logs : new.chain.base_logs ≡ base_logs_step old.chain.base_logs (state_of old) command
   pub ran : new.ran ≡ old.ran + 1
   pub heap : new.heap ≡ record old.heap { state = new.heap.state; held_ids = new.heap.held_ids }
   pub origin : new.chain.origin ≡ old.chain.origin
@@ -40,17 +40,17 @@ pub record IsWhole (o : ObjectMeaning) : Type 0 where
   pub belongs : Belongs o.heap.version o.heap.quota o.heap.state o.chain
   pub stands : StandsForCopies o.chain
   pub idle : o.chain.lifted ≡ None
-  pub counted : o.chain.made ≤ o.ran
+  pub counted : o.chain.next_number ≤ o.ran
 
 -- what stays true of an object while one of its records may be out
 pub record IsLent (o : ObjectMeaning) : Type 0 where
   pub sound : IsSound o.heap
   pub belongs : Belongs o.heap.version o.heap.quota o.heap.state o.chain
   pub stands : StandsForCopies o.chain
-  pub counted : o.chain.made ≤ o.ran
+  pub counted : o.chain.next_number ≤ o.ran
 
 -- the object is one that ran these commands from its start: its heap and its kept logs are those at the run's end, and so is what
 -- stands below them
 pub record HasRun (commands : List Command) (o : ObjectMeaning) : Type 0 where
   pub object : state_of o ≡ run_end o.heap.version o.heap.quota commands
-  pub below : o.chain.below ≡ run_below o.heap.version o.heap.quota commands
+  pub base_logs : o.chain.base_logs ≡ run_base_logs o.heap.version o.heap.quota commands

@@ -1,18 +1,18 @@
-//! One simulation object: its heap, the chain of its logs, and how many commands it ran. Below stand the heap with the supply
-//! that its segments come from, and the chain with the keep of its records; above stands whatever runs the commands of a
-//! script. Its one contract: each method for a command answers as one step of the definition replies, and leaves the object of that
-//! step; `run` does the same for a command that is a value.
+//! One simulation object: its heap, the chain of its logs, and how many commands it ran.
+//!
+//! Below stand the heap with the supply that its segments come from, and the chain with the keep of
+//! its records; above stands whatever runs the commands of a script. Its one contract: each method
+//! for a command answers as one step of the definition replies, and leaves the object of that step
+//! (`IsStep`); `run` does the same for a command that is a value. An object that lends its records
+//! (`LentObject`) is a `KeptLogs`.
 #![tactic(auto)]
 
+mod command_run;
 mod heap_calls;
 pub mod laws;
-mod lent;
+mod lent_object;
 mod log_calls;
 mod object;
-mod run;
 
-pub use lent::LentObject;
+pub use lent_object::LentObject;
 pub use object::Object;
-
-#[cfg(test)]
-mod tests;

@@ -68,7 +68,7 @@ impl<S: Supply, K: LogKeep> Object<S, K> {
 
     /// Restores the last log at or before a time, and answers its time; the later logs leave.
     #[inline(always)]
-    pub fn restore(&mut self, way: &S::Way, time: u64) -> Result<u64, Refusal>
+    pub fn restore(&mut self, context: &S::Context, time: u64) -> Result<u64, Refusal>
         requires { self.old.ran < COUNT_LIMIT }
         ensures reply { restored_reply result ≡ (step_by self.old (Restore time)).reply }
         ensures step { IsStep self.old self.new (Restore time) }
@@ -76,7 +76,7 @@ impl<S: Supply, K: LogKeep> Object<S, K> {
         ensures whole { IsWhole self.new }
     {
         self.ran += 1;
-        self.chain.restore(way, &mut self.heap, time)
+        self.chain.restore(context, &mut self.heap, time)
     }
 
     /// Drops the logs before the last one at or before a bound, and answers how many.

@@ -7,7 +7,7 @@ ghost use Rattle.dym_base.specs.declared.limits.TheConstants.{MOST_QUOTA};
 ghost use Rattle.dym_heap.specs.Meaning.{IsSound};
 ghost use Rattle.dym_object.specs.Meaning.{ObjectMeaning, IsWhole};
 
-use crate::lent::LentObject;
+use crate::lent_object::LentObject;
 use dym_base::Version;
 use dym_base::limits::MOST_QUOTA;
 use dym_chain::{Chain, LogKeep};
@@ -46,7 +46,7 @@ impl<S: Supply, K: LogKeep> Object<S, K> {
         requires least { 1 ≤ S.quota_of supply }
         requires most { S.quota_of supply ≤ MOST_QUOTA }
         requires empty { (K.meaning keep).records ≡ [] }
-        requires made { (K.meaning keep).made ≡ 0 }
+        requires next_number { (K.meaning keep).next_number ≡ 0 }
         requires idle { (K.meaning keep).lifted ≡ None }
         ensures opened { IfOk result (λ o. o ≡ record {
           heap = record {
@@ -58,10 +58,10 @@ impl<S: Supply, K: LogKeep> Object<S, K> {
             applied = 0;
           };
           chain = record {
-            below = [];
+            base_logs = [];
             logs = [];
             records = [];
-            made = 0;
+            next_number = 0;
             lifted = None;
             origin = (K.meaning keep).origin;
           };
@@ -85,7 +85,7 @@ impl<S: Supply, K: LogKeep> Object<S, K> {
         requires least { 1 ≤ S.quota_of supply }
         requires most { S.quota_of supply ≤ MOST_QUOTA }
         requires empty { (K.meaning keep).records ≡ [] }
-        requires made { (K.meaning keep).made ≡ 0 }
+        requires next_number { (K.meaning keep).next_number ≡ 0 }
         requires idle { (K.meaning keep).lifted ≡ None }
         ensures opened { IfOk result (λ o. o ≡ record {
           heap = record {
@@ -97,10 +97,10 @@ impl<S: Supply, K: LogKeep> Object<S, K> {
             applied = 0;
           };
           chain = record {
-            below = [];
+            base_logs = [];
             logs = [];
             records = [];
-            made = 0;
+            next_number = 0;
             lifted = None;
             origin = (K.meaning keep).origin;
           };
@@ -185,7 +185,7 @@ impl<S: Supply, K: LogKeep> Object<S, K> {
         ensures heap { result.0 ≡ self.heap }
         ensures keep { K.meaning result.1 ≡ record {
           records = self.chain.records;
-          made = self.chain.made;
+          next_number = self.chain.next_number;
           lifted = None;
           origin = self.chain.origin;
         } }
@@ -201,13 +201,13 @@ impl<S: Supply, K: LogKeep> Object<S, K> {
     }
 
     /// Gives all segments back, and answers the supply and the keep of the records.
-    pub fn end(self, way: &S::Way) -> (S, K)
+    pub fn end(self, context: &S::Context) -> (S, K)
         ensures nothing_held { S.held_ids result.0 ≡ [] }
         ensures quota { S.quota_of result.0 ≡ self.heap.quota }
         ensures supply_origin { S.origin result.0 ≡ self.heap.origin }
         ensures keep { K.meaning result.1 ≡ record {
           records = self.chain.records;
-          made = self.chain.made;
+          next_number = self.chain.next_number;
           lifted = None;
           origin = self.chain.origin;
         } }
@@ -215,6 +215,6 @@ impl<S: Supply, K: LogKeep> Object<S, K> {
         ensures whole { IsWhole self }
     {
         let (heap, keep) = self.split();
-        (heap.end(way), keep)
+        (heap.end(context), keep)
     }
 }

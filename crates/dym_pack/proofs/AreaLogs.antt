@@ -20,8 +20,8 @@ use Rattle.dym_base.specs.declared.command.Kind.TheVariants.{Full, Inc}
 use Rattle.dym_base.proofs.Heaps.{areas_below}
 use Rattle.dym_base.proofs.Sizes.{exponent_of_number}
 use Rattle.dym_pack.specs.Areas.{area_list}
-use Rattle.dym_pack.specs.Places.{name_bytes, header, area_bytes, front, start_of, starts_of}
-use Rattle.dym_pack.specs.Contents.{Content, IsContent, picks, has_some, content_body, content_bytes, contents_bytes, head_bytes, starts_from, AreOrdered, ArePlaced}
+use Rattle.dym_pack.specs.Offsets.{name_bytes, header, area_bytes, front, start_of, starts_of}
+use Rattle.dym_pack.specs.Contents.{Content, IsContent, picks, has_some, content_body, content_bytes, contents_bytes, head_bytes, starts_from, AreOrdered, HaveOffsets}
 use Rattle.dym_pack.proofs.Bitmaps.{bitmap_same}
 use Rattle.dym_pack.proofs.Fronts.{packed_is}
 use Rattle.dym_pack.proofs.Named.{named, row, area_list_is, length_areas, index_small, most_per}
@@ -104,7 +104,7 @@ at_other a b is i inside apart =
       | inl yes_at ↦ (
           let parts = at_parts a (num b i) yes_at in
           let class : b.exponent ≡ a.exponent = sym (num_exponent b is i inside) ∙ parts.0 in
-          let place : b.ordinal ≡ a.ordinal = sym (num_area b is i inside) ∙ ap (λ e. index_of (num b i) / per e) class ∙ parts.1 in
+          let offset : b.ordinal ≡ a.ordinal = sym (num_area b is i inside) ∙ ap (λ e. index_of (num b i) / per e) class ∙ parts.1 in
           absurd (elim apart as (λ _. ⊥) [ inl above ↦ omega arith | inr more ↦ omega (arith, more.1) ]))
       | inr not_at ↦ not_at
     ]
@@ -276,7 +276,7 @@ areas_are v cs good e =
           let parts = at_parts at.area k at.at in
           let e_is : at.area.exponent ≡ e = sym parts.0 ∙ class in
           let below = below_count v cs good at.area at.there in
-          let place : index_of k / per e ≡ at.area.ordinal = sym (ap (λ x. index_of k / per x) e_is) ∙ parts.1 in
+          let offset : index_of k / per e ≡ at.area.ordinal = sym (ap (λ x. index_of k / per x) e_is) ∙ parts.1 in
           let count : of_class at.area.exponent cs ≡ of_class e cs = ap (λ x. of_class x cs) e_is in
           omega arith)
       | None ↦ λ is some. absurd (true≢false (sym some))
@@ -293,7 +293,7 @@ areas_are v cs good e =
           let value = (says 5 0 true cs good.ordered (small_of v cs good) a last.there i inside).value in
           let has : map.contains_key live (num a i) ≡ true = has_value v cs good (num a i) ∙ ap is_some (value ∙ cond-true (a.used i) _ _ used.2) in
           let below = (areas_below live e (areas live e)).0 (le_refl (areas live e)) (num a i) has (num_exponent a is i inside ∙ last.class) in
-          let place : index_of (num a i) / per e ≡ a.ordinal = sym (ap (λ x. index_of (num a i) / per x) last.class) ∙ num_area a is i inside in
+          let offset : index_of (num a i) / per e ≡ a.ordinal = sym (ap (λ x. index_of (num a i) / per x) last.class) ∙ num_area a is i inside in
           omega (arith, last.last, none_or_none (e == 5)))
     ] in
     omega arith
@@ -398,9 +398,9 @@ shift : (f g : ℕ → ℕ) (n from : ℕ) → ((k : ℕ) → f (k + 1) ≡ g k)
 shift f g zero from same = refl
 shift f g (suc n) from same = ap (λ x. x ∷ map f (range_with_len (from + 1 + 1) n)) (same from) ∙ ap (λ xs. g from ∷ xs) (shift f g n (from + 1) same)
 
-places : (v : Version) (kind : Kind) (cs : List Content) (p : ℕ) → map (λ k. p + length (contents_bytes v kind (take k cs))) (range_with_len 0 (length cs + 1)) ≡ starts_from v kind p cs
-places v kind [] p = (let none : p + 0 ≡ p = omega arith in ap (λ q. q ∷ []) none)
-places v kind (a ∷ cs) p =
+offsets : (v : Version) (kind : Kind) (cs : List Content) (p : ℕ) → map (λ k. p + length (contents_bytes v kind (take k cs))) (range_with_len 0 (length cs + 1)) ≡ starts_from v kind p cs
+offsets v kind [] p = (let none : p + 0 ≡ p = omega arith in ap (λ q. q ∷ []) none)
+offsets v kind (a ∷ cs) p =
     let la = length (content_bytes v kind a) in
     let f : ℕ → ℕ = λ k. p + length (contents_bytes v kind (take k (a ∷ cs))) in
     let g : ℕ → ℕ = λ k. p + la + length (contents_bytes v kind (take k cs)) in
@@ -409,14 +409,14 @@ places v kind (a ∷ cs) p =
     let next : (k : ℕ) → f (k + 1) ≡ g k = λ k. (let one : k + 1 ≡ suc k = omega arith in ap f one ∙ omega (arith, length-append (content_bytes v kind a) (contents_bytes v kind (take k cs)))) in
     ap (λ m. map f (range_with_len 0 m)) more
     ∙ ap (λ q. q ∷ map f (range_with_len 1 (length cs + 1))) none
-    ∙ ap (λ xs. p ∷ xs) (shift f g (length cs + 1) 0 next ∙ places v kind cs (p + la))
+    ∙ ap (λ xs. p ∷ xs) (shift f g (length cs + 1) 0 next ∙ offsets v kind cs (p + la))
 
 pub log_starts : (v : Version) (kind : Kind) (time : ℕ) (cs : List Content) → AreGood v cs → starts_of (log_of v kind time cs) ≡ starts_from v kind 13 cs
 unfolding starts_of
 log_starts v kind time cs good =
     ap (λ (f : ℕ → ℕ). map f (range_with_len 0 (held (copy_of cs) + 1))) (fun_ext (start_is v kind time cs good))
     ∙ ap (λ n. map (λ k. 13 + length (contents_bytes v kind (take k cs))) (range_with_len 0 (n + 1))) (held_of_copy v cs good)
-    ∙ places v kind cs 13
+    ∙ offsets v kind cs 13
 
 -- bytes with a good header and good areas are a record
 pub record MadeRecord (v : Version) (quota : ℕ) (bytes starts : List ℕ) : Type 0 where
@@ -425,7 +425,7 @@ pub record MadeRecord (v : Version) (quota : ℕ) (bytes starts : List ℕ) : Ty
   pub are : packed log ≡ bytes
   pub placed : starts ≡ starts_of log
 
-pub made_record : (v : Version) (kind : Kind) (time quota count : ℕ) (bytes starts : List ℕ) → ArePlaced v kind bytes count starts → time < 2 ^ 64 → count ≤ quota → count ≤ MOST_QUOTA → bytes ≡ head_bytes v kind time count ++ drop 13 bytes → MadeRecord v quota bytes starts
+pub made_record : (v : Version) (kind : Kind) (time quota count : ℕ) (bytes starts : List ℕ) → HaveOffsets v kind bytes count starts → time < 2 ^ 64 → count ≤ quota → count ≤ MOST_QUOTA → bytes ≡ head_bytes v kind time count ++ drop 13 bytes → MadeRecord v quota bytes starts
 made_record v kind time quota count bytes starts is short within few headed =
     let cs = is.contents in
     let good : AreGood v cs = record { each = is.each; ordered = is.ordered; few = omega (arith, is.many) } in

@@ -78,10 +78,10 @@ pub bit_of_bitmap : (n : ℕ) (f : ℕ → Bool) (i : ℕ) → i < 8 * max 1 (n 
 unfolding bitmap
 bit_of_bitmap n f i below =
     let g : ℕ → Bool = λ j. nat_lt j n && f j in
-    let place : 8 * (i / 8) + i % 8 ≡ i = omega (arith, div-add-mod' i 8) in
+    let offset : 8 * (i / 8) + i % 8 ≡ i = omega (arith, div-add-mod' i 8) in
     ap (λ m. bit_at m (i % 8)) (get_or-map-range_with_len (bitmap_byte g) 0 (max 1 (n / 8)) (i / 8) (i / 8) 0 (omega arith) (omega arith))
     ∙ bit_of_byte g (i / 8) (i % 8) (omega arith)
-    ∙ ap (λ j. cond (g j) 1 0) place
+    ∙ ap (λ j. cond (g j) 1 0) offset
 
 is_one : (t : Bool) → nat_eq (cond t 1 0) 1 ≡ t
 is_one true = refl

@@ -18,7 +18,7 @@ use Rattle.dym_base.specs.declared.command.Kind.TheVariants.{Full, Inc}
 use Rattle.dym_base.proofs.Classes.{cls_class}
 use Rattle.dym_base.specs.Recorded.{IsRecorded}
 use Rattle.dym_pack.specs.Areas.{AreasMeaning, IsPackable, area_at, chunks_of, chunk_number, is_used_at, bytes_at}
-use Rattle.dym_pack.specs.Reading.{packs_at, packed_from, body_from, IsNth}
+use Rattle.dym_pack.specs.ParsedAreas.{packs_at, packed_from, body_from, IsNth}
 use Rattle.dym_pack.proofs.Ranges.{passing, passing_from, passing_one, passing_none, passing_run, length_each, length_most, filter_none, filter_all, filter_same, filter_split, count_is_filter}
 use Rattle.dym_pack.proofs.Bitmaps.{clear_past}
 use Rattle.dym_bits.specs.Bits.{IsNextSet}

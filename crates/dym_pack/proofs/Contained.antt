@@ -20,7 +20,7 @@ use Rattle.dym_base.specs.declared.command.Kind.TheVariants.{Full, Inc}
 use Rattle.dym_base.proofs.Heaps.{areas_held, areas_reached}
 use Rattle.dym_base.proofs.Sizes.{exponent_of_number}
 use Rattle.dym_pack.specs.Areas.{AreaName, area_list}
-use Rattle.dym_pack.specs.Places.{name_bytes, header, area_bytes}
+use Rattle.dym_pack.specs.Offsets.{name_bytes, header, area_bytes}
 use Rattle.dym_pack.specs.Contents.{Content, IsContent, picks, has_some, content_body, content_bytes, contents_bytes, head_bytes, Follows, AreOrdered, AreLeft}
 use Rattle.dym_pack.proofs.Bitmaps.{length_bitmap}
 use Rattle.dym_pack.proofs.Fronts.{packed_is}

@@ -9,8 +9,8 @@ use Rattle.dym_base.specs.Heaps.{areas, held}
 use Rattle.dym_base.specs.Packed.{Logged, packed_area, packed_class, packed}
 use Rattle.dym_pack.specs.Areas.{AreaName, area_list, area_at, chunks_of, IsPackable, logged, AreasMeaning}
 use Rattle.dym_base.specs.declared.command.Kind.{Kind}
-use Rattle.dym_pack.specs.Places.{header, area_bytes, front, start_of, area_head}
-use Rattle.dym_pack.specs.Reading.{packs_at, body_from}
+use Rattle.dym_pack.specs.Offsets.{header, area_bytes, front, start_of, area_head}
+use Rattle.dym_pack.specs.ParsedAreas.{packs_at, body_from}
 use Rattle.dym_pack.proofs.Named.{named, row, area_list_is, length_areas}
 
 flat_map_map : (f : AreaName → List ℕ) (g : ℕ → AreaName) (xs : List ℕ) → flat_map f (map g xs) ≡ flat_map (λ x. f (g x)) xs

@@ -7,7 +7,7 @@ use Rattle.dym_base.specs.Packed.{Logged, bitmap, touched_bits}
 use Rattle.dym_base.specs.declared.command.Kind.{Kind}
 use Rattle.dym_base.specs.declared.command.Kind.TheVariants.{Full, Inc}
 use Rattle.dym_pack.specs.Areas.{AreasMeaning, area_at, chunks_of, chunk_number, is_used_at, logged}
-use Rattle.dym_pack.specs.Places.{name_bytes, use_map, touched_map, area_head}
+use Rattle.dym_pack.specs.Offsets.{name_bytes, use_map, touched_map, area_head}
 use Rattle.dym_pack.proofs.Bitmaps.{length_bitmap}
 use Rattle.dym_pack.proofs.Named.{few_chunks}
 

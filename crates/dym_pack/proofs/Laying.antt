@@ -7,7 +7,7 @@ use Rattle.std.proofs.lemmas.List.Concat.{flat_map-append}
 use Rattle.std.proofs.lemmas.List.FromFn.{length-map-range_with_len, get_or-map-range_with_len}
 use Rattle.std.proofs.lemmas.Grind.{same_number_lists}
 use Rattle.std.proofs.lemmas.Nat.{from_le_bytes-to_le_bytes_8}
-use Rattle.dym_pack.specs.Laid.{Placed, laid, word_of, end_of, bytes_of, count_of, places_of, IsLaid}
+use Rattle.dym_pack.specs.Layouts.{HasOffsets, laid, word_of, end_of, bytes_of, count_of, offsets_of, IsLaid}
 
 pub length_words : (xs : List ℕ) → length (flat_map (to_le_bytes w64) xs) ≡ 8 * length xs
 length_words [] = refl
@@ -83,36 +83,36 @@ bytes_are bytes xs is =
     ap (λ n. take n (laid bytes xs)) (end_is bytes xs is)
     ∙ take_at bytes (flat_map (to_le_bytes w64) xs) (length bytes) refl
 
-places_are : (bytes xs : List ℕ) → AreEnded bytes xs → places_of (laid bytes xs) ≡ xs
+places_are : (bytes xs : List ℕ) → AreEnded bytes xs → offsets_of (laid bytes xs) ≡ xs
 places_are bytes xs is =
     let all : List ℕ = laid bytes xs in
     let read : ℕ → ℕ = λ k. word_of all (end_of all + 8 * k) in
     let n : ℕ = count_of all in
-    let many : length (places_of all) ≡ n = length-map-range_with_len read 0 n in
-    same_number_lists (places_of all) xs (many ∙ count_is bytes xs is) (λ k within.
+    let many : length (offsets_of all) ≡ n = length-map-range_with_len read 0 n in
+    same_number_lists (offsets_of all) xs (many ∙ count_is bytes xs is) (λ k within.
     get_or-map-range_with_len read 0 n k k 0 (omega (arith, within, many)) (omega arith)
     ∙ ap (λ e. word_of all (e + 8 * k)) (end_is bytes xs is)
     ∙ word_behind bytes xs k (omega (arith, within, many, count_is bytes xs is)) (is.small k))
 
-abbrev placed : List ℕ → List ℕ → Placed
-placed bytes xs = record { bytes = bytes; places = xs }
+abbrev placed : List ℕ → List ℕ → HasOffsets
+placed bytes xs = record { bytes = bytes; offsets = xs }
 
 -- what was laid is seen as it was
-pub seen_as : (bytes xs all : List ℕ) → AreEnded bytes xs → all ≡ laid bytes xs → placed (bytes_of all) (places_of all) ≡ placed bytes xs
+pub seen_as : (bytes xs all : List ℕ) → AreEnded bytes xs → all ≡ laid bytes xs → placed (bytes_of all) (offsets_of all) ≡ placed bytes xs
 seen_as bytes xs all is same =
-    ap (λ ys. placed (bytes_of ys) (places_of ys)) same
-    ∙ ap (λ bs. placed bs (places_of (laid bytes xs))) (bytes_are bytes xs is)
+    ap (λ ys. placed (bytes_of ys) (offsets_of ys)) same
+    ∙ ap (λ bs. placed bs (offsets_of (laid bytes xs))) (bytes_are bytes xs is)
     ∙ ap (λ ps. placed bytes ps) (places_are bytes xs is)
 
 pub bytes_end : (all : List ℕ) → IsLaid all → length (bytes_of all) ≡ end_of all
 bytes_end all is = length-take (end_of all) all ∙ omega (arith, is.some)
 
 -- a place of those that are seen
-pub place_at : (all : List ℕ) (k : ℕ) → k < length (places_of all) → get_or (places_of all) k 0 ≡ word_of all (end_of all + 8 * k)
+pub place_at : (all : List ℕ) (k : ℕ) → k < length (offsets_of all) → get_or (offsets_of all) k 0 ≡ word_of all (end_of all + 8 * k)
 place_at all k within =
     let read : ℕ → ℕ = λ i. word_of all (end_of all + 8 * i) in
     let many = length-map-range_with_len read 0 (count_of all) in
     get_or-map-range_with_len read 0 (count_of all) k k 0 (omega (arith, within, many)) (omega arith)
 
-pub places_count : (all : List ℕ) → length (places_of all) ≡ count_of all
+pub places_count : (all : List ℕ) → length (offsets_of all) ≡ count_of all
 places_count all = length-map-range_with_len (λ i. word_of all (end_of all + 8 * i)) 0 (count_of all)

@@ -9,7 +9,7 @@ use Rattle.dym_base.specs.declared.command.Kind.{Kind}
 use Rattle.dym_base.specs.declared.command.Kind.TheVariants.{Full, Inc}
 use Rattle.dym_bits.specs.Bits.{bit_in, bits_of_bytes, set_count}
 use Rattle.dym_pack.specs.Contents.{IsMaps, picks, picked, has_some}
-use Rattle.dym_pack.specs.declared.reading.MapsSeen.{MapsSeen}
+use Rattle.dym_pack.specs.declared.parsed_area.ParsedMaps.{ParsedMaps}
 use Rattle.dym_pack.proofs.Bitmaps.{length_bitmap, bitmap_tells, bits_of_bitmap}
 use Rattle.dym_pack.proofs.Ranges.{filter_same, count_is_filter}
 use Rattle.dym_pack.proofs.Unique.{split_same, per_room}
@@ -50,11 +50,11 @@ picks_same : (kind : Kind) (n : ℕ) (f g s t : ℕ → Bool) → n ≤ 8 * max 
 picks_same Full n f g s t room used touched i inside = used i inside
 picks_same Inc n f g s t room used touched i inside = bitmap_tells n s t room touched i inside
 
-abbrev pub made : Bool → ℕ → ℕ → MapsSeen
+abbrev pub made : Bool → ℕ → ℕ → ParsedMaps
 made used packed len = record { used = used; packed = packed; len = len }
 
 -- bytes begin with the bitmaps of one area alone
-pub maps_one : (kind : Kind) (e : ℕ) (bytes : List ℕ) (s t : MapsSeen) → 5 ≤ e → e ≤ 16 → IsMaps kind e bytes s → IsMaps kind e bytes t → s ≡ t
+pub maps_one : (kind : Kind) (e : ℕ) (bytes : List ℕ) (s t : ParsedMaps) → 5 ≤ e → e ≤ 16 → IsMaps kind e bytes s → IsMaps kind e bytes t → s ≡ t
 maps_one kind e bytes s t least most is also =
     let n = per e in
     let room = per_room e least most in
@@ -85,12 +85,12 @@ full_is e map packed bytes bits size room is count = record {
 }
 
 -- the use bits stand first
-pub used_first : (kind : Kind) (e map : ℕ) (bytes : List ℕ) (seen : MapsSeen) → map ≡ max 1 (per e / 8) → (is : IsMaps kind e bytes seen) → take map bytes ≡ bitmap (per e) is.used
-used_first kind e map bytes seen size is =
+pub used_first : (kind : Kind) (e map : ℕ) (bytes : List ℕ) (parsed : ParsedMaps) → map ≡ max 1 (per e / 8) → (is : IsMaps kind e bytes parsed) → take map bytes ≡ bitmap (per e) is.used
+used_first kind e map bytes parsed size is =
     ap (take map) is.are ∙ take_at (bitmap (per e) is.used) (touched_bits kind (per e) is.touched ++ is.rest) map (length_bitmap (per e) is.used ∙ sym size)
 
-pub maps_room : (kind : Kind) (e map : ℕ) (bytes : List ℕ) (seen : MapsSeen) → map ≡ max 1 (per e / 8) → (is : IsMaps kind e bytes seen) → map + length (touched_bits kind (per e) is.touched) ≤ length bytes
-maps_room kind e map bytes seen size is =
+pub maps_room : (kind : Kind) (e map : ℕ) (bytes : List ℕ) (parsed : ParsedMaps) → map ≡ max 1 (per e / 8) → (is : IsMaps kind e bytes parsed) → map + length (touched_bits kind (per e) is.touched) ≤ length bytes
+maps_room kind e map bytes parsed size is =
     omega (arith, ap length is.are, length-append (bitmap (per e) is.used) (touched_bits kind (per e) is.touched ++ is.rest), length-append (touched_bits kind (per e) is.touched) is.rest, length_bitmap (per e) is.used)
 
 -- ---- an incremental one
@@ -109,20 +109,20 @@ inc_is e map packed count bytes used touched size room is also within counted pa
   long = omega (arith, length_bitmap (per e) (bit_in used), length_bitmap (per e) (bit_in touched));
 }
 
-pub touched_next : (e map : ℕ) (bytes : List ℕ) (seen : MapsSeen) → map ≡ max 1 (per e / 8) → (is : IsMaps Inc e bytes seen) → take map (drop map bytes) ≡ bitmap (per e) is.touched
-touched_next e map bytes seen size is =
+pub touched_next : (e map : ℕ) (bytes : List ℕ) (parsed : ParsedMaps) → map ≡ max 1 (per e / 8) → (is : IsMaps Inc e bytes parsed) → take map (drop map bytes) ≡ bitmap (per e) is.touched
+touched_next e map bytes parsed size is =
     ap (λ ys. take map (drop map ys)) is.are
     ∙ ap (take map) (drop_at (bitmap (per e) is.used) (bitmap (per e) is.touched ++ is.rest) map (length_bitmap (per e) is.used ∙ sym size))
     ∙ take_at (bitmap (per e) is.touched) is.rest map (length_bitmap (per e) is.touched ∙ sym size)
 
 -- no touched bit stands outside
-pub none_outside : (e map k : ℕ) (bytes : List ℕ) (seen : MapsSeen) (used touched : List Bool) → 5 ≤ e → e ≤ 16 → map ≡ max 1 (per e / 8) → IsMaps Inc e bytes seen → take map bytes ≡ bitmap (per e) (bit_in used) → take map (drop map bytes) ≡ bitmap (per e) (bit_in touched) → ((i : ℕ) → per e ≤ i → bit_in touched i ≡ false) → bit_in touched k ≡ true → bit_in used k ≡ false → ⊥
-none_outside e map k bytes seen used touched least most size is first next clear set unset =
+pub none_outside : (e map k : ℕ) (bytes : List ℕ) (parsed : ParsedMaps) (used touched : List Bool) → 5 ≤ e → e ≤ 16 → map ≡ max 1 (per e / 8) → IsMaps Inc e bytes parsed → take map bytes ≡ bitmap (per e) (bit_in used) → take map (drop map bytes) ≡ bitmap (per e) (bit_in touched) → ((i : ℕ) → per e ≤ i → bit_in touched i ≡ false) → bit_in touched k ≡ true → bit_in used k ≡ false → ⊥
+none_outside e map k bytes parsed used touched least most size is first next clear set unset =
     elim (cases_lt k (per e)) as (λ _. ⊥) [
       | inl below ↦ (
           let room = per_room e least most in
-          let t : bit_in touched k ≡ is.touched k = bitmap_tells (per e) (bit_in touched) is.touched room (sym next ∙ touched_next e map bytes seen size is) k below in
-          let u : bit_in used k ≡ is.used k = bitmap_tells (per e) (bit_in used) is.used room (sym first ∙ used_first Inc e map bytes seen size is) k below in
+          let t : bit_in touched k ≡ is.touched k = bitmap_tells (per e) (bit_in touched) is.touched room (sym next ∙ touched_next e map bytes parsed size is) k below in
+          let u : bit_in used k ≡ is.used k = bitmap_tells (per e) (bit_in used) is.used room (sym first ∙ used_first Inc e map bytes parsed size is) k below in
           true≢false (sym (is.within k below (sym t ∙ set)) ∙ sym u ∙ unset))
       | inr past ↦ true≢false (sym set ∙ clear k past)
     ]
@@ -139,5 +139,5 @@ picked_few n p = few n 0
       | false ↦ omega (arith, few n (from + 1))
     ]
 
-pub packed_few : (kind : Kind) (e : ℕ) (bytes : List ℕ) (seen : MapsSeen) → 5 ≤ e → IsMaps kind e bytes seen → seen.packed ≤ 2048
-packed_few kind e bytes seen least is = omega (arith, is.count, picked_few (per e) (picks kind is.used is.touched), most_per e least)
+pub packed_few : (kind : Kind) (e : ℕ) (bytes : List ℕ) (parsed : ParsedMaps) → 5 ≤ e → IsMaps kind e bytes parsed → parsed.packed ≤ 2048
+packed_few kind e bytes parsed least is = omega (arith, is.count, picked_few (per e) (picks kind is.used is.touched), most_per e least)

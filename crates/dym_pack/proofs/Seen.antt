@@ -17,10 +17,10 @@ use Rattle.dym_base.specs.declared.command.Version.TheVariants.{One, Two}
 use Rattle.dym_base.specs.declared.command.Kind.{Kind}
 use Rattle.dym_base.specs.declared.command.Kind.TheVariants.{Full, Inc}
 use Rattle.dym_base.proofs.Classes.{cls_is}
-use Rattle.dym_pack.specs.Places.{name_bytes}
+use Rattle.dym_pack.specs.Offsets.{name_bytes}
 use Rattle.dym_pack.specs.Contents.{Content, IsContent, picks, picked, has_some, content_body, content_bytes, IsMaps, IsBody, IsSeen}
-use Rattle.dym_pack.specs.declared.reading.MapsSeen.{MapsSeen}
-use Rattle.dym_pack.specs.declared.reading.AreaSeen.{AreaSeen}
+use Rattle.dym_pack.specs.declared.parsed_area.ParsedMaps.{ParsedMaps}
+use Rattle.dym_pack.specs.declared.parsed_area.ParsedArea.{ParsedArea}
 use Rattle.dym_pack.proofs.Picked.{chunk_by, chunks_picked, chunks_of_picked, rank_less}
 use Rattle.dym_pack.proofs.MapsRead.{made}
 
@@ -72,12 +72,12 @@ unfolding content_bytes
 content_len v kind a =
     omega (arith, length-append (use_part a) (touched_part kind a ++ content_body v kind a), length-append (touched_part kind a) (content_body v kind a), length-append (name_bytes a.exponent a.ordinal) (use_part a ++ (touched_part kind a ++ content_body v kind a)))
 
-maps_left : (kind : Kind) (e : ℕ) (bytes : List ℕ) (seen : MapsSeen) (is : IsMaps kind e bytes seen) → drop seen.len bytes ≡ is.rest
-maps_left kind e bytes seen is =
+maps_left : (kind : Kind) (e : ℕ) (bytes : List ℕ) (parsed : ParsedMaps) (is : IsMaps kind e bytes parsed) → drop parsed.len bytes ≡ is.rest
+maps_left kind e bytes parsed is =
     let used = bitmap (per e) is.used in
     let touched = touched_bits kind (per e) is.touched in
-    ap (drop seen.len) (is.are ∙ sym (append_assoc used touched is.rest))
-    ∙ drop_at (used ++ touched) is.rest seen.len (length-append used touched ∙ sym is.long)
+    ap (drop parsed.len) (is.are ∙ sym (append_assoc used touched is.rest))
+    ∙ drop_at (used ++ touched) is.rest parsed.len (length-append used touched ∙ sym is.long)
 
 -- ---- an area from its parts
 
@@ -100,10 +100,10 @@ size_fits Two e least most =
       | inr other ↦ inr (let more : e ≡ suc (e - 1) = omega arith in subst (λ x. 2 ^ (e - 1) < 2 ^ x) (sym more) (let one : 1 ≤ 2 ^ (e - 1) = pow_pos (e - 1) in omega (arith, pow-suc 2 (e - 1))))
     ]) (omega arith)
 
-abbrev pub seen_made : ℕ → ℕ → Bool → ℕ → AreaSeen
+abbrev pub seen_made : ℕ → ℕ → Bool → ℕ → ParsedArea
 seen_made e o used len = record { exp = e; ordinal = o; used = used; len = len }
 
-pub seen_is : (v : Version) (kind : Kind) (bytes : List ℕ) (e o : ℕ) (maps : MapsSeen) (len : ℕ) → 5 ≤ e → e ≤ 16 → o < 2 ^ 32 → bytes ≡ name_bytes e o ++ drop 5 bytes → IsMaps kind e (drop 5 bytes) maps → IsBody v e maps.packed (drop (5 + maps.len) bytes) len → IsSeen v kind bytes (seen_made e o maps.used (5 + maps.len + len))
+pub seen_is : (v : Version) (kind : Kind) (bytes : List ℕ) (e o : ℕ) (maps : ParsedMaps) (len : ℕ) → 5 ≤ e → e ≤ 16 → o < 2 ^ 32 → bytes ≡ name_bytes e o ++ drop 5 bytes → IsMaps kind e (drop 5 bytes) maps → IsBody v e maps.packed (drop (5 + maps.len) bytes) len → IsSeen v kind bytes (seen_made e o maps.used (5 + maps.len + len))
 seen_is v kind bytes e o maps len least most small named m b =
     let n = per e in
     let p = picks kind m.used m.touched in
@@ -148,7 +148,7 @@ all_picked P g p (suc n) from each =
       | false ↦ λ miss. rest
     ] refl
 
-abbrev pub maps_of : Kind → Content → MapsSeen
+abbrev pub maps_of : Kind → Content → ParsedMaps
 maps_of kind a = made (has_some (per a.exponent) a.used) (length (picked (per a.exponent) (picks kind a.used a.touched))) (length (use_part a) + length (touched_part kind a))
 
 pub record Parts (v : Version) (kind : Kind) (bytes : List ℕ) (a : Content) : Type 0 where
@@ -190,7 +190,7 @@ seen_parts v kind bytes a rest is are =
       };
     }
 
-pub same_seen : (s t : AreaSeen) → s.exp ≡ t.exp → s.ordinal ≡ t.ordinal → s.used ≡ t.used → s.len ≡ t.len → s ≡ t
+pub same_seen : (s t : ParsedArea) → s.exp ≡ t.exp → s.ordinal ≡ t.ordinal → s.used ≡ t.used → s.len ≡ t.len → s ≡ t
 same_seen s t exp ordinal used len =
     ap (λ x. seen_made x s.ordinal s.used s.len) exp
     ∙ ap (λ x. seen_made t.exp x s.used s.len) ordinal

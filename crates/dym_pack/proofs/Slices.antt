@@ -11,8 +11,8 @@ use Rattle.dym_base.specs.Packed.{Logged, bitmap, packed, kind_byte, packs_by}
 use Rattle.dym_base.specs.declared.command.Kind.TheVariants.{Inc}
 use Rattle.dym_pack.specs.Areas.{area_at, chunks_of, chunk_number, is_used_at}
 use Rattle.dym_base.specs.Recorded.{IsRecorded}
-use Rattle.dym_pack.specs.Reading.{body_from, packs_at}
-use Rattle.dym_pack.specs.Places.{start_of, starts_of, use_map, touched_map, area_head, name_bytes}
+use Rattle.dym_pack.specs.ParsedAreas.{body_from, packs_at}
+use Rattle.dym_pack.specs.Offsets.{start_of, starts_of, use_map, touched_map, area_head, name_bytes}
 use Rattle.dym_pack.proofs.Bitmaps.{length_bitmap, bitmap_same}
 use Rattle.dym_pack.proofs.Heads.{head_len, maps_least, maps_len_inc}
 use Rattle.dym_pack.proofs.Named.{ordinal_small}

@@ -22,7 +22,7 @@ use Rattle.dym_base.proofs.Classes.{cls_class}
 use Rattle.dym_base.proofs.Sizes.{exponent_of_number}
 use Rattle.dym_pack.specs.Areas.{AreaName, area_list, IsPackable}
 use Rattle.dym_base.specs.Recorded.{IsRecorded}
-use Rattle.dym_pack.specs.Places.{header, area_bytes, front, start_of, starts_of}
+use Rattle.dym_pack.specs.Offsets.{header, area_bytes, front, start_of, starts_of}
 use Rattle.dym_pack.proofs.Bitmaps.{length_bitmap, bitmap_tells}
 use Rattle.dym_pack.proofs.Chunks.{parts, packable}
 use Rattle.dym_pack.proofs.Fronts.{packed_is}

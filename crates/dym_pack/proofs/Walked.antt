@@ -6,18 +6,18 @@ use Rattle.std.proofs.lemmas.List.Concat.{flat_map-append}
 use Rattle.dym_base.specs.Numbers.{per}
 use Rattle.dym_base.specs.declared.command.Version.{Version}
 use Rattle.dym_base.specs.declared.command.Kind.{Kind}
-use Rattle.dym_pack.specs.Contents.{Content, IsContent, has_some, Follows, AreOrdered, content_bytes, contents_bytes, starts_from, IsSeen, AreLeft, ArePlaced, AreRead}
-use Rattle.dym_pack.specs.declared.reading.AreaSeen.{AreaSeen}
+use Rattle.dym_pack.specs.Contents.{Content, IsContent, has_some, Follows, AreOrdered, content_bytes, contents_bytes, starts_from, IsSeen, AreLeft, HaveOffsets, AreRead}
+use Rattle.dym_pack.specs.declared.parsed_area.ParsedArea.{ParsedArea}
 use Rattle.dym_pack.proofs.Seen.{seen_made}
 
-abbrev pub seen_of : Version → Kind → Content → AreaSeen
+abbrev pub seen_of : Version → Kind → Content → ParsedArea
 seen_of v kind a = seen_made a.exponent a.ordinal (has_some (per a.exponent) a.used) (length (content_bytes v kind a))
 
 -- ---- what is left
 
 pub record First (v : Version) (kind : Kind) (bytes : List ℕ) (count exponent next : ℕ) (used : Bool) : Type 0 where
   pub area : Content
-  pub seen : IsSeen v kind bytes (seen_of v kind area)
+  pub parsed : IsSeen v kind bytes (seen_of v kind area)
   pub follows : Follows exponent next used area.exponent area.ordinal
   pub left : AreLeft v kind (drop (length (content_bytes v kind area)) bytes) count area.exponent (area.ordinal + 1) (has_some (per area.exponent) area.used)
 
@@ -28,7 +28,7 @@ left_split v kind bytes count exponent next used is = split is.contents is.many 
     split [] many each ordered are = absurd (omega arith)
     split (a ∷ others) many each ordered are = record {
       area = a;
-      seen = record { content = a; rest = contents_bytes v kind others; is = each.0; are = are; exp = refl; ordinal = refl; used = refl; len = refl };
+      parsed = record { content = a; rest = contents_bytes v kind others; is = each.0; are = are; exp = refl; ordinal = refl; used = refl; len = refl };
       follows = ordered.0;
       left = record {
         contents = others;
@@ -46,8 +46,8 @@ left_end v kind bytes exponent next used is = end is.contents is.many is.ordered
     end [] many ordered are = (are, ordered)
     end (a ∷ others) many ordered are = absurd (omega arith)
 
-pub seen_within : (v : Version) (kind : Kind) (bytes : List ℕ) (seen : AreaSeen) → IsSeen v kind bytes seen → seen.len ≤ length bytes
-seen_within v kind bytes seen is = omega (arith, is.len, ap length is.are, length-append (content_bytes v kind is.content) is.rest)
+pub seen_within : (v : Version) (kind : Kind) (bytes : List ℕ) (parsed : ParsedArea) → IsSeen v kind bytes parsed → parsed.len ≤ length bytes
+seen_within v kind bytes parsed is = omega (arith, is.len, ap length is.are, length-append (content_bytes v kind is.content) is.rest)
 
 pub next_few : (exponent next : ℕ) (used : Bool) (e o k : ℕ) → Follows exponent next used e o → next ≤ k → o ≤ k
 next_few exponent next used e o k is few = elim is as (λ _. o ≤ k) [ inl same ↦ omega (arith, same.1) | inr higher ↦ omega (arith, higher.2) ]
@@ -68,14 +68,14 @@ starts_more v kind (x ∷ xs) a p =
     = omega (arith, length-append (content_bytes v kind x) (contents_bytes v kind xs)) in
     ap (λ ys. p ∷ ys) (starts_more v kind xs a (p + length (content_bytes v kind x)) ∙ ap (λ q. starts_from v kind (p + length (content_bytes v kind x)) xs ++ q ∷ []) all)
 
-pub read_more : (v : Version) (kind : Kind) (bytes : List ℕ) (at count exponent next : ℕ) (used : Bool) (starts : List ℕ) (seen : AreaSeen) → AreRead v kind bytes at count exponent next used starts → IsSeen v kind (drop at bytes) seen → Follows exponent next used seen.exp seen.ordinal → AreRead v kind bytes (at + seen.len) (count + 1) seen.exp (seen.ordinal + 1) seen.used (starts ++ at ∷ [])
-read_more v kind bytes at count exponent next used starts seen read is follows =
+pub read_more : (v : Version) (kind : Kind) (bytes : List ℕ) (at count exponent next : ℕ) (used : Bool) (starts : List ℕ) (parsed : ParsedArea) → AreRead v kind bytes at count exponent next used starts → IsSeen v kind (drop at bytes) parsed → Follows exponent next used parsed.exp parsed.ordinal → AreRead v kind bytes (at + parsed.len) (count + 1) parsed.exp (parsed.ordinal + 1) parsed.used (starts ++ at ∷ [])
+read_more v kind bytes at count exponent next used starts parsed read is follows =
     let a = is.content in
     let done = read.contents in
     let more = bytes_more v kind done a in
-    let rest : is.rest ≡ drop (at + seen.len) bytes
-    = sym (ap (drop seen.len) is.are ∙ drop_at (content_bytes v kind a) is.rest seen.len (sym is.len)) ∙ drop-drop seen.len at bytes in
-    let end : at + seen.len ≡ 13 + length (contents_bytes v kind done) + length (content_bytes v kind a) = omega (arith, read.behind, is.len) in
+    let rest : is.rest ≡ drop (at + parsed.len) bytes
+    = sym (ap (drop parsed.len) is.are ∙ drop_at (content_bytes v kind a) is.rest parsed.len (sym is.len)) ∙ drop-drop parsed.len at bytes in
+    let end : at + parsed.len ≡ 13 + length (contents_bytes v kind done) + length (content_bytes v kind a) = omega (arith, read.behind, is.len) in
     record {
       contents = done ++ a ∷ [];
       many = length-append done (a ∷ []) ∙ omega (arith, read.many);
@@ -83,22 +83,22 @@ read_more v kind bytes at count exponent next used starts seen read is follows =
       ordered = λ others ordered.
           subst (AreOrdered 5 0 true) (sym (append_assoc done (a ∷ []) others))
           (read.ordered (a ∷ others) (
-            subst (λ e. Follows exponent next used e a.ordinal) is.exp (subst (λ o. Follows exponent next used seen.exp o) is.ordinal follows),
+            subst (λ e. Follows exponent next used e a.ordinal) is.exp (subst (λ o. Follows exponent next used parsed.exp o) is.ordinal follows),
             subst (λ e. AreOrdered e (a.ordinal + 1) (has_some (per a.exponent) a.used) others) is.exp
-                (subst (λ o. AreOrdered seen.exp (o + 1) (has_some (per a.exponent) a.used) others) is.ordinal
-                (subst (λ u. AreOrdered seen.exp (seen.ordinal + 1) u others) is.used ordered)),
+                (subst (λ o. AreOrdered parsed.exp (o + 1) (has_some (per a.exponent) a.used) others) is.ordinal
+                (subst (λ u. AreOrdered parsed.exp (parsed.ordinal + 1) u others) is.used ordered)),
           ));
       are = read.are
           ∙ ap (λ ys. contents_bytes v kind done ++ ys) (is.are ∙ ap (λ ys. content_bytes v kind a ++ ys) rest)
-          ∙ sym (append_assoc (contents_bytes v kind done) (content_bytes v kind a) (drop (at + seen.len) bytes))
-          ∙ ap (λ ys. ys ++ drop (at + seen.len) bytes) (sym more);
-      placed = ap (λ ys. ys ++ (at + seen.len) ∷ []) read.placed
+          ∙ sym (append_assoc (contents_bytes v kind done) (content_bytes v kind a) (drop (at + parsed.len) bytes))
+          ∙ ap (λ ys. ys ++ drop (at + parsed.len) bytes) (sym more);
+      placed = ap (λ ys. ys ++ (at + parsed.len) ∷ []) read.placed
           ∙ ap (λ q. starts_from v kind 13 done ++ q ∷ []) end
           ∙ sym (starts_more v kind done a 13);
       behind = omega (arith, end, ap length more, length-append (contents_bytes v kind done) (content_bytes v kind a));
     }
 
-pub read_all : (v : Version) (kind : Kind) (bytes : List ℕ) (at count exponent next : ℕ) (starts : List ℕ) → AreRead v kind bytes at count exponent next true starts → drop at bytes ≡ [] → ArePlaced v kind bytes count (starts ++ at ∷ [])
+pub read_all : (v : Version) (kind : Kind) (bytes : List ℕ) (at count exponent next : ℕ) (starts : List ℕ) → AreRead v kind bytes at count exponent next true starts → drop at bytes ≡ [] → HaveOffsets v kind bytes count (starts ++ at ∷ [])
 read_all v kind bytes at count exponent next starts read none = record {
   contents = read.contents;
   many = read.many;

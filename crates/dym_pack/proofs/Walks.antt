@@ -6,7 +6,7 @@ use Rattle.std.proofs.lemmas.List.{take_at, drop_at, drop-drop, append_assoc, le
 use Rattle.std.proofs.lemmas.Nat.{from_le_bytes-to_le_bytes_4}
 use Rattle.dym_base.specs.Packed.{packed_chunk}
 use Rattle.dym_base.specs.declared.command.Version.TheVariants.{Two}
-use Rattle.dym_pack.specs.Reading.{IsNth}
+use Rattle.dym_pack.specs.ParsedAreas.{IsNth}
 
 -- the length that stands before a chunk
 pub length_read : (x rest : List ℕ) → length x < 2 ^ 32 → from_le_bytes w32 (take 4 (packed_chunk Two x ++ rest)) ≡ length x

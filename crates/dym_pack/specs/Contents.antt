@@ -9,9 +9,9 @@ use Rattle.dym_base.specs.declared.command.Version.{Version}
 use Rattle.dym_base.specs.declared.command.Kind.{Kind}
 use Rattle.dym_base.specs.declared.command.Kind.TheVariants.{Full, Inc}
 use Rattle.dym_base.specs.declared.limits.TheConstants.{LEAST_EXPONENT, GREATEST_EXPONENT}
-use Rattle.dym_pack.specs.Places.{name_bytes}
-use Rattle.dym_pack.specs.declared.reading.MapsSeen.{MapsSeen}
-use Rattle.dym_pack.specs.declared.reading.AreaSeen.{AreaSeen}
+use Rattle.dym_pack.specs.Offsets.{name_bytes}
+use Rattle.dym_pack.specs.declared.parsed_area.ParsedMaps.{ParsedMaps}
+use Rattle.dym_pack.specs.declared.parsed_area.ParsedArea.{ParsedArea}
 
 -- an area: its class and its ordinal, which of its chunks are used and which are touched, and the bytes of each
 pub record Content : Type 0 where
@@ -79,15 +79,15 @@ starts_from v kind at (a ∷ others) = at ∷ starts_from v kind (at + length (c
 -- ---- what is read of bytes
 
 -- the bytes begin with the bitmaps of an area of class e
-pub record IsMaps (kind : Kind) (e : ℕ) (bytes : List ℕ) (seen : MapsSeen) : Type 0 where
+pub record IsMaps (kind : Kind) (e : ℕ) (bytes : List ℕ) (parsed : ParsedMaps) : Type 0 where
   pub used : ℕ → Bool
   pub touched : ℕ → Bool
   pub rest : List ℕ
   pub within : (i : ℕ) → i < per e → touched i ≡ true → used i ≡ true
   pub are : bytes ≡ bitmap (per e) used ++ (touched_bits kind (per e) touched ++ rest)
-  pub some : seen.used ≡ has_some (per e) used
-  pub count : seen.packed ≡ length (picked (per e) (picks kind used touched))
-  pub long : seen.len ≡ length (bitmap (per e) used) + length (touched_bits kind (per e) touched)
+  pub some : parsed.used ≡ has_some (per e) used
+  pub count : parsed.packed ≡ length (picked (per e) (picks kind used touched))
+  pub long : parsed.len ≡ length (bitmap (per e) used) + length (touched_bits kind (per e) touched)
 
 -- the bytes begin with n packed chunks of class e, which take so many bytes
 pub record IsBody (v : Version) (e n : ℕ) (bytes : List ℕ) (len : ℕ) : Type 0 where
@@ -99,15 +99,15 @@ pub record IsBody (v : Version) (e n : ℕ) (bytes : List ℕ) (len : ℕ) : Typ
   pub long : len ≡ length (flat_map (packed_chunk v) chunks)
 
 -- the bytes begin with an area
-pub record IsSeen (v : Version) (kind : Kind) (bytes : List ℕ) (seen : AreaSeen) : Type 0 where
+pub record IsSeen (v : Version) (kind : Kind) (bytes : List ℕ) (parsed : ParsedArea) : Type 0 where
   pub content : Content
   pub rest : List ℕ
   pub is : IsContent v content
   pub are : bytes ≡ content_bytes v kind content ++ rest
-  pub exp : seen.exp ≡ content.exponent
-  pub ordinal : seen.ordinal ≡ content.ordinal
-  pub used : seen.used ≡ has_some (per content.exponent) content.used
-  pub len : seen.len ≡ length (content_bytes v kind content)
+  pub exp : parsed.exp ≡ content.exponent
+  pub ordinal : parsed.ordinal ≡ content.ordinal
+  pub used : parsed.used ≡ has_some (per content.exponent) content.used
+  pub len : parsed.len ≡ length (content_bytes v kind content)
 
 -- the bytes from a place on are so many areas that may stand behind the one before it, and nothing else
 pub record AreLeft (v : Version) (kind : Kind) (bytes : List ℕ) (count exponent next : ℕ) (used : Bool) : Type 0 where
@@ -118,7 +118,7 @@ pub record AreLeft (v : Version) (kind : Kind) (bytes : List ℕ) (count exponen
   pub are : bytes ≡ contents_bytes v kind contents
 
 -- the areas of a whole record, and where they begin
-pub record ArePlaced (v : Version) (kind : Kind) (bytes : List ℕ) (count : ℕ) (starts : List ℕ) : Type 0 where
+pub record HaveOffsets (v : Version) (kind : Kind) (bytes : List ℕ) (count : ℕ) (starts : List ℕ) : Type 0 where
   pub contents : List Content
   pub many : length contents ≡ count
   pub each : AllByRecursion (IsContent v) contents

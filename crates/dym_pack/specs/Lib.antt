@@ -1,6 +1,6 @@
 pub mod Areas
 pub mod Laws
-pub mod Places
-pub mod Reading
+pub mod Offsets
+pub mod ParsedAreas
 pub mod Contents
-pub mod Laid
+pub mod Layouts

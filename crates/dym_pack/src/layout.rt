@@ -3,7 +3,7 @@ ghost use Rattle.std.specs.Prelude.{◌≡◌, ℕ, ◌==◌, slice_index, ◌+�
 ghost use Rattle.std.specs.Int.{w32, w64, bit_at, to_le_bytes};
 ghost use Rattle.dym_base.specs.Numbers.{per};
 ghost use Rattle.dym_base.specs.Packed.{kind_byte};
-ghost use Rattle.dym_pack.specs.Places.{name_bytes};
+ghost use Rattle.dym_pack.specs.Offsets.{name_bytes};
 ghost use Rattle.dym_base.specs.declared.command.Version.{Version};
 ghost use Rattle.dym_base.specs.declared.command.Kind.{Kind};
 ghost use Rattle.dym_base.specs.declared.limits.TheConstants.{LEAST_EXPONENT, GREATEST_EXPONENT};

@@ -9,11 +9,11 @@ ghost use Rattle.dym_base.specs.declared.command.Kind.TheVariants.{Full, Inc};
 ghost use Rattle.dym_base.specs.declared.limits.TheConstants.{LEAST_EXPONENT, GREATEST_EXPONENT};
 ghost use Rattle.dym_bits.specs.Bits.{bit_in, bits_of_bytes};
 ghost use Rattle.dym_pack.specs.Areas.{area_at, bytes_at, chunks_of, chunk_number, is_used_at};
-ghost use Rattle.dym_pack.specs.Reading.{IsRecord, OfLog, packs_at, packed_from, body_from};
-ghost use Rattle.dym_pack.specs.Places.{area_head, start_of};
+ghost use Rattle.dym_pack.specs.ParsedAreas.{IsRecord, OfLog, packs_at, packed_from, body_from};
+ghost use Rattle.dym_pack.specs.Offsets.{area_head, start_of};
 
+use crate::indexed_bytes::{IndexedBytes, word_at};
 use crate::layout::{NAME_BYTES, is_bit, kind_of, map_bytes, version_of};
-use crate::placed::{PlacedBytes, word_at};
 use crate::walk::chunk_after;
 use dym_base::{Kind, Version, size_of_class};
 use dym_bits::Bits;
@@ -31,18 +31,18 @@ pub struct AreaHead {
 /// The bytes lie in one allocation, and behind them where each area begins and where the last one ends.
 #[derive(Drop)]
 pub struct Record {
-    pub(crate) placed: PlacedBytes,
+    pub(crate) placed: IndexedBytes,
 }
 
 impl Model for Record {
     ghost use Rattle.std.specs.Prelude.{ℕ, List};
-    ghost use Rattle.dym_pack.specs.Places.{IsRecordAt};
+    ghost use Rattle.dym_pack.specs.Offsets.{IsRecordAt};
 
     ghost Value = { List ℕ };
 
     ghost view = { λ r. r.placed.bytes };
 
-    ghost invariant = { λ r. IsRecordAt r.placed.bytes r.placed.places };
+    ghost invariant = { λ r. IsRecordAt r.placed.bytes r.placed.offsets };
 }
 
 impl Record {
@@ -86,7 +86,7 @@ impl Record {
         ensures count { OfLog self.now (λ log. result ≡ held log.copy) }
         ensures recorded { IsRecord self.now }
     {
-        (self.placed.place_count() - 1) as u32
+        (self.placed.offset_count() - 1) as u32
     }
 
     /// Area `k`.
@@ -226,7 +226,7 @@ impl Record {
         ensures at { OfLog self.now (λ log. result ≡ start_of log k) }
         ensures within { result ≤ length self.now }
     {
-        self.placed.place(k as usize)
+        self.placed.offset(k as usize)
     }
 
     /// The class exponent of area `k`.

@@ -1,7 +1,7 @@
 //! A walk over packed chunks that each stand after their length.
 ghost use Rattle.std.specs.Prelude.{◌≡◌, ℕ, ◌+◌, ◌≤◌, List, length, take, drop};
 ghost use Rattle.std.specs.Int.{w32, from_le_bytes};
-ghost use Rattle.dym_pack.specs.Reading.{IsNth};
+ghost use Rattle.dym_pack.specs.ParsedAreas.{IsNth};
 
 /// The bytes of a chunk's length.
 pub(crate) const LENGTH_BYTES: usize = 4;

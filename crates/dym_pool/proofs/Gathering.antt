@@ -10,7 +10,7 @@ use Rattle.dym_pool.specs.Jobs.{boxed_labels, unboxed, AllBoxedEnded, Numbered, 
 use Rattle.std.specs.List.{AllZip}
 use Rattle.dym_pool.specs.Deques.{HasAll}
 use Rattle.dym_pool.specs.Holdings.{Holding, IsFinished}
-use Rattle.dym_pool.specs.Shares.{Has, SameElements, placed, standing, NumbersBelow, Gathered, PlacesEnded}
+use Rattle.dym_pool.specs.Shares.{Has, SameElements, placed, standing, NumbersBelow, Gathered, ResultsEnded}
 use Rattle.dym_pool.proofs.Elements.{has-left, has-right, has-split}
 use Rattle.dym_pool.proofs.Places.{placed-append, placed-length, placed-right, placed-there, all-standing, Right}
 
@@ -64,8 +64,8 @@ module _ {J O : Type 0} (number left : J → ℕ) (origin : J → O) where
       subst (λ (x : ℕ × O). x.0 < n) (map_at label bs k (label d) d l) there
 
   -- one share's boxes more
-  pub places_more : (labels hand : List (ℕ × O)) (before between after : List (Option (Box J Global))) (bs : List (Box J Global)) → PlacesEnded number left origin labels before between
-      → boxed_labels number origin bs ≡ hand → AllBoxedEnded left bs → after ≡ placed (λ b. number b.value) bs between → PlacesEnded number left origin (labels ++ hand) before after
+  pub places_more : (labels hand : List (ℕ × O)) (before between after : List (Option (Box J Global))) (bs : List (Box J Global)) → ResultsEnded number left origin labels before between
+      → boxed_labels number origin bs ≡ hand → AllBoxedEnded left bs → after ≡ placed (λ b. number b.value) bs between → ResultsEnded number left origin (labels ++ hand) before after
   places_more labels hand before between after bs p is ended then = (
     p.0 ++ bs,
     map-append label p.0 bs ∙ ap {B = List (ℕ × O)} (λ l. l ++ boxed_labels number origin bs) p.1 ∙ ap {B = List (ℕ × O)} (λ l. labels ++ l) is,

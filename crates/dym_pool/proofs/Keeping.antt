@@ -45,14 +45,14 @@ module _ {O : Type 0} where
   reach_after n x y r l h = record { deque = h.deque ∙ sym l.deque; part = h.part }
 
   -- the last reach of what is left of a row is one to the share at its place, which hasn't changed yet
-  pub last_reach : (shares now row left front tail : List (Holding O)) (reach share : Holding O) (n place : ℕ) → AllZip IsReach shares row → left ++ tail ≡ row → left ≡ front ++ reach ∷ [] → Back (Joins 1) n shares now
+  pub last_reach : (shares now row left front tail : List (Holding O)) (steal_share share : Holding O) (n place : ℕ) → AllZip IsReach shares row → left ++ tail ≡ row → left ≡ front ++ steal_share ∷ [] → Back (Joins 1) n shares now
       → n ≡ length front + 1 → place ≡ length front → share ≡ get_or now place share
-      → (front ++ reach ∷ tail ≡ row) × (length front < length shares) × Back (Joins 1) (length front + 1) shares now × (share ≡ get_or shares (length front) share) × IsReach share reach
-  last_reach shares now row left front tail reach share n place all whole is back one at here =
-      let other : front ++ reach ∷ tail ≡ row = sym (append_assoc front (reach ∷ []) tail) ∙ ap {B = List (Holding O)} (λ l. l ++ tail) (sym is) ∙ whole in
-      let mid = zip-mid IsReach shares front reach tail (subst (λ (l : List (Holding O)). AllZip IsReach shares l) (sym other) all) in
+      → (front ++ steal_share ∷ tail ≡ row) × (length front < length shares) × Back (Joins 1) (length front + 1) shares now × (share ≡ get_or shares (length front) share) × IsReach share steal_share
+  last_reach shares now row left front tail steal_share share n place all whole is back one at here =
+      let other : front ++ steal_share ∷ tail ≡ row = sym (append_assoc front (steal_share ∷ []) tail) ∙ ap {B = List (Holding O)} (λ l. l ++ tail) (sym is) ∙ whole in
+      let mid = zip-mid IsReach shares front steal_share tail (subst (λ (l : List (Holding O)). AllZip IsReach shares l) (sym other) all) in
       let same : share ≡ get_or shares (length front) share = here ∙ ap (λ (k : ℕ). get_or now k share) at ∙ back.rest (length front) share (omega arith) in
-      (other, mid.0, subst (λ (k : ℕ). Back (Joins 1) k shares now) one back, same, subst (λ (h : Holding O). IsReach h reach) (sym same) (mid.1 share))
+      (other, mid.0, subst (λ (k : ℕ). Back (Joins 1) k shares now) one back, same, subst (λ (h : Holding O). IsReach h steal_share) (sym same) (mid.1 share))
 
   pub ways_none : (xs : List (Holding O)) → AllZip KeepsWay xs xs
   ways_none xs = zip-refl KeepsWay (λ x. record { deque = refl; part = refl; room = refl }) xs
@@ -83,8 +83,8 @@ module _ {O : Type 0} where
   rows_after items n first lent kept rows after l k each reaches =
       let same = zip-trans (Lends n) KeepsShare (λ a b. b.deque ≡ a.deque) first lent kept (λ x y w p q. q.deque ∙ p.deque) l k in
       zip-all (λ v w. AllZip KeepsShare (items v) (items w)) (λ row. AllZip IsReach first (items row)) (λ row. AllZip IsReach kept (items row)) rows after
-      (λ v w keeps reach. zip-under (λ a b. b.deque ≡ a.deque) IsReach IsReach first kept (items w) (λ x y r d h. record { deque = h.deque ∙ sym d; part = h.part }) same
-      (zip-trans IsReach KeepsShare IsReach first (items v) (items w) (λ x y r h q. record { deque = q.deque ∙ h.deque; part = q.part ∙ h.part }) reach keeps)) each reaches
+      (λ v w keeps steal_share. zip-under (λ a b. b.deque ≡ a.deque) IsReach IsReach first kept (items w) (λ x y r d h. record { deque = h.deque ∙ sym d; part = h.part }) same
+      (zip-trans IsReach KeepsShare IsReach first (items v) (items w) (λ x y r h q. record { deque = q.deque ∙ h.deque; part = q.part ∙ h.part }) steal_share keeps)) each reaches
 
   -- after the dealing they are guests of the same shares
   pub guests_after : {V : Type 0} (items : V → List (Holding O)) (opened dealt : List (Holding O)) (rows : List V) → AllZip KeepsWay opened dealt → All (λ row. AllZip IsGuest opened (items row)) rows → All (λ row. AllZip IsGuest dealt (items row)) rows

@@ -33,15 +33,15 @@ module _ {O : Type 0} where
     pub room : after.room ≡ before.room
 
   -- a way to a share that nothing was taken by yet
-  pub record IsGuest (share reach : Holding O) : Type 0 where
-    pub deque : reach.deque ≡ share.deque
-    pub hand : reach.hand ≡ []
-    pub room : reach.room ≡ share.room
+  pub record IsGuest (share steal_share : Holding O) : Type 0 where
+    pub deque : steal_share.deque ≡ share.deque
+    pub hand : steal_share.hand ≡ []
+    pub room : steal_share.room ≡ share.room
 
   -- a way to a share with a part of one
-  pub record IsReach (share reach : Holding O) : Type 0 where
-    pub deque : reach.deque ≡ share.deque
-    pub part : reach.part ≡ 1
+  pub record IsReach (share steal_share : Holding O) : Type 0 where
+    pub deque : steal_share.deque ≡ share.deque
+    pub part : steal_share.part ≡ 1
 
   -- so many parts were lent
   pub record Lends (parts : ℕ) (before after : Holding O) : Type 0 where

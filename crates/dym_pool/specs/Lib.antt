@@ -1,4 +1,4 @@
-pub mod Carried
+pub mod BoxedJobs
 pub mod Deques
 pub mod Holdings
 pub mod Jobs

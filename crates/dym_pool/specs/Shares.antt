@@ -27,8 +27,8 @@ module _ {B : Type 0} (number : B → ℕ) where
   placed (b ∷ bs) slots = placed bs (slice_set slots (number b) (Some b))
 
 -- boxes with these labels, whose jobs have ended, were put at the places of their numbers
-abbrev pub PlacesEnded : {J O : Type 0} → (J → ℕ) → (J → ℕ) → (J → O) → List (ℕ × O) → List (Option (Box J Global)) → List (Option (Box J Global)) → Type 0
-PlacesEnded {J} number left origin labels before after =
+abbrev pub ResultsEnded : {J O : Type 0} → (J → ℕ) → (J → ℕ) → (J → O) → List (ℕ × O) → List (Option (Box J Global)) → List (Option (Box J Global)) → Type 0
+ResultsEnded {J} number left origin labels before after =
     (boxes : List (Box J Global)) × (boxed_labels number origin boxes ≡ labels) × AllBoxedEnded left boxes × (after ≡ placed (λ b. number b.value) boxes before)
 
 -- what stands at the places, in order

@@ -8,8 +8,8 @@ ghost use Rattle.dym_pool.specs.Holdings.{KeepsShare};
 use crate::gate::Gate;
 use crate::job::Job;
 use crate::own_share::OwnShare;
-use crate::reach::Reach;
 use crate::rule::{ShareDeque, SharePass};
+use crate::steal_share::StealShare;
 use crate::steps::{hand_back, join, lend, load, open_deque, take_last};
 use crate::turns::{run_to_end, take_turn};
 use std::alloc::{AllocError, Global};
@@ -101,17 +101,17 @@ impl<R: Wait, J: Job<R>> OwnShare<R, J> {
 
 impl<R, J: Job<R> + Drop> OwnShare<R, J> {
     /// Takes in what another worker has of the share.
-    pub(crate) fn join(&mut self, reach: Reach<R, J>)
-        requires deque { reach.deque ≡ self.old.deque }
+    pub(crate) fn join(&mut self, steal_share: StealShare<R, J>)
+        requires deque { steal_share.deque ≡ self.old.deque }
         ensures deque { self.new.deque ≡ self.old.deque }
         ensures list { self.new.list ≡ self.old.list }
-        ensures part { self.new.part ≡ self.old.part + reach.part }
+        ensures part { self.new.part ≡ self.old.part + steal_share.part }
     {
-        let Reach {
+        let StealShare {
             stealer: _,
             pass,
             ended,
-        } = reach;
+        } = steal_share;
         join(&mut self.deque, pass);
         move_all(ended, &mut self.ended);
     }

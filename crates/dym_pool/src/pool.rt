@@ -2,13 +2,13 @@
 ghost use Rattle.std.specs.Prelude.{◌≡◌, ◌<◌, ◌≤◌, IfErr, IfOk, OnErr, OnOk};
 ghost use Rattle.dym_pool.specs.Jobs.{EveryJobBack, Numbered};
 
+use crate::boxed_job::{box_all, give_back};
 use crate::boxes::pack;
-use crate::carried::{carry_all, give_back};
-use crate::crew::{open_rows, open_shares, run_crew};
-use crate::deal::deal;
+use crate::distribution::distribute;
 use crate::gate::Gate;
 use crate::job::Job;
-use crate::slots::{gather, open_slots};
+use crate::result_slots::{gather, open_slots};
+use crate::workers::{open_rows, open_shares, run_all};
 use std::alloc::{AllocError, Global};
 use std::sync::Wait;
 use std::thread::Threads;
@@ -40,7 +40,7 @@ pub fn run_jobs<R: Threads + Wait + Send + Sync, J: Job<R>, G: Gate>(
         Ok(carried) => carried,
         Err(error) => return Err((error, jobs)),
     };
-    carry_all(&mut jobs, &mut carried);
+    box_all(&mut jobs, &mut carried);
     let ran = run_with(rt, alloc, &mut carried, started, workers, gate);
     give_back(carried, &mut jobs);
     match ran {
@@ -72,8 +72,8 @@ fn run_with<R: Threads + Wait + Send + Sync, J: Job<R> + Drop, G: Gate>(
     let rows = open_rows(alloc, &shares, room)?;
     let staff = Vec::with_capacity(alloc, workers as usize)?;
     pack(alloc, jobs, &mut boxes)?;
-    deal(&mut shares, boxes);
-    run_crew(rt, gate, &mut shares, rows, staff, caller);
+    distribute(&mut shares, boxes);
+    run_all(rt, gate, &mut shares, rows, staff, caller);
     gather(jobs, slots, shares);
     Ok(())
 }

@@ -6,8 +6,8 @@ ghost use Rattle.dym_pool.specs.Holdings.{KeepsShare};
 use crate::gate::Gate;
 use crate::job::Job;
 use crate::own_share::OwnShare;
-use crate::reach::Reach;
 use crate::ring::after;
+use crate::steal_share::StealShare;
 use std::sync::Wait;
 
 /// A worker's number, its own share, and its ways to the shares of all workers in the order of their numbers.
@@ -15,7 +15,7 @@ use std::sync::Wait;
 pub(crate) struct Worker<R, J: Job<R>> {
     pub(crate) number: u32,
     pub(crate) own: OwnShare<R, J>,
-    pub(crate) reaches: Vec<Reach<R, J>>,
+    pub(crate) reaches: Vec<StealShare<R, J>>,
 }
 
 impl<R: Wait, J: Job<R>> Worker<R, J> {
@@ -36,7 +36,7 @@ fn steal_all<R: Wait, J: Job<R>, G: Gate>(
     rt: &R,
     gate: &G,
     worker: u32,
-    reaches: &mut Vec<Reach<R, J>>,
+    reaches: &mut Vec<StealShare<R, J>>,
 )
     requires number { worker < vec_len reaches.old }
     requires parts { All (λ r. 0 < r.part) reaches.old.items }
@@ -55,7 +55,7 @@ fn steal_round<R, J: Job<R>, G: Gate>(
     rt: &R,
     gate: &G,
     worker: u32,
-    reaches: &mut Vec<Reach<R, J>>,
+    reaches: &mut Vec<StealShare<R, J>>,
 ) -> bool
     requires number { worker < vec_len reaches.old }
     requires parts { All (λ r. 0 < r.part) reaches.old.items }

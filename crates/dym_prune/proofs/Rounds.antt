@@ -1,23 +1,24 @@
 -- What a round does so far, and what rounds one after another do.
-use Rattle.std.proofs.Common.{◌≡◌, ◌≢◌, ℕ, suc, ◌+◌, ◌-◌, ◌^◌, ◌<◌, ◌≤◌, ◌⊎◌, min, List, length, set, sym, refl, ap, ◌∙◌, subst, inl, inr, ⊎_elim, arith}
+use Rattle.std.proofs.Common.{◌≡◌, ◌≢◌, ℕ, suc, ◌+◌, ◌*◌, ◌-◌, ◌^◌, ◌<◌, ◌≤◌, ◌⊎◌, min, List, length, set, sym, refl, ap, ◌∙◌, subst, inl, inr, ⊎_elim, arith}
 use Rattle.std.specs.Prelude.{slice_index_or}
 use Rattle.std.proofs.lemmas.List.{length-set, get_or-set_same, get_or-set_other, get_or_default}
 use Rattle.std.proofs.Math.Nat.{eq-or-lt_of_le}
 use Rattle.std.proofs.lemmas.List.Sums.{sum_by-set}
 use Rattle.dym_base.specs.declared.limits.TheConstants.{LOG_SLOTS}
 use Rattle.dym_slots.specs.Meanings.{SweeperMeaning}
-use Rattle.dym_prune.specs.Sweeps.{Swept, Pruned, taken_by, counted_to}
+use Rattle.dym_prune.specs.Sweeps.{Swept, Pruned, OneRound, NoneAfter, taken_by, counted_to}
 
 -- the first i sweepers ended a sweep, and the others are as they were
 pub record SweptTo (i : ℕ) (old now : List SweeperMeaning) (answer : ℕ) : Type 0 where
   pub same : length now ≡ length old
   pub swept : (k : ℕ) (d : SweeperMeaning) → k < i → Swept (slice_index_or old k d) (slice_index_or now k d)
+  pub once : (k : ℕ) (d : SweeperMeaning) → k < i → (slice_index_or now k d).rounds ≡ (slice_index_or old k d).rounds + 1
   pub rest : (k : ℕ) (d : SweeperMeaning) → i ≤ k → slice_index_or now k d ≡ slice_index_or old k d
   pub grown : taken_by old ≤ taken_by now
   pub answer_is : answer ≡ counted_to (taken_by now - taken_by old)
 
 pub none_swept : (sweepers : List SweeperMeaning) → SweptTo 0 sweepers sweepers 0
-none_swept sweepers = record { same = refl; swept = λ k d low. absurd (omega (arith, low)); rest = λ k d _. refl; grown = omega arith; answer_is = omega arith }
+none_swept sweepers = record { same = refl; swept = λ k d low. absurd (omega (arith, low)); once = λ k d low. absurd (omega (arith, low)); rest = λ k d _. refl; grown = omega arith; answer_is = omega arith }
 
 -- one sweep more: the sweeper after it, and its answer
 pub record SweptOnce (before after : SweeperMeaning) (taken : ℕ) : Type 0 where
@@ -48,6 +49,15 @@ one_more i old now answer taken y d within so once =
           (λ (below : k < i).
           subst (Swept (slice_index_or old k e)) (sym (get_or-set_other now i k y e (λ same. omega (arith, below, same)))) (so.swept k e below))
           (eq-or-lt_of_le (let l : k ≤ i = omega (arith, low) in l));
+      once = λ k e low. ⊎_elim
+          (λ (here : k ≡ i).
+          let at : slice_index_or (set now i y) k e ≡ y = ap (λ (j : ℕ). slice_index_or (set now i y) j e) here ∙ get_or-set_same now i y e within in
+          let was : slice_index_or now i d ≡ slice_index_or old k e =
+          begins ∙ get_or_default old i d e old_within ∙ ap (λ (j : ℕ). slice_index_or old j e) (sym here) in
+          ap (λ (s : SweeperMeaning). s.rounds) at ∙ once.rounds ∙ ap (λ (s : SweeperMeaning). s.rounds + 1) was)
+          (λ (below : k < i).
+          ap (λ (s : SweeperMeaning). s.rounds) (get_or-set_other now i k y e (λ same. omega (arith, below, same))) ∙ so.once k e below)
+          (eq-or-lt_of_le (let l : k ≤ i = omega (arith, low) in l));
       rest = λ k e high. get_or-set_other now i k y e (λ same. omega (arith, high, same)) ∙ so.rest k e (omega (arith, high));
       grown = let g = so.grown in omega (arith, sum, g);
       answer_is = let g = so.grown in let a = so.answer_is in omega (arith, sum, g, a);
@@ -56,6 +66,9 @@ one_more i old now answer taken y d within so once =
 -- once all are swept the round is over
 pub round_over : (old now : List SweeperMeaning) (answer : ℕ) → SweptTo (length old) old now answer → Pruned old now answer
 round_over old now answer so = record { same = so.same; swept = so.swept; grown = so.grown; answer_is = so.answer_is }
+
+pub each_once : (old now : List SweeperMeaning) (answer : ℕ) → SweptTo (length old) old now answer → OneRound old now
+each_once old now answer so = so.once
 
 -- rounds so far, maybe none: each sweeper is of its table and began no fewer rounds
 pub record RoundsTo (old now : List SweeperMeaning) (total : ℕ) : Type 0 where
@@ -95,4 +108,34 @@ go_on old new total so = record {
   rounds = λ k d low. let r = (so.swept k d low).rounds in omega (arith, r);
   grown = so.grown;
   total_is = so.answer_is;
+}
+
+-- so far two listens found nothing after each round
+abbrev pub TwoAfterEach : List SweeperMeaning → List SweeperMeaning → ℕ → ℕ → Type 0
+TwoAfterEach old now before after = (k : ℕ) (d : SweeperMeaning) → k < length old → 2 * (slice_index_or now k d).rounds + before ≡ 2 * (slice_index_or old k d).rounds + after
+
+pub none_yet : (old : List SweeperMeaning) (misses : ℕ) → TwoAfterEach old old misses misses
+none_yet old misses k d low = refl
+
+-- one round more, and two listens after it
+pub two_more : (old now new : List SweeperMeaning) (before after later : ℕ) → length now ≡ length old → TwoAfterEach old now before after → OneRound now new → later ≡ after + 2 → TwoAfterEach old new before later
+two_more old now new before after later same so one is k d low =
+    let within : k < length now = omega (arith, low, same) in
+    let a = so k d low in
+    let b = one k d within in
+    omega (arith, a, b, is)
+
+-- one round more, and a listen that found its word
+pub none_after : (old now new : List SweeperMeaning) (before after later : ℕ) → length now ≡ length old → TwoAfterEach old now before after → OneRound now new → after ≤ later → later ≤ after + 1 → NoneAfter old new before later
+none_after old now new before after later same so one more few = record {
+  none_more = λ k d low.
+      let within : k < length now = omega (arith, low, same) in
+      let a = so k d low in
+      let b = one k d within in
+      omega (arith, a, b, more);
+  none_less = λ k d low.
+      let within : k < length now = omega (arith, low, same) in
+      let a = so k d low in
+      let b = one k d within in
+      omega (arith, a, b, few);
 }

@@ -3,14 +3,21 @@ use Rattle.std.specs.Prelude.{◌≡◌, ℕ, ◌+◌, ◌⊎◌, Bool, true, fa
 use mathlib.Core.Option.{some}
 use lib.ListN.{get_elem?}
 use Rattle.atomic_table.specs.Table.{State, Me}
+use Rattle.dym_base.specs.Origins.{TableName}
 use Rattle.dym_prune.specs.declared.stop_view.StopView.{StopView}
 
--- what contracts see of the end that asks: whether it has asked, and so whether the word is 1
+-- what contracts see of the end that asks: the word of which stop it asks, and whether it has asked, and so whether the word is 1
 pub record AskerMeaning : Type 0 where
+  pub stop : TableName
   pub asked : Bool
 
--- what contracts see of an end that listens: whether it has heard, and how often it found that nobody had asked
+-- what contracts see of a note that a stop was asked for
+pub record NoteMeaning : Type 0 where
+  pub stop : TableName
+
+-- what contracts see of an end that listens: to which stop, whether it has heard, and how often it found that nobody had asked
 pub record EarMeaning : Type 0 where
+  pub stop : TableName
   pub heard : Bool
   pub misses : ℕ
 

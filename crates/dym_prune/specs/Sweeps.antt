@@ -1,5 +1,5 @@
 -- What a pruner's sweeps do to its sweepers.
-use Rattle.std.specs.Prelude.{◌≡◌, ℕ, ◌-◌, ◌^◌, ◌<◌, ◌≤◌, min, List, length, slice_index_or, sum_by}
+use Rattle.std.specs.Prelude.{◌≡◌, ℕ, ◌+◌, ◌*◌, ◌-◌, ◌^◌, ◌<◌, ◌≤◌, min, List, length, slice_index_or, sum_by}
 use Rattle.dym_base.specs.declared.limits.TheConstants.{LOG_SLOTS}
 use Rattle.dym_slots.specs.Meanings.{SweeperMeaning}
 
@@ -24,3 +24,13 @@ pub record Pruned (old new : List SweeperMeaning) (answer : ℕ) : Type 0 where
   pub swept : (k : ℕ) (d : SweeperMeaning) → k < length old → Swept (slice_index_or old k d) (slice_index_or new k d)
   pub grown : taken_by old ≤ taken_by new
   pub answer_is : answer ≡ counted_to (taken_by new - taken_by old)
+
+-- each sweeper began one round
+abbrev pub OneRound : List SweeperMeaning → List SweeperMeaning → Type 0
+OneRound old new = (k : ℕ) (d : SweeperMeaning) → k < length old → (slice_index_or new k d).rounds ≡ (slice_index_or old k d).rounds + 1
+
+-- after each round but the last, two listens found that nobody had asked, and after the last one at most one did: the listen that found
+-- its word was the last. The numbers are how often the end that listens had found nothing, before and after
+pub record NoneAfter (old new : List SweeperMeaning) (before after : ℕ) : Type 0 where
+  pub none_more : (k : ℕ) (d : SweeperMeaning) → k < length old → 2 * (slice_index_or new k d).rounds + before ≤ 2 * (slice_index_or old k d).rounds + 2 + after
+  pub none_less : (k : ℕ) (d : SweeperMeaning) → k < length old → 2 * (slice_index_or old k d).rounds + after + 1 ≤ 2 * (slice_index_or new k d).rounds + before

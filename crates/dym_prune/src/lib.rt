@@ -1,15 +1,14 @@
-//! The pruner: it sweeps log tables until it is told to stop, in a thread of its own beside the objects that log.
+//! The pruner: it sweeps log tables until it is told to stop, in a thread of its own beside the
+//! objects that log.
 //!
-//! Below it stand `dym_slots`, whose sweepers it drives, and the shared words of `atomic_table`; above it stand waves of workers.
-//! Its one contract: only sweeps, each table at least once, and it ends only where its ear has heard that the stop was asked for.
+//! Below stand `dym_slots`, whose sweepers it drives, and the shared words of `atomic_table`; above
+//! stand waves of workers. Its one contract: only sweeps, each table at least once, and it ends
+//! only where its ear has heard that the stop was asked for.
 #![tactic(auto)]
 
-mod pruning;
 mod stop;
 pub mod stop_view;
+mod sweep_loop;
 
-pub use pruning::pruner;
-pub use stop::{Asker, Ear, Stop};
-
-#[cfg(test)]
-mod tests;
+pub use stop::{Asker, Ear, Note, Stop};
+pub use sweep_loop::pruner;

@@ -1,9 +1,9 @@
 //! A stop: one shared word, by which one thread asks another to end.
-ghost use Rattle.std.specs.Prelude.{◌≡◌, ◌+◌, true, false, IfOk, ◌↔◌, IsTrue, IsFalse};
-ghost use Rattle.dym_prune.specs.Stops.{AskerMeaning, EarMeaning, stop_view};
+ghost use Rattle.std.specs.Prelude.{◌≡◌, ◌+◌, [], true, false, IfOk, ◌↔◌, IsTrue, IsFalse};
+ghost use Rattle.dym_prune.specs.Stops.{AskerMeaning, EarMeaning, NoteMeaning, stop_view};
 
 use crate::stop_view::StopView;
-use atomic_table::{Play, Seat, Split, Table, TableRule};
+use atomic_table::{Join, Play, Seat, Split, Table, TableRule};
 use std::alloc::{AllocError, Global};
 use std::marker::Model;
 use std::sync::{Arc, Wait};
@@ -36,6 +36,30 @@ impl Split<StopView> for Ends {
     ghost right = { λ v. stop_view false false false 0 };
 }
 
+/// An end that has asked keeps asking, and the other view knows that the word is 1.
+struct Noted;
+
+impl Split<StopView> for Noted {
+    ghost use Rattle.std.specs.Prelude.{true, false};
+    ghost use Rattle.dym_prune.specs.Stops.{stop_view};
+
+    ghost left = { λ v. stop_view true v.asked false 0 };
+
+    ghost right = { λ v. stop_view false false true 0 };
+}
+
+/// An end that listens has heard what another view knows.
+struct Hear;
+
+impl Join<StopView> for Hear {
+    ghost use Rattle.std.specs.Prelude.{true, false};
+    ghost use Rattle.dym_prune.specs.Stops.{stop_view};
+
+    ghost both = { λ v _. stop_view v.asks v.asked true v.misses };
+
+    ghost spent = { stop_view false false false 0 };
+}
+
 /// The step of an end that asks.
 struct Ask;
 
@@ -58,7 +82,7 @@ type Board = Table<(), StopView, (), StopRule, Global>;
 
 type End = Seat<(), StopView>;
 
-/// The end of a stop that asks for it. Contracts see whether it has asked.
+/// The end of a stop that asks for it. Contracts see of which stop it is, and whether it has asked.
 #[derive(Drop)]
 pub struct Asker {
     board: Arc<Board, Global>,
@@ -68,14 +92,32 @@ pub struct Asker {
 }
 
 impl Model for Asker {
+    ghost use Rattle.dym_slots.specs.Meanings.{name_of};
     ghost use Rattle.dym_prune.specs.Stops.{AskerMeaning};
 
     ghost Value = { AskerMeaning };
 
-    ghost view = { λ a. record { asked = a.seat.me.0.asked } };
+    ghost view = { λ a. record { stop = name_of a.seat.table_id; asked = a.seat.me.0.asked } };
 }
 
-/// The end of a stop that hears of it. Contracts see whether it has heard, and how often it listened and found nothing.
+/// A note that a stop was asked for. It has no bytes: with it an end of that stop has heard.
+#[derive(Drop)]
+pub struct Note {
+    seat: End,
+    ghost asked: { seat.me ≡ (stop_view false false true 0, []) },
+}
+
+impl Model for Note {
+    ghost use Rattle.dym_slots.specs.Meanings.{name_of};
+    ghost use Rattle.dym_prune.specs.Stops.{NoteMeaning};
+
+    ghost Value = { NoteMeaning };
+
+    ghost view = { λ n. record { stop = name_of n.seat.table_id } };
+}
+
+/// The end of a stop that hears of it. Contracts see of which stop it is, whether it has heard, and how often it listened and found
+/// nothing.
 #[derive(Drop)]
 pub struct Ear {
     board: Arc<Board, Global>,
@@ -86,18 +128,19 @@ pub struct Ear {
 }
 
 impl Model for Ear {
+    ghost use Rattle.dym_slots.specs.Meanings.{name_of};
     ghost use Rattle.dym_prune.specs.Stops.{EarMeaning};
 
     ghost Value = { EarMeaning };
 
-    ghost view = { λ e. record { heard = e.heard; misses = e.seat.me.0.misses } };
+    ghost view = { λ e. record { stop = name_of e.seat.table_id; heard = e.heard; misses = e.seat.me.0.misses } };
 }
 
 impl Stop {
     /// A stop that nobody has asked for.
     pub fn open(alloc: Global) -> Result<(Asker, Ear), AllocError>
-        ensures asker { IfOk result (λ ends. ends.0 ≡ record { asked = false }) }
-        ensures ear { IfOk result (λ ends. ends.1 ≡ record { heard = false; misses = 0 }) }
+        ensures asker { IfOk result (λ ends. ends.0.asked ≡ false) }
+        ensures ear { IfOk result (λ ends. ends.1 ≡ record { stop = ends.0.stop; heard = false; misses = 0 }) }
     {
         let (table, mut seat) = Board::of_words(alloc, &[0], &())?;
         let board = Arc::new(alloc, table)?;
@@ -118,18 +161,38 @@ impl Stop {
 impl Asker {
     /// Asks for the stop, and wakes the end that rests. It may be asked for again.
     pub fn ask(&mut self)
-        ensures { self.new ≡ record { asked = true } }
+        ensures { self.new ≡ record { stop = self.old.stop; asked = true } }
     {
         self.board.shared.store::<Ask>(&mut self.seat, 0, 1);
         self.board.shared.wake_one(0);
     }
+
+    /// A note that the stop was asked for, once it was.
+    pub fn note(&mut self) -> Note
+        requires asked { self.old.asked ≡ true }
+        ensures same { self.new ≡ self.old }
+        ensures stop { result.stop ≡ self.old.stop }
+    {
+        let seat = self.board.shared.split_seat::<Noted>(&mut self.seat);
+        Note { seat }
+    }
 }
 
 impl Ear {
+    /// Has heard from now on, by a note that this stop was asked for. Each `asked` that comes later then answers that it was.
+    pub fn hear(&mut self, note: Note)
+        requires { note.stop ≡ self.old.stop }
+        ensures { self.new ≡ record { stop = self.old.stop; heard = true; misses = self.old.misses } }
+    {
+        let Note { seat } = note;
+        self.board.shared.join_seat::<Hear>(&mut self.seat, seat);
+        self.heard = true;
+    }
+
     /// Whether the stop was asked for, by one load of the word. Once this end has heard, the answer is always true.
     pub fn asked(&mut self) -> bool
-        ensures found { IsTrue result → self.new ≡ record { heard = true; misses = self.old.misses } }
-        ensures missed { IsFalse result → self.new ≡ record { heard = false; misses = self.old.misses + 1 } }
+        ensures found { IsTrue result → self.new ≡ record { stop = self.old.stop; heard = true; misses = self.old.misses } }
+        ensures missed { IsFalse result → self.new ≡ record { stop = self.old.stop; heard = false; misses = self.old.misses + 1 } }
         ensures again { self.old.heard ≡ true → IsTrue result }
     {
         let found = self.board.shared.load::<Listen>(&mut self.seat, 0);
@@ -142,8 +205,8 @@ impl Ear {
 
     /// Sleeps until the stop is asked for, but no longer than this, and answers as `asked` does. It may also end early.
     pub(crate) fn asked_within<R: Wait>(&mut self, rt: &R, longest: Duration) -> bool
-        ensures found { IsTrue result → self.new ≡ record { heard = true; misses = self.old.misses } }
-        ensures missed { IsFalse result → self.new ≡ record { heard = false; misses = self.old.misses + 1 } }
+        ensures found { IsTrue result → self.new ≡ record { stop = self.old.stop; heard = true; misses = self.old.misses } }
+        ensures missed { IsFalse result → self.new ≡ record { stop = self.old.stop; heard = false; misses = self.old.misses + 1 } }
     {
         self.board.shared.park_timeout(rt, 0, 0, longest);
         self.asked()

@@ -11,7 +11,7 @@ use std::sync::Wait;
 impl<R: Wait> Supply for Berth<R> {
     type Seg = RawSegment;
 
-    type Way = R;
+    type Context = R;
 
     ghost use Rattle.dym_base.specs.Origins.{shared};
     ghost use Rattle.dym_quota.specs.QueueShape.{queue_name, known_by};
@@ -30,14 +30,14 @@ impl<R: Wait> Supply for Berth<R> {
         self.held
     }
 
-    fn take(&mut self, way: &R) -> RawSegment {
-        let segment = take(way, &self.line, &mut self.pass);
+    fn take(&mut self, context: &R) -> RawSegment {
+        let segment = take(context, &self.line, &mut self.pass);
         self.held += 1;
         segment
     }
 
-    fn give(&mut self, way: &R, segment: RawSegment) {
-        give(way, &self.line, &mut self.pass, segment);
+    fn give(&mut self, context: &R, segment: RawSegment) {
+        give(context, &self.line, &mut self.pass, segment);
         self.held -= 1;
     }
 }

@@ -1,19 +1,22 @@
-//! Supplies of segments: a quota, and the segments that were taken within it. Below stand the segments of dym_region;
-//! above stands the heap, which takes a segment for each new area and gives it back when the area goes. Its one contract:
-//! below its quota a supply always answers a segment, and its list of identities held tells which are out.
+//! Supplies of segments: a quota, and the segments that were taken within it. An `OwnSupply` has
+//! segments of its own; a `Berth` takes from a queue that it shares with other berths, in any
+//! number of threads.
 //!
-//! An `OwnSupply` has segments of its own. A `Berth` takes from a queue that it shares with other berths, in any number of
-//! threads: a `QuotaQueue` is opened with as many segments as the berths' quotas sum to, and gives all of them back.
+//! Below stand the segments of `dym_region`; above stands the heap, which takes a segment for each
+//! new area and gives it back when the area goes. Its one contract: below its quota a supply always
+//! answers a segment, and its list of identities tells which are out; its quota can change while
+//! none is. A `QuotaQueue` is opened with a list of segments, as many as the berths' quotas sum to,
+//! and closed with the same ones; `waves` answers the longest run of objects whose quotas fit.
 #![tactic(auto)]
 
 mod berth;
 mod berth_supply;
-mod closing;
 mod longest_run;
-mod opening;
 mod own;
 mod own_supply;
 mod pass_view;
+mod queue_setup;
+mod queue_teardown;
 #[cfg(test)]
 mod queue_tests;
 mod quota_queue;

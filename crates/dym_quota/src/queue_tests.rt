@@ -15,7 +15,7 @@ use std::test::Fail;
 use std::thread;
 
 fn opened<R: Wait>(
-    way: &R,
+    context: &R,
     alloc: Global,
     count: u32,
     quotas: &[u32],
@@ -33,7 +33,7 @@ fn opened<R: Wait>(
         (λ b. ⟦<Berth<R> as Supply>⟧.origin b ≡ shared r.1.name) r.2.items) }
 {
     let (region, segments) = Region::new(alloc, count)?;
-    match QuotaQueue::open(way, alloc, segments, quotas) {
+    match QuotaQueue::open(context, alloc, segments, quotas) {
         Ok((queue, berths)) => Ok((region, queue, berths)),
         Err((error, segments)) => {
             region.close(segments);
@@ -44,7 +44,7 @@ fn opened<R: Wait>(
 
 /// The numbers of the segments that come back, in order.
 fn closed<R: Wait>(
-    way: &R,
+    context: &R,
     region: Region,
     queue: QuotaQueue,
     berths: Vec<Berth<R>>,
@@ -56,7 +56,7 @@ fn closed<R: Wait>(
     requires nothing_held { All (λ b. ⟦<Berth<R> as Supply>⟧.held_ids b ≡ []) berths.items }
     requires origin { All (λ b. ⟦<Berth<R> as Supply>⟧.origin b ≡ shared queue.name) berths.items }
 {
-    let segments = queue.close(way, berths);
+    let segments = queue.close(context, berths);
     for (number, segment) in numbers.iter_mut().zip(segments.iter()) {
         *number = segment.number();
     }
@@ -65,21 +65,21 @@ fn closed<R: Wait>(
 }
 
 /// The number of the segment that a berth takes and gives back.
-fn number_taken<R: Wait>(way: &R, berth: &mut Berth<R>) -> u32
+fn number_taken<R: Wait>(context: &R, berth: &mut Berth<R>) -> u32
     requires idle { ⟦<Berth<R> as Supply>⟧.held_ids berth.old ≡ [] }
     requires quota { 0 < ⟦<Berth<R> as Supply>⟧.quota_of berth.old }
     ensures idle { ⟦<Berth<R> as Supply>⟧.held_ids berth.new ≡ [] }
     ensures quota { ⟦<Berth<R> as Supply>⟧.quota_of berth.new ≡ ⟦<Berth<R> as Supply>⟧.quota_of berth.old }
     ensures origin { ⟦<Berth<R> as Supply>⟧.origin berth.new ≡ ⟦<Berth<R> as Supply>⟧.origin berth.old }
 {
-    let segment = berth.take(way);
+    let segment = berth.take(context);
     let number = segment.number();
-    berth.give(way, segment);
+    berth.give(context, segment);
     number
 }
 
 /// Takes and gives 1,000 times.
-fn worked<R: Wait>(way: &R, mut berth: Berth<R>) -> Berth<R>
+fn worked<R: Wait>(context: &R, mut berth: Berth<R>) -> Berth<R>
     ensures count { length (⟦<Berth<R> as Supply>⟧.held_ids result)
         ≡ length (⟦<Berth<R> as Supply>⟧.held_ids berth) }
     ensures quota { ⟦<Berth<R> as Supply>⟧.quota_of result ≡ ⟦<Berth<R> as Supply>⟧.quota_of berth }
@@ -87,8 +87,8 @@ fn worked<R: Wait>(way: &R, mut berth: Berth<R>) -> Berth<R>
 {
     for _round in 0..1000 {
         if berth.held() < berth.quota() {
-            let segment = berth.take(way);
-            berth.give(way, segment);
+            let segment = berth.take(context);
+            berth.give(context, segment);
         }
     }
     berth
@@ -110,7 +110,7 @@ fn three_threads_share_six_segments(rt: HostRuntime) -> Result<(), Fail> {
     berths.push_reserved(third);
     let mut numbers = [9; 6];
     closed(&rt, region, queue, berths, &mut numbers);
-    assert_eq!(rt; numbers, [0, 1, 2, 3, 4, 5]);
+    assert!(rt; numbers == [0, 1, 2, 3, 4, 5]);
     Ok(())
 }
 
@@ -124,12 +124,12 @@ fn one_queue_for_all_berths(rt: HostRuntime) -> Result<(), Fail> {
         number_taken(&rt, &mut first),
         number_taken(&rt, &mut second),
     );
-    assert_eq!(rt; numbers, (0, 1, 0));
+    assert!(rt; numbers == (0, 1, 0));
     berths.push_reserved(first);
     berths.push_reserved(second);
     let mut numbers = [9; 2];
     closed(&rt, region, queue, berths, &mut numbers);
-    assert_eq!(rt; numbers, [0, 1]);
+    assert!(rt; numbers == [0, 1]);
     Ok(())
 }
 
@@ -138,7 +138,7 @@ fn the_others_are_laid_aside(rt: HostRuntime) -> Result<(), Fail> {
     let (region, queue, berths) = opened(&rt, rt.alloc(), 5, &[2, 1])?;
     let mut numbers = [9; 5];
     closed(&rt, region, queue, berths, &mut numbers);
-    assert_eq!(rt; numbers, [0, 1, 2, 3, 4]);
+    assert!(rt; numbers == [0, 1, 2, 3, 4]);
     Ok(())
 }
 
@@ -156,7 +156,7 @@ fn waves_end_where_no_more_fits(rt: HostRuntime) {
         (9, 0, 3),
         (16, 0, 6),
     ] {
-        assert_eq!(rt; end_of_wave(segments, from), Some(want));
+        assert!(rt; end_of_wave(segments, from) == Some(want));
     }
 }
 

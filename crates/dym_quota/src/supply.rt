@@ -15,7 +15,7 @@ pub trait Supply {
     type Seg: Segment;
 
     /// What a caller hands in with which the supply may wait for a segment.
-    type Way;
+    type Context;
 
     ghost quota_of: { Self → ℕ };
 
@@ -32,14 +32,14 @@ pub trait Supply {
         ensures { result ≡ length (held_ids self.now) };
 
     /// A segment, of any content.
-    fn take(&mut self, way: &Self::Way) -> Self::Seg
+    fn take(&mut self, context: &Self::Context) -> Self::Seg
         requires { length (held_ids self.old) < quota_of self.old }
         ensures taken { held_ids self.new ≡ held_ids self.old ++ Self.Seg.id result ∷ [] }
         ensures quota { quota_of self.new ≡ quota_of self.old }
         ensures origin { origin self.new ≡ origin self.old };
 
     /// Takes back a segment that is out.
-    fn give(&mut self, way: &Self::Way, seg: Self::Seg)
+    fn give(&mut self, context: &Self::Context, seg: Self::Seg)
         requires { IsHeld (held_ids self.old) (Self.Seg.id seg) }
         ensures given { GivesBack (held_ids self.old) (held_ids self.new) (Self.Seg.id seg) }
         ensures quota { quota_of self.new ≡ quota_of self.old }

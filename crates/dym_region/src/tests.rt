@@ -34,33 +34,50 @@ fn written(mut segment: RawSegment, page: &[u8]) -> RawSegment
     segment
 }
 
-fn assert_shows<S: Segment>(rt: &impl Abort, segment: &S, at: u32, want: &[u8; 8])
+/// The eight bytes from a place on.
+fn shown<S: Segment>(segment: &S, at: u32) -> [u8; 8]
     requires { at + 8 ≤ SEGMENT_BYTES }
 {
     let mut seen = [9; 8];
     segment.read(at, &mut seen);
-    assert!(rt; seen == *want, "what the segment shows from {at} on");
+    seen
 }
 
-// Goes through a segment of zeros: below, across and above the end of what was used.
+/// What a segment shows below, across and above the end of what was used.
+fn shown_around<S: Segment>(segment: &S) -> [[u8; 8]; 7] {
+    [
+        shown(segment, 88),
+        shown(segment, 92),
+        shown(segment, 94),
+        shown(segment, 99),
+        shown(segment, 100),
+        shown(segment, 4_096),
+        shown(segment, 65_528),
+    ]
+}
+
+/// Goes through a segment of zeros.
 fn walked<S: Segment>(rt: &impl Abort, mut segment: S) -> S
     ensures { S.id result ≡ S.id segment }
 {
     segment.write(96, b"abcd");
-    assert_shows(rt, &segment, 88, b"\0\0\0\0\0\0\0\0");
-    assert_shows(rt, &segment, 92, b"\0\0\0\0abcd");
-    assert_shows(rt, &segment, 94, b"\0\0abcd\0\0");
-    assert_shows(rt, &segment, 99, b"d\0\0\0\0\0\0\0");
-    assert_shows(rt, &segment, 100, b"\0\0\0\0\0\0\0\0");
-    assert_shows(rt, &segment, 4_096, b"\0\0\0\0\0\0\0\0");
-    assert_shows(rt, &segment, 65_528, b"\0\0\0\0\0\0\0\0");
+    let around = [
+        [0; 8],
+        *b"\0\0\0\0abcd",
+        *b"\0\0abcd\0\0",
+        *b"d\0\0\0\0\0\0\0",
+        [0; 8],
+        [0; 8],
+        [0; 8],
+    ];
+    assert!(rt; shown_around(&segment) == around);
     segment.zero(98, 4);
-    assert_shows(rt, &segment, 96, b"ab\0\0\0\0\0\0");
+    assert!(rt; shown(&segment, 96) == *b"ab\0\0\0\0\0\0");
     segment.write(100, b"e");
     segment.zero(4_096, 32);
     segment.fill(8_192);
-    assert_eq!(rt; segment.bytes(96, 8), b"ab\0\0e\0\0\0".as_slice());
-    assert_eq!(rt; segment.bytes(8_184, 8), [0; 8].as_slice());
+    assert!(rt; segment.bytes(96, 8) == b"ab\0\0e\0\0\0".as_slice());
+    assert!(rt; segment.bytes(8_184, 8) == [0; 8].as_slice());
     segment
 }
 
@@ -83,10 +100,7 @@ fn segments_of_one_region_keep_apart(rt: HostRuntime) -> Result<(), Fail> {
     assert_holds(&rt, &first, &ones, &mut seen);
     assert_holds(&rt, &second, &twos, &mut seen);
     assert_holds(&rt, &third, &threes, &mut seen);
-    assert_eq!(rt;
-        (first.number(), second.number(), third.number()),
-        (0, 1, 2)
-    );
+    assert!(rt; (first.number(), second.number(), third.number()) == (0, 1, 2));
     segments.push_reserved(second);
     segments.push_reserved(first);
     segments.push_reserved(third);
@@ -105,6 +119,6 @@ fn a_lone_segment_reads_back(rt: HostRuntime) -> Result<(), Fail> {
     segment.zero(65_534, 1);
     let mut end = *b"....";
     segment.read(65_532, &mut end);
-    assert_eq!(rt; &end, b"\0a\0c");
+    assert!(rt; end == *b"\0a\0c");
     Ok(())
 }

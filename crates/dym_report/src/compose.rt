@@ -1,4 +1,4 @@
-//! Replies that are put behind the text that begins a buffer, by the calls of dym_text.
+//! Replies that are put behind the text that begins a buffer, by the calls of dym_io.
 ghost use Rattle.std.specs.Prelude.{◌≡◌, ◌+◌, ◌*◌, ◌<◌, ◌≤◌, ◌^◌, ◌++◌, true, length, take, decimal, codes};
 ghost use Rattle.hex.specs.Hex.{encode_lower};
 ghost use Rattle.dym_base.specs.declared.reply.Reply.TheVariants.{Bytes};
@@ -8,7 +8,7 @@ ghost use Rattle.dym_report.specs.Hex.{hex_text};
 
 use dym_base::limits::GREATEST_EXPONENT;
 use dym_base::{Handle, Kind, Refusal, Reply};
-use dym_text::{put_named, put_number, put_text};
+use dym_io::{put_named, put_number, put_text};
 use hex::encode_to_slice;
 
 /// The bytes of the longest short line.

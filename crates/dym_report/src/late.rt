@@ -10,9 +10,8 @@ use crate::live::{write_heap, write_images};
 use crate::reply::{write_number, write_reply};
 use dym_base::Reply;
 use dym_heap::Heap;
-use dym_io::{Sink, SinkFault, push_all};
+use dym_io::{Sink, SinkFault, push_all, put_named, put_text};
 use dym_quota::Supply;
-use dym_text::{put_named, put_text};
 
 /// What is seen of a log: its time, how many chunks it has, and the sum of their bytes.
 #[derive(Clone, Copy, Debug, PartialEq, Eq)]

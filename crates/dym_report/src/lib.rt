@@ -1,6 +1,9 @@
-//! What the program prints: replies, heaps, logs, summaries and errors, as text in a sink. It stands on dym_base, dym_io,
-//! dym_text and dym_heap, and the top call stands on it. Its one contract: each call writes the text that its definition says, or a front of it
-//! where the sink failed. No call takes memory.
+//! What the program prints: replies, heaps, logs, summaries and errors, as text in a sink.
+//!
+//! Below stand `dym_base`, `dym_heap`, whose chunks are printed, and `dym_io`; above stand the top
+//! call and what runs objects in waves. Its one contract: each call writes the text that its
+//! definition says, or a front of it where the sink failed, and then the count of its faults rose.
+//! No call takes memory.
 #![tactic(auto)]
 
 pub mod compose;
@@ -21,6 +24,3 @@ pub use order::{write_counts, write_end, write_error, write_events, write_usage}
 pub use page::Page;
 pub use reply::{write_replies, write_reply};
 pub use totals::{Totals, write_summary};
-
-#[cfg(test)]
-mod tests;

@@ -9,8 +9,7 @@ use crate::compose::{LINE_ROOM, put_handle};
 use crate::hex_text::{trimmed, write_hex_line};
 use crate::reply::write_numbers;
 use dym_base::{Handle, Name, Version};
-use dym_io::{Sink, SinkFault, push_parts};
-use dym_text::{put_named, put_text};
+use dym_io::{Sink, SinkFault, push_parts, put_named, put_text};
 
 /// Writes the line that names an object. Its only error is that of the sink.
 pub fn write_heading<W: Sink>(sink: &mut W, name: &Name) -> Result<(), SinkFault>

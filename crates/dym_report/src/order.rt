@@ -5,8 +5,7 @@ ghost use Rattle.dym_report.specs.Orders.{end_text, counts_text, events_text, er
 use crate::compose::LINE_ROOM;
 use crate::reply::{write_number, write_numbers};
 use dym_base::BadKind;
-use dym_io::{Sink, SinkFault, push_all, push_parts};
-use dym_text::{put_named, put_text};
+use dym_io::{Sink, SinkFault, push_all, push_parts, put_named, put_text};
 
 /// Writes the last line of a report. Its only error is that of the sink.
 pub fn write_end<W: Sink>(sink: &mut W) -> Result<(), SinkFault>

@@ -7,8 +7,7 @@ use crate::compose::{LINE_ROOM, put_line, put_numbers};
 use crate::hex_text::write_hex_line;
 use crate::page::Page;
 use dym_base::Reply;
-use dym_io::{Sink, SinkFault, push_all};
-use dym_text::{put_named, put_text};
+use dym_io::{Sink, SinkFault, push_all, put_named, put_text};
 
 /// Writes the line of one reply. Its only error is that of the sink.
 pub fn write_reply<W: Sink>(sink: &mut W, reply: &Reply) -> Result<(), SinkFault>

@@ -2,8 +2,7 @@
 ghost use Rattle.dym_io.specs.Sink.{Writes};
 ghost use Rattle.dym_report.specs.Orders.{summary_text};
 
-use dym_io::{Sink, SinkFault, push_all};
-use dym_text::{put_named, put_text};
+use dym_io::{Sink, SinkFault, push_all, put_named, put_text};
 
 /// The bytes of the longest summary.
 const SUMMARY_ROOM: usize = 240;

@@ -18,13 +18,13 @@ use Rattle.dym_script.specs.declared.parts.Part.{Part}
 use Rattle.dym_slots.specs.Meanings.{SweeperMeaning}
 use Rattle.dym_wave.specs.Waves.{AreSweptBy}
 use Rattle.dym_wave.specs.Works.{WorkMeaning, OriginMeaning}
-use Rattle.dym_run.specs.declared.places.Place.{Place}
-use Rattle.dym_run.specs.declared.places.Place.TheVariants.{Waiting, Open, Refused}
-use Rattle.dym_run.specs.declared.telling.Telling.{Telling}
-use Rattle.dym_run.specs.Boardings.{Boards, name_of, origins_from}
-use Rattle.dym_run.specs.Ends.{Boarded, EndedMeaning, IsFresh, all_ended, end_views, own_shown, unkept}
+use Rattle.dym_run.specs.declared.wave_parts.WavePart.{WavePart}
+use Rattle.dym_run.specs.declared.wave_parts.WavePart.TheVariants.{Waiting, Open, Refused}
+use Rattle.dym_run.specs.declared.report_options.ReportOptions.{ReportOptions}
+use Rattle.dym_run.specs.JobLists.{TakesParts, name_of, origins_from}
+use Rattle.dym_run.specs.Results.{PartsRan, ObjectResultMeaning, IsFresh, all_ended, end_views, own_shown, without_keep}
 use Rattle.dym_run.specs.Parts.{quota_of, own_of}
-use Rattle.dym_run.specs.Places.{names_at, works_at, sweepers_at, berths_at, CanOpen, ComesOf, IsOpened, IsBack, TakePlaces, places_from}
+use Rattle.dym_run.specs.WaveParts.{names_at, works_at, sweepers_at, berths_at, CanOpen, ComesOf, IsOpened, IsBack, TakeWaveParts, wave_parts_from}
 use Rattle.dym_run.proofs.Berths.{one_name, one_head, one_tail, all_reversed}
 use Rattle.dym_run.proofs.Crews.{length_ended, numbered_as, quotas_as, quotas_ended, supplies_as, supplies_ended}
 use Rattle.dym_run.proofs.Seen.{from}
@@ -61,7 +61,7 @@ module _ {R : Type 0} (version : Version) where
   from_numbers n (p ∷ done) (b ∷ over) zero d within = omega arith
   from_numbers n (p ∷ done) (b ∷ over) (suc k) d within = omega (arith, from_numbers (n + 1) done over k d (omega (arith, within)))
 
-  module _ (before now : List Part) (berths : List (Berth R)) (names : List (List ℕ)) (origins : List OriginMeaning) (boards : Boards version before now berths names origins) where
+  module _ (before now : List Part) (berths : List (Berth R)) (names : List (List ℕ)) (origins : List OriginMeaning) (boards : TakesParts version before now berths names origins) where
     abbrev over : List (Berth R)
     over = reverse berths
 
@@ -102,60 +102,60 @@ module _ {R X : Type 0} (comes : X → OriginMeaning) (queue : TableName) (berth
       → sum_by (λ (b : Berth R). b.quota) none + sum_by (λ x. (comes x).quota) objects ≡ count
   aboard_quotas count is all = omega (arith, ap (sum_by (λ (b : Berth R). b.quota)) is, quotas_as comes objects (map comes objects) refl, over.quotas, all)
 
-  module _ (names : List (List ℕ)) (lines : List (Option ViewLine)) (ended : List EndedMeaning) (named : length names ≡ length objects) (left : ended ≡ all_ended names (map comes objects) lines) where
+  module _ (names : List (List ℕ)) (lines : List (Option ViewLine)) (ended : List ObjectResultMeaning) (named : length names ≡ length objects) (left : ended ≡ all_ended names (map comes objects) lines) where
     same : length names ≡ length (map comes objects)
     same = named ∙ sym (length-map objects comes)
 
     pub left_many : length ended ≡ length berths
     left_many = length_ended names (map comes objects) lines ended same left ∙ over.many
 
-    pub left_supplies : All (λ (e : EndedMeaning). e.supply ≡ shared queue) ended
+    pub left_supplies : All (λ (e : ObjectResultMeaning). e.supply ≡ shared queue) ended
     left_supplies = supplies_ended names (map comes objects) lines ended same left queue over.of_queue
 
     pub left_quotas : (count : ℕ) → none ≡ [] → sum_by (λ (b : Berth R). b.quota) berths ≡ count
-        → sum_by (λ (b : Berth R). b.quota) none + sum_by (λ (e : EndedMeaning). e.quota) ended ≡ count
+        → sum_by (λ (b : Berth R). b.quota) none + sum_by (λ (e : ObjectResultMeaning). e.quota) ended ≡ count
     left_quotas count is all =
         omega (arith, ap (sum_by (λ (b : Berth R). b.quota)) is, quotas_ended names (map comes objects) lines ended same left, over.quotas, all)
 
 -- ---- what is printed of objects that boarded and ran
 
-abbrev plain : Version → Telling
+abbrev plain : Version → ReportOptions
 plain version = record { version = version; views = false }
 
-abbrev viewed : Version → Telling
+abbrev viewed : Version → ReportOptions
 viewed version = record { version = version; views = true }
 
 module _ {R : Type 0} (version : Version) where
   plain_shown : (n : ℕ) (done : List Part) (berths : List (Berth R)) → map quota_of done ≡ map (λ (b : Berth R). b.quota) berths
-      → map (λ (e : EndedMeaning). e.shown) (all_ended (map name_of done) (origins_from version n done berths) []) ≡ map (λ p. own_shown (plain version) (own_of p)) done
+      → map (λ (e : ObjectResultMeaning). e.shown) (all_ended (map name_of done) (origins_from version n done berths) []) ≡ map (λ p. own_shown (plain version) (own_of p)) done
   plain_shown n [] [] same = refl
   plain_shown n [] (b ∷ berths) same = absurd (omega (arith, ap {B = ℕ} length same))
   plain_shown n (p ∷ done) [] same = absurd (omega (arith, ap {B = ℕ} length same))
   plain_shown n (p ∷ done) (b ∷ berths) same = λ i. own_shown (plain version) (record { decl = record p.decl { quota = sym (one_head _ _ _ _ same) i }; commands = p.commands }) ∷ plain_shown (n + 1) done berths (one_tail _ _ _ _ same) i
 
   viewed_shown : (n : ℕ) (done : List Part) (berths : List (Berth R)) → map quota_of done ≡ map (λ (b : Berth R). b.quota) berths
-      → map (λ (e : EndedMeaning). e.shown) (all_ended (map name_of done) (origins_from version n done berths) (end_views (origins_from version n done berths))) ≡ map (λ p. own_shown (viewed version) (own_of p)) done
+      → map (λ (e : ObjectResultMeaning). e.shown) (all_ended (map name_of done) (origins_from version n done berths) (end_views (origins_from version n done berths))) ≡ map (λ p. own_shown (viewed version) (own_of p)) done
   viewed_shown n [] [] same = refl
   viewed_shown n [] (b ∷ berths) same = absurd (omega (arith, ap {B = ℕ} length same))
   viewed_shown n (p ∷ done) [] same = absurd (omega (arith, ap {B = ℕ} length same))
   viewed_shown n (p ∷ done) (b ∷ berths) same = λ i. own_shown (viewed version) (record { decl = record p.decl { quota = sym (one_head _ _ _ _ same) i }; commands = p.commands }) ∷ viewed_shown (n + 1) done berths (one_tail _ _ _ _ same) i
 
-  module _ (before now : List Part) (berths : List (Berth R)) (names : List (List ℕ)) (origins : List OriginMeaning) (lines : List (Option ViewLine)) (ended : List EndedMeaning)
-      (boards : Boards version before now berths names origins) (is : ended ≡ all_ended names origins lines) where
-    pub boarded_plain : (count : ℕ) → count ≡ length berths → lines ≡ [] → Boarded (plain version) count before now [] (map (λ (e : EndedMeaning). e.shown) ended)
+  module _ (before now : List Part) (berths : List (Berth R)) (names : List (List ℕ)) (origins : List OriginMeaning) (lines : List (Option ViewLine)) (ended : List ObjectResultMeaning)
+      (boards : TakesParts version before now berths names origins) (is : ended ≡ all_ended names origins lines) where
+    pub boarded_plain : (count : ℕ) → count ≡ length berths → lines ≡ [] → PartsRan (plain version) count before now [] (map (λ (e : ObjectResultMeaning). e.shown) ended)
     boarded_plain count counted none = record {
       done = boards.done;
       counted = boards_many version before now berths names origins boards ∙ sym counted;
       taken = boards.taken;
-      shown = ap (map (λ (e : EndedMeaning). e.shown)) (is ∙ (λ i. all_ended (boards.named i) (boards.origins_are i) (none i))) ∙ plain_shown 0 boards.done (reverse berths) boards.quotas;
+      shown = ap (map (λ (e : ObjectResultMeaning). e.shown)) (is ∙ (λ i. all_ended (boards.named i) (boards.origins_are i) (none i))) ∙ plain_shown 0 boards.done (reverse berths) boards.quotas;
     }
 
-    pub boarded_viewed : (count : ℕ) → count ≡ length berths → lines ≡ end_views origins → Boarded (viewed version) count before now [] (map (λ (e : EndedMeaning). e.shown) ended)
+    pub boarded_viewed : (count : ℕ) → count ≡ length berths → lines ≡ end_views origins → PartsRan (viewed version) count before now [] (map (λ (e : ObjectResultMeaning). e.shown) ended)
     boarded_viewed count counted seen = record {
       done = boards.done;
       counted = boards_many version before now berths names origins boards ∙ sym counted;
       taken = boards.taken;
-      shown = ap (map (λ (e : EndedMeaning). e.shown)) (is ∙ ap (all_ended names origins) seen ∙ (λ i. all_ended (boards.named i) (boards.origins_are i) (end_views (boards.origins_are i))))
+      shown = ap (map (λ (e : ObjectResultMeaning). e.shown)) (is ∙ ap (all_ended names origins) seen ∙ (λ i. all_ended (boards.named i) (boards.origins_are i) (end_views (boards.origins_are i))))
           ∙ viewed_shown 0 boards.done (reverse berths) boards.quotas;
     }
 
@@ -201,7 +201,7 @@ module _ {R : Type 0} (version : Version) where
   }
 
   pub boarding_all : (before now : List Part) (all left : List (Berth R)) (names : List (List ℕ)) (origins : List OriginMeaning) → left ≡ [] → Boarding before now all left names origins
-      → Boards version before now all names origins
+      → TakesParts version before now all names origins
   boarding_all before now all left names origins none t =
       let over : reverse all ≡ t.over = t.turned ∙ ap (λ l. t.over ++ reverse l) none ∙ append-nil t.over in
       record {
@@ -224,7 +224,7 @@ swept_cons works sweepers w s of swept = record { same = omega (arith, swept.sam
 
 module _ {R : Type 0} (version : Version) (quantum : ℕ) where
   -- what came of the places of these parts and berths
-  pub record Came (n : ℕ) (parts : List Part) (berths : List (Berth R)) (after : List (Place R)) : Type 0 where
+  pub record Came (n : ℕ) (parts : List Part) (berths : List (Berth R)) (after : List (WavePart R)) : Type 0 where
     pub quotas : sum_by (λ (b : Berth R). b.quota) (flat_map berths_at after) + sum_by (λ (w : WorkMeaning). w.origin.quota) (flat_map works_at after) ≡ sum_by (λ (b : Berth R). b.quota) berths
     pub many : length (flat_map berths_at after) + length (flat_map works_at after) ≡ length berths
     pub idle : (queue : TableName) → All (IsIdleBerth queue) berths → All (IsIdleBerth queue) (flat_map berths_at after)
@@ -244,7 +244,7 @@ module _ {R : Type 0} (version : Version) (quantum : ℕ) where
     opened = λ none. (refl, refl);
   }
 
-  came_open : (n : ℕ) (part : Part) (parts : List Part) (berth : Berth R) (berths : List (Berth R)) (name : List ℕ) (work : WorkMeaning) (sweeper : SweeperMeaning) (after : List (Place R))
+  came_open : (n : ℕ) (part : Part) (parts : List Part) (berth : Berth R) (berths : List (Berth R)) (name : List ℕ) (work : WorkMeaning) (sweeper : SweeperMeaning) (after : List (WavePart R))
       → IsOpened version quantum n part berth name work sweeper → Came (n + 1) parts berths after → Came n (part ∷ parts) (berth ∷ berths) (Open name work sweeper ∷ after)
   came_open n part parts berth berths name work sweeper after is came =
       let works' = flat_map (works_at {R = R}) after in
@@ -260,10 +260,10 @@ module _ {R : Type 0} (version : Version) (quantum : ℕ) where
             (came.queue queue (All-tail (IsIdleBerth queue) berth berths h));
         fresh = All-cons IsFresh work works' is.fresh came.fresh;
         swept = swept_cons works' sweepers' work sweeper (ap (λ (o : OriginMeaning). o.keep) is.origin) came.swept;
-        opened = λ none. let rest = came.opened none in ((λ i. is.named i ∷ rest.0 i), λ i. unkept (is.origin i) ∷ rest.1 i);
+        opened = λ none. let rest = came.opened none in ((λ i. is.named i ∷ rest.0 i), λ i. without_keep (is.origin i) ∷ rest.1 i);
       }
 
-  came_back : (n : ℕ) (part : Part) (parts : List Part) (berth back : Berth R) (berths : List (Berth R)) (after : List (Place R))
+  came_back : (n : ℕ) (part : Part) (parts : List Part) (berth back : Berth R) (berths : List (Berth R)) (after : List (WavePart R))
       → IsBack berth back → Came (n + 1) parts berths after → Came n (part ∷ parts) (berth ∷ berths) (Refused back ∷ after)
   came_back n part parts berth back berths after is came =
       let berths' = flat_map (berths_at {R = R}) after in
@@ -280,8 +280,8 @@ module _ {R : Type 0} (version : Version) (quantum : ℕ) where
         opened = λ none. absurd (omega (arith, ap {B = ℕ} length none));
       }
 
-  came_all : (n : ℕ) (parts : List Part) (berths : List (Berth R)) (after : List (Place R)) → map quota_of parts ≡ map (λ (b : Berth R). b.quota) berths
-      → AllZip (ComesOf version quantum) (places_from n parts berths) after → Came n parts berths after
+  came_all : (n : ℕ) (parts : List Part) (berths : List (Berth R)) (after : List (WavePart R)) → map quota_of parts ≡ map (λ (b : Berth R). b.quota) berths
+      → AllZip (ComesOf version quantum) (wave_parts_from n parts berths) after → Came n parts berths after
   came_all n [] [] [] lined h = came_none n
   came_all n [] [] (x ∷ after) lined h = absurd h
   came_all n [] (b ∷ berths) after lined h = absurd (omega (arith, ap {B = ℕ} length lined))
@@ -295,63 +295,63 @@ module _ {R : Type 0} (version : Version) (quantum : ℕ) where
 
   -- an object may be opened at each of these places
   can_open_all : (n : ℕ) (queue : TableName) (parts : List Part) (berths : List (Berth R)) → All (IsIdleBerth queue) berths → All (λ (b : Berth R). (1 ≤ b.quota) × (b.quota ≤ MOST_QUOTA)) berths
-      → All (CanOpen {R = R}) (places_from n parts berths)
+      → All (CanOpen {R = R}) (wave_parts_from n parts berths)
   can_open_all n queue [] berths idle some = All-nil (CanOpen {R = R})
   can_open_all n queue (p ∷ parts) [] idle some = All-nil (CanOpen {R = R})
   can_open_all n queue (p ∷ parts) (b ∷ berths) idle some =
       let quota = All-head (λ (b : Berth R). (1 ≤ b.quota) × (b.quota ≤ MOST_QUOTA)) b berths some in
-      All-cons (CanOpen {R = R}) (Waiting n p b) (places_from (n + 1) parts berths) ((All-head (IsIdleBerth queue) b berths idle).1, quota.0, quota.1)
+      All-cons (CanOpen {R = R}) (Waiting n p b) (wave_parts_from (n + 1) parts berths) ((All-head (IsIdleBerth queue) b berths idle).1, quota.0, quota.1)
       (can_open_all (n + 1) queue parts berths (All-tail (IsIdleBerth queue) b berths idle) (All-tail (λ (b : Berth R). (1 ≤ b.quota) × (b.quota ≤ MOST_QUOTA)) b berths some))
 
-  module _ (first : ℕ) (before now : List Part) (berths : List (Berth R)) (places : List (Place R)) (t : TakePlaces first before now berths places) where
-    pub can_open : (queue : TableName) → All (IsIdleBerth queue) berths → All (λ (b : Berth R). (1 ≤ b.quota) × (b.quota ≤ MOST_QUOTA)) berths → All (CanOpen {R = R}) places
+  module _ (first : ℕ) (before now : List Part) (berths : List (Berth R)) (wave_parts : List (WavePart R)) (t : TakeWaveParts first before now berths wave_parts) where
+    pub can_open : (queue : TableName) → All (IsIdleBerth queue) berths → All (λ (b : Berth R). (1 ≤ b.quota) × (b.quota ≤ MOST_QUOTA)) berths → All (CanOpen {R = R}) wave_parts
     can_open queue idle some =
         subst (All (CanOpen {R = R})) (sym t.wait)
         (can_open_all first queue t.done (reverse berths) (all_reversed (IsIdleBerth queue) berths (reverse berths) refl idle)
         (all_reversed (λ (b : Berth R). (1 ≤ b.quota) × (b.quota ≤ MOST_QUOTA)) berths (reverse berths) refl some))
 
-    pub came_of : (after : List (Place R)) → AllZip (ComesOf version quantum) places after → Came first t.done (reverse berths) after
+    pub came_of : (after : List (WavePart R)) → AllZip (ComesOf version quantum) wave_parts after → Came first t.done (reverse berths) after
     came_of after opens = came_all first t.done (reverse berths) after t.quotas (subst (λ l. AllZip (ComesOf version quantum) l after) t.wait opens)
 
   -- an object stands at each of these places: all have boarded
-  pub all_opened : (before now : List Part) (berths : List (Berth R)) (places after : List (Place R)) (names : List (List ℕ)) (works : List WorkMeaning)
-      → (t : TakePlaces 0 before now berths places) → AllZip (ComesOf version quantum) places after → flat_map berths_at after ≡ []
-      → names ≡ flat_map names_at after → works ≡ flat_map works_at after → Boards version before now berths names (map from works)
-  all_opened before now berths places after names works t opens none of_names of_works =
-      let opened = (came_of 0 before now berths places t after opens).opened none in
+  pub all_opened : (before now : List Part) (berths : List (Berth R)) (wave_parts after : List (WavePart R)) (names : List (List ℕ)) (works : List WorkMeaning)
+      → (t : TakeWaveParts 0 before now berths wave_parts) → AllZip (ComesOf version quantum) wave_parts after → flat_map berths_at after ≡ []
+      → names ≡ flat_map names_at after → works ≡ flat_map works_at after → TakesParts version before now berths names (map from works)
+  all_opened before now berths wave_parts after names works t opens none of_names of_works =
+      let opened = (came_of 0 before now berths wave_parts t after opens).opened none in
       record { done = t.done; taken = t.taken; quotas = t.quotas; named = of_names ∙ opened.0; origins_are = ap (map from) of_works ∙ opened.1 }
 
 -- ---- places that are taken one by one
 
 module _ {R : Type 0} where
   -- the first parts wait at these places over the last berths
-  pub record Taking (first : ℕ) (before now : List Part) (all left : List (Berth R)) (places : List (Place R)) : Type 0 where
+  pub record Taking (first : ℕ) (before now : List Part) (all left : List (Berth R)) (wave_parts : List (WavePart R)) : Type 0 where
     pub done : List Part
     pub over : List (Berth R)
     pub taken : before ≡ done ++ now
     pub turned : reverse all ≡ over ++ reverse left
     pub quotas : map quota_of done ≡ map (λ (b : Berth R). b.quota) over
-    pub wait : places ≡ places_from first done over
+    pub wait : wave_parts ≡ wave_parts_from first done over
 
-  pub taking_none : (first : ℕ) (parts : List Part) (berths : List (Berth R)) (places : List (Place R)) → places ≡ [] → Taking first parts parts berths berths places
-  taking_none first parts berths places none = record { done = []; over = []; taken = refl; turned = refl; quotas = refl; wait = none }
+  pub taking_none : (first : ℕ) (parts : List Part) (berths : List (Berth R)) (wave_parts : List (WavePart R)) → wave_parts ≡ [] → Taking first parts parts berths berths wave_parts
+  taking_none first parts berths wave_parts none = record { done = []; over = []; taken = refl; turned = refl; quotas = refl; wait = none }
 
   places_more : (n m : ℕ) (done : List Part) (over : List (Berth R)) (p : Part) (b : Berth R) → map quota_of done ≡ map (λ (b : Berth R). b.quota) over → m ≡ n + length done
-      → places_from n (done ++ p ∷ []) (over ++ b ∷ []) ≡ places_from n done over ++ Waiting m p b ∷ []
+      → wave_parts_from n (done ++ p ∷ []) (over ++ b ∷ []) ≡ wave_parts_from n done over ++ Waiting m p b ∷ []
   places_more n m [] [] p b same is = ap (λ k. Waiting k p b ∷ []) (omega (arith, is))
   places_more n m [] (c ∷ over) p b same is = absurd (omega (arith, ap {B = ℕ} length same))
   places_more n m (q ∷ done) [] p b same is = absurd (omega (arith, ap {B = ℕ} length same))
   places_more n m (q ∷ done) (c ∷ over) p b same is = ap (λ l. Waiting n q c ∷ l) (places_more (n + 1) m done over p b (one_tail _ _ _ _ same) (omega (arith, is)))
 
-  places_long : (n : ℕ) (done : List Part) (over : List (Berth R)) → map quota_of done ≡ map (λ (b : Berth R). b.quota) over → length (places_from n done over) ≡ length done
+  places_long : (n : ℕ) (done : List Part) (over : List (Berth R)) → map quota_of done ≡ map (λ (b : Berth R). b.quota) over → length (wave_parts_from n done over) ≡ length done
   places_long n [] over same = refl
   places_long n (q ∷ done) [] same = absurd (omega (arith, ap {B = ℕ} length same))
   places_long n (q ∷ done) (c ∷ over) same = omega (arith, places_long (n + 1) done over (one_tail _ _ _ _ same))
 
-  pub taking_more : (first number : ℕ) (before now rest : List Part) (all left fewer : List (Berth R)) (places more : List (Place R)) (p : Part) (b : Berth R)
-      → now ≡ p ∷ rest → left ≡ fewer ++ b ∷ [] → more ≡ places ++ Waiting number p b ∷ [] → number ≡ first + length places → quota_of p ≡ b.quota
-      → Taking first before now all left places → Taking first before rest all fewer more
-  taking_more first number before now rest all left fewer places more p b is last put numbered quota t = record {
+  pub taking_more : (first number : ℕ) (before now rest : List Part) (all left fewer : List (Berth R)) (wave_parts more : List (WavePart R)) (p : Part) (b : Berth R)
+      → now ≡ p ∷ rest → left ≡ fewer ++ b ∷ [] → more ≡ wave_parts ++ Waiting number p b ∷ [] → number ≡ first + length wave_parts → quota_of p ≡ b.quota
+      → Taking first before now all left wave_parts → Taking first before rest all fewer more
+  taking_more first number before now rest all left fewer wave_parts more p b is last put numbered quota t = record {
     done = t.done ++ p ∷ [];
     over = t.over ++ b ∷ [];
     taken = t.taken ∙ ap (λ l. t.done ++ l) is ∙ sym (append_assoc t.done (p ∷ []) rest);
@@ -361,23 +361,23 @@ module _ {R : Type 0} where
         ∙ sym (places_more first number t.done t.over p b t.quotas (omega (arith, numbered, ap {B = ℕ} length t.wait, places_long first t.done t.over t.quotas)));
   }
 
-  pub taking_all : (first : ℕ) (before now : List Part) (all left : List (Berth R)) (places : List (Place R)) → left ≡ [] → Taking first before now all left places → TakePlaces first before now all places
-  taking_all first before now all left places none t =
+  pub taking_all : (first : ℕ) (before now : List Part) (all left : List (Berth R)) (wave_parts : List (WavePart R)) → left ≡ [] → Taking first before now all left wave_parts → TakeWaveParts first before now all wave_parts
+  taking_all first before now all left wave_parts none t =
       let over : reverse all ≡ t.over = t.turned ∙ ap (λ l. t.over ++ reverse l) none ∙ append-nil t.over in
       record {
         done = t.done;
         taken = t.taken;
         quotas = t.quotas ∙ ap (map (λ (b : Berth R). b.quota)) (sym over);
-        wait = t.wait ∙ ap (places_from first t.done) (sym over);
+        wait = t.wait ∙ ap (wave_parts_from first t.done) (sym over);
       }
 
-  pub done_many : (first : ℕ) (before now : List Part) (berths : List (Berth R)) (places : List (Place R)) → (t : TakePlaces first before now berths places) → length t.done ≡ length berths
-  done_many first before now berths places t =
+  pub done_many : (first : ℕ) (before now : List Part) (berths : List (Berth R)) (wave_parts : List (WavePart R)) → (t : TakeWaveParts first before now berths wave_parts) → length t.done ≡ length berths
+  done_many first before now berths wave_parts t =
       sym (length-map t.done quota_of) ∙ ap {B = ℕ} length t.quotas ∙ length-map (reverse berths) (λ (b : Berth R). b.quota) ∙ length-reverse berths
 
-  pub taken_many : (first : ℕ) (before now : List Part) (berths : List (Berth R)) (places : List (Place R)) → TakePlaces first before now berths places → length places ≡ length berths
-  taken_many first before now berths places t =
-      ap {B = ℕ} length t.wait ∙ places_long first t.done (reverse berths) t.quotas ∙ done_many first before now berths places t
+  pub taken_many : (first : ℕ) (before now : List Part) (berths : List (Berth R)) (wave_parts : List (WavePart R)) → TakeWaveParts first before now berths wave_parts → length wave_parts ≡ length berths
+  taken_many first before now berths wave_parts t =
+      ap {B = ℕ} length t.wait ∙ places_long first t.done (reverse berths) t.quotas ∙ done_many first before now berths wave_parts t
 
 -- ---- places that are left one by one
 
@@ -387,9 +387,9 @@ module _ {P X : Type 0} (f : P → List X) where
       ap (λ l. l ++ flat_map f (reverse rest)) put ∙ append_assoc old (f p) (flat_map f (reverse rest))
       ∙ ap (λ l. old ++ flat_map f l) (sym (ap reverse is ∙ reverse-append rest (p ∷ []))) ∙ before
 
-  pub left_none : (left whole places : List P) (old now : List X) → left ≡ [] → whole ≡ reverse places → now ++ flat_map f (reverse left) ≡ old ++ flat_map f (reverse whole) → now ≡ old ++ flat_map f places
-  left_none left whole places old now none is before =
-      sym (ap (λ l. now ++ flat_map f (reverse l)) none ∙ append-nil now) ∙ before ∙ ap (λ l. old ++ flat_map f l) (ap reverse is ∙ reverse-reverse places)
+  pub left_none : (left whole wave_parts : List P) (old now : List X) → left ≡ [] → whole ≡ reverse wave_parts → now ++ flat_map f (reverse left) ≡ old ++ flat_map f (reverse whole) → now ≡ old ++ flat_map f wave_parts
+  left_none left whole wave_parts old now none is before =
+      sym (ap (λ l. now ++ flat_map f (reverse l)) none ∙ append-nil now) ∙ before ∙ ap (λ l. old ++ flat_map f l) (ap reverse is ∙ reverse-reverse wave_parts)
 
 -- what stands behind nothing
 pub behind_none : {X : Type 0} (none new rest : List X) → none ≡ [] → new ≡ none ++ rest → new ≡ rest

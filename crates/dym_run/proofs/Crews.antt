@@ -8,7 +8,7 @@ use Rattle.dym_base.specs.Origins.{Origin, TableName, shared}
 use Rattle.dym_pool.specs.Jobs.{Numbered}
 use Rattle.dym_report.specs.declared.late.ViewLine.{ViewLine}
 use Rattle.dym_wave.specs.Works.{OriginMeaning}
-use Rattle.dym_run.specs.Ends.{EndedMeaning, all_ended, ended_as}
+use Rattle.dym_run.specs.Results.{ObjectResultMeaning, all_ended, ended_as}
 
 -- a list without any element
 pub none_left : {X : Type 0} → (xs : List X) → length xs ≡ 0 → xs ≡ []
@@ -52,7 +52,7 @@ ended_one : (names : List (List ℕ)) (origins : List OriginMeaning) (n : List �
 ended_one [] [] n o same = refl
 ended_one [] (x ∷ origins) n o same = absurd (omega (arith, same))
 ended_one (m ∷ names) [] n o same = absurd (omega (arith, same))
-ended_one (m ∷ names) (x ∷ origins) n o same = ap {B = List EndedMeaning} (λ l. ended_as m x None ∷ l) (ended_one names origins n o (omega (arith, same)))
+ended_one (m ∷ names) (x ∷ origins) n o same = ap {B = List ObjectResultMeaning} (λ l. ended_as m x None ∷ l) (ended_one names origins n o (omega (arith, same)))
 
 seen_one : (names : List (List ℕ)) (origins : List OriginMeaning) (lines : List (Option ViewLine)) (n : List ℕ) (o : OriginMeaning) (line : Option ViewLine)
     → length names ≡ length origins → length lines ≡ length origins
@@ -63,7 +63,7 @@ seen_one [] (x ∷ origins) lines n o line same long = absurd (omega (arith, sam
 seen_one (m ∷ names) [] lines n o line same long = absurd (omega (arith, same))
 seen_one (m ∷ names) (x ∷ origins) [] n o line same long = absurd (omega (arith, long))
 seen_one (m ∷ names) (x ∷ origins) (l ∷ lines) n o line same long =
-    ap {B = List EndedMeaning} (λ t. ended_as m x (Some l) ∷ t) (seen_one names origins lines n o line (omega (arith, same)) (omega (arith, long)))
+    ap {B = List ObjectResultMeaning} (λ t. ended_as m x (Some l) ∷ t) (seen_one names origins lines n o line (omega (arith, same)) (omega (arith, long)))
 
 -- there is a line for each of so many objects, or none
 abbrev pub AreLines : List (Option ViewLine) → ℕ → Type 0
@@ -99,32 +99,32 @@ named_fewer xs all ys both x y is are same = omega (arith, ap {B = ℕ} length i
 
 module _ {X : Type 0} (from : X → OriginMeaning) where
   -- the last object leaves its list with its name and its line: what is left of it stands behind what is left of others
-  pub settled_more : (P Q : Type 0) (names all_names : List (List ℕ)) (objects all : List X) (lines rest : List (Option ViewLine)) (settled more : List EndedMeaning)
-      (n : List ℕ) (x : X) (line : Option (Option ViewLine)) (k : ℕ) (e : EndedMeaning) (whole : List EndedMeaning)
-      → all_names ≡ names ++ n ∷ [] → all ≡ objects ++ x ∷ [] → length names ≡ length objects → more ≡ settled ++ e ∷ [] → e ≡ ended_as n (from x) line
+  pub settled_more : (P Q : Type 0) (names all_names : List (List ℕ)) (objects all : List X) (lines rest : List (Option ViewLine)) (finished more : List ObjectResultMeaning)
+      (n : List ℕ) (x : X) (line : Option (Option ViewLine)) (k : ℕ) (e : ObjectResultMeaning) (whole : List ObjectResultMeaning)
+      → all_names ≡ names ++ n ∷ [] → all ≡ objects ++ x ∷ [] → length names ≡ length objects → more ≡ finished ++ e ∷ [] → e ≡ ended_as n (from x) line
       → k ≡ length lines → MatchOption line ((k ≡ 0) × P) (λ _. Q) → lines ≡ rest ++ option_to_list line → AreLines lines (length all)
-      → all_ended all_names (map from all) lines ++ reverse settled ≡ whole → all_ended names (map from objects) rest ++ reverse more ≡ whole
-  settled_more P Q names all_names objects all lines rest settled more n x line k e whole of_names of_all same of_more is long cases cut of before =
+      → all_ended all_names (map from all) lines ++ reverse finished ≡ whole → all_ended names (map from objects) rest ++ reverse more ≡ whole
+  settled_more P Q names all_names objects all lines rest finished more n x line k e whole of_names of_all same of_more is long cases cut of before =
       let origins = map from objects in
-      ap (λ l. all_ended names origins rest ++ l) (ap reverse of_more ∙ reverse-append settled (e ∷ []) ∙ ap {B = List EndedMeaning} (λ y. y ∷ reverse settled) is)
-      ∙ sym (append_assoc (all_ended names origins rest) (ended_as n (from x) line ∷ []) (reverse settled))
-      ∙ ap (λ l. l ++ reverse settled)
+      ap (λ l. all_ended names origins rest ++ l) (ap reverse of_more ∙ reverse-append finished (e ∷ []) ∙ ap {B = List ObjectResultMeaning} (λ y. y ∷ reverse finished) is)
+      ∙ sym (append_assoc (all_ended names origins rest) (ended_as n (from x) line ∷ []) (reverse finished))
+      ∙ ap (λ l. l ++ reverse finished)
       (sym (ended_last P Q names origins lines rest n (from x) line k (length all) long cases cut
       (ap {B = ℕ} length of_all ∙ length-append objects (x ∷ []) ∙ ap (λ m. m + 1) (sym (length-map objects from))) of (same ∙ sym (length-map objects from))))
-      ∙ ap (λ l. all_ended (names ++ n ∷ []) l lines ++ reverse settled) (sym (map_push from objects x))
-      ∙ (λ i. all_ended (sym of_names i) (map from (sym of_all i)) lines ++ reverse settled)
+      ∙ ap (λ l. all_ended (names ++ n ∷ []) l lines ++ reverse finished) (sym (map_push from objects x))
+      ∙ (λ i. all_ended (sym of_names i) (map from (sym of_all i)) lines ++ reverse finished)
       ∙ before
 
   -- no object is left: what is left of all stands in order once the list is turned round
-  pub settled_all : (names : List (List ℕ)) (objects : List X) (lines : List (Option ViewLine)) (settled turned whole : List EndedMeaning) → length names ≡ length objects → objects ≡ []
-      → turned ≡ reverse settled → all_ended names (map from objects) lines ++ reverse settled ≡ whole → turned ≡ whole
-  settled_all names objects lines settled turned whole same none is before =
-      is ∙ ap (λ l. all_ended l (map from objects) lines ++ reverse settled) (sym (none_left names (same ∙ ap {B = ℕ} length none))) ∙ before
+  pub settled_all : (names : List (List ℕ)) (objects : List X) (lines : List (Option ViewLine)) (finished turned whole : List ObjectResultMeaning) → length names ≡ length objects → objects ≡ []
+      → turned ≡ reverse finished → all_ended names (map from objects) lines ++ reverse finished ≡ whole → turned ≡ whole
+  settled_all names objects lines finished turned whole same none is before =
+      is ∙ ap (λ l. all_ended l (map from objects) lines ++ reverse finished) (sym (none_left names (same ∙ ap {B = ℕ} length none))) ∙ before
 
 -- ---- the quotas and the supplies of what is left
 
 ended_quotas : (names : List (List ℕ)) (origins : List OriginMeaning) (lines : List (Option ViewLine)) → length names ≡ length origins
-    → map (λ (e : EndedMeaning). e.quota) (all_ended names origins lines) ≡ map (λ (o : OriginMeaning). o.quota) origins
+    → map (λ (e : ObjectResultMeaning). e.quota) (all_ended names origins lines) ≡ map (λ (o : OriginMeaning). o.quota) origins
 ended_quotas [] [] lines same = refl
 ended_quotas [] (o ∷ origins) lines same = absurd (omega (arith, same))
 ended_quotas (n ∷ names) [] lines same = absurd (omega (arith, same))
@@ -132,27 +132,27 @@ ended_quotas (n ∷ names) (o ∷ origins) [] same = ap (λ l. o.quota ∷ l) (e
 ended_quotas (n ∷ names) (o ∷ origins) (line ∷ lines) same = ap (λ l. o.quota ∷ l) (ended_quotas names origins lines (omega (arith, same)))
 
 ended_supplies : (names : List (List ℕ)) (origins : List OriginMeaning) (lines : List (Option ViewLine)) → length names ≡ length origins
-    → map (λ (e : EndedMeaning). e.supply) (all_ended names origins lines) ≡ map (λ (o : OriginMeaning). o.supply) origins
+    → map (λ (e : ObjectResultMeaning). e.supply) (all_ended names origins lines) ≡ map (λ (o : OriginMeaning). o.supply) origins
 ended_supplies [] [] lines same = refl
 ended_supplies [] (o ∷ origins) lines same = absurd (omega (arith, same))
 ended_supplies (n ∷ names) [] lines same = absurd (omega (arith, same))
 ended_supplies (n ∷ names) (o ∷ origins) [] same = ap {B = List Origin} (λ l. o.supply ∷ l) (ended_supplies names origins [] (omega (arith, same)))
 ended_supplies (n ∷ names) (o ∷ origins) (line ∷ lines) same = ap {B = List Origin} (λ l. o.supply ∷ l) (ended_supplies names origins lines (omega (arith, same)))
 
-module _ (names : List (List ℕ)) (origins : List OriginMeaning) (lines : List (Option ViewLine)) (ended : List EndedMeaning)
+module _ (names : List (List ℕ)) (origins : List OriginMeaning) (lines : List (Option ViewLine)) (ended : List ObjectResultMeaning)
     (same : length names ≡ length origins) (is : ended ≡ all_ended names origins lines) where
-  quotas : map (λ (e : EndedMeaning). e.quota) ended ≡ map (λ (o : OriginMeaning). o.quota) origins
-  quotas = ap (map (λ (e : EndedMeaning). e.quota)) is ∙ ended_quotas names origins lines same
+  quotas : map (λ (e : ObjectResultMeaning). e.quota) ended ≡ map (λ (o : OriginMeaning). o.quota) origins
+  quotas = ap (map (λ (e : ObjectResultMeaning). e.quota)) is ∙ ended_quotas names origins lines same
 
   pub length_ended : length ended ≡ length origins
-  length_ended = sym (length-map ended (λ (e : EndedMeaning). e.quota)) ∙ ap {B = ℕ} length quotas ∙ length-map origins (λ (o : OriginMeaning). o.quota)
+  length_ended = sym (length-map ended (λ (e : ObjectResultMeaning). e.quota)) ∙ ap {B = ℕ} length quotas ∙ length-map origins (λ (o : OriginMeaning). o.quota)
 
-  pub quotas_ended : sum_by (λ (e : EndedMeaning). e.quota) ended ≡ sum_by (λ (o : OriginMeaning). o.quota) origins
-  quotas_ended = sym (sum-map (λ (e : EndedMeaning). e.quota) ended) ∙ ap sum quotas ∙ sum-map (λ (o : OriginMeaning). o.quota) origins
+  pub quotas_ended : sum_by (λ (e : ObjectResultMeaning). e.quota) ended ≡ sum_by (λ (o : OriginMeaning). o.quota) origins
+  quotas_ended = sym (sum-map (λ (e : ObjectResultMeaning). e.quota) ended) ∙ ap sum quotas ∙ sum-map (λ (o : OriginMeaning). o.quota) origins
 
-  pub supplies_ended : (queue : TableName) → All (λ (o : OriginMeaning). o.supply ≡ shared queue) origins → All (λ (e : EndedMeaning). e.supply ≡ shared queue) ended
+  pub supplies_ended : (queue : TableName) → All (λ (o : OriginMeaning). o.supply ≡ shared queue) origins → All (λ (e : ObjectResultMeaning). e.supply ≡ shared queue) ended
   supplies_ended queue h k d within =
       let P : Origin → Type 0 = λ s. s ≡ shared queue in
-      let seen : List Origin = map (λ (e : EndedMeaning). e.supply) ended in
-      let of : All P seen = All-same P seen (map (λ (o : OriginMeaning). o.supply) origins) (ap (map (λ (e : EndedMeaning). e.supply)) is ∙ ended_supplies names origins lines same) (All-map P (λ (o : OriginMeaning). o.supply) origins h) in
-      subst P (get_or-map (λ (e : EndedMeaning). e.supply) ended k d d.supply within) (of k d.supply (omega (arith, within, length-map ended (λ (e : EndedMeaning). e.supply))))
+      let seen : List Origin = map (λ (e : ObjectResultMeaning). e.supply) ended in
+      let of : All P seen = All-same P seen (map (λ (o : OriginMeaning). o.supply) origins) (ap (map (λ (e : ObjectResultMeaning). e.supply)) is ∙ ended_supplies names origins lines same) (All-map P (λ (o : OriginMeaning). o.supply) origins h) in
+      subst P (get_or-map (λ (e : ObjectResultMeaning). e.supply) ended k d d.supply within) (of k d.supply (omega (arith, within, length-map ended (λ (e : ObjectResultMeaning). e.supply))))

@@ -9,9 +9,9 @@ use Rattle.dym_io.specs.Laws.{writes_cut, writes_after}
 use Rattle.dym_report.specs.Objects.{heading, state_text, object_text}
 use Rattle.dym_report.specs.Replies.{reply_line}
 use Rattle.dym_turn.specs.Replies.{RepliesMeaning}
-use Rattle.dym_run.specs.declared.body.Body.{Body}
-use Rattle.dym_run.specs.declared.body.Body.TheVariants.{Untold}
-use Rattle.dym_run.specs.Bodies.{IsBodyOf, body_text, end_text}
+use Rattle.dym_run.specs.declared.job_output.JobOutput.{JobOutput}
+use Rattle.dym_run.specs.declared.job_output.JobOutput.TheVariants.{Values}
+use Rattle.dym_run.specs.JobOutputs.{IsOutputOf, body_text, end_text}
 
 module _ (v : Version) (replies : List Reply) (s : ObjectState) where
   abbrev behind : List ℕ
@@ -23,11 +23,11 @@ module _ (v : Version) (replies : List Reply) (s : ObjectState) where
   end_is name = append_assoc (heading name) (flat_map reply_line replies) (state_text v s.heap.live (length s.logs) (slots s.logs))
 
   -- what is made of the replies and the heap is what stands there
-  pub untold_text : {R : Type 0} → (b : Body R) (given : RepliesMeaning) (heap : HeapMeaning) (kept taken : ℕ) → b ≡ Untold given heap kept taken → IsBodyOf v replies s b
+  pub untold_text : {R : Type 0} → (b : JobOutput R) (given : RepliesMeaning) (heap : HeapMeaning) (kept taken : ℕ) → b ≡ Values given heap kept taken → IsOutputOf v replies s b
       → body_text heap.version given.replies heap.state.live kept taken ≡ behind
   untold_text b given heap kept taken is of_run =
-      let body = subst (IsBodyOf v replies s) is of_run in
-      λ i. body_text (body.1 i) (body.2 i) (body.3 i).live (body.4 i) (body.5 i)
+      let job_output = subst (IsOutputOf v replies s) is of_run in
+      λ i. body_text (job_output.1 i) (job_output.2 i) (job_output.3 i).live (job_output.4 i) (job_output.5 i)
 
   -- the sink failed in the name's line
   pub end_cut : {T E : Type 0} → (a b : Output) (name : List ℕ) (r : Result T E) → IsErr r → Stopped a b (heading name) → Writes a b (end_text v name replies s) r

@@ -4,7 +4,7 @@ use Rattle.dym_base.specs.LawfulLists.{IsLawful}
 use Rattle.dym_base.specs.declared.command.Version.{Version}
 use Rattle.dym_base.specs.declared.command.Version.TheVariants.{One}
 use Rattle.dym_slots.specs.Meanings.{Numbered}
-use Rattle.dym_chain.specs.Adopted.{AreLawful}
+use Rattle.dym_chain.specs.AdoptedLogs.{AreLawful}
 use Rattle.dym_chain.specs.Keeps.{bytes_of}
 
 no_logs : (v : Version) → IsLawful v 0 []

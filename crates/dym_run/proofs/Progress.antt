@@ -3,7 +3,7 @@ use Rattle.std.proofs.Common.{◌≡◌, ℕ, ◌+◌, ◌<◌, ◌≤◌, List,
 use Rattle.std.proofs.lemmas.Grind.{flat_map-append}
 use Rattle.std.proofs.lemmas.List.{map-append, length-map}
 use Rattle.std.proofs.lemmas.List.Sums.{sum_by-append}
-use Rattle.dym_run.specs.declared.telling.Telling.{Telling}
+use Rattle.dym_run.specs.declared.report_options.ReportOptions.{ReportOptions}
 use Rattle.dym_base.specs.declared.limits.TheConstants.{MOST_OBJECTS, MOST_COMMANDS}
 use Rattle.dym_io.specs.Sink.{Output, Appended, AppendedFront, Blames, WritesOr}
 use Rattle.dym_io.specs.Laws.{appended_nothing, appended_both, front_after, front_of_appended, front_within}
@@ -13,9 +13,9 @@ use Rattle.dym_io.specs.Faults.{RoseOnce}
 use Rattle.dym_run.specs.declared.write_fail.WriteFail.{WriteFail}
 use Rattle.dym_run.specs.declared.write_fail.WriteFail.TheVariants.{Sink as SinkFailed, Memory}
 use Rattle.dym_run.specs.declared.tally.Tally.{Tally}
-use Rattle.dym_run.specs.Ends.{EndedMeaning, Boarded, WritesFirst, TalliesFirst, own_shown, parts_text, parts_shown, shown_text, tally_shown, IsTallyOf}
+use Rattle.dym_run.specs.Results.{ObjectResultMeaning, PartsRan, WritesFirst, TalliesFirst, own_shown, parts_text, parts_shown, shown_text, tally_shown, IsTallyOf}
 use Rattle.dym_run.specs.Parts.{own_of}
-use Rattle.dym_run.specs.Views.{told_part}
+use Rattle.dym_run.specs.Views.{part_with_view}
 use Rattle.dym_run.specs.Summary.{both_tallies, no_tally, tally_all}
 use Rattle.dym_run.proofs.Crews.{none_left}
 use Rattle.dym_run.proofs.Tallies.{Fits, fits_both, replies_in, replies_of_parts, replies_of_ended, tally_of_parts, tally_of_none, tally_of_both}
@@ -24,18 +24,18 @@ use Rattle.dym_run.proofs.Texts.{same_texts}
 -- ---- written
 
 -- of the parts all but those that are left are written
-pub record Written (v : Telling) (all left : List Part) (old new : Output) : Type 0 where
+pub record Written (v : ReportOptions) (all left : List Part) (old new : Output) : Type 0 where
   pub done : List Part
   pub taken : all ≡ done ++ left
   pub written : Appended old new (parts_text v done)
 
-pub written_none : (v : Telling) (all : List Part) (old : Output) → Written v all all old old
+pub written_none : (v : ReportOptions) (all : List Part) (old : Output) → Written v all all old old
 written_none v all old = record { done = []; taken = refl; written = appended_nothing old }
 
-both_texts : (v : Telling) (xs ys : List Part) → parts_text v (xs ++ ys) ≡ parts_text v xs ++ parts_text v ys
-both_texts v xs ys = flat_map-append (λ (part : Part). told_part v (own_of part)) xs ys
+both_texts : (v : ReportOptions) (xs ys : List Part) → parts_text v (xs ++ ys) ≡ parts_text v xs ++ parts_text v ys
+both_texts v xs ys = flat_map-append (λ (part : Part). part_with_view v (own_of part)) xs ys
 
-module _ (v : Telling) (all left : List Part) (old mid new : Output) (w : Written v all left old mid) where
+module _ (v : ReportOptions) (all left : List Part) (old mid new : Output) (w : Written v all left old mid) where
   pub written_more : (next rest : List Part) → left ≡ next ++ rest → Appended mid new (parts_text v next) → Written v all rest old new
   written_more next rest cut more = record {
     done = w.done ++ next;
@@ -55,18 +55,18 @@ module _ (v : Telling) (all left : List Part) (old mid new : Output) (w : Writte
 -- ---- counted
 
 -- of the parts all but those that are left are counted
-pub record Counted (v : Telling) (all left : List Part) (tally : Tally) : Type 0 where
+pub record Counted (v : ReportOptions) (all left : List Part) (tally : Tally) : Type 0 where
   pub done : List Part
   pub taken : all ≡ done ++ left
   pub counted : IsTallyOf tally (parts_shown v done)
 
-pub counted_none : (v : Telling) (all : List Part) (tally : Tally) → tally ≡ no_tally → Counted v all all tally
+pub counted_none : (v : ReportOptions) (all : List Part) (tally : Tally) → tally ≡ no_tally → Counted v all all tally
 counted_none v all tally none = record { done = []; taken = refl; counted = subst (λ t. IsTallyOf t []) (sym none) tally_of_none }
 
 abbrev commands_in : List Part → ℕ
 commands_in parts = sum_by (λ part. length part.commands) parts
 
-module _ (v : Telling) (all left : List Part) (tally : Tally) (c : Counted v all left tally) where
+module _ (v : ReportOptions) (all left : List Part) (tally : Tally) (c : Counted v all left tally) where
   pub few_left : length all ≤ MOST_OBJECTS → length left ≤ MOST_OBJECTS
   few_left few = omega (arith, few, ap {B = ℕ} length c.taken, length-append c.done left)
 
@@ -114,14 +114,14 @@ module _ (v : Telling) (all left : List Part) (tally : Tally) (c : Counted v all
 -- ---- one wave
 
 -- the replies of a wave's objects are no more than the commands of all
-pub wave_commands : (v : Telling) (count : ℕ) (before after : List Part) (ended seen : List EndedMeaning) → seen ≡ ended
-    → Boarded v count before after [] (map (λ (e : EndedMeaning). e.shown) ended) → commands_in before ≤ MOST_COMMANDS
-    → sum_by (λ (e : EndedMeaning). length e.shown.replies) seen ≤ MOST_COMMANDS
+pub wave_commands : (v : ReportOptions) (count : ℕ) (before after : List Part) (ended seen : List ObjectResultMeaning) → seen ≡ ended
+    → PartsRan v count before after [] (map (λ (e : ObjectResultMeaning). e.shown) ended) → commands_in before ≤ MOST_COMMANDS
+    → sum_by (λ (e : ObjectResultMeaning). length e.shown.replies) seen ≤ MOST_COMMANDS
 wave_commands v count before after ended seen same b little =
     omega (
       arith,
       little,
-      ap (sum_by (λ (e : EndedMeaning). length e.shown.replies)) same,
+      ap (sum_by (λ (e : ObjectResultMeaning). length e.shown.replies)) same,
       replies_of_ended ended,
       ap replies_in b.shown,
       replies_of_parts v b.done,
@@ -130,26 +130,26 @@ wave_commands v count before after ended seen same b little =
     )
 
 -- a wave's objects were written: all their texts, or a front of them
-pub wave_written : (v : Telling) (count : ℕ) (before after : List Part) (ended seen : List EndedMeaning) (old new : Output) → 0 < count → seen ≡ ended
-    → Boarded v count before after [] (map (λ (e : EndedMeaning). e.shown) ended) → Appended old new (flat_map (λ (e : EndedMeaning). shown_text e.shown) seen)
+pub wave_written : (v : ReportOptions) (count : ℕ) (before after : List Part) (ended seen : List ObjectResultMeaning) (old new : Output) → 0 < count → seen ≡ ended
+    → PartsRan v count before after [] (map (λ (e : ObjectResultMeaning). e.shown) ended) → Appended old new (flat_map (λ (e : ObjectResultMeaning). shown_text e.shown) seen)
     → (done : List Part) × (0 < length done) × (before ≡ done ++ after) × Appended old new (parts_text v done)
 wave_written v count before after ended seen old new some same b written = (
   b.done,
   omega (arith, some, b.counted),
   b.taken,
-  subst (Appended old new) (ap (flat_map (λ (e : EndedMeaning). shown_text e.shown)) same ∙ same_texts v ended b.done b.shown) written,
+  subst (Appended old new) (ap (flat_map (λ (e : ObjectResultMeaning). shown_text e.shown)) same ∙ same_texts v ended b.done b.shown) written,
 )
 
-pub wave_front : (v : Telling) (count : ℕ) (before after : List Part) (ended seen : List EndedMeaning) (old new : Output) → seen ≡ ended
-    → Boarded v count before after [] (map (λ (e : EndedMeaning). e.shown) ended) → AppendedFront old new (flat_map (λ (e : EndedMeaning). shown_text e.shown) seen)
+pub wave_front : (v : ReportOptions) (count : ℕ) (before after : List Part) (ended seen : List ObjectResultMeaning) (old new : Output) → seen ≡ ended
+    → PartsRan v count before after [] (map (λ (e : ObjectResultMeaning). e.shown) ended) → AppendedFront old new (flat_map (λ (e : ObjectResultMeaning). shown_text e.shown) seen)
     → AppendedFront old new (parts_text v before)
 wave_front v count before after ended seen old new same b front =
-    let text = ap (flat_map (λ (e : EndedMeaning). shown_text e.shown)) same ∙ same_texts v ended b.done b.shown in
+    let text = ap (flat_map (λ (e : ObjectResultMeaning). shown_text e.shown)) same ∙ same_texts v ended b.done b.shown in
     subst (AppendedFront old new) (sym (ap (parts_text v) b.taken ∙ both_texts v b.done after))
     (front_within old new (parts_text v b.done) (parts_text v after) (subst (AppendedFront old new) text front))
 
 -- a call that failed at the sink
-pub fails_first : (v : Telling) (before after : List Part) (old new : Output) (r : Result ⊤ WriteFail) → IsErrAnd r (λ fail. fail ≡ SinkFailed)
+pub fails_first : (v : ReportOptions) (before after : List Part) (old new : Output) (r : Result ⊤ WriteFail) → IsErrAnd r (λ fail. fail ≡ SinkFailed)
     → AppendedFront old new (parts_text v before) → RoseOnce old.faults new.faults → WritesFirst v before after old new r
 fails_first v before after old new (Ok x) is front rose = absurd is
 fails_first v before after old new (Err e) is front rose = (front, ((λ _. rose), λ other. absurd (other is)))
@@ -172,7 +172,7 @@ pub writes_or_passed : {T E : Type 0} → (IsSinks : E → Type 0) (a b : Output
 writes_or_passed IsSinks a b t (Ok x) e is front blames = absurd is
 writes_or_passed IsSinks a b t (Err x) e is front blames = (front, subst (λ x. Blames (IsSinks x) a b) (sym is) blames)
 
-module _ (v w : Telling) (same : w ≡ v) (all left rest : List Part) where
+module _ (v w : ReportOptions) (same : w ≡ v) (all left rest : List Part) where
   pub wave_more : (old mid new : Output) → Written v all left old mid
       → (done : List Part) × (0 < length done) × (left ≡ done ++ rest) × Appended mid new (parts_text w done) → Written v all rest old new
   wave_more old mid new written next =
@@ -192,7 +192,7 @@ module _ (v w : Telling) (same : w ≡ v) (all left rest : List Part) where
     wave_counted both is = counted_more v all left tally counted next.0 rest more next.2 of_next both is
 
 -- what all parts come to, and how many commands they have
-module _ (v w : Telling) (parts all : List Part) (same : w ≡ v) (is : all ≡ parts) where
+module _ (v w : ReportOptions) (parts all : List Part) (same : w ≡ v) (is : all ≡ parts) where
   pub all_counted : {E : Type 0} (r : Result Tally E) → IfOk r (λ t. IsTallyOf t (parts_shown w all)) → IfOk r (λ t. t ≡ tally_all v.version (map own_of parts))
   all_counted (Ok t) h = h.counted ∙ (λ i. tally_shown (parts_shown (same i) (is i))) ∙ tally_of_parts v parts
   all_counted (Err e) h = tt

@@ -9,8 +9,8 @@ use Rattle.dym_base.specs.declared.limits.TheConstants.{MOST_OBJECTS, MOST_COMMA
 use Rattle.dym_base.specs.declared.reply.Reply.{Reply}
 use Rattle.dym_script.specs.declared.parts.Part.{Part}
 use Rattle.dym_run.specs.declared.tally.Tally.{Tally}
-use Rattle.dym_run.specs.declared.telling.Telling.{Telling}
-use Rattle.dym_run.specs.Ends.{Shown, own_shown, parts_shown, shown_tally, tally_shown, IsTallyOf, EndedMeaning}
+use Rattle.dym_run.specs.declared.report_options.ReportOptions.{ReportOptions}
+use Rattle.dym_run.specs.Results.{Shown, own_shown, parts_shown, shown_tally, tally_shown, IsTallyOf, ObjectResultMeaning}
 use Rattle.dym_run.specs.Parts.{own_of}
 use Rattle.dym_run.specs.Summary.{is_refusal, tally_of, no_tally, both_tallies, tally_all}
 
@@ -67,11 +67,11 @@ tally_of_one t s is replies chunks segments kept slots = record {
 }
 
 -- what is printed of a part comes to what the part comes to
-part_tally : (v : Telling) (p : Part) → shown_tally (own_shown v (own_of p)) ≡ tally_of v.version (own_of p)
+part_tally : (v : ReportOptions) (p : Part) → shown_tally (own_shown v (own_of p)) ≡ tally_of v.version (own_of p)
 unfolding tally_of
 part_tally v p = refl
 
-pub tally_of_parts : (v : Telling) (parts : List Part) → tally_shown (parts_shown v parts) ≡ tally_all v.version (map own_of parts)
+pub tally_of_parts : (v : ReportOptions) (parts : List Part) → tally_shown (parts_shown v parts) ≡ tally_all v.version (map own_of parts)
 tally_of_parts v [] = refl
 tally_of_parts v (p ∷ parts) = λ i. both_tallies (part_tally v p i) (tally_of_parts v parts i)
 
@@ -79,7 +79,7 @@ pub length_replies : (v : Version) (quota : ℕ) (s : ObjectState) (commands : L
 length_replies v quota s [] = refl
 length_replies v quota s (c ∷ cs) = ap suc (length_replies v quota (object_step v quota s c).object cs)
 
-pub replies_of_parts : (v : Telling) (parts : List Part) → replies_in (parts_shown v parts) ≡ sum_by (λ part. length part.commands) parts
+pub replies_of_parts : (v : ReportOptions) (parts : List Part) → replies_in (parts_shown v parts) ≡ sum_by (λ part. length part.commands) parts
 replies_of_parts v [] = refl
 replies_of_parts v (p ∷ parts) =
     omega (
@@ -125,31 +125,31 @@ fits_both a b xs ys p q few little = record {
   slots = omega (arith, p.slots, q.slots, few);
 }
 
-abbrev pub shown_of : List EndedMeaning → List Shown
-shown_of ended = map (λ (e : EndedMeaning). e.shown) ended
+abbrev pub shown_of : List ObjectResultMeaning → List Shown
+shown_of ended = map (λ (e : ObjectResultMeaning). e.shown) ended
 
-pub replies_of_ended : (ended : List EndedMeaning) → replies_in (shown_of ended) ≡ sum_by (λ (e : EndedMeaning). length e.shown.replies) ended
+pub replies_of_ended : (ended : List ObjectResultMeaning) → replies_in (shown_of ended) ≡ sum_by (λ (e : ObjectResultMeaning). length e.shown.replies) ended
 replies_of_ended [] = refl
 replies_of_ended (e ∷ ended) =
-    omega (arith, replies_of_ended ended, sum_by-cons (λ (s : Shown). length s.replies) e.shown (shown_of ended), sum_by-cons (λ (e : EndedMeaning). length e.shown.replies) e ended)
+    omega (arith, replies_of_ended ended, sum_by-cons (λ (s : Shown). length s.replies) e.shown (shown_of ended), sum_by-cons (λ (e : ObjectResultMeaning). length e.shown.replies) e ended)
 
-module _ (ended : List EndedMeaning) (i : ℕ) (e : EndedMeaning) (a b : Tally) (within : i < length ended) (is : e ≡ get_or ended i e)
+module _ (ended : List ObjectResultMeaning) (i : ℕ) (e : ObjectResultMeaning) (a b : Tally) (within : i < length ended) (is : e ≡ get_or ended i e)
     (p : IsTallyOf a (shown_of (take i ended))) (q : IsTallyOf b (e.shown ∷ [])) where
-  pub item_fits : length ended ≤ MOST_OBJECTS → sum_by (λ (e : EndedMeaning). length e.shown.replies) ended ≤ MOST_COMMANDS → Fits a b
+  pub item_fits : length ended ≤ MOST_OBJECTS → sum_by (λ (e : ObjectResultMeaning). length e.shown.replies) ended ≤ MOST_COMMANDS → Fits a b
   item_fits few little =
       let said : ℕ = length (get_or ended i e).shown.replies in
       fits_both a b (shown_of (take i ended)) (e.shown ∷ []) p q
-      (omega (arith, few, within, length-map (take i ended) (λ (e : EndedMeaning). e.shown), length-take-le i ended (omega (arith, within))))
+      (omega (arith, few, within, length-map (take i ended) (λ (e : ObjectResultMeaning). e.shown), length-take-le i ended (omega (arith, within))))
       (omega (
         arith,
         little,
         replies_of_ended (take i ended),
-        sum_by_more_le (λ (e : EndedMeaning). length e.shown.replies) ended i e within,
+        sum_by_more_le (λ (e : ObjectResultMeaning). length e.shown.replies) ended i e within,
         sum_by-cons (λ (s : Shown). length s.replies) e.shown [],
-        ap (λ (e : EndedMeaning). length e.shown.replies) is,
+        ap (λ (e : ObjectResultMeaning). length e.shown.replies) is,
       ))
 
   pub item_more : (c : Tally) → c ≡ both_tallies a b → IsTallyOf c (shown_of (take (i + 1) ended))
   item_more c sum =
-      subst (IsTallyOf c) (ap (λ (x : EndedMeaning). shown_of (take i ended) ++ x.shown ∷ []) is ∙ sym (map_more (λ (e : EndedMeaning). e.shown) ended i e within))
+      subst (IsTallyOf c) (ap (λ (x : ObjectResultMeaning). shown_of (take i ended) ++ x.shown ∷ []) is ∙ sym (map_more (λ (e : ObjectResultMeaning). e.shown) ended i e within))
       (tally_of_both a b c (shown_of (take i ended)) (e.shown ∷ []) p q sum)

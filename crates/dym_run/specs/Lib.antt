@@ -2,8 +2,8 @@ pub mod Report
 pub mod Summary
 pub mod Parts
 pub mod Views
-pub mod Ends
-pub mod Bodies
-pub mod Places
-pub mod Passengers
-pub mod Boardings
+pub mod Results
+pub mod JobOutputs
+pub mod WaveParts
+pub mod WaveJobs
+pub mod JobLists

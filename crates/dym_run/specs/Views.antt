@@ -7,22 +7,22 @@ use Rattle.dym_report.specs.Late.{view_line}
 use Rattle.dym_report.specs.Orders.{end_text}
 use Rattle.dym_report.specs.declared.late.ViewLine.{ViewLine}
 use Rattle.dym_views.specs.Lines.{oldest_view}
-use Rattle.dym_run.specs.declared.telling.Telling.{Telling}
+use Rattle.dym_run.specs.declared.report_options.ReportOptions.{ReportOptions}
 use Rattle.dym_run.specs.Report.{Own, objects_of, part_text, end_of}
 
 -- what is told of the view of an object, where views are
-abbrev pub told_view : Bool → ObjectState → Option (Option ViewLine)
-told_view true s = Some (oldest_view s)
-told_view false s = None
+abbrev pub shown_view : Bool → ObjectState → Option (Option ViewLine)
+shown_view true s = Some (oldest_view s)
+shown_view false s = None
 
 -- its line, where it is told
-abbrev pub told_line : Option (Option ViewLine) → List ℕ
-told_line None = []
-told_line (Some view) = view_line view
+abbrev pub view_line_text : Option (Option ViewLine) → List ℕ
+view_line_text None = []
+view_line_text (Some view) = view_line view
 
 -- the part of a declared object, and the line of its view where views are told
-abbrev pub told_part : Telling → Own → List ℕ
-told_part t o = part_text t.version o ++ told_line (told_view t.views (end_of t.version o))
+abbrev pub part_with_view : ReportOptions → Own → List ℕ
+part_with_view t o = part_text t.version o ++ view_line_text (shown_view t.views (end_of t.version o))
 
 -- the part of a declared object, and the line of its view
 abbrev pub viewed_part : Version → Own → List ℕ

@@ -1,44 +1,44 @@
-//! Objects that run in waves of workers: each wave is opened over one queue of segments, run, and closed, and the objects' parts are
-//! written, or counted, in the order of their declarations.
+//! Objects that run in waves of workers: each wave is opened over one queue of segments, run, and
+//! closed, and the objects' parts are written, or counted, in the order of their declarations.
 //!
-//! Below stand `dym_wave`, which runs a wave, `dym_views`, which runs one whose objects are looked at, `dym_quota` and `dym_region`, which
-//! have the segments, and `dym_report`, which writes;
-//! above stands the top call. Its one contract: whatever the workers, the segments and the quantum, the text is that of the objects' own
-//! commands, the same that one object after another would give.
+//! Below stand `dym_wave`, which runs a wave, `dym_views`, which runs one whose objects are looked
+//! at, `dym_quota` and `dym_region`, which have the segments, and `dym_report`, which writes; above
+//! stands the top call. Its one contract: whatever the workers, the segments and the quantum, the
+//! text is that of the objects' own commands (`part_text`, or `viewed_part`), the same that one
+//! object after another would give, or a front of it where the sink failed or memory was wanting;
+//! `tally_all` is what they come to.
 #![tactic(auto)]
 
-mod aboard;
-mod boarding;
-mod body;
-mod ended;
-mod means;
-mod opening;
-mod passenger;
-mod places;
-mod printed;
+mod finished_wave;
+mod job_context;
+mod job_list;
+mod job_output;
+mod job_result;
+mod job_spec;
+mod list_order;
+mod object_queue;
+mod object_result;
+mod object_setup;
+mod part_text;
+mod plain_wave;
 mod quotas;
-mod remains;
-mod reversed;
-mod roster;
-mod running;
-mod settled;
+mod report_options;
 mod shape;
-mod spares;
+mod table_pool;
 mod tally;
-mod telling;
-#[cfg(test)]
-mod tests;
-mod ticket;
-mod total;
-mod viewed;
-mod viewing;
+mod viewed_object;
+mod viewed_wave;
 mod wave;
+mod wave_job;
+mod wave_object;
+mod wave_parts;
+mod wave_report;
+mod wave_tally;
 mod write_fail;
-mod writing;
 
+pub use report_options::ReportOptions;
 pub use shape::Shape;
 pub use tally::Tally;
-pub use telling::Telling;
-pub use total::tally_waves;
+pub use wave_report::write_waves;
+pub use wave_tally::tally_waves;
 pub use write_fail::WriteFail;
-pub use writing::write_waves;

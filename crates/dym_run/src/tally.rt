@@ -2,7 +2,7 @@
 ghost use Rattle.std.specs.Prelude.{◌≡◌, ◌+◌, ◌^◌, ◌<◌, ◌≤◌, [], ◌∷◌, None, length};
 ghost use Rattle.dym_base.specs.declared.limits.TheConstants.{MOST_COMMANDS};
 ghost use Rattle.dym_heap.specs.Meaning.{IsSound};
-ghost use Rattle.dym_run.specs.Ends.{shown_with, IsTallyOf};
+ghost use Rattle.dym_run.specs.Results.{shown_with, IsTallyOf};
 ghost use Rattle.dym_run.specs.Summary.{no_tally, both_tallies};
 
 use dym_base::limits::MOST_COMMANDS;

@@ -3,14 +3,14 @@ ghost use Rattle.std.specs.Prelude.{◌≡◌, ◌<◌, ◌≤◌, [], ◌++◌,
 ghost use Rattle.dym_base.specs.declared.limits.TheConstants.{MOST_OBJECTS, MOST_QUOTA};
 ghost use Rattle.dym_quota.specs.Berths.{IsIdleBerth};
 ghost use Rattle.dym_region.specs.Identity.{AreDistinct};
-ghost use Rattle.dym_run.specs.Ends.{Boarded};
+ghost use Rattle.dym_run.specs.Results.{PartsRan};
 ghost use Rattle.dym_run.specs.Parts.{IsShape, StandInLine};
 
-use crate::reversed::reversed;
-use crate::settled::Settled;
+use crate::finished_wave::FinishedWave;
+use crate::list_order::in_order_reversed;
+use crate::report_options::ReportOptions;
 use crate::shape::Shape;
-use crate::spares::Tables;
-use crate::telling::Telling;
+use crate::table_pool::LogTables;
 use dym_base::limits::{MOST_OBJECTS, MOST_QUOTA};
 use dym_pool::Gate;
 use dym_quota::{Berth, QuotaQueue, Supply};
@@ -53,7 +53,7 @@ impl<R: Wait> Wave<R> {
         let (queue, berths) = QuotaQueue::open(rt, alloc, segments, quotas)?;
         Ok(Wave {
             queue,
-            berths: reversed(berths),
+            berths: in_order_reversed(berths),
         })
     }
 
@@ -62,27 +62,27 @@ impl<R: Wait> Wave<R> {
         self,
         rt: &R,
         alloc: Global,
-        telling: Telling,
+        options: ReportOptions,
         shape: Shape,
-        tables: &mut Tables,
+        tables: &mut LogTables,
         parts: &mut VecDeque<Part>,
         gate: &G,
-    ) -> Result<Settled<R>, (AllocError, Vec<RawSegment>)>
+    ) -> Result<FinishedWave<R>, (AllocError, Vec<RawSegment>)>
     where
         R: Threads + Send + Sync,
         requires shape { IsShape shape }
         requires lined { StandInLine parts.old.items (map ⟦<Berth<R> as Supply>⟧.quota_of self.berths.items) }
         ensures queue { IfOk result (λ s. s.queue ≡ self.queue) }
-        ensures ran { IfOk result (λ s. Boarded telling (vec_len self.berths) parts.old.items parts.new.items []
+        ensures ran { IfOk result (λ s. PartsRan options (vec_len self.berths) parts.old.items parts.new.items []
             (map (λ e. e.shown) s.ended.items)) }
         ensures back { IfErr result (λ e. IsPermutation (self.queue.stocked ++ self.queue.aside)
             (map ⟦<RawSegment as Segment>⟧.id e.1.items)) }
         ensures distinct { IfErr result (λ e. AreDistinct (map ⟦<RawSegment as Segment>⟧.id e.1.items)) }
     {
-        if telling.views {
-            self.view_all(rt, alloc, telling.version, shape, parts, gate)
+        if options.views {
+            self.view_all(rt, alloc, options.version, shape, parts, gate)
         } else {
-            self.run_plain(rt, alloc, telling.version, shape, tables, parts, gate)
+            self.run_plain(rt, alloc, options.version, shape, tables, parts, gate)
         }
     }
 }

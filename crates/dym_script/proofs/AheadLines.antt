@@ -6,12 +6,12 @@ use Rattle.std.proofs.lemmas.Bool.Decides.{nat_tests}
 use Rattle.dym_base.specs.Lines.{lines_of}
 use Rattle.dym_base.specs.declared.command.Command.{Command}
 use Rattle.dym_base.specs.declared.limits.TheConstants.{MOST_COMMANDS}
-use Rattle.dym_commands.specs.Asks.{asks}
+use Rattle.dym_commands.specs.Requests.{asks}
 use Rattle.dym_script.specs.declared.reader.Ask.{Ask}
 use Rattle.dym_script.specs.declared.reader.Reader.{Reader}
 use Rattle.dym_script.specs.declared.script.Decl.{Decl}
 use Rattle.dym_script.specs.declared.script.Line.{Line}
-use Rattle.dym_script.specs.Aheads.{AskAhead, EachOwn, asked_on}
+use Rattle.dym_script.specs.ReadAheads.{AskAhead, EachOwn, asked_on}
 use Rattle.dym_script.specs.Parts.{commands_of}
 use Rattle.dym_script.specs.Readers.{IsNext, reading}
 use Rattle.dym_script.specs.Scripts.{Reading, ask_at, read_lines}

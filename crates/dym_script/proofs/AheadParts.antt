@@ -13,7 +13,7 @@ use Rattle.dym_script.specs.declared.parts.Part.{Part}
 use Rattle.dym_script.specs.declared.script.Decl.{Decl}
 use Rattle.dym_script.specs.declared.script.Line.{Line}
 use Rattle.dym_script.specs.Parts.{commands_of, ArePartsOf}
-use Rattle.dym_script.specs.Aheads.{EachOwn, HasOwn}
+use Rattle.dym_script.specs.ReadAheads.{EachOwn, HasOwn}
 use Rattle.dym_script.proofs.Moves.{decls_more}
 use Rattle.dym_script.proofs.KeptParts.{commands_of_none, commands_few, parts_long}
 

@@ -11,7 +11,7 @@ use Rattle.dym_script.specs.declared.parts.Part.{Part}
 use Rattle.dym_script.specs.declared.script.Decl.{Decl}
 use Rattle.dym_script.specs.declared.script.Line.{Line}
 use Rattle.dym_script.specs.Parts.{commands_of, ArePartsOf}
-use Rattle.dym_script.specs.Keeping.{Asks, Declares, CanAsk}
+use Rattle.dym_script.specs.Keepers.{Asks, Declares, CanAsk}
 use Rattle.dym_script.proofs.Moves.{commands_more, decls_more}
 
 -- no line asks something of an object that isn't declared yet

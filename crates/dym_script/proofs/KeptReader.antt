@@ -11,15 +11,15 @@ use Rattle.dym_script.specs.declared.script.Decl.{Decl}
 use Rattle.dym_script.specs.declared.reader.Reader.{Reader}
 use Rattle.dym_script.specs.Scripts.{Said, object_of}
 use Rattle.dym_script.specs.Answers.{IsLawful}
-use Rattle.dym_script.specs.Readers.{IsKept}
+use Rattle.dym_script.specs.Readers.{IsValidReader}
 use Rattle.dym_script.proofs.Index.{with_last, with_last_no, object_of_none, object_of_push, other_bytes}
 
 -- nothing is read yet
-pub kept_start : (r : Reader) → r.names.entries ≡ [] → r.objects.items ≡ [] → IsKept r
+pub kept_start : (r : Reader) → r.names.entries ≡ [] → r.objects.items ≡ [] → IsValidReader r
 kept_start r names objects = record {
   indexed = λ name. rw (names, objects) (sym (object_of_none name));
   first = rw objects (λ k d below. absurd (omega arith));
-  lawful = record {
+  valid = record {
     objects = rw objects (omega arith);
     lines = omega arith;
     names = rw objects (All-nil (λ d. IsTrue (is_name d.name)));
@@ -30,12 +30,12 @@ kept_start r names objects = record {
 
 -- one declaration more is lawful
 pub lawful_declare : (s : Said) (d : Decl) → IsLawful s → length s.objects < MOST_OBJECTS → IsTrue (is_name d.name) → 1 ≤ d.quota → d.quota ≤ MOST_QUOTA → IsLawful (record s { objects = s.objects ++ d ∷ [] })
-lawful_declare s d lawful room name low high = record {
+lawful_declare s d valid room name low high = record {
   objects = omega (arith, length-append s.objects (d ∷ []));
-  lines = lawful.lines;
-  names = All-push (λ e. IsTrue (is_name e.name)) s.objects d lawful.names name;
-  quotas = All-push (λ e. (1 ≤ e.quota) × (e.quota ≤ MOST_QUOTA)) s.objects d lawful.quotas (low, high);
-  declared = All-weaker (λ line. line.object < length s.objects) (λ line. line.object < length (s.objects ++ d ∷ [])) (λ line below. omega (arith, length-append s.objects (d ∷ []))) s.lines lawful.declared;
+  lines = valid.lines;
+  names = All-push (λ e. IsTrue (is_name e.name)) s.objects d valid.names name;
+  quotas = All-push (λ e. (1 ≤ e.quota) × (e.quota ≤ MOST_QUOTA)) s.objects d valid.quotas (low, high);
+  declared = All-weaker (λ line. line.object < length s.objects) (λ line. line.object < length (s.objects ++ d ∷ [])) (λ line below. omega (arith, length-append s.objects (d ∷ []))) s.lines valid.declared;
 }
 
 -- a new key is found, and other bytes as before
@@ -46,7 +46,7 @@ put_bytes r s key place bytes same updates =
     subst P same (updates.1, λ name other. other_bytes (λ (k : Vec ℕ Global). k.items) key.items name r.names.entries s.names.entries updates.3 other)
 
 -- the index finds one name more
-pub indexed_declare : (r s : Reader) (d : Decl) → IsKept r → object_of r.objects.items d.name ≡ None
+pub indexed_declare : (r s : Reader) (d : Decl) → IsValidReader r → object_of r.objects.items d.name ≡ None
     → get_by (λ k. bytes_eq d.name k.items) s.names ≡ Some (length r.objects.items)
     → ((name : List ℕ) → bytes_eq d.name name ≡ false → get_by (λ k. bytes_eq name k.items) s.names ≡ get_by (λ k. bytes_eq name k.items) r.names)
     → s.objects.items ≡ r.objects.items ++ d ∷ [] → (name : List ℕ) → get_by (λ k. bytes_eq name k.items) s.names ≡ object_of s.objects.items name

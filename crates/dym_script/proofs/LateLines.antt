@@ -8,14 +8,14 @@ use Rattle.std.proofs.lemmas.List.Sums.{sum_by-append, sum_by-cons}
 use Rattle.std.proofs.lemmas.List.Elements.{All-head, All-tail, All-push, All-weaker}
 use Rattle.dym_base.specs.LateRun.{Arrival, accepted_after}
 use Rattle.dym_script.specs.declared.late.LateReader.{LateReader}
-use Rattle.dym_script.specs.declared.late_script.TheConstants.{MOST_LATE_LINES, MOST_LATE_EVENTS}
+use Rattle.dym_base.specs.declared.limits.TheConstants.{MOST_LATE_LINES, MOST_LATE_EVENTS}
 use Rattle.dym_script.specs.declared.late_script.LateAct.{LateAct}
 use Rattle.dym_script.specs.declared.late_script.LateAct.TheVariants.{At, Commit}
 use Rattle.dym_script.specs.declared.late_script.LateLine.{LateLine}
 use Rattle.dym_script.specs.Late.{is_event, events_of}
 use Rattle.dym_script.specs.LateArrivals.{arrival, arrivals_of, MayAct, NoMoreAreAccepted}
-use Rattle.dym_script.specs.LateAnswers.{AreCounts, IsLateKept}
-use Rattle.dym_script.specs.Readers.{IsKept}
+use Rattle.dym_script.specs.LateAnswers.{AreCounts, IsValidLateReader}
+use Rattle.dym_script.specs.Readers.{IsValidReader}
 
 -- the line is one of this object's events
 abbrev counts_for : LateLine → ℕ → Bool
@@ -99,8 +99,8 @@ pub late_room : (n : ℕ) → n ≤ MOST_LATE_LINES → n ≢ MOST_LATE_LINES �
 late_room n within other = grind (arith, nat_tests)
 
 -- what is kept stays kept with a line more
-pub kept_line : (r s : LateReader) (line : LateLine) → IsLateKept r → s.declared ≡ r.declared → s.lines.items ≡ r.lines.items ++ line ∷ [] → length s.events.items ≡ length r.events.items → length r.lines.items < MOST_LATE_LINES
-    → line.object < length r.declared.objects.items → MayAct line.act → Counts (r.lines.items ++ line ∷ []) s.events.items → IsLateKept s
+pub kept_line : (r s : LateReader) (line : LateLine) → IsValidLateReader r → s.declared ≡ r.declared → s.lines.items ≡ r.lines.items ++ line ∷ [] → length s.events.items ≡ length r.events.items → length r.lines.items < MOST_LATE_LINES
+    → line.object < length r.declared.objects.items → MayAct line.act → Counts (r.lines.items ++ line ∷ []) s.events.items → IsValidLateReader s
 kept_line r s line kept same lines counted room inside may counts = record {
   index = rw same kept.index;
   version = rw same kept.version;
@@ -113,7 +113,7 @@ kept_line r s line kept same lines counted room inside may counts = record {
 }
 
 -- and with a declaration more
-pub kept_declared : (r s : LateReader) → IsLateKept r → IsKept s.declared → s.declared.version ≡ r.declared.version → length s.declared.objects.items ≡ length r.declared.objects.items + 1 → s.events.items ≡ r.events.items ++ 0 ∷ [] → s.lines ≡ r.lines → IsLateKept s
+pub kept_declared : (r s : LateReader) → IsValidLateReader r → IsValidReader s.declared → s.declared.version ≡ r.declared.version → length s.declared.objects.items ≡ length r.declared.objects.items + 1 → s.events.items ≡ r.events.items ++ 0 ∷ [] → s.lines ≡ r.lines → IsValidLateReader s
 kept_declared r s kept index version more events lines =
     let within : All (λ line. line.object < length r.events.items) r.lines.items = rw kept.counted kept.within in
     record {

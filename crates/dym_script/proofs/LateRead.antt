@@ -9,7 +9,7 @@ use Rattle.dym_script.specs.declared.line_fail.LineFail.TheVariants as fail
 use Rattle.dym_base.specs.Lines.{lines_of}
 use Rattle.dym_script.specs.Late.{LateSaid, late_line, late_lines, late_on, late_of, late_start}
 use Rattle.dym_script.specs.LateArrivals.{IsLawfulLate}
-use Rattle.dym_script.specs.LateAnswers.{GivesLateLine, IsLateKept, late_seen}
+use Rattle.dym_script.specs.LateAnswers.{GivesLateLine, IsValidLateReader, late_reading_of}
 
 -- an input that isn't too long says what its lines say
 pub late_says : (bytes : List ℕ) → length bytes ≤ MOST_INPUT_BYTES → late_of bytes ≡ late_lines late_start 1 (lines_of bytes)
@@ -39,12 +39,12 @@ pub read_end : (bytes : List ℕ) (s : LateSaid) (number : ℕ) (rest : List ℕ
 read_end bytes s number rest short so none = late_says bytes short ∙ so ∙ ap (late_lines s (number + 1)) none
 
 -- what is kept is lawful
-pub kept_is_lawful : (r : LateReader) → IsLateKept r → IsLawfulLate (late_seen r)
+pub kept_is_lawful : (r : LateReader) → IsValidLateReader r → IsLawfulLate (late_reading_of r)
 kept_is_lawful r kept = record {
-  objects = kept.index.lawful.objects;
+  objects = kept.index.valid.objects;
   lines = kept.few;
-  names = kept.index.lawful.names;
-  quotas = kept.index.lawful.quotas;
+  names = kept.index.valid.names;
+  quotas = kept.index.valid.quotas;
   declared = kept.within;
   acts = kept.acts;
   events = kept.events;

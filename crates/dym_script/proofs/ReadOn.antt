@@ -5,7 +5,7 @@ use Rattle.std.proofs.lemmas.List.Elements.{All-append, All-weaker}
 use Rattle.std.proofs.lemmas.Bool.Decides.{nat_tests}
 use Rattle.dym_base.specs.declared.limits.TheConstants.{MOST_COMMANDS}
 use Rattle.dym_base.specs.Lines.{lines_of}
-use Rattle.dym_script.specs.declared.ahead.Ahead.{Ahead}
+use Rattle.dym_script.specs.declared.read_ahead.ReadAhead.{ReadAhead}
 use Rattle.dym_script.specs.declared.parts.Part.{Part}
 use Rattle.dym_script.specs.declared.reader.Reader.{Reader}
 use Rattle.dym_script.specs.declared.script.Decl.{Decl}
@@ -13,11 +13,11 @@ use Rattle.dym_script.specs.declared.script.Line.{Line}
 use Rattle.dym_script.specs.declared.script.ScriptFail.{ScriptFail}
 use Rattle.dym_script.specs.declared.script.ScriptFail.TheVariants as fail
 use Rattle.dym_script.specs.Scripts.{Reading, read_lines}
-use Rattle.dym_script.specs.Keeping.{Holds, Stands, IsReady}
+use Rattle.dym_script.specs.Keepers.{Holds, Stands, IsReady}
 use Rattle.dym_script.specs.Parts.{ArePartsOf}
 use Rattle.dym_script.specs.Pieces.{ReadsText}
-use Rattle.dym_script.specs.Readers.{GoesOn, seen}
-use Rattle.dym_script.specs.Aheads.{AskAhead, IsAhead, HasOwn, asked_on}
+use Rattle.dym_script.specs.Readers.{GoesOn, reading_of}
+use Rattle.dym_script.specs.ReadAheads.{AskAhead, IsAhead, HasOwn, asked_on}
 use Rattle.dym_script.proofs.AheadParts.{parts_ahead}
 
 -- the declarations that went on are no fewer
@@ -44,7 +44,7 @@ or_false true = refl
 or_false false = refl
 
 -- what was read then is what the grammar reads with these lines more
-seen_ahead : (r : Reader) (lines asked : List Line) → asked_on (seen r lines) asked ≡ seen (took_in r (length asked)) (lines ++ asked)
+seen_ahead : (r : Reader) (lines asked : List Line) → asked_on (reading_of r lines) asked ≡ reading_of (took_in r (length asked)) (lines ++ asked)
 seen_ahead r lines [] = λ i. record {
   begun = or_false r.begun i;
   said = record { version = r.version; objects = r.objects.items; lines = sym (append-nil lines) i };
@@ -64,12 +64,12 @@ holds_ahead : (P Q : List Decl → List Line → Type 0) (r : Reader) (n : ℕ) 
 holds_ahead P Q r n lines asked within room keeps holds = record {
   count = omega (arith, length-append lines asked, holds.count);
   keeps = keeps lines holds.keeps;
-  lawful = record {
-    objects = holds.lawful.objects;
+  valid = record {
+    objects = holds.valid.objects;
     lines = omega (arith, length-append lines asked, holds.count, room);
-    names = holds.lawful.names;
-    quotas = holds.lawful.quotas;
-    declared = All-append (λ (line : Line). line.object < length r.objects.items) lines asked holds.lawful.declared within;
+    names = holds.valid.names;
+    quotas = holds.valid.quotas;
+    declared = All-append (λ (line : Line). line.object < length r.objects.items) lines asked holds.valid.declared within;
   };
 }
 
@@ -82,13 +82,13 @@ ready_ahead P Q r n asked within room keeps ready =
     let holds = stands.holds in
     let more = holds_ahead P Q r n lines asked within room keeps holds in
     record {
-      kept = record { indexed = ready.kept.indexed; first = ready.kept.first; lawful = ready.kept.lawful };
+      kept = record { indexed = ready.kept.indexed; first = ready.kept.first; valid = ready.kept.valid };
       few = room;
-      some = (seen (took_in r (length asked)) (lines ++ asked), record { lines = lines ++ asked; holds = more; is = refl });
+      some = (reading_of (took_in r (length asked)) (lines ++ asked), record { lines = lines ++ asked; holds = more; is = refl });
     }
 
 -- the parts keep so, where each has its own commands of these lines
-pub keeps_ahead : (old new : List Part) (objects : List Decl) (r : Reader) (text : List ℕ) (ahead : Ahead) → GoesOn objects r.objects.items
+pub keeps_ahead : (old new : List Part) (objects : List Decl) (r : Reader) (text : List ℕ) (ahead : ReadAhead) → GoesOn objects r.objects.items
     → (is : IsAhead objects text ahead) → HasOwn ahead.own.items old new → KeepsOn (ArePartsOf old) (ArePartsOf new) r is.asked
 keeps_ahead old new objects r text ahead goes is has lines are =
     let own = ahead.own.items in
@@ -105,7 +105,7 @@ front_ahead : (P Q : List Decl → List Line → Type 0) (r : Reader) (n number 
 front_ahead P Q r n number objects asked text rest old (more, is) ask room keeps stands =
     let lines = stands.lines in
     let holds = stands.holds in
-    let mid = seen (took_in r (length asked)) (lines ++ asked) in
+    let mid = reading_of (took_in r (length asked)) (lines ++ asked) in
     let within = ahead_within objects r.objects.items asked (more, is) ask.within in
     let few : length lines + length asked ≤ MOST_COMMANDS = omega (arith, holds.count, room) in
     let at : number + 1 + length asked ≡ number + length asked + 1 = omega arith in (
@@ -113,7 +113,7 @@ front_ahead P Q r n number objects asked text rest old (more, is) ask room keeps
       record { lines = lines ++ asked; holds = holds_ahead P Q r n lines asked within room keeps holds; is = refl },
       λ others.
           ap (λ now. read_lines now (number + 1) (lines_of text ++ others)) stands.is
-          ∙ ask.reads (seen r lines) more (number + 1) others is few
+          ∙ ask.reads (reading_of r lines) more (number + 1) others is few
           ∙ ap (λ now. read_lines now (number + 1 + length asked) (lines_of rest ++ others)) (seen_ahead r lines asked)
           ∙ ap (λ k. read_lines mid k (lines_of rest ++ others)) at,
     )

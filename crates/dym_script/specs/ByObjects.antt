@@ -1,22 +1,22 @@
 -- A script that was read into its objects.
 use Rattle.std.specs.Prelude.{Result}
-use Rattle.dym_script.specs.declared.counting.Counting.{Counting}
-use Rattle.dym_script.specs.declared.parts.Holding.{Holding}
-use Rattle.dym_script.specs.declared.pieces.Whole.{Whole}
+use Rattle.dym_script.specs.declared.counter.Counter.{Counter}
+use Rattle.dym_script.specs.declared.parts.PartCollector.{PartCollector}
+use Rattle.dym_script.specs.declared.pieces.WholeScript.{WholeScript}
 use Rattle.dym_script.specs.declared.script.ScriptFail.{ScriptFail}
 use Rattle.dym_script.specs.Scripts.{Said, Fault}
 use Rattle.dym_script.specs.Answers.{GivesBy}
-use Rattle.dym_script.specs.Keeping.{IsWhole}
+use Rattle.dym_script.specs.Keepers.{IsWhole}
 use Rattle.dym_script.specs.Parts.{ArePartsOf}
 
 -- what was read is what a script says, by its objects
-abbrev pub IsByObjects : Whole Holding → Said → Type 0
+abbrev pub IsByObjects : WholeScript PartCollector → Said → Type 0
 IsByObjects whole s = IsWhole (ArePartsOf whole.kept.parts.items) whole.version whole.objects.items whole.commands s
 
 -- the answer of the reader of parts is what the grammar gives, unless memory ran out
-abbrev pub GivesParts : Result (Whole Holding) ScriptFail → Result Said Fault → Type 0
+abbrev pub GivesParts : Result (WholeScript PartCollector) ScriptFail → Result Said Fault → Type 0
 GivesParts result read = GivesBy IsByObjects result read
 
 -- the same of the reader that keeps nothing
-abbrev pub GivesCounts : Result (Whole Counting) ScriptFail → Result Said Fault → Type 0
+abbrev pub GivesCounts : Result (WholeScript Counter) ScriptFail → Result Said Fault → Type 0
 GivesCounts result read = GivesBy (λ whole. IsWhole (λ objects lines. Unit {0}) whole.version whole.objects.items whole.commands) result read

@@ -9,7 +9,7 @@ use Rattle.dym_base.specs.declared.bad_kind.BadKind.{BadKind}
 use Rattle.dym_base.specs.declared.bad_kind.BadKind.TheVariants as bad
 use Rattle.dym_base.specs.declared.command.Version.TheVariants.{One}
 use Rattle.dym_base.specs.declared.command.Command.{Command}
-use Rattle.dym_script.specs.declared.late_script.TheConstants.{MOST_LATE_LINES, MOST_LATE_EVENTS}
+use Rattle.dym_base.specs.declared.limits.TheConstants.{MOST_LATE_LINES, MOST_LATE_EVENTS}
 use Rattle.dym_script.specs.declared.late_script.LateAct.{LateAct}
 use Rattle.dym_script.specs.declared.late_script.LateAct.TheVariants.{At, Commit}
 use Rattle.dym_script.specs.declared.late_script.LateLine.{LateLine}

@@ -3,7 +3,7 @@ use Rattle.std.specs.Prelude.{ℕ, ◌≡◌, ◌<◌, ◌≤◌, List, All, len
 use Rattle.dym_base.specs.declared.bad_kind.BadKind.{BadKind}
 use Rattle.dym_base.specs.declared.command.Version.TheVariants.{One}
 use Rattle.dym_script.specs.declared.late.LateReader.{LateReader}
-use Rattle.dym_script.specs.declared.late_script.TheConstants.{MOST_LATE_LINES, MOST_LATE_EVENTS}
+use Rattle.dym_base.specs.declared.limits.TheConstants.{MOST_LATE_LINES, MOST_LATE_EVENTS}
 use Rattle.dym_script.specs.declared.late_script.LateLine.{LateLine}
 use Rattle.dym_script.specs.declared.late_script.LateScript.{LateScript}
 use Rattle.dym_script.specs.declared.line_fail.LineFail.{LineFail}
@@ -13,19 +13,19 @@ use Rattle.dym_script.specs.declared.script.ScriptFail.TheVariants as fail
 use Rattle.dym_script.specs.Scripts.{Fault}
 use Rattle.dym_script.specs.Late.{LateSaid, late_said, events_of}
 use Rattle.dym_script.specs.LateArrivals.{MayAct}
-use Rattle.dym_script.specs.Readers.{IsKept}
+use Rattle.dym_script.specs.Readers.{IsValidReader}
 
 -- what was read so far
-abbrev pub late_seen : LateReader → LateSaid
-late_seen r = record { objects = r.declared.objects.items; lines = r.lines.items }
+abbrev pub late_reading_of : LateReader → LateSaid
+late_reading_of r = record { objects = r.declared.objects.items; lines = r.lines.items }
 
 -- each count is that of the events of the object in its place
 abbrev pub AreCounts : List ℕ → List LateLine → Type 0
 AreCounts counts lines = (object d : ℕ) → object < length counts → slice_index_or counts object d ≡ events_of lines object
 
 -- the names are indexed, each object has its count of events, and what was read is lawful
-pub record IsLateKept (r : LateReader) : Type 0 where
-  pub index : IsKept r.declared
+pub record IsValidLateReader (r : LateReader) : Type 0 where
+  pub index : IsValidReader r.declared
   pub version : r.declared.version ≡ One
   pub counted : length r.events.items ≡ length r.declared.objects.items
   pub counts : AreCounts r.events.items r.lines.items

@@ -3,7 +3,7 @@ use Rattle.std.specs.Prelude.{ℕ, ◌==◌, ◌<◌, ◌≤◌, IsTrue, List, A
 use Rattle.dym_base.specs.LateRun.{Arrival, event, commit, accepted, IsEventCommand}
 use Rattle.dym_base.specs.Names.{is_name}
 use Rattle.dym_base.specs.declared.limits.TheConstants.{MOST_OBJECTS, MOST_QUOTA}
-use Rattle.dym_script.specs.declared.late_script.TheConstants.{MOST_LATE_LINES, MOST_LATE_EVENTS}
+use Rattle.dym_base.specs.declared.limits.TheConstants.{MOST_LATE_LINES, MOST_LATE_EVENTS}
 use Rattle.dym_script.specs.declared.late_script.LateAct.{LateAct}
 use Rattle.dym_script.specs.declared.late_script.LateAct.TheVariants.{At, Commit}
 use Rattle.dym_script.specs.declared.late_script.LateLine.{LateLine}

@@ -1,12 +1,12 @@
 pub mod Scripts
 pub mod Answers
 pub mod Readers
-pub mod Keeping
+pub mod Keepers
 pub mod Pieces
-pub mod Wholes
+pub mod WholeScripts
 pub mod Parts
 pub mod ByObjects
-pub mod Aheads
+pub mod ReadAheads
 pub mod Laws
 pub mod Late
 pub mod LateArrivals

@@ -13,18 +13,18 @@ use Rattle.dym_script.specs.declared.reader.Next.{Next}
 use Rattle.dym_script.specs.declared.reader.Reader.{Reader}
 use Rattle.dym_base.specs.Lines.{lines_of}
 use Rattle.dym_script.specs.Scripts.{Said, Reading, object_of, ask_at, name_fault, read_line}
-use Rattle.dym_commands.specs.Asks.{asks}
+use Rattle.dym_commands.specs.Requests.{asks}
 use Rattle.dym_script.specs.Answers.{IsLawful}
 
 -- what was read so far, where these are the lines that ask something
-abbrev pub seen : Reader → List Line → Reading
-seen r lines = record { begun = r.begun; said = record { version = r.version; objects = r.objects.items; lines = lines } }
+abbrev pub reading_of : Reader → List Line → Reading
+reading_of r lines = record { begun = r.begun; said = record { version = r.version; objects = r.objects.items; lines = lines } }
 
 -- the index finds each declared name and no other, each declaration is the first of its name, and what was read is lawful
-pub record IsKept (r : Reader) : Type 0 where
+pub record IsValidReader (r : Reader) : Type 0 where
   pub indexed : (name : List ℕ) → get_by (λ key. bytes_eq name key.items) r.names ≡ object_of r.objects.items name
   pub first : (k : ℕ) (d : Decl) → k < length r.objects.items → object_of r.objects.items (slice_index_or r.objects.items k d).name ≡ Some k
-  pub lawful : IsLawful (seen r []).said
+  pub valid : IsLawful (reading_of r []).said
 
 -- the declarations are the same, or one more
 abbrev pub Grows : List Decl → List Decl → Type 0

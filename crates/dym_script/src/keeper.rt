@@ -1,10 +1,10 @@
 //! What is kept of a script while its lines are read.
 ghost use Rattle.std.specs.Prelude.{◌≡◌, List, [], true, OnOk};
 ghost use Rattle.dym_base.specs.Names.{is_name};
-ghost use Rattle.dym_commands.specs.Asks.{asks};
+ghost use Rattle.dym_commands.specs.Requests.{asks};
 ghost use Rattle.dym_script.specs.declared.script.Decl.{Decl};
 ghost use Rattle.dym_script.specs.declared.script.Line.{Line};
-ghost use Rattle.dym_script.specs.Keeping.{CanAsk, Declares, Asks};
+ghost use Rattle.dym_script.specs.Keepers.{CanAsk, Declares, Asks};
 
 use crate::script::Decl;
 use dym_commands::Asked;

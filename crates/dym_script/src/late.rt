@@ -2,18 +2,18 @@
 ghost use Rattle.std.specs.Prelude.{◌≡◌, ◌<◌, ◌∷◌, length, Some, IfOk, OnOk};
 ghost use Rattle.dym_script.specs.Late.{act_on, late_line, late_of, late_said, late_start, late_words, late_declared, declaring};
 ghost use Rattle.dym_script.specs.LateArrivals.{IsLawfulLate, MayAct};
-ghost use Rattle.dym_script.specs.LateAnswers.{GivesLate, GivesLateLine, IsLateKept, late_seen};
+ghost use Rattle.dym_script.specs.LateAnswers.{GivesLate, GivesLateLine, IsValidLateReader, late_reading_of};
 ghost use Rattle.dym_lines.specs.Lines.{words_of};
 ghost use Rattle.dym_script.specs.Scripts.{declare_words};
 
-use crate::late_script::{LateAct, LateLine, LateScript, MOST_LATE_EVENTS, MOST_LATE_LINES};
+use crate::late_script::{LateAct, LateLine, LateScript};
 use crate::late_words::act_of;
 use crate::line_fail::LineFail;
 use crate::line_tests::is_printable_line;
 use crate::reader::Reader;
 use crate::script::ScriptFail;
 use dym_base::BadKind;
-use dym_base::limits::{MOST_INPUT_BYTES, MOST_LINE_BYTES};
+use dym_base::limits::{MOST_INPUT_BYTES, MOST_LATE_EVENTS, MOST_LATE_LINES, MOST_LINE_BYTES};
 use dym_lines::{next_line, next_word, number_of, two_words};
 use std::alloc::Global;
 
@@ -30,8 +30,8 @@ pub struct LateReader {
 impl LateReader {
     /// Nothing is read yet.
     fn new(alloc: Global) -> LateReader
-        ensures kept { IsLateKept result }
-        ensures seen { late_seen result ≡ late_start }
+        ensures kept { IsValidLateReader result }
+        ensures reading_of { late_reading_of result ≡ late_start }
     {
         LateReader {
             declared: Reader::new(alloc),
@@ -43,10 +43,10 @@ impl LateReader {
     /// Reads the line of this number.
     #[tactic(auto, unfolding(crate::specs::Late::late_line))]
     fn read_line(&mut self, alloc: Global, number: u32, line: &[u8]) -> Result<(), LineFail>
-        requires { IsLateKept self.old }
-        ensures kept { OnOk result (IsLateKept self.new) }
-        ensures read { GivesLateLine (late_seen self.new) result
-            (late_line (late_seen self.old) number line.now) }
+        requires { IsValidLateReader self.old }
+        ensures kept { OnOk result (IsValidLateReader self.new) }
+        ensures read { GivesLateLine (late_reading_of self.new) result
+            (late_line (late_reading_of self.old) number line.now) }
     {
         if line.len() > MOST_LINE_BYTES {
             return Err(LineFail::Bad(BadKind::LongLine));
@@ -68,10 +68,10 @@ impl LateReader {
         first: &[u8],
         words: &[u8],
     ) -> Result<(), LineFail>
-        requires { IsLateKept self.old }
-        ensures kept { OnOk result (IsLateKept self.new) }
-        ensures read { GivesLateLine (late_seen self.new) result
-            (late_words (late_seen self.old) number (first.now ∷ words_of words.now)) }
+        requires { IsValidLateReader self.old }
+        ensures kept { OnOk result (IsValidLateReader self.new) }
+        ensures read { GivesLateLine (late_reading_of self.new) result
+            (late_words (late_reading_of self.old) number (first.now ∷ words_of words.now)) }
     {
         if first.first() == Some(&b'#') {
             return Ok(());
@@ -86,10 +86,10 @@ impl LateReader {
 
     /// Reads the words of a declaration.
     fn declare(&mut self, alloc: Global, number: u32, words: &[u8]) -> Result<(), LineFail>
-        requires { IsLateKept self.old }
-        ensures kept { OnOk result (IsLateKept self.new) }
-        ensures read { GivesLateLine (late_seen self.new) result
-            (late_declared (late_seen self.old) (declare_words (declaring (late_seen self.old).objects) number (words_of words.now))) }
+        requires { IsValidLateReader self.old }
+        ensures kept { OnOk result (IsValidLateReader self.new) }
+        ensures read { GivesLateLine (late_reading_of self.new) result
+            (late_declared (late_reading_of self.old) (declare_words (declaring (late_reading_of self.old).objects) number (words_of words.now))) }
     {
         let (name, quota) = two_words(words)?;
         let quota = number_of(quota)?;
@@ -100,12 +100,12 @@ impl LateReader {
 
     /// Keeps what a line says of a declared object.
     fn keep(&mut self, object: u32, act: LateAct) -> Result<(), LineFail>
-        requires kept { IsLateKept self.old }
+        requires kept { IsValidLateReader self.old }
         requires within { object < length self.old.declared.objects.items }
         requires may { MayAct act }
-        ensures kept { OnOk result (IsLateKept self.new) }
-        ensures read { GivesLateLine (late_seen self.new) result
-            (act_on (late_seen self.old) act (Some object)) }
+        ensures kept { OnOk result (IsValidLateReader self.new) }
+        ensures read { GivesLateLine (late_reading_of self.new) result
+            (act_on (late_reading_of self.old) act (Some object)) }
     {
         if self.lines.len() == MOST_LATE_LINES {
             return Err(LineFail::Bad(BadKind::Many));
@@ -126,7 +126,7 @@ impl LateReader {
 #[tactic(auto, unfolding(crate::specs::Late::late_of))]
 pub fn read_late(alloc: Global, bytes: &[u8]) -> Result<LateScript, ScriptFail>
     ensures read { GivesLate result (late_of bytes.now) }
-    ensures lawful { IfOk result (λ script. IsLawfulLate (late_said script)) }
+    ensures valid { IfOk result (λ script. IsLawfulLate (late_said script)) }
 {
     if bytes.len() > MOST_INPUT_BYTES {
         return Err(ScriptFail::Bad {

@@ -3,12 +3,6 @@
 use crate::script::Decl;
 use dym_base::Command;
 
-/// The most lines of a script of late events that aren't declarations.
-pub const MOST_LATE_LINES: usize = 65_536;
-
-/// The most lines of one object that have an event.
-pub const MOST_LATE_EVENTS: u32 = 4_096;
-
 /// What a line of late events says of its object.
 #[derive(Drop)]
 pub enum LateAct {

@@ -1,7 +1,7 @@
 //! A script by its objects, each with its own commands.
 ghost use Rattle.std.specs.Prelude.{◌≡◌, ◌+◌, ◌<◌, ◌≤◌, ℕ, length, slice_index_or, OnOk};
 ghost use Rattle.dym_base.specs.declared.limits.TheConstants.{MOST_COMMANDS};
-ghost use Rattle.dym_script.specs.Aheads.{HasOwn};
+ghost use Rattle.dym_script.specs.ReadAheads.{HasOwn};
 ghost use Rattle.dym_script.specs.Parts.{ArePartsOf};
 
 use crate::keeper::Keeper;
@@ -19,12 +19,12 @@ pub struct Part {
 
 /// Keeps the commands of each object in little memory, so that the input isn't needed any more.
 #[derive(Drop)]
-pub struct Holding {
+pub struct PartCollector {
     /// The declared objects with their own commands, in the order of the declarations.
     pub parts: Vec<Part>,
 }
 
-impl Holding {
+impl PartCollector {
     /// Appends commands to those of the first objects, one list for each. Only memory can be wanting.
     pub(crate) fn append(&mut self, own: Vec<Commands>) -> Result<(), AllocError>
         requires within { length own.items ≤ length self.old.parts.items }
@@ -41,11 +41,11 @@ impl Holding {
     }
 }
 
-impl Keeper for Holding {
+impl Keeper for PartCollector {
     ghost keeps = { λ h objects lines. ArePartsOf h.parts.items objects lines };
 
-    fn new(alloc: Global) -> Holding {
-        Holding {
+    fn new(alloc: Global) -> PartCollector {
+        PartCollector {
             parts: Vec::new(alloc),
         }
     }

@@ -1,13 +1,13 @@
 //! Reads a script that comes piece by piece.
 ghost use Rattle.std.specs.Prelude.{◌≡◌, ◌+◌, ◌≤◌, ◌<◌, ℕ, List, [], ◌++◌, Some, take, drop, length, IfOk, OnOk};
 ghost use Rattle.dym_base.specs.declared.limits.TheConstants.{MOST_INPUT_BYTES};
-ghost use Rattle.dym_commands.specs.Asks.{asks};
+ghost use Rattle.dym_commands.specs.Requests.{asks};
 ghost use Rattle.dym_script.specs.declared.script.Decl.{Decl};
 ghost use Rattle.dym_script.specs.declared.script.Line.{Line};
-ghost use Rattle.dym_script.specs.Wholes.{GivesWhole};
-ghost use Rattle.dym_script.specs.Keeping.{Holds, Stands, IsReady, TookBy, HoldsLine};
+ghost use Rattle.dym_script.specs.WholeScripts.{GivesWhole};
+ghost use Rattle.dym_script.specs.Keepers.{Holds, Stands, IsReady, TookBy, HoldsLine};
 ghost use Rattle.dym_script.specs.Pieces.{says, IsEnded, IsOpen, TakesPiece, ReadsText, ReadsNext};
-ghost use Rattle.dym_script.specs.Readers.{IsKept, seen, reading, Grows, GoesOn};
+ghost use Rattle.dym_script.specs.Readers.{IsValidReader, reading_of, reading, Grows, GoesOn};
 ghost use Rattle.dym_script.specs.Scripts.{ask_at};
 
 use crate::keeper::Keeper;
@@ -22,7 +22,7 @@ use std::alloc::{AllocError, Global};
 
 /// What was read of a whole script.
 #[derive(Drop)]
-pub struct Whole<K> {
+pub struct WholeScript<K> {
     pub version: Version,
     /// The declarations, in the order of their lines.
     pub objects: Vec<Decl>,
@@ -81,7 +81,7 @@ impl<K: Keeper + Drop> Pieces<K> {
     }
 
     /// Reads the last piece, whose last line may lack its end, and answers what was read of the whole script.
-    pub fn finish(mut self, alloc: Global, last: &[u8]) -> Result<Whole<K>, ScriptFail>
+    pub fn finish(mut self, alloc: Global, last: &[u8]) -> Result<WholeScript<K>, ScriptFail>
         requires { (taken : List ℕ) × TookBy (K.keeps self.keeper) self.reader self.commands self.number taken
             × (length taken + length last.now ≤ MOST_INPUT_BYTES) }
         ensures { (taken : List ℕ) → TookBy (K.keeps self.keeper) self.reader self.commands self.number taken
@@ -99,7 +99,7 @@ impl<K: Keeper + Drop> Pieces<K> {
             objects,
             ..
         } = reader;
-        Ok(Whole {
+        Ok(WholeScript {
             version,
             objects,
             commands,
@@ -176,7 +176,7 @@ impl<K: Keeper + Drop> Pieces<K> {
     {
         let before = self.reader.objects.len();
         let Next { ask, rest } = self.reader.read_exactly(alloc, number, text)?;
-        tell_declared(alloc, &self.reader, &mut self.keeper, before)?;
+        declare_object(alloc, &self.reader, &mut self.keeper, before)?;
         match ask {
             Some(Ask { object, asked }) => self.ask(alloc, object, &asked, rest),
             None => Ok(rest),
@@ -198,7 +198,7 @@ impl<K: Keeper + Drop> Pieces<K> {
         ensures rest { IfOk result (λ left. left.now ≡ rest.now) }
         ensures reader { self.new.reader ≡ self.old.reader }
         ensures holds { HoldsLine (Holds (K.keeps self.old.keeper) self.old.reader self.old.commands) (Holds (K.keeps self.new.keeper) self.new.reader self.new.commands)
-            (seen self.new.reader) result (λ lines. reading self.old.reader.begun (ask_at (seen self.old.reader lines).said (asks asked.now) (Some object))) }
+            (reading_of self.new.reader) result (λ lines. reading self.old.reader.begun (ask_at (reading_of self.old.reader lines).said (asks asked.now) (Some object))) }
     {
         if self.commands as usize == MOST_COMMANDS {
             return Err(LineFail::Bad(BadKind::Many));
@@ -210,13 +210,13 @@ impl<K: Keeper + Drop> Pieces<K> {
 }
 
 /// Hands a keeper the declaration that came after so many, where there is one.
-fn tell_declared<K: Keeper>(
+fn declare_object<K: Keeper>(
     alloc: Global,
     reader: &Reader,
     keeper: &mut K,
     before: usize,
 ) -> Result<(), AllocError>
-    requires { IsKept reader.now }
+    requires { IsValidReader reader.now }
     ensures { OnOk result ((objects : List Decl) (lines : List Line) → length objects ≡ before → Grows objects reader.now.objects.items
         → K.keeps keeper.old objects lines → K.keeps keeper.new reader.now.objects.items lines) }
 {

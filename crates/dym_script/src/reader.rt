@@ -3,13 +3,12 @@ ghost use Rattle.std.specs.Prelude.{◌≡◌, ◌+◌, ◌<◌, ◌≤◌, [], 
 
 use crate::line_fail::LineFail;
 use crate::line_tests::{is_printable_line, is_version, unknown};
-use crate::near::{Named, Near, front_name, is_same_name, key_of};
+use crate::name_cache::{FrontName, NameCache, front_name, is_same_name, key_of};
 use crate::script::Decl;
 use dym_base::limits::{MOST_LINE_BYTES, MOST_OBJECTS, MOST_QUOTA};
 use dym_base::{BadKind, Name, Version};
 use dym_commands::Asked;
-use dym_lines::{Verb, next_line, next_word, number_of, two_words};
-use dym_quick::quick_rest;
+use dym_lines::{Verb, next_line, next_word, number_of, quick_rest, two_words};
 use std::alloc::{AllocError, Global};
 use std::collections::HashMap;
 
@@ -37,7 +36,7 @@ pub struct Reader {
     /// The place of each declared name.
     pub names: HashMap<Vec<u8>, u32>,
     /// Where a name is looked for before it is hashed.
-    pub near: Near,
+    pub cache: NameCache,
 }
 
 impl Reader {
@@ -45,19 +44,19 @@ impl Reader {
     ghost use Rattle.dym_base.specs.Names.{is_name};
     ghost use Rattle.dym_base.specs.Lines.{lines_of};
     ghost use Rattle.dym_lines.specs.Lines.{words_of};
-    ghost use Rattle.dym_script.specs.Readers.{IsKept, seen, IsWithin, GivesReading, GivesSaid, Declares, Finds, IsNext, GivesNext, Grows};
+    ghost use Rattle.dym_script.specs.Readers.{IsValidReader, reading_of, IsWithin, GivesReading, GivesSaid, Declares, Finds, IsNext, GivesNext, Grows};
 
     /// A reader that has read nothing.
     pub fn new(alloc: Global) -> Reader
-        ensures kept { IsKept result }
-        ensures seen { seen result [] ≡ start }
+        ensures kept { IsValidReader result }
+        ensures reading_of { reading_of result [] ≡ start }
     {
         Reader {
             begun: false,
             version: Version::One,
             objects: Vec::new(alloc),
             names: HashMap::new(alloc),
-            near: Near::new(),
+            cache: NameCache::new(),
         }
     }
 
@@ -69,13 +68,13 @@ impl Reader {
         number: u32,
         text: &'a [u8],
     ) -> Result<Next<'a>, LineFail>
-        requires kept { IsKept self.old }
+        requires kept { IsValidReader self.old }
         requires some { 0 < length text.now }
-        ensures kept { OnOk result (IsKept self.new) }
+        ensures kept { OnOk result (IsValidReader self.new) }
         ensures grows { OnOk result (Grows self.old.objects.items self.new.objects.items) }
         ensures within { IfOk result (λ next. IsWithin self.new next.ask) }
         ensures shorter { IfOk result (λ next. length next.rest.now < length text.now) }
-        ensures read { GivesNext (seen self.old) (seen self.new) number text.now result }
+        ensures read { GivesNext (reading_of self.old) (reading_of self.new) number text.now result }
     {
         let Some((line, rest)) = next_line(text) else {
             unreachable!();
@@ -88,12 +87,12 @@ impl Reader {
     /// line. What is asked goes into a place. Such a line has no byte that a line may not have.
     #[inline(always)]
     pub fn next_quickly<'a>(&self, text: &'a [u8], asked: &mut Asked<'a>) -> Option<(u32, &'a [u8])>
-        requires kept { IsKept self.now }
+        requires kept { IsValidReader self.now }
         ensures { IfSome result (λ next.
             IsNext self.now text.now (record { object = next.0; asked = asked.new }) next.1.now) }
     {
-        let Named { name, key, words } = front_name(text)?;
-        let object = self.place_near(key, name)?;
+        let FrontName { name, key, words } = front_name(text)?;
+        let object = self.place_in_cache(key, name)?;
         let rest = quick_rest(words, asked)?;
         if text.len() - rest.len() > MOST_LINE_BYTES + 1 {
             return None;
@@ -109,12 +108,12 @@ impl Reader {
         number: u32,
         line: &'a [u8],
     ) -> Result<Option<Ask<'a>>, LineFail>
-        requires kept { IsKept self.old }
-        ensures kept { OnOk result (IsKept self.new) }
+        requires kept { IsValidReader self.old }
+        ensures kept { OnOk result (IsValidReader self.new) }
         ensures grows { OnOk result (Grows self.old.objects.items self.new.objects.items) }
         ensures within { IfOk result (IsWithin self.new) }
-        ensures read { GivesReading (seen self.new) result
-            (λ lines. read_line (seen self.old lines) number line.now) }
+        ensures read { GivesReading (reading_of self.new) result
+            (λ lines. read_line (reading_of self.old lines) number line.now) }
     {
         if line.len() > MOST_LINE_BYTES {
             return Err(LineFail::Bad(BadKind::LongLine));
@@ -136,12 +135,12 @@ impl Reader {
         first: &[u8],
         words: &'a [u8],
     ) -> Result<Option<Ask<'a>>, LineFail>
-        requires { IsKept self.old }
-        ensures kept { OnOk result (IsKept self.new) }
+        requires { IsValidReader self.old }
+        ensures kept { OnOk result (IsValidReader self.new) }
         ensures grows { OnOk result (Grows self.old.objects.items self.new.objects.items) }
         ensures within { IfOk result (IsWithin self.new) }
-        ensures read { GivesReading (seen self.new) result
-            (λ lines. read_words (seen self.old lines) number (first.now ∷ words_of words.now)) }
+        ensures read { GivesReading (reading_of self.new) result
+            (λ lines. read_words (reading_of self.old lines) number (first.now ∷ words_of words.now)) }
     {
         if first.first() == Some(&b'#') {
             return Ok(None);
@@ -164,12 +163,12 @@ impl Reader {
         first: &[u8],
         words: &'a [u8],
     ) -> Result<Option<Ask<'a>>, LineFail>
-        requires { IsKept self.old }
-        ensures kept { OnOk result (IsKept self.new) }
+        requires { IsValidReader self.old }
+        ensures kept { OnOk result (IsValidReader self.new) }
         ensures grows { OnOk result (Grows self.old.objects.items self.new.objects.items) }
         ensures within { IfOk result (IsWithin self.new) }
-        ensures read { GivesSaid (λ lines. (seen self.new lines).said) result
-            (λ lines. say (seen self.old lines).said number first.now (words_of words.now)) }
+        ensures read { GivesSaid (λ lines. (reading_of self.new lines).said) result
+            (λ lines. say (reading_of self.old lines).said number first.now (words_of words.now)) }
     {
         if first == b"object".as_slice() {
             let (name, quota) = two_words(words)?;
@@ -193,13 +192,13 @@ impl Reader {
         name: &[u8],
         quota: u64,
     ) -> Result<(), LineFail>
-        requires { IsKept self.old }
-        ensures kept { OnOk result (IsKept self.new) }
+        requires { IsValidReader self.old }
+        ensures kept { OnOk result (IsValidReader self.new) }
         ensures grows { OnOk result (Grows self.old.objects.items self.new.objects.items) }
         ensures more { OnOk result (length self.new.objects.items ≡ length self.old.objects.items + 1) }
         ensures version { self.new.version ≡ self.old.version }
-        ensures read { Declares (λ lines. (seen self.new lines).said) result
-            (λ lines. declare (seen self.old lines).said number name.now (Some quota)) }
+        ensures read { Declares (λ lines. (reading_of self.new lines).said) result
+            (λ lines. declare (reading_of self.old lines).said number name.now (Some quota)) }
     {
         let declared = Name::new(name).ok_or(BadKind::Name)?;
         if self.place_of(name).is_some() {
@@ -222,19 +221,19 @@ impl Reader {
 
     /// Adds a declaration of a new name.
     fn add(&mut self, alloc: Global, decl: Decl) -> Result<(), AllocError>
-        requires kept { IsKept self.old }
+        requires kept { IsValidReader self.old }
         requires fresh { object_of self.old.objects.items decl.name ≡ None }
         requires room { length self.old.objects.items < MOST_OBJECTS }
         requires name { is_name decl.name ≡ true }
         requires least { 1 ≤ decl.quota }
         requires most { decl.quota ≤ MOST_QUOTA }
-        ensures kept { OnOk result (IsKept self.new) }
+        ensures kept { OnOk result (IsValidReader self.new) }
         ensures version { self.new.version ≡ self.old.version }
         ensures added { OnOk result (self.new.objects.items ≡ self.old.objects.items ++ decl ∷ []) }
     {
         let key = Vec::from_slice(alloc, decl.name.bytes())?;
         let place = self.objects.len() as u32;
-        self.near.keep(key_of(decl.name.bytes()), place);
+        self.cache.keep(key_of(decl.name.bytes()), place);
         self.names.insert(key, place)?;
         self.objects.push(decl)?;
         Ok(())
@@ -242,7 +241,7 @@ impl Reader {
 
     /// The place of the object that a command names.
     pub fn asked_of(&self, name: &[u8]) -> Result<u32, LineFail>
-        requires { IsKept self.now }
+        requires { IsValidReader self.now }
         ensures within { IfOk result (λ object. object < length self.now.objects.items) }
         ensures found { Finds result self.now.objects.items name.now }
     {
@@ -254,32 +253,32 @@ impl Reader {
 
     /// The place of the object of this name.
     fn place_of(&self, name: &[u8]) -> Option<u32>
-        requires { IsKept self.now }
+        requires { IsValidReader self.now }
         ensures value { result ≡ object_of self.now.objects.items name.now }
         ensures within { IfSome result (λ place. place < length self.now.objects.items) }
         ensures name { IfSome result (λ _. is_name name.now ≡ true) }
     {
-        self.place_near(key_of(name), name)
+        self.place_in_cache(key_of(name), name)
     }
 
     /// The same where the name's key is known.
     #[inline(never)]
-    fn place_near(&self, key: u32, name: &[u8]) -> Option<u32>
-        requires { IsKept self.now }
+    fn place_in_cache(&self, key: u32, name: &[u8]) -> Option<u32>
+        requires { IsValidReader self.now }
         ensures value { result ≡ object_of self.now.objects.items name.now }
         ensures within { IfSome result (λ place. place < length self.now.objects.items) }
         ensures name { IfSome result (λ _. is_name name.now ≡ true) }
     {
-        let near = self.near.place(key);
-        if self.is_named(near, name) {
-            return Some(near);
+        let cache = self.cache.place(key);
+        if self.is_named(cache, name) {
+            return Some(cache);
         }
         self.names.get(name).copied()
     }
 
     /// Whether the object in a place has this name.
     fn is_named(&self, place: u32, name: &[u8]) -> bool
-        requires { IsKept self.now }
+        requires { IsValidReader self.now }
         ensures { result ≡ true → object_of self.now.objects.items name.now ≡ Some place }
     {
         let place = place as usize;

@@ -5,12 +5,12 @@ use Rattle.std.specs.List.{All, Contains, filter}
 use Rattle.std.proofs.lemmas.List.{length-map, length-append, get_or-map, get_or_append_left, get_or_at, get_or-append-add}
 use Rattle.std.proofs.lemmas.List.Elements.{All-head, All-tail, filter-append}
 use Rattle.std.proofs.lemmas.Bool.Decides.{nat_tests}
-use Rattle.dym_slotlaw.specs.declared.slots.Entry.{Entry}
-use Rattle.dym_slotlaw.specs.Slots.{entry}
-use Rattle.dym_slotlaw.specs.SlotSteps.{without, from_number}
-use Rattle.dym_slotlaw.specs.SlotFacts.{NumbersRise}
+use Rattle.dym_slots.specs.declared.machine.Entry.{Entry}
+use Rattle.dym_slots.specs.Slots.{entry}
+use Rattle.dym_slots.specs.SlotSteps.{without, from_number}
+use Rattle.dym_slots.specs.SlotFacts.{NumbersRise}
 use Rattle.dym_slots.specs.declared.view.Listed.{Listed}
-use Rattle.dym_slots.specs.Seats.{Naming, listed}
+use Rattle.dym_slots.specs.SeatViews.{Naming, listed}
 use Rattle.dym_slots.specs.Orders.{entry_of}
 
 pub map_entries : (records : Naming) (es : List Entry) → map entry_of (map (listed records) es) ≡ es

@@ -1,3 +1,9 @@
+pub mod SlotPlaces
+pub mod OwnerSteps
+pub mod SweeperSteps
+pub mod Steps
+pub mod Notes
+pub mod Room
 pub mod Showing
 pub mod Entries
 pub mod Running

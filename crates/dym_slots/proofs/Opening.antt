@@ -4,26 +4,26 @@ use Rattle.std.specs.Prelude.{zip}
 use Rattle.std.specs.List.{range_with_len}
 use Rattle.std.proofs.lemmas.List.FromFn.{get_or-map-range_with_len, length-map-range_with_len}
 use Rattle.dym_base.specs.declared.limits.TheConstants.{LOG_SLOTS}
-use Rattle.dym_slotlaw.specs.declared.slots.Entry.{Entry}
-use Rattle.dym_slotlaw.specs.Slots.{entry}
+use Rattle.dym_slots.specs.declared.machine.Entry.{Entry}
+use Rattle.dym_slots.specs.Slots.{entry}
 use Rattle.dym_slots.specs.Orders.{IsOrder}
 use Rattle.std.proofs.lemmas.List.{length-replicate}
 use mathlib.Core.Option as M
 use mathlib.Core.Option.{some, none, some-injective, some-ne-none}
 use lib.ListN.{get_elem?}
 use Rattle.atomic_table.specs.Table.{opening, Splits}
-use Rattle.dym_slotlaw.specs.declared.slots.Slot.{Slot}
-use Rattle.dym_slotlaw.specs.declared.slots.Slot.TheVariants.{Free}
-use Rattle.dym_slotlaw.specs.SlotWords.{slot_word}
-use Rattle.dym_slotlaw.specs.SlotNotes.{noted_start}
-use Rattle.dym_slotlaw.proofs.Steps.{start_meets}
-use Rattle.dym_slotlaw.proofs.Notes.{start_stands}
+use Rattle.dym_slots.specs.declared.machine.Slot.{Slot}
+use Rattle.dym_slots.specs.declared.machine.Slot.TheVariants.{Free}
+use Rattle.dym_slots.specs.SlotWords.{slot_word}
+use Rattle.dym_slots.specs.SlotNotes.{noted_start}
+use Rattle.dym_slots.proofs.Steps.{start_meets}
+use Rattle.dym_slots.proofs.Notes.{start_stands}
 use Rattle.dym_slots.specs.declared.view.SeatView.{SeatView}
 use Rattle.dym_slots.specs.declared.view.SeatView.TheVariants.{Alone, Owns, Sweeps}
 use Rattle.dym_slots.specs.declared.view.OwnerSeat.{OwnerSeat}
 use Rattle.dym_slots.specs.declared.view.SweeperSeat.{SweeperSeat}
-use Rattle.dym_slots.specs.Seats.{new_owner, new_sweeper}
-use Rattle.dym_slots.specs.Shown.{Held, home_shown, Holds}
+use Rattle.dym_slots.specs.SeatViews.{new_owner, new_sweeper}
+use Rattle.dym_slots.specs.TableStates.{Held, home_shown, Holds}
 
 words_new : (count : ℕ) → replicate count 0 ≡ map slot_word (replicate count Free)
 words_new zero = refl

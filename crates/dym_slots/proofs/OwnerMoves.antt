@@ -11,22 +11,22 @@ use prog.Atomic.{either}
 use lib.ListN.{get_elem?}
 use Rattle.atomic_table.specs.Table.{Act, keeps, takes, gives, put_back, rest, stepped, Allows}
 use Rattle.dym_base.specs.declared.limits.TheConstants.{RECORD_ROOM}
-use Rattle.dym_slotlaw.specs.declared.slots.Slot.{Slot}
-use Rattle.dym_slotlaw.specs.declared.slots.Slot.TheVariants.{Free, Live, OutOwner, OutSweeper}
-use Rattle.dym_slotlaw.specs.declared.slots.Entry.{Entry}
-use Rattle.dym_slotlaw.specs.declared.slots.TheConstants.{RECORD_NUMBERS}
-use Rattle.dym_slotlaw.specs.declared.slots.Event.TheVariants.{OwnerLook, OwnerClaim, OwnerTake, OwnerEmpty, OwnerFill, OwnerPut, OwnerLower, OwnerFree, OwnerRaise}
-use Rattle.dym_slotlaw.specs.SlotWords.{slot_word}
-use Rattle.dym_slotlaw.specs.Slots.{Core, OwnerView, state_of, entry, IsEntry, IsListed}
-use Rattle.dym_slotlaw.specs.SlotSteps.{OwnerLooks, OwnerClaims, OwnerTakes, OwnerEmpties, OwnerFills, OwnerPuts, OwnerLowers, OwnerFrees, OwnerRaises, remember, without, from_number, IsNewestOfTwo}
-use Rattle.dym_slotlaw.specs.SlotFacts.{Facts, IsSwept, IsReused}
-use Rattle.dym_slotlaw.specs.SlotNotes.{OwnerNote, forget}
+use Rattle.dym_slots.specs.declared.machine.Slot.{Slot}
+use Rattle.dym_slots.specs.declared.machine.Slot.TheVariants.{Free, Live, OutOwner, OutSweeper}
+use Rattle.dym_slots.specs.declared.machine.Entry.{Entry}
+use Rattle.dym_slots.specs.declared.machine.TheConstants.{RECORD_NUMBERS}
+use Rattle.dym_slots.specs.declared.machine.Event.TheVariants.{OwnerLook, OwnerClaim, OwnerTake, OwnerEmpty, OwnerFill, OwnerPut, OwnerLower, OwnerFree, OwnerRaise}
+use Rattle.dym_slots.specs.SlotWords.{slot_word}
+use Rattle.dym_slots.specs.Slots.{Core, OwnerView, state_of, entry, IsEntry, IsListed}
+use Rattle.dym_slots.specs.SlotSteps.{OwnerLooks, OwnerClaims, OwnerTakes, OwnerEmpties, OwnerFills, OwnerPuts, OwnerLowers, OwnerFrees, OwnerRaises, remember, without, from_number, IsNewestOfTwo}
+use Rattle.dym_slots.specs.SlotFacts.{Facts, IsSwept, IsReused}
+use Rattle.dym_slots.specs.SlotNotes.{OwnerNote, forget}
 use Rattle.dym_slots.specs.declared.view.Listed.{Listed}
 use Rattle.dym_slots.specs.declared.view.OwnerSeat.{OwnerSeat}
 use Rattle.dym_slots.specs.declared.view.SeatView.{SeatView}
 use Rattle.dym_slots.specs.declared.view.SeatView.TheVariants.{Owns}
-use Rattle.dym_slots.specs.Seats.{Naming, listed, owner_seat, glimpse, glimpse_of, owner_of, IsOwner, past, looked, holding, with_put, lowered, with_freed, with_raised}
-use Rattle.dym_slots.specs.Shown.{Held, Knowing, TableState, Holds}
+use Rattle.dym_slots.specs.SeatViews.{Naming, listed, owner_seat, glimpse, glimpse_of, owner_of, IsOwner, past, looked, holding, with_put, lowered, with_freed, with_raised}
+use Rattle.dym_slots.specs.TableStates.{Held, Knowing, TableState, Holds}
 use Rattle.dym_slots.specs.Orders.{entry_of}
 use Rattle.dym_slots.specs.Moves.{IsIdleOwner, HasOut, OwnerLooked, IsKnownFree, Claimed, TookOwn, TookRetired, IsUnlisted, WasPut, WasLowered, FreedNewest, Raised}
 use Rattle.dym_slots.proofs.Showing.{by_state, homes_by_state, words_set, word_at, homes_set, home_at, homes_agree, named}
@@ -453,7 +453,7 @@ free_holds count st id o i older x is some_older held inside words homes w_is h_
       loose = inr newest;
       after = refl;
     } in
-    let left : without n c.owner.list ≡ es = ap (without n) list ∙ without_newest es s n (subst Rattle.dym_slotlaw.specs.SlotFacts.NumbersRise list i.sound.facts.list.numbers_rise) in
+    let left : without n c.owner.list ≡ es = ap (without n) list ∙ without_newest es s n (subst Rattle.dym_slots.specs.SlotFacts.NumbersRise list i.sound.facts.list.numbers_rise) in
     owner_holds count st id o i (noted (OwnerFree s) b e) i.records words homes (with_freed s older o)
     (sound_after count (OwnerFree s) b e frees i.sound.numbered mid)
     (w_is ∙ words_set st.words c.root c.slots s Free i.shows.words)
@@ -495,7 +495,7 @@ raises count slots id me dropped x others is idle st holds len at fits =
     let d : Core = record c { root = n; owner = record c.owner { list = from_number n c.owner.list } } in
     let h : OwnerRaises n c d = record { idle = out_of count st id o i ∙ idle.none; listed = (x.entry.slot, is_entry); after = refl } in
     let left : from_number n c.owner.list ≡ x.entry ∷ map entry_of others
-    = ap (from_number n) list ∙ from_raised (map entry_of dropped) (map entry_of others) x.entry (subst Rattle.dym_slotlaw.specs.SlotFacts.NumbersRise list i.sound.facts.list.numbers_rise) in (
+    = ap (from_number n) list ∙ from_raised (map entry_of dropped) (map entry_of others) x.entry (subst Rattle.dym_slots.specs.SlotFacts.NumbersRise list i.sound.facts.list.numbers_rise) in (
       Owns (with_raised (x ∷ others) o),
       keeps,
       tt,

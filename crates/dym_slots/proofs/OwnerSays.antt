@@ -5,13 +5,13 @@ use Rattle.std.proofs.lemmas.List.{length-map, length-take, length-append, map-a
 use Rattle.std.proofs.lemmas.Grind.{take-set_at}
 use Rattle.std.proofs.lemmas.List.Edits.{swap_is}
 use Rattle.dym_base.specs.declared.limits.TheConstants.{LOG_SLOTS, RECORD_ROOM}
-use Rattle.dym_slotlaw.specs.declared.slots.Entry.{Entry}
-use Rattle.dym_slotlaw.specs.declared.slots.TheConstants.{RECORD_NUMBERS}
-use Rattle.dym_slotlaw.specs.Slots.{entry}
+use Rattle.dym_slots.specs.declared.machine.Entry.{Entry}
+use Rattle.dym_slots.specs.declared.machine.TheConstants.{RECORD_NUMBERS}
+use Rattle.dym_slots.specs.Slots.{entry}
 use Rattle.dym_slots.specs.declared.view.Listed.{Listed}
 use Rattle.dym_slots.specs.declared.view.SeatView.TheVariants.{Owns}
-use Rattle.dym_slots.specs.Seats.{owner_of, with_put, lowered, with_raised, holding}
-use Rattle.dym_slots.specs.Shown.{Held, Knowing}
+use Rattle.dym_slots.specs.SeatViews.{owner_of, with_put, lowered, with_raised, holding}
+use Rattle.dym_slots.specs.TableStates.{Held, Knowing}
 use Rattle.atomic_table.specs.Seated.{TableId}
 use Rattle.dym_slots.specs.Owners.{OutIs}
 use Rattle.dym_slots.specs.Moves.{SitsAt, IsIdleOwner, SameList, IsUnlisted, HasEntry, IsBytesOf}
@@ -21,14 +21,14 @@ use Rattle.dym_slots.proofs.Rising.{below_made, one_place, rise_push, rise_drop,
 use Rattle.dym_slots.proofs.Places.{order_swap, order_numbered, EntryAt, entry_at, list_size, spare_slot, bytes_at, differ}
 
 -- a list is shorter than the table
-pub fits : (order : List Entry) (len made : ℕ) (me : Knowing) → Stands order len made me → len + 2 ≤ length order
-fits order len made me s = let a = s.order_is.size in let b = s.few in omega arith
+pub fits : (order : List Entry) (len next_number : ℕ) (me : Knowing) → Stands order len next_number me → len + 2 ≤ length order
+fits order len next_number me s = let a = s.order_is.size in let b = s.few in omega arith
 
-pub size_of_list : (order : List Entry) (len made : ℕ) (me : Knowing) → Stands order len made me → length (owner_of me.0).list ≡ len
-size_of_list order len made me s = list_size (owner_of me.0).list order len s.list (let f = fits order len made me s in omega arith)
+pub size_of_list : (order : List Entry) (len next_number : ℕ) (me : Knowing) → Stands order len next_number me → length (owner_of me.0).list ≡ len
+size_of_list order len next_number me s = list_size (owner_of me.0).list order len s.list (let f = fits order len next_number me s in omega arith)
 
-pub count_of_records : (order : List Entry) (len made : ℕ) (me : Knowing) → Stands order len made me → length (map numbered (owner_of me.0).list) ≡ len
-count_of_records order len made me s = length-map (owner_of me.0).list numbered ∙ size_of_list order len made me s
+pub count_of_records : (order : List Entry) (len next_number : ℕ) (me : Knowing) → Stands order len next_number me → length (map numbered (owner_of me.0).list) ≡ len
+count_of_records order len next_number me s = length-map (owner_of me.0).list numbered ∙ size_of_list order len next_number me s
 
 trans_lt : (a b c : ℕ) → a < b → b ≤ c → a < c
 trans_lt a b c p q = omega arith
@@ -38,44 +38,44 @@ up_one n top lt = omega arith
 
 -- The place of an entry
 
-pub entry_here : (order : List Entry) (len made : ℕ) (me : Knowing) (place : ℕ) → Stands order len made me → place < len → EntryAt (owner_of me.0).list order place
-entry_here order len made me place s lt = entry_at (owner_of me.0).list order len place s.list lt (let f = fits order len made me s in omega arith)
+pub entry_here : (order : List Entry) (len next_number : ℕ) (me : Knowing) (place : ℕ) → Stands order len next_number me → place < len → EntryAt (owner_of me.0).list order place
+entry_here order len next_number me place s lt = entry_at (owner_of me.0).list order len place s.list lt (let f = fits order len next_number me s in omega arith)
 
-pub number_here : (order : List Entry) (len made : ℕ) (me : Knowing) (place : ℕ) → Stands order len made me → place < len
+pub number_here : (order : List Entry) (len next_number : ℕ) (me : Knowing) (place : ℕ) → Stands order len next_number me → place < len
     → (get_or order place no_entry).number ≡ (record_at (map numbered (owner_of me.0).list) place).number
-number_here order len made me place s lt =
-    let x = entry_here order len made me place s lt in
+number_here order len next_number me place s lt =
+    let x = entry_here order len next_number me place s lt in
     ap (λ (e : Entry). e.number) (sym x.is) ∙ ap (λ (r : Numbered). r.number) x.shown
 
-pub number_fits : (order : List Entry) (len made : ℕ) (me : Knowing) (place : ℕ) → Stands order len made me → place < len → (get_or order place no_entry).number < RECORD_NUMBERS
-number_fits order len made me place s lt =
-    let is = number_here order len made me place s lt in
-    let below = below_made (map numbered (owner_of me.0).list) made place s.rise (let n = count_of_records order len made me s in omega arith) in
-    subst (λ (n : ℕ). n < RECORD_NUMBERS) (sym is) (let m = s.most in trans_lt (record_at (map numbered (owner_of me.0).list) place).number made RECORD_NUMBERS below m)
+pub number_fits : (order : List Entry) (len next_number : ℕ) (me : Knowing) (place : ℕ) → Stands order len next_number me → place < len → (get_or order place no_entry).number < RECORD_NUMBERS
+number_fits order len next_number me place s lt =
+    let is = number_here order len next_number me place s lt in
+    let below = below_made (map numbered (owner_of me.0).list) next_number place s.rise (let n = count_of_records order len next_number me s in omega arith) in
+    subst (λ (n : ℕ). n < RECORD_NUMBERS) (sym is) (let m = s.most in trans_lt (record_at (map numbered (owner_of me.0).list) place).number next_number RECORD_NUMBERS below m)
 
-pub has_entry : (order : List Entry) (len made : ℕ) (me : Knowing) (place : ℕ) → Stands order len made me → place < len
+pub has_entry : (order : List Entry) (len next_number : ℕ) (me : Knowing) (place : ℕ) → Stands order len next_number me → place < len
     → HasEntry (slot_at order place) (get_or order place no_entry).number (owner_of me.0)
-has_entry order len made me place s lt =
-    let x = entry_here order len made me place s lt in
+has_entry order len next_number me place s lt =
+    let x = entry_here order len next_number me place s lt in
     (x.found, x.there, ap (λ (e : Entry). e.slot) x.is, ap (λ (e : Entry). e.number) x.is)
 
 -- the bytes of the entry at a place are those of the record there
-pub bytes_here : (order : List Entry) (len made : ℕ) (me : Knowing) (place n : ℕ) (bytes : List ℕ) → Stands order len made me → place < len → IsBytesOf (slot_at order place) n (owner_of me.0) bytes
+pub bytes_here : (order : List Entry) (len next_number : ℕ) (me : Knowing) (place n : ℕ) (bytes : List ℕ) → Stands order len next_number me → place < len → IsBytesOf (slot_at order place) n (owner_of me.0) bytes
     → bytes ≡ (record_at (map numbered (owner_of me.0).list) place).bytes
-bytes_here order len made me place n bytes s lt (x, has, at, number, own) =
-    sym own ∙ bytes_at (owner_of me.0).list order len place x s.order_is s.list (let f = fits order len made me s in omega arith) lt has at
+bytes_here order len next_number me place n bytes s lt (x, has, at, number, own) =
+    sym own ∙ bytes_at (owner_of me.0).list order len place x s.order_is s.list (let f = fits order len next_number me s in omega arith) lt has at
 
-pub is_bytes : (order : List Entry) (len made : ℕ) (me : Knowing) (place : ℕ) (bytes : List ℕ) → Stands order len made me → place < len → bytes ≡ (record_at (map numbered (owner_of me.0).list) place).bytes
+pub is_bytes : (order : List Entry) (len next_number : ℕ) (me : Knowing) (place : ℕ) (bytes : List ℕ) → Stands order len next_number me → place < len → bytes ≡ (record_at (map numbered (owner_of me.0).list) place).bytes
     → IsBytesOf (slot_at order place) (get_or order place no_entry).number (owner_of me.0) bytes
-is_bytes order len made me place bytes s lt own =
-    let x = entry_here order len made me place s lt in
+is_bytes order len next_number me place bytes s lt own =
+    let x = entry_here order len next_number me place s lt in
     (x.found, x.there, ap (λ (e : Entry). e.slot) x.is, ap (λ (e : Entry). e.number) x.is, ap (λ (r : Numbered). r.bytes) x.shown ∙ sym own)
 
 -- Spare slots
 
-pub swapped : (order : List Entry) (len made : ℕ) (me : Knowing) → Stands order len made me → Stands (swap order len (len + 1)) len made me × (slot_at (swap order len (len + 1)) len ≡ slot_at order (len + 1))
-swapped order len made me s =
-    let f = fits order len made me s in
+pub swapped : (order : List Entry) (len next_number : ℕ) (me : Knowing) → Stands order len next_number me → Stands (swap order len (len + 1)) len next_number me × (slot_at (swap order len (len + 1)) len ≡ slot_at order (len + 1))
+swapped order len next_number me s =
+    let f = fits order len next_number me s in
     let is : swap order len (len + 1) ≡ set (set order len (get_or order (len + 1) no_entry)) (len + 1) (get_or order len no_entry) = sym (swap_is order len (len + 1) no_entry (omega arith) (omega arith)) in
     let front : take len (swap order len (len + 1)) ≡ take len order =
     rw is (take-set-le len (set order len (get_or order (len + 1) no_entry)) (len + 1) (get_or order len no_entry) (omega arith) ∙ take-set-le len order len (get_or order (len + 1) no_entry) (omega arith)) in (
@@ -92,56 +92,56 @@ swapped order len made me s =
       rw is (ap (λ (e : Entry). e.slot) (get_or-set_other (set order len (get_or order (len + 1) no_entry)) (len + 1) len (get_or order len no_entry) no_entry (λ e. omega arith) ∙ get_or-set_same order len (get_or order (len + 1) no_entry) no_entry (omega arith))),
     )
 
-pub unlisted_here : (order : List Entry) (len made : ℕ) (me after : Knowing) → Stands order len made me → SameList me after → IsUnlisted (slot_at order len) (owner_of after.0).list
-unlisted_here order len made me after s same =
-    let f = fits order len made me s in
+pub unlisted_here : (order : List Entry) (len next_number : ℕ) (me after : Knowing) → Stands order len next_number me → SameList me after → IsUnlisted (slot_at order len) (owner_of after.0).list
+unlisted_here order len next_number me after s same =
+    let f = fits order len next_number me s in
     subst (IsUnlisted (slot_at order len)) (sym same.list) (λ x has. spare_slot (owner_of me.0).list order len len x s.order_is s.list (omega arith) (omega arith) has)
 
 -- Puts
 
-pub put_records : (order : List Entry) (len made : ℕ) (me mid : Knowing) (bytes : List ℕ) → Stands order len made me → SameList me mid
-    → map numbered (with_put (slot_at order len) bytes (owner_of mid.0)).list ≡ map numbered (owner_of me.0).list ++ record { number = made; bytes = bytes } ∷ []
-put_records order len made me mid bytes s same =
-    let next : (owner_of mid.0).next ≡ made = same.next ∙ s.next in
+pub put_records : (order : List Entry) (len next_number : ℕ) (me mid : Knowing) (bytes : List ℕ) → Stands order len next_number me → SameList me mid
+    → map numbered (with_put (slot_at order len) bytes (owner_of mid.0)).list ≡ map numbered (owner_of me.0).list ++ record { number = next_number; bytes = bytes } ∷ []
+put_records order len next_number me mid bytes s same =
+    let next : (owner_of mid.0).next ≡ next_number = same.next ∙ s.next in
     map-append numbered (owner_of mid.0).list (record { entry = entry (slot_at order len) (owner_of mid.0).next; bytes = bytes } ∷ [])
     ∙ (λ j. map numbered (same.list j) ++ record { number = next j; bytes = bytes } ∷ [])
 
-pub put_stands : (order : List Entry) (len made : ℕ) (me mid : Knowing) (bytes : List ℕ) → Stands order len made me → SameList me mid → len < RECORD_ROOM → made < RECORD_NUMBERS
-    → Stands (set order len (entry (slot_at order len) made)) (len + 1) (made + 1) (Owns (with_put (slot_at order len) bytes (owner_of mid.0)), [])
-put_stands order len made me mid bytes s same room left =
-    let f = fits order len made me s in
-    let new : Entry = entry (slot_at order len) made in
-    let next : (owner_of mid.0).next ≡ made = same.next ∙ s.next in
+pub put_stands : (order : List Entry) (len next_number : ℕ) (me mid : Knowing) (bytes : List ℕ) → Stands order len next_number me → SameList me mid → len < RECORD_ROOM → next_number < RECORD_NUMBERS
+    → Stands (set order len (entry (slot_at order len) next_number)) (len + 1) (next_number + 1) (Owns (with_put (slot_at order len) bytes (owner_of mid.0)), [])
+put_stands order len next_number me mid bytes s same room left =
+    let f = fits order len next_number me s in
+    let new : Entry = entry (slot_at order len) next_number in
+    let next : (owner_of mid.0).next ≡ next_number = same.next ∙ s.next in
     let list : map entry_of (owner_of mid.0).list ≡ take len order = ap (map entry_of) same.list ∙ s.list in
     record {
       seat = refl;
-      order_is = order_numbered order len made s.order_is;
+      order_is = order_numbered order len next_number s.order_is;
       list = map-append entry_of (owner_of mid.0).list (record { entry = entry (slot_at order len) (owner_of mid.0).next; bytes = bytes } ∷ [])
           ∙ (λ j. list j ++ entry (slot_at order len) (next j) ∷ [])
           ∙ sym (take-set_at order len (len + 1) new refl (omega arith));
       few = omega arith;
       next = ap (λ (n : ℕ). n + 1) next;
-      most = up_one made RECORD_NUMBERS left;
-      rise = subst (λ (l : List Numbered). NumbersRise l (made + 1)) (sym (put_records order len made me mid bytes s same)) (rise_push (map numbered (owner_of me.0).list) made bytes s.rise);
+      most = up_one next_number RECORD_NUMBERS left;
+      rise = subst (λ (l : List Numbered). NumbersRise l (next_number + 1)) (sym (put_records order len next_number me mid bytes s same)) (rise_push (map numbered (owner_of me.0).list) next_number bytes s.rise);
       remembered = refl;
     }
 
-pub put_after : (order items : List Entry) (len made slot : ℕ) (me mid after : Knowing) (bytes : List ℕ) → Stands order len made me → SameList me mid → len < RECORD_ROOM → made < RECORD_NUMBERS
-    → slot ≡ slot_at order len → items ≡ set order len (entry (slot_at order len) made) → after ≡ (Owns (with_put slot bytes (owner_of mid.0)), [])
-    → Stands items (len + 1) (made + 1) after
-put_after order items len made slot me mid after bytes s same room left at is new =
+pub put_after : (order items : List Entry) (len next_number slot : ℕ) (me mid after : Knowing) (bytes : List ℕ) → Stands order len next_number me → SameList me mid → len < RECORD_ROOM → next_number < RECORD_NUMBERS
+    → slot ≡ slot_at order len → items ≡ set order len (entry (slot_at order len) next_number) → after ≡ (Owns (with_put slot bytes (owner_of mid.0)), [])
+    → Stands items (len + 1) (next_number + 1) after
+put_after order items len next_number slot me mid after bytes s same room left at is new =
     let now : after ≡ (Owns (with_put (slot_at order len) bytes (owner_of mid.0)), []) = new ∙ ap (λ (t : ℕ). (Owns (with_put t bytes (owner_of mid.0)), [])) at in
-    subst (λ (p : List Entry × Knowing). Stands p.0 (len + 1) (made + 1) p.1) (λ j. (sym is j, sym now j)) (put_stands order len made me mid bytes s same room left)
+    subst (λ (p : List Entry × Knowing). Stands p.0 (len + 1) (next_number + 1) p.1) (λ j. (sym is j, sym now j)) (put_stands order len next_number me mid bytes s same room left)
 
 -- Lifts and lowers
 
-pub held_stands : (order : List Entry) (len made slot : ℕ) (me after : Knowing) (home : Held) → Stands order len made me → after ≡ (Owns (holding slot (owner_of me.0)), (slot, home) ∷ []) → Stands order len made after
-held_stands order len made slot me after home s is =
-    subst (Stands order len made) (sym is) (record { seat = refl; order_is = s.order_is; list = s.list; few = s.few; next = s.next; most = s.most; rise = s.rise; remembered = s.remembered })
+pub held_stands : (order : List Entry) (len next_number slot : ℕ) (me after : Knowing) (home : Held) → Stands order len next_number me → after ≡ (Owns (holding slot (owner_of me.0)), (slot, home) ∷ []) → Stands order len next_number after
+held_stands order len next_number slot me after home s is =
+    subst (Stands order len next_number) (sym is) (record { seat = refl; order_is = s.order_is; list = s.list; few = s.few; next = s.next; most = s.most; rise = s.rise; remembered = s.remembered })
 
-pub lowered_stands : (order : List Entry) (len made slot : ℕ) (me after : Knowing) → Stands order len made me → after ≡ (Owns (lowered slot (owner_of me.0)), []) → Stands order len made after
-lowered_stands order len made slot me after s is =
-    subst (Stands order len made) (sym is) (record { seat = refl; order_is = s.order_is; list = s.list; few = s.few; next = s.next; most = s.most; rise = s.rise; remembered = s.remembered })
+pub lowered_stands : (order : List Entry) (len next_number slot : ℕ) (me after : Knowing) → Stands order len next_number me → after ≡ (Owns (lowered slot (owner_of me.0)), []) → Stands order len next_number after
+lowered_stands order len next_number slot me after s is =
+    subst (Stands order len next_number) (sym is) (record { seat = refl; order_is = s.order_is; list = s.list; few = s.few; next = s.next; most = s.most; rise = s.rise; remembered = s.remembered })
 
 -- Cuts at the end
 
@@ -154,11 +154,11 @@ snoc_front (a ∷ as') (b ∷ bs) x y e =
     let rest = snoc_front as' bs x y cc in
     λ j. head j ∷ rest j
 
-pub newest_here : (order : List Entry) (len made last : ℕ) (me now : Knowing) → Stands order len made me → last < len → 0 < last → HasLeft (take (last + 1) (owner_of me.0).list) me now
+pub newest_here : (order : List Entry) (len next_number last : ℕ) (me now : Knowing) → Stands order len next_number me → last < len → 0 < last → HasLeft (take (last + 1) (owner_of me.0).list) me now
     → IsNewest (get_or order last no_entry) (owner_of now.0).list
-newest_here order len made last me now s lt some_older left =
+newest_here order len next_number last me now s lt some_older left =
     let list = (owner_of me.0).list in
-    let size = size_of_list order len made me s in
+    let size = size_of_list order len next_number me s in
     let x : Listed = get_or list last (record { entry = no_entry; bytes = [] }) in
     let is : x.entry ≡ get_or order last no_entry
     = sym (get_or-map entry_of list last (record { entry = no_entry; bytes = [] }) no_entry (omega arith)) ∙ ap (λ (l : List Entry). get_or l last no_entry) s.list ∙ get_or-take len order last no_entry lt in
@@ -170,11 +170,11 @@ newest_here order len made last me now s lt some_older left =
       some_older = (let t = length-take last list in omega arith);
     }
 
-pub dropped_one : (order : List Entry) (len made last : ℕ) (me now after : Knowing) → Stands order len made me → last < len → HasLeft (take (last + 1) (owner_of me.0).list) me now
+pub dropped_one : (order : List Entry) (len next_number last : ℕ) (me now after : Knowing) → Stands order len next_number me → last < len → HasLeft (take (last + 1) (owner_of me.0).list) me now
     → ((older : List Listed) × (x : Listed) × ((owner_of now.0).list ≡ older ++ x ∷ []) × HasLeft older now after) → HasLeft (take last (owner_of me.0).list) me after
-dropped_one order len made last me now after s lt left (older, x, is, new) =
+dropped_one order len next_number last me now after s lt left (older, x, is, new) =
     let list = (owner_of me.0).list in
-    let size = size_of_list order len made me s in
+    let size = size_of_list order len next_number me s in
     let front : older ≡ take last list = snoc_front older (take last list) x (get_or list last (record { entry = no_entry; bytes = [] }))
     (sym is ∙ left.list_is ∙ take_more list last (record { entry = no_entry; bytes = [] }) (omega arith)) in
     record { idle = new.idle; list_is = new.list_is ∙ front; next = new.next ∙ left.next; remembered = new.remembered ∙ left.remembered }
@@ -185,10 +185,10 @@ take_whole [] (suc n) le = refl
 take_whole (x ∷ xs) zero le = absurd (omega arith)
 take_whole (x ∷ xs) (suc n) le = ap (λ (l : List Listed). x ∷ l) (take_whole xs n (omega arith))
 
-pub all_left : (order : List Entry) (len made : ℕ) (me : Knowing) → Stands order len made me → IsIdleOwner me → HasLeft (take len (owner_of me.0).list) me me
-all_left order len made me s idle = record {
+pub all_left : (order : List Entry) (len next_number : ℕ) (me : Knowing) → Stands order len next_number me → IsIdleOwner me → HasLeft (take len (owner_of me.0).list) me me
+all_left order len next_number me s idle = record {
   idle = idle;
-  list_is = take_whole (owner_of me.0).list len (let n = size_of_list order len made me s in omega arith);
+  list_is = take_whole (owner_of me.0).list len (let n = size_of_list order len next_number me s in omega arith);
   next = refl;
   remembered = refl;
 }
@@ -206,8 +206,8 @@ take_less (x ∷ xs) (suc kept) (suc len) le = ap (λ (l : List Entry). x ∷ l)
 pub cut_records : (list : List Listed) (kept : ℕ) → map numbered (take kept list) ≡ take kept (map numbered list)
 cut_records list kept = sym (take-map numbered kept list)
 
-pub cut_stands : (order : List Entry) (len made kept : ℕ) (me after : Knowing) → Stands order len made me → kept ≤ len → HasLeft (take kept (owner_of me.0).list) me after → Stands order kept made after
-cut_stands order len made kept me after s le left =
+pub cut_stands : (order : List Entry) (len next_number kept : ℕ) (me after : Knowing) → Stands order len next_number me → kept ≤ len → HasLeft (take kept (owner_of me.0).list) me after → Stands order kept next_number after
+cut_stands order len next_number kept me after s le left =
     let list = (owner_of me.0).list in
     record {
       seat = left.idle.seat;
@@ -216,7 +216,7 @@ cut_stands order len made kept me after s le left =
       few = (let f = s.few in omega arith);
       next = left.next ∙ s.next;
       most = s.most;
-      rise = subst (λ (l : List Numbered). NumbersRise l made) (sym (ap (map numbered) left.list_is ∙ cut_records list kept)) (rise_take (map numbered list) made kept s.rise);
+      rise = subst (λ (l : List Numbered). NumbersRise l next_number) (sym (ap (map numbered) left.list_is ∙ cut_records list kept)) (rise_take (map numbered list) next_number kept s.rise);
       remembered = left.remembered ∙ s.remembered;
     }
 
@@ -226,11 +226,11 @@ drop_front : (a b : List Listed) → drop (length a) (a ++ b) ≡ b
 drop_front [] b = refl
 drop_front (x ∷ a) b = drop_front a b
 
-pub raise_parts : (order : List Entry) (len made place : ℕ) (me : Knowing) → Stands order len made me → place < len
+pub raise_parts : (order : List Entry) (len next_number place : ℕ) (me : Knowing) → Stands order len next_number me → place < len
     → (dropped : List Listed) × (x : Listed) × (others : List Listed) × ((owner_of me.0).list ≡ dropped ++ x ∷ others) × (x.entry.number ≡ (get_or order place no_entry).number)
-raise_parts order len made place me s lt =
+raise_parts order len next_number place me s lt =
     let list = (owner_of me.0).list in
-    let size = size_of_list order len made me s in
+    let size = size_of_list order len next_number me s in
     let x : Listed = get_or list place (record { entry = no_entry; bytes = [] }) in
     let is : x.entry ≡ get_or order place no_entry
     = sym (get_or-map entry_of list place (record { entry = no_entry; bytes = [] }) no_entry (omega arith)) ∙ ap (λ (l : List Entry). get_or l place no_entry) s.list ∙ get_or-take len order place no_entry lt in (
@@ -241,18 +241,18 @@ raise_parts order len made place me s lt =
       ap (λ (e : Entry). e.number) is,
     )
 
-pub kept_is : (order : List Entry) (len made place : ℕ) (me : Knowing) (dropped : List Listed) (x : Listed) (others : List Listed) → Stands order len made me → place < len
+pub kept_is : (order : List Entry) (len next_number place : ℕ) (me : Knowing) (dropped : List Listed) (x : Listed) (others : List Listed) → Stands order len next_number me → place < len
     → (owner_of me.0).list ≡ dropped ++ x ∷ others → x.entry.number ≡ (get_or order place no_entry).number → x ∷ others ≡ drop place (owner_of me.0).list
-kept_is order len made place me dropped x others s lt is number =
+kept_is order len next_number place me dropped x others s lt is number =
     let list = (owner_of me.0).list in
-    let size = size_of_list order len made me s in
-    let count = count_of_records order len made me s in
+    let size = size_of_list order len next_number me s in
+    let count = count_of_records order len next_number me s in
     let n = ap length is ∙ length-append dropped (x ∷ others) in
     let inside : length dropped < length list = omega arith in
     let at : record_at (map numbered list) (length dropped) ≡ numbered x
     = get_or-map numbered list (length dropped) x no_record inside ∙ ap numbered (ap (λ (l : List Listed). get_or l (length dropped) x) is ∙ get_or_at dropped x others x (length dropped) refl) in
-    let same : length dropped ≡ place = one_place (map numbered list) made (length dropped) place s.rise (omega arith) (omega arith)
-    (ap (λ (r : Numbered). r.number) at ∙ number ∙ number_here order len made me place s lt) in
+    let same : length dropped ≡ place = one_place (map numbered list) next_number (length dropped) place s.rise (omega arith) (omega arith)
+    (ap (λ (r : Numbered). r.number) at ∙ number ∙ number_here order len next_number me place s lt) in
     sym (ap (λ (l : List Listed). drop (length dropped) l) is ∙ drop_front dropped (x ∷ others)) ∙ ap (λ (k : ℕ). drop k list) same
 
 front : (m : ℕ) (xs ys : List Entry) → m ≤ length xs → take m xs ≡ take m (xs ++ ys)
@@ -267,21 +267,21 @@ window (suc n) m zero xs ys e le = absurd (omega arith)
 window (suc n) m (suc len) [] ys e le = absurd (omega arith)
 window (suc n) m (suc len) (x ∷ xs) ys e le = window n m len xs ys (omega arith) (omega arith)
 
-pub raised_stands : (order : List Entry) (len made near place left : ℕ) (me after : Knowing) (kept : List Listed) → Stands order len made me → place < len → left ≡ len - place → len ≤ near → near ≤ length order
-    → kept ≡ drop place (owner_of me.0).list → IsOrder (retired near place order) → after ≡ (Owns (with_raised kept (owner_of me.0)), []) → Stands (retired near place order) left made after
-raised_stands order len made near place left me after kept s lt at le inside is turned new =
+pub raised_stands : (order : List Entry) (len next_number next_spares place left : ℕ) (me after : Knowing) (kept : List Listed) → Stands order len next_number me → place < len → left ≡ len - place → len ≤ next_spares → next_spares ≤ length order
+    → kept ≡ drop place (owner_of me.0).list → IsOrder (retired next_spares place order) → after ≡ (Owns (with_raised kept (owner_of me.0)), []) → Stands (retired next_spares place order) left next_number after
+raised_stands order len next_number next_spares place left me after kept s lt at le inside is turned new =
     let list = (owner_of me.0).list in
     let sum : left + place ≡ len = omega arith in
-    let size = length-take near order in
-    subst (Stands (retired near place order) left made) (sym new) (record {
+    let size = length-take next_spares order in
+    subst (Stands (retired next_spares place order) left next_number) (sym new) (record {
       seat = refl;
       order_is = turned;
-      list = ap (map entry_of) is ∙ sym (drop-map entry_of place list) ∙ ap (drop place) (s.list ∙ sym (take_less order len near le))
-          ∙ window place left len (take near order) (take place (take near order) ++ drop near order) sum (omega arith);
+      list = ap (map entry_of) is ∙ sym (drop-map entry_of place list) ∙ ap (drop place) (s.list ∙ sym (take_less order len next_spares le))
+          ∙ window place left len (take next_spares order) (take place (take next_spares order) ++ drop next_spares order) sum (omega arith);
       few = (let r = s.few in omega arith);
       next = s.next;
       most = s.most;
-      rise = subst (λ (l : List Numbered). NumbersRise l made) (sym (ap (map numbered) is ∙ sym (drop-map numbered place list))) (rise_drop (map numbered list) made place s.rise);
+      rise = subst (λ (l : List Numbered). NumbersRise l next_number) (sym (ap (map numbered) is ∙ sym (drop-map numbered place list))) (rise_drop (map numbered list) next_number place s.rise);
       remembered = s.remembered;
     })
 
@@ -311,10 +311,10 @@ pub never_inside : (lifted : Option ℕ) (len : ℕ) → lifted ≡ None → (pl
 never_inside lifted len quiet place is = let wrong : None ≡ Some place = sym quiet ∙ is in absurd cc
 
 -- the two slots behind the list's
-pub two_spare : (order : List Entry) (len made : ℕ) (me : Knowing) (x y : Entry) → Stands order len made me → x ≡ get_or order len x → y ≡ get_or order (len + 1) y
+pub two_spare : (order : List Entry) (len next_number : ℕ) (me : Knowing) (x y : Entry) → Stands order len next_number me → x ≡ get_or order len x → y ≡ get_or order (len + 1) y
     → (x.slot < LOG_SLOTS) × (y.slot < LOG_SLOTS) × (x.slot ≢ y.slot)
-two_spare order len made me x y s a b =
-    let f = fits order len made me s in
+two_spare order len next_number me x y s a b =
+    let f = fits order len next_number me s in
     let p : x ≡ get_or order len no_entry = get_or_read order len x (omega arith) a no_entry in
     let q : y ≡ get_or order (len + 1) no_entry = get_or_read order (len + 1) y (omega arith) b no_entry in (
       subst (λ (e : Entry). e.slot < LOG_SLOTS) (sym p) (s.order_is.inside len no_entry (omega arith)),

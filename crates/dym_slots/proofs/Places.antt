@@ -8,8 +8,8 @@ use Rattle.std.proofs.lemmas.List.Elements.{Contains-get_or}
 use Rattle.std.proofs.lemmas.List.Edits.{swap_is, length-swap}
 use Rattle.std.proofs.lemmas.List.Sorted.{IsPermutation-keeps}
 use Rattle.dym_base.specs.declared.limits.TheConstants.{LOG_SLOTS}
-use Rattle.dym_slotlaw.specs.declared.slots.Entry.{Entry}
-use Rattle.dym_slotlaw.specs.Slots.{entry}
+use Rattle.dym_slots.specs.declared.machine.Entry.{Entry}
+use Rattle.dym_slots.specs.Slots.{entry}
 use Rattle.dym_slots.specs.declared.view.Listed.{Listed}
 use Rattle.dym_slots.specs.Meanings.{Numbered, no_record, record_at}
 use Rattle.dym_slots.specs.Orders.{IsOrder, no_entry, slot_at, numbered, entry_of}

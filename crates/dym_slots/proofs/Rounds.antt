@@ -1,8 +1,8 @@
 -- What the walk over all slots keeps.
 use Rattle.std.proofs.Common.{◌≡◌, ℕ, ◌+◌, ◌≤◌}
-use Rattle.dym_slotlaw.specs.declared.slots.TheConstants.{RECORD_NUMBERS}
-use Rattle.dym_slots.specs.Seats.{sweeper_of}
-use Rattle.dym_slots.specs.Shown.{Knowing}
+use Rattle.dym_slots.specs.declared.machine.TheConstants.{RECORD_NUMBERS}
+use Rattle.dym_slots.specs.SeatViews.{sweeper_of}
+use Rattle.dym_slots.specs.TableStates.{Knowing}
 use Rattle.dym_slots.specs.Moves.{IsIdleSweeper}
 
 -- after the slots below one, with so many records taken back, where the root was last read at this number

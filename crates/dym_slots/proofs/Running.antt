@@ -6,22 +6,22 @@ use mathlib.Core.Option.{some, none, some-injective, some-ne-none}
 use prog.Atomic.{either}
 use lib.ListN.{get_elem?}
 use Rattle.atomic_table.proofs.Lists.{exchanged}
-use Rattle.dym_slotlaw.specs.declared.slots.Slot.{Slot}
-use Rattle.dym_slotlaw.specs.declared.slots.Slot.TheVariants.{Live}
-use Rattle.dym_slotlaw.specs.declared.slots.TheConstants.{RECORD_NUMBERS}
-use Rattle.dym_slotlaw.specs.declared.slots.Event.{Event}
-use Rattle.dym_slotlaw.specs.Slots.{Core, state_of}
-use Rattle.dym_slotlaw.specs.SlotSteps.{Step}
-use Rattle.dym_slotlaw.specs.SlotNotes.{OwnerNote, Noted, NotedStep, owner_note, sweeper_note, forget}
-use Rattle.dym_slotlaw.proofs.Steps.{step_keeps, step_counts}
-use Rattle.dym_slotlaw.proofs.Notes.{step_keeps_notes}
+use Rattle.dym_slots.specs.declared.machine.Slot.{Slot}
+use Rattle.dym_slots.specs.declared.machine.Slot.TheVariants.{Live}
+use Rattle.dym_slots.specs.declared.machine.TheConstants.{RECORD_NUMBERS}
+use Rattle.dym_slots.specs.declared.machine.Event.{Event}
+use Rattle.dym_slots.specs.Slots.{Core, state_of}
+use Rattle.dym_slots.specs.SlotSteps.{Step}
+use Rattle.dym_slots.specs.SlotNotes.{OwnerNote, Noted, NotedStep, owner_note, sweeper_note, forget}
+use Rattle.dym_slots.proofs.Steps.{step_keeps, step_counts}
+use Rattle.dym_slots.proofs.Notes.{step_keeps_notes}
 use Rattle.dym_slots.specs.declared.view.Glimpse.{Glimpse}
 use Rattle.dym_slots.specs.declared.view.OwnerSeat.{OwnerSeat}
 use Rattle.dym_slots.specs.declared.view.SweeperSeat.{SweeperSeat}
 use Rattle.dym_slots.specs.declared.view.SeatView.{SeatView}
 use Rattle.dym_slots.specs.declared.view.SeatView.TheVariants.{Alone, Owns, Sweeps}
-use Rattle.dym_slots.specs.Seats.{Naming, owner_seat, sweeper_seat, glimpse, glimpse_of, past}
-use Rattle.dym_slots.specs.Shown.{Held, TableState, words_of, Shows, Sound, Holds}
+use Rattle.dym_slots.specs.SeatViews.{Naming, owner_seat, sweeper_seat, glimpse, glimpse_of, past}
+use Rattle.dym_slots.specs.TableStates.{Held, TableState, words_of, Shows, Sound, Holds}
 use Rattle.dym_slots.proofs.Showing.{by_state, homes_by_state}
 
 -- The state behind a seat

@@ -6,13 +6,13 @@ use mathlib.Core.Option as M
 use mathlib.Core.Option.{some, none}
 use lib.ListN.{get_elem?}
 use Rattle.atomic_table.proofs.Lists.{at_map, at_index}
-use Rattle.dym_slotlaw.specs.declared.slots.Slot.{Slot}
-use Rattle.dym_slotlaw.specs.declared.slots.Slot.TheVariants.{Free, Live, OutOwner, OutSweeper}
-use Rattle.dym_slotlaw.specs.SlotWords.{slot_word}
-use Rattle.dym_slotlaw.specs.Slots.{Core, state_of, home_of}
-use Rattle.dym_slotlaw.specs.SlotFacts.{Facts}
-use Rattle.dym_slots.specs.Seats.{Naming}
-use Rattle.dym_slots.specs.Shown.{Held, home_shown, homes_of}
+use Rattle.dym_slots.specs.declared.machine.Slot.{Slot}
+use Rattle.dym_slots.specs.declared.machine.Slot.TheVariants.{Free, Live, OutOwner, OutSweeper}
+use Rattle.dym_slots.specs.SlotWords.{slot_word}
+use Rattle.dym_slots.specs.Slots.{Core, state_of, home_of}
+use Rattle.dym_slots.specs.SlotFacts.{Facts}
+use Rattle.dym_slots.specs.SeatViews.{Naming}
+use Rattle.dym_slots.specs.TableStates.{Held, home_shown, homes_of}
 
 -- what is at home in a slot, by its state alone
 abbrev pub by_state : Naming → Slot → M.Option Held

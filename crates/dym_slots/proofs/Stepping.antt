@@ -4,15 +4,15 @@ use Rattle.std.specs.Prelude.{◌==◌, Contains}
 use prog.Atomic.{either}
 use Rattle.atomic_table.specs.Table.{rest, Allows}
 use Rattle.dym_base.specs.declared.limits.TheConstants.{RECORD_ROOM}
-use Rattle.dym_slotlaw.specs.declared.slots.Slot.{Slot}
-use Rattle.dym_slotlaw.specs.declared.slots.Slot.TheVariants.{Free, Live, OutOwner}
-use Rattle.dym_slotlaw.specs.declared.slots.TheConstants.{RECORD_NUMBERS}
-use Rattle.dym_slotlaw.specs.SlotWords.{slot_word}
+use Rattle.dym_slots.specs.declared.machine.Slot.{Slot}
+use Rattle.dym_slots.specs.declared.machine.Slot.TheVariants.{Free, Live, OutOwner}
+use Rattle.dym_slots.specs.declared.machine.TheConstants.{RECORD_NUMBERS}
+use Rattle.dym_slots.specs.SlotWords.{slot_word}
 use Rattle.dym_slots.specs.declared.view.Listed.{Listed}
 use Rattle.dym_slots.specs.declared.view.SeatView.{SeatView}
 use Rattle.dym_slots.specs.declared.view.SeatView.TheVariants.{Owns}
-use Rattle.dym_slots.specs.Seats.{glimpse, owner_of, holding, with_put, lowered}
-use Rattle.dym_slots.specs.Shown.{Held, Knowing, Holds}
+use Rattle.dym_slots.specs.SeatViews.{glimpse, owner_of, holding, with_put, lowered}
+use Rattle.dym_slots.specs.TableStates.{Held, Knowing, Holds}
 use Rattle.dym_slots.specs.Moves.{IsIdleOwner, HasOut, OwnerLooked, LookedAt, IsKnownFree, Claimed, TookOwn, TookRetired, Won, Lost, IsUnlisted, WasPut, WasLowered, FreedNewest, HasEntry, IsBytesOf}
 use Rattle.dym_slots.proofs.OwnerMoves.{claims, takes_own, takes_retired, puts, lowers, frees}
 

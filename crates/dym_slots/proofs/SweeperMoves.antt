@@ -7,18 +7,18 @@ use Rattle.std.proofs.lemmas.Bool.{cases_lt}
 use mathlib.Core.Option.{some, none}
 use prog.Atomic.{either}
 use Rattle.atomic_table.specs.Table.{keeps, takes, gives, put_back, rest, stepped, Allows}
-use Rattle.dym_slotlaw.specs.declared.slots.Slot.{Slot}
-use Rattle.dym_slotlaw.specs.declared.slots.Slot.TheVariants.{Free, Live, OutOwner, OutSweeper}
-use Rattle.dym_slotlaw.specs.declared.slots.TheConstants.{RECORD_NUMBERS}
-use Rattle.dym_slotlaw.specs.declared.slots.Event.TheVariants.{SweeperRoot, SweeperLook, SweeperGrab, SweeperEmpty, SweeperFree}
-use Rattle.dym_slotlaw.specs.SlotWords.{slot_word}
-use Rattle.dym_slotlaw.specs.Slots.{Core, SweeperView, state_of}
-use Rattle.dym_slotlaw.specs.SlotSteps.{SweeperReadsRoot, SweeperLooks, SweeperGrabs, SweeperEmpties, SweeperFrees, is_retired}
-use Rattle.dym_slotlaw.specs.SlotNotes.{SweeperNote}
+use Rattle.dym_slots.specs.declared.machine.Slot.{Slot}
+use Rattle.dym_slots.specs.declared.machine.Slot.TheVariants.{Free, Live, OutOwner, OutSweeper}
+use Rattle.dym_slots.specs.declared.machine.TheConstants.{RECORD_NUMBERS}
+use Rattle.dym_slots.specs.declared.machine.Event.TheVariants.{SweeperRoot, SweeperLook, SweeperGrab, SweeperEmpty, SweeperFree}
+use Rattle.dym_slots.specs.SlotWords.{slot_word}
+use Rattle.dym_slots.specs.Slots.{Core, SweeperView, state_of}
+use Rattle.dym_slots.specs.SlotSteps.{SweeperReadsRoot, SweeperLooks, SweeperGrabs, SweeperEmpties, SweeperFrees, is_retired}
+use Rattle.dym_slots.specs.SlotNotes.{SweeperNote}
 use Rattle.dym_slots.specs.declared.view.SweeperSeat.{SweeperSeat}
 use Rattle.dym_slots.specs.declared.view.SeatView.TheVariants.{Sweeps}
-use Rattle.dym_slots.specs.Seats.{sweeper_seat, sweeper_of, IsSweeper, with_root, glanced, grabbed, with_taken_back}
-use Rattle.dym_slots.specs.Shown.{Held, Knowing, TableState, Holds}
+use Rattle.dym_slots.specs.SeatViews.{sweeper_seat, sweeper_of, IsSweeper, with_root, glanced, grabbed, with_taken_back}
+use Rattle.dym_slots.specs.TableStates.{Held, Knowing, TableState, Holds}
 use Rattle.dym_slots.specs.Moves.{IsIdleSweeper, ReadRoot, SweeperLooked, TriedGrab, GaveBack}
 use Rattle.dym_slots.proofs.Showing.{by_state, homes_by_state, words_set, word_at, homes_set, home_at}
 use Rattle.dym_slots.proofs.Running.{SweeperIn, sweeper_in, sweeper_holds, noted, sound_after, wins, loses}

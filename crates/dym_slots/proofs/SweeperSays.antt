@@ -3,13 +3,13 @@ use Rattle.std.proofs.Common.{◌≡◌, ◌≢◌, ℕ, ◌+◌, ◌<◌, inl, 
 use Rattle.std.specs.Prelude.{◌==◌, if◌then◌else◌}
 use prog.Atomic.{either}
 use Rattle.atomic_table.specs.Table.{rest, Allows}
-use Rattle.dym_slotlaw.specs.declared.slots.Slot.{Slot}
-use Rattle.dym_slotlaw.specs.declared.slots.Slot.TheVariants.{Free, Live, OutSweeper}
-use Rattle.dym_slotlaw.specs.SlotWords.{slot_word}
-use Rattle.dym_slotlaw.specs.SlotSteps.{is_retired}
+use Rattle.dym_slots.specs.declared.machine.Slot.{Slot}
+use Rattle.dym_slots.specs.declared.machine.Slot.TheVariants.{Free, Live, OutSweeper}
+use Rattle.dym_slots.specs.SlotWords.{slot_word}
+use Rattle.dym_slots.specs.SlotSteps.{is_retired}
 use Rattle.dym_slots.specs.declared.view.SeatView.TheVariants.{Sweeps}
-use Rattle.dym_slots.specs.Seats.{sweeper_of, IsSweeper, glanced, grabbed, with_taken_back}
-use Rattle.dym_slots.specs.Shown.{Held, Knowing, Holds}
+use Rattle.dym_slots.specs.SeatViews.{sweeper_of, IsSweeper, glanced, grabbed, with_taken_back}
+use Rattle.dym_slots.specs.TableStates.{Held, Knowing, Holds}
 use Rattle.dym_slots.specs.Moves.{IsIdleSweeper, SweeperLooked, TriedGrab, GaveBack, SweptSlot}
 use Rattle.dym_slots.proofs.SweeperMoves.{grabs, sweeper_frees}
 

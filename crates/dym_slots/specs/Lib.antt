@@ -1,5 +1,11 @@
-pub mod Seats
-pub mod Shown
+pub mod Slots
+pub mod SlotWords
+pub mod SlotSteps
+pub mod SlotFacts
+pub mod SlotNotes
+pub mod SlotLaws
+pub mod SeatViews
+pub mod TableStates
 pub mod Moves
 pub mod Meanings
 pub mod Sweepers

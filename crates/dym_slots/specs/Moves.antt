@@ -2,17 +2,17 @@
 -- and of the seat after.
 use Rattle.std.specs.Prelude.{◌≡◌, ◌≢◌, ℕ, ◌+◌, ◌<◌, ◌≤◌, ◌⊎◌, List, [], ◌∷◌, ◌++◌, Some, None, Contains, Bool, false, if◌then◌else◌}
 use Rattle.dym_base.specs.declared.limits.TheConstants.{LOG_SLOTS, LOG_WORDS}
-use Rattle.dym_slotlaw.specs.declared.slots.Slot.{Slot}
-use Rattle.dym_slotlaw.specs.declared.slots.Slot.TheVariants.{Free, Live, OutOwner, OutSweeper}
-use Rattle.dym_slotlaw.specs.declared.slots.TheConstants.{RECORD_NUMBERS}
-use Rattle.dym_slotlaw.specs.SlotWords.{slot_word}
-use Rattle.dym_slotlaw.specs.SlotSteps.{is_retired, remember}
+use Rattle.dym_slots.specs.declared.machine.Slot.{Slot}
+use Rattle.dym_slots.specs.declared.machine.Slot.TheVariants.{Free, Live, OutOwner, OutSweeper}
+use Rattle.dym_slots.specs.declared.machine.TheConstants.{RECORD_NUMBERS}
+use Rattle.dym_slots.specs.SlotWords.{slot_word}
+use Rattle.dym_slots.specs.SlotSteps.{is_retired, remember}
 use Rattle.atomic_table.specs.Seated.{TableId}
 use Rattle.dym_slots.specs.declared.view.Listed.{Listed}
 use Rattle.dym_slots.specs.declared.view.OwnerSeat.{OwnerSeat}
 use Rattle.dym_slots.specs.declared.view.SeatView.TheVariants.{Owns, Sweeps}
-use Rattle.dym_slots.specs.Seats.{glimpse, owner_of, sweeper_of, IsOwner, IsSweeper, looked, holding, with_put, lowered, with_freed, with_raised, with_root, glanced, grabbed, with_taken_back}
-use Rattle.dym_slots.specs.Shown.{Held, Knowing}
+use Rattle.dym_slots.specs.SeatViews.{glimpse, owner_of, sweeper_of, IsOwner, IsSweeper, looked, holding, with_put, lowered, with_freed, with_raised, with_root, glanced, grabbed, with_taken_back}
+use Rattle.dym_slots.specs.TableStates.{Held, Knowing}
 
 -- a seat of this table, which has the words and the slots of a log table
 pub record SitsAt (table seat : TableId) : Type 0 where

@@ -1,11 +1,11 @@
 -- How the owner keeps the slots of its table: those of its list first, oldest first, and then the others.
 use Rattle.std.specs.Prelude.{◌≡◌, ◌≢◌, ℕ, ◌<◌, ◌≤◌, List, [], ◌∷◌, ◌++◌, map, take, drop, length, slice_index_or, All, AllPairs}
 use Rattle.dym_base.specs.declared.limits.TheConstants.{LOG_SLOTS, RECORD_ROOM}
-use Rattle.dym_slotlaw.specs.declared.slots.Entry.{Entry}
-use Rattle.dym_slotlaw.specs.declared.slots.TheConstants.{RECORD_NUMBERS}
+use Rattle.dym_slots.specs.declared.machine.Entry.{Entry}
+use Rattle.dym_slots.specs.declared.machine.TheConstants.{RECORD_NUMBERS}
 use Rattle.dym_slots.specs.declared.view.Listed.{Listed}
-use Rattle.dym_slots.specs.Seats.{owner_of, IsOwner}
-use Rattle.dym_slots.specs.Shown.{Knowing}
+use Rattle.dym_slots.specs.SeatViews.{owner_of, IsOwner}
+use Rattle.dym_slots.specs.TableStates.{Knowing}
 use Rattle.dym_slots.specs.Moves.{IsIdleOwner}
 use Rattle.dym_slots.specs.Meanings.{Numbered, NumbersRise}
 
@@ -24,7 +24,7 @@ slot_at order place = (slice_index_or order place no_entry).slot
 
 -- the order after the first entries moved behind the others of the first so many
 abbrev pub retired : ℕ → ℕ → List Entry → List Entry
-retired near place order = drop place (take near order) ++ (take place (take near order) ++ drop near order)
+retired next_spares place order = drop place (take next_spares order) ++ (take place (take next_spares order) ++ drop next_spares order)
 
 abbrev pub numbered : Listed → Numbered
 numbered x = record { number = x.entry.number; bytes = x.bytes }
@@ -33,14 +33,14 @@ abbrev pub entry_of : Listed → Entry
 entry_of x = x.entry
 
 -- the order, the length of the list and the next number say what the owner's seat knows
-pub record Stands (order : List Entry) (len made : ℕ) (me : Knowing) : Type 0 where
+pub record Stands (order : List Entry) (len next_number : ℕ) (me : Knowing) : Type 0 where
   pub seat : IsOwner me.0
   pub order_is : IsOrder order
   pub list : map entry_of (owner_of me.0).list ≡ take len order
   pub few : len ≤ RECORD_ROOM
-  pub next : (owner_of me.0).next ≡ made
-  pub most : made ≤ RECORD_NUMBERS
-  pub rise : NumbersRise (map numbered (owner_of me.0).list) made
+  pub next : (owner_of me.0).next ≡ next_number
+  pub most : next_number ≤ RECORD_NUMBERS
+  pub rise : NumbersRise (map numbered (owner_of me.0).list) next_number
   pub remembered : (owner_of me.0).remembered ≡ []
 
 -- an owner with no slot out, whose next number and remembered slots are as before, and whose list is this one

@@ -1,6 +1,6 @@
 -- How a sweeper's fields stand for what it is seen as.
 use Rattle.dym_slots.specs.declared.sweeper.Sweeper.TheInside.{Inside}
-use Rattle.dym_slots.specs.Seats.{sweeper_of}
+use Rattle.dym_slots.specs.SeatViews.{sweeper_of}
 use Rattle.dym_slots.specs.Moves.{SitsAt, IsIdleSweeper}
 use Rattle.dym_slots.specs.Meanings.{SweeperMeaning, name_of}
 

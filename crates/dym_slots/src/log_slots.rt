@@ -3,11 +3,11 @@ ghost use Rattle.std.specs.Prelude.{◌≡◌, [], None, IfOk};
 ghost use Rattle.dym_base.specs.Origins.{shared};
 ghost use Rattle.dym_slots.specs.Orders.{IsOrder};
 
+use crate::machine::Entry;
 use crate::owner::Owner;
 use crate::rule::{Ends, LogTable};
 use crate::sweeper::Sweeper;
 use dym_base::limits::{LOG_SLOTS, LOG_WORDS};
-use dym_slotlaw::Entry;
 use std::alloc::{AllocError, Global};
 use std::sync::Arc;
 
@@ -21,7 +21,7 @@ impl LogSlots {
     /// Makes an empty log table, with room for a full list. Only memory can be wanting.
     pub fn open(alloc: Global) -> Result<(Owner, Sweeper), AllocError>
         ensures owner { IfOk result (λ ends.
-            ends.0 ≡ record { records = []; made = 0; lifted = None; origin = shared ends.1.table }) }
+            ends.0 ≡ record { records = []; next_number = 0; lifted = None; origin = shared ends.1.table }) }
         ensures sweeper { IfOk result (λ ends.
             ends.1 ≡ record { table = ends.1.table; rounds = 0; taken_back = 0; clean = 0 }) }
     {
@@ -40,7 +40,7 @@ impl LogSlots {
             seat,
             order,
             len: 0,
-            made: 0,
+            next_number: 0,
             lifted: None,
         };
         let sweeper = Sweeper {

@@ -1,19 +1,19 @@
 //! The owner's steps on a log table, and what it does by several of them. Each atomic step is one step of the machine.
 ghost use Rattle.std.specs.Prelude.{◌≡◌, ◌≢◌, ℕ, ◌<◌, ◌⊎◌, List, [], ◌∷◌, ◌++◌, length, Some, None, IsTrue, IsFalse};
 ghost use Rattle.dym_base.specs.declared.limits.TheConstants.{LOG_SLOTS, RECORD_ROOM};
-ghost use Rattle.dym_slotlaw.specs.declared.slots.TheConstants.{RECORD_NUMBERS};
-ghost use Rattle.dym_slotlaw.specs.declared.slots.Slot.TheVariants.{Live};
+ghost use Rattle.dym_slots.specs.declared.machine.TheConstants.{RECORD_NUMBERS};
+ghost use Rattle.dym_slots.specs.declared.machine.Slot.TheVariants.{Live};
 ghost use Rattle.dym_slots.specs.declared.view.Listed.{Listed};
 ghost use Rattle.dym_slots.specs.declared.view.SeatView.TheVariants.{Owns};
-ghost use Rattle.dym_slots.specs.Seats.{glimpse, owner_of, IsOwner, holding, with_put, lowered, with_freed, with_raised};
-ghost use Rattle.dym_slots.specs.Shown.{Held};
+ghost use Rattle.dym_slots.specs.SeatViews.{glimpse, owner_of, IsOwner, holding, with_put, lowered, with_freed, with_raised};
+ghost use Rattle.dym_slots.specs.TableStates.{Held};
 ghost use Rattle.dym_slots.specs.Moves.{SitsAt, IsIdleOwner, HasOut, LookedAt, IsKnownFree, Won, Lost, IsUnlisted, Seized, Missed, HasEntry, IsBytesOf};
 
+use crate::machine::Slot;
 use crate::rule::{LogSeat, Slots};
 use crate::view::SeatView;
 use atomic_table::Play;
 use dym_pack::Record;
-use dym_slotlaw::Slot;
 
 /// A look at a slot.
 struct Looks;

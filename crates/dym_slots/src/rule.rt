@@ -9,7 +9,7 @@ pub struct LogRule;
 
 impl TableRule<Option<Record>, SeatView, ()> for LogRule {
     ghost use Rattle.dym_base.specs.declared.limits.TheConstants.{LOG_SLOTS};
-    ghost use Rattle.dym_slots.specs.Shown.{Holds};
+    ghost use Rattle.dym_slots.specs.TableStates.{Holds};
     ghost use Rattle.dym_slots.specs.declared.view.SeatView.TheVariants.{Alone};
 
     ghost holds = { λ _. Holds LOG_SLOTS };
@@ -22,7 +22,7 @@ pub struct Ends;
 
 impl Split<SeatView> for Ends {
     ghost use Rattle.dym_slots.specs.declared.view.SeatView.TheVariants.{Owns, Sweeps};
-    ghost use Rattle.dym_slots.specs.Seats.{new_owner, new_sweeper};
+    ghost use Rattle.dym_slots.specs.SeatViews.{new_owner, new_sweeper};
 
     ghost left = { λ _. Owns new_owner };
 

@@ -1,18 +1,18 @@
 //! The sweeper's steps on a log table, and its round over all slots. Each atomic step is one step of the machine.
 ghost use Rattle.std.specs.Prelude.{◌≡◌, ℕ, ◌+◌, ◌<◌, ◌≤◌, List, [], ◌∷◌, Some, None, IsTrue, IsFalse, false};
 ghost use Rattle.dym_base.specs.declared.limits.TheConstants.{LOG_SLOTS};
-ghost use Rattle.dym_slotlaw.specs.declared.slots.TheConstants.{RECORD_NUMBERS};
+ghost use Rattle.dym_slots.specs.declared.machine.TheConstants.{RECORD_NUMBERS};
 ghost use Rattle.dym_slots.specs.declared.view.SeatView.TheVariants.{Sweeps};
-ghost use Rattle.dym_slots.specs.Seats.{sweeper_of, IsSweeper, with_root, glanced, grabbed, with_taken_back};
-ghost use Rattle.dym_slots.specs.Shown.{Held};
+ghost use Rattle.dym_slots.specs.SeatViews.{sweeper_of, IsSweeper, with_root, glanced, grabbed, with_taken_back};
+ghost use Rattle.dym_slots.specs.TableStates.{Held};
 ghost use Rattle.dym_slots.specs.Moves.{SitsAt, IsIdleSweeper, SameRound, SweptSlot};
 
+use crate::machine::Slot;
 use crate::rule::{LogSeat, Slots};
 use crate::view::SeatView;
 use atomic_table::Play;
 use dym_base::limits::LOG_SLOTS;
 use dym_pack::Record;
-use dym_slotlaw::Slot;
 
 /// A read of the root, which begins a round.
 struct Roots;

@@ -1,6 +1,6 @@
 //! What the seats of a log table know. No values of these types are made: they stand in clauses alone.
+use crate::machine::{Entry, Slot};
 use dym_pack::Record;
-use dym_slotlaw::{Entry, Slot};
 use std::collections::LinkedList;
 
 /// An entry of the owner's list, with the record that it was put with.

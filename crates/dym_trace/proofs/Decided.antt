@@ -2,14 +2,14 @@
 use Rattle.std.proofs.Common.{◌≡◌, ◌≢◌, ◌⊎◌, inl, inr, ℕ, zero, suc, ◌<◌, List, [], ◌∷◌, ◌++◌, length, Option, Some, None, sym, ap, subst, refl, arith, length-append}
 use Rattle.std.proofs.lemmas.Bool.{cases_eq, cases_lt}
 use Rattle.dym_base.specs.declared.limits.TheConstants.{RECORD_ROOM}
-use Rattle.dym_slotlaw.specs.declared.slots.TheConstants.{RECORD_NUMBERS}
-use Rattle.dym_slotlaw.specs.declared.slots.Slot.{Slot}
-use Rattle.dym_slotlaw.specs.declared.slots.Slot.TheVariants.{Free, Live, OutOwner, OutSweeper}
-use Rattle.dym_slotlaw.specs.declared.slots.Entry.{Entry}
-use Rattle.dym_slotlaw.specs.declared.slots.Event.{Event}
-use Rattle.dym_slotlaw.specs.declared.slots.Event.TheVariants.{OwnerLook, OwnerClaim, OwnerTake, OwnerEmpty, OwnerFill, OwnerPut, OwnerLower, OwnerFree, OwnerRaise, SweeperRoot, SweeperLook, SweeperGrab, SweeperEmpty, SweeperFree}
-use Rattle.dym_slotlaw.specs.Slots.{Core, state_of, home_of, entry, HasNumber, IsListed}
-use Rattle.dym_slotlaw.specs.SlotSteps.{Step, IsNewestOfTwo}
+use Rattle.dym_slots.specs.declared.machine.TheConstants.{RECORD_NUMBERS}
+use Rattle.dym_slots.specs.declared.machine.Slot.{Slot}
+use Rattle.dym_slots.specs.declared.machine.Slot.TheVariants.{Free, Live, OutOwner, OutSweeper}
+use Rattle.dym_slots.specs.declared.machine.Entry.{Entry}
+use Rattle.dym_slots.specs.declared.machine.Event.{Event}
+use Rattle.dym_slots.specs.declared.machine.Event.TheVariants.{OwnerLook, OwnerClaim, OwnerTake, OwnerEmpty, OwnerFill, OwnerPut, OwnerLower, OwnerFree, OwnerRaise, SweeperRoot, SweeperLook, SweeperGrab, SweeperEmpty, SweeperFree}
+use Rattle.dym_slots.specs.Slots.{Core, state_of, home_of, entry, HasNumber, IsListed}
+use Rattle.dym_slots.specs.SlotSteps.{Step, IsNewestOfTwo}
 
 -- it can be told whether this holds
 abbrev pub Told : Type 0 → Type 0

@@ -8,10 +8,10 @@ use Rattle.std.proofs.lemmas.Bool.{cases_eq}
 use Rattle.std.proofs.lemmas.Bool.Decides.{nat_tests}
 use Rattle.std.proofs.lemmas.List.Elements.{Contains-get_or}
 use Rattle.std.proofs.lemmas.List.{length-append, get_or_at, same_from_push}
-use Rattle.dym_slotlaw.specs.declared.slots.Entry.{Entry}
-use Rattle.dym_slotlaw.specs.Slots.{entry, HasNumber}
-use Rattle.dym_slotlaw.specs.SlotSteps.{without, from_number}
-use Rattle.dym_slotlaw.specs.SlotFacts.{NumbersRise}
+use Rattle.dym_slots.specs.declared.machine.Entry.{Entry}
+use Rattle.dym_slots.specs.Slots.{entry, HasNumber}
+use Rattle.dym_slots.specs.SlotSteps.{without, from_number}
+use Rattle.dym_slots.specs.SlotFacts.{NumbersRise}
 
 -- a filter that each element passes keeps the list
 filter_whole : (p : Entry → Bool) (xs : List Entry) → All (λ x. p x ≡ true) xs → filter p xs ≡ xs

@@ -7,9 +7,9 @@ use Rattle.std.proofs.lemmas.Bool.{cases_lt, eqb-true}
 use Rattle.std.proofs.lemmas.List.{get_or_default}
 use Rattle.std.proofs.lemmas.List.Folds.{Any-from_list_any}
 use Rattle.std.proofs.lemmas.Option.{slice_get-get_or}
-use Rattle.dym_slotlaw.specs.declared.slots.Slot.TheVariants.{OutOwner, OutSweeper}
-use Rattle.dym_slotlaw.specs.Slots.{Core, state_of, IsListed}
-use Rattle.dym_slotlaw.specs.SlotFacts.{Facts}
+use Rattle.dym_slots.specs.declared.machine.Slot.TheVariants.{OutOwner, OutSweeper}
+use Rattle.dym_slots.specs.Slots.{Core, state_of, IsListed}
+use Rattle.dym_slots.specs.SlotFacts.{Facts}
 
 -- the number of that slot is in the list where it lies from the root on and below the next number
 pub listed_in_range : (c : Core) (s n : ℕ) → Facts c → state_of c s ≡ OutOwner n → c.root ≤ n → n < c.owner.next → IsListed c n

@@ -2,8 +2,8 @@
 use Rattle.std.proofs.Common.{◌≡◌, ◌⊎◌, inl, inr, ℕ, zero, suc, ◌+◌, List, [], length, get_or, take, drop, ◌∙◌, subst, refl, arith}
 use Rattle.std.proofs.lemmas.List.{length-drop, nil_from_length}
 use Rattle.dym_base.specs.declared.limits.TheConstants.{LOG_SLOTS}
-use Rattle.dym_slotlaw.specs.Slots.{Core, start}
-use Rattle.dym_slotlaw.specs.SlotSteps.{Step}
+use Rattle.dym_slots.specs.Slots.{Core, start}
+use Rattle.dym_slots.specs.SlotSteps.{Step}
 use Rattle.dym_trace.specs.declared.answer.TraceAnswer.{TraceAnswer}
 use Rattle.dym_trace.specs.declared.answer.TraceAnswer.TheVariants.{Good, Bad}
 use Rattle.dym_base.specs.Lines.{lines_of}

@@ -11,8 +11,8 @@ use Rattle.std.proofs.lemmas.Fmt.{decimal_injective, decimal_nonempty}
 use Rattle.dym_trace.proofs.Digits.{decimal_byte}
 use Rattle.dym_trace.proofs.Cuts.{cut_once}
 use Rattle.dym_base.specs.declared.limits.TheConstants.{LOG_SLOTS}
-use Rattle.dym_slotlaw.specs.declared.slots.Event.{Event}
-use Rattle.dym_slotlaw.specs.declared.slots.Event.TheVariants.{OwnerLook, OwnerClaim, OwnerTake, OwnerEmpty, OwnerFill, OwnerPut, OwnerLower, OwnerFree, OwnerRaise, SweeperRoot, SweeperLook, SweeperGrab, SweeperEmpty, SweeperFree}
+use Rattle.dym_slots.specs.declared.machine.Event.{Event}
+use Rattle.dym_slots.specs.declared.machine.Event.TheVariants.{OwnerLook, OwnerClaim, OwnerTake, OwnerEmpty, OwnerFill, OwnerPut, OwnerLower, OwnerFree, OwnerRaise, SweeperRoot, SweeperLook, SweeperGrab, SweeperEmpty, SweeperFree}
 use Rattle.dym_trace.specs.Events.{event_text, IsInRange, Reads}
 
 -- the words before the numbers, by kind

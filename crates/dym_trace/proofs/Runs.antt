@@ -2,9 +2,9 @@
 use Rattle.std.proofs.Common.{◌≡◌, ℕ, zero, suc, ◌+◌, ◌-◌, ◌<◌, ◌≤◌, List, [], ◌∷◌, ◌++◌, length, get_or, take, drop, add-one, sym, ap, subst, refl, arith}
 use Rattle.std.specs.List.{AllZip}
 use Rattle.std.proofs.lemmas.List.{take_more, take_all, length-drop}
-use Rattle.dym_slotlaw.specs.declared.slots.Event.{Event}
-use Rattle.dym_slotlaw.specs.Slots.{Core}
-use Rattle.dym_slotlaw.specs.SlotSteps.{Step, Steps}
+use Rattle.dym_slots.specs.declared.machine.Event.{Event}
+use Rattle.dym_slots.specs.Slots.{Core}
+use Rattle.dym_slots.specs.SlotSteps.{Step, Steps}
 use Rattle.dym_trace.specs.Events.{Reads}
 use Rattle.dym_trace.specs.Verdict.{Reach, LineStep, IsNoStep, IsGood, IsBad}
 

@@ -2,9 +2,9 @@
 use Rattle.std.proofs.Common.{ℕ, Bool, true, false, List, Result, Ok, Err, IfOk, ◌∙◌, subst}
 use Rattle.std.specs.Bool.{IsTrue}
 use Rattle.std.specs.declared.alloc.AllocError.{AllocError}
-use Rattle.dym_slotlaw.specs.declared.slots.Event.{Event}
-use Rattle.dym_slotlaw.specs.SlotSteps.{Step}
-use Rattle.dym_slotlaw.specs.SlotLaws.{EachStepKeepsFacts}
+use Rattle.dym_slots.specs.declared.machine.Event.{Event}
+use Rattle.dym_slots.specs.SlotSteps.{Step}
+use Rattle.dym_slots.specs.SlotLaws.{EachStepKeepsFacts}
 use Rattle.dym_trace.specs.declared.machine.Machine.{Machine}
 use Rattle.dym_trace.specs.Events.{Reads}
 use Rattle.dym_trace.specs.Machine.{core_of, IsSound, Does}

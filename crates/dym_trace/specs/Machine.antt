@@ -1,10 +1,10 @@
 -- What the checker's machine means: the state of the log table.
 use Rattle.std.specs.Prelude.{◌≡◌, ◌⊎◌, ℕ, List, length, Bool, true, false}
 use Rattle.dym_base.specs.declared.limits.TheConstants.{LOG_SLOTS}
-use Rattle.dym_slotlaw.specs.declared.slots.Entry.{Entry}
-use Rattle.dym_slotlaw.specs.Slots.{Core, HasNumber}
-use Rattle.dym_slotlaw.specs.SlotSteps.{IsNewestOfTwo, without, from_number}
-use Rattle.dym_slotlaw.specs.SlotFacts.{Facts}
+use Rattle.dym_slots.specs.declared.machine.Entry.{Entry}
+use Rattle.dym_slots.specs.Slots.{Core, HasNumber}
+use Rattle.dym_slots.specs.SlotSteps.{IsNewestOfTwo, without, from_number}
+use Rattle.dym_slots.specs.SlotFacts.{Facts}
 use Rattle.dym_trace.specs.declared.machine.Machine.{Machine}
 
 -- the state that the fields hold

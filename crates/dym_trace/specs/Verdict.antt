@@ -2,9 +2,9 @@
 use Rattle.std.specs.Prelude.{◌≡◌, ℕ, ◌-◌, ◌<◌, ◌≤◌, List, [], length, take, slice_index_or}
 use Rattle.std.specs.List.{AllZip}
 use Rattle.dym_base.specs.declared.limits.TheConstants.{LOG_SLOTS}
-use Rattle.dym_slotlaw.specs.declared.slots.Event.{Event}
-use Rattle.dym_slotlaw.specs.Slots.{Core, start}
-use Rattle.dym_slotlaw.specs.SlotSteps.{Step, Steps}
+use Rattle.dym_slots.specs.declared.machine.Event.{Event}
+use Rattle.dym_slots.specs.Slots.{Core, start}
+use Rattle.dym_slots.specs.SlotSteps.{Step, Steps}
 use Rattle.dym_trace.specs.declared.answer.TraceAnswer.{TraceAnswer}
 use Rattle.dym_trace.specs.declared.answer.TraceAnswer.TheVariants.{Good, Bad}
 use Rattle.dym_base.specs.Lines.{lines_of}

@@ -1,9 +1,9 @@
 //! What leaves the owner's list, at either end.
 
-ghost use Rattle.dym_slotlaw.specs.SlotFacts.{NumbersRise};
+ghost use Rattle.dym_slots.specs.SlotFacts.{NumbersRise};
 ghost use Rattle.dym_trace.specs.Machine.{DropsNewest, DropsOlder};
 
-use dym_slotlaw::Entry;
+use dym_slots::Entry;
 use std::collections::VecDeque;
 
 /// The fewest entries of a list that may lose its newest.

@@ -1,15 +1,15 @@
 //! The machine that a trace is run on: one field for each part of the table's state.
 
 ghost use Rattle.std.specs.Prelude.{◌≡◌, ◌≢◌, ℕ, ◌<◌, ◌↔◌, IsTrue, IfOk, IfSome, MatchOption, is_some};
-ghost use Rattle.dym_slotlaw.specs.declared.slots.Slot.TheVariants.{Live, OutOwner};
-ghost use Rattle.dym_slotlaw.specs.Slots.{start as start_of, state_of, IsListed};
-ghost use Rattle.dym_slotlaw.specs.SlotSteps.{Step, OwnerLooks, OwnerClaims, OwnerTakes, OwnerEmpties, OwnerFills, OwnerPuts, OwnerLowers, OwnerFrees, OwnerRaises, SweeperReadsRoot, SweeperLooks, SweeperGrabs, SweeperEmpties, SweeperFrees, is_retired};
+ghost use Rattle.dym_slots.specs.declared.machine.Slot.TheVariants.{Live, OutOwner};
+ghost use Rattle.dym_slots.specs.Slots.{start as start_of, state_of, IsListed};
+ghost use Rattle.dym_slots.specs.SlotSteps.{Step, OwnerLooks, OwnerClaims, OwnerTakes, OwnerEmpties, OwnerFills, OwnerPuts, OwnerLowers, OwnerFrees, OwnerRaises, SweeperReadsRoot, SweeperLooks, SweeperGrabs, SweeperEmpties, SweeperFrees, is_retired};
 ghost use Rattle.dym_trace.specs.Events.{IsInRange};
 ghost use Rattle.dym_trace.specs.Machine.{core_of, IsSound, Does, LetsGo};
 
 use crate::list::{drop_newest, drop_older};
 use dym_base::limits::{LOG_SLOTS, RECORD_ROOM};
-use dym_slotlaw::{Entry, Event, RECORD_NUMBERS, Slot, each_run_keeps_facts};
+use dym_slots::{Entry, Event, RECORD_NUMBERS, Slot, each_run_keeps_facts};
 use std::alloc::{AllocError, Global};
 use std::collections::VecDeque;
 

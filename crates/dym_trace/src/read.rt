@@ -2,12 +2,12 @@
 
 ghost use Rattle.std.specs.Prelude.{◌≡◌, ◌≢◌, ℕ, ◌^◌, ◌+◌, ◌-◌, ◌*◌, ◌<◌, ◌≤◌, ◌↔◌, List, ◌++◌, length, slice_index, IsTrue, MatchOption, codes};
 ghost use Rattle.std.specs.Fmt.{decimal};
-ghost use Rattle.dym_slotlaw.specs.declared.slots.Event.{Event};
+ghost use Rattle.dym_slots.specs.declared.machine.Event.{Event};
 ghost use Rattle.dym_trace.specs.Events.{Reads};
 
 use crate::cut::cut;
 use dym_base::limits::LOG_SLOTS;
-use dym_slotlaw::Event;
+use dym_slots::Event;
 
 /// The event that the line is, if it is one.
 pub(crate) fn read_event(line: &[u8]) -> Option<Event>

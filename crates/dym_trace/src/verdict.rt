@@ -9,7 +9,7 @@ use crate::cut::first_line;
 use crate::machine::Machine;
 use crate::read::read_event;
 use dym_base::limits::MOST_INPUT_BYTES;
-use dym_slotlaw::each_step_keeps_facts;
+use dym_slots::each_step_keeps_facts;
 use std::alloc::{AllocError, Global};
 
 /// Judges a trace of at most 16,777,216 bytes: whether each of its lines is an event and a step from the state that

@@ -3,8 +3,8 @@ use Rattle.std.specs.Prelude.{◌≡◌, ◌+◌, ◌^◌, ◌≤◌, ◌<◌, �
 use Rattle.dym_base.specs.declared.reply.Reply.{Reply}
 use Rattle.dym_base.specs.declared.reply.Reply.TheVariants as reply
 use Rattle.dym_base.specs.declared.reply.Refusal.TheVariants as refusal
-use Rattle.dym_turn.specs.declared.replies.KeptReply.{KeptReply}
-use Rattle.dym_turn.specs.declared.replies.KeptReply.TheVariants as kept
+use Rattle.dym_turn.specs.declared.replies.StoredReply.{StoredReply}
+use Rattle.dym_turn.specs.declared.replies.StoredReply.TheVariants as stored
 
 -- replies to commands: the list of them, for how many more there is room, and for how many more bytes that reads tell
 pub record RepliesMeaning : Type 0 where
@@ -21,9 +21,9 @@ bytes_of (reply.Bytes bytes) = bytes
 bytes_of _ = []
 
 -- there is room for a reply more. No reply tells as many as 2 ^ 32 bytes
-pub record HasRoomFor (kept : RepliesMeaning) (reply : Reply) : Type 0 where
-  pub one : 0 < kept.room
-  pub bytes : length (bytes_of reply) ≤ kept.byte_room
+pub record HasRoomFor (stored : RepliesMeaning) (reply : Reply) : Type 0 where
+  pub one : 0 < stored.room
+  pub bytes : length (bytes_of reply) ≤ stored.byte_room
   pub short : length (bytes_of reply) < 2 ^ 32
 
 abbrev pub is_refusal : Reply → Bool
@@ -31,40 +31,40 @@ is_refusal (reply.Refused why) = true
 is_refusal _ = false
 
 -- the reply that is kept, where the table has these bytes
-abbrev pub kept_reply : List ℕ → KeptReply → Reply
-kept_reply bytes kept.Done = reply.Done
-kept_reply bytes (kept.Chunk handle) = reply.Chunk handle
-kept_reply bytes kept.Nil = reply.Nil
-kept_reply bytes (kept.Loose number) = reply.Loose number
-kept_reply bytes (kept.Bytes len place) = reply.Bytes (take len (drop place bytes))
-kept_reply bytes (kept.Total total) = reply.Total total
-kept_reply bytes (kept.Logged kind len) = reply.Logged kind len
-kept_reply bytes (kept.At time) = reply.At time
-kept_reply bytes (kept.Dropped count) = reply.Dropped count
-kept_reply bytes (kept.Slots logs slots) = reply.Slots logs slots
-kept_reply bytes kept.TooLarge = reply.Refused refusal.TooLarge
-kept_reply bytes kept.Quota = reply.Refused refusal.Quota
-kept_reply bytes kept.Dead = reply.Refused refusal.Dead
-kept_reply bytes kept.Range = reply.Refused refusal.Range
-kept_reply bytes (kept.NotAfter newest) = reply.Refused (refusal.NotAfter newest)
-kept_reply bytes kept.LogsFull = reply.Refused refusal.LogsFull
-kept_reply bytes kept.NoLog = reply.Refused refusal.NoLog
+abbrev pub reply_of_stored : List ℕ → StoredReply → Reply
+reply_of_stored bytes stored.Done = reply.Done
+reply_of_stored bytes (stored.Chunk handle) = reply.Chunk handle
+reply_of_stored bytes stored.Nil = reply.Nil
+reply_of_stored bytes (stored.Loose number) = reply.Loose number
+reply_of_stored bytes (stored.Bytes len place) = reply.Bytes (take len (drop place bytes))
+reply_of_stored bytes (stored.Total total) = reply.Total total
+reply_of_stored bytes (stored.Logged kind len) = reply.Logged kind len
+reply_of_stored bytes (stored.At time) = reply.At time
+reply_of_stored bytes (stored.Dropped count) = reply.Dropped count
+reply_of_stored bytes (stored.Slots logs slots) = reply.Slots logs slots
+reply_of_stored bytes stored.TooLarge = reply.Refused refusal.TooLarge
+reply_of_stored bytes stored.Quota = reply.Refused refusal.Quota
+reply_of_stored bytes stored.Dead = reply.Refused refusal.Dead
+reply_of_stored bytes stored.Range = reply.Refused refusal.Range
+reply_of_stored bytes (stored.NotAfter newest) = reply.Refused (refusal.NotAfter newest)
+reply_of_stored bytes stored.LogsFull = reply.Refused refusal.LogsFull
+reply_of_stored bytes stored.NoLog = reply.Refused refusal.NoLog
 
 -- the replies that are kept
-abbrev pub kept_replies : List ℕ → List KeptReply → List Reply
-kept_replies bytes kepts = map (kept_reply bytes) kepts
+abbrev pub replies_of_stored : List ℕ → List StoredReply → List Reply
+replies_of_stored bytes stored_list = map (reply_of_stored bytes) stored_list
 
 -- the bytes that a kept reply tells stand in the table
-abbrev pub IsKept : List ℕ → KeptReply → Type 0
-IsKept bytes (kept.Bytes len place) = place + len ≤ length bytes
-IsKept bytes _ = Unit {0}
+abbrev pub IsStored : List ℕ → StoredReply → Type 0
+IsStored bytes (stored.Bytes len place) = place + len ≤ length bytes
+IsStored bytes _ = Unit {0}
 
 -- the bytes of all stand in the table, and so many of them are refusals
-pub record AreKept (bytes : List ℕ) (kepts : List KeptReply) (refused : ℕ) : Type 0 where
-  pub each : All (IsKept bytes) kepts
-  pub count : refused ≡ count_by is_refusal (kept_replies bytes kepts)
+pub record AreStored (bytes : List ℕ) (stored_list : List StoredReply) (refused : ℕ) : Type 0 where
+  pub each : All (IsStored bytes) stored_list
+  pub count : refused ≡ count_by is_refusal (replies_of_stored bytes stored_list)
 
 -- a kept reply that isn't one of bytes that were read
-abbrev pub IsPlain : KeptReply → Type 0
-IsPlain (kept.Bytes len place) = ⊥
+abbrev pub IsPlain : StoredReply → Type 0
+IsPlain (stored.Bytes len place) = ⊥
 IsPlain _ = Unit {0}

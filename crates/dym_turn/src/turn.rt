@@ -44,7 +44,7 @@ impl<S: Supply, K: LogKeep> Turn<S, K> {
 }
 
 impl<S: Supply, K: LogKeep> Runner for Turn<S, K> {
-    type Way = S::Way;
+    type Context = S::Context;
 
     type Fail = AllocError;
 
@@ -57,13 +57,19 @@ impl<S: Supply, K: LogKeep> Runner for Turn<S, K> {
     ghost stays = { λ old new. Stayed old.object old.reply new.object new.reply };
 
     #[inline(always)]
-    fn run(&mut self, way: &S::Way, command: Command) -> Result<(), AllocError> {
+    fn run(&mut self, context: &S::Context, command: Command) -> Result<(), AllocError> {
         self.object
-            .run_into(way, self.alloc, &command, &mut self.reply)
+            .run_into(context, self.alloc, &command, &mut self.reply)
     }
 
     #[inline(always)]
-    fn write(&mut self, _way: &S::Way, h: Handle, at: u32, bytes: &[u8]) -> Result<(), AllocError> {
+    fn write(
+        &mut self,
+        _way: &S::Context,
+        h: Handle,
+        at: u32,
+        bytes: &[u8],
+    ) -> Result<(), AllocError> {
         self.reply = replies::of_done(self.object.write(h, at, bytes));
         Ok(())
     }

@@ -153,7 +153,7 @@ comes_first from k bytes (e ∷ es) h r le is least = elim (cases_eq k e.0) as (
     above_less x y (c ∷ cs) lt a = (omega (arith, a.0), above_less x y cs lt a.1)
 
     apart : k ≢ e.0 → (k < e.0) ⊎ (e.0 < k) → (rest : Chunks) × (e ∷ es ≡ (k, bytes) ∷ rest) × Above k rest × Rising rest
-    apart ne (inl below) = some_none (sym is ∙ (find_tail k e es ne ∙ find_above k es (above_less k e.0 es below r.0)))
+    apart ne (inl base_logs) = some_none (sym is ∙ (find_tail k e es ne ∙ find_above k es (above_less k e.0 es base_logs r.0)))
     apart ne (inr past) = some_none (sym (find_head e.0 e es refl) ∙ least e.0 h.0 past)
 
 -- and once it was met, those above it are to come

@@ -10,47 +10,47 @@ use Rattle.std.proofs.lemmas.List.Sorted.{IsNonDecreasingBy-from_default}
 use Rattle.std.proofs.lemmas.Bool.Decides.{nat_tests}
 use Rattle.std.proofs.lemmas.Bool.{cases_lt}
 use Rattle.dym_view.specs.Copies.{entry_at, entries_of, copy_of, AreWithin, IsWhole}
-use Rattle.dym_view.specs.declared.copied.Spot.{Spot}
-use Rattle.dym_view.specs.declared.copied.Copied.{Copied}
+use Rattle.dym_view.specs.declared.chunk_copies.ChunkRange.{ChunkRange}
+use Rattle.dym_view.specs.declared.chunk_copies.ChunkCopies.{ChunkCopies}
 use Rattle.dym_view.proofs.Entries.{rising, rising_at, find_at, find_none}
 use Rattle.dym_view.proofs.Tables.{holds}
 
-abbrev pub no_spot : Spot
+abbrev pub no_spot : ChunkRange
 no_spot = record { number = 0; at = 0; len = 0 }
 
 -- a spot is within the bytes
-pub within_at : (n : ℕ) (spots : List Spot) (i : ℕ) (d : Spot) → AreWithin n spots → i < length spots → (get_or spots i d).at + (get_or spots i d).len ≤ n
+pub within_at : (n : ℕ) (chunk_ranges : List ChunkRange) (i : ℕ) (d : ChunkRange) → AreWithin n chunk_ranges → i < length chunk_ranges → (get_or chunk_ranges i d).at + (get_or chunk_ranges i d).len ≤ n
 within_at n [] i d h lt = absurd (omega arith)
-within_at n (s ∷ spots) zero d h lt = h.0
-within_at n (s ∷ spots) (suc i) d h lt = within_at n spots i d h.1 (omega arith)
+within_at n (s ∷ chunk_ranges) zero d h lt = h.0
+within_at n (s ∷ chunk_ranges) (suc i) d h lt = within_at n chunk_ranges i d h.1 (omega arith)
 
-module _ (c : Copied) (whole : IsWhole c) where
+module _ (c : ChunkCopies) (whole : IsWhole c) where
   -- the chunk in a place
-  at_place : (i : ℕ) (d : Spot) → i < length c.spots.items → get_or (entries_of c) i (entry_at c.bytes.items d) ≡ entry_at c.bytes.items (get_or c.spots.items i d)
-  at_place i d lt = get_or-map (entry_at c.bytes.items) c.spots.items i d (entry_at c.bytes.items d) lt
+  at_place : (i : ℕ) (d : ChunkRange) → i < length c.chunk_ranges.items → get_or (entries_of c) i (entry_at c.bytes.items d) ≡ entry_at c.bytes.items (get_or c.chunk_ranges.items i d)
+  at_place i d lt = get_or-map (entry_at c.bytes.items) c.chunk_ranges.items i d (entry_at c.bytes.items d) lt
 
-  as_many : length (entries_of c) ≡ length c.spots.items
-  as_many = length-map c.spots.items (entry_at c.bytes.items)
+  as_many : length (entries_of c) ≡ length c.chunk_ranges.items
+  as_many = length-map c.chunk_ranges.items (entry_at c.bytes.items)
 
   get_is : (n : ℕ) → get (copy_of c) n ≡ find nat_cmp n (entries_of c)
   get_is n = get-from_sorted nat_cmp (entries_of c) n (holds _ whole.sorted)
 
   -- the numbers don't fall
-  numbers_rise : (i j : ℕ) (d : Spot) → i ≤ j → j < length c.spots.items → (get_or c.spots.items i d).number ≤ (get_or c.spots.items j d).number
+  numbers_rise : (i j : ℕ) (d : ChunkRange) → i ≤ j → j < length c.chunk_ranges.items → (get_or c.chunk_ranges.items i d).number ≤ (get_or c.chunk_ranges.items j d).number
   numbers_rise i j d le lt = elim (cases_lt i j) [
     | inl less ↦ (
         let up = rising_at (entries_of c) i j (entry_at c.bytes.items d) (rising (entries_of c) (holds _ whole.sorted)) less (omega (arith, as_many)) in
         omega (arith, up, ap (λ (e : ℕ × List ℕ). e.0) (at_place i d (omega arith)), ap (λ (e : ℕ × List ℕ). e.0) (at_place j d lt)))
-    | inr ge ↦ (let same : i ≡ j = omega arith in omega (arith, ap (λ k. (get_or c.spots.items k d).number) same))
+    | inr ge ↦ (let same : i ≡ j = omega arith in omega (arith, ap (λ k. (get_or c.chunk_ranges.items k d).number) same))
   ]
 
-  comparisons_rise : (n : ℕ) → IsNonDecreasingBy (λ (s : Spot). ordering_index (nat_cmp s.number n)) c.spots.items
-  comparisons_rise n = IsNonDecreasingBy-from_default (λ (s : Spot). ordering_index (nat_cmp s.number n)) c.spots.items no_spot (λ i j le lt.
+  comparisons_rise : (n : ℕ) → IsNonDecreasingBy (λ (s : ChunkRange). ordering_index (nat_cmp s.number n)) c.chunk_ranges.items
+  comparisons_rise n = IsNonDecreasingBy-from_default (λ (s : ChunkRange). ordering_index (nat_cmp s.number n)) c.chunk_ranges.items no_spot (λ i j le lt.
       let up = numbers_rise i j no_spot le lt in grind (arith, nat_tests))
 
   -- the chunk of a number, by its place
-  pub found_at : (n i : ℕ) (d : Spot) → i < length c.spots.items → (get_or c.spots.items i d).number ≡ n
-      → get (copy_of c) n ≡ Some (take (get_or c.spots.items i d).len (drop (get_or c.spots.items i d).at c.bytes.items))
+  pub found_at : (n i : ℕ) (d : ChunkRange) → i < length c.chunk_ranges.items → (get_or c.chunk_ranges.items i d).number ≡ n
+      → get (copy_of c) n ≡ Some (take (get_or c.chunk_ranges.items i d).len (drop (get_or c.chunk_ranges.items i d).at c.bytes.items))
   found_at n i d lt is =
       let there = at_place i d lt in
       get_is n
@@ -59,32 +59,32 @@ module _ (c : Copied) (whole : IsWhole c) where
       ∙ ap (λ (e : ℕ × List ℕ). Some e.1) there
 
   -- a search finds the place of a number's chunk, or there is none
-  pub searched : (n : ℕ) (r : Result ℕ ℕ) → IsSearchInRange r (length c.spots.items) → IsBinarySearchResult (λ (s : Spot). nat_cmp s.number n) c.spots.items r
-      → MatchResult r (λ i. (i < length c.spots.items) × HoldsAt (λ (s : Spot). s.number ≡ n) c.spots.items i) (λ i. get (copy_of c) n ≡ None)
+  pub searched : (n : ℕ) (r : Result ℕ ℕ) → IsSearchInRange r (length c.chunk_ranges.items) → IsBinarySearchResult (λ (s : ChunkRange). nat_cmp s.number n) c.chunk_ranges.items r
+      → MatchResult r (λ i. (i < length c.chunk_ranges.items) × HoldsAt (λ (s : ChunkRange). s.number ≡ n) c.chunk_ranges.items i) (λ i. get (copy_of c) n ≡ None)
   searched n (Ok i) within equal = (within, λ d. ranked _ n _ (sym (equal d)))
   searched n (Err i) within parted =
       let sides = parted (comparisons_rise n) in
       get_is n ∙ find_none n (entries_of c) (entry_at c.bytes.items no_spot) (λ j lt.
-      let inside : j < length c.spots.items = omega (arith, as_many) in
+      let inside : j < length c.chunk_ranges.items = omega (arith, as_many) in
       let there = ap (λ (e : ℕ × List ℕ). e.0) (at_place j no_spot inside) in
       elim (cases_lt j i) [
-        | inl less ↦ (let below = ranked _ n _ (sym (sides.0 j no_spot (omega arith) less)) in grind (arith, there, below))
+        | inl less ↦ (let base_logs = ranked _ n _ (sym (sides.0 j no_spot (omega arith) less)) in grind (arith, there, base_logs))
         | inr ge ↦ (let past = ranked _ n _ (sym (sides.1 j no_spot ge inside)) in grind (arith, there, past))
       ])
 
 -- the same of a list that is the table's spots, for the answer that came
-module _ (c : Copied) (whole : IsWhole c) (n : ℕ) (items : List Spot) (are : items ≡ c.spots.items) (r : Result ℕ ℕ)
-    (within : IsSearchInRange r (length items)) (by_key : IsBinarySearchResult (λ (s : Spot). nat_cmp s.number n) items r) where
+module _ (c : ChunkCopies) (whole : IsWhole c) (n : ℕ) (items : List ChunkRange) (are : items ≡ c.chunk_ranges.items) (r : Result ℕ ℕ)
+    (within : IsSearchInRange r (length items)) (by_key : IsBinarySearchResult (λ (s : ChunkRange). nat_cmp s.number n) items r) where
   abbrev Place : ℕ → Type 0
-  Place i = (i < length c.spots.items) × HoldsAt (λ (s : Spot). s.number ≡ n) c.spots.items i
+  Place i = (i < length c.chunk_ranges.items) × HoldsAt (λ (s : ChunkRange). s.number ≡ n) c.chunk_ranges.items i
 
   abbrev NoPlace : ℕ → Type 0
   NoPlace i = get (copy_of c) n ≡ None
 
   all : MatchResult r Place NoPlace
-  all = searched c whole n r (subst (λ (xs : List Spot). IsSearchInRange r (length xs)) are within) (subst (λ (xs : List Spot). IsBinarySearchResult (λ (s : Spot). nat_cmp s.number n) xs r) are by_key)
+  all = searched c whole n r (subst (λ (xs : List ChunkRange). IsSearchInRange r (length xs)) are within) (subst (λ (xs : List ChunkRange). IsBinarySearchResult (λ (s : ChunkRange). nat_cmp s.number n) xs r) are by_key)
 
-  pub place_found : (i : ℕ) → r ≡ Ok i → (i < length c.spots.items) × HoldsAt (λ (s : Spot). s.number ≡ n) c.spots.items i
+  pub place_found : (i : ℕ) → r ≡ Ok i → (i < length c.chunk_ranges.items) × HoldsAt (λ (s : ChunkRange). s.number ≡ n) c.chunk_ranges.items i
   place_found i is = subst (λ (q : Result ℕ ℕ). MatchResult q Place NoPlace) is all
 
   pub no_place : (i : ℕ) → r ≡ Err i → get (copy_of c) n ≡ None

@@ -11,14 +11,14 @@ use Rattle.dym_base.specs.Packed.{Logged, packed}
 use Rattle.dym_base.specs.Recorded.{IsRecorded}
 use Rattle.dym_base.specs.StandsFor.{packed_by, or_else, newest_packed, LogsStandFor}
 use Rattle.dym_base.specs.declared.command.Version.TheVariants.{One}
-use Rattle.dym_pack.specs.Reading.{OfLog}
-use Rattle.dym_heap.specs.Loading.{IsLoaded, HaveOneSetOfHandles}
+use Rattle.dym_pack.specs.ParsedAreas.{OfLog}
+use Rattle.dym_heap.specs.RecordLoads.{IsLoaded, HaveOneSetOfHandles}
 use Rattle.dym_slots.specs.Meanings.{Numbered, no_record, record_at}
 use Rattle.dym_chain.specs.Chains.{no_entry}
 use Rattle.dym_chain.specs.Keeps.{bytes_of}
 use Rattle.dym_chain.specs.Lawful.{logged_of}
 use Rattle.dym_chain.proofs.Stands.{or_some, some_or, none_of, packed_push}
-use Rattle.dym_view.specs.Loaded.{AreLoaded}
+use Rattle.dym_view.specs.LoadedHeaps.{AreLoaded}
 
 or_assoc : (a b c : Option (List ℕ)) → or_else (or_else a b) c ≡ or_else a (or_else b c)
 or_assoc None b c = refl

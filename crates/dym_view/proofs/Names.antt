@@ -1,11 +1,12 @@
 -- What seats know of what is published: its history's name.
 use Rattle.std.proofs.Common.{◌≡◌, ◌≢◌, ℕ, List, [], ◌∷◌, ◌++◌, Result, Ok, Err, MatchResult, IfOk, fold, set, sym, refl, ap, subst, ◌∙◌, ⊎_elim, Option, None, Some}
 use mathlib.Core.Option.{some}
+use Rattle.core.specs.Result.{result_and}
 use lib.ListN.{get_elem?}
 use Rattle.left_right.specs.Register.{Admits, TurnsAt, Forks, Merges}
 use Rattle.atomic_table.proofs.Lists.{at_set, at_snoc}
 use Rattle.dym_view.specs.Histories.{HistoryName, Beginning}
-use Rattle.dym_view.specs.Rules.{AreOfPublished, Takes, HasSeen, AreOf}
+use Rattle.dym_view.specs.Rules.{AreOfPublished, Takes, HasSeen, AreOf, AreThis, last_of}
 
 -- a seat that comes has seen nothing
 pub admits : Admits AreOfPublished None
@@ -51,27 +52,47 @@ published_of name shown (front ∷ waiting) is all = published_of name front wai
 -- what stands after a publication, and what then waits
 module _ {E : Type 0} (shown shown' : Beginning) (waiting waiting' : List Beginning) where
   abbrev pub Published : Result (Unit {0}) E → Type 0
-  Published r = MatchResult r (λ _. (shown' ≡ fold (λ (before front : Beginning). front) shown waiting) × (waiting' ≡ [])) (λ _. (shown' ≡ shown) × (waiting' ≡ waiting))
+  Published r = MatchResult r (λ _. (shown' ≡ last_of shown waiting) × (waiting' ≡ [])) (λ _. (shown' ≡ shown) × (waiting' ≡ waiting))
 
-  pub shown_kept : (r : Result (Unit {0}) E) → AreOf shown.history waiting → Published r → shown'.history ≡ shown.history
+  shown_kept : (r : Result (Unit {0}) E) → AreOf shown.history waiting → Published r → shown'.history ≡ shown.history
   shown_kept (Ok u) all is = ap (λ (b : Beginning). b.history) is.0 ∙ published_of shown.history shown waiting refl all
   shown_kept (Err e) all is = ap (λ (b : Beginning). b.history) is.0
-
-  pub waiting_kept : (r : Result (Unit {0}) E) → AreOf shown.history waiting → Published r → AreOf shown.history waiting'
-  waiting_kept (Ok u) all is = subst (AreOf shown.history) (sym is.1) tt
-  waiting_kept (Err e) all is = subst (AreOf shown.history) (sym is.1) all
 
   pub seen_after : (r : Result (Unit {0}) E) (v v' : Option Beginning) → AreOf shown.history waiting → Published r → MatchResult r (λ _. Takes v shown shown' v') (λ _. v' ≡ v) → IfOk r (λ _. HasSeen shown.history v')
   seen_after (Ok u) v v' all is rule = subst (HasSeen shown.history) (sym rule.0) (shown_kept (Ok u) all is)
   seen_after (Err e) v v' all is rule = tt
 
--- what waits with one more of the same history
-pub waiting_more : (name : HistoryName) (waiting : List Beginning) (b : Beginning) → AreOf name waiting → b.history ≡ name → AreOf name (waiting ++ b ∷ [])
-waiting_more name [] b all is = (is, tt)
-waiting_more name (front ∷ waiting) b all is = (all.0, waiting_more name waiting b all.1 is)
+-- one that waits alone is of its history
+pub one_waits : (name : HistoryName) (waiting : List Beginning) (front : Beginning) → waiting ≡ front ∷ [] → front.history ≡ name → AreOf name waiting
+one_waits name waiting front is same = subst (AreOf name) (sym is) (same, tt)
+
+-- where all that waits is what stands, nothing changes
+pub last_of_these : (front shown : Beginning) (waiting : List Beginning) → shown ≡ front → AreThis front waiting → last_of shown waiting ≡ front
+last_of_these front shown [] is all = is
+last_of_these front shown (b ∷ waiting) is all = last_of_these front b waiting all.0 all.1
+
+pub these_are_of : (front : Beginning) (waiting : List Beginning) → AreThis front waiting → AreOf front.history waiting
+these_are_of front [] all = tt
+these_are_of front (b ∷ waiting) all = (ap (λ (c : Beginning). c.history) all.0, these_are_of front waiting all.1)
+
+-- what waits with one more that is the same
+these_more : (front : Beginning) (waiting : List Beginning) (b : Beginning) → AreThis front waiting → b ≡ front → AreThis front (waiting ++ b ∷ [])
+these_more front [] b all is = (is, tt)
+these_more front (c ∷ waiting) b all is = (all.0, these_more front waiting b all.1 is)
 
 -- and where it was appended, or came back
-pub waiting_after : (name : HistoryName) (waiting waiting' : List Beginning) (b : Beginning) (r : Result (Unit {0}) Beginning) → AreOf name waiting → b.history ≡ name
-    → MatchResult r (λ _. waiting' ≡ waiting ++ b ∷ []) (λ x. (x ≡ b) × (waiting' ≡ waiting)) → AreOf name waiting'
-waiting_after name waiting waiting' b (Ok u) all is e = subst (AreOf name) (sym e) (waiting_more name waiting b all is)
-waiting_after name waiting waiting' b (Err x) all is e = subst (AreOf name) (sym e.1) all
+pub these_after : (front : Beginning) (waiting waiting' : List Beginning) (b : Beginning) (r : Result (Unit {0}) Beginning) → AreThis front waiting → b ≡ front
+    → MatchResult r (λ _. waiting' ≡ waiting ++ b ∷ []) (λ x. (x ≡ b) × (waiting' ≡ waiting)) → AreThis front waiting'
+these_after front waiting waiting' b (Ok u) all is e = subst (AreThis front) (sym e) (these_more front waiting b all is)
+these_after front waiting waiting' b (Err x) all is e = subst (AreThis front) (sym e.1) all
+
+-- what stands after two publications where all that waits is what stands
+pub shown_after : (front first second third : Beginning) (waiting then : List Beginning) → first ≡ front → AreThis front waiting → second ≡ last_of first waiting → then ≡ [] → third ≡ last_of second then → third ≡ front
+shown_after front first second third waiting then is all once none twice =
+    let stands : second ≡ front = once ∙ last_of_these front first waiting is all in
+    twice ∙ last_of_these front second then stands (subst (AreThis front) (sym none) tt)
+
+-- what is true of the second where both went well
+pub both_went : {T U E : Type 0} (P : U → Type 0) (r : Result T E) (s : Result U E) (u : U) → result_and r s ≡ Ok u → IfOk s P → P u
+both_went P (Ok x) s u is all = subst (λ t. IfOk t P) is all
+both_went P (Err e) s u is all = absurd (cc (is))

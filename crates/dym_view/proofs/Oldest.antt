@@ -2,41 +2,41 @@
 use Rattle.std.proofs.Common.{◌≡◌, ℕ, ◌+◌, ◌-◌, ◌<◌, ◌≤◌, List, [], ◌∷◌, length, map, take, drop, get_or, refl, sym, ap, ◌∙◌, arith, length-append, Some}
 use Rattle.std.specs.List.{AllByRecursion}
 use Rattle.std.proofs.lemmas.List.{length-map, get_or-map}
-use Rattle.dym_base.specs.Below.{oldest_depth}
+use Rattle.dym_base.specs.BaseLogs.{oldest_depth}
 use Rattle.dym_base.specs.Heaps.{Live}
 use Rattle.dym_base.specs.Objects.{LogEntry, record_of}
 use Rattle.dym_base.specs.Packed.{Logged, packed}
 use Rattle.dym_base.specs.Recorded.{IsRecorded}
 use Rattle.dym_base.specs.StandsFor.{StandsFor}
-use Rattle.dym_heap.specs.Loading.{HaveOneSetOfHandles}
-use Rattle.dym_pack.specs.Reading.{OfLog}
+use Rattle.dym_heap.specs.RecordLoads.{HaveOneSetOfHandles}
+use Rattle.dym_pack.specs.ParsedAreas.{OfLog}
 use Rattle.dym_slots.specs.Meanings.{Numbered, no_record, record_at}
 use Rattle.dym_chain.specs.Chains.{ChainMeaning, all_logs, log_at, no_entry, records_to}
 use Rattle.dym_chain.specs.Keeps.{bytes_of}
-use Rattle.dym_chain.specs.Kept.{AreKept}
+use Rattle.dym_chain.specs.KeptRecords.{AreKeptRecords}
 use Rattle.dym_chain.specs.Lawful.{IsLawful, logged_of}
 use Rattle.dym_chain.specs.Loads.{HaveVersion}
-use Rattle.dym_view.specs.Loaded.{AreLoaded}
+use Rattle.dym_view.specs.LoadedHeaps.{AreLoaded}
 use Rattle.dym_chain.proofs.Lawfuls.{at_place}
 use Rattle.dym_chain.proofs.Places.{first_depth}
 use Rattle.dym_chain.proofs.Restores.{target_recorded, part_version}
 use Rattle.dym_view.proofs.Loadings.{loaded_is}
 use Rattle.dym_view.specs.Commits.{oldest}
 
-module _ (c : ChainMeaning) (kept : AreKept c) (some : 0 < length c.logs) where
+module _ (c : ChainMeaning) (kept : AreKeptRecords c) (some : 0 < length c.logs) where
   lawful : IsLawful c
   lawful = record { version = kept.version; records = kept.records; recorded = kept.recorded; list = kept.list; full = kept.full; follows = kept.follows; keeps = kept.keeps; base = kept.base }
 
   -- as many records stand before that of the oldest log as its depth
-  base_is : (log_at c.logs 0).depth ≡ length c.below
+  base_is : (log_at c.logs 0).depth ≡ length c.base_logs
   base_is = first_depth c.logs some ∙ sym kept.base
 
-  as_many : length c.records ≡ length c.below + length c.logs
+  as_many : length c.records ≡ length c.base_logs + length c.logs
   as_many =
       sym (length-map c.records (λ (r : Numbered). r.bytes))
       ∙ ap length kept.records
       ∙ length-map (all_logs c) (record_of kept.version)
-      ∙ length-append c.below c.logs
+      ∙ length-append c.base_logs c.logs
 
   pub inside : (log_at c.logs 0).depth + 1 ≤ length c.records
   inside = omega (arith, as_many, base_is, some)
@@ -45,8 +45,8 @@ module _ (c : ChainMeaning) (kept : AreKept c) (some : 0 < length c.logs) where
   pub record_is : (record_at c.records (log_at c.logs 0).depth).bytes ≡ record_of kept.version (log_at c.logs 0)
   record_is =
       let place : ℕ = (log_at c.logs 0).depth in
-      let there : place < length (all_logs c) = omega (arith, length-append c.below c.logs, some, base_is) in
-      let at : place ≡ length c.below + 0 = omega (arith, base_is) in
+      let there : place < length (all_logs c) = omega (arith, length-append c.base_logs c.logs, some, base_is) in
+      let at : place ≡ length c.base_logs + 0 = omega (arith, base_is) in
       sym (get_or-map (λ (r : Numbered). r.bytes) c.records place no_record [] (omega (arith, inside)))
       ∙ ap (λ (l : List (List ℕ)). get_or l place []) kept.records
       ∙ get_or-map (record_of kept.version) (all_logs c) place no_entry [] there

@@ -9,8 +9,8 @@ use Rattle.std.proofs.Math.Seq.{drop-append_seam, take-length}
 use Rattle.dym_base.specs.Heaps.{Live}
 use Rattle.dym_view.specs.Commits.{total_of}
 use Rattle.dym_view.specs.Copies.{entry_at, entries_of, copy_of, AreWithin, IsTable, IsWhole}
-use Rattle.dym_view.specs.declared.copied.Spot.{Spot}
-use Rattle.dym_view.specs.declared.copied.Copied.{Copied}
+use Rattle.dym_view.specs.declared.chunk_copies.ChunkRange.{ChunkRange}
+use Rattle.dym_view.specs.declared.chunk_copies.ChunkCopies.{ChunkCopies}
 
 abbrev pub bytes_sum : ℕ × List ℕ → ℕ
 bytes_sum e = sum e.1
@@ -24,21 +24,21 @@ is_true true h = refl
 is_true false h = absurd h
 
 -- the chunks of the map are those that were copied
-pub entries_are : (c : Copied) → IsWhole c → entries (copy_of c) ≡ entries_of c
+pub entries_are : (c : ChunkCopies) → IsWhole c → entries (copy_of c) ≡ entries_of c
 entries_are c whole = entries-from_sorted nat_cmp (entries_of c) (holds _ whole.sorted)
 
-pub count_is : (c : Copied) → IsWhole c → length c.spots.items ≡ len (copy_of c)
-count_is c whole = sym (len-entries (copy_of c) ∙ (ap length (entries_are c whole) ∙ length-map c.spots.items (entry_at c.bytes.items)))
+pub count_is : (c : ChunkCopies) → IsWhole c → length c.chunk_ranges.items ≡ len (copy_of c)
+count_is c whole = sym (len-entries (copy_of c) ∙ (ap length (entries_are c whole) ∙ length-map c.chunk_ranges.items (entry_at c.bytes.items)))
 
-pub total_is : (c : Copied) → IsWhole c → c.total ≡ total_of (copy_of c)
+pub total_is : (c : ChunkCopies) → IsWhole c → c.total ≡ total_of (copy_of c)
 total_is c whole = whole.table.total ∙ ap (sum_by bytes_sum) (sym (entries_are c whole))
 
 -- as those of a map their numbers rise
-pub sorted : (c : Copied) (live : Live) → entries_of c ≡ entries live → IsTrue (is_sorted nat_cmp (entries_of c))
+pub sorted : (c : ChunkCopies) (live : Live) → entries_of c ≡ entries live → IsTrue (is_sorted nat_cmp (entries_of c))
 sorted c live same = subst (λ es. IsTrue (is_sorted nat_cmp es)) (sym same) (is_true _ (entries_sorted live))
 
 -- a table of all chunks of a map stands for it
-pub stands_for : (c : Copied) (live : Live) → entries_of c ≡ entries live → copy_of c ≡ live
+pub stands_for : (c : ChunkCopies) (live : Live) → entries_of c ≡ entries live → copy_of c ≡ live
 stands_for c live same =
     same_entries_map (copy_of c) live (entries-from_sorted nat_cmp (entries_of c) (holds _ (sorted c live same)) ∙ same)
 
@@ -52,36 +52,36 @@ kept at len bytes more within =
 come : (bytes more : List ℕ) → take (length more) (drop (length bytes) (bytes ++ more)) ≡ more
 come bytes more = ap (take (length more)) (drop-append_seam bytes more) ∙ take-length more
 
-all_kept : (spots : List Spot) (bytes more : List ℕ) → AreWithin (length bytes) spots → map (entry_at (bytes ++ more)) spots ≡ map (entry_at bytes) spots
+all_kept : (chunk_ranges : List ChunkRange) (bytes more : List ℕ) → AreWithin (length bytes) chunk_ranges → map (entry_at (bytes ++ more)) chunk_ranges ≡ map (entry_at bytes) chunk_ranges
 all_kept [] bytes more within = refl
-all_kept (s ∷ spots) bytes more within = λ i. (s.number, kept s.at s.len bytes more within.0 i) ∷ all_kept spots bytes more within.1 i
+all_kept (s ∷ chunk_ranges) bytes more within = λ i. (s.number, kept s.at s.len bytes more within.0 i) ∷ all_kept chunk_ranges bytes more within.1 i
 
-within_more : (n m : ℕ) (spots : List Spot) → n ≤ m → AreWithin n spots → AreWithin m spots
+within_more : (n m : ℕ) (chunk_ranges : List ChunkRange) → n ≤ m → AreWithin n chunk_ranges → AreWithin m chunk_ranges
 within_more n m [] le within = tt
-within_more n m (s ∷ spots) le within = (omega (arith, within.0), within_more n m spots le within.1)
+within_more n m (s ∷ chunk_ranges) le within = (omega (arith, within.0), within_more n m chunk_ranges le within.1)
 
-within_added : (n : ℕ) (spots : List Spot) (s : Spot) → AreWithin n spots → s.at + s.len ≤ n → AreWithin n (spots ++ s ∷ [])
+within_added : (n : ℕ) (chunk_ranges : List ChunkRange) (s : ChunkRange) → AreWithin n chunk_ranges → s.at + s.len ≤ n → AreWithin n (chunk_ranges ++ s ∷ [])
 within_added n [] s within last = (last, tt)
-within_added n (t ∷ spots) s within last = (within.0, within_added n spots s within.1 last)
+within_added n (t ∷ chunk_ranges) s within last = (within.0, within_added n chunk_ranges s within.1 last)
 
-module _ (old new : Copied) (number : ℕ) (more : List ℕ)
-    (spots : new.spots.items ≡ old.spots.items ++ record { number = number; at = length old.bytes.items; len = length more } ∷ []) (bytes : new.bytes.items ≡ old.bytes.items ++ more) (table : IsTable old) where
+module _ (old new : ChunkCopies) (number : ℕ) (more : List ℕ)
+    (chunk_ranges : new.chunk_ranges.items ≡ old.chunk_ranges.items ++ record { number = number; at = length old.bytes.items; len = length more } ∷ []) (bytes : new.bytes.items ≡ old.bytes.items ++ more) (table : IsTable old) where
   -- one chunk more stands in the table
   pub one_more : entries_of new ≡ entries_of old ++ (number, more) ∷ []
   one_more =
-      let s : Spot = record { number = number; at = length old.bytes.items; len = length more } in
+      let s : ChunkRange = record { number = number; at = length old.bytes.items; len = length more } in
       let f = entry_at (old.bytes.items ++ more) in
-      (λ i. map (entry_at (bytes i)) (spots i))
-      ∙ map-append f old.spots.items (s ∷ [])
-      ∙ (λ i. all_kept old.spots.items old.bytes.items more table.within i ++ (number, come old.bytes.items more i) ∷ [])
+      (λ i. map (entry_at (bytes i)) (chunk_ranges i))
+      ∙ map-append f old.chunk_ranges.items (s ∷ [])
+      ∙ (λ i. all_kept old.chunk_ranges.items old.bytes.items more table.within i ++ (number, come old.bytes.items more i) ∷ [])
 
   -- and the table is one again
   pub table_more : new.total ≡ old.total + sum more → IsTable new
   table_more total =
       let long : length new.bytes.items ≡ length old.bytes.items + length more = ap length bytes ∙ length-append old.bytes.items more in
       record {
-        within = subst (AreWithin (length new.bytes.items)) (sym spots)
-            (within_added (length new.bytes.items) old.spots.items _ (within_more (length old.bytes.items) (length new.bytes.items) old.spots.items (omega (arith, long)) table.within) (omega (arith, long)));
+        within = subst (AreWithin (length new.bytes.items)) (sym chunk_ranges)
+            (within_added (length new.bytes.items) old.chunk_ranges.items _ (within_more (length old.bytes.items) (length new.bytes.items) old.chunk_ranges.items (omega (arith, long)) table.within) (omega (arith, long)));
         total = total ∙ ap (λ n. n + sum more) table.total ∙ sums ∙ ap (sum_by bytes_sum) (sym one_more);
       }
     where

@@ -9,7 +9,7 @@ use Rattle.dym_base.proofs.Heaps.{areas_below, areas_held}
 use Rattle.dym_heap.specs.Meaning.{HeapMeaning, IsSound}
 use Rattle.dym_pack.proofs.Named.{most_per}
 use Rattle.dym_view.specs.Copies.{entry_at, entries_of}
-use Rattle.dym_view.specs.declared.copied.Copied.{Copied}
+use Rattle.dym_view.specs.declared.chunk_copies.ChunkCopies.{ChunkCopies}
 use Rattle.dym_view.proofs.Entries.{Chunks, IsMet}
 
 -- at most so many chunks have a number below k, where each class has at most 2 ^ 21
@@ -41,9 +41,9 @@ small_index h k sound is =
     omega (arith, within, most_per e least)
 
 -- no more were copied than there are
-pub count_within : (all : Chunks) (c : Copied) (from : ℕ) → IsMet all (entries_of c) from → vec_len c.spots ≤ length all
+pub count_within : (all : Chunks) (c : ChunkCopies) (from : ℕ) → IsMet all (entries_of c) from → vec_len c.chunk_ranges ≤ length all
 count_within all c from is =
-    omega (arith, ap length is.whole, length-append (entries_of c) is.left, length-map c.spots.items (entry_at c.bytes.items), c.spots.ok.0)
+    omega (arith, ap length is.whole, length-append (entries_of c) is.left, length-map c.chunk_ranges.items (entry_at c.bytes.items), c.chunk_ranges.ok.0)
 
 -- what isn't there is none
 pub none_of : (o : Option (List ℕ)) → is_some o ≡ false → o ≡ None

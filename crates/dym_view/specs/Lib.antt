@@ -1,6 +1,6 @@
 pub mod Commits
 pub mod Copies
 pub mod Histories
-pub mod Loaded
+pub mod LoadedHeaps
 pub mod Rules
 pub mod Answers

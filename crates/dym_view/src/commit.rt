@@ -4,7 +4,7 @@ ghost use Rattle.std.specs.FinMap.{get, len};
 ghost use Rattle.dym_base.specs.HeapStep.{key};
 ghost use Rattle.dym_view.specs.Commits.{total_of, part_in};
 
-use crate::copied::Copied;
+use crate::chunk_copies::ChunkCopies;
 use dym_base::Handle;
 use std::marker::Model;
 
@@ -14,7 +14,7 @@ use std::marker::Model;
 #[derive(Drop)]
 pub struct Commit {
     pub(crate) time: u64,
-    pub(crate) copied: Copied,
+    pub(crate) copied: ChunkCopies,
 }
 
 impl Model for Commit {
@@ -45,7 +45,7 @@ impl Commit {
     pub fn chunks(&self) -> u32
         ensures { result ≡ len self.now.copy }
     {
-        self.copied.spots.len() as u32
+        self.copied.chunk_ranges.len() as u32
     }
 
     /// The sum of all bytes of the copy, as numbers.

@@ -1,22 +1,17 @@
 //! A beginning of a history, with the last commit of it.
-ghost use Rattle.std.specs.Prelude.{◌≡◌, ◌+◌, ◌<◌, ◌≤◌, ◌⊎◌, [], ◌∷◌, ◌++◌, length, Option, option_map, IfOk, IfSome};
+ghost use Rattle.std.specs.Prelude.{◌≡◌, ◌+◌, ◌<◌, ◌≤◌, ◌⊎◌, [], ◌∷◌, ◌++◌, length, Option, Some, option_map, IfOk, IfSome, OnErr};
 ghost use mathlib.Core.List.{IsPrefix};
 ghost use Rattle.std.specs.Arc.{arc_value};
 ghost use Rattle.std.specs.Option.{option_copied};
-ghost use Rattle.std.specs.Bool.{OnTrue};
 ghost use Rattle.dym_base.specs.declared.limits.TheConstants.{COUNT_LIMIT};
 ghost use Rattle.dym_view.specs.Histories.{Beginning, IsHistory, last_commit, last_time, MayFollow};
-ghost use Rattle.dym_view.specs.Rules.{head_of};
+ghost use Rattle.dym_view.specs.Rules.{commits_of};
 
 use crate::commit::Commit;
-use crate::law::{Add, Head, Law, Nothing, Reached};
-use logbook::Offer;
+use crate::law::{Head, Reached, Shared};
 use std::alloc::{AllocError, Global};
 use std::marker::Model;
 use std::sync::Arc;
-
-/// A commit that is shared and not copied.
-pub(crate) type Shared = Arc<Commit, Global>;
 
 /// A beginning of a history: how many commits it has, and the last of them.
 #[derive(Drop)]
@@ -33,20 +28,21 @@ impl Model for Front {
     ghost use Rattle.logbook.specs.Pages.{book_coded};
     ghost use Rattle.dym_heap.specs.Meaning.{live_code};
     ghost use Rattle.dym_view.specs.Histories.{Beginning, IsHistory, last_commit};
+    ghost use Rattle.dym_view.specs.Rules.{commits_of};
 
     ghost Value = { Beginning };
 
     ghost coded = { Prim.hlevel (codes, live_code, book_coded) };
 
-    ghost view = { λ f. record { history = f.reached.book; commits = f.reached.log } };
+    ghost view = { λ f. record { history = f.reached.book; commits = commits_of f.reached.log } };
 
-    ghost invariant = { λ f. (f.number ≡ length f.reached.log) × (option_map arc_value f.last ≡ last_commit f.reached.log) × IsHistory f.reached.log };
+    ghost invariant = { λ f. (f.number ≡ length (commits_of f.reached.log)) × (option_map arc_value f.last ≡ last_commit (commits_of f.reached.log)) × IsHistory (commits_of f.reached.log) };
 }
 
 impl Front {
     /// The beginning with no commit.
     pub(crate) fn start(reached: Reached) -> Front
-        requires { reached.log ≡ [] }
+        requires { commits_of reached.log ≡ [] }
         ensures { result ≡ record { history = reached.book; commits = [] } }
     {
         Front {
@@ -149,72 +145,42 @@ impl Front {
 
     /// The beginning with one commit more, which the history has from then on, and the same once more.
     ///
-    /// All memory is taken before the history has the commit.
+    /// All memory is taken before the history has the commit. The history had nothing more than this beginning.
     pub(crate) fn follow(
         &self,
-        head: &Head,
+        head: &mut Head,
         alloc: Global,
         commit: Commit,
     ) -> Result<(Front, Front), AllocError>
-        requires head { head.now ≡ head_of self.now.history }
+        requires whole { head.old ≡ self.now }
         requires room { length self.now.commits < COUNT_LIMIT }
         requires later { MayFollow self.now.commits commit.time }
         ensures one { IfOk result (λ both.
             both.0 ≡ record { history = self.now.history; commits = self.now.commits ++ commit ∷ [] }) }
         ensures other { IfOk result (λ both. both.1 ≡ both.0) }
+        ensures whole { IfOk result (λ both. head.new ≡ both.0) }
+        ensures refused { OnErr result (head.new ≡ head.old) }
         ensures history { IfOk result (λ both. IsHistory both.0.commits) }
     {
         let commit = Arc::new(alloc, commit)?;
         let again = Arc::try_clone(&commit)?;
-        match self.add(head, commit) {
-            Some(front) => {
-                let shown = front.sharing(Some(again));
-                Ok((front, shown))
-            }
-            None => Err(AllocError),
-        }
+        let commit = head.add(self.number, commit);
+        let front = Front::of_head(head, self.number + 1, commit);
+        let shown = front.sharing(Some(again));
+        Ok((front, shown))
     }
 
-    /// The beginning with one commit more, which the history has from then on.
-    ///
-    /// It is None where the history is longer than this beginning.
-    fn add(&self, head: &Head, commit: Shared) -> Option<Front>
-        requires head { head.now ≡ head_of self.now.history }
-        requires room { length self.now.commits < COUNT_LIMIT }
-        requires later { MayFollow self.now.commits (arc_value commit).time }
-        ensures more { IfSome result (λ front.
-            front ≡ record {
-              history = self.now.history;
-              commits = self.now.commits ++ arc_value commit ∷ [];
-            }) }
-        ensures history { IfSome result (λ front. IsHistory front.commits) }
+    /// The whole history, which has so many commits, of which this is the last.
+    fn of_head(head: &Head, number: u64, last: Shared) -> Front
+        requires number { number ≡ length head.now.commits }
+        requires last { Some (arc_value last) ≡ last_commit head.now.commits }
+        requires history { IsHistory head.now.commits }
+        ensures { result ≡ head.now }
     {
-        let number = self.number;
-        let mut reached = self.reached.again();
-        if !add_commit(head, &mut reached, number, &commit) {
-            return None;
+        Front {
+            number,
+            last: Some(last),
+            reached: head.reached(),
         }
-        Some(Front {
-            number: number + 1,
-            last: Some(commit),
-            reached,
-        })
     }
-}
-
-/// Adds a commit to the history, if nothing was added since it was seen.
-fn add_commit(head: &Head, reached: &mut Reached, number: u64, commit: &Commit) -> bool
-    requires head { head.now ≡ head_of reached.old.book }
-    requires number { number ≡ length reached.old.log }
-    requires room { number < COUNT_LIMIT }
-    requires history { IsHistory reached.old.log }
-    requires later { MayFollow reached.old.log commit.now.time }
-    ensures book { reached.new.book ≡ reached.old.book }
-    ensures added { OnTrue result ((reached.new.log ≡ reached.old.log ++ commit.now ∷ [])
-        × IsHistory reached.new.log) }
-{
-    let mut offer: Offer<Commit, u64, Law, Nothing> = reached.plain::<Nothing, Commit, Add>(commit);
-    let mut pen = reached.no_pen();
-    head.compare_exchange::<Add, Nothing>(number, number + 1, reached, &mut offer, &mut pen)
-        == number
 }

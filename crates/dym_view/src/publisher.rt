@@ -6,9 +6,9 @@ ghost use Rattle.dym_view.specs.Histories.{IsHistory, last_time, MayFollow};
 use crate::commit::Commit;
 use crate::front::Front;
 use crate::law::{Head, open_history};
-use crate::opening::open_both;
-use crate::show::{Pen, show};
+use crate::publication::{Pen, show};
 use crate::told::Told;
+use crate::view_setup::open_both;
 use crate::viewer::Viewer;
 use std::alloc::{AllocError, Global};
 use std::marker::Model;
@@ -16,20 +16,20 @@ use std::sync::Wait;
 
 /// Publishes commits, each of which its history then has for good.
 ///
-/// Contracts see the name of the history, which no call changes, and its commits. A publisher can't be let go: `end` gives it up.
+/// Contracts see the name of the history, which no call changes, and its commits. What is shown to the viewer is the last of them, and
+/// nothing waits to be shown. The history has no commits but those: no one else adds to it. A publisher can't be let go: `end` gives it up.
 pub struct Publisher {
     head: Head,
     front: Front,
-    pen: Pen,
+    view_writer: Pen,
 }
 
 impl Model for Publisher {
-    ghost use Rattle.std.specs.Prelude.{◌≡◌, drop};
+    ghost use Rattle.std.specs.Prelude.{◌≡◌, [], drop};
     ghost use Rattle.std.specs.Coded.{codes};
     ghost use Rattle.logbook.specs.Pages.{book_coded};
     ghost use Rattle.dym_heap.specs.Meaning.{live_code};
     ghost use Rattle.dym_view.specs.Histories.{Beginning, IsHistory};
-    ghost use Rattle.dym_view.specs.Rules.{head_of, AreOf};
 
     ghost Value = { Beginning };
 
@@ -37,7 +37,7 @@ impl Model for Publisher {
 
     ghost view = { λ p. p.front };
 
-    ghost invariant = { λ p. IsHistory p.front.commits × (p.head ≡ head_of p.front.history) × (p.pen.desk.shown.value.history ≡ p.front.history) × AreOf p.front.history (drop p.pen.behind p.pen.log.items) };
+    ghost invariant = { λ p. IsHistory p.front.commits × (p.head ≡ p.front) × (p.view_writer.desk.shown.value ≡ p.front) × (drop p.view_writer.behind p.view_writer.log.items ≡ []) };
 }
 
 /// A history with no commit: its publisher, and its viewer, which may go to another thread.
@@ -45,11 +45,21 @@ pub fn open_view<R: Wait>(rt: &R, alloc: Global) -> Result<(Publisher, Viewer), 
     ensures publisher { IfOk result (λ both. both.0.commits ≡ []) }
     ensures viewer { IfOk result (λ both. both.1 ≡ both.0) }
 {
-    let (head, reached) = open_history();
-    let front = Front::start(reached);
+    let head = open_history(rt);
+    let front = Front::start(head.reached());
     let known = front.again()?;
-    let (pen, eye) = open_both(rt, alloc, &front)?;
-    Ok((Publisher { head, front, pen }, Viewer { eye, front: known }))
+    let (view_writer, view_reader) = open_both(rt, alloc, &front)?;
+    Ok((
+        Publisher {
+            head,
+            front,
+            view_writer,
+        },
+        Viewer {
+            view_reader,
+            front: known,
+        },
+    ))
 }
 
 impl Publisher {
@@ -76,8 +86,8 @@ impl Publisher {
         ensures refused { OnErr result (self.new ≡ self.old) }
         ensures history { IsHistory self.new.commits }
     {
-        let (front, shown) = self.front.follow(&self.head, alloc, commit)?;
-        show(&mut self.pen, rt, shown)?;
+        let (front, shown) = self.front.follow(&mut self.head, alloc, commit)?;
+        show(&mut self.view_writer, rt, shown);
         self.front = front;
         Ok(())
     }
@@ -97,8 +107,8 @@ impl Publisher {
         let Publisher {
             head: _,
             front: _,
-            pen,
+            view_writer,
         } = self;
-        drop(pen.take(rt));
+        drop(view_writer.take(rt));
     }
 }

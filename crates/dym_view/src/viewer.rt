@@ -6,7 +6,7 @@ ghost use Rattle.dym_view.specs.Histories.{IsHistory};
 
 use crate::front::Front;
 use crate::glance::{Glance, Seen};
-use crate::show::{Eye, look_through};
+use crate::publication::{Eye, look_through};
 use crate::told::Told;
 use core::mem::replace_with;
 use dym_base::Handle;
@@ -18,7 +18,7 @@ use std::marker::Model;
 /// grows. No call takes memory or waits. Where what is published can't be read or shared, what is known stays.
 #[derive(Drop)]
 pub struct Viewer {
-    pub(crate) eye: Eye,
+    pub(crate) view_reader: Eye,
     pub(crate) front: Front,
 }
 
@@ -36,7 +36,7 @@ impl Model for Viewer {
 
     ghost view = { λ v. v.front };
 
-    ghost invariant = { λ v. HasSeen v.front.history (view_of v.eye.place) };
+    ghost invariant = { λ v. HasSeen v.front.history (view_of v.view_reader.place) };
 }
 
 impl Viewer {
@@ -96,7 +96,7 @@ impl Viewer {
         ensures name { self.new.history ≡ self.old.history }
         ensures known { IsPrefix self.old.commits self.new.commits }
     {
-        let newer = replace_with(&mut self.eye, &self.front, look_through);
+        let newer = replace_with(&mut self.view_reader, &self.front, look_through);
         if let Some(front) = newer {
             self.front = front;
         }

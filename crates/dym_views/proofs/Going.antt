@@ -14,7 +14,7 @@ use Rattle.dym_base.specs.Objects.{LogEntry, ObjectState, ObjectAnswer, object_s
 use Rattle.dym_base.specs.RunLaws.{EachFollows, IsLogList}
 use Rattle.dym_base.proofs.Runs.{log_list_kept}
 use Rattle.dym_view.specs.Commits.{CommitMeaning, committed, oldest}
-use Rattle.dym_views.specs.Watches.{GoesOn, MayShow}
+use Rattle.dym_views.specs.ViewedWorkMeanings.{GoesOn, MayShow}
 
 pub goes_self : (a : Option LogEntry) → GoesOn a a
 goes_self None = tt

@@ -16,8 +16,8 @@ use Rattle.dym_wave.specs.Waves.{AreSweptBy, SameTables}
 use Rattle.dym_wave.specs.Works.{OriginMeaning, WorkMeaning, JobMeaning, RanAll, ran}
 use Rattle.dym_wave.specs.Works as Works
 use Rattle.dym_views.specs.Lines.{oldest_view, view_of}
-use Rattle.dym_views.specs.Looks.{names_of}
-use Rattle.dym_views.specs.Watches.{WatchMeaning, WatchOrigin, IsWatched, IsLong, GoesOn, MayShow, ShowsOldest, WasOldest, number_of, origin_of, left_of, works_of, views_of, end_view, seen_of}
+use Rattle.dym_views.specs.Observations.{names_of}
+use Rattle.dym_views.specs.ViewedWorkMeanings.{ViewedWorkMeaning, WatchOrigin, IsWatched, IsLong, GoesOn, MayShow, ShowsOldest, WasOldest, number_of, origin_of, left_of, works_of, views_of, end_view, seen_of}
 use Rattle.dym_views.proofs.Going.{goes_on, may_show}
 
 -- ---- one
@@ -30,7 +30,7 @@ fresh_shows w commits job fresh empty =
     ap last_commit empty ∙ sym (ap (λ l. option_map committed (oldest l)) none)
 
 -- how much is left
-pub open_while_left : (short : Bool) (n : ℕ) → 0 < (if short then 0 else n) → (short ≡ false) × (0 < n)
+pub open_while_left : (out_of_memory : Bool) (n : ℕ) → 0 < (if out_of_memory then 0 else n) → (out_of_memory ≡ false) × (0 < n)
 open_while_left true n l = absurd (omega (arith, l))
 open_while_left false n l = (refl, l)
 
@@ -39,12 +39,12 @@ less_left true is m n some less = absurd (omega (arith, some))
 less_left false true m n some less = some
 less_left false false m n some less = less
 
-pub none_left : (short : Bool) (n : ℕ) → (if short then 0 else n) ≡ 0 → short ≡ false → n ≡ 0
+pub none_left : (out_of_memory : Bool) (n : ℕ) → (if out_of_memory then 0 else n) ≡ 0 → out_of_memory ≡ false → n ≡ 0
 none_left true n none is = absurd (cc is)
 none_left false n none is = none
 
 -- after a turn, the log that is the oldest may be shown
-module _ (w : WatchMeaning) (new : WorkMeaning) (watched : IsWatched w) (job : JobMeaning new) (same : new.origin ≡ w.work.origin) (grown : ran w.work ≤ ran new) where
+module _ (w : ViewedWorkMeaning) (new : WorkMeaning) (watched : IsWatched w) (job : JobMeaning new) (same : new.origin ≡ w.work.origin) (grown : ran w.work ≤ ran new) where
   run_of : OriginMeaning → ℕ → List LogEntry
   run_of o n = (run_end o.version o.quota (take n o.commands)).logs
 
@@ -56,12 +56,12 @@ module _ (w : WatchMeaning) (new : WorkMeaning) (watched : IsWatched w) (job : J
       let is : new.object.chain.logs ≡ run_of o (ran new) = ap (λ (s : ObjectState). s.logs) job.object ∙ ap (λ x. run_of x (ran new)) same in
       subst (λ l. GoesOn (oldest l) (oldest new.object.chain.logs)) (sym was) (subst (λ l. GoesOn (oldest (run_of o (ran w.work))) (oldest l)) (sym is) (goes_on o.version o.quota o.commands (ran w.work) (ran new) grown))
 
-  pub turn_may_show : w.short ≡ false → w.work.short ≡ false → MayShow (last_commit w.view.commits) (option_map committed (oldest new.object.chain.logs))
+  pub turn_may_show : w.out_of_memory ≡ false → w.work.out_of_memory ≡ false → MayShow (last_commit w.view.commits) (option_map committed (oldest new.object.chain.logs))
   turn_may_show unwanted at_work =
       subst (λ l. MayShow l (option_map committed (oldest new.object.chain.logs))) (sym (watched.shown unwanted at_work))
       (may_show (oldest w.work.object.chain.logs) (oldest new.object.chain.logs) goes)
 
-pub few_commits : (w : WatchMeaning) → IsWatched w → length w.view.commits ≤ MOST_COMMANDS
+pub few_commits : (w : ViewedWorkMeaning) → IsWatched w → length w.view.commits ≤ MOST_COMMANDS
 few_commits w watched = let n = watched.job.within in let m = watched.job.few in let k = watched.few in omega (arith, n, m, k)
 
 -- the log that is the oldest now was one that the work's own commands left
@@ -77,15 +77,15 @@ ok_shown w (Err e) all is = tt
 -- ---- many
 
 -- what labels tell
-labels_work : (jobs : List WatchMeaning) → map (λ (l : ℕ × WatchOrigin). l.1.work) (labels number_of origin_of jobs) ≡ map Works.origin_of (works_of jobs)
+labels_work : (jobs : List ViewedWorkMeaning) → map (λ (l : ℕ × WatchOrigin). l.1.work) (labels number_of origin_of jobs) ≡ map Works.origin_of (works_of jobs)
 labels_work [] = refl
 labels_work (w ∷ jobs) = ap {B = List OriginMeaning} (λ l. w.work.origin ∷ l) (labels_work jobs)
 
-labels_name : (jobs : List WatchMeaning) → map (λ (l : ℕ × WatchOrigin). l.1.history) (labels number_of origin_of jobs) ≡ names_of (views_of jobs)
+labels_name : (jobs : List ViewedWorkMeaning) → map (λ (l : ℕ × WatchOrigin). l.1.history) (labels number_of origin_of jobs) ≡ names_of (views_of jobs)
 labels_name [] = refl
 labels_name (w ∷ jobs) = ap {B = List HistoryName} (λ l. w.view.history ∷ l) (labels_name jobs)
 
-module _ (before after : List WatchMeaning) (same : labels number_of origin_of after ≡ labels number_of origin_of before) where
+module _ (before after : List ViewedWorkMeaning) (same : labels number_of origin_of after ≡ labels number_of origin_of before) where
   pub same_origins : map Works.origin_of (works_of after) ≡ map Works.origin_of (works_of before)
   same_origins = sym (labels_work after) ∙ ap (map (λ (l : ℕ × WatchOrigin). l.1.work)) same ∙ labels_work before
 
@@ -93,13 +93,13 @@ module _ (before after : List WatchMeaning) (same : labels number_of origin_of a
   same_names = sym (labels_name after) ∙ ap (map (λ (l : ℕ × WatchOrigin). l.1.history)) same ∙ labels_name before
 
   pub same_long : length after ≡ length before
-  same_long = sym (length-map after (λ (w : WatchMeaning). (number_of w, origin_of w))) ∙ ap {B = ℕ} length same ∙ length-map before (λ (w : WatchMeaning). (number_of w, origin_of w))
+  same_long = sym (length-map after (λ (w : ViewedWorkMeaning). (number_of w, origin_of w))) ∙ ap {B = ℕ} length same ∙ length-map before (λ (w : ViewedWorkMeaning). (number_of w, origin_of w))
 
 -- the jobs of works have their numbers
-pub numbered_jobs : (works : List WorkMeaning) (jobs : List WatchMeaning) → works_of jobs ≡ works → Numbered Works.number_of works → Numbered number_of jobs
+pub numbered_jobs : (works : List WorkMeaning) (jobs : List ViewedWorkMeaning) → works_of jobs ≡ works → Numbered Works.number_of works → Numbered number_of jobs
 numbered_jobs works jobs is numbered k d within =
-    ap Works.number_of (sym (get_or-map (λ (w : WatchMeaning). w.work) jobs k d d.work within) ∙ ap (λ l. get_or l k d.work) is)
-    ∙ numbered k d.work (omega (arith, within, ap {B = ℕ} length is, length-map jobs (λ (w : WatchMeaning). w.work)))
+    ap Works.number_of (sym (get_or-map (λ (w : ViewedWorkMeaning). w.work) jobs k d d.work within) ∙ ap (λ l. get_or l k d.work) is)
+    ∙ numbered k d.work (omega (arith, within, ap {B = ℕ} length is, length-map jobs (λ (w : ViewedWorkMeaning). w.work)))
 
 -- sweepers of the same tables, and works of the same origins
 pub still_swept : (works after : List WorkMeaning) (sweepers swept : List SweeperMeaning) → map Works.origin_of after ≡ map Works.origin_of works → SameTables sweepers swept
@@ -115,24 +115,24 @@ still_swept works after sweepers swept same tables of =
           ∙ of.tables k w s in' ∙ ap shared (sym (tables.tables k s (omega (arith, in', of.same))));
     }
 
-module _ (jobs : List WatchMeaning) (works : List WorkMeaning) (are : works ≡ works_of jobs) where
+module _ (jobs : List ViewedWorkMeaning) (works : List WorkMeaning) (are : works ≡ works_of jobs) where
   -- works whose jobs have ended without want of memory have ended so
-  pub ended_works : All (λ (w : WatchMeaning). left_of w ≡ 0) jobs → All IsLong jobs → AllEnded Works.left_of works
+  pub ended_works : All (λ (w : ViewedWorkMeaning). left_of w ≡ 0) jobs → All IsLong jobs → AllEnded Works.left_of works
   ended_works ended long =
       All-same (λ (w : WorkMeaning). Works.left_of w ≡ 0) works (works_of jobs) are
-      (All-map (λ (w : WorkMeaning). Works.left_of w ≡ 0) (λ (w : WatchMeaning). w.work) jobs
-      (λ k d within. none_left (get_or jobs k d).short (Works.left_of (get_or jobs k d).work) (ended k d within) (long k d within).0))
+      (All-map (λ (w : WorkMeaning). Works.left_of w ≡ 0) (λ (w : ViewedWorkMeaning). w.work) jobs
+      (λ k d within. none_left (get_or jobs k d).out_of_memory (Works.left_of (get_or jobs k d).work) (ended k d within) (long k d within).0))
 
-  pub long_works : All IsLong jobs → All (λ (w : WorkMeaning). w.short ≡ false) works
+  pub long_works : All IsLong jobs → All (λ (w : WorkMeaning). w.out_of_memory ≡ false) works
   long_works long =
-      All-same (λ (w : WorkMeaning). w.short ≡ false) works (works_of jobs) are
-      (All-map (λ (w : WorkMeaning). w.short ≡ false) (λ (w : WatchMeaning). w.work) jobs (λ k d within. (long k d within).1))
+      All-same (λ (w : WorkMeaning). w.out_of_memory ≡ false) works (works_of jobs) are
+      (All-map (λ (w : WorkMeaning). w.out_of_memory ≡ false) (λ (w : ViewedWorkMeaning). w.work) jobs (λ k d within. (long k d within).1))
 
 -- what is seen of all is what their own commands leave
-pub seen_lines : (jobs : List WatchMeaning) (works : List WorkMeaning) → map Works.origin_of (works_of jobs) ≡ map Works.origin_of works → map seen_of jobs ≡ map (λ (w : WorkMeaning). end_view w.origin) works
+pub seen_lines : (jobs : List ViewedWorkMeaning) (works : List WorkMeaning) → map Works.origin_of (works_of jobs) ≡ map Works.origin_of works → map seen_of jobs ≡ map (λ (w : WorkMeaning). end_view w.origin) works
 seen_lines jobs works same = of_jobs jobs ∙ ap (map end_view) same ∙ sym (of_works works)
   where
-    of_jobs : (jobs : List WatchMeaning) → map seen_of jobs ≡ map end_view (map Works.origin_of (works_of jobs))
+    of_jobs : (jobs : List ViewedWorkMeaning) → map seen_of jobs ≡ map end_view (map Works.origin_of (works_of jobs))
     of_jobs [] = refl
     of_jobs (w ∷ jobs) = ap {B = List (Option ViewLine)} (λ l. seen_of w ∷ l) (of_jobs jobs)
 
@@ -141,13 +141,13 @@ seen_lines jobs works same = of_jobs jobs ∙ ap (map end_view) same ∙ sym (of
     of_works (w ∷ works) = ap {B = List (Option ViewLine)} (λ l. end_view w.origin ∷ l) (of_works works)
 
 -- each viewer is of the history of its job
-module _ (viewers : List Beginning) (jobs : List WatchMeaning) (same : names_of viewers ≡ names_of (views_of jobs)) where
+module _ (viewers : List Beginning) (jobs : List ViewedWorkMeaning) (same : names_of viewers ≡ names_of (views_of jobs)) where
   pub many_viewers : length viewers ≡ length jobs
-  many_viewers = sym (length-map viewers (λ (b : Beginning). b.history)) ∙ ap {B = ℕ} length same ∙ length-map (views_of jobs) (λ (b : Beginning). b.history) ∙ length-map jobs (λ (w : WatchMeaning). w.view)
+  many_viewers = sym (length-map viewers (λ (b : Beginning). b.history)) ∙ ap {B = ℕ} length same ∙ length-map (views_of jobs) (λ (b : Beginning). b.history) ∙ length-map jobs (λ (w : ViewedWorkMeaning). w.view)
 
-  pub name_at : (k : ℕ) (d : Beginning) (e : WatchMeaning) → k < length jobs → (get_or viewers k d).history ≡ (get_or jobs k e).view.history
+  pub name_at : (k : ℕ) (d : Beginning) (e : ViewedWorkMeaning) → k < length jobs → (get_or viewers k d).history ≡ (get_or jobs k e).view.history
   name_at k d e within =
       sym (get_or-map (λ (b : Beginning). b.history) viewers k d d.history (omega (arith, within, many_viewers)))
       ∙ ap (λ (l : List HistoryName). get_or l k d.history) same
-      ∙ get_or-map (λ (b : Beginning). b.history) (views_of jobs) k e.view d.history (omega (arith, within, length-map jobs (λ (w : WatchMeaning). w.view)))
-      ∙ ap (λ (b : Beginning). b.history) (get_or-map (λ (w : WatchMeaning). w.view) jobs k e e.view within)
+      ∙ get_or-map (λ (b : Beginning). b.history) (views_of jobs) k e.view d.history (omega (arith, within, length-map jobs (λ (w : ViewedWorkMeaning). w.view)))
+      ∙ ap (λ (b : Beginning). b.history) (get_or-map (λ (w : ViewedWorkMeaning). w.view) jobs k e e.view within)

@@ -9,7 +9,7 @@ use Rattle.dym_view.specs.Commits.{CommitMeaning, committed}
 use Rattle.dym_view.specs.Histories.{Beginning, last_commit}
 use Rattle.dym_view.specs.declared.glance.Glance.{Glance}
 use Rattle.dym_views.specs.Lines.{commit_view, glance_view, view_of}
-use Rattle.dym_views.specs.Watches.{MoreBy}
+use Rattle.dym_views.specs.ViewedWorkMeanings.{MoreBy}
 use Rattle.dym_views.proofs.Onward.{prefix_both}
 
 -- a beginning that is as long as the whole

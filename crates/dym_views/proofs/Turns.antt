@@ -6,18 +6,18 @@ use Rattle.std.specs.Result.{is_err}
 use Rattle.dym_view.specs.Commits.{committed, oldest}
 use Rattle.dym_view.specs.Histories.{Beginning}
 use Rattle.dym_wave.specs.Works.{OriginMeaning, WorkMeaning, JobMeaning, ran}
-use Rattle.dym_views.specs.Watches.{WatchMeaning, IsWatched, MoreBy, ShowsOldest, WasOldest}
+use Rattle.dym_views.specs.ViewedWorkMeanings.{ViewedWorkMeaning, IsWatched, MoreBy, ShowsOldest, WasOldest}
 use Rattle.dym_views.proofs.Jobs.{oldest_was}
 use Rattle.dym_views.proofs.Sights.{more_few, more_own}
 
-module _ (w : WatchMeaning) (new : WorkMeaning) (watched : IsWatched w) (job : JobMeaning new) (same : new.origin ≡ w.work.origin) where
+module _ (w : ViewedWorkMeaning) (new : WorkMeaning) (watched : IsWatched w) (job : JobMeaning new) (same : new.origin ≡ w.work.origin) where
   still_own : AllByRecursion (WasOldest new.origin) w.view.commits
   still_own = subst (λ (o : OriginMeaning). AllByRecursion (WasOldest o) w.view.commits) (sym same) watched.own
 
   -- its work ran on, and it published what is the oldest log now, or found no memory for it
-  pub turned : (view : Beginning) (short : Bool) → ran w.work < ran new → MoreBy (option_map committed (oldest new.object.chain.logs)) w.view view
-      → (short ≡ false → ShowsOldest new view.commits) → IsWatched (record { work = new; view = view; short = short })
-  turned view short on more shown =
+  pub turned : (view : Beginning) (out_of_memory : Bool) → ran w.work < ran new → MoreBy (option_map committed (oldest new.object.chain.logs)) w.view view
+      → (out_of_memory ≡ false → ShowsOldest new view.commits) → IsWatched (record { work = new; view = view; out_of_memory = out_of_memory })
+  turned view out_of_memory on more shown =
       let few = watched.few in
       record {
         job = job;
@@ -27,7 +27,7 @@ module _ (w : WatchMeaning) (new : WorkMeaning) (watched : IsWatched w) (job : J
       }
 
   -- its work found no memory, and nothing was published
-  pub turned_short : ran w.work ≤ ran new → new.short ≡ true → IsWatched (record { work = new; view = w.view; short = w.short })
+  pub turned_short : ran w.work ≤ ran new → new.out_of_memory ≡ true → IsWatched (record { work = new; view = w.view; out_of_memory = w.out_of_memory })
   turned_short on wanting =
       let few = watched.few in
       record {

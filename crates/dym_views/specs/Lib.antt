@@ -1,3 +1,3 @@
 pub mod Lines
-pub mod Looks
-pub mod Watches
+pub mod Observations
+pub mod ViewedWorkMeanings

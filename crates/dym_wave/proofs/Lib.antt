@@ -2,4 +2,3 @@ pub mod Oldests
 pub mod Runs
 pub mod Spent
 pub mod Tables
-pub mod Waved

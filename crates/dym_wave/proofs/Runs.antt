@@ -35,7 +35,7 @@ same_origin number commands old new c step =
     λ i. record { number = number; quota = (step.heap i).quota; version = (step.heap i).version; commands = commands; supply = (step.heap i).origin; keep = step.origin i }
 
 -- the command that is next was run, and its reply joins the others
-module _ (number quantum : ℕ) (commands : List Command) (replies : List Reply) (old new : ObjectMeaning) (short : Bool) (said : Reply) where
+module _ (number quantum : ℕ) (commands : List Command) (replies : List Reply) (old new : ObjectMeaning) (out_of_memory : Bool) (said : Reply) where
   abbrev next : Command
   next = get_or commands (length replies) Logs
 
@@ -45,8 +45,8 @@ module _ (number quantum : ℕ) (commands : List Command) (replies : List Reply)
   one_origin : length replies < length commands → IfSome (slice_get commands (length replies)) (λ c. Ran old c new said) → origin_with number commands new ≡ origin_with number commands old
   one_origin l did = same_origin number commands old new next (run_as l did).step
 
-  one_job : length replies < length commands → IfSome (slice_get commands (length replies)) (λ c. Ran old c new said) → JobMeaning (work_with number quantum commands replies old short)
-      → JobMeaning (work_with number quantum commands (replies ++ said ∷ []) new short)
+  one_job : length replies < length commands → IfSome (slice_get commands (length replies)) (λ c. Ran old c new said) → JobMeaning (work_with number quantum commands replies old out_of_memory)
+      → JobMeaning (work_with number quantum commands (replies ++ said ∷ []) new out_of_memory)
   one_job l did job =
       let done = take (length replies) commands in
       let v = old.heap.version in
@@ -72,12 +72,12 @@ module _ (number quantum : ℕ) (commands : List Command) (replies : List Reply)
       }
 
 -- the same where the replies are told by equations
-pub more_job : (number quantum : ℕ) (commands : List Command) (replies after : List Reply) (old new : ObjectMeaning) (short : Bool) (said told : Reply) (k : ℕ) → k ≡ length replies → after ≡ replies ++ told ∷ [] → told ≡ said
-    → length replies < length commands → IfSome (slice_get commands k) (λ c. Ran old c new said) → JobMeaning (work_with number quantum commands replies old short)
-    → JobMeaning (work_with number quantum commands after new short)
-more_job number quantum commands replies after old new short said told k at is same l did job =
-    subst (λ (rs : List Reply). JobMeaning (work_with number quantum commands rs new short)) (sym (is ∙ ap {B = List Reply} (λ (r : Reply). replies ++ r ∷ []) same))
-    (one_job number quantum commands replies old new short said l (subst (λ (n : ℕ). IfSome (slice_get commands n) (λ c. Ran old c new said)) at did) job)
+pub more_job : (number quantum : ℕ) (commands : List Command) (replies after : List Reply) (old new : ObjectMeaning) (out_of_memory : Bool) (said told : Reply) (k : ℕ) → k ≡ length replies → after ≡ replies ++ told ∷ [] → told ≡ said
+    → length replies < length commands → IfSome (slice_get commands k) (λ c. Ran old c new said) → JobMeaning (work_with number quantum commands replies old out_of_memory)
+    → JobMeaning (work_with number quantum commands after new out_of_memory)
+more_job number quantum commands replies after old new out_of_memory said told k at is same l did job =
+    subst (λ (rs : List Reply). JobMeaning (work_with number quantum commands rs new out_of_memory)) (sym (is ∙ ap {B = List Reply} (λ (r : Reply). replies ++ r ∷ []) same))
+    (one_job number quantum commands replies old new out_of_memory said l (subst (λ (n : ℕ). IfSome (slice_get commands n) (λ c. Ran old c new said)) at did) job)
 
 pub more_origin : (number : ℕ) (commands : List Command) (replies : List Reply) (old new : ObjectMeaning) (said : Reply) (k : ℕ) → k ≡ length replies → length replies < length commands → IfSome (slice_get commands k) (λ c. Ran old c new said)
     → origin_with number commands new ≡ origin_with number commands old
@@ -113,13 +113,13 @@ module _ (commands : List Command) (kept : RepliesMeaning) (old new : ObjectMean
         bytes = omega (arith, told_few, rest_is, room.bytes, bytes, ap (λ (n : ℕ). sum_by read_room (drop n commands)) long);
       }
 
-open_by : (short : Bool) (n : ℕ) → 0 < (if short then 0 else n) → short ≡ false
+open_by : (out_of_memory : Bool) (n : ℕ) → 0 < (if out_of_memory then 0 else n) → out_of_memory ≡ false
 open_by true n l = absurd (omega arith)
 open_by false n l = refl
 
 -- how much is left of a work
-pub open_while_left : (w : WorkMeaning) → 0 < left_of w → w.short ≡ false
-open_while_left w l = open_by w.short (length w.origin.commands - ran w) l
+pub open_while_left : (w : WorkMeaning) → 0 < left_of w → w.out_of_memory ≡ false
+open_while_left w l = open_by w.out_of_memory (length w.origin.commands - ran w) l
 
-pub left_while_open : (w : WorkMeaning) → w.short ≡ false → left_of w ≡ length w.origin.commands - ran w
+pub left_while_open : (w : WorkMeaning) → w.out_of_memory ≡ false → left_of w ≡ length w.origin.commands - ran w
 left_while_open w is = ap (λ (b : Bool). if b then 0 else length w.origin.commands - ran w) is

@@ -28,7 +28,7 @@ pub record WorkMeaning : Type 0 where
   pub quantum : ℕ
   pub replies : List Reply
   pub object : ObjectMeaning
-  pub short : Bool
+  pub out_of_memory : Bool
 
 -- what stands where a value of the type is wanted that is never made
 abbrev pub no_origin : OriginMeaning
@@ -47,12 +47,12 @@ origin_with number commands object = record {
 
 -- a work of these parts
 abbrev pub work_with : ℕ → ℕ → List Command → List Reply → ObjectMeaning → Bool → WorkMeaning
-work_with number quantum commands replies object short = record {
+work_with number quantum commands replies object out_of_memory = record {
   origin = origin_with number commands object;
   quantum = quantum;
   replies = replies;
   object = object;
-  short = short;
+  out_of_memory = out_of_memory;
 }
 
 -- a work that has done nothing yet
@@ -71,7 +71,7 @@ ran w = length w.replies
 
 -- how many commands are left to run: none where one found no memory
 abbrev pub left_of : WorkMeaning → ℕ
-left_of w = if w.short then 0 else length w.origin.commands - ran w
+left_of w = if w.out_of_memory then 0 else length w.origin.commands - ran w
 
 -- the commands that have run
 abbrev pub done_of : WorkMeaning → List Command
@@ -103,4 +103,4 @@ pub record RanAll (w : WorkMeaning) : Type 0 where
 
 -- a work that has ended without a want of memory ran all its commands
 abbrev pub EndsWhole : WorkMeaning → Type 0
-EndsWhole w = left_of w ≡ 0 → w.short ≡ false → RanAll w
+EndsWhole w = left_of w ≡ 0 → w.out_of_memory ≡ false → RanAll w

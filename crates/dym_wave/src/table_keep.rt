@@ -44,12 +44,12 @@ impl TableKeep {
         ensures { result ≡ record self { records = [] } }
     {
         let TableKeep { owner, spent: _ } = self;
-        spend(owner)
+        drop_all(owner)
     }
 }
 
 /// A keep over an owner whose records belong to nobody any more.
-fn spend(mut owner: Owner) -> TableKeep
+fn drop_all(mut owner: Owner) -> TableKeep
     requires idle { owner.lifted ≡ None }
     ensures { result ≡ record owner { records = [] } }
 {
@@ -71,14 +71,14 @@ impl LogKeep for TableKeep {
         self.owner.number_at(place)
     }
 
-    fn made(&self) -> u64 {
-        self.owner.made()
+    fn next_number(&self) -> u64 {
+        self.owner.next_number()
     }
 
     fn put(&mut self, rec: Record) -> u64 {
         let number = self.owner.put(rec);
         if self.spent {
-            self.owner.raise(1);
+            self.owner.drop_before(1);
             self.spent = false;
         }
         number
@@ -96,7 +96,7 @@ impl LogKeep for TableKeep {
         self.owner.drop_after(place);
     }
 
-    fn raise(&mut self, place: u32) {
-        self.owner.raise(place);
+    fn drop_before(&mut self, place: u32) {
+        self.owner.drop_before(place);
     }
 }

@@ -24,7 +24,7 @@ impl<R: Wait + Send + Sync> Job<R> for Work<R> {
     }
 
     fn left(&self) -> u32 {
-        if self.short {
+        if self.out_of_memory {
             return 0;
         }
         (self.commands.len() - self.replies.len()) as u32
@@ -37,7 +37,7 @@ impl<R: Wait + Send + Sync> Job<R> for Work<R> {
         ensures left { left_of self.new < left_of self.old }
         ensures quantum { self.new.quantum ≡ self.old.quantum }
         ensures grown { ran self.old ≤ ran self.new }
-        ensures ran { self.new.short ≡ false
+        ensures ran { self.new.out_of_memory ≡ false
             → ran self.new ≡ ran self.old + min self.old.quantum (left_of self.old) }
     {
         let count = self.quantum.min(self.left());
@@ -52,13 +52,13 @@ impl<R: Wait> Work<R> {
         requires left { count ≤ left_of self.old }
         ensures origin { self.new.origin ≡ self.old.origin }
         ensures quantum { self.new.quantum ≡ self.old.quantum }
-        ensures all { self.new.short ≡ false → ran self.new ≡ ran self.old + count }
+        ensures all { self.new.out_of_memory ≡ false → ran self.new ≡ ran self.old + count }
         ensures grown { ran self.old ≤ ran self.new }
         ensures left { left_of self.new < left_of self.old }
     {
         for _ in 0..count {
             if self.run_next(rt).is_err() {
-                self.short = true;
+                self.out_of_memory = true;
                 return;
             }
         }
@@ -69,7 +69,7 @@ impl<R: Wait> Work<R> {
         requires { 0 < left_of self.old }
         ensures origin { self.new.origin ≡ self.old.origin }
         ensures quantum { self.new.quantum ≡ self.old.quantum }
-        ensures short { self.new.short ≡ self.old.short }
+        ensures out_of_memory { self.new.out_of_memory ≡ self.old.out_of_memory }
         ensures ran { OnOk result (ran self.new ≡ ran self.old + 1) }
         ensures unchanged { OnErr result (self.new ≡ self.old) }
     {

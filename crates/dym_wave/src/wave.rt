@@ -5,7 +5,7 @@ ghost use Rattle.dym_pool.specs.Jobs.{Numbered};
 ghost use Rattle.dym_wave.specs.Waves.{OfOneQueue, AreSweptBy, SameTables, WavePromise};
 ghost use Rattle.dym_wave.specs.Works.{number_of};
 
-use crate::swept::run_swept;
+use crate::sweeper_run::run_with_sweepers;
 use crate::work::Work;
 use dym_base::limits::{MOST_OBJECTS, MOST_WORKERS};
 use dym_pool::Gate;
@@ -38,5 +38,5 @@ pub fn run_wave<R: Threads + Wait + Send + Sync, G: Gate>(
     ensures works { IfErr result (λ e. e.1.items ≡ works.items) }
     ensures sweepers { IfErr result (λ e. SameTables sweepers.items e.2.items) }
 {
-    run_swept(rt, alloc, works, sweepers, workers, gate)
+    run_with_sweepers(rt, alloc, works, sweepers, workers, gate)
 }

@@ -26,7 +26,7 @@ pub struct Work<R: Wait> {
     pub(crate) commands: Commands,
     pub(crate) replies: Replies,
     pub(crate) turn: Turn<Berth<R>, TableKeep>,
-    pub(crate) short: bool,
+    pub(crate) out_of_memory: bool,
 }
 
 impl<R: Wait> Model for Work<R> {
@@ -38,9 +38,9 @@ impl<R: Wait> Model for Work<R> {
 
     ghost coded = { Prim.hlevel (codes, live_code, touched_code) };
 
-    ghost view = { λ w. work_with w.number w.quantum w.commands w.replies.replies w.turn.object w.short };
+    ghost view = { λ w. work_with w.number w.quantum w.commands w.replies.replies w.turn.object w.out_of_memory };
 
-    ghost invariant = { λ w. JobMeaning (work_with w.number w.quantum w.commands w.replies.replies w.turn.object w.short)
+    ghost invariant = { λ w. JobMeaning (work_with w.number w.quantum w.commands w.replies.replies w.turn.object w.out_of_memory)
         × HasRoom w.commands w.replies };
 }
 
@@ -70,7 +70,7 @@ impl<R: Wait> Work<R> {
                 commands,
                 replies,
                 turn: Turn::new(alloc, object),
-                short: false,
+                out_of_memory: false,
             }),
             Err(error) => Err((error, commands, object)),
         }
@@ -94,12 +94,12 @@ impl<R: Wait> Work<R> {
     }
 
     /// Whether a command found no memory, so that it and those after it weren't run.
-    pub fn short(&self) -> bool
-        ensures short { result ≡ self.now.short }
+    pub fn out_of_memory(&self) -> bool
+        ensures out_of_memory { result ≡ self.now.out_of_memory }
         ensures job { JobMeaning self.now }
         ensures whole { EndsWhole self.now }
     {
-        self.short
+        self.out_of_memory
     }
 
     /// Gives up the work, and answers the replies and the object as it stands.
@@ -127,7 +127,7 @@ impl<R: Wait> Work<R> {
             commands,
             replies,
             turn,
-            short: _,
+            out_of_memory: _,
         } = self;
         (number, commands, replies, turn.into_object())
     }

@@ -7,7 +7,7 @@ use Rattle.dym_base.specs.declared.limits.TheConstants.{MOST_OBJECTS, MOST_MADE_
 use Rattle.dym_base.specs.Names.{is_name}
 use Rattle.dym_words.specs.Numbers.{number_of, number_within, if_within}
 use Rattle.dym_words.specs.Options.{is_text, are_options, values_of, number_or}
-use Rattle.dym_words.specs.declared.made.Made.{Made}
+use Rattle.dym_words.specs.declared.gen_numbers.GenNumbers.{GenNumbers}
 use Rattle.dym_words.specs.declared.order.Order.{Order}
 use Rattle.dym_words.specs.declared.order.Order.TheVariants.{Check, Trace, Save, Late}
 use Rattle.dym_words.specs.declared.order.Usage.{Usage}
@@ -39,7 +39,7 @@ tested low high n false is = tt
 number_fits : (low high : ℕ) (w : List ℕ) → IfSome (number_within low high w) (λ n. (low ≤ n) × (n ≤ high))
 number_fits low high w = and_then (λ _. ⊤) (λ n. (low ≤ n) × (n ≤ high)) (if_within low high) (number_of w) (any (number_of w)) (λ n _. tested low high n _ refl)
 
-abbrev FitMade : Made → Type 0
+abbrev FitMade : GenNumbers → Type 0
 FitMade m = CanBeMade m.objects m.commands
 
 made_fits : (ws : List (List ℕ)) → IfSome (made_of ws) FitMade

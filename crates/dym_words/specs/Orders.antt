@@ -5,7 +5,7 @@ use Rattle.dym_base.specs.Names.{is_name}
 use Rattle.dym_base.specs.declared.limits.TheConstants.{MOST_OBJECTS, MOST_MADE_COMMANDS, MOST_WORKERS, DEFAULT_WORKERS, MOST_SEGMENTS, DEFAULT_SEGMENTS, MOST_QUANTUM, DEFAULT_QUANTUM}
 use Rattle.dym_words.specs.Numbers.{number_of, number_within}
 use Rattle.dym_words.specs.Options.{is_text, are_options, values_of, flag_of, number_or}
-use Rattle.dym_words.specs.declared.made.Made.{Made}
+use Rattle.dym_words.specs.declared.gen_numbers.GenNumbers.{GenNumbers}
 use Rattle.dym_words.specs.declared.order.Input.{Input}
 use Rattle.dym_words.specs.declared.order.Input.TheVariants as input
 use Rattle.dym_words.specs.declared.order.Order.{Order}
@@ -13,7 +13,7 @@ use Rattle.dym_words.specs.declared.order.Order.TheVariants.{Plain, Run, Check, 
 use Rattle.dym_words.specs.declared.order.Usage.{Usage}
 
 -- three words that are the seed, the objects and the commands of a made script
-abbrev pub made_of : List (List ℕ) → Option Made
+abbrev pub made_of : List (List ℕ) → Option GenNumbers
 made_of (s ∷ o ∷ c ∷ []) =
     option_and_then (λ seed.
     option_and_then (λ objects.
@@ -31,7 +31,7 @@ alone order (w ∷ ws) = None
 -- the input by the values of the option `--gen`: a made script, or what is read where the option isn't given
 abbrev pub input_or : Option (List (List ℕ)) → Option Input
 input_or None = Some input.Script
-input_or (Some ws) = option_map (λ m. input.Made m.seed m.objects m.commands) (made_of ws)
+input_or (Some ws) = option_map (λ m. input.GenNumbers m.seed m.objects m.commands) (made_of ws)
 
 abbrev pub input_of : List (List ℕ) → Option Input
 input_of ws = input_or (values_of (codes "--gen") ws)

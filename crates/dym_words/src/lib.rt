@@ -1,10 +1,12 @@
-//! The words of a command line, read as an order. It stands on dym_base, and the top call stands on it. Its one contract:
-//! the order that is read is the one whose form the whole list of words has, and `Usage` comes exactly where they have
-//! none.
+//! The words of a command line, read as an order.
+//!
+//! Below stands `dym_base`; above stands the top call. Its one contract: the order that
+//! `read_words` answers is the one whose form the whole list of words has, and `Usage` comes
+//! exactly where they have none.
 #![tactic(auto)]
 
+mod gen_numbers;
 mod laws;
-mod made;
 mod number;
 mod options;
 pub mod order;

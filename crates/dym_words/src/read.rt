@@ -3,7 +3,7 @@ ghost use Rattle.std.specs.Prelude.{◌≡◌, map};
 ghost use Rattle.std.specs.String.{string_bytes};
 ghost use Rattle.dym_words.specs.Orders.{order, form_of, plain, run, views, alone, made, save, load, input_of};
 
-use crate::made::Made;
+use crate::gen_numbers::GenNumbers;
 use crate::number::read_number;
 use crate::options::{are_options, read_flag, read_number_or, values};
 use crate::order::{Input, Order, Usage};
@@ -97,8 +97,8 @@ fn read_input(rest: &[String]) -> Option<Input>
     match values(rest, "--gen") {
         None => Some(Input::Script),
         Some(words) => {
-            let made = Made::of_words(words)?;
-            Some(Input::Made {
+            let made = GenNumbers::of_words(words)?;
+            Some(Input::GenNumbers {
                 seed: made.seed,
                 objects: made.objects,
                 commands: made.commands,
@@ -110,7 +110,7 @@ fn read_input(rest: &[String]) -> Option<Input>
 fn read_made(rest: &[String]) -> Option<Order>
     ensures { result ≡ made (map string_bytes rest.now) }
 {
-    let made = Made::of_words(rest)?;
+    let made = GenNumbers::of_words(rest)?;
     Some(Order::Gen {
         seed: made.seed,
         objects: made.objects,
@@ -161,7 +161,7 @@ mod tests {
             matches!(
                 plain,
                 Some(Order::Plain {
-                    input: Input::Made {
+                    input: Input::GenNumbers {
                         seed: 7,
                         objects: 3,
                         commands: 40

@@ -1,5 +1,8 @@
-//! The program: its words, standard input and standard output go to the top call, whose answer is the exit status. It
-//! prints nothing else. It stands on `dymelor_top`, and on nothing that it could decide by itself.
+//! The program: its words, standard input and standard output go to the top call, whose answer is
+//! the exit status.
+//!
+//! It prints nothing else. It stands on `dymelor_top`, and on nothing that it could decide by
+//! itself.
 #![tactic(auto)]
 
 use dym_io::{StdSink, StdSource};

@@ -6,7 +6,7 @@ use Rattle.dym_base.specs.declared.bad_kind.BadKind.TheVariants as bad
 use Rattle.dym_base.specs.Files.{FileHead}
 use Rattle.dym_base.specs.LawfulLists.{IsLawful}
 use Rattle.dym_base.specs.Objects.{LogEntry}
-use Rattle.dym_chain.specs.Adopted.{entries_of}
+use Rattle.dym_chain.specs.AdoptedLogs.{entries_of}
 use Rattle.dym_ckpt.proofs.OneReading.{one_reading, no_file, one_part}
 use Rattle.dymelor_top.specs.Checkpoints.{HoldsLogs, loaded_text}
 use Rattle.dymelor_top.specs.Answers.{Answer, fault_answer, IsLoadedText, IsPartFault, IsLoadAnswer}

@@ -9,9 +9,9 @@ use Rattle.dym_script.specs.declared.late_script.LateAct.{LateAct}
 use Rattle.dym_script.specs.declared.late_script.LateAct.TheVariants.{At, Commit}
 use Rattle.dym_script.specs.Late.{is_event}
 use Rattle.dym_script.specs.LateArrivals.{arrival}
-use Rattle.dymelor_top.specs.declared.late_told.LateTold.{LateTold}
-use Rattle.dymelor_top.specs.declared.late_told.LateTold.TheVariants as told
-use Rattle.dymelor_top.specs.LateReport.{told_at, told_behind, told_onto, told_of}
+use Rattle.dymelor_top.specs.declared.late_outcome.LateOutcome.{LateOutcome}
+use Rattle.dymelor_top.specs.declared.late_outcome.LateOutcome.TheVariants as outcome
+use Rattle.dymelor_top.specs.LateReport.{outcome_at, outcome_behind, outcome_onto, outcome_of}
 use Rattle.dymelor_top.specs.LateParts.{arrivals_by, TookIn, IsOneOf}
 
 -- what is accepted of two lists, one behind the other
@@ -29,13 +29,13 @@ bound_both bound [] ys = refl
 bound_both bound (event e ∷ xs) ys = bound_both bound xs ys
 bound_both bound (commit t ∷ xs) ys = bound_both (max bound t) xs ys
 
-told_onto_push : (before xs : List Arrival) (x : Arrival) → told_onto before (xs ++ x ∷ []) ≡ told_onto before xs ++ told_behind (before ++ xs) x ∷ []
-told_onto_push before [] x = ap (λ l. told_behind l x ∷ []) (sym (append-nil before))
+told_onto_push : (before xs : List Arrival) (x : Arrival) → outcome_onto before (xs ++ x ∷ []) ≡ outcome_onto before xs ++ outcome_behind (before ++ xs) x ∷ []
+told_onto_push before [] x = ap (λ l. outcome_behind l x ∷ []) (sym (append-nil before))
 told_onto_push before (y ∷ xs) x =
-    ap (λ l. told_behind before y ∷ l) (told_onto_push (before ++ y ∷ []) xs x ∙ ap (λ l. told_onto (before ++ y ∷ []) xs ++ told_behind l x ∷ []) (append_assoc before (y ∷ []) xs))
+    ap (λ l. outcome_behind before y ∷ l) (told_onto_push (before ++ y ∷ []) xs x ∙ ap (λ l. outcome_onto (before ++ y ∷ []) xs ++ outcome_behind l x ∷ []) (append_assoc before (y ∷ []) xs))
 
-pub told_of_push : (xs : List Arrival) (x : Arrival) → told_of (xs ++ x ∷ []) ≡ told_of xs ++ told_behind xs x ∷ []
-unfolding told_of
+pub told_of_push : (xs : List Arrival) (x : Arrival) → outcome_of (xs ++ x ∷ []) ≡ outcome_of xs ++ outcome_behind xs x ∷ []
+unfolding outcome_of
 told_of_push xs x = told_onto_push [] xs x
 
 pub arrivals_push : (acts : List LateAct) (act : LateAct) → arrivals_by (acts ++ act ∷ []) ≡ arrivals_by acts ++ arrival act ∷ []
@@ -60,12 +60,12 @@ module _ (old mid : LateMeaning) (none : old.events ≡ []) (zero : old.bound �
   pub events_are : (xs : List Arrival) → TookIn old mid xs → mid.events ≡ accepted xs
   events_are xs p = p.events ∙ (λ i. none i ++ accepted_after (zero i) xs)
 
-  pub told_more : (acts : List LateAct) (act : LateAct) (so_far : List LateTold) (became : LateTold) → TookIn old mid (arrivals_by acts) → so_far ≡ told_of (arrivals_by acts)
-      → became ≡ told_at mid.bound (length mid.events) (arrival act) → so_far ++ became ∷ [] ≡ told_of (arrivals_by (acts ++ act ∷ []))
+  pub told_more : (acts : List LateAct) (act : LateAct) (so_far : List LateOutcome) (became : LateOutcome) → TookIn old mid (arrivals_by acts) → so_far ≡ outcome_of (arrivals_by acts)
+      → became ≡ outcome_at mid.bound (length mid.events) (arrival act) → so_far ++ became ∷ [] ≡ outcome_of (arrivals_by (acts ++ act ∷ []))
   told_more acts act so_far became p are is =
       let xs : List Arrival = arrivals_by acts in
-      let now : became ≡ told_behind xs (arrival act) = is ∙ (λ i. told_at ((p.bound ∙ ap (λ b. bound_after b xs) zero) i) (length (events_are xs p i)) (arrival act)) in
-      (λ i. are i ++ now i ∷ []) ∙ sym (told_of_push xs (arrival act)) ∙ ap told_of (sym (arrivals_push acts act))
+      let now : became ≡ outcome_behind xs (arrival act) = is ∙ (λ i. outcome_at ((p.bound ∙ ap (λ b. bound_after b xs) zero) i) (length (events_are xs p i)) (arrival act)) in
+      (λ i. are i ++ now i ∷ []) ∙ sym (told_of_push xs (arrival act)) ∙ ap outcome_of (sym (arrivals_push acts act))
 
 pub took_push : (old mid new : LateMeaning) (acts : List LateAct) (act : LateAct) → TookIn old mid (arrivals_by acts) → TookIn mid new (arrival act ∷ []) → TookIn old new (arrivals_by (acts ++ act ∷ []))
 took_push old mid new acts act p q = subst (TookIn old new) (sym (arrivals_push acts act)) (took_more old mid new (arrivals_by acts) (arrival act) p q)
@@ -96,22 +96,22 @@ room_later old new most act acts few p =
 
 -- each accepted event that is told of is one of all
 
-one_of_all : (before more : List Arrival) (x : Arrival) → IsOneOf (length (accepted (before ++ x ∷ more))) (told_behind before x)
+one_of_all : (before more : List Arrival) (x : Arrival) → IsOneOf (length (accepted (before ++ x ∷ more))) (outcome_behind before x)
 one_of_all before more (event e) =
     let grown = ap length (accepted_both 0 before (event e ∷ more)) in
     elim (nat_lt e.time (bound_after 0 before)) as (λ b. length (accepted (before ++ event e ∷ more)) ≡ length (accepted before ++ cond b (accepted_after (bound_after 0 before) more) (e ∷ accepted_after (bound_after 0 before) more))
-    → IsOneOf (length (accepted (before ++ event e ∷ more))) (cond b (told.Early (bound_after 0 before)) (told.Accepted (length (accepted before))))) [
+    → IsOneOf (length (accepted (before ++ event e ∷ more))) (cond b (outcome.Early (bound_after 0 before)) (outcome.Accepted (length (accepted before))))) [
       | true ↦ λ is. tt
       | false ↦ λ is. omega (arith, is, length-append (accepted before) (e ∷ accepted_after (bound_after 0 before) more))
     ] grown
 one_of_all before more (commit t) = tt
 
-ones_onto : (before xs : List Arrival) → All (IsOneOf (length (accepted (before ++ xs)))) (told_onto before xs)
+ones_onto : (before xs : List Arrival) → All (IsOneOf (length (accepted (before ++ xs)))) (outcome_onto before xs)
 ones_onto before [] = All-nil (IsOneOf (length (accepted (before ++ []))))
 ones_onto before (x ∷ xs) =
-    All-cons (IsOneOf (length (accepted (before ++ x ∷ xs)))) (told_behind before x) (told_onto (before ++ x ∷ []) xs) (one_of_all before xs x)
-    (subst (λ (l : List Arrival). All (IsOneOf (length (accepted l))) (told_onto (before ++ x ∷ []) xs)) (append_assoc before (x ∷ []) xs) (ones_onto (before ++ x ∷ []) xs))
+    All-cons (IsOneOf (length (accepted (before ++ x ∷ xs)))) (outcome_behind before x) (outcome_onto (before ++ x ∷ []) xs) (one_of_all before xs x)
+    (subst (λ (l : List Arrival). All (IsOneOf (length (accepted l))) (outcome_onto (before ++ x ∷ []) xs)) (append_assoc before (x ∷ []) xs) (ones_onto (before ++ x ∷ []) xs))
 
-pub ones_of : (xs : List Arrival) → All (IsOneOf (length (accepted xs))) (told_of xs)
-unfolding told_of
+pub ones_of : (xs : List Arrival) → All (IsOneOf (length (accepted xs))) (outcome_of xs)
+unfolding outcome_of
 ones_of xs = ones_onto [] xs

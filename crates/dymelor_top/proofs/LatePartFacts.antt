@@ -21,7 +21,7 @@ use Rattle.dymelor_top.specs.LateParts.{arrivals_by, late_part_text, acts_of, Ea
 acts_of_push : (lines : List LateLine) (line : LateLine) (k : ℕ) → acts_of (lines ++ line ∷ []) k ≡ acts_of lines k ++ cond (line.object == k) (line.act ∷ []) []
 acts_of_push [] line k = elim (line.object == k) as (λ b. map (λ (l : LateLine). l.act) (cond b (line ∷ []) []) ≡ cond b (line.act ∷ []) []) [ true ↦ refl | false ↦ refl ]
 acts_of_push (l ∷ ls) line k = elim (l.object == k) as (λ b. map (λ (m : LateLine). m.act) (cond b (l ∷ filter (λ m. m.object == k) (ls ++ line ∷ [])) (filter (λ m. m.object == k) (ls ++ line ∷ []))) ≡ map (λ m. m.act) (cond b (l ∷ filter (λ m. m.object == k) ls) (filter (λ m. m.object == k) ls)) ++ cond (line.object == k) (line.act ∷ []) []) [
-  | true ↦ ap (λ told. l.act ∷ told) (acts_of_push ls line k)
+  | true ↦ ap (λ outcome. l.act ∷ outcome) (acts_of_push ls line k)
   | false ↦ acts_of_push ls line k
 ]
 
@@ -33,7 +33,7 @@ acts_more parts line old new lines inside at pushed has k d small =
       | true ↦ λ same.
           let is : line.object ≡ k = eqb-true line.object k same in
           ap (λ (p : LatePart). p.acts.items) (get_or-set_at parts line.object k new d (sym is) inside) ∙ pushed
-          ∙ ap (λ told. told ++ line.act ∷ []) (ap (λ (p : LatePart). p.acts.items) at ∙ has line.object old inside ∙ ap (acts_of lines) is)
+          ∙ ap (λ outcome. outcome ++ line.act ∷ []) (ap (λ (p : LatePart). p.acts.items) at ∙ has line.object old inside ∙ ap (acts_of lines) is)
           ∙ sym (acts_of_push lines line k ∙ ap (λ b. acts_of lines k ++ cond b (line.act ∷ []) []) same)
       | false ↦ λ other.
           let apart : k ≢ line.object = grind (arith, nat_tests) in
@@ -61,7 +61,7 @@ many_parts parts objects lines are = sym (length-map parts (λ (p : LatePart). p
 arrivals_are : (lines : List LateLine) (k : ℕ) → arrivals_by (acts_of lines k) ≡ arrivals_of lines k
 arrivals_are [] k = refl
 arrivals_are (l ∷ ls) k = elim (l.object == k) as (λ b. map (λ a. arrival a) (map (λ (m : LateLine). m.act) (cond b (l ∷ filter (λ m. m.object == k) ls) (filter (λ m. m.object == k) ls))) ≡ map (λ m. arrival m.act) (cond b (l ∷ filter (λ m. m.object == k) ls) (filter (λ m. m.object == k) ls))) [
-  | true ↦ ap (λ told. arrival l.act ∷ told) (arrivals_are ls k)
+  | true ↦ ap (λ outcome. arrival l.act ∷ outcome) (arrivals_are ls k)
   | false ↦ arrivals_are ls k
 ]
 

@@ -6,8 +6,8 @@ use Rattle.dym_heap.specs.Meaning.{HeapMeaning}
 use Rattle.dym_late.specs.Meaning.{LateMeaning, IsLate}
 use Rattle.dym_report.specs.Late.{late_end}
 use Rattle.dym_report.specs.Objects.{heading}
-use Rattle.dymelor_top.specs.declared.late_told.LateTold.{LateTold}
-use Rattle.dymelor_top.specs.LateReport.{told_of, told_text, late_part}
+use Rattle.dymelor_top.specs.declared.late_outcome.LateOutcome.{LateOutcome}
+use Rattle.dymelor_top.specs.LateReport.{outcome_of, outcome_text, late_part}
 use Rattle.dymelor_top.specs.LateParts.{TookIn, IsOneOf}
 use Rattle.dymelor_top.proofs.LateFacts.{events_are, ones_of}
 
@@ -16,13 +16,13 @@ pub late_pieces : (name : List ℕ) (quota : ℕ) (xs : List Arrival) → (rest 
 unfolding late_part
 late_pieces name quota xs = (_, append_assoc (heading name) _ _)
 
-late_part_is : (name : List ℕ) (quota : ℕ) (xs : List Arrival) (events : List LateEvent) (lines : List LateTold) → events ≡ accepted xs → lines ≡ told_of xs
-    → late_part name quota xs ≡ (heading name ++ flat_map (told_text quota events) lines) ++ late_end One (late_heap One quota events).live (replayed events)
+late_part_is : (name : List ℕ) (quota : ℕ) (xs : List Arrival) (events : List LateEvent) (lines : List LateOutcome) → events ≡ accepted xs → lines ≡ outcome_of xs
+    → late_part name quota xs ≡ (heading name ++ flat_map (outcome_text quota events) lines) ++ late_end One (late_heap One quota events).live (replayed events)
 unfolding late_part
 late_part_is name quota xs events lines events_are lines_are =
-    λ i. (heading name ++ flat_map (told_text quota (sym events_are i)) (sym lines_are i)) ++ late_end One (late_heap One quota (sym events_are i)).live (replayed (sym events_are i))
+    λ i. (heading name ++ flat_map (outcome_text quota (sym events_are i)) (sym lines_are i)) ++ late_end One (late_heap One quota (sym events_are i)).live (replayed (sym events_are i))
 
-module _ (old new : LateMeaning) (name : List ℕ) (xs : List Arrival) (none : old.events ≡ []) (zero : old.bound ≡ 0) (took : TookIn old new xs) (lines : List LateTold) (are : lines ≡ told_of xs) where
+module _ (old new : LateMeaning) (name : List ℕ) (xs : List Arrival) (none : old.events ≡ []) (zero : old.bound ≡ 0) (took : TookIn old new xs) (lines : List LateOutcome) (are : lines ≡ outcome_of xs) where
   -- each accepted event that a line tells of has its reply
   pub ones_there : All (IsOneOf (length new.events)) lines
   ones_there =
@@ -31,12 +31,12 @@ module _ (old new : LateMeaning) (name : List ℕ) (xs : List Arrival) (none : o
 
   -- the part is its heading, what the lines get, and the end
   pub part_by_heap : late_part name old.heap.quota xs
-      ≡ (heading name ++ flat_map (told_text new.heap.quota new.events) lines) ++ late_end One (late_heap One new.heap.quota new.events).live (replayed new.events)
+      ≡ (heading name ++ flat_map (outcome_text new.heap.quota new.events) lines) ++ late_end One (late_heap One new.heap.quota new.events).live (replayed new.events)
   part_by_heap = ap (λ q. late_part name q xs) (sym took.quota) ∙ late_part_is name new.heap.quota xs new.events lines (events_are old new none zero xs took) are
 
   -- the end is that of the heap itself
   pub part_whole : (heap : HeapMeaning) (count : ℕ) → IsLate new → heap ≡ new.heap → count ≡ replayed new.events → late_part name old.heap.quota xs
-      ≡ (heading name ++ flat_map (told_text new.heap.quota new.events) lines) ++ late_end heap.version heap.state.live count
+      ≡ (heading name ++ flat_map (outcome_text new.heap.quota new.events) lines) ++ late_end heap.version heap.state.live count
   part_whole heap count late same counted =
-      let front : List ℕ = heading name ++ flat_map (told_text new.heap.quota new.events) lines in
+      let front : List ℕ = heading name ++ flat_map (outcome_text new.heap.quota new.events) lines in
       part_by_heap ∙ (λ i. front ++ late_end (sym late.version i) (sym late.live i) (sym counted i)) ∙ (λ i. front ++ late_end (sym same i).version (sym same i).state.live count)

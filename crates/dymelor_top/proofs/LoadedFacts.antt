@@ -4,8 +4,8 @@ use Rattle.dym_base.specs.Objects.{ObjectState, restore, slots}
 use Rattle.dym_base.specs.declared.command.Version.{Version}
 use Rattle.dym_base.specs.declared.reply.Reply.{Reply}
 use Rattle.dym_chain.specs.Chains.{object_of}
-use Rattle.dym_ckpt.specs.Loadings.{IsLoaded}
-use Rattle.dym_ckpt.specs.declared.loading.Loaded.{Loaded}
+use Rattle.dym_ckpt.specs.FileReads.{IsLoaded}
+use Rattle.dym_ckpt.specs.declared.file_reader.Loaded.{Loaded}
 use Rattle.dym_report.specs.Objects.{object_text}
 use Rattle.dym_report.specs.Orders.{end_text}
 use Rattle.dymelor_top.specs.Answers.{IsLoadedText}
@@ -37,6 +37,6 @@ pub is_loaded : (time : Option ℕ) (bytes : List ℕ) (loaded : Loaded) (is : I
 is_loaded time bytes loaded is = record {
   head = is.head;
   logs = loaded.chain.logs;
-  holds = record { records = is.records; below = loaded.chain.below; file = is.file; entries = is.entries };
+  holds = record { records = is.records; base_logs = loaded.chain.base_logs; file = is.file; entries = is.entries };
   is = refl;
 }

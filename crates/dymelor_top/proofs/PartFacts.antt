@@ -4,19 +4,19 @@ use Rattle.std.proofs.Math.ListN.{get_or-map}
 use Rattle.dym_base.specs.declared.command.Version.{Version}
 use Rattle.dym_script.specs.declared.script.Decl.{Decl}
 use Rattle.dym_script.specs.declared.script.Line.{Line}
-use Rattle.dym_script.specs.declared.parts.Holding.{Holding}
+use Rattle.dym_script.specs.declared.parts.PartCollector.{PartCollector}
 use Rattle.dym_script.specs.declared.parts.Part.{Part}
-use Rattle.dym_script.specs.declared.pieces.Whole.{Whole}
+use Rattle.dym_script.specs.declared.pieces.WholeScript.{WholeScript}
 use Rattle.dym_script.specs.ByObjects.{IsByObjects}
 use Rattle.dym_script.specs.Scripts.{Said, own}
 use Rattle.dym_script.specs.Answers.{IsLawful}
 use Rattle.dym_script.specs.Parts.{EachHas}
-use Rattle.dym_run.specs.Ends.{parts_text}
+use Rattle.dym_run.specs.Results.{parts_text}
 use Rattle.dym_run.specs.Parts.{own_of, IsRunnable}
 use Rattle.dym_run.specs.Report.{own_from, objects_of, part_text, report_text}
 use Rattle.dym_report.specs.Orders.{end_text}
 use Rattle.dym_run.specs.Views.{viewed_part, views_text}
-use Rattle.dymelor_top.specs.Answers.{told_text}
+use Rattle.dymelor_top.specs.Answers.{outcome_text}
 
 -- the commands of the parts from the k-th object on
 abbrev pub OwnsFrom : Said → ℕ → List Part → Type 0
@@ -85,7 +85,7 @@ parts_run s parts decls owns lawful k d within =
     }
 
 -- the report of a script that was read into its parts
-pub report_of_parts : (script : Whole Holding) (s : Said) → IsByObjects script s → report_text s ≡ flat_map (λ part. part_text script.version (own_of part)) script.kept.parts.items ++ end_text
+pub report_of_parts : (script : WholeScript PartCollector) (s : Said) → IsByObjects script s → report_text s ≡ flat_map (λ part. part_text script.version (own_of part)) script.kept.parts.items ++ end_text
 unfolding report_text
 report_of_parts script s are =
     let ps : List Part = script.kept.parts.items in
@@ -97,7 +97,7 @@ viewed_of_parts : (v : Version) (parts : List Part) → flat_map (λ part. viewe
 viewed_of_parts v [] = refl
 viewed_of_parts v (p ∷ ps) = ap (λ l. viewed_part v (own_of p) ++ l) (viewed_of_parts v ps)
 
-pub views_of_parts : (script : Whole Holding) (s : Said) → IsByObjects script s → views_text s ≡ flat_map (λ part. viewed_part script.version (own_of part)) script.kept.parts.items ++ end_text
+pub views_of_parts : (script : WholeScript PartCollector) (s : Said) → IsByObjects script s → views_text s ≡ flat_map (λ part. viewed_part script.version (own_of part)) script.kept.parts.items ++ end_text
 unfolding views_text
 views_of_parts script s are =
     let ps : List Part = script.kept.parts.items in
@@ -110,7 +110,7 @@ plain_texts v [] = refl
 plain_texts v (p ∷ parts) = λ i. append-nil (part_text v (own_of p)) i ++ plain_texts v parts i
 
 -- the report, with views or without
-pub told_of_parts : (views : Bool) (script : Whole Holding) (s : Said) → IsByObjects script s
-    → told_text views s ≡ parts_text (record { version = script.version; views = views }) script.kept.parts.items ++ end_text
+pub told_of_parts : (views : Bool) (script : WholeScript PartCollector) (s : Said) → IsByObjects script s
+    → outcome_text views s ≡ parts_text (record { version = script.version; views = views }) script.kept.parts.items ++ end_text
 told_of_parts true script s are = views_of_parts script s are
 told_of_parts false script s are = report_of_parts script s are ∙ ap (λ l. l ++ end_text) (sym (plain_texts script.version script.kept.parts.items))

@@ -16,7 +16,7 @@ use Rattle.dym_script.specs.Scripts.{Said, Fault, script_of}
 use Rattle.dym_script.specs.Answers.{FailsSo}
 use Rattle.dym_script.specs.Pieces.{says, TakesPiece}
 use Rattle.dym_script.proofs.PiecesRead.{script_says}
-use Rattle.dymelor_top.specs.Blocks.{IsFaultOf, IsReadOut, Tells, IsDrained}
+use Rattle.dymelor_top.specs.Blocks.{IsFaultOf, IsReadOut, TakesBytes, IsDrained}
 use Rattle.dymelor_top.proofs.Served.{too_long, read_so, SameVerdict}
 
 -- ---- a source that is read
@@ -90,7 +90,7 @@ took_both most n more a b c got taken len few then = record {
   few = omega (arith, len, few, then.few, length-append got then.got);
 }
 
-pub told_few : (old new : Option (List ℕ)) (Gives : Result Said Fault → Type 0) → Tells [] old new Gives → TookAtMost (MOST_INPUT_BYTES + 1) old new
+pub told_few : (old new : Option (List ℕ)) (Gives : Result Said Fault → Type 0) → TakesBytes [] old new Gives → TookAtMost (MOST_INPUT_BYTES + 1) old new
 told_few old new Gives tells = record { got = tells.got; taken = tells.taken; few = tells.within }
 
 pub drained_few : (pulled all most : ℕ) (old new : Option (List ℕ)) → IsDrained pulled old new all → most ≡ MOST_INPUT_BYTES + 1 - pulled → TookAtMost most old new
@@ -105,7 +105,7 @@ gives_says : (Gives : Result Said Fault → Type 0) (bytes : List ℕ) → lengt
 gives_says Gives bytes short gives = subst Gives (sym (script_says bytes short)) gives
 
 -- behind a bad line the source was read out, and the bytes aren't too many
-pub fault_told : (pulled line all : ℕ) (kind : BadKind) (front : List ℕ) (a b : Option (List ℕ)) → IsDrained pulled a b all → all ≤ MOST_INPUT_BYTES → length front ≡ pulled → IsFaultOf front line kind → Tells front a b (FailsSo (fail.Bad line kind))
+pub fault_told : (pulled line all : ℕ) (kind : BadKind) (front : List ℕ) (a b : Option (List ℕ)) → IsDrained pulled a b all → all ≤ MOST_INPUT_BYTES → length front ≡ pulled → IsFaultOf front line kind → TakesBytes front a b (FailsSo (fail.Bad line kind))
 fault_told pulled line all kind front a b drained short long faulty =
     let len : length (front ++ drained.got) ≡ all = omega (arith, drained.count, long, length-append front drained.got) in
     record {
@@ -117,7 +117,7 @@ fault_told pulled line all kind front a b drained short long faulty =
     }
 
 -- or they are
-pub long_told : (pulled all : ℕ) (front : List ℕ) (a b : Option (List ℕ)) → IsDrained pulled a b all → MOST_INPUT_BYTES < all → length front ≡ pulled → Tells front a b (FailsSo (fail.Bad 0 bad.TooLong))
+pub long_told : (pulled all : ℕ) (front : List ℕ) (a b : Option (List ℕ)) → IsDrained pulled a b all → MOST_INPUT_BYTES < all → length front ≡ pulled → TakesBytes front a b (FailsSo (fail.Bad 0 bad.TooLong))
 long_told pulled all front a b drained big long =
     let len : length (front ++ drained.got) ≡ all = omega (arith, drained.count, long, length-append front drained.got) in
     record {
@@ -151,7 +151,7 @@ read_none Takes s faults left none took = record {
 
 -- the source has no more: what is left is the last piece
 pub read_end : (a b c : Option (List ℕ)) (f g n pulled : ℕ) (Takes : List ℕ → Type 0) (left out : List ℕ) (Gives : Result Said Fault → Type 0) (so : ReadSoFar a b f g Takes left pulled) → IsEmptyAtEnd b n → n ≡ 0 → Consumes b c (take n out)
-    → ((taken : List ℕ) → Takes taken → Gives (says (taken ++ left))) → Tells [] a c Gives
+    → ((taken : List ℕ) → Takes taken → Gives (says (taken ++ left))) → TakesBytes [] a c Gives
 read_end a b c f g n pulled Takes left out Gives so at_end none taken gives =
     let got = so.taken ++ left in
     let len : length got ≤ MOST_INPUT_BYTES = omega (arith, so.count, so.within, length-append so.taken left) in
@@ -183,7 +183,7 @@ pulled_behind a b c f g n k pulled Takes old new so kept taken enough =
     }
 
 -- so many bytes were pulled that the input is too long
-pub pulled_long : (a c : Option (List ℕ)) (Takes : List ℕ → Type 0) (text : List ℕ) (pulled : ℕ) → PulledBehind a c Takes text pulled → MOST_INPUT_BYTES < pulled → pulled ≤ MOST_INPUT_BYTES + 1 → Tells [] a c (FailsSo (fail.Bad 0 bad.TooLong))
+pub pulled_long : (a c : Option (List ℕ)) (Takes : List ℕ → Type 0) (text : List ℕ) (pulled : ℕ) → PulledBehind a c Takes text pulled → MOST_INPUT_BYTES < pulled → pulled ≤ MOST_INPUT_BYTES + 1 → TakesBytes [] a c (FailsSo (fail.Bad 0 bad.TooLong))
 pulled_long a c Takes text pulled so big within =
     let got = so.taken ++ text in
     let len : length got ≡ pulled = omega (arith, so.count, length-append so.taken text) in
@@ -217,10 +217,10 @@ out_since n (Some xs) (Some ys) c got taken out = out
 
 -- a line of the text is bad, and the rest was read
 pub read_bad : (a b c : Option (List ℕ)) (Takes TakesNow : List ℕ → Type 0) (text : List ℕ) (pulled line : ℕ) (kind : BadKind) (failed : ScriptFail) → PulledBehind a b Takes text pulled → TakesPiece Takes TakesNow text (Err (fail.Bad line kind))
-    → ((front : List ℕ) → length front ≡ pulled → IsFaultOf front line kind → Tells front b c (FailsSo failed)) → Tells [] a c (FailsSo failed)
-read_bad a b c Takes TakesNow text pulled line kind failed so takes told =
+    → ((front : List ℕ) → length front ≡ pulled → IsFaultOf front line kind → TakesBytes front b c (FailsSo failed)) → TakesBytes [] a c (FailsSo failed)
+read_bad a b c Takes TakesNow text pulled line kind failed so takes outcome =
     let front = so.taken ++ text in
-    let tells = told front (omega (arith, so.count, length-append so.taken text)) (λ more. takes so.taken more so.took) in
+    let tells = outcome front (omega (arith, so.count, length-append so.taken text)) (λ more. takes so.taken more so.took) in
     record {
       got = front ++ tells.got;
       taken = Consumes-trans a b c front tells.got so.consumed tells.taken;
@@ -237,13 +237,13 @@ same_gives Gives read all (inl same) gives = subst (λ l. Gives (script_of l)) s
 same_gives Gives read all (inr long) gives = subst Gives (too_long read long.0 ∙ sym (too_long all long.1)) gives
 
 -- the input was read as far as must be, and what it says is known
-pub told_input : (n : ℕ) (old new : Option (List ℕ)) (Gives : Result Said Fault → Type 0) (all : List ℕ) → n ≡ MOST_INPUT_BYTES + 1 → old ≡ Some all → Tells [] old new Gives → (new ≡ Some (drop n all)) × Gives (script_of all)
+pub told_input : (n : ℕ) (old new : Option (List ℕ)) (Gives : Result Said Fault → Type 0) (all : List ℕ) → n ≡ MOST_INPUT_BYTES + 1 → old ≡ Some all → TakesBytes [] old new Gives → (new ≡ Some (drop n all)) × Gives (script_of all)
 told_input n old new Gives all limit known tells =
-    told new (subst (λ l. Consumes l new tells.got) known tells.taken) (subst (λ l. IsReadOut l new (length tells.got)) known tells.out)
+    outcome new (subst (λ l. Consumes l new tells.got) known tells.taken) (subst (λ l. IsReadOut l new (length tells.got)) known tells.out)
   where
-    told : (left : Option (List ℕ)) → Consumes (Some all) left tells.got → IsReadOut (Some all) left (length tells.got) → (left ≡ Some (drop n all)) × Gives (script_of all)
-    told None taken out = absurd taken
-    told (Some more) taken out =
+    outcome : (left : Option (List ℕ)) → Consumes (Some all) left tells.got → IsReadOut (Some all) left (length tells.got) → (left ≡ Some (drop n all)) × Gives (script_of all)
+    outcome None taken out = absurd taken
+    outcome (Some more) taken out =
         let so = read_so n all tells.got more limit taken (omega (arith, limit, tells.within)) (elim out [ inl none ↦ inl none | inr full ↦ inr (full ∙ sym limit) ]) in
         (ap Some so.0, same_gives Gives tells.got all so.1 tells.gives)
 
@@ -261,16 +261,16 @@ kept_end block end rest within inside =
 
 -- ---- the whole call
 
-pub result_some : {M E : Type 0} → (old new : Option (List ℕ)) (Gives : M → Result Said Fault → Type 0) (result : Result M E) → IfOk result (λ made. Tells [] old new (Gives made)) → IfOk result (λ made. (bytes : List ℕ) × Gives made (script_of bytes))
+pub result_some : {M E : Type 0} → (old new : Option (List ℕ)) (Gives : M → Result Said Fault → Type 0) (result : Result M E) → IfOk result (λ made. TakesBytes [] old new (Gives made)) → IfOk result (λ made. (bytes : List ℕ) × Gives made (script_of bytes))
 result_some old new Gives (Ok made) tells = (tells.got, tells.gives)
 result_some old new Gives (Err e) tells = tt
 
-pub result_gives : {M E : Type 0} → (n : ℕ) (old new : Option (List ℕ)) (Gives : M → Result Said Fault → Type 0) (result : Result M E) (all : List ℕ) → n ≡ MOST_INPUT_BYTES + 1 → old ≡ Some all → IfOk result (λ made. Tells [] old new (Gives made))
+pub result_gives : {M E : Type 0} → (n : ℕ) (old new : Option (List ℕ)) (Gives : M → Result Said Fault → Type 0) (result : Result M E) (all : List ℕ) → n ≡ MOST_INPUT_BYTES + 1 → old ≡ Some all → IfOk result (λ made. TakesBytes [] old new (Gives made))
     → IfOk result (λ made. Gives made (script_of all))
 result_gives n old new Gives (Ok made) all limit known tells = (told_input n old new (Gives made) all limit known tells).1
 result_gives n old new Gives (Err e) all limit known tells = tt
 
-pub result_read : {M E : Type 0} → (n : ℕ) (old new : Option (List ℕ)) (Gives : M → Result Said Fault → Type 0) (result : Result M E) (all : List ℕ) → n ≡ MOST_INPUT_BYTES + 1 → old ≡ Some all → IfOk result (λ made. Tells [] old new (Gives made))
+pub result_read : {M E : Type 0} → (n : ℕ) (old new : Option (List ℕ)) (Gives : M → Result Said Fault → Type 0) (result : Result M E) (all : List ℕ) → n ≡ MOST_INPUT_BYTES + 1 → old ≡ Some all → IfOk result (λ made. TakesBytes [] old new (Gives made))
     → OnOk result (new ≡ Some (drop n all))
 result_read n old new Gives (Ok made) all limit known tells = (told_input n old new (Gives made) all limit known tells).0
 result_read n old new Gives (Err e) all limit known tells = tt

@@ -11,16 +11,16 @@ use Rattle.dym_base.specs.Names.{is_name}
 use Rattle.dym_base.specs.Objects.{ObjectState}
 use Rattle.dym_base.specs.declared.command.Command.{Command}
 use Rattle.dym_base.specs.declared.reply.Reply.{Reply}
-use Rattle.dym_ckpt.specs.Saved.{file_of_logs}
+use Rattle.dym_ckpt.specs.SavedFiles.{file_of_logs}
 use Rattle.dym_object.specs.Laws.{RunsGoOn}
 use Rattle.dym_heap.specs.Meaning.{HeapMeaning}
 use Rattle.dym_object.specs.Meaning.{ObjectMeaning, HasRun}
 use Rattle.dym_script.specs.Answers.{IsLawful}
 use Rattle.dym_script.specs.ByObjects.{IsByObjects}
 use Rattle.dym_script.specs.Scripts.{Said}
-use Rattle.dym_script.specs.declared.parts.Holding.{Holding}
+use Rattle.dym_script.specs.declared.parts.PartCollector.{PartCollector}
 use Rattle.dym_script.specs.declared.parts.Part.{Part}
-use Rattle.dym_script.specs.declared.pieces.Whole.{Whole}
+use Rattle.dym_script.specs.declared.pieces.WholeScript.{WholeScript}
 use Rattle.dym_script.specs.declared.script.Decl.{Decl}
 use Rattle.dym_turn.specs.Turns.{Ran}
 use Rattle.dymelor_top.specs.Answers.{Answer, fault_answer, file_answer, named_answer}
@@ -61,7 +61,7 @@ parts_named s parts decls lawful k d within =
     let reach : k < length s.objects = omega (arith, length_decls parts, ap length decls, within) in
     subst (λ (x : Decl). IsTrue (is_name x.name)) at (lawful.names k d.decl reach)
 
-module _ (script : Whole Holding) (s : Said) (name : List ℕ) (are : IsByObjects script s) (found : Option Part)
+module _ (script : WholeScript PartCollector) (s : Said) (name : List ℕ) (are : IsByObjects script s) (found : Option Part)
     (is : found ≡ find (has_name name) script.kept.parts.items) where
   pub named_is : named_answer s.version (own_named name s) ≡ named_answer script.version (option_map own_of found)
   named_is =
@@ -71,12 +71,12 @@ module _ (script : Whole Holding) (s : Said) (name : List ℕ) (are : IsByObject
       λ i. named_answer (are.version i) (own i)
 
   pub named_runs : IfSome found IsRunnable
-  named_runs = subst (λ o. IfSome o IsRunnable) (sym is) (found_fact name IsRunnable script.kept.parts.items (parts_run s script.kept.parts.items are.keeps.decls are.keeps.commands are.lawful))
+  named_runs = subst (λ o. IfSome o IsRunnable) (sym is) (found_fact name IsRunnable script.kept.parts.items (parts_run s script.kept.parts.items are.keeps.decls are.keeps.commands are.valid))
 
   pub named_named : IfSome found (λ (p : Part). IsTrue (is_name p.decl.name))
   named_named =
       subst (λ o. IfSome o (λ (p : Part). IsTrue (is_name p.decl.name))) (sym is)
-      (found_fact name (λ (p : Part). IsTrue (is_name p.decl.name)) script.kept.parts.items (parts_named s script.kept.parts.items are.keeps.decls are.lawful))
+      (found_fact name (λ (p : Part). IsTrue (is_name p.decl.name)) script.kept.parts.items (parts_named s script.kept.parts.items are.keeps.decls are.valid))
 
 -- ---- the run of its own commands
 
@@ -86,7 +86,7 @@ pub run_more : RunsGoOn → (commands : List Command) (k : ℕ) (old new : Objec
 run_more law commands k old new reply within has ran =
     let at = command_at commands k within in
     let did : Ran old at.one new reply = command_fact (λ c. Ran old c new reply) (slice_get commands k) at.one at.is ran in
-    subst (λ cs. HasRun cs new) (sym at.front) (law (take k commands) old new at.one has did.step.object did.step.below did.step.heap)
+    subst (λ cs. HasRun cs new) (sym at.front) (law (take k commands) old new at.one has did.step.object did.step.base_logs did.step.heap)
 
 -- and the heap's version and quota stand
 pub run_heap : (commands : List Command) (k : ℕ) (old new : ObjectMeaning) (reply : Reply) → k < length commands → IfSome (slice_get commands k) (λ c. Ran old c new reply)
@@ -108,7 +108,7 @@ pub file_is : (o : ObjectMeaning) (part : Part) → HasRun part.commands o → o
     → file_of_logs part.decl.name part.decl.quota o.heap.version o.chain ≡ own_file o.heap.version (own_of part)
 file_is o part has quota =
     let logs : o.chain.logs ≡ _ = ap (λ (s : ObjectState). s.logs) has.object in
-    (λ i. file_of_logs part.decl.name (sym quota i) o.heap.version (record o.chain { below = has.below i; logs = logs i }))
+    (λ i. file_of_logs part.decl.name (sym quota i) o.heap.version (record o.chain { base_logs = has.base_logs i; logs = logs i }))
     ∙ (λ i. own_file o.heap.version (record { decl = record part.decl { quota = quota i }; commands = part.commands }))
 
 pub long_file : (file : List ℕ) → MOST_INPUT_BYTES < length file → file_answer file ≡ fault_answer 0 bad.TooLong

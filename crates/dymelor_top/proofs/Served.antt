@@ -98,11 +98,11 @@ pub read_whole_input : (n : ℕ) (left_old left_new : Option (List ℕ)) (read a
     → Consumes left_old left_new read → length read ≤ n → IsEndOrLimit n left_old left_new read
     → (left_new ≡ Some (drop n all)) × SameVerdict read all
 read_whole_input n left_old left_new read all limit known consumed within ended =
-    told left_new (subst (λ l. Consumes l left_new read) known consumed) (subst (λ l. IsEndOrLimit n l left_new read) known ended)
+    outcome left_new (subst (λ l. Consumes l left_new read) known consumed) (subst (λ l. IsEndOrLimit n l left_new read) known ended)
   where
-    told : (new : Option (List ℕ)) → Consumes (Some all) new read → IsEndOrLimit n (Some all) new read → (new ≡ Some (drop n all)) × SameVerdict read all
-    told None taken end = absurd taken
-    told (Some more) taken end = let so = read_so n all read more limit taken within end in (ap Some so.0, so.1)
+    outcome : (new : Option (List ℕ)) → Consumes (Some all) new read → IsEndOrLimit n (Some all) new read → (new ≡ Some (drop n all)) × SameVerdict read all
+    outcome None taken end = absurd taken
+    outcome (Some more) taken end = let so = read_so n all read more limit taken within end in (ap Some so.0, so.1)
 
 test_long : (bytes : List ℕ) → MOST_INPUT_BYTES < length bytes → nat_lt MOST_INPUT_BYTES (length bytes) ≡ true
 test_long bytes long = grind (arith, nat_tests)

@@ -1,7 +1,7 @@
 -- A call that starts no thread makes no plan that would start one, and one that may makes its plans otherwise.
 use Rattle.std.proofs.Common.{◌≡◌, ℕ, Bool, true, false, Result, Ok, Err, sym, subst}
 use Rattle.dym_words.specs.declared.order.Input.{Input}
-use Rattle.dym_words.specs.declared.order.Input.TheVariants.{Script, Made}
+use Rattle.dym_words.specs.declared.order.Input.TheVariants.{Script, GenNumbers}
 use Rattle.dym_words.specs.declared.order.Order.{Order}
 use Rattle.dym_words.specs.declared.order.Order.TheVariants.{Plain, Run, Check, Gen, Trace, Save, Load, Views, Late}
 use Rattle.dym_words.specs.declared.order.Usage.{Usage}
@@ -21,8 +21,8 @@ IsStillPlan plan.Usage = Unit {0}
 plain_is_still : (i : Input) (summary : Bool) → IsStillPlan (plain_plan i summary)
 plain_is_still Script true = tt
 plain_is_still Script false = tt
-plain_is_still (Made s o c) true = tt
-plain_is_still (Made s o c) false = tt
+plain_is_still (GenNumbers s o c) true = tt
+plain_is_still (GenNumbers s o c) false = tt
 
 plans_are_still : (r : Result Order Usage) → IsStillPlan (plan_of r)
 plans_are_still (Ok (Plain i summary)) = plain_is_still i summary

@@ -16,9 +16,9 @@ use Rattle.dym_base.specs.declared.reply.Reply.{Reply}
 use Rattle.dym_heap.specs.Meaning.{HeapMeaning}
 use Rattle.dym_object.specs.Meaning.{ObjectMeaning, state_of, step_by}
 use Rattle.dym_script.specs.declared.script.Line.{Line}
-use Rattle.dym_script.specs.declared.parts.Holding.{Holding}
+use Rattle.dym_script.specs.declared.parts.PartCollector.{PartCollector}
 use Rattle.dym_script.specs.declared.parts.Part.{Part}
-use Rattle.dym_script.specs.declared.pieces.Whole.{Whole}
+use Rattle.dym_script.specs.declared.pieces.WholeScript.{WholeScript}
 use Rattle.dym_script.specs.ByObjects.{IsByObjects}
 use Rattle.dym_script.specs.Scripts.{Said, own}
 use Rattle.dym_script.specs.Parts.{EachHas}
@@ -77,10 +77,10 @@ reach_all (x ∷ xs) =
     omega (arith, sum_by-cons (λ (line : Line). cond (nat_le 0 line.object) 1 0) x xs, cond-true {A = ℕ} (nat_le 0 x.object) 1 0 (le-leb 0 x.object (omega arith)), reach_all xs)
 
 commands_from : (s : Said) (k : ℕ) (parts : List Part) → OwnsFrom s k parts → All (λ line. line.object < k + length parts) s.lines → sum_by (λ part. length part.commands) parts ≡ reach k s.lines
-commands_from s k [] owns all = sym (reach_none k s.lines (All-weaker (λ line. line.object < k + 0) (λ line. line.object < k) (λ line below. omega (arith, below)) s.lines all))
+commands_from s k [] owns all = sym (reach_none k s.lines (All-weaker (λ line. line.object < k + 0) (λ line. line.object < k) (λ line base_logs. omega (arith, base_logs)) s.lines all))
 commands_from s k (p ∷ ps) owns all =
     let within : All (λ line. line.object < (k + 1) + length ps) s.lines =
-    All-weaker (λ line. line.object < k + suc (length ps)) (λ line. line.object < (k + 1) + length ps) (λ line below. omega (arith, below)) s.lines all in
+    All-weaker (λ line. line.object < k + suc (length ps)) (λ line. line.object < (k + 1) + length ps) (λ line base_logs. omega (arith, base_logs)) s.lines all in
     omega (
       arith,
       sum_by-cons (λ (part : Part). length part.commands) p ps,
@@ -95,14 +95,14 @@ pub commands_all : (s : Said) (parts : List Part) → EachHas parts s.lines → 
     → sum_by (λ part. length part.commands) parts ≡ length s.lines
 commands_all s parts owns same declared =
     let all : All (λ line. line.object < 0 + length parts) s.lines =
-    All-weaker (λ line. line.object < length s.objects) (λ line. line.object < 0 + length parts) (λ line below. omega (arith, below, same)) s.lines declared in
+    All-weaker (λ line. line.object < length s.objects) (λ line. line.object < 0 + length parts) (λ line base_logs. omega (arith, base_logs, same)) s.lines declared in
     commands_from s 0 parts (owns_all s parts owns) all ∙ reach_all s.lines
 
-pub objects_of_parts : (script : Whole Holding) (s : Said) → IsByObjects script s → length script.kept.parts.items ≡ length s.objects
+pub objects_of_parts : (script : WholeScript PartCollector) (s : Said) → IsByObjects script s → length script.kept.parts.items ≡ length s.objects
 objects_of_parts script s are = sym (length-map script.kept.parts.items (λ (p : Part). p.decl)) ∙ ap length are.keeps.decls
 
-pub commands_of_parts : (script : Whole Holding) (s : Said) → IsByObjects script s → sum_by (λ part. length part.commands) script.kept.parts.items ≡ length s.lines
-commands_of_parts script s are = commands_all s script.kept.parts.items are.keeps.commands (objects_of_parts script s are) are.lawful.declared
+pub commands_of_parts : (script : WholeScript PartCollector) (s : Said) → IsByObjects script s → sum_by (λ part. length part.commands) script.kept.parts.items ≡ length s.lines
+commands_of_parts script s are = commands_all s script.kept.parts.items are.keeps.commands (objects_of_parts script s are) are.valid.declared
 
 -- ---- sums of tallies
 
@@ -142,7 +142,7 @@ counted_all v parts i tally all counted =
     sym (tally_last tally) ∙ ap (λ ps. both_tallies tally (tally_all v (map own_of ps))) (sym none) ∙ counted
 
 -- the totals of a script's parts
-pub total_is : (script : Whole Holding) (s : Said) (tally : Tally) (objects : ℕ) → IsByObjects script s → tally ≡ tally_all script.version (map own_of script.kept.parts.items)
+pub total_is : (script : WholeScript PartCollector) (s : Said) (tally : Tally) (objects : ℕ) → IsByObjects script s → tally ≡ tally_all script.version (map own_of script.kept.parts.items)
     → tally.ok + tally.refused ≡ sum_by (λ part. length part.commands) script.kept.parts.items → objects ≡ length script.kept.parts.items
     → record { objects = objects; commands = tally.ok + tally.refused; ok = tally.ok; refused = tally.refused; chunks = tally.chunks; segments = tally.segments; kept = tally.kept; slots = tally.slots } ≡ totals_of s
 total_is script s tally objects are is replies len =

@@ -6,9 +6,9 @@ use Rattle.std.proofs.lemmas.List.Elements.{All-nil, All-cons}
 use Rattle.dym_base.specs.declared.bad_kind.BadKind.TheVariants as bad
 use Rattle.dym_script.specs.ByObjects.{IsByObjects}
 use Rattle.dym_script.specs.Scripts.{Said}
-use Rattle.dym_script.specs.declared.parts.Holding.{Holding}
+use Rattle.dym_script.specs.declared.parts.PartCollector.{PartCollector}
 use Rattle.dym_script.specs.declared.parts.Part.{Part}
-use Rattle.dym_script.specs.declared.pieces.Whole.{Whole}
+use Rattle.dym_script.specs.declared.pieces.WholeScript.{WholeScript}
 use Rattle.dymelor_top.specs.Answers.{fault_answer, first_above, unless_above}
 
 -- ---- objects that may hold too much
@@ -53,20 +53,20 @@ module _ (segments : ℕ) (text : List ℕ) where
       let same : p.decl.line ≡ line = cc in
       ap (λ n. fault_answer n bad.QuotaRange) same
 
-  above_of_parts : (script : Whole Holding) (s : Said) → IsByObjects script s
+  above_of_parts : (script : WholeScript PartCollector) (s : Said) → IsByObjects script s
       → unless_above text (first_above segments s.objects) ≡ unless_above text (option_map (λ (p : Part). p.decl) (find (is_above segments) script.kept.parts.items))
   above_of_parts script s are =
       ap (λ ds. unless_above text (first_above segments ds)) (sym are.keeps.decls) ∙ ap (unless_above text) (above_decl segments script.kept.parts.items)
 
   -- the answer where a line was found
-  pub above_answer : (script : Whole Holding) (s : Said) (line : ℕ) → IsByObjects script s
+  pub above_answer : (script : WholeScript PartCollector) (s : Said) (line : ℕ) → IsByObjects script s
       → Some line ≡ option_map (λ (p : Part). p.decl.line) (find (is_above segments) script.kept.parts.items)
       → unless_above text (first_above segments s.objects) ≡ fault_answer line bad.QuotaRange
   above_answer script s line are found =
       above_of_parts script s are ∙ told_line (find (is_above segments) script.kept.parts.items) line found
 
   -- and where none was
-  pub fitting_answer : (script : Whole Holding) (s : Said) → IsByObjects script s
+  pub fitting_answer : (script : WholeScript PartCollector) (s : Said) → IsByObjects script s
       → None ≡ option_map (λ (p : Part). p.decl.line) (find (is_above segments) script.kept.parts.items)
       → unless_above text (first_above segments s.objects) ≡ record { status = 0; text = text }
   fitting_answer script s are none =

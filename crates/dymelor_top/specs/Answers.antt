@@ -41,9 +41,9 @@ of_script text (Ok said) = record { status = 0; text = text said }
 of_script text (Err fault) = fault_answer fault.line fault.kind
 
 -- the report of a script, with the view of each object where views are told
-abbrev pub told_text : Bool → Said → List ℕ
-told_text true said = views_text said
-told_text false said = report_text said
+abbrev pub outcome_text : Bool → Said → List ℕ
+outcome_text true said = views_text said
+outcome_text false said = report_text said
 
 -- the report of a script, or its summary, or its report with the view of each object
 abbrev pub waves_text : WaveText → Said → List ℕ

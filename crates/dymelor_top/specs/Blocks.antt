@@ -15,7 +15,7 @@ abbrev pub IsReadOut : Option (List ℕ) → Option (List ℕ) → ℕ → Type 
 IsReadOut old new n = OnSome old (IfSome new (λ more. (more ≡ []) ⊎ (n ≡ MOST_INPUT_BYTES + 1)))
 
 -- behind these bytes others were taken from the source, until it was read out, and this holds of what all of them say
-pub record Tells (front : List ℕ) (old new : Option (List ℕ)) (Gives : Result Said Fault → Type 0) : Type 0 where
+pub record TakesBytes (front : List ℕ) (old new : Option (List ℕ)) (Gives : Result Said Fault → Type 0) : Type 0 where
   pub got : List ℕ
   pub taken : Consumes old new got
   pub within : length (front ++ got) ≤ MOST_INPUT_BYTES + 1

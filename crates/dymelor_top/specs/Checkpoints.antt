@@ -7,8 +7,8 @@ use Rattle.dym_base.specs.Objects.{LogEntry, ObjectState, newest, replies_from, 
 use Rattle.dym_base.specs.declared.command.Version.{Version}
 use Rattle.dym_base.specs.declared.command.Command.{Command}
 use Rattle.dym_base.specs.declared.command.Command.TheVariants.{Restore}
-use Rattle.dym_chain.specs.Adopted.{AreEntriesOf}
-use Rattle.dym_ckpt.specs.Loadings.{heap_at}
+use Rattle.dym_chain.specs.AdoptedLogs.{AreEntriesOf}
+use Rattle.dym_ckpt.specs.FileReads.{heap_at}
 use Rattle.dym_report.specs.Objects.{object_text}
 use Rattle.dym_report.specs.Orders.{end_text}
 use Rattle.dym_script.specs.Scripts.{Said}
@@ -25,9 +25,9 @@ own_file version o = run_file o.decl.name o.decl.quota version o.commands
 -- the bytes are a file with this header, and these are the kept logs that its records say
 pub record HoldsLogs (bytes : List ℕ) (head : FileHead) (logs : List LogEntry) : Type 0 where
   pub records : List (List ℕ)
-  pub below : List LogEntry
+  pub base_logs : List LogEntry
   pub file : IsFile bytes head records
-  pub entries : AreEntriesOf head.depth records below logs
+  pub entries : AreEntriesOf head.depth records base_logs logs
 
 -- the restore to a time, where one is named
 abbrev pub restoring : Option ℕ → List Command

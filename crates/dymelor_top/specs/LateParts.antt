@@ -3,15 +3,15 @@ use Rattle.std.specs.Prelude.{◌≡◌, ℕ, ◌<◌, ◌≤◌, ◌==◌, ◌+
 use Rattle.dym_base.specs.LateRun.{Arrival, accepted_after, bound_after}
 use Rattle.dym_base.specs.declared.limits.TheConstants.{MOST_QUOTA}
 use Rattle.dym_late.specs.Meaning.{LateMeaning}
-use Rattle.dym_late.specs.declared.limits.TheConstants.{MOST_EVENTS}
+use Rattle.dym_base.specs.declared.limits.TheConstants.{MOST_LATE_EVENTS}
 use Rattle.dym_script.specs.declared.late_script.LateAct.{LateAct}
 use Rattle.dym_script.specs.declared.late_script.LateLine.{LateLine}
 use Rattle.dym_script.specs.declared.script.Decl.{Decl}
 use Rattle.dym_script.specs.Late.{is_event}
 use Rattle.dym_script.specs.LateArrivals.{arrival, MayAct}
 use Rattle.dymelor_top.specs.declared.late_parts.LatePart.{LatePart}
-use Rattle.dymelor_top.specs.declared.late_told.LateTold.{LateTold}
-use Rattle.dymelor_top.specs.declared.late_told.LateTold.TheVariants as told
+use Rattle.dymelor_top.specs.declared.late_outcome.LateOutcome.{LateOutcome}
+use Rattle.dymelor_top.specs.declared.late_outcome.LateOutcome.TheVariants as outcome
 use Rattle.dymelor_top.specs.LateReport.{late_part}
 
 -- what comes for an object by its lines
@@ -40,7 +40,7 @@ pub record IsLatePart (part : LatePart) : Type 0 where
   pub quota_least : 1 ≤ part.decl.quota
   pub quota_most : part.decl.quota ≤ MOST_QUOTA
   pub acts : All MayAct part.acts.items
-  pub few : count_by is_event part.acts.items ≤ MOST_EVENTS
+  pub few : count_by is_event part.acts.items ≤ MOST_LATE_EVENTS
 
 -- a heap of late events took in what came: it accepted what is accepted behind its bound, and its bound is the one after it
 pub record TookIn (old new : LateMeaning) (arrivals : List Arrival) : Type 0 where
@@ -50,7 +50,7 @@ pub record TookIn (old new : LateMeaning) (arrivals : List Arrival) : Type 0 whe
   pub quota : new.heap.quota ≡ old.heap.quota
 
 -- an event that was accepted is one of so many
-abbrev pub IsOneOf : ℕ → LateTold → Type 0
-IsOneOf count (told.Accepted number) = number < count
-IsOneOf count (told.Early bound) = Unit {0}
-IsOneOf count told.Committed = Unit {0}
+abbrev pub IsOneOf : ℕ → LateOutcome → Type 0
+IsOneOf count (outcome.Accepted number) = number < count
+IsOneOf count (outcome.Early bound) = Unit {0}
+IsOneOf count outcome.Committed = Unit {0}

@@ -13,26 +13,26 @@ use Rattle.dym_report.specs.Late.{late_line, late_end}
 use Rattle.dym_report.specs.Objects.{heading}
 use Rattle.dym_report.specs.Orders.{end_text}
 use Rattle.dym_report.specs.Replies.{reply_line}
-use Rattle.dymelor_top.specs.declared.late_told.LateTold.{LateTold}
-use Rattle.dymelor_top.specs.declared.late_told.LateTold.TheVariants as told
+use Rattle.dymelor_top.specs.declared.late_outcome.LateOutcome.{LateOutcome}
+use Rattle.dymelor_top.specs.declared.late_outcome.LateOutcome.TheVariants as outcome
 
 -- what becomes of an arrival, where this is the greatest time that was committed and so many events were accepted
-abbrev pub told_at : ℕ → ℕ → Arrival → LateTold
-told_at bound number (event e) = if nat_lt e.time bound then told.Early bound else told.Accepted number
-told_at bound number (commit t) = told.Committed
+abbrev pub outcome_at : ℕ → ℕ → Arrival → LateOutcome
+outcome_at bound number (event e) = if nat_lt e.time bound then outcome.Early bound else outcome.Accepted number
+outcome_at bound number (commit t) = outcome.Committed
 
 -- what becomes of it behind these others
-abbrev pub told_behind : List Arrival → Arrival → LateTold
-told_behind before x = told_at (bound_after 0 before) (length (accepted before)) x
+abbrev pub outcome_behind : List Arrival → Arrival → LateOutcome
+outcome_behind before x = outcome_at (bound_after 0 before) (length (accepted before)) x
 
 -- what becomes of all that comes behind them, in the order of arrival
-abbrev pub told_onto : List Arrival → List Arrival → List LateTold
-told_onto before [] = []
-told_onto before (x ∷ more) = told_behind before x ∷ told_onto (before ++ x ∷ []) more
+abbrev pub outcome_onto : List Arrival → List Arrival → List LateOutcome
+outcome_onto before [] = []
+outcome_onto before (x ∷ more) = outcome_behind before x ∷ outcome_onto (before ++ x ∷ []) more
 
 -- what becomes of all that comes for an object
-unfoldable pub told_of : List Arrival → List LateTold
-told_of arrivals = told_onto [] arrivals
+unfoldable pub outcome_of : List Arrival → List LateOutcome
+outcome_of arrivals = outcome_onto [] arrivals
 
 -- the line of a reply, where there is one
 abbrev pub reply_text : Option Reply → List ℕ
@@ -40,16 +40,16 @@ reply_text None = []
 reply_text (Some reply) = reply_line reply
 
 -- the line for what became of an arrival, once these events are accepted: of an event, the reply at its place in their order
-abbrev pub told_text : ℕ → List LateEvent → LateTold → List ℕ
-told_text quota events (told.Accepted number) = reply_text (late_reply One quota events number)
-told_text quota events (told.Early bound) = late_line (out.Early bound)
-told_text quota events told.Committed = late_line out.Committed
+abbrev pub outcome_text : ℕ → List LateEvent → LateOutcome → List ℕ
+outcome_text quota events (outcome.Accepted number) = reply_text (late_reply One quota events number)
+outcome_text quota events (outcome.Early bound) = late_line (out.Early bound)
+outcome_text quota events outcome.Committed = late_line out.Committed
 
 -- the part of an object of this name and quota, for which this comes
 unfoldable pub late_part : List ℕ → ℕ → List Arrival → List ℕ
 late_part name quota arrivals =
     let events = accepted arrivals in
-    heading name ++ flat_map (told_text quota events) (told_of arrivals) ++ late_end One (late_heap One quota events).live (replayed events)
+    heading name ++ flat_map (outcome_text quota events) (outcome_of arrivals) ++ late_end One (late_heap One quota events).live (replayed events)
 
 -- the parts of the objects from the k-th on, which these declarations declare
 abbrev pub late_parts_from : List LateLine → ℕ → List Decl → List ℕ

@@ -1,7 +1,7 @@
 -- What is done for an order. Orders that aren't served yet are answered as words of no order.
 use Rattle.std.specs.Prelude.{ℕ, Bool, true, false, Result, Ok, Err}
 use Rattle.dym_words.specs.declared.order.Input.{Input}
-use Rattle.dym_words.specs.declared.order.Input.TheVariants.{Script, Made}
+use Rattle.dym_words.specs.declared.order.Input.TheVariants.{Script, GenNumbers}
 use Rattle.dym_words.specs.declared.order.Order.{Order}
 use Rattle.dym_words.specs.declared.order.Order.TheVariants.{Plain, Run, Check, Gen, Trace, Save, Load, Views, Late}
 use Rattle.dym_words.specs.declared.order.Usage.{Usage}
@@ -18,12 +18,12 @@ report_or_summary false = reading.Report
 
 abbrev pub plain_plan : Input → Bool → Plan
 plain_plan Script summary = plan.Read (report_or_summary summary)
-plain_plan (Made seed objects commands) summary = plan.ReadMade (report_or_summary summary) seed objects commands
+plain_plan (GenNumbers seed objects commands) summary = plan.ReadMade (report_or_summary summary) seed objects commands
 
 -- an order to run a script in waves and write this of it, where all objects that run at a time have so many segments
 abbrev pub waves_plan : ℕ → Input → WaveText → Plan
 waves_plan segments Script text = plan.Read (reading.Waves segments text)
-waves_plan segments (Made seed objects commands) text = plan.ReadMade (reading.Waves segments text) seed objects commands
+waves_plan segments (GenNumbers seed objects commands) text = plan.ReadMade (reading.Waves segments text) seed objects commands
 
 abbrev pub run_text : Bool → WaveText
 run_text true = wave.Summary

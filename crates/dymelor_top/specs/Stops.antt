@@ -1,7 +1,7 @@
 -- Why a top call stops, and the status that tells of it.
 use Rattle.std.specs.Prelude.{ℕ}
-use Rattle.dym_io.specs.declared.read.ReadFail.{ReadFail}
-use Rattle.dym_io.specs.declared.read.ReadFail.TheVariants as read
+use Rattle.dym_io.specs.declared.whole_input.ReadFail.{ReadFail}
+use Rattle.dym_io.specs.declared.whole_input.ReadFail.TheVariants as read
 use Rattle.dym_run.specs.declared.write_fail.WriteFail.{WriteFail}
 use Rattle.dym_run.specs.declared.write_fail.WriteFail.TheVariants as write
 use Rattle.dymelor_top.specs.declared.stop.Stop.{Stop}

@@ -6,7 +6,7 @@ ghost use Rattle.dym_io.specs.Source.{TookAtMost};
 ghost use Rattle.dym_script.specs.Scripts.{Said, Fault, script_of};
 ghost use Rattle.dym_script.specs.Answers.{GivesBy};
 ghost use Rattle.dym_script.specs.ByObjects.{GivesParts, GivesCounts};
-ghost use Rattle.dym_script.specs.Keeping.{IsWhole};
+ghost use Rattle.dym_script.specs.Keepers.{IsWhole};
 ghost use Rattle.dym_run.specs.Report.{report_text};
 ghost use Rattle.dym_run.specs.Summary.{summary_of};
 ghost use Rattle.dymelor_top.specs.Answers.{of_script, counts_of, IsRead, IsStill, IsTraceAnswer};
@@ -15,18 +15,18 @@ ghost use Rattle.dymelor_top.specs.declared.stop.Stop.TheVariants.{Source as Sou
 
 use crate::blocks::read_source;
 use crate::late::answer_late;
-use crate::loaded::answer_loaded;
+use crate::load_order::answer_loaded;
 use crate::plain::write_report;
 use crate::plan::Reading;
-use crate::saved::answer_saved;
+use crate::save_order::answer_saved;
 use crate::stop::Stop;
-use crate::total::total;
+use crate::summary::total;
 use dym_base::BadKind;
 use dym_base::limits::MOST_INPUT_BYTES;
 use dym_io::{Sink, Source, read_whole};
 use dym_report::{write_counts, write_error, write_events, write_summary};
 use dym_run::WriteFail;
-use dym_script::{Counting, Holding, ScriptFail, Whole};
+use dym_script::{Counter, PartCollector, ScriptFail, WholeScript};
 use dym_trace::{TraceAnswer, check_trace};
 use std::alloc::Global;
 
@@ -56,15 +56,15 @@ pub fn answer_source<R: Source, W: Sink>(
 {
     match reading {
         Reading::Report => {
-            let script = read_source::<Holding, R>(alloc, source)?;
+            let script = read_source::<PartCollector, R>(alloc, source)?;
             Ok(answer_report(alloc, script, sink)?)
         }
         Reading::Summary => {
-            let script = read_source::<Holding, R>(alloc, source)?;
+            let script = read_source::<PartCollector, R>(alloc, source)?;
             Ok(answer_summary(alloc, script, sink)?)
         }
         Reading::Counts => {
-            let counted = read_source::<Counting, R>(alloc, source)?;
+            let counted = read_source::<Counter, R>(alloc, source)?;
             Ok(answer_counted(counted, sink)?)
         }
         Reading::Trace => {
@@ -72,7 +72,7 @@ pub fn answer_source<R: Source, W: Sink>(
             Ok(answer_trace(alloc, bytes, sink)?)
         }
         Reading::File { name } => {
-            let script = read_source::<Holding, R>(alloc, source)?;
+            let script = read_source::<PartCollector, R>(alloc, source)?;
             Ok(answer_saved(alloc, &name, script, sink)?)
         }
         Reading::Loaded { time } => {
@@ -90,7 +90,7 @@ pub fn answer_source<R: Source, W: Sink>(
 /// Writes the report of a script that was read, or the line of its first fault.
 fn answer_report<W: Sink>(
     alloc: Global,
-    script: Result<Whole<Holding>, ScriptFail>,
+    script: Result<WholeScript<PartCollector>, ScriptFail>,
     sink: &mut W,
 ) -> Result<u8, WriteFail>
     requires made { (read : Result Said Fault) × GivesParts script read }
@@ -115,7 +115,7 @@ fn answer_report<W: Sink>(
 /// Writes the summary of a script that was read, or the line of its first fault.
 fn answer_summary<W: Sink>(
     alloc: Global,
-    script: Result<Whole<Holding>, ScriptFail>,
+    script: Result<WholeScript<PartCollector>, ScriptFail>,
     sink: &mut W,
 ) -> Result<u8, WriteFail>
     requires made { (read : Result Said Fault) × GivesParts script read }
@@ -140,7 +140,7 @@ fn answer_summary<W: Sink>(
 
 /// Writes how much a script says that was counted, or the line of its first fault.
 fn answer_counted<W: Sink>(
-    counted: Result<Whole<Counting>, ScriptFail>,
+    counted: Result<WholeScript<Counter>, ScriptFail>,
     sink: &mut W,
 ) -> Result<u8, WriteFail>
     requires made { (read : Result Said Fault) × GivesCounts counted read }
@@ -151,7 +151,7 @@ fn answer_counted<W: Sink>(
 {
     match counted {
         Ok(
-            Whole {
+            WholeScript {
                 objects,
                 commands,
                 ..

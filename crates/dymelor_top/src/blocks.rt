@@ -5,15 +5,15 @@ ghost use Rattle.dym_io.specs.Faults.{RoseOnce};
 ghost use Rattle.dym_io.specs.Source.{IsEmptyAtEnd, TookAtMost};
 ghost use Rattle.dym_script.specs.Scripts.{script_of};
 ghost use Rattle.dym_script.specs.Answers.{FailsSo};
-ghost use Rattle.dym_script.specs.Wholes.{GivesWhole};
+ghost use Rattle.dym_script.specs.WholeScripts.{GivesWhole};
 ghost use Rattle.dym_script.specs.declared.script.ScriptFail.TheVariants.{Bad};
 ghost use Rattle.dym_base.specs.declared.bad_kind.BadKind.TheVariants.{TooLong};
-ghost use Rattle.dymelor_top.specs.Blocks.{IsFaultOf, Tells, IsDrained};
+ghost use Rattle.dymelor_top.specs.Blocks.{IsFaultOf, TakesBytes, IsDrained};
 
 use dym_base::BadKind;
 use dym_base::limits::{MOST_INPUT_BYTES, MOST_LINE_BYTES};
 use dym_io::{Failed, ReadFail, Source};
-use dym_script::{Keeper, Pieces, ScriptFail, Whole};
+use dym_script::{Keeper, Pieces, ScriptFail, WholeScript};
 use std::alloc::{AllocError, Global};
 
 /// The bytes of a block, which is little enough to stay in a cache.
@@ -29,7 +29,7 @@ const BLOCK_ROOM: usize = 4_194_304;
 pub fn read_source<K: Keeper + Drop, R: Source>(
     alloc: Global,
     source: &mut R,
-) -> Result<Result<Whole<K>, ScriptFail>, ReadFail>
+) -> Result<Result<WholeScript<K>, ScriptFail>, ReadFail>
     requires { R.goes_on source.old }
     ensures some { IfOk result (λ made. (bytes : List ℕ) × GivesWhole K.keeps made (script_of bytes)) }
     ensures gives { (bytes : List ℕ) → R.left source.old ≡ Some bytes
@@ -50,11 +50,11 @@ fn read_blocks<K: Keeper + Drop, R: Source>(
     alloc: Global,
     source: &mut R,
     block: &mut [u8],
-) -> Result<Result<Whole<K>, ScriptFail>, ReadFail>
+) -> Result<Result<WholeScript<K>, ScriptFail>, ReadFail>
     requires long { MOST_LINE_BYTES < length block.old }
     requires goes_on { R.goes_on source.old }
-    ensures told { IfOk result (λ made.
-        Tells [] (R.left source.old) (R.left source.new) (GivesWhole K.keeps made)) }
+    ensures outcome { IfOk result (λ made.
+        TakesBytes [] (R.left source.old) (R.left source.new) (GivesWhole K.keeps made)) }
     ensures bounded { TookAtMost (MOST_INPUT_BYTES + 1) (R.left source.old) (R.left source.new) }
     ensures failed { IsErrOf result ReadFail.Source → RoseOnce (R.faults source.old) (R.faults source.new) }
     ensures count { ¬ IsErrOf result ReadFail.Source → R.faults source.new ≡ R.faults source.old }
@@ -130,8 +130,8 @@ fn fault<R: Source>(
     requires some { 0 < length block.old }
     requires within { pulled ≤ MOST_INPUT_BYTES }
     requires goes_on { R.goes_on source.old }
-    ensures told { (front : List ℕ) → length front ≡ pulled → IsFaultOf front line kind
-        → IfOk result (λ fail. Tells front (R.left source.old) (R.left source.new) (FailsSo fail)) }
+    ensures outcome { (front : List ℕ) → length front ≡ pulled → IsFaultOf front line kind
+        → IfOk result (λ fail. TakesBytes front (R.left source.old) (R.left source.new) (FailsSo fail)) }
     ensures bounded { TookAtMost (MOST_INPUT_BYTES + 1 - pulled) (R.left source.old) (R.left source.new) }
     ensures count { OnOk result (R.faults source.new ≡ R.faults source.old) }
     ensures failed { OnErr result (RoseOnce (R.faults source.old) (R.faults source.new)) }

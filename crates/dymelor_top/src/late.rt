@@ -11,7 +11,7 @@ ghost use Rattle.dym_run.specs.declared.write_fail.WriteFail.TheVariants.{Sink a
 
 use crate::late_parts::{LatePart, late_parts};
 use crate::late_run::write_late_part;
-use crate::lender::Lender;
+use crate::segment_store::SegmentStore;
 use dym_io::Sink;
 use dym_report::{write_end, write_error};
 use dym_run::WriteFail;
@@ -60,9 +60,9 @@ fn write_late_parts<W: Sink>(
     ensures { WritesOr (λ fail. fail ≡ SinkFailed) (W.output sink.old) (W.output sink.new)
         (flat_map late_part_text parts.items) result }
 {
-    let mut lender = Lender::new(alloc);
+    let mut segment_store = SegmentStore::new(alloc);
     for part in parts {
-        write_late_part(alloc, part, &mut lender, sink)?;
+        write_late_part(alloc, part, &mut segment_store, sink)?;
     }
     Ok(())
 }

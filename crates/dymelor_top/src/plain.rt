@@ -11,7 +11,7 @@ ghost use Rattle.dym_run.specs.Parts.{IsRunnable, own_of};
 ghost use Rattle.dym_run.specs.Report.{part_text, report_text};
 ghost use Rattle.dym_run.specs.declared.write_fail.WriteFail.TheVariants.{Sink as SinkFailed};
 
-use crate::lender::Lender;
+use crate::segment_store::SegmentStore;
 use dym_base::Version;
 use dym_chain::VecKeep;
 use dym_commands::Commands;
@@ -20,14 +20,14 @@ use dym_object::Object;
 use dym_quota::OwnSupply;
 use dym_report::{Page, write_end, write_heading, write_state};
 use dym_run::WriteFail;
-use dym_script::{Holding, Part, Whole};
+use dym_script::{Part, PartCollector, WholeScript};
 use dym_turn::Turn;
 use std::alloc::{AllocError, Global};
 
 /// Writes the report of a script, one object after another.
 pub fn write_report<W: Sink>(
     alloc: Global,
-    script: &Whole<Holding>,
+    script: &WholeScript<PartCollector>,
     sink: &mut W,
 ) -> Result<(), WriteFail>
     requires made { (s : Said) × IsByObjects script.now s }
@@ -51,9 +51,9 @@ fn write_parts<W: Sink>(
     ensures { WritesOr (λ fail. fail ≡ SinkFailed) (W.output sink.old) (W.output sink.new)
         (flat_map (λ part. part_text version (own_of part)) parts.now) result }
 {
-    let mut lender = Lender::new(alloc);
+    let mut segment_store = SegmentStore::new(alloc);
     for part in parts {
-        write_part(alloc, version, part, &mut lender, sink)?;
+        write_part(alloc, version, part, &mut segment_store, sink)?;
     }
     Ok(())
 }
@@ -63,18 +63,18 @@ fn write_part<W: Sink>(
     alloc: Global,
     version: Version,
     part: &Part,
-    lender: &mut Lender,
+    segment_store: &mut SegmentStore,
     sink: &mut W,
 ) -> Result<(), WriteFail>
     requires { IsRunnable part.now }
     ensures { WritesOr (λ fail. fail ≡ SinkFailed) (W.output sink.old) (W.output sink.new)
         (part_text version (own_of part.now)) result }
 {
-    let object = open_object(alloc, version, lender, part.decl.quota)?;
+    let object = open_object(alloc, version, segment_store, part.decl.quota)?;
     let mut turn = Turn::new(alloc, object);
     let written = write_run(&mut turn, part, sink);
     let (supply, _) = turn.into_object().end(&());
-    lender.take_back(supply);
+    segment_store.take_back(supply);
     written
 }
 
@@ -82,7 +82,7 @@ fn write_part<W: Sink>(
 pub fn open_object(
     alloc: Global,
     version: Version,
-    lender: &mut Lender,
+    segment_store: &mut SegmentStore,
     quota: u32,
 ) -> Result<Object<OwnSupply, VecKeep>, AllocError>
     requires least { 1 ≤ quota }
@@ -90,10 +90,10 @@ pub fn open_object(
     ensures version { IfOk result (λ o. o.heap.version ≡ version) }
     ensures quota { IfOk result (λ o. o.heap.quota ≡ quota) }
     ensures start { IfOk result (λ o. state_of o ≡ object_start) }
-    ensures below { IfOk result (λ o. o.chain.below ≡ []) }
+    ensures base_logs { IfOk result (λ o. o.chain.base_logs ≡ []) }
     ensures ran { IfOk result (λ o. o.ran ≡ 0) }
 {
-    let supply = lender.lend(alloc, quota)?;
+    let supply = segment_store.lend(alloc, quota)?;
     let keep = VecKeep::open(alloc)?;
     match Object::open_as(alloc, supply, keep, version) {
         Ok(object) => Ok(object),

@@ -97,7 +97,7 @@ fn plan_for_plain(input: Input, summary: bool) -> Plan
     };
     match input {
         Input::Script => Plan::Read(reading),
-        Input::Made {
+        Input::GenNumbers {
             seed,
             objects,
             commands,

@@ -10,21 +10,21 @@ ghost use Rattle.dym_run.specs.Summary.{summary_of, totals_of};
 ghost use Rattle.dym_run.specs.declared.write_fail.WriteFail.TheVariants.{Sink as SinkFailed};
 ghost use Rattle.dym_script.specs.Scripts.{Said, Fault, script_of};
 ghost use Rattle.dym_script.specs.ByObjects.{GivesParts, IsByObjects};
-ghost use Rattle.dymelor_top.specs.Answers.{first_above, of_waves, told_text, unless_above, waves_text, IsRead};
+ghost use Rattle.dymelor_top.specs.Answers.{first_above, of_waves, outcome_text, unless_above, waves_text, IsRead};
 ghost use Rattle.dymelor_top.specs.Headline.{Serves, WritesAnswer, Counted};
 ghost use Rattle.dymelor_top.specs.declared.plan.Reading.TheVariants.{Waves};
 ghost use Rattle.dymelor_top.specs.declared.stop.Stop.TheVariants.{Source as SourceStopped, Sink as SinkStopped};
 
 use crate::plan::WaveText;
-use crate::still::flush;
+use crate::sequential::flush;
 use crate::stop::Stop;
 use dym_base::BadKind;
 use dym_base::limits::MOST_INPUT_BYTES;
 use dym_io::{Sink, Source, read_whole};
 use dym_pool::Gate;
 use dym_report::{Totals, write_end, write_error, write_summary};
-use dym_run::{Shape, Telling, WriteFail, tally_waves, write_waves};
-use dym_script::{Holding, Part, ScriptFail, Whole, read_side_by_side};
+use dym_run::{ReportOptions, Shape, WriteFail, tally_waves, write_waves};
+use dym_script::{Part, PartCollector, ScriptFail, WholeScript, read_parallel};
 use std::alloc::{AllocError, Global};
 use std::sync::Wait;
 use std::thread::Threads;
@@ -86,11 +86,11 @@ fn read_text<R: Threads + Sync>(
     alloc: Global,
     workers: u32,
     bytes: Vec<u8>,
-) -> Result<Whole<Holding>, ScriptFail>
+) -> Result<WholeScript<PartCollector>, ScriptFail>
     requires { 1 ≤ workers }
     ensures { GivesParts result (script_of bytes.items) }
 {
-    read_side_by_side(rt, alloc, workers, &bytes)
+    read_parallel(rt, alloc, workers, &bytes)
 }
 
 /// Writes what is asked for of a script that was read, or the line of its first fault.
@@ -99,7 +99,7 @@ fn answer_waves<R: Threads + Wait + Send + Sync, W: Sink, G: Gate>(
     alloc: Global,
     shape: Shape,
     text: WaveText,
-    script: Result<Whole<Holding>, ScriptFail>,
+    script: Result<WholeScript<PartCollector>, ScriptFail>,
     sink: &mut W,
     gate: &G,
 ) -> Result<u8, WriteFail>
@@ -126,7 +126,7 @@ fn run_script<R: Threads + Wait + Send + Sync, W: Sink, G: Gate>(
     alloc: Global,
     shape: Shape,
     text: WaveText,
-    script: Whole<Holding>,
+    script: WholeScript<PartCollector>,
     sink: &mut W,
     gate: &G,
 ) -> Result<u8, WriteFail>
@@ -166,7 +166,7 @@ fn run_fitting<R: Threads + Wait + Send + Sync, W: Sink, G: Gate>(
     alloc: Global,
     shape: Shape,
     text: WaveText,
-    script: Whole<Holding>,
+    script: WholeScript<PartCollector>,
     sink: &mut W,
     gate: &G,
 ) -> Result<(), WriteFail>
@@ -177,19 +177,19 @@ fn run_fitting<R: Threads + Wait + Send + Sync, W: Sink, G: Gate>(
         → WritesOr (λ fail. fail ≡ SinkFailed) (W.output sink.old) (W.output sink.new) (waves_text text s) result }
 {
     match text {
-        WaveText::Report => tell(rt, alloc, false, shape, script, sink, gate),
+        WaveText::Report => report_waves(rt, alloc, false, shape, script, sink, gate),
         WaveText::Summary => summarize(rt, alloc, shape, script, sink, gate),
-        WaveText::Views => tell(rt, alloc, true, shape, script, sink, gate),
+        WaveText::Views => report_waves(rt, alloc, true, shape, script, sink, gate),
     }
 }
 
 /// Writes the report of a script whose objects fit, with the view of each object where views are told.
-fn tell<R: Threads + Wait + Send + Sync, W: Sink, G: Gate>(
+fn report_waves<R: Threads + Wait + Send + Sync, W: Sink, G: Gate>(
     rt: &R,
     alloc: Global,
     views: bool,
     shape: Shape,
-    script: Whole<Holding>,
+    script: WholeScript<PartCollector>,
     sink: &mut W,
     gate: &G,
 ) -> Result<(), WriteFail>
@@ -198,11 +198,11 @@ fn tell<R: Threads + Wait + Send + Sync, W: Sink, G: Gate>(
     requires fits { All (λ part. part.decl.quota ≤ shape.segments) script.kept.parts.items }
     ensures { (s : Said) → IsByObjects script s
         → WritesOr (λ fail. fail
-        ≡ SinkFailed) (W.output sink.old) (W.output sink.new) (told_text views s) result }
+        ≡ SinkFailed) (W.output sink.old) (W.output sink.new) (outcome_text views s) result }
 {
-    let Whole { version, kept, .. } = script;
-    let telling = Telling { version, views };
-    write_waves(rt, alloc, telling, kept.parts, shape, gate, sink)?;
+    let WholeScript { version, kept, .. } = script;
+    let options = ReportOptions { version, views };
+    write_waves(rt, alloc, options, kept.parts, shape, gate, sink)?;
     write_end(sink)?;
     Ok(())
 }
@@ -212,7 +212,7 @@ fn summarize<R: Threads + Wait + Send + Sync, W: Sink, G: Gate>(
     rt: &R,
     alloc: Global,
     shape: Shape,
-    script: Whole<Holding>,
+    script: WholeScript<PartCollector>,
     sink: &mut W,
     gate: &G,
 ) -> Result<(), WriteFail>
@@ -232,7 +232,7 @@ fn total<R: Threads + Wait + Send + Sync, G: Gate>(
     rt: &R,
     alloc: Global,
     shape: Shape,
-    script: Whole<Holding>,
+    script: WholeScript<PartCollector>,
     gate: &G,
 ) -> Result<Totals, AllocError>
     requires made { (s : Said) × IsByObjects script s }
@@ -240,7 +240,7 @@ fn total<R: Threads + Wait + Send + Sync, G: Gate>(
     requires fits { All (λ part. part.decl.quota ≤ shape.segments) script.kept.parts.items }
     ensures { IfOk result (λ totals. (s : Said) → IsByObjects script s → totals ≡ totals_of s) }
 {
-    let Whole { version, kept, .. } = script;
+    let WholeScript { version, kept, .. } = script;
     let objects = kept.parts.len() as u32;
     let tally = tally_waves(rt, alloc, version, kept.parts, shape, gate)?;
     Ok(Totals {

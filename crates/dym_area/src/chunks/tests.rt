@@ -1,6 +1,6 @@
 //! One walk through an area of each class.
 ghost use Rattle.std.specs.Prelude.{◌≤◌};
-ghost use Rattle.dym_area.specs.Area.{IsLawful};
+ghost use Rattle.dym_area.specs.Area.{IsValidArea};
 
 use super::*;
 use dym_base::class::per_area;
@@ -10,8 +10,8 @@ use std::test::Fail;
 
 // Writes the last bytes of a chunk that is used.
 fn put(area: &mut Area<VecSegment>, i: u32, bytes: [u8; 4])
-    requires { IsLawful area.old }
-    ensures { IsLawful area.new }
+    requires { IsValidArea area.old }
+    ensures { IsValidArea area.new }
 {
     let size = size_of_class(area.exp());
     if i < per_area(area.exp()) && area.is_used(i) && size >= 4 {
@@ -21,7 +21,7 @@ fn put(area: &mut Area<VecSegment>, i: u32, bytes: [u8; 4])
 
 // The last bytes of a chunk, if it is used.
 fn last_bytes(area: &Area<VecSegment>, i: u32) -> Option<[u8; 4]>
-    requires { IsLawful area.now }
+    requires { IsValidArea area.now }
 {
     let size = size_of_class(area.exp());
     let mut bytes = [9; 4];
@@ -34,8 +34,8 @@ fn last_bytes(area: &Area<VecSegment>, i: u32) -> Option<[u8; 4]>
 
 // Gives up a chunk that is used.
 fn give(area: &mut Area<VecSegment>, i: u32)
-    requires { IsLawful area.old }
-    ensures { IsLawful area.new }
+    requires { IsValidArea area.old }
+    ensures { IsValidArea area.new }
 {
     if i < per_area(area.exp()) && area.is_used(i) {
         area.release(i);

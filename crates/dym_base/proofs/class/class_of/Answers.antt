@@ -27,8 +27,8 @@ doubled e = rw add-one (pow-succ' 2 e)
 class_above : (n e : ℕ) → 32 < n → n ≤ 65536 → 2 ^ e ≤ n - 1 → n - 1 < 2 * 2 ^ e → cls n ≡ Some (e + 1)
 class_above n e low high le lt =
     let twice : 2 ^ (e + 1) ≡ 2 * 2 ^ e = doubled e in
-    let below : n - 1 < 2 ^ (e + 1) = omega arith in
-    let lowest : 5 ≤ e = least_exponent (n - 1) e (omega arith) below in
+    let base_logs : n - 1 < 2 ^ (e + 1) = omega arith in
+    let lowest : 5 ≤ e = least_exponent (n - 1) e (omega arith) base_logs in
     let highest : e < 16 = greatest_exponent (n - 1) e (omega arith) le in
     let before : e + 1 - 1 ≡ e = omega arith in
     cls_is n (e + 1) (omega arith) (omega arith) (inr (rw before (omega arith))) (omega arith)

@@ -1,6 +1,6 @@
 -- One case for each size.
 use Rattle.std.proofs.Common.{◌≡◌, refl, arith}
-use Rattle.dym_text.proofs.Digits.{two_digits, three_digits}
+use Rattle.dym_io.proofs.Digits.{two_digits, three_digits}
 use Rattle.dym_gen.proofs.word.size.Goals as goal
 use Rattle.dym_gen.proofs.word.size.Goals.{in-0, in-1, in-2, in_default}
 

@@ -1,7 +1,7 @@
 use Rattle.std.proofs.Common.{ℕ, ◌+◌, ◌-◌, ◌≤◌, ◌<◌, length, get_or}
 use Rattle.dym_heap.specs.Table.{row_at}
-use Rattle.dym_heap.specs.Shelves.{IsKept, Keeps}
-use Rattle.dym_heap.specs.Shaping.{HasAtMost, AgreeTo}
+use Rattle.dym_heap.specs.Shelves.{IsValidShelf, Keeps}
+use Rattle.dym_heap.specs.ShapeSteps.{HasAtMost, AgreeTo}
 use Rattle.dym_heap.proofs.shape.give_areas.Given as goal
 
 abbrev pub invariant-loop-exp : goal.invariant-loop-exp
@@ -10,7 +10,7 @@ invariant-loop-exp g l = record {
   done : (c : ℕ) → c + 5 < l.exp → HasAtMost l.shelf.rows c (get_or l.counts c 0);
   agree : (c : ℕ) → c < 12 → AgreeTo l.fn.shelf.rows l.shelf.rows c (get_or l.counts c 0);
   keeps : Keeps l.fn.shelf l.shelf;
-  kept : IsKept l.shelf;
+  valid_shelf : IsValidShelf l.shelf;
 }
 
 abbrev pub invariant-loop-count : goal.invariant-loop-count
@@ -18,7 +18,7 @@ invariant-loop-count g l = record {
   done : (c : ℕ) → c + 5 < l.exp → HasAtMost l.shelf.rows c (get_or l.counts c 0);
   agree : (c : ℕ) → c < 12 → AgreeTo l.fn.shelf.rows l.shelf.rows c (get_or l.counts c 0);
   keeps : Keeps l.fn.shelf l.shelf;
-  kept : IsKept l.shelf;
+  valid_shelf : IsValidShelf l.shelf;
 }
 
 abbrev pub decreases-loop-count : goal.decreases-loop-count

@@ -1,6 +1,6 @@
 use Rattle.std.proofs.Common.{◌≤◌, ◌<◌, ◌+◌, ◌*◌, ◌∙◌, sym, subst}
 use Rattle.std.specs.Prelude.{sum}
-use Rattle.dym_heap.specs.Shaping.{HasAreas}
+use Rattle.dym_heap.specs.ShapeSteps.{HasAreas}
 use Rattle.dym_base.specs.Numbers.{per}
 use Rattle.dym_heap.specs.Table.{state_of}
 use Rattle.dym_heap.proofs.Reshapes as reshapes
@@ -19,6 +19,6 @@ returns-clause-keeps g c = fit.keeps_rows _ _ _ _ (fit.keeps_trans _ _ _ c.give_
 
 pub returns-clause-shaped : goal.returns-clause-shaped
 returns-clause-shaped g c = λ log is e.
-    reshapes.shaped_from log.version log.copy c.args.shelf.now c.take_areas.new.shelf (state_of c.use_areas.new.shelf.rows) is.sized c.requires.tidy.kept c.take_areas.ensures.kept
+    reshapes.shaped_from log.version log.copy c.args.shelf.now c.take_areas.new.shelf (state_of c.use_areas.new.shelf.rows) is.sized c.requires.tidy.valid_shelf c.take_areas.ensures.valid_shelf
     (λ d i l within. c.take_areas.ensures.rows d i ∙ c.give_areas.ensures.agree d l i (subst (λ n. i < n * per (d + 5)) (sym (c.count_areas-counts.ensures.are log is e d l)) within))
     (c.use_areas.ensures.shaped log is e)

@@ -1,9 +1,9 @@
 use Rattle.std.proofs.Common.{◌≡◌, ℕ, ◌+◌, ◌-◌, ◌*◌, ◌≤◌, ◌<◌, length, get_or}
 use Rattle.dym_base.specs.Numbers.{per}
 use Rattle.dym_heap.specs.Table.{row_at}
-use Rattle.dym_heap.specs.Shelves.{IsKept, Keeps}
-use Rattle.dym_heap.specs.Shaping.{HasAreas, HasAtMost}
-use Rattle.dym_heap.specs.Wanted.{row_chunk}
+use Rattle.dym_heap.specs.Shelves.{IsValidShelf, Keeps}
+use Rattle.dym_heap.specs.ShapeSteps.{HasAreas, HasAtMost}
+use Rattle.dym_heap.specs.Fetches.{row_chunk}
 use Rattle.dym_heap.proofs.shape.take_areas.Given as goal
 
 abbrev pub invariant-loop-exp : goal.invariant-loop-exp
@@ -13,7 +13,7 @@ invariant-loop-exp g l = record {
   most : (c : ℕ) → c < 12 → HasAtMost l.shelf.rows c (get_or l.counts c 0);
   rows : (c i : ℕ) → row_chunk l.shelf.rows c i ≡ row_chunk l.fn.shelf.rows c i;
   keeps : Keeps l.fn.shelf l.shelf;
-  kept : IsKept l.shelf;
+  valid_shelf : IsValidShelf l.shelf;
 }
 
 abbrev pub invariant-loop-count : goal.invariant-loop-count
@@ -22,7 +22,7 @@ invariant-loop-count g l = record {
   most : (c : ℕ) → c < 12 → HasAtMost l.shelf.rows c (get_or l.counts c 0);
   rows : (c i : ℕ) → row_chunk l.shelf.rows c i ≡ row_chunk l.fn.shelf.rows c i;
   keeps : Keeps l.fn.shelf l.shelf;
-  kept : IsKept l.shelf;
+  valid_shelf : IsValidShelf l.shelf;
 }
 
 abbrev pub decreases-loop-count : goal.decreases-loop-count

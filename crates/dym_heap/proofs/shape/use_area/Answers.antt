@@ -3,7 +3,7 @@ use Rattle.std.specs.FinMap.{contains_key}
 use Rattle.dym_base.specs.Numbers.{per}
 use Rattle.dym_bits.specs.Bits.{bit_in, bits_of_bytes}
 use Rattle.dym_pack.specs.Areas.{area_at, chunk_number}
-use Rattle.dym_heap.specs.Wanted.{IsReshaped}
+use Rattle.dym_heap.specs.Fetches.{IsReshaped}
 use Rattle.dym_heap.proofs.Fitting as fit
 use Rattle.dym_heap.proofs.Fetches as fetches
 use Rattle.dym_heap.proofs.Reshapes as reshapes

@@ -12,7 +12,7 @@ use_area-requires-clause-area g c = λ log is e. let n = c.area_count-k-end.ensu
 pub loop-k-init : goal.loop-k-init
 loop-k-init g c = record {
   same = refl;
-  kept = c.requires.kept;
+  valid_shelf = c.requires.valid_shelf;
   are = c.requires.are;
   upto = λ log is e q. steps.upto_none (reshapes.Reshaped log.copy) log.copy (state_of c.args.shelf.now.rows) q;
 }
@@ -20,16 +20,16 @@ loop-k-init g c = record {
 pub loop-k-preserved : goal.loop-k-preserved
 loop-k-preserved g c = record {
   same = c.use_area.ensures.same ∙ ap (λ (s : ShelfMeaning). record s { rows = c.use_area.new.shelf.rows }) c.loop-k.invariant.same;
-  kept = c.use_area.ensures.kept;
+  valid_shelf = c.use_area.ensures.valid_shelf;
   are = λ log is e d l. c.use_area.ensures.long d ∙ c.loop-k.invariant.are log is e d l;
   upto = λ log is e q.
       steps.upto_more (reshapes.Reshaped log.copy) (reshapes.reshaped_twice log.copy) log.copy is.few c.loop-k.k (let n = c.area_count-k-end.ensures.count log is e in let t = c.loop-k-test.true in omega arith) (state_of c.args.shelf.now.rows)
-      c.loop-k.shelf c.use_area.new.shelf c.loop-k.invariant.kept c.use_area.ensures.kept (c.use_area.ensures.shaped log is e) q (c.loop-k.invariant.upto log is e q);
+      c.loop-k.shelf c.use_area.new.shelf c.loop-k.invariant.valid_shelf c.use_area.ensures.valid_shelf (c.use_area.ensures.shaped log is e) q (c.loop-k.invariant.upto log is e q);
 }
 
 pub returns-clause-shaped : goal.returns-clause-shaped
 returns-clause-shaped g c = λ log is e.
-    reshapes.shaped log.version log.copy (state_of c.args.shelf.now.rows) c.loop-k.shelf is.sized is.few c.loop-k.invariant.kept (c.loop-k.invariant.are log is e)
+    reshapes.shaped log.version log.copy (state_of c.args.shelf.now.rows) c.loop-k.shelf is.sized is.few c.loop-k.invariant.valid_shelf (c.loop-k.invariant.are log is e)
     (λ q. subst (λ (n : ℕ). UpTo (reshapes.Reshaped log.copy) log.copy (state_of c.args.shelf.now.rows) (state_of c.loop-k.shelf.rows) n q) (let n = c.area_count-k-end.ensures.count log is e in let t = c.loop-k-test.false in let m = c.loop-k.auto.k-end in omega arith) (c.loop-k.invariant.upto log is e q))
 
 pub returns-clause-tidy : goal.returns-clause-tidy
@@ -38,5 +38,5 @@ returns-clause-tidy g c =
     let log = has.0 in
     let is = has.1 in
     let e = has.2 in
-    reshapes.tidy log.version log.copy (state_of c.args.shelf.now.rows) c.loop-k.shelf is.sized is.few c.loop-k.invariant.kept (c.loop-k.invariant.are log is e)
+    reshapes.tidy log.version log.copy (state_of c.args.shelf.now.rows) c.loop-k.shelf is.sized is.few c.loop-k.invariant.valid_shelf (c.loop-k.invariant.are log is e)
     (λ q. subst (λ (n : ℕ). UpTo (reshapes.Reshaped log.copy) log.copy (state_of c.args.shelf.now.rows) (state_of c.loop-k.shelf.rows) n q) (let n = c.area_count-k-end.ensures.count log is e in let t = c.loop-k-test.false in let m = c.loop-k.auto.k-end in omega arith) (c.loop-k.invariant.upto log is e q))

@@ -1,5 +1,5 @@
 use Rattle.std.proofs.Common.{◌≡◌, suc, ◌+◌, ◌-◌, ◌≤◌, length, take, drop, ap, sym, subst, ◌∙◌, arith}
-use Rattle.dym_pack.specs.Reading.{IsNth}
+use Rattle.dym_pack.specs.ParsedAreas.{IsNth}
 use Rattle.dym_pack.proofs.Walks.{here_more, here_last}
 use Rattle.dym_pack.proofs.walk.chunk_after.Goals as goal
 

@@ -1,5 +1,5 @@
 use Rattle.std.proofs.Common.{ℕ, ◌-◌, ◌≤◌, List, length, drop}
-use Rattle.dym_pack.specs.Reading.{IsNth}
+use Rattle.dym_pack.specs.ParsedAreas.{IsNth}
 use Rattle.dym_pack.proofs.walk.chunk_after.Given as goal
 
 abbrev pub invariant-loop-i : goal.invariant-loop-i

@@ -16,8 +16,8 @@ module _ (g : given.Over) where
   abbrev ended : Holding g.row.J-Origin.Denot → List (ℕ × g.row.J-Origin.Denot)
   ended s = s.hand
 
-pub deal-requires-clause-room : goal.deal-requires-clause-room
-deal-requires-clause-room g c κs within =
+pub distribute-requires-clause-room : goal.distribute-requires-clause-room
+distribute-requires-clause-room g c κs within =
     let few = lt-mul-div-succ c.len-count.result {b = c.args.workers} c.requires.some in
     let boxes : vec_len c.pack.new.boxes ≡ c.len-count.result = c.in_ok-pack.ensures.len ∙ sym c.len-count.ensures in (
       c.len-count.result / c.args.workers + 1,
@@ -25,44 +25,44 @@ deal-requires-clause-room g c κs within =
       c.in_ok-shares.ensures.each,
     )
 
-pub run_crew-requires-clause-some : goal.run_crew-requires-clause-some
-run_crew-requires-clause-some g c κs within =
-    omega (arith, c.requires.some, c.in_ok-shares.ensures.len, zip-length KeepsWay c.in_ok-shares.shares.items c.deal.new.shares.items c.deal.ensures.ways, c.in_ok-shares.shares.ok.0, c.deal.new.shares.ok.0)
+pub run_all-requires-clause-some : goal.run_all-requires-clause-some
+run_all-requires-clause-some g c κs within =
+    omega (arith, c.requires.some, c.in_ok-shares.ensures.len, zip-length KeepsWay c.in_ok-shares.shares.items c.distribute.new.shares.items c.distribute.ensures.ways, c.in_ok-shares.shares.ok.0, c.distribute.new.shares.ok.0)
 
-pub run_crew-requires-clause-most : goal.run_crew-requires-clause-most
-run_crew-requires-clause-most g c κs within =
-    omega (arith, c.requires.most, c.in_ok-shares.ensures.len, zip-length KeepsWay c.in_ok-shares.shares.items c.deal.new.shares.items c.deal.ensures.ways, c.in_ok-shares.shares.ok.0, c.deal.new.shares.ok.0)
+pub run_all-requires-clause-most : goal.run_all-requires-clause-most
+run_all-requires-clause-most g c κs within =
+    omega (arith, c.requires.most, c.in_ok-shares.ensures.len, zip-length KeepsWay c.in_ok-shares.shares.items c.distribute.new.shares.items c.distribute.ensures.ways, c.in_ok-shares.shares.ok.0, c.distribute.new.shares.ok.0)
 
-pub run_crew-requires-clause-whole : goal.run_crew-requires-clause-whole
-run_crew-requires-clause-whole g c κs within = ways_whole c.in_ok-shares.shares.items c.deal.new.shares.items c.deal.ensures.ways (λ k d l. (c.in_ok-shares.ensures.each k d l).1)
+pub run_all-requires-clause-whole : goal.run_all-requires-clause-whole
+run_all-requires-clause-whole g c κs within = ways_whole c.in_ok-shares.shares.items c.distribute.new.shares.items c.distribute.ensures.ways (λ k d l. (c.in_ok-shares.ensures.each k d l).1)
 
-pub run_crew-requires-clause-rows : goal.run_crew-requires-clause-rows
-run_crew-requires-clause-rows g c κs within =
-    omega (arith, c.in_ok-rows.ensures.len, zip-length KeepsWay c.in_ok-shares.shares.items c.deal.new.shares.items c.deal.ensures.ways, c.in_ok-shares.shares.ok.0, c.deal.new.shares.ok.0)
+pub run_all-requires-clause-rows : goal.run_all-requires-clause-rows
+run_all-requires-clause-rows g c κs within =
+    omega (arith, c.in_ok-rows.ensures.len, zip-length KeepsWay c.in_ok-shares.shares.items c.distribute.new.shares.items c.distribute.ensures.ways, c.in_ok-shares.shares.ok.0, c.distribute.new.shares.ok.0)
 
-pub run_crew-requires-clause-guests : goal.run_crew-requires-clause-guests
-run_crew-requires-clause-guests g c κs within = guests_after (λ row. row.items) c.in_ok-shares.shares.items c.deal.new.shares.items c.in_ok-rows.rows.items c.deal.ensures.ways c.in_ok-rows.ensures.guests
+pub run_all-requires-clause-guests : goal.run_all-requires-clause-guests
+run_all-requires-clause-guests g c κs within = guests_after (λ row. row.items) c.in_ok-shares.shares.items c.distribute.new.shares.items c.in_ok-rows.rows.items c.distribute.ensures.ways c.in_ok-rows.ensures.guests
 
-pub run_crew-requires-clause-room : goal.run_crew-requires-clause-room
-run_crew-requires-clause-room g c κs within =
-    omega (arith, c.in_ok-staff.ensures.capacity, c.in_ok-shares.ensures.len, zip-length KeepsWay c.in_ok-shares.shares.items c.deal.new.shares.items c.deal.ensures.ways, c.in_ok-shares.shares.ok.0, c.deal.new.shares.ok.0)
+pub run_all-requires-clause-room : goal.run_all-requires-clause-room
+run_all-requires-clause-room g c κs within =
+    omega (arith, c.in_ok-staff.ensures.capacity, c.in_ok-shares.ensures.len, zip-length KeepsWay c.in_ok-shares.shares.items c.distribute.new.shares.items c.distribute.ensures.ways, c.in_ok-shares.shares.ok.0, c.distribute.new.shares.ok.0)
 
 pub gather-requires-clause-numbers : goal.gather-requires-clause-numbers
 gather-requires-clause-numbers g c κs within =
-    let dealt = flat_map (listed g) c.deal.new.shares.items in
-    let hands = flat_map (ended g) c.run_crew.new.shares.items in
+    let dealt = flat_map (listed g) c.distribute.new.shares.items in
+    let hands = flat_map (ended g) c.run_all.new.shares.items in
     let count : vec_len c.in_ok-slots.slots ≡ length c.args.jobs.now.items = c.in_ok-slots.slots.ok.0 ∙ ap length c.in_ok-slots.ensures ∙ length-replicate c.len-count.result _ ∙ c.len-count.ensures ∙ c.args.jobs.now.ok.0 in
-    let named = numbers_below g.J.Job.number_of g.J.Job.left_of g.J.Job.origin_of c.args.jobs.now.items c.pack.new.boxes.items dealt c.requires.numbered c.in_ok-pack.ensures.packed c.deal.ensures.dealt in
-    let has = all_finished c.deal.new.shares.items c.run_crew.new.shares.items c.run_crew.ensures.finished in
+    let named = numbers_below g.J.Job.number_of g.J.Job.left_of g.J.Job.origin_of c.args.jobs.now.items c.pack.new.boxes.items dealt c.requires.numbered c.in_ok-pack.ensures.packed c.distribute.ensures.dealt in
+    let has = all_finished c.distribute.new.shares.items c.run_all.new.shares.items c.run_all.ensures.finished in
     numbers_stay (vec_len c.in_ok-slots.slots) (length c.args.jobs.now.items) hands hands count refl (names_ended (length c.args.jobs.now.items) dealt hands has named)
 
 pub returns-clause-back : goal.returns-clause-back
 returns-clause-back g c =
-    let dealt = flat_map (listed g) c.deal.new.shares.items in
-    let hands = flat_map (ended g) c.run_crew.new.shares.items in
+    let dealt = flat_map (listed g) c.distribute.new.shares.items in
+    let hands = flat_map (ended g) c.run_all.new.shares.items in
     let n = length c.args.jobs.now.items in
     let count : vec_len c.in_ok-slots.slots ≡ n = c.in_ok-slots.slots.ok.0 ∙ ap length c.in_ok-slots.ensures ∙ length-replicate c.len-count.result _ ∙ c.len-count.ensures ∙ c.args.jobs.now.ok.0 in
-    let has = all_finished c.deal.new.shares.items c.run_crew.new.shares.items c.run_crew.ensures.finished in
+    let has = all_finished c.distribute.new.shares.items c.run_all.new.shares.items c.run_all.ensures.finished in
     let gathered = gathered_stays g.J.Job.number_of g.J.Job.left_of g.J.Job.origin_of (vec_len c.in_ok-slots.slots) n hands hands c.gather.new.jobs.items count refl c.gather.ensures.back in
-    every_job_back g.J.Job.number_of g.J.Job.left_of g.J.Job.origin_of c.args.jobs.now.items c.gather.new.jobs.items c.pack.new.boxes.items dealt c.requires.numbered c.in_ok-pack.ensures.packed c.deal.ensures.dealt
+    every_job_back g.J.Job.number_of g.J.Job.left_of g.J.Job.origin_of c.args.jobs.now.items c.gather.new.jobs.items c.pack.new.boxes.items dealt c.requires.numbered c.in_ok-pack.ensures.packed c.distribute.ensures.dealt
     (gathered_dealt g.J.Job.number_of g.J.Job.left_of g.J.Job.origin_of n dealt hands c.gather.new.jobs.items has gathered)

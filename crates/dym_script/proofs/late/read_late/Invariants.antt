@@ -1,13 +1,13 @@
 use Rattle.std.proofs.Common.{◌+◌, ◌≤◌, length}
-use Rattle.dym_script.specs.LateAnswers.{IsLateKept, late_seen}
+use Rattle.dym_script.specs.LateAnswers.{IsValidLateReader, late_reading_of}
 use Rattle.dym_script.proofs.LateRead.{ReadTo}
 use Rattle.dym_script.proofs.late.read_late.Given as goal
 
 abbrev pub invariant-loop-line : goal.invariant-loop-line
 invariant-loop-line l = record {
-  kept : IsLateKept l.reader;
+  kept : IsValidLateReader l.reader;
   short : l.number + length l.rest ≤ length l.bytes;
-  read : ReadTo l.bytes (late_seen l.reader) l.number l.rest;
+  read : ReadTo l.bytes (late_reading_of l.reader) l.number l.rest;
 }
 
 abbrev pub decreases-loop-line : goal.decreases-loop-line

@@ -1,7 +1,7 @@
 use Rattle.std.proofs.Common.{arith, ◌∙◌, sym, ◌++◌, ◌∷◌, [], ◌≡◌}
 use Rattle.std.proofs.lemmas.List.FromFn.{map-range_with_len_more}
 use Rattle.dym_base.specs.declared.limits.TheConstants.{LOG_SLOTS}
-use Rattle.dym_slotlaw.specs.Slots.{entry}
+use Rattle.dym_slots.specs.Slots.{entry}
 use Rattle.dym_slots.proofs.Opening.{all_order}
 use Rattle.dym_slots.proofs.log_slots.all_slots.Goals as goal
 

@@ -1,7 +1,7 @@
 use Rattle.std.proofs.Common.{◌≡◌, map, vec_len, vec_capacity}
 use Rattle.std.specs.List.{range_with_len}
 use Rattle.dym_base.specs.declared.limits.TheConstants.{LOG_SLOTS}
-use Rattle.dym_slotlaw.specs.Slots.{entry}
+use Rattle.dym_slots.specs.Slots.{entry}
 use Rattle.dym_slots.proofs.log_slots.all_slots.Given as goal
 
 abbrev pub invariant-loop-slot : goal.invariant-loop-slot

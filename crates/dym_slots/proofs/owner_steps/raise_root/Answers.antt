@@ -1,7 +1,7 @@
 use Rattle.std.proofs.Common.{rules, subst, ℕ}
 use Rattle.atomic_table.specs.Table.{Allows}
 use Rattle.dym_base.specs.declared.limits.TheConstants.{LOG_SLOTS}
-use Rattle.dym_slots.specs.Shown.{Holds}
+use Rattle.dym_slots.specs.TableStates.{Holds}
 use Rattle.dym_slots.specs.Moves.{Raised}
 use Rattle.dym_slots.proofs.OwnerMoves.{raises}
 use Rattle.dym_slots.proofs.owner_steps.raise_root.Goals as goal

@@ -1,7 +1,7 @@
 use Rattle.std.proofs.Common.{rules, ◌∙◌, ap, ◌∷◌, List, sym, Some, ℕ}
 use Rattle.atomic_table.specs.Table.{rest}
 use Rattle.dym_base.specs.declared.limits.TheConstants.{LOG_SLOTS}
-use Rattle.dym_slots.specs.Shown.{Held, Knowing}
+use Rattle.dym_slots.specs.TableStates.{Held, Knowing}
 use Rattle.dym_slots.proofs.Stepping.{takes_own_by, own_by}
 use Rattle.dym_slots.proofs.owner_steps.take_out.Goals as goal
 

@@ -3,5 +3,5 @@ use Rattle.dym_slots.proofs.tests.put_many.Given as goal
 
 abbrev pub invariant-loop : goal.invariant-loop
 invariant-loop g l =
-    (l.owner.lifted ≡ None) × (l.owner.origin ≡ l.fn.owner.origin) × (l.owner.made ≡ l.fn.owner.made + l.counter)
+    (l.owner.lifted ≡ None) × (l.owner.origin ≡ l.fn.owner.origin) × (l.owner.next_number ≡ l.fn.owner.next_number + l.counter)
     × (length l.owner.records ≡ length l.fn.owner.records + l.counter)

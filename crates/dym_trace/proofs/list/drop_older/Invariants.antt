@@ -1,7 +1,7 @@
 use Rattle.std.proofs.Common.{◌≡◌, length}
-use Rattle.dym_slotlaw.specs.Slots.{HasNumber}
-use Rattle.dym_slotlaw.specs.SlotSteps.{from_number}
-use Rattle.dym_slotlaw.specs.SlotFacts.{NumbersRise}
+use Rattle.dym_slots.specs.Slots.{HasNumber}
+use Rattle.dym_slots.specs.SlotSteps.{from_number}
+use Rattle.dym_slots.specs.SlotFacts.{NumbersRise}
 use Rattle.dym_trace.proofs.list.drop_older.Given as goal
 
 -- what is dropped is older than the number

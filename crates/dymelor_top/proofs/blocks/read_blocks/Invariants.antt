@@ -1,6 +1,6 @@
 use Rattle.std.proofs.Common.{◌-◌, ◌≤◌, take}
 use Rattle.dym_base.specs.declared.limits.TheConstants.{MOST_INPUT_BYTES, MOST_LINE_BYTES}
-use Rattle.dym_script.specs.Keeping.{TookBy}
+use Rattle.dym_script.specs.Keepers.{TookBy}
 use Rattle.dymelor_top.proofs.ReadBlocks.{ReadSoFar}
 use Rattle.dymelor_top.proofs.blocks.read_blocks.Given as goal
 

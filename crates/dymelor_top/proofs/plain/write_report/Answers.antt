@@ -14,7 +14,7 @@ pub write_parts-requires : goal.write_parts-requires
 write_parts-requires g c =
     let are = c.requires.made.1 in
     subst (All IsRunnable) (sym c.deref.ensures.value)
-    (parts_run c.requires.made.0 c.args.script.now.kept.parts.items are.keeps.decls are.keeps.commands are.lawful)
+    (parts_run c.requires.made.0 c.args.script.now.kept.parts.items are.keeps.decls are.keeps.commands are.valid)
 
 pub returns-in_err-write_parts : goal.returns-in_err-write_parts
 returns-in_err-write_parts g c s are =

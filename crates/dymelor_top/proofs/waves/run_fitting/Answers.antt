@@ -6,8 +6,8 @@ use Rattle.dymelor_top.proofs.waves.run_fitting.Goals as goal
 
 pub returns-in-Report : goal.returns-in-Report
 returns-in-Report g c s are =
-    subst (λ t. WritesOr (λ failed. failed ≡ fail.Sink) (g.W.Sink.output c.args.sink.now) (g.W.Sink.output c.tell.new.sink) (waves_text t s) c.tell.result)
-    (sym c.in-Report.is) (c.tell.ensures s are)
+    subst (λ t. WritesOr (λ failed. failed ≡ fail.Sink) (g.W.Sink.output c.args.sink.now) (g.W.Sink.output c.report_waves.new.sink) (waves_text t s) c.report_waves.result)
+    (sym c.in-Report.is) (c.report_waves.ensures s are)
 
 pub returns-in-Summary : goal.returns-in-Summary
 returns-in-Summary g c s are =
@@ -16,5 +16,5 @@ returns-in-Summary g c s are =
 
 pub returns-in-Views : goal.returns-in-Views
 returns-in-Views g c s are =
-    subst (λ t. WritesOr (λ failed. failed ≡ fail.Sink) (g.W.Sink.output c.args.sink.now) (g.W.Sink.output c.tell-in-Views.new.sink) (waves_text t s) c.tell-in-Views.result)
-    (sym c.in-Views.is) (c.tell-in-Views.ensures s are)
+    subst (λ t. WritesOr (λ failed. failed ≡ fail.Sink) (g.W.Sink.output c.args.sink.now) (g.W.Sink.output c.report_waves-in-Views.new.sink) (waves_text t s) c.report_waves-in-Views.result)
+    (sym c.in-Views.is) (c.report_waves-in-Views.ensures s are)

@@ -6,4 +6,4 @@ use Rattle.dym_area.proofs.chunks.Area.is_used.Goals as goal
 pub get-requires : goal.get-requires
 get-requires g c =
     let same = ap (λ a. per a.exponent) c.self.view_is in
-    omega (arith, per_small c.self.inside.exp c.self.invariant.lawful.least)
+    omega (arith, per_small c.self.inside.exp c.self.invariant.valid.least)

@@ -9,16 +9,16 @@ pub overflow_mul-from : goal.overflow_mul-from
 overflow_mul-from g c =
     let e = c.self.inside.exp in
     let start : c.args.from * c.size_of_class-size.result ≡ c.args.from * size e = ap (λ n. c.args.from * n) c.size_of_class-size.ensures in
-    let lawful = c.self.invariant.lawful in
-    let whole = run_within c.self.inside.used e 65536 c.args.from c.args.count c.if-count-eq0.false (λ i low high. ap (λ a. bit_in a.used i) c.self.view_is ∙ c.requires i low high) (λ i set. chunk_fits e i lawful.greatest (lawful.used_below i set)) in
+    let valid = c.self.invariant.valid in
+    let whole = run_within c.self.inside.used e 65536 c.args.from c.args.count c.if-count-eq0.false (λ i low high. ap (λ a. bit_in a.used i) c.self.view_is ∙ c.requires i low high) (λ i set. chunk_fits e i valid.greatest (valid.used_below i set)) in
     omega (arith, start, whole)
 
 pub overflow_mul-count : goal.overflow_mul-count
 overflow_mul-count g c =
     let e = c.self.inside.exp in
     let long : c.args.count * c.size_of_class-size.result ≡ c.args.count * size e = ap (λ n. c.args.count * n) c.size_of_class-size.ensures in
-    let lawful = c.self.invariant.lawful in
-    let whole = run_within c.self.inside.used e 65536 c.args.from c.args.count c.if-count-eq0.false (λ i low high. ap (λ a. bit_in a.used i) c.self.view_is ∙ c.requires i low high) (λ i set. chunk_fits e i lawful.greatest (lawful.used_below i set)) in
+    let valid = c.self.invariant.valid in
+    let whole = run_within c.self.inside.used e 65536 c.args.from c.args.count c.if-count-eq0.false (λ i low high. ap (λ a. bit_in a.used i) c.self.view_is ∙ c.requires i low high) (λ i set. chunk_fits e i valid.greatest (valid.used_below i set)) in
     omega (arith, long, whole)
 
 pub bytes-requires-2 : goal.bytes-requires-2

@@ -6,4 +6,4 @@ use Rattle.dym_area.proofs.chunks.Area.set_from.Goals as goal
 pub set_bytes-requires : goal.set_bytes-requires
 set_bytes-requires g c =
     let same : max 1 (per c.self.inside.exp / 8) ≡ max 1 (per c.args.self.now.exponent / 8) = ap (λ a. max 1 (per a.exponent / 8)) c.self.view_is in
-    omega (arith, c.requires.len, bitmap_fits c.self.inside.exp c.self.invariant.lawful.least)
+    omega (arith, c.requires.len, bitmap_fits c.self.inside.exp c.self.invariant.valid.least)

@@ -10,38 +10,38 @@ use Rattle.dym_area.proofs.chunks.Area.take_first.Goals as goal
 pub set-requires : goal.set-requires
 set-requires g c =
     let same : per c.self.inside.exp ≡ per c.args.self.now.exponent = ap (λ (a : AreaMeaning). per a.exponent) c.self.view_is in
-    omega (arith, same, per_small c.self.inside.exp c.self.invariant.lawful.least, c.in_ok-i.ensures.below)
+    omega (arith, same, per_small c.self.inside.exp c.self.invariant.valid.least, c.in_ok-i.ensures.below)
 
 pub set-requires-2 : goal.set-requires-2
 set-requires-2 g c =
     let same : per c.self.inside.exp ≡ per c.args.self.now.exponent = ap (λ (a : AreaMeaning). per a.exponent) c.self.view_is in
-    omega (arith, same, per_small c.self.inside.exp c.self.invariant.lawful.least, c.in_ok-i.ensures.below)
+    omega (arith, same, per_small c.self.inside.exp c.self.invariant.valid.least, c.in_ok-i.ensures.below)
 
 pub overflow_mul-i : goal.overflow_mul-i
 overflow_mul-i g c =
     let start : c.in_ok-i.i * c.size_of_class-size.result ≡ c.in_ok-i.i * size c.self.inside.exp = ap (λ s. c.in_ok-i.i * s) c.size_of_class-size.ensures in
     let same : per c.self.inside.exp ≡ per c.args.self.now.exponent = ap (λ (a : AreaMeaning). per a.exponent) c.self.view_is in
     let within : c.in_ok-i.i < per c.self.inside.exp = omega (arith, same, c.in_ok-i.ensures.below) in
-    omega (arith, chunk_fits c.self.inside.exp c.in_ok-i.i c.self.invariant.lawful.greatest within)
+    omega (arith, chunk_fits c.self.inside.exp c.in_ok-i.i c.self.invariant.valid.greatest within)
 
 pub zero-requires : goal.zero-requires
 zero-requires g c =
     let start : c.in_ok-i.i * c.size_of_class-size.result ≡ c.in_ok-i.i * size c.self.inside.exp = ap (λ s. c.in_ok-i.i * s) c.size_of_class-size.ensures in
     let same : per c.self.inside.exp ≡ per c.args.self.now.exponent = ap (λ (a : AreaMeaning). per a.exponent) c.self.view_is in
     let within : c.in_ok-i.i < per c.self.inside.exp = omega (arith, same, c.in_ok-i.ensures.below) in
-    omega (arith, chunk_fits c.self.inside.exp c.in_ok-i.i c.self.invariant.lawful.greatest within)
+    omega (arith, chunk_fits c.self.inside.exp c.in_ok-i.i c.self.invariant.valid.greatest within)
 
 pub after_take-self-inside-requires-clause-within : goal.after_take-self-inside-requires-clause-within
 after_take-self-inside-requires-clause-within g c =
     let same : per c.self.inside.exp ≡ per c.args.self.now.exponent = ap (λ (a : AreaMeaning). per a.exponent) c.self.view_is in
-    omega (arith, same, per_small c.self.inside.exp c.self.invariant.lawful.least, c.in_ok-i.ensures.below)
+    omega (arith, same, per_small c.self.inside.exp c.self.invariant.valid.least, c.in_ok-i.ensures.below)
 
 pub after_take-self-inside-requires-clause-below : goal.after_take-self-inside-requires-clause-below
 after_take-self-inside-requires-clause-below g c k most =
     let i = c.in_ok-i.i in
     let below : (k : ℕ) → k < i → IsSet c.self.inside.used k = λ k lt. subst (λ (a : AreaMeaning). IsSet a.used k) (sym c.self.view_is) (c.in_ok-i.ensures.least k lt) in
     let same : per c.self.inside.exp ≡ per c.args.self.now.exponent = ap (λ (a : AreaMeaning). per a.exponent) c.self.view_is in
-    let within : i < length c.self.inside.used = omega (arith, same, per_small c.self.inside.exp c.self.invariant.lawful.least, c.in_ok-i.ensures.below, c.self.invariant.lawful.used_len) in
+    let within : i < length c.self.inside.used = omega (arith, same, per_small c.self.inside.exp c.self.invariant.valid.least, c.in_ok-i.ensures.below, c.self.invariant.valid.used_len) in
     subst (λ bits. IsSet bits k) (sym c.set.ensures.after) (set_below c.self.inside.used i within below k (omega (arith, most)))
 
 pub invariant_of-self : goal.invariant_of-self
@@ -49,19 +49,19 @@ invariant_of-self g c =
     let i = c.in_ok-i.i in
     let same : per c.self.inside.exp ≡ per c.args.self.now.exponent = ap (λ (a : AreaMeaning). per a.exponent) c.self.view_is in
     let within : i < per c.self.inside.exp = omega (arith, same, c.in_ok-i.ensures.below) in
-    let there : i < length c.self.inside.used = omega (arith, within, per_small c.self.inside.exp c.self.invariant.lawful.least, c.self.invariant.lawful.used_len) in
+    let there : i < length c.self.inside.used = omega (arith, within, per_small c.self.inside.exp c.self.invariant.valid.least, c.self.invariant.valid.used_len) in
     let start : i * c.size_of_class-size.result ≡ i * size c.self.inside.exp = ap (λ s. i * s) c.size_of_class-size.ensures in
     let reached : i * size c.self.inside.exp + size c.self.inside.exp ≤ g.G.Segment.filled c.zero.new.self = omega (arith, start, c.size_of_class-size.ensures, c.zero.ensures.reached) in
     record {
-      lawful = record {
-        least = c.self.invariant.lawful.least;
-        greatest = c.self.invariant.lawful.greatest;
+      valid = record {
+        least = c.self.invariant.valid.least;
+        greatest = c.self.invariant.valid.greatest;
         used_len = c.set.ensures.len;
         dirty_len = c.set-2.ensures.len;
-        used_below = λ k set. used_below_taken c.self.inside.used (per c.self.inside.exp) i within c.self.invariant.lawful.used_below k (subst (λ bits. IsSet bits k) c.set.ensures.after set);
+        used_below = λ k set. used_below_taken c.self.inside.used (per c.self.inside.exp) i within c.self.invariant.valid.used_below k (subst (λ bits. IsSet bits k) c.set.ensures.after set);
         dirty_used = λ k set.
             subst (λ bits. IsSet bits k) (sym c.set.ensures.after)
-            (dirty_used_taken c.self.inside.used c.self.inside.dirty i there c.self.invariant.lawful.dirty_used k (subst (λ bits. IsSet bits k) c.set-2.ensures.after set));
+            (dirty_used_taken c.self.inside.used c.self.inside.dirty i there c.self.invariant.valid.dirty_used k (subst (λ bits. IsSet bits k) c.set-2.ensures.after set));
         content_len = search rules;
       };
       summed = c.after_take-self-inside.ensures;
@@ -69,5 +69,5 @@ invariant_of-self g c =
       real = subst (λ bits. AreFilled bits c.self.inside.exp (g.G.Segment.filled c.zero.new.self)) (sym c.set.ensures.after) (filled_taken c.self.inside.used c.self.inside.exp _ _ i c.zero.ensures.more reached c.self.invariant.real);
     }
 
-pub returns-clause-lawful : goal.returns-clause-lawful
-returns-clause-lawful g c = (invariant_of-self g c).lawful
+pub returns-clause-valid : goal.returns-clause-valid
+returns-clause-valid g c = (invariant_of-self g c).valid

@@ -12,7 +12,7 @@ use denote.RawPtr.{null_ptr}
 use denote.Steps.{nothing}
 use denote.Triple.Walked.{Stays, walk_of}
 use Rattle.std.proofs.raw_atomic.Walks.{proved_at, leaves}
-use Rattle.dym_c.specs.contracts.inside.Inside.{the_row as R}
+use Rattle.dym_c.specs.contracts.object_content.ObjectContent.{the_row as R}
 use Rattle.dym_c.proofs.ObjectSteps.{word, null_typed, closed_in}
 use Rattle.dym_c.specs.contracts.object.DymObject.closed as f
 use Rattle.dym_c.proofs.object.DymObject.closed.Statement.{statement}

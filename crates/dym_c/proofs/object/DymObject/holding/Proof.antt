@@ -19,8 +19,8 @@ use Rattle.std.proofs.raw_atomic.Walks.{proved_at, leaves}
 use Rattle.std.specs.contracts.alloc.Global as global
 use Rattle.std.proofs.alloc.Global.TheLaws as global_laws
 use Rattle.std.specs.contracts.impls.GlobalAllocator.TheImpl.{ghosts}
-use Rattle.dym_held.proofs.HeldSteps as held
-use Rattle.dym_c.specs.contracts.inside.Inside.{the_row as R}
+use Rattle.dym_c.proofs.HeldSteps as held
+use Rattle.dym_c.specs.contracts.object_content.ObjectContent.{the_row as R}
 use Rattle.dym_c.proofs.ObjectSteps.{word, open_in}
 use Rattle.dym_c.specs.contracts.object.DymObject.holding as f
 use Rattle.dym_c.proofs.object.DymObject.holding.Statement.{statement}

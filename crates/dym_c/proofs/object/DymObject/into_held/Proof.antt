@@ -28,8 +28,8 @@ use Rattle.std_alloc.proofs.ResultValues.{and_tt}
 use Rattle.std.specs.contracts.alloc.Global as global
 use Rattle.std.proofs.alloc.Global.TheLaws as global_laws
 use Rattle.std.specs.contracts.impls.GlobalAllocator.TheImpl.{ghosts}
-use Rattle.dym_held.proofs.HeldSteps as held
-use Rattle.dym_c.specs.contracts.inside.Inside.{the_row as R}
+use Rattle.dym_c.proofs.HeldSteps as held
+use Rattle.dym_c.specs.contracts.object_content.ObjectContent.{the_row as R}
 use Rattle.dym_c.specs.contracts.object.DymObject as kept
 use Rattle.dym_c.proofs.ObjectSteps.{word, null_typed, out, kept_cases}
 use Rattle.dym_c.specs.contracts.object.DymObject.into_held as f
@@ -63,7 +63,7 @@ into_held_spec 𝓤 𝓛 𝓜 𝓡 wired =
     use0 𝓛 (raw (fact 𝓤 (v.value ≡ None))) (fact_i 𝓤 (v.value ≡ None) (emp 𝓤) is_none) $ nothing ! $ nothing ! $ fjoin ! $ nothing ! $ fjoin ! $ nothing ! $
     returns ! (look_at ! 0 refl) $ free_all ! refl $ keep ! (0 ∷ 1 ∷ 3 ∷ 2 ∷ []) $ by ! (leaves 𝓛 f.ended stayed c z (live 0 vnil) None (tt, (tt, tt)) (tt, (tt, tt))))
     (λ wrong. absurd wrong)))
-    (λ b o x is_block is_some ok. let w = word (block_ptr b o) in let typed = held.held_typed R Z L ghosts b o h fits in let made : Val = held.word b o h in let gives : Val = live 1 (vcons made vnil) in
+    (λ b o x is_block is_some ok. let w = word (block_ptr b o) in let typed = held.held_typed R Z L ghosts b o h fits in let next_number : Val = held.word b o h in let gives : Val = live 1 (vcons next_number vnil) in
     let d : Row.Denot = record { at = block_ptr b o; alloc = a; value = x } in let good : Good (layout Out) gives = (and_tt _ typed.0, (record { fits = lit< tt }, (typed.1, tt))) in keep ! (0 ∷ 1 ∷ []) $
     suffices ! (Run (w ∷ h ∷ [])) (subst (λ (us : List Val). ent 𝓤 (Run (w ∷ h ∷ [])) (Run us)) (sym (λ i. (ws ∙ ap (λ (p : Ptr). word p ∷ []) is_block) i ++ (hs i ++ []))) (id⊢ 𝓤 (Run (w ∷ h ∷ [])))) $
     enter ! 𝓣.C 𝓣.Λ code.function (w ∷ h ∷ []) Post $ alloc_all ! (λ l. pass_all ! refl ((tt, (tt, tt)), (fits, tt)) $ let Ev = env code.function.locals l in
@@ -71,6 +71,6 @@ into_held_spec 𝓤 𝓛 𝓜 𝓡 wired =
     first ! $ branches ! (get ! refl) (λ wrong. absurd wrong)
     (λ _. sets ! (of_opd ! (get ! refl)) refl (tt, tt) $ sets ! (agg ! (and_then ! (get ! refl) (and_then ! (get ! refl) (no_more !)))) refl typed $
     sets_last ! (agg ! (and_then ! (lit ! tt) (and_then ! (get ! refl) (no_more !)))) refl good $ exec ! 𝓣.C 𝓣.Λ Ev (after 3 body) (at_ret Ev Post) $ sets ! (of_opd ! (get ! refl)) refl good $
-    held.held_in R Z L ghosts ! b o h a x $ use1 𝓛 (‵ (Out.own_val (Some d) (gives ∷ []))) (Some-of 𝓛 Row d made) $
+    held.held_in R Z L ghosts ! b o h a x $ use1 𝓛 (‵ (Out.own_val (Some d) (gives ∷ []))) (Some-of 𝓛 Row d next_number) $
     use0 𝓛 (raw (fact 𝓤 (v.value ≡ Some x))) (fact_i 𝓤 (v.value ≡ Some x) (emp 𝓤) is_some) $ nothing ! $ nothing ! $ fjoin ! $ nothing ! $ fjoin ! $ nothing ! $
     returns ! (look_at ! 0 refl) $ free_all ! refl $ keep ! (0 ∷ 1 ∷ 3 ∷ 2 ∷ []) $ by ! (leaves 𝓛 f.ended stayed c z gives (Some d) (tt, (tt, tt)) (tt, (tt, tt)))))))))

@@ -6,7 +6,7 @@ use Rattle.dym_base.specs.declared.command.Version.{Version}
 use Rattle.dym_base.specs.declared.command.Kind.{Kind}
 use Rattle.dym_base.specs.declared.reply.Reply.TheVariants as reply
 use Rattle.dym_base.proofs.Runs.{all_newest}
-use Rattle.dym_heap.specs.Loading.{areas_of}
+use Rattle.dym_heap.specs.RecordLoads.{areas_of}
 use Rattle.dym_heap.specs.Meaning.{HeapMeaning}
 use Rattle.dym_pack.specs.Areas.{logged}
 use Rattle.dym_base.specs.Packed.{packed}
@@ -15,15 +15,15 @@ use Rattle.dym_chain.specs.Chains.{ChainMeaning, Belongs, StandsForCopies, objec
 use Rattle.dym_chain.specs.Chains as chains
 use Rattle.dym_chain.specs.Answers.{log_refusal}
 use Rattle.dym_chain.specs.Lawful.{entry_of}
-use Rattle.dym_chain.specs.Told.{Told}
-use Rattle.dym_chain.specs.Whole.{chain_of}
+use Rattle.dym_chain.specs.Copies.{ChainCopies}
+use Rattle.dym_chain.specs.ChainInvariants.{chain_of}
 use Rattle.dym_chain.proofs.Lawfuls.{stands}
 use Rattle.dym_chain.proofs.Moves.{ComesNext, lawful_push, belongs_push}
 use Rattle.dym_chain.proofs.Finds.{count_same}
 use Rattle.dym_chain.proofs.Logs.{refused_is, taken_is, has_room, comes_next, record_is, keeps_by}
 use Rattle.dym_chain.proofs.Takes.{log_of, room_left, taken_view, chain_taken, taken_reply, may_be_short}
 use Rattle.dym_base.specs.declared.command.Kind.TheVariants.{Inc}
-use Rattle.dym_chain.specs.Beside.{AreBeside, HasOneMore, TellsChanges}
+use Rattle.dym_chain.specs.Differences.{AreDifferences, HasOneMore, TellsChanges}
 use Rattle.dym_chain.proofs.Besides.{beside_push, beside_same, tells_found}
 use Rattle.dym_chain.proofs.chain.Chain.log.Goals as goal
 
@@ -41,7 +41,7 @@ returns-in-Some-clause-belongs g c =
 
 pub returns-in-Some-clause-stands : goal.returns-in-Some-clause-stands
 returns-in-Some-clause-stands g c =
-    subst StandsForCopies c.self.view_is (stands (chain_of c.self.inside.ledger.told (g.K.LogKeep.meaning c.self.inside.keep)) c.self.invariant.chain.lawful)
+    subst StandsForCopies c.self.view_is (stands (chain_of c.self.inside.ghost_copies.copies (g.K.LogKeep.meaning c.self.inside.keep)) c.self.invariant.chain.lawful)
 
 pub returns-in-Some-clause-sound : goal.returns-in-Some-clause-sound
 returns-in-Some-clause-sound g c =
@@ -61,7 +61,7 @@ returns-in_default-pack-clause-belongs g c =
 
 pub returns-in_default-pack-clause-stands : goal.returns-in_default-pack-clause-stands
 returns-in_default-pack-clause-stands g c =
-    subst StandsForCopies c.self.view_is (stands (chain_of c.self.inside.ledger.told (g.K.LogKeep.meaning c.self.inside.keep)) c.self.invariant.chain.lawful)
+    subst StandsForCopies c.self.view_is (stands (chain_of c.self.inside.ghost_copies.copies (g.K.LogKeep.meaning c.self.inside.keep)) c.self.invariant.chain.lawful)
 
 pub returns-in_default-pack-clause-sound : goal.returns-in_default-pack-clause-sound
 returns-in_default-pack-clause-sound g c =
@@ -70,49 +70,49 @@ returns-in_default-pack-clause-sound g c =
 pub returns-in-Some-clause-answer : goal.returns-in-Some-clause-answer
 returns-in-Some-clause-answer g c =
     let keep : KeepMeaning = g.K.LogKeep.meaning c.self.inside.keep in
-    let told : Told = c.self.inside.ledger.told in
+    let copies : ChainCopies = c.self.inside.ghost_copies.copies in
     let s : HeapState = c.args.heap.now.state in
     let v : Version = c.args.heap.now.version in
     let t : ℕ = c.args.time in
-    let C : ChainMeaning = chain_of told keep in
-    let are : c.deref.result.now ≡ map entry_of told.logs = c.deref.ensures.value ∙ c.self.invariant.chain.shows.entries in
-    let last : c.newest_of-newest.result ≡ option_map entry_of (newest told.logs) = c.newest_of-newest.ensures told.logs are in
-    let count : c.len.result ≡ length told.logs = c.len.ensures ∙ sym c.deref.ensures.len ∙ count_same told.logs c.deref.result.now are in
-    let refusal : c.refusal_of.result ≡ log_refusal t told.logs = c.refusal_of.ensures told.logs last count in
+    let C : ChainMeaning = chain_of copies keep in
+    let are : c.deref.result.now ≡ map entry_of copies.logs = c.deref.ensures.value ∙ c.self.invariant.chain.shows.entries in
+    let last : c.newest_of-newest.result ≡ option_map entry_of (newest copies.logs) = c.newest_of-newest.ensures copies.logs are in
+    let count : c.len.result ≡ length copies.logs = c.len.ensures ∙ sym c.deref.ensures.len ∙ count_same copies.logs c.deref.result.now are in
+    let refusal : c.refusal_of.result ≡ log_refusal t copies.logs = c.refusal_of.ensures copies.logs last count in
     ap (λ (a : ObjectAnswer). a.reply) (refused_is v (object_of s c.args.self.now) t c.args.want c.in-Some.why (ap (λ (x : ChainMeaning). log_refusal t x.logs) (sym c.self.view_is) ∙ sym refusal ∙ c.in-Some.is))
 
-pub keep_beside-requires-clause-few : goal.keep_beside-requires-clause-few
-keep_beside-requires-clause-few g c =
-    let told : Told = c.self.inside.ledger.told in
-    let counted : c.len-count.result ≡ length told.logs = c.len-count.ensures ∙ sym c.deref.ensures.len ∙ count_same told.logs c.deref.result.now (c.deref.ensures.value ∙ c.self.invariant.chain.shows.entries) in
-    omega (arith, counted, c.self.invariant.beside.few)
+pub keep_difference-requires-clause-few : goal.keep_difference-requires-clause-few
+keep_difference-requires-clause-few g c =
+    let copies : ChainCopies = c.self.inside.ghost_copies.copies in
+    let counted : c.len-count.result ≡ length copies.logs = c.len-count.ensures ∙ sym c.deref.ensures.len ∙ count_same copies.logs c.deref.result.now (c.deref.ensures.value ∙ c.self.invariant.chain.shows.entries) in
+    omega (arith, counted, c.self.invariant.differences.few)
 
-pub returns-in_default-keep_beside-clause-stands : goal.returns-in_default-keep_beside-clause-stands
-returns-in_default-keep_beside-clause-stands g c =
-    stands (chain_of c.self.inside.ledger.told (g.K.LogKeep.meaning c.self.inside.keep)) c.self.invariant.chain.lawful
+pub returns-in_default-keep_difference-clause-stands : goal.returns-in_default-keep_difference-clause-stands
+returns-in_default-keep_difference-clause-stands g c =
+    stands (chain_of c.self.inside.ghost_copies.copies (g.K.LogKeep.meaning c.self.inside.keep)) c.self.invariant.chain.lawful
 
 pub invariant_of-self : goal.invariant_of-self
 invariant_of-self g c =
-    let told : Told = c.self.inside.ledger.told in
-    let counted : c.len-count.result ≡ length told.logs = c.len-count.ensures ∙ sym c.deref.ensures.len ∙ count_same told.logs c.deref.result.now (c.deref.ensures.value ∙ c.self.invariant.chain.shows.entries) in
+    let copies : ChainCopies = c.self.inside.ghost_copies.copies in
+    let counted : c.len-count.result ≡ length copies.logs = c.len-count.ensures ∙ sym c.deref.ensures.len ∙ count_same copies.logs c.deref.result.now (c.deref.ensures.value ∙ c.self.invariant.chain.shows.entries) in
     record {
       chain = c.self.invariant.chain;
-      beside = beside_same told.logs c.self.inside.beside.items c.keep_beside.new.beside.items c.self.invariant.beside (let few = c.in_default-keep_beside.ensures.few in omega (arith, counted, few)) c.in_default-keep_beside.ensures.same;
+      differences = beside_same copies.logs c.self.inside.differences.items c.keep_difference.new.differences.items c.self.invariant.differences (let few = c.in_default-keep_difference.ensures.few in omega (arith, counted, few)) c.in_default-keep_difference.ensures.same;
     }
 
-pub returns-in_default-keep_beside-clause-answer : goal.returns-in_default-keep_beside-clause-answer
-returns-in_default-keep_beside-clause-answer g c =
+pub returns-in_default-keep_difference-clause-answer : goal.returns-in_default-keep_difference-clause-answer
+returns-in_default-keep_difference-clause-answer g c =
     let keep : KeepMeaning = g.K.LogKeep.meaning c.self.inside.keep in
-    let told : Told = c.self.inside.ledger.told in
+    let copies : ChainCopies = c.self.inside.ghost_copies.copies in
     let s : HeapState = c.args.heap.now.state in
     let v : Version = c.args.heap.now.version in
     let t : ℕ = c.args.time in
-    let C : ChainMeaning = chain_of told keep in
-    let are : c.deref.result.now ≡ map entry_of told.logs = c.deref.ensures.value ∙ c.self.invariant.chain.shows.entries in
-    let last : c.newest_of-newest.result ≡ option_map entry_of (newest told.logs) = c.newest_of-newest.ensures told.logs are in
-    let count : c.len.result ≡ length told.logs = c.len.ensures ∙ sym c.deref.ensures.len ∙ count_same told.logs c.deref.result.now are in
-    let refusal : c.refusal_of.result ≡ log_refusal t told.logs = c.refusal_of.ensures told.logs last count in
-    let free : log_refusal t told.logs ≡ None = sym refusal ∙ c.in_default.is in
+    let C : ChainMeaning = chain_of copies keep in
+    let are : c.deref.result.now ≡ map entry_of copies.logs = c.deref.ensures.value ∙ c.self.invariant.chain.shows.entries in
+    let last : c.newest_of-newest.result ≡ option_map entry_of (newest copies.logs) = c.newest_of-newest.ensures copies.logs are in
+    let count : c.len.result ≡ length copies.logs = c.len.ensures ∙ sym c.deref.ensures.len ∙ count_same copies.logs c.deref.result.now are in
+    let refusal : c.refusal_of.result ≡ log_refusal t copies.logs = c.refusal_of.ensures copies.logs last count in
+    let free : log_refusal t copies.logs ≡ None = sym refusal ∙ c.in_default.is in
     may_be_short v s c.args.self.now t c.args.want (ap (λ (x : ChainMeaning). log_refusal t x.logs) (sym c.self.view_is) ∙ free)
 
 pub pack-requires : goal.pack-requires
@@ -122,16 +122,16 @@ pack-requires g c =
 pub returns-in_default-pack-clause-answer : goal.returns-in_default-pack-clause-answer
 returns-in_default-pack-clause-answer g c =
     let keep : KeepMeaning = g.K.LogKeep.meaning c.self.inside.keep in
-    let told : Told = c.self.inside.ledger.told in
+    let copies : ChainCopies = c.self.inside.ghost_copies.copies in
     let s : HeapState = c.args.heap.now.state in
     let v : Version = c.args.heap.now.version in
     let t : ℕ = c.args.time in
-    let C : ChainMeaning = chain_of told keep in
-    let are : c.deref.result.now ≡ map entry_of told.logs = c.deref.ensures.value ∙ c.self.invariant.chain.shows.entries in
-    let last : c.newest_of-newest.result ≡ option_map entry_of (newest told.logs) = c.newest_of-newest.ensures told.logs are in
-    let count : c.len.result ≡ length told.logs = c.len.ensures ∙ sym c.deref.ensures.len ∙ count_same told.logs c.deref.result.now are in
-    let refusal : c.refusal_of.result ≡ log_refusal t told.logs = c.refusal_of.ensures told.logs last count in
-    let free : log_refusal t told.logs ≡ None = sym refusal ∙ c.in_default.is in
+    let C : ChainMeaning = chain_of copies keep in
+    let are : c.deref.result.now ≡ map entry_of copies.logs = c.deref.ensures.value ∙ c.self.invariant.chain.shows.entries in
+    let last : c.newest_of-newest.result ≡ option_map entry_of (newest copies.logs) = c.newest_of-newest.ensures copies.logs are in
+    let count : c.len.result ≡ length copies.logs = c.len.ensures ∙ sym c.deref.ensures.len ∙ count_same copies.logs c.deref.result.now are in
+    let refusal : c.refusal_of.result ≡ log_refusal t copies.logs = c.refusal_of.ensures copies.logs last count in
+    let free : log_refusal t copies.logs ≡ None = sym refusal ∙ c.in_default.is in
     may_be_short v s c.args.self.now t c.args.want (ap (λ (x : ChainMeaning). log_refusal t x.logs) (sym c.self.view_is) ∙ free)
 
 pub logged-requires : goal.logged-requires
@@ -141,21 +141,21 @@ logged-requires g c =
 pub put-requires-clause-room : goal.put-requires-clause-room
 put-requires-clause-room g c =
     let keep : KeepMeaning = g.K.LogKeep.meaning c.self.inside.keep in
-    let told : Told = c.self.inside.ledger.told in
+    let copies : ChainCopies = c.self.inside.ghost_copies.copies in
     let s : HeapState = c.args.heap.now.state in
     let v : Version = c.args.heap.now.version in
     let t : ℕ = c.args.time in
-    let C : ChainMeaning = chain_of told keep in
-    let are : c.deref.result.now ≡ map entry_of told.logs = c.deref.ensures.value ∙ c.self.invariant.chain.shows.entries in
-    let last : c.newest_of-newest.result ≡ option_map entry_of (newest told.logs) = c.newest_of-newest.ensures told.logs are in
-    let count : c.len.result ≡ length told.logs = c.len.ensures ∙ sym c.deref.ensures.len ∙ count_same told.logs c.deref.result.now are in
-    let refusal : c.refusal_of.result ≡ log_refusal t told.logs = c.refusal_of.ensures told.logs last count in
-    let free : log_refusal t told.logs ≡ None = sym refusal ∙ c.in_default.is in
-    room_left C c.self.invariant.chain.lawful (has_room t told.logs free)
+    let C : ChainMeaning = chain_of copies keep in
+    let are : c.deref.result.now ≡ map entry_of copies.logs = c.deref.ensures.value ∙ c.self.invariant.chain.shows.entries in
+    let last : c.newest_of-newest.result ≡ option_map entry_of (newest copies.logs) = c.newest_of-newest.ensures copies.logs are in
+    let count : c.len.result ≡ length copies.logs = c.len.ensures ∙ sym c.deref.ensures.len ∙ count_same copies.logs c.deref.result.now are in
+    let refusal : c.refusal_of.result ≡ log_refusal t copies.logs = c.refusal_of.ensures copies.logs last count in
+    let free : log_refusal t copies.logs ≡ None = sym refusal ∙ c.in_default.is in
+    room_left C c.self.invariant.chain.lawful (has_room t copies.logs free)
 
-pub put-requires-clause-made : goal.put-requires-clause-made
-put-requires-clause-made g c =
-    (let made = ap (λ (x : ChainMeaning). x.made) c.self.view_is in omega (arith, made, c.requires.made))
+pub put-requires-clause-next_number : goal.put-requires-clause-next_number
+put-requires-clause-next_number g c =
+    (let next_number = ap (λ (x : ChainMeaning). x.next_number) c.self.view_is in omega (arith, next_number, c.requires.next_number))
 
 pub put-requires-clause-idle : goal.put-requires-clause-idle
 put-requires-clause-idle g c =
@@ -164,60 +164,60 @@ put-requires-clause-idle g c =
 pub push_reserved-requires : goal.push_reserved-requires
 push_reserved-requires g c =
     let keep : KeepMeaning = g.K.LogKeep.meaning c.self.inside.keep in
-    let told : Told = c.self.inside.ledger.told in
+    let copies : ChainCopies = c.self.inside.ghost_copies.copies in
     let s : HeapState = c.args.heap.now.state in
     let v : Version = c.args.heap.now.version in
     let t : ℕ = c.args.time in
-    let C : ChainMeaning = chain_of told keep in
-    let are : c.deref.result.now ≡ map entry_of told.logs = c.deref.ensures.value ∙ c.self.invariant.chain.shows.entries in
-    let last : c.newest_of-newest.result ≡ option_map entry_of (newest told.logs) = c.newest_of-newest.ensures told.logs are in
-    let count : c.len.result ≡ length told.logs = c.len.ensures ∙ sym c.deref.ensures.len ∙ count_same told.logs c.deref.result.now are in
-    let refusal : c.refusal_of.result ≡ log_refusal t told.logs = c.refusal_of.ensures told.logs last count in
-    let free : log_refusal t told.logs ≡ None = sym refusal ∙ c.in_default.is in
-    (let room = has_room t told.logs free in let vec = count_same told.logs c.deref.result.now are in omega (arith, room, vec, c.deref.ensures.len, c.self.invariant.chain.lawful.list.0, c.self.invariant.chain.shows.room))
+    let C : ChainMeaning = chain_of copies keep in
+    let are : c.deref.result.now ≡ map entry_of copies.logs = c.deref.ensures.value ∙ c.self.invariant.chain.shows.entries in
+    let last : c.newest_of-newest.result ≡ option_map entry_of (newest copies.logs) = c.newest_of-newest.ensures copies.logs are in
+    let count : c.len.result ≡ length copies.logs = c.len.ensures ∙ sym c.deref.ensures.len ∙ count_same copies.logs c.deref.result.now are in
+    let refusal : c.refusal_of.result ≡ log_refusal t copies.logs = c.refusal_of.ensures copies.logs last count in
+    let free : log_refusal t copies.logs ≡ None = sym refusal ∙ c.in_default.is in
+    (let room = has_room t copies.logs free in let vec = count_same copies.logs c.deref.result.now are in omega (arith, room, vec, c.deref.ensures.len, c.self.invariant.chain.lawful.list.0, c.self.invariant.chain.shows.room))
 
 pub invariant_of-self-2 : goal.invariant_of-self-2
 invariant_of-self-2 g c =
     let keep : KeepMeaning = g.K.LogKeep.meaning c.self.inside.keep in
-    let told : Told = c.self.inside.ledger.told in
+    let copies : ChainCopies = c.self.inside.ghost_copies.copies in
     let s : HeapState = c.args.heap.now.state in
     let v : Version = c.args.heap.now.version in
     let t : ℕ = c.args.time in
-    let C : ChainMeaning = chain_of told keep in
-    let are : c.deref.result.now ≡ map entry_of told.logs = c.deref.ensures.value ∙ c.self.invariant.chain.shows.entries in
-    let last : c.newest_of-newest.result ≡ option_map entry_of (newest told.logs) = c.newest_of-newest.ensures told.logs are in
-    let count : c.len.result ≡ length told.logs = c.len.ensures ∙ sym c.deref.ensures.len ∙ count_same told.logs c.deref.result.now are in
-    let refusal : c.refusal_of.result ≡ log_refusal t told.logs = c.refusal_of.ensures told.logs last count in
-    let free : log_refusal t told.logs ≡ None = sym refusal ∙ c.in_default.is in
-    let depth_is : c.depth_of_next-depth.result ≡ next_depth c.args.want (newest told.logs) = c.depth_of_next-depth.ensures (newest told.logs) last (λ e is. all_newest (λ (f : LogEntry). f.depth ≤ 31) told.logs e c.self.invariant.chain.lawful.list.1 is) in
+    let C : ChainMeaning = chain_of copies keep in
+    let are : c.deref.result.now ≡ map entry_of copies.logs = c.deref.ensures.value ∙ c.self.invariant.chain.shows.entries in
+    let last : c.newest_of-newest.result ≡ option_map entry_of (newest copies.logs) = c.newest_of-newest.ensures copies.logs are in
+    let count : c.len.result ≡ length copies.logs = c.len.ensures ∙ sym c.deref.ensures.len ∙ count_same copies.logs c.deref.result.now are in
+    let refusal : c.refusal_of.result ≡ log_refusal t copies.logs = c.refusal_of.ensures copies.logs last count in
+    let free : log_refusal t copies.logs ≡ None = sym refusal ∙ c.in_default.is in
+    let depth_is : c.depth_of_next-depth.result ≡ next_depth c.args.want (newest copies.logs) = c.depth_of_next-depth.ensures (newest copies.logs) last (λ e is. all_newest (λ (f : LogEntry). f.depth ≤ 31) copies.logs e c.self.invariant.chain.lawful.list.1 is) in
     let rec : List ℕ = c.in-Ok.rec in
     let rec_is : rec ≡ record_of v (log_of s t c.depth_of_next-depth.result) = c.in-Ok.ensures ∙ ap (λ (k : Kind). packed (logged (areas_of c.args.heap.now) k t)) c.kind_at-kind.ensures ∙ record_is (areas_of c.args.heap.now) t c.depth_of_next-depth.result in
     let belongs : Belongs v c.args.heap.now.quota s C = subst (Belongs v c.args.heap.now.quota s) (sym c.self.view_is) c.requires.belongs in
     let next : ComesNext C v (new_entry (object_of s C) t c.args.want) = comes_next C v c.args.heap.now.quota s t c.args.want c.self.invariant.chain.lawful belongs (c.heaps_are_packable.ensures c.args.heap.now c.requires.sound) c.ranges.time.fits free in
-    let counted : c.len-count.result ≡ length told.logs = c.len-count.ensures ∙ sym c.deref.ensures.len ∙ count_same told.logs c.deref.result.now (c.deref.ensures.value ∙ c.self.invariant.chain.shows.entries) in
+    let counted : c.len-count.result ≡ length copies.logs = c.len-count.ensures ∙ sym c.deref.ensures.len ∙ count_same copies.logs c.deref.result.now (c.deref.ensures.value ∙ c.self.invariant.chain.shows.entries) in
     let bytes : List ℕ = packed (logged (areas_of c.args.heap.now) Inc t) in
-    let more : HasOneMore c.self.inside.beside.items c.keep_beside.new.beside.items (length told.logs) bytes = subst (λ m. HasOneMore c.self.inside.beside.items c.keep_beside.new.beside.items m bytes) counted c.in-Ok-keep_beside.ensures.more in
-    let tells : (before : LogEntry) → newest told.logs ≡ Some before → TellsChanges before (log_of s t c.depth_of_next-depth.result) bytes = λ before is.
-    tells_found v s t before (log_of s t c.depth_of_next-depth.result) (keeps_by s before (newest told.logs) is belongs.untouched) (c.heaps_are_packable.ensures c.args.heap.now c.requires.sound) c.ranges.time.fits refl in
+    let more : HasOneMore c.self.inside.differences.items c.keep_difference.new.differences.items (length copies.logs) bytes = subst (λ m. HasOneMore c.self.inside.differences.items c.keep_difference.new.differences.items m bytes) counted c.in-Ok-keep_difference.ensures.more in
+    let tells : (before : LogEntry) → newest copies.logs ≡ Some before → TellsChanges before (log_of s t c.depth_of_next-depth.result) bytes = λ before is.
+    tells_found v s t before (log_of s t c.depth_of_next-depth.result) (keeps_by s before (newest copies.logs) is belongs.untouched) (c.heaps_are_packable.ensures c.args.heap.now c.requires.sound) c.ranges.time.fits refl in
     record {
-      chain = chain_taken c.self.inside.entries.items c.push_reserved.new.self.items c.self.inside.entries.cap c.push_reserved.new.self.cap keep (g.K.LogKeep.meaning c.put.new.self) told c.logged.result.told v s t c.depth_of_next-depth.result c.args.want rec c.self.invariant.chain next belongs.records c.push_reserved.ensures.items c.push_reserved.ensures.capacity depth_is rec_is c.put.ensures.after c.logged.ensures;
-      beside = subst (λ (x : Told). AreBeside x.logs c.keep_beside.new.beside.items) (sym c.logged.ensures) (beside_push told.logs c.self.inside.beside.items c.keep_beside.new.beside.items (log_of s t c.depth_of_next-depth.result) bytes c.self.invariant.beside more tells);
+      chain = chain_taken c.self.inside.entries.items c.push_reserved.new.self.items c.self.inside.entries.cap c.push_reserved.new.self.cap keep (g.K.LogKeep.meaning c.put.new.self) copies c.logged.result.copies v s t c.depth_of_next-depth.result c.args.want rec c.self.invariant.chain next belongs.records c.push_reserved.ensures.items c.push_reserved.ensures.capacity depth_is rec_is c.put.ensures.after c.logged.ensures;
+      differences = subst (λ (x : ChainCopies). AreDifferences x.logs c.keep_difference.new.differences.items) (sym c.logged.ensures) (beside_push copies.logs c.self.inside.differences.items c.keep_difference.new.differences.items (log_of s t c.depth_of_next-depth.result) bytes c.self.invariant.differences more tells);
     }
 
 pub returns-clause-answer : goal.returns-clause-answer
 returns-clause-answer g c =
     let keep : KeepMeaning = g.K.LogKeep.meaning c.self.inside.keep in
-    let told : Told = c.self.inside.ledger.told in
+    let copies : ChainCopies = c.self.inside.ghost_copies.copies in
     let s : HeapState = c.args.heap.now.state in
     let v : Version = c.args.heap.now.version in
     let t : ℕ = c.args.time in
-    let C : ChainMeaning = chain_of told keep in
-    let are : c.deref.result.now ≡ map entry_of told.logs = c.deref.ensures.value ∙ c.self.invariant.chain.shows.entries in
-    let last : c.newest_of-newest.result ≡ option_map entry_of (newest told.logs) = c.newest_of-newest.ensures told.logs are in
-    let count : c.len.result ≡ length told.logs = c.len.ensures ∙ sym c.deref.ensures.len ∙ count_same told.logs c.deref.result.now are in
-    let refusal : c.refusal_of.result ≡ log_refusal t told.logs = c.refusal_of.ensures told.logs last count in
-    let free : log_refusal t told.logs ≡ None = sym refusal ∙ c.in_default.is in
-    let depth_is : c.depth_of_next-depth.result ≡ next_depth c.args.want (newest told.logs) = c.depth_of_next-depth.ensures (newest told.logs) last (λ e is. all_newest (λ (f : LogEntry). f.depth ≤ 31) told.logs e c.self.invariant.chain.lawful.list.1 is) in
+    let C : ChainMeaning = chain_of copies keep in
+    let are : c.deref.result.now ≡ map entry_of copies.logs = c.deref.ensures.value ∙ c.self.invariant.chain.shows.entries in
+    let last : c.newest_of-newest.result ≡ option_map entry_of (newest copies.logs) = c.newest_of-newest.ensures copies.logs are in
+    let count : c.len.result ≡ length copies.logs = c.len.ensures ∙ sym c.deref.ensures.len ∙ count_same copies.logs c.deref.result.now are in
+    let refusal : c.refusal_of.result ≡ log_refusal t copies.logs = c.refusal_of.ensures copies.logs last count in
+    let free : log_refusal t copies.logs ≡ None = sym refusal ∙ c.in_default.is in
+    let depth_is : c.depth_of_next-depth.result ≡ next_depth c.args.want (newest copies.logs) = c.depth_of_next-depth.ensures (newest copies.logs) last (λ e is. all_newest (λ (f : LogEntry). f.depth ≤ 31) copies.logs e c.self.invariant.chain.lawful.list.1 is) in
     let rec : List ℕ = c.in-Ok.rec in
     let rec_is : rec ≡ record_of v (log_of s t c.depth_of_next-depth.result) = c.in-Ok.ensures ∙ ap (λ (k : Kind). packed (logged (areas_of c.args.heap.now) k t)) c.kind_at-kind.ensures ∙ record_is (areas_of c.args.heap.now) t c.depth_of_next-depth.result in
     subst (λ (x : ChainMeaning). (log v (object_of s x) t c.args.want).reply ≡ reply.Logged c.kind_at-kind.result c.len-len.result) c.self.view_is (taken_reply v s C t c.depth_of_next-depth.result c.len-len.result c.args.want c.kind_at-kind.result rec free depth_is c.kind_at-kind.ensures rec_is c.len-len.ensures)
@@ -225,21 +225,21 @@ returns-clause-answer g c =
 pub returns-clause-after : goal.returns-clause-after
 returns-clause-after g c =
     let keep : KeepMeaning = g.K.LogKeep.meaning c.self.inside.keep in
-    let told : Told = c.self.inside.ledger.told in
+    let copies : ChainCopies = c.self.inside.ghost_copies.copies in
     let s : HeapState = c.args.heap.now.state in
     let v : Version = c.args.heap.now.version in
     let t : ℕ = c.args.time in
-    let C : ChainMeaning = chain_of told keep in
-    let are : c.deref.result.now ≡ map entry_of told.logs = c.deref.ensures.value ∙ c.self.invariant.chain.shows.entries in
-    let last : c.newest_of-newest.result ≡ option_map entry_of (newest told.logs) = c.newest_of-newest.ensures told.logs are in
-    let count : c.len.result ≡ length told.logs = c.len.ensures ∙ sym c.deref.ensures.len ∙ count_same told.logs c.deref.result.now are in
-    let refusal : c.refusal_of.result ≡ log_refusal t told.logs = c.refusal_of.ensures told.logs last count in
-    let free : log_refusal t told.logs ≡ None = sym refusal ∙ c.in_default.is in
-    let depth_is : c.depth_of_next-depth.result ≡ next_depth c.args.want (newest told.logs) = c.depth_of_next-depth.ensures (newest told.logs) last (λ e is. all_newest (λ (f : LogEntry). f.depth ≤ 31) told.logs e c.self.invariant.chain.lawful.list.1 is) in
+    let C : ChainMeaning = chain_of copies keep in
+    let are : c.deref.result.now ≡ map entry_of copies.logs = c.deref.ensures.value ∙ c.self.invariant.chain.shows.entries in
+    let last : c.newest_of-newest.result ≡ option_map entry_of (newest copies.logs) = c.newest_of-newest.ensures copies.logs are in
+    let count : c.len.result ≡ length copies.logs = c.len.ensures ∙ sym c.deref.ensures.len ∙ count_same copies.logs c.deref.result.now are in
+    let refusal : c.refusal_of.result ≡ log_refusal t copies.logs = c.refusal_of.ensures copies.logs last count in
+    let free : log_refusal t copies.logs ≡ None = sym refusal ∙ c.in_default.is in
+    let depth_is : c.depth_of_next-depth.result ≡ next_depth c.args.want (newest copies.logs) = c.depth_of_next-depth.ensures (newest copies.logs) last (λ e is. all_newest (λ (f : LogEntry). f.depth ≤ 31) copies.logs e c.self.invariant.chain.lawful.list.1 is) in
     let rec : List ℕ = c.in-Ok.rec in
     let rec_is : rec ≡ record_of v (log_of s t c.depth_of_next-depth.result) = c.in-Ok.ensures ∙ ap (λ (k : Kind). packed (logged (areas_of c.args.heap.now) k t)) c.kind_at-kind.ensures ∙ record_is (areas_of c.args.heap.now) t c.depth_of_next-depth.result in
-    let view : chain_of c.logged.result.told (g.K.LogKeep.meaning c.put.new.self) ≡ chains.logged v (new_entry (object_of s C) t c.args.want) C = taken_view keep (g.K.LogKeep.meaning c.put.new.self) told c.logged.result.told v s t c.depth_of_next-depth.result c.args.want rec depth_is rec_is c.put.ensures.after c.logged.ensures in
-    ap (λ (h : HeapMeaning). object_of h.state (chain_of c.logged.result.told (g.K.LogKeep.meaning c.put.new.self))) c.clear_dirty.ensures.cleared
+    let view : chain_of c.logged.result.copies (g.K.LogKeep.meaning c.put.new.self) ≡ chains.logged v (new_entry (object_of s C) t c.args.want) C = taken_view keep (g.K.LogKeep.meaning c.put.new.self) copies c.logged.result.copies v s t c.depth_of_next-depth.result c.args.want rec depth_is rec_is c.put.ensures.after c.logged.ensures in
+    ap (λ (h : HeapMeaning). object_of h.state (chain_of c.logged.result.copies (g.K.LogKeep.meaning c.put.new.self))) c.clear_dirty.ensures.cleared
     ∙ ap (object_of (record { live = s.live; touched = set.empty })) view
     ∙ sym (ap (λ (a : ObjectAnswer). a.object) (taken_is v (object_of s C) t c.args.want free))
     ∙ ap (λ (x : ChainMeaning). (log v (object_of s x) t c.args.want).object) c.self.view_is
@@ -247,20 +247,20 @@ returns-clause-after g c =
 pub returns-clause-put : goal.returns-clause-put
 returns-clause-put g c =
     let keep : KeepMeaning = g.K.LogKeep.meaning c.self.inside.keep in
-    let told : Told = c.self.inside.ledger.told in
+    let copies : ChainCopies = c.self.inside.ghost_copies.copies in
     let s : HeapState = c.args.heap.now.state in
     let v : Version = c.args.heap.now.version in
     let t : ℕ = c.args.time in
-    let C : ChainMeaning = chain_of told keep in
-    let are : c.deref.result.now ≡ map entry_of told.logs = c.deref.ensures.value ∙ c.self.invariant.chain.shows.entries in
-    let last : c.newest_of-newest.result ≡ option_map entry_of (newest told.logs) = c.newest_of-newest.ensures told.logs are in
-    let count : c.len.result ≡ length told.logs = c.len.ensures ∙ sym c.deref.ensures.len ∙ count_same told.logs c.deref.result.now are in
-    let refusal : c.refusal_of.result ≡ log_refusal t told.logs = c.refusal_of.ensures told.logs last count in
-    let free : log_refusal t told.logs ≡ None = sym refusal ∙ c.in_default.is in
-    let depth_is : c.depth_of_next-depth.result ≡ next_depth c.args.want (newest told.logs) = c.depth_of_next-depth.ensures (newest told.logs) last (λ e is. all_newest (λ (f : LogEntry). f.depth ≤ 31) told.logs e c.self.invariant.chain.lawful.list.1 is) in
+    let C : ChainMeaning = chain_of copies keep in
+    let are : c.deref.result.now ≡ map entry_of copies.logs = c.deref.ensures.value ∙ c.self.invariant.chain.shows.entries in
+    let last : c.newest_of-newest.result ≡ option_map entry_of (newest copies.logs) = c.newest_of-newest.ensures copies.logs are in
+    let count : c.len.result ≡ length copies.logs = c.len.ensures ∙ sym c.deref.ensures.len ∙ count_same copies.logs c.deref.result.now are in
+    let refusal : c.refusal_of.result ≡ log_refusal t copies.logs = c.refusal_of.ensures copies.logs last count in
+    let free : log_refusal t copies.logs ≡ None = sym refusal ∙ c.in_default.is in
+    let depth_is : c.depth_of_next-depth.result ≡ next_depth c.args.want (newest copies.logs) = c.depth_of_next-depth.ensures (newest copies.logs) last (λ e is. all_newest (λ (f : LogEntry). f.depth ≤ 31) copies.logs e c.self.invariant.chain.lawful.list.1 is) in
     let rec : List ℕ = c.in-Ok.rec in
     let rec_is : rec ≡ record_of v (log_of s t c.depth_of_next-depth.result) = c.in-Ok.ensures ∙ ap (λ (k : Kind). packed (logged (areas_of c.args.heap.now) k t)) c.kind_at-kind.ensures ∙ record_is (areas_of c.args.heap.now) t c.depth_of_next-depth.result in
-    let view : chain_of c.logged.result.told (g.K.LogKeep.meaning c.put.new.self) ≡ chains.logged v (new_entry (object_of s C) t c.args.want) C = taken_view keep (g.K.LogKeep.meaning c.put.new.self) told c.logged.result.told v s t c.depth_of_next-depth.result c.args.want rec depth_is rec_is c.put.ensures.after c.logged.ensures in
+    let view : chain_of c.logged.result.copies (g.K.LogKeep.meaning c.put.new.self) ≡ chains.logged v (new_entry (object_of s C) t c.args.want) C = taken_view keep (g.K.LogKeep.meaning c.put.new.self) copies c.logged.result.copies v s t c.depth_of_next-depth.result c.args.want rec depth_is rec_is c.put.ensures.after c.logged.ensures in
     view ∙ ap (λ (x : ChainMeaning). chains.logged v (new_entry (object_of s x) t c.args.want) x) c.self.view_is
 
 pub returns-clause-heap : goal.returns-clause-heap
@@ -270,44 +270,44 @@ returns-clause-heap g c =
 pub returns-clause-belongs : goal.returns-clause-belongs
 returns-clause-belongs g c =
     let keep : KeepMeaning = g.K.LogKeep.meaning c.self.inside.keep in
-    let told : Told = c.self.inside.ledger.told in
+    let copies : ChainCopies = c.self.inside.ghost_copies.copies in
     let s : HeapState = c.args.heap.now.state in
     let v : Version = c.args.heap.now.version in
     let t : ℕ = c.args.time in
-    let C : ChainMeaning = chain_of told keep in
-    let are : c.deref.result.now ≡ map entry_of told.logs = c.deref.ensures.value ∙ c.self.invariant.chain.shows.entries in
-    let last : c.newest_of-newest.result ≡ option_map entry_of (newest told.logs) = c.newest_of-newest.ensures told.logs are in
-    let count : c.len.result ≡ length told.logs = c.len.ensures ∙ sym c.deref.ensures.len ∙ count_same told.logs c.deref.result.now are in
-    let refusal : c.refusal_of.result ≡ log_refusal t told.logs = c.refusal_of.ensures told.logs last count in
-    let free : log_refusal t told.logs ≡ None = sym refusal ∙ c.in_default.is in
-    let depth_is : c.depth_of_next-depth.result ≡ next_depth c.args.want (newest told.logs) = c.depth_of_next-depth.ensures (newest told.logs) last (λ e is. all_newest (λ (f : LogEntry). f.depth ≤ 31) told.logs e c.self.invariant.chain.lawful.list.1 is) in
+    let C : ChainMeaning = chain_of copies keep in
+    let are : c.deref.result.now ≡ map entry_of copies.logs = c.deref.ensures.value ∙ c.self.invariant.chain.shows.entries in
+    let last : c.newest_of-newest.result ≡ option_map entry_of (newest copies.logs) = c.newest_of-newest.ensures copies.logs are in
+    let count : c.len.result ≡ length copies.logs = c.len.ensures ∙ sym c.deref.ensures.len ∙ count_same copies.logs c.deref.result.now are in
+    let refusal : c.refusal_of.result ≡ log_refusal t copies.logs = c.refusal_of.ensures copies.logs last count in
+    let free : log_refusal t copies.logs ≡ None = sym refusal ∙ c.in_default.is in
+    let depth_is : c.depth_of_next-depth.result ≡ next_depth c.args.want (newest copies.logs) = c.depth_of_next-depth.ensures (newest copies.logs) last (λ e is. all_newest (λ (f : LogEntry). f.depth ≤ 31) copies.logs e c.self.invariant.chain.lawful.list.1 is) in
     let rec : List ℕ = c.in-Ok.rec in
     let rec_is : rec ≡ record_of v (log_of s t c.depth_of_next-depth.result) = c.in-Ok.ensures ∙ ap (λ (k : Kind). packed (logged (areas_of c.args.heap.now) k t)) c.kind_at-kind.ensures ∙ record_is (areas_of c.args.heap.now) t c.depth_of_next-depth.result in
     let belongs : Belongs v c.args.heap.now.quota s C = subst (Belongs v c.args.heap.now.quota s) (sym c.self.view_is) c.requires.belongs in
     let next : ComesNext C v (new_entry (object_of s C) t c.args.want) = comes_next C v c.args.heap.now.quota s t c.args.want c.self.invariant.chain.lawful belongs (c.heaps_are_packable.ensures c.args.heap.now c.requires.sound) c.ranges.time.fits free in
-    let view : chain_of c.logged.result.told (g.K.LogKeep.meaning c.put.new.self) ≡ chains.logged v (new_entry (object_of s C) t c.args.want) C = taken_view keep (g.K.LogKeep.meaning c.put.new.self) told c.logged.result.told v s t c.depth_of_next-depth.result c.args.want rec depth_is rec_is c.put.ensures.after c.logged.ensures in
-    subst (λ (h : HeapMeaning). Belongs h.version h.quota h.state (chain_of c.logged.result.told (g.K.LogKeep.meaning c.put.new.self))) (sym c.clear_dirty.ensures.cleared)
+    let view : chain_of c.logged.result.copies (g.K.LogKeep.meaning c.put.new.self) ≡ chains.logged v (new_entry (object_of s C) t c.args.want) C = taken_view keep (g.K.LogKeep.meaning c.put.new.self) copies c.logged.result.copies v s t c.depth_of_next-depth.result c.args.want rec depth_is rec_is c.put.ensures.after c.logged.ensures in
+    subst (λ (h : HeapMeaning). Belongs h.version h.quota h.state (chain_of c.logged.result.copies (g.K.LogKeep.meaning c.put.new.self))) (sym c.clear_dirty.ensures.cleared)
     (subst (Belongs v c.args.heap.now.quota (record { live = s.live; touched = set.empty })) (sym view) (belongs_push C v c.args.heap.now.quota s (new_entry (object_of s C) t c.args.want) belongs next refl c.requires.sound.within))
 
 pub returns-clause-stands : goal.returns-clause-stands
 returns-clause-stands g c =
     let keep : KeepMeaning = g.K.LogKeep.meaning c.self.inside.keep in
-    let told : Told = c.self.inside.ledger.told in
+    let copies : ChainCopies = c.self.inside.ghost_copies.copies in
     let s : HeapState = c.args.heap.now.state in
     let v : Version = c.args.heap.now.version in
     let t : ℕ = c.args.time in
-    let C : ChainMeaning = chain_of told keep in
-    let are : c.deref.result.now ≡ map entry_of told.logs = c.deref.ensures.value ∙ c.self.invariant.chain.shows.entries in
-    let last : c.newest_of-newest.result ≡ option_map entry_of (newest told.logs) = c.newest_of-newest.ensures told.logs are in
-    let count : c.len.result ≡ length told.logs = c.len.ensures ∙ sym c.deref.ensures.len ∙ count_same told.logs c.deref.result.now are in
-    let refusal : c.refusal_of.result ≡ log_refusal t told.logs = c.refusal_of.ensures told.logs last count in
-    let free : log_refusal t told.logs ≡ None = sym refusal ∙ c.in_default.is in
-    let depth_is : c.depth_of_next-depth.result ≡ next_depth c.args.want (newest told.logs) = c.depth_of_next-depth.ensures (newest told.logs) last (λ e is. all_newest (λ (f : LogEntry). f.depth ≤ 31) told.logs e c.self.invariant.chain.lawful.list.1 is) in
+    let C : ChainMeaning = chain_of copies keep in
+    let are : c.deref.result.now ≡ map entry_of copies.logs = c.deref.ensures.value ∙ c.self.invariant.chain.shows.entries in
+    let last : c.newest_of-newest.result ≡ option_map entry_of (newest copies.logs) = c.newest_of-newest.ensures copies.logs are in
+    let count : c.len.result ≡ length copies.logs = c.len.ensures ∙ sym c.deref.ensures.len ∙ count_same copies.logs c.deref.result.now are in
+    let refusal : c.refusal_of.result ≡ log_refusal t copies.logs = c.refusal_of.ensures copies.logs last count in
+    let free : log_refusal t copies.logs ≡ None = sym refusal ∙ c.in_default.is in
+    let depth_is : c.depth_of_next-depth.result ≡ next_depth c.args.want (newest copies.logs) = c.depth_of_next-depth.ensures (newest copies.logs) last (λ e is. all_newest (λ (f : LogEntry). f.depth ≤ 31) copies.logs e c.self.invariant.chain.lawful.list.1 is) in
     let rec : List ℕ = c.in-Ok.rec in
     let rec_is : rec ≡ record_of v (log_of s t c.depth_of_next-depth.result) = c.in-Ok.ensures ∙ ap (λ (k : Kind). packed (logged (areas_of c.args.heap.now) k t)) c.kind_at-kind.ensures ∙ record_is (areas_of c.args.heap.now) t c.depth_of_next-depth.result in
     let belongs : Belongs v c.args.heap.now.quota s C = subst (Belongs v c.args.heap.now.quota s) (sym c.self.view_is) c.requires.belongs in
     let next : ComesNext C v (new_entry (object_of s C) t c.args.want) = comes_next C v c.args.heap.now.quota s t c.args.want c.self.invariant.chain.lawful belongs (c.heaps_are_packable.ensures c.args.heap.now c.requires.sound) c.ranges.time.fits free in
-    let view : chain_of c.logged.result.told (g.K.LogKeep.meaning c.put.new.self) ≡ chains.logged v (new_entry (object_of s C) t c.args.want) C = taken_view keep (g.K.LogKeep.meaning c.put.new.self) told c.logged.result.told v s t c.depth_of_next-depth.result c.args.want rec depth_is rec_is c.put.ensures.after c.logged.ensures in
+    let view : chain_of c.logged.result.copies (g.K.LogKeep.meaning c.put.new.self) ≡ chains.logged v (new_entry (object_of s C) t c.args.want) C = taken_view keep (g.K.LogKeep.meaning c.put.new.self) copies c.logged.result.copies v s t c.depth_of_next-depth.result c.args.want rec depth_is rec_is c.put.ensures.after c.logged.ensures in
     subst StandsForCopies (sym view) (stands (chains.logged v (new_entry (object_of s C) t c.args.want) C) (lawful_push C v (new_entry (object_of s C) t c.args.want) c.self.invariant.chain.lawful belongs.records next))
 
 pub returns-clause-sound : goal.returns-clause-sound

@@ -4,6 +4,6 @@ use Rattle.dym_chain.proofs.chain.Chain.log.Given as goal
 
 abbrev pub ghost-logged : goal.ghost-logged
 ghost-logged g a = record {
-  below = a.self.now.told.below;
-  logs = a.self.now.told.logs ++ record { time = a.time; depth = a.depth; copy = a.heap.now.state.live; found = found_touched a.depth a.heap.now.state.touched } ∷ [];
+  base_logs = a.self.now.copies.base_logs;
+  logs = a.self.now.copies.logs ++ record { time = a.time; depth = a.depth; copy = a.heap.now.state.live; found = found_touched a.depth a.heap.now.state.touched } ∷ [];
 }

@@ -3,6 +3,6 @@ use Rattle.dym_chain.proofs.chain.Chain.prune.Given as goal
 
 abbrev pub ghost-cut : goal.ghost-cut
 ghost-cut g a = record {
-  below = take a.kept (drop (length a.self.now.told.below + a.gone - a.kept) (a.self.now.told.below ++ a.self.now.told.logs));
-  logs = drop a.gone a.self.now.told.logs;
+  base_logs = take a.kept (drop (length a.self.now.copies.base_logs + a.gone - a.kept) (a.self.now.copies.base_logs ++ a.self.now.copies.logs));
+  logs = drop a.gone a.self.now.copies.logs;
 }

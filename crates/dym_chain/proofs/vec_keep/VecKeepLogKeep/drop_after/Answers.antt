@@ -12,14 +12,14 @@ pub invariant_of-self : goal.invariant_of-self
 invariant_of-self c =
     let i = c.self.inside in
     let idle : place_out i.lifted ≡ None = ap (λ (k : KeepMeaning). k.lifted) c.self.view_is ∙ c.requires.idle in
-    kept_take i.slots.items c.truncate.new.self.items i.lifted i.made (vec_capacity i.slots) (vec_capacity c.truncate.new.self) (c.args.place + 1) c.truncate.ensures.capacity c.truncate.ensures.items idle c.self.invariant
+    kept_take i.slots.items c.truncate.new.self.items i.lifted i.next_number (vec_capacity i.slots) (vec_capacity c.truncate.new.self) (c.args.place + 1) c.truncate.ensures.capacity c.truncate.ensures.items idle c.self.invariant
 
 pub returns : goal.returns
 returns c =
     let i = c.self.inside in
     record {
       after =
-          ap (λ (slots : List Slot). record { records = map (shown (bytes_out i.lifted)) slots; made = i.made; lifted = place_out i.lifted; origin = own }) c.truncate.ensures.items
-          ∙ ap (λ (records : List Numbered). record { records = records; made = i.made; lifted = place_out i.lifted; origin = own }) (sym (take-map (shown (bytes_out i.lifted)) (c.args.place + 1) i.slots.items))
+          ap (λ (slots : List Slot). record { records = map (shown (bytes_out i.lifted)) slots; next_number = i.next_number; lifted = place_out i.lifted; origin = own }) c.truncate.ensures.items
+          ∙ ap (λ (records : List Numbered). record { records = records; next_number = i.next_number; lifted = place_out i.lifted; origin = own }) (sym (take-map (shown (bytes_out i.lifted)) (c.args.place + 1) i.slots.items))
           ∙ ap (λ (k : KeepMeaning). up_to k c.args.place) c.self.view_is;
     }

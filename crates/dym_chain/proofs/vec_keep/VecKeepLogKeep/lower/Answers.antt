@@ -22,7 +22,7 @@ invariant_of-self c =
     let out : place_out i.lifted ≡ Some c.args.place = ap (λ (k : KeepMeaning). k.lifted) c.self.view_is ∙ c.requires.lifted in
     let within : c.args.place < length i.slots.items = c.self.invariant.inside c.args.place out in
     let is : slot ≡ get_or i.slots.items c.args.place no_slot = c.index_mut.ensures.value ∙ at_place i.slots.items c.args.place slot within in
-    kept_lower i.slots.items i.made i.slots.cap c.args.place slot c.args.rec i.lifted c.self.invariant out is (same_bytes i c.args.self.now c.args.place slot c.args.rec c.self.view_is within is c.requires.bytes)
+    kept_lower i.slots.items i.next_number i.slots.cap c.args.place slot c.args.rec i.lifted c.self.invariant out is (same_bytes i c.args.self.now c.args.place slot c.args.rec c.self.view_is within is c.requires.bytes)
 
 pub returns : goal.returns
 returns c =
@@ -33,8 +33,8 @@ returns c =
     let is : slot ≡ get_or i.slots.items c.args.place no_slot = c.index_mut.ensures.value ∙ at_place i.slots.items c.args.place slot within in
     record {
       after =
-          ap (λ (records : List Numbered). record { records = records; made = i.made; lifted = None; origin = own })
+          ap (λ (records : List Numbered). record { records = records; next_number = i.next_number; lifted = None; origin = own })
           (shown_lowered [] (bytes_out i.lifted) c.args.rec i.slots.items c.args.place slot within
           (λ j inside other. c.self.invariant.there j inside (λ e. other (sym out ∙ e))) is (same_bytes i c.args.self.now c.args.place slot c.args.rec c.self.view_is within is c.requires.bytes))
-          ∙ ap (λ (k : KeepMeaning). record { records = k.records; made = k.made; lifted = None; origin = k.origin }) c.self.view_is;
+          ∙ ap (λ (k : KeepMeaning). record { records = k.records; next_number = k.next_number; lifted = None; origin = k.origin }) c.self.view_is;
     }

@@ -2,7 +2,7 @@ use Rattle.std.proofs.Common.{◌≡◌, ◌+◌, ◌<◌, ◌++◌, ◌∷◌, 
 use Rattle.dym_base.specs.declared.limits.TheConstants.{MOST_COMMANDS}
 use Rattle.dym_commands.specs.declared.commands.Commands.TheInside.{Inside}
 use Rattle.dym_commands.specs.declared.commands.Later.{Later}
-use Rattle.dym_commands.specs.Asks.{asks}
+use Rattle.dym_commands.specs.Requests.{asks}
 use Rattle.dym_commands.specs.Pieces.{all_of, AreWhole}
 use Rattle.dym_commands.proofs.KeptLists.{read_bytes_few}
 use Rattle.dym_commands.proofs.PieceLists.{IsPushed, pushed_first, pushed_last, whole_more}

@@ -13,18 +13,18 @@ shift_up-requires-clause-small g c = grows.starts_small _ _ _ _ _ _ _ _ _ _ _ c.
 
 pub invariant_of-self : goal.invariant_of-self
 invariant_of-self g c =
-    (grows.grown _ _ _ _ _ _ _ _ _ _ _ c.self.view_is c.self.invariant c.args.exp c.requires.least c.requires.most c.class_index-class.result _ c.pop-lengths.result c.new-place.result _ _ _ _ _ _ _ _ c.class_index-class.ensures c.requires.room c.pop-lengths.ensures.cases c.new-place.ensures.made c.new-place.ensures.lawful refl
+    (grows.grown _ _ _ _ _ _ _ _ _ _ _ c.self.view_is c.self.invariant c.args.exp c.requires.least c.requires.most c.class_index-class.result _ c.pop-lengths.result c.new-sized_area.result _ _ _ _ _ _ _ _ c.class_index-class.ensures c.requires.room c.pop-lengths.ensures.cases c.new-sized_area.ensures.made c.new-sized_area.ensures.valid refl
     c.take-segment.ensures.taken c.take-segment.ensures.quota c.take-segment.ensures.origin c.shift_up.ensures c.put_in.ensures.capacity c.pop-lengths.ensures.capacity
-    c.put_in.new.places.items c.put_in.ensures.items).shelf
+    c.put_in.new.sized_areas.items c.put_in.ensures.items).shelf
 
 pub returns-clause-added : goal.returns-clause-added
 returns-clause-added g c =
-    (grows.grown _ _ _ _ _ _ _ _ _ _ _ c.self.view_is c.self.invariant c.args.exp c.requires.least c.requires.most c.class_index-class.result _ c.pop-lengths.result c.new-place.result _ _ _ _ _ _ _ _ c.class_index-class.ensures c.requires.room c.pop-lengths.ensures.cases c.new-place.ensures.made c.new-place.ensures.lawful refl
+    (grows.grown _ _ _ _ _ _ _ _ _ _ _ c.self.view_is c.self.invariant c.args.exp c.requires.least c.requires.most c.class_index-class.result _ c.pop-lengths.result c.new-sized_area.result _ _ _ _ _ _ _ _ c.class_index-class.ensures c.requires.room c.pop-lengths.ensures.cases c.new-sized_area.ensures.made c.new-sized_area.ensures.valid refl
     c.take-segment.ensures.taken c.take-segment.ensures.quota c.take-segment.ensures.origin c.shift_up.ensures c.put_in.ensures.capacity c.pop-lengths.ensures.capacity
-    c.put_in.new.places.items c.put_in.ensures.items).gives
+    c.put_in.new.sized_areas.items c.put_in.ensures.items).gives
 
-pub returns-clause-kept : goal.returns-clause-kept
-returns-clause-kept g c =
-    (grows.grown _ _ _ _ _ _ _ _ _ _ _ c.self.view_is c.self.invariant c.args.exp c.requires.least c.requires.most c.class_index-class.result _ c.pop-lengths.result c.new-place.result _ _ _ _ _ _ _ _ c.class_index-class.ensures c.requires.room c.pop-lengths.ensures.cases c.new-place.ensures.made c.new-place.ensures.lawful refl
+pub returns-clause-valid_shelf : goal.returns-clause-valid_shelf
+returns-clause-valid_shelf g c =
+    (grows.grown _ _ _ _ _ _ _ _ _ _ _ c.self.view_is c.self.invariant c.args.exp c.requires.least c.requires.most c.class_index-class.result _ c.pop-lengths.result c.new-sized_area.result _ _ _ _ _ _ _ _ c.class_index-class.ensures c.requires.room c.pop-lengths.ensures.cases c.new-sized_area.ensures.made c.new-sized_area.ensures.valid refl
     c.take-segment.ensures.taken c.take-segment.ensures.quota c.take-segment.ensures.origin c.shift_up.ensures c.put_in.ensures.capacity c.pop-lengths.ensures.capacity
-    c.put_in.new.places.items c.put_in.ensures.items).kept
+    c.put_in.new.sized_areas.items c.put_in.ensures.items).valid_shelf

@@ -5,12 +5,12 @@ use Rattle.dym_heap.proofs.Rows.{is_kept}
 use Rattle.dym_heap.proofs.shelf.Shelf.clear_touched.Goals as goal
 
 pub invariant_of-self : goal.invariant_of-self
-invariant_of-self g c = cleaned_shelf _ _ _ _ _ _ _ _ _ _ _ c.clear_places.ensures.cleaned c.clear_places.ensures.room c.self.invariant
+invariant_of-self g c = cleaned_shelf _ _ _ _ _ _ _ _ _ _ _ c.clear_sized_areas.ensures.cleaned c.clear_sized_areas.ensures.room c.self.invariant
 
 pub returns-clause-cleared : goal.returns-clause-cleared
-returns-clause-cleared g c = ap (shelf_of _ _ _ _ _) c.clear_places.ensures.cleaned ∙ clean_view _ _ _ _ _ _ _ c.self.view_is
+returns-clause-cleared g c = ap (shelf_of _ _ _ _ _) c.clear_sized_areas.ensures.cleaned ∙ clean_view _ _ _ _ _ _ _ c.self.view_is
 
-pub returns-clause-kept : goal.returns-clause-kept
-returns-clause-kept g c =
-    let shelf = cleaned_shelf _ _ _ _ _ _ _ _ _ _ _ c.clear_places.ensures.cleaned c.clear_places.ensures.room c.self.invariant in
+pub returns-clause-valid_shelf : goal.returns-clause-valid_shelf
+returns-clause-valid_shelf g c =
+    let shelf = cleaned_shelf _ _ _ _ _ _ _ _ _ _ _ c.clear_sized_areas.ensures.cleaned c.clear_sized_areas.ensures.room c.self.invariant in
     is_kept _ _ _ _ _ _ _ _ _ _ shelf.arranged shelf.supplied

@@ -30,10 +30,10 @@ pub copy_between-requires-clause-target : goal.copy_between-requires-clause-targ
 copy_between-requires-clause-target g c d = subst (λ o. FitsIn o c.args.len) (calls.chunk_there _ _ _ _ _ _ _ _ _ _ _ c.self.view_is c.self.invariant c.args.to.exp c.requires.to_class.0 c.requires.to_class.1 c.args.to.index _ _ _ c.in-Some-find.ensures d) c.requires.target
 
 pub invariant_of-self : goal.invariant_of-self
-invariant_of-self g c = grows.roomy _ _ _ _ _ _ _ _ _ _ c.copy_between.ensures.capacity (copies.copied _ _ _ _ _ _ _ _ _ _ _ c.self.view_is c.self.invariant c.args.from.exp c.requires.from_class.0 c.requires.from_class.1 c.args.to.exp c.requires.to_class.0 c.requires.to_class.1 c.copy_between.new.places.items c.args.from.index _ _ _ c.args.to.index _ _ _ c.args.len c.in-Some.ensures c.in-Some-find.ensures c.requires.source c.copy_between.ensures.copied).shelf
+invariant_of-self g c = grows.roomy _ _ _ _ _ _ _ _ _ _ c.copy_between.ensures.capacity (copies.copied _ _ _ _ _ _ _ _ _ _ _ c.self.view_is c.self.invariant c.args.from.exp c.requires.from_class.0 c.requires.from_class.1 c.args.to.exp c.requires.to_class.0 c.requires.to_class.1 c.copy_between.new.sized_areas.items c.args.from.index _ _ _ c.args.to.index _ _ _ c.args.len c.in-Some.ensures c.in-Some-find.ensures c.requires.source c.copy_between.ensures.copied).shelf
 
 pub returns-clause-copied : goal.returns-clause-copied
-returns-clause-copied g c = (copies.copied _ _ _ _ _ _ _ _ _ _ _ c.self.view_is c.self.invariant c.args.from.exp c.requires.from_class.0 c.requires.from_class.1 c.args.to.exp c.requires.to_class.0 c.requires.to_class.1 c.copy_between.new.places.items c.args.from.index _ _ _ c.args.to.index _ _ _ c.args.len c.in-Some.ensures c.in-Some-find.ensures c.requires.source c.copy_between.ensures.copied).gives
+returns-clause-copied g c = (copies.copied _ _ _ _ _ _ _ _ _ _ _ c.self.view_is c.self.invariant c.args.from.exp c.requires.from_class.0 c.requires.from_class.1 c.args.to.exp c.requires.to_class.0 c.requires.to_class.1 c.copy_between.new.sized_areas.items c.args.from.index _ _ _ c.args.to.index _ _ _ c.args.len c.in-Some.ensures c.in-Some-find.ensures c.requires.source c.copy_between.ensures.copied).gives
 
-pub returns-clause-kept : goal.returns-clause-kept
-returns-clause-kept g c = (copies.copied _ _ _ _ _ _ _ _ _ _ _ c.self.view_is c.self.invariant c.args.from.exp c.requires.from_class.0 c.requires.from_class.1 c.args.to.exp c.requires.to_class.0 c.requires.to_class.1 c.copy_between.new.places.items c.args.from.index _ _ _ c.args.to.index _ _ _ c.args.len c.in-Some.ensures c.in-Some-find.ensures c.requires.source c.copy_between.ensures.copied).kept
+pub returns-clause-valid_shelf : goal.returns-clause-valid_shelf
+returns-clause-valid_shelf g c = (copies.copied _ _ _ _ _ _ _ _ _ _ _ c.self.view_is c.self.invariant c.args.from.exp c.requires.from_class.0 c.requires.from_class.1 c.args.to.exp c.requires.to_class.0 c.requires.to_class.1 c.copy_between.new.sized_areas.items c.args.from.index _ _ _ c.args.to.index _ _ _ c.args.len c.in-Some.ensures c.in-Some-find.ensures c.requires.source c.copy_between.ensures.copied).valid_shelf

@@ -30,13 +30,13 @@ overflow_mul-result g c = let fits = next.fits_n _ _ _ _ _ _ _ _ _ _ _ c.self.vi
 pub overflow_add-result : goal.overflow_add-result
 overflow_add-result g c =
     let fits = next.fits_n _ _ _ _ _ _ _ _ _ _ _ c.self.view_is c.self.invariant c.args.exp c.requires.least c.requires.most c.class_index-class.result c.per_area-per.result c.loop-ordinal.ordinal c.class_index-class.ensures c.per_area-per.ensures (omega arith) in
-    let found = (next.found_n _ _ _ _ _ _ _ _ _ _ _ c.self.view_is c.self.invariant c.args.exp c.requires.least c.requires.most c.class_index-class.result c.per_area-per.result c.loop-ordinal.ordinal c.class_index-class.ensures c.per_area-per.ensures (omega arith) c.index-place.result.now c.index-place.ensures c.args.from c.loop-ordinal.chunk c.in-Some.found c.loop-ordinal.invariant.free c.loop-ordinal.invariant.start c.loop-ordinal.invariant.small c.in-Some.ensures).0 in
+    let found = (next.found_n _ _ _ _ _ _ _ _ _ _ _ c.self.view_is c.self.invariant c.args.exp c.requires.least c.requires.most c.class_index-class.result c.per_area-per.result c.loop-ordinal.ordinal c.class_index-class.ensures c.per_area-per.ensures (omega arith) c.index-sized_area.result.now c.index-sized_area.ensures c.args.from c.loop-ordinal.chunk c.in-Some.found c.loop-ordinal.invariant.free c.loop-ordinal.invariant.start c.loop-ordinal.invariant.small c.in-Some.ensures).0 in
     let most = next.per_most _ _ _ _ _ _ _ _ _ _ _ c.self.view_is c.self.invariant c.args.exp c.requires.least c.requires.most c.per_area-per.result c.per_area-per.ensures in
     search rules
 
 pub returns-in-Some : goal.returns-in-Some
 returns-in-Some g c =
-    (next.found_n _ _ _ _ _ _ _ _ _ _ _ c.self.view_is c.self.invariant c.args.exp c.requires.least c.requires.most c.class_index-class.result c.per_area-per.result c.loop-ordinal.ordinal c.class_index-class.ensures c.per_area-per.ensures (omega arith) c.index-place.result.now c.index-place.ensures c.args.from c.loop-ordinal.chunk c.in-Some.found c.loop-ordinal.invariant.free c.loop-ordinal.invariant.start c.loop-ordinal.invariant.small c.in-Some.ensures).1
+    (next.found_n _ _ _ _ _ _ _ _ _ _ _ c.self.view_is c.self.invariant c.args.exp c.requires.least c.requires.most c.class_index-class.result c.per_area-per.result c.loop-ordinal.ordinal c.class_index-class.ensures c.per_area-per.ensures (omega arith) c.index-sized_area.result.now c.index-sized_area.ensures c.args.from c.loop-ordinal.chunk c.in-Some.found c.loop-ordinal.invariant.free c.loop-ordinal.invariant.start c.loop-ordinal.invariant.small c.in-Some.ensures).1
 
 pub loop-ordinal-preserved : goal.loop-ordinal-preserved
 loop-ordinal-preserved g c =
@@ -44,7 +44,7 @@ loop-ordinal-preserved g c =
     let small = c.loop-ordinal.invariant.small in
     let m = add-mul c.loop-ordinal.ordinal 1 c.per_area-per.result in
     record {
-      free = next.none_n _ _ _ _ _ _ _ _ _ _ _ c.self.view_is c.self.invariant c.args.exp c.requires.least c.requires.most c.class_index-class.result c.per_area-per.result c.loop-ordinal.ordinal c.class_index-class.ensures c.per_area-per.ensures (omega arith) c.index-place.result.now c.index-place.ensures c.args.from c.loop-ordinal.chunk c.loop-ordinal.invariant.free c.loop-ordinal.invariant.small c.in_default.ensures;
+      free = next.none_n _ _ _ _ _ _ _ _ _ _ _ c.self.view_is c.self.invariant c.args.exp c.requires.least c.requires.most c.class_index-class.result c.per_area-per.result c.loop-ordinal.ordinal c.class_index-class.ensures c.per_area-per.ensures (omega arith) c.index-sized_area.result.now c.index-sized_area.ensures c.args.from c.loop-ordinal.chunk c.loop-ordinal.invariant.free c.loop-ordinal.invariant.small c.in_default.ensures;
       start = omega arith;
       small = next.per_least _ _ _ _ _ _ _ _ _ _ _ c.self.view_is c.self.invariant c.args.exp c.requires.least c.requires.most c.per_area-per.result c.per_area-per.ensures;
     }

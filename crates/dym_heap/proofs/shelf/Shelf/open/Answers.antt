@@ -14,11 +14,11 @@ invariant_of-result g c =
 pub returns-clause-opened : goal.returns-clause-opened
 returns-clause-opened g c = opened _ _ _ _ _ _ (no_starts _ refl) c.in-Ok-with_capacity.ensures.items c.requires.nothing_held
 
-pub returns-clause-kept : goal.returns-clause-kept
-returns-clause-kept g c =
+pub returns-clause-valid_shelf : goal.returns-clause-valid_shelf
+returns-clause-valid_shelf g c =
     let q = c.quota-quota.ensures in
     let fits = c.in-Ok-with_capacity.ensures.capacity in
-    let enough : g.S.Supply.quota_of c.args.supply ≤ vec_capacity c.in-Ok-with_capacity.places = omega arith in
-    let shelf = no_areas _ _ _ _ c.in-Ok-with_capacity.places.items c.in-Ok.full.items _ _ _ (no_starts _ refl) c.in-Ok-with_capacity.ensures.items c.in-Ok.ensures c.requires.nothing_held c.requires.least c.requires.most enough
+    let enough : g.S.Supply.quota_of c.args.supply ≤ vec_capacity c.in-Ok-with_capacity.sized_areas = omega arith in
+    let shelf = no_areas _ _ _ _ c.in-Ok-with_capacity.sized_areas.items c.in-Ok.full.items _ _ _ (no_starts _ refl) c.in-Ok-with_capacity.ensures.items c.in-Ok.ensures c.requires.nothing_held c.requires.least c.requires.most enough
     (subst (λ n. HasTables c.args.version n 0 (vec_len c.in-Ok-tables.spare) (vec_capacity c.in-Ok-tables.spare)) q c.in-Ok-tables.ensures) in
     is_kept _ _ _ _ _ _ _ _ _ _ shelf.arranged shelf.supplied

@@ -6,8 +6,8 @@ use Rattle.dym_heap.proofs.shelf.Shelf.release.Goals as goal
 pub returns-in_default-clause-used : goal.returns-in_default-clause-used
 returns-in_default-clause-used g c = sym (ap is_some (calls.past_e _ _ _ _ _ _ _ _ _ _ _ c.self.view_is c.self.invariant c.args.exp c.requires.least c.requires.most c.args.index c.in_default.ensures))
 
-pub returns-in_default-clause-kept : goal.returns-in_default-clause-kept
-returns-in_default-clause-kept g c = facts.kept_s _ _ _ _ _ _ _ _ _ _ _ c.self.view_is c.self.invariant
+pub returns-in_default-clause-valid_shelf : goal.returns-in_default-clause-valid_shelf
+returns-in_default-clause-valid_shelf g c = facts.kept_s _ _ _ _ _ _ _ _ _ _ _ c.self.view_is c.self.invariant
 
 pub index-requires : goal.index-requires
 index-requires g c =
@@ -19,33 +19,33 @@ is_used-requires g c = calls.inside_e _ _ _ _ _ _ _ _ _ _ _ c.self.view_is c.sel
 pub returns-then-not-is_used-clause-used : goal.returns-then-not-is_used-clause-used
 returns-then-not-is_used-clause-used g c = c.if-not-is_used.ensures ∙ sym (ap is_some (calls.chunk_i _ _ _ _ _ _ _ _ _ _ _ c.self.view_is c.self.invariant c.args.exp c.requires.least c.requires.most _ _ _ (calls.spot_e _ _ _ _ _ _ _ _ _ _ _ c.self.view_is c.self.invariant c.args.exp c.requires.least c.requires.most c.args.index _ _ _ c.in-Some.ensures) _ c.index.ensures c.args.index (calls.index_e _ _ _ _ _ _ _ _ _ _ _ c.self.view_is c.self.invariant c.args.exp c.requires.least c.requires.most c.args.index _ _ _ c.in-Some.ensures)))
 
-pub returns-then-not-is_used-clause-kept : goal.returns-then-not-is_used-clause-kept
-returns-then-not-is_used-clause-kept g c = facts.kept_s _ _ _ _ _ _ _ _ _ _ _ c.self.view_is c.self.invariant
+pub returns-then-not-is_used-clause-valid_shelf : goal.returns-then-not-is_used-clause-valid_shelf
+returns-then-not-is_used-clause-valid_shelf g c = facts.kept_s _ _ _ _ _ _ _ _ _ _ _ c.self.view_is c.self.invariant
 
 pub returns-clause-used : goal.returns-clause-used
 returns-clause-used g c = c.if-not-is_used.ensures ∙ sym (ap is_some (calls.chunk_i _ _ _ _ _ _ _ _ _ _ _ c.self.view_is c.self.invariant c.args.exp c.requires.least c.requires.most _ _ _ (calls.spot_e _ _ _ _ _ _ _ _ _ _ _ c.self.view_is c.self.invariant c.args.exp c.requires.least c.requires.most c.args.index _ _ _ c.in-Some.ensures) _ c.index.ensures c.args.index (calls.index_e _ _ _ _ _ _ _ _ _ _ _ c.self.view_is c.self.invariant c.args.exp c.requires.least c.requires.most c.args.index _ _ _ c.in-Some.ensures)))
 
-pub index_mut-place-requires : goal.index_mut-place-requires
-index_mut-place-requires g c =
+pub index_mut-sized_area-requires : goal.index_mut-sized_area-requires
+index_mut-sized_area-requires g c =
     let l = calls.in_e_at _ _ _ _ _ _ _ _ _ _ _ c.self.view_is c.self.invariant c.args.exp c.requires.least c.requires.most c.args.index _ _ _ c.in-Some.ensures in omega arith
 
 pub release-requires : goal.release-requires
-release-requires g c = subst IsSome (calls.chunk_i _ _ _ _ _ _ _ _ _ _ _ c.self.view_is c.self.invariant c.args.exp c.requires.least c.requires.most _ _ _ (calls.spot_e _ _ _ _ _ _ _ _ _ _ _ c.self.view_is c.self.invariant c.args.exp c.requires.least c.requires.most c.args.index _ _ _ c.in-Some.ensures) _ c.index_mut-place.ensures.value c.args.index (calls.index_e _ _ _ _ _ _ _ _ _ _ _ c.self.view_is c.self.invariant c.args.exp c.requires.least c.requires.most c.args.index _ _ _ c.in-Some.ensures)) (sym (c.if-not-is_used.ensures ∙ sym (ap is_some (calls.chunk_i _ _ _ _ _ _ _ _ _ _ _ c.self.view_is c.self.invariant c.args.exp c.requires.least c.requires.most _ _ _ (calls.spot_e _ _ _ _ _ _ _ _ _ _ _ c.self.view_is c.self.invariant c.args.exp c.requires.least c.requires.most c.args.index _ _ _ c.in-Some.ensures) _ c.index.ensures c.args.index (calls.index_e _ _ _ _ _ _ _ _ _ _ _ c.self.view_is c.self.invariant c.args.exp c.requires.least c.requires.most c.args.index _ _ _ c.in-Some.ensures)))))
+release-requires g c = subst IsSome (calls.chunk_i _ _ _ _ _ _ _ _ _ _ _ c.self.view_is c.self.invariant c.args.exp c.requires.least c.requires.most _ _ _ (calls.spot_e _ _ _ _ _ _ _ _ _ _ _ c.self.view_is c.self.invariant c.args.exp c.requires.least c.requires.most c.args.index _ _ _ c.in-Some.ensures) _ c.index_mut-sized_area.ensures.value c.args.index (calls.index_e _ _ _ _ _ _ _ _ _ _ _ c.self.view_is c.self.invariant c.args.exp c.requires.least c.requires.most c.args.index _ _ _ c.in-Some.ensures)) (sym (c.if-not-is_used.ensures ∙ sym (ap is_some (calls.chunk_i _ _ _ _ _ _ _ _ _ _ _ c.self.view_is c.self.invariant c.args.exp c.requires.least c.requires.most _ _ _ (calls.spot_e _ _ _ _ _ _ _ _ _ _ _ c.self.view_is c.self.invariant c.args.exp c.requires.least c.requires.most c.args.index _ _ _ c.in-Some.ensures) _ c.index.ensures c.args.index (calls.index_e _ _ _ _ _ _ _ _ _ _ _ c.self.view_is c.self.invariant c.args.exp c.requires.least c.requires.most c.args.index _ _ _ c.in-Some.ensures)))))
 
 pub clear-requires : goal.clear-requires
-clear-requires g c = calls.few_e _ _ _ _ _ _ _ _ _ _ _ c.self.view_is c.self.invariant c.args.exp c.requires.least c.requires.most _ _ _ (calls.spot_e _ _ _ _ _ _ _ _ _ _ _ c.self.view_is c.self.invariant c.args.exp c.requires.least c.requires.most c.args.index _ _ _ c.in-Some.ensures) _ c.index_mut-place.ensures.value
+clear-requires g c = calls.few_e _ _ _ _ _ _ _ _ _ _ _ c.self.view_is c.self.invariant c.args.exp c.requires.least c.requires.most _ _ _ (calls.spot_e _ _ _ _ _ _ _ _ _ _ _ c.self.view_is c.self.invariant c.args.exp c.requires.least c.requires.most c.args.index _ _ _ c.in-Some.ensures) _ c.index_mut-sized_area.ensures.value
 
 pub invariant_of-self : goal.invariant_of-self
 invariant_of-self g c =
-    (calls.released _ _ _ _ _ _ _ _ _ _ _ c.self.view_is c.self.invariant c.args.exp c.requires.least c.requires.most _ _ _ (calls.spot_e _ _ _ _ _ _ _ _ _ _ _ c.self.view_is c.self.invariant c.args.exp c.requires.least c.requires.most c.args.index _ _ _ c.in-Some.ensures) _ c.index_mut-place.ensures.value _ _ c.args.index (calls.index_e _ _ _ _ _ _ _ _ _ _ _ c.self.view_is c.self.invariant c.args.exp c.requires.least c.requires.most c.args.index _ _ _ c.in-Some.ensures) c.release.ensures.freed c.release.ensures.lawful
-    (calls.marks_written _ (c.args.exp - 5) _ c.in-Some.spot.ordinal _ _ false c.class_index.ensures c.index_mut-marks.ensures.value (calls.full_in _ _ _ _ _ _ _ _ _ _ _ c.self.view_is c.self.invariant c.args.exp c.requires.least c.requires.most _ c.class_index.ensures) c.clear.ensures.after)).shelf
+    (calls.released _ _ _ _ _ _ _ _ _ _ _ c.self.view_is c.self.invariant c.args.exp c.requires.least c.requires.most _ _ _ (calls.spot_e _ _ _ _ _ _ _ _ _ _ _ c.self.view_is c.self.invariant c.args.exp c.requires.least c.requires.most c.args.index _ _ _ c.in-Some.ensures) _ c.index_mut-sized_area.ensures.value _ _ c.args.index (calls.index_e _ _ _ _ _ _ _ _ _ _ _ c.self.view_is c.self.invariant c.args.exp c.requires.least c.requires.most c.args.index _ _ _ c.in-Some.ensures) c.release.ensures.freed c.release.ensures.valid
+    (calls.marks_written _ (c.args.exp - 5) _ c.in-Some.location.ordinal _ _ false c.class_index.ensures c.index_mut-marks.ensures.value (calls.full_in _ _ _ _ _ _ _ _ _ _ _ c.self.view_is c.self.invariant c.args.exp c.requires.least c.requires.most _ c.class_index.ensures) c.clear.ensures.after)).shelf
 
 pub returns-clause-freed : goal.returns-clause-freed
 returns-clause-freed g c =
-    (calls.released _ _ _ _ _ _ _ _ _ _ _ c.self.view_is c.self.invariant c.args.exp c.requires.least c.requires.most _ _ _ (calls.spot_e _ _ _ _ _ _ _ _ _ _ _ c.self.view_is c.self.invariant c.args.exp c.requires.least c.requires.most c.args.index _ _ _ c.in-Some.ensures) _ c.index_mut-place.ensures.value _ _ c.args.index (calls.index_e _ _ _ _ _ _ _ _ _ _ _ c.self.view_is c.self.invariant c.args.exp c.requires.least c.requires.most c.args.index _ _ _ c.in-Some.ensures) c.release.ensures.freed c.release.ensures.lawful
-    (calls.marks_written _ (c.args.exp - 5) _ c.in-Some.spot.ordinal _ _ false c.class_index.ensures c.index_mut-marks.ensures.value (calls.full_in _ _ _ _ _ _ _ _ _ _ _ c.self.view_is c.self.invariant c.args.exp c.requires.least c.requires.most _ c.class_index.ensures) c.clear.ensures.after)).gives
+    (calls.released _ _ _ _ _ _ _ _ _ _ _ c.self.view_is c.self.invariant c.args.exp c.requires.least c.requires.most _ _ _ (calls.spot_e _ _ _ _ _ _ _ _ _ _ _ c.self.view_is c.self.invariant c.args.exp c.requires.least c.requires.most c.args.index _ _ _ c.in-Some.ensures) _ c.index_mut-sized_area.ensures.value _ _ c.args.index (calls.index_e _ _ _ _ _ _ _ _ _ _ _ c.self.view_is c.self.invariant c.args.exp c.requires.least c.requires.most c.args.index _ _ _ c.in-Some.ensures) c.release.ensures.freed c.release.ensures.valid
+    (calls.marks_written _ (c.args.exp - 5) _ c.in-Some.location.ordinal _ _ false c.class_index.ensures c.index_mut-marks.ensures.value (calls.full_in _ _ _ _ _ _ _ _ _ _ _ c.self.view_is c.self.invariant c.args.exp c.requires.least c.requires.most _ c.class_index.ensures) c.clear.ensures.after)).gives
 
-pub returns-clause-kept : goal.returns-clause-kept
-returns-clause-kept g c =
-    (calls.released _ _ _ _ _ _ _ _ _ _ _ c.self.view_is c.self.invariant c.args.exp c.requires.least c.requires.most _ _ _ (calls.spot_e _ _ _ _ _ _ _ _ _ _ _ c.self.view_is c.self.invariant c.args.exp c.requires.least c.requires.most c.args.index _ _ _ c.in-Some.ensures) _ c.index_mut-place.ensures.value _ _ c.args.index (calls.index_e _ _ _ _ _ _ _ _ _ _ _ c.self.view_is c.self.invariant c.args.exp c.requires.least c.requires.most c.args.index _ _ _ c.in-Some.ensures) c.release.ensures.freed c.release.ensures.lawful
-    (calls.marks_written _ (c.args.exp - 5) _ c.in-Some.spot.ordinal _ _ false c.class_index.ensures c.index_mut-marks.ensures.value (calls.full_in _ _ _ _ _ _ _ _ _ _ _ c.self.view_is c.self.invariant c.args.exp c.requires.least c.requires.most _ c.class_index.ensures) c.clear.ensures.after)).kept
+pub returns-clause-valid_shelf : goal.returns-clause-valid_shelf
+returns-clause-valid_shelf g c =
+    (calls.released _ _ _ _ _ _ _ _ _ _ _ c.self.view_is c.self.invariant c.args.exp c.requires.least c.requires.most _ _ _ (calls.spot_e _ _ _ _ _ _ _ _ _ _ _ c.self.view_is c.self.invariant c.args.exp c.requires.least c.requires.most c.args.index _ _ _ c.in-Some.ensures) _ c.index_mut-sized_area.ensures.value _ _ c.args.index (calls.index_e _ _ _ _ _ _ _ _ _ _ _ c.self.view_is c.self.invariant c.args.exp c.requires.least c.requires.most c.args.index _ _ _ c.in-Some.ensures) c.release.ensures.freed c.release.ensures.valid
+    (calls.marks_written _ (c.args.exp - 5) _ c.in-Some.location.ordinal _ _ false c.class_index.ensures c.index_mut-marks.ensures.value (calls.full_in _ _ _ _ _ _ _ _ _ _ _ c.self.view_is c.self.invariant c.args.exp c.requires.least c.requires.most _ c.class_index.ensures) c.clear.ensures.after)).valid_shelf

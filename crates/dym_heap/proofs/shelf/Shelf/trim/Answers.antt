@@ -4,12 +4,12 @@ use Rattle.dym_heap.proofs.shelf.Shelf.trim.Goals as goal
 
 pub loop-self-init : goal.loop-self-init
 loop-self-init g c = record {
-  cuts = cuts_none _ _ (let n = c.requires.kept.classes in omega arith);
-  kept = c.requires.kept;
+  cuts = cuts_none _ _ (let n = c.requires.valid_shelf.classes in omega arith);
+  valid_shelf = c.requires.valid_shelf;
 }
 
 pub loop-self-preserved : goal.loop-self-preserved
 loop-self-preserved g c = record {
-  cuts = cuts_more _ _ _ _ _ (let n = c.requires.kept.classes in omega arith) c.loop-self.invariant.cuts c.loop-self-test.ensures c.drop_area.ensures.dropped;
-  kept = c.drop_area.ensures.kept;
+  cuts = cuts_more _ _ _ _ _ (let n = c.requires.valid_shelf.classes in omega arith) c.loop-self.invariant.cuts c.loop-self-test.ensures c.drop_area.ensures.dropped;
+  valid_shelf = c.drop_area.ensures.valid_shelf;
 }

@@ -7,22 +7,22 @@ use Rattle.dym_heap.proofs.shelf.Shelf.write.Goals as goal
 pub unreachable-requires : goal.unreachable-requires
 unreachable-requires g c = calls.not_past _ _ _ _ _ _ _ _ _ _ _ c.self.view_is c.self.invariant c.args.exp c.requires.least c.requires.most c.args.index (calls.some_fits _ _ c.requires.within) c.in_default.ensures
 
-pub index_mut-place-requires : goal.index_mut-place-requires
-index_mut-place-requires g c =
-    let spot = calls.spot_e _ _ _ _ _ _ _ _ _ _ _ c.self.view_is c.self.invariant c.args.exp c.requires.least c.requires.most c.args.index _ _ _ c.in-Some.ensures in
+pub index_mut-sized_area-requires : goal.index_mut-sized_area-requires
+index_mut-sized_area-requires g c =
+    let location = calls.spot_e _ _ _ _ _ _ _ _ _ _ _ c.self.view_is c.self.invariant c.args.exp c.requires.least c.requires.most c.args.index _ _ _ c.in-Some.ensures in
     let l = calls.in_e_at _ _ _ _ _ _ _ _ _ _ _ c.self.view_is c.self.invariant c.args.exp c.requires.least c.requires.most c.args.index _ _ _ c.in-Some.ensures in omega arith
 
 pub write-requires-clause-within : goal.write-requires-clause-within
-write-requires-clause-within g c = subst (λ o. FitsIn o (c.args.at + length c.args.bytes.now)) (calls.chunk_i _ _ _ _ _ _ _ _ _ _ _ c.self.view_is c.self.invariant c.args.exp c.requires.least c.requires.most _ _ _ (calls.spot_e _ _ _ _ _ _ _ _ _ _ _ c.self.view_is c.self.invariant c.args.exp c.requires.least c.requires.most c.args.index _ _ _ c.in-Some.ensures) _ c.index_mut-place.ensures.value c.args.index (calls.index_e _ _ _ _ _ _ _ _ _ _ _ c.self.view_is c.self.invariant c.args.exp c.requires.least c.requires.most c.args.index _ _ _ c.in-Some.ensures)) c.requires.within
+write-requires-clause-within g c = subst (λ o. FitsIn o (c.args.at + length c.args.bytes.now)) (calls.chunk_i _ _ _ _ _ _ _ _ _ _ _ c.self.view_is c.self.invariant c.args.exp c.requires.least c.requires.most _ _ _ (calls.spot_e _ _ _ _ _ _ _ _ _ _ _ c.self.view_is c.self.invariant c.args.exp c.requires.least c.requires.most c.args.index _ _ _ c.in-Some.ensures) _ c.index_mut-sized_area.ensures.value c.args.index (calls.index_e _ _ _ _ _ _ _ _ _ _ _ c.self.view_is c.self.invariant c.args.exp c.requires.least c.requires.most c.args.index _ _ _ c.in-Some.ensures)) c.requires.within
 
 pub invariant_of-self : goal.invariant_of-self
 invariant_of-self g c =
-    (calls.changed _ _ _ _ _ _ _ _ _ _ _ c.self.view_is c.self.invariant c.args.exp c.requires.least c.requires.most _ _ _ (calls.spot_e _ _ _ _ _ _ _ _ _ _ _ c.self.view_is c.self.invariant c.args.exp c.requires.least c.requires.most c.args.index _ _ _ c.in-Some.ensures) _ c.index_mut-place.ensures.value _ c.args.index (splice c.args.at c.args.bytes.now) (calls.index_e _ _ _ _ _ _ _ _ _ _ _ c.self.view_is c.self.invariant c.args.exp c.requires.least c.requires.most c.args.index _ _ _ c.in-Some.ensures) c.write.ensures.written c.write.ensures.lawful).shelf
+    (calls.changed _ _ _ _ _ _ _ _ _ _ _ c.self.view_is c.self.invariant c.args.exp c.requires.least c.requires.most _ _ _ (calls.spot_e _ _ _ _ _ _ _ _ _ _ _ c.self.view_is c.self.invariant c.args.exp c.requires.least c.requires.most c.args.index _ _ _ c.in-Some.ensures) _ c.index_mut-sized_area.ensures.value _ c.args.index (splice c.args.at c.args.bytes.now) (calls.index_e _ _ _ _ _ _ _ _ _ _ _ c.self.view_is c.self.invariant c.args.exp c.requires.least c.requires.most c.args.index _ _ _ c.in-Some.ensures) c.write.ensures.written c.write.ensures.valid).shelf
 
 pub returns-clause-written : goal.returns-clause-written
 returns-clause-written g c =
-    (calls.changed _ _ _ _ _ _ _ _ _ _ _ c.self.view_is c.self.invariant c.args.exp c.requires.least c.requires.most _ _ _ (calls.spot_e _ _ _ _ _ _ _ _ _ _ _ c.self.view_is c.self.invariant c.args.exp c.requires.least c.requires.most c.args.index _ _ _ c.in-Some.ensures) _ c.index_mut-place.ensures.value _ c.args.index (splice c.args.at c.args.bytes.now) (calls.index_e _ _ _ _ _ _ _ _ _ _ _ c.self.view_is c.self.invariant c.args.exp c.requires.least c.requires.most c.args.index _ _ _ c.in-Some.ensures) c.write.ensures.written c.write.ensures.lawful).gives
+    (calls.changed _ _ _ _ _ _ _ _ _ _ _ c.self.view_is c.self.invariant c.args.exp c.requires.least c.requires.most _ _ _ (calls.spot_e _ _ _ _ _ _ _ _ _ _ _ c.self.view_is c.self.invariant c.args.exp c.requires.least c.requires.most c.args.index _ _ _ c.in-Some.ensures) _ c.index_mut-sized_area.ensures.value _ c.args.index (splice c.args.at c.args.bytes.now) (calls.index_e _ _ _ _ _ _ _ _ _ _ _ c.self.view_is c.self.invariant c.args.exp c.requires.least c.requires.most c.args.index _ _ _ c.in-Some.ensures) c.write.ensures.written c.write.ensures.valid).gives
 
-pub returns-clause-kept : goal.returns-clause-kept
-returns-clause-kept g c =
-    (calls.changed _ _ _ _ _ _ _ _ _ _ _ c.self.view_is c.self.invariant c.args.exp c.requires.least c.requires.most _ _ _ (calls.spot_e _ _ _ _ _ _ _ _ _ _ _ c.self.view_is c.self.invariant c.args.exp c.requires.least c.requires.most c.args.index _ _ _ c.in-Some.ensures) _ c.index_mut-place.ensures.value _ c.args.index (splice c.args.at c.args.bytes.now) (calls.index_e _ _ _ _ _ _ _ _ _ _ _ c.self.view_is c.self.invariant c.args.exp c.requires.least c.requires.most c.args.index _ _ _ c.in-Some.ensures) c.write.ensures.written c.write.ensures.lawful).kept
+pub returns-clause-valid_shelf : goal.returns-clause-valid_shelf
+returns-clause-valid_shelf g c =
+    (calls.changed _ _ _ _ _ _ _ _ _ _ _ c.self.view_is c.self.invariant c.args.exp c.requires.least c.requires.most _ _ _ (calls.spot_e _ _ _ _ _ _ _ _ _ _ _ c.self.view_is c.self.invariant c.args.exp c.requires.least c.requires.most c.args.index _ _ _ c.in-Some.ensures) _ c.index_mut-sized_area.ensures.value _ c.args.index (splice c.args.at c.args.bytes.now) (calls.index_e _ _ _ _ _ _ _ _ _ _ _ c.self.view_is c.self.invariant c.args.exp c.requires.least c.requires.most c.args.index _ _ _ c.in-Some.ensures) c.write.ensures.written c.write.ensures.valid).valid_shelf

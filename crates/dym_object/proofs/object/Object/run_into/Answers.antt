@@ -1,5 +1,5 @@
 use Rattle.std.proofs.Common.{◌≡◌, OnOk, IfErr, refl, sym, subst}
-use Rattle.dym_base.specs.Below.{below_step}
+use Rattle.dym_base.specs.BaseLogs.{base_logs_step}
 use Rattle.dym_base.specs.declared.command.Command.{Command}
 use Rattle.dym_base.specs.declared.command.Command.TheVariants.{Restore, Prune, Logs}
 use Rattle.dym_base.specs.declared.reply.Reply.TheVariants as reply
@@ -15,7 +15,7 @@ returns-in-Restore g c =
     let new : ObjectMeaning = c.restore.new.self in
     let k = c.in-Restore in
     let t = ran_by old new c.args.command.now (Restore k.time) c.of_restored.result (restored_reply c.restore.result) k.is c.of_restored.ensures c.restore.ensures.reply c.restore.ensures.step (at_restored c.restore.result (new ≡ counted old) c.restore.ensures.refused) in
-    record { reply = t.replied; after = t.after; below = t.below; ran = t.ran; memory = tt; unchanged = tt; kept = tt; refused = t.refused; heap = t.heap; origin = t.origin; whole = c.restore.ensures.whole }
+    record { reply = t.replied; after = t.after; base_logs = t.base_logs; ran = t.ran; memory = tt; unchanged = tt; kept = tt; refused = t.refused; heap = t.heap; origin = t.origin; whole = c.restore.ensures.whole }
 
 pub returns-in-Prune : goal.returns-in-Prune
 returns-in-Prune g c =
@@ -24,14 +24,14 @@ returns-in-Prune g c =
     let k = c.in-Prune in
     let r = reply.Dropped c.prune.result in
     let t = ran_by old new c.args.command.now (Prune k.bound) r r k.is refl c.prune.ensures.reply c.prune.ensures.step tt in
-    record { reply = t.replied; after = t.after; below = t.below; ran = t.ran; memory = tt; unchanged = tt; kept = tt; refused = t.refused; heap = t.heap; origin = t.origin; whole = c.prune.ensures.whole }
+    record { reply = t.replied; after = t.after; base_logs = t.base_logs; ran = t.ran; memory = tt; unchanged = tt; kept = tt; refused = t.refused; heap = t.heap; origin = t.origin; whole = c.prune.ensures.whole }
 
 pub returns-in-Logs : goal.returns-in-Logs
 returns-in-Logs g c =
     let old : ObjectMeaning = c.args.self.now in
     let new : ObjectMeaning = c.logs.new.self in
     let t = ran_by old new c.args.command.now Logs c.of_slots.result (slots_reply c.logs.result) c.in-Logs.is c.of_slots.ensures c.logs.ensures.reply c.logs.ensures.step tt in
-    record { reply = t.replied; after = t.after; below = t.below; ran = t.ran; memory = tt; unchanged = tt; kept = tt; refused = t.refused; heap = t.heap; origin = t.origin; whole = c.logs.ensures.whole }
+    record { reply = t.replied; after = t.after; base_logs = t.base_logs; ran = t.ran; memory = tt; unchanged = tt; kept = tt; refused = t.refused; heap = t.heap; origin = t.origin; whole = c.logs.ensures.whole }
 
 pub returns-in-Read : goal.returns-in-Read
 returns-in-Read g c =
@@ -41,7 +41,7 @@ returns-in-Read g c =
     record {
       reply = subst (λ (x : Command). OnOk c.read_into.result (c.read_into.new.reply ≡ (step_by old x).reply)) (sym k.is) e.reply;
       after = subst (λ (x : Command). OnOk c.read_into.result (state_of c.read_into.new.self ≡ (step_by old x).object)) (sym k.is) e.after;
-      below = subst (λ (x : Command). OnOk c.read_into.result (c.read_into.new.self.chain.below ≡ below_step old.chain.below (state_of old) x)) (sym k.is) e.below;
+      base_logs = subst (λ (x : Command). OnOk c.read_into.result (c.read_into.new.self.chain.base_logs ≡ base_logs_step old.chain.base_logs (state_of old) x)) (sym k.is) e.base_logs;
       ran = e.ran;
       memory = subst (λ (x : Command). IfErr c.read_into.result (λ _. TakesMemory x (step_by old x).reply)) (sym k.is) e.memory;
       unchanged = e.unchanged;
@@ -60,7 +60,7 @@ returns-in-Log g c =
     record {
       reply = subst (λ (x : Command). OnOk c.log_into.result (c.log_into.new.reply ≡ (step_by old x).reply)) (sym k.is) e.reply;
       after = subst (λ (x : Command). OnOk c.log_into.result (state_of c.log_into.new.self ≡ (step_by old x).object)) (sym k.is) e.after;
-      below = subst (λ (x : Command). OnOk c.log_into.result (c.log_into.new.self.chain.below ≡ below_step old.chain.below (state_of old) x)) (sym k.is) e.below;
+      base_logs = subst (λ (x : Command). OnOk c.log_into.result (c.log_into.new.self.chain.base_logs ≡ base_logs_step old.chain.base_logs (state_of old) x)) (sym k.is) e.base_logs;
       ran = e.ran;
       memory = subst (λ (x : Command). IfErr c.log_into.result (λ _. TakesMemory x (step_by old x).reply)) (sym k.is) e.memory;
       unchanged = e.unchanged;
@@ -79,7 +79,7 @@ returns-in-Ilog g c =
     record {
       reply = subst (λ (x : Command). OnOk c.log_into-in-Ilog.result (c.log_into-in-Ilog.new.reply ≡ (step_by old x).reply)) (sym k.is) e.reply;
       after = subst (λ (x : Command). OnOk c.log_into-in-Ilog.result (state_of c.log_into-in-Ilog.new.self ≡ (step_by old x).object)) (sym k.is) e.after;
-      below = subst (λ (x : Command). OnOk c.log_into-in-Ilog.result (c.log_into-in-Ilog.new.self.chain.below ≡ below_step old.chain.below (state_of old) x)) (sym k.is) e.below;
+      base_logs = subst (λ (x : Command). OnOk c.log_into-in-Ilog.result (c.log_into-in-Ilog.new.self.chain.base_logs ≡ base_logs_step old.chain.base_logs (state_of old) x)) (sym k.is) e.base_logs;
       ran = e.ran;
       memory = subst (λ (x : Command). IfErr c.log_into-in-Ilog.result (λ _. TakesMemory x (step_by old x).reply)) (sym k.is) e.memory;
       unchanged = e.unchanged;
@@ -93,4 +93,4 @@ returns-in-Ilog g c =
 pub returns-in_default : goal.returns-in_default
 returns-in_default g c =
     let e = c.step.ensures in
-    record { reply = e.reply; after = e.step.object; below = e.step.below; ran = e.step.ran; memory = tt; unchanged = tt; kept = tt; refused = e.refused; heap = e.step.heap; origin = e.step.origin; whole = e.whole }
+    record { reply = e.reply; after = e.step.object; base_logs = e.step.base_logs; ran = e.step.ran; memory = tt; unchanged = tt; kept = tt; refused = e.refused; heap = e.step.heap; origin = e.step.origin; whole = e.whole }

@@ -1,5 +1,5 @@
 use Rattle.std.proofs.Common.{length, ap, subst, sym, ◌∙◌, arith}
-use Rattle.dym_pack.specs.Reading.{IsRecord}
+use Rattle.dym_pack.specs.ParsedAreas.{IsRecord}
 use Rattle.dym_pack.proofs.Slices.{length_starts}
 use Rattle.dym_pack.proofs.record.Record.area_count.Goals as goal
 

@@ -1,7 +1,7 @@
 use Rattle.std.proofs.Common.{◌≡◌, ◌+◌, ◌-◌, ◌≤◌, length, take, drop, ap, sym, ◌∙◌, arith}
 use Rattle.dym_base.specs.Packed.{packed}
-use Rattle.dym_pack.specs.Places.{start_of}
-use Rattle.dym_pack.specs.Places.{area_head}
+use Rattle.dym_pack.specs.Offsets.{start_of}
+use Rattle.dym_pack.specs.Offsets.{area_head}
 use Rattle.dym_pack.proofs.Slices.{area_ends, body_read}
 use Rattle.dym_pack.proofs.record.Record.body.Goals as goal
 

@@ -1,6 +1,6 @@
 use Rattle.std.proofs.Common.{ap, ◌∙◌}
 use Rattle.dym_pack.specs.Areas.{area_at, chunks_of}
-use Rattle.dym_pack.specs.Reading.{packs_at}
+use Rattle.dym_pack.specs.ParsedAreas.{packs_at}
 use Rattle.dym_bits.specs.Bits.{bit_in, bits_of_bytes}
 use Rattle.dym_pack.proofs.Bitmaps.{bits_of_bitmap}
 use Rattle.dym_pack.proofs.Named.{area_is}

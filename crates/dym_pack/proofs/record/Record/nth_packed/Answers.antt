@@ -1,7 +1,7 @@
 use Rattle.std.proofs.Common.{◌≡◌, ◌+◌, ◌-◌, ◌*◌, ◌≤◌, length, take, drop, ap, sym, subst, ◌∙◌, arith}
 use Rattle.dym_base.specs.Numbers.{size}
 use Rattle.dym_pack.specs.Areas.{area_at, bytes_at}
-use Rattle.dym_pack.specs.Reading.{IsNth}
+use Rattle.dym_pack.specs.ParsedAreas.{IsNth}
 use Rattle.dym_pack.proofs.Chunks.{packable, before_chunk, nth_room_one, nth_read_one, nth_two}
 use Rattle.dym_pack.proofs.record.Record.nth_packed.Goals as goal
 

@@ -2,8 +2,8 @@ use Rattle.std.proofs.Common.{◌≡◌, true, drop, sym, subst, arith}
 use Rattle.dym_base.specs.Heaps.{held}
 use Rattle.dym_base.specs.LawfulLists.{IsRecordOf}
 use Rattle.dym_base.specs.declared.command.Kind.{Kind}
-use Rattle.dym_pack.specs.declared.of_bytes.RecordFail.{RecordFail}
-use Rattle.dym_pack.specs.declared.of_bytes.RecordFail.TheVariants.{Bad}
+use Rattle.dym_pack.specs.declared.record_parser.RecordFail.{RecordFail}
+use Rattle.dym_pack.specs.declared.record_parser.RecordFail.TheVariants.{Bad}
 use Rattle.dym_pack.specs.Contents.{AreLeft}
 use Rattle.dym_pack.proofs.Seen.{not_none}
 use Rattle.dym_pack.proofs.Written.{on_ok}

@@ -1,7 +1,7 @@
 use Rattle.std.proofs.Common.{ap, sym, ◌∙◌}
 use Rattle.dym_base.specs.Packed.{packs_by}
 use Rattle.dym_pack.specs.Areas.{chunks_of, chunk_number, is_used_at}
-use Rattle.dym_pack.specs.Reading.{packs_at}
+use Rattle.dym_pack.specs.ParsedAreas.{packs_at}
 use Rattle.dym_pack.proofs.Bitmaps.{bitmap_same}
 use Rattle.dym_pack.proofs.record.Record.packed_bytes.Goals as goal
 

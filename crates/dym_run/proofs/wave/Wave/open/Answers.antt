@@ -10,18 +10,18 @@ pub invariant_of-result : goal.invariant_of-result
 invariant_of-result g c =
     let name = c.in_ok-queue.queue.name in
     let berths = c.in_ok-queue.berths.items in
-    let turned = c.reversed.ensures.items in
+    let turned = c.in_order_reversed.ensures.items in
     let it = c.in_ok-queue.ensures in
     let count = sym (length-map berths (λ b. b.quota)) ∙ ap length it.quotas in
     let stocked = ap length it.stocked ∙ length-take-le (sum c.args.quotas.now) (map ghosts.id c.args.segments.items)
     (omega (arith, c.requires.enough, c.args.segments.ok.0, length-map c.args.segments.items ghosts.id)) in
     record {
-      idle = all_reversed (IsIdleBerth name) berths c.reversed.result.items turned (λ k d w. (one_name _ name (it.origin k d w), it.nothing_held k d w));
-      some_quota = all_reversed (λ b. (1 ≤ b.quota) × (b.quota ≤ MOST_QUOTA)) berths c.reversed.result.items turned
+      idle = all_reversed (IsIdleBerth name) berths c.in_order_reversed.result.items turned (λ k d w. (one_name _ name (it.origin k d w), it.nothing_held k d w));
+      some_quota = all_reversed (λ b. (1 ≤ b.quota) × (b.quota ≤ MOST_QUOTA)) berths c.in_order_reversed.result.items turned
           (all_images (λ b. b.quota) (λ q. (1 ≤ q) × (q ≤ MOST_QUOTA)) berths c.args.quotas.now it.quotas c.requires.each_quota);
-      all = omega (arith, sum_reversed (λ b. b.quota) berths c.reversed.result.items c.args.quotas.now turned it.quotas, stocked);
-      few = omega (arith, c.requires.few, count, c.reversed.ensures.len, c.in_ok-queue.berths.ok.0);
+      all = omega (arith, sum_reversed (λ b. b.quota) berths c.in_order_reversed.result.items c.args.quotas.now turned it.quotas, stocked);
+      few = omega (arith, c.requires.few, count, c.in_order_reversed.ensures.len, c.in_ok-queue.berths.ok.0);
     }
 
 pub returns-clause-quotas : goal.returns-clause-quotas
-returns-clause-quotas g c = map_reversed (λ b. b.quota) c.in_ok-queue.berths.items c.reversed.result.items c.args.quotas.now c.reversed.ensures.items c.in_ok-queue.ensures.quotas
+returns-clause-quotas g c = map_reversed (λ b. b.quota) c.in_ok-queue.berths.items c.in_order_reversed.result.items c.args.quotas.now c.in_order_reversed.ensures.items c.in_ok-queue.ensures.quotas

@@ -7,39 +7,39 @@ use Rattle.std.proofs.lemmas.List.Sorted.{IsPermutation-reverse, sum_by-IsPermut
 use Rattle.dym_base.specs.Origins.{shared}
 use Rattle.dym_quota.specs.Berths.{IsIdleBerth}
 use Rattle.dym_quota.specs.declared.berth.Berth.{Berth}
-use Rattle.dym_views.specs.Watches.{end_view}
+use Rattle.dym_views.specs.ViewedWorkMeanings.{end_view}
 use Rattle.dym_wave.specs.Waves.{AreSweptBy}
 use Rattle.dym_wave.specs.Works.{WorkMeaning}
-use Rattle.dym_run.specs.Boardings.{Boards}
-use Rattle.dym_run.specs.Ends.{IsFresh, end_views}
-use Rattle.dym_run.specs.Places.{names_at, works_at, sweepers_at, berths_at, ComesOf}
+use Rattle.dym_run.specs.JobLists.{TakesParts}
+use Rattle.dym_run.specs.Results.{IsFresh, end_views}
+use Rattle.dym_run.specs.WaveParts.{names_at, works_at, sweepers_at, berths_at, ComesOf}
 use Rattle.dym_run.proofs.Berths.{all_reversed}
 use Rattle.dym_run.proofs.Berthing.{stand_over, boards_named, boarded_viewed, aboard_many, aboard_supplies, aboard_numbered, aboard_quotas, left_many, left_supplies, left_quotas, came_of, can_open, all_opened, behind_none, taken_many}
 use Rattle.dym_run.proofs.Crews.{none_left}
 use Rattle.dym_run.proofs.Seen.{from, from_same, seen_from}
 use Rattle.dym_run.proofs.wave.Wave.view_all.Goals as goal
 
-pub open_places-requires-clause-wait : goal.open_places-requires-clause-wait
-open_places-requires-clause-wait g c κs within =
+pub open_wave_parts-requires-clause-wait : goal.open_wave_parts-requires-clause-wait
+open_wave_parts-requires-clause-wait g c κs within =
     let old = c.args.self in
     let name = old.queue.name in
-    let it = c.in-Ok-take_places.ensures in
-    can_open c.args.version c.args.shape.quantum 0 _ _ old.berths.items _ it.places name old.idle old.some_quota
+    let it = c.in-Ok-take_wave_parts.ensures in
+    can_open c.args.version c.args.shape.quantum 0 _ _ old.berths.items _ it.wave_parts name old.idle old.some_quota
 
-pub leave_places-requires : goal.leave_places-requires
-leave_places-requires g c =
+pub leave_wave_parts-requires : goal.leave_wave_parts-requires
+leave_wave_parts-requires g c =
     let old = c.args.self in
     let name = old.queue.name in
-    let it = c.in-Ok-take_places.ensures in
+    let it = c.in-Ok-take_wave_parts.ensures in
     let room = c.in-Ok.room in
-    let many : vec_len c.open_places.new.places ≡ vec_len old.berths = omega (
+    let many : vec_len c.open_wave_parts.new.wave_parts ≡ vec_len old.berths = omega (
       arith,
-      taken_many _ _ _ old.berths.items _ it.places,
-      length_all_zip (ComesOf c.args.version c.args.shape.quantum) _ _ c.open_places.ensures.opens,
-      c.open_places.new.places.ok.0,
+      taken_many _ _ _ old.berths.items _ it.wave_parts,
+      length_all_zip (ComesOf c.args.version c.args.shape.quantum) _ _ c.open_wave_parts.ensures.opens,
+      c.open_wave_parts.new.wave_parts.ok.0,
       old.berths.ok.0,
     ) in
-    let none : vec_len c.take_places.new.berths ≡ 0 = omega (arith, ap {B = ℕ} length it.none, c.take_places.new.berths.ok.0) in
+    let none : vec_len c.take_wave_parts.new.berths ≡ 0 = omega (arith, ap {B = ℕ} length it.none, c.take_wave_parts.new.berths.ok.0) in
     record {
       room = (
         omega (arith, old.berths.ok.1, many, none, it.room),
@@ -53,13 +53,13 @@ pub close_all-requires-then-not-is_empty-clause-room : goal.close_all-requires-t
 close_all-requires-then-not-is_empty-clause-room g c =
     let old = c.args.self in
     let name = old.queue.name in
-    let it = c.in-Ok-take_places.ensures in
-    let after = c.open_places.new.places.items in
-    let put = c.leave_places.ensures in
-    let came = came_of c.args.version c.args.shape.quantum 0 _ _ old.berths.items _ it.places after c.open_places.ensures.opens in
-    let back = c.leave_places.new.berths in
-    let works = c.leave_places.new.works in
-    let of_berths = behind_none c.take_places.new.berths.items back.items (flat_map berths_at after) it.none put.berths in
+    let it = c.in-Ok-take_wave_parts.ensures in
+    let after = c.open_wave_parts.new.wave_parts.items in
+    let put = c.leave_wave_parts.ensures in
+    let came = came_of c.args.version c.args.shape.quantum 0 _ _ old.berths.items _ it.wave_parts after c.open_wave_parts.ensures.opens in
+    let back = c.leave_wave_parts.new.berths in
+    let works = c.leave_wave_parts.new.works in
+    let of_berths = behind_none c.take_wave_parts.new.berths.items back.items (flat_map berths_at after) it.none put.berths in
     let of_works = behind_none c.in-Ok.room.works.items works.items (flat_map works_at after) c.in-Ok.ensures.works.0 put.works in
     omega (
       arith,
@@ -79,13 +79,13 @@ pub close_all-requires-then-not-is_empty-clause-idle : goal.close_all-requires-t
 close_all-requires-then-not-is_empty-clause-idle g c =
     let old = c.args.self in
     let name = old.queue.name in
-    let it = c.in-Ok-take_places.ensures in
-    let after = c.open_places.new.places.items in
-    let put = c.leave_places.ensures in
-    let came = came_of c.args.version c.args.shape.quantum 0 _ _ old.berths.items _ it.places after c.open_places.ensures.opens in
-    let back = c.leave_places.new.berths in
-    let works = c.leave_places.new.works in
-    let of_berths = behind_none c.take_places.new.berths.items back.items (flat_map berths_at after) it.none put.berths in
+    let it = c.in-Ok-take_wave_parts.ensures in
+    let after = c.open_wave_parts.new.wave_parts.items in
+    let put = c.leave_wave_parts.ensures in
+    let came = came_of c.args.version c.args.shape.quantum 0 _ _ old.berths.items _ it.wave_parts after c.open_wave_parts.ensures.opens in
+    let back = c.leave_wave_parts.new.berths in
+    let works = c.leave_wave_parts.new.works in
+    let of_berths = behind_none c.take_wave_parts.new.berths.items back.items (flat_map berths_at after) it.none put.berths in
     let of_works = behind_none c.in-Ok.room.works.items works.items (flat_map works_at after) c.in-Ok.ensures.works.0 put.works in
     All-same (IsIdleBerth name) back.items _ of_berths (came.idle name (all_reversed (IsIdleBerth name) old.berths.items _ refl old.idle))
 
@@ -93,13 +93,13 @@ pub close_all-requires-then-not-is_empty-clause-of_queue : goal.close_all-requir
 close_all-requires-then-not-is_empty-clause-of_queue g c =
     let old = c.args.self in
     let name = old.queue.name in
-    let it = c.in-Ok-take_places.ensures in
-    let after = c.open_places.new.places.items in
-    let put = c.leave_places.ensures in
-    let came = came_of c.args.version c.args.shape.quantum 0 _ _ old.berths.items _ it.places after c.open_places.ensures.opens in
-    let back = c.leave_places.new.berths in
-    let works = c.leave_places.new.works in
-    let of_berths = behind_none c.take_places.new.berths.items back.items (flat_map berths_at after) it.none put.berths in
+    let it = c.in-Ok-take_wave_parts.ensures in
+    let after = c.open_wave_parts.new.wave_parts.items in
+    let put = c.leave_wave_parts.ensures in
+    let came = came_of c.args.version c.args.shape.quantum 0 _ _ old.berths.items _ it.wave_parts after c.open_wave_parts.ensures.opens in
+    let back = c.leave_wave_parts.new.berths in
+    let works = c.leave_wave_parts.new.works in
+    let of_berths = behind_none c.take_wave_parts.new.berths.items back.items (flat_map berths_at after) it.none put.berths in
     let of_works = behind_none c.in-Ok.room.works.items works.items (flat_map works_at after) c.in-Ok.ensures.works.0 put.works in
     All-same (λ (w : WorkMeaning). w.origin.supply ≡ shared name) works.items _ of_works (came.queue name (all_reversed (IsIdleBerth name) old.berths.items _ refl old.idle))
 
@@ -107,13 +107,13 @@ pub close_all-requires-then-not-is_empty-clause-all : goal.close_all-requires-th
 close_all-requires-then-not-is_empty-clause-all g c =
     let old = c.args.self in
     let name = old.queue.name in
-    let it = c.in-Ok-take_places.ensures in
-    let after = c.open_places.new.places.items in
-    let put = c.leave_places.ensures in
-    let came = came_of c.args.version c.args.shape.quantum 0 _ _ old.berths.items _ it.places after c.open_places.ensures.opens in
-    let back = c.leave_places.new.berths in
-    let works = c.leave_places.new.works in
-    let of_berths = behind_none c.take_places.new.berths.items back.items (flat_map berths_at after) it.none put.berths in
+    let it = c.in-Ok-take_wave_parts.ensures in
+    let after = c.open_wave_parts.new.wave_parts.items in
+    let put = c.leave_wave_parts.ensures in
+    let came = came_of c.args.version c.args.shape.quantum 0 _ _ old.berths.items _ it.wave_parts after c.open_wave_parts.ensures.opens in
+    let back = c.leave_wave_parts.new.berths in
+    let works = c.leave_wave_parts.new.works in
+    let of_berths = behind_none c.take_wave_parts.new.berths.items back.items (flat_map berths_at after) it.none put.berths in
     let of_works = behind_none c.in-Ok.room.works.items works.items (flat_map works_at after) c.in-Ok.ensures.works.0 put.works in
     let bq : Berth g.row.R.Denot → ℕ = λ b. b.quota in
     let wq : WorkMeaning → ℕ = λ w. w.origin.quota in
@@ -131,17 +131,17 @@ pub run_viewed-works-requires-clause-few : goal.run_viewed-works-requires-clause
 run_viewed-works-requires-clause-few g c κs within =
     let old = c.args.self in
     let name = old.queue.name in
-    let it = c.in-Ok-take_places.ensures in
-    let after = c.open_places.new.places.items in
-    let put = c.leave_places.ensures in
-    let came = came_of c.args.version c.args.shape.quantum 0 _ _ old.berths.items _ it.places after c.open_places.ensures.opens in
-    let back = c.leave_places.new.berths in
-    let works = c.leave_places.new.works in
-    let of_berths = behind_none c.take_places.new.berths.items back.items (flat_map berths_at after) it.none put.berths in
+    let it = c.in-Ok-take_wave_parts.ensures in
+    let after = c.open_wave_parts.new.wave_parts.items in
+    let put = c.leave_wave_parts.ensures in
+    let came = came_of c.args.version c.args.shape.quantum 0 _ _ old.berths.items _ it.wave_parts after c.open_wave_parts.ensures.opens in
+    let back = c.leave_wave_parts.new.berths in
+    let works = c.leave_wave_parts.new.works in
+    let of_berths = behind_none c.take_wave_parts.new.berths.items back.items (flat_map berths_at after) it.none put.berths in
     let of_works = behind_none c.in-Ok.room.works.items works.items (flat_map works_at after) c.in-Ok.ensures.works.0 put.works in
-    let of_names = behind_none c.in-Ok.room.names.items c.leave_places.new.names.items (flat_map names_at after) c.in-Ok.ensures.names.0 put.names in
+    let of_names = behind_none c.in-Ok.room.names.items c.leave_wave_parts.new.names.items (flat_map names_at after) c.in-Ok.ensures.names.0 put.names in
     let none = none_left back.items (grind (arith, nat_tests, c.is_empty.ensures, c.if-not-is_empty.false, back.ok.0)) in
-    let opened = all_opened c.args.version c.args.shape.quantum _ _ old.berths.items _ after c.leave_places.new.names.items works.items it.places c.open_places.ensures.opens (sym of_berths ∙ none) of_names of_works in
+    let opened = all_opened c.args.version c.args.shape.quantum _ _ old.berths.items _ after c.leave_wave_parts.new.names.items works.items it.wave_parts c.open_wave_parts.ensures.opens (sym of_berths ∙ none) of_names of_works in
     let over = stand_over c.args.version _ _ old.berths.items _ (map from works.items) opened name old.idle in
     omega (arith, old.few, over.many, length-map works.items from, works.ok.0, old.berths.ok.0)
 
@@ -149,17 +149,17 @@ pub run_viewed-works-requires-clause-numbered : goal.run_viewed-works-requires-c
 run_viewed-works-requires-clause-numbered g c κs within =
     let old = c.args.self in
     let name = old.queue.name in
-    let it = c.in-Ok-take_places.ensures in
-    let after = c.open_places.new.places.items in
-    let put = c.leave_places.ensures in
-    let came = came_of c.args.version c.args.shape.quantum 0 _ _ old.berths.items _ it.places after c.open_places.ensures.opens in
-    let back = c.leave_places.new.berths in
-    let works = c.leave_places.new.works in
-    let of_berths = behind_none c.take_places.new.berths.items back.items (flat_map berths_at after) it.none put.berths in
+    let it = c.in-Ok-take_wave_parts.ensures in
+    let after = c.open_wave_parts.new.wave_parts.items in
+    let put = c.leave_wave_parts.ensures in
+    let came = came_of c.args.version c.args.shape.quantum 0 _ _ old.berths.items _ it.wave_parts after c.open_wave_parts.ensures.opens in
+    let back = c.leave_wave_parts.new.berths in
+    let works = c.leave_wave_parts.new.works in
+    let of_berths = behind_none c.take_wave_parts.new.berths.items back.items (flat_map berths_at after) it.none put.berths in
     let of_works = behind_none c.in-Ok.room.works.items works.items (flat_map works_at after) c.in-Ok.ensures.works.0 put.works in
-    let of_names = behind_none c.in-Ok.room.names.items c.leave_places.new.names.items (flat_map names_at after) c.in-Ok.ensures.names.0 put.names in
+    let of_names = behind_none c.in-Ok.room.names.items c.leave_wave_parts.new.names.items (flat_map names_at after) c.in-Ok.ensures.names.0 put.names in
     let none = none_left back.items (grind (arith, nat_tests, c.is_empty.ensures, c.if-not-is_empty.false, back.ok.0)) in
-    let opened = all_opened c.args.version c.args.shape.quantum _ _ old.berths.items _ after c.leave_places.new.names.items works.items it.places c.open_places.ensures.opens (sym of_berths ∙ none) of_names of_works in
+    let opened = all_opened c.args.version c.args.shape.quantum _ _ old.berths.items _ after c.leave_wave_parts.new.names.items works.items it.wave_parts c.open_wave_parts.ensures.opens (sym of_berths ∙ none) of_names of_works in
     let over = stand_over c.args.version _ _ old.berths.items _ (map from works.items) opened name old.idle in
     aboard_numbered from name old.berths.items [] works.items over
 
@@ -167,13 +167,13 @@ pub run_viewed-works-requires-clause-fresh : goal.run_viewed-works-requires-clau
 run_viewed-works-requires-clause-fresh g c κs within =
     let old = c.args.self in
     let name = old.queue.name in
-    let it = c.in-Ok-take_places.ensures in
-    let after = c.open_places.new.places.items in
-    let put = c.leave_places.ensures in
-    let came = came_of c.args.version c.args.shape.quantum 0 _ _ old.berths.items _ it.places after c.open_places.ensures.opens in
-    let back = c.leave_places.new.berths in
-    let works = c.leave_places.new.works in
-    let of_berths = behind_none c.take_places.new.berths.items back.items (flat_map berths_at after) it.none put.berths in
+    let it = c.in-Ok-take_wave_parts.ensures in
+    let after = c.open_wave_parts.new.wave_parts.items in
+    let put = c.leave_wave_parts.ensures in
+    let came = came_of c.args.version c.args.shape.quantum 0 _ _ old.berths.items _ it.wave_parts after c.open_wave_parts.ensures.opens in
+    let back = c.leave_wave_parts.new.berths in
+    let works = c.leave_wave_parts.new.works in
+    let of_berths = behind_none c.take_wave_parts.new.berths.items back.items (flat_map berths_at after) it.none put.berths in
     let of_works = behind_none c.in-Ok.room.works.items works.items (flat_map works_at after) c.in-Ok.ensures.works.0 put.works in
     All-same IsFresh works.items _ of_works came.fresh
 
@@ -181,35 +181,35 @@ pub run_viewed-works-requires-clause-swept : goal.run_viewed-works-requires-clau
 run_viewed-works-requires-clause-swept g c κs within =
     let old = c.args.self in
     let name = old.queue.name in
-    let it = c.in-Ok-take_places.ensures in
-    let after = c.open_places.new.places.items in
-    let put = c.leave_places.ensures in
-    let came = came_of c.args.version c.args.shape.quantum 0 _ _ old.berths.items _ it.places after c.open_places.ensures.opens in
-    let back = c.leave_places.new.berths in
-    let works = c.leave_places.new.works in
-    let of_berths = behind_none c.take_places.new.berths.items back.items (flat_map berths_at after) it.none put.berths in
+    let it = c.in-Ok-take_wave_parts.ensures in
+    let after = c.open_wave_parts.new.wave_parts.items in
+    let put = c.leave_wave_parts.ensures in
+    let came = came_of c.args.version c.args.shape.quantum 0 _ _ old.berths.items _ it.wave_parts after c.open_wave_parts.ensures.opens in
+    let back = c.leave_wave_parts.new.berths in
+    let works = c.leave_wave_parts.new.works in
+    let of_berths = behind_none c.take_wave_parts.new.berths.items back.items (flat_map berths_at after) it.none put.berths in
     let of_works = behind_none c.in-Ok.room.works.items works.items (flat_map works_at after) c.in-Ok.ensures.works.0 put.works in
-    let of_sweepers = behind_none c.in-Ok.room.sweepers.items c.leave_places.new.sweepers.items (flat_map sweepers_at after) c.in-Ok.ensures.sweepers.0 put.sweepers in
+    let of_sweepers = behind_none c.in-Ok.room.sweepers.items c.leave_wave_parts.new.sweepers.items (flat_map sweepers_at after) c.in-Ok.ensures.sweepers.0 put.sweepers in
     subst (AreSweptBy works.items) (sym of_sweepers) (subst (λ l. AreSweptBy l (flat_map sweepers_at after)) (sym of_works) came.swept)
 
 pub close_all-requires-in-Err-lines-clause-room : goal.close_all-requires-in-Err-lines-clause-room
 close_all-requires-in-Err-lines-clause-room g c =
     let old = c.args.self in
     let name = old.queue.name in
-    let it = c.in-Ok-take_places.ensures in
-    let after = c.open_places.new.places.items in
-    let put = c.leave_places.ensures in
-    let came = came_of c.args.version c.args.shape.quantum 0 _ _ old.berths.items _ it.places after c.open_places.ensures.opens in
-    let back = c.leave_places.new.berths in
-    let works = c.leave_places.new.works in
-    let of_berths = behind_none c.take_places.new.berths.items back.items (flat_map berths_at after) it.none put.berths in
+    let it = c.in-Ok-take_wave_parts.ensures in
+    let after = c.open_wave_parts.new.wave_parts.items in
+    let put = c.leave_wave_parts.ensures in
+    let came = came_of c.args.version c.args.shape.quantum 0 _ _ old.berths.items _ it.wave_parts after c.open_wave_parts.ensures.opens in
+    let back = c.leave_wave_parts.new.berths in
+    let works = c.leave_wave_parts.new.works in
+    let of_berths = behind_none c.take_wave_parts.new.berths.items back.items (flat_map berths_at after) it.none put.berths in
     let of_works = behind_none c.in-Ok.room.works.items works.items (flat_map works_at after) c.in-Ok.ensures.works.0 put.works in
-    let of_names = behind_none c.in-Ok.room.names.items c.leave_places.new.names.items (flat_map names_at after) c.in-Ok.ensures.names.0 put.names in
+    let of_names = behind_none c.in-Ok.room.names.items c.leave_wave_parts.new.names.items (flat_map names_at after) c.in-Ok.ensures.names.0 put.names in
     let none = none_left back.items (grind (arith, nat_tests, c.is_empty.ensures, c.if-not-is_empty.false, back.ok.0)) in
-    let opened = all_opened c.args.version c.args.shape.quantum _ _ old.berths.items _ after c.leave_places.new.names.items works.items it.places c.open_places.ensures.opens (sym of_berths ∙ none) of_names of_works in
+    let opened = all_opened c.args.version c.args.shape.quantum _ _ old.berths.items _ after c.leave_wave_parts.new.names.items works.items it.wave_parts c.open_wave_parts.ensures.opens (sym of_berths ∙ none) of_names of_works in
     let left = c.run_viewed-works.result.works in
     let same = from_same works.items left.items c.run_viewed-works.ensures.origins in
-    let boards = subst (λ l. Boards c.args.version c.args.parts.now.items c.take_places.new.parts.items old.berths.items c.leave_places.new.names.items l) (sym same) opened in
+    let boards = subst (λ l. TakesParts c.args.version c.args.parts.now.items c.take_wave_parts.new.parts.items old.berths.items c.leave_wave_parts.new.names.items l) (sym same) opened in
     let over = stand_over c.args.version _ _ old.berths.items _ (map from left.items) boards name old.idle in
     let many = aboard_many from name old.berths.items [] left.items over in
     omega (arith, many, ap {B = ℕ} length none, put.capacity, it.room, back.ok.0, left.ok.0, old.berths.ok.0, old.berths.ok.1)
@@ -218,20 +218,20 @@ pub close_all-requires-in-Err-lines-clause-of_queue : goal.close_all-requires-in
 close_all-requires-in-Err-lines-clause-of_queue g c =
     let old = c.args.self in
     let name = old.queue.name in
-    let it = c.in-Ok-take_places.ensures in
-    let after = c.open_places.new.places.items in
-    let put = c.leave_places.ensures in
-    let came = came_of c.args.version c.args.shape.quantum 0 _ _ old.berths.items _ it.places after c.open_places.ensures.opens in
-    let back = c.leave_places.new.berths in
-    let works = c.leave_places.new.works in
-    let of_berths = behind_none c.take_places.new.berths.items back.items (flat_map berths_at after) it.none put.berths in
+    let it = c.in-Ok-take_wave_parts.ensures in
+    let after = c.open_wave_parts.new.wave_parts.items in
+    let put = c.leave_wave_parts.ensures in
+    let came = came_of c.args.version c.args.shape.quantum 0 _ _ old.berths.items _ it.wave_parts after c.open_wave_parts.ensures.opens in
+    let back = c.leave_wave_parts.new.berths in
+    let works = c.leave_wave_parts.new.works in
+    let of_berths = behind_none c.take_wave_parts.new.berths.items back.items (flat_map berths_at after) it.none put.berths in
     let of_works = behind_none c.in-Ok.room.works.items works.items (flat_map works_at after) c.in-Ok.ensures.works.0 put.works in
-    let of_names = behind_none c.in-Ok.room.names.items c.leave_places.new.names.items (flat_map names_at after) c.in-Ok.ensures.names.0 put.names in
+    let of_names = behind_none c.in-Ok.room.names.items c.leave_wave_parts.new.names.items (flat_map names_at after) c.in-Ok.ensures.names.0 put.names in
     let none = none_left back.items (grind (arith, nat_tests, c.is_empty.ensures, c.if-not-is_empty.false, back.ok.0)) in
-    let opened = all_opened c.args.version c.args.shape.quantum _ _ old.berths.items _ after c.leave_places.new.names.items works.items it.places c.open_places.ensures.opens (sym of_berths ∙ none) of_names of_works in
+    let opened = all_opened c.args.version c.args.shape.quantum _ _ old.berths.items _ after c.leave_wave_parts.new.names.items works.items it.wave_parts c.open_wave_parts.ensures.opens (sym of_berths ∙ none) of_names of_works in
     let left = c.run_viewed-works.result.works in
     let same = from_same works.items left.items c.run_viewed-works.ensures.origins in
-    let boards = subst (λ l. Boards c.args.version c.args.parts.now.items c.take_places.new.parts.items old.berths.items c.leave_places.new.names.items l) (sym same) opened in
+    let boards = subst (λ l. TakesParts c.args.version c.args.parts.now.items c.take_wave_parts.new.parts.items old.berths.items c.leave_wave_parts.new.names.items l) (sym same) opened in
     let over = stand_over c.args.version _ _ old.berths.items _ (map from left.items) boards name old.idle in
     let many = aboard_many from name old.berths.items [] left.items over in
     aboard_supplies from name old.berths.items [] left.items over
@@ -240,20 +240,20 @@ pub close_all-requires-in-Err-lines-clause-all : goal.close_all-requires-in-Err-
 close_all-requires-in-Err-lines-clause-all g c =
     let old = c.args.self in
     let name = old.queue.name in
-    let it = c.in-Ok-take_places.ensures in
-    let after = c.open_places.new.places.items in
-    let put = c.leave_places.ensures in
-    let came = came_of c.args.version c.args.shape.quantum 0 _ _ old.berths.items _ it.places after c.open_places.ensures.opens in
-    let back = c.leave_places.new.berths in
-    let works = c.leave_places.new.works in
-    let of_berths = behind_none c.take_places.new.berths.items back.items (flat_map berths_at after) it.none put.berths in
+    let it = c.in-Ok-take_wave_parts.ensures in
+    let after = c.open_wave_parts.new.wave_parts.items in
+    let put = c.leave_wave_parts.ensures in
+    let came = came_of c.args.version c.args.shape.quantum 0 _ _ old.berths.items _ it.wave_parts after c.open_wave_parts.ensures.opens in
+    let back = c.leave_wave_parts.new.berths in
+    let works = c.leave_wave_parts.new.works in
+    let of_berths = behind_none c.take_wave_parts.new.berths.items back.items (flat_map berths_at after) it.none put.berths in
     let of_works = behind_none c.in-Ok.room.works.items works.items (flat_map works_at after) c.in-Ok.ensures.works.0 put.works in
-    let of_names = behind_none c.in-Ok.room.names.items c.leave_places.new.names.items (flat_map names_at after) c.in-Ok.ensures.names.0 put.names in
+    let of_names = behind_none c.in-Ok.room.names.items c.leave_wave_parts.new.names.items (flat_map names_at after) c.in-Ok.ensures.names.0 put.names in
     let none = none_left back.items (grind (arith, nat_tests, c.is_empty.ensures, c.if-not-is_empty.false, back.ok.0)) in
-    let opened = all_opened c.args.version c.args.shape.quantum _ _ old.berths.items _ after c.leave_places.new.names.items works.items it.places c.open_places.ensures.opens (sym of_berths ∙ none) of_names of_works in
+    let opened = all_opened c.args.version c.args.shape.quantum _ _ old.berths.items _ after c.leave_wave_parts.new.names.items works.items it.wave_parts c.open_wave_parts.ensures.opens (sym of_berths ∙ none) of_names of_works in
     let left = c.run_viewed-works.result.works in
     let same = from_same works.items left.items c.run_viewed-works.ensures.origins in
-    let boards = subst (λ l. Boards c.args.version c.args.parts.now.items c.take_places.new.parts.items old.berths.items c.leave_places.new.names.items l) (sym same) opened in
+    let boards = subst (λ l. TakesParts c.args.version c.args.parts.now.items c.take_wave_parts.new.parts.items old.berths.items c.leave_wave_parts.new.names.items l) (sym same) opened in
     let over = stand_over c.args.version _ _ old.berths.items _ (map from left.items) boards name old.idle in
     let many = aboard_many from name old.berths.items [] left.items over in
     aboard_quotas from name old.berths.items back.items left.items over _ none old.all
@@ -262,20 +262,20 @@ pub close_all-requires-in-Err-with_capacity-clause-room : goal.close_all-require
 close_all-requires-in-Err-with_capacity-clause-room g c =
     let old = c.args.self in
     let name = old.queue.name in
-    let it = c.in-Ok-take_places.ensures in
-    let after = c.open_places.new.places.items in
-    let put = c.leave_places.ensures in
-    let came = came_of c.args.version c.args.shape.quantum 0 _ _ old.berths.items _ it.places after c.open_places.ensures.opens in
-    let back = c.leave_places.new.berths in
-    let works = c.leave_places.new.works in
-    let of_berths = behind_none c.take_places.new.berths.items back.items (flat_map berths_at after) it.none put.berths in
+    let it = c.in-Ok-take_wave_parts.ensures in
+    let after = c.open_wave_parts.new.wave_parts.items in
+    let put = c.leave_wave_parts.ensures in
+    let came = came_of c.args.version c.args.shape.quantum 0 _ _ old.berths.items _ it.wave_parts after c.open_wave_parts.ensures.opens in
+    let back = c.leave_wave_parts.new.berths in
+    let works = c.leave_wave_parts.new.works in
+    let of_berths = behind_none c.take_wave_parts.new.berths.items back.items (flat_map berths_at after) it.none put.berths in
     let of_works = behind_none c.in-Ok.room.works.items works.items (flat_map works_at after) c.in-Ok.ensures.works.0 put.works in
-    let of_names = behind_none c.in-Ok.room.names.items c.leave_places.new.names.items (flat_map names_at after) c.in-Ok.ensures.names.0 put.names in
+    let of_names = behind_none c.in-Ok.room.names.items c.leave_wave_parts.new.names.items (flat_map names_at after) c.in-Ok.ensures.names.0 put.names in
     let none = none_left back.items (grind (arith, nat_tests, c.is_empty.ensures, c.if-not-is_empty.false, back.ok.0)) in
-    let opened = all_opened c.args.version c.args.shape.quantum _ _ old.berths.items _ after c.leave_places.new.names.items works.items it.places c.open_places.ensures.opens (sym of_berths ∙ none) of_names of_works in
+    let opened = all_opened c.args.version c.args.shape.quantum _ _ old.berths.items _ after c.leave_wave_parts.new.names.items works.items it.wave_parts c.open_wave_parts.ensures.opens (sym of_berths ∙ none) of_names of_works in
     let left = c.run_viewed-works.result.works in
     let same = from_same works.items left.items c.run_viewed-works.ensures.origins in
-    let boards = subst (λ l. Boards c.args.version c.args.parts.now.items c.take_places.new.parts.items old.berths.items c.leave_places.new.names.items l) (sym same) opened in
+    let boards = subst (λ l. TakesParts c.args.version c.args.parts.now.items c.take_wave_parts.new.parts.items old.berths.items c.leave_wave_parts.new.names.items l) (sym same) opened in
     let over = stand_over c.args.version _ _ old.berths.items _ (map from left.items) boards name old.idle in
     let many = aboard_many from name old.berths.items [] left.items over in
     omega (arith, many, ap {B = ℕ} length none, put.capacity, it.room, back.ok.0, left.ok.0, old.berths.ok.0, old.berths.ok.1)
@@ -284,20 +284,20 @@ pub close_all-requires-in-Err-with_capacity-clause-of_queue : goal.close_all-req
 close_all-requires-in-Err-with_capacity-clause-of_queue g c =
     let old = c.args.self in
     let name = old.queue.name in
-    let it = c.in-Ok-take_places.ensures in
-    let after = c.open_places.new.places.items in
-    let put = c.leave_places.ensures in
-    let came = came_of c.args.version c.args.shape.quantum 0 _ _ old.berths.items _ it.places after c.open_places.ensures.opens in
-    let back = c.leave_places.new.berths in
-    let works = c.leave_places.new.works in
-    let of_berths = behind_none c.take_places.new.berths.items back.items (flat_map berths_at after) it.none put.berths in
+    let it = c.in-Ok-take_wave_parts.ensures in
+    let after = c.open_wave_parts.new.wave_parts.items in
+    let put = c.leave_wave_parts.ensures in
+    let came = came_of c.args.version c.args.shape.quantum 0 _ _ old.berths.items _ it.wave_parts after c.open_wave_parts.ensures.opens in
+    let back = c.leave_wave_parts.new.berths in
+    let works = c.leave_wave_parts.new.works in
+    let of_berths = behind_none c.take_wave_parts.new.berths.items back.items (flat_map berths_at after) it.none put.berths in
     let of_works = behind_none c.in-Ok.room.works.items works.items (flat_map works_at after) c.in-Ok.ensures.works.0 put.works in
-    let of_names = behind_none c.in-Ok.room.names.items c.leave_places.new.names.items (flat_map names_at after) c.in-Ok.ensures.names.0 put.names in
+    let of_names = behind_none c.in-Ok.room.names.items c.leave_wave_parts.new.names.items (flat_map names_at after) c.in-Ok.ensures.names.0 put.names in
     let none = none_left back.items (grind (arith, nat_tests, c.is_empty.ensures, c.if-not-is_empty.false, back.ok.0)) in
-    let opened = all_opened c.args.version c.args.shape.quantum _ _ old.berths.items _ after c.leave_places.new.names.items works.items it.places c.open_places.ensures.opens (sym of_berths ∙ none) of_names of_works in
+    let opened = all_opened c.args.version c.args.shape.quantum _ _ old.berths.items _ after c.leave_wave_parts.new.names.items works.items it.wave_parts c.open_wave_parts.ensures.opens (sym of_berths ∙ none) of_names of_works in
     let left = c.run_viewed-works.result.works in
     let same = from_same works.items left.items c.run_viewed-works.ensures.origins in
-    let boards = subst (λ l. Boards c.args.version c.args.parts.now.items c.take_places.new.parts.items old.berths.items c.leave_places.new.names.items l) (sym same) opened in
+    let boards = subst (λ l. TakesParts c.args.version c.args.parts.now.items c.take_wave_parts.new.parts.items old.berths.items c.leave_wave_parts.new.names.items l) (sym same) opened in
     let over = stand_over c.args.version _ _ old.berths.items _ (map from left.items) boards name old.idle in
     let many = aboard_many from name old.berths.items [] left.items over in
     aboard_supplies from name old.berths.items [] left.items over
@@ -306,42 +306,42 @@ pub close_all-requires-in-Err-with_capacity-clause-all : goal.close_all-requires
 close_all-requires-in-Err-with_capacity-clause-all g c =
     let old = c.args.self in
     let name = old.queue.name in
-    let it = c.in-Ok-take_places.ensures in
-    let after = c.open_places.new.places.items in
-    let put = c.leave_places.ensures in
-    let came = came_of c.args.version c.args.shape.quantum 0 _ _ old.berths.items _ it.places after c.open_places.ensures.opens in
-    let back = c.leave_places.new.berths in
-    let works = c.leave_places.new.works in
-    let of_berths = behind_none c.take_places.new.berths.items back.items (flat_map berths_at after) it.none put.berths in
+    let it = c.in-Ok-take_wave_parts.ensures in
+    let after = c.open_wave_parts.new.wave_parts.items in
+    let put = c.leave_wave_parts.ensures in
+    let came = came_of c.args.version c.args.shape.quantum 0 _ _ old.berths.items _ it.wave_parts after c.open_wave_parts.ensures.opens in
+    let back = c.leave_wave_parts.new.berths in
+    let works = c.leave_wave_parts.new.works in
+    let of_berths = behind_none c.take_wave_parts.new.berths.items back.items (flat_map berths_at after) it.none put.berths in
     let of_works = behind_none c.in-Ok.room.works.items works.items (flat_map works_at after) c.in-Ok.ensures.works.0 put.works in
-    let of_names = behind_none c.in-Ok.room.names.items c.leave_places.new.names.items (flat_map names_at after) c.in-Ok.ensures.names.0 put.names in
+    let of_names = behind_none c.in-Ok.room.names.items c.leave_wave_parts.new.names.items (flat_map names_at after) c.in-Ok.ensures.names.0 put.names in
     let none = none_left back.items (grind (arith, nat_tests, c.is_empty.ensures, c.if-not-is_empty.false, back.ok.0)) in
-    let opened = all_opened c.args.version c.args.shape.quantum _ _ old.berths.items _ after c.leave_places.new.names.items works.items it.places c.open_places.ensures.opens (sym of_berths ∙ none) of_names of_works in
+    let opened = all_opened c.args.version c.args.shape.quantum _ _ old.berths.items _ after c.leave_wave_parts.new.names.items works.items it.wave_parts c.open_wave_parts.ensures.opens (sym of_berths ∙ none) of_names of_works in
     let left = c.run_viewed-works.result.works in
     let same = from_same works.items left.items c.run_viewed-works.ensures.origins in
-    let boards = subst (λ l. Boards c.args.version c.args.parts.now.items c.take_places.new.parts.items old.berths.items c.leave_places.new.names.items l) (sym same) opened in
+    let boards = subst (λ l. TakesParts c.args.version c.args.parts.now.items c.take_wave_parts.new.parts.items old.berths.items c.leave_wave_parts.new.names.items l) (sym same) opened in
     let over = stand_over c.args.version _ _ old.berths.items _ (map from left.items) boards name old.idle in
     let many = aboard_many from name old.berths.items [] left.items over in
     aboard_quotas from name old.berths.items back.items left.items over _ none old.all
 
-pub settle-requires-clause-names : goal.settle-requires-clause-names
-settle-requires-clause-names g c =
+pub collect_results-requires-clause-names : goal.collect_results-requires-clause-names
+collect_results-requires-clause-names g c =
     let old = c.args.self in
     let name = old.queue.name in
-    let it = c.in-Ok-take_places.ensures in
-    let after = c.open_places.new.places.items in
-    let put = c.leave_places.ensures in
-    let came = came_of c.args.version c.args.shape.quantum 0 _ _ old.berths.items _ it.places after c.open_places.ensures.opens in
-    let back = c.leave_places.new.berths in
-    let works = c.leave_places.new.works in
-    let of_berths = behind_none c.take_places.new.berths.items back.items (flat_map berths_at after) it.none put.berths in
+    let it = c.in-Ok-take_wave_parts.ensures in
+    let after = c.open_wave_parts.new.wave_parts.items in
+    let put = c.leave_wave_parts.ensures in
+    let came = came_of c.args.version c.args.shape.quantum 0 _ _ old.berths.items _ it.wave_parts after c.open_wave_parts.ensures.opens in
+    let back = c.leave_wave_parts.new.berths in
+    let works = c.leave_wave_parts.new.works in
+    let of_berths = behind_none c.take_wave_parts.new.berths.items back.items (flat_map berths_at after) it.none put.berths in
     let of_works = behind_none c.in-Ok.room.works.items works.items (flat_map works_at after) c.in-Ok.ensures.works.0 put.works in
-    let of_names = behind_none c.in-Ok.room.names.items c.leave_places.new.names.items (flat_map names_at after) c.in-Ok.ensures.names.0 put.names in
+    let of_names = behind_none c.in-Ok.room.names.items c.leave_wave_parts.new.names.items (flat_map names_at after) c.in-Ok.ensures.names.0 put.names in
     let none = none_left back.items (grind (arith, nat_tests, c.is_empty.ensures, c.if-not-is_empty.false, back.ok.0)) in
-    let opened = all_opened c.args.version c.args.shape.quantum _ _ old.berths.items _ after c.leave_places.new.names.items works.items it.places c.open_places.ensures.opens (sym of_berths ∙ none) of_names of_works in
+    let opened = all_opened c.args.version c.args.shape.quantum _ _ old.berths.items _ after c.leave_wave_parts.new.names.items works.items it.wave_parts c.open_wave_parts.ensures.opens (sym of_berths ∙ none) of_names of_works in
     let left = c.run_viewed-works.result.works in
     let same = from_same works.items left.items c.run_viewed-works.ensures.origins in
-    let boards = subst (λ l. Boards c.args.version c.args.parts.now.items c.take_places.new.parts.items old.berths.items c.leave_places.new.names.items l) (sym same) opened in
+    let boards = subst (λ l. TakesParts c.args.version c.args.parts.now.items c.take_wave_parts.new.parts.items old.berths.items c.leave_wave_parts.new.names.items l) (sym same) opened in
     let over = stand_over c.args.version _ _ old.berths.items _ (map from left.items) boards name old.idle in
     let many = aboard_many from name old.berths.items [] left.items over in
     let named = boards_named c.args.version _ _ old.berths.items _ _ boards ∙ sym many in
@@ -351,25 +351,25 @@ pub invariant_of-result : goal.invariant_of-result
 invariant_of-result g c =
     let old = c.args.self in
     let name = old.queue.name in
-    let it = c.in-Ok-take_places.ensures in
-    let after = c.open_places.new.places.items in
-    let put = c.leave_places.ensures in
-    let came = came_of c.args.version c.args.shape.quantum 0 _ _ old.berths.items _ it.places after c.open_places.ensures.opens in
-    let back = c.leave_places.new.berths in
-    let works = c.leave_places.new.works in
-    let of_berths = behind_none c.take_places.new.berths.items back.items (flat_map berths_at after) it.none put.berths in
+    let it = c.in-Ok-take_wave_parts.ensures in
+    let after = c.open_wave_parts.new.wave_parts.items in
+    let put = c.leave_wave_parts.ensures in
+    let came = came_of c.args.version c.args.shape.quantum 0 _ _ old.berths.items _ it.wave_parts after c.open_wave_parts.ensures.opens in
+    let back = c.leave_wave_parts.new.berths in
+    let works = c.leave_wave_parts.new.works in
+    let of_berths = behind_none c.take_wave_parts.new.berths.items back.items (flat_map berths_at after) it.none put.berths in
     let of_works = behind_none c.in-Ok.room.works.items works.items (flat_map works_at after) c.in-Ok.ensures.works.0 put.works in
-    let of_names = behind_none c.in-Ok.room.names.items c.leave_places.new.names.items (flat_map names_at after) c.in-Ok.ensures.names.0 put.names in
+    let of_names = behind_none c.in-Ok.room.names.items c.leave_wave_parts.new.names.items (flat_map names_at after) c.in-Ok.ensures.names.0 put.names in
     let none = none_left back.items (grind (arith, nat_tests, c.is_empty.ensures, c.if-not-is_empty.false, back.ok.0)) in
-    let opened = all_opened c.args.version c.args.shape.quantum _ _ old.berths.items _ after c.leave_places.new.names.items works.items it.places c.open_places.ensures.opens (sym of_berths ∙ none) of_names of_works in
+    let opened = all_opened c.args.version c.args.shape.quantum _ _ old.berths.items _ after c.leave_wave_parts.new.names.items works.items it.wave_parts c.open_wave_parts.ensures.opens (sym of_berths ∙ none) of_names of_works in
     let left = c.run_viewed-works.result.works in
     let same = from_same works.items left.items c.run_viewed-works.ensures.origins in
-    let boards = subst (λ l. Boards c.args.version c.args.parts.now.items c.take_places.new.parts.items old.berths.items c.leave_places.new.names.items l) (sym same) opened in
+    let boards = subst (λ l. TakesParts c.args.version c.args.parts.now.items c.take_wave_parts.new.parts.items old.berths.items c.leave_wave_parts.new.names.items l) (sym same) opened in
     let over = stand_over c.args.version _ _ old.berths.items _ (map from left.items) boards name old.idle in
     let many = aboard_many from name old.berths.items [] left.items over in
     let named = boards_named c.args.version _ _ old.berths.items _ _ boards ∙ sym many in
-    let ended = c.settle.result in
-    let is = c.settle.ensures.ended in
+    let ended = c.collect_results.result in
+    let is = c.collect_results.ensures.ended in
     record {
       idle = All-same (IsIdleBerth name) back.items [] none (All-nil (IsIdleBerth name));
       ended_of_queue = left_supplies from name old.berths.items [] left.items over _ _ ended.items named is;
@@ -391,22 +391,22 @@ pub returns-in-Ok-with_capacity-clause-ran : goal.returns-in-Ok-with_capacity-cl
 returns-in-Ok-with_capacity-clause-ran g c =
     let old = c.args.self in
     let name = old.queue.name in
-    let it = c.in-Ok-take_places.ensures in
-    let after = c.open_places.new.places.items in
-    let put = c.leave_places.ensures in
-    let came = came_of c.args.version c.args.shape.quantum 0 _ _ old.berths.items _ it.places after c.open_places.ensures.opens in
-    let back = c.leave_places.new.berths in
-    let works = c.leave_places.new.works in
-    let of_berths = behind_none c.take_places.new.berths.items back.items (flat_map berths_at after) it.none put.berths in
+    let it = c.in-Ok-take_wave_parts.ensures in
+    let after = c.open_wave_parts.new.wave_parts.items in
+    let put = c.leave_wave_parts.ensures in
+    let came = came_of c.args.version c.args.shape.quantum 0 _ _ old.berths.items _ it.wave_parts after c.open_wave_parts.ensures.opens in
+    let back = c.leave_wave_parts.new.berths in
+    let works = c.leave_wave_parts.new.works in
+    let of_berths = behind_none c.take_wave_parts.new.berths.items back.items (flat_map berths_at after) it.none put.berths in
     let of_works = behind_none c.in-Ok.room.works.items works.items (flat_map works_at after) c.in-Ok.ensures.works.0 put.works in
-    let of_names = behind_none c.in-Ok.room.names.items c.leave_places.new.names.items (flat_map names_at after) c.in-Ok.ensures.names.0 put.names in
+    let of_names = behind_none c.in-Ok.room.names.items c.leave_wave_parts.new.names.items (flat_map names_at after) c.in-Ok.ensures.names.0 put.names in
     let none = none_left back.items (grind (arith, nat_tests, c.is_empty.ensures, c.if-not-is_empty.false, back.ok.0)) in
-    let opened = all_opened c.args.version c.args.shape.quantum _ _ old.berths.items _ after c.leave_places.new.names.items works.items it.places c.open_places.ensures.opens (sym of_berths ∙ none) of_names of_works in
+    let opened = all_opened c.args.version c.args.shape.quantum _ _ old.berths.items _ after c.leave_wave_parts.new.names.items works.items it.wave_parts c.open_wave_parts.ensures.opens (sym of_berths ∙ none) of_names of_works in
     let left = c.run_viewed-works.result.works in
     let same = from_same works.items left.items c.run_viewed-works.ensures.origins in
-    let boards = subst (λ l. Boards c.args.version c.args.parts.now.items c.take_places.new.parts.items old.berths.items c.leave_places.new.names.items l) (sym same) opened in
+    let boards = subst (λ l. TakesParts c.args.version c.args.parts.now.items c.take_wave_parts.new.parts.items old.berths.items c.leave_wave_parts.new.names.items l) (sym same) opened in
     let over = stand_over c.args.version _ _ old.berths.items _ (map from left.items) boards name old.idle in
     let many = aboard_many from name old.berths.items [] left.items over in
     let seen = subst (λ r. IfOk r (λ lines. lines.items ≡ map (λ (w : WorkMeaning). end_view w.origin) works.items)) c.in-Ok-lines.is c.run_viewed-works.ensures.seen in
-    boarded_viewed c.args.version _ _ old.berths.items _ (map from left.items) _ c.settle.result.items boards c.settle.ensures.ended _ old.berths.ok.0
+    boarded_viewed c.args.version _ _ old.berths.items _ (map from left.items) _ c.collect_results.result.items boards c.collect_results.ensures.ended _ old.berths.ok.0
     (seen_from works.items c.in-Ok-lines.lines.items seen ∙ ap end_views (sym same))

@@ -1,4 +1,4 @@
-use Rattle.dym_commands.specs.Asks.{asks}
+use Rattle.dym_commands.specs.Requests.{asks}
 use Rattle.dym_script.proofs.KeepLines.{below_most, ready_asked}
 use Rattle.dym_script.proofs.pieces.Pieces.ask.Goals as goal
 

@@ -1,6 +1,6 @@
 use Rattle.std.proofs.Common.{◌≡◌, ◌+◌, ◌++◌, ◌∙◌, [], ap, length, arith}
 use Rattle.std.proofs.lemmas.Bool.Decides.{nat_tests}
-use Rattle.dym_script.specs.Keeping.{Stands}
+use Rattle.dym_script.specs.Keepers.{Stands}
 use Rattle.dym_base.specs.Lines.{lines_of}
 use Rattle.dym_script.specs.Scripts.{read_lines}
 use Rattle.dym_script.proofs.KeepLines.{goes_on, next_bad, empty_is}

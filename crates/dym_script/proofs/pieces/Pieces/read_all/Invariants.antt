@@ -1,7 +1,7 @@
 use Rattle.std.proofs.Common.{◌≡◌, ◌+◌, ◌≤◌, ◌++◌, List, ℕ, length}
 use Rattle.dym_base.specs.Lines.{lines_of}
 use Rattle.dym_script.specs.Scripts.{Reading, read_lines}
-use Rattle.dym_script.specs.Keeping.{Stands, IsReady}
+use Rattle.dym_script.specs.Keepers.{Stands, IsReady}
 use Rattle.dym_script.specs.Readers.{GoesOn}
 use Rattle.dym_script.proofs.pieces.Pieces.read_all.Given as goal
 

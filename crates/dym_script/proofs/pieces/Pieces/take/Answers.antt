@@ -1,4 +1,4 @@
-use Rattle.dym_script.specs.Keeping.{Stands, IsReady}
+use Rattle.dym_script.specs.Keepers.{Stands, IsReady}
 use Rattle.dym_script.specs.Pieces.{Took}
 use Rattle.dym_script.proofs.PiecesRead.{took_piece, piece_failed, piece_long}
 use Rattle.dym_script.proofs.pieces.Pieces.take.Goals as goal

@@ -1,6 +1,6 @@
 use Rattle.std.proofs.Common.{rules, ap}
 use Rattle.dym_base.specs.declared.limits.TheConstants.{LOG_SLOTS}
-use Rattle.dym_slots.specs.Shown.{Knowing}
+use Rattle.dym_slots.specs.TableStates.{Knowing}
 use Rattle.dym_slots.proofs.Opening.{begins, splits}
 use Rattle.dym_slots.proofs.log_slots.LogSlots.open.Goals as goal
 

@@ -1,6 +1,6 @@
 use Rattle.std.proofs.Common.{map, ap, ◌∙◌, arith, ◌+◌}
 use Rattle.dym_base.specs.Origins.{shared}
-use Rattle.dym_slots.specs.Seats.{owner_of}
+use Rattle.dym_slots.specs.SeatViews.{owner_of}
 use Rattle.dym_slots.specs.Meanings.{KeepMeaning, up_to, name_of}
 use Rattle.dym_slots.specs.Orders.{numbered}
 use Rattle.dym_slots.proofs.OwnerSays.{count_of_records, in_list, cut_stands, cut_records, sits_still, idle_out, never_inside}
@@ -33,6 +33,6 @@ returns c =
     let left = c.drop_down.ensures.after in
     let records = ap (map numbered) left.list_is ∙ cut_records (owner_of i.seat.me.0).list (c.args.place + 1) in
     record {
-      after = (λ j. record { records = records j; made = i.made; lifted = i.lifted; origin = shared (name_of (c.drop_down.ensures.table j)) })
+      after = (λ j. record { records = records j; next_number = i.next_number; lifted = i.lifted; origin = shared (name_of (c.drop_down.ensures.table j)) })
           ∙ ap (λ (m : KeepMeaning). up_to m c.args.place) c.self.view_is;
     }

@@ -1,10 +1,10 @@
 use Rattle.std.proofs.Common.{ap, ◌∙◌, sym, subst, arith, ◌<◌, [], ◌∷◌, None, Some}
 use Rattle.std.proofs.lemmas.List.{get_or_read}
 use Rattle.std.proofs.lemmas.Option.{same_Some}
-use Rattle.dym_slotlaw.specs.declared.slots.Entry.{Entry}
-use Rattle.dym_slotlaw.specs.declared.slots.TheConstants.{RECORD_NUMBERS}
-use Rattle.dym_slots.specs.Seats.{owner_of}
-use Rattle.dym_slots.specs.Shown.{Knowing}
+use Rattle.dym_slots.specs.declared.machine.Entry.{Entry}
+use Rattle.dym_slots.specs.declared.machine.TheConstants.{RECORD_NUMBERS}
+use Rattle.dym_slots.specs.SeatViews.{owner_of}
+use Rattle.dym_slots.specs.TableStates.{Knowing}
 use Rattle.dym_slots.specs.Moves.{HasEntry, IsBytesOf}
 use Rattle.dym_slots.specs.Meanings.{KeepMeaning, record_at}
 use Rattle.dym_slots.specs.Orders.{no_entry}
@@ -39,7 +39,7 @@ invariant_of-self c =
     let after = c.take_out-rec.ensures.after in
     record {
       seated = sits_still _ _ _ c.take_out-rec.ensures.table inv.seated;
-      stands = held_stands i.order.items i.len i.made c.index.result.now.slot i.seat.me c.take_out-rec.new.seat.me None s after;
+      stands = held_stands i.order.items i.len i.next_number c.index.result.now.slot i.seat.me c.take_out-rec.new.seat.me None s after;
       inside = λ p is. subst (λ q. q < i.len) (same_Some place p is) lt;
       out = (
         ap (λ (m : Knowing). (owner_of m.0).out) after ∙ ap (λ (x : Entry). Some x.slot) e,

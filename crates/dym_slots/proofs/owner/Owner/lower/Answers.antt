@@ -1,8 +1,8 @@
 use Rattle.std.proofs.Common.{ap, ◌∙◌, sym, subst, arith, ◌<◌}
 use Rattle.std.proofs.lemmas.List.{get_or_read}
-use Rattle.dym_slotlaw.specs.declared.slots.Entry.{Entry}
-use Rattle.dym_slotlaw.specs.declared.slots.TheConstants.{RECORD_NUMBERS}
-use Rattle.dym_slots.specs.Seats.{owner_of}
+use Rattle.dym_slots.specs.declared.machine.Entry.{Entry}
+use Rattle.dym_slots.specs.declared.machine.TheConstants.{RECORD_NUMBERS}
+use Rattle.dym_slots.specs.SeatViews.{owner_of}
 use Rattle.dym_slots.specs.Meanings.{KeepMeaning, record_at}
 use Rattle.dym_slots.specs.Moves.{IsBytesOf}
 use Rattle.dym_slots.specs.Orders.{no_entry}

@@ -1,6 +1,6 @@
 use Rattle.std.proofs.Common.{ap, ◌∙◌, arith}
 use Rattle.std.proofs.lemmas.List.{get_or_read}
-use Rattle.dym_slotlaw.specs.declared.slots.Entry.{Entry}
+use Rattle.dym_slots.specs.declared.machine.Entry.{Entry}
 use Rattle.dym_slots.specs.Meanings.{KeepMeaning, record_at}
 use Rattle.dym_slots.specs.Orders.{no_entry}
 use Rattle.dym_slots.proofs.OwnerSays.{fits, count_of_records, number_here, in_list}

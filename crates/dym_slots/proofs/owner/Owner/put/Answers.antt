@@ -1,10 +1,10 @@
 use Rattle.std.proofs.Common.{set, ◌+◌, ap, ◌∙◌, sym, subst, arith, ◌<◌, ℕ}
 use Rattle.std.proofs.lemmas.List.{get_or_read}
-use Rattle.dym_slotlaw.specs.declared.slots.Entry.{Entry}
-use Rattle.dym_slotlaw.specs.declared.slots.TheConstants.{RECORD_NUMBERS}
-use Rattle.dym_slotlaw.specs.Slots.{entry}
-use Rattle.dym_slots.specs.Seats.{owner_of}
-use Rattle.dym_slots.specs.Shown.{Knowing}
+use Rattle.dym_slots.specs.declared.machine.Entry.{Entry}
+use Rattle.dym_slots.specs.declared.machine.TheConstants.{RECORD_NUMBERS}
+use Rattle.dym_slots.specs.Slots.{entry}
+use Rattle.dym_slots.specs.SeatViews.{owner_of}
+use Rattle.dym_slots.specs.TableStates.{Knowing}
 use Rattle.dym_slots.specs.Meanings.{KeepMeaning}
 use Rattle.dym_slots.specs.Moves.{IsUnlisted}
 use Rattle.dym_slots.specs.Orders.{no_entry}
@@ -27,14 +27,14 @@ invariant_of-self c =
     let order = c.hold_spare-slot.new.order.items in
     let f = fits _ _ _ _ h.stands in
     let quiet = ap (λ (m : KeepMeaning). m.lifted) c.self.view_is ∙ c.requires.idle in
-    let left : i.made < RECORD_NUMBERS = let e = ap (λ (m : KeepMeaning). m.made) c.self.view_is in let r = c.requires.made in omega arith in
+    let left : i.next_number < RECORD_NUMBERS = let e = ap (λ (m : KeepMeaning). m.next_number) c.self.view_is in let r = c.requires.next_number in omega arith in
     let room = put_room _ _ _ c.self.view_is (count_of_records _ _ _ _ inv.stands) c.requires.room in
     let e = get_or_read order i.len c.index_mut.result.now (omega arith) c.index_mut.ensures.value no_entry in
-    let items = ap (λ (s : ℕ). set order i.len (entry s i.made)) (ap (λ (x : Entry). x.slot) e) in
+    let items = ap (λ (s : ℕ). set order i.len (entry s i.next_number)) (ap (λ (x : Entry). x.slot) e) in
     let now = c.put_into.ensures.after in
     record {
       seated = sits_still _ _ _ (c.put_into.ensures.table ∙ h.table) inv.seated;
-      stands = put_after order _ i.len i.made c.hold_spare-slot.result i.seat.me c.hold_spare-slot.new.seat.me _ c.args.rec h.stands h.seized.same room left h.slot items now;
+      stands = put_after order _ i.len i.next_number c.hold_spare-slot.result i.seat.me c.hold_spare-slot.new.seat.me _ c.args.rec h.stands h.seized.same room left h.slot items now;
       inside = never_inside i.lifted (i.len + 1) quiet;
       out = idle_out _ i.lifted _ quiet (ap (λ (m : Knowing). (owner_of m.0).out) now) (ap (λ (m : Knowing). m.1) now);
     }

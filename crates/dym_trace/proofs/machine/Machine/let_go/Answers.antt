@@ -1,5 +1,5 @@
 use Rattle.std.proofs.Common.{inl, sym, refl}
-use Rattle.dym_slotlaw.specs.Slots.{HasNumber}
+use Rattle.dym_slots.specs.Slots.{HasNumber}
 use Rattle.dym_trace.proofs.Entries.{without_none}
 use Rattle.dym_trace.proofs.machine.Machine.let_go.Goals as goal
 

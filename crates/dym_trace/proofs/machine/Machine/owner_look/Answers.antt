@@ -1,9 +1,9 @@
 use Rattle.std.proofs.Common.{◌≡◌, ◌<◌, ◌-◌, false, nat_eq, List, length, slice_get, ℕ, ap, sym, ◌∙◌, arith}
 use Rattle.std.specs.List.{list_any}
 use Rattle.std.proofs.lemmas.List.{get_or_read}
-use Rattle.dym_slotlaw.specs.declared.slots.Slot.TheVariants.{Free, OutSweeper}
-use Rattle.dym_slotlaw.specs.Slots.{state_of}
-use Rattle.dym_slotlaw.specs.SlotSteps.{remember}
+use Rattle.dym_slots.specs.declared.machine.Slot.TheVariants.{Free, OutSweeper}
+use Rattle.dym_slots.specs.Slots.{state_of}
+use Rattle.dym_slots.specs.SlotSteps.{remember}
 use Rattle.dym_trace.specs.Machine.{core_of}
 use Rattle.dym_trace.proofs.Held.{new_if_not_last, other_last}
 use Rattle.dym_trace.proofs.machine.Machine.owner_look.Goals as goal

@@ -1,8 +1,8 @@
 use Rattle.std.proofs.Common.{rules, arith, ◌≡◌, [], replicate, refl, None}
 use Rattle.std.proofs.lemmas.List.{length-replicate}
-use Rattle.dym_slotlaw.specs.declared.slots.Slot.TheVariants.{Free}
+use Rattle.dym_slots.specs.declared.machine.Slot.TheVariants.{Free}
 use Rattle.dym_base.specs.declared.limits.TheConstants.{LOG_SLOTS}
-use Rattle.dym_slotlaw.specs.Slots.{start}
+use Rattle.dym_slots.specs.Slots.{start}
 use Rattle.dym_trace.proofs.machine.Machine.start.Goals as goal
 
 pub returns-clause-start : goal.returns-clause-start

@@ -26,7 +26,7 @@ invariant_of-self-2 g c =
     let old = c.self.inside.turn.object in
     let new = c.run.new.runner.object in
     let said = c.run.new.runner.reply in (
-      more_job c.self.inside.number c.self.inside.quantum c.self.inside.commands kept.replies c.push.new.self.replies old new c.self.inside.short
+      more_job c.self.inside.number c.self.inside.quantum c.self.inside.commands kept.replies c.push.new.self.replies old new c.self.inside.out_of_memory
           said said c.len.result c.len.ensures c.push.ensures.replies refl few c.in_ok-run.ensures.does c.self.invariant.0,
       still_room c.self.inside.commands kept old new said c.len.result c.len.ensures few c.in_ok-run.ensures.does c.self.invariant.0.whole c.self.invariant.1
           c.push.new.self c.push.ensures.replies c.push.ensures.room c.push.ensures.byte_room,

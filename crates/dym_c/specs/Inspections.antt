@@ -1,0 +1,39 @@
+-- What is told of chunks without a command.
+use Rattle.std.specs.Prelude.{◌≡◌, ℕ, ◌≤◌, false, ◌⊎◌, List, length, Option, None, Some}
+use Rattle.std.specs.FinMap.{get, contains_key}
+use Rattle.dym_base.specs.HeapStep.{key}
+use Rattle.dym_base.specs.Heaps.{Live}
+use Rattle.dym_base.specs.declared.handle.Handle.{Handle}
+use Rattle.dym_heap.specs.Replies.{after_key, IsNextLive}
+use Rattle.dym_object.specs.Meaning.{ObjectMeaning}
+use Rattle.dym_c.specs.Handles.{nil, c_handle}
+use Rattle.dym_c.specs.declared.handle.DymHandle.{DymHandle}
+
+-- the bytes of a live chunk
+abbrev pub bytes_at : ObjectMeaning → Handle → Option (List ℕ)
+bytes_at o h = get o.heap.state.live (key h)
+
+abbrev pub status_by : Option (List ℕ) → ℕ
+status_by None = 3
+status_by (Some bytes) = 0
+
+abbrev pub value_after : Option (List ℕ) → ℕ → ℕ
+value_after None before = before
+value_after (Some bytes) before = length bytes
+
+-- a chunk's length: 3 where it isn't live
+abbrev pub size_status : Option ObjectMeaning → Option Handle → ℕ
+size_status (Some o) (Some h) = status_by (bytes_at o h)
+size_status _ _ = 9
+
+abbrev pub size_after : Option ObjectMeaning → Option Handle → ℕ → ℕ
+size_after (Some o) (Some h) before = value_after (bytes_at o h) before
+size_after _ _ before = before
+
+-- the least live chunk above another, or nil where there is none
+abbrev pub IsLeast : Live → ℕ → DymHandle → Type 0
+IsLeast live from next = ((next ≡ nil) × ((k : ℕ) → from ≤ k → contains_key live k ≡ false)) ⊎ ((h : Handle) × (next ≡ c_handle h) × IsNextLive live from (key h))
+
+abbrev pub IsNext : Option ObjectMeaning → Option (Option Handle) → ℕ → DymHandle → DymHandle → Type 0
+IsNext (Some o) (Some place) status before next = (status ≡ 0) × IsLeast o.heap.state.live (after_key place) next
+IsNext _ _ status before next = (status ≡ 9) × (next ≡ before)

@@ -1,0 +1,45 @@
+-- An object as a checkpoint file, and back.
+use Rattle.std.specs.Prelude.{◌≡◌, ◌⊎◌, ℕ, ◌++◌, nat_lt, if◌then◌else◌, List, length, drop, Option, None, Some}
+use Rattle.std.specs.Bool.{MatchBool}
+use Rattle.dym_base.specs.Files.{file_of, FailsAt}
+use Rattle.dym_base.specs.Names.{is_name}
+use Rattle.dym_ckpt.specs.FileReads.{IsLoaded}
+use Rattle.dym_ckpt.specs.FileRecords.{BeginsWell}
+use Rattle.dym_ckpt.specs.declared.file_reader.Loaded.{Loaded}
+use Rattle.dym_object.specs.Meaning.{ObjectMeaning}
+
+-- the file of an object's kept logs under a name
+abbrev pub file_of_object : List ℕ → ObjectMeaning → List ℕ
+file_of_object name o = file_of name o.heap.quota o.heap.version o.chain.base_logs o.chain.logs
+
+-- a file is written to where bytes begin: 4 where it has no room there, and its length is told in both cases
+pub record IsCopied (file : List ℕ) (status : ℕ) (bytes new : List ℕ) (out_value : ℕ) : Type 0 where
+  pub answer : status ≡ (if nat_lt (length bytes) (length file) then 4 else 0)
+  pub copy : new ≡ (if nat_lt (length bytes) (length file) then bytes else file ++ drop (length file) bytes)
+  pub length_told : out_value ≡ length file
+
+-- nothing was told or written
+abbrev pub IsUnchangedOut : List ℕ → List ℕ → ℕ → ℕ → Type 0
+IsUnchangedOut bytes new before out_value = (new ≡ bytes) × (out_value ≡ before)
+
+-- an open object is written under a name, unless memory was wanting
+abbrev pub IsSaving : Option ObjectMeaning → List ℕ → ℕ → List ℕ → List ℕ → ℕ → ℕ → Type 0
+IsSaving None name status bytes new before out_value = (status ≡ 9) × IsUnchangedOut bytes new before out_value
+IsSaving (Some o) name status bytes new before out_value =
+    MatchBool (is_name name) (IsCopied (file_of_object name o) status bytes new out_value ⊎ ((status ≡ 8) × IsUnchangedOut bytes new before out_value))
+    ((status ≡ 9) × IsUnchangedOut bytes new before out_value)
+
+-- the object that was made of a file
+abbrev pub object_of : Loaded → ObjectMeaning
+object_of loaded = record { heap = loaded.heap; chain = loaded.chain; ran = loaded.chain.next_number }
+
+-- what an opening by a file leaves: the object of the file; or none, where memory was wanting behind a good header, or with the first
+-- part that fails
+abbrev pub IsFilled : List ℕ → ℕ → Option ObjectMeaning → ℕ → ℕ → Type 0
+IsFilled bytes status (Some o) before part = (status ≡ 0) × (part ≡ before) × ((loaded : Loaded) × IsLoaded bytes loaded × (o ≡ object_of loaded))
+IsFilled bytes status None before part = ((status ≡ 8) × (part ≡ before) × BeginsWell bytes) ⊎ ((status ≡ 9) × FailsAt bytes part)
+
+-- only a closed object is opened by a file
+abbrev pub IsLoading : Option ObjectMeaning → List ℕ → ℕ → Option ObjectMeaning → ℕ → ℕ → Type 0
+IsLoading None bytes status new before part = IsFilled bytes status new before part
+IsLoading (Some o) bytes status new before part = (status ≡ 9) × (new ≡ Some o) × (part ≡ before)

@@ -1,0 +1,89 @@
+//! Opening and closing an object.
+ghost use Rattle.std.specs.Prelude.{◌≡◌, None, IfOk};
+ghost use Rattle.dym_c.specs.Openings.{IsOpening, IsClosing, first, version_of};
+ghost use Rattle.dym_base.specs.declared.limits.TheConstants.{MOST_QUOTA};
+ghost use Rattle.std.specs.Prelude.{◌≤◌};
+
+use crate::object::DymObject;
+use crate::object_content::{ObjectContent, Process};
+use crate::status::{BAD, DONE, MEMORY};
+use dym_base::Version;
+use dym_base::limits::MOST_QUOTA;
+use dym_chain::VecKeep;
+use dym_object::Object;
+use dym_quota::OwnSupply;
+use std::alloc::{AllocError, Global};
+
+/// Opens a closed object with an empty heap of at most `quota` segments.
+#[unsafe(no_mangle)]
+pub extern "C" fn dym_open(alloc: Global, object: &mut DymObject, quota: u32, version: u32) -> u32
+    ensures { IsOpening object.old.value quota (version_of version) result object.new.value }
+{
+    if let Some(inside) = object.take(alloc) {
+        object.put(alloc, inside);
+        return BAD;
+    }
+    let Some(version) = version_of_c(version) else {
+        return BAD;
+    };
+    if quota == 0 || MOST_QUOTA < quota {
+        return BAD;
+    }
+    let Ok(inside) = boxed(alloc, quota, version) else {
+        return MEMORY;
+    };
+    object.put(alloc, inside);
+    DONE
+}
+
+/// Closes an object, and gives all its memory back.
+#[unsafe(no_mangle)]
+pub extern "C" fn dym_close(alloc: Global, object: &mut DymObject) -> u32
+    ensures { IsClosing object.old.value result object.new.value }
+{
+    match object.take(alloc) {
+        Some(inside) => {
+            drop(inside);
+            DONE
+        }
+        None => BAD,
+    }
+}
+
+/// The version that C names by its number.
+fn version_of_c(version: u32) -> Option<Version>
+    ensures { result ≡ version_of version }
+{
+    match version {
+        1 => Some(Version::One),
+        2 => Some(Version::Two),
+        _ => None,
+    }
+}
+
+/// An object at its start.
+fn boxed(alloc: Global, quota: u32, version: Version) -> Result<Box<ObjectContent>, AllocError>
+    requires least { 1 ≤ quota }
+    requires most { quota ≤ MOST_QUOTA }
+    ensures { IfOk result (λ inside. inside.value ≡ first version quota) }
+{
+    let object = opened(alloc, quota, version)?;
+    match Box::new(alloc, ObjectContent { object }) {
+        Ok(inside) => Ok(inside),
+        Err(_) => Err(AllocError),
+    }
+}
+
+/// An object at its start.
+fn opened(alloc: Global, quota: u32, version: Version) -> Result<Process, AllocError>
+    requires least { 1 ≤ quota }
+    requires most { quota ≤ MOST_QUOTA }
+    ensures { IfOk result (λ object. object ≡ first version quota) }
+{
+    let keep = VecKeep::open(alloc)?;
+    let supply = OwnSupply::open(alloc, quota)?;
+    match Object::open_as(alloc, supply, keep, version) {
+        Ok(object) => Ok(object),
+        Err((error, _, _)) => Err(error),
+    }
+}

@@ -1,4 +1,0 @@
-use Rattle.dym_chain.proofs.ledger.Ledger.logged.Given as goal
-
-abbrev pub ghost-telling : goal.ghost-telling
-ghost-telling g a = g.whole

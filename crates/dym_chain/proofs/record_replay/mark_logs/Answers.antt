@@ -1,0 +1,55 @@
+use Rattle.std.proofs.Common.{arith, ◌≡◌, ◌+◌, inl, inr, unwrap_or, length, refl, sym, ap, subst, ◌∙◌}
+use Rattle.std.proofs.lemmas.Bool.{cases_lt}
+use Rattle.dym_pack.specs.ParsedAreas.{IsRecord, OfLog}
+use Rattle.dym_heap.specs.Meaning.{HeapMeaning}
+use Rattle.dym_slots.specs.Meanings.{KeepMeaning, record_at}
+use Rattle.dym_chain.specs.Differences.{beside_at}
+use Rattle.dym_chain.specs.Loads.{PacksTouched}
+use Rattle.dym_chain.proofs.Besides as besides
+use Rattle.dym_chain.proofs.record_replay.mark_logs.Goals as goal
+
+pub mark_log-requires-clause-idle : goal.mark_log-requires-clause-idle
+mark_log-requires-clause-idle g c = ap (λ (k : KeepMeaning). k.lifted) c.loop-i.invariant.keep ∙ c.requires.idle
+
+pub mark_log-requires-clause-within : goal.mark_log-requires-clause-within
+mark_log-requires-clause-within g c =
+    let same = ap (λ (k : KeepMeaning). length k.records) c.loop-i.invariant.keep in
+    omega (arith, c.loop-i-test.true, c.requires.within, same)
+
+pub mark_log-requires-clause-few : goal.mark_log-requires-clause-few
+mark_log-requires-clause-few g c = omega (arith, c.loop-i-test.true, c.requires.few)
+
+pub mark_log-requires-clause-recorded : goal.mark_log-requires-clause-recorded
+mark_log-requires-clause-recorded g c =
+    subst (λ (k : KeepMeaning). IsRecord (unwrap_or (beside_at c.args.differences.now c.loop-i.i) (record_at k.records (c.args.base + c.loop-i.i)).bytes)) (sym c.loop-i.invariant.keep)
+    (c.requires.recorded c.loop-i.i c.loop-i.auto.i c.loop-i-test.true)
+
+pub loop-i-init : goal.loop-i-init
+loop-i-init g c = record {
+  keep = refl;
+  same = refl;
+  sound = c.requires.sound;
+  unmodified = λ k was. refl;
+  marked = λ j low base_logs. absurd (omega (arith, low, base_logs));
+}
+
+pub loop-i-preserved : goal.loop-i-preserved
+loop-i-preserved g c =
+    let m : KeepMeaning = g.K.LogKeep.meaning c.args.keep.now in
+    record {
+      keep = c.mark_log.ensures.keep ∙ c.loop-i.invariant.keep;
+      same = c.mark_log.ensures.same ∙ ap (λ (h : HeapMeaning). record h { state = c.mark_log.new.heap.state }) c.loop-i.invariant.same;
+      sound = c.mark_log.ensures.sound;
+      unmodified = besides.settles_on c.args.heap.now.state c.loop-i.heap.state c.mark_log.new.heap.state c.loop-i.invariant.unmodified c.mark_log.ensures.unmodified;
+      marked = λ j low base_logs.
+          elim (cases_lt j c.loop-i.i) as (λ _. OfLog (unwrap_or (beside_at c.args.differences.now j) (record_at m.records (c.args.base + j)).bytes) (PacksTouched c.mark_log.new.heap.state)) [
+            | inl before ↦ λ log recorded is. besides.touches_on c.loop-i.heap.state c.mark_log.new.heap.state log (c.loop-i.invariant.marked j low before log recorded is) c.mark_log.ensures.unmodified
+            | inr past ↦
+                let at : c.loop-i.i ≡ j = omega (arith, base_logs, past) in
+                subst (λ n. OfLog (unwrap_or (beside_at c.args.differences.now n) (record_at m.records (c.args.base + n)).bytes) (PacksTouched c.mark_log.new.heap.state)) at
+                (subst (λ (k : KeepMeaning). OfLog (unwrap_or (beside_at c.args.differences.now c.loop-i.i) (record_at k.records (c.args.base + c.loop-i.i)).bytes) (PacksTouched c.mark_log.new.heap.state)) c.loop-i.invariant.keep c.mark_log.ensures.marked)
+          ];
+    }
+
+pub returns-clause-marked : goal.returns-clause-marked
+returns-clause-marked g c j low base_logs = c.loop-i.invariant.marked j low (omega (arith, base_logs, c.loop-i-test.false))

@@ -1,0 +1,185 @@
+//! A heap and its logs from the bytes of a file.
+ghost use Rattle.std.specs.Prelude.{◌≡◌, ℕ, ◌<◌, ◌≤◌, None, List, [], ◌∷◌, ◌++◌, length, IfOk, OnOk, IfErr};
+ghost use Rattle.dym_base.specs.Files.{IsFile, framed};
+ghost use Rattle.dym_base.specs.LawfulLists.{IsRecordOf, IsLawfulList};
+ghost use Rattle.dym_base.specs.Objects.{empty_heap, newest};
+ghost use Rattle.dym_base.specs.Origins.{own};
+ghost use Rattle.dym_base.specs.declared.limits.TheConstants.{MOST_QUOTA, MOST_RECORDS};
+ghost use Rattle.dym_pack.specs.declared.record_parser.RecordFail.TheVariants as record_fail;
+ghost use Rattle.dym_heap.specs.Meaning.{IsSound};
+ghost use Rattle.dym_chain.specs.Chains.{Belongs, StandsForCopies};
+ghost use Rattle.dym_chain.specs.KeptRecords.{AreKeptRecords};
+ghost use Rattle.dym_chain.specs.Keeps.{bytes_of};
+ghost use Rattle.dym_ckpt.specs.Heads.{said};
+ghost use Rattle.dym_ckpt.specs.Lists.{IsListed};
+ghost use Rattle.dym_ckpt.specs.FileReads.{IsLoaded, heap_at};
+ghost use Rattle.dym_ckpt.specs.FileRecords.{FailsAs, AreRead, RecordIsRead, NoRecordIn, StopsAs};
+ghost use Rattle.dym_ckpt.specs.declared.file_reader.FileFail.TheVariants as file_fail;
+
+use crate::head::{Head, head_in};
+use crate::records::{RecordList, Rule, framed_in};
+use dym_base::{Name, Version};
+use dym_chain::{Chain, VecKeep};
+use dym_heap::Heap;
+use dym_pack::RecordFail;
+use dym_quota::OwnSupply;
+use std::alloc::{AllocError, Global};
+
+/// Why bytes gave no heap: they are no file, and this is the first part that fails, or memory is wanting, which is told only of bytes
+/// that begin with a good header. Part 0 is the header, parts from 1 on are the records, and the one after the last record is what
+/// follows it.
+#[derive(Debug, Clone, Copy, PartialEq, Eq)]
+pub enum FileFail {
+    Bad { part: u32 },
+    Memory,
+}
+
+/// What was made of a file: the name of its object, the heap as its newest log has it, and the logs.
+pub struct Loaded {
+    pub name: Name,
+    pub heap: Heap<OwnSupply>,
+    pub chain: Chain<VecKeep>,
+}
+
+/// The heap and the logs of a file. Bad comes exactly where the bytes are none, with the first part that fails.
+///
+/// The file is read in one pass. Until it is known to be one, what is taken is a small multiple of its bytes and room for a full
+/// list of records, whatever numbers stand in it; then the segments of its quota.
+pub fn load_file(alloc: Global, bytes: &[u8]) -> Result<Loaded, FileFail>
+    ensures loaded { IfOk result (IsLoaded bytes.now) }
+    ensures fails { IfErr result (FailsAs bytes.now) }
+{
+    let (head, record_list) = read_file(alloc, bytes)?;
+    let Head {
+        name,
+        quota,
+        version,
+        count: _,
+        depth,
+    } = head;
+    let Ok(mut heap) = open_heap(alloc, quota, version) else {
+        return Err(FileFail::Memory);
+    };
+    let Ok(mut chain) = Chain::adopt(alloc, record_list.into_keep(), depth) else {
+        heap.end(&());
+        return Err(FileFail::Memory);
+    };
+    restore_newest(&mut chain, &mut heap);
+    Ok(Loaded { name, heap, chain })
+}
+
+/// An empty heap with segments of its own.
+fn open_heap(alloc: Global, quota: u32, version: Version) -> Result<Heap<OwnSupply>, AllocError>
+    requires least { 1 ≤ quota }
+    requires most { quota ≤ MOST_QUOTA }
+    ensures opened { IfOk result (λ heap.
+        heap ≡ record {
+          version = version;
+          quota = quota;
+          state = empty_heap;
+          held_ids = [];
+          origin = own;
+          applied = 0;
+        }) }
+    ensures sound { IfOk result IsSound }
+{
+    let supply = OwnSupply::open(alloc, quota)?;
+    match Heap::open_as(alloc, supply, version) {
+        Ok(heap) => Ok(heap),
+        Err((why, _supply)) => Err(why),
+    }
+}
+
+/// Restores the newest log into an empty heap.
+fn restore_newest(chain: &mut Chain<VecKeep>, heap: &mut Heap<OwnSupply>)
+    requires belongs { Belongs heap.old.version heap.old.quota heap.old.state chain.old }
+    requires empty { heap.old.state ≡ empty_heap }
+    requires kept { AreKeptRecords chain.old }
+    requires sound { IsSound heap.old }
+    requires idle { chain.old.lifted ≡ None }
+    ensures state { heap.new.state ≡ heap_at (newest chain.old.logs) }
+    ensures heap { heap.new ≡ record heap.old { state = heap.new.state; held_ids = heap.new.held_ids } }
+    ensures chain { chain.new ≡ record chain.old { records = chain.new.records } }
+    ensures records { bytes_of chain.new.records ≡ bytes_of chain.old.records }
+    ensures belongs { Belongs heap.new.version heap.new.quota heap.new.state chain.new }
+    ensures stands { StandsForCopies chain.new }
+    ensures sound { IsSound heap.new }
+{
+    if let Some(time) = chain.newest() {
+        let _at = chain.restore(&(), heap, time);
+    }
+}
+
+/// The header and the records of a file.
+fn read_file(alloc: Global, bytes: &[u8]) -> Result<(Head, RecordList), FileFail>
+    ensures file { IfOk result (λ file. IsFile bytes.now (said file.0) (bytes_of file.1.keep.records)) }
+    ensures record_list { IfOk result (λ file. IsListed file.0.version file.0.depth file.1) }
+    ensures fails { IfErr result (FailsAs bytes.now) }
+{
+    let Some((head, rest)) = head_in(bytes) else {
+        return Err(FileFail::Bad { part: 0 });
+    };
+    let rule = Rule {
+        version: head.version,
+        quota: head.quota,
+        depth: head.depth,
+    };
+    let (record_list, rest) = read_records(alloc, rule, head.count, rest)?;
+    if !rest.is_empty() {
+        return Err(FileFail::Bad {
+            part: head.count + 1,
+        });
+    }
+    Ok((head, record_list))
+}
+
+/// The records that stand behind a header, and what is behind them.
+fn read_records(
+    alloc: Global,
+    rule: Rule,
+    count: u32,
+    bytes: &[u8],
+) -> Result<(RecordList, &[u8]), FileFail>
+    requires few { count ≤ MOST_RECORDS }
+    requires quota { rule.quota ≤ MOST_QUOTA }
+    ensures read { IfOk result (λ read.
+        AreRead rule.version rule.quota rule.depth bytes.now read.0 count read.1.now) }
+    ensures stops { IfErr result (StopsAs rule.version rule.quota rule.depth count bytes.now) }
+{
+    let Ok(mut record_list) = RecordList::open(alloc) else {
+        return Err(FileFail::Memory);
+    };
+    let mut rest = bytes;
+    for place in 0..count {
+        rest = match read_record(alloc, rule, &mut record_list, rest) {
+            Ok(behind) => behind,
+            Err(RecordFail::Bad) => return Err(FileFail::Bad { part: place + 1 }),
+            Err(RecordFail::Memory) => return Err(FileFail::Memory),
+        };
+    }
+    Ok((record_list, rest))
+}
+
+/// Appends the record that the bytes begin with, and answers what is behind it.
+fn read_record<'a>(
+    alloc: Global,
+    rule: Rule,
+    record_list: &mut RecordList,
+    bytes: &'a [u8],
+) -> Result<&'a [u8], RecordFail>
+    requires record_list { IsListed rule.version rule.depth record_list.old }
+    requires few { length record_list.old.keep.records < MOST_RECORDS }
+    ensures record_list { OnOk result (IsListed rule.version rule.depth record_list.new) }
+    ensures read { IfOk result (λ rest.
+        RecordIsRead rule.version rule.quota record_list.old record_list.new bytes.now rest.now) }
+    ensures bad { IfErr result (λ why.
+        why ≡ record_fail.Bad → NoRecordIn rule.version rule.quota rule.depth record_list.old bytes.now) }
+{
+    let Some((record, rest)) = framed_in(bytes) else {
+        return Err(RecordFail::Bad);
+    };
+    match record_list.add(alloc, rule, record) {
+        Ok(()) => Ok(rest),
+        Err(why) => Err(why),
+    }
+}

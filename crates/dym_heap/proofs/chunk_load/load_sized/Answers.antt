@@ -1,0 +1,43 @@
+use Rattle.std.proofs.Common.{◌+◌, ◌-◌, ap, subst, sym, length, take, drop, arith, length-take}
+use Rattle.dym_base.specs.Numbers.{per}
+use Rattle.dym_heap.proofs.Sizes.{per_fits}
+use Rattle.dym_heap.proofs.Loads as loads
+use Rattle.dym_heap.proofs.chunk_load.load_sized.Goals as goal
+
+pub next_set-requires : goal.next_set-requires
+next_set-requires g c = let small = c.loop-i.invariant.small in let most = per_fits _ c.requires.valid.least in omega arith
+
+pub slice_bounds-number_in-end : goal.slice_bounds-number_in-end
+slice_bounds-number_in-end g c = let fits = loads.two_four c.args.area.now c.args.packed.now c.args.wanted.now c.args.body.now c.requires.wanted c.requires.valid c.requires.body c.loop-i.area c.loop-i.from c.loop-i.at c.loop-i.invariant.loaded c.in-Some.i c.in-Some.ensures c.loop-i.invariant.within in omega arith
+
+pub slice_bounds-load_chunk-end : goal.slice_bounds-load_chunk-end
+slice_bounds-load_chunk-end g c = let fits = loads.two_whole c.args.area.now c.args.packed.now c.args.wanted.now c.args.body.now c.requires.wanted c.requires.valid c.requires.body c.loop-i.area c.loop-i.from c.loop-i.at c.loop-i.invariant.loaded c.in-Some.i c.in-Some.ensures _ c.number_in-len.ensures c.loop-i.invariant.within in omega arith
+
+pub load_chunk-requires-clause-chunk : goal.load_chunk-requires-clause-chunk
+load_chunk-requires-clause-chunk g c =
+    let top = loads.two_end c.args.area.now c.args.packed.now c.args.wanted.now c.args.body.now c.requires.wanted c.requires.valid c.requires.body c.loop-i.area c.loop-i.from c.loop-i.at c.loop-i.invariant.loaded c.in-Some.i c.in-Some.ensures in
+    let same = ap per (loads.two_exponent c.args.area.now c.args.packed.now c.args.wanted.now c.args.body.now c.requires.wanted c.requires.valid c.requires.body c.loop-i.area c.loop-i.from c.loop-i.at c.loop-i.invariant.loaded c.in-Some.i c.in-Some.ensures) in
+    omega arith
+
+pub load_chunk-requires-clause-fits : goal.load_chunk-requires-clause-fits
+load_chunk-requires-clause-fits g c = loads.two_room c.args.area.now c.args.packed.now c.args.wanted.now c.args.body.now c.requires.wanted c.requires.valid c.requires.body c.loop-i.area c.loop-i.from c.loop-i.at c.loop-i.invariant.loaded c.in-Some.i c.in-Some.ensures _ c.number_in-len.ensures
+
+pub loop-i-preserved : goal.loop-i-preserved
+loop-i-preserved g c = record {
+  small = loads.two_end c.args.area.now c.args.packed.now c.args.wanted.now c.args.body.now c.requires.wanted c.requires.valid c.requires.body c.loop-i.area c.loop-i.from c.loop-i.at c.loop-i.invariant.loaded c.in-Some.i c.in-Some.ensures;
+  within = loads.two_whole c.args.area.now c.args.packed.now c.args.wanted.now c.args.body.now c.requires.wanted c.requires.valid c.requires.body c.loop-i.area c.loop-i.from c.loop-i.at c.loop-i.invariant.loaded c.in-Some.i c.in-Some.ensures _ c.number_in-len.ensures c.loop-i.invariant.within;
+  valid = c.load_chunk.ensures.valid;
+  loaded = loads.two_more c.args.area.now c.args.packed.now c.args.wanted.now c.args.body.now c.requires.wanted c.requires.valid c.requires.body c.loop-i.area c.loop-i.from c.loop-i.at c.loop-i.invariant.loaded c.in-Some.i c.in-Some.ensures _ _ c.number_in-len.ensures c.load_chunk.ensures.loaded;
+  with_length = λ f is.
+      let below = loads.first_below _ _ _ _ _ c.requires.valid.least c.requires.body c.in-Some.ensures.is_set in
+      let whole = c.loop-i.lengths.whole in
+      loads.two_noted c.args.area.now c.args.packed.now c.args.wanted.now c.args.body.now c.requires.wanted c.requires.valid c.requires.body c.loop-i.area c.loop-i.from c.loop-i.at c.loop-i.invariant.loaded c.in-Some.i c.in-Some.ensures c.number_in-len.result _ c.loop-i.lengths.table.items c.load_chunk.new.lengths.table.items c.args.lengths.now.table.items (omega arith) c.number_in-len.ensures (loads.two_bytes c.args.area.now c.args.packed.now c.args.wanted.now c.args.body.now c.requires.wanted c.requires.valid c.requires.body c.loop-i.area c.loop-i.from c.loop-i.at c.loop-i.invariant.loaded c.in-Some.i c.in-Some.ensures _ c.number_in-len.ensures) c.load_chunk.ensures.with_length f is (c.loop-i.invariant.with_length f is);
+}
+
+pub returns-clause-loaded : goal.returns-clause-loaded
+returns-clause-loaded g c = λ f is.
+    loads.loaded_all _ c.args.area.now c.args.packed.now c.args.wanted.now c.args.body.now f is c.requires.wanted c.requires.valid c.loop-i.area c.loop-i.from c.loop-i.at (c.loop-i.invariant.loaded f is) c.in_default.ensures
+
+pub returns-clause-with_length : goal.returns-clause-with_length
+returns-clause-with_length g c = λ f is.
+    loads.noted_all c.args.lengths.now.table.items c.loop-i.lengths.table.items c.args.packed.now c.args.wanted.now f c.loop-i.from c.requires.wanted (c.loop-i.invariant.with_length f is) c.in_default.ensures

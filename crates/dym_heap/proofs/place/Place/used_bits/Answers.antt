@@ -1,7 +1,0 @@
-use Rattle.std.proofs.Common.{ap, ◌∙◌}
-use Rattle.dym_bits.specs.Bits.{bit_in}
-use Rattle.dym_heap.proofs.LendingCalls as calls
-use Rattle.dym_heap.proofs.place.Place.used_bits.Goals as goal
-
-pub returns : goal.returns
-returns g c = λ i. ap (λ bits. bit_in bits i) c.used.ensures ∙ calls.used_p _ _ _ c.self.view_is c.self.invariant i

@@ -1,0 +1,27 @@
+//! A record's packed chunks are put over those of a shelf.
+ghost use Rattle.std.specs.Prelude.{◌≡◌};
+ghost use Rattle.dym_pack.specs.ParsedAreas.{OfLog};
+ghost use Rattle.dym_heap.specs.RecordLoads.{IsLoaded};
+ghost use Rattle.dym_heap.specs.Table.{live_of, touched_of};
+ghost use Rattle.dym_heap.specs.Shelves.{IsTidy};
+
+use crate::shelf::Shelf;
+use dym_pack::Record;
+use dym_quota::Supply;
+
+/// Writes the bytes, and in version 2 the length, of each chunk that the record packs and that is in use.
+pub(crate) fn load_record<S: Supply>(shelf: &mut Shelf<S>, rec: &Record)
+    requires version { OfLog rec.now (λ log. log.version ≡ shelf.old.version) }
+    requires tidy { IsTidy shelf.old }
+    ensures loaded { OfLog rec.now (λ log. IsLoaded log (live_of shelf.old.rows) (live_of shelf.new.rows)) }
+    ensures touched { touched_of shelf.new.rows ≡ touched_of shelf.old.rows }
+    ensures same { shelf.new ≡ record shelf.old { rows = shelf.new.rows } }
+    ensures tidy { IsTidy shelf.new }
+{
+    for k in 0..rec.area_count() {
+        let exp = rec.area_exp(k);
+        let ordinal = rec.area_ordinal(k);
+        let packed = rec.packed_bits(k);
+        shelf.load_area(exp, ordinal, &packed, rec.body(k));
+    }
+}

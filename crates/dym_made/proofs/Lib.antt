@@ -1,4 +1,0 @@
-pub mod Words
-pub mod Commands
-pub mod Lines
-pub mod Scripts

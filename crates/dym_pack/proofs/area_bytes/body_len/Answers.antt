@@ -1,0 +1,79 @@
+use Rattle.std.proofs.Common.{◌≡◌, ◌*◌, length, ap, sym, ◌∙◌, arith}
+use Rattle.dym_base.specs.Numbers.{per, size}
+use Rattle.dym_pack.specs.Areas.{logged, area_at}
+use Rattle.dym_pack.specs.ParsedAreas.{body_from}
+use Rattle.dym_pack.proofs.Named.{area_is, few_chunks}
+use Rattle.dym_pack.proofs.Chunks.{body_most, body_len_one, count_of_area_is}
+use Rattle.dym_pack.proofs.Logs.{lent}
+use Rattle.dym_pack.proofs.area_bytes.body_len.Goals as goal
+
+pub per_area-requires-clause-least : goal.per_area-requires-clause-least
+per_area-requires-clause-least g c =
+    let is = area_is (g.A.Areas.meaning c.args.areas.now).live c.args.k c.requires.area in
+    omega arith
+
+pub per_area-requires-clause-greatest : goal.per_area-requires-clause-greatest
+per_area-requires-clause-greatest g c =
+    let is = area_is (g.A.Areas.meaning c.args.areas.now).live c.args.k c.requires.area in
+    omega arith
+
+pub count_below-requires : goal.count_below-requires
+count_below-requires g c =
+    let few = few_chunks (g.A.Areas.meaning c.args.areas.now).live c.args.k c.requires.area in
+    omega (arith, c.per_area.ensures ∙ ap per c.requires.exp)
+
+pub size_of_class-requires-clause-least : goal.size_of_class-requires-clause-least
+size_of_class-requires-clause-least g c =
+    let is = area_is (g.A.Areas.meaning c.args.areas.now).live c.args.k c.requires.area in
+    omega arith
+
+pub size_of_class-requires-clause-greatest : goal.size_of_class-requires-clause-greatest
+size_of_class-requires-clause-greatest g c =
+    let is = area_is (g.A.Areas.meaning c.args.areas.now).live c.args.k c.requires.area in
+    omega arith
+
+pub overflow_mul-result : goal.overflow_mul-result
+overflow_mul-result g c =
+    let m = g.A.Areas.meaning c.args.areas.now in
+    let log = logged m c.args.kind 0 in
+    let ok = lent m c.args.kind 0 c.requires.packable in
+    let most = body_most log ok c.args.k c.requires.area in
+    let size_is : c.size_of_class.result ≡ size (area_at m.live c.args.k).exponent = c.size_of_class.ensures ∙ ap size c.requires.exp in
+    let value : c.count_below.result * c.size_of_class.result ≡ length (body_from log c.args.k 0)
+    = ap (λ n. n * c.size_of_class.result) (c.count_below.ensures.counted ∙ count_of_area_is log c.args.k c.bits_to_pack-bits.result.now c.bits_to_pack-bits.ensures c.per_area.result (c.per_area.ensures ∙ ap per c.requires.exp))
+    ∙ ap (λ s. length (Rattle.dym_pack.specs.ParsedAreas.packed_from log c.args.k 0) * s) size_is
+    ∙ sym (body_len_one log ok (sym c.version.ensures ∙ c.in-One.is) c.args.k c.requires.area) in
+    omega arith
+
+pub returns-in-One-clause-value : goal.returns-in-One-clause-value
+returns-in-One-clause-value g c =
+    let m = g.A.Areas.meaning c.args.areas.now in
+    let log = logged m c.args.kind 0 in
+    let ok = lent m c.args.kind 0 c.requires.packable in
+    let most = body_most log ok c.args.k c.requires.area in
+    let size_is : c.size_of_class.result ≡ size (area_at m.live c.args.k).exponent = c.size_of_class.ensures ∙ ap size c.requires.exp in
+    let value : c.count_below.result * c.size_of_class.result ≡ length (body_from log c.args.k 0)
+    = ap (λ n. n * c.size_of_class.result) (c.count_below.ensures.counted ∙ count_of_area_is log c.args.k c.bits_to_pack-bits.result.now c.bits_to_pack-bits.ensures c.per_area.result (c.per_area.ensures ∙ ap per c.requires.exp))
+    ∙ ap (λ s. length (Rattle.dym_pack.specs.ParsedAreas.packed_from log c.args.k 0) * s) size_is
+    ∙ sym (body_len_one log ok (sym c.version.ensures ∙ c.in-One.is) c.args.k c.requires.area) in
+    value
+
+pub returns-in-One-clause-few : goal.returns-in-One-clause-few
+returns-in-One-clause-few g c =
+    let m = g.A.Areas.meaning c.args.areas.now in
+    let log = logged m c.args.kind 0 in
+    let ok = lent m c.args.kind 0 c.requires.packable in
+    let most = body_most log ok c.args.k c.requires.area in
+    let size_is : c.size_of_class.result ≡ size (area_at m.live c.args.k).exponent = c.size_of_class.ensures ∙ ap size c.requires.exp in
+    let value : c.count_below.result * c.size_of_class.result ≡ length (body_from log c.args.k 0)
+    = ap (λ n. n * c.size_of_class.result) (c.count_below.ensures.counted ∙ count_of_area_is log c.args.k c.bits_to_pack-bits.result.now c.bits_to_pack-bits.ensures c.per_area.result (c.per_area.ensures ∙ ap per c.requires.exp))
+    ∙ ap (λ s. length (Rattle.dym_pack.specs.ParsedAreas.packed_from log c.args.k 0) * s) size_is
+    ∙ sym (body_len_one log ok (sym c.version.ensures ∙ c.in-One.is) c.args.k c.requires.area) in
+    omega arith
+
+pub returns-in-Two-clause-few : goal.returns-in-Two-clause-few
+returns-in-Two-clause-few g c =
+    let m = g.A.Areas.meaning c.args.areas.now in
+    let log = logged m c.args.kind 0 in
+    let most = body_most log (lent m c.args.kind 0 c.requires.packable) c.args.k c.requires.area in
+    omega (arith, c.chunks_len.ensures)

@@ -1,9 +1,0 @@
-use Rattle.std.proofs.Common.{subst}
-use Rattle.dym_pack.specs.Contents.{IsMaps}
-use Rattle.dym_pack.proofs.reading.maps_in.Goals as goal
-
-pub returns-in-Full-clause-only : goal.returns-in-Full-clause-only
-returns-in-Full-clause-only c seen is = c.full_maps.ensures.only seen (subst (λ kind. IsMaps kind c.args.exp c.args.bytes.now seen) c.in-Full.is is)
-
-pub returns-in-Inc-clause-only : goal.returns-in-Inc-clause-only
-returns-in-Inc-clause-only c seen is = c.inc_maps.ensures.only seen (subst (λ kind. IsMaps kind c.args.exp c.args.bytes.now seen) c.in-Inc.is is)

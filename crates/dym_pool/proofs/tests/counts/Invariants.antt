@@ -1,7 +1,0 @@
-use Rattle.std.proofs.Common.{◌≡◌, vec_len, vec_capacity}
-use Rattle.dym_pool.specs.Jobs.{Numbered}
-use Rattle.dym_pool.specs.declared.tests.Count.{Count}
-use Rattle.dym_pool.proofs.tests.counts.Given as goal
-
-abbrev pub invariant-loop-number : goal.invariant-loop-number
-invariant-loop-number l = (vec_len l.counts ≡ l.number) × (vec_capacity l.counts ≡ l.jobs) × Numbered (λ (j : Count). j.number) l.counts.items

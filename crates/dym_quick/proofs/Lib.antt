@@ -1,4 +1,0 @@
-pub mod Spelled
-pub mod Fronts
-pub mod Rows
-pub mod VerbFronts

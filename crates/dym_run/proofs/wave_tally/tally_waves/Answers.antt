@@ -1,0 +1,13 @@
+use Rattle.std.proofs.Common.{false}
+use Rattle.dym_run.proofs.Progress.{all_counted, all_replied}
+use Rattle.dym_run.proofs.wave_tally.tally_waves.Goals as goal
+
+pub returns-clause-counted : goal.returns-clause-counted
+returns-clause-counted g c =
+    all_counted (record { version = c.args.version; views = false }) c.in_ok-object_queue.object_queue.options c.args.parts.items c.in_ok-object_queue.object_queue.parts.items c.in_ok-object_queue.ensures.options c.in_ok-object_queue.ensures.parts
+    c.tally_all-tally.result c.tally_all-tally.ensures.counted
+
+pub returns-clause-replies : goal.returns-clause-replies
+returns-clause-replies g c =
+    all_replied (record { version = c.args.version; views = false }) c.in_ok-object_queue.object_queue.options c.args.parts.items c.in_ok-object_queue.object_queue.parts.items c.in_ok-object_queue.ensures.options c.in_ok-object_queue.ensures.parts
+    c.tally_all-tally.result c.tally_all-tally.ensures.counted

@@ -1,0 +1,128 @@
+//! What objects that run in waves come to.
+ghost use Rattle.std.specs.Prelude.{◌≡◌, ◌+◌, ◌≤◌, ◌<◌, IfOk, length, map, sum_by, vec_len, All, IsPermutation};
+ghost use Rattle.dym_base.specs.declared.limits.TheConstants.{MOST_OBJECTS, MOST_COMMANDS};
+ghost use Rattle.dym_region.specs.Identity.{AreDistinct};
+ghost use Rattle.dym_run.specs.Results.{parts_shown, IsTallyOf, TalliesFirst};
+ghost use Rattle.dym_run.specs.Parts.{own_of, IsRunnable, IsShape};
+ghost use Rattle.dym_run.specs.Summary.{tally_all};
+
+use crate::object_queue::ObjectQueue;
+use crate::object_result::ObjectResult;
+use crate::report_options::ReportOptions;
+use crate::shape::Shape;
+use crate::tally::Tally;
+use dym_base::Version;
+use dym_base::limits::{MOST_COMMANDS, MOST_OBJECTS};
+use dym_pool::Gate;
+use dym_region::{RawSegment, Region, Segment};
+use dym_script::Part;
+use std::alloc::{AllocError, Global};
+use std::mem;
+use std::sync::Wait;
+use std::thread::Threads;
+
+/// What objects come to together. They run in waves, as where their parts are written.
+///
+/// The gate is told of each wave and each turn. A call may wait for other threads.
+pub fn tally_waves<R: Threads + Wait + Send + Sync, G: Gate>(
+    rt: &R,
+    alloc: Global,
+    version: Version,
+    parts: Vec<Part>,
+    shape: Shape,
+    gate: &G,
+) -> Result<Tally, AllocError>
+    requires runnable { All IsRunnable parts.items }
+    requires shape { IsShape shape }
+    requires fits { All (λ part. part.decl.quota ≤ shape.segments) parts.items }
+    requires objects { vec_len parts ≤ MOST_OBJECTS }
+    requires commands { sum_by (λ part. length part.commands) parts.items ≤ MOST_COMMANDS }
+    ensures counted { IfOk result (λ tally. tally ≡ tally_all version (map own_of parts.items)) }
+    ensures replies { IfOk result (λ tally.
+        tally.ok + tally.refused ≡ sum_by (λ part. length part.commands) parts.items) }
+{
+    if parts.is_empty() {
+        return Ok(Tally::none());
+    }
+    let options = ReportOptions {
+        version,
+        views: false,
+    };
+    let mut object_queue = ObjectQueue::of(alloc, options, parts, shape, false)?;
+    let (region, mut segments) = Region::new(alloc, object_queue.most)?;
+    let tally = tally_all(rt, alloc, &mut object_queue, &mut segments, gate);
+    region.close(segments);
+    tally
+}
+
+/// What all objects that have yet to run come to, wave by wave.
+fn tally_all<R: Threads + Wait + Send + Sync, G: Gate>(
+    rt: &R,
+    alloc: Global,
+    object_queue: &mut ObjectQueue,
+    segments: &mut Vec<RawSegment>,
+    gate: &G,
+) -> Result<Tally, AllocError>
+    requires enough { object_queue.old.most ≤ vec_len segments.old }
+    requires distinct { AreDistinct (map ⟦<RawSegment as Segment>⟧.id segments.old.items) }
+    requires objects { length object_queue.old.parts.items ≤ MOST_OBJECTS }
+    requires commands { sum_by (λ part. length part.commands) object_queue.old.parts.items ≤ MOST_COMMANDS }
+    ensures segments { IsPermutation (map ⟦<RawSegment as Segment>⟧.id segments.old.items)
+        (map ⟦<RawSegment as Segment>⟧.id segments.new.items) }
+    ensures counted { IfOk result (λ tally.
+        IsTallyOf tally (parts_shown object_queue.old.options object_queue.old.parts.items)) }
+{
+    let mut tally = Tally::none();
+    while !object_queue.parts.is_empty() {
+        tally = tally.and(tally_wave(rt, alloc, object_queue, segments, gate)?);
+    }
+    Ok(tally)
+}
+
+/// Runs the next wave, and counts what its objects come to. All segments are back when the call returns.
+fn tally_wave<R: Threads + Wait + Send + Sync, G: Gate>(
+    rt: &R,
+    alloc: Global,
+    object_queue: &mut ObjectQueue,
+    segments: &mut Vec<RawSegment>,
+    gate: &G,
+) -> Result<Tally, AllocError>
+    requires some { 0 < length object_queue.old.parts.items }
+    requires enough { object_queue.old.most ≤ vec_len segments.old }
+    requires distinct { AreDistinct (map ⟦<RawSegment as Segment>⟧.id segments.old.items) }
+    requires objects { length object_queue.old.parts.items ≤ MOST_OBJECTS }
+    requires commands { sum_by (λ part. length part.commands) object_queue.old.parts.items ≤ MOST_COMMANDS }
+    ensures options { object_queue.new.options ≡ object_queue.old.options }
+    ensures most { object_queue.new.most ≡ object_queue.old.most }
+    ensures segments { IsPermutation (map ⟦<RawSegment as Segment>⟧.id segments.old.items)
+        (map ⟦<RawSegment as Segment>⟧.id segments.new.items) }
+    ensures distinct { AreDistinct (map ⟦<RawSegment as Segment>⟧.id segments.new.items) }
+    ensures counted { IfOk result (λ tally.
+        TalliesFirst object_queue.old.options object_queue.old.parts.items object_queue.new.parts.items tally) }
+{
+    let taken = mem::replace(segments, Vec::new(alloc));
+    match object_queue.run_next(rt, alloc, taken, gate) {
+        Ok(finished) => {
+            let tally = tally_ended(&finished.ended);
+            *segments = finished.close(rt);
+            Ok(tally)
+        }
+        Err((error, back)) => {
+            *segments = back;
+            Err(error)
+        }
+    }
+}
+
+/// What objects that have run come to together.
+fn tally_ended<R: Wait>(ended: &[ObjectResult<R>]) -> Tally
+    requires objects { length ended.now ≤ MOST_OBJECTS }
+    requires replies { sum_by (λ e. length e.shown.replies) ended.now ≤ MOST_COMMANDS }
+    ensures { IsTallyOf result (map (λ e. e.shown) ended.now) }
+{
+    let mut tally = Tally::none();
+    for object in ended {
+        tally = tally.and(object.tally());
+    }
+    tally
+}

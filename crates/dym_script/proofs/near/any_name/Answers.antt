@@ -1,5 +1,0 @@
-use Rattle.std.proofs.Common.{take-append-drop, sym}
-use Rattle.dym_script.proofs.near.any_name.Goals as goal
-
-pub returns : goal.returns
-returns c = rw (c.split_at.ensures.front, c.split_at.ensures.back) (sym (take-append-drop _ c.args.text.now))

@@ -1,6 +1,0 @@
-pub mod Places
-pub mod OwnerSteps
-pub mod SweeperSteps
-pub mod Steps
-pub mod Notes
-pub mod Room

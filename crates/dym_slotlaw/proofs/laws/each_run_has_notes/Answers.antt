@@ -1,5 +1,0 @@
-use Rattle.dym_slotlaw.proofs.Notes.{run_has_notes}
-use Rattle.dym_slotlaw.proofs.laws.each_run_has_notes.Goals as goal
-
-pub returns : goal.returns
-returns _ = run_has_notes

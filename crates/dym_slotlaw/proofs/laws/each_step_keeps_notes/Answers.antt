@@ -1,5 +1,0 @@
-use Rattle.dym_slotlaw.proofs.Notes.{step_keeps_notes}
-use Rattle.dym_slotlaw.proofs.laws.each_step_keeps_notes.Goals as goal
-
-pub returns : goal.returns
-returns _ = step_keeps_notes

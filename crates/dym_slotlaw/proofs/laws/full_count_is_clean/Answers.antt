@@ -1,6 +1,0 @@
-use Rattle.std.proofs.Common.{arith}
-use Rattle.dym_slotlaw.proofs.Places.{inside_live}
-use Rattle.dym_slotlaw.proofs.laws.full_count_is_clean.Goals as goal
-
-pub returns : goal.returns
-returns _ c facts all s n live = facts.clean s n (let inside = inside_live c s n live in omega arith) live

@@ -1,6 +1,0 @@
-use Rattle.std.proofs.Common.{arith}
-use Rattle.dym_slotlaw.proofs.Room.{room}
-use Rattle.dym_slotlaw.proofs.laws.put_has_room.Goals as goal
-
-pub returns : goal.returns
-returns _ c slots entries = let all = room c in omega arith

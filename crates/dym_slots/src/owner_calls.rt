@@ -1,0 +1,185 @@
+//! What the owner does.
+ghost use Rattle.std.specs.Prelude.{◌≡◌, ℕ, ◌+◌, ◌<◌, ◌≤◌, List, [], ◌∷◌, ◌++◌, None, Some, length, take};
+ghost use Rattle.dym_base.specs.declared.limits.TheConstants.{LOG_SLOTS, RECORD_ROOM, COUNT_LIMIT};
+ghost use Rattle.dym_slots.specs.declared.machine.TheConstants.{RECORD_NUMBERS};
+ghost use Rattle.dym_slots.specs.declared.view.Listed.{Listed};
+ghost use Rattle.dym_slots.specs.SeatViews.{owner_of};
+ghost use Rattle.dym_slots.specs.Moves.{SitsAt, IsIdleOwner, Seized};
+ghost use Rattle.dym_slots.specs.Meanings.{record_at, with_record, up_to, from, NumbersRise};
+ghost use Rattle.dym_slots.specs.Orders.{Stands, slot_at, HasLeft, IsNewest, retired};
+ghost use Rattle.std.specs.List.Sorted.{IsPermutation};
+
+use crate::machine::Entry;
+use crate::owner::Owner;
+use crate::owner_steps::{bring_back, free_newest, put_into, raise_root, seize_either, take_out};
+use crate::rule::{LogSeat, Slots};
+use dym_base::limits::LOG_SLOTS;
+use dym_pack::Record;
+
+/// How many of the other slots `put` takes before those that the last `drop_before` let go.
+const SPARE_SLOTS: u32 = 8;
+
+impl Owner {
+    /// How many records the list has.
+    pub fn len(&self) -> u32
+        ensures { result ≡ length self.now.records }
+    {
+        self.len
+    }
+
+    /// The number of the record at a place.
+    pub fn number_at(&self, place: u32) -> u64
+        requires { place < length self.now.records }
+        ensures { result ≡ (record_at self.now.records place).number }
+    {
+        self.order[place as usize].number
+    }
+
+    /// The number that the next record gets. Numbers rise along the list, and all are below it.
+    pub fn next_number(&self) -> u64
+        ensures next_number { result ≡ self.now.next_number }
+        ensures rise { NumbersRise self.now.records self.now.next_number }
+    {
+        self.next_number
+    }
+
+    /// Appends a record, and answers its number. It looks at two slots at most, and reuses a record's that was let go.
+    pub fn put(&mut self, rec: Record) -> u64
+        requires room { length self.old.records < RECORD_ROOM }
+        requires next_number { self.old.next_number < COUNT_LIMIT }
+        requires idle { self.old.lifted ≡ None }
+        ensures number { result ≡ self.old.next_number }
+        ensures after { self.new ≡ with_record self.old rec }
+    {
+        let number = self.next_number;
+        let slot = hold_spare(
+            &self.table.shared,
+            &mut self.seat,
+            &mut self.order,
+            self.len,
+            number,
+        );
+        put_into(&self.table.shared, &mut self.seat, slot, number, rec);
+        self.order[self.len as usize].number = number;
+        self.len += 1;
+        self.next_number += 1;
+        number
+    }
+
+    /// Takes out the record at a place, for `lower` to bring back.
+    pub fn lift(&mut self, place: u32) -> Record
+        requires place { place < length self.old.records }
+        requires idle { self.old.lifted ≡ None }
+        ensures bytes { result ≡ (record_at self.old.records place).bytes }
+        ensures after { self.new ≡ record self.old { lifted = Some place } }
+    {
+        let Entry { slot, number } = self.order[place as usize];
+        let rec = take_out(&self.table.shared, &mut self.seat, slot, number);
+        self.lifted = Some(place);
+        rec
+    }
+
+    /// Brings back the record that is out.
+    pub fn lower(&mut self, place: u32, rec: Record)
+        requires lifted { self.old.lifted ≡ Some place }
+        requires bytes { rec ≡ (record_at self.old.records place).bytes }
+        ensures after { self.new ≡ record self.old { lifted = None } }
+    {
+        let Entry { slot, number } = self.order[place as usize];
+        bring_back(&self.table.shared, &mut self.seat, slot, number, rec);
+        self.lifted = None;
+    }
+
+    /// Removes the records after a place.
+    pub fn drop_after(&mut self, place: u32)
+        requires place { place < length self.old.records }
+        requires idle { self.old.lifted ≡ None }
+        ensures after { self.new ≡ up_to self.old place }
+    {
+        let len = self.len;
+        let kept = place + 1;
+        drop_down(&self.table.shared, &mut self.seat, &self.order, len, kept);
+        self.len = kept;
+    }
+
+    /// Removes the records before a place, for the sweeper to take back: the number at that place becomes the root.
+    pub fn drop_before(&mut self, place: u32)
+        requires place { place < length self.old.records }
+        requires idle { self.old.lifted ≡ None }
+        ensures after { self.new ≡ from self.old place }
+    {
+        let Entry { number, .. } = self.order[place as usize];
+        raise_root(&self.table.shared, &mut self.seat, number);
+        let next_spares = (self.len + SPARE_SLOTS).min(LOG_SLOTS);
+        retire(&mut self.order, next_spares as usize, place as usize);
+        self.len -= place;
+    }
+}
+
+/// Takes a slot past the list's for the next number, and puts it right behind these.
+fn hold_spare(
+    table: &Slots,
+    seat: &mut LogSeat,
+    order: &mut Vec<Entry>,
+    place: u32,
+    next_number: u64,
+) -> u32
+    requires table { SitsAt table.now.table_id seat.old.table_id }
+    requires stands { Stands order.old.items place next_number seat.old.me }
+    requires idle { IsIdleOwner seat.old.me }
+    requires room { place < RECORD_ROOM }
+    requires number { next_number < RECORD_NUMBERS }
+    ensures table { seat.new.table_id ≡ seat.old.table_id }
+    ensures stands { Stands order.new.items place next_number seat.old.me }
+    ensures slot { result ≡ slot_at order.new.items place }
+    ensures seized { Seized result seat.old.me seat.new.me }
+{
+    let place = place as usize;
+    let (first, second) = (order[place].slot, order[place + 1].slot);
+    if seize_either(table, seat, first, second, next_number) {
+        return first;
+    }
+    order.swap(place, place + 1);
+    second
+}
+
+/// Removes the newest entries, until so many are left.
+fn drop_down(table: &Slots, seat: &mut LogSeat, order: &Vec<Entry>, len: u32, kept: u32)
+    requires table { SitsAt table.now.table_id seat.old.table_id }
+    requires stands { (next_number : ℕ) × Stands order.now.items len next_number seat.old.me }
+    requires idle { IsIdleOwner seat.old.me }
+    requires kept { (0 < kept) × (kept ≤ len) }
+    ensures table { seat.new.table_id ≡ seat.old.table_id }
+    ensures after { HasLeft (take kept (owner_of seat.old.me.0).list) seat.old.me seat.new.me }
+{
+    let mut last = len;
+    while last > kept {
+        last -= 1;
+        drop_newest(table, seat, order[last as usize]);
+    }
+}
+
+/// Removes the newest entry, and gives its record's memory back.
+fn drop_newest(table: &Slots, seat: &mut LogSeat, newest: Entry)
+    requires table { SitsAt table.now.table_id seat.old.table_id }
+    requires idle { IsIdleOwner seat.old.me }
+    requires newest { IsNewest newest (owner_of seat.old.me.0).list }
+    requires slot { newest.slot < LOG_SLOTS }
+    requires number { newest.number < RECORD_NUMBERS }
+    ensures table { seat.new.table_id ≡ seat.old.table_id }
+    ensures after { (older : List Listed) × (x : Listed) × ((owner_of seat.old.me.0).list ≡ older ++ x ∷ [])
+        × HasLeft older seat.old.me seat.new.me }
+{
+    drop(take_out(table, seat, newest.slot, newest.number));
+    free_newest(table, seat, newest.slot);
+}
+
+/// Moves the first entries, which leave the list, behind the others of those that are near: all of the list's, and a few spare ones.
+fn retire(order: &mut [Entry], next_spares: usize, place: usize)
+    requires next_spares { next_spares ≤ length order.old }
+    requires place { place ≤ next_spares }
+    ensures after { order.new ≡ retired next_spares place order.old }
+    ensures permutation { IsPermutation order.old order.new }
+{
+    order[..next_spares].rotate_left(place);
+}

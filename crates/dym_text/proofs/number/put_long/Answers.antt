@@ -1,7 +1,0 @@
--- A number below 2 ^ 64 has at most 20 digits.
-use Rattle.std.proofs.Common.{arith}
-use Rattle.dym_text.proofs.Digits.{decimal_20}
-use Rattle.dym_text.proofs.number.put_long.Goals as goal
-
-pub write_digits-start-requires : goal.write_digits-start-requires
-write_digits-start-requires c = (decimal_20 c.args.n c.ranges.n.fits, omega arith)
