@@ -23,6 +23,9 @@
  * closed. Its segments of 64 KiB, as many as its quota says, are all taken when it is opened. So dym_open, dym_log, dym_save and dym_load
  * alone can answer DYM_MEMORY. The calls start no thread, and wait for none.
  *
+ * Units: a length, a room and a place in a chunk are in bytes, and places are counted from 0; a quota is in segments of 65,536 bytes; a
+ * simulation time is a number of whatever unit the simulator has, of which the order alone matters.
+ *
  * What the text beside a call says of a parameter that it writes, as *chunk, holds at DYM_DONE. At any other status the parameter stays as
  * it was, but for *length of dym_save at DYM_RANGE and *part of dym_load at DYM_BAD.
  */
@@ -31,6 +34,12 @@
 
 #include <stddef.h>
 #include <stdint.h>
+
+/* The version that this header is of. While the first number is 0, a greater second one may change what stands here. */
+#define DYM_VERSION "0.3.0"
+#define DYM_VERSION_MAJOR 0
+#define DYM_VERSION_MINOR 3
+#define DYM_VERSION_PATCH 0
 
 #ifdef __cplusplus
 extern "C" {
@@ -86,7 +95,7 @@ enum {
     DYM_INCREMENTAL = 1 /* what was written, taken or freed since the newest log */
 };
 
-/* A log that was taken: its kind, and the bytes of its record. */
+/* A log that was taken: its kind, and the length of its record in bytes. */
 typedef struct dym_logged {
     uint32_t kind;
     uint64_t length;
@@ -196,7 +205,7 @@ dym_status dym_logs(dym_object *object, dym_slots *slots);
  * the word object. What was changed since the newest log isn't in it. It is the file that the program dymelor saves and loads. */
 
 /*
- * Writes the file to where `bytes` begins. *length is how long it is. This is no command.
+ * Writes the file to where `bytes` begins. *length is how many bytes it has. This is no command.
  * DYM_BAD: the object is closed, or the name is none. DYM_RANGE: the file is longer than `room`; *length is its length then too, and the
  * bytes stay as they were, so that a room of 0 asks for the length (`bytes` isn't null then either). DYM_MEMORY: for the file is made in
  * memory of the library's own first, whatever the room.
