@@ -1,0 +1,129 @@
+use std::fmt;
+
+/// Why a call did not do what it says: each status of the header but the one of success.
+///
+/// The variants up to [`NoLog`](Error::NoLog) are refusals. A refused call changes nothing of the object but the count of its
+/// commands, on which [`Spent`](Error::Spent) alone depends; the other variants change nothing of it at all.
+///
+/// Where more than one would be right, [`Bad`](Error::Bad) comes first, then [`Spent`](Error::Spent), then the refusals in the order
+/// in which the call names them; [`Memory`](Error::Memory) comes only where none of these does, but for
+/// [`Object::save`](crate::Object::save).
+#[derive(Clone, Copy, Debug, PartialEq, Eq, Hash)]
+pub enum Error {
+    /// No class has chunks of that length; the greatest is 65,536 bytes.
+    TooLarge,
+    /// The heap would hold more segments than its quota.
+    Quota,
+    /// No chunk with this handle is live.
+    Dead,
+    /// The bytes that were named pass the end of the chunk.
+    Range,
+    /// The newest log has this time or a later one, and a new one must come after it.
+    NotAfter,
+    /// 256 logs are kept, the most that an object keeps.
+    LogsFull,
+    /// No log has a time at or before the one asked for.
+    NoLog,
+    /// Memory was wanting.
+    Memory,
+    /// An argument was bad: the quota of [`Object::open`](crate::Object::open) or the name of
+    /// [`Object::save`](crate::Object::save). The types of this crate leave no others.
+    Bad,
+    /// The object has run 2^60 commands, the most that it may.
+    Spent,
+    /// The bytes are no checkpoint file.
+    File {
+        /// The first part that fails: 0 for the header, k for record k, and one more than there are records for what follows them.
+        part: u32,
+    },
+}
+
+/// `dym_status`.
+pub(crate) type Status = u32;
+
+pub(crate) const BAD: Status = 9;
+
+/// What a status says.
+pub(crate) fn done(status: Status) -> Result<(), Error> {
+    Err(match status {
+        0 => return Ok(()),
+        1 => Error::TooLarge,
+        2 => Error::Quota,
+        3 => Error::Dead,
+        4 => Error::Range,
+        5 => Error::NotAfter,
+        6 => Error::LogsFull,
+        7 => Error::NoLog,
+        8 => Error::Memory,
+        BAD => Error::Bad,
+        10 => Error::Spent,
+        _ => unreachable!("dymelor.h has no status {status}"),
+    })
+}
+
+impl fmt::Display for Error {
+    fn fmt(&self, f: &mut fmt::Formatter<'_>) -> fmt::Result {
+        f.write_str(match self {
+            Error::TooLarge => "the length is above 65,536 bytes",
+            Error::Quota => "the heap would hold more segments than its quota",
+            Error::Dead => "no chunk with this handle is live",
+            Error::Range => "the bytes pass the end of the chunk",
+            Error::NotAfter => "the newest log has this time or a later one",
+            Error::LogsFull => "256 logs are kept, the most that an object keeps",
+            Error::NoLog => "no log has this time or an earlier one",
+            Error::Memory => "memory is wanting",
+            Error::Bad => "the quota or the name is bad",
+            Error::Spent => "the object has run 2^60 commands, the most that it may",
+            Error::File { part } => {
+                return write!(f, "the bytes are no checkpoint file: part {part} fails")
+            }
+        })
+    }
+}
+
+impl std::error::Error for Error {}
+
+#[cfg(test)]
+mod tests {
+    use super::done;
+    use std::fs;
+
+    /// The name and the number of the status that a line declares.
+    fn status_of(line: &str) -> Option<(&str, u32)> {
+        let (name, value) = line.trim().strip_prefix("DYM_")?.split_once(" = ")?;
+        let number = value.split_whitespace().next()?;
+        Some((name, number.trim_end_matches(',').parse().ok()?))
+    }
+
+    /// A name as Rust spells it.
+    fn spelled(name: &str) -> String {
+        let words = name.split('_');
+        words
+            .map(|word| word[..1].to_string() + &word[1..].to_lowercase())
+            .collect()
+    }
+
+    #[test]
+    fn each_status_of_the_header_is_the_error_of_its_name() {
+        let header = concat!(env!("CARGO_MANIFEST_DIR"), "/../../include/dymelor.h");
+        let header = match fs::read_to_string(header) {
+            Ok(header) => header,
+            Err(why) => return println!("dymelor.h: {why}; nothing was compared"),
+        };
+        let lines = header
+            .lines()
+            .skip_while(|line| !line.contains("typedef uint32_t dym_status"));
+        let statuses: Vec<_> = lines
+            .take_while(|line| *line != "};")
+            .filter_map(status_of)
+            .collect();
+        assert_eq!(statuses.len(), 11);
+        assert_eq!(done(statuses[0].1), Ok(()));
+        for (name, status) in &statuses[1..] {
+            assert_eq!(
+                format!("{:?}", done(*status)),
+                format!("Err({})", spelled(name))
+            );
+        }
+    }
+}

@@ -1,0 +1,273 @@
+//! The calls of `dymelor.h` on an open object. All unsafe code of the crate stands here. Each block quotes what the header asks of a
+//! caller there; the headings of these sentences hold for all blocks:
+//!
+//! - "a pointer to an object is that of such a dym_object": [`OpenObject`] holds one from a `dym_open` or `dym_load` that succeeded to
+//!   its `dym_close`, and hands its address to no one else.
+//! - "each other pointer is that of a whole value of its type": they are all made of references and slices of this crate, which don't
+//!   overlap, since they are exclusive wherever C writes.
+//! - "one call at a time on an object": the type isn't `Sync`, so that only one thread at a time calls, and no call calls back.
+
+use crate::error::{done, Error, Status, BAD};
+use std::cell::UnsafeCell;
+use std::ffi::c_void;
+use std::ptr;
+
+/// `dym_object`.
+#[repr(C)]
+struct Object {
+    inside: *mut c_void,
+}
+
+/// `dym_handle`.
+#[repr(C)]
+#[derive(Clone, Copy)]
+pub(crate) struct Handle {
+    pub exponent: u8,
+    pub index: u32,
+}
+
+/// `dym_nil`.
+pub(crate) const NIL: Handle = Handle {
+    exponent: 0,
+    index: 0,
+};
+
+pub(crate) const FULL: u32 = 0;
+pub(crate) const INCREMENTAL: u32 = 1;
+
+/// `dym_logged`.
+#[repr(C)]
+#[derive(Default)]
+pub(crate) struct Logged {
+    pub kind: u32,
+    pub length: u64,
+}
+
+pub(crate) const FOUND_NIL: u32 = 0;
+pub(crate) const FOUND_LIVE: u32 = 1;
+
+/// `dym_found`.
+#[repr(C)]
+pub(crate) struct Found {
+    pub kind: u32,
+    pub chunk: Handle,
+    pub number: u64,
+}
+
+/// `dym_slots`.
+#[repr(C)]
+#[derive(Default)]
+pub(crate) struct Slots {
+    pub kept: u32,
+    pub slots: u32,
+}
+
+extern "C" {
+    fn dym_open(object: *mut Object, quota: u32, version: u32) -> Status;
+    fn dym_close(object: *mut Object) -> Status;
+    fn dym_malloc(object: *mut Object, length: u64, chunk: *mut Handle) -> Status;
+    fn dym_calloc(object: *mut Object, count: u64, length: u64, chunk: *mut Handle) -> Status;
+    fn dym_realloc(object: *mut Object, chunk: Handle, length: u64, moved: *mut Handle) -> Status;
+    fn dym_free(object: *mut Object, chunk: Handle) -> Status;
+    fn dym_write(
+        object: *mut Object,
+        chunk: Handle,
+        at: u32,
+        bytes: *const u8,
+        length: usize,
+    ) -> Status;
+    fn dym_fill(object: *mut Object, chunk: Handle, at: u32, length: u32, byte: u8) -> Status;
+    fn dym_read(
+        object: *mut Object,
+        chunk: Handle,
+        at: u32,
+        bytes: *mut u8,
+        length: usize,
+    ) -> Status;
+    fn dym_link(object: *mut Object, chunk: Handle, at: u32, to: Handle) -> Status;
+    fn dym_follow(object: *mut Object, chunk: Handle, at: u32, found: *mut Found) -> Status;
+    fn dym_sum(object: *mut Object, chunk: Handle, total: *mut u64) -> Status;
+    fn dym_size(object: *mut Object, chunk: Handle, length: *mut u32) -> Status;
+    fn dym_next(object: *mut Object, after: Handle, next: *mut Handle) -> Status;
+    fn dym_log(object: *mut Object, kind: u32, time: u64, logged: *mut Logged) -> Status;
+    fn dym_restore(object: *mut Object, time: u64, restored: *mut u64) -> Status;
+    fn dym_prune(object: *mut Object, bound: u64, dropped: *mut u32) -> Status;
+    fn dym_logs(object: *mut Object, slots: *mut Slots) -> Status;
+    fn dym_save(
+        object: *mut Object,
+        name: *const u8,
+        name_length: usize,
+        bytes: *mut u8,
+        room: usize,
+        length: *mut u64,
+    ) -> Status;
+    fn dym_load(object: *mut Object, bytes: *const u8, length: usize, part: *mut u32) -> Status;
+}
+
+/// A `dym_object` that is open from when it is made until it is dropped.
+///
+/// The header has no calls by `const dym_object *`: those that change neither heap nor logs write to the object all the same, as they
+/// count a command, hence the cell. It makes the type one that isn't `Sync`.
+pub(crate) struct OpenObject {
+    object: UnsafeCell<Object>,
+}
+
+// SAFETY: "one call at a time on an object. It may be another thread's than the call before: a lock, a thread's start or join, or a
+// sequentially consistent atomic then stands between the two." Safe Rust hands a value to another thread by one of these, or by what
+// likewise has the calls before it happen before those after it, as the release and the acquire of a channel.
+unsafe impl Send for OpenObject {}
+
+impl OpenObject {
+    fn closed() -> OpenObject {
+        OpenObject {
+            object: UnsafeCell::new(Object {
+                inside: ptr::null_mut(),
+            }),
+        }
+    }
+
+    pub fn open(quota: u32, version: u32) -> Result<OpenObject, Error> {
+        let object = OpenObject::closed();
+        // SAFETY: "a dym_object is zeroed before its first use, and then written by these calls alone. While it is open a copy may take
+        // its place, [..] but a copy and the original are never both used": Rust's moves are such copies.
+        let status = unsafe { dym_open(object.object.get(), quota, version) };
+        done(status).map(|()| object)
+    }
+
+    pub fn load(file: &[u8]) -> Result<OpenObject, Error> {
+        let object = OpenObject::closed();
+        let mut part = 0;
+        // SAFETY: "a dym_object is zeroed before its first use", and "any bytes may be handed in".
+        let status = unsafe { dym_load(object.object.get(), file.as_ptr(), file.len(), &mut part) };
+        match status {
+            BAD => Err(Error::File { part }),
+            _ => done(status).map(|()| object),
+        }
+    }
+
+    pub fn malloc(&mut self, length: u64) -> Result<Handle, Error> {
+        let mut chunk = NIL;
+        // SAFETY: "each other pointer is that of a whole value of its type, which the caller may write".
+        done(unsafe { dym_malloc(self.object.get(), length, &mut chunk) }).map(|()| chunk)
+    }
+
+    pub fn calloc(&mut self, count: u64, length: u64) -> Result<Handle, Error> {
+        let mut chunk = NIL;
+        // SAFETY: "each other pointer is that of a whole value of its type, which the caller may write".
+        done(unsafe { dym_calloc(self.object.get(), count, length, &mut chunk) }).map(|()| chunk)
+    }
+
+    pub fn realloc(&mut self, chunk: Handle, length: u64) -> Result<Handle, Error> {
+        let mut moved = NIL;
+        // SAFETY: "each other pointer is that of a whole value of its type, which the caller may write".
+        done(unsafe { dym_realloc(self.object.get(), chunk, length, &mut moved) }).map(|()| moved)
+    }
+
+    pub fn free(&mut self, chunk: Handle) -> Result<(), Error> {
+        // SAFETY: "whatever numbers are handed in, each [..] touches no memory but the object's own".
+        done(unsafe { dym_free(self.object.get(), chunk) })
+    }
+
+    pub fn write(&mut self, chunk: Handle, at: u32, bytes: &[u8]) -> Result<(), Error> {
+        // SAFETY: "bytes that are handed in or out are at a pointer that isn't null, also where there are none": no slice's is.
+        done(unsafe { dym_write(self.object.get(), chunk, at, bytes.as_ptr(), bytes.len()) })
+    }
+
+    pub fn fill(&mut self, chunk: Handle, at: u32, length: u32, byte: u8) -> Result<(), Error> {
+        // SAFETY: "whatever numbers are handed in, each [..] touches no memory but the object's own".
+        done(unsafe { dym_fill(self.object.get(), chunk, at, length, byte) })
+    }
+
+    pub fn read(&self, chunk: Handle, at: u32, bytes: &mut [u8]) -> Result<(), Error> {
+        // SAFETY: "bytes that are handed in or out are at a pointer that isn't null, also where there are none": no slice's is.
+        done(unsafe {
+            dym_read(
+                self.object.get(),
+                chunk,
+                at,
+                bytes.as_mut_ptr(),
+                bytes.len(),
+            )
+        })
+    }
+
+    pub fn link(&mut self, chunk: Handle, at: u32, to: Handle) -> Result<(), Error> {
+        // SAFETY: "whatever numbers are handed in, each [..] touches no memory but the object's own".
+        done(unsafe { dym_link(self.object.get(), chunk, at, to) })
+    }
+
+    pub fn follow(&self, chunk: Handle, at: u32) -> Result<Found, Error> {
+        let mut found = Found {
+            kind: FOUND_NIL,
+            chunk: NIL,
+            number: 0,
+        };
+        // SAFETY: "each other pointer is that of a whole value of its type, which the caller may write".
+        done(unsafe { dym_follow(self.object.get(), chunk, at, &mut found) }).map(|()| found)
+    }
+
+    pub fn sum(&self, chunk: Handle) -> Result<u64, Error> {
+        let mut total = 0;
+        // SAFETY: "each other pointer is that of a whole value of its type, which the caller may write".
+        done(unsafe { dym_sum(self.object.get(), chunk, &mut total) }).map(|()| total)
+    }
+
+    pub fn size(&self, chunk: Handle) -> Result<u32, Error> {
+        let mut length = 0;
+        // SAFETY: "each other pointer is that of a whole value of its type, which the caller may write".
+        done(unsafe { dym_size(self.object.get(), chunk, &mut length) }).map(|()| length)
+    }
+
+    pub fn next(&self, after: Handle) -> Result<Handle, Error> {
+        let mut next = NIL;
+        // SAFETY: "each other pointer is that of a whole value of its type, which the caller may write".
+        done(unsafe { dym_next(self.object.get(), after, &mut next) }).map(|()| next)
+    }
+
+    pub fn log(&mut self, kind: u32, time: u64) -> Result<Logged, Error> {
+        let mut logged = Logged::default();
+        // SAFETY: "each other pointer is that of a whole value of its type, which the caller may write".
+        done(unsafe { dym_log(self.object.get(), kind, time, &mut logged) }).map(|()| logged)
+    }
+
+    pub fn restore(&mut self, time: u64) -> Result<u64, Error> {
+        let mut restored = 0;
+        // SAFETY: "each other pointer is that of a whole value of its type, which the caller may write".
+        done(unsafe { dym_restore(self.object.get(), time, &mut restored) }).map(|()| restored)
+    }
+
+    pub fn prune(&mut self, bound: u64) -> Result<u32, Error> {
+        let mut dropped = 0;
+        // SAFETY: "each other pointer is that of a whole value of its type, which the caller may write".
+        done(unsafe { dym_prune(self.object.get(), bound, &mut dropped) }).map(|()| dropped)
+    }
+
+    pub fn logs(&self) -> Result<Slots, Error> {
+        let mut slots = Slots::default();
+        // SAFETY: "each other pointer is that of a whole value of its type, which the caller may write".
+        done(unsafe { dym_logs(self.object.get(), &mut slots) }).map(|()| slots)
+    }
+
+    /// Writes the file to where the bytes begin. The length is the file's, also where the answer is that they have no room for it.
+    pub fn save(&self, name: &[u8], bytes: &mut [u8], length: &mut u64) -> Result<(), Error> {
+        // SAFETY: "bytes that are handed in or out are at a pointer that isn't null, also where there are none": no slice's is.
+        done(unsafe {
+            dym_save(
+                self.object.get(),
+                name.as_ptr(),
+                name.len(),
+                bytes.as_mut_ptr(),
+                bytes.len(),
+                length,
+            )
+        })
+    }
+}
+
+impl Drop for OpenObject {
+    /// Closes the object. One that is dropped because it couldn't be opened is closed already, and the call then does nothing.
+    fn drop(&mut self) {
+        // SAFETY: "a pointer to an object is that of such a dym_object", closed or open: "DYM_BAD: it was closed".
+        unsafe { dym_close(self.object.get()) };
+    }
+}

@@ -1,0 +1,60 @@
+//! Heaps that can be logged at simulation times and rolled back, for simulators of the Time Warp kind.
+//!
+//! An [`Object`] is the heap of one logical process. Its chunks are named by [`Handle`]s, which stay valid over rollbacks; their bytes are
+//! written and read by calls, so that the object knows what changed. A log keeps the heap at a simulation [`Time`], the whole of it or
+//! what changed since the log before; a restore brings back the newest log at or before a time; a prune drops the logs that a commit bound
+//! makes useless. Two events of a process, a straggler and a bound:
+//!
+//! ```
+//! use dymelor::{Error, LogKind, Object, Time, Version};
+//!
+//! fn simulate() -> Result<u8, Error> {
+//!     let mut process = Object::open(4, Version::Two)?; // at most four segments of 64 KiB, exact lengths
+//!     let state = process.malloc(64)?;
+//!     process.write(state, 0, &[10])?; // the event of time 10
+//!     process.log(LogKind::Incremental, Time(10))?;
+//!     process.write(state, 0, &[20])?; // the event of time 20
+//!     process.log(LogKind::Incremental, Time(20))?;
+//!     process.restore(Time(15 - 1))?; // a straggler of time 15: back to the log of time 10
+//!     let mut byte = [0];
+//!     process.read(state, 0, &mut byte)?;
+//!     process.write(state, 0, &[byte[0] + 5])?;
+//!     process.log(LogKind::Incremental, Time(15))?;
+//!     process.prune(Time(14))?; // nothing before time 15 can come any more
+//!     process.read(state, 0, &mut byte)?;
+//!     Ok(byte[0])
+//! }
+//!
+//! assert_eq!(simulate(), Ok(15));
+//! ```
+//!
+//! # What it stands on
+//!
+//! The crate calls the C library `libdymelor.a`, each export of which is proved to do what its header `dymelor.h` says. Not proved is what
+//! Rust adds: this crate, which takes over what the header asks of a caller, so that none of it is left to the program. It is tested
+//! alone. It has no dependency but `std`.
+//!
+//! `build.rs` finds the library by `pkg-config --libs dymelor`, or under the prefix that the environment variable `DYMELOR_DIR` names, in
+//! its folder `lib`.
+//!
+//! What the header asks of a whole program holds of one in safe Rust: no call comes from a signal handler, nor from the forked child of a
+//! process that has threads, as both are reached by `unsafe` alone; and `malloc`, `realloc` and `free` are those of the C library that the
+//! program is linked with.
+#![deny(unsafe_code)]
+#![warn(missing_docs)]
+
+mod answers;
+mod chunks;
+mod error;
+#[allow(unsafe_code)]
+mod ffi;
+mod handle;
+mod object;
+mod time;
+
+pub use answers::{Found, LogKind, Logged, Logs, Version};
+pub use chunks::Chunks;
+pub use error::Error;
+pub use handle::Handle;
+pub use object::Object;
+pub use time::Time;

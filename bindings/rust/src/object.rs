@@ -1,0 +1,297 @@
+use crate::answers::{Found, LogKind, Logged, Logs, Version};
+use crate::chunks::Chunks;
+use crate::error::Error;
+use crate::ffi::{self, OpenObject};
+use crate::handle::Handle;
+use crate::time::Time;
+use std::fmt;
+
+/// The heap of one logical process, with its logs. It is closed, and all its memory freed, when it is dropped.
+///
+/// What changes the heap or the logs takes the object by `&mut self`; what only looks takes it by `&self`. Commands are counted all the
+/// same: each method but [`size`](Object::size), [`next_chunk`](Object::next_chunk), [`chunks`](Object::chunks) and
+/// [`save`](Object::save) can answer [`Error::Spent`], which isn't named again below.
+///
+/// An object may cross to another thread. It can't be shared by threads, as C owes one call at a time:
+///
+/// ```
+/// fn crosses<T: Send>() {}
+/// crosses::<dymelor::Object>();
+/// ```
+///
+/// ```compile_fail,E0277
+/// fn is_shared<T: Sync>() {}
+/// is_shared::<dymelor::Object>();
+/// ```
+#[must_use = "an object is closed when it is dropped"]
+pub struct Object {
+    inside: OpenObject,
+}
+
+/// Opening, and checkpoint files.
+///
+/// A file has the kept logs of an object, with its quota and version, under a name. What was changed since the newest log isn't in it. It
+/// is the file that the program `dymelor` saves and loads.
+impl Object {
+    /// Opens an object with an empty heap and no log. The quota is the most segments of 64 KiB that it may hold, 1 to 1,024; memory is
+    /// taken for all of them.
+    ///
+    /// # Errors
+    ///
+    /// [`Error::Bad`] where the quota is 0 or above 1,024, and [`Error::Memory`].
+    pub fn open(quota: u32, version: Version) -> Result<Object, Error> {
+        let version = match version {
+            Version::One => 1,
+            Version::Two => 2,
+        };
+        let inside = OpenObject::open(quota, version)?;
+        Ok(Object { inside })
+    }
+
+    /// Opens an object as the newest log of a file has it, with all its logs, and empty where the file has none. Its quota and version are
+    /// the file's. Any bytes may be handed in: an object comes of them exactly where they are a file. The name that the file has isn't told.
+    ///
+    /// # Errors
+    ///
+    /// [`Error::File`] where the bytes are no file, and [`Error::Memory`].
+    pub fn load(file: &[u8]) -> Result<Object, Error> {
+        let inside = OpenObject::load(file)?;
+        Ok(Object { inside })
+    }
+
+    /// The file of the object's kept logs, under a name of 1 to 32 characters `A-Z a-z 0-9 _` that isn't the word `object`.
+    ///
+    /// The library makes the file twice, once to tell its length.
+    ///
+    /// # Errors
+    ///
+    /// [`Error::Bad`] where the name is none, and [`Error::Memory`].
+    pub fn save(&self, name: &str) -> Result<Vec<u8>, Error> {
+        let length = self.saved_length(name)?;
+        let mut file = Vec::new();
+        file.try_reserve_exact(length).map_err(|_| Error::Memory)?;
+        file.resize(length, 0);
+        self.inside.save(name.as_bytes(), &mut file, &mut 0)?;
+        Ok(file)
+    }
+
+    /// How long the file is: no file fits into no bytes, and the library tells the length then.
+    fn saved_length(&self, name: &str) -> Result<usize, Error> {
+        let mut length = 0;
+        match self.inside.save(name.as_bytes(), &mut [], &mut length) {
+            Ok(()) | Err(Error::Range) => usize::try_from(length).map_err(|_| Error::Memory),
+            Err(why) => Err(why),
+        }
+    }
+}
+
+/// Chunks.
+impl Object {
+    /// A fresh chunk of zero bytes: the free one with the least index in the class of the length, which may be 0.
+    ///
+    /// # Errors
+    ///
+    /// [`Error::TooLarge`], [`Error::Quota`].
+    pub fn malloc(&mut self, length: u64) -> Result<Handle, Error> {
+        self.inside.malloc(length).map(chunk_of)
+    }
+
+    /// The same for `count * length` bytes, also where that product is above 2^64.
+    ///
+    /// # Errors
+    ///
+    /// [`Error::TooLarge`], [`Error::Quota`].
+    pub fn calloc(&mut self, count: u64, length: u64) -> Result<Handle, Error> {
+        self.inside.calloc(count, length).map(chunk_of)
+    }
+
+    /// Gives a chunk another length: its bytes stay up to the smaller length, and zeros follow. The answer is its handle then, which is the
+    /// same where the class is; else the old one is dead, and the quota has to allow both chunks for a moment. For `None` this is
+    /// [`malloc`](Object::malloc), whatever the length; else a length of 0 frees the chunk, and the answer is `None`.
+    ///
+    /// # Errors
+    ///
+    /// [`Error::Dead`], [`Error::TooLarge`], [`Error::Quota`].
+    pub fn realloc(&mut self, chunk: Option<Handle>, length: u64) -> Result<Option<Handle>, Error> {
+        self.inside
+            .realloc(sent_or_nil(chunk), length)
+            .map(chunk_or_nil_of)
+    }
+
+    /// Frees a chunk; for `None` does nothing.
+    ///
+    /// # Errors
+    ///
+    /// [`Error::Dead`].
+    pub fn free(&mut self, chunk: Option<Handle>) -> Result<(), Error> {
+        self.inside.free(sent_or_nil(chunk))
+    }
+
+    /// Writes bytes into a chunk, from its place `at` on.
+    ///
+    /// # Errors
+    ///
+    /// [`Error::Dead`], [`Error::Range`].
+    pub fn write(&mut self, chunk: Handle, at: u32, bytes: &[u8]) -> Result<(), Error> {
+        self.inside.write(sent(chunk), at, bytes)
+    }
+
+    /// Makes `length` bytes of a chunk from its place `at` on `byte`.
+    ///
+    /// # Errors
+    ///
+    /// [`Error::Dead`], [`Error::Range`].
+    pub fn fill(&mut self, chunk: Handle, at: u32, length: u32, byte: u8) -> Result<(), Error> {
+        self.inside.fill(sent(chunk), at, length, byte)
+    }
+
+    /// Copies bytes of a chunk, from its place `at` on, to `bytes`. They stay as they were where the call is refused.
+    ///
+    /// # Errors
+    ///
+    /// [`Error::Dead`], [`Error::Range`].
+    pub fn read(&self, chunk: Handle, at: u32, bytes: &mut [u8]) -> Result<(), Error> {
+        self.inside.read(sent(chunk), at, bytes)
+    }
+
+    /// Writes the number of a handle, which needn't be live, or that of nil into eight bytes of a chunk from its place `at` on.
+    ///
+    /// # Errors
+    ///
+    /// [`Error::Dead`], [`Error::Range`].
+    pub fn link(&mut self, chunk: Handle, at: u32, to: Option<Handle>) -> Result<(), Error> {
+        self.inside.link(sent(chunk), at, sent_or_nil(to))
+    }
+
+    /// What eight bytes of a chunk from its place `at` on name.
+    ///
+    /// # Errors
+    ///
+    /// [`Error::Dead`], [`Error::Range`].
+    pub fn follow(&self, chunk: Handle, at: u32) -> Result<Found, Error> {
+        let found = self.inside.follow(sent(chunk), at)?;
+        Ok(match found.kind {
+            ffi::FOUND_NIL => Found::Nil,
+            ffi::FOUND_LIVE => Found::Live(chunk_of(found.chunk)),
+            _ => Found::Loose(found.number),
+        })
+    }
+
+    /// The sum of a chunk's bytes as numbers.
+    ///
+    /// # Errors
+    ///
+    /// [`Error::Dead`].
+    pub fn sum(&self, chunk: Handle) -> Result<u64, Error> {
+        self.inside.sum(sent(chunk))
+    }
+
+    /// A chunk's length in bytes. This is no command, and isn't counted.
+    ///
+    /// # Errors
+    ///
+    /// [`Error::Dead`].
+    pub fn size(&self, chunk: Handle) -> Result<u32, Error> {
+        self.inside.size(sent(chunk))
+    }
+
+    /// The first live chunk after `after`, which needn't be live, in the order of handles; after `None` the first of all. This is no command
+    /// either. With it a heap can be walked while its chunks are changed; [`chunks`](Object::chunks) walks one that stays as it is.
+    pub fn next_chunk(&self, after: Option<Handle>) -> Option<Handle> {
+        match self.inside.next(sent_or_nil(after)) {
+            Ok(next) => chunk_or_nil_of(next),
+            Err(why) => unreachable!("an open object tells its chunks: {why}"),
+        }
+    }
+
+    /// The live chunks, in the order of their handles.
+    pub fn chunks(&self) -> Chunks<'_> {
+        Chunks::of(self)
+    }
+}
+
+/// Logs.
+impl Object {
+    /// Logs the heap at a time above that of the newest log. A log is full, whatever kind is asked, where there is none before it or 31
+    /// incremental ones stand behind the last full one.
+    ///
+    /// # Errors
+    ///
+    /// [`Error::NotAfter`], [`Error::LogsFull`], and [`Error::Memory`], where nothing was logged.
+    pub fn log(&mut self, kind: LogKind, time: Time) -> Result<Logged, Error> {
+        let asked = match kind {
+            LogKind::Full => ffi::FULL,
+            LogKind::Incremental => ffi::INCREMENTAL,
+        };
+        let logged = self.inside.log(asked, time.0)?;
+        let kind = match logged.kind {
+            ffi::FULL => LogKind::Full,
+            _ => LogKind::Incremental,
+        };
+        let length = logged.length;
+        Ok(Logged { kind, length })
+    }
+
+    /// Brings the heap back to the newest log at or before a time, which stays, and drops the logs after it. The answer is its time.
+    ///
+    /// # Errors
+    ///
+    /// [`Error::NoLog`].
+    pub fn restore(&mut self, time: Time) -> Result<Time, Error> {
+        self.inside.restore(time.0).map(Time)
+    }
+
+    /// Drops the logs before the newest one at or before a bound, so that this one can still be restored. The answer is how many; it may be 0.
+    ///
+    /// # Errors
+    ///
+    /// [`Error::Spent`] alone.
+    pub fn prune(&mut self, bound: Time) -> Result<u32, Error> {
+        self.inside.prune(bound.0)
+    }
+
+    /// How many logs are kept, and how many records they take.
+    ///
+    /// # Errors
+    ///
+    /// [`Error::Spent`] alone.
+    pub fn logs(&self) -> Result<Logs, Error> {
+        let slots = self.inside.logs()?;
+        Ok(Logs {
+            kept: slots.kept,
+            records: slots.slots,
+        })
+    }
+}
+
+impl fmt::Debug for Object {
+    fn fmt(&self, f: &mut fmt::Formatter<'_>) -> fmt::Result {
+        f.debug_struct("Object").finish_non_exhaustive()
+    }
+}
+
+/// A handle as C has it.
+fn sent(chunk: Handle) -> ffi::Handle {
+    ffi::Handle {
+        exponent: chunk.exponent(),
+        index: chunk.index(),
+    }
+}
+
+/// A handle or nil as C has it.
+fn sent_or_nil(chunk: Option<Handle>) -> ffi::Handle {
+    chunk.map_or(ffi::NIL, sent)
+}
+
+/// A handle or nil that C told: nil is the only one without a class.
+fn chunk_or_nil_of(told: ffi::Handle) -> Option<Handle> {
+    Handle::new(told.exponent, told.index)
+}
+
+/// The handle of a chunk that C told.
+fn chunk_of(told: ffi::Handle) -> Handle {
+    match chunk_or_nil_of(told) {
+        Some(chunk) => chunk,
+        None => unreachable!("the library tells a chunk of exponent {}", told.exponent),
+    }
+}
