@@ -1,0 +1,81 @@
+#include "memory.h"
+
+#include <string.h>
+
+const memory_way *const memory_ways[] = {&memory_copies, &memory_calls, NULL};
+
+const memory_way *memory_way_named(const char *name)
+{
+    const memory_way *const *way = memory_ways;
+    while (*way != NULL && strcmp((*way)->name, name) != 0) way++;
+    return *way;
+}
+
+fault memory_open(memory *m, const memory_way *way, uint32_t quota)
+{
+    m->way = way;
+    m->inside = NULL;
+    m->fault = FAULT_NONE;
+    return way->open(m, quota);
+}
+
+void memory_close(memory *m)
+{
+    if (m->way != NULL && m->inside != NULL) m->way->close(m);
+    m->inside = NULL;
+}
+
+chunk chunk_alloc(memory *m, uint32_t length)
+{
+    return m->fault == FAULT_NONE ? m->way->alloc(m, length) : 0;
+}
+
+void chunk_free(memory *m, chunk c)
+{
+    if (m->fault == FAULT_NONE) m->way->free(m, c);
+}
+
+const void *chunk_see(memory *m, chunk c, uint32_t at, uint32_t length, void *room)
+{
+    if (m->fault == FAULT_NONE) return m->way->see(m, c, at, length, room);
+    return memset(room, 0, length);
+}
+
+void *chunk_edit(memory *m, chunk c, uint32_t at, uint32_t length, void *room)
+{
+    if (m->fault == FAULT_NONE) return m->way->edit(m, c, at, length, room);
+    return memset(room, 0, length);
+}
+
+void chunk_put(memory *m, chunk c, uint32_t at, uint32_t length, const void *bytes)
+{
+    if (m->fault == FAULT_NONE) m->way->put(m, c, at, length, bytes);
+}
+
+fault memory_log(memory *m, uint64_t time, uint64_t *bytes)
+{
+    return m->way->log(m, time, bytes);
+}
+
+fault memory_restore(memory *m, uint64_t time, uint64_t *restored)
+{
+    return m->way->restore(m, time, restored);
+}
+
+fault memory_prune(memory *m, uint64_t bound)
+{
+    return m->way->prune(m, bound);
+}
+
+fault memory_save(memory *m, uint8_t **bytes, uint64_t *length)
+{
+    return m->way->save(m, bytes, length);
+}
+
+fault memory_load(memory *m, const memory_way *way, const uint8_t *bytes, uint64_t length)
+{
+    m->way = way;
+    m->inside = NULL;
+    m->fault = FAULT_NONE;
+    return way->load(m, bytes, length);
+}

@@ -1,0 +1,65 @@
+/*
+ * The state of one process, as the kernel has it: logged, brought back, pruned, and moved. The time of a log is the number of events that
+ * the process had run: so each event has a time of its own, also among events of one simulation time, and a log can be taken after any.
+ *
+ * A way to save state is a file with a `memory_way`; memory.c has the table of them.
+ */
+#ifndef MEMORY_H
+#define MEMORY_H
+
+#include <stddef.h>
+
+#include "chunk.h"
+#include "fault.h"
+
+/* The most logs that a process keeps; the library has the same limit. */
+enum { MEMORY_LOGS = 256 };
+
+typedef struct memory_way {
+    const char *name;
+    const char *says;
+    fault (*open)(memory *m, uint32_t quota);
+    void (*close)(memory *m);
+    chunk (*alloc)(memory *m, uint32_t length);
+    void (*free)(memory *m, chunk c);
+    const void *(*see)(memory *m, chunk c, uint32_t at, uint32_t length, void *room);
+    void *(*edit)(memory *m, chunk c, uint32_t at, uint32_t length, void *room);
+    void (*put)(memory *m, chunk c, uint32_t at, uint32_t length, const void *bytes);
+    fault (*log)(memory *m, uint64_t time, uint64_t *bytes);
+    fault (*restore)(memory *m, uint64_t time, uint64_t *restored);
+    fault (*prune)(memory *m, uint64_t bound);
+    fault (*save)(memory *m, uint8_t **bytes, uint64_t *length);
+    fault (*load)(memory *m, const uint8_t *bytes, uint64_t length);
+} memory_way;
+
+struct memory {
+    const memory_way *way;
+    void *inside; /* the way's own; null while it is closed */
+    fault fault;  /* the first fault of a chunk's call */
+};
+
+extern const memory_way memory_copies;
+extern const memory_way memory_calls;
+
+/* All ways, null after the last; and the way of a name, or null. */
+extern const memory_way *const memory_ways[];
+const memory_way *memory_way_named(const char *name);
+
+/* Opens an empty state of at most so many segments of 64 KiB. */
+fault memory_open(memory *m, const memory_way *way, uint32_t quota);
+void memory_close(memory *m);
+
+/* Keeps the state under a time above that of the newest log. *bytes is what the log takes. */
+fault memory_log(memory *m, uint64_t time, uint64_t *bytes);
+
+/* Brings the state back to the newest log at or before a time, and drops the later ones. *restored is its time. */
+fault memory_restore(memory *m, uint64_t time, uint64_t *restored);
+
+/* Drops the logs before the newest one at or before a bound. */
+fault memory_prune(memory *m, uint64_t bound);
+
+/* The kept logs as bytes, which the caller frees; and a state opened from such bytes, as it was at the newest log. */
+fault memory_save(memory *m, uint8_t **bytes, uint64_t *length);
+fault memory_load(memory *m, const memory_way *way, const uint8_t *bytes, uint64_t length);
+
+#endif

@@ -1,0 +1,139 @@
+#include "pack.h"
+
+#include <stdlib.h>
+#include <string.h>
+
+/* What stands first: the numbers of a process, and how many items each list after it has. */
+typedef struct head {
+    uint64_t process, root, dropped, sent_from, serial, bound;
+    uint64_t logs, pending, done, sent, early, state;
+    period period;
+    counts counts;
+} head;
+
+/* Bytes that are written or read from front to end. */
+typedef struct cursor {
+    uint8_t *write;
+    const uint8_t *read;
+    uint64_t left; /* to read */
+} cursor;
+
+static head head_of(const process *p, uint64_t state)
+{
+    head h;
+    memset(&h, 0, sizeof h);
+    h.process = p->context.self;
+    h.root = p->context.root;
+    h.dropped = p->dropped;
+    h.sent_from = p->sent_from;
+    h.serial = p->serial;
+    h.bound = p->bound;
+    h.logs = p->logs;
+    h.pending = p->pending.count;
+    h.done = p->done.count;
+    h.sent = p->sent.count;
+    h.early = p->early.count;
+    h.state = state;
+    h.period = p->period;
+    h.counts = p->counts;
+    return h;
+}
+
+static uint64_t length_of(const head *h)
+{
+    return sizeof *h + h->logs * sizeof(uint64_t) + (h->pending + h->sent + h->early) * sizeof(event) + h->done * sizeof(done) + h->state;
+}
+
+static void append(cursor *c, const void *bytes, uint64_t length)
+{
+    if (length == 0) return;
+    memcpy(c->write, bytes, length);
+    c->write += length;
+}
+
+fault process_pack(process *p, uint8_t **bytes, uint64_t *length)
+{
+    uint8_t *state = NULL;
+    uint64_t state_length = 0;
+    cursor c = {NULL, NULL, 0};
+    fault f = memory_save(&p->memory, &state, &state_length);
+    head h = head_of(p, state_length);
+    *length = length_of(&h);
+    if (f == FAULT_NONE) {
+        c.write = *bytes = malloc(*length);
+        if (c.write == NULL) f = FAULT_MEMORY;
+    }
+    if (f == FAULT_NONE) {
+        append(&c, &h, sizeof h);
+        append(&c, p->logged, h.logs * sizeof *p->logged);
+        append(&c, p->pending.items, h.pending * sizeof(event));
+        append(&c, p->done.items, h.done * sizeof(done));
+        append(&c, p->sent.items, h.sent * sizeof(event));
+        append(&c, p->early.items, h.early * sizeof(event));
+        append(&c, state, state_length);
+        process_close(p);
+    }
+    free(state);
+    return f;
+}
+
+/* Takes the next bytes, and answers whether so many were left. */
+static int take(cursor *c, void *to, uint64_t length)
+{
+    if (c->left < length) return 0;
+    if (length > 0) memcpy(to, c->read, length);
+    c->read += length;
+    c->left -= length;
+    return 1;
+}
+
+/* Takes a list of `count` items. */
+static fault take_list(cursor *c, void *items, size_t *room, size_t *filled, uint64_t count, size_t size)
+{
+    void *block;
+    if (count == 0) return FAULT_NONE;
+    if (c->left / size < count) return FAULT_MOVE;
+    block = malloc((size_t)count * size);
+    if (block == NULL) return FAULT_MEMORY;
+    take(c, block, count * size);
+    memcpy(items, &block, sizeof block);
+    *room = *filled = (size_t)count;
+    return FAULT_NONE;
+}
+
+static fault take_events(cursor *c, events *list, uint64_t count)
+{
+    return take_list(c, &list->items, &list->room, &list->count, count, sizeof(event));
+}
+
+static void take_head(process *p, const head *h)
+{
+    p->context.root = h->root;
+    p->dropped = h->dropped;
+    p->sent_from = h->sent_from;
+    p->serial = h->serial;
+    p->bound = h->bound;
+    p->logs = (uint32_t)h->logs;
+    p->period = h->period;
+    p->counts = h->counts;
+    /* the state is that of the newest log: the events after it are run again before the next one */
+    p->is_stale = 1;
+}
+
+fault process_unpack(process *p, const settings *s, uint32_t k, const uint8_t *bytes, uint64_t length)
+{
+    cursor c = {NULL, bytes, length};
+    head h;
+    fault f;
+    memset(p, 0, sizeof *p);
+    process_context(p, s, k);
+    if (!take(&c, &h, sizeof h) || h.process != k || h.logs == 0 || h.logs > MEMORY_LOGS) return FAULT_MOVE;
+    take_head(p, &h);
+    if (!take(&c, p->logged, h.logs * sizeof *p->logged)) return FAULT_MOVE;
+    f = take_events(&c, &p->pending, h.pending);
+    if (f == FAULT_NONE) f = take_list(&c, &p->done.items, &p->done.room, &p->done.count, h.done, sizeof(done));
+    if (f == FAULT_NONE) f = take_events(&c, &p->sent, h.sent);
+    if (f == FAULT_NONE) f = take_events(&c, &p->early, h.early);
+    if (f == FAULT_NONE) f = c.left == h.state ? memory_load(&p->memory, s->way, c.read, c.left) : FAULT_MOVE;
+    return f;
+}

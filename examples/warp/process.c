@@ -1,0 +1,290 @@
+#include "process.h"
+
+#include <stdlib.h>
+#include <string.h>
+
+#include "clock.h"
+#include "pending.h"
+
+/* How many events the process ran that weren't undone: the time of a log that is taken now. */
+static uint64_t position(const process *p)
+{
+    return p->dropped + p->done.count;
+}
+
+/* How many events the process sent that weren't called back. */
+static uint64_t count_sent(const process *p)
+{
+    return p->sent_from + p->sent.count;
+}
+
+static fault post(messages *out, const event *e, uint32_t is_anti)
+{
+    message m;
+    m.event = *e;
+    m.is_anti = is_anti;
+    m.mark = MESSAGE_MARK;
+    return messages_push(out, &m);
+}
+
+/* What the model sends. While events are run again it was sent before. */
+static void deliver(context *c, event *e)
+{
+    process *p = c->owner;
+    fault f;
+    if (p->out == NULL) return;
+    e->serial = p->serial++;
+    f = events_push(&p->sent, e);
+    if (f == FAULT_NONE) f = post(p->out, e, 0);
+    if (f != FAULT_NONE) c->fault = f;
+}
+
+static fault fault_of(const process *p)
+{
+    return p->context.fault != FAULT_NONE ? p->context.fault : p->memory.fault;
+}
+
+/* Runs the model for an event. */
+static fault execute(process *p, const event *e, messages *out)
+{
+    uint64_t start = 0;
+    int is_timed = period_times_event(&p->period);
+    p->context.now = e->time;
+    p->out = out;
+    if (is_timed) start = clock_now();
+    p->settings->model->run(&p->context, e);
+    if (is_timed) period_note_event(&p->period, clock_now() - start);
+    p->out = NULL;
+    return fault_of(p);
+}
+
+/* ---- logs */
+
+static fault take_log(process *p)
+{
+    uint64_t bytes = 0, start = p->period.is_chosen ? clock_now() : 0;
+    fault f;
+    f = memory_log(&p->memory, position(p), &bytes);
+    if (f != FAULT_NONE) return f;
+    if (p->period.is_chosen) period_note_log(&p->period, clock_now() - start);
+    p->logged[p->logs++] = position(p);
+    p->since_log = 0;
+    p->counts.logs++;
+    p->counts.log_bytes += bytes;
+    return FAULT_NONE;
+}
+
+/* Takes a log where one is due. Where the logs are full the process goes on without, and asks for a bound. */
+static fault log_if_due(process *p)
+{
+    if (p->since_log < p->period.events) return FAULT_NONE;
+    if (p->logs < MEMORY_LOGS) return take_log(p);
+    p->wants_bound = 1;
+    return FAULT_NONE;
+}
+
+/* Brings the state up to the events that were run, and drops the logs of those that were undone. */
+static fault settle(process *p)
+{
+    uint64_t at;
+    size_t k;
+    fault f;
+    if (!p->is_stale) return FAULT_NONE;
+    f = memory_restore(&p->memory, position(p), &at);
+    if (f != FAULT_NONE) return f;
+    while (p->logs > 0 && p->logged[p->logs - 1] > at) p->logs--;
+    for (k = (size_t)(at - p->dropped); k < p->done.count; k++) {
+        f = execute(p, &p->done.items[k].event, NULL);
+        if (f != FAULT_NONE) return f;
+    }
+    p->since_log = position(p) - at;
+    p->counts.replayed += p->since_log;
+    p->is_stale = 0;
+    return FAULT_NONE;
+}
+
+/* ---- rollback */
+
+/* How many of the events that were run come before an event. */
+static size_t count_before(const process *p, const event *e)
+{
+    size_t low = 0, high = p->done.count;
+    if (high == 0 || event_order(&p->done.items[high - 1].event, e) < 0) return high;
+    while (low < high) {
+        size_t middle = low + (high - low) / 2;
+        if (event_order(&p->done.items[middle].event, e) < 0)
+            low = middle + 1;
+        else
+            high = middle;
+    }
+    return low;
+}
+
+/* Undoes all events but the first `keep` that were run: they are pending again, and what they sent is called back. */
+static fault roll_back(process *p, size_t keep, messages *out)
+{
+    size_t stay = (size_t)(p->done.items[keep].sent - p->sent_from), k;
+    fault f = FAULT_NONE;
+    for (k = p->done.count; k > keep && f == FAULT_NONE; k--) f = pending_put(&p->pending, &p->done.items[k - 1].event);
+    for (k = stay; k < p->sent.count && f == FAULT_NONE; k++) f = post(out, &p->sent.items[k], 1);
+    p->counts.rollbacks++;
+    p->counts.undone += p->done.count - keep;
+    p->period.rollbacks += 1;
+    p->done.count = keep;
+    p->sent.count = stay;
+    p->is_stale = 1;
+    return f;
+}
+
+/* Calls an event back: it is pending, or was run, or comes later. */
+static fault annihilate(process *p, const event *e, messages *out)
+{
+    size_t keep;
+    fault f;
+    if (pending_remove(&p->pending, e)) return FAULT_NONE;
+    keep = count_before(p, e);
+    if (keep == p->done.count || event_order(&p->done.items[keep].event, e) != 0) return pending_put(&p->early, e);
+    f = roll_back(p, keep, out);
+    if (f == FAULT_NONE) pending_remove(&p->pending, e);
+    return f;
+}
+
+fault process_take(process *p, const message *m, messages *out)
+{
+    size_t keep;
+    if (m->event.time < p->bound) return FAULT_MESSAGE;
+    if (m->is_anti) return annihilate(p, &m->event, out);
+    if (pending_remove(&p->early, &m->event)) return FAULT_NONE;
+    keep = count_before(p, &m->event);
+    if (keep < p->done.count) {
+        fault f = roll_back(p, keep, out);
+        if (f != FAULT_NONE) return f;
+    }
+    return pending_put(&p->pending, &m->event);
+}
+
+/* ---- the way forward */
+
+void process_context(process *p, const settings *s, uint32_t k)
+{
+    p->settings = s;
+    p->context.self = k;
+    p->context.processes = s->processes;
+    p->context.seed = s->seed;
+    p->context.options = s->options;
+    p->context.memory = &p->memory;
+    p->context.deliver = deliver;
+    p->context.owner = p;
+}
+
+fault process_open(process *p, const settings *s, uint32_t k, messages *out)
+{
+    fault f;
+    memset(p, 0, sizeof *p);
+    process_context(p, s, k);
+    period_open(&p->period, s->log_every);
+    f = memory_open(&p->memory, s->way, s->quota);
+    if (f != FAULT_NONE) return f;
+    p->out = out;
+    s->model->start(&p->context);
+    p->out = NULL;
+    /* what was sent at the start is never called back */
+    p->sent_from = p->sent.count;
+    p->sent.count = 0;
+    return fault_of(p) != FAULT_NONE ? fault_of(p) : take_log(p);
+}
+
+void process_close(process *p)
+{
+    memory_close(&p->memory);
+    free(p->pending.items);
+    free(p->done.items);
+    free(p->sent.items);
+    free(p->early.items);
+    memset(p, 0, sizeof *p);
+}
+
+uint64_t process_next(const process *p)
+{
+    const event *first = pending_first(&p->pending);
+    return first != NULL ? first->time : UINT64_MAX;
+}
+
+fault process_run(process *p, messages *out)
+{
+    done d;
+    fault f = settle(p);
+    if (f == FAULT_NONE) f = list_grow(&p->done.items, &p->done.room, p->done.count, sizeof d);
+    if (f != FAULT_NONE) return f;
+    d.event = pending_take(&p->pending);
+    d.sent = count_sent(p);
+    f = execute(p, &d.event, out);
+    p->done.items[p->done.count++] = d;
+    p->period.ran += 1;
+    p->since_log++;
+    return f != FAULT_NONE ? f : log_if_due(p);
+}
+
+uint64_t process_reached(const process *p)
+{
+    return p->done.count > 0 ? p->done.items[p->done.count - 1].event.time : 0;
+}
+
+const counts *process_counts(const process *p)
+{
+    return &p->counts;
+}
+
+int process_wants_bound(const process *p)
+{
+    return p->wants_bound;
+}
+
+/* ---- commit */
+
+/* Drops the first logs, and the events up to the oldest that is left. */
+static void drop(process *p, uint32_t logs)
+{
+    size_t gone, unsent;
+    p->logs -= logs;
+    memmove(p->logged, p->logged + logs, p->logs * sizeof *p->logged);
+    gone = (size_t)(p->logged[0] - p->dropped);
+    unsent = (size_t)((gone < p->done.count ? p->done.items[gone].sent : count_sent(p)) - p->sent_from);
+    list_drop_first(p->done.items, &p->done.count, gone, sizeof *p->done.items);
+    list_drop_first(p->sent.items, &p->sent.count, unsent, sizeof *p->sent.items);
+    p->dropped += gone;
+    p->sent_from += unsent;
+}
+
+/* How many of the events that were run have times before a bound. */
+static size_t count_below(const process *p, uint64_t bound)
+{
+    event first;
+    memset(&first, 0, sizeof first);
+    first.time = bound;
+    return count_before(p, &first);
+}
+
+fault process_commit(process *p, uint64_t bound)
+{
+    uint64_t committed = p->dropped + count_below(p, bound);
+    uint32_t useless = 0;
+    fault f = FAULT_NONE;
+    while (useless + 1 < p->logs && p->logged[useless + 1] <= committed) useless++;
+    if (useless > 0) {
+        f = memory_prune(&p->memory, committed);
+        drop(p, useless);
+    }
+    p->bound = bound;
+    p->wants_bound = 0;
+    p->counts.committed = committed;
+    period_adapt(&p->period);
+    return f;
+}
+
+fault process_checksum(process *p, uint64_t *sum)
+{
+    fault f = settle(p);
+    if (f == FAULT_NONE) *sum = p->settings->model->checksum(&p->context);
+    return f != FAULT_NONE ? f : fault_of(p);
+}

@@ -1,0 +1,174 @@
+/*
+ * Parts of the kernel by themselves: the logging period and the window as their rules say, the schedule against a plain search, and a packed
+ * process that is unpacked whole and cut short at each place.
+ *     parts [copies|calls]
+ */
+#include <stdio.h>
+#include <stdlib.h>
+#include <string.h>
+
+#include "../pack.h"
+#include "../period.h"
+#include "../schedule.h"
+#include "../window.h"
+
+static int failed;
+
+static void check(int holds, const char *what)
+{
+    if (holds) return;
+    fprintf(stderr, "parts: %s\n", what);
+    failed = 1;
+}
+
+/* ---- the logging period */
+
+/* Notes logs of 1000 ns, events of 100 ns and so many rollbacks in a hundred events, and chooses. */
+static uint32_t choose(period *p, double rollbacks)
+{
+    unsigned k;
+    p->ran = 100;
+    p->rollbacks = rollbacks;
+    for (k = 0; k < 10; k++) {
+        period_note_log(p, 1000);
+        period_note_event(p, 100);
+    }
+    period_adapt(p);
+    return p->events;
+}
+
+static void try_period(void)
+{
+    static const uint32_t rising[] = {2, 4, 8, 16, 20, 20};
+    period p;
+    unsigned k;
+    period_open(&p, 7);
+    check(choose(&p, 5) == 7, "a fixed period changes");
+    period_open(&p, 0);
+    for (k = 0; k < sizeof rising / sizeof *rising; k++)
+        check(choose(&p, 5) == rising[k], "the period doesn't rise to sqrt(2 * 1000 / (0.05 * 100)) = 20");
+    check(choose(&p, 20) == 10, "with four times as many rollbacks the period isn't half as long");
+    check(choose(&p, 2000) == 1, "with twenty rollbacks an event the period isn't 1");
+    for (k = 0; k < 20; k++) choose(&p, 0);
+    check(p.events == 256, "without rollbacks the period doesn't rise to the longest");
+}
+
+/* ---- the window */
+
+static void try_window(void)
+{
+    window w;
+    counts sums;
+    memset(&sums, 0, sizeof sums);
+    window_open(&w, 30);
+    sums.undone = 100;
+    window_adapt(&w, &sums);
+    check(window_last(&w, 5, 1000) == 35 && window_last(&w, 990, 1000) == 1000, "a fixed window");
+    window_open(&w, 0);
+    memset(&sums, 0, sizeof sums);
+    check(window_last(&w, 0, 1000) == 16, "the first window");
+    sums.committed = 75;
+    sums.undone = 25;
+    window_adapt(&w, &sums);
+    check(window_last(&w, 0, 1000) == 25, "the window doesn't grow where a quarter was undone");
+    sums.committed += 74;
+    sums.undone += 26;
+    window_adapt(&w, &sums);
+    check(window_last(&w, 0, 1000) == 12, "the window isn't halved where more than a quarter was undone");
+    window_adapt(&w, &sums);
+    check(window_last(&w, 0, 1000) == 12, "the window changes where nothing was run");
+}
+
+/* ---- the schedule */
+
+enum { PROCESSES = 37, STEPS = 20000 };
+
+static void try_schedule(void)
+{
+    uint64_t times[PROCESSES], random = 1, least;
+    int is_in[PROCESSES] = {0};
+    schedule s;
+    uint32_t k, first = 0;
+    unsigned step;
+    if (schedule_open(&s, PROCESSES) != FAULT_NONE) exit(1);
+    for (step = 0; step < STEPS; step++) {
+        k = (uint32_t)model_random(&random, PROCESSES);
+        if (model_random(&random, 4) == 0) {
+            schedule_remove(&s, k);
+            is_in[k] = 0;
+        } else {
+            times[k] = model_random(&random, 50);
+            schedule_set(&s, k, times[k]);
+            is_in[k] = 1;
+        }
+        for (least = UINT64_MAX, k = 0; k < PROCESSES; k++)
+            if (is_in[k] && times[k] < least) least = times[k];
+        check(schedule_first(&s, &first) == least && (least == UINT64_MAX || (is_in[first] && times[first] == least)), "the schedule");
+    }
+    schedule_close(&s);
+}
+
+/* ---- a packed process */
+
+/* A process of PHOLD that ran some events, with one that waits for its event and some that are logged. */
+static void run_some(process *p, const settings *s)
+{
+    messages out = {NULL, 0, 0};
+    message early;
+    size_t k;
+    unsigned ran;
+    if (process_open(p, s, 2, &out) != FAULT_NONE) exit(1);
+    for (k = 0; k < out.count; k++) process_take(p, &out.items[k], &out);
+    for (ran = 0; ran < 9; ran++) {
+        size_t from = out.count;
+        if (process_run(p, &out) != FAULT_NONE) exit(1);
+        for (k = from; k < out.count; k++)
+            if (out.items[k].event.receiver == 2) process_take(p, &out.items[k], &out);
+    }
+    memset(&early, 0, sizeof early);
+    early.event.time = UINT64_MAX - 1;
+    early.is_anti = 1;
+    process_take(p, &early, &out);
+    free(out.items);
+}
+
+/* Whether bytes are a process, which must have a checksum then. */
+static fault unpack(const settings *s, const uint8_t *bytes, uint64_t length, uint64_t *sum)
+{
+    process p;
+    fault f = process_unpack(&p, s, 2, bytes, length);
+    if (f == FAULT_NONE && sum != NULL) f = process_checksum(&p, sum);
+    process_close(&p);
+    return f;
+}
+
+static void try_pack(const settings *s)
+{
+    process p;
+    uint8_t *bytes = NULL;
+    uint64_t length = 0, cut, before = 0, after = 0;
+    run_some(&p, s);
+    check(process_checksum(&p, &before) == FAULT_NONE, "a checksum before the move");
+    check(process_pack(&p, &bytes, &length) == FAULT_NONE, "packing");
+    check(unpack(s, bytes, length, &after) == FAULT_NONE && after == before, "a process that moved has another state");
+    for (cut = 0; cut < length; cut += cut < 2000 ? 1 : 61)
+        check(unpack(s, bytes, cut, NULL) == FAULT_MOVE, "bytes that were cut short are a process");
+    bytes[0] ^= 1;
+    check(unpack(s, bytes, length, NULL) == FAULT_MOVE, "another process is taken for this one");
+    free(bytes);
+}
+
+int main(int count, char **words)
+{
+    static settings s;
+    const char *why;
+    char *own[] = {"parts", "phold", "--processes", "4", "--log-every", "4"};
+    if (settings_read(&s, sizeof own / sizeof *own, own, &why) != FAULT_NONE) return 1;
+    s.way = memory_way_named(count > 1 ? words[1] : "copies");
+    if (s.way == NULL) return 2;
+    try_period();
+    try_window();
+    try_schedule();
+    try_pack(&s);
+    return failed;
+}

@@ -1,0 +1,33 @@
+/*
+ * What each process did when, for the picture of a run (draw): a file FILE.N for each worker N, with a line for each thing done:
+ *     run WALL PROCESS TIME        it ran an event of this time
+ *     log WALL PROCESS TIME        it took a log after that event
+ *     back WALL PROCESS TIME FROM  it went back from FROM to before an event of this time
+ *     bound WALL TIME
+ *     move WALL PROCESS TO
+ * WALL is in nanoseconds of one clock.
+ */
+#ifndef TRACE_H
+#define TRACE_H
+
+#include <stdint.h>
+#include <stdio.h>
+
+#include "fault.h"
+
+typedef struct trace {
+    FILE *file; /* null where nothing is noted */
+} trace;
+
+/* Opens the file of a worker; `name` may be null. */
+fault trace_open(trace *t, const char *name, uint32_t worker);
+
+/* FAULT_FILE: not all was written. */
+fault trace_close(trace *t);
+
+/* Notes one thing; `from` only for back. */
+void trace_note(trace *t, const char *what, uint32_t process, uint64_t time);
+void trace_note_back(trace *t, uint32_t process, uint64_t time, uint64_t from);
+void trace_note_bound(trace *t, uint64_t time);
+
+#endif
