@@ -14,8 +14,8 @@
  *   - a pointer to an object is that of such a dym_object; each other pointer is that of a whole value of its type, which the caller may
  *     write unless it is const. What the pointers of one call point to doesn't overlap;
  *   - bytes that are handed in or out are at a pointer that isn't null, also where there are none: with a length or a room of 0 too;
- *   - one call at a time on an object. It may be another thread's than the call before: a lock, a thread's start or join, or a
- *     sequentially consistent atomic then stands between the two. Calls on different objects need no order;
+ *   - one call at a time on an object. It may be another thread's than the call before: a lock, a barrier, a thread's start or join, or
+ *     a sequentially consistent atomic then stands between the two. Calls on different objects need no order;
  *   - no call from a signal handler, nor from the forked child of a process that has threads;
  *   - malloc, realloc and free are those of one allocator, which aligns a block to each power of two up to 16 that divides its length.
  *

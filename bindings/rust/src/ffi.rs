@@ -112,8 +112,8 @@ pub(crate) struct OpenObject {
     object: UnsafeCell<Object>,
 }
 
-// SAFETY: "one call at a time on an object. It may be another thread's than the call before: a lock, a thread's start or join, or a
-// sequentially consistent atomic then stands between the two." Safe Rust hands a value to another thread by one of these, or by what
+// SAFETY: "one call at a time on an object. It may be another thread's than the call before: a lock, a barrier, a thread's start or
+// join, or a sequentially consistent atomic then stands between the two." Safe Rust hands a value to another thread by one of these, or by what
 // likewise has the calls before it happen before those after it, as the release and the acquire of a channel.
 unsafe impl Send for OpenObject {}
 
