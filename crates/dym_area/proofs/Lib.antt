@@ -2,3 +2,4 @@ pub mod Classes
 pub mod Taken
 pub mod Rooms
 pub mod Reach
+mod AreaLent

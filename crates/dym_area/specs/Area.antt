@@ -1,10 +1,11 @@
 -- What is seen of an area, and what its calls do with it.
 use Rattle.std.specs.Prelude.{◌≡◌, ℕ, zero, suc, ◌+◌, ◌-◌, ◌*◌, ◌/◌, ◌^◌, ◌<◌, ◌≤◌, Bool, true, false, List, ◌++◌, length, replicate, slice_set}
 use Rattle.std.specs.Int.{bit_at}
+use Rattle.std.specs.List.{refill}
 use Rattle.dym_base.specs.Numbers.{size, per}
 use Rattle.dym_base.specs.declared.limits.TheConstants.{MOST_CHUNKS, SEGMENT_BYTES, LEAST_EXPONENT, GREATEST_EXPONENT}
 use Rattle.dym_bits.specs.Bits.{IsSet, IsClear, bits_of_bytes, clear_bits}
-use Rattle.dym_region.specs.Content.{with_part}
+use Rattle.dym_region.specs.Content.{part_of, with_part}
 use Rattle.dym_region.specs.declared.segment.SegmentId.{SegmentId}
 
 -- one segment cut into chunks of a class: which of them are used, which are dirty, and all the bytes
@@ -79,6 +80,10 @@ with_written area i at bytes =
       dirty = dirty_after area.dirty i (length bytes);
       content = with_part area.content (chunk_start area i + at) bytes;
     }
+
+-- the area once `ws` was written through the `len` bytes of chunk i from place `at` on, which were lent: these are then as many
+abbrev pub with_chunk_lent : AreaMeaning → ℕ → ℕ → ℕ → List ℕ → AreaMeaning
+with_chunk_lent area i at len ws = with_written area i at (refill len (part_of area.content (chunk_start area i + at) len) ws)
 
 -- the area after the bytes were put over those of the chunks from chunk `from` on
 abbrev pub with_loaded : AreaMeaning → ℕ → List ℕ → AreaMeaning

@@ -2,9 +2,12 @@
 ghost use Rattle.std.specs.Prelude.{◌≡◌, ℕ, ◌+◌, ◌*◌, ◌/◌, ◌<◌, ◌≤◌, ◌↔◌, max, length, replicate, IsTrue, MatchOption};
 ghost use Rattle.dym_base.specs.Numbers.{size, per};
 ghost use Rattle.dym_base.specs.declared.limits.TheConstants.{LEAST_EXPONENT, GREATEST_EXPONENT};
+ghost use Rattle.std.specs.Prelude.{List};
+ghost use Rattle.std.specs.Option.{ForSome};
+ghost use Rattle.std.specs.Borrow.{sem};
 ghost use Rattle.dym_bits.specs.Bits.{bit_in, bits_of_bytes, clear_bits, IsSet, IsClear, IsFirstClear, IsNextSet, IsTopSet};
 ghost use Rattle.dym_region.specs.Content.{part_of};
-ghost use Rattle.dym_area.specs.Area.{IsValidArea, chunk_start, with_taken, with_released, with_written, with_loaded, with_clean, with_used_bytes};
+ghost use Rattle.dym_area.specs.Area.{IsValidArea, chunk_start, with_taken, with_released, dirty_after, with_written, with_chunk_lent, with_loaded, with_clean, with_used_bytes};
 
 use crate::ends::end_of;
 use crate::summary::{WORD_CHUNKS, after_take, all_words, summary_of, with_room};
@@ -36,6 +39,8 @@ impl<G: Segment> Model for Area<G> {
 }
 
 impl<G: Segment> Area<G> {
+    ghost use Rattle.dym_area.specs.Lends.{lends_chunk};
+
     /// An area of class `exp` over a segment, with no chunk used. `ordinal` is its place among the areas of its class.
     pub fn new(exp: u8, ordinal: u32, seg: G) -> Area<G>
         requires least { LEAST_EXPONENT ≤ exp }
@@ -73,6 +78,13 @@ impl<G: Segment> Area<G> {
         ensures { result ≡ self.now.ordinal }
     {
         self.ordinal
+    }
+
+    /// Where the bytes of the area's segment lie.
+    pub fn start(&self) -> *const u8
+        ensures { ForSome (G.place_of self.now.identity) (λ place. result ≡ place) }
+    {
+        self.segment.start()
     }
 
     /// Takes the least unused chunk, which becomes used, dirty and zero, and answers its index. None where all are used.
@@ -154,6 +166,19 @@ impl<G: Segment> Area<G> {
     {
         let start = i * size_of_class(self.exp) + at;
         self.segment.bytes(start, len)
+    }
+
+    /// The same to be changed in place. The chunk is dirty.
+    pub fn bytes_mut(&mut self, i: u32, at: u32, len: u32) -> &mut [u8]
+        requires used { IsSet self.old.used i }
+        requires within { at + len ≤ size self.old.exponent }
+        ensures* writes_back { sem 𝓛 (lends_chunk G.row G.Segment self.entry i at len result) }
+        ensures value { result.now ≡ part_of self.old.content (chunk_start self.old i + at) len }
+        ensures valid { (ws : List ℕ) → IsValidArea (with_chunk_lent self.old i at len ws) }
+    {
+        let start = i * size_of_class(self.exp) + at;
+        touch(&mut self.dirty, i, len);
+        self.segment.bytes_mut(start, len)
     }
 
     /// Fills `out` with the bytes of a used chunk, from its place `at` on.
@@ -294,6 +319,16 @@ impl<G: Segment> Area<G> {
             segment,
         } = self;
         segment
+    }
+}
+
+/// Marks chunk `i` where there is a byte of it to be changed.
+fn touch(dirty: &mut Bits, i: u32, len: u32)
+    requires { i < MOST_CHUNKS }
+    ensures { dirty.new ≡ dirty_after dirty.old i len }
+{
+    if len > 0 {
+        dirty.set(i);
     }
 }
 

@@ -1,12 +1,12 @@
 -- What a loop keeps that changes a shelf area by area, as the areas of a record stand.
-use Rattle.std.proofs.Common.{◌≡◌, ℕ, ◌+◌, ◌-◌, ◌*◌, ◌/◌, ◌%◌, ◌^◌, ◌<◌, ◌≤◌, ◌⊎◌, inl, inr, Bool, true, false, is_some, IsSome, None, List, length, get_or, refl, sym, ap, subst, ◌∙◌, arith}
+use Rattle.std.proofs.Common.{◌≡◌, ℕ, ◌+◌, ◌-◌, ◌*◌, ◌/◌, ◌%◌, ◌^◌, ◌<◌, ◌≤◌, ◌⊎◌, inl, inr, true, false, is_some, IsSome, None, length, get_or, refl, sym, ap, subst, ◌∙◌, arith}
 use Rattle.std.proofs.lemmas.Bool.{cases_eq, cases_lt}
 use Rattle.std.proofs.lemmas.Nat.{pow_pos, div-add-mod', mod_below, div-mul-add}
 use Rattle.std.specs.FinMap.{contains_key}
 use Rattle.dym_base.specs.Numbers.{per, number, exponent_of}
 use Rattle.dym_base.specs.Heaps.{Live, HeapState, held}
 use Rattle.dym_pack.specs.Areas.{area_at, chunks_of, chunk_number}
-use Rattle.dym_heap.specs.Table.{Row, row_at, chunk_at, state_of}
+use Rattle.dym_heap.specs.Table.{row_at, chunk_at, state_of}
 use Rattle.dym_heap.specs.Shelves.{ShelfMeaning, IsValidShelf, IsTidy}
 use Rattle.dym_heap.specs.Fetches.{ChunkMeaning, heap_chunk, row_chunk, IsChangedArea}
 use Rattle.dym_heap.proofs.Entries.{below, at, splits, get-live_of, get-live_of_below, contains-touched_of, contains-touched_of_below}

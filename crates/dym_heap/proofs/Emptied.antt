@@ -1,5 +1,5 @@
 -- The last area of a class, after no chunk of it is in use.
-use Rattle.std.proofs.Common.{◌≡◌, ℕ, ◌+◌, ◌-◌, ◌*◌, ◌<◌, ◌≤◌, inl, inr, false, is_some, Option, Some, None, List, length, get_or, take, replicate, refl, sym, ap, subst, ◌∙◌, arith, length-take, get_or-take, get_or-set_same, get_or-set_other}
+use Rattle.std.proofs.Common.{◌≡◌, ℕ, ◌+◌, ◌-◌, ◌*◌, ◌<◌, ◌≤◌, inl, inr, false, is_some, Option, Some, None, List, length, get_or, take, replicate, refl, sym, ap, ◌∙◌, arith, length-take, get_or-take, get_or-set_same, get_or-set_other}
 use Rattle.std.proofs.lemmas.Bool.{cases_eq, cases_lt, true≢false}
 use Rattle.std.proofs.lemmas.Nat.{div_below}
 use Rattle.std.proofs.lemmas.List.{get_or_past, take-replicate}

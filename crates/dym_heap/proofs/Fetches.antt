@@ -5,7 +5,7 @@ use Rattle.std.specs.Int.{to_le_bytes, w32}
 use Rattle.std.specs.List.{flat_map, filter, range_with_len}
 use Rattle.std.specs.FinMap.{get, contains_key}
 use Rattle.std.proofs.lemmas.Bool.{cases_eq, eqb-true, lt-ltb, true≢false}
-use Rattle.dym_base.specs.Numbers.{size, per, exponent_of}
+use Rattle.dym_base.specs.Numbers.{per, exponent_of}
 use Rattle.dym_base.specs.Heaps.{held}
 use Rattle.dym_base.specs.Laws.{IsLengthOf}
 use Rattle.dym_base.specs.Packed.{Logged, packs_by, packed_chunk}
@@ -16,7 +16,7 @@ use Rattle.dym_base.specs.declared.command.Version.TheVariants.{One, Two}
 use Rattle.dym_bits.specs.Bits.{bit_in}
 use Rattle.dym_pack.specs.Areas.{area_at, chunks_of, chunk_number, bytes_at}
 use Rattle.dym_pack.specs.ParsedAreas.{packs_at, body_from}
-use Rattle.dym_heap.specs.Table.{Row, row_at, chunk_at}
+use Rattle.dym_heap.specs.Table.{Row, row_at}
 use Rattle.dym_heap.specs.Shelves.{ShelfMeaning, IsValidShelf, IsTidy}
 use Rattle.dym_heap.specs.Fetches.{ChunkMeaning, row_chunk, marked, fetched, packed_at, IsReshaped, IsChangedArea, IsAreaChange}
 use Rattle.dym_heap.proofs.Sizes.{size_least}

@@ -28,7 +28,9 @@ pub mod Copies
 pub mod Moves
 pub mod NextUsed
 pub mod NextLive
+mod NewMarks
 pub mod Cleans
+mod Touches
 pub mod Joins
 pub mod AreaNames
 pub mod Lending
@@ -37,6 +39,7 @@ pub mod Loads
 pub mod PlaceLoads
 pub mod Swaps
 pub mod ShelfLoads
+mod AreaBindings
 pub mod AreaLists
 pub mod RecordLoads
 pub mod PlaceShapes
@@ -50,3 +53,8 @@ pub mod Reshapes
 pub mod Fetches
 pub mod Fitting
 pub mod Sums
+mod ChunkLent
+mod ShelfStarts
+mod Addresses
+mod Offsets
+mod Ranges

@@ -1,5 +1,5 @@
 -- The segments of the areas are those that are held.
-use Rattle.std.proofs.Common.{◌≡◌, ℕ, ◌+◌, ◌-◌, ◌<◌, ◌≤◌, ◌⊎◌, inl, inr, Bool, true, false, cond, ◌&&◌, ◌==◌, List, [], ◌∷◌, ◌++◌, length, get_or, set, refl, sym, ap, subst, ◌∙◌, arith, length-set, sum_by}
+use Rattle.std.proofs.Common.{◌≡◌, ℕ, suc, ◌+◌, ◌-◌, ◌<◌, ◌≤◌, ◌⊎◌, inl, inr, Bool, true, false, cond, ◌&&◌, ◌==◌, List, [], ◌∷◌, ◌++◌, length, get_or, set, refl, sym, ap, subst, ◌∙◌, arith, length-set, sum_by}
 use Rattle.std.specs.List.{insert, remove}
 use Rattle.std.proofs.lemmas.Bool.{eq-eqb, eqb-true}
 use Rattle.std.proofs.lemmas.List.{get_or_push, length_push, nil_from_length}
@@ -50,6 +50,44 @@ place_held v quota ids sized_areas room spare spare_room k d is l =
     let same = is.owned (weight_of x) in
     held_by_weight x ids (omega arith)
 
+-- an identity that weighs something among the areas is that of one of them
+pub area_of : (x : SegmentId) (sized_areas : List SizedAreaMeaning) → 0 < sum_by (λ (p : SizedAreaMeaning). weight_of x p.identity) sized_areas
+    → (k : ℕ) × (k < length sized_areas) × ((d : SizedAreaMeaning) → (get_or sized_areas k d).identity ≡ x)
+area_of x [] some = absurd (omega arith)
+area_of x (p ∷ ps) some =
+    elim (same_id x p.identity) as (λ b. same_id x p.identity ≡ b → (k : ℕ) × (k < length (p ∷ ps)) × ((d : SizedAreaMeaning) → (get_or (p ∷ ps) k d).identity ≡ x)) [
+      | true ↦ λ h. (0, omega arith, λ d. sym (same_id-true x p.identity h))
+      | false ↦ λ h.
+          let none : weight_of x p.identity ≡ 0 = ap (λ b. cond b 1 0) h in
+          let rest = area_of x ps (omega (arith, sum_by-cons (λ (q : SizedAreaMeaning). weight_of x q.identity) p ps)) in
+          (suc rest.0, (let l = rest.1 in omega arith), rest.2)
+    ] refl
+
+-- a segment that is held is that of an area
+pub held_area : (x : SegmentId) (ids : List SegmentId) (sized_areas : List SizedAreaMeaning) → Owns ids sized_areas → IsHeld ids x
+    → (k : ℕ) × (k < length sized_areas) × ((d : SizedAreaMeaning) → (get_or sized_areas k d).identity ≡ x)
+held_area x ids sized_areas owns held =
+    let one : weight_of x x ≡ 1 = ap (λ b. cond b 1 0) (same_id-self x) in
+    let all = ap (sum_by (weight_of x)) held.is ∙ sum_by-append (weight_of x) held.front (x ∷ held.back) in
+    let first = sum_by-cons (weight_of x) x held.back in
+    let same = owns (weight_of x) in
+    area_of x sized_areas (omega arith)
+
+-- where one area changed and the same segments are owned, that area has its segment
+pub same_identity : (ids : List SegmentId) (sized_areas : List SizedAreaMeaning) (k : ℕ) (d p : SizedAreaMeaning) → Owns ids sized_areas → Owns ids (set sized_areas k p) → k < length sized_areas
+    → p.identity ≡ (get_or sized_areas k d).identity
+same_identity ids sized_areas k d p before after l =
+    let x : SegmentId = (get_or sized_areas k d).identity in
+    let one : weight_of x x ≡ 1 = ap (λ b. cond b 1 0) (same_id-self x) in
+    let changed = sum_by-set (λ (q : SizedAreaMeaning). weight_of x q.identity) sized_areas k p d l in
+    let was = before (weight_of x) in
+    let now = after (weight_of x) in
+    let weighs : weight_of x p.identity ≡ 1 = omega arith in
+    elim (same_id x p.identity) as (λ b. same_id x p.identity ≡ b → p.identity ≡ x) [
+      | true ↦ λ h. sym (same_id-true x p.identity h)
+      | false ↦ λ h. absurd (let none : weight_of x p.identity ≡ 0 = ap (λ b. cond b 1 0) h in omega arith)
+    ] refl
+
 -- ---- an area changes, comes or goes
 
 pub supplied-put : (v : Version) (quota : ℕ) (ids : List SegmentId) (sized_areas : List SizedAreaMeaning) (room spare spare_room k : ℕ) (d p : SizedAreaMeaning) → IsSupplied v quota ids sized_areas room spare spare_room → k < length sized_areas
@@ -78,7 +116,7 @@ table_there One quota areas spare room has less = inl (refl, has)
 table_there Two quota areas spare room has less = let a = has.0 in inr (refl, omega arith)
 
 pub supplied-insert : (v : Version) (quota : ℕ) (ids ids' : List SegmentId) (sized_areas : List SizedAreaMeaning) (room room' spare spare' spare_room at : ℕ) (p : SizedAreaMeaning)
-    → IsSupplied v quota ids sized_areas room spare spare_room → length sized_areas < quota → at ≤ length sized_areas → ids' ≡ ids ++ p.identity ∷ [] → room ≤ room' → spare' ≡ spare - 1
+    → IsSupplied v quota ids sized_areas room spare spare_room → length sized_areas < quota → at ≤ length sized_areas → GivesBack ids' ids p.identity → room ≤ room' → spare' ≡ spare - 1
     → IsSupplied v quota ids' (insert sized_areas at p) room' spare' spare_room
 supplied-insert v quota ids ids' sized_areas room room' spare spare' spare_room at p is less fits more bigger fewer = record {
   least = is.least;
@@ -89,7 +127,9 @@ supplied-insert v quota ids ids' sized_areas room room' spare spare' spare_room 
   owned = λ weight.
       let before = is.owned weight in
       let after = sum_by-insert (λ (p : SizedAreaMeaning). weight p.identity) sized_areas at p in
-      let held = ap (sum_by weight) more ∙ sum_by_push weight ids p.identity in
+      let now = ap (sum_by weight) more.was ∙ sum_by-append weight more.front (p.identity ∷ more.back) in
+      let first = sum_by-cons weight p.identity more.back in
+      let was = ap (sum_by weight) more.is ∙ sum_by-append weight more.front more.back in
       omega arith;
 }
 

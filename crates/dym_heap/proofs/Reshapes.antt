@@ -1,5 +1,5 @@
 -- A shelf whose areas get the use bits of a record's, one after the other.
-use Rattle.std.proofs.Common.{◌≡◌, ℕ, ◌+◌, ◌-◌, ◌*◌, ◌/◌, ◌%◌, ◌^◌, ◌<◌, ◌≤◌, inl, inr, Bool, true, false, is_some, Option, Some, None, List, [], length, get_or, refl, sym, ap, subst, ◌∙◌, arith}
+use Rattle.std.proofs.Common.{◌≡◌, ℕ, ◌+◌, ◌-◌, ◌*◌, ◌/◌, ◌%◌, ◌^◌, ◌<◌, ◌≤◌, inl, inr, true, false, is_some, Option, Some, None, List, [], length, get_or, refl, sym, ap, subst, ◌∙◌, arith}
 use Rattle.std.specs.Prelude.{unwrap_or}
 use Rattle.std.specs.FinMap.{get, contains_key}
 use Rattle.std.proofs.lemmas.Bool.{cases_lt}
@@ -12,7 +12,7 @@ use Rattle.dym_base.specs.Laws.{IsWellSized}
 use Rattle.dym_base.proofs.Heaps.{areas_below, areas_reached}
 use Rattle.dym_base.specs.declared.command.Version.{Version}
 use Rattle.dym_pack.specs.Areas.{AreaName, chunks_of, chunk_number}
-use Rattle.dym_heap.specs.Table.{Row, empty_row, row_at, chunk_at, state_of}
+use Rattle.dym_heap.specs.Table.{empty_row, row_at, chunk_at, state_of}
 use Rattle.dym_heap.specs.Shape.{IsTrimmed}
 use Rattle.dym_heap.specs.Shelves.{ShelfMeaning, IsValidShelf, IsTidy}
 use Rattle.dym_heap.specs.ShapeSteps.{HasAreas}

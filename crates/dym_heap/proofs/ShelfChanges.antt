@@ -1,11 +1,11 @@
 -- A shelf after chunks of one of its areas changed, as many being in use as before.
-use Rattle.std.proofs.Common.{◌≡◌, ℕ, ◌+◌, ◌-◌, ◌*◌, ◌/◌, ◌<◌, ◌≤◌, Bool, true, false, is_some, Option, Some, None, List, length, get_or, set, refl, sym, ap, subst, ◌∙◌, arith}
+use Rattle.std.proofs.Common.{◌≡◌, ℕ, ◌+◌, ◌-◌, ◌*◌, ◌<◌, ◌≤◌, Bool, true, false, is_some, Option, Some, None, List, length, get_or, set, refl, sym, ap, subst, ◌∙◌, arith}
 use Rattle.std.proofs.lemmas.Nat.{div-mul-add}
 use Rattle.dym_base.specs.Numbers.{per}
 use Rattle.dym_base.specs.Origins.{Origin}
 use Rattle.dym_base.specs.declared.command.Version.{Version}
 use Rattle.dym_region.specs.declared.segment.SegmentId.{SegmentId}
-use Rattle.dym_heap.specs.Table.{Row, row_at, chunk_at, touch_at}
+use Rattle.dym_heap.specs.Table.{row_at, chunk_at, touch_at}
 use Rattle.dym_heap.specs.Shelves.{ShelfMeaning, IsValidShelf}
 use Rattle.dym_heap.specs.SizedAreas.{SizedAreaMeaning, IsSizedArea}
 use Rattle.dym_heap.specs.Arrangement.{IsPlaced, IsFullArea, HasFree, IsShelf, shelf_of, rows_upto}

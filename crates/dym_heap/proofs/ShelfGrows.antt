@@ -1,5 +1,5 @@
 -- The clauses of a shelf's calls by which areas come and go.
-use Rattle.std.proofs.Common.{◌≡◌, ℕ, ◌+◌, ◌-◌, ◌*◌, ◌<◌, ◌≤◌, inl, inr, Bool, true, false, cond, is_some, IsSome, Option, Some, None, List, [], ◌∷◌, ◌++◌, length, get_or, set, replicate, refl, sym, ap, subst, ◌∙◌, arith, length-take, get_or-set_same, get_or-take, MatchOption, MatchBool}
+use Rattle.std.proofs.Common.{◌≡◌, ℕ, ◌+◌, ◌-◌, ◌*◌, ◌<◌, ◌≤◌, inl, inr, Bool, true, false, cond, is_some, IsSome, Option, Some, None, List, length, get_or, set, replicate, refl, sym, ap, subst, ◌∙◌, arith, length-take, get_or-set_same, get_or-take, MatchOption, MatchBool}
 use Rattle.std.specs.List.{insert, remove}
 use Rattle.std.proofs.lemmas.Bool.{cases_lt}
 use Rattle.std.proofs.lemmas.List.{get_or_past, take-take, take_all, set-get_or, set-set, length-replicate, get_or-replicate}
@@ -177,7 +177,7 @@ module _ (v : Version) (quota : ℕ) (ids : List SegmentId) (origin : Origin) (s
 
   grown_at : (o : ℕ) (lengths : Option Lengths) (p : SizedAreaMeaning) (id : SegmentId) (ids' : List SegmentId) (starts' : List ℕ) (room' spare' : ℕ)
       → length s.held_ids < s.quota → version_of lengths ≡ v → spare' ≡ spare - 1 → p ≡ empty_place (version_of lengths) e o id → IsSizedArea p → o ≡ get_or starts (e - 5 + 1) 0 - get_or starts (e - 5) 0
-      → ids' ≡ ids ++ id ∷ [] → Shifts starts starts' (e - 5) → room ≤ room' → Grown ids' quota origin starts' (insert sized_areas (get_or starts (e - 5 + 1) 0) p) room' spare' spare_room
+      → GivesBack ids' ids id → Shifts starts starts' (e - 5) → room ≤ room' → Grown ids' quota origin starts' (insert sized_areas (get_or starts (e - 5 + 1) 0) p) room' spare' spare_room
   grown_at o lengths p id ids' starts' room' spare' less version fewer made valid ordinal more shift bigger =
       let c : ℕ = e - 5 in
       let at : ℕ = get_or starts (c + 1) 0 in
@@ -194,7 +194,7 @@ module _ (v : Version) (quota : ℕ) (ids : List SegmentId) (origin : Origin) (s
       let free : HasFree p = (0, (let z = per_some in omega arith), ap (λ cs. get_or cs 0 None) chunks ∙ get_or-replicate (per (c + 5)) 0 None None (let z = per_some in let y = per_is in omega arith)) in
       let arranged = arranged-insert v starts starts' sized_areas full c p is.arranged class_in shift placed free in
       let supplied = supplied-insert v quota ids ids' sized_areas room room' spare spare' spare_room at p is.supplied (below_quota less) top
-      (more ∙ ap (λ x. ids ++ x ∷ []) (sym (ap (λ (q : SizedAreaMeaning). q.identity) made))) bigger fewer in
+      (subst (GivesBack ids' ids) (sym (ap (λ (q : SizedAreaMeaning). q.identity) made)) more) bigger fewer in
       let rows = rows-insert v starts starts' sized_areas full c p is.arranged class_in shift chunks touched in
       record {
         shelf = record { arranged = arranged; supplied = supplied };
@@ -206,7 +206,7 @@ module _ (v : Version) (quota : ℕ) (ids : List SegmentId) (origin : Origin) (s
 
   pub grown : (k o : ℕ) (lengths : Option Lengths) (p : SizedAreaMeaning) (id : SegmentId) (ids' : List SegmentId) (quota' : ℕ) (origin' : Origin) (starts' : List ℕ) (room' spare' spare_room' : ℕ)
       → k ≡ e - 5 → length s.held_ids < s.quota → MatchOption lengths ((spare ≡ 0) × (spare' ≡ 0)) (λ _. spare' + 1 ≡ spare) → p ≡ empty_place (version_of lengths) e o id → IsSizedArea p → o ≡ get_or starts (k + 1) 0 - get_or starts k 0
-      → ids' ≡ ids ++ id ∷ [] → quota' ≡ quota → origin' ≡ origin → Shifts starts starts' k → room ≤ room' → spare_room' ≡ spare_room
+      → GivesBack ids' ids id → quota' ≡ quota → origin' ≡ origin → Shifts starts starts' k → room ≤ room' → spare_room' ≡ spare_room
       → (sized_areas' : List SizedAreaMeaning) → sized_areas' ≡ insert sized_areas (get_or starts (k + 1) 0) p → Grown ids' quota' origin' starts' sized_areas' room' spare' spare_room'
   grown k o lengths p id ids' quota' origin' starts' room' spare' spare_room' same less cases made valid ordinal more quota_is origin_is shift bigger room_is sized_areas' items =
       let tables = popped v quota (length sized_areas) spare spare' spare_room lengths is.supplied.tables (below_quota less) cases in

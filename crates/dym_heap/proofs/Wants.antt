@@ -1,5 +1,5 @@
 -- One chunk that is marked, fetched or reshaped, and again.
-use Rattle.std.proofs.Common.{◌≡◌, ℕ, Bool, true, false, cond, not, ◌&&◌, ◌||◌, is_some, Option, Some, None, List, refl, sym, ap, ◌∙◌}
+use Rattle.std.proofs.Common.{◌≡◌, ℕ, Bool, true, false, cond, not, ◌&&◌, ◌||◌, is_some, Option, Some, None, List, refl, sym, ◌∙◌}
 use Rattle.dym_base.specs.StandsFor.{or_else}
 use Rattle.dym_heap.specs.Fetches.{ChunkMeaning, marked, fetched, is_unmodified, IsReshaped}
 

@@ -1,5 +1,5 @@
 -- What a shelf of areas stands for, and what its calls do.
-use Rattle.std.specs.Prelude.{◌≡◌, ℕ, zero, suc, MatchOption, ◌+◌, ◌-◌, ◌*◌, ◌≤◌, ◌<◌, Bool, true, false, List, map, ◌++◌, length, take, replicate, slice_index_or, slice_set, Option, None, Some, IsSome}
+use Rattle.std.specs.Prelude.{◌≡◌, ℕ, zero, suc, MatchOption, ◌+◌, ◌-◌, ◌*◌, ◌≤◌, ◌<◌, Bool, true, false, List, map, ◌++◌, length, take, replicate, slice_index_or, slice_set, Option, None, Some, IsSome, is_some}
 use Rattle.dym_base.specs.Numbers.{per}
 use Rattle.dym_base.specs.HeapStep.{splice}
 use Rattle.dym_base.specs.Origins.{Origin}
@@ -97,6 +97,10 @@ empty_rows = replicate 12 empty_row
 -- no chunk is touched
 abbrev pub untouched_rows : List Row → List Row
 untouched_rows rows = map (λ row. record { chunks = row.chunks; touched = replicate (length row.touched) false }) rows
+
+-- each chunk in use is touched
+abbrev pub used_touched_rows : List Row → List Row
+used_touched_rows rows = map (λ row. record { chunks = row.chunks; touched = map is_some row.chunks }) rows
 
 -- the last n chunks of row c, which are there, are free
 pub record EndsFree (rows : List Row) (c n : ℕ) : Type 0 where

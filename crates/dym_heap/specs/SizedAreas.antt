@@ -1,5 +1,5 @@
 -- What a place stands for: an area with the lengths of its chunks.
-use Rattle.std.specs.Prelude.{◌≡◌, ℕ, ◌≤◌, ◌<◌, Bool, true, false, if◌then◌else◌, List, map, length, take, replicate, slice_index, slice_index_or, slice_set, Option, None, Some, IsSome, MatchOption}
+use Rattle.std.specs.Prelude.{◌≡◌, ℕ, ◌≤◌, ◌<◌, Bool, true, false, if◌then◌else◌, List, map, length, take, replicate, slice_index, slice_index_or, slice_set, Option, None, Some, IsSome, is_some, MatchOption}
 use Rattle.std.specs.List.{range_with_len}
 use Rattle.dym_base.specs.Numbers.{size, per}
 use Rattle.dym_base.specs.HeapStep.{splice}
@@ -99,6 +99,10 @@ pub record IsRepeated (block : List ℕ) : Type 0 where
 -- the place with no chunk touched
 abbrev pub clean : SizedAreaMeaning → SizedAreaMeaning
 clean p = record p { touched = replicate (length p.touched) false }
+
+-- the place with each chunk in use touched
+abbrev pub used_touched : SizedAreaMeaning → SizedAreaMeaning
+used_touched p = record p { touched = map is_some p.chunks }
 
 -- the first n bytes of chunk j of area s were copied over those of chunk i of area t
 pub record IsCopiedOver (old new : List SizedAreaMeaning) (s j t i n : ℕ) : Type 0 where

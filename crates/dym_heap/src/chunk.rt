@@ -1,11 +1,12 @@
 //! Chunks of a shelf by their handles.
-ghost use Rattle.std.specs.Prelude.{◌≡◌, ℕ, ◌+◌, ◌-◌, ◌≤◌, ◌<◌, true, None, Some, List, length, replicate, Ok, MatchOption, IsSome, is_some, MatchBool, option_map};
+ghost use Rattle.std.specs.Prelude.{IfOk, ◌≡◌, ℕ, ◌+◌, ◌-◌, ◌≤◌, ◌<◌, true, None, Some, List, length, replicate, Ok, MatchOption, IsSome, is_some, MatchBool, option_map};
 ghost use Rattle.std.specs.FinMap.{get};
 ghost use Rattle.dym_base.specs.Numbers.{number, IsClass};
 ghost use Rattle.dym_base.specs.HeapStep.{key, splice, with_chunk, without_chunk, found_at, resize, fitted, held_with_fresh};
 ghost use Rattle.dym_base.specs.Heaps.{fresh};
 ghost use Rattle.dym_base.specs.declared.command.Version.TheVariants.{Two};
 ghost use Rattle.dym_base.specs.declared.limits.TheConstants.{LEAST_EXPONENT, GREATEST_EXPONENT};
+ghost use Rattle.dym_heap.specs.ChunkLends.{check_answer};
 ghost use Rattle.dym_heap.specs.Meaning.{IsSizeOf};
 ghost use Rattle.dym_heap.specs.Replies.{found_reply};
 ghost use Rattle.dym_heap.specs.Table.{chunk_at, live_of, state_of};
@@ -15,7 +16,7 @@ use crate::found::Found;
 use crate::fresh::take_fresh;
 use crate::shelf::Shelf;
 use dym_base::limits::{GREATEST_EXPONENT, LEAST_EXPONENT};
-use dym_base::{Handle, Version};
+use dym_base::{Handle, Refusal, Version};
 use dym_quota::Supply;
 
 /// A chunk's length in bytes, and None where it isn't live.
@@ -32,6 +33,23 @@ pub(crate) fn len_of_handle<S: Supply>(shelf: &Shelf<S>, h: Handle) -> Option<u3
         return None;
     }
     shelf.chunk_len(h.exp, h.index)
+}
+
+/// Whether a chunk has a byte: a refusal where it isn't live or has none.
+pub(crate) fn check_chunk<S: Supply>(shelf: &Shelf<S>, h: Handle) -> Result<(), Refusal>
+    requires { IsTidy shelf.now }
+    ensures answer { result ≡ check_answer (get (live_of shelf.now.rows) (key h)) }
+    ensures chunk { IfOk result (λ _. (LEAST_EXPONENT ≤ h.exp) × (h.exp ≤ GREATEST_EXPONENT)
+        × (get (live_of shelf.now.rows) (key h) ≡ chunk_at shelf.now.rows (h.exp - 5) h.index)
+        × FitsIn (chunk_at shelf.now.rows (h.exp - 5) h.index) 1) }
+{
+    let Some(len) = len_of_handle(shelf, h) else {
+        return Err(Refusal::Dead);
+    };
+    if len == 0 {
+        return Err(Refusal::Range);
+    }
+    Ok(())
 }
 
 /// A chunk's bytes, and None where it isn't live.

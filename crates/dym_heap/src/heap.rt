@@ -11,13 +11,16 @@ ghost use Rattle.dym_base.specs.Heaps.{held};
 ghost use Rattle.dym_base.specs.StandsFor.{packed_by};
 ghost use Rattle.dym_pack.specs.ParsedAreas.{OfLog};
 ghost use Rattle.dym_heap.specs.RecordLoads.{HaveOneSetOfHandles, IsLoaded};
+ghost use Rattle.std.specs.Borrow.{sem};
+ghost use Rattle.dym_heap.specs.ChunkLends.{heap_lent, HasByte, check_answer};
 ghost use Rattle.dym_heap.specs.Meaning.{HeapMeaning, IsSound};
 ghost use Rattle.dym_heap.specs.Fetches.{heap_chunk, marked, fetched, IsReshaped};
+ghost use Rattle.dym_heap.specs.Touches.{all_touched};
 ghost use Rattle.dym_heap.specs.Replies.{step_of, stepped, done_reply, chunk_reply, moved_reply, bytes_reply, found_reply, total_reply, after_key, IsNextLive};
 
 use crate::chunk::{
-    bytes_of_handle, fill_chunk, find_number, free_handle, len_of_handle, move_chunk, resize_chunk,
-    write_chunk,
+    bytes_of_handle, check_chunk, fill_chunk, find_number, free_handle, len_of_handle, move_chunk,
+    resize_chunk, write_chunk,
 };
 use crate::found::Found;
 use crate::fresh::take_fresh;
@@ -62,6 +65,8 @@ impl<S: Supply> Model for Heap<S> {
 }
 
 impl<S: Supply> Heap<S> {
+    ghost use Rattle.dym_heap.specs.HeapLends.{lends_live};
+
     /// An empty heap of version 1. Room for all areas of the quota is taken here.
     pub fn open(alloc: Global, supply: S) -> Result<Heap<S>, (AllocError, S)>
         requires nothing_held { S.held_ids supply ≡ [] }
@@ -256,6 +261,28 @@ impl<S: Supply> Heap<S> {
         Ok(())
     }
 
+    /// The bytes of a live chunk that has at least one, to be changed in place: the command that writes the bytes that stand
+    /// there when the borrow ends.
+    pub fn live_mut(&mut self, h: Handle) -> &mut [u8]
+        requires least { LEAST_EXPONENT ≤ h.exp }
+        requires most { h.exp ≤ GREATEST_EXPONENT }
+        requires some { HasByte self.old h }
+        ensures* writes_back { sem 𝓛 (lends_live S.row S.Seg.row S.Context.row S.Seg.Segment S.Supply self.entry h result) }
+        ensures value { get self.old.state.live (key h) ≡ Some result.now }
+        ensures sound { (ws : List ℕ) → IsSound (heap_lent self.old h ws) }
+    {
+        self.shelf.bytes_mut(h.exp, h.index)
+    }
+
+    /// Whether a chunk has a byte: `Dead` where it isn't live, and `Range` where it has none.
+    pub fn check(&self, h: Handle) -> Result<(), Refusal>
+        ensures answer { result ≡ check_answer (get self.now.state.live (key h)) }
+        ensures chunk { IfOk result (λ _. (LEAST_EXPONENT ≤ h.exp) × (h.exp ≤ GREATEST_EXPONENT)
+            × HasByte self.now h) }
+    {
+        check_chunk(&self.shelf, h)
+    }
+
     /// Makes `len` bytes of a chunk from its place `at` on `byte`. Where `len` is 0 nothing changes.
     pub fn fill(&mut self, h: Handle, at: u32, len: u32, byte: u8) -> Result<(), Refusal>
         ensures reply { done_reply result ≡ (step_of self.old (Fill h at len byte)).reply }
@@ -369,6 +396,14 @@ impl<S: Supply> Heap<S> {
         ensures sound { IsSound self.new }
     {
         self.shelf.clear_touched();
+    }
+
+    /// Each live chunk is touched, as after a write of every one. No memory is taken.
+    pub fn touch_all(&mut self)
+        ensures touched { self.new ≡ record self.old { state = all_touched self.old.state } }
+        ensures sound { IsSound self.new }
+    {
+        self.shelf.touch_all();
     }
 
     /// Shapes the heap to a record's areas and use bits: areas that the record lacks are given back, then those that are

@@ -8,6 +8,7 @@
 //! to a record it has the record's handles, and a load writes each packed chunk that is live.
 #![tactic(auto)]
 
+mod address;
 mod apply;
 mod area_order;
 mod areas;

@@ -8,13 +8,16 @@ ghost use Rattle.dym_bits.specs.Bits.{bit_in, bits_of_bytes, IsSet};
 ghost use Rattle.dym_heap.specs.Meaning.{IsSizeOf};
 ghost use Rattle.dym_heap.specs.Table.{row_at, chunk_at, live_of, touched_of};
 ghost use Rattle.dym_heap.specs.Shape.{IsTrimmed};
-ghost use Rattle.dym_heap.specs.SizedAreas.{clean};
+ghost use Rattle.dym_heap.specs.SizedAreas.{clean, used_touched};
 ghost use Rattle.dym_heap.specs.Bodies.{IsBodyOf, IsBody, IsLoadedArea};
 ghost use Rattle.dym_heap.specs.ShapeSteps.{HasAreas};
 ghost use Rattle.dym_heap.specs.Fetches.{row_chunk, marked, fetched, packed_at, IsReshaped, IsChangedArea};
+ghost use Rattle.std.specs.Option.{ForSome};
+ghost use Rattle.std.specs.Borrow.{sem};
+ghost use Rattle.dym_heap.specs.ChunkLends.{shelf_lent};
 ghost use Rattle.dym_heap.specs.AreaViews.{IsAreaOf};
 ghost use Rattle.dym_heap.specs.Arrangement.{AreClear, HasTables, Owns};
-ghost use Rattle.dym_heap.specs.Shelves.{ShelfMeaning, IsValidShelf, IsTidy, IsFirstFree, IsNextUsed, Keeps, with_row, with_put, longer, Trims, EndsFree, without_last, FitsIn, empty_rows, untouched_rows};
+ghost use Rattle.dym_heap.specs.Shelves.{ShelfMeaning, IsValidShelf, IsTidy, IsFirstFree, IsNextUsed, Keeps, with_row, with_put, longer, Trims, EndsFree, without_last, FitsIn, empty_rows, untouched_rows, used_touched_rows};
 
 use crate::area_order::{copy_between, put_in, take_out};
 use crate::chunk_location::{
@@ -56,14 +59,17 @@ impl<S: Supply> Model for Shelf<S> {
     ghost Value = { ShelfMeaning };
 
     ghost use Rattle.std.specs.Prelude.{vec_len, vec_capacity};
-    ghost use Rattle.dym_heap.specs.Arrangement.{shelf_of, IsShelf};
+    ghost use Rattle.dym_heap.specs.Arrangement.{shelf_of, IsShelf, AreBound};
 
     ghost view = { λ s. shelf_of s.version (S.quota_of s.supply) (S.held_ids s.supply) (S.origin s.supply) s.starts s.sized_areas.items };
 
-    ghost invariant = { λ s. IsShelf s.version (S.quota_of s.supply) (S.held_ids s.supply) s.starts s.sized_areas.items s.full.items (vec_capacity s.sized_areas) (vec_len s.spare) (vec_capacity s.spare) };
+    ghost invariant = { λ s. IsShelf s.version (S.quota_of s.supply) (S.held_ids s.supply) s.starts s.sized_areas.items s.full.items (vec_capacity s.sized_areas) (vec_len s.spare) (vec_capacity s.spare)
+        × AreBound (S.bound (S.origin s.supply) (S.quota_of s.supply)) s.sized_areas.items };
 }
 
 impl<S: Supply> Shelf<S> {
+    ghost use Rattle.dym_heap.specs.ShelfLends.{lends_of_shelf};
+
     /// A shelf with no area. Room for all areas of the quota is taken here.
     pub(crate) fn open(
         alloc: Global,
@@ -125,6 +131,13 @@ impl<S: Supply> Shelf<S> {
         self.supply.quota()
     }
 
+    /// The supply that the segments come from.
+    pub(crate) fn supply(&self) -> &S
+        ensures { S.origin result.now ≡ self.now.origin }
+    {
+        &self.supply
+    }
+
     /// The least free chunk of a class, which is now in use, touched, and of `len` zero bytes. None where no area of the
     /// class has a free chunk.
     pub(crate) fn take_chunk(&mut self, exp: u8, len: u32) -> Option<u32>
@@ -166,7 +179,7 @@ impl<S: Supply> Shelf<S> {
         let at = self.starts[class + 1];
         let ordinal = at - self.starts[class];
         let lengths = self.spare.pop();
-        let segment = self.supply.take(context);
+        let segment = self.supply.take(context, class as u32, ordinal);
         let sized_area = SizedArea::new(exp, ordinal, segment, lengths);
         put_in(&mut self.sized_areas, at as usize, sized_area);
         shift_up(&mut self.starts, class);
@@ -239,6 +252,48 @@ impl<S: Supply> Shelf<S> {
             return None;
         };
         self.sized_areas[location.sized_area].chunk_bytes(location.chunk)
+    }
+
+    /// The bytes of a chunk in use, of which there is at least one, to be changed in place. It is touched.
+    pub(crate) fn bytes_mut(&mut self, exp: u8, index: u32) -> &mut [u8]
+        requires least { LEAST_EXPONENT ≤ exp }
+        requires most { exp ≤ GREATEST_EXPONENT }
+        requires some { FitsIn (chunk_at self.old.rows (exp - 5) index) 1 }
+        ensures* writes_back { sem 𝓛 (lends_of_shelf S.row S.Seg.row S.Context.row S.Seg.Segment S.Supply self.entry (exp - 5) index result) }
+        ensures value { Some result.now ≡ chunk_at self.old.rows (exp - 5) index }
+        ensures valid_shelf { (ws : List ℕ) → IsValidShelf (shelf_lent self.old (exp - 5) index ws) }
+    {
+        let Some(location) = find(&self.starts, exp, index) else {
+            unreachable!();
+        };
+        let sized_area = &mut self.sized_areas[location.sized_area];
+        sized_area.used_bytes_mut(location.chunk)
+    }
+
+    /// A chunk in use with at least one byte is touched.
+    pub(crate) fn touch(&mut self, exp: u8, index: u32)
+        requires least { LEAST_EXPONENT ≤ exp }
+        requires most { exp ≤ GREATEST_EXPONENT }
+        requires some { FitsIn (chunk_at self.old.rows (exp - 5) index) 1 }
+        ensures touched { MatchOption (chunk_at self.old.rows (exp - 5) index) ⊥
+            (λ bytes. self.new ≡ with_put self.old (exp - 5) index (Some bytes) true) }
+        ensures valid_shelf { IsValidShelf self.new }
+    {
+        let _bytes = self.bytes_mut(exp, index);
+    }
+
+    /// Where the segment lies that the area of a chunk in use is over: that of its class and ordinal, where areas are bound.
+    pub(crate) fn start(&self, exp: u8, index: u32) -> *const u8
+        requires least { LEAST_EXPONENT ≤ exp }
+        requires most { exp ≤ GREATEST_EXPONENT }
+        requires used { IsSome (chunk_at self.now.rows (exp - 5) index) }
+        ensures { ForSome (S.bound self.now.origin self.now.quota) (λ f.
+            ForSome (S.Seg.place_of (f (exp - 5) (index / per exp))) (λ place. result ≡ place)) }
+    {
+        let Some(location) = find(&self.starts, exp, index) else {
+            unreachable!();
+        };
+        self.sized_areas[location.sized_area].start()
     }
 
     /// How many bytes a chunk has that is in use.
@@ -518,6 +573,14 @@ impl<S: Supply> Shelf<S> {
         clear_sized_areas(&mut self.sized_areas);
     }
 
+    /// Each chunk in use is touched.
+    pub(crate) fn touch_all(&mut self)
+        ensures touched { self.new ≡ record self.old { rows = used_touched_rows self.old.rows } }
+        ensures valid_shelf { IsValidShelf self.new }
+    {
+        touch_sized_areas(&mut self.sized_areas);
+    }
+
     /// Whether no chunk is touched. Where the answer is no, no clause tells that one is.
     pub(crate) fn is_unmodified(&self) -> bool
         ensures unmodified { IsTrue result → self.now ≡ record self.now { rows = untouched_rows self.now.rows } }
@@ -616,5 +679,16 @@ fn clear_sized_areas<G: Segment>(sized_areas: &mut Vec<SizedArea<G>>)
     for i in 0..sized_areas.len() {
         let sized_area = &mut sized_areas[i];
         sized_area.clear_touched();
+    }
+}
+
+/// Each chunk in use of these areas is touched.
+fn touch_sized_areas<G: Segment>(sized_areas: &mut Vec<SizedArea<G>>)
+    ensures touched { sized_areas.new.items ≡ map used_touched sized_areas.old.items }
+    ensures room { vec_capacity sized_areas.new ≡ vec_capacity sized_areas.old }
+{
+    for i in 0..sized_areas.len() {
+        let sized_area = &mut sized_areas[i];
+        sized_area.touch_all();
     }
 }

@@ -11,8 +11,11 @@ ghost use Rattle.dym_heap.specs.Lengths.{version_of, numbers_of};
 ghost use Rattle.dym_heap.specs.Shelves.{FitsIn};
 ghost use Rattle.dym_heap.specs.Bodies.{IsBodyOf, IsBody, IsLoadedSizedArea};
 ghost use Rattle.dym_heap.specs.Fetches.{area_chunk, marked, fetched, packed_at, IsReshaped};
+ghost use Rattle.std.specs.Option.{ForSome};
+ghost use Rattle.std.specs.Borrow.{sem};
+ghost use Rattle.dym_heap.specs.ChunkLends.{area_lent};
 ghost use Rattle.dym_heap.specs.AreaViews.{IsUsedRun};
-ghost use Rattle.dym_heap.specs.SizedAreas.{SizedAreaMeaning, IsSizedArea, clean, IsFreeIn, IsUsedFrom, IsRepeated, area_with_chunk, with_length, len_of};
+ghost use Rattle.dym_heap.specs.SizedAreas.{SizedAreaMeaning, IsSizedArea, clean, used_touched, IsFreeIn, IsUsedFrom, IsRepeated, area_with_chunk, with_length, len_of};
 
 use crate::chunk_load::{load_runs, load_sized};
 use crate::lengths::Lengths;
@@ -48,6 +51,8 @@ impl<G: Segment> Model for SizedArea<G> {
 }
 
 impl<G: Segment> SizedArea<G> {
+    ghost use Rattle.dym_heap.specs.SizedAreaLends.{lends_of_area};
+
     /// A place with no chunk in use.
     pub(crate) fn new(exp: u8, ordinal: u32, segment: G, lengths: Option<Lengths>) -> SizedArea<G>
         requires least { LEAST_EXPONENT ≤ exp }
@@ -134,6 +139,13 @@ impl<G: Segment> SizedArea<G> {
         self.area.ordinal()
     }
 
+    /// Where the bytes of the area's segment lie.
+    pub(crate) fn start(&self) -> *const u8
+        ensures { ForSome (G.place_of self.now.identity) (λ place. result ≡ place) }
+    {
+        self.area.start()
+    }
+
     /// Which chunks are in use.
     pub(crate) fn used_bits(&self) -> &Bits
         ensures { (i : ℕ) → bit_in result.now i ≡ is_some (slice_index_or self.now.chunks i None) }
@@ -179,6 +191,17 @@ impl<G: Segment> SizedArea<G> {
     {
         self.area
             .bytes(i, 0, noted_len(&self.lengths, self.area.exp(), i))
+    }
+
+    /// The same to be changed in place, where there is at least one. The chunk is touched.
+    pub(crate) fn used_bytes_mut(&mut self, i: u32) -> &mut [u8]
+        requires { FitsIn (slice_index_or self.old.chunks i None) 1 }
+        ensures* writes_back { sem 𝓛 (lends_of_area G.row G.Segment self.entry i result) }
+        ensures value { Some result.now ≡ slice_index_or self.old.chunks i None }
+        ensures valid { (ws : List ℕ) → IsSizedArea (area_lent self.old i ws) }
+    {
+        let len = noted_len(&self.lengths, self.area.exp(), i);
+        self.area.bytes_mut(i, 0, len)
     }
 
     /// The bytes of chunk `i`, and None where it is free.
@@ -316,6 +339,15 @@ impl<G: Segment> SizedArea<G> {
         ensures valid { IsSizedArea self.new }
     {
         self.area.clear_dirty();
+    }
+
+    /// Each chunk in use is touched.
+    pub(crate) fn touch_all(&mut self)
+        ensures touched { self.new ≡ used_touched self.old }
+        ensures valid { IsSizedArea self.new }
+    {
+        let touched = self.area.dirty().union(self.area.used());
+        self.area.set_dirty(touched);
     }
 
     /// Makes these chunks, which are in use, the touched ones.

@@ -1,3 +1,6 @@
+pub mod Addresses
+pub mod ChunkLends
 pub mod Commands
-pub mod Meaning
 pub mod Laws
+pub mod Meaning
+pub mod ObjectLends

@@ -3,10 +3,14 @@
 //! Below stand the heap with the supply that its segments come from, and the chain with the keep of
 //! its records; above stands whatever runs the commands of a script. Its one contract: each method
 //! for a command answers as one step of the definition replies, and leaves the object of that step
-//! (`IsStep`); `run` does the same for a command that is a value. An object that lends its records
+//! (`IsStep`); `run` does the same for a command that is a value. A chunk is changed in place by
+//! `chunk_mut`, the command that writes what it then has; over a region each chunk has an address,
+//! which no command changes (`laws::commands_move_no_chunk`). An object that lends its records
 //! (`LentObject`) is a `KeptLogs`.
 #![tactic(auto)]
 
+mod addresses;
+mod chunks;
 mod command_run;
 mod heap_calls;
 pub mod laws;

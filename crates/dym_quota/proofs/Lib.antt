@@ -1,8 +1,9 @@
+mod Missing
 pub mod Copies
-pub mod Weights
-pub mod Views
-pub mod KeepsRule
-pub mod Queued
-pub mod Orders
-pub mod Runs
 pub mod Ends
+pub mod KeepsRule
+pub mod Orders
+pub mod Queued
+pub mod Runs
+pub mod Views
+pub mod Weights

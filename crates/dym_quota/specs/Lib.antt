@@ -1,4 +1,5 @@
 pub mod Berths
+pub mod Bound
 pub mod HeldIds
 pub mod OwnSegments
 pub mod QueueShape

@@ -1,5 +1,5 @@
 //! A berth is a supply.
-ghost use Rattle.std.specs.Prelude.{◌≡◌, ◌<◌, ◌++◌, [], ◌∷◌, length};
+ghost use Rattle.std.specs.Prelude.{None, ◌≡◌, ◌<◌, ◌++◌, [], ◌∷◌, length};
 ghost use Rattle.dym_quota.specs.HeldIds.{IsHeld, GivesBack};
 
 use crate::berth::Berth;
@@ -22,6 +22,10 @@ impl<R: Wait> Supply for Berth<R> {
 
     ghost origin = { λ b. shared (queue_name b.pass) };
 
+    ghost bound = { λ _ _. None };
+
+    ghost bound_apart = { λ _ _. tt };
+
     fn quota(&self) -> u32 {
         self.quota
     }
@@ -30,7 +34,7 @@ impl<R: Wait> Supply for Berth<R> {
         self.held
     }
 
-    fn take(&mut self, context: &R) -> RawSegment {
+    fn take(&mut self, context: &R, _class: u32, _ordinal: u32) -> RawSegment {
         let segment = take(context, &self.line, &mut self.pass);
         self.held += 1;
         segment

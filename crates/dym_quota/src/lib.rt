@@ -11,6 +11,8 @@
 
 mod berth;
 mod berth_supply;
+mod fixed;
+mod fixed_supply;
 mod longest_run;
 mod own;
 mod own_supply;
@@ -27,6 +29,7 @@ mod supply;
 mod tests;
 
 pub use berth::Berth;
+pub use fixed::FixedSupply;
 pub use longest_run::waves;
 pub use own::OwnSupply;
 pub use quota_queue::QuotaQueue;

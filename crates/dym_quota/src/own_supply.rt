@@ -1,5 +1,5 @@
 //! How a supply with segments of its own is made, and that it is a supply.
-ghost use Rattle.std.specs.Prelude.{◌≡◌, ◌+◌, ◌-◌, ◌≤◌, max, [], IfOk, IfErr, OnOk, OnErr, replicate, vec_len, vec_capacity};
+ghost use Rattle.std.specs.Prelude.{None, ◌≡◌, ◌+◌, ◌-◌, ◌≤◌, max, [], IfOk, IfErr, OnOk, OnErr, replicate, vec_len, vec_capacity};
 ghost use Rattle.dym_base.specs.Origins.{Origin, own};
 ghost use Rattle.dym_base.specs.declared.limits.TheConstants.{MOST_QUOTA};
 ghost use Rattle.dym_region.specs.Identity.{lone_id};
@@ -155,6 +155,10 @@ impl Supply for OwnSupply {
 
     ghost origin = { λ _. own };
 
+    ghost bound = { λ _ _. None };
+
+    ghost bound_apart = { λ _ _. tt };
+
     fn quota(&self) -> u32 {
         self.quota
     }
@@ -163,7 +167,7 @@ impl Supply for OwnSupply {
         self.quota - self.spare.len() as u32
     }
 
-    fn take(&mut self, _way: &()) -> VecSegment {
+    fn take(&mut self, _way: &(), _class: u32, _ordinal: u32) -> VecSegment {
         self.spare.take_last()
     }
 

@@ -72,7 +72,7 @@ fn number_taken<R: Wait>(context: &R, berth: &mut Berth<R>) -> u32
     ensures quota { ⟦<Berth<R> as Supply>⟧.quota_of berth.new ≡ ⟦<Berth<R> as Supply>⟧.quota_of berth.old }
     ensures origin { ⟦<Berth<R> as Supply>⟧.origin berth.new ≡ ⟦<Berth<R> as Supply>⟧.origin berth.old }
 {
-    let segment = berth.take(context);
+    let segment = berth.take(context, 0, 0);
     let number = segment.number();
     berth.give(context, segment);
     number
@@ -87,7 +87,7 @@ fn worked<R: Wait>(context: &R, mut berth: Berth<R>) -> Berth<R>
 {
     for _round in 0..1000 {
         if berth.held() < berth.quota() {
-            let segment = berth.take(context);
+            let segment = berth.take(context, 0, 0);
             berth.give(context, segment);
         }
     }

@@ -1,6 +1,7 @@
 //! What every supply of segments can do.
-ghost use Rattle.std.specs.Prelude.{◌≡◌, ℕ, ◌<◌, List, [], ◌∷◌, ◌++◌, length};
+ghost use Rattle.std.specs.Prelude.{◌≡◌, ℕ, ◌<◌, List, length, Option};
 ghost use Rattle.dym_base.specs.Origins.{Origin};
+ghost use Rattle.dym_quota.specs.Bound.{IsFreeFor, IsBoundTo, AreApart};
 ghost use Rattle.dym_quota.specs.HeldIds.{IsHeld, GivesBack};
 ghost use Rattle.dym_region.specs.declared.segment.SegmentId.{SegmentId};
 
@@ -23,6 +24,11 @@ pub trait Supply {
 
     ghost origin: { Self → Origin };
 
+    // Which segment an area gets, by its class from 0 on and its ordinal, where a supply of this origin and quota binds them.
+    ghost bound: { Origin → ℕ → Option (ℕ → ℕ → SegmentId) };
+
+    ghost bound_apart: { (origin : Origin) (quota : ℕ) → AreApart (bound origin quota) quota };
+
     /// The most segments that may be out at a time.
     fn quota(&self) -> u32
         ensures { result ≡ quota_of self.now };
@@ -31,10 +37,14 @@ pub trait Supply {
     fn held(&self) -> u32
         ensures { result ≡ length (held_ids self.now) };
 
-    /// A segment, of any content.
-    fn take(&mut self, context: &Self::Context) -> Self::Seg
-        requires { length (held_ids self.old) < quota_of self.old }
-        ensures taken { held_ids self.new ≡ held_ids self.old ++ Self.Seg.id result ∷ [] }
+    /// A segment, of any content, for area `ordinal` of a class, by its number from 0 on. Where areas are bound it is the area's.
+    fn take(&mut self, context: &Self::Context, class: u32, ordinal: u32) -> Self::Seg
+        requires room { length (held_ids self.old) < quota_of self.old }
+        requires class { class < 12 }
+        requires ordinal { ordinal < quota_of self.old }
+        requires free { IsFreeFor (bound (origin self.old) (quota_of self.old)) (held_ids self.old) class ordinal }
+        ensures taken { GivesBack (held_ids self.new) (held_ids self.old) (Self.Seg.id result) }
+        ensures is_bound { IsBoundTo (bound (origin self.old) (quota_of self.old)) class ordinal (Self.Seg.id result) }
         ensures quota { quota_of self.new ≡ quota_of self.old }
         ensures origin { origin self.new ≡ origin self.old };
 

@@ -1,6 +1,7 @@
 //! What no clause says: that memory is given, and that each segment has bytes of its own.
 ghost use Rattle.std.specs.Prelude.{◌≡◌, ◌+◌, ◌<◌, ◌≤◌, [], IfOk, length};
 
+use crate::fixed::FixedSupply;
 use crate::own::OwnSupply;
 use crate::supply::Supply;
 use dym_region::{Segment, VecSegment};
@@ -14,7 +15,7 @@ fn take_marked(supply: &mut OwnSupply, mark: u8) -> VecSegment
     ensures quota { ⟦<OwnSupply as Supply>⟧.quota_of supply.new
         ≡ ⟦<OwnSupply as Supply>⟧.quota_of supply.old }
 {
-    let mut segment = supply.take(&());
+    let mut segment = supply.take(&(), 0, 0);
     segment.write(65_535, &[mark]);
     segment
 }
@@ -82,5 +83,32 @@ fn another_quota(rt: HostRuntime) -> Result<(), Fail> {
     let second = take_marked(&mut supply, 2);
     assert!(rt; supply.held() == 2);
     assert!(rt; (mark_of(&first), mark_of(&second)) == (1, 2));
+    Ok(())
+}
+
+fn number_of_area(supply: &mut FixedSupply, class: u32, ordinal: u32) -> u32
+    requires nothing_held { ⟦<FixedSupply as Supply>⟧.held_ids supply.old ≡ [] }
+    requires class { class < 12 }
+    requires ordinal { ordinal < ⟦<FixedSupply as Supply>⟧.quota_of supply.old }
+    ensures nothing_held { ⟦<FixedSupply as Supply>⟧.held_ids supply.new ≡ [] }
+    ensures quota { ⟦<FixedSupply as Supply>⟧.quota_of supply.new
+        ≡ ⟦<FixedSupply as Supply>⟧.quota_of supply.old }
+{
+    let segment = supply.take(&(), class, ordinal);
+    let number = segment.number();
+    supply.give(&(), segment);
+    number
+}
+
+#[test]
+fn an_area_has_a_segment_of_its_own(rt: HostRuntime) -> Result<(), Fail> {
+    let mut supply = FixedSupply::open(rt.alloc(), 3)?;
+    assert_eq!(rt; (supply.quota(), supply.held()), (3, 0));
+    let last = number_of_area(&mut supply, 11, 2);
+    let first = number_of_area(&mut supply, 0, 0);
+    let other = number_of_area(&mut supply, 4, 1);
+    assert_eq!(rt; (first, other, last), (0, 13, 35));
+    assert_eq!(rt; number_of_area(&mut supply, 4, 1), 13);
+    supply.close();
     Ok(())
 }

@@ -2,6 +2,8 @@ mod Arguments
 mod ByteVecs
 mod Claims
 mod Cutting
+mod Lent
 mod LodgeCalls
 mod Numbering
+mod RunsLent
 mod Zeros

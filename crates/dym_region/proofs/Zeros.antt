@@ -75,7 +75,7 @@ with_same xs at ys same =
     ∙ ap (λ zs. take at xs ++ zs) (take-append-drop n (drop at xs))
     ∙ take-append-drop at xs
 
-length-with_part : (xs : List ℕ) (at : ℕ) (ys : List ℕ) → at + length ys ≤ length xs → length (with_part xs at ys) ≡ length xs
+pub length-with_part : (xs : List ℕ) (at : ℕ) (ys : List ℕ) → at + length ys ≤ length xs → length (with_part xs at ys) ≡ length xs
 length-with_part xs at ys within =
     let k = length ys in
     let back : List ℕ = drop (at + k) xs in

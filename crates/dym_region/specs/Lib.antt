@@ -1,3 +1,4 @@
 pub mod Block
 pub mod Content
 pub mod Identity
+pub mod Lending

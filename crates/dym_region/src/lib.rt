@@ -11,6 +11,7 @@ mod block;
 mod front;
 mod raw_segment;
 mod region;
+mod runs;
 mod segment;
 #[cfg(test)]
 mod tests;

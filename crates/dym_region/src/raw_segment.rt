@@ -1,10 +1,13 @@
 //! A segment that was cut from a region.
-ghost use Rattle.std.specs.Prelude.{◌≡◌, ◌*◌, vec_len, vec_capacity};
+ghost use Rattle.std.specs.Prelude.{◌≡◌, ◌*◌, Some, vec_len, vec_capacity};
 ghost use denote.RawPtr.{block_of, block_ptr};
 ghost use Rattle.dym_base.specs.declared.limits.TheConstants.{SEGMENT_BYTES};
 ghost use Rattle.dym_region.specs.Content.{zeros_behind, length-zeros_behind};
+ghost use Rattle.dym_region.specs.Identity.{start_of};
+ghost use Rattle.dym_region.specs.Lending.{vec_with_lent};
 
 use crate::front::{bytes_at, fill_to, read_at, write_at, zero_at};
+use crate::runs::part_run;
 use crate::segment::Segment;
 use dym_base::limits::SEGMENT_BYTES;
 use std_alloc::vec::Lodged;
@@ -40,12 +43,24 @@ impl Segment for RawSegment {
 
     ghost id = { λ s. record { region = block_of s.bytes.ptr; number = s.number } };
 
+    ghost place_of = { λ id. Some (start_of id) };
+
     ghost filled = { λ s. vec_len s.bytes };
+
+    ghost lent = { λ s at len ws. record { bytes = vec_with_lent s.bytes at len ws; number = s.number; room = s.room; placed = s.placed } };
 
     ghost content_is_whole = { λ s. length-zeros_behind (vec_capacity s.bytes) SEGMENT_BYTES (vec_len s.bytes) s.bytes.items s.bytes.ok s.room };
 
+    fn start(&self) -> *const u8 {
+        self.bytes.as_ptr()
+    }
+
     fn bytes(&self, at: u32, len: u32) -> &[u8] {
         bytes_at(&self.bytes, at as usize, len as usize)
+    }
+
+    fn bytes_mut(&mut self, at: u32, len: u32) -> &mut [u8] {
+        part_run(&mut self.bytes, at as usize, len as usize)
     }
 
     fn fill(&mut self, to: u32) {

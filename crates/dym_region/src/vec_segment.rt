@@ -1,10 +1,12 @@
 //! A segment in a vector of its own.
-ghost use Rattle.std.specs.Prelude.{◌≡◌, IfOk, replicate, vec_len, vec_capacity};
+ghost use Rattle.std.specs.Prelude.{◌≡◌, None, IfOk, replicate, vec_len, vec_capacity};
 ghost use Rattle.dym_base.specs.declared.limits.TheConstants.{SEGMENT_BYTES};
 ghost use Rattle.dym_region.specs.Content.{zeros_behind, length-zeros_behind};
+ghost use Rattle.dym_region.specs.Lending.{vec_with_lent};
 ghost use Rattle.dym_region.specs.Identity.{lone_id};
 
 use crate::front::{bytes_at, fill_to, read_at, write_at, zero_at};
+use crate::runs::heap_run;
 use crate::segment::Segment;
 use dym_base::limits::SEGMENT_BYTES;
 use std::alloc::{AllocError, Global};
@@ -31,12 +33,24 @@ impl Segment for VecSegment {
 
     ghost id = { λ _. lone_id };
 
+    ghost place_of = { λ _. None };
+
     ghost filled = { λ s. vec_len s.bytes };
+
+    ghost lent = { λ s at len ws. record { bytes = vec_with_lent s.bytes at len ws; room = s.room } };
 
     ghost content_is_whole = { λ s. length-zeros_behind (vec_capacity s.bytes) SEGMENT_BYTES (vec_len s.bytes) s.bytes.items s.bytes.ok s.room };
 
+    fn start(&self) -> *const u8 {
+        self.bytes.as_ptr()
+    }
+
     fn bytes(&self, at: u32, len: u32) -> &[u8] {
         bytes_at(&self.bytes, at as usize, len as usize)
+    }
+
+    fn bytes_mut(&mut self, at: u32, len: u32) -> &mut [u8] {
+        heap_run(&mut self.bytes, at as usize, len as usize)
     }
 
     fn fill(&mut self, to: u32) {

@@ -7,7 +7,7 @@ ghost use Rattle.dym_chain.specs.Chains.{Belongs};
 use dym_base::{Handle, Kind, Name, Version};
 use dym_chain::laws::heap_steps_keep_belonging;
 use dym_chain::{Chain, Entry, LogError, VecKeep};
-use dym_ckpt::{FileFail, Loaded, load_file, save, saved_len};
+use dym_ckpt::{FileFail, Loaded, file_bytes, load_file, save, saved_len};
 use dym_heap::Heap;
 use dym_io::MemSink;
 use dym_quota::OwnSupply;
@@ -306,7 +306,7 @@ fn name_of(bytes: &[u8]) -> Option<Name>
     Name::new(bytes)
 }
 
-/// The file of a heap's logs, written in pieces; of no byte where it isn't as long as is told before.
+/// The file of a heap's logs, written in pieces; of no byte where it isn't as long as is told before, or isn't what is made at once.
 fn file_of(
     heap: &Heap<OwnSupply>,
     chain: &mut Chain<VecKeep>,
@@ -320,6 +320,10 @@ fn file_of(
     if let Some(name) = name_of(b"a") {
         let saved = save(chain, &name, heap.quota(), heap.version(), &mut sink);
         if saved.is_err() || saved_len(chain, &name) != sink.bytes().len() as u64 {
+            return Ok(Vec::new(alloc));
+        }
+        let whole = file_bytes(alloc, chain, &name, heap.quota(), heap.version())?;
+        if whole.as_slice() != sink.bytes() {
             return Ok(Vec::new(alloc));
         }
     }

@@ -10,6 +10,8 @@ mod base_tests;
 #[cfg(test)]
 mod bits_tests;
 #[cfg(test)]
+mod chunk_tests;
+#[cfg(test)]
 mod file_tests;
 #[cfg(test)]
 mod heap_tests;

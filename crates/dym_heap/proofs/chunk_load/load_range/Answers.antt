@@ -1,7 +1,6 @@
-use Rattle.std.proofs.Common.{◌≡◌, ap, ◌∙◌, ◌+◌, ◌-◌, ◌*◌, length, take, drop, arith, refl, length-take}
+use Rattle.std.proofs.Common.{ap, ◌∙◌, ◌+◌, ◌-◌, ◌*◌, drop, arith, refl, length-take}
 use Rattle.dym_base.specs.Numbers.{size}
-use Rattle.dym_heap.proofs.Sizes.{per_fits, whole_area}
-use Rattle.std.proofs.lemmas.Nat.{mul-le}
+use Rattle.dym_heap.proofs.Sizes.{per_fits}
 use Rattle.dym_heap.proofs.Loads as loads
 use Rattle.dym_heap.proofs.chunk_load.load_range.Goals as goal
 

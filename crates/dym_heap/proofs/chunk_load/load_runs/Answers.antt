@@ -1,4 +1,4 @@
-use Rattle.std.proofs.Common.{ap, sym, ◌∙◌, ◌+◌, ◌-◌, ◌*◌, length, take, drop, arith, length-take}
+use Rattle.std.proofs.Common.{ap, sym, ◌∙◌, ◌-◌, ◌*◌, arith}
 use Rattle.dym_base.specs.Numbers.{size, per}
 use Rattle.dym_heap.proofs.Sizes.{per_fits}
 use Rattle.dym_heap.proofs.Parts.{length-part_of}

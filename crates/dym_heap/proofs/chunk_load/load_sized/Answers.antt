@@ -1,4 +1,4 @@
-use Rattle.std.proofs.Common.{◌+◌, ◌-◌, ap, subst, sym, length, take, drop, arith, length-take}
+use Rattle.std.proofs.Common.{ap, arith}
 use Rattle.dym_base.specs.Numbers.{per}
 use Rattle.dym_heap.proofs.Sizes.{per_fits}
 use Rattle.dym_heap.proofs.Loads as loads

@@ -1,5 +1,4 @@
-use Rattle.std.proofs.Common.{arith, refl, ap, sym, subst, ◌∙◌, ◌-◌}
-use Rattle.dym_pack.specs.Areas.{area_at}
+use Rattle.std.proofs.Common.{arith, refl, ap, ◌∙◌}
 use Rattle.dym_heap.specs.Shelves.{ShelfMeaning}
 use Rattle.dym_heap.specs.Table.{state_of}
 use Rattle.dym_heap.proofs.AreaSteps as steps

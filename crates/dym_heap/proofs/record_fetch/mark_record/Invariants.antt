@@ -1,4 +1,4 @@
-use Rattle.std.proofs.Common.{◌≡◌, ℕ, is_some}
+use Rattle.std.proofs.Common.{◌≡◌, ℕ}
 use Rattle.dym_base.specs.Packed.{Logged, packed}
 use Rattle.dym_base.specs.Recorded.{IsRecorded}
 use Rattle.dym_heap.specs.Table.{state_of}

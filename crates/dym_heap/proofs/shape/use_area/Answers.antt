@@ -2,11 +2,10 @@ use Rattle.std.proofs.Common.{arith, refl, ap}
 use Rattle.std.specs.FinMap.{contains_key}
 use Rattle.dym_base.specs.Numbers.{per}
 use Rattle.dym_bits.specs.Bits.{bit_in, bits_of_bytes}
-use Rattle.dym_pack.specs.Areas.{area_at, chunk_number}
+use Rattle.dym_pack.specs.Areas.{area_at}
 use Rattle.dym_heap.specs.Fetches.{IsReshaped}
 use Rattle.dym_heap.proofs.Fitting as fit
 use Rattle.dym_heap.proofs.Fetches as fetches
-use Rattle.dym_heap.proofs.Reshapes as reshapes
 use Rattle.dym_heap.proofs.shape.use_area.Goals as goal
 
 pub shape_area-requires-clause-area : goal.shape_area-requires-clause-area

@@ -1,7 +1,7 @@
 use Rattle.std.proofs.Common.{◌≡◌, inl, inr, arith, get_or, subst, ap, ◌∙◌}
 use Rattle.std.proofs.lemmas.Bool.{cases_lt}
 use Rattle.std.proofs.lemmas.List.{get_or_default}
-use Rattle.dym_heap.specs.SizedAreas.{SizedAreaMeaning, clean}
+use Rattle.dym_heap.specs.SizedAreas.{clean}
 use Rattle.dym_heap.proofs.Cleans.{settled_places}
 use Rattle.dym_heap.proofs.shelf.are_unmodified.Goals as goal
 

@@ -1,4 +1,4 @@
-use Rattle.std.proofs.Common.{◌≡◌, ℕ, ◌-◌, ◌<◌, ◌≤◌, ◌⊎◌, get_or}
+use Rattle.std.proofs.Common.{◌≡◌, ℕ, ◌-◌, ◌<◌, ◌≤◌, get_or}
 use Rattle.dym_bits.specs.Bits.{IsSet, IsClear}
 use Rattle.dym_heap.proofs.sized_area.note_all.Given as goal
 

@@ -1,4 +1,4 @@
-use Rattle.std.proofs.Common.{◌≡◌, ◌*◌, ap, ◌∙◌}
+use Rattle.std.proofs.Common.{◌*◌, ap, ◌∙◌}
 use Rattle.dym_base.specs.HeapStep.{HeapAnswer, malloc}
 use Rattle.dym_heap.specs.Meaning.{HeapMeaning}
 use Rattle.dym_heap.proofs.Sizes.{malloc_saturated}

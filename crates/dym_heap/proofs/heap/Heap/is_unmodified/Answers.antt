@@ -1,9 +1,7 @@
-use Rattle.std.proofs.Common.{◌≡◌, ap, sym, ◌∙◌, nat_cmp}
-use Rattle.std.specs.FinSet as FinSet
+use Rattle.std.proofs.Common.{ap, sym, ◌∙◌}
 use Rattle.dym_base.specs.Heaps.{HeapState}
 use Rattle.dym_heap.specs.Meaning.{HeapMeaning}
 use Rattle.dym_heap.specs.Shelves.{ShelfMeaning}
-use Rattle.dym_heap.specs.Table.{state_of}
 use Rattle.dym_heap.proofs.Cleans.{clean_state}
 use Rattle.dym_heap.proofs.heap.Heap.is_unmodified.Goals as goal
 

@@ -1,0 +1,31 @@
+-- Where a chunk lies, in a heap whose supply binds each area to a segment of one region.
+use Rattle.std.specs.Prelude.{◌≡◌, ℕ, ◌+◌, ◌-◌, ◌*◌, ◌/◌, ◌%◌, ◌≤◌, ◌<◌, length, Option, None, Some, MatchOption}
+use Rattle.std.specs.FinMap.{get}
+use Rattle.dym_base.specs.Numbers.{size, per}
+use Rattle.dym_base.specs.HeapStep.{key}
+use Rattle.dym_base.specs.Origins.{Origin, own, shared}
+use Rattle.dym_base.specs.declared.handle.Handle.{Handle}
+use Rattle.dym_base.specs.declared.limits.TheConstants.{SEGMENT_BYTES, LEAST_EXPONENT, GREATEST_EXPONENT}
+use Rattle.dym_heap.specs.Meaning.{HeapMeaning}
+
+-- how far into the region the chunk of a handle lies: area o of class c has segment c * quota + o
+abbrev pub chunk_offset : ℕ → Handle → ℕ
+chunk_offset quota h = ((h.exp - 5) * quota + h.index / per h.exp) * SEGMENT_BYTES + (h.index % per h.exp) * size h.exp
+
+-- the block of the region that segments come from, where they come from one
+abbrev pub region_of : Origin → Option ℕ
+region_of own = None
+region_of (shared name) = Some name.block
+
+-- the byte at `offset` of the region is one of the live chunk's
+abbrev pub HasByteAt : HeapMeaning → Handle → ℕ → Type 0
+HasByteAt h handle offset = MatchOption (get h.state.live (key handle)) ⊥ (λ bytes.
+    (chunk_offset h.quota handle ≤ offset) × (offset < chunk_offset h.quota handle + length bytes))
+
+-- byte `at` of chunk i of class e, whether it is live or not, lies at `offset` of the region
+pub record LiesAt (quota e i at offset : ℕ) : Type 0 where
+  pub least : LEAST_EXPONENT ≤ e
+  pub most : e ≤ GREATEST_EXPONENT
+  pub area : i / per e < quota
+  pub byte : at < size e
+  pub is : chunk_offset quota (record { exp = e; index = i }) + at ≡ offset

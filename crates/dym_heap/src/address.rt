@@ -1,0 +1,137 @@
+//! Where chunks lie, in a heap over segments that its areas are bound to.
+ghost use Rattle.std.specs.Prelude.{◌≡◌, ℕ, ◌+◌, ◌*◌, ◌≤◌, Some, IsSome, IsNone, MatchOption, option_map};
+ghost use Rattle.std.specs.FinMap.{get};
+ghost use Rattle.std.specs.Option.{ForSome, IfSome};
+ghost use denote.RawPtr.{block_ptr};
+ghost use Rattle.dym_base.specs.HeapStep.{key, handle_of};
+ghost use Rattle.dym_base.specs.declared.limits.TheConstants.{LEAST_EXPONENT, GREATEST_EXPONENT, MOST_QUOTA, SEGMENT_BYTES};
+ghost use Rattle.dym_heap.specs.Addresses.{chunk_offset, region_of, HasByteAt, LiesAt};
+ghost use Rattle.dym_heap.specs.Fetches.{heap_chunk};
+ghost use Rattle.dym_heap.specs.Meaning.{IsSound};
+ghost use Rattle.dym_heap.specs.Shelves.{IsTidy};
+ghost use Rattle.dym_heap.specs.Table.{live_of, state_of};
+ghost use Rattle.dym_heap.specs.Touches.{has_byte_in, is_hit, touched_besides, touched_in};
+
+use crate::chunk::len_of_handle;
+use crate::heap::Heap;
+use crate::shelf::Shelf;
+use dym_base::limits::{LEAST_EXPONENT, SEGMENT_BYTES};
+use dym_base::{Handle, per_area, size_of_class};
+use dym_quota::{FixedSupply, Supply};
+
+/// Classes of chunks.
+const CLASSES: u64 = 12;
+
+impl Heap<FixedSupply> {
+    /// Where a live chunk lies: in the region's block, at the place that its handle alone tells. It is the same as long as the
+    /// heap is open, whatever is freed, allocated or restored.
+    pub fn address(&self, h: Handle) -> *const u8
+        requires least { LEAST_EXPONENT ≤ h.exp }
+        requires most { h.exp ≤ GREATEST_EXPONENT }
+        requires live { IsSome (get self.now.state.live (key h)) }
+        requires region { IsSome (region_of self.now.origin) }
+        ensures { ForSome (region_of self.now.origin) (λ region.
+            result ≡ block_ptr region (chunk_offset self.now.quota h)) }
+    {
+        let start = self.shelf.start(h.exp, h.index);
+        let at = h.index % per_area(h.exp) * size_of_class(h.exp);
+        unsafe { start.byte_add(at as usize) }
+    }
+
+    /// Where the region begins: the byte at offset 0.
+    pub fn start(&self) -> *const u8
+        ensures region { IsSome (region_of self.now.origin) }
+        ensures start { ForSome (region_of self.now.origin) (λ region. result ≡ block_ptr region 0) }
+    {
+        self.shelf.supply().start()
+    }
+
+    /// The live chunk that has the byte at `offset` of the region, and None where none has it. It takes constant time.
+    pub fn handle_at(&self, offset: u64) -> Option<Handle>
+        ensures class { IfSome result (λ h. (LEAST_EXPONENT ≤ h.exp) × (h.exp ≤ GREATEST_EXPONENT)) }
+        ensures found { IfSome result (λ h. HasByteAt self.now h offset) }
+        ensures only { (k : ℕ) → HasByteAt self.now (handle_of k) offset → option_map key result ≡ Some k }
+    {
+        let Some((h, at)) = chunk_around(self.shelf.quota(), offset) else {
+            return None;
+        };
+        let Some(len) = len_of_handle(&self.shelf, h) else {
+            return None;
+        };
+        if at >= len {
+            return None;
+        }
+        Some(h)
+    }
+
+    /// Each live chunk with a byte among the `len` bytes from `offset` on of the region is touched, and no other.
+    pub fn touch_at(&mut self, offset: u64, len: u64)
+        ensures touched { self.new ≡ record self.old {
+          state = touched_in self.old.quota offset (offset + len) self.old.state;
+        } }
+        ensures sound { IsSound self.new }
+    {
+        touch_range(&mut self.shelf, offset, offset.saturating_add(len));
+    }
+}
+
+/// Each chunk in use with a byte in the region from `from` up to `end` is touched, chunk by chunk.
+fn touch_range<S: Supply>(shelf: &mut Shelf<S>, from: u64, end: u64)
+    requires ordered { from ≤ end }
+    requires tidy { IsTidy shelf.old }
+    ensures touched { (k : ℕ) → heap_chunk (state_of shelf.new.rows) k
+        ≡ touched_besides (has_byte_in shelf.old.quota (live_of shelf.old.rows) from end k)
+        (heap_chunk (state_of shelf.old.rows) k) }
+    ensures same { shelf.new ≡ record shelf.old { rows = shelf.new.rows } }
+    ensures tidy { IsTidy shelf.new }
+{
+    let quota = shelf.quota();
+    let mut at = from;
+    while at < end {
+        let Some((h, byte)) = chunk_around(quota, at) else {
+            return;
+        };
+        touch_byte(shelf, h, byte);
+        at = end.min(at + u64::from(size_of_class(h.exp) - byte));
+    }
+}
+
+/// A chunk is touched where it is live and has a byte at its place `at`.
+fn touch_byte<S: Supply>(shelf: &mut Shelf<S>, h: Handle, at: u32)
+    requires tidy { IsTidy shelf.old }
+    ensures touched { (k : ℕ) → heap_chunk (state_of shelf.new.rows) k
+        ≡ touched_besides (is_hit (live_of shelf.old.rows) h at k) (heap_chunk (state_of shelf.old.rows) k) }
+    ensures same { shelf.new ≡ record shelf.old { rows = shelf.new.rows } }
+    ensures tidy { IsTidy shelf.new }
+{
+    let Some(len) = len_of_handle(shelf, h) else {
+        return;
+    };
+    if len <= at {
+        return;
+    }
+    shelf.touch(h.exp, h.index);
+}
+
+/// The chunk, live or not, in which the byte at `offset` of the region lies, and the byte's number there. None past the segments of
+/// all classes.
+fn chunk_around(quota: u32, offset: u64) -> Option<(Handle, u32)>
+    requires least { 1 ≤ quota }
+    requires most { quota ≤ MOST_QUOTA }
+    ensures lies { IfSome result (λ r. LiesAt quota r.0.exp r.0.index r.1 offset) }
+    ensures past { IsNone result → 12 * quota * SEGMENT_BYTES ≤ offset }
+    ensures only { (e i at : ℕ) → LiesAt quota e i at offset → MatchOption result ⊥ (λ r.
+        (r.0.exp ≡ e) × (r.0.index ≡ i) × (r.1 ≡ at)) }
+{
+    let segment = offset / u64::from(SEGMENT_BYTES);
+    let class = segment / u64::from(quota);
+    if class >= CLASSES {
+        return None;
+    }
+    let exp = LEAST_EXPONENT + class as u8;
+    let ordinal = (segment % u64::from(quota)) as u32;
+    let at = (offset % u64::from(SEGMENT_BYTES)) as u32;
+    let size = size_of_class(exp);
+    let index = ordinal * per_area(exp) + at / size;
+    Some((Handle { exp, index }, at % size))
+}
