@@ -34,10 +34,8 @@ pub(crate) fn keep_difference<S: Supply>(
 {
     pad(differences, count)?;
     let found = found_by(alloc, heap, time, depth, count)?;
-    match differences.push(found) {
-        Ok(()) => Ok(()),
-        Err(_) => Err(AllocError),
-    }
+    differences.push(found)?;
+    Ok(())
 }
 
 /// Nothing stands beside logs of which nothing is known, up to log `count`.
@@ -48,9 +46,7 @@ fn pad(differences: &mut Vec<Option<Record>>, count: usize) -> Result<(), AllocE
     ensures long { OnOk result (length differences.new.items ≡ count) }
 {
     while differences.len() < count {
-        if differences.push(None).is_err() {
-            return Err(AllocError);
-        }
+        differences.push(None)?;
     }
     Ok(())
 }

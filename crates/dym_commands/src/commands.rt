@@ -1,5 +1,5 @@
 //! The commands of one object.
-ghost use Rattle.std.specs.Prelude.{◌≡◌, ◌==◌, ◌+◌, ◌<◌, ◌≤◌, ℕ, [], ◌∷◌, ◌++◌, All, length, map, sum_by, slice_get, IfSome, OnOk, OnErr, vec_len, vec_capacity};
+ghost use Rattle.std.specs.Prelude.{◌≡◌, ◌==◌, ◌+◌, ◌<◌, ◌≤◌, ℕ, [], ◌∷◌, ◌++◌, All, length, map, sum_by, slice_get, IfSome, IfErr, OnOk, OnErr, vec_len, vec_capacity};
 ghost use Rattle.dym_base.specs.declared.limits.TheConstants.{MOST_COMMANDS};
 ghost use Rattle.dym_commands.specs.Requests.{asks};
 ghost use Rattle.dym_commands.specs.Reads.{read_room};
@@ -92,11 +92,12 @@ impl Commands {
         Ok(())
     }
 
-    /// Appends other commands. Only memory can be wanting.
-    pub fn append(&mut self, other: Commands) -> Result<(), AllocError>
+    /// Appends other commands. Only memory can be wanting: they come back then.
+    pub fn append(&mut self, other: Commands) -> Result<(), (AllocError, Commands)>
         requires { length self.old + length other ≤ MOST_COMMANDS }
         ensures appended { OnOk result (self.new ≡ self.old ++ other) }
         ensures same { OnErr result (self.new ≡ self.old) }
+        ensures back { IfErr result (λ e. e.1 ≡ other) }
     {
         if other.is_empty() {
             return Ok(());
@@ -105,7 +106,9 @@ impl Commands {
             *self = other;
             return Ok(());
         }
-        self.others.reserve(1 + other.others.len())?;
+        if let Err(why) = self.others.reserve(1 + other.others.len()) {
+            return Err((why, other));
+        }
         let Commands {
             first,
             others,

@@ -5,7 +5,7 @@ use Rattle.std.proofs.lemmas.List.{length-set, get_or-set_same, get_or-set_other
 use Rattle.std.proofs.Math.Nat.{eq-or-lt_of_le}
 use Rattle.std.proofs.lemmas.List.Sums.{sum_by-set}
 use Rattle.dym_base.specs.declared.limits.TheConstants.{LOG_SLOTS}
-use Rattle.dym_slots.specs.Meanings.{SweeperMeaning}
+use Rattle.dym_slots.specs.Meanings.{SweeperMeaning, IsSweptTo}
 use Rattle.dym_prune.specs.Sweeps.{Swept, Pruned, OneRound, NoneAfter, taken_by, counted_to}
 
 -- the first i sweepers ended a sweep, and the others are as they were
@@ -26,9 +26,12 @@ pub record SweptOnce (before after : SweeperMeaning) (taken : ℕ) : Type 0 wher
   pub rounds : after.rounds ≡ before.rounds + 1
   pub clean : after.clean ≡ LOG_SLOTS
   pub taken_is : after.taken_back ≡ before.taken_back + taken
+  pub rises : before.root_seen ≤ after.root_seen
+  pub least_root : after.least_root ≡ before.least_root
+  pub swept : IsSweptTo before.least_root after
 
 swept_once : (before after : SweeperMeaning) (taken : ℕ) → SweptOnce before after taken → Swept before after
-swept_once before after taken once = let r = once.rounds in record { table = once.table; rounds = omega (arith, r); clean = once.clean }
+swept_once before after taken once = let r = once.rounds in record { table = once.table; rounds = omega (arith, r); clean = once.clean; rises = once.rises; least_root = once.least_root; swept = once.swept }
 
 pub one_more : (i : ℕ) (old now : List SweeperMeaning) (answer taken : ℕ) (y d : SweeperMeaning) → i < length now
     → SweptTo i old now answer → SweptOnce (slice_index_or now i d) y taken
@@ -75,11 +78,13 @@ pub record RoundsTo (old now : List SweeperMeaning) (total : ℕ) : Type 0 where
   pub same : length now ≡ length old
   pub table : (k : ℕ) (d : SweeperMeaning) → k < length old → (slice_index_or now k d).table ≡ (slice_index_or old k d).table
   pub rounds : (k : ℕ) (d : SweeperMeaning) → k < length old → (slice_index_or old k d).rounds ≤ (slice_index_or now k d).rounds
+  pub rises : (k : ℕ) (d : SweeperMeaning) → k < length old → (slice_index_or old k d).root_seen ≤ (slice_index_or now k d).root_seen
+  pub least_root : (k : ℕ) (d : SweeperMeaning) → k < length old → (slice_index_or now k d).least_root ≡ (slice_index_or old k d).least_root
   pub grown : taken_by old ≤ taken_by now
   pub total_is : total ≡ counted_to (taken_by now - taken_by old)
 
 pub no_round : (sweepers : List SweeperMeaning) → RoundsTo sweepers sweepers 0
-no_round sweepers = record { same = refl; table = λ k d low. refl; rounds = λ k d low. omega arith; grown = omega arith; total_is = omega arith }
+no_round sweepers = record { same = refl; table = λ k d low. refl; rounds = λ k d low. omega arith; rises = λ k d low. omega arith; least_root = λ k d low. refl; grown = omega arith; total_is = omega arith }
 
 -- one round more
 pub round_more : (old now new : List SweeperMeaning) (total taken : ℕ) → RoundsTo old now total → Pruned now new taken → Pruned old new (counted_to (total + taken))
@@ -95,7 +100,16 @@ round_more old now new total taken so more =
           let last = more.swept k d within in
           let r = so.rounds k d low in
           let l = last.rounds in
-          record { table = last.table ∙ so.table k d low; rounds = omega (arith, r, l); clean = last.clean };
+          let known = so.least_root k d low in
+          let seen = last.swept.seen in
+          record {
+            table = last.table ∙ so.table k d low;
+            rounds = omega (arith, r, l);
+            clean = last.clean;
+            rises = (let a = so.rises k d low in let b = last.rises in omega (arith, a, b));
+            least_root = last.least_root ∙ known;
+            swept = record { seen = omega (arith, known, seen); clean = last.clean };
+          };
       grown = omega (arith, first, second);
       answer_is = omega (arith, first, second, a, b);
     }
@@ -106,6 +120,8 @@ go_on old new total so = record {
   same = so.same;
   table = λ k d low. (so.swept k d low).table;
   rounds = λ k d low. let r = (so.swept k d low).rounds in omega (arith, r);
+  rises = λ k d low. (so.swept k d low).rises;
+  least_root = λ k d low. (so.swept k d low).least_root;
   grown = so.grown;
   total_is = so.answer_is;
 }

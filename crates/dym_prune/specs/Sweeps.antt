@@ -1,14 +1,17 @@
 -- What a pruner's sweeps do to its sweepers.
 use Rattle.std.specs.Prelude.{◌≡◌, ℕ, ◌+◌, ◌*◌, ◌-◌, ◌^◌, ◌<◌, ◌≤◌, min, List, length, slice_index_or, sum_by}
 use Rattle.dym_base.specs.declared.limits.TheConstants.{LOG_SLOTS}
-use Rattle.dym_slots.specs.Meanings.{SweeperMeaning}
+use Rattle.dym_slots.specs.Meanings.{SweeperMeaning, IsSweptTo}
 
 -- a sweeper that ended one sweep or more: it belongs to the same log table, began more rounds, and no slot has a record at rest
--- below the root that it read last
+-- below the root that it read last, which is no lower than the one before, nor than one that it knew of
 pub record Swept (old new : SweeperMeaning) : Type 0 where
   pub table : new.table ≡ old.table
   pub rounds : old.rounds < new.rounds
   pub clean : new.clean ≡ LOG_SLOTS
+  pub rises : old.root_seen ≤ new.root_seen
+  pub least_root : new.least_root ≡ old.least_root
+  pub swept : IsSweptTo old.least_root new
 
 -- how many records sweepers took back
 abbrev pub taken_by : List SweeperMeaning → ℕ

@@ -9,6 +9,7 @@ pub mod KeptParts
 pub mod AheadLines
 pub mod AheadParts
 pub mod AheadTexts
+pub mod Cuts
 pub mod ReadOn
 pub mod LateLines
 pub mod LateVerbs

@@ -197,7 +197,8 @@ fn is_quick(reader: &Reader, text: &[u8]) -> bool
 fn parts_worth(reader: &Reader, threads: u32, text: &[u8]) -> usize
     requires kept { IsValidReader reader.now }
     requires threads { 1 ≤ threads }
-    ensures { 0 < result }
+    ensures some { 0 < result }
+    ensures few { result ≤ threads }
 {
     let worth = BYTES_OF_ONE.max(reader.objects.len() * BYTES_OF_OBJECT);
     (threads as usize).min(1 + text.len() / worth)

@@ -34,8 +34,10 @@ impl PartCollector {
     {
         let mut place = 0;
         for commands in own {
-            self.parts[place].commands.append(commands)?;
-            place += 1;
+            match self.parts[place].commands.append(commands) {
+                Ok(()) => place += 1,
+                Err((why, _commands)) => return Err(why),
+            }
         }
         Ok(())
     }

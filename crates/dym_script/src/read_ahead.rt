@@ -84,6 +84,7 @@ pub(crate) fn read_all_ahead<'a, R: Threads + Sync>(
 }
 
 /// Cuts a text into at most so many parts of whole lines, each of about the same length.
+#[tactic(auto, using(crate::proofs::Cuts::one_part_more, crate::proofs::Cuts::few_parts))]
 pub(crate) fn cut_lines<'a>(
     alloc: Global,
     text: &'a [u8],
@@ -93,6 +94,7 @@ pub(crate) fn cut_lines<'a>(
     ensures lines { IfOk result (λ parts.
         flat_map (λ part. lines_of part.now) parts.items ≡ lines_of text.now) }
     ensures short { IfOk result (λ parts. sum_by (λ part. length part.now) parts.items ≡ length text.now) }
+    ensures few { IfOk result (λ parts. length parts.items ≤ count) }
 {
     let size = text.len() / count + 1;
     let mut parts = Vec::with_capacity(alloc, count)?;
@@ -109,7 +111,7 @@ pub(crate) fn cut_lines<'a>(
 /// Where the line ends in which so many bytes of a text end.
 fn line_end(text: &[u8], from: usize) -> usize
     requires { from < length text.now }
-    ensures some { 0 < result }
+    ensures behind { from < result }
     ensures within { result ≤ length text.now }
     ensures ended { (result ≡ length text.now) ⊎ IsEnded (take result text.now) }
 {

@@ -55,7 +55,7 @@ rising_back a b x rise k d lt =
 
 -- Filters
 
-keeps_all : (p : Entry → Bool) (es : List Entry) → All (λ e. p e ≡ true) es → filter p es ≡ es
+pub keeps_all : (p : Entry → Bool) (es : List Entry) → All (λ e. p e ≡ true) es → filter p es ≡ es
 keeps_all p [] all = refl
 keeps_all p (e ∷ es) all =
     let head : p e ≡ true = All-head (λ x. p x ≡ true) e es all in

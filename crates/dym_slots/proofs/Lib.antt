@@ -4,6 +4,9 @@ pub mod SweeperSteps
 pub mod Steps
 pub mod Notes
 pub mod Room
+pub mod Roots
+pub mod NoteMoves
+pub mod Leaving
 pub mod Showing
 pub mod Entries
 pub mod Running

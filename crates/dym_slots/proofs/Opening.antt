@@ -18,8 +18,9 @@ use Rattle.dym_slots.specs.SlotWords.{slot_word}
 use Rattle.dym_slots.specs.SlotNotes.{noted_start}
 use Rattle.dym_slots.proofs.Steps.{start_meets}
 use Rattle.dym_slots.proofs.Notes.{start_stands}
+use Rattle.dym_slots.proofs.Running.{note_at}
 use Rattle.dym_slots.specs.declared.view.SeatView.{SeatView}
-use Rattle.dym_slots.specs.declared.view.SeatView.TheVariants.{Alone, Owns, Sweeps}
+use Rattle.dym_slots.specs.declared.view.SeatView.TheVariants.{Alone, Owns, Sweeps, Knows}
 use Rattle.dym_slots.specs.declared.view.OwnerSeat.{OwnerSeat}
 use Rattle.dym_slots.specs.declared.view.SweeperSeat.{SweeperSeat}
 use Rattle.dym_slots.specs.SeatViews.{new_owner, new_sweeper}
@@ -44,10 +45,10 @@ alone_id : (id : ℕ) → get_elem? (Alone ∷ []) id ≡ some Alone → id ≡ 
 alone_id zero e = refl
 alone_id (suc i) e = absurd (some-ne-none Alone (sym e))
 
-no_alone : (o : OwnerSeat) (w : SweeperSeat) (id : ℕ) → get_elem? (Owns o ∷ Sweeps w ∷ []) id ≡ some Alone → ⊥
-no_alone o w zero e = let same : Owns o ≡ Alone = some-injective (Owns o) Alone e in cc
-no_alone o w (suc zero) e = let same : Sweeps w ≡ Alone = some-injective (Sweeps w) Alone e in cc
-no_alone o w (suc (suc i)) e = some-ne-none Alone (sym e)
+no_alone : (o : OwnerSeat) (w : SweeperSeat) (notes : List ℕ) (id : ℕ) → get_elem? (Owns o ∷ Sweeps w ∷ map Knows notes) id ≡ some Alone → ⊥
+no_alone o w notes zero e = let same : Owns o ≡ Alone = some-injective (Owns o) Alone e in cc
+no_alone o w notes (suc zero) e = let same : Sweeps w ≡ Alone = some-injective (Sweeps w) Alone e in cc
+no_alone o w notes (suc (suc i)) e = let n = note_at notes i Alone e in let same : Knows n.0 ≡ Alone = n.2 in cc
 
 pub splits : (count id : ℕ) (v : SeatView) → v ≡ Alone → Splits (Holds count) id v (Owns new_owner) (Sweeps new_sweeper)
 splits count id v alone st (inl new) at =
@@ -55,11 +56,19 @@ splits count id v alone st (inl new) at =
     inr (
       noted_start count,
       (λ n. []),
-      record { words = new.words; homes = new.homes; views = λ k. set (new.views k) (first k) (Owns new_owner) ++ Sweeps new_sweeper ∷ [] },
-      record { count_is = length-replicate count Free; numbered = omega arith; facts = start_meets count; notes = start_stands count },
+      record {
+        words = new.words;
+        homes = new.homes;
+        least_root = 0;
+        notes = [];
+        views = λ k. set (new.views k) (first k) (Owns new_owner) ++ Sweeps new_sweeper ∷ [];
+        reached = omega arith;
+        all_reached = λ k d lt. absurd (omega arith);
+      },
+      record { count_is = length-replicate count Free; numbered = omega arith; facts = start_meets count; notes = start_stands count; root = refl },
     )
 splits count id v alone st (inr (a, records, shows, sound)) at =
-    absurd (no_alone _ _ id (ap (λ (l : List SeatView). get_elem? l id) (sym shows.views) ∙ at ∙ ap some alone))
+    absurd (no_alone _ _ shows.notes id (ap (λ (l : List SeatView). get_elem? l id) (sym shows.views) ∙ at ∙ ap some alone))
 
 -- all slots in their order
 pub all_order : (order : List Entry) (n : ℕ) → n ≡ LOG_SLOTS → order ≡ map (λ s. entry s 0) (range_with_len 0 n) → IsOrder order

@@ -33,6 +33,10 @@ use Rattle.dym_slots.proofs.Showing.{by_state, homes_by_state, words_set, word_a
 use Rattle.dym_slots.proofs.Entries.{map_entries, parts, contains_entry, contains_listed, without_newest, from_raised}
 use Rattle.dym_slots.proofs.Running.{OwnerIn, owner_in, owner_holds, noted, sound_after, live_numbered, live_below, past_forget, past_twice, look_of, wins, loses}
 
+-- a root that stays
+no_fall : (root : ℕ) → root ≤ root
+no_fall root = omega arith
+
 -- what the seat's view says of the state behind it
 
 out_of : (count : ℕ) (st : TableState) (id : ℕ) (o : OwnerSeat) (i : OwnerIn count st id o) → i.state.core.owner.out ≡ o.out
@@ -66,6 +70,7 @@ own_look count st id me s i inside k is =
     (i.shows.homes ∙ homes_by_state i.records c i.sound.facts)
     (ap (looked s x) i.seat)
     refl
+    (no_fall c.root)
 
 pub looks : (count slots id : ℕ) (me : Knowing) (s : ℕ) → IsOwner me.0 → s < count → Allows (Holds count) slots id me (s + 1) (λ k. k) (OwnerLooked (s + 1) me)
 looks count slots id me s owner inside st holds len at fits =
@@ -137,7 +142,8 @@ claims count slots id me s num idle known inside number fits_number st holds len
           (ap (set st.words (s + 1)) won ∙ words_set st.words c.root c.slots s (OutOwner c.owner.next) i.shows.words)
           (homes_set i.records st.homes c.slots s (OutOwner c.owner.next) homes)
           (held_view i.records c.owner a.owner s ∙ ap (holding s) i.seat)
-          refl,
+          refl
+          (no_fall c.root),
       record { slot = s; at = refl; after_is = refl },
     )
 
@@ -159,6 +165,7 @@ taken count st id me s m i quiet live inside word is =
     (homes_set i.records st.homes c.slots s (OutOwner m) (i.shows.homes ∙ homes_by_state i.records c i.sound.facts))
     (held_view i.records c.owner a.owner s ∙ ap (holding s) i.seat)
     refl
+    (no_fall c.root)
 
 live_home : (count : ℕ) (st : TableState) (id : ℕ) (o : OwnerSeat) (i : OwnerIn count st id o) (s m : ℕ) → state_of i.state.core s ≡ Live m → s < count
     → get_elem? st.homes s ≡ some (some (Some (i.records m)))
@@ -326,6 +333,7 @@ put_holds count st id o i s m bytes held out alone inside left room words homes 
     (h_is ∙ ap (set st.homes s) named_home ∙ homes_set records st.homes c.slots s (Live n) (i.shows.homes ∙ homes_by_state i.records c i.sound.facts ∙ agree))
     (put_view i.records c a.owner s bytes i.sound.facts ∙ ap (with_put s bytes) i.seat)
     refl
+    (no_fall c.root)
 
 pub puts : (count slots id : ℕ) (me : Knowing) (s : ℕ) (bytes : List ℕ) (num : ℕ) → HasOut s (Some bytes) me → IsUnlisted s (owner_of me.0).list → s < count
     → num ≡ (owner_of me.0).next → num < RECORD_NUMBERS → length (owner_of me.0).list < RECORD_ROOM
@@ -391,6 +399,7 @@ lower_holds count st id o i s n bytes held is_entry own inside words homes w_is 
     (h_is ∙ ap (λ (x : List ℕ). set st.homes s (some (Some x))) (sym own) ∙ homes_set i.records st.homes c.slots s (Live n) (i.shows.homes ∙ homes_by_state i.records c i.sound.facts))
     (lowered_view i.records c.owner a.owner s ∙ ap (lowered s) i.seat)
     refl
+    (no_fall c.root)
 
 pub lowers : (count slots id : ℕ) (me : Knowing) (x : Listed) → HasOut x.entry.slot (Some x.bytes) me → Contains (owner_of me.0).list x → x.entry.slot < count
     → Allows (Holds count) slots id me (x.entry.slot + 1) (λ _. 4 * x.entry.number + 1) (λ _ after. WasLowered (x.entry.slot + 1) me after)
@@ -460,6 +469,7 @@ free_holds count st id o i older x is some_older held inside words homes w_is h_
     (h_is ∙ homes_set i.records st.homes c.slots s Free (i.shows.homes ∙ homes_by_state i.records c i.sound.facts))
     (freed_view i.records c.owner a.owner s (without n c.owner.list) older (ap (map (listed i.records)) left ∙ cut.1) ∙ ap (with_freed s older) i.seat)
     refl
+    (no_fall c.root)
 
 pub frees : (count slots id : ℕ) (me : Knowing) (older : List Listed) (x : Listed) → (owner_of me.0).list ≡ older ++ x ∷ [] → 0 < length older → HasOut x.entry.slot None me
     → x.entry.slot < count → Allows (Holds count) slots id me (x.entry.slot + 1) (λ _. 0) (λ _ after. FreedNewest (x.entry.slot + 1) me after)
@@ -504,6 +514,7 @@ raises count slots id me dropped x others is idle st holds len at fits =
           (ap (λ (l : List ℕ). set l 0 n) i.shows.words)
           (i.shows.homes ∙ homes_by_state i.records c i.sound.facts)
           (raised_view i.records c.owner a.owner (from_number n c.owner.list) (x ∷ others) (ap (map (listed i.records)) left ∙ cut.2) ∙ ap (with_raised (x ∷ others)) i.seat)
-          refl,
+          refl
+          (i.sound.facts.list.from_root x.entry.slot n is_entry),
       record { dropped = dropped; kept = x ∷ others; list = is; first = (x, others, refl, refl); after_is = refl },
     )

@@ -10,6 +10,7 @@ pub record Round (root slot taken : ℕ) (before me : Knowing) : Type 0 where
   pub idle : IsIdleSweeper me
   pub root_is : root ≡ (sweeper_of me.0).root_seen
   pub numbered : root ≤ RECORD_NUMBERS
+  pub least_root : (sweeper_of me.0).least_root ≡ (sweeper_of before.0).least_root
   pub clean : (sweeper_of me.0).clean ≡ slot
   pub rounds : (sweeper_of me.0).rounds ≡ (sweeper_of before.0).rounds
   pub count : (sweeper_of me.0).taken_back ≡ (sweeper_of before.0).taken_back + taken

@@ -54,9 +54,12 @@ reads_root count slots id me idle st holds len at fits =
           (set-get_or st.words 0 0 ∙ i.shows.words)
           (i.shows.homes ∙ homes_by_state i.records c i.sound.facts)
           (ap (with_root c.root) i.seat ∙ ap (λ (r : ℕ). with_root r w) (sym root))
+          refl
           refl,
       record {
         numbered = subst (λ (r : ℕ). r ≤ RECORD_NUMBERS) (sym root) (within c.root c.owner.next RECORD_NUMBERS i.sound.facts.list.root_below_next i.sound.numbered);
+        rises = (let s = i.sound.facts.seen in let e = seen_of count st id w i in omega arith);
+        reached = (let s = i.shows.reached in let e = ap (λ (v : SweeperSeat). v.least_root) i.seat in omega arith);
         after_is = refl;
       },
     )
@@ -82,6 +85,7 @@ own_look count st id me s i quiet turn inside k is =
     (ap (set st.words (s + 1)) is ∙ set-get_or st.words (s + 1) 0 ∙ i.shows.words)
     (i.shows.homes ∙ homes_by_state i.records c i.sound.facts)
     (ap (glanced x) i.seat)
+    refl
     refl
 
 pub sweeper_looks : (count slots id : ℕ) (me : Knowing) (s : ℕ) → IsIdleSweeper me → s ≡ (sweeper_of me.0).clean → s < count → Allows (Holds count) slots id me (s + 1) (λ k. k) (SweeperLooked me)
@@ -113,6 +117,7 @@ grab_holds count st id me s n i quiet live past k is =
     (ap (set st.words (s + 1)) is ∙ words_set st.words c.root c.slots s (OutSweeper n) i.shows.words)
     (homes_set i.records st.homes c.slots s (OutSweeper n) (i.shows.homes ∙ homes_by_state i.records c i.sound.facts))
     (ap (grabbed s) i.seat)
+    refl
     refl
 
 -- a slot that isn't Live(n), as the note allows, isn't retired
@@ -169,10 +174,10 @@ grabs count slots id me s n idle turn inside found past st holds len at fits =
 
 -- Frees
 
-freed_view : (v : SweeperView) (note : SweeperNote) (s : ℕ) → s ≡ v.clean
-    → sweeper_seat (record v { out = None; clean = if nat_eq s v.clean then (v.clean + 1) else v.clean }) (record note { found = if nat_eq s v.clean then None else note.found; taken_back = note.taken_back + 1 })
-    ≡ with_taken_back (sweeper_seat v note)
-freed_view v note s turn =
+freed_view : (least_root : ℕ) (v : SweeperView) (note : SweeperNote) (s : ℕ) → s ≡ v.clean
+    → sweeper_seat least_root (record v { out = None; clean = if nat_eq s v.clean then (v.clean + 1) else v.clean }) (record note { found = if nat_eq s v.clean then None else note.found; taken_back = note.taken_back + 1 })
+    ≡ with_taken_back (sweeper_seat least_root v note)
+freed_view least_root v note s turn =
     let hit : nat_eq s v.clean ≡ true = grind (arith, nat_tests) in
     rw hit refl
 
@@ -201,7 +206,8 @@ sweeper_frees count slots id me s seat held carried turn inside st holds len at 
           (sound_after count (SweeperFree s) b e h i.sound.numbered mid)
           (words_set st.words c.root c.slots s Free i.shows.words)
           (ap (put_back st.homes) carried ∙ homes_set i.records st.homes c.slots s Free (i.shows.homes ∙ homes_by_state i.records c i.sound.facts))
-          (freed_view c.sweeper a.sweeper s (turn ∙ sym (clean_of count st id w i)) ∙ ap with_taken_back i.seat)
+          (freed_view i.shows.least_root c.sweeper a.sweeper s (turn ∙ sym (clean_of count st id w i)) ∙ ap with_taken_back i.seat)
+          refl
           refl,
       ap (λ (l : List (ℕ × Held)). (Sweeps (with_taken_back w), rest l)) carried,
     )

@@ -22,7 +22,7 @@ clean_after me after x idle kept is =
     let w = sweeper_of me.0 in
     let here : SweptSlot false me (Sweeps (glanced x w), me.1) = record {
       idle = record { seat = refl; none = idle.none; empty = idle.empty };
-      same = record { root = refl; rounds = refl };
+      same = record { root = refl; least_root = refl; rounds = refl };
       clean = ap (λ (b : Bool). if b then w.clean else (w.clean + 1)) kept;
       count = omega arith;
     } in

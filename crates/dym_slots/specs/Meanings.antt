@@ -1,6 +1,7 @@
 -- What the two ends of a log table are seen as.
-use Rattle.std.specs.Prelude.{⊤, ℕ, ◌+◌, ◌<◌, List, [], ◌∷◌, ◌++◌, take, drop, slice_index_or, Option}
+use Rattle.std.specs.Prelude.{◌≡◌, ⊤, ℕ, ◌+◌, ◌<◌, ◌≤◌, List, [], ◌∷◌, ◌++◌, take, drop, slice_index_or, Option}
 use Rattle.dym_base.specs.Origins.{TableName, Origin}
+use Rattle.dym_base.specs.declared.limits.TheConstants.{LOG_SLOTS}
 use Rattle.atomic_table.specs.Seated.{TableId}
 
 -- the name of a table, as plain data
@@ -29,12 +30,24 @@ pub record KeepMeaning : Type 0 where
   pub origin : Origin
 
 -- the sweeper: its log table; how many rounds it began; how many records it took back; how many slots, from the first on, it
--- found without a record below the root that it read last
+-- found without a record below the root that it read last; this root; and a number that the root has reached, as notes told
 pub record SweeperMeaning : Type 0 where
   pub table : TableName
   pub rounds : ℕ
   pub taken_back : ℕ
   pub clean : ℕ
+  pub root_seen : ℕ
+  pub least_root : ℕ
+
+-- a note: the root of this log table has reached this number, so that the owner let go of all records below it
+pub record RootNoteMeaning : Type 0 where
+  pub table : TableName
+  pub root : ℕ
+
+-- no slot has a record at rest below this root: the sweeper found all slots so, for a root that is no lower
+pub record IsSweptTo (root : ℕ) (sweeper : SweeperMeaning) : Type 0 where
+  pub seen : root ≤ sweeper.root_seen
+  pub clean : sweeper.clean ≡ LOG_SLOTS
 
 -- what stands at a place past the end
 abbrev pub no_record : Numbered

@@ -128,6 +128,8 @@ pub record IsIdleSweeper (me : Knowing) : Type 0 where
 -- the sweeper reads the root
 pub record ReadRoot (me : Knowing) (n : ℕ) (after : Knowing) : Type 0 where
   pub numbered : n ≤ RECORD_NUMBERS
+  pub rises : (sweeper_of me.0).root_seen ≤ n
+  pub reached : (sweeper_of me.0).least_root ≤ n
   pub after_is : after ≡ (Sweeps (with_root n (sweeper_of me.0)), me.1)
 
 -- a look of the sweeper
@@ -183,6 +185,7 @@ IsBytesOf s n o bytes = (x : Listed) × Contains o.list x × (x.entry.slot ≡ s
 -- a root and counts that stay
 pub record SameRound (me after : Knowing) : Type 0 where
   pub root : (sweeper_of after.0).root_seen ≡ (sweeper_of me.0).root_seen
+  pub least_root : (sweeper_of after.0).least_root ≡ (sweeper_of me.0).least_root
   pub rounds : (sweeper_of after.0).rounds ≡ (sweeper_of me.0).rounds
 
 -- the slot of the clean count is clean now, and its record was taken back or it wasn't retired

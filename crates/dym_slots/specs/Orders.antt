@@ -7,7 +7,8 @@ use Rattle.dym_slots.specs.declared.view.Listed.{Listed}
 use Rattle.dym_slots.specs.SeatViews.{owner_of, IsOwner}
 use Rattle.dym_slots.specs.TableStates.{Knowing}
 use Rattle.dym_slots.specs.Moves.{IsIdleOwner}
-use Rattle.dym_slots.specs.Meanings.{Numbered, NumbersRise}
+use Rattle.dym_slots.specs.declared.view.OwnerSeat.{OwnerSeat}
+use Rattle.dym_slots.specs.Meanings.{Numbered, NumbersRise, first_number}
 
 -- each slot of the table stands once in the order
 pub record IsOrder (order : List Entry) : Type 0 where
@@ -42,6 +43,10 @@ pub record Stands (order : List Entry) (len next_number : ℕ) (me : Knowing) : 
   pub most : next_number ≤ RECORD_NUMBERS
   pub rise : NumbersRise (map numbered (owner_of me.0).list) next_number
   pub remembered : (owner_of me.0).remembered ≡ []
+
+-- the number of the first record of an owner's list, or else the next one: all records below it were let go
+abbrev pub root_of : OwnerSeat → ℕ
+root_of o = first_number (map numbered o.list) o.next
 
 -- an owner with no slot out, whose next number and remembered slots are as before, and whose list is this one
 pub record HasLeft (list : List Listed) (me after : Knowing) : Type 0 where

@@ -1,6 +1,6 @@
 -- What the seats of a running log table know, and how it shows the views of the machine. A record stands in the owner's
 -- list with its bytes.
-use Rattle.std.specs.Prelude.{◌≡◌, ℕ, ◌+◌, List, [], ◌∷◌, ◌++◌, map, Option, Some, None, option_map, nat_eq, if◌then◌else◌}
+use Rattle.std.specs.Prelude.{◌≡◌, ℕ, ◌+◌, max, List, [], ◌∷◌, ◌++◌, map, Option, Some, None, option_map, nat_eq, if◌then◌else◌}
 use Rattle.dym_slots.specs.declared.machine.Slot.{Slot}
 use Rattle.dym_slots.specs.declared.machine.Entry.{Entry}
 use Rattle.dym_slots.specs.Slots.{OwnerView, SweeperView, entry}
@@ -11,7 +11,7 @@ use Rattle.dym_slots.specs.declared.view.Glimpse.{Glimpse}
 use Rattle.dym_slots.specs.declared.view.OwnerSeat.{OwnerSeat}
 use Rattle.dym_slots.specs.declared.view.SweeperSeat.{SweeperSeat}
 use Rattle.dym_slots.specs.declared.view.SeatView.{SeatView}
-use Rattle.dym_slots.specs.declared.view.SeatView.TheVariants.{Alone, Owns, Sweeps}
+use Rattle.dym_slots.specs.declared.view.SeatView.TheVariants.{Alone, Owns, Sweeps, Knows}
 
 -- the bytes of each record, by its number
 abbrev pub Naming : Type 0
@@ -37,9 +37,10 @@ owner_seat records v note = record {
   look = option_map glimpse_of note;
 }
 
-abbrev pub sweeper_seat : SweeperView → SweeperNote → SweeperSeat
-sweeper_seat v note = record {
+abbrev pub sweeper_seat : ℕ → SweeperView → SweeperNote → SweeperSeat
+sweeper_seat least_root v note = record {
   root_seen = v.root_seen;
+  least_root = least_root;
   out = v.out;
   clean = v.clean;
   found = note.found;
@@ -53,18 +54,26 @@ abbrev pub new_owner : OwnerSeat
 new_owner = record { list = []; next = 0; out = None; remembered = []; look = None }
 
 abbrev pub new_sweeper : SweeperSeat
-new_sweeper = record { root_seen = 0; out = None; clean = 0; found = None; rounds = 0; taken_back = 0 }
+new_sweeper = record { root_seen = 0; least_root = 0; out = None; clean = 0; found = None; rounds = 0; taken_back = 0 }
 
--- what an owner's seat knows, and what a sweeper's does
+-- what an owner's seat knows, what a sweeper's does, and the root that a note knows
 abbrev pub owner_of : SeatView → OwnerSeat
 owner_of Alone = new_owner
 owner_of (Owns o) = o
 owner_of (Sweeps w) = new_owner
+owner_of (Knows root) = new_owner
 
 abbrev pub sweeper_of : SeatView → SweeperSeat
 sweeper_of Alone = new_sweeper
 sweeper_of (Owns o) = new_sweeper
 sweeper_of (Sweeps w) = w
+sweeper_of (Knows root) = new_sweeper
+
+abbrev pub known_root : SeatView → ℕ
+known_root Alone = 0
+known_root (Owns o) = 0
+known_root (Sweeps w) = 0
+known_root (Knows root) = root
 
 abbrev pub IsOwner : SeatView → Type 0
 IsOwner v = v ≡ Owns (owner_of v)
@@ -129,3 +138,7 @@ grabbed s w = record w { out = Some s }
 -- after the slot of the clean count became Free
 abbrev pub with_taken_back : SweeperSeat → SweeperSeat
 with_taken_back w = record w { out = None; clean = w.clean + 1; found = None; taken_back = w.taken_back + 1 }
+
+-- after a note said that the root has reached a number
+abbrev pub with_least_root : ℕ → SweeperSeat → SweeperSeat
+with_least_root root w = record w { least_root = max root w.least_root }

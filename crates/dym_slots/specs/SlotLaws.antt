@@ -1,5 +1,5 @@
 -- The laws of the log table, each a statement over all its states, or over all lists of its events.
-use Rattle.std.specs.Prelude.{◌≡◌, ℕ, ◌^◌, ◌≤◌, List, length, None, AllPairs, filter, nat_eq, not}
+use Rattle.std.specs.Prelude.{◌≡◌, ℕ, ◌^◌, ◌≤◌, ◌⊎◌, List, length, None, AllPairs, filter, nat_eq, not}
 use Rattle.std.specs.List.{list_any, range_with_len}
 use Rattle.dym_base.specs.declared.limits.TheConstants.{LOG_SLOTS, MOST_RECORDS}
 use Rattle.dym_slots.specs.declared.machine.Slot.TheVariants.{Free, Live}
@@ -42,6 +42,12 @@ FirstOfTwoIsFree = (c : Core) → Facts c → c.owner.out ≡ None → AllPairs 
 -- A sweep is complete: once all slots are clean, none is Live with a number below the root seen.
 abbrev pub FullCountIsClean : Type 0
 FullCountIsClean = (c : Core) → Facts c → length c.slots ≤ c.sweeper.clean → (s n : ℕ) → state_of c s ≡ Live n → c.sweeper.root_seen ≤ n
+
+-- What a sweep leaves: once all slots are clean for the root and neither seat has a slot out, each slot is Free or has a record of the
+-- owner's list.
+abbrev pub OnlyTheListIsLeft : Type 0
+OnlyTheListIsLeft = (c : Core) → Facts c → c.owner.out ≡ None → c.sweeper.out ≡ None → length c.slots ≤ c.sweeper.clean → c.root ≤ c.sweeper.root_seen →
+    (s : ℕ) → (state_of c s ≡ Free) ⊎ ((n : ℕ) × (state_of c s ≡ Live n) × IsEntry c s n)
 
 -- the slots that are in no entry
 abbrev pub unlisted_slots : Core → List ℕ

@@ -1,17 +1,18 @@
 -- How a running log table shows a state of the machine, and the rule that it keeps.
-use Rattle.std.specs.Prelude.{◌≡◌, ℕ, ◌≤◌, ◌⊎◌, List, [], ◌∷◌, map, zip, length, Option, option_map}
+use Rattle.std.specs.Prelude.{◌≡◌, ℕ, ◌≤◌, ◌⊎◌, List, [], ◌∷◌, map, zip, length, All, Option, option_map}
 use mathlib.Core.Option as M
 use mathlib.Core.Option.{some, none}
 use Rattle.atomic_table.specs.Table.{State, Me}
 use Rattle.dym_slots.specs.declared.machine.Slot.{Slot}
 use Rattle.dym_slots.specs.declared.machine.Slot.TheVariants.{Free, Live, OutOwner, OutSweeper}
 use Rattle.dym_slots.specs.declared.machine.TheConstants.{RECORD_NUMBERS}
+use Rattle.dym_slots.specs.declared.machine.Entry.{Entry}
 use Rattle.dym_slots.specs.SlotWords.{slot_word}
 use Rattle.dym_slots.specs.Slots.{Core}
 use Rattle.dym_slots.specs.SlotFacts.{Facts}
 use Rattle.dym_slots.specs.SlotNotes.{Noted, noted_start, NotesStand}
 use Rattle.dym_slots.specs.declared.view.SeatView.{SeatView}
-use Rattle.dym_slots.specs.declared.view.SeatView.TheVariants.{Alone, Owns, Sweeps}
+use Rattle.dym_slots.specs.declared.view.SeatView.TheVariants.{Alone, Owns, Sweeps, Knows}
 use Rattle.dym_slots.specs.SeatViews.{Naming, owner_seat, sweeper_seat}
 
 -- the table: a slot holds the bytes of a record, or nothing
@@ -39,18 +40,33 @@ home_shown records (OutSweeper n) home = none
 abbrev pub homes_of : Naming → Core → List (M.Option Held)
 homes_of records c = map (λ (p : Slot × Option ℕ). home_shown records p.0 p.1) (zip c.slots c.homes)
 
--- the table shows the state of the machine, with its records named so
+-- The table shows the state of the machine, with its records named so. What notes know of the root, and what the sweeper knows by
+-- notes, is at most the root.
 pub record Shows (st : TableState) (a : Noted) (records : Naming) : Type 0 where
   pub words : st.words ≡ words_of a.core
   pub homes : st.homes ≡ homes_of records a.core
-  pub views : st.views ≡ Owns (owner_seat records a.core.owner a.owner) ∷ Sweeps (sweeper_seat a.core.sweeper a.sweeper) ∷ []
+  pub least_root : ℕ
+  pub notes : List ℕ
+  pub views : st.views ≡ Owns (owner_seat records a.core.owner a.owner) ∷ Sweeps (sweeper_seat least_root a.core.sweeper a.sweeper) ∷ map Knows notes
+  pub reached : least_root ≤ a.core.root
+  pub all_reached : All (λ n. n ≤ a.core.root) notes
 
--- the state has so many slots, numbers that fit a word, all facts and all notes
+-- the number of the first entry, or else the next one
+abbrev pub first_of : List Entry → ℕ → ℕ
+first_of [] next = next
+first_of (e ∷ es) next = e.number
+
+-- the root is that number: all records below the first of the list were let go
+abbrev pub RootIsFirst : Core → Type 0
+RootIsFirst c = first_of c.owner.list c.owner.next ≡ c.root
+
+-- the state has so many slots, numbers that fit a word, all facts, all notes, and its root at the first of its list
 pub record Sound (count : ℕ) (a : Noted) : Type 0 where
   pub count_is : length a.core.slots ≡ count
   pub numbered : a.core.owner.next ≤ RECORD_NUMBERS
   pub facts : Facts a.core
   pub notes : NotesStand a
+  pub root : RootIsFirst a.core
 
 -- the table shows a sound state of the machine
 abbrev pub Runs : ℕ → TableState → Type 0

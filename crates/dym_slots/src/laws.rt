@@ -1,6 +1,6 @@
 //! What every list of the table's steps keeps, and what the owner and the sweeper may rely on. Each law is the contract of a
 //! function that does nothing, so that a caller's proof may rely on it.
-ghost use Rattle.dym_slots.specs.SlotLaws.{EachStepKeepsFacts, EachRunKeepsFacts, EachStepKeepsNotes, EachRunKeepsNotes, EachRunHasNotes, OwnerFindsItsOwn, FirstOfTwoIsFree, FullCountIsClean, PutHasRoom, NumbersAreBelow};
+ghost use Rattle.dym_slots.specs.SlotLaws.{EachStepKeepsFacts, EachRunKeepsFacts, EachStepKeepsNotes, EachRunKeepsNotes, EachRunHasNotes, OwnerFindsItsOwn, FirstOfTwoIsFree, FullCountIsClean, OnlyTheListIsLeft, PutHasRoom, NumbersAreBelow};
 
 /// Each step keeps all facts, and the number of slots.
 pub fn each_step_keeps_facts()
@@ -40,6 +40,11 @@ pub fn first_of_two_is_free()
 /// A sweep that found all slots clean left no record below the root that it saw.
 pub fn full_count_is_clean()
     ensures { FullCountIsClean }
+{}
+
+/// A sweep that saw the root leaves the records of the owner's list alone: each other slot is Free, where neither seat has one out.
+pub fn only_the_list_is_left()
+    ensures { OnlyTheListIsLeft }
 {}
 
 /// A list of at most 287 entries leaves at least 33 slots for the next `put`.

@@ -6,8 +6,10 @@
 //! logs, which keeps its records with the owner, the pruner, which sweeps, and the judge of traces,
 //! which knows the machine alone. Its one contract: the owner is a list of numbered records,
 //! whatever the sweeper does meanwhile, and each step of either on the table is one step of the
-//! machine, which keeps all facts. The sweeper is seen as its table, its rounds, what it took back
-//! and its clean count; the two are of one table where `owner.origin ≡ shared sweeper.table`.
+//! machine, which keeps all facts. The sweeper is seen as its table, its rounds, what it took back,
+//! its clean count and the root that it read; the two are of one table where
+//! `owner.origin ≡ shared sweeper.table`. A sweeper that has learnt a note of its owner's takes back
+//! all that was let go before.
 #![tactic(auto)]
 
 mod laws;
@@ -16,6 +18,7 @@ mod machine;
 mod owner;
 mod owner_calls;
 mod owner_steps;
+mod root_note;
 mod rule;
 mod sweeper;
 mod sweeper_calls;
@@ -27,11 +30,12 @@ mod view;
 pub use laws::{
     each_run_has_notes, each_run_keeps_facts, each_run_keeps_notes, each_step_keeps_facts,
     each_step_keeps_notes, first_of_two_is_free, full_count_is_clean, numbers_are_below,
-    owner_finds_its_own, put_has_room,
+    only_the_list_is_left, owner_finds_its_own, put_has_room,
 };
 pub use log_slots::LogSlots;
 pub use machine::{Entry, Event, RECORD_NUMBERS, Slot};
 pub use owner::Owner;
+pub use root_note::RootNote;
 pub use rule::{LogRule, LogSeat, LogTable, Slots};
 pub use sweeper::Sweeper;
 pub use view::{Glimpse, Listed, OwnerSeat, SeatView, SweeperSeat};

@@ -22,8 +22,14 @@ impl LogSlots {
     pub fn open(alloc: Global) -> Result<(Owner, Sweeper), AllocError>
         ensures owner { IfOk result (λ ends.
             ends.0 ≡ record { records = []; next_number = 0; lifted = None; origin = shared ends.1.table }) }
-        ensures sweeper { IfOk result (λ ends.
-            ends.1 ≡ record { table = ends.1.table; rounds = 0; taken_back = 0; clean = 0 }) }
+        ensures sweeper { IfOk result (λ ends. ends.1 ≡ record {
+          table = ends.1.table;
+          rounds = 0;
+          taken_back = 0;
+          clean = 0;
+          root_seen = 0;
+          least_root = 0;
+        }) }
     {
         let order = all_slots(alloc)?;
         let (table, mut seat) = LogTable::vacant(

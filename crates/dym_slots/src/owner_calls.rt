@@ -1,17 +1,19 @@
 //! What the owner does.
 ghost use Rattle.std.specs.Prelude.{◌≡◌, ℕ, ◌+◌, ◌<◌, ◌≤◌, List, [], ◌∷◌, ◌++◌, None, Some, length, take};
+ghost use Rattle.dym_base.specs.Origins.{shared};
 ghost use Rattle.dym_base.specs.declared.limits.TheConstants.{LOG_SLOTS, RECORD_ROOM, COUNT_LIMIT};
 ghost use Rattle.dym_slots.specs.declared.machine.TheConstants.{RECORD_NUMBERS};
 ghost use Rattle.dym_slots.specs.declared.view.Listed.{Listed};
 ghost use Rattle.dym_slots.specs.SeatViews.{owner_of};
 ghost use Rattle.dym_slots.specs.Moves.{SitsAt, IsIdleOwner, Seized};
-ghost use Rattle.dym_slots.specs.Meanings.{record_at, with_record, up_to, from, NumbersRise};
+ghost use Rattle.dym_slots.specs.Meanings.{record_at, with_record, up_to, from, first_number, NumbersRise};
 ghost use Rattle.dym_slots.specs.Orders.{Stands, slot_at, HasLeft, IsNewest, retired};
 ghost use Rattle.std.specs.List.Sorted.{IsPermutation};
 
 use crate::machine::Entry;
 use crate::owner::Owner;
 use crate::owner_steps::{bring_back, free_newest, put_into, raise_root, seize_either, take_out};
+use crate::root_note::{Notes, RootNote};
 use crate::rule::{LogSeat, Slots};
 use dym_base::limits::LOG_SLOTS;
 use dym_pack::Record;
@@ -113,6 +115,16 @@ impl Owner {
         let next_spares = (self.len + SPARE_SLOTS).min(LOG_SLOTS);
         retire(&mut self.order, next_spares as usize, place as usize);
         self.len -= place;
+    }
+
+    /// A note that all records below the first one of the list were let go, for the sweeper of this table.
+    pub fn note(&mut self) -> RootNote
+        ensures same { self.new ≡ self.old }
+        ensures table { self.old.origin ≡ shared result.table }
+        ensures root { result.root ≡ first_number self.old.records self.old.next_number }
+    {
+        let seat = self.table.shared.split_seat::<Notes>(&mut self.seat);
+        RootNote { seat }
     }
 }
 

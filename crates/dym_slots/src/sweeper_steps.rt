@@ -57,6 +57,8 @@ pub(crate) fn read_root(table: &Slots, seat: &mut LogSeat) -> u64
     ensures table { seat.new.table_id ≡ seat.old.table_id }
     ensures after { seat.new.me ≡ (Sweeps (with_root result (sweeper_of seat.old.me.0)), seat.old.me.1) }
     ensures numbered { result ≤ RECORD_NUMBERS }
+    ensures rises { (sweeper_of seat.old.me.0).root_seen ≤ result }
+    ensures reached { (sweeper_of seat.old.me.0).least_root ≤ result }
 {
     table.load::<Roots>(seat, 0)
 }
@@ -152,6 +154,8 @@ pub(crate) fn walk(table: &Slots, seat: &mut LogSeat, root: u64) -> u32
     ensures table { seat.new.table_id ≡ seat.old.table_id }
     ensures idle { IsIdleSweeper seat.new.me }
     ensures rounds { (sweeper_of seat.new.me.0).rounds ≡ (sweeper_of seat.old.me.0).rounds }
+    ensures root { (sweeper_of seat.new.me.0).root_seen ≡ root }
+    ensures least_root { (sweeper_of seat.new.me.0).least_root ≡ (sweeper_of seat.old.me.0).least_root }
     ensures clean { (sweeper_of seat.new.me.0).clean ≡ LOG_SLOTS }
     ensures taken { (sweeper_of seat.new.me.0).taken_back ≡ (sweeper_of seat.old.me.0).taken_back + result }
 {
@@ -171,6 +175,9 @@ pub(crate) fn sweep_all(table: &Slots, seat: &mut LogSeat) -> u32
     ensures table { seat.new.table_id ≡ seat.old.table_id }
     ensures idle { IsIdleSweeper seat.new.me }
     ensures rounds { (sweeper_of seat.new.me.0).rounds ≡ (sweeper_of seat.old.me.0).rounds + 1 }
+    ensures rises { (sweeper_of seat.old.me.0).root_seen ≤ (sweeper_of seat.new.me.0).root_seen }
+    ensures reached { (sweeper_of seat.old.me.0).least_root ≤ (sweeper_of seat.new.me.0).root_seen }
+    ensures least_root { (sweeper_of seat.new.me.0).least_root ≡ (sweeper_of seat.old.me.0).least_root }
     ensures clean { (sweeper_of seat.new.me.0).clean ≡ LOG_SLOTS }
     ensures taken { (sweeper_of seat.new.me.0).taken_back ≡ (sweeper_of seat.old.me.0).taken_back + result }
 {

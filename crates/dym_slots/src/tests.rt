@@ -89,6 +89,7 @@ fn a_sweep_takes_back_what_was_let_go(rt: HostRuntime) -> Result<(), Fail> {
     put_many(&rt, alloc, &mut owner, 20)?;
     assert!(rt; sweeper.sweep() == 0);
     let_go(&mut owner, 15);
+    sweeper.learn(owner.note());
     assert!(rt; sweeper.sweep() == 15);
     cut(&mut owner, 1);
     assert!(rt; (owner.len(), owner.number_at(1), owner.next_number()) == (2, 16, 20));

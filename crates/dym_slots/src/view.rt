@@ -24,9 +24,11 @@ pub struct OwnerSeat {
     pub look: Option<Glimpse>,
 }
 
-/// What the sweeper knows: the machine's view, what its last look found, and its counts.
+/// What the sweeper knows: the machine's view, what its last look found, its counts, and a number that the root is known to have
+/// reached.
 pub struct SweeperSeat {
     pub root_seen: u64,
+    pub least_root: u64,
     pub out: Option<u64>,
     pub clean: u64,
     pub found: Option<u64>,
@@ -42,4 +44,6 @@ pub enum SeatView {
     Owns(OwnerSeat),
     /// The sweeper's.
     Sweeps(SweeperSeat),
+    /// A note's: the root has reached this number.
+    Knows(u64),
 }

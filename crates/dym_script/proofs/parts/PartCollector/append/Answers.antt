@@ -1,4 +1,4 @@
-use Rattle.std.proofs.Common.{◌++◌, ◌∷◌, [], refl, sym, ap, ◌∙◌, length-append, append_assoc, arith, rules}
+use Rattle.std.proofs.Common.{◌≡◌, ◌++◌, ◌∷◌, [], refl, sym, ap, ◌∙◌, length-append, append_assoc, arith, rules}
 use Rattle.dym_base.specs.declared.limits.TheConstants.{MOST_COMMANDS}
 use Rattle.dym_script.proofs.AheadParts.{own_none, own_inside, own_room, own_more}
 use Rattle.dym_script.proofs.parts.PartCollector.append.Goals as goal
@@ -34,9 +34,10 @@ loop-commands-preserved c =
     let cut = c.in-Some.ensures.steps.0 in
     let was = c.index_mut.result.now in
     let inside = own_inside all own rest others x old mid l.place l.invariant.all cut l.invariant.place c.requires.within l.invariant.has in
+    let appended : c.append.new.self ≡ was.commands ++ x = search rules in
     record {
       place = omega (arith, l.invariant.place, length-append own (x ∷ []));
       all = l.invariant.all ∙ ap (λ cs. own ++ cs) cut ∙ sym (append_assoc own (x ∷ []) others);
       has = own_more own x old mid was (record was { commands = c.append.new.self }) l.place l.invariant.place inside c.index_mut.ensures.value refl
-          c.in_ok-append.ensures.appended l.invariant.has;
+          appended l.invariant.has;
     }
