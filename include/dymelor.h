@@ -1,8 +1,9 @@
 /*
  * dymelor.h: heaps that can be logged at simulation times and rolled back, for C and C++.
  *
- * An object is the heap of one logical process. Its chunks are named by handles, which stay valid over rollbacks; the bytes of a
- * chunk are written and read by calls, so that the object knows what changed. A log keeps the heap at a simulation time, the whole of
+ * An object is the heap of one logical process. Its chunks are named by handles, which stay valid over rollbacks, and lie at addresses
+ * that follow from the handles and so stay valid, too. The bytes of a chunk are written and read by calls, or in place, by a pointer; a
+ * call tells the object first that they will be, so that it knows what changed. A log keeps the heap at a simulation time, the whole of
  * it or what changed since the log before; a restore brings back the newest log at or before a time; a prune drops the logs that a
  * commit bound makes useless.
  *
@@ -14,14 +15,30 @@
  *   - a pointer to an object is that of such a dym_object; each other pointer is that of a whole value of its type, which the caller may
  *     write unless it is const. What the pointers of one call point to doesn't overlap;
  *   - bytes that are handed in or out are at a pointer that isn't null, also where there are none: with a length or a room of 0 too;
+ *   - a const dym_object is none that was defined const: its call leaves the object as it was, but may write to it while it runs;
  *   - one call at a time on an object. It may be another thread's than the call before: a lock, a barrier, a thread's start or join, or
  *     a sequentially consistent atomic then stands between the two. Calls on different objects need no order;
  *   - no call from a signal handler, nor from the forked child of a process that has threads;
  *   - malloc, realloc and free are those of one allocator, which aligns a block to each power of two up to 16 that divides its length.
  *
  * An object takes memory by malloc and realloc, and gives it back by free, when it is opened, logged, pruned, restored, saved, loaded and
- * closed. Its segments of 64 KiB, as many as its quota says, are all taken when it is opened. So dym_open, dym_log, dym_save and dym_load
- * alone can answer DYM_MEMORY. The calls start no thread, and wait for none.
+ * closed. When it is opened, or loaded, it takes one block for its chunks: 12 segments of 64 KiB for each one of its quota, since each
+ * of the 12 classes has places of its own. That is address space (3 MiB for a quota of 4, 768 MiB for one of 1,024); memory is taken
+ * by what is touched alone, where malloc maps a large block when it is touched, as the C library's does. So dym_open, dym_log,
+ * dym_save and dym_load alone can answer DYM_MEMORY. The calls start no thread, and wait for none.
+ *
+ * Pointers. A chunk stays at one address as long as its object is open: whatever else is allocated, freed, logged, restored or pruned,
+ * and where it is given another length in its class. Where a restore brings a chunk back, it is where it was when the log was taken;
+ * so a pointer to a chunk that lies in another chunk is right again. dym_load opens another object: its addresses are others.
+ * Each chunk is aligned to 16 bytes. What C owes, and nothing checks:
+ *
+ *   - it reads by a pointer what a live chunk has: its bytes from the first to its length, and no others;
+ *   - it writes by a pointer only into a live chunk that was touched before, since the last dym_log, dym_restore, dym_restore_before
+ *     or dym_load: by dym_touch, dym_touch_all, dym_wrote, dym_write or dym_fill of at least one byte, dym_link, or as dym_malloc,
+ *     dym_calloc or a dym_realloc that moved it gave it. A log that is incremental and a restore trust this: bytes that are written
+ *     into a chunk that isn't touched may be missed by the one and stay after the other;
+ *   - a pointer into a chunk that was freed, moved by dym_realloc, or undone by a restore is used no more, until the chunk is live again;
+ *   - what is written by a pointer counts as written from then on: it is in the next log, and in what the calls read.
  *
  * Units: a length, a room and a place in a chunk are in bytes, and places are counted from 0; a quota is in segments of 65,536 bytes; a
  * simulation time is a number of whatever unit the simulator has, of which the order alone matters.
@@ -34,6 +51,7 @@
 
 #include <stddef.h>
 #include <stdint.h>
+#include <string.h>
 
 /* The version that this header is of. While the first number is 0, a greater second one may change what stands here. */
 #define DYM_VERSION "0.3.0"
@@ -89,6 +107,62 @@ static inline int dym_same(dym_handle a, dym_handle b)
     return a.exponent == b.exponent && a.index == b.index;
 }
 
+/* A handle as one number, exponent * 2^32 + index, by which dym_link writes it; nil is 0. */
+static inline uint64_t dym_number(dym_handle chunk)
+{
+    return ((uint64_t)chunk.exponent << 32) | chunk.index;
+}
+
+/* The handle of a number; one whose exponent is bad, which calls answer by DYM_BAD, for the number of none. */
+static inline dym_handle dym_numbered(uint64_t number)
+{
+    dym_handle chunk = {255, 0};
+    if (number >> 32 < 255) {
+        chunk.exponent = (uint8_t)(number >> 32);
+        chunk.index = (uint32_t)number;
+    }
+    return chunk;
+}
+
+/*
+ * A time for the calls from a simulator's clock, in the same order: for times a and b that are no less than 0, infinity included,
+ * dym_time_of(a) < dym_time_of(b) exactly where a < b. Where it isn't above 0, negative zero and what is no number too, it is 0.
+ */
+static inline uint64_t dym_time_of(double clock)
+{
+    uint64_t time = 0;
+    if (clock > 0)
+        memcpy(&time, &clock, sizeof time);
+    return time;
+}
+
+/* The clock's time again. */
+static inline double dym_clock_of(uint64_t time)
+{
+    double clock;
+    memcpy(&clock, &time, sizeof clock);
+    return clock;
+}
+
+/* A status in words. */
+static inline const char *dym_status_text(dym_status status)
+{
+    static const char *const texts[] = {
+        "done",
+        "no class has chunks of that length",
+        "the heap would hold more segments than its quota",
+        "no chunk with this handle is live",
+        "the bytes pass the end of the chunk",
+        "the newest log has this time or a later one",
+        "256 logs are kept, the most that an object keeps",
+        "no log has such a time",
+        "memory was wanting",
+        "an argument was bad, or the object closed or open",
+        "the object has run 2^60 commands",
+    };
+    return status < sizeof texts / sizeof texts[0] ? texts[status] : "no status";
+}
+
 /* The kinds of log. */
 enum {
     DYM_FULL = 0,       /* the whole heap */
@@ -120,6 +194,13 @@ typedef struct dym_slots {
     uint32_t slots;
 } dym_slots;
 
+/* An object's version, its quota, and how many segments it holds, which is at most the quota. */
+typedef struct dym_heap {
+    uint32_t version;
+    uint32_t quota;
+    uint32_t held;
+} dym_heap;
+
 /* ---- objects */
 
 /*
@@ -131,6 +212,9 @@ dym_status dym_open(dym_object *object, uint32_t quota, uint32_t version);
 
 /* Closes an open object, and frees all its memory. It can be opened again then. DYM_BAD: it was closed. */
 dym_status dym_close(dym_object *object);
+
+/* *heap is the version, the quota and the held segments of an object. This is no command. DYM_BAD: it is closed. */
+dym_status dym_inspect(const dym_object *object, dym_heap *heap);
 
 /* ---- chunks
  * Each of these answers DYM_BAD where the object is closed or a handle's exponent is that of no class (nil is allowed where it is said),
@@ -174,11 +258,98 @@ dym_status dym_follow(dym_object *object, dym_handle chunk, uint32_t at, dym_fou
 dym_status dym_sum(dym_object *object, dym_handle chunk, uint64_t *total);
 
 /* *length is a chunk's length in bytes. This is no command: it isn't counted, and never answers DYM_SPENT. DYM_DEAD. */
-dym_status dym_size(dym_object *object, dym_handle chunk, uint32_t *length);
+dym_status dym_size(const dym_object *object, dym_handle chunk, uint32_t *length);
 
 /* *next is the first live chunk after `after`, which needn't be live, in the order of exponents and then of indices; after nil it is the
  * first of all; where there is none it is nil. This is no command either. */
-dym_status dym_next(dym_object *object, dym_handle after, dym_handle *next);
+dym_status dym_next(const dym_object *object, dym_handle after, dym_handle *next);
+
+/* ---- chunks in place
+ * Each of these answers DYM_BAD where the object is closed or a handle's exponent is that of no class. What a pointer is good for, and
+ * until when, stands at the head of this file. */
+
+/* *address is where a chunk lies, to be read there. This is no command. DYM_DEAD. */
+dym_status dym_address(const dym_object *object, dym_handle chunk, const void **address);
+
+/*
+ * The same, to be read and written there: the chunk is touched. It is a dym_write of all its bytes, by those that stand there at the
+ * next call, and like it a command: DYM_SPENT, DYM_DEAD. A chunk of length 0 has no byte to be written, and isn't touched.
+ */
+dym_status dym_touch(dym_object *object, dym_handle chunk, void **address);
+
+/* Touches every live chunk: for code that writes wherever it likes, as an interpreter that runs inside an object. This is no command. */
+dym_status dym_touch_all(dym_object *object);
+
+/* Touches each live chunk of which a byte lies in the object's block in the `length` bytes from `offset` on; what else lies there, and a
+ * length of 0, is passed over. This is no command. */
+dym_status dym_wrote_at(dym_object *object, uint64_t offset, uint64_t length);
+
+/* *start is where the object's block begins. This is no command. */
+dym_status dym_start(const dym_object *object, const void **start);
+
+/* *chunk is the live chunk in which the byte lies that is `offset` bytes into the object's block. This is no command. DYM_DEAD: there
+ * is none. */
+dym_status dym_handle_at(const dym_object *object, uint64_t offset, dym_handle *chunk);
+
+/* *chunk is the live chunk in which an address lies. DYM_DEAD: it lies in none of this object. */
+static inline dym_status dym_at(const dym_object *object, const void *address, dym_handle *chunk)
+{
+    const void *start;
+    dym_status status = dym_start(object, &start);
+    if (status != DYM_DONE)
+        return status;
+    if ((uintptr_t)address < (uintptr_t)start)
+        return DYM_DEAD;
+    return dym_handle_at(object, (uintptr_t)address - (uintptr_t)start, chunk);
+}
+
+/* Touches each live chunk of which a byte lies in the `length` bytes from an address on, before these are written. */
+static inline dym_status dym_wrote(dym_object *object, const void *address, size_t length)
+{
+    const void *start;
+    uintptr_t before;
+    dym_status status = dym_start(object, &start);
+    if (status != DYM_DONE || (uintptr_t)address >= (uintptr_t)start)
+        return status != DYM_DONE ? status : dym_wrote_at(object, (uintptr_t)address - (uintptr_t)start, length);
+    before = (uintptr_t)start - (uintptr_t)address;
+    return dym_wrote_at(object, 0, length > before ? length - before : 0);
+}
+
+/* dym_malloc, and where the chunk lies, which is touched. */
+static inline dym_status dym_malloc_at(dym_object *object, uint64_t length, dym_handle *chunk, void **address)
+{
+    const void *place = NULL;
+    dym_status status = dym_malloc(object, length, chunk);
+    if (status == DYM_DONE) {
+        status = dym_address(object, *chunk, &place);
+        *address = (void *)place;
+    }
+    return status;
+}
+
+/* dym_calloc, and where the chunk lies, which is touched. */
+static inline dym_status dym_calloc_at(dym_object *object, uint64_t count, uint64_t length, dym_handle *chunk, void **address)
+{
+    const void *place = NULL;
+    dym_status status = dym_calloc(object, count, length, chunk);
+    if (status == DYM_DONE) {
+        status = dym_address(object, *chunk, &place);
+        *address = (void *)place;
+    }
+    return status;
+}
+
+/* dym_realloc, and then dym_touch of *moved: *address is where that chunk lies, or null where the old one was freed. */
+static inline dym_status dym_realloc_at(dym_object *object, dym_handle chunk, uint64_t length, dym_handle *moved, void **address)
+{
+    dym_status status = dym_realloc(object, chunk, length, moved);
+    if (status != DYM_DONE)
+        return status;
+    if (!dym_same(*moved, dym_nil))
+        return dym_touch(object, *moved, address);
+    *address = NULL;
+    return DYM_DONE;
+}
 
 /* ---- logs
  * Each of these answers DYM_BAD where the object is closed, and DYM_SPENT. */
@@ -194,11 +365,22 @@ dym_status dym_log(dym_object *object, uint32_t kind, uint64_t time, dym_logged 
  * DYM_NO_LOG. */
 dym_status dym_restore(dym_object *object, uint64_t time, uint64_t *restored);
 
+/* The same with the newest log before a time, of which there is none at time 0. DYM_NO_LOG. */
+dym_status dym_restore_before(dym_object *object, uint64_t time, uint64_t *restored);
+
 /* Drops the logs before the newest one at or before a bound, so that this one can still be restored. *dropped is how many; it may be 0. */
 dym_status dym_prune(dym_object *object, uint64_t bound, uint32_t *dropped);
 
+/* Drops the logs before the newest one that is before a bound, so that dym_restore_before with that bound or a later time still finds
+ * it. At bound 0 it drops none. */
+dym_status dym_prune_before(dym_object *object, uint64_t bound, uint32_t *dropped);
+
 /* *slots says how many logs are kept. */
 dym_status dym_logs(dym_object *object, dym_slots *slots);
+
+/* *time is that of a kept log, of which the oldest has place 0. This is no command: it never answers DYM_SPENT. DYM_NO_LOG: as many
+ * logs aren't kept. */
+dym_status dym_log_time(const dym_object *object, uint32_t place, uint64_t *time);
 
 /* ---- checkpoint files
  * A file has the kept logs of an object, with its quota and version, under a name of 1 to 32 characters A-Z a-z 0-9 _ that isn't

@@ -38,6 +38,9 @@ static void closed_object(dym_object *object)
     dym_found found = {9, {9, 9}, 9};
     dym_logged logged = {9, 9};
     dym_slots slots = {9, 9};
+    dym_heap heap = {9, 9, 9};
+    const void *place = bytes;
+    void *address = bytes;
     ANSWERS(dym_close(object), DYM_BAD);
     ANSWERS(dym_malloc(object, 8, &h), DYM_BAD);
     ANSWERS(dym_calloc(object, 1, 8, &h), DYM_BAD);
@@ -55,6 +58,24 @@ static void closed_object(dym_object *object)
     ANSWERS(dym_restore(object, 1, &number), DYM_BAD);
     ANSWERS(dym_prune(object, 1, &small), DYM_BAD);
     ANSWERS(dym_logs(object, &slots), DYM_BAD);
+    ANSWERS(dym_restore_before(object, 0, &number), DYM_BAD);
+    ANSWERS(dym_restore_before(object, 1, &number), DYM_BAD);
+    ANSWERS(dym_prune_before(object, 0, &small), DYM_BAD);
+    ANSWERS(dym_prune_before(object, 1, &small), DYM_BAD);
+    ANSWERS(dym_log_time(object, 0, &number), DYM_BAD);
+    ANSWERS(dym_inspect(object, &heap), DYM_BAD);
+    ANSWERS(dym_address(object, h, &place), DYM_BAD);
+    ANSWERS(dym_touch(object, h, &address), DYM_BAD);
+    ANSWERS(dym_touch_all(object), DYM_BAD);
+    ANSWERS(dym_wrote_at(object, 0, 8), DYM_BAD);
+    ANSWERS(dym_wrote(object, bytes, 4), DYM_BAD);
+    ANSWERS(dym_start(object, &place), DYM_BAD);
+    ANSWERS(dym_handle_at(object, 0, &h), DYM_BAD);
+    ANSWERS(dym_at(object, bytes, &h), DYM_BAD);
+    ANSWERS(dym_malloc_at(object, 8, &h, &address), DYM_BAD);
+    ANSWERS(dym_calloc_at(object, 1, 8, &h, &address), DYM_BAD);
+    ANSWERS(dym_realloc_at(object, dym_nil, 8, &h, &address), DYM_BAD);
+    EXPECT(place == bytes && address == bytes && heap.version == 9 && heap.quota == 9 && heap.held == 9);
     EXPECT(dym_same(h, handle(5, 7)) && number == 77 && small == 78);
     EXPECT(bytes[0] == 1 && bytes[3] == 4 && found.kind == 9 && logged.length == 9 && slots.kept == 9);
     EXPECT(object->inside == NULL);
@@ -84,6 +105,8 @@ static void bad_handles(dym_object *object)
     uint32_t small = 78;
     dym_handle out = handle(5, 7);
     dym_found found = {9, {9, 9}, 9};
+    const void *place = &byte;
+    void *address = &byte;
     for (k = 0; k <= sizeof bad_exponents; k++) {
         int is_nil = k == sizeof bad_exponents;
         dym_handle h = is_nil ? dym_nil : handle(bad_exponents[k], 0);
@@ -100,7 +123,10 @@ static void bad_handles(dym_object *object)
         ANSWERS(dym_follow(object, h, 0, &found), DYM_BAD);
         ANSWERS(dym_sum(object, h, &number), DYM_BAD);
         ANSWERS(dym_size(object, h, &small), DYM_BAD);
+        ANSWERS(dym_address(object, h, &place), DYM_BAD);
+        ANSWERS(dym_touch(object, h, &address), DYM_BAD);
     }
+    EXPECT(place == &byte && address == &byte);
     ANSWERS(dym_free(object, handle(0, 1)), DYM_BAD);
     EXPECT(byte == 5 && number == 77 && small == 78 && found.kind == 9 && dym_same(out, handle(5, 7)));
 }
@@ -160,6 +186,175 @@ static void chunks(dym_object *object)
     EXPECT(dym_same(h, a));
     ANSWERS(dym_free(object, h), DYM_DONE);
     ANSWERS(dym_free(object, b), DYM_DONE);
+}
+
+/* A length that no buffer has, as of a difference that wrapped, is refused before a byte is looked at. */
+static void wrapped_lengths(dym_object *object)
+{
+    dym_handle h;
+    uint8_t bytes[4] = {1, 2, 3, 4};
+    size_t k;
+    static const size_t lengths[] = {SIZE_MAX, SIZE_MAX - 3, SIZE_MAX / 2 + 1, 65537};
+    ANSWERS(dym_malloc(object, 32, &h), DYM_DONE);
+    for (k = 0; k < 4; k++) {
+        ANSWERS(dym_write(object, h, 4, bytes, lengths[k]), DYM_RANGE);
+        ANSWERS(dym_read(object, h, 4, bytes, lengths[k]), DYM_RANGE);
+        ANSWERS(dym_write(object, handle(12, 3), 4, bytes, lengths[k]), DYM_DEAD);
+        ANSWERS(dym_read(object, handle(12, 3), 4, bytes, lengths[k]), DYM_DEAD);
+    }
+    EXPECT(bytes[0] == 1 && bytes[3] == 4);
+    ANSWERS(dym_free(object, h), DYM_DONE);
+}
+
+/* The quota is two segments: a chunk of class e and index i lies in segment (e - 5) * 2 + i / chunks in a segment. */
+static void chunks_in_place(dym_object *object)
+{
+    dym_handle a, b, h = handle(9, 9);
+    const void *start = NULL, *place = NULL;
+    void *first = NULL, *second = NULL, *moved = NULL;
+    uint8_t bytes[4] = {0};
+    uint32_t length = 0;
+    ANSWERS(dym_start(object, &start), DYM_DONE);
+    ANSWERS(dym_malloc_at(object, 64, &a, &first), DYM_DONE);
+    ANSWERS(dym_calloc_at(object, 2, 32, &b, &second), DYM_DONE);
+    EXPECT(dym_same(a, handle(6, 0)) && dym_same(b, handle(6, 1)));
+    EXPECT((const char *)first == (const char *)start + 2 * 65536 && (char *)second == (char *)first + 64);
+    EXPECT((uintptr_t)first % 16 == 0);
+    ANSWERS(dym_address(object, b, &place), DYM_DONE);
+    EXPECT(place == second);
+    ANSWERS(dym_address(object, handle(6, 2), &place), DYM_DEAD);
+    ANSWERS(dym_touch(object, handle(6, 2), &first), DYM_DEAD);
+    EXPECT(place == second && (char *)second == (char *)first + 64);
+
+    memcpy(second, "abcd", 4);
+    ANSWERS(dym_read(object, b, 0, bytes, 4), DYM_DONE);
+    EXPECT(memcmp(bytes, "abcd", 4) == 0);
+    ANSWERS(dym_fill(object, b, 1, 2, 'x'), DYM_DONE);
+    EXPECT(memcmp(second, "axxd", 4) == 0);
+
+    ANSWERS(dym_at(object, second, &h), DYM_DONE);
+    EXPECT(dym_same(h, b));
+    ANSWERS(dym_at(object, (char *)first + 63, &h), DYM_DONE);
+    EXPECT(dym_same(h, a));
+    ANSWERS(dym_at(object, (char *)second + 64, &h), DYM_DEAD);
+    ANSWERS(dym_at(object, start, &h), DYM_DEAD);
+    ANSWERS(dym_at(object, &h, &h), DYM_DEAD);
+    ANSWERS(dym_at(object, NULL, &h), DYM_DEAD);
+    ANSWERS(dym_handle_at(object, UINT64_MAX, &h), DYM_DEAD);
+    EXPECT(dym_same(h, a));
+
+    ANSWERS(dym_realloc_at(object, a, 40, &a, &moved), DYM_DONE);
+    EXPECT(dym_same(a, handle(6, 0)) && moved == first);
+    ANSWERS(dym_realloc_at(object, b, 65, &b, &moved), DYM_DONE);
+    EXPECT(dym_same(b, handle(7, 0)) && (const char *)moved == (const char *)start + 4 * 65536);
+    EXPECT(memcmp(moved, "axxd", 4) == 0);
+    ANSWERS(dym_size(object, b, &length), DYM_DONE);
+    EXPECT(length == 128);
+    ANSWERS(dym_realloc_at(object, b, 0, &b, &moved), DYM_DONE);
+    EXPECT(dym_same(b, dym_nil) && moved == NULL);
+    ANSWERS(dym_free(object, a), DYM_DONE);
+}
+
+static void expect_byte(dym_object *object, dym_handle h, uint8_t byte)
+{
+    uint8_t found = 0;
+    ANSWERS(dym_read(object, h, 0, &found, 1), DYM_DONE);
+    EXPECT(found == byte);
+}
+
+/* What is written in place after each way of telling it is in the next log, and undone by a restore. */
+static void touches(void)
+{
+    dym_object object = {0};
+    dym_handle a, b;
+    dym_logged logged;
+    uint64_t time;
+    void *first = NULL, *second = NULL, *again = NULL;
+    int way;
+    ANSWERS(dym_open(&object, 2, 1), DYM_DONE);
+    ANSWERS(dym_malloc_at(&object, 64, &a, &first), DYM_DONE);
+    ANSWERS(dym_malloc_at(&object, 64, &b, &second), DYM_DONE);
+    *(uint8_t *)first = 1;
+    *(uint8_t *)second = 1;
+    ANSWERS(dym_log(&object, DYM_FULL, 1, &logged), DYM_DONE);
+    for (way = 0; way < 4; way++) {
+        if (way == 0)
+            ANSWERS(dym_touch(&object, b, &again), DYM_DONE);
+        else if (way == 1)
+            ANSWERS(dym_touch_all(&object), DYM_DONE);
+        else if (way == 2)
+            ANSWERS(dym_wrote(&object, (char *)second + 63, 1), DYM_DONE);
+        else
+            ANSWERS(dym_wrote(&object, (char *)first + 64, 1), DYM_DONE);
+        *(uint8_t *)second = (uint8_t)(10 + way);
+        ANSWERS(dym_log(&object, DYM_INCREMENTAL, (uint64_t)(2 + 2 * way), &logged), DYM_DONE);
+        EXPECT(logged.kind == DYM_INCREMENTAL);
+        ANSWERS(dym_touch_all(&object), DYM_DONE);
+        *(uint8_t *)second = 99;
+        ANSWERS(dym_restore(&object, (uint64_t)(2 + 2 * way), &time), DYM_DONE);
+        expect_byte(&object, b, (uint8_t)(10 + way));
+        ANSWERS(dym_restore(&object, 1, &time), DYM_DONE);
+        expect_byte(&object, b, 1);
+        expect_byte(&object, a, 1);
+    }
+    EXPECT(again == second);
+    ANSWERS(dym_wrote(&object, &object, 1), DYM_DONE);
+    ANSWERS(dym_wrote(&object, (const void *)0, SIZE_MAX), DYM_DONE);
+    ANSWERS(dym_wrote_at(&object, UINT64_MAX, UINT64_MAX), DYM_DONE);
+    ANSWERS(dym_close(&object), DYM_DONE);
+}
+
+static void strictly_before(void)
+{
+    dym_object object = {0};
+    dym_handle h;
+    dym_logged logged;
+    dym_heap heap = {9, 9, 9};
+    uint64_t time = 77;
+    uint32_t dropped = 78;
+    ANSWERS(dym_open(&object, 3, 2), DYM_DONE);
+    ANSWERS(dym_inspect(&object, &heap), DYM_DONE);
+    EXPECT(heap.version == 2 && heap.quota == 3 && heap.held == 0);
+    ANSWERS(dym_malloc(&object, 3, &h), DYM_DONE);
+    ANSWERS(dym_inspect(&object, &heap), DYM_DONE);
+    EXPECT(heap.held == 1);
+    ANSWERS(dym_log(&object, DYM_FULL, 0, &logged), DYM_DONE);
+    ANSWERS(dym_log(&object, DYM_FULL, 10, &logged), DYM_DONE);
+    ANSWERS(dym_log(&object, DYM_FULL, 20, &logged), DYM_DONE);
+    ANSWERS(dym_log_time(&object, 3, &time), DYM_NO_LOG);
+    ANSWERS(dym_restore_before(&object, 0, &time), DYM_NO_LOG);
+    EXPECT(time == 77);
+    ANSWERS(dym_log_time(&object, 2, &time), DYM_DONE);
+    EXPECT(time == 20);
+    ANSWERS(dym_prune_before(&object, 0, &dropped), DYM_DONE);
+    EXPECT(dropped == 0);
+    ANSWERS(dym_prune_before(&object, 10, &dropped), DYM_DONE);
+    EXPECT(dropped == 0);
+    ANSWERS(dym_restore_before(&object, 20, &time), DYM_DONE);
+    EXPECT(time == 10);
+    ANSWERS(dym_prune_before(&object, 11, &dropped), DYM_DONE);
+    EXPECT(dropped == 1);
+    ANSWERS(dym_restore_before(&object, 10, &time), DYM_NO_LOG);
+    ANSWERS(dym_log_time(&object, 0, &time), DYM_DONE);
+    EXPECT(time == 10);
+    ANSWERS(dym_close(&object), DYM_DONE);
+}
+
+/* What the header itself computes. */
+static void inline_functions(void)
+{
+    static const double clocks[] = {0, 5e-324, 0.5, 1, 1.5, 1e300};
+    size_t k;
+    for (k = 1; k < sizeof clocks / sizeof clocks[0]; k++) {
+        EXPECT(dym_time_of(clocks[k - 1]) < dym_time_of(clocks[k]));
+        EXPECT(dym_clock_of(dym_time_of(clocks[k])) == clocks[k]);
+    }
+    EXPECT(dym_time_of(0.0) == 0 && dym_time_of(-0.0) == 0 && dym_time_of(-1.0) == 0);
+    EXPECT(dym_number(handle(5, 1)) == (((uint64_t)5 << 32) | 1) && dym_number(dym_nil) == 0);
+    EXPECT(dym_same(dym_numbered(dym_number(handle(16, UINT32_MAX))), handle(16, UINT32_MAX)));
+    EXPECT(dym_same(dym_numbered(0), dym_nil) && dym_numbered(UINT64_MAX).exponent == 255);
+    EXPECT(strcmp(dym_status_text(DYM_DONE), "done") == 0 && strcmp(dym_status_text(11), "no status") == 0);
+    for (k = 0; k <= DYM_SPENT; k++) EXPECT(dym_status_text((dym_status)k)[0] != 0);
 }
 
 static void links(dym_object *object)
@@ -325,11 +520,16 @@ int main(void)
     opening(&object);
     bad_handles(&object);
     chunks(&object);
+    wrapped_lengths(&object);
+    chunks_in_place(&object);
     links(&object);
     walk(&object);
     logs(&object);
     exact_lengths();
     files();
+    touches();
+    strictly_before();
+    inline_functions();
     ANSWERS(dym_close(&object), DYM_DONE);
     closed_object(&object);
     return differences > 0;

@@ -7,7 +7,7 @@ use denote.RattleType.{RattleType}
 use denote.Builtin.{RawPtr}
 use denote.Memory.{lone}
 use denote.RawPtr.{Ptr, block_ptr, null_ptr}
-use denote.Param.Send.{IsSend, part_keyless, owning_send, struct_send, sendable}
+use denote.Param.Send.{IsSend, Frees, part_keyless, owning_send, struct_send, sendable}
 use denote.Struct.Struct.{exits_of}
 use denote.Struct.Owning.{shape, fields, to}
 use Rattle.std_alloc.proofs.SendSync.{quiet}
@@ -18,10 +18,14 @@ use Rattle.dym_c.specs.contracts.object_content.ObjectContent as inside
 use Rattle.dym_c.specs.contracts.object.DymObject as kept
 use Rattle.dym_object.specs.contracts.object.Object as Object
 use Rattle.dym_object.proofs.object.Object.TheSendSync as object
-use Rattle.dym_quota.specs.contracts.own.OwnSupply as own
-use Rattle.dym_region.specs.contracts.vec_segment.VecSegment as segment
-use Rattle.dym_region.proofs.vec_segment.VecSegment.TheSendSync as sent_segment
-use Rattle.dym_quota.proofs.own.OwnSupply.TheSendSync as supply
+use Rattle.dym_quota.specs.contracts.fixed.FixedSupply as fixed
+use Rattle.dym_region.specs.contracts.block.Claim as claim
+use Rattle.dym_region.specs.contracts.block.Claim.TheInside as claim_fields
+use Rattle.dym_region.specs.contracts.region.Region as region
+use Rattle.dym_region.specs.contracts.raw_segment.RawSegment as segment
+use Rattle.dym_region.proofs.raw_segment.RawSegment.TheSendSync as sent_segment
+use Rattle.std_alloc.proofs.vec.lodged.Lodged.TheSendSync as lodged
+use Rattle.std_alloc.specs.contracts.vec.lodged.LodgedAllocator.TheImpl.{ghosts as lodged_ghosts}
 use Rattle.dym_chain.proofs.vec_keep.Slot.TheSendSync as slot
 use Rattle.dym_chain.specs.contracts.vec_keep.VecKeep as keep
 use Rattle.std.proofs.vec.Vec.TheSendSync as vec
@@ -47,8 +51,23 @@ lifted_send = search (sendable, snapshot_send)
 keep_send : IsSend keep.the_row
 keep_send = search (sendable, slot.the_send, vec.the_send, lifted_send, global.the_send, frees) depth 20
 
-process_send : (Context : RattleType) (a : _) (b : _) (c : _) → IsSend (Object.the_row own.the_row keep.the_row segment.the_row Context a b c)
-process_send Context a b c = object.the_send own.the_row keep.the_row segment.the_row Context a b c supply.the_send keep_send sent_segment.the_send
+claim_fields_send : IsSend claim_fields.the_row
+claim_fields_send = search (sendable, vec.the_send, global.the_send, frees) depth 20
+
+claim_send : IsSend claim.the_row
+claim_send = record { owned = λ a vs. ((λ _. tt), (tt, λ it. (tt, (tt, claim_fields_send.owned it vs)))); leaving = λ k d w. tt }
+
+lodged_frees : Frees lodged_ghosts lodged_ghosts.dealloc_token
+lodged_frees = record { frees = λ a τ p. tt }
+
+region_send : IsSend region.the_row
+region_send = search (sendable, claim_send, vec.the_send, lodged.the_send, lodged_frees) depth 20
+
+supply_send : IsSend fixed.the_row
+supply_send = search (sendable, region_send, sent_segment.the_send, vec.the_send, global.the_send, frees) depth 20
+
+process_send : (Context : RattleType) (a : _) (b : _) (c : _) → IsSend (Object.the_row fixed.the_row keep.the_row segment.the_row Context a b c)
+process_send Context a b c = object.the_send fixed.the_row keep.the_row segment.the_row Context a b c supply_send keep_send sent_segment.the_send
 
 inside_send : IsSend inside.the_row
 inside_send = search (sendable, process_send) depth 20

@@ -39,6 +39,11 @@ IsAfter (Some o) (Some command) (Some new) = MatchBool (has_left o) (HasRun o ne
 IsAfter (Some o) (Some command) None = ⊥
 IsAfter old _ new = new ≡ old
 
+-- a command that is none of the definition's was counted, and has done nothing else: it answers a status, where one could be run
+abbrev pub IsCounted : Option ObjectMeaning → ℕ → ℕ → Option ObjectMeaning → Type 0
+IsCounted None want status new = (status ≡ 9) × (new ≡ None)
+IsCounted (Some o) want status new = MatchBool (has_left o) ((status ≡ want) × (new ≡ Some (counted o))) ((status ≡ 10) × (new ≡ Some o))
+
 -- a call that takes memory: what holds where memory was wanting, and what holds else
 abbrev pub Wanting : ℕ → Type 0 → Type 0 → Type 0
 Wanting status = MatchBool (status == 8)

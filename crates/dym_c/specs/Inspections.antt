@@ -1,13 +1,33 @@
--- What is told of chunks without a command.
-use Rattle.std.specs.Prelude.{◌≡◌, ℕ, ◌≤◌, false, ◌⊎◌, List, length, Option, None, Some}
+-- What is told of an object without a command.
+use Rattle.std.specs.Prelude.{◌≡◌, ℕ, ◌≤◌, nat_lt, false, ◌⊎◌, List, length, Option, None, Some}
+use Rattle.std.specs.Bool.{MatchBool}
 use Rattle.std.specs.FinMap.{get, contains_key}
 use Rattle.dym_base.specs.HeapStep.{key}
-use Rattle.dym_base.specs.Heaps.{Live}
+use Rattle.dym_base.specs.Files.{version_number}
+use Rattle.dym_base.specs.Heaps.{Live, held}
 use Rattle.dym_base.specs.declared.handle.Handle.{Handle}
 use Rattle.dym_heap.specs.Replies.{after_key, IsNextLive}
+use Rattle.dym_chain.specs.Chains.{log_at}
 use Rattle.dym_object.specs.Meaning.{ObjectMeaning}
 use Rattle.dym_c.specs.Handles.{nil, c_handle}
 use Rattle.dym_c.specs.declared.handle.DymHandle.{DymHandle}
+use Rattle.dym_c.specs.declared.out_values.DymHeap.{DymHeap}
+
+-- the status of a call that any open object grants
+abbrev pub open_status : Option ObjectMeaning → ℕ
+open_status None = 9
+open_status (Some o) = 0
+
+-- an object's version, its quota, and the segments that it holds
+abbrev pub heap_after : Option ObjectMeaning → DymHeap → DymHeap
+heap_after None before = before
+heap_after (Some o) before = record { version = version_number o.heap.version; quota = o.heap.quota; held = held o.heap.state.live }
+
+-- the time of the kept log at a place, the oldest at place 0: 7 where as many aren't kept
+abbrev pub IsLogTime : Option ObjectMeaning → ℕ → ℕ → ℕ → ℕ → Type 0
+IsLogTime None place status before new = (status ≡ 9) × (new ≡ before)
+IsLogTime (Some o) place status before new =
+    MatchBool (nat_lt place (length o.chain.logs)) ((status ≡ 0) × (new ≡ (log_at o.chain.logs place).time)) ((status ≡ 7) × (new ≡ before))
 
 -- the bytes of a live chunk
 abbrev pub bytes_at : ObjectMeaning → Handle → Option (List ℕ)

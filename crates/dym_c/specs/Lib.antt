@@ -1,5 +1,6 @@
 pub mod AskedCommands
 pub mod Calls
+pub mod ChunkPlaces
 pub mod Handles
 pub mod Inspections
 pub mod Openings

@@ -7,6 +7,8 @@ use Rattle.dym_base.specs.declared.reply.Reply.{Reply}
 use Rattle.dym_base.specs.declared.reply.Reply.TheVariants.{Chunk, Nil, Loose, Bytes, Total, Logged, At, Dropped, Slots}
 use Rattle.dym_heap.specs.declared.found.Found.{Found}
 use Rattle.dym_heap.specs.declared.found.Found.TheVariants as found
+use Rattle.dym_object.specs.Meaning.{ObjectMeaning}
+use Rattle.dym_c.specs.Calls.{has_left}
 use Rattle.dym_c.specs.Handles.{nil, c_handle}
 use Rattle.dym_c.specs.declared.handle.DymHandle.{DymHandle}
 use Rattle.dym_c.specs.declared.out_values.DymFound.{DymFound}
@@ -56,6 +58,11 @@ time_after _ before = before
 abbrev pub dropped_after : Option Reply → ℕ → ℕ
 dropped_after (Some (Dropped n)) before = n
 dropped_after _ before = before
+
+-- what a prune tells that drops nothing, where a command could be run
+abbrev pub none_dropped : Option ObjectMeaning → ℕ → ℕ
+none_dropped (Some o) before = if has_left o then 0 else before
+none_dropped None before = before
 
 abbrev pub slots_after : Option Reply → DymSlots → DymSlots
 slots_after (Some (Slots kept slots)) before = record { kept = kept; slots = slots }

@@ -6,6 +6,7 @@ use Rattle.dym_base.specs.Names.{is_name}
 use Rattle.dym_ckpt.specs.FileReads.{IsLoaded}
 use Rattle.dym_ckpt.specs.FileRecords.{BeginsWell}
 use Rattle.dym_ckpt.specs.declared.file_reader.Loaded.{Loaded}
+use Rattle.dym_quota.specs.Bound.{region_origin}
 use Rattle.dym_object.specs.Meaning.{ObjectMeaning}
 
 -- the file of an object's kept logs under a name
@@ -33,10 +34,14 @@ IsSaving (Some o) name status bytes new before out_value =
 abbrev pub object_of : Loaded → ObjectMeaning
 object_of loaded = record { heap = loaded.heap; chain = loaded.chain; ran = loaded.chain.next_number }
 
+-- the object is one that was made of a file, over the segments of a region
+abbrev pub IsLoadedObject : List ℕ → ObjectMeaning → Type 0
+IsLoadedObject bytes o = (loaded : Loaded) × IsLoaded bytes loaded × (o ≡ object_of loaded) × ((region : ℕ) × (o.heap.origin ≡ region_origin region))
+
 -- what an opening by a file leaves: the object of the file; or none, where memory was wanting behind a good header, or with the first
 -- part that fails
 abbrev pub IsFilled : List ℕ → ℕ → Option ObjectMeaning → ℕ → ℕ → Type 0
-IsFilled bytes status (Some o) before part = (status ≡ 0) × (part ≡ before) × ((loaded : Loaded) × IsLoaded bytes loaded × (o ≡ object_of loaded))
+IsFilled bytes status (Some o) before part = (status ≡ 0) × (part ≡ before) × IsLoadedObject bytes o
 IsFilled bytes status None before part = ((status ≡ 8) × (part ≡ before) × BeginsWell bytes) ⊎ ((status ≡ 9) × FailsAt bytes part)
 
 -- only a closed object is opened by a file

@@ -1,22 +1,18 @@
 //! An object as a checkpoint file, and back.
-ghost use Rattle.std.specs.Prelude.{◌≡◌, None, length, IfOk, IfErr, IsTrue};
+ghost use Rattle.std.specs.Prelude.{◌≡◌, length, IfOk, IfErr, IsTrue};
 ghost use Rattle.dym_base.specs.Names.{is_name};
-ghost use Rattle.dym_ckpt.specs.FileReads.{IsLoaded};
 ghost use Rattle.dym_ckpt.specs.FileRecords.{FailsAs};
-ghost use Rattle.dym_ckpt.specs.declared.file_reader.Loaded.{Loaded as LoadedFile};
-ghost use Rattle.dym_ckpt.specs.SavedFiles.{AreOf, file_of_logs};
 ghost use Rattle.dym_object.specs.Meaning.{IsWhole};
-ghost use Rattle.dym_c.specs.SavedFiles.{IsSaving, IsLoading, IsCopied, file_of_object, object_of};
+ghost use Rattle.dym_c.specs.SavedFiles.{IsSaving, IsLoading, IsCopied, IsLoadedObject, file_of_object};
 
 use crate::object::DymObject;
 use crate::object_content::{ObjectContent, Process};
 use crate::status::{BAD, DONE, MEMORY, refusal_number};
 use core::mem::replace_with;
-use dym_base::{Name, Refusal, Version};
-use dym_chain::{Chain, VecKeep};
-use dym_ckpt::{FileFail, Loaded, load_file, save, saved_len};
-use dym_io::MemSink;
+use dym_base::{Name, Refusal};
+use dym_ckpt::{FileFail, file_bytes, read_file};
 use dym_object::Object;
+use dym_quota::FixedSupply;
 use std::alloc::{AllocError, Global};
 
 /// Writes the checkpoint file of an object's kept logs, under a name, to where the bytes begin. How long it is is told also where it
@@ -78,30 +74,8 @@ fn apart(alloc: Global, object: Process, name: &Name) -> (Process, Result<Vec<u8
     ensures same { result.0 ≡ object }
 {
     let (heap, mut chain, ran) = object.into_parts();
-    let file = file_of_chain(alloc, &mut chain, name, heap.quota(), heap.version());
+    let file = file_bytes(alloc, &mut chain, name, heap.quota(), heap.version());
     (Object::of_parts(heap, chain, ran), file)
-}
-
-/// The file of the logs of a chain.
-fn file_of_chain(
-    alloc: Global,
-    chain: &mut Chain<VecKeep>,
-    name: &Name,
-    quota: u32,
-    version: Version,
-) -> Result<Vec<u8>, AllocError>
-    requires named { IsTrue (is_name name.now) }
-    requires idle { chain.old.lifted ≡ None }
-    requires records { AreOf version chain.old }
-    ensures file { IfOk result (λ file. file.items ≡ file_of_logs name.now quota version chain.old) }
-    ensures same { chain.new ≡ chain.old }
-{
-    let len = saved_len(chain, name);
-    let mut sink = MemSink::new(alloc, len as usize, usize::MAX, Vec::new(alloc))?;
-    match save(chain, name, quota, version, &mut sink) {
-        Ok(()) => Ok(sink.into_bytes()),
-        Err(_) => Err(AllocError),
-    }
 }
 
 /// Opens a closed object as the newest log of a checkpoint file has it, with all its logs. Where the bytes are no file, the first part
@@ -134,15 +108,20 @@ pub extern "C" fn dym_load(
 
 /// The object of a file.
 fn loaded(alloc: Global, bytes: &[u8]) -> Result<Box<ObjectContent>, FileFail>
-    ensures loaded { IfOk result (λ inside.
-        (loaded : LoadedFile) × IsLoaded bytes.now loaded × (inside.value ≡ object_of loaded)) }
+    ensures loaded { IfOk result (λ inside. IsLoadedObject bytes.now inside.value) }
     ensures fails { IfErr result (FailsAs bytes.now) }
 {
-    let Loaded {
-        name: _,
-        heap,
-        chain,
-    } = load_file(alloc, bytes)?;
+    let content = read_file(alloc, bytes)?;
+    let Ok(supply) = FixedSupply::open(alloc, content.quota()) else {
+        return Err(FileFail::Memory);
+    };
+    let (_name, heap, chain) = match content.load(alloc, &(), supply) {
+        Ok(loaded) => loaded,
+        Err(supply) => {
+            supply.close();
+            return Err(FileFail::Memory);
+        }
+    };
     let ran = chain.next_number();
     let object = Object::of_parts(heap, chain, ran);
     match Box::new(alloc, ObjectContent { object }) {

@@ -7,6 +7,7 @@ ghost use Rattle.dym_c.specs.Calls.{status_of, reply_of, IsAfter};
 ghost use Rattle.dym_c.specs.OutValues.{chunk_after, found_after, bytes_after, total_after};
 
 use crate::handle::{DymHandle, c_chunk, c_chunk_or_nil, chunk_of_c, chunk_or_nil_of_c};
+use crate::long_buffers::{read_bytes, write_bytes};
 use crate::object::DymObject;
 use crate::out_values::{DymFound, c_found};
 use crate::status::{BAD, DONE, done_number, refusal_number};
@@ -14,6 +15,7 @@ use std::alloc::Global;
 
 /// A fresh chunk of `len` zero bytes.
 #[unsafe(no_mangle)]
+#[tactic(auto, using(crate::proofs::Regions::step_keeps_region))]
 pub extern "C" fn dym_malloc(
     alloc: Global,
     object: &mut DymObject,
@@ -41,6 +43,7 @@ pub extern "C" fn dym_malloc(
 
 /// A fresh chunk of `n * len` zero bytes.
 #[unsafe(no_mangle)]
+#[tactic(auto, using(crate::proofs::Regions::step_keeps_region))]
 pub extern "C" fn dym_calloc(
     alloc: Global,
     object: &mut DymObject,
@@ -70,6 +73,7 @@ pub extern "C" fn dym_calloc(
 /// A chunk of `len` bytes with the old bytes up to the smaller length, then zeros. What is told is where the chunk now is, and nil where
 /// it was freed.
 #[unsafe(no_mangle)]
+#[tactic(auto, using(crate::proofs::Regions::step_keeps_region))]
 pub extern "C" fn dym_realloc(
     alloc: Global,
     object: &mut DymObject,
@@ -101,6 +105,7 @@ pub extern "C" fn dym_realloc(
 
 /// Frees a chunk. Nil does nothing.
 #[unsafe(no_mangle)]
+#[tactic(auto, using(crate::proofs::Regions::step_keeps_region))]
 pub extern "C" fn dym_free(alloc: Global, object: &mut DymObject, h: DymHandle) -> u32
     ensures status { result ≡ status_of object.old.value (asked_free h) }
     ensures after { IsAfter object.old.value (asked_free h) object.new.value }
@@ -117,8 +122,9 @@ pub extern "C" fn dym_free(alloc: Global, object: &mut DymObject, h: DymHandle) 
     done_number(answer)
 }
 
-/// Writes the bytes into a chunk, from its place `at` on.
+/// Writes the bytes into a chunk, from its place `at` on. Of more than a chunk can have none is read.
 #[unsafe(no_mangle)]
+#[tactic(auto, using(crate::proofs::Regions::step_keeps_region))]
 pub extern "C" fn dym_write(
     alloc: Global,
     object: &mut DymObject,
@@ -136,13 +142,14 @@ pub extern "C" fn dym_write(
         Ok(inside) => inside,
         Err(status) => return status,
     };
-    let answer = inside.object.write(chunk, at, bytes);
+    let answer = write_bytes(&mut inside.object, chunk, at, bytes);
     object.put(alloc, inside);
     done_number(answer)
 }
 
 /// Makes `len` bytes of a chunk from its place `at` on `byte`.
 #[unsafe(no_mangle)]
+#[tactic(auto, using(crate::proofs::Regions::step_keeps_region))]
 pub extern "C" fn dym_fill(
     alloc: Global,
     object: &mut DymObject,
@@ -166,8 +173,9 @@ pub extern "C" fn dym_fill(
     done_number(answer)
 }
 
-/// Copies the bytes of a chunk from its place `at` on into `out`.
+/// Copies the bytes of a chunk from its place `at` on into `out`. Of more than a chunk can have none is written.
 #[unsafe(no_mangle)]
+#[tactic(auto, using(crate::proofs::Regions::step_keeps_region))]
 pub extern "C" fn dym_read(
     alloc: Global,
     object: &mut DymObject,
@@ -187,13 +195,14 @@ pub extern "C" fn dym_read(
         Ok(inside) => inside,
         Err(status) => return status,
     };
-    let answer = inside.object.read(chunk, at, out);
+    let answer = read_bytes(&mut inside.object, chunk, at, out);
     object.put(alloc, inside);
     done_number(answer)
 }
 
 /// Writes the number of a handle into a chunk, from its place `at` on, in eight bytes, or 0 for nil.
 #[unsafe(no_mangle)]
+#[tactic(auto, using(crate::proofs::Regions::step_keeps_region))]
 pub extern "C" fn dym_link(
     alloc: Global,
     object: &mut DymObject,
@@ -221,6 +230,7 @@ pub extern "C" fn dym_link(
 
 /// What the eight bytes of a chunk from its place `at` on name.
 #[unsafe(no_mangle)]
+#[tactic(auto, using(crate::proofs::Regions::step_keeps_region))]
 pub extern "C" fn dym_follow(
     alloc: Global,
     object: &mut DymObject,
@@ -252,6 +262,7 @@ pub extern "C" fn dym_follow(
 
 /// The sum of a chunk's bytes as numbers.
 #[unsafe(no_mangle)]
+#[tactic(auto, using(crate::proofs::Regions::step_keeps_region))]
 pub extern "C" fn dym_sum(
     alloc: Global,
     object: &mut DymObject,

@@ -9,12 +9,14 @@
 #![tactic(auto)]
 
 mod box_pointer;
+mod chunk_calls;
 mod files;
 mod handle;
 mod heap_calls;
 mod inspection;
 mod lifetime;
 mod log_calls;
+mod long_buffers;
 mod object;
 mod object_content;
 mod out_values;
@@ -23,4 +25,4 @@ mod status;
 pub use handle::DymHandle;
 pub use object::DymObject;
 pub use object_content::ObjectContent;
-pub use out_values::{DymFound, DymLogged, DymSlots};
+pub use out_values::{DymFound, DymHeap, DymLogged, DymSlots};

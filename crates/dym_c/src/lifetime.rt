@@ -1,6 +1,6 @@
 //! Opening and closing an object.
 ghost use Rattle.std.specs.Prelude.{◌≡◌, None, IfOk};
-ghost use Rattle.dym_c.specs.Openings.{IsOpening, IsClosing, first, version_of};
+ghost use Rattle.dym_c.specs.Openings.{IsOpening, IsClosing, IsFirst, version_of};
 ghost use Rattle.dym_base.specs.declared.limits.TheConstants.{MOST_QUOTA};
 ghost use Rattle.std.specs.Prelude.{◌≤◌};
 
@@ -11,7 +11,7 @@ use dym_base::Version;
 use dym_base::limits::MOST_QUOTA;
 use dym_chain::VecKeep;
 use dym_object::Object;
-use dym_quota::OwnSupply;
+use dym_quota::FixedSupply;
 use std::alloc::{AllocError, Global};
 
 /// Opens a closed object with an empty heap of at most `quota` segments.
@@ -65,7 +65,7 @@ fn version_of_c(version: u32) -> Option<Version>
 fn boxed(alloc: Global, quota: u32, version: Version) -> Result<Box<ObjectContent>, AllocError>
     requires least { 1 ≤ quota }
     requires most { quota ≤ MOST_QUOTA }
-    ensures { IfOk result (λ inside. inside.value ≡ first version quota) }
+    ensures { IfOk result (λ inside. IsFirst version quota inside.value) }
 {
     let object = opened(alloc, quota, version)?;
     match Box::new(alloc, ObjectContent { object }) {
@@ -78,12 +78,15 @@ fn boxed(alloc: Global, quota: u32, version: Version) -> Result<Box<ObjectConten
 fn opened(alloc: Global, quota: u32, version: Version) -> Result<Process, AllocError>
     requires least { 1 ≤ quota }
     requires most { quota ≤ MOST_QUOTA }
-    ensures { IfOk result (λ object. object ≡ first version quota) }
+    ensures { IfOk result (IsFirst version quota) }
 {
     let keep = VecKeep::open(alloc)?;
-    let supply = OwnSupply::open(alloc, quota)?;
+    let supply = FixedSupply::open(alloc, quota)?;
     match Object::open_as(alloc, supply, keep, version) {
         Ok(object) => Ok(object),
-        Err((error, _, _)) => Err(error),
+        Err((error, supply, _keep)) => {
+            supply.close();
+            Err(error)
+        }
     }
 }

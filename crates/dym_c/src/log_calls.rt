@@ -1,9 +1,9 @@
 //! Commands about the logs of an object.
-ghost use Rattle.std.specs.Prelude.{◌≡◌, Some};
+ghost use Rattle.std.specs.Prelude.{◌≡◌, ◌-◌, ◌<◌, Some};
 ghost use Rattle.dym_base.specs.declared.command.Command.TheVariants.{Restore, Prune, Logs};
 ghost use Rattle.dym_c.specs.AskedCommands.{asked_log};
-ghost use Rattle.dym_c.specs.Calls.{status_of, reply_of, IsAfter, Wanting, IsTaken};
-ghost use Rattle.dym_c.specs.OutValues.{logged_after, time_after, dropped_after, slots_after};
+ghost use Rattle.dym_c.specs.Calls.{status_of, reply_of, IsAfter, IsCounted, Wanting, IsTaken};
+ghost use Rattle.dym_c.specs.OutValues.{logged_after, time_after, dropped_after, none_dropped, slots_after};
 
 use crate::object::DymObject;
 use crate::out_values::{DymLogged, DymSlots, c_kind, kind_of_c};
@@ -14,6 +14,7 @@ use std::alloc::Global;
 
 /// Logs the heap at a time, the whole of it for kind 0 and what changed for kind 1.
 #[unsafe(no_mangle)]
+#[tactic(auto, using(crate::proofs::Regions::step_keeps_region))]
 pub extern "C" fn dym_log(
     alloc: Global,
     object: &mut DymObject,
@@ -58,6 +59,7 @@ pub extern "C" fn dym_log(
 
 /// Restores the last log at or before a time, and tells its time; the later logs leave.
 #[unsafe(no_mangle)]
+#[tactic(auto, using(crate::proofs::Regions::step_keeps_region))]
 pub extern "C" fn dym_restore(alloc: Global, object: &mut DymObject, time: u64, at: &mut u64) -> u32
     ensures status { result ≡ status_of object.old.value (Some (Restore time)) }
     ensures after { IsAfter object.old.value (Some (Restore time)) object.new.value }
@@ -78,8 +80,38 @@ pub extern "C" fn dym_restore(alloc: Global, object: &mut DymObject, time: u64, 
     }
 }
 
+/// Restores the last log before a time, and tells its time; the later logs leave. No log is before time 0.
+#[unsafe(no_mangle)]
+#[tactic(auto, using(crate::proofs::Regions::step_keeps_region))]
+pub extern "C" fn dym_restore_before(
+    alloc: Global,
+    object: &mut DymObject,
+    time: u64,
+    at: &mut u64,
+) -> u32
+    ensures at_zero { time ≡ 0 → IsCounted object.old.value 7 result object.new.value × (at.new ≡ at.old) }
+    ensures status { 0 < time → result ≡ status_of object.old.value (Some (Restore (time - 1))) }
+    ensures after { 0 < time → IsAfter object.old.value (Some (Restore (time - 1))) object.new.value }
+    ensures out_value { 0 < time → at.new ≡ time_after (reply_of object.old.value (Some (Restore (time - 1)))) at.old }
+{
+    let mut inside = match object.ready(alloc) {
+        Ok(inside) => inside,
+        Err(status) => return status,
+    };
+    let answer = inside.object.restore_before(&(), time);
+    object.put(alloc, inside);
+    match answer {
+        Ok(time) => {
+            *at = time;
+            DONE
+        }
+        Err(why) => refusal_number(why),
+    }
+}
+
 /// Drops the logs before the last one at or before a bound, and tells how many.
 #[unsafe(no_mangle)]
+#[tactic(auto, using(crate::proofs::Regions::step_keeps_region))]
 pub extern "C" fn dym_prune(
     alloc: Global,
     object: &mut DymObject,
@@ -99,8 +131,34 @@ pub extern "C" fn dym_prune(
     DONE
 }
 
+/// Drops the logs before the last one that is before a bound, and tells how many. No log is before time 0.
+#[unsafe(no_mangle)]
+#[tactic(auto, using(crate::proofs::Regions::step_keeps_region))]
+pub extern "C" fn dym_prune_before(
+    alloc: Global,
+    object: &mut DymObject,
+    bound: u64,
+    dropped: &mut u32,
+) -> u32
+    ensures at_zero { bound ≡ 0 → IsCounted object.old.value 0 result object.new.value
+        × (dropped.new ≡ none_dropped object.old.value dropped.old) }
+    ensures status { 0 < bound → result ≡ status_of object.old.value (Some (Prune (bound - 1))) }
+    ensures after { 0 < bound → IsAfter object.old.value (Some (Prune (bound - 1))) object.new.value }
+    ensures out_value { 0 < bound → dropped.new
+        ≡ dropped_after (reply_of object.old.value (Some (Prune (bound - 1)))) dropped.old }
+{
+    let mut inside = match object.ready(alloc) {
+        Ok(inside) => inside,
+        Err(status) => return status,
+    };
+    *dropped = inside.object.prune_before(bound);
+    object.put(alloc, inside);
+    DONE
+}
+
 /// How many logs are kept, and how many records they take.
 #[unsafe(no_mangle)]
+#[tactic(auto, using(crate::proofs::Regions::step_keeps_region))]
 pub extern "C" fn dym_logs(alloc: Global, object: &mut DymObject, logs: &mut DymSlots) -> u32
     ensures status { result ≡ status_of object.old.value (Some Logs) }
     ensures after { IsAfter object.old.value (Some Logs) object.new.value }

@@ -3,13 +3,13 @@ ghost use Rattle.dym_object.specs.Meaning.{ObjectMeaning};
 
 use dym_chain::VecKeep;
 use dym_object::Object;
-use dym_quota::OwnSupply;
+use dym_quota::FixedSupply;
 use std::marker::Model;
 
-/// An object with segments of its own and its records in a vector.
-pub(crate) type Process = Object<OwnSupply, VecKeep>;
+/// An object whose areas have one segment of a region each, and its records in a vector.
+pub(crate) type Process = Object<FixedSupply, VecKeep>;
 
-/// An object that gives all its memory back where it is dropped.
+/// An object that gives all its memory back where it is dropped. Its segments are those of one region.
 pub struct ObjectContent {
     pub(crate) object: Process,
 }
@@ -24,11 +24,17 @@ impl Model for ObjectContent {
     ghost coded = { Prim.hlevel (codes, live_code, touched_code) };
 
     ghost view = { λ i. i.object };
+
+    ghost use Rattle.std.specs.Prelude.{IsSome};
+    ghost use Rattle.dym_heap.specs.Addresses.{region_of};
+
+    ghost invariant = { λ i. IsSome (region_of i.object.heap.origin) };
 }
 
 impl Drop for ObjectContent {
     fn drop(self) {
         let ObjectContent { object } = self;
-        object.end(&());
+        let (supply, _keep) = object.end(&());
+        supply.close();
     }
 }

@@ -31,6 +31,15 @@ pub struct DymSlots {
     pub slots: u32,
 }
 
+/// An object's version, its quota, and how many segments it holds.
+#[repr(C)]
+#[derive(Clone, Copy)]
+pub struct DymHeap {
+    pub version: u32,
+    pub quota: u32,
+    pub held: u32,
+}
+
 /// What was found, for C.
 pub(crate) fn c_found(found: Found) -> DymFound
     ensures { result ≡ found_out found }

@@ -14,7 +14,7 @@ use Rattle.dym_base.specs.declared.command.Version.{Version}
 use Rattle.dym_chain.specs.Chains.{ChainMeaning, KeepsFromNewest, Belongs, all_logs}
 use Rattle.dym_base.specs.LawfulLists.{IsRecordOf}
 use Rattle.dym_heap.specs.Meaning.{HeapMeaning}
-use Rattle.dym_base.specs.Origins.{own}
+use Rattle.dym_base.specs.Origins.{Origin, own}
 use Rattle.dym_slots.specs.Meanings.{Numbered, KeepMeaning}
 use Rattle.std.proofs.lemmas.List.{length-map}
 use Rattle.dym_chain.specs.AdoptedLogs.{AreEntriesOf, BelongsByRecords}
@@ -94,9 +94,14 @@ loaded_chain c d keep record_list after next_number lifted origin is counted idl
     ∙ ap (λ l. record d { next_number = length (bytes_of record_list.records); lifted = l }) lifted_is
     ∙ ap (λ o. record d { next_number = length (bytes_of record_list.records); lifted = None; origin = o }) origin_is
 
-pub loaded_heap : (h g : HeapMeaning) (v : Version) (quota : ℕ) (logs now : List LogEntry) → h ≡ record { version = v; quota = quota; state = empty_heap; held_ids = []; origin = own; applied = 0 } → g ≡ record h { state = g.state; held_ids = g.held_ids } → g.state ≡ heap_at (newest logs) → now ≡ logs
-    → g ≡ record { version = v; quota = quota; state = heap_at (newest now); held_ids = g.held_ids; origin = own; applied = 0 }
-loaded_heap h g v quota logs now opened after state same =
-    after
-    ∙ ap (λ (x : HeapMeaning). record x { state = g.state; held_ids = g.held_ids }) opened
-    ∙ ap (λ (s : HeapState). record { version = v; quota = quota; state = s; held_ids = g.held_ids; origin = own; applied = 0 }) (state ∙ ap (λ (ls : List LogEntry). heap_at (newest ls)) (sym same))
+pub loaded_heap : (h g : HeapMeaning) (v : Version) (quota q : ℕ) (o : Origin) (logs now : List LogEntry) → h ≡ record { version = v; quota = q; state = empty_heap; held_ids = []; origin = o; applied = 0 } → q ≡ quota
+    → g ≡ record h { state = g.state; held_ids = g.held_ids } → g.state ≡ heap_at (newest logs) → now ≡ logs
+    → g ≡ record { version = v; quota = quota; state = heap_at (newest now); held_ids = g.held_ids; origin = g.origin; applied = 0 }
+loaded_heap h g v quota q o logs now opened quotas after state same =
+    let opened_as : g ≡ record { version = v; quota = q; state = g.state; held_ids = g.held_ids; origin = o; applied = 0 }
+    = after ∙ ap (λ (x : HeapMeaning). record x { state = g.state; held_ids = g.held_ids }) opened in
+    let state_is : g.state ≡ heap_at (newest now) = state ∙ ap (λ (ls : List LogEntry). heap_at (newest ls)) (sym same) in
+    opened_as
+    ∙ ap (λ (s : HeapState). record { version = v; quota = q; state = s; held_ids = g.held_ids; origin = o; applied = 0 }) state_is
+    ∙ ap (λ (n : ℕ). record { version = v; quota = n; state = heap_at (newest now); held_ids = g.held_ids; origin = o; applied = 0 }) quotas
+    ∙ ap (λ (x : Origin). record { version = v; quota = quota; state = heap_at (newest now); held_ids = g.held_ids; origin = x; applied = 0 }) (sym (ap (λ (x : HeapMeaning). x.origin) opened_as))

@@ -1,6 +1,6 @@
 //! A heap and its logs from the bytes of a file.
 ghost use Rattle.std.specs.Prelude.{◌≡◌, ℕ, ◌<◌, ◌≤◌, None, List, [], ◌∷◌, ◌++◌, length, IfOk, OnOk, IfErr};
-ghost use Rattle.dym_base.specs.Files.{IsFile, framed};
+ghost use Rattle.dym_base.specs.Files.{framed};
 ghost use Rattle.dym_base.specs.LawfulLists.{IsRecordOf, IsLawfulList};
 ghost use Rattle.dym_base.specs.Objects.{empty_heap, newest};
 ghost use Rattle.dym_base.specs.Origins.{own};
@@ -10,20 +10,19 @@ ghost use Rattle.dym_heap.specs.Meaning.{IsSound};
 ghost use Rattle.dym_chain.specs.Chains.{Belongs, StandsForCopies};
 ghost use Rattle.dym_chain.specs.KeptRecords.{AreKeptRecords};
 ghost use Rattle.dym_chain.specs.Keeps.{bytes_of};
-ghost use Rattle.dym_ckpt.specs.Heads.{said};
 ghost use Rattle.dym_ckpt.specs.Lists.{IsListed};
-ghost use Rattle.dym_ckpt.specs.FileReads.{IsLoaded, heap_at};
-ghost use Rattle.dym_ckpt.specs.FileRecords.{FailsAs, AreRead, RecordIsRead, NoRecordIn, StopsAs};
+ghost use Rattle.dym_ckpt.specs.FileReads.{IsContentOf, IsLoaded, heap_at};
+ghost use Rattle.dym_ckpt.specs.FileRecords.{BeginsWell, FailsAs, AreRead, RecordIsRead, NoRecordIn, StopsAs};
 ghost use Rattle.dym_ckpt.specs.declared.file_reader.FileFail.TheVariants as file_fail;
 
 use crate::head::{Head, head_in};
 use crate::records::{RecordList, Rule, framed_in};
-use dym_base::{Name, Version};
+use dym_base::Name;
 use dym_chain::{Chain, VecKeep};
 use dym_heap::Heap;
 use dym_pack::RecordFail;
-use dym_quota::OwnSupply;
-use std::alloc::{AllocError, Global};
+use dym_quota::{OwnSupply, Supply};
+use std::alloc::Global;
 
 /// Why bytes gave no heap: they are no file, and this is the first part that fails, or memory is wanting, which is told only of bytes
 /// that begin with a good header. Part 0 is the header, parts from 1 on are the records, and the one after the last record is what
@@ -41,57 +40,71 @@ pub struct Loaded {
     pub chain: Chain<VecKeep>,
 }
 
+/// The header and the records of a file, of which a heap and its logs can be made.
+#[derive(Drop)]
+pub struct FileContent {
+    pub(crate) head: Head,
+    pub(crate) record_list: RecordList,
+}
+
 /// The heap and the logs of a file. Bad comes exactly where the bytes are none, with the first part that fails.
 ///
 /// The file is read in one pass. Until it is known to be one, what is taken is a small multiple of its bytes and room for a full
 /// list of records, whatever numbers stand in it; then the segments of its quota.
 pub fn load_file(alloc: Global, bytes: &[u8]) -> Result<Loaded, FileFail>
     ensures loaded { IfOk result (IsLoaded bytes.now) }
+    ensures origin { IfOk result (λ loaded. loaded.heap.origin ≡ own) }
     ensures fails { IfErr result (FailsAs bytes.now) }
 {
-    let (head, record_list) = read_file(alloc, bytes)?;
-    let Head {
-        name,
-        quota,
-        version,
-        count: _,
-        depth,
-    } = head;
-    let Ok(mut heap) = open_heap(alloc, quota, version) else {
+    let content = read_file(alloc, bytes)?;
+    let Ok(supply) = OwnSupply::open(alloc, content.quota()) else {
         return Err(FileFail::Memory);
     };
-    let Ok(mut chain) = Chain::adopt(alloc, record_list.into_keep(), depth) else {
-        heap.end(&());
-        return Err(FileFail::Memory);
-    };
-    restore_newest(&mut chain, &mut heap);
-    Ok(Loaded { name, heap, chain })
+    match content.load(alloc, &(), supply) {
+        Ok((name, heap, chain)) => Ok(Loaded { name, heap, chain }),
+        Err(_supply) => Err(FileFail::Memory),
+    }
 }
 
-/// An empty heap with segments of its own.
-fn open_heap(alloc: Global, quota: u32, version: Version) -> Result<Heap<OwnSupply>, AllocError>
-    requires least { 1 ≤ quota }
-    requires most { quota ≤ MOST_QUOTA }
-    ensures opened { IfOk result (λ heap.
-        heap ≡ record {
-          version = version;
-          quota = quota;
-          state = empty_heap;
-          held_ids = [];
-          origin = own;
-          applied = 0;
-        }) }
-    ensures sound { IfOk result IsSound }
-{
-    let supply = OwnSupply::open(alloc, quota)?;
-    match Heap::open_as(alloc, supply, version) {
-        Ok(heap) => Ok(heap),
-        Err((why, _supply)) => Err(why),
+impl FileContent {
+    /// The quota that the file says: the most segments that its heap may hold.
+    pub fn quota(&self) -> u32
+        ensures { result ≡ self.now.head.quota }
+    {
+        self.head.quota
+    }
+
+    /// The file's name, and its heap and its logs as its newest log has them, over a supply of its quota. Where memory is wanting, the
+    /// supply comes back.
+    pub fn load<S: Supply>(
+        self,
+        alloc: Global,
+        context: &S::Context,
+        supply: S,
+    ) -> Result<(Name, Heap<S>, Chain<VecKeep>), S>
+        requires content { (bytes : List ℕ) × IsContentOf bytes self }
+        requires quota { S.quota_of supply ≡ self.head.quota }
+        requires nothing_held { S.held_ids supply ≡ [] }
+        ensures loaded { (bytes : List ℕ) → IsContentOf bytes self → IfOk result
+            (λ loaded. IsLoaded bytes (record { name = loaded.0; heap = loaded.1; chain = loaded.2 })) }
+        ensures origin { IfOk result (λ loaded. loaded.1.origin ≡ S.origin supply) }
+        ensures back { IfErr result (λ s. S.held_ids s ≡ []) }
+    {
+        let FileContent { head, record_list } = self;
+        let mut heap = match Heap::open_as(alloc, supply, head.version) {
+            Ok(heap) => heap,
+            Err((_, supply)) => return Err(supply),
+        };
+        let Ok(mut chain) = Chain::adopt(alloc, record_list.into_keep(), head.depth) else {
+            return Err(heap.end(context));
+        };
+        restore_newest(context, &mut chain, &mut heap);
+        Ok((head.name, heap, chain))
     }
 }
 
 /// Restores the newest log into an empty heap.
-fn restore_newest(chain: &mut Chain<VecKeep>, heap: &mut Heap<OwnSupply>)
+fn restore_newest<S: Supply>(context: &S::Context, chain: &mut Chain<VecKeep>, heap: &mut Heap<S>)
     requires belongs { Belongs heap.old.version heap.old.quota heap.old.state chain.old }
     requires empty { heap.old.state ≡ empty_heap }
     requires kept { AreKeptRecords chain.old }
@@ -106,14 +119,17 @@ fn restore_newest(chain: &mut Chain<VecKeep>, heap: &mut Heap<OwnSupply>)
     ensures sound { IsSound heap.new }
 {
     if let Some(time) = chain.newest() {
-        let _at = chain.restore(&(), heap, time);
+        let _at = chain.restore(context, heap, time);
     }
 }
 
-/// The header and the records of a file.
-fn read_file(alloc: Global, bytes: &[u8]) -> Result<(Head, RecordList), FileFail>
-    ensures file { IfOk result (λ file. IsFile bytes.now (said file.0) (bytes_of file.1.keep.records)) }
-    ensures record_list { IfOk result (λ file. IsListed file.0.version file.0.depth file.1) }
+/// The header and the records of a file. Bad comes exactly where the bytes are none, with the first part that fails. What is taken
+/// is a small multiple of the bytes, and room for a full list of records.
+pub fn read_file(alloc: Global, bytes: &[u8]) -> Result<FileContent, FileFail>
+    ensures content { IfOk result (IsContentOf bytes.now) }
+    ensures least { IfOk result (λ content. 1 ≤ content.head.quota) }
+    ensures most { IfOk result (λ content. content.head.quota ≤ MOST_QUOTA) }
+    ensures begins { IfOk result (λ _. BeginsWell bytes.now) }
     ensures fails { IfErr result (FailsAs bytes.now) }
 {
     let Some((head, rest)) = head_in(bytes) else {
@@ -130,7 +146,7 @@ fn read_file(alloc: Global, bytes: &[u8]) -> Result<(Head, RecordList), FileFail
             part: head.count + 1,
         });
     }
-    Ok((head, record_list))
+    Ok(FileContent { head, record_list })
 }
 
 /// The records that stand behind a header, and what is behind them.

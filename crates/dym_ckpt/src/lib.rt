@@ -9,6 +9,7 @@
 #![tactic(auto)]
 
 mod bit_cover;
+mod file_in_memory;
 mod file_reader;
 mod file_writer;
 mod head;
@@ -16,5 +17,6 @@ pub mod laws;
 mod record_order;
 mod records;
 
-pub use file_reader::{FileFail, Loaded, load_file};
+pub use file_in_memory::file_bytes;
+pub use file_reader::{FileContent, FileFail, Loaded, load_file, read_file};
 pub use file_writer::{save, saved_len};

@@ -20,9 +20,22 @@ returns-then-not-is_empty-clause-fails c =
     end_fails c.args.bytes.now head (bytes_of c.in_ok-record_list.record_list.keep.records) c.in_ok-record_list.rest.now (c.in-Some.head.count + 1) read
     (all_many _ _ _ _ c.in_ok-record_list.record_list _ _ c.in_ok-record_list.ensures.read) refl (some_bytes c.in_ok-record_list.rest.now c.is_empty.result c.is_empty.ensures c.if-not-is_empty.true)
 
-pub returns-clause-file : goal.returns-clause-file
-returns-clause-file c =
+pub returns-clause-content : goal.returns-clause-content
+returns-clause-content c =
     let head = said c.in-Some.head in
     let read = all_read c.args.bytes.now c.in-Some.rest.now head c.in_ok-record_list.record_list c.in_ok-record_list.rest.now c.in-Some.ensures.good c.in-Some.ensures.is c.in_ok-record_list.ensures.read in
-    is_file c.args.bytes.now head (bytes_of c.in_ok-record_list.record_list.keep.records) c.in_ok-record_list.rest.now read
-    (all_many _ _ _ _ c.in_ok-record_list.record_list _ _ c.in_ok-record_list.ensures.read) (no_bytes c.in_ok-record_list.rest.now (search rules))
+    record {
+      file = is_file c.args.bytes.now head (bytes_of c.in_ok-record_list.record_list.keep.records) c.in_ok-record_list.rest.now read
+          (all_many _ _ _ _ c.in_ok-record_list.record_list _ _ c.in_ok-record_list.ensures.read) (no_bytes c.in_ok-record_list.rest.now (search rules));
+      listed = c.in_ok-record_list.ensures.read.is;
+    }
+
+pub returns-clause-begins : goal.returns-clause-begins
+returns-clause-begins c =
+    let head = said c.in-Some.head in
+    record {
+      head = head;
+      records = bytes_of c.in_ok-record_list.record_list.keep.records;
+      left = c.in_ok-record_list.rest.now;
+      read = all_read c.args.bytes.now c.in-Some.rest.now head c.in_ok-record_list.record_list c.in_ok-record_list.rest.now c.in-Some.ensures.good c.in-Some.ensures.is c.in_ok-record_list.ensures.read;
+    }

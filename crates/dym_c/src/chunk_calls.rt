@@ -1,0 +1,161 @@
+//! Chunks in place: where they lie, and which of them were written there.
+ghost use Rattle.std.specs.Prelude.{◌≡◌, ◌+◌, ◌<◌, OnErr, option_map};
+ghost use Rattle.dym_base.specs.declared.limits.TheConstants.{COUNT_LIMIT};
+ghost use Rattle.dym_heap.specs.Replies.{done_reply};
+ghost use Rattle.dym_object.specs.Meaning.{IsStep, counted, step_by};
+ghost use Rattle.dym_c.specs.AskedCommands.{asked_touch, write_of_all};
+ghost use Rattle.dym_c.specs.Calls.{status_of, IsAfter};
+ghost use Rattle.dym_c.specs.ChunkPlaces.{address_after, touched_address, with_all_touched, with_touched_in, start_after, IsHandleAt};
+ghost use Rattle.dym_c.specs.Handles.{chunk_of};
+ghost use Rattle.dym_c.specs.Inspections.{size_status, open_status};
+
+use crate::handle::{DymHandle, c_chunk, chunk_of_c};
+use crate::object::DymObject;
+use crate::object_content::Process;
+use crate::status::{BAD, DONE, done_number, refusal_number};
+use dym_base::{Handle, Refusal};
+use std::alloc::Global;
+
+/// Where a chunk lies, to be read there.
+#[unsafe(no_mangle)]
+pub extern "C" fn dym_address(
+    alloc: Global,
+    object: &mut DymObject,
+    h: DymHandle,
+    address: &mut *const u8,
+) -> u32
+    ensures status { result ≡ size_status object.old.value (chunk_of h) }
+    ensures out_value { address.new ≡ address_after object.old.value (chunk_of h) address.old }
+    ensures same { object.new.value ≡ object.old.value }
+{
+    let Some(chunk) = chunk_of_c(h) else {
+        return BAD;
+    };
+    let Some(inside) = object.take(alloc) else {
+        return BAD;
+    };
+    let place = inside.object.address(chunk);
+    object.put(alloc, inside);
+    match place {
+        Some(place) => {
+            *address = place;
+            DONE
+        }
+        None => refusal_number(Refusal::Dead),
+    }
+}
+
+/// Where a chunk lies, to be read and written there: all its bytes count as written.
+#[unsafe(no_mangle)]
+#[tactic(auto, using(crate::proofs::Regions::step_keeps_region))]
+pub extern "C" fn dym_touch(
+    alloc: Global,
+    object: &mut DymObject,
+    h: DymHandle,
+    address: &mut *const u8,
+) -> u32
+    ensures status { result ≡ status_of object.old.value (asked_touch object.old.value h) }
+    ensures after { IsAfter object.old.value (asked_touch object.old.value h) object.new.value }
+    ensures out_value { address.new ≡ touched_address object.old.value (chunk_of h) address.old }
+{
+    let Some(chunk) = chunk_of_c(h) else {
+        return BAD;
+    };
+    let mut inside = match object.ready(alloc) {
+        Ok(inside) => inside,
+        Err(status) => return status,
+    };
+    let place = inside.object.address(chunk);
+    let answer = touch(&mut inside.object, chunk);
+    object.put(alloc, inside);
+    if let Some(place) = place {
+        *address = place;
+    }
+    done_number(answer)
+}
+
+/// Writes all bytes of a chunk as they stand there.
+fn touch(object: &mut Process, chunk: Handle) -> Result<(), Refusal>
+    requires { object.old.ran < COUNT_LIMIT }
+    ensures reply { done_reply result ≡ (step_by object.old (write_of_all object.old chunk)).reply }
+    ensures step { IsStep object.old object.new (write_of_all object.old chunk) }
+    ensures refused { OnErr result (object.new ≡ counted object.old) }
+{
+    match object.check(chunk) {
+        Ok(()) => {
+            let _bytes = object.chunk_mut(chunk);
+            Ok(())
+        }
+        Err(_) => object.write(chunk, 0, &[]),
+    }
+}
+
+/// Makes all live chunks count as written.
+#[unsafe(no_mangle)]
+#[tactic(auto, using(crate::proofs::Regions::touches_keep_region))]
+pub extern "C" fn dym_touch_all(alloc: Global, object: &mut DymObject) -> u32
+    ensures status { result ≡ open_status object.old.value }
+    ensures after { object.new.value ≡ option_map with_all_touched object.old.value }
+{
+    let Some(mut inside) = object.take(alloc) else {
+        return BAD;
+    };
+    inside.object.touch_all();
+    object.put(alloc, inside);
+    DONE
+}
+
+/// Makes each live chunk count as written of which a byte lies in the `len` bytes from `offset` on of the object's region.
+#[unsafe(no_mangle)]
+#[tactic(auto, using(crate::proofs::Regions::touches_in_keep_region))]
+pub extern "C" fn dym_wrote_at(alloc: Global, object: &mut DymObject, offset: u64, len: u64) -> u32
+    ensures status { result ≡ open_status object.old.value }
+    ensures after { object.new.value ≡ option_map (with_touched_in offset (offset + len)) object.old.value }
+{
+    let Some(mut inside) = object.take(alloc) else {
+        return BAD;
+    };
+    inside.object.touch_at(offset, len);
+    object.put(alloc, inside);
+    DONE
+}
+
+/// Where the object's region begins.
+#[unsafe(no_mangle)]
+pub extern "C" fn dym_start(alloc: Global, object: &mut DymObject, start: &mut *const u8) -> u32
+    ensures status { result ≡ open_status object.old.value }
+    ensures out_value { start.new ≡ start_after object.old.value start.old }
+    ensures same { object.new.value ≡ object.old.value }
+{
+    let Some(inside) = object.take(alloc) else {
+        return BAD;
+    };
+    *start = inside.object.start();
+    object.put(alloc, inside);
+    DONE
+}
+
+/// The live chunk that has the byte at `offset` of the object's region.
+#[unsafe(no_mangle)]
+pub extern "C" fn dym_handle_at(
+    alloc: Global,
+    object: &mut DymObject,
+    offset: u64,
+    chunk: &mut DymHandle,
+) -> u32
+    ensures told { IsHandleAt object.old.value offset result chunk.old chunk.new }
+    ensures same { object.new.value ≡ object.old.value }
+{
+    let Some(inside) = object.take(alloc) else {
+        return BAD;
+    };
+    let found = inside.object.handle_at(offset);
+    object.put(alloc, inside);
+    match found {
+        Some(h) => {
+            *chunk = c_chunk(h);
+            DONE
+        }
+        None => refusal_number(Refusal::Dead),
+    }
+}
