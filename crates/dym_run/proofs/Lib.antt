@@ -1,12 +1,12 @@
-pub mod Berthing
 pub mod Berths
-pub mod Crews
+pub mod Ended
+pub mod JobStates
 pub mod KeptLines
 pub mod Leavings
+pub mod Lists
 pub mod Openings
 pub mod Progress
 pub mod QuotaRuns
-pub mod Riders
-pub mod Seen
 pub mod Tallies
 pub mod Texts
+pub mod WaveOrigins

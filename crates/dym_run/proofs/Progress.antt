@@ -13,12 +13,13 @@ use Rattle.dym_io.specs.Faults.{RoseOnce}
 use Rattle.dym_run.specs.declared.write_fail.WriteFail.{WriteFail}
 use Rattle.dym_run.specs.declared.write_fail.WriteFail.TheVariants.{Sink as SinkFailed, Memory}
 use Rattle.dym_run.specs.declared.tally.Tally.{Tally}
-use Rattle.dym_run.specs.Results.{ObjectResultMeaning, PartsRan, WritesFirst, TalliesFirst, own_shown, parts_text, parts_shown, shown_text, tally_shown, IsTallyOf}
+use Rattle.dym_run.specs.Results.{PartsRan, WritesFirst, TalliesFirst, own_shown, parts_text, parts_shown, shown_text, tally_shown, IsTallyOf}
 use Rattle.dym_run.specs.Parts.{own_of}
+use Rattle.dym_run.specs.WaveJobs.{WaveJobMeaning, job_shown}
 use Rattle.dym_run.specs.Views.{part_with_view}
 use Rattle.dym_run.specs.Summary.{both_tallies, no_tally, tally_all}
-use Rattle.dym_run.proofs.Crews.{none_left}
-use Rattle.dym_run.proofs.Tallies.{Fits, fits_both, replies_in, replies_of_parts, replies_of_ended, tally_of_parts, tally_of_none, tally_of_both}
+use Rattle.dym_run.proofs.Lists.{none_left}
+use Rattle.dym_run.proofs.Tallies.{Fits, fits_both, replies_in, replies_of_parts, replies_of_jobs, tally_of_parts, tally_of_none, tally_of_both}
 use Rattle.dym_run.proofs.Texts.{same_texts}
 
 -- ---- written
@@ -114,15 +115,15 @@ module _ (v : ReportOptions) (all left : List Part) (tally : Tally) (c : Counted
 -- ---- one wave
 
 -- the replies of a wave's objects are no more than the commands of all
-pub wave_commands : (v : ReportOptions) (count : ℕ) (before after : List Part) (ended seen : List ObjectResultMeaning) → seen ≡ ended
-    → PartsRan v count before after [] (map (λ (e : ObjectResultMeaning). e.shown) ended) → commands_in before ≤ MOST_COMMANDS
-    → sum_by (λ (e : ObjectResultMeaning). length e.shown.replies) seen ≤ MOST_COMMANDS
-wave_commands v count before after ended seen same b little =
+pub wave_commands : (v : ReportOptions) (count : ℕ) (before after : List Part) (jobs seen : List WaveJobMeaning) → seen ≡ jobs
+    → PartsRan v count before after [] (map job_shown jobs) → commands_in before ≤ MOST_COMMANDS
+    → sum_by (λ (p : WaveJobMeaning). length (job_shown p).replies) seen ≤ MOST_COMMANDS
+wave_commands v count before after jobs seen same b little =
     omega (
       arith,
       little,
-      ap (sum_by (λ (e : ObjectResultMeaning). length e.shown.replies)) same,
-      replies_of_ended ended,
+      ap (sum_by (λ (p : WaveJobMeaning). length (job_shown p).replies)) same,
+      replies_of_jobs jobs,
       ap replies_in b.shown,
       replies_of_parts v b.done,
       ap commands_in b.taken,
@@ -130,21 +131,21 @@ wave_commands v count before after ended seen same b little =
     )
 
 -- a wave's objects were written: all their texts, or a front of them
-pub wave_written : (v : ReportOptions) (count : ℕ) (before after : List Part) (ended seen : List ObjectResultMeaning) (old new : Output) → 0 < count → seen ≡ ended
-    → PartsRan v count before after [] (map (λ (e : ObjectResultMeaning). e.shown) ended) → Appended old new (flat_map (λ (e : ObjectResultMeaning). shown_text e.shown) seen)
+pub wave_written : (v : ReportOptions) (count : ℕ) (before after : List Part) (jobs seen : List WaveJobMeaning) (old new : Output) → 0 < count → seen ≡ jobs
+    → PartsRan v count before after [] (map job_shown jobs) → Appended old new (flat_map (λ (p : WaveJobMeaning). shown_text (job_shown p)) seen)
     → (done : List Part) × (0 < length done) × (before ≡ done ++ after) × Appended old new (parts_text v done)
-wave_written v count before after ended seen old new some same b written = (
+wave_written v count before after jobs seen old new some same b written = (
   b.done,
   omega (arith, some, b.counted),
   b.taken,
-  subst (Appended old new) (ap (flat_map (λ (e : ObjectResultMeaning). shown_text e.shown)) same ∙ same_texts v ended b.done b.shown) written,
+  subst (Appended old new) (ap (flat_map (λ (p : WaveJobMeaning). shown_text (job_shown p))) same ∙ same_texts v jobs b.done b.shown) written,
 )
 
-pub wave_front : (v : ReportOptions) (count : ℕ) (before after : List Part) (ended seen : List ObjectResultMeaning) (old new : Output) → seen ≡ ended
-    → PartsRan v count before after [] (map (λ (e : ObjectResultMeaning). e.shown) ended) → AppendedFront old new (flat_map (λ (e : ObjectResultMeaning). shown_text e.shown) seen)
+pub wave_front : (v : ReportOptions) (count : ℕ) (before after : List Part) (jobs seen : List WaveJobMeaning) (old new : Output) → seen ≡ jobs
+    → PartsRan v count before after [] (map job_shown jobs) → AppendedFront old new (flat_map (λ (p : WaveJobMeaning). shown_text (job_shown p)) seen)
     → AppendedFront old new (parts_text v before)
-wave_front v count before after ended seen old new same b front =
-    let text = ap (flat_map (λ (e : ObjectResultMeaning). shown_text e.shown)) same ∙ same_texts v ended b.done b.shown in
+wave_front v count before after jobs seen old new same b front =
+    let text = ap (flat_map (λ (p : WaveJobMeaning). shown_text (job_shown p))) same ∙ same_texts v jobs b.done b.shown in
     subst (AppendedFront old new) (sym (ap (parts_text v) b.taken ∙ both_texts v b.done after))
     (front_within old new (parts_text v b.done) (parts_text v after) (subst (AppendedFront old new) text front))
 

@@ -1,9 +1,9 @@
 -- Runs of quotas.
-use Rattle.std.proofs.Common.{◌≡◌, ℕ, refl, ◌+◌, ◌-◌, ◌<◌, ◌≤◌, List, [], ◌∷◌, ◌++◌, length, take, drop, sum, All, sym, ap, subst, ◌∙◌, arith, map, reverse, length-append, drop-drop, ◌⊎◌, inl, inr}
+use Rattle.std.proofs.Common.{◌≡◌, ℕ, refl, ◌+◌, ◌-◌, ◌<◌, ◌≤◌, List, [], ◌∷◌, ◌++◌, length, take, drop, sum, All, sym, ap, subst, ◌∙◌, arith, map, length-append, drop-drop, ◌⊎◌, inl, inr}
 use Rattle.std.specs.Prelude.{slice_range}
 use Rattle.std.proofs.lemmas.List.Elements.{All-same, All-append, All-weaker, All-take, All-drop, All-map, All-head}
 use Rattle.std.proofs.lemmas.List.Sums.{get_or-le-sum_by}
-use Rattle.std.proofs.lemmas.List.{map-append, length-map, reverse-reverse, length-reverse, length-take-le, length-drop, get_or-append-add}
+use Rattle.std.proofs.lemmas.List.{map-append, length-map, length-take-le, length-drop, get_or-append-add}
 use Rattle.std.proofs.lemmas.List.Folds.{drop_split}
 use Rattle.std.proofs.Math.Seq.{take-add, take-length, drop-append-add}
 use Rattle.dym_script.specs.declared.parts.Part.{Part}
@@ -88,14 +88,14 @@ run_quotas parts quotas from end runnable lined =
     let P : ℕ → Type 0 = λ q. (1 ≤ q) × (q ≤ 1024) in
     All-take P (end - from) (drop from quotas) (All-same P (drop from quotas) (map quota_of parts) (sym lined) (quotas_least parts runnable))
 
-pub run_lined : (parts : List Part) (quotas turned : List ℕ) (from end : ℕ) → from ≤ end → map quota_of parts ≡ drop from quotas → turned ≡ reverse (slice_range quotas from end)
-    → (rest : List ℕ) × (map quota_of parts ≡ reverse turned ++ rest)
-run_lined parts quotas turned from end order lined is =
-    (drop end quotas, lined ∙ drop_split quotas from end order ∙ ap (λ l. l ++ drop end quotas) (sym (reverse-reverse (slice_range quotas from end)) ∙ ap reverse (sym is)))
+pub run_lined : (parts : List Part) (quotas lined_up : List ℕ) (from end : ℕ) → from ≤ end → map quota_of parts ≡ drop from quotas → lined_up ≡ slice_range quotas from end
+    → (rest : List ℕ) × (map quota_of parts ≡ lined_up ++ rest)
+run_lined parts quotas lined_up from end order lined is =
+    (drop end quotas, lined ∙ drop_split quotas from end order ∙ ap (λ l. l ++ drop end quotas) (sym is))
 
 -- as many berths as there are quotas in the run
 pub run_count : {B : Type 0} → (q : B → ℕ) (berths : List B) (quotas : List ℕ) (from end : ℕ) → from ≤ end → end ≤ length quotas
-    → map q berths ≡ reverse (slice_range quotas from end) → length berths ≡ end - from
+    → map q berths ≡ slice_range quotas from end → length berths ≡ end - from
 run_count q berths quotas from end order inside is =
-    sym (length-map berths q) ∙ ap {B = ℕ} length is ∙ length-reverse (slice_range quotas from end)
+    sym (length-map berths q) ∙ ap {B = ℕ} length is
     ∙ length-take-le (end - from) (drop from quotas) (omega (arith, length-drop from quotas, order, inside))

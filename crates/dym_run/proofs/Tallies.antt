@@ -10,8 +10,9 @@ use Rattle.dym_base.specs.declared.reply.Reply.{Reply}
 use Rattle.dym_script.specs.declared.parts.Part.{Part}
 use Rattle.dym_run.specs.declared.tally.Tally.{Tally}
 use Rattle.dym_run.specs.declared.report_options.ReportOptions.{ReportOptions}
-use Rattle.dym_run.specs.Results.{Shown, own_shown, parts_shown, shown_tally, tally_shown, IsTallyOf, ObjectResultMeaning}
+use Rattle.dym_run.specs.Results.{Shown, own_shown, parts_shown, shown_tally, tally_shown, IsTallyOf}
 use Rattle.dym_run.specs.Parts.{own_of}
+use Rattle.dym_run.specs.WaveJobs.{WaveJobMeaning, job_shown}
 use Rattle.dym_run.specs.Summary.{is_refusal, tally_of, no_tally, both_tallies, tally_all}
 
 tally_none : (t : Tally) → both_tallies no_tally t ≡ t
@@ -103,7 +104,7 @@ count_not (r ∷ rs) =
 pub not_refused : (replies : List Reply) (n refused : ℕ) → n ≡ length replies → refused ≡ count_by is_refusal replies → n - refused ≡ count_by (λ r. not (is_refusal r)) replies
 not_refused replies n refused all is = omega (arith, all, is, count_not replies)
 
--- ---- a list of ended objects, counted one after another
+-- ---- a list of jobs that are over, counted one after another
 
 -- two tallies that can be put together
 pub record Fits (a b : Tally) : Type 0 where
@@ -125,31 +126,28 @@ fits_both a b xs ys p q few little = record {
   slots = omega (arith, p.slots, q.slots, few);
 }
 
-abbrev pub shown_of : List ObjectResultMeaning → List Shown
-shown_of ended = map (λ (e : ObjectResultMeaning). e.shown) ended
+pub replies_of_jobs : (jobs : List WaveJobMeaning) → replies_in (map job_shown jobs) ≡ sum_by (λ (e : WaveJobMeaning). length (job_shown e).replies) jobs
+replies_of_jobs [] = refl
+replies_of_jobs (e ∷ jobs) =
+    omega (arith, replies_of_jobs jobs, sum_by-cons (λ (s : Shown). length s.replies) (job_shown e) (map job_shown jobs), sum_by-cons (λ (e : WaveJobMeaning). length (job_shown e).replies) e jobs)
 
-pub replies_of_ended : (ended : List ObjectResultMeaning) → replies_in (shown_of ended) ≡ sum_by (λ (e : ObjectResultMeaning). length e.shown.replies) ended
-replies_of_ended [] = refl
-replies_of_ended (e ∷ ended) =
-    omega (arith, replies_of_ended ended, sum_by-cons (λ (s : Shown). length s.replies) e.shown (shown_of ended), sum_by-cons (λ (e : ObjectResultMeaning). length e.shown.replies) e ended)
-
-module _ (ended : List ObjectResultMeaning) (i : ℕ) (e : ObjectResultMeaning) (a b : Tally) (within : i < length ended) (is : e ≡ get_or ended i e)
-    (p : IsTallyOf a (shown_of (take i ended))) (q : IsTallyOf b (e.shown ∷ [])) where
-  pub item_fits : length ended ≤ MOST_OBJECTS → sum_by (λ (e : ObjectResultMeaning). length e.shown.replies) ended ≤ MOST_COMMANDS → Fits a b
+module _ (jobs : List WaveJobMeaning) (i : ℕ) (e : WaveJobMeaning) (a b : Tally) (within : i < length jobs) (is : e ≡ get_or jobs i e)
+    (p : IsTallyOf a (map job_shown (take i jobs))) (q : IsTallyOf b (job_shown e ∷ [])) where
+  pub item_fits : length jobs ≤ MOST_OBJECTS → sum_by (λ (e : WaveJobMeaning). length (job_shown e).replies) jobs ≤ MOST_COMMANDS → Fits a b
   item_fits few little =
-      let said : ℕ = length (get_or ended i e).shown.replies in
-      fits_both a b (shown_of (take i ended)) (e.shown ∷ []) p q
-      (omega (arith, few, within, length-map (take i ended) (λ (e : ObjectResultMeaning). e.shown), length-take-le i ended (omega (arith, within))))
+      let said : ℕ = length (job_shown (get_or jobs i e)).replies in
+      fits_both a b (map job_shown (take i jobs)) (job_shown e ∷ []) p q
+      (omega (arith, few, within, length-map (take i jobs) job_shown, length-take-le i jobs (omega (arith, within))))
       (omega (
         arith,
         little,
-        replies_of_ended (take i ended),
-        sum_by_more_le (λ (e : ObjectResultMeaning). length e.shown.replies) ended i e within,
-        sum_by-cons (λ (s : Shown). length s.replies) e.shown [],
-        ap (λ (e : ObjectResultMeaning). length e.shown.replies) is,
+        replies_of_jobs (take i jobs),
+        sum_by_more_le (λ (e : WaveJobMeaning). length (job_shown e).replies) jobs i e within,
+        sum_by-cons (λ (s : Shown). length s.replies) (job_shown e) [],
+        ap (λ (e : WaveJobMeaning). length (job_shown e).replies) is,
       ))
 
-  pub item_more : (c : Tally) → c ≡ both_tallies a b → IsTallyOf c (shown_of (take (i + 1) ended))
+  pub item_more : (c : Tally) → c ≡ both_tallies a b → IsTallyOf c (map job_shown (take (i + 1) jobs))
   item_more c sum =
-      subst (IsTallyOf c) (ap (λ (x : ObjectResultMeaning). shown_of (take i ended) ++ x.shown ∷ []) is ∙ sym (map_more (λ (e : ObjectResultMeaning). e.shown) ended i e within))
-      (tally_of_both a b c (shown_of (take i ended)) (e.shown ∷ []) p q sum)
+      subst (IsTallyOf c) (ap (λ (x : WaveJobMeaning). map job_shown (take i jobs) ++ job_shown x ∷ []) is ∙ sym (map_more job_shown jobs i e within))
+      (tally_of_both a b c (map job_shown (take i jobs)) (job_shown e ∷ []) p q sum)

@@ -2,8 +2,8 @@ pub mod Report
 pub mod Summary
 pub mod Parts
 pub mod Views
+pub mod JobOrigins
 pub mod Results
 pub mod JobOutputs
-pub mod WaveParts
 pub mod WaveJobs
 pub mod JobLists

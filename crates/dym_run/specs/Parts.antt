@@ -1,5 +1,5 @@
 -- The parts of a script that was read into its objects.
-use Rattle.std.specs.Prelude.{◌≡◌, ℕ, ◌≤◌, List, ◌++◌, length, map, reverse, sum, slice_range}
+use Rattle.std.specs.Prelude.{◌≡◌, ℕ, ◌≤◌, List, ◌++◌, length, map, sum, slice_range}
 use Rattle.dym_base.specs.declared.limits.TheConstants.{MOST_WORKERS, MOST_SEGMENTS, MOST_QUANTUM, MOST_QUOTA, MOST_COMMANDS}
 use Rattle.dym_script.specs.declared.parts.Part.{Part}
 use Rattle.dym_run.specs.declared.shape.Shape.{Shape}
@@ -28,9 +28,9 @@ pub record IsShape (s : Shape) : Type 0 where
   pub quantum_least : 1 ≤ s.quantum
   pub quantum_most : s.quantum ≤ MOST_QUANTUM
 
--- the first of the parts have these quotas, the last of which is the first part's
+-- the first of the parts have these quotas, in order
 abbrev pub StandInLine : List Part → List ℕ → Type 0
-StandInLine parts quotas = (rest : List ℕ) × (map quota_of parts ≡ reverse quotas ++ rest)
+StandInLine parts quotas = (rest : List ℕ) × (map quota_of parts ≡ quotas ++ rest)
 
 -- the quotas of some objects, one after another, sum to this
 pub record IsSumOfRun (quotas : List ℕ) (total : ℕ) : Type 0 where

@@ -1,18 +1,19 @@
--- What is left of an object that has run: what is printed of it, and whose its segments are.
-use Rattle.std.specs.Prelude.{◌≡◌, ⊤, Bool, false, ℕ, ◌+◌, ◌*◌, ◌^◌, ◌<◌, ◌≤◌, not, List, [], ◌∷◌, ◌++◌, length, map, flat_map, sum_by, count_by, Option, None, Some, Result, MatchResult}
+-- What is left of an object that has run: what is printed of it, and what it comes to.
+use Rattle.std.specs.Prelude.{◌≡◌, ⊤, Bool, false, ℕ, ◌+◌, ◌*◌, ◌^◌, ◌<◌, ◌≤◌, not, List, [], ◌∷◌, ◌++◌, length, map, flat_map, sum_by, count_by, is_some, Option, Result, MatchResult}
 use Rattle.std.specs.FinMap.{len}
 use Rattle.dym_base.specs.Heaps.{HeapState, held}
 use Rattle.dym_base.specs.Objects.{run_replies, run_end, slots}
-use Rattle.dym_base.specs.Origins.{Origin, own}
+use Rattle.dym_base.specs.Origins.{own}
 use Rattle.dym_base.specs.declared.command.Version.{Version}
 use Rattle.dym_base.specs.declared.command.Command.{Command}
 use Rattle.dym_base.specs.declared.reply.Reply.{Reply}
 use Rattle.dym_io.specs.Sink.{Output, Appended, AppendedFront, Blames}
 use Rattle.dym_report.specs.Objects.{object_text}
 use Rattle.dym_script.specs.declared.parts.Part.{Part}
-use Rattle.dym_wave.specs.Works.{OriginMeaning, WorkMeaning, left_of}
+use Rattle.dym_wave.specs.Works.{OriginMeaning}
 use Rattle.dym_report.specs.declared.late.ViewLine.{ViewLine}
-use Rattle.dym_views.specs.ViewedWorkMeanings.{end_view}
+use Rattle.dym_views.specs.ViewedWorkMeanings.{ViewedWorkMeaning, lacks_memory, left_of}
+use Rattle.dym_run.specs.JobOrigins.{JobSource}
 use Rattle.dym_run.specs.declared.report_options.ReportOptions.{ReportOptions}
 use Rattle.dym_run.specs.declared.tally.Tally.{Tally}
 use Rattle.dym_run.specs.Report.{Own}
@@ -33,12 +34,6 @@ pub record Shown : Type 0 where
   pub slots : ℕ
   pub view : Option (Option ViewLine)
 
--- an ended object: what is printed of it, its quota, and the origin of its supply
-pub record ObjectResultMeaning : Type 0 where
-  pub shown : Shown
-  pub quota : ℕ
-  pub supply : Origin
-
 -- what is printed of an object of this name and version with these replies, this heap, so many logs in so many records, and this view
 abbrev pub shown_with : List ℕ → Version → List Reply → HeapState → ℕ → ℕ → Option (Option ViewLine) → Shown
 shown_with name version replies heap kept slots view =
@@ -54,34 +49,21 @@ end_shown name view version quota commands =
 abbrev pub run_shown : Bool → List ℕ → Version → ℕ → List Command → Shown
 run_shown views name version quota commands = end_shown name (shown_view views (run_end version quota commands)) version quota commands
 
--- a work that ran all its commands
-abbrev pub RanOut : WorkMeaning → Type 0
-RanOut w = (left_of w ≡ 0) × (w.out_of_memory ≡ false)
+-- a work that ran all its commands, and found memory for what it published
+abbrev pub RanOut : ViewedWorkMeaning → Type 0
+RanOut w = (left_of w ≡ 0) × (lacks_memory w ≡ false)
 
 -- an origin without the keep
 abbrev pub without_keep : OriginMeaning → OriginMeaning
 without_keep o = record o { keep = own }
 
--- an object from there that ran all its commands, under a name and with what is told of its view
-abbrev pub ended_as : List ℕ → OriginMeaning → Option (Option ViewLine) → ObjectResultMeaning
-ended_as name o view = record {
-  shown = end_shown name view o.version o.quota o.commands;
-  quota = o.quota;
-  supply = o.supply;
-}
+-- where a work comes from, but for its keep, and whether its view is told
+abbrev pub result_of : ViewedWorkMeaning → JobSource
+result_of w = record { origin = without_keep w.work.origin; views = is_some w.view }
 
--- its part
-abbrev pub ended_text : List ℕ → OriginMeaning → List ℕ
-ended_text name o =
-    let s = run_end o.version o.quota o.commands in
-    object_text o.version name (run_replies o.version o.quota o.commands) s.heap.live (length s.logs) (slots s.logs)
-
--- objects from there that ran all their commands, each under its name, and each with its view where there are views
-abbrev pub all_ended : List (List ℕ) → List OriginMeaning → List (Option ViewLine) → List ObjectResultMeaning
-all_ended [] origins lines = []
-all_ended (n ∷ names) [] lines = []
-all_ended (n ∷ names) (o ∷ origins) [] = ended_as n o None ∷ all_ended names origins []
-all_ended (n ∷ names) (o ∷ origins) (line ∷ lines) = ended_as n o (Some line) ∷ all_ended names origins lines
+-- what is printed of an object from there that ran all its commands, under a name
+abbrev pub result_shown : List ℕ → JobSource → Shown
+result_shown name s = run_shown s.views name s.origin.version s.origin.quota s.origin.commands
 
 -- the same of a declared object and its own commands
 abbrev pub own_shown : ReportOptions → Own → Shown
@@ -101,14 +83,6 @@ shown_tally s = record {
   kept = s.kept;
   slots = s.slots;
 }
-
--- a work that has run nothing yet
-abbrev pub IsFresh : WorkMeaning → Type 0
-IsFresh w = w.replies ≡ []
-
--- the views of objects from there in the end
-abbrev pub end_views : List OriginMeaning → List (Option ViewLine)
-end_views origins = map end_view origins
 
 -- a list of parts lost its first ones, so many, and what is printed of these came behind what was printed before
 pub record PartsRan (options : ReportOptions) (count : ℕ) (before after : List Part) (shown_before shown_after : List Shown) : Type 0 where

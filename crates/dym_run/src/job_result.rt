@@ -1,8 +1,8 @@
 //! What is left of an object that ran all its commands.
-ghost use Rattle.std.specs.Prelude.{◌≡◌, ◌∷◌, [], ℕ, List, Option, None};
+ghost use Rattle.std.specs.Prelude.{◌≡◌, ◌∷◌, [], ℕ, List, None};
 ghost use Rattle.dym_io.specs.Sink.{Writes};
-ghost use Rattle.dym_report.specs.declared.late.ViewLine.{ViewLine};
-ghost use Rattle.dym_run.specs.Results.{RanOut, IsTallyOf, ended_as, ended_text, without_keep};
+ghost use Rattle.dym_run.specs.Results.{RanOut, IsTallyOf, result_of, result_shown, shown_text};
+ghost use Rattle.dym_run.specs.Views.{view_line_text};
 
 use crate::job_context::JobContext;
 use crate::job_output::JobOutput;
@@ -11,51 +11,60 @@ use dym_base::{Name, Version};
 use dym_commands::Commands;
 use dym_io::{Sink, SinkFault};
 use dym_quota::{Berth, Supply};
-use dym_wave::{TableKeep, Work};
+use dym_report::{ViewLine, write_view};
+use dym_views::ViewedWork;
+use dym_wave::TableKeep;
 use std::marker::Model;
 use std::sync::Wait;
 
-/// What is left of an object that ran all its commands: what is printed of it, and what it comes to. Contracts see where it came from, but
-/// for its keep; all else follows from that.
+/// What is left of an object that ran all its commands: what is printed of it, its view where that is told, and what it comes to. Contracts
+/// see where it came from, but for its keep, and whether its view is told; all else follows from that.
 pub(crate) struct JobResult<R: Wait> {
     number: u32,
     version: Version,
     commands: Commands,
     tally: Tally,
+    view: Option<Option<ViewLine>>,
     job_output: JobOutput<R>,
 }
 
 impl<R: Wait> Model for JobResult<R> {
-    ghost use Rattle.std.specs.Prelude.{◌∷◌, [], None};
+    ghost use Rattle.std.specs.Prelude.{◌≡◌, ◌∷◌, [], None, is_some};
     ghost use Rattle.dym_base.specs.Objects.{run_replies, run_end};
     ghost use Rattle.dym_base.specs.Origins.{own};
-    ghost use Rattle.dym_wave.specs.Works.{OriginMeaning};
     ghost use Rattle.dym_run.specs.JobOutputs.{IsOutputOf, output_quota, output_supply};
+    ghost use Rattle.dym_run.specs.JobOrigins.{JobSource};
     ghost use Rattle.dym_run.specs.Results.{IsTallyOf, end_shown};
+    ghost use Rattle.dym_run.specs.Views.{shown_view};
 
-    ghost Value = { OriginMeaning };
+    ghost Value = { JobSource };
 
     ghost view = { λ r. record {
-      number = r.number;
-      quota = output_quota r.job_output;
-      version = r.version;
-      commands = r.commands;
-      supply = output_supply r.job_output;
-      keep = own;
+      origin = record {
+        number = r.number;
+        quota = output_quota r.job_output;
+        version = r.version;
+        commands = r.commands;
+        supply = output_supply r.job_output;
+        keep = own;
+      };
+      views = is_some r.view;
     } };
 
     ghost invariant = { λ r. IsOutputOf r.version (run_replies r.version (output_quota r.job_output) r.commands)
         (run_end r.version (output_quota r.job_output) r.commands) r.job_output
-        × IsTallyOf r.tally (end_shown [] None r.version (output_quota r.job_output) r.commands ∷ []) };
+        × IsTallyOf r.tally (end_shown [] None r.version (output_quota r.job_output) r.commands ∷ [])
+        × (r.view ≡ shown_view (is_some r.view) (run_end r.version (output_quota r.job_output) r.commands)) };
 }
 
 impl<R: Wait> JobResult<R> {
     /// What is left of a work, and the keep of its records, which are no longer wanted.
-    pub(crate) fn of(work: Work<R>) -> (JobResult<R>, TableKeep)
+    pub(crate) fn of(rt: &R, work: ViewedWork<R>) -> (JobResult<R>, TableKeep)
         requires over { RanOut work }
-        ensures origin { result.0 ≡ without_keep work.origin }
+        ensures origin { result.0 ≡ result_of work }
         ensures idle { result.1.lifted ≡ None }
     {
+        let (work, view) = work.end(rt);
         let (number, commands, replies, object) = work.into_parts();
         let (kept, slots) = (object.kept(), object.slots());
         let (heap, keep) = object.split();
@@ -65,6 +74,7 @@ impl<R: Wait> JobResult<R> {
             version: heap.version(),
             commands,
             tally,
+            view,
             job_output: JobOutput::Values {
                 replies,
                 heap,
@@ -76,11 +86,11 @@ impl<R: Wait> JobResult<R> {
     }
 
     /// What is left of a work that ends: its keep is left for another object, and its part is put together where that is wanted.
-    pub(crate) fn end(rt: &R, context: &JobContext, work: Work<R>) -> JobResult<R>
+    pub(crate) fn end(rt: &R, context: &JobContext, work: ViewedWork<R>) -> JobResult<R>
         requires over { RanOut work }
-        ensures origin { result ≡ without_keep work.origin }
+        ensures origin { result ≡ result_of work }
     {
-        let (job_result, keep) = JobResult::of(work);
+        let (job_result, keep) = JobResult::of(rt, work);
         context.table_pool.leave(rt, keep);
         if context.makes_text {
             job_result.as_text(rt, context)
@@ -98,6 +108,7 @@ impl<R: Wait> JobResult<R> {
             version,
             commands,
             tally,
+            view,
             job_output,
         } = self;
         JobResult {
@@ -105,45 +116,57 @@ impl<R: Wait> JobResult<R> {
             version,
             commands,
             tally,
+            view,
             job_output: job_output.as_text(rt, context.alloc),
         }
     }
 
     /// Its place in the wave.
     pub(crate) fn number(&self) -> u32
-        ensures { result ≡ self.now.number }
+        ensures { result ≡ self.now.origin.number }
     {
         self.number
     }
 
     /// What the object comes to.
     pub(crate) fn tally(&self) -> Tally
-        ensures { (name : List ℕ) (view : Option (Option ViewLine))
-            → IsTallyOf result ((ended_as name self.now view).shown ∷ []) }
+        ensures { (name : List ℕ) → IsTallyOf result (result_shown name self.now ∷ []) }
     {
         self.tally
     }
 
-    /// Writes the part of the object under its name. The only error is that of the sink.
+    /// Writes the part of the object under its name, and its view where that is told. The only error is that of the sink.
     pub(crate) fn write<W: Sink>(&self, sink: &mut W, name: &Name) -> Result<(), SinkFault>
-        ensures { Writes (W.output sink.old) (W.output sink.new) (ended_text name.now self.now) result }
+        ensures { Writes (W.output sink.old) (W.output sink.new) (shown_text (result_shown name.now self.now)) result }
     {
-        self.job_output.write(sink, name)
+        self.job_output.write(sink, name)?;
+        write_view_line(sink, self.view)
     }
 
     /// Gives all segments back, and answers the berth.
     pub(crate) fn close(self, rt: &R) -> Berth<R>
         ensures nothing_held { ⟦<Berth<R> as Supply>⟧.held_ids result ≡ [] }
-        ensures quota { ⟦<Berth<R> as Supply>⟧.quota_of result ≡ self.quota }
-        ensures supply { ⟦<Berth<R> as Supply>⟧.origin result ≡ self.supply }
+        ensures quota { ⟦<Berth<R> as Supply>⟧.quota_of result ≡ self.origin.quota }
+        ensures supply { ⟦<Berth<R> as Supply>⟧.origin result ≡ self.origin.supply }
     {
         let JobResult {
             number: _,
             version: _,
             commands: _,
             tally: _,
+            view: _,
             job_output,
         } = self;
         job_output.close(rt)
+    }
+}
+
+/// Writes the line of a view, where one is told.
+fn write_view_line<W: Sink>(sink: &mut W, view: Option<Option<ViewLine>>) -> Result<(), SinkFault>
+    ensures { Writes (W.output sink.old) (W.output sink.new) (view_line_text view) result }
+{
+    match view {
+        Some(line) => write_view(sink, line),
+        None => Ok(()),
     }
 }

@@ -1,7 +1,7 @@
 //! Objects that run in waves of workers: each wave is opened over one queue of segments, run, and
 //! closed, and the objects' parts are written, or counted, in the order of their declarations.
 //!
-//! Below stand `dym_wave`, which runs a wave, `dym_views`, which runs one whose objects are looked
+//! Below stand `dym_wave`, which runs a wave, `dym_views`, by which its objects publish and are looked
 //! at, `dym_quota` and `dym_region`, which have the segments, and `dym_report`, which writes; above
 //! stands the top call. Its one contract: whatever the workers, the segments and the quantum, the
 //! text is that of the objects' own commands (`part_text`, or `viewed_part`), the same that one
@@ -10,28 +10,23 @@
 #![tactic(auto)]
 
 mod finished_wave;
+mod job_buffers;
 mod job_context;
 mod job_list;
+mod job_origin;
 mod job_output;
 mod job_result;
 mod job_spec;
-mod list_order;
 mod object_queue;
-mod object_result;
 mod object_setup;
 mod part_text;
-mod plain_wave;
 mod quotas;
 mod report_options;
 mod shape;
 mod table_pool;
 mod tally;
-mod viewed_object;
-mod viewed_wave;
 mod wave;
 mod wave_job;
-mod wave_object;
-mod wave_parts;
 mod wave_report;
 mod wave_tally;
 mod write_fail;

@@ -4,6 +4,7 @@ ghost use Rattle.dym_base.specs.declared.limits.TheConstants.{MOST_OBJECTS, MOST
 ghost use Rattle.dym_region.specs.Identity.{AreDistinct};
 ghost use Rattle.dym_run.specs.Results.{PartsRan};
 ghost use Rattle.dym_run.specs.Parts.{quota_of, IsRunnable, IsShape};
+ghost use Rattle.dym_run.specs.WaveJobs.{job_shown};
 
 use crate::finished_wave::FinishedWave;
 use crate::quotas::{largest_wave, quotas_of};
@@ -89,7 +90,7 @@ impl ObjectQueue {
         ensures shape { self.new.shape ≡ self.old.shape }
         ensures most { self.new.most ≡ self.old.most }
         ensures ran { IfOk result (λ s. (count : ℕ) × (0 < count)
-            × PartsRan self.old.options count self.old.parts.items self.new.parts.items [] (map (λ e. e.shown) s.ended.items)) }
+            × PartsRan self.old.options count self.old.parts.items self.new.parts.items [] (map job_shown s.jobs.items)) }
         ensures segments { IfOk result (λ s. s.queue.stocked ++ s.queue.aside
             ≡ map ⟦<RawSegment as Segment>⟧.id segments.items) }
         ensures back { IfErr result (λ e. IsPermutation (map ⟦<RawSegment as Segment>⟧.id segments.items)

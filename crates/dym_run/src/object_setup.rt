@@ -3,7 +3,7 @@ ghost use Rattle.std.specs.Prelude.{◌≡◌, ◌+◌, ◌≤◌, false, [], No
 ghost use Rattle.dym_base.specs.Objects.{object_start};
 ghost use Rattle.dym_base.specs.declared.limits.TheConstants.{MOST_COMMANDS, COUNT_LIMIT, MOST_QUANTUM, MOST_QUOTA};
 ghost use Rattle.dym_object.specs.Meaning.{IsWhole, state_of};
-ghost use Rattle.dym_run.specs.Results.{IsFresh};
+ghost use Rattle.dym_views.specs.ViewedWorkMeanings.{lacks_memory};
 ghost use Rattle.dym_run.specs.WaveJobs.{CanStart, IsBack, job_spec_origin};
 
 use crate::job_spec::JobSpec;
@@ -13,6 +13,7 @@ use dym_chain::{Chain, LogKeep};
 use dym_heap::Heap;
 use dym_object::Object;
 use dym_quota::{Berth, Supply};
+use dym_views::ViewedWork;
 use dym_wave::{TableKeep, Work};
 use std::alloc::Global;
 use std::sync::Wait;
@@ -24,17 +25,18 @@ pub(crate) fn open_work<R: Wait>(
     quantum: u32,
     job_spec: JobSpec<R>,
     keep: TableKeep,
-) -> Result<Work<R>, JobSpec<R>>
+) -> Result<ViewedWork<R>, JobSpec<R>>
     requires empty { keep.records ≡ [] }
     requires idle { keep.lifted ≡ None }
     requires counts { keep.next_number + MOST_COMMANDS ≤ COUNT_LIMIT }
     requires start { CanStart job_spec }
     requires least { 1 ≤ quantum }
     requires most { quantum ≤ MOST_QUANTUM }
-    ensures origin { IfOk result (λ work. work.origin ≡ record (job_spec_origin job_spec) { keep = keep.origin }) }
-    ensures quantum { IfOk result (λ work. work.quantum ≡ quantum) }
-    ensures fresh { IfOk result IsFresh }
-    ensures long { IfOk result (λ work. work.out_of_memory ≡ false) }
+    ensures origin { IfOk result (λ w. w.work.origin ≡ record (job_spec_origin job_spec) { keep = keep.origin }) }
+    ensures quantum { IfOk result (λ w. w.work.quantum ≡ quantum) }
+    ensures view { IfOk result (λ w. w.view ≡ job_spec.publisher) }
+    ensures fresh { IfOk result (λ w. w.work.replies ≡ []) }
+    ensures long { IfOk result (λ w. lacks_memory w ≡ false) }
     ensures back { IfErr result (IsBack job_spec) }
 {
     let JobSpec {
@@ -42,6 +44,7 @@ pub(crate) fn open_work<R: Wait>(
         version,
         commands,
         berth,
+        publisher,
     } = job_spec;
     let object = match open_object(rt, alloc, version, berth, keep) {
         Ok(object) => object,
@@ -51,11 +54,12 @@ pub(crate) fn open_work<R: Wait>(
                 version,
                 commands,
                 berth,
+                publisher,
             });
         }
     };
     match Work::open(alloc, number, quantum, commands, object) {
-        Ok(work) => Ok(work),
+        Ok(work) => Ok(ViewedWork::new(alloc, work, publisher)),
         Err((_, commands, object)) => {
             let (berth, _) = object.end(rt);
             Err(JobSpec {
@@ -63,6 +67,7 @@ pub(crate) fn open_work<R: Wait>(
                 version,
                 commands,
                 berth,
+                publisher,
             })
         }
     }

@@ -1,5 +1,5 @@
 //! Log tables that no object has at the time.
-ghost use Rattle.std.specs.Prelude.{◌≡◌, ◌+◌, ◌<◌, ◌≤◌, [], None, IfOk, vec_len};
+ghost use Rattle.std.specs.Prelude.{◌≡◌, ◌+◌, ◌<◌, ◌≤◌, [], None, IfOk, vec_len, All};
 ghost use Rattle.dym_base.specs.declared.limits.TheConstants.{MOST_COMMANDS, MOST_QUANTUM, COUNT_LIMIT};
 
 use crate::job_context::JobContext;
@@ -75,6 +75,7 @@ impl TablePool {
         requires least { 1 ≤ quantum }
         requires most { quantum ≤ MOST_QUANTUM }
         ensures count { IfOk result (λ contexts. vec_len contexts ≡ count) }
+        ensures quantum { IfOk result (λ contexts. All (λ context. context.quantum ≡ quantum) contexts.items) }
     {
         let mut contexts = Vec::with_capacity(alloc, count)?;
         for _ in 0..count {

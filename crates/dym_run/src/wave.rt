@@ -1,27 +1,36 @@
 //! A wave: objects that run side by side over one queue of segments.
-ghost use Rattle.std.specs.Prelude.{◌≡◌, ◌<◌, ◌≤◌, [], ◌++◌, IfOk, IfErr, length, map, reverse, sum, sum_by, vec_len, All, IsPermutation};
-ghost use Rattle.dym_base.specs.declared.limits.TheConstants.{MOST_OBJECTS, MOST_QUOTA};
+ghost use Rattle.std.specs.Prelude.{◌≡◌, ◌<◌, ◌≤◌, true, false, [], ◌++◌, IfOk, IfErr, IsErr, OnOk, Contains, length, map, sum, sum_by, vec_len, All, IsPermutation};
+ghost use Rattle.dym_base.specs.declared.limits.TheConstants.{MOST_OBJECTS, MOST_QUOTA, MOST_WORKERS};
+ghost use Rattle.dym_pool.specs.Jobs.{AllEnded, Numbered};
 ghost use Rattle.dym_quota.specs.Berths.{IsIdleBerth};
 ghost use Rattle.dym_region.specs.Identity.{AreDistinct};
+ghost use Rattle.dym_wave.specs.Waves.{SameTables};
 ghost use Rattle.dym_run.specs.Results.{PartsRan};
 ghost use Rattle.dym_run.specs.Parts.{IsShape, StandInLine};
+ghost use Rattle.dym_run.specs.WaveJobs.{WaveJobMeaning, job_shown, left_of, number_of, origin_of};
 
-use crate::finished_wave::FinishedWave;
-use crate::list_order::in_order_reversed;
+use crate::finished_wave::{FinishedWave, close_all};
+use crate::job_buffers::JobBuffers;
+use crate::job_list::make_jobs;
 use crate::report_options::ReportOptions;
 use crate::shape::Shape;
 use crate::table_pool::LogTables;
-use dym_base::limits::{MOST_OBJECTS, MOST_QUOTA};
+use crate::wave_job::WaveJob;
+use dym_base::limits::{MOST_OBJECTS, MOST_QUOTA, MOST_WORKERS};
 use dym_pool::Gate;
 use dym_quota::{Berth, QuotaQueue, Supply};
 use dym_region::{RawSegment, Segment};
 use dym_script::Part;
+use dym_slots::Sweeper;
+use dym_view::Viewer;
+use dym_views::{ObservedResults, run_observed};
 use std::alloc::{AllocError, Global};
 use std::collections::VecDeque;
+use std::mem;
 use std::sync::Wait;
 use std::thread::Threads;
 
-/// A queue of segments and its berths, last one first, over which no object stands yet.
+/// A queue of segments and its berths, in order, over which no object stands yet.
 pub(crate) struct Wave<R: Wait> {
     pub(crate) queue: QuotaQueue,
     pub(crate) berths: Vec<Berth<R>>,
@@ -44,20 +53,17 @@ impl<R: Wait> Wave<R> {
         requires each_quota { All (λ q. (1 ≤ q) × (q ≤ MOST_QUOTA)) quotas.now }
         requires enough { sum quotas.now ≤ vec_len segments }
         requires distinct { AreDistinct (map ⟦<RawSegment as Segment>⟧.id segments.items) }
-        ensures quotas { IfOk result (λ w. map ⟦<Berth<R> as Supply>⟧.quota_of w.berths.items
-            ≡ reverse quotas.now) }
+        ensures quotas { IfOk result (λ w. map ⟦<Berth<R> as Supply>⟧.quota_of w.berths.items ≡ quotas.now) }
         ensures segments { IfOk result (λ w. w.queue.stocked ++ w.queue.aside
             ≡ map ⟦<RawSegment as Segment>⟧.id segments.items) }
         ensures back { IfErr result (λ e. e.1 ≡ segments) }
     {
         let (queue, berths) = QuotaQueue::open(rt, alloc, segments, quotas)?;
-        Ok(Wave {
-            queue,
-            berths: in_order_reversed(berths),
-        })
+        Ok(Wave { queue, berths })
     }
 
-    /// Runs the parts that come next, one over each berth. Only memory can be wanting: all segments then come back.
+    /// Runs the parts that come next, one over each berth, by workers side by side, while the log tables are swept. Where views are told, a
+    /// thread looks at them. Only memory can be wanting: all segments then come back.
     pub(crate) fn run_all<G: Gate>(
         self,
         rt: &R,
@@ -74,15 +80,88 @@ impl<R: Wait> Wave<R> {
         requires lined { StandInLine parts.old.items (map ⟦<Berth<R> as Supply>⟧.quota_of self.berths.items) }
         ensures queue { IfOk result (λ s. s.queue ≡ self.queue) }
         ensures ran { IfOk result (λ s. PartsRan options (vec_len self.berths) parts.old.items parts.new.items []
-            (map (λ e. e.shown) s.ended.items)) }
+            (map job_shown s.jobs.items)) }
         ensures back { IfErr result (λ e. IsPermutation (self.queue.stocked ++ self.queue.aside)
             (map ⟦<RawSegment as Segment>⟧.id e.1.items)) }
         ensures distinct { IfErr result (λ e. AreDistinct (map ⟦<RawSegment as Segment>⟧.id e.1.items)) }
     {
-        if options.views {
-            self.view_all(rt, alloc, options.version, shape, parts, gate)
-        } else {
-            self.run_plain(rt, alloc, options.version, shape, tables, parts, gate)
+        let Wave { queue, berths } = self;
+        let opened = JobBuffers::open(
+            rt,
+            alloc,
+            options.views,
+            tables,
+            shape.quantum,
+            berths.len(),
+        );
+        let (buffers, viewers) = match opened {
+            Ok(opened) => opened,
+            Err(error) => return Err((error, queue.close(rt, berths))),
+        };
+        let (jobs, berths) = make_jobs(rt, options, shape.quantum, buffers, berths, parts);
+        let (jobs, ran) = run_wave_jobs(
+            rt,
+            alloc,
+            jobs,
+            &mut tables.sweepers,
+            viewers,
+            shape.workers,
+            gate,
+        );
+        match ran {
+            Ok(()) => Ok(FinishedWave {
+                queue,
+                berths,
+                jobs,
+            }),
+            Err(error) => Err((error, close_all(rt, queue, jobs, berths))),
         }
     }
+}
+
+/// Runs jobs to their ends, while log tables are swept and their views looked at, and answers whether all of them found their memory.
+fn run_wave_jobs<R: Threads + Wait + Send + Sync, G: Gate>(
+    rt: &R,
+    alloc: Global,
+    jobs: Vec<WaveJob<R>>,
+    sweepers: &mut Vec<Sweeper>,
+    viewers: Vec<Viewer>,
+    workers: u32,
+    gate: &G,
+) -> (Vec<WaveJob<R>>, Result<(), AllocError>)
+    requires few { vec_len jobs ≤ MOST_OBJECTS }
+    requires numbered { Numbered number_of jobs.items }
+    requires some { 1 ≤ workers }
+    requires most { workers ≤ MOST_WORKERS }
+    ensures origins { map origin_of result.0.items ≡ map origin_of jobs.items }
+    ensures ended { OnOk result.1 (AllEnded left_of result.0.items) }
+    ensures long { OnOk result.1 (All (λ p. p.state.out_of_memory ≡ false) result.0.items) }
+    ensures tables { SameTables sweepers.old.items sweepers.new.items }
+{
+    let taken = mem::replace(sweepers, Vec::new(alloc));
+    let ObservedResults {
+        jobs,
+        sweepers: back,
+        viewers: _,
+        ran,
+    } = run_observed(rt, alloc, jobs, taken, viewers, workers, gate);
+    *sweepers = back;
+    let ran = match ran {
+        Ok(()) => all_ran(&jobs),
+        Err(error) => Err(error),
+    };
+    (jobs, ran)
+}
+
+/// Whether no job found its memory wanting.
+fn all_ran<R: Wait + Send + Sync>(jobs: &[WaveJob<R>]) -> Result<(), AllocError>
+    ensures long { OnOk result (All (λ p. p.state.out_of_memory ≡ false) jobs.now) }
+    ensures out_of_memory { IsErr result → (p : WaveJobMeaning) × Contains jobs.now p × (p.state.out_of_memory ≡ true) }
+{
+    for job in jobs {
+        if job.out_of_memory() {
+            return Err(AllocError);
+        }
+    }
+    Ok(())
 }

@@ -5,12 +5,13 @@ ghost use Rattle.dym_io.specs.Sink.{Writes, WritesOr};
 ghost use Rattle.dym_region.specs.Identity.{AreDistinct};
 ghost use Rattle.dym_run.specs.Results.{parts_text, shown_text, WritesFirst};
 ghost use Rattle.dym_run.specs.Parts.{IsRunnable, IsShape};
+ghost use Rattle.dym_run.specs.WaveJobs.{IsOver, job_shown};
 ghost use Rattle.dym_run.specs.declared.write_fail.WriteFail.TheVariants.{Sink as SinkFailed};
 
 use crate::object_queue::ObjectQueue;
-use crate::object_result::ObjectResult;
 use crate::report_options::ReportOptions;
 use crate::shape::Shape;
+use crate::wave_job::WaveJob;
 use crate::write_fail::WriteFail;
 use dym_base::limits::MOST_OBJECTS;
 use dym_io::{Sink, SinkFault};
@@ -99,7 +100,7 @@ fn write_wave<R: Threads + Wait + Send + Sync, G: Gate, W: Sink>(
     let taken = mem::replace(segments, Vec::new(alloc));
     match object_queue.run_next(rt, alloc, taken, gate) {
         Ok(finished) => {
-            let written = write_ended(&finished.ended, sink);
+            let written = write_jobs(&finished.jobs, sink);
             *segments = finished.close(rt);
             Ok(written?)
         }
@@ -111,12 +112,13 @@ fn write_wave<R: Threads + Wait + Send + Sync, G: Gate, W: Sink>(
 }
 
 /// Writes the parts of objects that have run.
-fn write_ended<R: Wait, W: Sink>(ended: &[ObjectResult<R>], sink: &mut W) -> Result<(), SinkFault>
+fn write_jobs<R: Wait, W: Sink>(jobs: &[WaveJob<R>], sink: &mut W) -> Result<(), SinkFault>
+    requires over { All IsOver jobs.now }
     ensures { Writes (W.output sink.old) (W.output sink.new)
-        (flat_map (λ e. shown_text e.shown) ended.now) result }
+        (flat_map (λ p. shown_text (job_shown p)) jobs.now) result }
 {
-    for object in ended {
-        object.write(sink)?;
+    for job in jobs {
+        job.write(sink)?;
     }
     Ok(())
 }

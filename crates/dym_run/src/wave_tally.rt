@@ -5,12 +5,13 @@ ghost use Rattle.dym_region.specs.Identity.{AreDistinct};
 ghost use Rattle.dym_run.specs.Results.{parts_shown, IsTallyOf, TalliesFirst};
 ghost use Rattle.dym_run.specs.Parts.{own_of, IsRunnable, IsShape};
 ghost use Rattle.dym_run.specs.Summary.{tally_all};
+ghost use Rattle.dym_run.specs.WaveJobs.{IsOver, job_shown};
 
 use crate::object_queue::ObjectQueue;
-use crate::object_result::ObjectResult;
 use crate::report_options::ReportOptions;
 use crate::shape::Shape;
 use crate::tally::Tally;
+use crate::wave_job::WaveJob;
 use dym_base::Version;
 use dym_base::limits::{MOST_COMMANDS, MOST_OBJECTS};
 use dym_pool::Gate;
@@ -103,7 +104,7 @@ fn tally_wave<R: Threads + Wait + Send + Sync, G: Gate>(
     let taken = mem::replace(segments, Vec::new(alloc));
     match object_queue.run_next(rt, alloc, taken, gate) {
         Ok(finished) => {
-            let tally = tally_ended(&finished.ended);
+            let tally = tally_jobs(&finished.jobs);
             *segments = finished.close(rt);
             Ok(tally)
         }
@@ -115,14 +116,15 @@ fn tally_wave<R: Threads + Wait + Send + Sync, G: Gate>(
 }
 
 /// What objects that have run come to together.
-fn tally_ended<R: Wait>(ended: &[ObjectResult<R>]) -> Tally
-    requires objects { length ended.now ≤ MOST_OBJECTS }
-    requires replies { sum_by (λ e. length e.shown.replies) ended.now ≤ MOST_COMMANDS }
-    ensures { IsTallyOf result (map (λ e. e.shown) ended.now) }
+fn tally_jobs<R: Wait>(jobs: &[WaveJob<R>]) -> Tally
+    requires over { All IsOver jobs.now }
+    requires objects { length jobs.now ≤ MOST_OBJECTS }
+    requires replies { sum_by (λ p. length (job_shown p).replies) jobs.now ≤ MOST_COMMANDS }
+    ensures { IsTallyOf result (map job_shown jobs.now) }
 {
     let mut tally = Tally::none();
-    for object in ended {
-        tally = tally.and(object.tally());
+    for job in jobs {
+        tally = tally.and(job.tally());
     }
     tally
 }

@@ -4,10 +4,12 @@ ghost use mathlib.Core.List.{IsPrefix};
 ghost use Rattle.std.specs.Arc.{arc_value};
 ghost use Rattle.std.specs.Option.{option_copied};
 ghost use Rattle.dym_base.specs.declared.limits.TheConstants.{COUNT_LIMIT};
+ghost use Rattle.dym_view.specs.Answers.{glance_of};
 ghost use Rattle.dym_view.specs.Histories.{Beginning, IsHistory, last_commit, last_time, MayFollow};
 ghost use Rattle.dym_view.specs.Rules.{commits_of};
 
 use crate::commit::Commit;
+use crate::glance::Glance;
 use crate::law::{Head, Reached, Shared};
 use std::alloc::{AllocError, Global};
 use std::marker::Model;
@@ -66,6 +68,23 @@ impl Front {
     {
         match &self.last {
             Some(commit) => Some(&**commit),
+            None => None,
+        }
+    }
+
+    /// The last commit at a glance.
+    pub(crate) fn glance(&self) -> Option<Glance>
+        ensures glance { result ≡ glance_of self.now.commits }
+        ensures history { IsHistory self.now.commits }
+    {
+        let number = self.number();
+        match self.last() {
+            Some(commit) => Some(Glance {
+                number,
+                time: commit.time(),
+                chunks: commit.chunks(),
+                total: commit.total(),
+            }),
             None => None,
         }
     }

@@ -2,7 +2,7 @@
 //! object runs on.
 //!
 //! Below stand the heap and the chain, whose oldest log a commit copies (`commit_of`); above stand
-//! waves whose objects are watched. Its one contract: a history of commits with rising times only
+//! works that publish. Its one contract: a history of commits with rising times only
 //! grows at its end; a viewer knows a beginning of it, which only grows too and never goes back
 //! behind what it was told, and what `look` and `read` answer is a function of that.
 #![tactic(auto)]

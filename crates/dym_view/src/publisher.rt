@@ -1,10 +1,12 @@
 //! The publisher of a history.
 ghost use Rattle.std.specs.Prelude.{◌≡◌, ◌<◌, [], ◌∷◌, ◌++◌, length, IfOk, OnOk, OnErr};
 ghost use Rattle.dym_base.specs.declared.limits.TheConstants.{COUNT_LIMIT};
+ghost use Rattle.dym_view.specs.Answers.{glance_of};
 ghost use Rattle.dym_view.specs.Histories.{IsHistory, last_time, MayFollow};
 
 use crate::commit::Commit;
 use crate::front::Front;
+use crate::glance::Glance;
 use crate::law::{Head, open_history};
 use crate::publication::{Pen, show};
 use crate::told::Told;
@@ -68,6 +70,13 @@ impl Publisher {
         ensures time { result ≡ last_time self.now.commits }
     {
         self.front.last_time()
+    }
+
+    /// The last commit at a glance, as a viewer sees it that knows all of the history.
+    pub fn last(&self) -> Option<Glance>
+        ensures glance { result ≡ glance_of self.now.commits }
+    {
+        self.front.glance()
     }
 
     /// Appends a commit to the history and shows it to the viewer. It waits for a viewer that still reads what was shown before.

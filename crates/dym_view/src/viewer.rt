@@ -61,16 +61,7 @@ impl Viewer {
         ensures glance { result ≡ glance_of self.new.commits }
     {
         self.refresh();
-        let last = self.front.number();
-        match self.front.last() {
-            Some(commit) => Some(Glance {
-                number: last,
-                time: commit.time(),
-                chunks: commit.chunks(),
-                total: commit.total(),
-            }),
-            None => None,
-        }
+        self.front.glance()
     }
 
     /// Copies the bytes of a chunk of the last commit that is known, from its place `at` on, after a look at what is published. Where the

@@ -1,6 +1,5 @@
 pub mod Going
 pub mod Jobs
-pub mod Moves
 pub mod Onward
 pub mod Sights
 pub mod Turns

@@ -2,7 +2,7 @@
 use Rattle.std.proofs.Common.{◌≡◌, ℕ, zero, suc, ◌<◌, List, [], ◌∷◌, ◌++◌, length, set, get_or, refl, sym, ap, ◌∙◌, arith, append_assoc, append-nil}
 use mathlib.Core.List.{IsPrefix}
 use Rattle.dym_view.specs.Histories.{Beginning}
-use Rattle.dym_views.specs.Observations.{names_of, LooksOn, LookedOn}
+use Rattle.dym_views.specs.Observations.{LooksOn, LookedOn}
 
 pub prefix_both : {A : Type 0} (xs ys zs : List A) → IsPrefix xs ys → IsPrefix ys zs → IsPrefix xs zs
 prefix_both xs ys zs p q = (p.0 ++ q.0, sym (append_assoc xs p.0 q.0) ∙ ap (λ l. l ++ q.0) p.1 ∙ q.1)
@@ -31,10 +31,3 @@ looked_at us [] k d new p less q = absurd (omega (arith, less))
 looked_at [] (v ∷ vs) k d new p less q = absurd p
 looked_at (u ∷ us) (v ∷ vs) zero d new p less q = (looks_more u v new p.0 q, p.1)
 looked_at (u ∷ us) (v ∷ vs) (suc k) d new p less q = (p.0, looked_at us vs k d new p.1 (omega (arith, less)) q)
-
--- the histories stay
-pub same_histories : (us vs : List Beginning) → LookedOn us vs → names_of vs ≡ names_of us
-same_histories [] [] p = refl
-same_histories [] (v ∷ vs) p = absurd p
-same_histories (u ∷ us) [] p = absurd p
-same_histories (u ∷ us) (v ∷ vs) p = (λ i. p.0.name i ∷ same_histories us vs p.1 i)

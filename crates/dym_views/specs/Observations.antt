@@ -1,12 +1,8 @@
 -- Viewers that look while others publish.
-use Rattle.std.specs.Prelude.{◌≡◌, List, map}
+use Rattle.std.specs.Prelude.{◌≡◌, List}
 use Rattle.std.specs.List.{AllZip}
 use mathlib.Core.List.{IsPrefix}
-use Rattle.dym_view.specs.Histories.{HistoryName, Beginning}
-
--- the histories of viewers, or of publishers
-abbrev pub names_of : List Beginning → List HistoryName
-names_of views = map (λ (b : Beginning). b.history) views
+use Rattle.dym_view.specs.Histories.{Beginning}
 
 -- a viewer after some looks: it is of the same history, of which it knows what it knew, and maybe more. So it never goes back
 pub record LooksOn (old new : Beginning) : Type 0 where

@@ -1,5 +1,5 @@
 //! Jobs that run side by side, while log tables are swept.
-ghost use Rattle.std.specs.Prelude.{◌≡◌, ◌≤◌, IfOk, IfErr, OnOk, OnErr, vec_len};
+ghost use Rattle.std.specs.Prelude.{◌≡◌, ◌≤◌, true, IfOk, IfErr, OnOk, OnErr, vec_len};
 ghost use Rattle.dym_base.specs.declared.limits.TheConstants.{MOST_OBJECTS, MOST_WORKERS};
 ghost use Rattle.dym_pool.specs.Jobs.{EveryJobBack, Numbered};
 ghost use Rattle.dym_prune.specs.Sweeps.{Pruned};
@@ -50,6 +50,7 @@ pub fn run_with_sweepers<R: Threads + Wait + Send + Sync, J: Job<R>, G: Gate>(
             requires { Numbered J.number_of jobs.items × (1 ≤ workers) × (workers ≤ MOST_WORKERS) }
             ensures back { OnOk result (EveryJobBack J.number_of J.left_of J.origin_of jobs.entry.items jobs.exit.items) }
             ensures unchanged { OnErr result (jobs.exit.items ≡ jobs.entry.items) }
+            ensures asked { asker.exit.asked ≡ true }
         {
             let ran = run_in_place(rt, alloc, &mut jobs, workers, gate);
             asker.ask();

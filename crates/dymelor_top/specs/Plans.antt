@@ -1,5 +1,6 @@
 -- What is done for an order. Orders that aren't served yet are answered as words of no order.
-use Rattle.std.specs.Prelude.{ℕ, Bool, true, false, Result, Ok, Err}
+use Rattle.std.specs.Prelude.{ℕ, Bool, true, false, Option, None, Some, Result, Ok, Err}
+use Rattle.dym_run.specs.declared.shape.Shape.{Shape}
 use Rattle.dym_words.specs.declared.order.Input.{Input}
 use Rattle.dym_words.specs.declared.order.Input.TheVariants.{Script, GenNumbers}
 use Rattle.dym_words.specs.declared.order.Order.{Order}
@@ -47,3 +48,9 @@ abbrev pub whole_plan_of : Result Order Usage → Plan
 whole_plan_of (Ok (Run workers segments quantum input summary)) = waves_plan segments input (run_text summary)
 whole_plan_of (Ok (Views workers segments quantum)) = waves_plan segments Script wave.Views
 whole_plan_of order = plan_of order
+
+-- how the objects of an order run side by side, where they run in waves: by these workers, over these segments, with this quantum
+abbrev pub shape_of : Result Order Usage → Option Shape
+shape_of (Ok (Run workers segments quantum input summary)) = Some (record { workers = workers; segments = segments; quantum = quantum })
+shape_of (Ok (Views workers segments quantum)) = Some (record { workers = workers; segments = segments; quantum = quantum })
+shape_of order = None

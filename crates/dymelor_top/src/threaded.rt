@@ -1,5 +1,5 @@
 //! The top call that may start threads.
-ghost use Rattle.std.specs.Prelude.{◌≡◌, ◌⊎◌, map, string_bytes, IfOk, IfSome, IfNone, IsErrOf};
+ghost use Rattle.std.specs.Prelude.{◌≡◌, ◌⊎◌, map, option_map, string_bytes, IfOk, IfSome, IfNone, IsErrOf};
 ghost use Rattle.dym_gen.specs.Scripts.{generated};
 ghost use Rattle.dym_io.specs.Faults.{RoseOnce};
 ghost use Rattle.dym_run.specs.Parts.{IsShape};
@@ -7,7 +7,7 @@ ghost use Rattle.dym_words.specs.Laws.{CanBeMade, IsInputWithin, IsWithin};
 ghost use Rattle.dym_words.specs.Orders.{order};
 ghost use Rattle.dymelor_top.specs.Answers.{IsRead};
 ghost use Rattle.dymelor_top.specs.Headline.{PlanHeadline, Serves, WholeHeadline};
-ghost use Rattle.dymelor_top.specs.Plans.{plan_of, run_text, waves_plan, whole_plan_of};
+ghost use Rattle.dymelor_top.specs.Plans.{plan_of, run_text, shape_of, waves_plan, whole_plan_of};
 ghost use Rattle.dymelor_top.specs.declared.plan.Reading.TheVariants.{Waves};
 ghost use Rattle.dymelor_top.specs.declared.stop.Stop.TheVariants.{Source as SourceStopped, Sink as SinkStopped};
 
@@ -59,6 +59,7 @@ struct Run {
 /// The order to run a script in waves, where it is one.
 fn run_of(order: Result<Order, Usage>) -> Option<Run>
     ensures other { IfNone result (whole_plan_of order ≡ plan_of order) }
+    ensures shape { option_map (λ run. run.shape) result ≡ shape_of order }
     ensures plan { IfSome result (λ run.
         whole_plan_of order ≡ waves_plan run.shape.segments run.input run.text) }
     ensures within { IfOk order IsWithin → IfSome result

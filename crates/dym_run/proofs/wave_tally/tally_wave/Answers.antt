@@ -1,7 +1,7 @@
 use Rattle.dym_run.proofs.Progress.{wave_commands}
 use Rattle.dym_run.proofs.wave_tally.tally_wave.Goals as goal
 
-pub tally_ended-tally-requires-clause-replies : goal.tally_ended-tally-requires-clause-replies
-tally_ended-tally-requires-clause-replies g c =
-    wave_commands c.args.object_queue.now.options c.in-Ok.ensures.ran.0 c.args.object_queue.now.parts.items c.run_next.new.self.parts.items c.in-Ok.finished.ended.items c.deref.result.now
+pub tally_jobs-tally-requires-clause-replies : goal.tally_jobs-tally-requires-clause-replies
+tally_jobs-tally-requires-clause-replies g c =
+    wave_commands c.args.object_queue.now.options c.in-Ok.ensures.ran.0 c.args.object_queue.now.parts.items c.run_next.new.self.parts.items c.in-Ok.finished.jobs.items c.deref.result.now
     c.deref.ensures.value c.in-Ok.ensures.ran.2 c.requires.commands

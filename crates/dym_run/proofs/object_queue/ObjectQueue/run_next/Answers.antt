@@ -1,6 +1,7 @@
 use Rattle.std.proofs.Common.{[], map, arith, ap, subst, sym, ◌∙◌, length, drop, vec_len, IfOk}
-use Rattle.dym_run.specs.Results.{PartsRan, ObjectResultMeaning}
+use Rattle.dym_run.specs.Results.{PartsRan}
 use Rattle.dym_run.specs.Parts.{IsRunnable}
+use Rattle.dym_run.specs.WaveJobs.{job_shown}
 use Rattle.dym_run.proofs.QuotaRuns.{run_quotas, run_lined, run_count, all_back, lined_rest}
 use Rattle.dym_run.proofs.object_queue.ObjectQueue.run_next.Goals as goal
 
@@ -21,7 +22,7 @@ invariant_of-self g c =
     let same = c.deref-2.ensures.value in
     let inside = c.waves-end.ensures.longest.inside in
     let order = c.waves-end.ensures.some in
-    let ran = subst (λ r. IfOk r (λ s. PartsRan old.options (vec_len c.in_ok-wave.wave.berths) old.parts.items c.run_all-ran.new.parts.items [] (map (λ (e : ObjectResultMeaning). e.shown) s.ended.items))) c.in-Ok.is c.run_all-ran.ensures.ran in
+    let ran = subst (λ r. IfOk r (λ s. PartsRan old.options (vec_len c.in_ok-wave.wave.berths) old.parts.items c.run_all-ran.new.parts.items [] (map job_shown s.jobs.items))) c.in-Ok.is c.run_all-ran.ensures.ran in
     let count = run_count (λ b. b.quota) c.in_ok-wave.wave.berths.items quotas old.from c.waves-end.result (omega (arith, order)) (omega (arith, inside, ap length c.deref.ensures.value, ap length same)) c.in_ok-wave.ensures.quotas in
     record {
       runnable = all_back IsRunnable ran.done c.run_all-ran.new.parts.items old.parts.items ran.taken old.runnable;
