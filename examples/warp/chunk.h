@@ -1,6 +1,6 @@
 /*
  * How a model reaches its state: chunks that are named by numbers, the same before and after a rollback. A model is written once for each
- * way to save state, whether its bytes lie where a pointer can reach them (copies) or behind calls (calls):
+ * way to save state, whether its bytes lie where a pointer can reach them (copies, place) or behind calls (calls):
  *
  *     const cell *c = chunk_see(m, name, 0, sizeof room, &room);       to read
  *

@@ -2,7 +2,13 @@
 
 #include <string.h>
 
-const memory_way *const memory_ways[] = {&memory_copies, &memory_calls, NULL};
+const memory_way *const memory_ways[] = {
+    &memory_copies, &memory_calls, &memory_place,
+#ifdef WARP_TOLD
+    &memory_told,
+#endif
+    NULL,
+};
 
 const memory_way *memory_way_named(const char *name)
 {
@@ -50,6 +56,16 @@ void *chunk_edit(memory *m, chunk c, uint32_t at, uint32_t length, void *room)
 void chunk_put(memory *m, chunk c, uint32_t at, uint32_t length, const void *bytes)
 {
     if (m->fault == FAULT_NONE) m->way->put(m, c, at, length, bytes);
+}
+
+void memory_begin(memory *m)
+{
+    if (m->way->begin != NULL) m->way->begin(m);
+}
+
+void memory_end(memory *m)
+{
+    if (m->way->end != NULL) m->way->end(m);
 }
 
 fault memory_log(memory *m, uint64_t time, uint64_t *bytes)

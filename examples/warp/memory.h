@@ -30,6 +30,8 @@ typedef struct memory_way {
     fault (*prune)(memory *m, uint64_t bound);
     fault (*save)(memory *m, uint8_t **bytes, uint64_t *length);
     fault (*load)(memory *m, const uint8_t *bytes, uint64_t length);
+    void (*begin)(memory *m); /* before and after an event; null where nothing is to be done */
+    void (*end)(memory *m);
 } memory_way;
 
 struct memory {
@@ -40,6 +42,8 @@ struct memory {
 
 extern const memory_way memory_copies;
 extern const memory_way memory_calls;
+extern const memory_way memory_place;
+extern const memory_way memory_told; /* of a program whose models dymelor-cc compiled, with WARP_TOLD defined */
 
 /* All ways, null after the last; and the way of a name, or null. */
 extern const memory_way *const memory_ways[];
@@ -48,6 +52,10 @@ const memory_way *memory_way_named(const char *name);
 /* Opens an empty state of at most so many segments of 64 KiB. */
 fault memory_open(memory *m, const memory_way *way, uint32_t quota);
 void memory_close(memory *m);
+
+/* An event of this state's process begins and ends. */
+void memory_begin(memory *m);
+void memory_end(memory *m);
 
 /* Keeps the state under a time above that of the newest log. *bytes is what the log takes. */
 fault memory_log(memory *m, uint64_t time, uint64_t *bytes);

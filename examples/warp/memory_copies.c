@@ -242,4 +242,5 @@ const memory_way memory_copies = {
     copies_put,    copies_log,
     copies_restore, copies_prune,
     copies_save,   copies_load,
+    NULL,          NULL,
 };

@@ -52,7 +52,9 @@ static fault execute(process *p, const event *e, messages *out)
     p->context.now = e->time;
     p->out = out;
     if (is_timed) start = clock_now();
+    memory_begin(&p->memory);
     p->settings->model->run(&p->context, e);
+    memory_end(&p->memory);
     if (is_timed) period_note_event(&p->period, clock_now() - start);
     p->out = NULL;
     return fault_of(p);

@@ -10,7 +10,8 @@
 use crate::error::{done, Error, Status, BAD};
 use std::cell::UnsafeCell;
 use std::ffi::c_void;
-use std::ptr;
+use std::ptr::{self, NonNull};
+use std::slice;
 
 /// `dym_object`.
 #[repr(C)]
@@ -87,8 +88,10 @@ extern "C" {
     fn dym_link(object: *mut Object, chunk: Handle, at: u32, to: Handle) -> Status;
     fn dym_follow(object: *mut Object, chunk: Handle, at: u32, found: *mut Found) -> Status;
     fn dym_sum(object: *mut Object, chunk: Handle, total: *mut u64) -> Status;
-    fn dym_size(object: *mut Object, chunk: Handle, length: *mut u32) -> Status;
-    fn dym_next(object: *mut Object, after: Handle, next: *mut Handle) -> Status;
+    fn dym_size(object: *const Object, chunk: Handle, length: *mut u32) -> Status;
+    fn dym_next(object: *const Object, after: Handle, next: *mut Handle) -> Status;
+    fn dym_address(object: *const Object, chunk: Handle, address: *mut *const c_void) -> Status;
+    fn dym_touch(object: *mut Object, chunk: Handle, address: *mut *mut c_void) -> Status;
     fn dym_log(object: *mut Object, kind: u32, time: u64, logged: *mut Logged) -> Status;
     fn dym_restore(object: *mut Object, time: u64, restored: *mut u64) -> Status;
     fn dym_prune(object: *mut Object, bound: u64, dropped: *mut u32) -> Status;
@@ -106,8 +109,8 @@ extern "C" {
 
 /// A `dym_object` that is open from when it is made until it is dropped.
 ///
-/// The header has no calls by `const dym_object *`: those that change neither heap nor logs write to the object all the same, as they
-/// count a command, hence the cell. It makes the type one that isn't `Sync`.
+/// A call that changes neither heap nor logs writes to the object all the same, since it counts a command, and one by
+/// `const dym_object *` "may write to it while it runs", hence the cell. It makes the type one that isn't `Sync`.
 pub(crate) struct OpenObject {
     object: UnsafeCell<Object>,
 }
@@ -222,6 +225,27 @@ impl OpenObject {
         let mut next = NIL;
         // SAFETY: "each other pointer is that of a whole value of its type, which the caller may write".
         done(unsafe { dym_next(self.object.get(), after, &mut next) }).map(|()| next)
+    }
+
+    /// The bytes of a chunk. As long as they are borrowed nothing frees or writes them, since the object is.
+    pub fn chunk(&self, chunk: Handle) -> Result<&[u8], Error> {
+        let length = self.size(chunk)?;
+        let mut address = NonNull::<c_void>::dangling().as_ptr() as *const c_void;
+        // SAFETY: "each other pointer is that of a whole value of its type, which the caller may write".
+        done(unsafe { dym_address(self.object.get(), chunk, &mut address) })?;
+        // SAFETY: "it reads by a pointer what a live chunk has: its bytes from the first to its length, and no others".
+        Ok(unsafe { slice::from_raw_parts(address.cast(), length as usize) })
+    }
+
+    /// The same, to be changed. No call comes between, since the object is borrowed for as long.
+    pub fn chunk_mut(&mut self, chunk: Handle) -> Result<&mut [u8], Error> {
+        let length = self.size(chunk)?;
+        let mut address = NonNull::dangling().as_ptr();
+        // SAFETY: "each other pointer is that of a whole value of its type, which the caller may write".
+        done(unsafe { dym_touch(self.object.get(), chunk, &mut address) })?;
+        // SAFETY: "it writes by a pointer into a live chunk that was touched since the last dym_log, dym_restore, dym_restore_before or
+        // dym_load", and the borrow ends before the next of these.
+        Ok(unsafe { slice::from_raw_parts_mut(address.cast(), length as usize) })
     }
 
     pub fn log(&mut self, kind: u32, time: u64) -> Result<Logged, Error> {

@@ -1,9 +1,9 @@
 //! Heaps that can be logged at simulation times and rolled back, for simulators of the Time Warp kind.
 //!
 //! An [`Object`] is the heap of one logical process. Its chunks are named by [`Handle`]s, which stay valid over rollbacks; their bytes are
-//! written and read by calls, so that the object knows what changed. A log keeps the heap at a simulation [`Time`], the whole of it or
+//! written and read by calls, or borrowed where they lie, so that the object knows what changed. A log keeps the heap at a simulation [`Time`], the whole of it or
 //! what changed since the log before; a restore brings back the newest log at or before a time; a prune drops the logs that a commit bound
-//! makes useless. Two events of a process, a straggler and a bound:
+//! makes useless. Two events of a process, and a straggler:
 //!
 //! ```
 //! use dymelor::{Error, LogKind, Object, Time, Version};
@@ -13,19 +13,15 @@
 //!     let state = process.malloc(64)?;
 //!     process.write(state, 0, &[10])?; // the event of time 10
 //!     process.log(LogKind::Incremental, Time(10))?;
-//!     process.write(state, 0, &[20])?; // the event of time 20
+//!     process.chunk_mut(state)?[0] = 20; // the event of time 20, in place
 //!     process.log(LogKind::Incremental, Time(20))?;
 //!     process.restore(Time(15 - 1))?; // a straggler of time 15: back to the log of time 10
 //!     let mut byte = [0];
 //!     process.read(state, 0, &mut byte)?;
-//!     process.write(state, 0, &[byte[0] + 5])?;
-//!     process.log(LogKind::Incremental, Time(15))?;
-//!     process.prune(Time(14))?; // nothing before time 15 can come any more
-//!     process.read(state, 0, &mut byte)?;
 //!     Ok(byte[0])
 //! }
 //!
-//! assert_eq!(simulate(), Ok(15));
+//! assert_eq!(simulate(), Ok(10));
 //! ```
 //!
 //! # What it stands on

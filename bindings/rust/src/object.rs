@@ -9,7 +9,7 @@ use std::fmt;
 /// The heap of one logical process, with its logs. It is closed, and all its memory freed, when it is dropped.
 ///
 /// What changes the heap or the logs takes the object by `&mut self`; what only looks takes it by `&self`. Commands are counted all the
-/// same: each method but [`size`](Object::size), [`next_chunk`](Object::next_chunk), [`chunks`](Object::chunks) and
+/// same: each method but [`size`](Object::size), [`chunk`](Object::chunk), [`next_chunk`](Object::next_chunk), [`chunks`](Object::chunks) and
 /// [`save`](Object::save) can answer [`Error::Spent`], which isn't named again below.
 ///
 /// An object may cross to another thread. It can't be shared by threads, as C owes one call at a time:
@@ -33,8 +33,8 @@ pub struct Object {
 /// A file has the kept logs of an object, with its quota and version, under a name. What was changed since the newest log isn't in it. It
 /// is the file that the program `dymelor` saves and loads.
 impl Object {
-    /// Opens an object with an empty heap and no log. The quota is the most segments of 64 KiB that it may hold, 1 to 1,024; memory is
-    /// taken for all of them.
+    /// Opens an object with an empty heap and no log. The quota is the most segments of 64 KiB that it may hold, 1 to 1,024. Addresses are
+    /// reserved for twelve times as many, and memory is taken for those that are used.
     ///
     /// # Errors
     ///
@@ -152,6 +152,25 @@ impl Object {
     /// [`Error::Dead`], [`Error::Range`].
     pub fn read(&self, chunk: Handle, at: u32, bytes: &mut [u8]) -> Result<(), Error> {
         self.inside.read(sent(chunk), at, bytes)
+    }
+
+    /// The bytes of a chunk, where they lie. This is no command, and isn't counted.
+    ///
+    /// # Errors
+    ///
+    /// [`Error::Dead`].
+    pub fn chunk(&self, chunk: Handle) -> Result<&[u8], Error> {
+        self.inside.chunk(sent(chunk))
+    }
+
+    /// The bytes of a chunk, where they lie, to be changed: it is a [`write`](Object::write) of all of them, by those that stand there when
+    /// the borrow ends.
+    ///
+    /// # Errors
+    ///
+    /// [`Error::Dead`].
+    pub fn chunk_mut(&mut self, chunk: Handle) -> Result<&mut [u8], Error> {
+        self.inside.chunk_mut(sent(chunk))
     }
 
     /// Writes the number of a handle, which needn't be live, or that of nil into eight bytes of a chunk from its place `at` on.

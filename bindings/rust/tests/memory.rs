@@ -11,7 +11,7 @@ const INNER: &str = "DYMELOR_TEST_OF_LITTLE_MEMORY";
 /// The kilobytes of addresses that the process may have.
 const ROOM: u32 = 600_000;
 
-/// The segments of each object: 4 MiB.
+/// The segments of each object, for which 48 MiB of addresses are reserved.
 const QUOTA: u32 = 64;
 
 #[test]

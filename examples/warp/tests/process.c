@@ -2,7 +2,7 @@
  * A process by itself: sets of up to six messages, events and anti-messages, in every order, with some events run and a bound committed
  * after each. At the end the process must stand as if the events that weren't called back had been run in order, and what it sent, less
  * what it called back, must be what these events send.
- *     process [copies|calls]     says how many orders were tried
+ *     process [copies|calls|place]     says how many orders were tried
  */
 #include "../process.h"
 

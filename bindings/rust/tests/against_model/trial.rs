@@ -68,7 +68,7 @@ impl Trial {
     }
 
     fn heap_call(&mut self) {
-        match self.random.below(14) {
+        match self.random.below(16) {
             0 | 1 => self.malloc(),
             2 => self.calloc(),
             3 => self.realloc(),
@@ -79,6 +79,8 @@ impl Trial {
             10 => self.link(),
             11 => self.follow(),
             12 => self.look(),
+            13 => self.borrow(),
+            14 => self.change(),
             _ => self.walk(),
         }
     }
@@ -175,6 +177,30 @@ impl Trial {
         let chunk = self.chunk();
         self.expect("sum", self.object.sum(chunk), self.model.sum(chunk));
         self.expect("size", self.object.size(chunk), self.model.size(chunk));
+    }
+
+    fn borrow(&mut self) {
+        let chunk = self.chunk();
+        let told = self.object.chunk(chunk).map(<[u8]>::to_vec);
+        let size = self.model.size(chunk);
+        let wanted = size.and_then(|size| self.model.read(chunk, 0, size as usize));
+        self.expect("chunk", told, wanted);
+    }
+
+    /// Changes a part of a chunk where it lies.
+    fn change(&mut self) {
+        let chunk = self.chunk();
+        let size = self.model.size(chunk).unwrap_or(0) as usize;
+        let at = self.random.below(size as u64 + 1) as usize;
+        let length = self.random.below((size - at) as u64 + 1) as usize;
+        let bytes = self.random.bytes(length);
+        let told = self.object.chunk_mut(chunk);
+        let told = told.map(|all| all[at..at + length].copy_from_slice(&bytes));
+        // The object has it as a write of all bytes.
+        let mut all = self.model.read(chunk, 0, size).unwrap_or_default();
+        all[at..at + length].copy_from_slice(&bytes);
+        let wanted = self.model.write(chunk, 0, &all);
+        self.expect("chunk_mut", told, wanted);
     }
 
     fn walk(&mut self) {

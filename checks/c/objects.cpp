@@ -1,0 +1,170 @@
+// The calls of dymelor.hpp with good and with bad arguments: what they answer, what they throw, and what stays. It ends with 0, or with 1
+// after a line for each difference.
+#include "dymelor.hpp"
+
+#include <array>
+#include <cstdio>
+#include <cstring>
+#include <string>
+
+namespace {
+
+int differences = 0;
+
+void expect(bool holds, const char *what, int line)
+{
+    if (holds) return;
+    std::fprintf(stderr, "objects.cpp:%d: %s\n", line, what);
+    differences++;
+}
+
+#define EXPECT(what) expect((what), #what, __LINE__)
+
+// Whether a call is refused by a status.
+template <class Call> bool refuses(dym_status status, Call call)
+{
+    try {
+        call();
+    } catch (const dymelor::refused &why) {
+        return why.status() == status && std::strcmp(why.what(), dym_status_text(status)) == 0;
+    }
+    return false;
+}
+
+struct point {
+    double x, y;
+};
+
+// Counts what was constructed and not destroyed yet.
+struct counted {
+    explicit counted(int &count) : count_(count)
+    {
+        if (count_ == 3) throw std::runtime_error("three are enough");
+        count_++;
+    }
+    ~counted() { count_--; }
+    int &count_;
+};
+
+void opening()
+{
+    EXPECT(refuses(DYM_BAD, [] { dymelor::object none(0); }));
+    EXPECT(refuses(DYM_BAD, [] { dymelor::object none(4, 3); }));
+    dymelor::object closed;
+    EXPECT(!closed.is_open() && closed.try_log(1, dymelor::wrote::touched) == DYM_BAD);
+    EXPECT(closed.try_log(1, dymelor::wrote::anywhere) == DYM_BAD);
+    EXPECT(refuses(DYM_BAD, [&] { closed.make<int>(3); }));
+    EXPECT(closed.try_open(2) == DYM_DONE && closed.try_open(2) == DYM_BAD && closed.is_open());
+    closed.close();
+    closed.close();
+    EXPECT(!closed.is_open());
+}
+
+void moves()
+{
+    dymelor::object a(2), b(3);
+    auto value = a.make<int>(7);
+    b = std::move(a);
+    EXPECT(!a.is_open() && b.is_open() && b.at<int>(value.chunk) == 7 && &b.at<int>(value.chunk) == value.at);
+    dymelor::object c(std::move(b));
+    EXPECT(!b.is_open() && *value == 7 && c.at<int>(value.chunk) == 7);
+    static_assert(!std::is_copy_constructible_v<dymelor::object> && !std::is_copy_assignable_v<dymelor::object>);
+}
+
+void values()
+{
+    dymelor::object o(2);
+    auto p = o.make<point>(1.5, 2.5);
+    EXPECT(p->x == 1.5 && p->y == 2.5 && dym_same(o.chunk_of(&p->y), p.chunk));
+    EXPECT(o.make<point>()->x == 0);
+    o.touch<point>(p.chunk).y = 4;
+    EXPECT(o.at<point>(p.chunk).y == 4);
+    using longer = std::array<double, 3>;
+    EXPECT(refuses(DYM_RANGE, [&] { o.at<longer>(p.chunk); }) && refuses(DYM_RANGE, [&] { o.touch<longer>(p.chunk); }));
+    EXPECT(refuses(DYM_QUOTA, [&] { o.make<std::array<char, 100>>(), o.make<std::array<char, 1000>>(); }));
+    o.destroy(p.at);
+    EXPECT(refuses(DYM_DEAD, [&] { o.at<point>(p.chunk); }) && refuses(DYM_DEAD, [&] { o.destroy(p.at); }));
+    EXPECT(refuses(DYM_DEAD, [&] { o.chunk_of(&o); }));
+    int count = 2;
+    auto made = o.make<counted>(count);
+    bool thrown = false;
+    try {
+        o.make<counted>(count);
+    } catch (const std::runtime_error &) {
+        thrown = true;
+    }
+    EXPECT(thrown && count == 3 && made.chunk.index == 0 && o.make<int>(0).chunk.index == 2);
+    o.destroy(made.at);
+    EXPECT(count == 2);
+}
+
+void logs()
+{
+    dymelor::object o(2);
+    auto value = o.make<int>(1);
+    EXPECT(refuses(DYM_NO_LOG, [&] { o.restore(9, dymelor::wrote::touched); }));
+    EXPECT(o.log(10, dymelor::wrote::anywhere).kind == DYM_FULL);
+    *value = 2;
+    EXPECT(o.log(20, dymelor::wrote::anywhere).kind == DYM_INCREMENTAL);
+    o.touch<int>(value.chunk) = 3;
+    o.log(30, dymelor::wrote::anywhere);
+    EXPECT(refuses(DYM_NOT_AFTER, [&] { o.log(30, dymelor::wrote::anywhere); }));
+    *value = 4;
+    EXPECT(o.restore_before(30, dymelor::wrote::anywhere) == 20 && *value == 2);
+    *value = 5;
+    EXPECT(o.restore(29, dymelor::wrote::anywhere) == 20 && *value == 2);
+    o.log(25, dymelor::wrote::touched, DYM_FULL);
+    EXPECT(o.prune_before(25) == 1 && o.prune(25) == 1 && o.try_restore(24, dymelor::wrote::touched) == DYM_NO_LOG);
+}
+
+void files()
+{
+    dymelor::object o(3), other;
+    auto value = o.make<point>(1.0, 2.0);
+    o.log(10, dymelor::wrote::touched);
+    EXPECT(refuses(DYM_BAD, [&] { o.save("no name"); }));
+    auto file = o.save("lp");
+    std::uint32_t part = 9;
+    EXPECT(other.try_load(file.data(), 3, &part) == DYM_BAD && part == 0);
+    EXPECT(refuses(DYM_BAD, [&] { o.load(file.data(), file.size()); }));
+    other.load(file.data(), file.size());
+    EXPECT(other.at<point>(value.chunk).y == 2 && &other.at<point>(value.chunk) != value.at && other.save("lp") == file);
+}
+
+bool wants_memory(std::pmr::memory_resource &memory, std::size_t bytes, std::size_t aligned_to)
+{
+    try {
+        memory.deallocate(memory.allocate(bytes, aligned_to), bytes, aligned_to);
+    } catch (const std::bad_alloc &) {
+        return true;
+    }
+    return false;
+}
+
+void resources()
+{
+    dymelor::object o(2);
+    dymelor::resource memory(o), same(o);
+    EXPECT(memory == memory && memory != same);
+    EXPECT(!wants_memory(memory, 0, 1) && !wants_memory(memory, 65536, 16));
+    EXPECT(wants_memory(memory, 65537, 8) && wants_memory(memory, 64, 32));
+    void *a = memory.allocate(65536), *b = memory.allocate(0);
+    EXPECT(wants_memory(memory, 65536, 16));
+    memory.deallocate(a, 65536);
+    memory.deallocate(b, 0);
+    dym_handle first = dym_nil;
+    EXPECT(dym_next(o.c(), dym_nil, &first) == DYM_DONE && dym_same(first, dym_nil));
+}
+
+} // namespace
+
+int main()
+{
+    opening();
+    moves();
+    values();
+    logs();
+    files();
+    resources();
+    return differences > 0;
+}
