@@ -1,0 +1,211 @@
+/*
+ * What it costs that stores are told: events a second and bytes logged for each event of one model by touches by hand, told, with every chunk
+ * touched before each event, and by whole copies of a flat state; and nanoseconds of one store. Each number is the best of several rounds, which
+ * take the ways in turns. stores_speed ROUNDS prints tables; its status is 1 where a bar isn't reached.
+ */
+#define _XOPEN_SOURCE 700
+
+#include "dymelor_track.h"
+#include "stores_speed.h"
+
+#include <stdio.h>
+#include <stdlib.h>
+#include <string.h>
+#include <time.h>
+
+enum { WAYS = 4, CHUNK_BYTES = CHUNK_NUMBERS * 8, QUOTA = 20, LOGS = 32, STORES = 200000 };
+
+static const char *const names[WAYS] = {"by hand", "told", "touch all", "whole copies"};
+
+typedef struct measured {
+    double rate, bytes;
+} measured;
+
+static void must(dym_status status)
+{
+    if (status == DYM_DONE) return;
+    fprintf(stderr, "stores_speed: %s\n", dym_status_text(status));
+    exit(70);
+}
+
+static void *must_have(void *block)
+{
+    if (block == NULL) must(DYM_MEMORY);
+    return block;
+}
+
+static double now(void)
+{
+    struct timespec t;
+    clock_gettime(CLOCK_MONOTONIC, &t);
+    return (double)t.tv_sec + (double)t.tv_nsec * 1e-9;
+}
+
+static void open_state(state *s, dym_object *object, size_t bytes)
+{
+    void *at;
+    s->object = object;
+    s->count = bytes / CHUNK_BYTES;
+    s->chunks = must_have(calloc(s->count, sizeof *s->chunks));
+    s->handles = must_have(calloc(s->count, sizeof *s->handles));
+    s->random = 1;
+    must(dym_open(object, QUOTA, 1));
+    for (size_t k = 0; k < s->count; k++) {
+        must(dym_malloc_at(object, CHUNK_BYTES, &s->handles[k], &at));
+        s->chunks[k] = at;
+    }
+}
+
+static void close_state(state *s)
+{
+    must(dym_close(s->object));
+    free(s->chunks);
+    free(s->handles);
+}
+
+/* Turns of some events and a log, by a way over an object. */
+static double run_object(state *s, int way, size_t changes, size_t period, double seconds, size_t *events)
+{
+    dym_logged logged;
+    uint64_t time = 1, bytes = 0;
+    uint32_t dropped;
+    double start = now();
+    must(dym_log(s->object, DYM_FULL, time, &logged));
+    while (now() - start < seconds) {
+        for (size_t turn = 0; turn < LOGS; turn++) {
+            for (size_t k = 0; k < period; k++) {
+                if (way == 0) event_by_hand(s, changes);
+                if (way == 1) {
+                    must(dym_track(s->object));
+                    event_told(s, changes);
+                    must(dym_track(NULL));
+                }
+                if (way == 2) {
+                    must(dym_touch_all(s->object));
+                    event_plain(s, changes);
+                }
+            }
+            must(dym_log(s->object, DYM_INCREMENTAL, ++time, &logged));
+            bytes += logged.length;
+        }
+        *events += LOGS * period;
+        must(dym_prune(s->object, time, &dropped));
+    }
+    return (double)bytes;
+}
+
+/* The same over a flat state, of which each log is a copy. */
+static double run_copies(state *s, uint8_t *flat, size_t changes, size_t period, double seconds, size_t *events)
+{
+    uint8_t *logs[LOGS];
+    size_t length = s->count * CHUNK_BYTES;
+    double start = now(), bytes = 0;
+    for (size_t k = 0; k < s->count; k++) s->chunks[k] = (uint64_t *)(flat + k * CHUNK_BYTES);
+    while (now() - start < seconds) {
+        for (size_t turn = 0; turn < LOGS; turn++) {
+            for (size_t k = 0; k < period; k++) event_plain(s, changes);
+            logs[turn] = must_have(malloc(length));
+            memcpy(logs[turn], flat, length);
+            bytes += (double)length;
+        }
+        *events += LOGS * period;
+        for (size_t turn = 0; turn < LOGS; turn++) free(logs[turn]);
+    }
+    return bytes;
+}
+
+static measured measure(int way, size_t bytes, size_t changes, size_t period, double seconds)
+{
+    dym_object object = {0};
+    state s;
+    measured m;
+    size_t events = 0;
+    double start, logged;
+    uint8_t *flat = must_have(calloc(1, bytes));
+    open_state(&s, &object, bytes);
+    start = now();
+    logged = way < 3 ? run_object(&s, way, changes, period, seconds, &events) : run_copies(&s, flat, changes, period, seconds, &events);
+    m.rate = (double)events / (now() - start);
+    m.bytes = logged / (double)events;
+    close_state(&s);
+    free(flat);
+    return m;
+}
+
+/* A row of the table; told beside by hand. */
+static double row(size_t bytes, size_t changes, size_t period, int rounds)
+{
+    measured best[WAYS] = {{0, 0}};
+    for (int round = 0; round < rounds; round++)
+        for (int way = 0; way < WAYS; way++) {
+            measured m = measure(way, bytes, changes, period, 0.1);
+            if (m.rate > best[way].rate) best[way] = m;
+        }
+    printf("| %zu | %zu | %zu |", bytes, changes, period);
+    for (int way = 0; way < WAYS; way++) printf(" %.0f, %.0f B |", best[way].rate / 1000, best[way].bytes);
+    printf(" %.2f |\n", best[1].rate / best[0].rate);
+    fflush(stdout);
+    return best[1].rate / best[0].rate;
+}
+
+static double nanoseconds(void (*stores)(volatile uint64_t *, size_t), volatile uint64_t *at, int rounds)
+{
+    double best = 1e9;
+    for (int round = 0; round < 100 * rounds; round++) {
+        double start = now(), each;
+        stores(at, STORES);
+        each = (now() - start) * 1e9 / STORES;
+        if (each < best) best = each;
+    }
+    return best;
+}
+
+static int judge(const char *what, double found, double bar, int is_most)
+{
+    int is_reached = is_most ? found <= bar : found >= bar;
+    printf("| %s | %.2f | %s %.2f | %s |\n", what, found, is_most ? "at most" : "at least", bar, is_reached ? "yes" : "no");
+    return is_reached;
+}
+
+static int judge_stores(int rounds)
+{
+    dym_object object = {0};
+    dym_handle chunk;
+    void *inside = NULL;
+    uint64_t outside[CHUNK_NUMBERS];
+    double plain, touched, other, none;
+    must(dym_open(&object, 1, 1));
+    must(dym_malloc_at(&object, CHUNK_BYTES, &chunk, &inside));
+    plain = nanoseconds(stores_plain, outside, rounds);
+    none = nanoseconds(stores_told, outside, rounds) - plain;
+    must(dym_track(&object));
+    touched = nanoseconds(stores_told, inside, rounds) - plain;
+    other = nanoseconds(stores_told, outside, rounds) - plain;
+    must(dym_track(NULL));
+    must(dym_close(&object));
+    return judge("a store into a touched chunk, ns more than untold", touched, 4, 1) &
+           judge("a store outside the object, ns more", other, 2, 1) & judge("a store where no object is named, ns more", none, 2, 1);
+}
+
+int main(int count, char **words)
+{
+    static const size_t states[] = {256, 4096, 65536, 1048576};
+    int rounds = count == 2 ? atoi(words[1]) : 3, is_reached;
+    double least = 1e9;
+    printf("| state | chunks an event changes | events a log |");
+    for (int way = 0; way < WAYS; way++) printf(" %s |", names[way]);
+    printf(" told to by hand |\n|---|---|---|---|---|---|---|---|\n");
+    for (size_t k = 0; k < 4; k++)
+        for (size_t changes = 1;;) {
+            for (size_t period = 1; period <= 16; period *= 16) {
+                double ratio = row(states[k], changes, period, rounds);
+                if (states[k] == 65536 && ratio < least) least = ratio;
+            }
+            if (changes > 1 || states[k] / CHUNK_BYTES / 100 <= 1) break;
+            changes = states[k] / CHUNK_BYTES / 100;
+        }
+    printf("\n| what | measured | bar | reached |\n|---|---|---|---|\n");
+    is_reached = judge("told to by hand with 65,536 bytes, the least", least, 0.75, 0);
+    is_reached &= judge_stores(rounds);
+    return is_reached ? 0 : 1;
+}
