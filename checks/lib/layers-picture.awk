@@ -44,7 +44,7 @@ $1 == "heading" {
 }
 $1 == "crate" {
   if (column == across) { column = 0; y += height + gap }
-  box($2, $4)
+  box($2, $3)
   column++
 }
 END {
