@@ -1,22 +1,17 @@
 -- How far the used chunks of an area reach, as chunks are taken and given up.
-use Rattle.std.proofs.Common.{◌≡◌, ℕ, ◌+◌, ◌-◌, ◌*◌, ◌<◌, ◌≤◌, Bool, true, false, List, length, inl, inr, sym, ◌∙◌, ap, arith, le_refl}
+use Rattle.std.proofs.Common.{◌≡◌, ℕ, ◌+◌, ◌-◌, ◌*◌, ◌<◌, ◌≤◌, Bool, true, false, List, length, inl, inr, sym, ◌∙◌, ap, arith}
 use Rattle.std.specs.Prelude.{slice_set}
-use Rattle.std.proofs.lemmas.Bool.{cases_eq, cases_lt}
+use Rattle.std.proofs.lemmas.Bool.{cases_eq}
 use Rattle.std.proofs.lemmas.List.{get_or-set_other}
 use Rattle.std.proofs.lemmas.Grind.{get_or-set_at}
-use Rattle.std.proofs.lemmas.Nat.{row_fits}
 use Rattle.dym_base.specs.Numbers.{size}
-use Rattle.dym_bits.specs.Bits.{bit_in, IsSet, IsClear, IsTopSet}
+use Rattle.dym_bits.specs.Bits.{bit_in, IsSet}
 use Rattle.dym_area.specs.Area.{AreFilled}
 use Rattle.dym_area.proofs.Rooms.{true_is_not_false}
 
 -- as far as before, or farther
 pub filled_on : (used : List Bool) (e far farther : ℕ) → far ≤ farther → AreFilled used e far → AreFilled used e farther
 filled_on used e far farther more filled i set = omega (arith, more, filled i set)
-
--- where no chunk is used
-pub none_filled : (used : List Bool) (e far : ℕ) → ((i : ℕ) → IsClear used i) → AreFilled used e far
-none_filled used e far clear i set = absurd (true_is_not_false (bit_in used i) set (clear i))
 
 -- one chunk more
 pub filled_taken : (used : List Bool) (e far farther i : ℕ) → far ≤ farther → i * size e + size e ≤ farther → AreFilled used e far → AreFilled (slice_set used i true) e farther
@@ -40,14 +35,6 @@ chunk_end i n = grind arith
 
 sum_of : (m n k : ℕ) → m * k + n * k ≡ (m + n) * k
 sum_of m n k = grind arith
-
--- up to the end of the greatest one
-pub filled_to_top : (used : List Bool) (e top : ℕ) → IsTopSet used top → AreFilled used e ((top + 1) * size e)
-filled_to_top used e top is k set =
-    elim (cases_lt top k) [
-      | inl above ↦ absurd (true_is_not_false (bit_in used k) set (is.greatest k above))
-      | inr within ↦ row_fits k (size e) (top + 1) (size e) (omega (arith, within)) (le_refl (size e))
-    ]
 
 -- used chunks side by side
 pub run_within : (used : List Bool) (e far from count : ℕ) → (count ≡ 0 → ⊥) → ((i : ℕ) → from ≤ i → i < from + count → IsSet used i) → AreFilled used e far → from * size e + count * size e ≤ far

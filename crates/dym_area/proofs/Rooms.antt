@@ -101,35 +101,6 @@ summary_released used count room after i within below summed same others = recor
 
 -- ---- a chunk taken
 
--- the other words have their chunks still
-pub found_elsewhere : (used : List Bool) (count room i : ℕ) → IsSummary used count room → (q : ℕ) → bit_at room q ≡ 1 → (q ≡ i / 64 → ⊥) → HasRoom (slice_set used i true) count q
-found_elsewhere used count room i summed q one elsewhere =
-    let has = summed.found q one in
-    record {
-      chunk = has.chunk;
-      within = has.within;
-      word = has.word;
-      unused = get_or-set_other used i has.chunk true false (λ alike. elsewhere (sym has.word ∙ ap (λ j. j / 64) alike)) ∙ has.unused;
-    }
-
--- a chunk that is unused then was unused before
-pub marked_before : (used : List Bool) (count room i : ℕ) → i < length used → IsSummary used count room → (k : ℕ) → k < count → IsClear (slice_set used i true) k → bit_at room (k / 64) ≡ 1
-marked_before used count room i within summed k under unused =
-    elim (cases_eq k i) [
-      | inl same ↦ absurd (true_is_not_false (bit_in (slice_set used i true) k) (get_or-set_at used i k true false same within) unused)
-      | inr other ↦ summed.marked k under (sym (get_or-set_other used i k true false other) ∙ unused)
-    ]
-
-pub summary_still : (used : List Bool) (count room i : ℕ) → HasRoom used count (i / 64) → ((q : ℕ) → bit_at room q ≡ 1 → (q ≡ i / 64 → ⊥) → HasRoom used count q) → ((k : ℕ) → k < count → IsClear used k → bit_at room (k / 64) ≡ 1) → IsSummary used count room
-summary_still used count room i here elsewhere marked = record {
-  found = λ q one.
-      elim (cases_eq q (i / 64)) [
-        | inl same ↦ record { chunk = here.chunk; within = here.within; word = here.word ∙ sym same; unused = here.unused }
-        | inr other ↦ elsewhere q one other
-      ];
-  marked = marked;
-}
-
 -- a bit that is left after another was cleared was there before
 left_of_cleared : (a b : ℕ) → a < 2 → min a b ≡ 1 → a ≡ 1
 left_of_cleared a b few one = omega arith

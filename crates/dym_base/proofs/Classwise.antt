@@ -1,7 +1,7 @@
 -- How a chunk that comes or goes changes the areas of its own class, and so what is held.
 use Rattle.std.proofs.Common.{◌≡◌, ℕ, suc, zero, ◌+◌, ◌-◌, ◌*◌, ◌/◌, ◌%◌, ◌^◌, ◌<◌, ◌≤◌, max, inl, inr, Bool, true, false, not, cond, leb, List, [], ◌∷◌, ◌==◌, sum_by, refl, sym, ap, ◌∙◌, arith}
 use Rattle.std.specs.List.{list_any}
-use Rattle.std.specs.FinMap.{insert, remove}
+use Rattle.std.specs.FinMap.{insert}
 use Rattle.std.proofs.lemmas.Bool.{cases_eq, agree_below_at, le-leb, eqb-true, eqb-false, not-true, or_parts, true≢false}
 use Rattle.std.proofs.lemmas.List.Sums.{sum_by-cons}
 use Rattle.std.proofs.Math.Nat.{suc-mul}
@@ -9,8 +9,7 @@ use Rattle.std.proofs.lemmas.Nat.{pow_pos, div-add-mod', div-mul-add}
 use Rattle.dym_base.specs.Numbers.{per, number, exponent_of, index_of, classes}
 use Rattle.dym_base.specs.Heaps.{Live, fresh, areas, held}
 use Rattle.dym_base.specs.HeapStep.{held_with_fresh}
-use Rattle.dym_base.proofs.Maps.{has_left}
-use Rattle.dym_base.proofs.Heaps.{below_fresh, reach, reach_there, reach_other, reach_areas, areas_least, areas_insert, areas_remove}
+use Rattle.dym_base.proofs.Heaps.{below_fresh, reach, reach_there, reach_other, reach_areas, areas_insert}
 
 pub held_sum : (live : Live) → held live ≡ sum_by (areas live) classes
 unfolding held
@@ -64,20 +63,8 @@ areas_insert_other live k bytes e other =
     let none = reach_other e k other in
     omega arith
 
-pub areas_remove_other : (live : Live) (k e : ℕ) → (exponent_of k ≡ e → ⊥) → areas (remove live k) e ≡ areas live e
-areas_remove_other live k e other =
-    let less = areas_remove live k e in
-    let more : areas live e ≤ areas (remove live k) e = areas_least live e _ (λ q has. elim (cases_eq q k) as (λ _. reach e q ≤ areas (remove live k) e) [
-      | inl same ↦ (let none = reach_other e q (λ is. other (sym (ap exponent_of same) ∙ is)) in omega arith)
-      | inr ne ↦ reach_areas (remove live k) e q (has_left live k q ne has)
-    ]) in
-    omega arith
-
 pub held_insert_class : (live : Live) (k : ℕ) (bytes : List ℕ) (e : ℕ) → 5 ≤ e → e ≤ 16 → exponent_of k ≡ e → held (insert live k bytes) + areas live e ≡ held live + areas (insert live k bytes) e
 held_insert_class live k bytes e low high is = held_class live (insert live k bytes) e low high (λ x ne. sym (areas_insert_other live k bytes x (λ also. ne (sym also ∙ is))))
-
-pub held_remove_class : (live : Live) (k e : ℕ) → 5 ≤ e → e ≤ 16 → exponent_of k ≡ e → held (remove live k) + areas live e ≡ held live + areas (remove live k) e
-held_remove_class live k e low high is = held_class live (remove live k) e low high (λ x ne. sym (areas_remove_other live k x (λ also. ne (sym also ∙ is))))
 
 -- a fresh chunk stands in an area that is there, or is the first of the next one
 

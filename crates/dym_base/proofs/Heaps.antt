@@ -127,12 +127,6 @@ areas_remove live k = areas_grow (remove live k) live (λ q has. (has_removed li
 
 -- held
 
-sum_same : (f g : ℕ → ℕ) (xs : List ℕ) → ((x : ℕ) → f x ≡ g x) → sum_by f xs ≡ sum_by g xs
-sum_same f g xs each =
-    let less = sum_by-le-sum_by f g xs (λ x. (let same = each x in omega arith)) in
-    let more = sum_by-le-sum_by g f xs (λ x. (let same = each x in omega arith)) in
-    omega arith
-
 sum_zero : (f : ℕ → ℕ) (xs : List ℕ) → ((x : ℕ) → f x ≡ 0) → sum_by f xs ≡ 0
 sum_zero f [] each = refl
 sum_zero f (x ∷ xs) each = sum_by-cons f x xs ∙ (let first = each x in let rest = sum_zero f xs each in omega arith)

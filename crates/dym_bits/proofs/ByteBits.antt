@@ -10,15 +10,16 @@ use Rattle.std.proofs.lemmas.Bool.{cases_eq, cases_lt}
 use Rattle.dym_bits.proofs.BitmapLemmas.{length-digits, get_or-digits, length-bits_of, get_or-bits_of, get_or-bits_of_at, bits_of-replicate}
 use Rattle.dym_bits.proofs.Counts.{digits-suc, half_below, bits_of-append, bits_of-single, bits_of-take_more}
 use Rattle.std.specs.Int.{bytes_low_first, byte_at, to_le_bytes, from_le_bytes}
-use Rattle.std.proofs.Common.{cond, max, subst}
+use Rattle.std.proofs.Common.{cond, max, subst, append_assoc}
 use Rattle.std.proofs.lemmas.List.{length-take, length-drop, get_or-take, get_or-drop, take-append-drop, take-take, drop-take, take_more_set, get_or-append_right, length-take-le}
 use Rattle.std.proofs.lemmas.Nat.{shr-shr, pow-add, pow_pos, and_mask, shl_whole, le_bytes_8}
 use Rattle.std.proofs.lemmas.Nat.Bits.{bit_at-lt, bit_at_lowest, bit_at_cat_low, bit_at_cat_high, bit_at_or, bit_at_and, bit_at_not, bit_at_ones, bit_at_ones_above, bit_at_above}
 use Rattle.std.proofs.Math.Nat.{pow-suc}
-use Rattle.std.proofs.lemmas.List.{drop-replicate}
-use Rattle.std.proofs.lemmas.Slice.{take-put_mid}
+use Rattle.std.proofs.lemmas.List.{drop-replicate, append-nil, take_all, replicate-append-replicate}
+use Rattle.std.proofs.lemmas.Slice.{take-put_mid, drop-put_mid}
 use borrow.Rule.Slice.PartMut.{put_mid}
-use Rattle.dym_bits.specs.Bits.{digit, digits, bits_of, clear_bits, bit_in, bytes_of_bits}
+use Rattle.dym_bits.specs.Bits.{digit, digits, bits_of, clear_bits, bit_in, bytes_of_bits, AreZeroFrom}
+use Rattle.dym_bits.proofs.UsedWords.{zero_of_zeros, rest_is_zeros}
 use Rattle.dym_base.specs.Packed.{bitmap, bitmap_byte, weight}
 use Rattle.std.proofs.Common.{nat_lt, ◌&&◌, lit<, true}
 use Rattle.std.proofs.lemmas.Bool.{lt-ltb, le-ltb}
@@ -304,28 +305,106 @@ bits_with_byte ns k v within fits =
 
 -- ---- bytes that fill the words
 
-pub padded_bits : (front bytes : List ℕ) → front ≡ bytes → length bytes ≤ 256 → bits_of 8 (front ++ drop (length bytes) (replicate 256 0)) ≡ bits_of 8 bytes ++ clear_bits (2048 - 8 * length bytes)
-padded_bits front bytes same short =
-    ap (λ xs. bits_of 8 (xs ++ drop (length bytes) (replicate 256 0))) same
-    ∙ bits_of-append 8 bytes (drop (length bytes) (replicate 256 0))
+-- fewer than eight bytes, filled up with 0
+filled_below : (front bytes : List ℕ) → front ≡ bytes → ((k : ℕ) → get_or bytes k 0 < 256) → (i : ℕ) → get_or (front ++ drop (length bytes) (replicate 8 0)) i 0 < 256
+filled_below front bytes same fits i =
+    let Small : ℕ → Type 0 = λ n. n < 256 in
+    elim (cases_lt i (length front)) [
+      | inl below ↦ subst Small (sym (get_or_append_left front (drop (length bytes) (replicate 8 0)) 0 i below ∙ ap (λ xs. get_or xs i 0) same)) (fits i)
+      | inr past ↦
+          subst Small
+          (sym (get_or-append_right front (drop (length bytes) (replicate 8 0)) (length front) i 0 refl past
+          ∙ get_or-drop (length bytes) (replicate 8 0) (i - length front) 0
+          ∙ zero_of_zeros 8 (length bytes + (i - length front))))
+          (omega arith)
+    ]
+
+pub word_of_filled : (front bytes : List ℕ) (n : ℕ) → front ≡ bytes → length bytes < 8 → ((k : ℕ) → get_or bytes k 0 < 256) → n ≡ from_le_bytes w64 (front ++ drop (length bytes) (replicate 8 0)) → digits 64 n ≡ bits_of 8 bytes ++ clear_bits (64 - 8 * length bytes)
+word_of_filled front bytes n same short fits is =
+    let filled = front ++ drop (length bytes) (replicate 8 0) in
+    let long : length filled ≡ 8 = length-append front (drop (length bytes) (replicate 8 0)) ∙ omega (arith, ap length same, length-drop (length bytes) (replicate {A = ℕ} 8 0)) in
+    digits_of_bytes n
+    ∙ ap (bits_of 8) (le_bytes_8 filled n long (filled_below front bytes same fits) is)
+    ∙ ap (λ xs. bits_of 8 (xs ++ drop (length bytes) (replicate 8 0))) same
+    ∙ bits_of-append 8 bytes (drop (length bytes) (replicate 8 0))
     ∙ ap (λ bits. bits_of 8 bytes ++ bits)
-    (ap (bits_of 8) (drop-replicate (length bytes) 256 0)
-    ∙ bits_of-replicate 8 (256 - length bytes) (omega arith)
+    (ap (bits_of 8) (drop-replicate (length bytes) 8 0)
+    ∙ bits_of-replicate 8 (8 - length bytes) (omega arith)
     ∙ ap clear_bits (omega arith))
 
+-- no clear bits behind a list, and more of them
+pub none_behind : (bits : List Bool) (n : ℕ) → n ≡ 0 → bits ++ clear_bits n ≡ bits
+unfolding clear_bits
+none_behind bits n none = ap (λ m. bits ++ clear_bits m) none ∙ append-nil bits
+
+more_clear : (m n : ℕ) → clear_bits m ++ clear_bits n ≡ clear_bits (m + n)
+unfolding clear_bits
+more_clear m n = replicate-append-replicate m n false
+
+-- the bytes that are left, where they are fewer than eight
+pub last_word : (bytes : List ℕ) (at n : ℕ) → length bytes - at < 8 → (let rest = take (length bytes - at) (drop at bytes) in digits 64 n ≡ bits_of 8 rest ++ clear_bits (64 - 8 * length rest)) → digits 64 n ≡ bits_of 8 (take 8 (drop at bytes)) ++ clear_bits (64 - 8 * (length bytes - at))
+last_word bytes at n few is =
+    let left : take (length bytes - at) (drop at bytes) ≡ drop at bytes = take_all (length bytes - at) (drop at bytes) (omega (arith, length-drop at bytes)) in
+    let eight : take 8 (drop at bytes) ≡ drop at bytes = take_all 8 (drop at bytes) (omega (arith, length-drop at bytes)) in
+    is
+    ∙ ap (λ xs. bits_of 8 xs ++ clear_bits (64 - 8 * length xs)) (left ∙ sym eight)
+    ∙ ap (λ m. bits_of 8 (take 8 (drop at bytes)) ++ clear_bits (64 - 8 * m)) (ap length eight ∙ length-drop at bytes)
+
+-- numbers that are 0 from number n on
+bits_past_used : (k : ℕ) (ns : List ℕ) (n m : ℕ) → 0 < k → length ns ≡ m → AreZeroFrom n ns → bits_of k ns ≡ bits_of k (take n ns) ++ clear_bits ((m - n) * k)
+bits_past_used k ns n m some long rest =
+    ap (bits_of k) (sym (take-append-drop n ns))
+    ∙ bits_of-append k (take n ns) (drop n ns)
+    ∙ ap (λ bits. bits_of k (take n ns) ++ bits) (ap (bits_of k) (rest_is_zeros ns n m long rest) ∙ bits_of-replicate k (m - n) some)
+
+-- words and bytes with the same bits in the used ones
+pub same_bits : (words bytes : List ℕ) (used : ℕ) → length words ≡ 32 → length bytes ≡ 256 → used ≤ 32 → AreZeroFrom used words → AreZeroFrom (8 * used) bytes → bits_of 8 (take (8 * used) bytes) ≡ bits_of 64 (take used words) → bits_of 8 bytes ≡ bits_of 64 words
+same_bits words bytes used long_words long_bytes within rest_words rest_bytes same =
+    let cut : (256 - 8 * used) * 8 ≡ (32 - used) * 64 = omega arith in
+    bits_past_used 8 bytes (8 * used) 256 (omega arith) long_bytes rest_bytes
+    ∙ (λ i. same i ++ clear_bits (cut i))
+    ∙ sym (bits_past_used 64 words used 32 (omega arith) long_words rest_words)
+
 -- one word more, read from bytes
-pub word_from_bytes : (ns bytes : List ℕ) (q n : ℕ) → q < length ns → bits_of 64 (take q ns) ≡ bits_of 8 (take (8 * q) bytes) → digits 64 n ≡ bits_of 8 (take 8 (drop (8 * q) bytes)) → bits_of 64 (take (q + 1) (set ns q n)) ≡ bits_of 8 (take (8 * (q + 1)) bytes)
-word_from_bytes ns bytes q n within so_far next =
+pub word_from_bytes : (ns bytes : List ℕ) (q n : ℕ) → q < length ns → 8 * q ≤ length bytes → bits_of 64 (take q ns) ≡ bits_of 8 (take (8 * q) bytes) ++ clear_bits (64 * q - 8 * length bytes)
+    → digits 64 n ≡ bits_of 8 (take 8 (drop (8 * q) bytes)) ++ clear_bits (64 - 8 * (length bytes - 8 * q)) → bits_of 64 (take (q + 1) (set ns q n)) ≡ bits_of 8 (take (8 * (q + 1)) bytes) ++ clear_bits (64 * (q + 1) - 8 * length bytes)
+word_from_bytes ns bytes q n within left so_far next =
+    let front = bits_of 8 (take (8 * q) bytes) in
+    let here = bits_of 8 (take 8 (drop (8 * q) bytes)) in
+    let cut : 64 - 8 * (length bytes - 8 * q) ≡ 64 * (q + 1) - 8 * length bytes = omega arith in
+    let before : bits_of 64 (take q ns) ≡ front = so_far ∙ none_behind front (64 * q - 8 * length bytes) (omega arith) in
     ap (bits_of 64) (take_more_set ns q n within)
     ∙ bits_of-append 64 (take q ns) (n ∷ [])
     ∙ ap (λ bits. bits_of 64 (take q ns) ++ bits) (bits_of-single 64 n ∙ next)
-    ∙ ap (λ bits. bits ++ bits_of 8 (take 8 (drop (8 * q) bytes))) so_far
-    ∙ sym (ap (bits_of 8) (take_eight_more bytes q) ∙ bits_of-append 8 (take (8 * q) bytes) (take 8 (drop (8 * q) bytes)))
+    ∙ ap (λ bits. bits ++ (here ++ clear_bits (64 - 8 * (length bytes - 8 * q)))) before
+    ∙ sym (append_assoc front here (clear_bits (64 - 8 * (length bytes - 8 * q))))
+    ∙ ap (λ bits. bits ++ clear_bits (64 - 8 * (length bytes - 8 * q))) (sym (ap (bits_of 8) (take_eight_more bytes q) ∙ bits_of-append 8 (take (8 * q) bytes) (take 8 (drop (8 * q) bytes))))
+    ∙ ap (λ m. bits_of 8 (take (8 * (q + 1)) bytes) ++ clear_bits m) cut
+
+-- all words read from bytes
+pub bits_from_bytes : (words bytes : List ℕ) (used : ℕ) → length words ≡ 32 → used ≤ 32 → length bytes ≤ 8 * used → AreZeroFrom used words → bits_of 64 (take used words) ≡ bits_of 8 (take (8 * used) bytes) ++ clear_bits (64 * used - 8 * length bytes) → bits_of 64 words ≡ bits_of 8 bytes ++ clear_bits (2048 - 8 * length bytes)
+bits_from_bytes words bytes used long within all rest same =
+    let behind = clear_bits ((32 - used) * 64) in
+    let past = clear_bits (64 * used - 8 * length bytes) in
+    let cut : 64 * used - 8 * length bytes + (32 - used) * 64 ≡ 2048 - 8 * length bytes = omega arith in
+    bits_past_used 64 words used 32 (omega arith) long rest
+    ∙ ap (λ bits. bits ++ behind) (same ∙ ap (λ xs. bits_of 8 xs ++ past) (take_all (8 * used) bytes all))
+    ∙ append_assoc (bits_of 8 bytes) past behind
+    ∙ ap (λ bits. bits_of 8 bytes ++ bits) (more_clear (64 * used - 8 * length bytes) ((32 - used) * 64) ∙ ap clear_bits cut)
 
 -- a part written leaves the length
 pub length-put_mid : (a k : ℕ) (xs part : List ℕ) → a + k ≤ length xs → length part ≡ k → length (put_mid a k xs part) ≡ length xs
 length-put_mid a k xs part room long =
     omega (arith, length-append (take a xs) (part ++ drop k (drop a xs)), length-append part (drop k (drop a xs)), length-take-le a xs (omega arith), length-drop k (drop a xs), length-drop a xs)
+
+-- the part written, and behind it as before
+pub rest_after_part : (a k n : ℕ) (xs part : List ℕ) → a + k ≤ n → a ≤ length xs → length part ≡ k → AreZeroFrom a xs → AreZeroFrom n (put_mid a k xs part)
+rest_after_part a k n xs part reaches room long rest p past =
+    ap (λ i. get_or (put_mid a k xs part) i 0) (omega arith)
+    ∙ sym (get_or-drop n (put_mid a k xs part) (p - n) 0)
+    ∙ ap (λ ys. get_or ys (p - n) 0) (drop-put_mid a k xs part n reaches room long)
+    ∙ get_or-drop n xs (p - n) 0
+    ∙ rest (n + (p - n)) (omega arith)
 
 -- one word more, written as bytes
 pub word_to_bytes : (ns bytes part : List ℕ) (q k : ℕ) → q < length ns → 8 * q ≤ length bytes → part ≡ to_le_bytes w64 (get_or ns q 0) → bits_of 8 (take (8 * q) bytes) ≡ bits_of 64 (take q ns) → bits_of 8 (take (8 * (q + 1)) (put_mid (8 * q) k bytes part)) ≡ bits_of 64 (take (q + 1) ns)

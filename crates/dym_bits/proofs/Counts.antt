@@ -1,9 +1,9 @@
 -- Numbers of set bits.
-use Rattle.std.proofs.Common.{◌≡◌, ℕ, zero, suc, ◌+◌, ◌-◌, ◌*◌, ◌/◌, ◌%◌, ◌^◌, ◌<◌, ◌≤◌, false, List, [], ◌∷◌, ◌++◌, length, take, get_or, refl, sym, ◌∙◌, ap, arith, inl, inr, nat_eq, bit_and}
+use Rattle.std.proofs.Common.{◌≡◌, ℕ, zero, suc, ◌+◌, ◌-◌, ◌*◌, ◌/◌, ◌%◌, ◌^◌, ◌<◌, ◌≤◌, Bool, false, List, [], ◌∷◌, ◌++◌, length, take, drop, get_or, refl, sym, ◌∙◌, ap, arith, inl, inr, nat_eq, bit_and}
 use Rattle.std.specs.Int.{bit_at}
-use Rattle.std.proofs.lemmas.List.{ext_get_or}
+use Rattle.std.proofs.lemmas.List.{ext_get_or, get_or-drop, get_or-take, get_or_past, take-append-drop, take-take}
 use Rattle.std.proofs.lemmas.Nat.{div-add-mod', mod_below}
-use Rattle.std.proofs.lemmas.Bool.{cases_eq}
+use Rattle.std.proofs.lemmas.Bool.{cases_eq, cases_lt}
 use Rattle.dym_bits.specs.Bits.{digit, digits, bits_of}
 use Rattle.dym_bits.proofs.BitmapLemmas.{length-digits, get_or-digits, length-bits_of}
 use Rattle.dym_bits.specs.Bits.{set_count}
@@ -140,3 +140,24 @@ count_rest ns limit within =
 pub count_whole : (ns : List ℕ) (limit : ℕ) → limit % 64 ≡ 0 → set_count (bits_of 64 (take (limit / 64) ns)) ≡ set_count (take limit (bits_of 64 ns))
 count_whole ns limit whole =
     ap set_count (sym (take-bits_of 64 ns (limit / 64)) ∙ ap (λ m. take m (bits_of 64 ns)) (omega (arith, div-add-mod' limit 64)))
+
+none_counted : (bits : List Bool) → ((i : ℕ) → get_or bits i false ≡ false) → set_count bits ≡ 0
+none_counted [] clear = refl
+none_counted (b ∷ bits) clear =
+    sum_by-cons (λ b. cond b 1 0) b bits
+    ∙ ap (λ n. cond b 1 0 + n) (none_counted bits (λ i. clear (suc i)))
+    ∙ ap (λ c. cond c 1 0 + 0) (clear 0)
+
+-- bits from `end` up to the limit that are clear add nothing
+pub count_to : (bits : List Bool) (end limit : ℕ) → end ≤ limit → ((i : ℕ) → end ≤ i → i < limit → get_or bits i false ≡ false) → set_count (take end bits) ≡ set_count (take limit bits)
+count_to bits end limit within clear =
+    let rest = drop end (take limit bits) in
+    let none : (i : ℕ) → get_or rest i false ≡ false
+    = λ i. get_or-drop end (take limit bits) i false ∙ elim (cases_lt (end + i) limit) [
+      | inl below ↦ get_or-take limit bits (end + i) false below ∙ clear (end + i) (omega arith) below
+      | inr past ↦ get_or_past (take limit bits) (end + i) false (omega (arith, length-take limit bits))
+    ] in
+    sym (ap set_count (sym (take-append-drop end (take limit bits)) ∙ ap (λ front. front ++ rest) (take-take end limit bits within))
+    ∙ sum_by-append (λ b. cond b 1 0) (take end bits) rest
+    ∙ ap (λ n. set_count (take end bits) + n) (none_counted rest none)
+    ∙ omega arith)

@@ -3,4 +3,5 @@ pub mod ByteBits
 pub mod Counts
 pub mod Searches
 pub mod Subsets
+pub mod UsedWords
 pub mod WordByWord

@@ -22,6 +22,10 @@ bits_of k numbers = flat_map (digits k) numbers
 abbrev pub bits_of_bytes : List ℕ → List Bool
 bits_of_bytes bytes = bits_of 8 bytes
 
+-- all words from word n on are 0
+abbrev pub AreZeroFrom : ℕ → List ℕ → Type 0
+AreZeroFrom n words = (q : ℕ) → n ≤ q → slice_index_or words q 0 ≡ 0
+
 -- ---- bytes of bits
 
 -- whether bit i is set; a bit past the end is clear

@@ -4,24 +4,29 @@ ghost use Rattle.std.specs.Prelude.{◌≡◌, ℕ, ◌+◌, ◌-◌, ◌*◌, �
 ghost use Rattle.dym_base.specs.Packed.{bitmap, bitmap_byte};
 ghost use Rattle.dym_bits.specs.Bits.{digits, bit_in, bits_of_bytes, bytes_of_bits, clear_bits, set_count, IsSet, IsClear, IsFirstClear, IsNextSet, IsNextClear, IsNextClearInWord, IsTopSet};
 
-use crate::bytes::{BITMAP_BYTES, WORD_BITS, WORDS, bytes_fit, bytes_of, padded, word_at};
+use crate::bytes::{BITMAP_BYTES, WORD_BITS, WORDS, bytes_fit, bytes_of, word_at};
 use crate::scan::{next_set_in, words_difference, words_intersection, words_union, words_within};
 use dym_base::limits::MOST_CHUNKS;
 use std::marker::Model;
 
 /// 2,048 bits, one for each chunk that a segment can have. No call takes memory.
+///
+/// A pass over the bits stops where the used words end: all words from there on are 0. A word that is used may be 0 too.
 #[derive(Drop)]
 pub struct Bits {
     words: [u64; WORDS],
+    used_words: u32,
 }
 
 impl Model for Bits {
-    ghost use Rattle.std.specs.Prelude.{Bool, List};
-    ghost use Rattle.dym_bits.specs.Bits.{bits_of};
+    ghost use Rattle.std.specs.Prelude.{◌≤◌, Bool, List};
+    ghost use Rattle.dym_bits.specs.Bits.{bits_of, AreZeroFrom};
 
     ghost Value = { List Bool };
 
     ghost view = { λ b. bits_of 64 b.words };
+
+    ghost invariant = { λ b. (b.used_words ≤ 32) × AreZeroFrom b.used_words b.words };
 }
 
 impl Bits {
@@ -31,7 +36,10 @@ impl Bits {
         ensures len { length result ≡ MOST_CHUNKS }
         ensures none { (k : ℕ) → IsClear result k }
     {
-        Bits { words: [0; WORDS] }
+        Bits {
+            words: [0; WORDS],
+            used_words: 0,
+        }
     }
 
     /// Whether bit `i` is set.
@@ -48,7 +56,9 @@ impl Bits {
         ensures after { self.new ≡ slice_set self.old i true }
         ensures len { length self.new ≡ MOST_CHUNKS }
     {
-        self.words[(i / WORD_BITS) as usize] |= 1 << (i % WORD_BITS);
+        let q = i / WORD_BITS;
+        self.words[q as usize] |= 1 << (i % WORD_BITS);
+        self.used_words = self.used_words.max(q + 1);
     }
 
     /// Clears bit `i`.
@@ -66,7 +76,7 @@ impl Bits {
         ensures len { length self.new ≡ MOST_CHUNKS }
         ensures none { (k : ℕ) → IsClear self.new k }
     {
-        self.words = [0; WORDS];
+        *self = Bits::new();
     }
 
     /// How many bits are set.
@@ -82,12 +92,13 @@ impl Bits {
         ensures counted { result ≡ set_count (take limit self.now) }
         ensures len { length self.now ≡ MOST_CHUNKS }
     {
-        let whole = (limit / WORD_BITS) as usize;
+        let end = limit.min(self.used_words * WORD_BITS);
+        let whole = (end / WORD_BITS) as usize;
         let mut count = 0;
         for word in &self.words[..whole] {
             count += word.count_ones();
         }
-        let rest = limit % WORD_BITS;
+        let rest = end % WORD_BITS;
         if rest == 0 {
             return count;
         }
@@ -116,7 +127,7 @@ impl Bits {
         ensures { MatchOption result ((k : ℕ) → from ≤ k → IsClear self.now k)
             (λ i. IsNextSet self.now from i) }
     {
-        next_set_in(&self.words, from, MOST_CHUNKS)
+        next_set_in(&self.words, from, self.used_words * WORD_BITS)
     }
 
     /// The same where no bit from `limit` on is set: the words past it aren't read.
@@ -127,7 +138,7 @@ impl Bits {
         ensures { MatchOption result ((k : ℕ) → from ≤ k → IsClear self.now k)
             (λ i. IsNextSet self.now from i) }
     {
-        next_set_in(&self.words, from, limit)
+        next_set_in(&self.words, from, limit.min(self.used_words * WORD_BITS))
     }
 
     /// The least clear index that is at least `from`, and None where all bits from there on are set.
@@ -186,7 +197,7 @@ impl Bits {
     pub fn top_set(&self) -> Option<u32>
         ensures { MatchOption result ((k : ℕ) → IsClear self.now k) (λ i. IsTopSet self.now i) }
     {
-        for q in (0..WORDS as u32).rev() {
+        for q in (0..self.used_words).rev() {
             let word = self.words[q as usize];
             if word != 0 {
                 return Some(q * WORD_BITS + word.ilog2());
@@ -200,7 +211,7 @@ impl Bits {
         ensures within { result ≡ true → (k : ℕ) → IsSet self.now k → IsSet other.now k }
         ensures outside { result ≡ false → (k : ℕ) × IsSet self.now k × IsClear other.now k }
     {
-        words_within(&self.words, &other.words)
+        words_within(&self.words, &other.words, self.used_words)
     }
 
     /// The bits that are set here or in `other`.
@@ -208,8 +219,10 @@ impl Bits {
         ensures bits { (i : ℕ) → bit_in result i ≡ (bit_in self.now i || bit_in other.now i) }
         ensures len { length result ≡ MOST_CHUNKS }
     {
+        let used = self.used_words.max(other.used_words);
         Bits {
-            words: words_union(&self.words, &other.words),
+            words: words_union(&self.words, &other.words, used),
+            used_words: used,
         }
     }
 
@@ -218,8 +231,10 @@ impl Bits {
         ensures bits { (i : ℕ) → bit_in result i ≡ (bit_in self.now i && bit_in other.now i) }
         ensures len { length result ≡ MOST_CHUNKS }
     {
+        let used = self.used_words.min(other.used_words);
         Bits {
-            words: words_intersection(&self.words, &other.words),
+            words: words_intersection(&self.words, &other.words, used),
+            used_words: used,
         }
     }
 
@@ -229,7 +244,8 @@ impl Bits {
         ensures len { length result ≡ MOST_CHUNKS }
     {
         Bits {
-            words: words_difference(&self.words, &other.words),
+            words: words_difference(&self.words, &other.words, self.used_words),
+            used_words: self.used_words,
         }
     }
 
@@ -250,6 +266,7 @@ impl Bits {
         let q = (k / 8) as usize;
         let at = k % 8 * 8;
         self.words[q] = (self.words[q] & !(0xff << at)) | (u64::from(v) << at);
+        self.used_words = self.used_words.max(k / 8 + 1);
     }
 
     /// Takes the bits from bytes, eight from each and the lowest first, and clears those past them.
@@ -265,10 +282,12 @@ impl Bits {
             → bytes.now ≡ bitmap n (bit_in self.new) }
     {
         bytes_fit(bytes);
-        let padded = padded(bytes);
-        for q in 0..WORDS {
-            self.words[q] = word_at(&padded, 8 * q);
+        let used = bytes.len().div_ceil(8);
+        self.words = [0; WORDS];
+        for q in 0..used {
+            self.words[q] = word_at(bytes, 8 * q);
         }
+        self.used_words = used as u32;
     }
 
     /// All bits as bytes, eight in each and the first of them lowest.
@@ -280,7 +299,7 @@ impl Bits {
             → ((i : ℕ) → n ≤ i → IsClear self.now i) → take k result ≡ bitmap n (bit_in self.now) }
         ensures bits { bits_of_bytes result ≡ self.now }
     {
-        let bytes = bytes_of(&self.words);
+        let bytes = bytes_of(&self.words, self.used_words);
         bytes_fit(&bytes);
         bytes
     }

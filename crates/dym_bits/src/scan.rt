@@ -1,20 +1,19 @@
 //! Searches in the words of a bitmap.
 
-ghost use Rattle.std.specs.Prelude.{◌≡◌, ℕ, ◌≤◌, true, false, not, ◌&&◌, ◌||◌, MatchOption};
-ghost use Rattle.dym_bits.specs.Bits.{bits_of, bit_in, IsSet, IsClear, IsNextSet};
+ghost use Rattle.std.specs.Prelude.{◌≡◌, ℕ, ◌≤◌, true, false, not, ◌&&◌, ◌||◌, bit_and, slice_index_or, MatchOption};
+ghost use Rattle.dym_bits.specs.Bits.{bits_of, bit_in, AreZeroFrom, IsSet, IsClear, IsNextSet};
 
 use crate::bytes::{WORD_BITS, WORDS};
 use dym_base::limits::MOST_CHUNKS;
 
 /// The least set index that is at least `from`, where no bit from `limit` on is set.
 pub(crate) fn next_set_in(words: &[u64; WORDS], from: u32, limit: u32) -> Option<u32>
-    requires within { from ≤ limit }
     requires limit { limit ≤ MOST_CHUNKS }
     requires clear { (k : ℕ) → limit ≤ k → IsClear (bits_of 64 words.now) k }
     ensures { MatchOption result ((k : ℕ) → from ≤ k → IsClear (bits_of 64 words.now) k)
         (λ i. IsNextSet (bits_of 64 words.now) from i) }
 {
-    if from == limit {
+    if from >= limit {
         return None;
     }
     let first = from / WORD_BITS;
@@ -31,14 +30,16 @@ pub(crate) fn next_set_in(words: &[u64; WORDS], from: u32, limit: u32) -> Option
     None
 }
 
-/// Whether each bit that is set in the words is set in the others too.
-pub(crate) fn words_within(words: &[u64; WORDS], others: &[u64; WORDS]) -> bool
+/// Whether each bit that is set in the words, which are 0 from `used` on, is set in the others too.
+pub(crate) fn words_within(words: &[u64; WORDS], others: &[u64; WORDS], used: u32) -> bool
+    requires within { used ≤ WORDS }
+    requires rest { AreZeroFrom used words.now }
     ensures within { result ≡ true → (k : ℕ) → IsSet (bits_of 64 words.now) k
         → IsSet (bits_of 64 others.now) k }
     ensures outside { result ≡ false → (k : ℕ) × IsSet (bits_of 64 words.now) k
         × IsClear (bits_of 64 others.now) k }
 {
-    for q in 0..WORDS {
+    for q in 0..used as usize {
         if words[q] & !others[q] != 0 {
             return false;
         }
@@ -46,37 +47,56 @@ pub(crate) fn words_within(words: &[u64; WORDS], others: &[u64; WORDS]) -> bool
     true
 }
 
-/// The words of the bits that are set in the words or in the others.
-pub(crate) fn words_union(words: &[u64; WORDS], others: &[u64; WORDS]) -> [u64; WORDS]
-    ensures { (k : ℕ) → bit_in (bits_of 64 result) k
+/// The words of the bits that are set in the words or in the others, where both are 0 from `used` on.
+pub(crate) fn words_union(words: &[u64; WORDS], others: &[u64; WORDS], used: u32) -> [u64; WORDS]
+    requires within { used ≤ WORDS }
+    requires rest { AreZeroFrom used words.now }
+    requires others { AreZeroFrom used others.now }
+    ensures rest { AreZeroFrom used result }
+    ensures bits { (k : ℕ) → bit_in (bits_of 64 result) k
         ≡ (bit_in (bits_of 64 words.now) k || bit_in (bits_of 64 others.now) k) }
 {
     let mut joined = [0; WORDS];
-    for q in 0..WORDS {
+    for q in 0..used as usize {
         joined[q] = words[q] | others[q];
     }
     joined
 }
 
-/// The words of the bits that are set in the words and in the others.
-pub(crate) fn words_intersection(words: &[u64; WORDS], others: &[u64; WORDS]) -> [u64; WORDS]
-    ensures { (k : ℕ) → bit_in (bits_of 64 result) k
+/// The words of the bits that are set in the words and in the others, which have none in common from word `used` on.
+pub(crate) fn words_intersection(
+    words: &[u64; WORDS],
+    others: &[u64; WORDS],
+    used: u32,
+) -> [u64; WORDS]
+    requires within { used ≤ WORDS }
+    requires rest { (q : ℕ) → used ≤ q
+        → bit_and (slice_index_or words.now q 0) (slice_index_or others.now q 0) ≡ 0 }
+    ensures rest { AreZeroFrom used result }
+    ensures bits { (k : ℕ) → bit_in (bits_of 64 result) k
         ≡ (bit_in (bits_of 64 words.now) k && bit_in (bits_of 64 others.now) k) }
 {
     let mut joined = [0; WORDS];
-    for q in 0..WORDS {
+    for q in 0..used as usize {
         joined[q] = words[q] & others[q];
     }
     joined
 }
 
-/// The words of the bits that are set in the words and not in the others.
-pub(crate) fn words_difference(words: &[u64; WORDS], others: &[u64; WORDS]) -> [u64; WORDS]
-    ensures { (k : ℕ) → bit_in (bits_of 64 result) k
+/// The words of the bits that are set in the words, which are 0 from `used` on, and not in the others.
+pub(crate) fn words_difference(
+    words: &[u64; WORDS],
+    others: &[u64; WORDS],
+    used: u32,
+) -> [u64; WORDS]
+    requires within { used ≤ WORDS }
+    requires rest { AreZeroFrom used words.now }
+    ensures rest { AreZeroFrom used result }
+    ensures bits { (k : ℕ) → bit_in (bits_of 64 result) k
         ≡ (bit_in (bits_of 64 words.now) k && not (bit_in (bits_of 64 others.now) k)) }
 {
     let mut joined = [0; WORDS];
-    for q in 0..WORDS {
+    for q in 0..used as usize {
         joined[q] = words[q] & !others[q];
     }
     joined

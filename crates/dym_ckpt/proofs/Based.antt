@@ -33,9 +33,6 @@ based_by_areas b log ok each k has none =
     (ap (contains_key log.copy) (sym at.is) ∙ has)
     (ap (packs_by log.kind log.copy log.found) (sym at.is) ∙ none))
 
-pub area_of_based : (b log : Logged) (a : ℕ) → IsBased b log → AreaIsBased b log a
-area_of_based b log a is i inside used none = is (chunk_number log.copy a i) used none
-
 -- ---- chunks of one area in two logs
 
 -- the numbers of the chunks of areas of one name

@@ -1,5 +1,5 @@
 -- A file that is read part by part.
-use Rattle.std.proofs.Common.{◌≡◌, ℕ, ◌+◌, ◌<◌, ◌≤◌, List, [], ◌∷◌, ◌++◌, length, refl, sym, ap, subst, ◌∙◌, arith, inl, inr, Result, Ok, Err, IfErr, IsErrAnd, Bool, nat_eq, false}
+use Rattle.std.proofs.Common.{◌≡◌, ℕ, ◌+◌, ◌≤◌, List, [], ◌∷◌, ◌++◌, length, refl, sym, ap, subst, ◌∙◌, arith, inl, inr, Result, Ok, Err, IfErr, IsErrAnd, Bool, nat_eq, false}
 use Rattle.std.proofs.lemmas.Bool.{true≢false}
 use Rattle.std.specs.List.{AllByRecursion, flat_map}
 use Rattle.std.proofs.lemmas.Grind.{flat_map-append}
@@ -11,7 +11,7 @@ use Rattle.dym_pack.proofs.Unique.{split_same}
 use Rattle.dym_slots.specs.Meanings.{Numbered}
 use Rattle.dym_chain.specs.Keeps.{bytes_of}
 use Rattle.dym_ckpt.specs.Lists.{IsListed}
-use Rattle.dym_ckpt.specs.FileRecords.{AreRead, StopsAt, SomeAreRead, StopsAs, FailsAs}
+use Rattle.dym_ckpt.specs.FileRecords.{AreRead, SomeAreRead, StopsAs, FailsAs}
 use Rattle.dym_ckpt.specs.declared.records.RecordList.{RecordList}
 use Rattle.dym_ckpt.specs.declared.file_reader.FileFail.{FileFail}
 use Rattle.dym_ckpt.specs.declared.file_reader.FileFail.TheVariants.{Bad, Memory}
@@ -41,22 +41,6 @@ read_more v quota d bytes record_list new n left rest x read is of all next =
       many = omega (arith, length-map new.keep.records (λ (r : Numbered). r.bytes), ap length all, length-append old (x ∷ []), length-map record_list.keep.records (λ (r : Numbered). r.bytes), read.many);
       are = read.are ∙ ap (λ ys. flat_map framed old ++ ys) next ∙ sym (append_assoc (flat_map framed old) (framed x) rest)
           ∙ ap (λ ys. ys ++ rest) (sym (framed_more old x)) ∙ ap (λ rs. flat_map framed rs ++ rest) (sym all);
-    }
-
-pub stops_here : (v : Version) (quota d count : ℕ) (bytes : List ℕ) (record_list : RecordList) (n part : ℕ) (left : List ℕ) → AreRead v quota d bytes record_list n left → n < count → part ≡ n + 1
-    → ((more rest : List ℕ) → IsRecordOf v quota more → IsLawfulList v d (bytes_of record_list.keep.records ++ more ∷ []) → left ≡ framed more ++ rest → ⊥)
-    → StopsAt v quota d count bytes part
-stops_here v quota d count bytes record_list n part left read few at next =
-    let long = length-map record_list.keep.records (λ (r : Numbered). r.bytes) in
-    record {
-      records = bytes_of record_list.keep.records;
-      left = left;
-      few = omega (arith, long, read.many, few);
-      each = read.each;
-      lawful = read.is.lawful;
-      are = read.are;
-      at = omega (arith, long, read.many, at);
-      next = next;
     }
 
 -- memory is wanting before the first record
@@ -128,9 +112,6 @@ end_fails bytes head records left part read all at some =
 
 pub is_file : (bytes : List ℕ) (head : FileHead) (records : List (List ℕ)) (left : List ℕ) → ReadsTo bytes head records left → length records ≡ head.count → left ≡ [] → IsFile bytes head records
 is_file bytes head records left read all none = record { read = subst (ReadsTo bytes head records) none read; whole = all }
-
-pub file_begins_well : (bytes : List ℕ) (head : FileHead) (records : List (List ℕ)) → IsFile bytes head records → FailsAs bytes Memory
-file_begins_well bytes head records file = record { head = head; records = records; left = []; read = file.read }
 
 -- an error that `?` passes on
 pub passed_on : {T E : Type 0} → (r : Result T E) (why : E) (P : E → Type 0) → IsErrAnd r (λ e. e ≡ why) → P why → IfErr r P

@@ -40,9 +40,6 @@ take_last P (suc d) (y ∷ xs) x each base_logs = take_last P d xs x each.1 (ome
 
 -- ---- depths
 
-Shallow : ℕ → Type 0
-Shallow n = n ≤ MOST_DEPTH
-
 pub depths_more : (n : ℕ) (logs : List Logged) (log : Logged) → AllByRecursion (λ depth. depth ≤ MOST_DEPTH) (depths_from n logs) → depth_after (last_depth n logs) log.kind ≤ MOST_DEPTH → AllByRecursion (λ depth. depth ≤ MOST_DEPTH) (depths_from n (logs ++ log ∷ []))
 depths_more n [] log each last = (last, tt)
 depths_more n (x ∷ logs) log each last = (each.0, depths_more (depth_after n x.kind) logs log each.1 last)

@@ -55,9 +55,6 @@ pub record GoesOn (qs rs : List (List ℕ)) (xs ys : List ℕ) : Type 0 where
   pub is : rs ≡ qs ++ more
   pub left : xs ≡ flat_map framed more ++ ys
 
-Short : List ℕ → Type 0
-Short bytes = length bytes < 2 ^ 32
-
 goes_on : (qs rs : List (List ℕ)) (xs ys : List ℕ) → AllByRecursion (λ (x : List ℕ). length x < 2 ^ 32) qs → AllByRecursion (λ (x : List ℕ). length x < 2 ^ 32) rs → flat_map framed qs ++ xs ≡ flat_map framed rs ++ ys → GoesOn qs rs xs ys ⊎ GoesOn rs qs ys xs
 goes_on [] rs xs ys small also same = inl (record { more = rs; is = refl; left = same })
 goes_on (q ∷ qs) [] xs ys small also same = inr (record { more = q ∷ qs; is = refl; left = sym same })

@@ -63,9 +63,6 @@ framed_end records place past = none (drop place records) (omega (arith, length-
     none [] is = refl
     none (r ∷ rs) is = absurd (omega (arith, is))
 
-pub framed_long : (bytes : List ℕ) → length (framed bytes) ≡ 4 + length bytes
-framed_long bytes = omega arith
-
 -- ---- the file
 
 pub file_parts : (name : List ℕ) (quota : ℕ) (v : Version) (c : ChainMeaning) → AreOf v c → file_of_logs name quota v c ≡ head_bytes (head_of name quota v c.base_logs c.logs) ++ framed_from 0 c.records

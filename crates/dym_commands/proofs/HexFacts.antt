@@ -74,10 +74,6 @@ decodes digits are =
     let made = decode_of-digits digits are.even (AllPass-from_list_all is_hex_digit digits are.good) in
     rw made.1 refl
 
--- bytes that digits were decoded to
-pub decoded_is : (digits bytes : List ℕ) → decode_of digits ≡ Ok bytes → decoded digits ≡ bytes
-decoded_is digits bytes made = rw made refl
-
 -- a word of two digits or more, in pairs
 pub hex_digits : (word : List ℕ) → bytes_eq word (codes "-") ≡ false → 2 ≤ length word → AreDigits word → hex_of word ≡ Some (decoded word)
 unfolding hex_of

@@ -35,14 +35,6 @@ more_fit t u stored_list stored still room rows is fit = record {
   fit = All-push (IsFit u) stored_list stored (All-weaker (IsFit t) (IsFit u) (λ k old. (still k old).0) stored_list fit.fit) is;
 }
 
--- no command more
-pub same_fit : (t u : Tables) (stored_list : List StoredCommand) → Still t u → length u.wide.items ≡ length t.wide.items → AreFit t stored_list → AreFit u stored_list
-same_fit t u stored_list still rows fit = record {
-  few = fit.few;
-  rows = omega (arith, rows, fit.rows);
-  fit = All-weaker (IsFit t) (IsFit u) (λ k old. (still k old).0) stored_list fit.fit;
-}
-
 -- what the reply to one command tells is no more than a chunk has
 read_room_few : (command : Command) → read_room command ≤ 65536
 read_room_few (Read h at n) = elim (nat_le n 65536) as (λ b. nat_le n 65536 ≡ b → (if b then n else 0) ≤ 65536) [

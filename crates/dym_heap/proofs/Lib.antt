@@ -36,6 +36,7 @@ pub mod AreaNames
 pub mod Lending
 pub mod LendingCalls
 pub mod Loads
+pub mod Skips
 pub mod PlaceLoads
 pub mod Swaps
 pub mod ShelfLoads

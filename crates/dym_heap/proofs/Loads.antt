@@ -72,11 +72,11 @@ written_part xs a at n ys fits within =
 -- ---- the loop
 
 module _ (v : Version) (old : AreaMeaning) (bits wanted : List Bool) (body : List ℕ) (f : ℕ → List ℕ) where
-  abbrev packs : List ℕ → List ℕ
+  abbrev pub packs : List ℕ → List ℕ
   packs is = flat_map (λ i. packed_chunk v (f i)) is
 
   -- the packed chunks from `from` on
-  abbrev after : ℕ → List ℕ
+  abbrev pub after : ℕ → List ℕ
   after from = packs (filter (bit_in bits) (range_with_len from (per old.exponent - from)))
 
   -- the wanted chunks below `from` are loaded, and the body from place `at` on has the others
@@ -102,15 +102,28 @@ module _ (v : Version) (old : AreaMeaning) (bits wanted : List Bool) (body : Lis
       valid_shelf = λ i n l m out. refl;
     }
 
-    pub loaded_all : (now : AreaMeaning) (from at : ℕ) → LoadedTo now from at → ((k : ℕ) → from ≤ k → IsClear bits k) → HoldsLoaded old now wanted f
+    pub loaded_all : (now : AreaMeaning) (from at : ℕ) → LoadedTo now from at → ((k : ℕ) → from ≤ k → IsClear wanted k) → HoldsLoaded old now wanted f
     loaded_all now from at done none = record {
       same = done.same;
       loaded = λ i h.
           elim (cases_lt i from) as (λ _. part_of now.content (i * size old.exponent) (length (f i)) ≡ f i) [
             | inl l ↦ done.done i l h
-            | inr past ↦ absurd (true≢false (sym (sub i h) ∙ none i past))
+            | inr past ↦ absurd (true≢false (sym h ∙ none i past))
           ];
       valid_shelf = λ i n l m clear. done.valid_shelf i n l m (inr clear);
+    }
+
+    -- the chunks up to i aren't wanted, and the body from place at' on has those from i on
+    pub loaded_on : (now : AreaMeaning) (from at i at' : ℕ) → LoadedTo now from at → from ≤ i → ((k : ℕ) → from ≤ k → k < i → IsClear wanted k) → drop at' body ≡ after i → LoadedTo now i at'
+    loaded_on now from at i at' done low none rest = record {
+      same = done.same;
+      rest = rest;
+      done = λ k l h.
+          elim (cases_lt k from) as (λ _. part_of now.content (k * size old.exponent) (length (f k)) ≡ f k) [
+            | inl before ↦ done.done k before h
+            | inr past ↦ absurd (true≢false (sym h ∙ none k past l))
+          ];
+      valid_shelf = λ k n l m out. done.valid_shelf k n l m (elim out as (λ _. (from ≤ k) ⊎ IsClear wanted k) [ inl past ↦ inl (omega arith) | inr clear ↦ inr clear ]);
     }
 
     module _ (now : AreaMeaning) (from at start end : ℕ) (done : LoadedTo now from at) (run : NextRun from start end) where
@@ -399,11 +412,22 @@ module _ (old : AreaMeaning) (bits wanted : List Bool) (body : List ℕ) (sub : 
             ],
       )
 
-pub noted_all : (ls0 ls : List ℕ) (bits wanted : List Bool) (f : ℕ → List ℕ) (from : ℕ) → ((i : ℕ) → IsSet wanted i → IsSet bits i) → NotedTo ls0 ls wanted f from → ((k : ℕ) → from ≤ k → IsClear bits k) → NotesLoaded ls0 ls wanted f
-noted_all ls0 ls bits wanted f from sub with_length none = record {
-  with_length = λ i h. elim (cases_lt i from) as (λ _. get_or ls i 0 ≡ length (f i)) [ inl l ↦ with_length.0 i l h | inr past ↦ absurd (true≢false (sym (sub i h) ∙ none i past)) ];
+pub noted_all : (ls0 ls : List ℕ) (wanted : List Bool) (f : ℕ → List ℕ) (from : ℕ) → NotedTo ls0 ls wanted f from → ((k : ℕ) → from ≤ k → IsClear wanted k) → NotesLoaded ls0 ls wanted f
+noted_all ls0 ls wanted f from with_length none = record {
+  with_length = λ i h. elim (cases_lt i from) as (λ _. get_or ls i 0 ≡ length (f i)) [ inl l ↦ with_length.0 i l h | inr past ↦ absurd (true≢false (sym h ∙ none i past)) ];
   valid_shelf = λ i clear. with_length.1 i (inr clear);
 }
+
+-- none of the chunks up to i is wanted
+pub noted_on : (ls0 ls : List ℕ) (wanted : List Bool) (f : ℕ → List ℕ) (from i : ℕ) → NotedTo ls0 ls wanted f from → from ≤ i → ((k : ℕ) → from ≤ k → k < i → IsClear wanted k) → NotedTo ls0 ls wanted f i
+noted_on ls0 ls wanted f from i with_length low none = (
+  λ k l h. elim (cases_lt k from) as (λ _. get_or ls k 0 ≡ length (f k)) [ inl before ↦ with_length.0 k before h | inr past ↦ absurd (true≢false (sym h ∙ none k past l)) ],
+  λ k out. with_length.1 k (elim out as (λ _. (from ≤ k) ⊎ IsClear wanted k) [ inl past ↦ inl (omega arith) | inr clear ↦ inr clear ]),
+)
+
+-- what isn't packed isn't wanted
+pub clear_too : (bits wanted : List Bool) (k : ℕ) → (IsSet wanted k → IsSet bits k) → IsClear bits k → IsClear wanted k
+clear_too bits wanted k sub clear = elim (bit_in wanted k) as (λ b. (b ≡ true → IsSet bits k) → b ≡ false) [ true ↦ λ set. absurd (true≢false (sym (set refl) ∙ clear)) | false ↦ λ set. refl ] sub
 
 -- ---- the wanted ones of a run, each run of them by one copy
 

@@ -1,9 +1,10 @@
 -- The packed chunks of one area, and what an area, a place and a shelf have after they were loaded.
-use Rattle.std.specs.Prelude.{◌≡◌, ℕ, ◌+◌, ◌*◌, ◌/◌, ◌≤◌, ◌<◌, Bool, true, false, List, length, slice_index, slice_index_or, Option, None, Some}
-use Rattle.std.specs.List.{flat_map, filter, range_with_len}
+use Rattle.std.specs.Prelude.{◌≡◌, ℕ, ◌+◌, ◌*◌, ◌/◌, ◌^◌, ◌≤◌, ◌<◌, ◌++◌, Bool, true, false, List, length, slice_index, slice_index_or, Option, None, Some}
+use Rattle.std.specs.List.{All, flat_map, filter, range_with_len}
 use Rattle.dym_base.specs.Numbers.{size, per}
 use Rattle.dym_base.specs.Packed.{packed_chunk}
 use Rattle.dym_base.specs.declared.command.Version.{Version}
+use Rattle.dym_base.specs.declared.command.Version.TheVariants.{Two}
 use Rattle.dym_bits.specs.Bits.{bit_in, IsSet, IsClear}
 use Rattle.dym_region.specs.Content.{part_of}
 use Rattle.dym_area.specs.Area.{AreaMeaning}
@@ -20,6 +21,11 @@ pub record IsBodyOf (v : Version) (e : ℕ) (bits : List Bool) (body : List ℕ)
 -- there are such bytes
 abbrev pub IsBody : Version → ℕ → List Bool → List ℕ → Type 0
 IsBody v e bits body = (f : ℕ → List ℕ) × IsBodyOf v e bits body f
+
+-- the bytes begin with these chunks, each behind its length in four bytes, and then come the rest
+pub record BeginsWithChunks (bytes : List ℕ) (chunks : List (List ℕ)) (rest : List ℕ) : Type 0 where
+  pub is : bytes ≡ flat_map (packed_chunk Two) chunks ++ rest
+  pub small : All (λ c. length c < 2 ^ 32) chunks
 
 -- the area has these bytes where a bit is set, and the old ones elsewhere
 pub record HoldsLoaded (old new : AreaMeaning) (bits : List Bool) (f : ℕ → List ℕ) : Type 0 where

@@ -4,7 +4,7 @@ ghost use Rattle.dym_base.specs.Numbers.{per};
 ghost use Rattle.dym_base.specs.declared.limits.TheConstants.{MOST_CHUNKS, LEAST_EXPONENT, GREATEST_EXPONENT, MOST_QUOTA};
 ghost use Rattle.dym_heap.specs.Arrangement.{marks_of_class, Shifts, Unshifts};
 
-use crate::lengths::Lengths;
+use crate::lengths::{Lengths, SpareLengths};
 use dym_base::limits::LEAST_EXPONENT;
 use dym_base::per_area;
 use dym_bits::Bits;
@@ -98,13 +98,25 @@ pub(crate) fn shift_down(starts: &mut [u32; 13], class: usize)
     }
 }
 
-/// Keeps a table of lengths, where there is one, in room that is there.
-pub(crate) fn keep_table(spare: &mut Vec<Lengths>, lengths: Option<Lengths>)
+/// A table of lengths in memory that is spare, and None where none is.
+pub(crate) fn take_table(spare: &mut Vec<SpareLengths>) -> Option<Lengths>
+    ensures len { MatchOption result ((vec_len spare.old ≡ 0) × (vec_len spare.new ≡ 0))
+        (λ _. vec_len spare.new + 1 ≡ vec_len spare.old) }
+    ensures room { vec_capacity spare.new ≡ vec_capacity spare.old }
+{
+    let Some(table) = spare.pop() else {
+        return None;
+    };
+    Some(table.into_lengths())
+}
+
+/// Keeps the memory of a table of lengths, where there is one, in room that is there.
+pub(crate) fn keep_table(spare: &mut Vec<SpareLengths>, lengths: Option<Lengths>)
     requires { IsSome lengths → vec_len spare.old < vec_capacity spare.old }
     ensures len { vec_len spare.new ≡ (if is_some lengths then vec_len spare.old + 1 else vec_len spare.old) }
     ensures room { vec_capacity spare.old ≤ vec_capacity spare.new }
 {
     if let Some(lengths) = lengths {
-        spare.push_reserved(lengths);
+        spare.push_reserved(lengths.into_spare());
     }
 }

@@ -21,9 +21,9 @@ ghost use Rattle.dym_heap.specs.Shelves.{ShelfMeaning, IsValidShelf, IsTidy, IsF
 
 use crate::area_order::{copy_between, put_in, take_out};
 use crate::chunk_location::{
-    class_index, find, keep_table, mark_full, set_mark, shift_down, shift_up,
+    class_index, find, keep_table, mark_full, set_mark, shift_down, shift_up, take_table,
 };
-use crate::lengths::Lengths;
+use crate::lengths::SpareLengths;
 use crate::sized_area::SizedArea;
 use dym_base::limits::MOST_QUOTA;
 use dym_base::{Handle, Version, per_area};
@@ -49,8 +49,8 @@ pub(crate) struct Shelf<S: Supply> {
     starts: [u32; 13],
     /// For each class which of its areas are full.
     full: Vec<Bits>,
-    /// Tables of lengths that no area has.
-    spare: Vec<Lengths>,
+    /// Memory for the tables of lengths of areas to come.
+    spare: Vec<SpareLengths>,
 }
 
 impl<S: Supply> Model for Shelf<S> {
@@ -178,7 +178,7 @@ impl<S: Supply> Shelf<S> {
         let class = class_index(exp);
         let at = self.starts[class + 1];
         let ordinal = at - self.starts[class];
-        let lengths = self.spare.pop();
+        let lengths = take_table(&mut self.spare);
         let segment = self.supply.take(context, class as u32, ordinal);
         let sized_area = SizedArea::new(exp, ordinal, segment, lengths);
         put_in(&mut self.sized_areas, at as usize, sized_area);
@@ -619,8 +619,8 @@ fn clear_marks(alloc: Global) -> Result<Vec<Bits>, AllocError>
     Ok(full)
 }
 
-/// Tables of lengths for as many areas as the quota allows, in version 2 alone.
-fn tables(alloc: Global, version: Version, quota: u32) -> Result<Vec<Lengths>, AllocError>
+/// Memory for the tables of lengths of as many areas as the quota allows, in version 2 alone.
+fn tables(alloc: Global, version: Version, quota: u32) -> Result<Vec<SpareLengths>, AllocError>
     ensures { IfOk result (λ spare. HasTables version quota 0 (vec_len spare) (vec_capacity spare)) }
 {
     match version {
@@ -629,13 +629,13 @@ fn tables(alloc: Global, version: Version, quota: u32) -> Result<Vec<Lengths>, A
     }
 }
 
-/// As many tables of lengths as the quota allows.
-fn all_tables(alloc: Global, quota: u32) -> Result<Vec<Lengths>, AllocError>
+/// Memory for as many tables of lengths as the quota allows.
+fn all_tables(alloc: Global, quota: u32) -> Result<Vec<SpareLengths>, AllocError>
     ensures { IfOk result (λ spare. (vec_len spare ≡ quota) × (quota ≤ vec_capacity spare)) }
 {
     let mut spare = Vec::with_capacity(alloc, quota as usize)?;
     for _ in 0..quota {
-        spare.push(Lengths::new(alloc)?)?;
+        spare.push(SpareLengths::new(alloc)?)?;
     }
     Ok(spare)
 }

@@ -1,13 +1,13 @@
 -- The order with an event more: it stands behind those whose time is at most its own, and the later ones one place further.
-use Rattle.std.proofs.Common.{◌≡◌, ℕ, suc, ◌+◌, ◌-◌, ◌<◌, ◌≤◌, inl, inr, List, [], ◌∷◌, ◌++◌, length, get_or, take, drop, drop-cons, Some, nat_lt, ap, sym, subst, ◌∙◌, arith, length-append}
+use Rattle.std.proofs.Common.{◌≡◌, ℕ, suc, ◌+◌, ◌-◌, ◌<◌, ◌≤◌, inl, inr, List, [], ◌∷◌, ◌++◌, length, get_or, take, drop, drop-cons, Some, ap, sym, subst, ◌∙◌, arith, length-append}
 use Rattle.std.specs.List.{insert}
-use Rattle.std.proofs.lemmas.Bool.{cases_lt, cases_order, cond_both}
+use Rattle.std.proofs.lemmas.Bool.{cases_lt, cases_order}
 use Rattle.std.proofs.lemmas.List.{take-append-le, drop-append-le, get_or_append_left}
 use Rattle.std.proofs.lemmas.List.Edits.{length-insert, get_or-insert_at, get_or-insert_below, get_or-insert_above}
 use Rattle.std.proofs.Math.Seq.{take-append_seam, get_or-append_seam}
 use Rattle.std.proofs.Math.ListN.{drop_of_length-le}
 use Rattle.dym_base.specs.LateRun as LateRun
-use Rattle.dym_base.specs.LateRun.{LateEvent, events_to, events_before, place_between, place_of_first, place_of}
+use Rattle.dym_base.specs.LateRun.{LateEvent, events_to, place_between, place_of_first, place_of}
 use Rattle.dym_late.specs.Orders.{no_event, event_at, spot, IsOrder}
 use Rattle.dym_late.proofs.Counts.{one_to, one_before, one_yes, one_no, before_yes, before_no, to_push, before_push, to_most, to_rises, order_push, length_order}
 
@@ -41,9 +41,6 @@ new_spot events e =
     let after = ap (λ l. place_between events (event_at (events ++ e ∷ []) n) l) (drop_of_length-le (events ++ e ∷ []) {i = suc n} (omega (arith, more))) in
     let at = ap (λ x. place_between events x []) (new_event events e) in
     before ∙ after ∙ at ∙ omega arith
-
-pub one_most : (t : ℕ) (e : LateEvent) → one_before t e ≤ 1
-one_most t e = cond_both (nat_lt e.time t) 1 0 (λ n. n ≤ 1) (λ _. omega arith) (λ _. omega arith)
 
 above : (P : ℕ → Type 0) (p n : ℕ) → ((i : ℕ) → p ≤ i → i < n → P (i + 1)) → (j : ℕ) → p < j → j < n + 1 → P j
 above P p n high j more within =

@@ -4,9 +4,8 @@ use Rattle.std.specs.FinSet.{contains}
 use Rattle.std.proofs.lemmas.List.{length-append, append-nil, append_assoc}
 use Rattle.dym_base.specs.Heaps.{Live, held}
 use Rattle.dym_base.specs.Packed.{Logged, bitmap, touched_bits}
-use Rattle.dym_base.specs.declared.command.Kind.{Kind}
 use Rattle.dym_base.specs.declared.command.Kind.TheVariants.{Full, Inc}
-use Rattle.dym_pack.specs.Areas.{AreasMeaning, area_at, chunks_of, chunk_number, is_used_at, logged}
+use Rattle.dym_pack.specs.Areas.{area_at, chunks_of, chunk_number, is_used_at}
 use Rattle.dym_pack.specs.Offsets.{name_bytes, use_map, touched_map, area_head}
 use Rattle.dym_pack.proofs.Bitmaps.{length_bitmap}
 use Rattle.dym_pack.proofs.Named.{few_chunks}
@@ -45,7 +44,3 @@ pub head_len : (log : Logged) (k : ℕ) → length (area_head log k) ≡ 5 + len
 head_len log k =
     ap length (head_is log k)
     ∙ length-append (name_bytes (area_at log.copy k).exponent (area_at log.copy k).ordinal) (maps log k)
-
--- the touched bits of an incremental log are those that were lent
-pub found_inc : (m : AreasMeaning) (kind : Kind) (k : ℕ) → kind ≡ Inc → maps (logged m kind 0) k ≡ use_map (logged m kind 0) k ++ bitmap (chunks_of m.live k) (λ i. contains m.touched (chunk_number m.live k i))
-found_inc m kind k is = ap (λ d. maps (logged m d 0) k) is

@@ -2,8 +2,7 @@
 use Rattle.std.proofs.Common.{◌≡◌, ℕ, zero, suc, ◌+◌, ◌-◌, ◌*◌, ◌^◌, ◌<◌, List, [], ◌∷◌, ◌++◌, length, take, drop, get_or, refl, sym, ap, ◌∙◌, arith}
 use Rattle.std.specs.Int.{w64, to_le_bytes, from_le_bytes}
 use Rattle.std.specs.List.{flat_map}
-use Rattle.std.proofs.lemmas.List.{length-append, append-nil, append_assoc, drop-drop, drop_at, take_at, get_or-append-add, length-take, take_more}
-use Rattle.std.proofs.lemmas.List.Concat.{flat_map-append}
+use Rattle.std.proofs.lemmas.List.{length-append, drop-drop, drop_at, take_at, get_or-append-add, length-take}
 use Rattle.std.proofs.lemmas.List.FromFn.{length-map-range_with_len, get_or-map-range_with_len}
 use Rattle.std.proofs.lemmas.Grind.{same_number_lists}
 use Rattle.std.proofs.lemmas.Nat.{from_le_bytes-to_le_bytes_8}
@@ -34,15 +33,6 @@ word_behind bytes xs k within small =
 
 pub length_laid : (bytes xs : List ℕ) → length (laid bytes xs) ≡ length bytes + 8 * length xs
 length_laid bytes xs = length-append bytes (flat_map (to_le_bytes w64) xs) ∙ omega (arith, length_words xs)
-
--- a place more
-pub laid_more : (bytes xs : List ℕ) (k : ℕ) → k < length xs → laid bytes (take (k + 1) xs) ≡ laid bytes (take k xs) ++ to_le_bytes w64 (get_or xs k 0)
-laid_more bytes xs k within =
-    let x : ℕ = get_or xs k 0 in
-    ap (laid bytes) (take_more xs k 0 within)
-    ∙ ap (λ ys. bytes ++ ys) (flat_map-append (to_le_bytes w64) (take k xs) (x ∷ []))
-    ∙ ap (λ ys. bytes ++ (flat_map (to_le_bytes w64) (take k xs) ++ ys)) (append-nil (to_le_bytes w64 x))
-    ∙ sym (append_assoc bytes (flat_map (to_le_bytes w64) (take k xs)) (to_le_bytes w64 x))
 
 -- places of 64 bits, of which the last is where some bytes end
 pub record AreEnded (bytes xs : List ℕ) : Type 0 where

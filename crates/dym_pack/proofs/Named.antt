@@ -4,7 +4,7 @@ use Rattle.std.specs.List.{range_with_len, flat_map, AllByRecursion}
 use Rattle.std.proofs.lemmas.List.Concat.{length-flat_map}
 use Rattle.std.proofs.lemmas.List.FromFn.{length-map-range_with_len}
 use Rattle.std.proofs.lemmas.List.Elements.{All-from_recursion}
-use Rattle.std.proofs.lemmas.Nat.{pow_pos, row_fits, pow-add}
+use Rattle.std.proofs.lemmas.Nat.{row_fits, pow-add}
 use mathlib.Core.Path.{fun_ext}
 use Rattle.dym_base.specs.Numbers.{size, per, exponent_of, classes}
 use Rattle.dym_base.specs.Heaps.{Live, areas, held}
@@ -74,9 +74,6 @@ most_per e low = pow_mono {i = 16 - e} {j = 11} (omega arith)
 
 pub few_chunks : (live : Live) (k : ℕ) → k < held live → chunks_of live k ≤ 2048
 few_chunks live k within = most_per (area_at live k).exponent (area_is live k within).least
-
-pub some_chunks : (live : Live) (k : ℕ) → 1 ≤ chunks_of live k
-some_chunks live k = pow_pos (16 - (area_at live k).exponent)
 
 pub whole_area : (e : ℕ) → e ≤ 16 → per e * size e ≡ 65536
 whole_area e greatest =

@@ -294,9 +294,6 @@ flat_same a b (x ∷ xs) each (suc k) =
     ap (λ ys. ys ++ flat_map (area_bytes a) (take k xs)) each.0.whole
     ∙ ap (λ ys. area_bytes b x ++ ys) (flat_same a b xs each.1 k)
 
-header_len : (a b : Logged) → length (header a) ≡ length (header b)
-header_len a b = refl
-
 front_long : (a b : Logged) → Alike a b → (k : ℕ) → start_of a k ≡ start_of b k
 unfolding front
 front_long a b is k =

@@ -39,13 +39,6 @@ left_split v kind bytes count exponent next used is = split is.contents is.many 
       };
     }
 
-pub left_end : (v : Version) (kind : Kind) (bytes : List ℕ) (exponent next : ℕ) (used : Bool) → AreLeft v kind bytes 0 exponent next used → (bytes ≡ []) × (used ≡ true)
-left_end v kind bytes exponent next used is = end is.contents is.many is.ordered is.are
-  where
-    end : (contents : List Content) → length contents ≡ 0 → AreOrdered exponent next used contents → bytes ≡ contents_bytes v kind contents → (bytes ≡ []) × (used ≡ true)
-    end [] many ordered are = (are, ordered)
-    end (a ∷ others) many ordered are = absurd (omega arith)
-
 pub seen_within : (v : Version) (kind : Kind) (bytes : List ℕ) (parsed : ParsedArea) → IsSeen v kind bytes parsed → parsed.len ≤ length bytes
 seen_within v kind bytes parsed is = omega (arith, is.len, ap length is.are, length-append (content_bytes v kind is.content) is.rest)
 

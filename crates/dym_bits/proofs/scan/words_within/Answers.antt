@@ -18,4 +18,4 @@ returns-then-words-q-ne0-clause-outside c is =
 
 pub returns-clause-within : goal.returns-clause-within
 returns-clause-within c is =
-    set_within c.args.words.now c.args.others.now (omega arith) (λ p below. c.loop-q.invariant.fits p (omega arith)) (λ p below. c.loop-q.invariant.none p (omega arith))
+    set_within c.args.words.now c.args.others.now c.args.used (omega arith) (omega arith) c.requires.rest (λ p below. c.loop-q.invariant.fits p (omega arith)) (λ p below. c.loop-q.invariant.none p (omega arith))

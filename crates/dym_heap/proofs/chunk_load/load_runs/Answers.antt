@@ -40,4 +40,4 @@ loop-start-preserved g c = record {
 
 pub returns-clause-loaded : goal.returns-clause-loaded
 returns-clause-loaded g c = λ f is.
-    loads.loaded_all _ c.args.area.now c.args.packed.now c.args.wanted.now c.args.body.now f is c.requires.wanted c.requires.valid c.loop-start.area c.loop-start.from c.loop-start.at (c.loop-start.invariant.loaded f is) c.in_default.ensures
+    loads.loaded_all _ c.args.area.now c.args.packed.now c.args.wanted.now c.args.body.now f is c.requires.wanted c.requires.valid c.loop-start.area c.loop-start.from c.loop-start.at (c.loop-start.invariant.loaded f is) (λ k low. loads.clear_too _ _ k (c.requires.wanted k) (c.in_default.ensures k low))

@@ -26,8 +26,8 @@ shift_up-requires-clause-small g c = grows.starts_small _ _ _ _ _ _ _ _ _ _ _ c.
 
 pub invariant_of-self : goal.invariant_of-self
 invariant_of-self g c =
-    let shelf = (grows.grown _ _ _ _ _ _ _ _ _ _ _ c.self.view_is c.self.invariant.0 c.args.exp c.requires.least c.requires.most c.class_index-class.result _ c.pop-lengths.result c.new-sized_area.result _ _ _ _ _ _ _ _ c.class_index-class.ensures c.requires.room c.pop-lengths.ensures.cases c.new-sized_area.ensures.made c.new-sized_area.ensures.valid refl
-    c.take-segment.ensures.taken c.take-segment.ensures.quota c.take-segment.ensures.origin c.shift_up.ensures c.put_in.ensures.capacity c.pop-lengths.ensures.capacity
+    let shelf = (grows.grown _ _ _ _ _ _ _ _ _ _ _ c.self.view_is c.self.invariant.0 c.args.exp c.requires.least c.requires.most c.class_index-class.result _ c.take_table-lengths.result c.new-sized_area.result _ _ _ _ _ _ _ _ c.class_index-class.ensures c.requires.room c.take_table-lengths.ensures.len c.new-sized_area.ensures.made c.new-sized_area.ensures.valid refl
+    c.take-segment.ensures.taken c.take-segment.ensures.quota c.take-segment.ensures.origin c.shift_up.ensures c.put_in.ensures.capacity c.take_table-lengths.ensures.room
     c.put_in.new.sized_areas.items c.put_in.ensures.items).shelf in
     let l = grows.end_in _ _ _ _ _ _ _ _ _ _ _ c.self.view_is c.self.invariant.0 c.args.exp c.requires.least c.requires.most c.class_index-class.result c.class_index-class.ensures in
     let made = c.new-sized_area.ensures.made in
@@ -36,12 +36,12 @@ invariant_of-self g c =
 
 pub returns-clause-added : goal.returns-clause-added
 returns-clause-added g c =
-    (grows.grown _ _ _ _ _ _ _ _ _ _ _ c.self.view_is c.self.invariant.0 c.args.exp c.requires.least c.requires.most c.class_index-class.result _ c.pop-lengths.result c.new-sized_area.result _ _ _ _ _ _ _ _ c.class_index-class.ensures c.requires.room c.pop-lengths.ensures.cases c.new-sized_area.ensures.made c.new-sized_area.ensures.valid refl
-    c.take-segment.ensures.taken c.take-segment.ensures.quota c.take-segment.ensures.origin c.shift_up.ensures c.put_in.ensures.capacity c.pop-lengths.ensures.capacity
+    (grows.grown _ _ _ _ _ _ _ _ _ _ _ c.self.view_is c.self.invariant.0 c.args.exp c.requires.least c.requires.most c.class_index-class.result _ c.take_table-lengths.result c.new-sized_area.result _ _ _ _ _ _ _ _ c.class_index-class.ensures c.requires.room c.take_table-lengths.ensures.len c.new-sized_area.ensures.made c.new-sized_area.ensures.valid refl
+    c.take-segment.ensures.taken c.take-segment.ensures.quota c.take-segment.ensures.origin c.shift_up.ensures c.put_in.ensures.capacity c.take_table-lengths.ensures.room
     c.put_in.new.sized_areas.items c.put_in.ensures.items).gives
 
 pub returns-clause-valid_shelf : goal.returns-clause-valid_shelf
 returns-clause-valid_shelf g c =
-    (grows.grown _ _ _ _ _ _ _ _ _ _ _ c.self.view_is c.self.invariant.0 c.args.exp c.requires.least c.requires.most c.class_index-class.result _ c.pop-lengths.result c.new-sized_area.result _ _ _ _ _ _ _ _ c.class_index-class.ensures c.requires.room c.pop-lengths.ensures.cases c.new-sized_area.ensures.made c.new-sized_area.ensures.valid refl
-    c.take-segment.ensures.taken c.take-segment.ensures.quota c.take-segment.ensures.origin c.shift_up.ensures c.put_in.ensures.capacity c.pop-lengths.ensures.capacity
+    (grows.grown _ _ _ _ _ _ _ _ _ _ _ c.self.view_is c.self.invariant.0 c.args.exp c.requires.least c.requires.most c.class_index-class.result _ c.take_table-lengths.result c.new-sized_area.result _ _ _ _ _ _ _ _ c.class_index-class.ensures c.requires.room c.take_table-lengths.ensures.len c.new-sized_area.ensures.made c.new-sized_area.ensures.valid refl
+    c.take-segment.ensures.taken c.take-segment.ensures.quota c.take-segment.ensures.origin c.shift_up.ensures c.put_in.ensures.capacity c.take_table-lengths.ensures.room
     c.put_in.new.sized_areas.items c.put_in.ensures.items).valid_shelf
