@@ -1,12 +1,14 @@
 -- What seats know of what is published: its history's name.
 use Rattle.std.proofs.Common.{◌≡◌, ◌≢◌, ℕ, List, [], ◌∷◌, ◌++◌, Result, Ok, Err, MatchResult, IfOk, fold, set, sym, refl, ap, subst, ◌∙◌, ⊎_elim, Option, None, Some}
+use mathlib.Core.List.{IsPrefix}
 use mathlib.Core.Option.{some}
 use Rattle.core.specs.Result.{result_and}
 use lib.ListN.{get_elem?}
 use Rattle.left_right.specs.Register.{Admits, TurnsAt, Forks, Merges}
 use Rattle.atomic_table.proofs.Lists.{at_set, at_snoc}
 use Rattle.dym_view.specs.Histories.{HistoryName, Beginning}
-use Rattle.dym_view.specs.Rules.{AreOfPublished, Takes, HasSeen, AreOf, AreThis, last_of}
+use Rattle.dym_view.specs.Rules.{AreOfPublished, Takes, HasSeen, Knows, AreOf, AreThis, last_of}
+use Rattle.dym_view.proofs.Beginnings.{prefix_trans}
 
 -- a seat that comes has seen nothing
 pub admits : Admits AreOfPublished None
@@ -96,3 +98,8 @@ shown_after front first second third waiting then is all once none twice =
 pub both_went : {T U E : Type 0} (P : U → Type 0) (r : Result T E) (s : Result U E) (u : U) → result_and r s ≡ Ok u → IfOk s P → P u
 both_went P (Ok x) s u is all = subst (λ t. IfOk t P) is all
 both_went P (Err e) s u is all = absurd (cc (is))
+
+-- what a seat has seen is known where more is
+pub knows_more : (known more : Beginning) (seen : Option Beginning) → IsPrefix known.commits more.commits → Knows known seen → Knows more seen
+knows_more known more None begins is = is
+knows_more known more (Some b) begins is = prefix_trans b.commits known.commits more.commits is begins

@@ -1,5 +1,6 @@
 -- The rules: of the book that keeps a history, and of what a viewer takes.
-use Rattle.std.specs.Prelude.{ℕ, ◌≡◌, ◌==◌, ◌<◌, true, List, [], ◌∷◌, ◌++◌, length, fold, map as list_map, MatchBool, Option, Some, IsSomeAnd}
+use Rattle.std.specs.Prelude.{ℕ, ◌≡◌, ◌==◌, ◌<◌, true, List, [], ◌∷◌, ◌++◌, length, fold, map as list_map, MatchBool, Option, None, Some, IsSomeAnd}
+use mathlib.Core.List.{IsPrefix}
 use mathlib.Core.Option.{some}
 use lib.ListN.{get_elem?}
 use Rattle.std.specs.List.{AllByRecursion}
@@ -79,6 +80,15 @@ Takes before x y after = (after ≡ Some y) × ((seen : Beginning) → before �
 -- a seat has seen this history
 abbrev pub HasSeen : HistoryName → Option Beginning → Type 0
 HasSeen history seen = IsSomeAnd seen (λ (b : Beginning). b.history ≡ history)
+
+-- all that a seat has seen is known
+abbrev pub Knows : Beginning → Option Beginning → Type 0
+Knows known seen = IsSomeAnd seen (λ (b : Beginning). IsPrefix b.commits known.commits)
+
+-- what is known after a look that found this beyond it
+abbrev pub known_after : Beginning → Option Beginning → Beginning
+known_after known None = known
+known_after known (Some newer) = newer
 
 -- what stands once all that waits was published
 abbrev pub last_of : Beginning → List Beginning → Beginning

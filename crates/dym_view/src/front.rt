@@ -1,5 +1,5 @@
 //! A beginning of a history, with the last commit of it.
-ghost use Rattle.std.specs.Prelude.{◌≡◌, ◌+◌, ◌<◌, ◌≤◌, ◌⊎◌, [], ◌∷◌, ◌++◌, length, Option, Some, option_map, IfOk, IfSome, OnErr};
+ghost use Rattle.std.specs.Prelude.{◌≡◌, ◌+◌, ◌<◌, ◌≤◌, ◌⊎◌, [], ◌∷◌, ◌++◌, length, Option, Some, option_map, IfOk, OnErr, MatchOption};
 ghost use mathlib.Core.List.{IsPrefix};
 ghost use Rattle.std.specs.Arc.{arc_value};
 ghost use Rattle.std.specs.Option.{option_copied};
@@ -132,17 +132,18 @@ impl Front {
         both.learn(&other.reached);
     }
 
-    /// Another beginning of the same history, where it is longer and can be shared.
-    pub(crate) fn longer(&self, other: &Front) -> Option<Front>
+    /// Another beginning of the same history, where it is longer. An `AllocError` comes where it is and its last commit can't be shared.
+    pub(crate) fn longer(&self, other: &Front) -> Result<Option<Front>, AllocError>
         requires { other.now.history ≡ self.now.history }
-        ensures same { IfSome result (λ front. front ≡ other.now) }
-        ensures begins { IfSome result (λ front. IsPrefix self.now.commits front.commits) }
+        ensures { IfOk result (λ longer. MatchOption longer (IsPrefix other.now.commits self.now.commits)
+            (λ front. (front ≡ other.now) × IsPrefix self.now.commits front.commits)) }
     {
         if other.number <= self.number {
-            return None;
+            other.begins(self);
+            return Ok(None);
         }
         self.begins(other);
-        other.again().ok()
+        Ok(Some(other.again()?))
     }
 
     /// Becomes the longer one of itself and another beginning of the same history, which the other one begins.

@@ -2,7 +2,7 @@
 ghost use Rattle.std.specs.Prelude.{◌≡◌, [], ◌∷◌, ◌++◌, IfSome, IfOk, MatchResult, drop};
 ghost use mathlib.Core.List.{IsPrefix};
 ghost use Rattle.left_right.specs.Sides.{view};
-ghost use Rattle.dym_view.specs.Rules.{HasSeen, AreOf, last_of};
+ghost use Rattle.dym_view.specs.Rules.{HasSeen, Knows, known_after, AreOf, last_of};
 
 use crate::front::Front;
 use atomic_table::{Join, Split};
@@ -136,18 +136,23 @@ fn publish_waiting<R: Wait>(view_writer: Pen, rt: &R) -> (Pen, Result<(), AllocE
     view_writer.publish_as::<Take, R>(rt)
 }
 
-/// What is published, where it goes further than what is known and can be shared.
-pub(crate) fn look_through(view_reader: Eye, known: &Front) -> (Eye, Option<Front>)
+/// That what is published can't be read or shared.
+#[derive(Drop)]
+pub(crate) struct Unread;
+
+/// What is published, where it goes further than what is known.
+pub(crate) fn look_through(view_reader: Eye, known: &Front) -> (Eye, Result<Option<Front>, Unread>)
     requires { HasSeen known.now.history (view view_reader.place) }
     ensures view_reader { HasSeen known.now.history (view result.0.place) }
-    ensures history { IfSome result.1 (λ front. front.history ≡ known.now.history) }
-    ensures begins { IfSome result.1 (λ front. IsPrefix known.now.commits front.commits) }
+    ensures history { IfOk result.1 (λ newer. IfSome newer (λ front. front.history ≡ known.now.history)) }
+    ensures begins { IfOk result.1 (λ newer. IfSome newer (λ front. IsPrefix known.now.commits front.commits)) }
+    ensures taken { IfOk result.1 (λ newer. Knows (known_after known.now newer) (view result.0.place)) }
 {
     match view_reader.enter_as::<Take>() {
         Ok(reading) => {
-            let front = known.longer(reading.get());
-            (reading.leave(), front)
+            let newer = known.longer(reading.get());
+            (reading.leave(), newer.map_err(|_| Unread))
         }
-        Err(view_reader) => (view_reader, None),
+        Err(view_reader) => (view_reader, Err(Unread)),
     }
 }

@@ -15,20 +15,24 @@ use std::marker::Model;
 /// Sees the last commit of a history that it knows of, in any thread.
 ///
 /// Contracts see the name of the history, which no call changes, and the commits that are known: a beginning of the history, which only
-/// grows. No call takes memory or waits. Where what is published can't be read or shared, what is known stays.
+/// grows. What is published at a look is known after it; where that can't be read or shared, what is known stays. No call takes memory or
+/// waits.
 #[derive(Drop)]
 pub struct Viewer {
     pub(crate) view_reader: Eye,
     pub(crate) front: Front,
+    /// Whether the last look took what is published, and could share it.
+    pub(crate) has_taken: bool,
 }
 
 impl Model for Viewer {
+    ghost use Rattle.std.specs.Prelude.{◌≡◌, true};
     ghost use Rattle.std.specs.Coded.{codes};
     ghost use Rattle.logbook.specs.Pages.{book_coded};
     ghost use Rattle.left_right.specs.Sides.{view as view_of};
     ghost use Rattle.dym_heap.specs.Meaning.{live_code};
     ghost use Rattle.dym_view.specs.Histories.{Beginning};
-    ghost use Rattle.dym_view.specs.Rules.{HasSeen};
+    ghost use Rattle.dym_view.specs.Rules.{HasSeen, Knows};
 
     ghost Value = { Beginning };
 
@@ -36,7 +40,7 @@ impl Model for Viewer {
 
     ghost view = { λ v. v.front };
 
-    ghost invariant = { λ v. HasSeen v.front.history (view_of v.view_reader.place) };
+    ghost invariant = { λ v. HasSeen v.front.history (view_of v.view_reader.place) × (v.has_taken ≡ true → Knows v.front (view_of v.view_reader.place)) };
 }
 
 impl Viewer {
@@ -82,13 +86,14 @@ impl Viewer {
         }
     }
 
-    /// Knows from now on what is published, where it goes further and can be shared.
+    /// Knows from now on what is published, where it can be read and shared.
     fn refresh(&mut self)
         ensures name { self.new.history ≡ self.old.history }
         ensures known { IsPrefix self.old.commits self.new.commits }
     {
-        let newer = replace_with(&mut self.view_reader, &self.front, look_through);
-        if let Some(front) = newer {
+        let taken = replace_with(&mut self.view_reader, &self.front, look_through);
+        self.has_taken = taken.is_ok();
+        if let Ok(Some(front)) = taken {
             self.front = front;
         }
     }
