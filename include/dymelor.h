@@ -2,49 +2,51 @@
  * dymelor.h: heaps that can be logged at simulation times and rolled back, for C and C++.
  *
  * An object is the heap of one logical process. Its chunks are named by handles, which stay valid over rollbacks, and lie at addresses
- * that follow from the handles and so stay valid, too. The bytes of a chunk are written and read by calls, or in place, by a pointer; a
- * call tells the object first that they will be, so that it knows what changed. A log keeps the heap at a simulation time, the whole of
- * it or what changed since the log before; a restore brings back the newest log at or before a time; a prune drops the logs that a
- * commit bound makes useless.
+ * that follow from the handles and so stay valid, too. The bytes of a chunk are written and read by calls, or in place, by a pointer; before
+ * they are written in place, a call touches the chunk, so that the object knows what changed. A log keeps the heap at a simulation time, the
+ * whole of it or what changed since the log before; a restore brings back the newest log at or before a time; a prune drops the logs that no
+ * rollback can reach, since no event before a bound (GVT, the global virtual time) can come any more.
  *
  * Every call answers a status. The calls are proved: whatever numbers are handed in, each does what stands beside it here and touches no
  * memory but the object's own and what its parameters point to. What C owes, and nothing checks:
  *
  *   - a dym_object is zeroed before its first use, and then written by these calls alone. While it is open a copy may take its place, as
- *     where an array of objects grows, but a copy and the original are never both used;
+ *     when an array of objects grows, but a copy and the original are never both used;
  *   - a pointer to an object is that of such a dym_object; each other pointer is that of a whole value of its type, which the caller may
  *     write unless it is const. What the pointers of one call point to doesn't overlap;
  *   - bytes that are handed in or out are at a pointer that isn't null, also where there are none: with a length or a room of 0 too;
  *   - a const dym_object is none that was defined const: its call leaves the object as it was, but may write to it while it runs;
  *   - one call at a time on an object. It may be another thread's than the call before: a lock, a barrier, a thread's start or join, or
- *     a sequentially consistent atomic then stands between the two. Calls on different objects need no order;
+ *     an atomic that is stored with release and loaded with acquire then stands between the two. To read or write a chunk by a pointer
+ *     is like a call here. Calls on different objects need no order;
  *   - no call from a signal handler, nor from the forked child of a process that has threads;
  *   - malloc, realloc and free are those of one allocator, which aligns a block to each power of two up to 16 that divides its length.
  *
- * An object takes memory by malloc and realloc, and gives it back by free, when it is opened, logged, pruned, restored, saved, loaded and
- * closed. When it is opened, or loaded, it takes one block for its chunks: 12 segments of 64 KiB for each one of its quota, since each
- * of the 12 classes has places of its own. That is address space (3 MiB for a quota of 4, 768 MiB for one of 1,024); memory is taken
- * by what is touched alone, where malloc maps a large block when it is touched, as the C library's does. So dym_open, dym_log,
- * dym_save and dym_load alone can answer DYM_MEMORY. The calls start no thread, and wait for none.
+ * Only dym_open, dym_log, dym_save, dym_load and dym_untold take memory, by malloc and realloc, and only they can answer DYM_MEMORY. They
+ * give memory back by free, as do dym_prune, dym_prune_before, dym_restore, dym_restore_before and dym_close. When an object is opened or
+ * loaded, it takes one block for its chunks: 12 segments of 64 KiB for each segment of its quota, since each of the 12 classes has places
+ * of its own. That is address space (3 MiB for a quota of 4, 768 MiB for one of 1,024): a malloc that maps a large block page by page, as
+ * the C library's does, takes memory only for pages that are used. The calls start no thread, and wait for none.
  *
  * Pointers. A chunk stays at one address as long as its object is open: whatever else is allocated, freed, logged, restored or pruned,
- * and where it is given another length in its class. Where a restore brings a chunk back, it is where it was when the log was taken;
- * so a pointer to a chunk that lies in another chunk is right again. dym_load opens another object: its addresses are others.
- * Each chunk is aligned to 16 bytes. What C owes, and nothing checks:
+ * and when it is given another length in its class. A chunk that a restore brings back is where it was when the log was taken;
+ * so a pointer to a chunk that lies in another chunk is right again. dym_load opens another object: its addresses are others, and pointers
+ * to the old one's chunks, also those that lie in chunks, lead nowhere. Each chunk is aligned to 16 bytes. What C owes, and nothing checks:
  *
  *   - it reads by a pointer what a live chunk has: its bytes from the first to its length, and no others;
- *   - it writes by a pointer only into a live chunk that was touched before, since the last dym_log, dym_restore, dym_restore_before
- *     or dym_load: by dym_touch, dym_touch_all, dym_wrote, dym_write or dym_fill of at least one byte, dym_link, or as dym_malloc,
- *     dym_calloc or a dym_realloc that moved it gave it. A log that is incremental and a restore trust this: bytes that are written
+ *   - it writes by a pointer into a live chunk that was touched since the last dym_log, dym_restore, dym_restore_before or dym_load, and
+ *     into no other: touched by dym_touch, dym_touch_all, dym_wrote, dym_write or dym_fill of at least one byte, dym_link, or because
+ *     dym_malloc, dym_calloc or a dym_realloc that moved it gave it. An incremental log and a restore trust this: bytes that are written
  *     into a chunk that isn't touched may be missed by the one and stay after the other;
- *   - a pointer into a chunk that was freed, moved by dym_realloc, or undone by a restore is used no more, until the chunk is live again;
- *   - what is written by a pointer counts as written from then on: it is in the next log, and in what the calls read.
+ *   - a pointer into a chunk that was freed, moved by dym_realloc, or undone by a restore is used no more, until the chunk is live again.
+ *
+ * What is written by a pointer is in the next log, and in what the calls read.
  *
  * Units: a length, a room and a place in a chunk are in bytes, and places are counted from 0; a quota is in segments of 65,536 bytes; a
- * simulation time is a number of whatever unit the simulator has, of which the order alone matters.
+ * simulation time is a number of whatever unit the simulator has, of which only the order matters.
  *
  * What the text beside a call says of a parameter that it writes, as *chunk, holds at DYM_DONE. At any other status the parameter stays as
- * it was, but for *length of dym_save at DYM_RANGE and *part of dym_load at DYM_BAD.
+ * it was, but for *length of dym_save at DYM_RANGE, *part of dym_load at DYM_BAD, and *moved of dym_realloc_at at DYM_SPENT.
  */
 #ifndef DYMELOR_H
 #define DYMELOR_H
@@ -53,7 +55,7 @@
 #include <stdint.h>
 #include <string.h>
 
-/* The version that this header is of. While the first number is 0, a greater second one may change what stands here. */
+/* The version of this header. While the first number is 0, a greater second one may change what stands here. */
 #define DYM_VERSION "0.3.0"
 #define DYM_VERSION_MAJOR 0
 #define DYM_VERSION_MINOR 3
@@ -64,9 +66,9 @@ extern "C" {
 #endif
 
 /*
- * What a call answers. A refused command changes nothing of the object but the count of its commands, on which DYM_SPENT alone depends; a
- * status from 8 on changes nothing of it at all. Where more than one would be right, DYM_BAD comes first, then DYM_SPENT, then the
- * refusals as they stand beside the call; DYM_MEMORY comes only where none of these does, but for dym_save.
+ * What a call answers. A refused command changes nothing of the object but the count of its commands, on which only DYM_SPENT depends; a
+ * status from 8 on changes nothing of it at all. If more than one would be right, DYM_BAD comes first, then DYM_SPENT, then the
+ * refusals as they stand beside the call; DYM_MEMORY comes only if none of these does, but for dym_save.
  */
 typedef uint32_t dym_status;
 
@@ -75,16 +77,16 @@ enum {
     DYM_TOO_LARGE = 1, /* refused: no class has chunks of that length; the greatest is 65,536 bytes */
     DYM_QUOTA = 2,     /* refused: the heap would hold more segments than its quota */
     DYM_DEAD = 3,      /* refused: no chunk with this handle is live */
-    DYM_RANGE = 4,     /* refused: the bytes that were named pass the end of the chunk */
+    DYM_RANGE = 4,     /* refused: the bytes that were named pass the end of the chunk; for dym_save: the file is longer than the room */
     DYM_NOT_AFTER = 5, /* refused: the newest log has this time or a later one, and a new one must come after it */
     DYM_LOGS_FULL = 6, /* refused: 256 logs are kept, the most that an object keeps */
-    DYM_NO_LOG = 7,    /* refused: no log has a time at or before the one asked for */
-    DYM_MEMORY = 8,    /* memory was wanting */
-    DYM_BAD = 9,       /* an argument was bad, or the object closed (for dym_open: open) */
+    DYM_NO_LOG = 7,    /* refused: no kept log is at or before the time, before it (dym_restore_before), or at the place (dym_log_time) */
+    DYM_MEMORY = 8,    /* memory ran out */
+    DYM_BAD = 9,       /* an argument was bad, or the object closed (for dym_open and dym_load: open) */
     DYM_SPENT = 10     /* the object has run 2^60 commands, the most that it may */
 };
 
-/* An object: closed where it is zero. */
+/* An object: closed when it is zero. */
 typedef struct dym_object {
     void *inside;
 } dym_object;
@@ -113,7 +115,7 @@ static inline uint64_t dym_number(dym_handle chunk)
     return ((uint64_t)chunk.exponent << 32) | chunk.index;
 }
 
-/* The handle of a number; one whose exponent is bad, which calls answer by DYM_BAD, for the number of none. */
+/* The handle of a number. A number that is no handle's gives one with a bad exponent, which calls answer by DYM_BAD. */
 static inline dym_handle dym_numbered(uint64_t number)
 {
     dym_handle chunk = {255, 0};
@@ -125,8 +127,9 @@ static inline dym_handle dym_numbered(uint64_t number)
 }
 
 /*
- * A time for the calls from a simulator's clock, in the same order: for times a and b that are no less than 0, infinity included,
- * dym_time_of(a) < dym_time_of(b) exactly where a < b. Where it isn't above 0, negative zero and what is no number too, it is 0.
+ * A time for the calls from a simulator's clock, in the same order: for clocks a and b of at least 0, infinity included,
+ * dym_time_of(a) < dym_time_of(b) exactly if a < b. It is 0 for 0.0, and for negative clocks and NaN. A kernel whose events may come at 0.0
+ * adds 1, so that its first log, at time 0, is before them, and takes 1 away for dym_clock_of.
  */
 static inline uint64_t dym_time_of(double clock)
 {
@@ -175,7 +178,7 @@ typedef struct dym_logged {
     uint64_t length;
 } dym_logged;
 
-/* What eight bytes of a chunk name. A link to a chunk that was freed is loose, and live again once another chunk has that handle. */
+/* What eight bytes of a chunk name. A link to a chunk that was freed is loose, and live again when another chunk has that handle. */
 enum {
     DYM_FOUND_NIL = 0,  /* nothing: they are zero */
     DYM_FOUND_LIVE = 1, /* a live chunk */
@@ -188,7 +191,7 @@ typedef struct dym_found {
     uint64_t number;  /* the number that the eight bytes are, the least byte first: for a handle exponent * 2^32 + index */
 } dym_found;
 
-/* How many logs are kept, and how many records they take: theirs, and those before the oldest log that it stands on. */
+/* How many logs are kept, and how many records they take (`slots`): theirs, and those before the oldest kept log that a restore of it reads. */
 typedef struct dym_slots {
     uint32_t kept;
     uint32_t slots;
@@ -217,7 +220,7 @@ dym_status dym_close(dym_object *object);
 dym_status dym_inspect(const dym_object *object, dym_heap *heap);
 
 /* ---- chunks
- * Each of these answers DYM_BAD where the object is closed or a handle's exponent is that of no class (nil is allowed where it is said),
+ * Each of these answers DYM_BAD if the object is closed or a handle's exponent is that of no class (nil is allowed where it is said),
  * and, but for the last two, DYM_SPENT. */
 
 /* A fresh chunk of zero bytes: the free one with the least index in the class of the length, which may be 0. *chunk is its handle.
@@ -228,9 +231,9 @@ dym_status dym_malloc(dym_object *object, uint64_t length, dym_handle *chunk);
 dym_status dym_calloc(dym_object *object, uint64_t count, uint64_t length, dym_handle *chunk);
 
 /*
- * Gives a chunk another length: its bytes stay up to the smaller length, and zeros follow. *moved is its handle then, which is the same
- * where the class is; else the old one is dead, and the quota has to allow both chunks for a moment. For nil this is dym_malloc, whatever
- * the length; else a length of 0 frees the chunk, and *moved is nil.
+ * Gives a chunk another length: its bytes stay up to the smaller length, and zeros follow. *moved is its handle then: the same if the class
+ * is the same; else the old handle is dead, and the quota has to allow both chunks for a moment. For nil this is dym_malloc, whatever the
+ * length; else a length of 0 frees the chunk, and *moved is nil.
  * DYM_DEAD, DYM_TOO_LARGE, DYM_QUOTA.
  */
 dym_status dym_realloc(dym_object *object, dym_handle chunk, uint64_t length, dym_handle *moved);
@@ -261,28 +264,37 @@ dym_status dym_sum(dym_object *object, dym_handle chunk, uint64_t *total);
 dym_status dym_size(const dym_object *object, dym_handle chunk, uint32_t *length);
 
 /* *next is the first live chunk after `after`, which needn't be live, in the order of exponents and then of indices; after nil it is the
- * first of all; where there is none it is nil. This is no command either. */
+ * first of all; if there is none it is nil. This is no command either. */
 dym_status dym_next(const dym_object *object, dym_handle after, dym_handle *next);
 
 /* ---- chunks in place
- * Each of these answers DYM_BAD where the object is closed or a handle's exponent is that of no class. What a pointer is good for, and
+ * Each of these answers DYM_BAD if the object is closed or a handle's exponent is that of no class. What a pointer is good for, and
  * until when, stands at the head of this file. */
 
 /* *address is where a chunk lies, to be read there. This is no command. DYM_DEAD. */
 dym_status dym_address(const dym_object *object, dym_handle chunk, const void **address);
 
 /*
- * The same, to be read and written there: the chunk is touched. It is a dym_write of all its bytes, by those that stand there at the
- * next call, and like it a command: DYM_SPENT, DYM_DEAD. A chunk of length 0 has no byte to be written, and isn't touched.
+ * The same, to be read and written there: the chunk is touched. This counts as a dym_write of all its bytes, with what stands there at the
+ * next call, and is a command like it: DYM_SPENT, DYM_DEAD. A chunk of length 0 has no byte to be written, and this doesn't touch it.
  */
 dym_status dym_touch(dym_object *object, dym_handle chunk, void **address);
 
-/* Touches every live chunk: for code that writes wherever it likes, as an interpreter that runs inside an object. This is no command. */
+/* Touches every live chunk: for code that writes wherever it likes, as an interpreter that runs inside an object. Such code needs it after
+ * each log, restore and load. This is no command. */
 dym_status dym_touch_all(dym_object *object);
 
 /* Touches each live chunk of which a byte lies in the object's block in the `length` bytes from `offset` on; what else lies there, and a
  * length of 0, is passed over. This is no command. */
 dym_status dym_wrote_at(dym_object *object, uint64_t offset, uint64_t length);
+
+/*
+ * Finds what was written by a pointer and not touched: *chunk is the first live chunk that isn't touched and has other bytes, or another
+ * length, than the newest log brings back. It is nil if there is none, which is so while C keeps what it owes, and while no log is kept. To
+ * debug a kernel, call it after each event, before the log. It brings the newest log back into a block of its own, which takes the time of
+ * a restore of the whole heap, and changes nothing. This is no command. DYM_MEMORY.
+ */
+dym_status dym_untold(const dym_object *object, dym_handle *chunk);
 
 /* *start is where the object's block begins. This is no command. */
 dym_status dym_start(const dym_object *object, const void **start);
@@ -339,7 +351,8 @@ static inline dym_status dym_calloc_at(dym_object *object, uint64_t count, uint6
     return status;
 }
 
-/* dym_realloc, and then dym_touch of *moved: *address is where that chunk lies, or null where the old one was freed. */
+/* dym_realloc, and then dym_touch of *moved: *address is where that chunk lies, or null if the old one was freed. These are two commands:
+ * if the second answers DYM_SPENT, the chunk has its new length and *moved is its handle all the same. */
 static inline dym_status dym_realloc_at(dym_object *object, dym_handle chunk, uint64_t length, dym_handle *moved, void **address)
 {
     dym_status status = dym_realloc(object, chunk, length, moved);
@@ -352,11 +365,11 @@ static inline dym_status dym_realloc_at(dym_object *object, dym_handle chunk, ui
 }
 
 /* ---- logs
- * Each of these answers DYM_BAD where the object is closed, and DYM_SPENT. */
+ * Each of these answers DYM_BAD if the object is closed, and, but for dym_log_time, DYM_SPENT. */
 
 /*
- * Logs the heap at a simulation time, which is any number above that of the newest log. A log is full, whatever kind is asked, where there
- * is none before it or 31 incremental ones stand behind the last full one. *logged says what was taken.
+ * Logs the heap at a simulation time, which is any number above that of the newest log. A log is full, whatever kind is asked, if there
+ * is none before it or 31 incremental ones follow the last full one. *logged says what was taken.
  * DYM_BAD: the kind is neither 0 nor 1. DYM_NOT_AFTER, DYM_LOGS_FULL. DYM_MEMORY: nothing was logged.
  */
 dym_status dym_log(dym_object *object, uint32_t kind, uint64_t time, dym_logged *logged);
@@ -368,35 +381,37 @@ dym_status dym_restore(dym_object *object, uint64_t time, uint64_t *restored);
 /* The same with the newest log before a time, of which there is none at time 0. DYM_NO_LOG. */
 dym_status dym_restore_before(dym_object *object, uint64_t time, uint64_t *restored);
 
-/* Drops the logs before the newest one at or before a bound, so that this one can still be restored. *dropped is how many; it may be 0. */
+/* Keeps the newest log at or before `bound`, so that it can still be restored, and drops those before it. *dropped is how many; it may
+ * be 0. For a GVT, at which an event may still come, use dym_prune_before: this call may keep only a log at GVT itself. */
 dym_status dym_prune(dym_object *object, uint64_t bound, uint32_t *dropped);
 
-/* Drops the logs before the newest one that is before a bound, so that dym_restore_before with that bound or a later time still finds
+/* Keeps the newest log before `bound`, so that dym_restore_before with that bound or a later time still finds it, and drops those before
  * it. At bound 0 it drops none. */
 dym_status dym_prune_before(dym_object *object, uint64_t bound, uint32_t *dropped);
 
-/* *slots says how many logs are kept. */
+/* *slots says how many logs are kept, and how many records they take. */
 dym_status dym_logs(dym_object *object, dym_slots *slots);
 
-/* *time is that of a kept log, of which the oldest has place 0. This is no command: it never answers DYM_SPENT. DYM_NO_LOG: as many
- * logs aren't kept. */
+/* *time is that of a kept log, of which the oldest has place 0. This is no command: it never answers DYM_SPENT. DYM_NO_LOG: no log is kept
+ * at this place. */
 dym_status dym_log_time(const dym_object *object, uint32_t place, uint64_t *time);
 
 /* ---- checkpoint files
  * A file has the kept logs of an object, with its quota and version, under a name of 1 to 32 characters A-Z a-z 0-9 _ that isn't
- * the word object. What was changed since the newest log isn't in it. It is the file that the program dymelor saves and loads. */
+ * the word object. What was changed since the newest log isn't in it. It is the file that the program dymelor saves and loads. Its own
+ * numbers have their least byte first; bytes of chunks stand as they are. It has no checksum. */
 
 /*
  * Writes the file to where `bytes` begins. *length is how many bytes it has. This is no command.
  * DYM_BAD: the object is closed, or the name is none. DYM_RANGE: the file is longer than `room`; *length is its length then too, and the
- * bytes stay as they were, so that a room of 0 asks for the length (`bytes` isn't null then either). DYM_MEMORY: for the file is made in
- * memory of the library's own first, whatever the room.
+ * bytes stay as they were, so that a room of 0 asks for the length (`bytes` isn't null then either). DYM_MEMORY: the library first makes the
+ * file in memory of its own, whatever the room.
  */
 dym_status dym_save(dym_object *object, const uint8_t *name, size_t name_length, uint8_t *bytes, size_t room, uint64_t *length);
 
 /*
- * Opens a closed object as the newest log of a file has it, with all its logs, and empty where the file has none. Its quota and version
- * are the file's. Any bytes may be handed in: an object comes of them exactly where they are a file. The name that the file has isn't told.
+ * Opens a closed object as the newest log of a file has it, with all its logs, and empty if the file has none. Its quota and version
+ * are the file's. Any bytes may be handed in: they make an object exactly if they are a file. The name that the file has isn't returned.
  * DYM_BAD: the object is open, and *part stays as it was; or the bytes are no file, and *part is the first part that fails: 0 for the
  * header, k for record k, and one more than there are records for what follows them. DYM_MEMORY: it stays closed.
  */

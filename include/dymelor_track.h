@@ -2,7 +2,7 @@
  * dymelor_track.h: a model's stores, told by the compiler, so that the model says no dym_touch.
  *
  * A model that dymelor-cc or dymelor-c++ compiled calls a function before each of its stores. Where the store is into a live chunk of the
- * object that its thread has named by dym_track, that chunk is touched, as by dym_touch; any other store does nothing but be made. So the
+ * object that its thread has named by dym_track, that chunk is touched, as by dym_wrote; any other store does nothing but be made. So the
  * simulator names an object before it runs an event of that object, and the model writes through plain pointers:
  *
  *     dym_track(&object);
@@ -19,8 +19,9 @@
  * Clang; where dymelor-cc calls GCC, it refuses a file that has one.
  *
  * Not told, so that a dym_touch or dym_touch_all has to come before: what other functions write that dymelor-cc didn't compile, those of
- * libraries, and of the C++ library's own list, map and set; assembler, and the intrinsics that store past the caches or by a mask; a function
- * that the attribute no_sanitize exempts. What a call of dymelor.h writes to by a parameter, as *chunk, may not lie in a chunk at all.
+ * libraries, and of the C++ library's own list, map and set; assembler, and the intrinsics that store past the caches or by a mask; a
+ * function that the attribute no_sanitize exempts. dym_untold finds what they wrote. What a call of dymelor.h writes to by a parameter,
+ * as *chunk, may not lie in a chunk at all.
  *
  * What C owes beside what dymelor.h says, and nothing checks: a store into an object is like a call on it, so that one thread at a time
  * makes them; an object that moved is named again; no thread stores into the chunks of a closed object. A thread that named an object which
@@ -41,14 +42,6 @@ extern "C" {
  * DYM_BAD: the object is closed; the stores are told to none.
  */
 dym_status dym_track(dym_object *object);
-
-/*
- * Finds a store that was not told. It is to be called directly after dym_log: *chunk is the first live chunk whose length or bytes aren't
- * those that a restore of the newest log brings back, or that isn't there then, and nil where there is none. Where chunks were touched since
- * the newest log, they are found too. It opens a second object from what dym_save writes, takes the time of that, and changes nothing.
- * DYM_BAD: the object is closed. DYM_NO_LOG: no log is kept. DYM_MEMORY.
- */
-dym_status dym_untold(dym_object *object, dym_handle *chunk);
 
 #ifdef __cplusplus
 }

@@ -1,4 +1,3 @@
 pub mod HeldSteps
 pub mod ObjectSteps
-pub mod Regions
 pub mod Sent

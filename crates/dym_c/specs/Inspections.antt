@@ -9,6 +9,7 @@ use Rattle.dym_base.specs.declared.handle.Handle.{Handle}
 use Rattle.dym_heap.specs.Replies.{after_key, IsNextLive}
 use Rattle.dym_chain.specs.Chains.{log_at}
 use Rattle.dym_object.specs.Meaning.{ObjectMeaning}
+use Rattle.dym_c.specs.Calls.{Wanting}
 use Rattle.dym_c.specs.Handles.{nil, c_handle}
 use Rattle.dym_c.specs.declared.handle.DymHandle.{DymHandle}
 use Rattle.dym_c.specs.declared.out_values.DymHeap.{DymHeap}
@@ -57,3 +58,8 @@ IsLeast live from next = ((next ≡ nil) × ((k : ℕ) → from ≤ k → contai
 abbrev pub IsNext : Option ObjectMeaning → Option (Option Handle) → ℕ → DymHandle → DymHandle → Type 0
 IsNext (Some o) (Some place) status before next = (status ≡ 0) × IsLeast o.heap.state.live (after_key place) next
 IsNext _ _ status before next = (status ≡ 9) × (next ≡ before)
+
+-- no chunk was changed without a call, unless memory was wanting to see it
+abbrev pub IsUntold : Option ObjectMeaning → ℕ → DymHandle → DymHandle → Type 0
+IsUntold None status before first = (status ≡ 9) × (first ≡ before)
+IsUntold (Some o) status before first = Wanting status (first ≡ before) ((status ≡ 0) × (first ≡ nil))

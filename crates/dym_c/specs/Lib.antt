@@ -1,6 +1,7 @@
 pub mod AskedCommands
 pub mod Calls
 pub mod ChunkPlaces
+pub mod ContentLends
 pub mod Handles
 pub mod Inspections
 pub mod Openings

@@ -14,16 +14,10 @@ use crate::object::DymObject;
 use crate::object_content::Process;
 use crate::status::{BAD, DONE, done_number, refusal_number};
 use dym_base::{Handle, Refusal};
-use std::alloc::Global;
 
 /// Where a chunk lies, to be read there.
 #[unsafe(no_mangle)]
-pub extern "C" fn dym_address(
-    alloc: Global,
-    object: &mut DymObject,
-    h: DymHandle,
-    address: &mut *const u8,
-) -> u32
+pub extern "C" fn dym_address(object: &mut DymObject, h: DymHandle, address: &mut *const u8) -> u32
     ensures status { result ≡ size_status object.old.value (chunk_of h) }
     ensures out_value { address.new ≡ address_after object.old.value (chunk_of h) address.old }
     ensures same { object.new.value ≡ object.old.value }
@@ -31,12 +25,10 @@ pub extern "C" fn dym_address(
     let Some(chunk) = chunk_of_c(h) else {
         return BAD;
     };
-    let Some(inside) = object.take(alloc) else {
+    let Some(inside) = object.inside() else {
         return BAD;
     };
-    let place = inside.object.address(chunk);
-    object.put(alloc, inside);
-    match place {
+    match inside.object.address(chunk) {
         Some(place) => {
             *address = place;
             DONE
@@ -47,13 +39,7 @@ pub extern "C" fn dym_address(
 
 /// Where a chunk lies, to be read and written there: all its bytes count as written.
 #[unsafe(no_mangle)]
-#[tactic(auto, using(crate::proofs::Regions::step_keeps_region))]
-pub extern "C" fn dym_touch(
-    alloc: Global,
-    object: &mut DymObject,
-    h: DymHandle,
-    address: &mut *const u8,
-) -> u32
+pub extern "C" fn dym_touch(object: &mut DymObject, h: DymHandle, address: &mut *const u8) -> u32
     ensures status { result ≡ status_of object.old.value (asked_touch object.old.value h) }
     ensures after { IsAfter object.old.value (asked_touch object.old.value h) object.new.value }
     ensures out_value { address.new ≡ touched_address object.old.value (chunk_of h) address.old }
@@ -61,13 +47,12 @@ pub extern "C" fn dym_touch(
     let Some(chunk) = chunk_of_c(h) else {
         return BAD;
     };
-    let mut inside = match object.ready(alloc) {
+    let inside = match object.ready() {
         Ok(inside) => inside,
         Err(status) => return status,
     };
     let place = inside.object.address(chunk);
     let answer = touch(&mut inside.object, chunk);
-    object.put(alloc, inside);
     if let Some(place) = place {
         *address = place;
     }
@@ -83,7 +68,7 @@ fn touch(object: &mut Process, chunk: Handle) -> Result<(), Refusal>
 {
     match object.check(chunk) {
         Ok(()) => {
-            let _bytes = object.chunk_mut(chunk);
+            object.chunk_mut(chunk);
             Ok(())
         }
         Err(_) => object.write(chunk, 0, &[]),
@@ -92,65 +77,54 @@ fn touch(object: &mut Process, chunk: Handle) -> Result<(), Refusal>
 
 /// Makes all live chunks count as written.
 #[unsafe(no_mangle)]
-#[tactic(auto, using(crate::proofs::Regions::touches_keep_region))]
-pub extern "C" fn dym_touch_all(alloc: Global, object: &mut DymObject) -> u32
+pub extern "C" fn dym_touch_all(object: &mut DymObject) -> u32
     ensures status { result ≡ open_status object.old.value }
     ensures after { object.new.value ≡ option_map with_all_touched object.old.value }
 {
-    let Some(mut inside) = object.take(alloc) else {
+    let Some(inside) = object.inside() else {
         return BAD;
     };
     inside.object.touch_all();
-    object.put(alloc, inside);
     DONE
 }
 
 /// Makes each live chunk count as written of which a byte lies in the `len` bytes from `offset` on of the object's region.
 #[unsafe(no_mangle)]
-#[tactic(auto, using(crate::proofs::Regions::touches_in_keep_region))]
-pub extern "C" fn dym_wrote_at(alloc: Global, object: &mut DymObject, offset: u64, len: u64) -> u32
+pub extern "C" fn dym_wrote_at(object: &mut DymObject, offset: u64, len: u64) -> u32
     ensures status { result ≡ open_status object.old.value }
     ensures after { object.new.value ≡ option_map (with_touched_in offset (offset + len)) object.old.value }
 {
-    let Some(mut inside) = object.take(alloc) else {
+    let Some(inside) = object.inside() else {
         return BAD;
     };
     inside.object.touch_at(offset, len);
-    object.put(alloc, inside);
     DONE
 }
 
 /// Where the object's region begins.
 #[unsafe(no_mangle)]
-pub extern "C" fn dym_start(alloc: Global, object: &mut DymObject, start: &mut *const u8) -> u32
+pub extern "C" fn dym_start(object: &mut DymObject, start: &mut *const u8) -> u32
     ensures status { result ≡ open_status object.old.value }
     ensures out_value { start.new ≡ start_after object.old.value start.old }
     ensures same { object.new.value ≡ object.old.value }
 {
-    let Some(inside) = object.take(alloc) else {
+    let Some(inside) = object.inside() else {
         return BAD;
     };
     *start = inside.object.start();
-    object.put(alloc, inside);
     DONE
 }
 
 /// The live chunk that has the byte at `offset` of the object's region.
 #[unsafe(no_mangle)]
-pub extern "C" fn dym_handle_at(
-    alloc: Global,
-    object: &mut DymObject,
-    offset: u64,
-    chunk: &mut DymHandle,
-) -> u32
+pub extern "C" fn dym_handle_at(object: &mut DymObject, offset: u64, chunk: &mut DymHandle) -> u32
     ensures told { IsHandleAt object.old.value offset result chunk.old chunk.new }
     ensures same { object.new.value ≡ object.old.value }
 {
-    let Some(inside) = object.take(alloc) else {
+    let Some(inside) = object.inside() else {
         return BAD;
     };
     let found = inside.object.handle_at(offset);
-    object.put(alloc, inside);
     match found {
         Some(h) => {
             *chunk = c_chunk(h);

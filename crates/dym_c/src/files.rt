@@ -31,11 +31,10 @@ pub extern "C" fn dym_save(
     let Some(name) = Name::new(name) else {
         return BAD;
     };
-    let Some(mut inside) = object.take(alloc) else {
+    let Some(inside) = object.inside() else {
         return BAD;
     };
     let file = file_of_process(alloc, &mut inside.object, &name);
-    object.put(alloc, inside);
     match file {
         Ok(file) => {
             *len = file.len() as u64;
@@ -89,13 +88,12 @@ pub extern "C" fn dym_load(
 ) -> u32
     ensures { IsLoading object.old.value bytes.now result object.new.value part.old part.new }
 {
-    if let Some(inside) = object.take(alloc) {
-        object.put(alloc, inside);
+    if !object.is_closed() {
         return BAD;
     }
     match loaded(alloc, bytes) {
         Ok(inside) => {
-            object.put(alloc, inside);
+            object.open(alloc, inside);
             DONE
         }
         Err(FileFail::Bad { part: failing }) => {

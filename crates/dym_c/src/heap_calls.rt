@@ -11,28 +11,19 @@ use crate::long_buffers::{read_bytes, write_bytes};
 use crate::object::DymObject;
 use crate::out_values::{DymFound, c_found};
 use crate::status::{BAD, DONE, done_number, refusal_number};
-use std::alloc::Global;
 
 /// A fresh chunk of `len` zero bytes.
 #[unsafe(no_mangle)]
-#[tactic(auto, using(crate::proofs::Regions::step_keeps_region))]
-pub extern "C" fn dym_malloc(
-    alloc: Global,
-    object: &mut DymObject,
-    len: u64,
-    chunk: &mut DymHandle,
-) -> u32
+pub extern "C" fn dym_malloc(object: &mut DymObject, len: u64, chunk: &mut DymHandle) -> u32
     ensures status { result ≡ status_of object.old.value (Some (Malloc len)) }
     ensures after { IsAfter object.old.value (Some (Malloc len)) object.new.value }
     ensures out_value { chunk.new ≡ chunk_after (reply_of object.old.value (Some (Malloc len))) chunk.old }
 {
-    let mut inside = match object.ready(alloc) {
+    let inside = match object.ready() {
         Ok(inside) => inside,
         Err(status) => return status,
     };
-    let answer = inside.object.malloc(&(), len);
-    object.put(alloc, inside);
-    match answer {
+    match inside.object.malloc(&(), len) {
         Ok(h) => {
             *chunk = c_chunk(h);
             DONE
@@ -43,25 +34,16 @@ pub extern "C" fn dym_malloc(
 
 /// A fresh chunk of `n * len` zero bytes.
 #[unsafe(no_mangle)]
-#[tactic(auto, using(crate::proofs::Regions::step_keeps_region))]
-pub extern "C" fn dym_calloc(
-    alloc: Global,
-    object: &mut DymObject,
-    n: u64,
-    len: u64,
-    chunk: &mut DymHandle,
-) -> u32
+pub extern "C" fn dym_calloc(object: &mut DymObject, n: u64, len: u64, chunk: &mut DymHandle) -> u32
     ensures status { result ≡ status_of object.old.value (Some (Calloc n len)) }
     ensures after { IsAfter object.old.value (Some (Calloc n len)) object.new.value }
     ensures out_value { chunk.new ≡ chunk_after (reply_of object.old.value (Some (Calloc n len))) chunk.old }
 {
-    let mut inside = match object.ready(alloc) {
+    let inside = match object.ready() {
         Ok(inside) => inside,
         Err(status) => return status,
     };
-    let answer = inside.object.calloc(&(), n, len);
-    object.put(alloc, inside);
-    match answer {
+    match inside.object.calloc(&(), n, len) {
         Ok(h) => {
             *chunk = c_chunk(h);
             DONE
@@ -73,9 +55,7 @@ pub extern "C" fn dym_calloc(
 /// A chunk of `len` bytes with the old bytes up to the smaller length, then zeros. What is told is where the chunk now is, and nil where
 /// it was freed.
 #[unsafe(no_mangle)]
-#[tactic(auto, using(crate::proofs::Regions::step_keeps_region))]
 pub extern "C" fn dym_realloc(
-    alloc: Global,
     object: &mut DymObject,
     h: DymHandle,
     len: u64,
@@ -88,13 +68,11 @@ pub extern "C" fn dym_realloc(
     let Some(place) = chunk_or_nil_of_c(h) else {
         return BAD;
     };
-    let mut inside = match object.ready(alloc) {
+    let inside = match object.ready() {
         Ok(inside) => inside,
         Err(status) => return status,
     };
-    let answer = inside.object.realloc(&(), place, len);
-    object.put(alloc, inside);
-    match answer {
+    match inside.object.realloc(&(), place, len) {
         Ok(place) => {
             *chunk = c_chunk_or_nil(place);
             DONE
@@ -105,84 +83,55 @@ pub extern "C" fn dym_realloc(
 
 /// Frees a chunk. Nil does nothing.
 #[unsafe(no_mangle)]
-#[tactic(auto, using(crate::proofs::Regions::step_keeps_region))]
-pub extern "C" fn dym_free(alloc: Global, object: &mut DymObject, h: DymHandle) -> u32
+pub extern "C" fn dym_free(object: &mut DymObject, h: DymHandle) -> u32
     ensures status { result ≡ status_of object.old.value (asked_free h) }
     ensures after { IsAfter object.old.value (asked_free h) object.new.value }
 {
     let Some(place) = chunk_or_nil_of_c(h) else {
         return BAD;
     };
-    let mut inside = match object.ready(alloc) {
+    let inside = match object.ready() {
         Ok(inside) => inside,
         Err(status) => return status,
     };
-    let answer = inside.object.free(&(), place);
-    object.put(alloc, inside);
-    done_number(answer)
+    done_number(inside.object.free(&(), place))
 }
 
 /// Writes the bytes into a chunk, from its place `at` on. Of more than a chunk can have none is read.
 #[unsafe(no_mangle)]
-#[tactic(auto, using(crate::proofs::Regions::step_keeps_region))]
-pub extern "C" fn dym_write(
-    alloc: Global,
-    object: &mut DymObject,
-    h: DymHandle,
-    at: u32,
-    bytes: &[u8],
-) -> u32
+pub extern "C" fn dym_write(object: &mut DymObject, h: DymHandle, at: u32, bytes: &[u8]) -> u32
     ensures status { result ≡ status_of object.old.value (asked_write h at bytes.now) }
     ensures after { IsAfter object.old.value (asked_write h at bytes.now) object.new.value }
 {
     let Some(chunk) = chunk_of_c(h) else {
         return BAD;
     };
-    let mut inside = match object.ready(alloc) {
+    let inside = match object.ready() {
         Ok(inside) => inside,
         Err(status) => return status,
     };
-    let answer = write_bytes(&mut inside.object, chunk, at, bytes);
-    object.put(alloc, inside);
-    done_number(answer)
+    done_number(write_bytes(&mut inside.object, chunk, at, bytes))
 }
 
 /// Makes `len` bytes of a chunk from its place `at` on `byte`.
 #[unsafe(no_mangle)]
-#[tactic(auto, using(crate::proofs::Regions::step_keeps_region))]
-pub extern "C" fn dym_fill(
-    alloc: Global,
-    object: &mut DymObject,
-    h: DymHandle,
-    at: u32,
-    len: u32,
-    byte: u8,
-) -> u32
+pub extern "C" fn dym_fill(object: &mut DymObject, h: DymHandle, at: u32, len: u32, byte: u8) -> u32
     ensures status { result ≡ status_of object.old.value (asked_fill h at len byte) }
     ensures after { IsAfter object.old.value (asked_fill h at len byte) object.new.value }
 {
     let Some(chunk) = chunk_of_c(h) else {
         return BAD;
     };
-    let mut inside = match object.ready(alloc) {
+    let inside = match object.ready() {
         Ok(inside) => inside,
         Err(status) => return status,
     };
-    let answer = inside.object.fill(chunk, at, len, byte);
-    object.put(alloc, inside);
-    done_number(answer)
+    done_number(inside.object.fill(chunk, at, len, byte))
 }
 
 /// Copies the bytes of a chunk from its place `at` on into `out`. Of more than a chunk can have none is written.
 #[unsafe(no_mangle)]
-#[tactic(auto, using(crate::proofs::Regions::step_keeps_region))]
-pub extern "C" fn dym_read(
-    alloc: Global,
-    object: &mut DymObject,
-    h: DymHandle,
-    at: u32,
-    out: &mut [u8],
-) -> u32
+pub extern "C" fn dym_read(object: &mut DymObject, h: DymHandle, at: u32, out: &mut [u8]) -> u32
     ensures status { result ≡ status_of object.old.value (asked_read h at (length out.old)) }
     ensures after { IsAfter object.old.value (asked_read h at (length out.old)) object.new.value }
     ensures out_value { out.new ≡ bytes_after
@@ -191,25 +140,16 @@ pub extern "C" fn dym_read(
     let Some(chunk) = chunk_of_c(h) else {
         return BAD;
     };
-    let mut inside = match object.ready(alloc) {
+    let inside = match object.ready() {
         Ok(inside) => inside,
         Err(status) => return status,
     };
-    let answer = read_bytes(&mut inside.object, chunk, at, out);
-    object.put(alloc, inside);
-    done_number(answer)
+    done_number(read_bytes(&mut inside.object, chunk, at, out))
 }
 
 /// Writes the number of a handle into a chunk, from its place `at` on, in eight bytes, or 0 for nil.
 #[unsafe(no_mangle)]
-#[tactic(auto, using(crate::proofs::Regions::step_keeps_region))]
-pub extern "C" fn dym_link(
-    alloc: Global,
-    object: &mut DymObject,
-    h: DymHandle,
-    at: u32,
-    to: DymHandle,
-) -> u32
+pub extern "C" fn dym_link(object: &mut DymObject, h: DymHandle, at: u32, to: DymHandle) -> u32
     ensures status { result ≡ status_of object.old.value (asked_link h at to) }
     ensures after { IsAfter object.old.value (asked_link h at to) object.new.value }
 {
@@ -219,20 +159,16 @@ pub extern "C" fn dym_link(
     let Some(place) = chunk_or_nil_of_c(to) else {
         return BAD;
     };
-    let mut inside = match object.ready(alloc) {
+    let inside = match object.ready() {
         Ok(inside) => inside,
         Err(status) => return status,
     };
-    let answer = inside.object.link(chunk, at, place);
-    object.put(alloc, inside);
-    done_number(answer)
+    done_number(inside.object.link(chunk, at, place))
 }
 
 /// What the eight bytes of a chunk from its place `at` on name.
 #[unsafe(no_mangle)]
-#[tactic(auto, using(crate::proofs::Regions::step_keeps_region))]
 pub extern "C" fn dym_follow(
-    alloc: Global,
     object: &mut DymObject,
     h: DymHandle,
     at: u32,
@@ -245,13 +181,11 @@ pub extern "C" fn dym_follow(
     let Some(chunk) = chunk_of_c(h) else {
         return BAD;
     };
-    let mut inside = match object.ready(alloc) {
+    let inside = match object.ready() {
         Ok(inside) => inside,
         Err(status) => return status,
     };
-    let answer = inside.object.follow(chunk, at);
-    object.put(alloc, inside);
-    match answer {
+    match inside.object.follow(chunk, at) {
         Ok(what) => {
             *found = c_found(what);
             DONE
@@ -262,13 +196,7 @@ pub extern "C" fn dym_follow(
 
 /// The sum of a chunk's bytes as numbers.
 #[unsafe(no_mangle)]
-#[tactic(auto, using(crate::proofs::Regions::step_keeps_region))]
-pub extern "C" fn dym_sum(
-    alloc: Global,
-    object: &mut DymObject,
-    h: DymHandle,
-    total: &mut u64,
-) -> u32
+pub extern "C" fn dym_sum(object: &mut DymObject, h: DymHandle, total: &mut u64) -> u32
     ensures status { result ≡ status_of object.old.value (asked_sum h) }
     ensures after { IsAfter object.old.value (asked_sum h) object.new.value }
     ensures out_value { total.new ≡ total_after (reply_of object.old.value (asked_sum h)) total.old }
@@ -276,13 +204,11 @@ pub extern "C" fn dym_sum(
     let Some(chunk) = chunk_of_c(h) else {
         return BAD;
     };
-    let mut inside = match object.ready(alloc) {
+    let inside = match object.ready() {
         Ok(inside) => inside,
         Err(status) => return status,
     };
-    let answer = inside.object.sum(chunk);
-    object.put(alloc, inside);
-    match answer {
+    match inside.object.sum(chunk) {
         Ok(sum) => {
             *total = sum;
             DONE

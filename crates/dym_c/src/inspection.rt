@@ -13,16 +13,15 @@ use crate::status::{BAD, DONE, refusal_number};
 use core::mem::replace_with;
 use dym_base::{Refusal, Version};
 use dym_chain::KeptLogs;
-use std::alloc::Global;
 
 /// The version, the quota and the held segments of an object.
 #[unsafe(no_mangle)]
-pub extern "C" fn dym_inspect(alloc: Global, object: &mut DymObject, heap: &mut DymHeap) -> u32
+pub extern "C" fn dym_inspect(object: &mut DymObject, heap: &mut DymHeap) -> u32
     ensures status { result ≡ open_status object.old.value }
     ensures out_value { heap.new ≡ heap_after object.old.value heap.old }
     ensures same { object.new.value ≡ object.old.value }
 {
-    let Some(inside) = object.take(alloc) else {
+    let Some(inside) = object.inside() else {
         return BAD;
     };
     let seen = inside.object.heap();
@@ -31,7 +30,6 @@ pub extern "C" fn dym_inspect(alloc: Global, object: &mut DymObject, heap: &mut 
         quota: seen.quota(),
         held: seen.held(),
     };
-    object.put(alloc, inside);
     DONE
 }
 
@@ -47,24 +45,17 @@ fn c_version(version: Version) -> u32
 
 /// The time of the kept log at a place, the oldest at place 0.
 #[unsafe(no_mangle)]
-pub extern "C" fn dym_log_time(
-    alloc: Global,
-    object: &mut DymObject,
-    place: u32,
-    time: &mut u64,
-) -> u32
+pub extern "C" fn dym_log_time(object: &mut DymObject, place: u32, time: &mut u64) -> u32
     ensures told { IsLogTime object.old.value place result time.old time.new }
     ensures same { object.new.value ≡ object.old.value }
 {
-    let Some(mut inside) = object.take(alloc) else {
+    let Some(inside) = object.inside() else {
         return BAD;
     };
     if inside.object.kept() <= place {
-        object.put(alloc, inside);
         return refusal_number(Refusal::NoLog);
     }
     *time = time_of_log(&mut inside.object, place);
-    object.put(alloc, inside);
     DONE
 }
 
@@ -92,12 +83,7 @@ fn lent_time(object: Process, place: u32) -> (Process, u64)
 
 /// A chunk's length in bytes.
 #[unsafe(no_mangle)]
-pub extern "C" fn dym_size(
-    alloc: Global,
-    object: &mut DymObject,
-    h: DymHandle,
-    len: &mut u32,
-) -> u32
+pub extern "C" fn dym_size(object: &mut DymObject, h: DymHandle, len: &mut u32) -> u32
     ensures status { result ≡ size_status object.old.value (chunk_of h) }
     ensures out_value { len.new ≡ size_after object.old.value (chunk_of h) len.old }
     ensures same { object.new.value ≡ object.old.value }
@@ -105,11 +91,10 @@ pub extern "C" fn dym_size(
     let Some(chunk) = chunk_of_c(h) else {
         return BAD;
     };
-    let Some(inside) = object.take(alloc) else {
+    let Some(inside) = object.inside() else {
         return BAD;
     };
     let size = inside.object.heap().size_of(chunk);
-    object.put(alloc, inside);
     match size {
         Some(size) => {
             *len = size;
@@ -121,23 +106,17 @@ pub extern "C" fn dym_size(
 
 /// The least live chunk above a handle, or the least of all above nil; nil where there is none.
 #[unsafe(no_mangle)]
-pub extern "C" fn dym_next(
-    alloc: Global,
-    object: &mut DymObject,
-    after: DymHandle,
-    next: &mut DymHandle,
-) -> u32
+pub extern "C" fn dym_next(object: &mut DymObject, after: DymHandle, next: &mut DymHandle) -> u32
     ensures next { IsNext object.old.value (chunk_or_nil_of after) result next.old next.new }
     ensures same { object.new.value ≡ object.old.value }
 {
     let Some(place) = chunk_or_nil_of_c(after) else {
         return BAD;
     };
-    let Some(inside) = object.take(alloc) else {
+    let Some(inside) = object.inside() else {
         return BAD;
     };
     let found = inside.object.heap().next_live(place);
-    object.put(alloc, inside);
     *next = match found {
         Some(h) => c_chunk(h),
         None => DymHandle::NIL,

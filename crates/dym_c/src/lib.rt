@@ -4,8 +4,8 @@
 //! no crate can. Its one contract: each export does to the object that C keeps what the call does
 //! that it makes, and answers a status (`status_of`, `IsAfter`, `reply_of`). Every number that C
 //! hands in is tested; only that pointers are what the header says is left to C. The object is kept
-//! as a box's bare pointer, and what goes in as a box comes out as a box with the same value
-//! (`Held`).
+//! as a box's bare pointer: what goes in as a box comes out as a box with the same value (`Held`),
+//! and a call borrows what is inside where it lies (`DymObject::inside`).
 #![tactic(auto)]
 
 mod box_pointer;
@@ -21,6 +21,7 @@ mod object;
 mod object_content;
 mod out_values;
 mod status;
+mod untold;
 
 pub use handle::DymHandle;
 pub use object::DymObject;

@@ -19,8 +19,7 @@ use std::alloc::{AllocError, Global};
 pub extern "C" fn dym_open(alloc: Global, object: &mut DymObject, quota: u32, version: u32) -> u32
     ensures { IsOpening object.old.value quota (version_of version) result object.new.value }
 {
-    if let Some(inside) = object.take(alloc) {
-        object.put(alloc, inside);
+    if !object.is_closed() {
         return BAD;
     }
     let Some(version) = version_of_c(version) else {
@@ -32,7 +31,7 @@ pub extern "C" fn dym_open(alloc: Global, object: &mut DymObject, quota: u32, ve
     let Ok(inside) = boxed(alloc, quota, version) else {
         return MEMORY;
     };
-    object.put(alloc, inside);
+    object.open(alloc, inside);
     DONE
 }
 
@@ -41,13 +40,11 @@ pub extern "C" fn dym_open(alloc: Global, object: &mut DymObject, quota: u32, ve
 pub extern "C" fn dym_close(alloc: Global, object: &mut DymObject) -> u32
     ensures { IsClosing object.old.value result object.new.value }
 {
-    match object.take(alloc) {
-        Some(inside) => {
-            drop(inside);
-            DONE
-        }
-        None => BAD,
+    if object.is_closed() {
+        return BAD;
     }
+    object.close(alloc);
+    DONE
 }
 
 /// The version that C names by its number.

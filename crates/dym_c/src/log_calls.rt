@@ -14,7 +14,6 @@ use std::alloc::Global;
 
 /// Logs the heap at a time, the whole of it for kind 0 and what changed for kind 1.
 #[unsafe(no_mangle)]
-#[tactic(auto, using(crate::proofs::Regions::step_keeps_region))]
 pub extern "C" fn dym_log(
     alloc: Global,
     object: &mut DymObject,
@@ -35,7 +34,7 @@ pub extern "C" fn dym_log(
     let Some(want) = kind_of_c(kind) else {
         return BAD;
     };
-    let mut inside = match object.ready(alloc) {
+    let inside = match object.ready() {
         Ok(inside) => inside,
         Err(status) => return status,
     };
@@ -43,7 +42,6 @@ pub extern "C" fn dym_log(
         Kind::Full => inside.object.log(alloc, time),
         Kind::Inc => inside.object.ilog(alloc, time),
     };
-    object.put(alloc, inside);
     match answer {
         Ok((kind, len)) => {
             *logged = DymLogged {
@@ -59,19 +57,16 @@ pub extern "C" fn dym_log(
 
 /// Restores the last log at or before a time, and tells its time; the later logs leave.
 #[unsafe(no_mangle)]
-#[tactic(auto, using(crate::proofs::Regions::step_keeps_region))]
-pub extern "C" fn dym_restore(alloc: Global, object: &mut DymObject, time: u64, at: &mut u64) -> u32
+pub extern "C" fn dym_restore(object: &mut DymObject, time: u64, at: &mut u64) -> u32
     ensures status { result ≡ status_of object.old.value (Some (Restore time)) }
     ensures after { IsAfter object.old.value (Some (Restore time)) object.new.value }
     ensures out_value { at.new ≡ time_after (reply_of object.old.value (Some (Restore time))) at.old }
 {
-    let mut inside = match object.ready(alloc) {
+    let inside = match object.ready() {
         Ok(inside) => inside,
         Err(status) => return status,
     };
-    let answer = inside.object.restore(&(), time);
-    object.put(alloc, inside);
-    match answer {
+    match inside.object.restore(&(), time) {
         Ok(time) => {
             *at = time;
             DONE
@@ -82,25 +77,17 @@ pub extern "C" fn dym_restore(alloc: Global, object: &mut DymObject, time: u64, 
 
 /// Restores the last log before a time, and tells its time; the later logs leave. No log is before time 0.
 #[unsafe(no_mangle)]
-#[tactic(auto, using(crate::proofs::Regions::step_keeps_region))]
-pub extern "C" fn dym_restore_before(
-    alloc: Global,
-    object: &mut DymObject,
-    time: u64,
-    at: &mut u64,
-) -> u32
+pub extern "C" fn dym_restore_before(object: &mut DymObject, time: u64, at: &mut u64) -> u32
     ensures at_zero { time ≡ 0 → IsCounted object.old.value 7 result object.new.value × (at.new ≡ at.old) }
     ensures status { 0 < time → result ≡ status_of object.old.value (Some (Restore (time - 1))) }
     ensures after { 0 < time → IsAfter object.old.value (Some (Restore (time - 1))) object.new.value }
     ensures out_value { 0 < time → at.new ≡ time_after (reply_of object.old.value (Some (Restore (time - 1)))) at.old }
 {
-    let mut inside = match object.ready(alloc) {
+    let inside = match object.ready() {
         Ok(inside) => inside,
         Err(status) => return status,
     };
-    let answer = inside.object.restore_before(&(), time);
-    object.put(alloc, inside);
-    match answer {
+    match inside.object.restore_before(&(), time) {
         Ok(time) => {
             *at = time;
             DONE
@@ -111,35 +98,22 @@ pub extern "C" fn dym_restore_before(
 
 /// Drops the logs before the last one at or before a bound, and tells how many.
 #[unsafe(no_mangle)]
-#[tactic(auto, using(crate::proofs::Regions::step_keeps_region))]
-pub extern "C" fn dym_prune(
-    alloc: Global,
-    object: &mut DymObject,
-    bound: u64,
-    dropped: &mut u32,
-) -> u32
+pub extern "C" fn dym_prune(object: &mut DymObject, bound: u64, dropped: &mut u32) -> u32
     ensures status { result ≡ status_of object.old.value (Some (Prune bound)) }
     ensures after { IsAfter object.old.value (Some (Prune bound)) object.new.value }
     ensures out_value { dropped.new ≡ dropped_after (reply_of object.old.value (Some (Prune bound))) dropped.old }
 {
-    let mut inside = match object.ready(alloc) {
+    let inside = match object.ready() {
         Ok(inside) => inside,
         Err(status) => return status,
     };
     *dropped = inside.object.prune(bound);
-    object.put(alloc, inside);
     DONE
 }
 
 /// Drops the logs before the last one that is before a bound, and tells how many. No log is before time 0.
 #[unsafe(no_mangle)]
-#[tactic(auto, using(crate::proofs::Regions::step_keeps_region))]
-pub extern "C" fn dym_prune_before(
-    alloc: Global,
-    object: &mut DymObject,
-    bound: u64,
-    dropped: &mut u32,
-) -> u32
+pub extern "C" fn dym_prune_before(object: &mut DymObject, bound: u64, dropped: &mut u32) -> u32
     ensures at_zero { bound ≡ 0 → IsCounted object.old.value 0 result object.new.value
         × (dropped.new ≡ none_dropped object.old.value dropped.old) }
     ensures status { 0 < bound → result ≡ status_of object.old.value (Some (Prune (bound - 1))) }
@@ -147,29 +121,26 @@ pub extern "C" fn dym_prune_before(
     ensures out_value { 0 < bound → dropped.new
         ≡ dropped_after (reply_of object.old.value (Some (Prune (bound - 1)))) dropped.old }
 {
-    let mut inside = match object.ready(alloc) {
+    let inside = match object.ready() {
         Ok(inside) => inside,
         Err(status) => return status,
     };
     *dropped = inside.object.prune_before(bound);
-    object.put(alloc, inside);
     DONE
 }
 
 /// How many logs are kept, and how many records they take.
 #[unsafe(no_mangle)]
-#[tactic(auto, using(crate::proofs::Regions::step_keeps_region))]
-pub extern "C" fn dym_logs(alloc: Global, object: &mut DymObject, logs: &mut DymSlots) -> u32
+pub extern "C" fn dym_logs(object: &mut DymObject, logs: &mut DymSlots) -> u32
     ensures status { result ≡ status_of object.old.value (Some Logs) }
     ensures after { IsAfter object.old.value (Some Logs) object.new.value }
     ensures out_value { logs.new ≡ slots_after (reply_of object.old.value (Some Logs)) logs.old }
 {
-    let mut inside = match object.ready(alloc) {
+    let inside = match object.ready() {
         Ok(inside) => inside,
         Err(status) => return status,
     };
     let (kept, slots) = inside.object.logs();
-    object.put(alloc, inside);
     *logs = DymSlots { kept, slots };
     DONE
 }

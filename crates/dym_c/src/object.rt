@@ -1,5 +1,6 @@
 //! The object that C keeps.
-ghost use Rattle.std.specs.Prelude.{◌≡◌, ◌<◌, Option, None, Some, MatchOption, IfOk, IfErr};
+ghost use Rattle.std.specs.Prelude.{◌≡◌, ◌<◌, Option, None, Some, MatchOption, IsSome, IfSome, IfOk, IfErr, is_none};
+ghost use Rattle.std.specs.Borrow.{sem};
 ghost use Rattle.std.specs.Coded.{codes};
 ghost use Rattle.dym_base.specs.declared.limits.TheConstants.{COUNT_LIMIT};
 ghost use Rattle.dym_heap.specs.Meaning.{live_code, touched_code};
@@ -28,8 +29,9 @@ impl Model for DymObject {
 }
 
 impl DymObject {
+    ghost use Rattle.dym_c.specs.ContentLends.{lends_content, lends_inside, lends_ready};
+
     /// A closed object.
-    #[inline(always)]
     fn closed() -> DymObject
         ensures { result.value ≡ None }
     {
@@ -39,7 +41,6 @@ impl DymObject {
     }
 
     /// An open object.
-    #[inline(always)]
     fn holding(held: Held<ObjectContent, Global>) -> DymObject
         ensures { result.value ≡ Some held.value }
     {
@@ -48,7 +49,6 @@ impl DymObject {
     }
 
     /// The box that an open object has.
-    #[inline(always)]
     fn into_held(self, alloc: Global) -> Option<Held<ObjectContent, Global>>
         ensures { MatchOption result (self.value ≡ None) (λ held. self.value ≡ Some held.value) }
     {
@@ -63,48 +63,72 @@ impl DymObject {
         }
     }
 
-    /// Takes out what is inside, and leaves the object closed.
+    /// Whether the object is closed.
     #[inline(always)]
-    pub(crate) fn take(&mut self, alloc: Global) -> Option<Box<ObjectContent>>
-        ensures closed { self.new.value ≡ None }
-        ensures inside { MatchOption result (self.old.value ≡ None)
-            (λ inside. self.old.value ≡ Some inside.value) }
+    pub(crate) fn is_closed(&mut self) -> bool
+        ensures closed { result ≡ is_none self.old.value }
+        ensures same { self.new ≡ self.old }
     {
-        match mem::replace(self, DymObject::closed()).into_held(alloc) {
-            None => None,
-            Some(held) => Some(held.into_box()),
-        }
+        self.at.is_null()
     }
 
-    /// Opens a closed object.
+    /// What is inside of an open object, where it lies.
     #[inline(always)]
-    pub(crate) fn put(&mut self, alloc: Global, inside: Box<ObjectContent>)
-        requires closed { self.old.value ≡ None }
-        ensures open { self.new.value ≡ Some inside.value }
+    fn content(&mut self) -> &mut ObjectContent
+        requires open { IsSome self.old.value }
+        ensures* writes_back { sem 𝓛 (lends_content self.entry result) }
+        ensures value { self.old.value ≡ Some result.now }
     {
-        let before = mem::replace(self, DymObject::holding(Held::of(inside)));
-        if let Some(_held) = before.into_held(alloc) {
-            unreachable!();
-        }
+        unsafe { &mut *(self.at as *mut ObjectContent) }
     }
 
-    /// Takes out what is inside, for one command more. Else the answer is the status that says why there can be none.
+    /// What is inside, and None where the object is closed.
     #[inline(always)]
-    pub(crate) fn ready(&mut self, alloc: Global) -> Result<Box<ObjectContent>, u32>
-        ensures inside { IfOk result
-            (λ inside. (self.old.value ≡ Some inside.value) × (inside.value.ran < COUNT_LIMIT)) }
-        ensures closed { IfOk result (λ _. self.new.value ≡ None) }
+    pub(crate) fn inside(&mut self) -> Option<&mut ObjectContent>
+        ensures* writes_back { sem 𝓛 (lends_inside self.entry result) }
+        ensures closed { is_none result ≡ is_none self.old.value }
+        ensures value { IfSome result (λ inside. self.old.value ≡ Some inside.now) }
+    {
+        if self.is_closed() {
+            return None;
+        }
+        Some(self.content())
+    }
+
+    /// What is inside, for one command more. Else the answer is the status that says why there can be none.
+    #[inline(always)]
+    pub(crate) fn ready(&mut self) -> Result<&mut ObjectContent, u32>
+        ensures* writes_back { sem 𝓛 (lends_ready self.entry result) }
+        ensures inside { IfOk result (λ inside. (self.old.value ≡ Some inside.now) × (inside.now.ran < COUNT_LIMIT)) }
         ensures unready { IfErr result (λ status. status_unready self.old.value ≡ Some status) }
-        ensures same { IfErr result (λ status. self.new.value ≡ self.old.value) }
     {
-        let Some(inside) = self.take(alloc) else {
+        if self.is_closed() {
             return Err(BAD);
-        };
-        if inside.object.ran() < COUNT_LIMIT {
-            Ok(inside)
-        } else {
-            self.put(alloc, inside);
-            Err(SPENT)
+        }
+        if self.content().object.ran() >= COUNT_LIMIT {
+            return Err(SPENT);
+        }
+        Ok(self.content())
+    }
+
+    /// Opens the object, and drops what was inside.
+    pub(crate) fn open(&mut self, alloc: Global, inside: Box<ObjectContent>)
+        ensures { self.new.value ≡ Some inside.value }
+    {
+        mem::replace(self, DymObject::holding(Held::of(inside))).end(alloc);
+    }
+
+    /// Closes the object, and drops what was inside.
+    pub(crate) fn close(&mut self, alloc: Global)
+        ensures { self.new.value ≡ None }
+    {
+        mem::replace(self, DymObject::closed()).end(alloc);
+    }
+
+    /// Drops what is inside.
+    fn end(self, alloc: Global) {
+        if let Some(held) = self.into_held(alloc) {
+            drop(held.into_box());
         }
     }
 }

@@ -9,7 +9,7 @@ use std::marker::Model;
 /// An object whose areas have one segment of a region each, and its records in a vector.
 pub(crate) type Process = Object<FixedSupply, VecKeep>;
 
-/// An object that gives all its memory back where it is dropped. Its segments are those of one region.
+/// An object that gives all its memory back where it is dropped.
 pub struct ObjectContent {
     pub(crate) object: Process,
 }
@@ -24,11 +24,6 @@ impl Model for ObjectContent {
     ghost coded = { Prim.hlevel (codes, live_code, touched_code) };
 
     ghost view = { λ i. i.object };
-
-    ghost use Rattle.std.specs.Prelude.{IsSome};
-    ghost use Rattle.dym_heap.specs.Addresses.{region_of};
-
-    ghost invariant = { λ i. IsSome (region_of i.object.heap.origin) };
 }
 
 impl Drop for ObjectContent {

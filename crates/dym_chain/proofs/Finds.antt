@@ -75,10 +75,6 @@ depth_ends Inc (Some e) entry is deep small =
     let low = small e refl in
     sym (cond-true (e.depth == 31) 0 (e.depth + 1) (eq-eqb e.depth 31 (omega (arith, same, deep, low))))
 
--- why no log is taken
-pub refused_late : (t : ℕ) (logs : List LogEntry) (e : LogEntry) → newest logs ≡ Some e → t ≤ e.time → Some (NotAfter e.time) ≡ log_refusal t logs
-refused_late t logs e is late = sym (ap (refusal_after t logs) is ∙ cond-true (nat_le t e.time) (Some (NotAfter e.time)) (refusal_if_full logs) (le-leb t e.time late))
-
 past_by : (t : ℕ) (logs : List LogEntry) (o : Option LogEntry) → ((e : LogEntry) → o ≡ Some e → e.time < t) → refusal_if_full logs ≡ refusal_after t logs o
 past_by t logs None past = refl
 past_by t logs (Some e) past = sym (cond-false (nat_le t e.time) (Some (NotAfter e.time)) (refusal_if_full logs) (lt-leb t e.time (past e refl)))

@@ -24,3 +24,4 @@ pub mod SaidLists
 pub mod SaidAgain
 pub mod Readings
 pub mod Adopts
+pub mod BroughtBack

@@ -19,14 +19,21 @@ impl<K: LogKeep> Object<FixedSupply, K> {
     /// Where a chunk lies, and None where it isn't live. Whatever is freed, allocated or restored, a live handle has its chunk at
     /// this address as long as the object is open (`laws::commands_move_no_chunk`).
     pub fn address(&self, h: Handle) -> Option<*const u8>
-        requires region { IsSome (region_of self.now.heap.origin) }
         ensures { MatchOption result (get self.now.heap.state.live (key h) ≡ None) (λ at.
             IsSome (get self.now.heap.state.live (key h)) × (address_of self.now.heap h ≡ Some at)) }
     {
         if !self.heap.is_live(h) {
             return None;
         }
+        self.has_region();
         Some(self.heap.address(h))
+    }
+
+    /// A law: the segments come from one region.
+    fn has_region(&self)
+        ensures { IsSome (region_of self.now.heap.origin) }
+    {
+        self.heap.start();
     }
 
     /// The live chunk that has the byte at `offset` of the region, and None where none has it. It takes constant time.

@@ -17,6 +17,7 @@ pub mod laws;
 mod lent_object;
 mod log_calls;
 mod object;
+mod untold;
 
 pub use lent_object::LentObject;
 pub use object::Object;

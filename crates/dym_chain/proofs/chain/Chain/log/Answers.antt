@@ -25,67 +25,47 @@ use Rattle.dym_chain.proofs.Takes.{log_of, room_left, taken_view, chain_taken, t
 use Rattle.dym_base.specs.declared.command.Kind.TheVariants.{Inc}
 use Rattle.dym_chain.specs.Differences.{AreDifferences, HasOneMore, TellsChanges}
 use Rattle.dym_chain.proofs.Besides.{beside_push, beside_same, tells_found}
+use Rattle.dym_chain.proofs.chain.Chain.log.Given as given
+use Rattle.dym_chain.proofs.chain.Chain.log.Goals.{After-refusal_of, After-depth_of_next-depth, In-Ok, After-len-count, After-put}
 use Rattle.dym_chain.proofs.chain.Chain.log.Goals as goal
 
-pub returns-in-Some-clause-heap : goal.returns-in-Some-clause-heap
-returns-in-Some-clause-heap g c =
-    refl
+-- what the entries say
+entries : (g : given.Over) (c : After-refusal_of g) → c.deref.result.now ≡ map entry_of c.self.inside.ghost_copies.copies.logs
+entries g c = c.deref.ensures.value ∙ c.self.invariant.chain.shows.entries
 
-pub returns-in-Some-clause-unchanged : goal.returns-in-Some-clause-unchanged
-returns-in-Some-clause-unchanged g c =
-    (refl, refl)
+last : (g : given.Over) (c : After-refusal_of g) → c.newest_of-newest.result ≡ option_map entry_of (newest c.self.inside.ghost_copies.copies.logs)
+last g c = c.newest_of-newest.ensures c.self.inside.ghost_copies.copies.logs (entries g c)
 
-pub returns-in-Some-clause-belongs : goal.returns-in-Some-clause-belongs
-returns-in-Some-clause-belongs g c =
-    c.requires.belongs
+refusal : (g : given.Over) (c : After-refusal_of g) → c.refusal_of.result ≡ log_refusal c.args.time c.self.inside.ghost_copies.copies.logs
+refusal g c =
+    let logs = c.self.inside.ghost_copies.copies.logs in
+    c.refusal_of.ensures logs (last g c) (c.len.ensures ∙ sym c.deref.ensures.len ∙ count_same logs c.deref.result.now (entries g c))
 
 pub returns-in-Some-clause-stands : goal.returns-in-Some-clause-stands
 returns-in-Some-clause-stands g c =
     subst StandsForCopies c.self.view_is (stands (chain_of c.self.inside.ghost_copies.copies (g.K.LogKeep.meaning c.self.inside.keep)) c.self.invariant.chain.lawful)
 
-pub returns-in-Some-clause-sound : goal.returns-in-Some-clause-sound
-returns-in-Some-clause-sound g c =
-    c.requires.sound
-
-pub returns-in_default-pack-clause-heap : goal.returns-in_default-pack-clause-heap
-returns-in_default-pack-clause-heap g c =
-    refl
-
-pub returns-in_default-pack-clause-unchanged : goal.returns-in_default-pack-clause-unchanged
-returns-in_default-pack-clause-unchanged g c =
-    (refl, refl)
-
-pub returns-in_default-pack-clause-belongs : goal.returns-in_default-pack-clause-belongs
-returns-in_default-pack-clause-belongs g c =
-    c.requires.belongs
-
 pub returns-in_default-pack-clause-stands : goal.returns-in_default-pack-clause-stands
 returns-in_default-pack-clause-stands g c =
     subst StandsForCopies c.self.view_is (stands (chain_of c.self.inside.ghost_copies.copies (g.K.LogKeep.meaning c.self.inside.keep)) c.self.invariant.chain.lawful)
 
-pub returns-in_default-pack-clause-sound : goal.returns-in_default-pack-clause-sound
-returns-in_default-pack-clause-sound g c =
-    c.requires.sound
-
 pub returns-in-Some-clause-answer : goal.returns-in-Some-clause-answer
 returns-in-Some-clause-answer g c =
-    let keep : KeepMeaning = g.K.LogKeep.meaning c.self.inside.keep in
-    let copies : ChainCopies = c.self.inside.ghost_copies.copies in
-    let s : HeapState = c.args.heap.now.state in
-    let v : Version = c.args.heap.now.version in
-    let t : ℕ = c.args.time in
-    let C : ChainMeaning = chain_of copies keep in
-    let are : c.deref.result.now ≡ map entry_of copies.logs = c.deref.ensures.value ∙ c.self.invariant.chain.shows.entries in
-    let last : c.newest_of-newest.result ≡ option_map entry_of (newest copies.logs) = c.newest_of-newest.ensures copies.logs are in
-    let count : c.len.result ≡ length copies.logs = c.len.ensures ∙ sym c.deref.ensures.len ∙ count_same copies.logs c.deref.result.now are in
-    let refusal : c.refusal_of.result ≡ log_refusal t copies.logs = c.refusal_of.ensures copies.logs last count in
-    ap (λ (a : ObjectAnswer). a.reply) (refused_is v (object_of s c.args.self.now) t c.args.want c.in-Some.why (ap (λ (x : ChainMeaning). log_refusal t x.logs) (sym c.self.view_is) ∙ sym refusal ∙ c.in-Some.is))
+    let refused = ap (λ (x : ChainMeaning). log_refusal c.args.time x.logs) (sym c.self.view_is) ∙ sym (refusal g (goal.at.returns-in-Some-clause-answer g c).After-refusal_of) ∙ c.in-Some.is in
+    ap (λ (a : ObjectAnswer). a.reply) (refused_is c.args.heap.now.version (object_of c.args.heap.now.state c.args.self.now) c.args.time c.args.want c.in-Some.why refused)
+
+-- a log that isn't refused
+free : (g : given.Over) (c : After-depth_of_next-depth g) → log_refusal c.args.time c.self.inside.ghost_copies.copies.logs ≡ None
+free g c = sym (refusal g (goal.at.After-depth_of_next-depth g c).After-refusal_of) ∙ c.in_default.is
+
+counted : (g : given.Over) (c : After-len-count g) → c.len-count.result ≡ length c.self.inside.ghost_copies.copies.logs
+counted g c =
+    let logs = c.self.inside.ghost_copies.copies.logs in
+    c.len-count.ensures ∙ sym c.deref.ensures.len ∙ count_same logs c.deref.result.now (entries g (goal.at.After-len-count g c).After-refusal_of)
 
 pub keep_difference-requires-clause-few : goal.keep_difference-requires-clause-few
 keep_difference-requires-clause-few g c =
-    let copies : ChainCopies = c.self.inside.ghost_copies.copies in
-    let counted : c.len-count.result ≡ length copies.logs = c.len-count.ensures ∙ sym c.deref.ensures.len ∙ count_same copies.logs c.deref.result.now (c.deref.ensures.value ∙ c.self.invariant.chain.shows.entries) in
-    omega (arith, counted, c.self.invariant.differences.few)
+    omega (arith, counted g (goal.at.keep_difference-requires-clause-few g c).After-len-count, c.self.invariant.differences.few)
 
 pub returns-in_default-keep_difference-clause-stands : goal.returns-in_default-keep_difference-clause-stands
 returns-in_default-keep_difference-clause-stands g c =
@@ -93,175 +73,129 @@ returns-in_default-keep_difference-clause-stands g c =
 
 pub invariant_of-self : goal.invariant_of-self
 invariant_of-self g c =
-    let copies : ChainCopies = c.self.inside.ghost_copies.copies in
-    let counted : c.len-count.result ≡ length copies.logs = c.len-count.ensures ∙ sym c.deref.ensures.len ∙ count_same copies.logs c.deref.result.now (c.deref.ensures.value ∙ c.self.invariant.chain.shows.entries) in
+    let counted = counted g (goal.at.invariant_of-self g c).After-len-count in
     record {
       chain = c.self.invariant.chain;
-      differences = beside_same copies.logs c.self.inside.differences.items c.keep_difference.new.differences.items c.self.invariant.differences (let few = c.in_default-keep_difference.ensures.few in omega (arith, counted, few)) c.in_default-keep_difference.ensures.same;
+      differences = beside_same c.self.inside.ghost_copies.copies.logs c.self.inside.differences.items c.keep_difference.new.differences.items c.self.invariant.differences
+          (omega (arith, counted, c.in_default-keep_difference.ensures.few)) c.in_default-keep_difference.ensures.same;
     }
 
 pub returns-in_default-keep_difference-clause-answer : goal.returns-in_default-keep_difference-clause-answer
 returns-in_default-keep_difference-clause-answer g c =
-    let keep : KeepMeaning = g.K.LogKeep.meaning c.self.inside.keep in
-    let copies : ChainCopies = c.self.inside.ghost_copies.copies in
-    let s : HeapState = c.args.heap.now.state in
-    let v : Version = c.args.heap.now.version in
-    let t : ℕ = c.args.time in
-    let C : ChainMeaning = chain_of copies keep in
-    let are : c.deref.result.now ≡ map entry_of copies.logs = c.deref.ensures.value ∙ c.self.invariant.chain.shows.entries in
-    let last : c.newest_of-newest.result ≡ option_map entry_of (newest copies.logs) = c.newest_of-newest.ensures copies.logs are in
-    let count : c.len.result ≡ length copies.logs = c.len.ensures ∙ sym c.deref.ensures.len ∙ count_same copies.logs c.deref.result.now are in
-    let refusal : c.refusal_of.result ≡ log_refusal t copies.logs = c.refusal_of.ensures copies.logs last count in
-    let free : log_refusal t copies.logs ≡ None = sym refusal ∙ c.in_default.is in
-    may_be_short v s c.args.self.now t c.args.want (ap (λ (x : ChainMeaning). log_refusal t x.logs) (sym c.self.view_is) ∙ free)
+    may_be_short c.args.heap.now.version c.args.heap.now.state c.args.self.now c.args.time c.args.want
+    (ap (λ (x : ChainMeaning). log_refusal c.args.time x.logs) (sym c.self.view_is) ∙ free g (goal.at.returns-in_default-keep_difference-clause-answer g c).After-depth_of_next-depth)
 
 pub pack-requires : goal.pack-requires
-pack-requires g c =
-    record { packable = c.heaps_are_packable.ensures c.args.heap.now c.requires.sound }
+pack-requires g c = record { packable = c.heaps_are_packable.ensures c.args.heap.now c.requires.sound }
 
 pub returns-in_default-pack-clause-answer : goal.returns-in_default-pack-clause-answer
 returns-in_default-pack-clause-answer g c =
-    let keep : KeepMeaning = g.K.LogKeep.meaning c.self.inside.keep in
-    let copies : ChainCopies = c.self.inside.ghost_copies.copies in
-    let s : HeapState = c.args.heap.now.state in
-    let v : Version = c.args.heap.now.version in
-    let t : ℕ = c.args.time in
-    let C : ChainMeaning = chain_of copies keep in
-    let are : c.deref.result.now ≡ map entry_of copies.logs = c.deref.ensures.value ∙ c.self.invariant.chain.shows.entries in
-    let last : c.newest_of-newest.result ≡ option_map entry_of (newest copies.logs) = c.newest_of-newest.ensures copies.logs are in
-    let count : c.len.result ≡ length copies.logs = c.len.ensures ∙ sym c.deref.ensures.len ∙ count_same copies.logs c.deref.result.now are in
-    let refusal : c.refusal_of.result ≡ log_refusal t copies.logs = c.refusal_of.ensures copies.logs last count in
-    let free : log_refusal t copies.logs ≡ None = sym refusal ∙ c.in_default.is in
-    may_be_short v s c.args.self.now t c.args.want (ap (λ (x : ChainMeaning). log_refusal t x.logs) (sym c.self.view_is) ∙ free)
-
-pub logged-requires : goal.logged-requires
-logged-requires g c =
-    search rules
+    may_be_short c.args.heap.now.version c.args.heap.now.state c.args.self.now c.args.time c.args.want
+    (ap (λ (x : ChainMeaning). log_refusal c.args.time x.logs) (sym c.self.view_is) ∙ free g (goal.at.returns-in_default-pack-clause-answer g c).After-depth_of_next-depth)
 
 pub put-requires-clause-room : goal.put-requires-clause-room
 put-requires-clause-room g c =
-    let keep : KeepMeaning = g.K.LogKeep.meaning c.self.inside.keep in
-    let copies : ChainCopies = c.self.inside.ghost_copies.copies in
-    let s : HeapState = c.args.heap.now.state in
-    let v : Version = c.args.heap.now.version in
-    let t : ℕ = c.args.time in
-    let C : ChainMeaning = chain_of copies keep in
-    let are : c.deref.result.now ≡ map entry_of copies.logs = c.deref.ensures.value ∙ c.self.invariant.chain.shows.entries in
-    let last : c.newest_of-newest.result ≡ option_map entry_of (newest copies.logs) = c.newest_of-newest.ensures copies.logs are in
-    let count : c.len.result ≡ length copies.logs = c.len.ensures ∙ sym c.deref.ensures.len ∙ count_same copies.logs c.deref.result.now are in
-    let refusal : c.refusal_of.result ≡ log_refusal t copies.logs = c.refusal_of.ensures copies.logs last count in
-    let free : log_refusal t copies.logs ≡ None = sym refusal ∙ c.in_default.is in
-    room_left C c.self.invariant.chain.lawful (has_room t copies.logs free)
+    let copies = c.self.inside.ghost_copies.copies in
+    room_left (chain_of copies (g.K.LogKeep.meaning c.self.inside.keep)) c.self.invariant.chain.lawful
+    (has_room c.args.time copies.logs (free g (goal.at.put-requires-clause-room g c).After-depth_of_next-depth))
 
 pub put-requires-clause-next_number : goal.put-requires-clause-next_number
-put-requires-clause-next_number g c =
-    (let next_number = ap (λ (x : ChainMeaning). x.next_number) c.self.view_is in omega (arith, next_number, c.requires.next_number))
+put-requires-clause-next_number g c = omega (arith, ap (λ (x : ChainMeaning). x.next_number) c.self.view_is, c.requires.next_number)
 
 pub put-requires-clause-idle : goal.put-requires-clause-idle
-put-requires-clause-idle g c =
-    (ap (λ (x : ChainMeaning). x.lifted) c.self.view_is ∙ c.requires.idle)
+put-requires-clause-idle g c = ap (λ (x : ChainMeaning). x.lifted) c.self.view_is ∙ c.requires.idle
 
 pub push_reserved-requires : goal.push_reserved-requires
 push_reserved-requires g c =
-    let keep : KeepMeaning = g.K.LogKeep.meaning c.self.inside.keep in
-    let copies : ChainCopies = c.self.inside.ghost_copies.copies in
-    let s : HeapState = c.args.heap.now.state in
-    let v : Version = c.args.heap.now.version in
-    let t : ℕ = c.args.time in
-    let C : ChainMeaning = chain_of copies keep in
-    let are : c.deref.result.now ≡ map entry_of copies.logs = c.deref.ensures.value ∙ c.self.invariant.chain.shows.entries in
-    let last : c.newest_of-newest.result ≡ option_map entry_of (newest copies.logs) = c.newest_of-newest.ensures copies.logs are in
-    let count : c.len.result ≡ length copies.logs = c.len.ensures ∙ sym c.deref.ensures.len ∙ count_same copies.logs c.deref.result.now are in
-    let refusal : c.refusal_of.result ≡ log_refusal t copies.logs = c.refusal_of.ensures copies.logs last count in
-    let free : log_refusal t copies.logs ≡ None = sym refusal ∙ c.in_default.is in
-    (let room = has_room t copies.logs free in let vec = count_same copies.logs c.deref.result.now are in omega (arith, room, vec, c.deref.ensures.len, c.self.invariant.chain.lawful.list.0, c.self.invariant.chain.shows.room))
+    let at = goal.at.push_reserved-requires g c in
+    let logs = c.self.inside.ghost_copies.copies.logs in
+    let room = has_room c.args.time logs (free g at.After-depth_of_next-depth) in
+    let vec = count_same logs c.deref.result.now (entries g at.After-refusal_of) in
+    omega (arith, room, vec, c.deref.ensures.len, c.self.invariant.chain.lawful.list.0, c.self.invariant.chain.shows.room)
+
+-- the log that is put, and its record
+depth_is : (g : given.Over) (c : After-depth_of_next-depth g) → c.depth_of_next-depth.result ≡ next_depth c.args.want (newest c.self.inside.ghost_copies.copies.logs)
+depth_is g c =
+    let logs = c.self.inside.ghost_copies.copies.logs in
+    c.depth_of_next-depth.ensures (newest logs) (last g (goal.at.After-depth_of_next-depth g c).After-refusal_of)
+    (λ e is. all_newest (λ (f : LogEntry). f.depth ≤ 31) logs e c.self.invariant.chain.lawful.list.1 is)
+
+record_put : (g : given.Over) (c : In-Ok g) → c.in-Ok.rec ≡ record_of c.args.heap.now.version (log_of c.args.heap.now.state c.args.time c.depth_of_next-depth.result)
+record_put g c =
+    let areas = areas_of c.args.heap.now in
+    c.in-Ok.ensures ∙ ap (λ (k : Kind). packed (logged areas k c.args.time)) c.kind_at-kind.ensures ∙ record_is areas c.args.time c.depth_of_next-depth.result
+
+belonging : (g : given.Over) (c : In-Ok g) → Belongs c.args.heap.now.version c.args.heap.now.quota c.args.heap.now.state (chain_of c.self.inside.ghost_copies.copies (g.K.LogKeep.meaning c.self.inside.keep))
+belonging g c = subst (Belongs c.args.heap.now.version c.args.heap.now.quota c.args.heap.now.state) (sym c.self.view_is) c.requires.belongs
+
+-- the log comes next
+next : (g : given.Over) (c : In-Ok g) → ComesNext (chain_of c.self.inside.ghost_copies.copies (g.K.LogKeep.meaning c.self.inside.keep)) c.args.heap.now.version
+    (new_entry (object_of c.args.heap.now.state (chain_of c.self.inside.ghost_copies.copies (g.K.LogKeep.meaning c.self.inside.keep))) c.args.time c.args.want)
+next g c =
+    comes_next (chain_of c.self.inside.ghost_copies.copies (g.K.LogKeep.meaning c.self.inside.keep)) c.args.heap.now.version c.args.heap.now.quota c.args.heap.now.state
+    c.args.time c.args.want c.self.invariant.chain.lawful (belonging g c) (c.heaps_are_packable.ensures c.args.heap.now c.requires.sound) c.ranges.time.fits
+    (free g (goal.at.In-Ok g c).After-depth_of_next-depth)
 
 pub invariant_of-self-2 : goal.invariant_of-self-2
 invariant_of-self-2 g c =
-    let keep : KeepMeaning = g.K.LogKeep.meaning c.self.inside.keep in
-    let copies : ChainCopies = c.self.inside.ghost_copies.copies in
-    let s : HeapState = c.args.heap.now.state in
-    let v : Version = c.args.heap.now.version in
-    let t : ℕ = c.args.time in
-    let C : ChainMeaning = chain_of copies keep in
-    let are : c.deref.result.now ≡ map entry_of copies.logs = c.deref.ensures.value ∙ c.self.invariant.chain.shows.entries in
-    let last : c.newest_of-newest.result ≡ option_map entry_of (newest copies.logs) = c.newest_of-newest.ensures copies.logs are in
-    let count : c.len.result ≡ length copies.logs = c.len.ensures ∙ sym c.deref.ensures.len ∙ count_same copies.logs c.deref.result.now are in
-    let refusal : c.refusal_of.result ≡ log_refusal t copies.logs = c.refusal_of.ensures copies.logs last count in
-    let free : log_refusal t copies.logs ≡ None = sym refusal ∙ c.in_default.is in
-    let depth_is : c.depth_of_next-depth.result ≡ next_depth c.args.want (newest copies.logs) = c.depth_of_next-depth.ensures (newest copies.logs) last (λ e is. all_newest (λ (f : LogEntry). f.depth ≤ 31) copies.logs e c.self.invariant.chain.lawful.list.1 is) in
-    let rec : List ℕ = c.in-Ok.rec in
-    let rec_is : rec ≡ record_of v (log_of s t c.depth_of_next-depth.result) = c.in-Ok.ensures ∙ ap (λ (k : Kind). packed (logged (areas_of c.args.heap.now) k t)) c.kind_at-kind.ensures ∙ record_is (areas_of c.args.heap.now) t c.depth_of_next-depth.result in
-    let belongs : Belongs v c.args.heap.now.quota s C = subst (Belongs v c.args.heap.now.quota s) (sym c.self.view_is) c.requires.belongs in
-    let next : ComesNext C v (new_entry (object_of s C) t c.args.want) = comes_next C v c.args.heap.now.quota s t c.args.want c.self.invariant.chain.lawful belongs (c.heaps_are_packable.ensures c.args.heap.now c.requires.sound) c.ranges.time.fits free in
-    let counted : c.len-count.result ≡ length copies.logs = c.len-count.ensures ∙ sym c.deref.ensures.len ∙ count_same copies.logs c.deref.result.now (c.deref.ensures.value ∙ c.self.invariant.chain.shows.entries) in
+    let at = goal.at.invariant_of-self-2 g c in
+    let keep = g.K.LogKeep.meaning c.self.inside.keep in
+    let copies = c.self.inside.ghost_copies.copies in
+    let s = c.args.heap.now.state in
+    let v = c.args.heap.now.version in
+    let t = c.args.time in
+    let depth = c.depth_of_next-depth.result in
+    let differences = c.self.inside.differences.items in
+    let after = c.keep_difference.new.differences.items in
+    let belongs = belonging g at.In-Ok in
     let bytes : List ℕ = packed (logged (areas_of c.args.heap.now) Inc t) in
-    let more : HasOneMore c.self.inside.differences.items c.keep_difference.new.differences.items (length copies.logs) bytes = subst (λ m. HasOneMore c.self.inside.differences.items c.keep_difference.new.differences.items m bytes) counted c.in-Ok-keep_difference.ensures.more in
-    let tells : (before : LogEntry) → newest copies.logs ≡ Some before → TellsChanges before (log_of s t c.depth_of_next-depth.result) bytes = λ before is.
-    tells_found v s t before (log_of s t c.depth_of_next-depth.result) (keeps_by s before (newest copies.logs) is belongs.untouched) (c.heaps_are_packable.ensures c.args.heap.now c.requires.sound) c.ranges.time.fits refl in
+    let more : HasOneMore differences after (length copies.logs) bytes
+    = subst (λ m. HasOneMore differences after m bytes) (counted g at.After-len-count) c.in-Ok-keep_difference.ensures.more in
+    let tells : (before : LogEntry) → newest copies.logs ≡ Some before → TellsChanges before (log_of s t depth) bytes = λ before is.
+    tells_found v s t before (log_of s t depth) (keeps_by s before (newest copies.logs) is belongs.untouched) (c.heaps_are_packable.ensures c.args.heap.now c.requires.sound)
+    c.ranges.time.fits refl in
     record {
-      chain = chain_taken c.self.inside.entries.items c.push_reserved.new.self.items c.self.inside.entries.cap c.push_reserved.new.self.cap keep (g.K.LogKeep.meaning c.put.new.self) copies c.logged.result.copies v s t c.depth_of_next-depth.result c.args.want rec c.self.invariant.chain next belongs.records c.push_reserved.ensures.items c.push_reserved.ensures.capacity depth_is rec_is c.put.ensures.after c.logged.ensures;
-      differences = subst (λ (x : ChainCopies). AreDifferences x.logs c.keep_difference.new.differences.items) (sym c.logged.ensures) (beside_push copies.logs c.self.inside.differences.items c.keep_difference.new.differences.items (log_of s t c.depth_of_next-depth.result) bytes c.self.invariant.differences more tells);
+      chain = chain_taken c.self.inside.entries.items c.push_reserved.new.self.items c.self.inside.entries.cap c.push_reserved.new.self.cap keep (g.K.LogKeep.meaning c.put.new.self)
+          copies c.logged.result.copies v s t depth c.args.want c.in-Ok.rec c.self.invariant.chain (next g at.In-Ok) belongs.records
+          c.push_reserved.ensures.items c.push_reserved.ensures.capacity (depth_is g at.After-depth_of_next-depth) (record_put g at.In-Ok) c.put.ensures.after c.logged.ensures;
+      differences = subst (λ (x : ChainCopies). AreDifferences x.logs after) (sym c.logged.ensures)
+          (beside_push copies.logs differences after (log_of s t depth) bytes c.self.invariant.differences more tells);
     }
 
 pub returns-clause-answer : goal.returns-clause-answer
 returns-clause-answer g c =
-    let keep : KeepMeaning = g.K.LogKeep.meaning c.self.inside.keep in
-    let copies : ChainCopies = c.self.inside.ghost_copies.copies in
-    let s : HeapState = c.args.heap.now.state in
-    let v : Version = c.args.heap.now.version in
-    let t : ℕ = c.args.time in
-    let C : ChainMeaning = chain_of copies keep in
-    let are : c.deref.result.now ≡ map entry_of copies.logs = c.deref.ensures.value ∙ c.self.invariant.chain.shows.entries in
-    let last : c.newest_of-newest.result ≡ option_map entry_of (newest copies.logs) = c.newest_of-newest.ensures copies.logs are in
-    let count : c.len.result ≡ length copies.logs = c.len.ensures ∙ sym c.deref.ensures.len ∙ count_same copies.logs c.deref.result.now are in
-    let refusal : c.refusal_of.result ≡ log_refusal t copies.logs = c.refusal_of.ensures copies.logs last count in
-    let free : log_refusal t copies.logs ≡ None = sym refusal ∙ c.in_default.is in
-    let depth_is : c.depth_of_next-depth.result ≡ next_depth c.args.want (newest copies.logs) = c.depth_of_next-depth.ensures (newest copies.logs) last (λ e is. all_newest (λ (f : LogEntry). f.depth ≤ 31) copies.logs e c.self.invariant.chain.lawful.list.1 is) in
-    let rec : List ℕ = c.in-Ok.rec in
-    let rec_is : rec ≡ record_of v (log_of s t c.depth_of_next-depth.result) = c.in-Ok.ensures ∙ ap (λ (k : Kind). packed (logged (areas_of c.args.heap.now) k t)) c.kind_at-kind.ensures ∙ record_is (areas_of c.args.heap.now) t c.depth_of_next-depth.result in
-    subst (λ (x : ChainMeaning). (log v (object_of s x) t c.args.want).reply ≡ reply.Logged c.kind_at-kind.result c.len-len.result) c.self.view_is (taken_reply v s C t c.depth_of_next-depth.result c.len-len.result c.args.want c.kind_at-kind.result rec free depth_is c.kind_at-kind.ensures rec_is c.len-len.ensures)
+    let at = goal.at.returns-clause-answer g c in
+    let s = c.args.heap.now.state in
+    let v = c.args.heap.now.version in
+    subst (λ (x : ChainMeaning). (log v (object_of s x) c.args.time c.args.want).reply ≡ reply.Logged c.kind_at-kind.result c.len-len.result) c.self.view_is
+    (taken_reply v s (chain_of c.self.inside.ghost_copies.copies (g.K.LogKeep.meaning c.self.inside.keep)) c.args.time c.depth_of_next-depth.result c.len-len.result c.args.want
+    c.kind_at-kind.result c.in-Ok.rec (free g at.After-depth_of_next-depth) (depth_is g at.After-depth_of_next-depth) c.kind_at-kind.ensures (record_put g at.In-Ok) c.len-len.ensures)
+
+-- the chain with the log
+view : (g : given.Over) (c : After-put g) → chain_of c.logged.result.copies (g.K.LogKeep.meaning c.put.new.self) ≡ chains.logged c.args.heap.now.version
+    (new_entry (object_of c.args.heap.now.state (chain_of c.self.inside.ghost_copies.copies (g.K.LogKeep.meaning c.self.inside.keep))) c.args.time c.args.want)
+    (chain_of c.self.inside.ghost_copies.copies (g.K.LogKeep.meaning c.self.inside.keep))
+view g c =
+    let at = goal.at.After-put g c in
+    taken_view (g.K.LogKeep.meaning c.self.inside.keep) (g.K.LogKeep.meaning c.put.new.self) c.self.inside.ghost_copies.copies c.logged.result.copies
+    c.args.heap.now.version c.args.heap.now.state c.args.time c.depth_of_next-depth.result c.args.want c.in-Ok.rec
+    (depth_is g at.After-depth_of_next-depth) (record_put g at.In-Ok) c.put.ensures.after c.logged.ensures
 
 pub returns-clause-after : goal.returns-clause-after
 returns-clause-after g c =
-    let keep : KeepMeaning = g.K.LogKeep.meaning c.self.inside.keep in
-    let copies : ChainCopies = c.self.inside.ghost_copies.copies in
-    let s : HeapState = c.args.heap.now.state in
-    let v : Version = c.args.heap.now.version in
-    let t : ℕ = c.args.time in
-    let C : ChainMeaning = chain_of copies keep in
-    let are : c.deref.result.now ≡ map entry_of copies.logs = c.deref.ensures.value ∙ c.self.invariant.chain.shows.entries in
-    let last : c.newest_of-newest.result ≡ option_map entry_of (newest copies.logs) = c.newest_of-newest.ensures copies.logs are in
-    let count : c.len.result ≡ length copies.logs = c.len.ensures ∙ sym c.deref.ensures.len ∙ count_same copies.logs c.deref.result.now are in
-    let refusal : c.refusal_of.result ≡ log_refusal t copies.logs = c.refusal_of.ensures copies.logs last count in
-    let free : log_refusal t copies.logs ≡ None = sym refusal ∙ c.in_default.is in
-    let depth_is : c.depth_of_next-depth.result ≡ next_depth c.args.want (newest copies.logs) = c.depth_of_next-depth.ensures (newest copies.logs) last (λ e is. all_newest (λ (f : LogEntry). f.depth ≤ 31) copies.logs e c.self.invariant.chain.lawful.list.1 is) in
-    let rec : List ℕ = c.in-Ok.rec in
-    let rec_is : rec ≡ record_of v (log_of s t c.depth_of_next-depth.result) = c.in-Ok.ensures ∙ ap (λ (k : Kind). packed (logged (areas_of c.args.heap.now) k t)) c.kind_at-kind.ensures ∙ record_is (areas_of c.args.heap.now) t c.depth_of_next-depth.result in
-    let view : chain_of c.logged.result.copies (g.K.LogKeep.meaning c.put.new.self) ≡ chains.logged v (new_entry (object_of s C) t c.args.want) C = taken_view keep (g.K.LogKeep.meaning c.put.new.self) copies c.logged.result.copies v s t c.depth_of_next-depth.result c.args.want rec depth_is rec_is c.put.ensures.after c.logged.ensures in
+    let at = goal.at.returns-clause-after g c in
+    let s = c.args.heap.now.state in
+    let v = c.args.heap.now.version in
+    let C = chain_of c.self.inside.ghost_copies.copies (g.K.LogKeep.meaning c.self.inside.keep) in
     ap (λ (h : HeapMeaning). object_of h.state (chain_of c.logged.result.copies (g.K.LogKeep.meaning c.put.new.self))) c.clear_dirty.ensures.cleared
-    ∙ ap (object_of (record { live = s.live; touched = set.empty })) view
-    ∙ sym (ap (λ (a : ObjectAnswer). a.object) (taken_is v (object_of s C) t c.args.want free))
-    ∙ ap (λ (x : ChainMeaning). (log v (object_of s x) t c.args.want).object) c.self.view_is
+    ∙ ap (object_of (record { live = s.live; touched = set.empty })) (view g at.After-put)
+    ∙ sym (ap (λ (a : ObjectAnswer). a.object) (taken_is v (object_of s C) c.args.time c.args.want (free g at.After-depth_of_next-depth)))
+    ∙ ap (λ (x : ChainMeaning). (log v (object_of s x) c.args.time c.args.want).object) c.self.view_is
 
 pub returns-clause-put : goal.returns-clause-put
 returns-clause-put g c =
-    let keep : KeepMeaning = g.K.LogKeep.meaning c.self.inside.keep in
-    let copies : ChainCopies = c.self.inside.ghost_copies.copies in
-    let s : HeapState = c.args.heap.now.state in
-    let v : Version = c.args.heap.now.version in
-    let t : ℕ = c.args.time in
-    let C : ChainMeaning = chain_of copies keep in
-    let are : c.deref.result.now ≡ map entry_of copies.logs = c.deref.ensures.value ∙ c.self.invariant.chain.shows.entries in
-    let last : c.newest_of-newest.result ≡ option_map entry_of (newest copies.logs) = c.newest_of-newest.ensures copies.logs are in
-    let count : c.len.result ≡ length copies.logs = c.len.ensures ∙ sym c.deref.ensures.len ∙ count_same copies.logs c.deref.result.now are in
-    let refusal : c.refusal_of.result ≡ log_refusal t copies.logs = c.refusal_of.ensures copies.logs last count in
-    let free : log_refusal t copies.logs ≡ None = sym refusal ∙ c.in_default.is in
-    let depth_is : c.depth_of_next-depth.result ≡ next_depth c.args.want (newest copies.logs) = c.depth_of_next-depth.ensures (newest copies.logs) last (λ e is. all_newest (λ (f : LogEntry). f.depth ≤ 31) copies.logs e c.self.invariant.chain.lawful.list.1 is) in
-    let rec : List ℕ = c.in-Ok.rec in
-    let rec_is : rec ≡ record_of v (log_of s t c.depth_of_next-depth.result) = c.in-Ok.ensures ∙ ap (λ (k : Kind). packed (logged (areas_of c.args.heap.now) k t)) c.kind_at-kind.ensures ∙ record_is (areas_of c.args.heap.now) t c.depth_of_next-depth.result in
-    let view : chain_of c.logged.result.copies (g.K.LogKeep.meaning c.put.new.self) ≡ chains.logged v (new_entry (object_of s C) t c.args.want) C = taken_view keep (g.K.LogKeep.meaning c.put.new.self) copies c.logged.result.copies v s t c.depth_of_next-depth.result c.args.want rec depth_is rec_is c.put.ensures.after c.logged.ensures in
-    view ∙ ap (λ (x : ChainMeaning). chains.logged v (new_entry (object_of s x) t c.args.want) x) c.self.view_is
+    view g (goal.at.returns-clause-put g c).After-put
+    ∙ ap (λ (x : ChainMeaning). chains.logged c.args.heap.now.version (new_entry (object_of c.args.heap.now.state x) c.args.time c.args.want) x) c.self.view_is
 
 pub returns-clause-heap : goal.returns-clause-heap
 returns-clause-heap g c =
@@ -269,47 +203,24 @@ returns-clause-heap g c =
 
 pub returns-clause-belongs : goal.returns-clause-belongs
 returns-clause-belongs g c =
-    let keep : KeepMeaning = g.K.LogKeep.meaning c.self.inside.keep in
-    let copies : ChainCopies = c.self.inside.ghost_copies.copies in
-    let s : HeapState = c.args.heap.now.state in
-    let v : Version = c.args.heap.now.version in
-    let t : ℕ = c.args.time in
-    let C : ChainMeaning = chain_of copies keep in
-    let are : c.deref.result.now ≡ map entry_of copies.logs = c.deref.ensures.value ∙ c.self.invariant.chain.shows.entries in
-    let last : c.newest_of-newest.result ≡ option_map entry_of (newest copies.logs) = c.newest_of-newest.ensures copies.logs are in
-    let count : c.len.result ≡ length copies.logs = c.len.ensures ∙ sym c.deref.ensures.len ∙ count_same copies.logs c.deref.result.now are in
-    let refusal : c.refusal_of.result ≡ log_refusal t copies.logs = c.refusal_of.ensures copies.logs last count in
-    let free : log_refusal t copies.logs ≡ None = sym refusal ∙ c.in_default.is in
-    let depth_is : c.depth_of_next-depth.result ≡ next_depth c.args.want (newest copies.logs) = c.depth_of_next-depth.ensures (newest copies.logs) last (λ e is. all_newest (λ (f : LogEntry). f.depth ≤ 31) copies.logs e c.self.invariant.chain.lawful.list.1 is) in
-    let rec : List ℕ = c.in-Ok.rec in
-    let rec_is : rec ≡ record_of v (log_of s t c.depth_of_next-depth.result) = c.in-Ok.ensures ∙ ap (λ (k : Kind). packed (logged (areas_of c.args.heap.now) k t)) c.kind_at-kind.ensures ∙ record_is (areas_of c.args.heap.now) t c.depth_of_next-depth.result in
-    let belongs : Belongs v c.args.heap.now.quota s C = subst (Belongs v c.args.heap.now.quota s) (sym c.self.view_is) c.requires.belongs in
-    let next : ComesNext C v (new_entry (object_of s C) t c.args.want) = comes_next C v c.args.heap.now.quota s t c.args.want c.self.invariant.chain.lawful belongs (c.heaps_are_packable.ensures c.args.heap.now c.requires.sound) c.ranges.time.fits free in
-    let view : chain_of c.logged.result.copies (g.K.LogKeep.meaning c.put.new.self) ≡ chains.logged v (new_entry (object_of s C) t c.args.want) C = taken_view keep (g.K.LogKeep.meaning c.put.new.self) copies c.logged.result.copies v s t c.depth_of_next-depth.result c.args.want rec depth_is rec_is c.put.ensures.after c.logged.ensures in
+    let at = goal.at.returns-clause-belongs g c in
+    let s = c.args.heap.now.state in
+    let v = c.args.heap.now.version in
+    let quota = c.args.heap.now.quota in
+    let C = chain_of c.self.inside.ghost_copies.copies (g.K.LogKeep.meaning c.self.inside.keep) in
+    let entry = new_entry (object_of s C) c.args.time c.args.want in
     subst (λ (h : HeapMeaning). Belongs h.version h.quota h.state (chain_of c.logged.result.copies (g.K.LogKeep.meaning c.put.new.self))) (sym c.clear_dirty.ensures.cleared)
-    (subst (Belongs v c.args.heap.now.quota (record { live = s.live; touched = set.empty })) (sym view) (belongs_push C v c.args.heap.now.quota s (new_entry (object_of s C) t c.args.want) belongs next refl c.requires.sound.within))
+    (subst (Belongs v quota (record { live = s.live; touched = set.empty })) (sym (view g at.After-put))
+    (belongs_push C v quota s entry (belonging g at.In-Ok) (next g at.In-Ok) refl c.requires.sound.within))
 
 pub returns-clause-stands : goal.returns-clause-stands
 returns-clause-stands g c =
-    let keep : KeepMeaning = g.K.LogKeep.meaning c.self.inside.keep in
-    let copies : ChainCopies = c.self.inside.ghost_copies.copies in
-    let s : HeapState = c.args.heap.now.state in
-    let v : Version = c.args.heap.now.version in
-    let t : ℕ = c.args.time in
-    let C : ChainMeaning = chain_of copies keep in
-    let are : c.deref.result.now ≡ map entry_of copies.logs = c.deref.ensures.value ∙ c.self.invariant.chain.shows.entries in
-    let last : c.newest_of-newest.result ≡ option_map entry_of (newest copies.logs) = c.newest_of-newest.ensures copies.logs are in
-    let count : c.len.result ≡ length copies.logs = c.len.ensures ∙ sym c.deref.ensures.len ∙ count_same copies.logs c.deref.result.now are in
-    let refusal : c.refusal_of.result ≡ log_refusal t copies.logs = c.refusal_of.ensures copies.logs last count in
-    let free : log_refusal t copies.logs ≡ None = sym refusal ∙ c.in_default.is in
-    let depth_is : c.depth_of_next-depth.result ≡ next_depth c.args.want (newest copies.logs) = c.depth_of_next-depth.ensures (newest copies.logs) last (λ e is. all_newest (λ (f : LogEntry). f.depth ≤ 31) copies.logs e c.self.invariant.chain.lawful.list.1 is) in
-    let rec : List ℕ = c.in-Ok.rec in
-    let rec_is : rec ≡ record_of v (log_of s t c.depth_of_next-depth.result) = c.in-Ok.ensures ∙ ap (λ (k : Kind). packed (logged (areas_of c.args.heap.now) k t)) c.kind_at-kind.ensures ∙ record_is (areas_of c.args.heap.now) t c.depth_of_next-depth.result in
-    let belongs : Belongs v c.args.heap.now.quota s C = subst (Belongs v c.args.heap.now.quota s) (sym c.self.view_is) c.requires.belongs in
-    let next : ComesNext C v (new_entry (object_of s C) t c.args.want) = comes_next C v c.args.heap.now.quota s t c.args.want c.self.invariant.chain.lawful belongs (c.heaps_are_packable.ensures c.args.heap.now c.requires.sound) c.ranges.time.fits free in
-    let view : chain_of c.logged.result.copies (g.K.LogKeep.meaning c.put.new.self) ≡ chains.logged v (new_entry (object_of s C) t c.args.want) C = taken_view keep (g.K.LogKeep.meaning c.put.new.self) copies c.logged.result.copies v s t c.depth_of_next-depth.result c.args.want rec depth_is rec_is c.put.ensures.after c.logged.ensures in
-    subst StandsForCopies (sym view) (stands (chains.logged v (new_entry (object_of s C) t c.args.want) C) (lawful_push C v (new_entry (object_of s C) t c.args.want) c.self.invariant.chain.lawful belongs.records next))
+    let at = goal.at.returns-clause-stands g c in
+    let v = c.args.heap.now.version in
+    let C = chain_of c.self.inside.ghost_copies.copies (g.K.LogKeep.meaning c.self.inside.keep) in
+    let entry = new_entry (object_of c.args.heap.now.state C) c.args.time c.args.want in
+    let belongs = belonging g at.In-Ok in
+    subst StandsForCopies (sym (view g at.After-put)) (stands (chains.logged v entry C) (lawful_push C v entry c.self.invariant.chain.lawful belongs.records (next g at.In-Ok)))
 
 pub returns-clause-sound : goal.returns-clause-sound
-returns-clause-sound g c =
-    c.clear_dirty.ensures.sound
+returns-clause-sound g c = c.clear_dirty.ensures.sound
