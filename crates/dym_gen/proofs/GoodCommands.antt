@@ -6,11 +6,11 @@ use Rattle.std.specs.Str.{bytes_eq}
 use Rattle.std.specs.Cmp.Lexicographic.{bytes_decides}
 use Rattle.hex.specs.Hex.{decode_pairs}
 use Rattle.dym_base.specs.declared.handle.Handle.{Handle}
-use Rattle.dym_lines.specs.declared.verb.Verb.{Verb}
-use Rattle.dym_lines.specs.declared.verb.Verb.TheVariants as verb
-use Rattle.dym_lines.specs.Words.{number_to, handle_of, handle_or_nil_of}
-use Rattle.dym_lines.specs.Table.{Operand, Num, Num32, OneHandle, HandleOrNil, Byte, ReadLen, Hex, Value, Values, value_of, values_of, row}
-use Rattle.dym_lines.specs.Quick.{is_bare_word, spelled}
+use Rattle.dym_script.specs.declared.verb.Verb.{Verb}
+use Rattle.dym_script.specs.declared.verb.Verb.TheVariants as verb
+use Rattle.dym_script.specs.Words.{number_to, handle_of, handle_or_nil_of}
+use Rattle.dym_script.specs.Table.{Operand, Num, Num32, OneHandle, HandleOrNil, Byte, ReadLen, Hex, Value, Values, value_of, values_of, row}
+use Rattle.dym_script.specs.Quick.{is_bare_word, spelled}
 use Rattle.dym_commands.specs.Hexes.{hex_of}
 use Rattle.dym_gen.specs.Draws.{next, below, size_at, text_from}
 use Rattle.dym_gen.specs.Commands.{drawn_command, fixed_command, goes_back, command_text}

@@ -7,15 +7,15 @@ use Rattle.std.proofs.lemmas.Bool.Decides.{nat_tests}
 use Rattle.dym_base.specs.Names.{is_name}
 use Rattle.dym_base.specs.declared.command.Command.{Command}
 use Rattle.dym_base.specs.declared.limits.TheConstants.{MOST_LINE_BYTES, MOST_OBJECTS, MOST_COMMANDS, MOST_QUOTA}
-use Rattle.dym_lines.specs.declared.verb.Verb.{Verb}
-use Rattle.dym_lines.specs.declared.verb.Verb.TheVariants as verb
+use Rattle.dym_script.specs.declared.verb.Verb.{Verb}
+use Rattle.dym_script.specs.declared.verb.Verb.TheVariants as verb
 use Rattle.dym_base.specs.Lines.{lines_of}
-use Rattle.dym_lines.specs.Lines.{words_of, is_printable}
-use Rattle.dym_lines.specs.Table.{row, verb_of}
+use Rattle.dym_script.specs.Lines.{words_of, is_printable}
+use Rattle.dym_script.specs.Table.{row, verb_of}
 use Rattle.dym_script.specs.Scripts.{Reading, object_of, is_version, read_line}
-use Rattle.dym_lines.specs.Quick.{is_bare_word, spelled}
-use Rattle.dym_lines.proofs.Spelled.{words_of_spelled, lines_of_front, line_printable}
-use Rattle.dym_lines.proofs.Rows.{command_good}
+use Rattle.dym_script.specs.Quick.{is_bare_word, spelled}
+use Rattle.dym_script.proofs.Spelled.{words_of_spelled, lines_of_front, line_printable}
+use Rattle.dym_script.proofs.Rows.{command_good}
 use Rattle.dym_gen.proofs.GoodWords.{decimal_read, name_of, no_object, name_good, name_bare}
 use Rattle.dym_gen.proofs.GoodCommands.{IsCommand}
 

@@ -14,11 +14,11 @@ use Rattle.std.proofs.lemmas.Fmt.{digits_decimal, digits_value-decimal, decimal_
 use Rattle.dym_base.specs.Names.{is_name, is_name_byte}
 use Rattle.dym_base.specs.declared.limits.TheConstants.{MOST_NAME_BYTES}
 use Rattle.dym_base.specs.declared.handle.Handle.{Handle}
-use Rattle.dym_lines.specs.Lines.{is_word}
-use Rattle.dym_lines.specs.Words.{is_digits, number_to, exponent_of, handle_of}
-use Rattle.dym_lines.proofs.Cuts.{both_true}
-use Rattle.dym_lines.specs.Quick.{is_bare, is_bare_word, Counts, Sizes, Begins}
-use Rattle.dym_lines.proofs.Spelled.{all_weaker, digits_bare, number_read, begins_handle}
+use Rattle.dym_script.specs.Lines.{is_word}
+use Rattle.dym_script.specs.Words.{is_digits, number_to, exponent_of, handle_of}
+use Rattle.dym_script.proofs.WordCuts.{both_true}
+use Rattle.dym_script.specs.Quick.{is_bare, is_bare_word, Counts, Sizes, Begins}
+use Rattle.dym_script.proofs.Spelled.{all_weaker, digits_bare, number_read, begins_handle}
 
 digit_named : (c : ℕ) → is_ascii_digit c ≡ true → is_name_byte c ≡ true
 digit_named c digit = grind (arith, nat_tests)

@@ -1,5 +1,5 @@
 -- What a round does so far, and what rounds one after another do.
-use Rattle.std.proofs.Common.{◌≡◌, ◌≢◌, ℕ, suc, ◌+◌, ◌*◌, ◌-◌, ◌^◌, ◌<◌, ◌≤◌, ◌⊎◌, min, List, length, set, sym, refl, ap, ◌∙◌, subst, inl, inr, ⊎_elim, arith}
+use Rattle.std.proofs.Common.{◌≡◌, ℕ, ◌+◌, ◌*◌, ◌-◌, ◌<◌, ◌≤◌, ◌⊎◌, List, length, set, sym, ap, ◌∙◌, subst, ⊎_elim, arith}
 use Rattle.std.specs.Prelude.{slice_index_or}
 use Rattle.std.proofs.lemmas.List.{length-set, get_or-set_same, get_or-set_other, get_or_default}
 use Rattle.std.proofs.Math.Nat.{eq-or-lt_of_le}
@@ -16,9 +16,6 @@ pub record SweptTo (i : ℕ) (old now : List SweeperMeaning) (answer : ℕ) : Ty
   pub rest : (k : ℕ) (d : SweeperMeaning) → i ≤ k → slice_index_or now k d ≡ slice_index_or old k d
   pub grown : taken_by old ≤ taken_by now
   pub answer_is : answer ≡ counted_to (taken_by now - taken_by old)
-
-pub none_swept : (sweepers : List SweeperMeaning) → SweptTo 0 sweepers sweepers 0
-none_swept sweepers = record { same = refl; swept = λ k d low. absurd (omega (arith, low)); once = λ k d low. absurd (omega (arith, low)); rest = λ k d _. refl; grown = omega arith; answer_is = omega arith }
 
 -- one sweep more: the sweeper after it, and its answer
 pub record SweptOnce (before after : SweeperMeaning) (taken : ℕ) : Type 0 where
@@ -66,10 +63,6 @@ one_more i old now answer taken y d within so once =
       answer_is = let g = so.grown in let a = so.answer_is in omega (arith, sum, g, a);
     }
 
--- once all are swept the round is over
-pub round_over : (old now : List SweeperMeaning) (answer : ℕ) → SweptTo (length old) old now answer → Pruned old now answer
-round_over old now answer so = record { same = so.same; swept = so.swept; grown = so.grown; answer_is = so.answer_is }
-
 pub each_once : (old now : List SweeperMeaning) (answer : ℕ) → SweptTo (length old) old now answer → OneRound old now
 each_once old now answer so = so.once
 
@@ -82,37 +75,6 @@ pub record RoundsTo (old now : List SweeperMeaning) (total : ℕ) : Type 0 where
   pub least_root : (k : ℕ) (d : SweeperMeaning) → k < length old → (slice_index_or now k d).least_root ≡ (slice_index_or old k d).least_root
   pub grown : taken_by old ≤ taken_by now
   pub total_is : total ≡ counted_to (taken_by now - taken_by old)
-
-pub no_round : (sweepers : List SweeperMeaning) → RoundsTo sweepers sweepers 0
-no_round sweepers = record { same = refl; table = λ k d low. refl; rounds = λ k d low. omega arith; rises = λ k d low. omega arith; least_root = λ k d low. refl; grown = omega arith; total_is = omega arith }
-
--- one round more
-pub round_more : (old now new : List SweeperMeaning) (total taken : ℕ) → RoundsTo old now total → Pruned now new taken → Pruned old new (counted_to (total + taken))
-round_more old now new total taken so more =
-    let first = so.grown in
-    let second = more.grown in
-    let a = so.total_is in
-    let b = more.answer_is in
-    record {
-      same = more.same ∙ so.same;
-      swept = λ k d low.
-          let within : k < length now = let n = so.same in omega (arith, low, n) in
-          let last = more.swept k d within in
-          let r = so.rounds k d low in
-          let l = last.rounds in
-          let known = so.least_root k d low in
-          let seen = last.swept.seen in
-          record {
-            table = last.table ∙ so.table k d low;
-            rounds = omega (arith, r, l);
-            clean = last.clean;
-            rises = (let a = so.rises k d low in let b = last.rises in omega (arith, a, b));
-            least_root = last.least_root ∙ known;
-            swept = record { seen = omega (arith, known, seen); clean = last.clean };
-          };
-      grown = omega (arith, first, second);
-      answer_is = omega (arith, first, second, a, b);
-    }
 
 -- after which there may be more
 pub go_on : (old new : List SweeperMeaning) (total : ℕ) → Pruned old new total → RoundsTo old new total
@@ -129,9 +91,6 @@ go_on old new total so = record {
 -- so far two listens found nothing after each round
 abbrev pub TwoAfterEach : List SweeperMeaning → List SweeperMeaning → ℕ → ℕ → Type 0
 TwoAfterEach old now before after = (k : ℕ) (d : SweeperMeaning) → k < length old → 2 * (slice_index_or now k d).rounds + before ≡ 2 * (slice_index_or old k d).rounds + after
-
-pub none_yet : (old : List SweeperMeaning) (misses : ℕ) → TwoAfterEach old old misses misses
-none_yet old misses k d low = refl
 
 -- one round more, and two listens after it
 pub two_more : (old now new : List SweeperMeaning) (before after later : ℕ) → length now ≡ length old → TwoAfterEach old now before after → OneRound now new → later ≡ after + 2 → TwoAfterEach old new before later

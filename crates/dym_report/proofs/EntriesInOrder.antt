@@ -1,5 +1,5 @@
 -- The entry of the least key that is at least k comes first among those from k on.
-use Rattle.std.proofs.Common.{◌≡◌, ◌≢◌, ℕ, ◌+◌, ◌<◌, ◌≤◌, Bool, true, false, cond, ◌&&◌, T, List, [], ◌∷◌, refl, sym, ap, subst, ◌∙◌, arith, Some, None, eqb, ltb}
+use Rattle.std.proofs.Common.{◌≡◌, ◌≢◌, ℕ, ◌+◌, ◌<◌, ◌≤◌, Bool, true, false, cond, ◌&&◌, T, List, [], ◌∷◌, refl, sym, ap, subst, ◌∙◌, arith, Some, None, ltb}
 use Rattle.std.proofs.lemmas.Bool.Decides.{nat_tests}
 use Rattle.std.specs.Ordering.{nat_cmp, eq_by_cmp, is_lt}
 use Rattle.std.specs.FinMap.{get, entries, entries_sorted, find, is_sorted, get-entries}
@@ -26,9 +26,6 @@ second false b p = absurd p
 
 less : (a b : ℕ) → T (is_lt (nat_cmp a b)) → a < b
 less a b h = grind (arith, nat_tests)
-
-tie : (a b : ℕ) → eq_by_cmp nat_cmp a b ≡ eqb a b
-tie a b = grind (arith, nat_tests)
 
 above : (x : ℕ) (es : List (ℕ × List ℕ)) → T (below_all nat_cmp x es) → Above x es
 above x [] h = tt

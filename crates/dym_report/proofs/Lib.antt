@@ -6,3 +6,4 @@ pub mod LiveChunks
 pub mod ObjectParts
 pub mod PageLines
 pub mod Summaries
+pub mod Tallies

@@ -35,7 +35,8 @@ walk_goes live last h bytes next is =
     next_entry_from live (after_key last) (key h) bytes next.at_least is (λ k le lt. is_none (get live k) (next.least k le lt))
 
 -- each step leaves fewer
-pub walk_shortens : (live : Live) (last : Option Handle) (h : Handle) → IsNextLive live (after_key last) (key h) → length (left_after live last) ≡ length (left_after live (Some h)) + 1
+pub walk_shortens : (live : Live) (last : Option Handle) (h : Handle) → IsNextLive live (after_key last) (key h)
+    → length (left_after live last) ≡ length (left_after live (Some h)) + 1
 walk_shortens live last h next =
     let found = bytes_of live (key h) next.is_live in
     let goes : length (left_after live last) ≡ length ((key h, found.0) ∷ left_after live (Some h)) = ap length (walk_goes live last h found.0 next found.1) in

@@ -24,7 +24,8 @@ cut_second a b c t u w p q = stopped_within a c (t ++ u) w (stopped_after a b c 
 pub third_ends : {T E : Type 0} → (a b c d : Output) (t u w : List ℕ) (r : Result T E) → Appended a b t → Appended b c u → Writes c d w r → Writes a d ((t ++ u) ++ w) r
 third_ends a b c d t u w r p q last = writes_after a c d (t ++ u) w r (appended_both a b c t u p q) last
 
-pub third_ends_as : {T E : Type 0} → (a b c d : Output) (text t u w : List ℕ) (r : Result T E) → text ≡ (t ++ u) ++ w → Appended a b t → Appended b c u → Writes c d w r → Writes a d text r
+pub third_ends_as : {T E : Type 0} → (a b c d : Output) (text t u w : List ℕ) (r : Result T E) → text ≡ (t ++ u) ++ w → Appended a b t → Appended b c u
+    → Writes c d w r → Writes a d text r
 third_ends_as a b c d text t u w r e p q last =
     let Is : List ℕ → Type 0 = λ l. Writes a d l r in
     subst Is (sym e) (third_ends a b c d t u w r p q last)

@@ -29,12 +29,14 @@ page_cut f items i x page text a b c within is p q =
     leaves_cut a b c text (page ++ f x) (flat_map f (drop (i + 1) items)) (leaves_same a b text _ _ p (lines_from f items i x page within is)) q
 
 -- the page was written, and a line behind it
-pub behind_added : {T E : Type 0} → (a b c : Output) (page line left : List ℕ) (r : Result T E) → Appended a b page → left ≡ [] → Writes b c line r → OnOk r (Leaves a c (page ++ line) left)
+pub behind_added : {T E : Type 0} → (a b c : Output) (page line left : List ℕ) (r : Result T E) → Appended a b page → left ≡ [] → Writes b c line r
+    → OnOk r (Leaves a c (page ++ line) left)
 behind_added a b c page line left (Ok x) p none q =
     record { done = page ++ line; whole = sym (ap (λ l. (page ++ line) ++ l) none ∙ append-nil (page ++ line)); appended = appended_both a b c page line p q }
 behind_added a b c page line left (Err e) p none q = tt
 
-pub behind_stopped : {T E : Type 0} → (a b c : Output) (page line : List ℕ) (r : Result T E) → Appended a b page → Writes b c line r → OnErr r (Stopped a c (page ++ line))
+pub behind_stopped : {T E : Type 0} → (a b c : Output) (page line : List ℕ) (r : Result T E) → Appended a b page → Writes b c line r
+    → OnErr r (Stopped a c (page ++ line))
 behind_stopped a b c page line (Ok x) p q = tt
 behind_stopped a b c page line (Err e) p q = stopped_after a b c page line p q
 

@@ -74,7 +74,8 @@ pub(crate) fn put_bytes_line(buffer: &mut [u8], start: usize, bytes: &[u8]) -> u
 fn put_chunk(buffer: &mut [u8], start: usize, handle: Handle) -> usize
     requires { start + 44 ≤ length buffer.old }
     ensures room { result ≤ start + 44 }
-    ensures text { take result buffer.new ≡ take start buffer.old ++ codes "ok " ++ handle_text handle }
+    ensures text { take result buffer.new
+        ≡ take start buffer.old ++ codes "ok " ++ handle_text handle }
 {
     let end = put_text(buffer, start, b"ok ");
     put_handle(buffer, end, handle)
@@ -83,7 +84,8 @@ fn put_chunk(buffer: &mut [u8], start: usize, handle: Handle) -> usize
 fn put_bytes(buffer: &mut [u8], start: usize, bytes: &[u8]) -> usize
     requires { start + (4 + 2 * length bytes.now) ≤ length buffer.old }
     ensures room { result ≤ start + (4 + 2 * length bytes.now) }
-    ensures text { take result buffer.new ≡ take start buffer.old ++ codes "ok " ++ hex_text bytes.now }
+    ensures text { take result buffer.new
+        ≡ take start buffer.old ++ codes "ok " ++ hex_text bytes.now }
 {
     if bytes.is_empty() {
         return put_text(buffer, start, b"ok -");

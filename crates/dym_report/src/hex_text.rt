@@ -59,7 +59,8 @@ fn write_long<W: Sink>(sink: &mut W, front: &[u8], bytes: &[u8]) -> Result<(), S
 /// Writes the digits of some bytes, and the end of the line.
 #[tactic(auto, using(dym_io::specs::Laws::writing))]
 fn write_last<W: Sink>(sink: &mut W, bytes: &[u8]) -> Result<(), SinkFault>
-    ensures { Writes (W.output sink.old) (W.output sink.new) (encode_lower bytes.now ++ codes "\n") result }
+    ensures { Writes (W.output sink.old) (W.output sink.new)
+        (encode_lower bytes.now ++ codes "\n") result }
 {
     write_digits(sink, bytes)?;
     push_all(sink, b"\n")

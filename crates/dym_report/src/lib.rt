@@ -1,9 +1,10 @@
 //! What the program prints: replies, heaps, logs, summaries and errors, as text in a sink.
 //!
-//! Below stand `dym_base`, `dym_heap`, whose chunks are printed, and `dym_io`; above stand the top
-//! call and what runs objects in waves. Its one contract: each call writes the text that its
-//! definition says, or a front of it where the sink failed, and then the count of its faults rose.
-//! No call takes memory.
+//! Below stand `dym_script` and `dym_turn`, whose parts and replies its definitions speak of,
+//! `dym_heap`, whose chunks are printed, and `dym_io`; above stand the top call and what runs objects
+//! in waves. Its one contract: each call writes the text that its definition says, or a front of it
+//! where the sink failed, and then the count of its faults rose. No call takes memory. What a script's
+//! objects print (`report_text`) and come to (`totals_of`) is defined here, for every order.
 #![tactic(auto)]
 
 pub mod compose;
@@ -14,7 +15,9 @@ pub mod object;
 pub mod order;
 pub mod page;
 pub mod reply;
+pub mod tally;
 pub mod totals;
+pub mod write_fail;
 
 pub use hex_text::write_hex_line;
 pub use late::{LateOut, ViewLine, write_late_end, write_late_line, write_view};
@@ -23,4 +26,6 @@ pub use object::{write_heading, write_heap_line, write_image, write_logs};
 pub use order::{write_counts, write_end, write_error, write_events, write_usage};
 pub use page::Page;
 pub use reply::{write_replies, write_reply};
+pub use tally::Tally;
 pub use totals::{Totals, write_summary};
+pub use write_fail::WriteFail;

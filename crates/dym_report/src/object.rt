@@ -35,7 +35,8 @@ pub fn write_image<W: Sink>(
     handle: Handle,
     bytes: &[u8],
 ) -> Result<(), SinkFault>
-    ensures { Writes (W.output sink.old) (W.output sink.new) (image_line version handle bytes.now) result }
+    ensures { Writes (W.output sink.old) (W.output sink.new)
+        (image_line version handle bytes.now) result }
 {
     let mut head = [0; LINE_ROOM];
     let end = put_image_head(&mut head, version, handle, bytes.len());

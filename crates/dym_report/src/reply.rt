@@ -25,7 +25,8 @@ pub fn write_reply<W: Sink>(sink: &mut W, reply: &Reply) -> Result<(), SinkFault
 
 /// Writes the lines of replies, in order. Its only error is that of the sink.
 pub fn write_replies<W: Sink>(sink: &mut W, replies: &[Reply]) -> Result<(), SinkFault>
-    ensures { Writes (W.output sink.old) (W.output sink.new) (flat_map reply_line replies.now) result }
+    ensures { Writes (W.output sink.old) (W.output sink.new)
+        (flat_map reply_line replies.now) result }
 {
     let mut page = Page::new();
     for reply in replies {

@@ -5,7 +5,7 @@ use Rattle.dym_base.specs.Objects.{LogEntry, ObjectState}
 use Rattle.dym_report.specs.declared.late.ViewLine.{ViewLine}
 use Rattle.dym_view.specs.Commits.{oldest}
 use Rattle.dym_view.specs.Histories.{Beginning}
-use Rattle.dym_views.specs.Lines.{view_of}
+use Rattle.dym_run.specs.Lines.{view_of}
 use Rattle.dym_run.specs.Views.{shown_view}
 
 abbrev told_by : Option Beginning → List LogEntry → Option (Option ViewLine)

@@ -3,8 +3,8 @@ use Rattle.std.proofs.Common.{◌≡◌, ℕ, List, ◌<◌, ◌⊎◌, inl, inr
 use Rattle.std.specs.declared.alloc.Global.{Global}
 use Rattle.std.specs.declared.boxed.Box.{Box}
 use Rattle.std.specs.Prelude.{is_some}
-use Rattle.dym_views.specs.ViewedWorkMeanings as V
-use Rattle.dym_views.specs.ViewedWorkMeanings.{ViewedWorkMeaning}
+use Rattle.dym_run.specs.ViewedWorkMeanings as V
+use Rattle.dym_run.specs.ViewedWorkMeanings.{ViewedWorkMeaning}
 use Rattle.dym_wave.specs.Works.{OriginMeaning}
 use Rattle.dym_run.specs.declared.wave_job.JobState.{JobState}
 use Rattle.dym_run.specs.declared.wave_job.JobState.TheVariants.{Running}

@@ -1,3 +1,8 @@
+pub mod Going
+pub mod Jobs
+pub mod Onward
+pub mod Sights
+pub mod Turns
 pub mod Berths
 pub mod Ended
 pub mod JobStates

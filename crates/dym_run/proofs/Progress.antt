@@ -10,14 +10,14 @@ use Rattle.dym_io.specs.Laws.{appended_nothing, appended_both, front_after, fron
 use Rattle.dym_script.specs.declared.parts.Part.{Part}
 use Rattle.std.specs.Prelude.{⊤}
 use Rattle.dym_io.specs.Faults.{RoseOnce}
-use Rattle.dym_run.specs.declared.write_fail.WriteFail.{WriteFail}
-use Rattle.dym_run.specs.declared.write_fail.WriteFail.TheVariants.{Sink as SinkFailed, Memory}
-use Rattle.dym_run.specs.declared.tally.Tally.{Tally}
+use Rattle.dym_report.specs.declared.write_fail.WriteFail.{WriteFail}
+use Rattle.dym_report.specs.declared.write_fail.WriteFail.TheVariants.{Sink as SinkFailed, Memory}
+use Rattle.dym_report.specs.declared.tally.Tally.{Tally}
 use Rattle.dym_run.specs.Results.{PartsRan, WritesFirst, TalliesFirst, own_shown, parts_text, parts_shown, shown_text, tally_shown, IsTallyOf}
-use Rattle.dym_run.specs.Parts.{own_of}
+use Rattle.dym_report.specs.Report.{own_of}
 use Rattle.dym_run.specs.WaveJobs.{WaveJobMeaning, job_shown}
 use Rattle.dym_run.specs.Views.{part_with_view}
-use Rattle.dym_run.specs.Summary.{both_tallies, no_tally, tally_all}
+use Rattle.dym_report.specs.Summary.{both_tallies, no_tally, tally_all}
 use Rattle.dym_run.proofs.Lists.{none_left}
 use Rattle.dym_run.proofs.Tallies.{Fits, fits_both, replies_in, replies_of_parts, replies_of_jobs, tally_of_parts, tally_of_none, tally_of_both}
 use Rattle.dym_run.proofs.Texts.{same_texts}

@@ -8,7 +8,8 @@ use Rattle.std.proofs.lemmas.List.Folds.{drop_split}
 use Rattle.std.proofs.Math.Seq.{take-add, take-length, drop-append-add}
 use Rattle.dym_script.specs.declared.parts.Part.{Part}
 use Rattle.std.proofs.lemmas.Bool.{cases_lt}
-use Rattle.dym_run.specs.Parts.{quota_of, IsRunnable, IsSumOfRun}
+use Rattle.dym_report.specs.Report.{IsRunnable}
+use Rattle.dym_run.specs.Parts.{quota_of, IsSumOfRun}
 
 -- each of some numbers is at most their sum
 pub each_in_sum : (xs : List ℕ) → All (λ x. x ≤ sum xs) xs

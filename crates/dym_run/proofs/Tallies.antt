@@ -1,34 +1,17 @@
 -- What objects come to, put together.
-use Rattle.std.proofs.Common.{◌≡◌, ℕ, suc, ◌+◌, ◌^◌, ◌≤◌, ◌<◌, true, false, not, cond, Bool, List, [], ◌∷◌, ◌++◌, length, map, count_by, sum_by, refl, sym, ap, subst, ◌∙◌, ◌-◌, add-zero, arith, length-append, get_or, take}
+use Rattle.std.proofs.Common.{◌≡◌, ℕ, ◌+◌, ◌^◌, ◌≤◌, ◌<◌, List, [], ◌∷◌, ◌++◌, length, map, sum_by, refl, sym, ap, subst, ◌∙◌, arith, length-append, get_or, take}
 use Rattle.std.proofs.lemmas.List.{length-map, length-take-le, map_more}
 use Rattle.std.proofs.lemmas.List.Sums.{sum_by-cons, sum_by-append, sum_by_more_le}
-use Rattle.dym_base.specs.Objects.{ObjectState, object_start, object_step, replies_from}
-use Rattle.dym_base.specs.declared.command.Version.{Version}
-use Rattle.dym_base.specs.declared.command.Command.{Command}
+use Rattle.dym_base.specs.Objects.{object_start}
 use Rattle.dym_base.specs.declared.limits.TheConstants.{MOST_OBJECTS, MOST_COMMANDS}
-use Rattle.dym_base.specs.declared.reply.Reply.{Reply}
 use Rattle.dym_script.specs.declared.parts.Part.{Part}
-use Rattle.dym_run.specs.declared.tally.Tally.{Tally}
+use Rattle.dym_report.specs.declared.tally.Tally.{Tally}
 use Rattle.dym_run.specs.declared.report_options.ReportOptions.{ReportOptions}
 use Rattle.dym_run.specs.Results.{Shown, own_shown, parts_shown, shown_tally, tally_shown, IsTallyOf}
-use Rattle.dym_run.specs.Parts.{own_of}
+use Rattle.dym_report.specs.Report.{own_of}
 use Rattle.dym_run.specs.WaveJobs.{WaveJobMeaning, job_shown}
-use Rattle.dym_run.specs.Summary.{is_refusal, tally_of, no_tally, both_tallies, tally_all}
-
-tally_none : (t : Tally) → both_tallies no_tally t ≡ t
-tally_none t = λ i. record { ok = zero_add t.ok i; refused = zero_add t.refused i; chunks = zero_add t.chunks i; segments = zero_add t.segments i; kept = zero_add t.kept i; slots = zero_add t.slots i }
-  where
-    zero_add : (n : ℕ) → 0 + n ≡ n
-    zero_add n = omega arith
-
-tally_last : (t : Tally) → both_tallies t no_tally ≡ t
-tally_last t = λ i. record { ok = add-zero t.ok i; refused = add-zero t.refused i; chunks = add-zero t.chunks i; segments = add-zero t.segments i; kept = add-zero t.kept i; slots = add-zero t.slots i }
-
-tally_regroup : (a b c : Tally) → both_tallies (both_tallies a b) c ≡ both_tallies a (both_tallies b c)
-tally_regroup a b c = λ i. record { ok = regroup a.ok b.ok c.ok i; refused = regroup a.refused b.refused c.refused i; chunks = regroup a.chunks b.chunks c.chunks i; segments = regroup a.segments b.segments c.segments i; kept = regroup a.kept b.kept c.kept i; slots = regroup a.slots b.slots c.slots i }
-  where
-    regroup : (x y z : ℕ) → (x + y) + z ≡ x + (y + z)
-    regroup x y z = omega arith
+use Rattle.dym_report.specs.Summary.{tally_of, no_tally, both_tallies, tally_all}
+use Rattle.dym_report.proofs.Tallies.{tally_none, tally_last, tally_regroup, length_replies}
 
 shown_both : (xs ys : List Shown) → tally_shown (xs ++ ys) ≡ both_tallies (tally_shown xs) (tally_shown ys)
 shown_both [] ys = sym (tally_none (tally_shown ys))
@@ -76,10 +59,6 @@ pub tally_of_parts : (v : ReportOptions) (parts : List Part) → tally_shown (pa
 tally_of_parts v [] = refl
 tally_of_parts v (p ∷ parts) = λ i. both_tallies (part_tally v p i) (tally_of_parts v parts i)
 
-pub length_replies : (v : Version) (quota : ℕ) (s : ObjectState) (commands : List Command) → length (replies_from v quota s commands) ≡ length commands
-length_replies v quota s [] = refl
-length_replies v quota s (c ∷ cs) = ap suc (length_replies v quota (object_step v quota s c).object cs)
-
 pub replies_of_parts : (v : ReportOptions) (parts : List Part) → replies_in (parts_shown v parts) ≡ sum_by (λ part. length part.commands) parts
 replies_of_parts v [] = refl
 replies_of_parts v (p ∷ parts) =
@@ -90,19 +69,6 @@ replies_of_parts v (p ∷ parts) =
       sum_by-cons (λ (s : Shown). length s.replies) (own_shown v (own_of p)) (parts_shown v parts),
       sum_by-cons (λ (part : Part). length part.commands) p parts,
     )
-
--- of the replies of an object those that are no refusals and those that are make all
-pub count_not : (replies : List Reply) → count_by (λ r. not (is_refusal r)) replies + count_by is_refusal replies ≡ length replies
-count_not [] = refl
-count_not (r ∷ rs) =
-    omega (arith, one (is_refusal r), count_not rs, sum_by-cons (λ (r : Reply). cond (not (is_refusal r)) 1 0) r rs, sum_by-cons (λ (r : Reply). cond (is_refusal r) 1 0) r rs)
-  where
-    one : (b : Bool) → cond (not b) 1 0 + cond b 1 0 ≡ 1
-    one true = refl
-    one false = refl
-
-pub not_refused : (replies : List Reply) (n refused : ℕ) → n ≡ length replies → refused ≡ count_by is_refusal replies → n - refused ≡ count_by (λ r. not (is_refusal r)) replies
-not_refused replies n refused all is = omega (arith, all, is, count_not replies)
 
 -- ---- a list of jobs that are over, counted one after another
 

@@ -3,8 +3,7 @@ use Rattle.std.proofs.Common.{◌≡◌, List, [], ◌∷◌, ◌++◌, map, fla
 use Rattle.dym_run.specs.declared.report_options.ReportOptions.{ReportOptions}
 use Rattle.dym_script.specs.declared.parts.Part.{Part}
 use Rattle.dym_run.specs.Results.{own_shown, parts_shown, parts_text, shown_text}
-use Rattle.dym_run.specs.Parts.{own_of}
-use Rattle.dym_run.specs.Report.{part_text}
+use Rattle.dym_report.specs.Report.{own_of, part_text}
 use Rattle.dym_run.specs.Views.{part_with_view}
 use Rattle.dym_run.specs.WaveJobs.{WaveJobMeaning, job_shown}
 

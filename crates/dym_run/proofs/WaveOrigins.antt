@@ -15,7 +15,8 @@ use Rattle.dym_run.specs.declared.report_options.ReportOptions.{ReportOptions}
 use Rattle.dym_run.specs.JobOrigins.{JobOriginMeaning}
 use Rattle.dym_run.specs.JobLists.{ArePublishers, TakesParts, origin_at, origins_from}
 use Rattle.dym_run.specs.Results.{PartsRan, Shown, own_shown, result_shown}
-use Rattle.dym_run.specs.Parts.{quota_of, own_of}
+use Rattle.dym_report.specs.Report.{own_of}
+use Rattle.dym_run.specs.Parts.{quota_of}
 use Rattle.dym_run.specs.WaveJobs.{WaveJobMeaning, number_of, origin_of, job_quota, job_shown, job_supply}
 use Rattle.dym_run.proofs.Lists.{all_front, all_images, all_last, map_twice, none_left, one_head, one_tail}
 
@@ -40,6 +41,12 @@ module _ {R : Type 0} (options : ReportOptions) (quantum : ℕ) where
   from_queue queue n (p ∷ done) (b ∷ over) idle =
       All-cons (λ (o : JobOriginMeaning). o.source.origin.supply ≡ shared queue) _ (origins_from options quantum (n + 1) done over) (ap shared (All-head (IsIdleBerth queue) b over idle).0)
       (from_queue queue (n + 1) done over (All-tail (IsIdleBerth queue) b over idle))
+
+  from_quantum : (n : ℕ) (done : List Part) (over : List (Berth R)) → All (λ (o : JobOriginMeaning). o.quantum ≡ quantum) (origins_from options quantum n done over)
+  from_quantum n [] over = All-nil (λ (o : JobOriginMeaning). o.quantum ≡ quantum)
+  from_quantum n (p ∷ done) [] = All-nil (λ (o : JobOriginMeaning). o.quantum ≡ quantum)
+  from_quantum n (p ∷ done) (b ∷ over) =
+      All-cons (λ (o : JobOriginMeaning). o.quantum ≡ quantum) _ (origins_from options quantum (n + 1) done over) refl (from_quantum (n + 1) done over)
 
   from_numbers : (n : ℕ) (done : List Part) (over : List (Berth R)) (k : ℕ) (d : JobOriginMeaning) → k < length (origins_from options quantum n done over)
       → (slice_index_or (origins_from options quantum n done over) k d).source.origin.number ≡ n + k
@@ -83,6 +90,10 @@ module _ {R : Type 0} (options : ReportOptions) (quantum : ℕ) where
     jobs_supplies queue idle =
         all_images origin_of (λ (o : JobOriginMeaning). o.source.origin.supply ≡ shared queue) jobs (origins_from options quantum 0 made.done berths) made.origins_are
         (from_queue queue 0 made.done berths idle)
+
+    pub jobs_quantum : All (λ (p : WaveJobMeaning). p.quantum ≡ quantum) jobs
+    jobs_quantum =
+        all_images origin_of (λ (o : JobOriginMeaning). o.quantum ≡ quantum) jobs (origins_from options quantum 0 made.done berths) made.origins_are (from_quantum 0 made.done berths)
 
     pub jobs_numbered : Numbered number_of jobs
     jobs_numbered k d within =

@@ -1,5 +1,6 @@
-pub mod Report
-pub mod Summary
+pub mod Lines
+pub mod Observations
+pub mod ViewedWorkMeanings
 pub mod Parts
 pub mod Views
 pub mod JobOrigins

@@ -1,7 +1,6 @@
 -- What is left of an object that has run: what is printed of it, and what it comes to.
-use Rattle.std.specs.Prelude.{◌≡◌, ⊤, Bool, false, ℕ, ◌+◌, ◌*◌, ◌^◌, ◌<◌, ◌≤◌, not, List, [], ◌∷◌, ◌++◌, length, map, flat_map, sum_by, count_by, is_some, Option, Result, MatchResult}
-use Rattle.std.specs.FinMap.{len}
-use Rattle.dym_base.specs.Heaps.{HeapState, held}
+use Rattle.std.specs.Prelude.{◌≡◌, ⊤, Bool, false, ℕ, ◌+◌, ◌*◌, ◌^◌, ◌<◌, ◌≤◌, List, [], ◌∷◌, ◌++◌, length, map, flat_map, sum_by, is_some, Option, Result, MatchResult}
+use Rattle.dym_base.specs.Heaps.{HeapState}
 use Rattle.dym_base.specs.Objects.{run_replies, run_end, slots}
 use Rattle.dym_base.specs.Origins.{own}
 use Rattle.dym_base.specs.declared.command.Version.{Version}
@@ -12,16 +11,15 @@ use Rattle.dym_report.specs.Objects.{object_text}
 use Rattle.dym_script.specs.declared.parts.Part.{Part}
 use Rattle.dym_wave.specs.Works.{OriginMeaning}
 use Rattle.dym_report.specs.declared.late.ViewLine.{ViewLine}
-use Rattle.dym_views.specs.ViewedWorkMeanings.{ViewedWorkMeaning, lacks_memory, left_of}
+use Rattle.dym_run.specs.ViewedWorkMeanings.{ViewedWorkMeaning, lacks_memory, left_of}
 use Rattle.dym_run.specs.JobOrigins.{JobSource}
 use Rattle.dym_run.specs.declared.report_options.ReportOptions.{ReportOptions}
-use Rattle.dym_run.specs.declared.tally.Tally.{Tally}
-use Rattle.dym_run.specs.Report.{Own}
+use Rattle.dym_report.specs.declared.tally.Tally.{Tally}
+use Rattle.dym_report.specs.Report.{Own, own_of}
 use Rattle.dym_run.specs.Views.{shown_view, view_line_text, part_with_view}
-use Rattle.dym_run.specs.declared.write_fail.WriteFail.{WriteFail}
-use Rattle.dym_run.specs.declared.write_fail.WriteFail.TheVariants.{Sink as SinkFailed}
-use Rattle.dym_run.specs.Parts.{own_of}
-use Rattle.dym_run.specs.Summary.{is_refusal, no_tally, both_tallies}
+use Rattle.dym_report.specs.declared.write_fail.WriteFail.{WriteFail}
+use Rattle.dym_report.specs.declared.write_fail.WriteFail.TheVariants.{Sink as SinkFailed}
+use Rattle.dym_report.specs.Summary.{tally_with, no_tally, both_tallies}
 
 -- what is printed of an object: its name, its version, its replies, its heap, how many logs it keeps, how many records these take, and
 -- its view where views are told
@@ -75,14 +73,7 @@ shown_text s = object_text s.version s.name s.replies s.heap.live s.kept s.slots
 
 -- what it comes to
 abbrev pub shown_tally : Shown → Tally
-shown_tally s = record {
-  ok = count_by (λ r. not (is_refusal r)) s.replies;
-  refused = count_by is_refusal s.replies;
-  chunks = len s.heap.live;
-  segments = held s.heap.live;
-  kept = s.kept;
-  slots = s.slots;
-}
+shown_tally s = tally_with s.replies s.heap.live s.kept s.slots
 
 -- a list of parts lost its first ones, so many, and what is printed of these came behind what was printed before
 pub record PartsRan (options : ReportOptions) (count : ℕ) (before after : List Part) (shown_before shown_after : List Shown) : Type 0 where

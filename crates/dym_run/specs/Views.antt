@@ -6,9 +6,9 @@ use Rattle.dym_script.specs.Scripts.{Said}
 use Rattle.dym_report.specs.Late.{view_line}
 use Rattle.dym_report.specs.Orders.{end_text}
 use Rattle.dym_report.specs.declared.late.ViewLine.{ViewLine}
-use Rattle.dym_views.specs.Lines.{oldest_view}
+use Rattle.dym_run.specs.Lines.{oldest_view}
 use Rattle.dym_run.specs.declared.report_options.ReportOptions.{ReportOptions}
-use Rattle.dym_run.specs.Report.{Own, objects_of, part_text, end_of}
+use Rattle.dym_report.specs.Report.{Own, objects_of, part_text, end_of}
 
 -- what is told of the view of an object, where views are
 abbrev pub shown_view : Bool → ObjectState → Option (Option ViewLine)

@@ -4,7 +4,7 @@ use Rattle.dym_base.specs.Origins.{Origin, own, shared}
 use Rattle.dym_base.specs.declared.limits.TheConstants.{MOST_QUOTA, MOST_COMMANDS}
 use Rattle.dym_quota.specs.QueueShape.{queue_name, known_by}
 use Rattle.dym_view.specs.Histories.{Beginning}
-use Rattle.dym_views.specs.ViewedWorkMeanings as V
+use Rattle.dym_run.specs.ViewedWorkMeanings as V
 use Rattle.dym_wave.specs.Works.{OriginMeaning}
 use Rattle.dym_run.specs.declared.wave_job.JobState.{JobState}
 use Rattle.dym_run.specs.declared.wave_job.JobState.TheVariants.{Waiting, Running, Over, Stranded}

@@ -5,10 +5,10 @@ ghost use Rattle.dym_run.specs.JobLists.{ArePublishers};
 
 use crate::job_context::JobContext;
 use crate::table_pool::LogTables;
+use crate::view_set::{end_all, open_views};
 use crate::wave_job::WaveJob;
 use dym_base::limits::MOST_QUANTUM;
 use dym_view::{Publisher, Viewer};
-use dym_views::{end_all, open_views};
 use std::alloc::{AllocError, Global};
 use std::sync::Wait;
 

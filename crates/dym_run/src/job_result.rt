@@ -1,18 +1,21 @@
 //! What is left of an object that ran all its commands.
-ghost use Rattle.std.specs.Prelude.{◌≡◌, ◌∷◌, [], ℕ, List, None};
+ghost use Rattle.std.specs.Prelude.{◌≡◌, ◌≤◌, ◌∷◌, [], ℕ, List, None, length};
+ghost use Rattle.dym_base.specs.declared.limits.TheConstants.{MOST_COMMANDS};
+ghost use Rattle.dym_heap.specs.Meaning.{IsSound};
 ghost use Rattle.dym_io.specs.Sink.{Writes};
-ghost use Rattle.dym_run.specs.Results.{RanOut, IsTallyOf, result_of, result_shown, shown_text};
+ghost use Rattle.dym_run.specs.Results.{RanOut, IsTallyOf, result_of, result_shown, shown_text, shown_with};
 ghost use Rattle.dym_run.specs.Views.{view_line_text};
 
 use crate::job_context::JobContext;
 use crate::job_output::JobOutput;
-use crate::tally::Tally;
+use crate::viewed_work::ViewedWork;
 use dym_base::{Name, Version};
 use dym_commands::Commands;
+use dym_heap::Heap;
 use dym_io::{Sink, SinkFault};
 use dym_quota::{Berth, Supply};
-use dym_report::{ViewLine, write_view};
-use dym_views::ViewedWork;
+use dym_report::{Tally, ViewLine, write_view};
+use dym_turn::Replies;
 use dym_wave::TableKeep;
 use std::marker::Model;
 use std::sync::Wait;
@@ -68,7 +71,7 @@ impl<R: Wait> JobResult<R> {
         let (number, commands, replies, object) = work.into_parts();
         let (kept, slots) = (object.kept(), object.slots());
         let (heap, keep) = object.split();
-        let tally = Tally::of(&replies, &heap, kept, slots);
+        let tally = tally_of(&replies, &heap, kept, slots);
         let job_result = JobResult {
             number,
             version: heap.version(),
@@ -159,6 +162,21 @@ impl<R: Wait> JobResult<R> {
         } = self;
         job_output.close(rt)
     }
+}
+
+/// What an object with these replies and this heap comes to, which keeps so many logs in so many records.
+fn tally_of<S: Supply>(replies: &Replies, heap: &Heap<S>, kept: u32, slots: u32) -> Tally
+    requires few { length replies.now.replies ≤ MOST_COMMANDS }
+    requires sound { IsSound heap.now }
+    ensures { IsTallyOf result (shown_with [] heap.now.version replies.now.replies heap.now.state kept slots None ∷ []) }
+{
+    Tally::of(
+        replies.len() as u32,
+        replies.refusals() as u32,
+        heap,
+        kept,
+        slots,
+    )
 }
 
 /// Writes the line of a view, where one is told.

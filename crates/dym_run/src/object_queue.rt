@@ -1,9 +1,12 @@
 //! The objects that have yet to run.
 ghost use Rattle.std.specs.Prelude.{◌≡◌, ℕ, ◌<◌, ◌≤◌, [], ◌++◌, IfOk, IfErr, length, map, drop, vec_len, All, IsPermutation};
 ghost use Rattle.dym_base.specs.declared.limits.TheConstants.{MOST_OBJECTS, MOST_SEGMENTS};
-ghost use Rattle.dym_region.specs.Identity.{AreDistinct};
+ghost use Rattle.dym_region.specs.Identity.{AreDistinct, ids_of};
+ghost use Rattle.dym_run.specs.Observations.{EachSwept};
+ghost use Rattle.dym_wave.specs.Waves.{SameTables};
 ghost use Rattle.dym_run.specs.Results.{PartsRan};
-ghost use Rattle.dym_run.specs.Parts.{quota_of, IsRunnable, IsShape};
+ghost use Rattle.dym_report.specs.Report.{IsRunnable};
+ghost use Rattle.dym_run.specs.Parts.{quota_of, IsShape, IsSumOfRun};
 ghost use Rattle.dym_run.specs.WaveJobs.{job_shown};
 
 use crate::finished_wave::FinishedWave;
@@ -15,7 +18,7 @@ use crate::wave::Wave;
 use dym_base::limits::{MOST_OBJECTS, MOST_SEGMENTS};
 use dym_pool::Gate;
 use dym_quota::waves;
-use dym_region::{RawSegment, Segment};
+use dym_region::{RawSegment, Region, Segment};
 use dym_script::Part;
 use std::alloc::{AllocError, Global};
 use std::collections::VecDeque;
@@ -59,6 +62,7 @@ impl ObjectQueue {
         ensures parts { IfOk result (λ r. r.parts.items ≡ parts.items) }
         ensures least { IfOk result (λ r. 1 ≤ r.most) }
         ensures most { IfOk result (λ r. r.most ≤ shape.segments) }
+        ensures needed { IfOk result (λ r. IsSumOfRun (map quota_of parts.items) r.most) }
     {
         let quotas = quotas_of(alloc, &parts)?;
         let most = largest_wave(&quotas, shape.segments);
@@ -72,6 +76,18 @@ impl ObjectQueue {
             quotas,
             from: 0,
         })
+    }
+
+    /// A region of as many segments as the largest wave needs.
+    pub(crate) fn open_region(&self, alloc: Global) -> Result<(Region, Vec<RawSegment>), AllocError>
+        requires least { 1 ≤ self.now.most }
+        requires most { self.now.most ≤ MOST_SEGMENTS }
+        ensures count { IfOk result (λ r. r.0.count ≡ self.now.most) }
+        ensures length { IfOk result (λ r. vec_len r.1 ≡ self.now.most) }
+        ensures numbered { IfOk result (λ r. map ⟦<RawSegment as Segment>⟧.id r.1.items ≡ ids_of r.0.id self.now.most) }
+        ensures distinct { IfOk result (λ r. AreDistinct (map ⟦<RawSegment as Segment>⟧.id r.1.items)) }
+    {
+        Region::new(alloc, self.most)
     }
 
     /// Runs the objects of the next wave, over these segments. At an `AllocError` all segments come back, and the run is
@@ -91,6 +107,9 @@ impl ObjectQueue {
         ensures most { self.new.most ≡ self.old.most }
         ensures ran { IfOk result (λ s. (count : ℕ) × (0 < count)
             × PartsRan self.old.options count self.old.parts.items self.new.parts.items [] (map job_shown s.jobs.items)) }
+        ensures quantum { IfOk result (λ s. All (λ p. p.quantum ≡ self.old.shape.quantum) s.jobs.items) }
+        ensures tables { SameTables self.old.tables.sweepers.items self.new.tables.sweepers.items }
+        ensures swept { IfOk result (λ _. EachSwept self.old.tables.sweepers.items self.new.tables.sweepers.items) }
         ensures segments { IfOk result (λ s. s.queue.stocked ++ s.queue.aside
             ≡ map ⟦<RawSegment as Segment>⟧.id segments.items) }
         ensures back { IfErr result (λ e. IsPermutation (map ⟦<RawSegment as Segment>⟧.id segments.items)

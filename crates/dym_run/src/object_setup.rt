@@ -3,17 +3,17 @@ ghost use Rattle.std.specs.Prelude.{◌≡◌, ◌+◌, ◌≤◌, false, [], No
 ghost use Rattle.dym_base.specs.Objects.{object_start};
 ghost use Rattle.dym_base.specs.declared.limits.TheConstants.{MOST_COMMANDS, COUNT_LIMIT, MOST_QUANTUM, MOST_QUOTA};
 ghost use Rattle.dym_object.specs.Meaning.{IsWhole, state_of};
-ghost use Rattle.dym_views.specs.ViewedWorkMeanings.{lacks_memory};
+ghost use Rattle.dym_run.specs.ViewedWorkMeanings.{lacks_memory};
 ghost use Rattle.dym_run.specs.WaveJobs.{CanStart, IsBack, job_spec_origin};
 
 use crate::job_spec::JobSpec;
+use crate::viewed_work::ViewedWork;
 use dym_base::Version;
 use dym_base::limits::{COUNT_LIMIT, MOST_COMMANDS, MOST_QUANTUM, MOST_QUOTA};
 use dym_chain::{Chain, LogKeep};
 use dym_heap::Heap;
 use dym_object::Object;
 use dym_quota::{Berth, Supply};
-use dym_views::ViewedWork;
 use dym_wave::{TableKeep, Work};
 use std::alloc::Global;
 use std::sync::Wait;

@@ -1,5 +1,6 @@
 //! Log tables that no object has at the time.
-ghost use Rattle.std.specs.Prelude.{◌≡◌, ◌+◌, ◌<◌, ◌≤◌, [], None, IfOk, vec_len, All};
+ghost use Rattle.std.specs.Prelude.{◌≡◌, ◌+◌, ◌<◌, ◌≤◌, [], None, IfOk, map, vec_len, All};
+ghost use Rattle.dym_base.specs.Origins.{shared};
 ghost use Rattle.dym_base.specs.declared.limits.TheConstants.{MOST_COMMANDS, MOST_QUANTUM, COUNT_LIMIT};
 
 use crate::job_context::JobContext;
@@ -45,13 +46,10 @@ impl LogTables {
         ensures sweepers { IfOk result (λ tables. vec_len tables.sweepers ≡ count) }
         ensures makes_text { IfOk result (λ tables. tables.makes_text ≡ makes_text) }
     {
+        let (pooled_tables, sweepers) = open_tables(alloc, count)?;
         let mut queue = ArrayQueue::new(alloc, count as usize)?;
-        let mut sweepers = Vec::with_capacity(alloc, count as usize)?;
-        for _ in 0..count {
-            let (owner, sweeper) = LogSlots::open(alloc)?;
-            let keep = TableKeep::new(owner);
-            drop(queue.push_mut(PooledTable { keep }));
-            sweepers.push_reserved(sweeper);
+        for pooled_table in pooled_tables {
+            drop(queue.push_mut(pooled_table));
         }
         let queue = Arc::new(alloc, queue)?;
         let table_pool = TablePool { queue };
@@ -61,6 +59,23 @@ impl LogTables {
             makes_text,
         })
     }
+}
+
+/// So many log tables without records, and the sweeper of each, in one order.
+fn open_tables(alloc: Global, count: u32) -> Result<(Vec<PooledTable>, Vec<Sweeper>), AllocError>
+    ensures count { IfOk result (λ tables. vec_len tables.1 ≡ count) }
+    ensures tables { IfOk result (λ tables.
+        map (λ t. t.keep.origin) tables.0.items ≡ map (λ s. shared s.table) tables.1.items) }
+{
+    let mut pooled_tables = Vec::with_capacity(alloc, count as usize)?;
+    let mut sweepers = Vec::with_capacity(alloc, count as usize)?;
+    for _ in 0..count {
+        let (owner, sweeper) = LogSlots::open(alloc)?;
+        let keep = TableKeep::new(owner);
+        pooled_tables.push_reserved(PooledTable { keep });
+        sweepers.push_reserved(sweeper);
+    }
+    Ok((pooled_tables, sweepers))
 }
 
 impl TablePool {

@@ -4,6 +4,7 @@ ghost use Rattle.dym_base.specs.declared.limits.TheConstants.{MOST_OBJECTS, MOST
 ghost use Rattle.dym_pool.specs.Jobs.{AllEnded, Numbered};
 ghost use Rattle.dym_quota.specs.Berths.{IsIdleBerth};
 ghost use Rattle.dym_region.specs.Identity.{AreDistinct};
+ghost use Rattle.dym_run.specs.Observations.{EachSwept};
 ghost use Rattle.dym_wave.specs.Waves.{SameTables};
 ghost use Rattle.dym_run.specs.Results.{PartsRan};
 ghost use Rattle.dym_run.specs.Parts.{IsShape, StandInLine};
@@ -12,6 +13,7 @@ ghost use Rattle.dym_run.specs.WaveJobs.{WaveJobMeaning, job_shown, left_of, num
 use crate::finished_wave::{FinishedWave, close_all};
 use crate::job_buffers::JobBuffers;
 use crate::job_list::make_jobs;
+use crate::observed_run::{ObservedResults, run_observed};
 use crate::report_options::ReportOptions;
 use crate::shape::Shape;
 use crate::table_pool::LogTables;
@@ -23,7 +25,6 @@ use dym_region::{RawSegment, Segment};
 use dym_script::Part;
 use dym_slots::Sweeper;
 use dym_view::Viewer;
-use dym_views::{ObservedResults, run_observed};
 use std::alloc::{AllocError, Global};
 use std::collections::VecDeque;
 use std::mem;
@@ -81,6 +82,9 @@ impl<R: Wait> Wave<R> {
         ensures queue { IfOk result (λ s. s.queue ≡ self.queue) }
         ensures ran { IfOk result (λ s. PartsRan options (vec_len self.berths) parts.old.items parts.new.items []
             (map job_shown s.jobs.items)) }
+        ensures quantum { IfOk result (λ s. All (λ p. p.quantum ≡ shape.quantum) s.jobs.items) }
+        ensures tables { SameTables tables.old.sweepers.items tables.new.sweepers.items }
+        ensures swept { IfOk result (λ _. EachSwept tables.old.sweepers.items tables.new.sweepers.items) }
         ensures back { IfErr result (λ e. IsPermutation (self.queue.stocked ++ self.queue.aside)
             (map ⟦<RawSegment as Segment>⟧.id e.1.items)) }
         ensures distinct { IfErr result (λ e. AreDistinct (map ⟦<RawSegment as Segment>⟧.id e.1.items)) }
@@ -137,6 +141,7 @@ fn run_wave_jobs<R: Threads + Wait + Send + Sync, G: Gate>(
     ensures ended { OnOk result.1 (AllEnded left_of result.0.items) }
     ensures long { OnOk result.1 (All (λ p. p.state.out_of_memory ≡ false) result.0.items) }
     ensures tables { SameTables sweepers.old.items sweepers.new.items }
+    ensures swept { OnOk result.1 (EachSwept sweepers.old.items sweepers.new.items) }
 {
     let taken = mem::replace(sweepers, Vec::new(alloc));
     let ObservedResults {

@@ -1,7 +1,7 @@
 //! An object of a wave as a job.
 ghost use Rattle.std.specs.Prelude.{◌≡◌, ◌⊎◌, ◌∷◌, false, [], IfOk, IfErr};
 ghost use Rattle.dym_io.specs.Sink.{Writes};
-ghost use Rattle.dym_views.specs.ViewedWorkMeanings.{lacks_memory};
+ghost use Rattle.dym_run.specs.ViewedWorkMeanings.{lacks_memory};
 ghost use Rattle.dym_run.specs.Results.{IsTallyOf, result_of, shown_text};
 ghost use Rattle.dym_run.specs.WaveJobs.{CanEnd, CanStart, HoldsNothing, IsBack, IsFinished, IsJobState, IsOver, IsStarted, IsStranded, job_quota, job_shown, job_supply, meant_by, source_of_spec};
 
@@ -10,13 +10,13 @@ use crate::job_origin::JobOrigin;
 use crate::job_result::JobResult;
 use crate::job_spec::JobSpec;
 use crate::object_setup::open_work;
-use crate::tally::Tally;
+use crate::viewed_work::ViewedWork;
 use core::mem::replace_with;
 use dym_base::Name;
 use dym_io::{Sink, SinkFault};
 use dym_pool::Job;
 use dym_quota::{Berth, Supply};
-use dym_views::ViewedWork;
+use dym_report::Tally;
 use std::alloc::AllocFailed;
 use std::boxed::Box;
 use std::marker::Model;

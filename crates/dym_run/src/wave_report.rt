@@ -4,19 +4,20 @@ ghost use Rattle.dym_base.specs.declared.limits.TheConstants.{MOST_OBJECTS};
 ghost use Rattle.dym_io.specs.Sink.{Writes, WritesOr};
 ghost use Rattle.dym_region.specs.Identity.{AreDistinct};
 ghost use Rattle.dym_run.specs.Results.{parts_text, shown_text, WritesFirst};
-ghost use Rattle.dym_run.specs.Parts.{IsRunnable, IsShape};
+ghost use Rattle.dym_report.specs.Report.{IsRunnable};
+ghost use Rattle.dym_run.specs.Parts.{IsShape};
 ghost use Rattle.dym_run.specs.WaveJobs.{IsOver, job_shown};
-ghost use Rattle.dym_run.specs.declared.write_fail.WriteFail.TheVariants.{Sink as SinkFailed};
+ghost use Rattle.dym_report.specs.declared.write_fail.WriteFail.TheVariants.{Sink as SinkFailed};
 
 use crate::object_queue::ObjectQueue;
 use crate::report_options::ReportOptions;
 use crate::shape::Shape;
 use crate::wave_job::WaveJob;
-use crate::write_fail::WriteFail;
 use dym_base::limits::MOST_OBJECTS;
 use dym_io::{Sink, SinkFault};
 use dym_pool::Gate;
-use dym_region::{RawSegment, Region, Segment};
+use dym_region::{RawSegment, Segment};
+use dym_report::WriteFail;
 use dym_script::Part;
 use std::alloc::Global;
 use std::mem;
@@ -49,7 +50,7 @@ pub fn write_waves<R: Threads + Wait + Send + Sync, G: Gate, W: Sink>(
         return Ok(());
     }
     let mut object_queue = ObjectQueue::of(alloc, options, parts, shape, true)?;
-    let (region, mut segments) = Region::new(alloc, object_queue.most)?;
+    let (region, mut segments) = object_queue.open_region(alloc)?;
     let written = write_all(rt, alloc, &mut object_queue, &mut segments, gate, sink);
     region.close(segments);
     written

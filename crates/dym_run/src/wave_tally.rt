@@ -3,19 +3,20 @@ ghost use Rattle.std.specs.Prelude.{◌≡◌, ◌+◌, ◌≤◌, ◌<◌, IfOk
 ghost use Rattle.dym_base.specs.declared.limits.TheConstants.{MOST_OBJECTS, MOST_COMMANDS};
 ghost use Rattle.dym_region.specs.Identity.{AreDistinct};
 ghost use Rattle.dym_run.specs.Results.{parts_shown, IsTallyOf, TalliesFirst};
-ghost use Rattle.dym_run.specs.Parts.{own_of, IsRunnable, IsShape};
-ghost use Rattle.dym_run.specs.Summary.{tally_all};
+ghost use Rattle.dym_report.specs.Report.{own_of, IsRunnable};
+ghost use Rattle.dym_run.specs.Parts.{IsShape};
+ghost use Rattle.dym_report.specs.Summary.{tally_all};
 ghost use Rattle.dym_run.specs.WaveJobs.{IsOver, job_shown};
 
 use crate::object_queue::ObjectQueue;
 use crate::report_options::ReportOptions;
 use crate::shape::Shape;
-use crate::tally::Tally;
 use crate::wave_job::WaveJob;
 use dym_base::Version;
 use dym_base::limits::{MOST_COMMANDS, MOST_OBJECTS};
 use dym_pool::Gate;
-use dym_region::{RawSegment, Region, Segment};
+use dym_region::{RawSegment, Segment};
+use dym_report::Tally;
 use dym_script::Part;
 use std::alloc::{AllocError, Global};
 use std::mem;
@@ -50,7 +51,7 @@ pub fn tally_waves<R: Threads + Wait + Send + Sync, G: Gate>(
         views: false,
     };
     let mut object_queue = ObjectQueue::of(alloc, options, parts, shape, false)?;
-    let (region, mut segments) = Region::new(alloc, object_queue.most)?;
+    let (region, mut segments) = object_queue.open_region(alloc)?;
     let tally = tally_all(rt, alloc, &mut object_queue, &mut segments, gate);
     region.close(segments);
     tally

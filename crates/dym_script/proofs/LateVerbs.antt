@@ -3,10 +3,10 @@ use Rattle.std.proofs.Common.{◌≡◌, ℕ, true, false, not, ◌==◌, if◌t
 use Rattle.dym_base.specs.LateRun.{IsEventCommand}
 use Rattle.dym_base.specs.declared.bad_kind.BadKind.TheVariants as bad
 use Rattle.dym_base.specs.declared.command.Command.{Command}
-use Rattle.dym_lines.specs.declared.verb.Verb.{Verb}
-use Rattle.dym_lines.specs.declared.verb.Verb.TheVariants as verb
+use Rattle.dym_script.specs.declared.verb.Verb.{Verb}
+use Rattle.dym_script.specs.declared.verb.Verb.TheVariants as verb
 use Rattle.dym_script.specs.Late.{is_event_verb}
-use Rattle.dym_lines.specs.Table.{Values, row, made, command_of, wrong, is_number, is_handle, is_hex, values_of}
+use Rattle.dym_script.specs.Table.{Values, row, made, command_of, wrong, is_number, is_handle, is_hex, values_of}
 
 made_values : (v : Verb) (values : Option (Values (row v).operands)) (c : Command) → made v values ≡ Ok c → (found : Values (row v).operands) × ((row v).make found ≡ c)
 made_values v None c is = absurd (cc)

@@ -1,3 +1,10 @@
+pub mod WordCuts
+pub mod Numbers
+pub mod Rows
+pub mod Spelled
+pub mod Fronts
+pub mod SizeRows
+pub mod VerbFronts
 pub mod Index
 pub mod KeptReader
 pub mod Moves

@@ -11,7 +11,7 @@ use Rattle.dym_script.specs.declared.script.ScriptFail.{ScriptFail}
 use Rattle.dym_script.specs.declared.script.ScriptFail.TheVariants as fail
 use Rattle.dym_script.specs.Answers.{FailsSo, GivesBy}
 use Rattle.dym_base.specs.Lines.{lines_of}
-use Rattle.dym_lines.proofs.Cuts.{take_rest}
+use Rattle.dym_script.proofs.WordCuts.{take_rest}
 use Rattle.dym_script.specs.Scripts.{Said, Reading, Fault, read_line, read_lines, go_on, start, script_of}
 use Rattle.dym_script.specs.Pieces.{says, IsEnded, IsOpen, Took, TakesPiece, ReadsFront, ReadsText}
 

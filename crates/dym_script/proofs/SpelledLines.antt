@@ -8,19 +8,19 @@ use Rattle.dym_base.specs.Names.{is_name, is_name_byte}
 use Rattle.dym_base.specs.declared.bad_kind.BadKind.{BadKind}
 use Rattle.dym_base.specs.declared.command.Command.{Command}
 use Rattle.dym_base.specs.declared.limits.TheConstants.{MOST_NAME_BYTES, MOST_LINE_BYTES}
-use Rattle.dym_lines.specs.declared.verb.Verb.{Verb}
+use Rattle.dym_script.specs.declared.verb.Verb.{Verb}
 use Rattle.dym_script.specs.declared.reader.Ask.{Ask}
 use Rattle.dym_script.specs.declared.reader.Reader.{Reader}
 use Rattle.dym_base.specs.Lines.{lines_of}
-use Rattle.dym_lines.specs.Lines.{words_of, is_printable}
+use Rattle.dym_script.specs.Lines.{words_of, is_printable}
 use Rattle.dym_script.specs.Scripts.{Said, Reading, object_of, ask_at, is_version, begin, read_line}
 use Rattle.dym_commands.specs.Requests.{asks}
-use Rattle.dym_lines.specs.Table.{verb_of, command_of}
+use Rattle.dym_script.specs.Table.{verb_of, command_of}
 use Rattle.dym_script.specs.Readers.{reading, IsNext}
-use Rattle.dym_lines.specs.Quick.{is_bare, is_bare_word, spelled, Demands}
-use Rattle.dym_lines.proofs.Cuts.{both_true}
+use Rattle.dym_script.specs.Quick.{is_bare, is_bare_word, spelled, Demands}
+use Rattle.dym_script.proofs.WordCuts.{both_true}
 use Rattle.dym_script.proofs.Index.{object_of_more}
-use Rattle.dym_lines.proofs.Spelled.{no_more, all_weaker, words_of_spelled, lines_of_front, line_printable}
+use Rattle.dym_script.proofs.Spelled.{no_more, all_weaker, words_of_spelled, lines_of_front, line_printable}
 
 and_no : (b : Bool) → (b && false) ≡ false
 and_no true = refl

@@ -15,12 +15,12 @@ use Rattle.dym_script.specs.declared.late_script.LateAct.TheVariants.{At, Commit
 use Rattle.dym_script.specs.declared.late_script.LateLine.{LateLine}
 use Rattle.dym_script.specs.declared.late_script.LateScript.{LateScript}
 use Rattle.dym_script.specs.declared.script.Decl.{Decl}
-use Rattle.dym_lines.specs.declared.verb.Verb.{Verb}
-use Rattle.dym_lines.specs.declared.verb.Verb.TheVariants as verb
+use Rattle.dym_script.specs.declared.verb.Verb.{Verb}
+use Rattle.dym_script.specs.declared.verb.Verb.TheVariants as verb
 use Rattle.dym_base.specs.Lines.{lines_of}
-use Rattle.dym_lines.specs.Lines.{words_of, is_printable}
-use Rattle.dym_lines.specs.Words.{number_to}
-use Rattle.dym_lines.specs.Table.{verb_of, command_of}
+use Rattle.dym_script.specs.Lines.{words_of, is_printable}
+use Rattle.dym_script.specs.Words.{number_to}
+use Rattle.dym_script.specs.Table.{verb_of, command_of}
 use Rattle.dym_script.specs.Scripts.{Said, Fault, object_of, declare_words}
 
 -- what a script of late events says: the lists of its declarations and of its other lines

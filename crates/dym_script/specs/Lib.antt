@@ -1,3 +1,8 @@
+pub mod Lines
+pub mod Words
+pub mod Table
+pub mod Quick
+pub mod Fronts
 pub mod Scripts
 pub mod Answers
 pub mod Readers

@@ -13,11 +13,11 @@ use Rattle.dym_base.specs.declared.command.Command.{Command}
 use Rattle.dym_script.specs.declared.script.Decl.{Decl}
 use Rattle.dym_script.specs.declared.script.Line.{Line}
 use Rattle.dym_script.specs.declared.script.Script.{Script}
-use Rattle.dym_lines.specs.declared.verb.Verb.{Verb}
+use Rattle.dym_script.specs.declared.verb.Verb.{Verb}
 use Rattle.dym_base.specs.Lines.{lines_of}
-use Rattle.dym_lines.specs.Lines.{words_of, is_printable}
-use Rattle.dym_lines.specs.Words.{number_to}
-use Rattle.dym_lines.specs.Table.{verb_of, command_of}
+use Rattle.dym_script.specs.Lines.{words_of, is_printable}
+use Rattle.dym_script.specs.Words.{number_to}
+use Rattle.dym_script.specs.Table.{verb_of, command_of}
 
 -- what a script says: its version, and the lists of its declarations and of its other lines
 pub record Said : Type 0 where

@@ -3,18 +3,19 @@ ghost use Rattle.std.specs.Prelude.{◌≡◌, ◌<◌, ◌∷◌, length, Some,
 ghost use Rattle.dym_script.specs.Late.{act_on, late_line, late_of, late_said, late_start, late_words, late_declared, declaring};
 ghost use Rattle.dym_script.specs.LateArrivals.{IsLawfulLate, MayAct};
 ghost use Rattle.dym_script.specs.LateAnswers.{GivesLate, GivesLateLine, IsValidLateReader, late_reading_of};
-ghost use Rattle.dym_lines.specs.Lines.{words_of};
+ghost use Rattle.dym_script.specs.Lines.{words_of};
 ghost use Rattle.dym_script.specs.Scripts.{declare_words};
 
 use crate::late_script::{LateAct, LateLine, LateScript};
 use crate::late_words::act_of;
 use crate::line_fail::LineFail;
 use crate::line_tests::is_printable_line;
+use crate::lines::{next_line, next_word, two_words};
+use crate::operands::number_of;
 use crate::reader::Reader;
 use crate::script::ScriptFail;
 use dym_base::BadKind;
 use dym_base::limits::{MOST_INPUT_BYTES, MOST_LATE_EVENTS, MOST_LATE_LINES, MOST_LINE_BYTES};
-use dym_lines::{next_line, next_word, number_of, two_words};
 use std::alloc::Global;
 
 /// What was read so far of a script of late events.

@@ -1,15 +1,17 @@
 //! What a line of late events says of its object, by its words.
 ghost use Rattle.std.specs.Prelude.{◌≡◌, true, IfOk};
-ghost use Rattle.dym_lines.specs.Lines.{words_of};
+ghost use Rattle.dym_script.specs.Lines.{words_of};
 ghost use Rattle.dym_script.specs.Late.{act_of, at_words, commit_words, event_at, event_fault, is_event, is_event_verb, time_of};
 ghost use Rattle.dym_script.specs.LateArrivals.{MayAct};
-ghost use Rattle.dym_lines.specs.Table.{command_of};
+ghost use Rattle.dym_script.specs.Table.{command_of};
 ghost use Rattle.dym_script.specs.Answers.{GivesLine};
 
 use crate::late_script::LateAct;
 use crate::line_fail::LineFail;
+use crate::lines::{next_word, one_word};
+use crate::operands::{number_of, number_to};
+use crate::verb::Verb;
 use dym_base::BadKind;
-use dym_lines::{Verb, next_word, number_of, number_to, one_word};
 use std::alloc::Global;
 
 impl LateAct {

@@ -1,11 +1,11 @@
 //! Tests of a line that need nothing but the line.
 ghost use Rattle.std.specs.Prelude.{◌≡◌};
 ghost use Rattle.std.specs.List.{list_all};
-ghost use Rattle.dym_lines.specs.Lines.{words_of, is_printable};
+ghost use Rattle.dym_script.specs.Lines.{words_of, is_printable};
 ghost use Rattle.dym_script.specs.Scripts.{is_version, name_fault};
 
+use crate::lines::one_word;
 use dym_base::{BadKind, is_name};
-use dym_lines::one_word;
 
 /// Whether a line has only bytes that it may have.
 pub fn is_printable_line(line: &[u8]) -> bool

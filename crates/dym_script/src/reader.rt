@@ -3,12 +3,15 @@ ghost use Rattle.std.specs.Prelude.{◌≡◌, ◌+◌, ◌<◌, ◌≤◌, [], 
 
 use crate::line_fail::LineFail;
 use crate::line_tests::{is_printable_line, is_version, unknown};
+use crate::lines::{next_line, next_word, two_words};
 use crate::name_cache::{FrontName, NameCache, front_name, is_same_name, key_of};
+use crate::operands::number_of;
+use crate::quick::quick_rest;
 use crate::script::Decl;
+use crate::verb::Verb;
 use dym_base::limits::{MOST_LINE_BYTES, MOST_OBJECTS, MOST_QUOTA};
 use dym_base::{BadKind, Name, Version};
 use dym_commands::Asked;
-use dym_lines::{Verb, next_line, next_word, number_of, quick_rest, two_words};
 use std::alloc::{AllocError, Global};
 use std::collections::HashMap;
 
@@ -43,7 +46,7 @@ impl Reader {
     ghost use Rattle.dym_script.specs.Scripts.{start, read_lines, read_line, read_words, say, declare, object_of};
     ghost use Rattle.dym_base.specs.Names.{is_name};
     ghost use Rattle.dym_base.specs.Lines.{lines_of};
-    ghost use Rattle.dym_lines.specs.Lines.{words_of};
+    ghost use Rattle.dym_script.specs.Lines.{words_of};
     ghost use Rattle.dym_script.specs.Readers.{IsValidReader, reading_of, IsWithin, GivesReading, GivesSaid, Declares, Finds, IsNext, GivesNext, Grows};
 
     /// A reader that has read nothing.

@@ -3,7 +3,7 @@
 //!
 //! Below stand `dym_turn`, which runs an object's commands one by one, `dym_pool`, whose workers
 //! take the objects' turns, `dym_prune`, which sweeps, and `dym_view`, by which a work's oldest log
-//! is a commit; above stand `dym_views` and `dym_run`. Its one contract: every work is back once,
+//! is a commit; above stands `dym_run`. Its one contract: every work is back once,
 //! in order, with its origin, and its replies and its object are those of a run of its own commands
 //! (`WavePromise`). Each reader of a work, and whatever takes it apart, ensures what a run of the
 //! first of its commands gives (`JobMeaning`). Jobs of any other kind are run so too

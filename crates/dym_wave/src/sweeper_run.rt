@@ -1,5 +1,5 @@
 //! Jobs that run side by side, while log tables are swept.
-ghost use Rattle.std.specs.Prelude.{◌≡◌, ◌≤◌, true, IfOk, IfErr, OnOk, OnErr, vec_len};
+ghost use Rattle.std.specs.Prelude.{◌≡◌, ◌≤◌, true, false, IfOk, IfErr, OnOk, OnErr, vec_len};
 ghost use Rattle.dym_base.specs.declared.limits.TheConstants.{MOST_OBJECTS, MOST_WORKERS};
 ghost use Rattle.dym_pool.specs.Jobs.{EveryJobBack, Numbered};
 ghost use Rattle.dym_prune.specs.Sweeps.{Pruned};
@@ -47,12 +47,12 @@ pub fn run_with_sweepers<R: Threads + Wait + Send + Sync, J: Job<R>, G: Gate>(
             ensures { Pruned sweepers.entry.items sweepers.exit.items result }
         { pruner(rt, &mut sweepers, &mut ear) },
         &mut || -> Result<(), AllocError>
-            requires { Numbered J.number_of jobs.items × (1 ≤ workers) × (workers ≤ MOST_WORKERS) }
+            requires { Numbered J.number_of jobs.items × (1 ≤ workers) × (workers ≤ MOST_WORKERS) × (asker.asked ≡ false) }
             ensures back { OnOk result (EveryJobBack J.number_of J.left_of J.origin_of jobs.entry.items jobs.exit.items) }
             ensures unchanged { OnErr result (jobs.exit.items ≡ jobs.entry.items) }
             ensures asked { asker.exit.asked ≡ true }
         {
-            let ran = run_in_place(rt, alloc, &mut jobs, workers, gate);
+            let ran = run_in_place(rt, alloc, &mut jobs, workers, gate, &asker);
             asker.ask();
             ran
         },
@@ -63,17 +63,19 @@ pub fn run_with_sweepers<R: Threads + Wait + Send + Sync, J: Job<R>, G: Gate>(
     }
 }
 
-/// Runs all jobs to their ends, in the list in which they are.
+/// Runs all jobs to their ends, in the list in which they are. No one asks the pruner to end before or meanwhile.
 fn run_in_place<R: Threads + Wait + Send + Sync, J: Job<R>, G: Gate>(
     rt: &R,
     alloc: Global,
     jobs: &mut Vec<J>,
     workers: u32,
     gate: &G,
+    _asker: &Asker,
 ) -> Result<(), AllocError>
     requires numbered { Numbered J.number_of jobs.old.items }
     requires some { 1 ≤ workers }
     requires most { workers ≤ MOST_WORKERS }
+    requires unasked { _asker.now.asked ≡ false }
     ensures back { OnOk result (EveryJobBack J.number_of J.left_of J.origin_of jobs.old.items jobs.new.items) }
     ensures unchanged { OnErr result (jobs.new.items ≡ jobs.old.items) }
 {

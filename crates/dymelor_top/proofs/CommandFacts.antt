@@ -33,7 +33,8 @@ pub none_behind : (commands : List Command) (i : ℕ) → length commands ≤ i 
 none_behind commands i all = drop_of_length-le commands all
 
 -- a command that was run is counted
-pub ran_counted : (commands : List Command) (i : ℕ) (old new : ObjectMeaning) (reply : Reply) → i < length commands → IfSome (slice_get commands i) (λ c. Ran old c new reply) → new.ran ≡ old.ran + 1
+pub ran_counted : (commands : List Command) (i : ℕ) (old new : ObjectMeaning) (reply : Reply) → i < length commands
+    → IfSome (slice_get commands i) (λ c. Ran old c new reply) → new.ran ≡ old.ran + 1
 ran_counted commands i old new reply within ran =
     let at = command_at commands i within in
     let did : Ran old at.one new reply = command_fact (λ c. Ran old c new reply) (slice_get commands i) at.one at.is ran in

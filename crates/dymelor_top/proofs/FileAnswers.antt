@@ -26,7 +26,8 @@ both_texts time bytes x y p q =
     let same = one_logs bytes p.head q.head p.logs q.logs p.holds q.holds in
     p.is ∙ (λ i. record { status = 0; text = loaded_text time (same.0 i) (same.1 i) }) ∙ sym q.is
 
-pub one_loaded : (time : Option ℕ) (bytes : List ℕ) (x y : Answer) → IsLoadedText time bytes x ⊎ IsPartFault bytes x → IsLoadedText time bytes y ⊎ IsPartFault bytes y → x ≡ y
+pub one_loaded : (time : Option ℕ) (bytes : List ℕ) (x y : Answer) → IsLoadedText time bytes x ⊎ IsPartFault bytes x
+    → IsLoadedText time bytes y ⊎ IsPartFault bytes y → x ≡ y
 one_loaded time bytes x y (inl p) (inl q) = both_texts time bytes x y p q
 one_loaded time bytes x y (inl p) (inr q) = absurd (no_file bytes p.head p.holds.records q.part p.holds.file q.fails)
 one_loaded time bytes x y (inr p) (inl q) = absurd (no_file bytes q.head q.holds.records p.part q.holds.file p.fails)
@@ -39,7 +40,8 @@ too_long_file time bytes long =
     let test : nat_lt MOST_INPUT_BYTES (length bytes) ≡ true = grind (arith, nat_tests) in
     subst (λ b. MatchBool b (x ≡ fault_answer 0 bad.TooLong) (IsLoadedText time bytes x ⊎ IsPartFault bytes x)) (sym test) refl
 
-pub short_file : (time : Option ℕ) (bytes : List ℕ) (x : Answer) → length bytes ≤ MOST_INPUT_BYTES → IsLoadedText time bytes x ⊎ IsPartFault bytes x → IsLoadAnswer time bytes x
+pub short_file : (time : Option ℕ) (bytes : List ℕ) (x : Answer) → length bytes ≤ MOST_INPUT_BYTES → IsLoadedText time bytes x ⊎ IsPartFault bytes x
+    → IsLoadAnswer time bytes x
 short_file time bytes x short is =
     let test : nat_lt MOST_INPUT_BYTES (length bytes) ≡ false = grind (arith, nat_tests) in
     subst (λ b. MatchBool b (x ≡ fault_answer 0 bad.TooLong) (IsLoadedText time bytes x ⊎ IsPartFault bytes x)) (sym test) is

@@ -18,7 +18,8 @@ use Rattle.dymelor_top.specs.LateParts.{arrivals_by, TookIn, IsOneOf}
 accepted_both : (bound : ℕ) (xs ys : List Arrival) → accepted_after bound (xs ++ ys) ≡ accepted_after bound xs ++ accepted_after (bound_after bound xs) ys
 accepted_both bound [] ys = refl
 accepted_both bound (event e ∷ xs) ys =
-    elim (nat_lt e.time bound) as (λ b. cond b (accepted_after bound (xs ++ ys)) (e ∷ accepted_after bound (xs ++ ys)) ≡ cond b (accepted_after bound xs) (e ∷ accepted_after bound xs) ++ accepted_after (bound_after bound xs) ys) [
+    elim (nat_lt e.time bound) as (λ b. cond b (accepted_after bound (xs ++ ys)) (e ∷ accepted_after bound (xs ++ ys))
+    ≡ cond b (accepted_after bound xs) (e ∷ accepted_after bound xs) ++ accepted_after (bound_after bound xs) ys) [
       | true ↦ accepted_both bound xs ys
       | false ↦ ap (λ l. e ∷ l) (accepted_both bound xs ys)
     ]
@@ -32,7 +33,8 @@ bound_both bound (commit t ∷ xs) ys = bound_both (max bound t) xs ys
 told_onto_push : (before xs : List Arrival) (x : Arrival) → outcome_onto before (xs ++ x ∷ []) ≡ outcome_onto before xs ++ outcome_behind (before ++ xs) x ∷ []
 told_onto_push before [] x = ap (λ l. outcome_behind l x ∷ []) (sym (append-nil before))
 told_onto_push before (y ∷ xs) x =
-    ap (λ l. outcome_behind before y ∷ l) (told_onto_push (before ++ y ∷ []) xs x ∙ ap (λ l. outcome_onto (before ++ y ∷ []) xs ++ outcome_behind l x ∷ []) (append_assoc before (y ∷ []) xs))
+    ap (λ l. outcome_behind before y ∷ l)
+    (told_onto_push (before ++ y ∷ []) xs x ∙ ap (λ l. outcome_onto (before ++ y ∷ []) xs ++ outcome_behind l x ∷ []) (append_assoc before (y ∷ []) xs))
 
 pub told_of_push : (xs : List Arrival) (x : Arrival) → outcome_of (xs ++ x ∷ []) ≡ outcome_of xs ++ outcome_behind xs x ∷ []
 unfolding outcome_of
@@ -48,7 +50,9 @@ took_none old whole = record { events = sym (append-nil old.events); bound = ref
 -- one arrival more
 pub took_more : (old mid new : LateMeaning) (xs : List Arrival) (x : Arrival) → TookIn old mid xs → TookIn mid new (x ∷ []) → TookIn old new (xs ++ x ∷ [])
 took_more old mid new xs x p q = record {
-  events = q.events ∙ (λ i. p.events i ++ accepted_after (p.bound i) (x ∷ [])) ∙ append_assoc old.events (accepted_after old.bound xs) (accepted_after (bound_after old.bound xs) (x ∷ []))
+  events =
+      q.events ∙ (λ i. p.events i ++ accepted_after (p.bound i) (x ∷ []))
+      ∙ append_assoc old.events (accepted_after old.bound xs) (accepted_after (bound_after old.bound xs) (x ∷ []))
       ∙ ap (λ l. old.events ++ l) (sym (accepted_both old.bound xs (x ∷ [])));
   bound = q.bound ∙ ap (λ b. bound_after b (x ∷ [])) p.bound ∙ sym (bound_both old.bound xs (x ∷ []));
   whole = q.whole;
@@ -60,14 +64,17 @@ module _ (old mid : LateMeaning) (none : old.events ≡ []) (zero : old.bound �
   pub events_are : (xs : List Arrival) → TookIn old mid xs → mid.events ≡ accepted xs
   events_are xs p = p.events ∙ (λ i. none i ++ accepted_after (zero i) xs)
 
-  pub told_more : (acts : List LateAct) (act : LateAct) (so_far : List LateOutcome) (became : LateOutcome) → TookIn old mid (arrivals_by acts) → so_far ≡ outcome_of (arrivals_by acts)
+  pub told_more : (acts : List LateAct) (act : LateAct) (so_far : List LateOutcome) (became : LateOutcome) → TookIn old mid (arrivals_by acts)
+      → so_far ≡ outcome_of (arrivals_by acts)
       → became ≡ outcome_at mid.bound (length mid.events) (arrival act) → so_far ++ became ∷ [] ≡ outcome_of (arrivals_by (acts ++ act ∷ []))
   told_more acts act so_far became p are is =
       let xs : List Arrival = arrivals_by acts in
-      let now : became ≡ outcome_behind xs (arrival act) = is ∙ (λ i. outcome_at ((p.bound ∙ ap (λ b. bound_after b xs) zero) i) (length (events_are xs p i)) (arrival act)) in
+      let now : became ≡ outcome_behind xs (arrival act) =
+      is ∙ (λ i. outcome_at ((p.bound ∙ ap (λ b. bound_after b xs) zero) i) (length (events_are xs p i)) (arrival act)) in
       (λ i. are i ++ now i ∷ []) ∙ sym (told_of_push xs (arrival act)) ∙ ap outcome_of (sym (arrivals_push acts act))
 
-pub took_push : (old mid new : LateMeaning) (acts : List LateAct) (act : LateAct) → TookIn old mid (arrivals_by acts) → TookIn mid new (arrival act ∷ []) → TookIn old new (arrivals_by (acts ++ act ∷ []))
+pub took_push : (old mid new : LateMeaning) (acts : List LateAct) (act : LateAct) → TookIn old mid (arrivals_by acts) → TookIn mid new (arrival act ∷ [])
+    → TookIn old new (arrivals_by (acts ++ act ∷ []))
 took_push old mid new acts act p q = subst (TookIn old new) (sym (arrivals_push acts act)) (took_more old mid new (arrivals_by acts) (arrival act) p q)
 
 -- room for the events that are left
@@ -89,7 +96,8 @@ count_cons act acts =
 pub room_now : (n most : ℕ) (act : LateAct) (acts : List LateAct) → n + count_by is_event (act ∷ acts) ≤ most → n + count_by is_event (act ∷ []) ≤ most
 room_now n most act acts few = omega (arith, few, count_cons act acts)
 
-pub room_later : (old new : LateMeaning) (most : ℕ) (act : LateAct) (acts : List LateAct) → length old.events + count_by is_event (act ∷ acts) ≤ most → TookIn old new (arrival act ∷ [])
+pub room_later : (old new : LateMeaning) (most : ℕ) (act : LateAct) (acts : List LateAct) → length old.events + count_by is_event (act ∷ acts) ≤ most
+    → TookIn old new (arrival act ∷ [])
     → length new.events + count_by is_event acts ≤ most
 room_later old new most act acts few p =
     omega (arith, few, count_cons act acts, ap length p.events, length-append old.events (accepted_after old.bound (arrival act ∷ [])), accepted_one old.bound act)
@@ -99,7 +107,8 @@ room_later old new most act acts few p =
 one_of_all : (before more : List Arrival) (x : Arrival) → IsOneOf (length (accepted (before ++ x ∷ more))) (outcome_behind before x)
 one_of_all before more (event e) =
     let grown = ap length (accepted_both 0 before (event e ∷ more)) in
-    elim (nat_lt e.time (bound_after 0 before)) as (λ b. length (accepted (before ++ event e ∷ more)) ≡ length (accepted before ++ cond b (accepted_after (bound_after 0 before) more) (e ∷ accepted_after (bound_after 0 before) more))
+    elim (nat_lt e.time (bound_after 0 before)) as (λ b. length (accepted (before ++ event e ∷ more))
+    ≡ length (accepted before ++ cond b (accepted_after (bound_after 0 before) more) (e ∷ accepted_after (bound_after 0 before) more))
     → IsOneOf (length (accepted (before ++ event e ∷ more))) (cond b (outcome.Early (bound_after 0 before)) (outcome.Accepted (length (accepted before))))) [
       | true ↦ λ is. tt
       | false ↦ λ is. omega (arith, is, length-append (accepted before) (e ∷ accepted_after (bound_after 0 before) more))
@@ -110,7 +119,8 @@ ones_onto : (before xs : List Arrival) → All (IsOneOf (length (accepted (befor
 ones_onto before [] = All-nil (IsOneOf (length (accepted (before ++ []))))
 ones_onto before (x ∷ xs) =
     All-cons (IsOneOf (length (accepted (before ++ x ∷ xs)))) (outcome_behind before x) (outcome_onto (before ++ x ∷ []) xs) (one_of_all before xs x)
-    (subst (λ (l : List Arrival). All (IsOneOf (length (accepted l))) (outcome_onto (before ++ x ∷ []) xs)) (append_assoc before (x ∷ []) xs) (ones_onto (before ++ x ∷ []) xs))
+    (subst (λ (l : List Arrival). All (IsOneOf (length (accepted l))) (outcome_onto (before ++ x ∷ []) xs)) (append_assoc before (x ∷ []) xs)
+    (ones_onto (before ++ x ∷ []) xs))
 
 pub ones_of : (xs : List Arrival) → All (IsOneOf (length (accepted xs))) (outcome_of xs)
 unfolding outcome_of

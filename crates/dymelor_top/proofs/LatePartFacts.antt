@@ -19,14 +19,19 @@ use Rattle.dymelor_top.specs.LateParts.{arrivals_by, late_part_text, acts_of, Ea
 -- what a line more says
 
 acts_of_push : (lines : List LateLine) (line : LateLine) (k : ℕ) → acts_of (lines ++ line ∷ []) k ≡ acts_of lines k ++ cond (line.object == k) (line.act ∷ []) []
-acts_of_push [] line k = elim (line.object == k) as (λ b. map (λ (l : LateLine). l.act) (cond b (line ∷ []) []) ≡ cond b (line.act ∷ []) []) [ true ↦ refl | false ↦ refl ]
-acts_of_push (l ∷ ls) line k = elim (l.object == k) as (λ b. map (λ (m : LateLine). m.act) (cond b (l ∷ filter (λ m. m.object == k) (ls ++ line ∷ [])) (filter (λ m. m.object == k) (ls ++ line ∷ []))) ≡ map (λ m. m.act) (cond b (l ∷ filter (λ m. m.object == k) ls) (filter (λ m. m.object == k) ls)) ++ cond (line.object == k) (line.act ∷ []) []) [
-  | true ↦ ap (λ outcome. l.act ∷ outcome) (acts_of_push ls line k)
-  | false ↦ acts_of_push ls line k
-]
+acts_of_push [] line k =
+    elim (line.object == k) as (λ b. map (λ (l : LateLine). l.act) (cond b (line ∷ []) []) ≡ cond b (line.act ∷ []) []) [ true ↦ refl | false ↦ refl ]
+acts_of_push (l ∷ ls) line k =
+    elim (l.object == k) as (λ b. map (λ (m : LateLine). m.act)
+    (cond b (l ∷ filter (λ m. m.object == k) (ls ++ line ∷ [])) (filter (λ m. m.object == k) (ls ++ line ∷ [])))
+    ≡ map (λ m. m.act) (cond b (l ∷ filter (λ m. m.object == k) ls) (filter (λ m. m.object == k) ls)) ++ cond (line.object == k) (line.act ∷ []) []) [
+      | true ↦ ap (λ outcome. l.act ∷ outcome) (acts_of_push ls line k)
+      | false ↦ acts_of_push ls line k
+    ]
 
 -- the part of the line's object gains it, and the others stay
-acts_more : (parts : List LatePart) (line : LateLine) (old new : LatePart) (lines : List LateLine) → line.object < length parts → old ≡ get_or parts line.object old → new.acts.items ≡ old.acts.items ++ line.act ∷ []
+acts_more : (parts : List LatePart) (line : LateLine) (old new : LatePart) (lines : List LateLine) → line.object < length parts → old ≡ get_or parts line.object old
+    → new.acts.items ≡ old.acts.items ++ line.act ∷ []
     → EachHasActs parts lines → EachHasActs (set parts line.object new) (lines ++ line ∷ [])
 acts_more parts line old new lines inside at pushed has k d small =
     elim (line.object == k) as (λ b. (line.object == k) ≡ b → (get_or (set parts line.object new) k d).acts.items ≡ acts_of (lines ++ line ∷ []) k) [
@@ -41,7 +46,8 @@ acts_more parts line old new lines inside at pushed has k d small =
           ∙ sym (acts_of_push lines line k ∙ ap (λ b. acts_of lines k ++ cond b (line.act ∷ []) []) other ∙ append-nil (acts_of lines k))
     ] refl
 
-pub parts_more : (parts : List LatePart) (objects : List Decl) (line : LateLine) (old new : LatePart) (lines : List LateLine) → line.object < length parts → old ≡ get_or parts line.object old → new.decl ≡ old.decl → new.acts.items ≡ old.acts.items ++ line.act ∷ []
+pub parts_more : (parts : List LatePart) (objects : List Decl) (line : LateLine) (old new : LatePart) (lines : List LateLine) → line.object < length parts
+    → old ≡ get_or parts line.object old → new.decl ≡ old.decl → new.acts.items ≡ old.acts.items ++ line.act ∷ []
     → AreLateParts parts objects lines → AreLateParts (set parts line.object new) objects (lines ++ line ∷ [])
 parts_more parts objects line old new lines inside at same pushed are = record {
   decls = map-set_same (λ (part : LatePart). part.decl) parts line.object new old (same ∙ ap (λ (p : LatePart). p.decl) at) ∙ are.decls;
@@ -49,7 +55,8 @@ parts_more parts objects line old new lines inside at same pushed are = record {
 }
 
 -- no line yet
-pub parts_silent : (parts : List LatePart) (objects : List Decl) → map (λ part. part.decl) parts ≡ objects → All (λ part. part.acts.items ≡ []) parts → AreLateParts parts objects []
+pub parts_silent : (parts : List LatePart) (objects : List Decl) → map (λ part. part.decl) parts ≡ objects → All (λ part. part.acts.items ≡ []) parts
+    → AreLateParts parts objects []
 parts_silent parts objects decls silent = record { decls = decls; acts = λ k d within. silent k d within }
 
 -- so many are the parts
@@ -60,15 +67,18 @@ many_parts parts objects lines are = sym (length-map parts (λ (p : LatePart). p
 
 arrivals_are : (lines : List LateLine) (k : ℕ) → arrivals_by (acts_of lines k) ≡ arrivals_of lines k
 arrivals_are [] k = refl
-arrivals_are (l ∷ ls) k = elim (l.object == k) as (λ b. map (λ a. arrival a) (map (λ (m : LateLine). m.act) (cond b (l ∷ filter (λ m. m.object == k) ls) (filter (λ m. m.object == k) ls))) ≡ map (λ m. arrival m.act) (cond b (l ∷ filter (λ m. m.object == k) ls) (filter (λ m. m.object == k) ls))) [
-  | true ↦ ap (λ outcome. arrival l.act ∷ outcome) (arrivals_are ls k)
-  | false ↦ arrivals_are ls k
-]
+arrivals_are (l ∷ ls) k =
+    elim (l.object == k) as (λ b. map (λ a. arrival a) (map (λ (m : LateLine). m.act) (cond b (l ∷ filter (λ m. m.object == k) ls) (filter (λ m. m.object == k) ls)))
+    ≡ map (λ m. arrival m.act) (cond b (l ∷ filter (λ m. m.object == k) ls) (filter (λ m. m.object == k) ls))) [
+      | true ↦ ap (λ outcome. arrival l.act ∷ outcome) (arrivals_are ls k)
+      | false ↦ arrivals_are ls k
+    ]
 
 events_are : (lines : List LateLine) (k : ℕ) → count_by is_event (acts_of lines k) ≡ events_of lines k
 events_are [] k = refl
 events_are (l ∷ ls) k =
-    elim (l.object == k) as (λ b. count_by is_event (map (λ (m : LateLine). m.act) (cond b (l ∷ filter (λ m. m.object == k) ls) (filter (λ m. m.object == k) ls))) ≡ cond (b && is_event l.act) 1 0 + events_of ls k) [
+    elim (l.object == k) as (λ b. count_by is_event (map (λ (m : LateLine). m.act) (cond b (l ∷ filter (λ m. m.object == k) ls) (filter (λ m. m.object == k) ls)))
+    ≡ cond (b && is_event l.act) 1 0 + events_of ls k) [
       | true ↦ sum_by-cons (λ a. cond (is_event a) 1 0) l.act (acts_of ls k) ∙ ap (λ n. cond (is_event l.act) 1 0 + n) (events_are ls k)
       | false ↦ omega (arith, events_are ls k)
     ]
@@ -76,10 +86,11 @@ events_are (l ∷ ls) k =
 
 may_act : (lines : List LateLine) (k : ℕ) → All (λ line. MayAct line.act) lines → All MayAct (acts_of lines k)
 may_act [] k all = All-nil MayAct
-may_act (l ∷ ls) k all = elim (l.object == k) as (λ b. All MayAct (map (λ (m : LateLine). m.act) (cond b (l ∷ filter (λ m. m.object == k) ls) (filter (λ m. m.object == k) ls)))) [
-  | true ↦ All-cons MayAct l.act (acts_of ls k) (All-head (λ (m : LateLine). MayAct m.act) l ls all) (may_act ls k (All-tail (λ (m : LateLine). MayAct m.act) l ls all))
-  | false ↦ may_act ls k (All-tail (λ (m : LateLine). MayAct m.act) l ls all)
-]
+may_act (l ∷ ls) k all =
+    elim (l.object == k) as (λ b. All MayAct (map (λ (m : LateLine). m.act) (cond b (l ∷ filter (λ m. m.object == k) ls) (filter (λ m. m.object == k) ls)))) [
+      | true ↦ All-cons MayAct l.act (acts_of ls k) (All-head (λ (m : LateLine). MayAct m.act) l ls all) (may_act ls k (All-tail (λ (m : LateLine). MayAct m.act) l ls all))
+      | false ↦ may_act ls k (All-tail (λ (m : LateLine). MayAct m.act) l ls all)
+    ]
 
 decl_at : (parts : List LatePart) (k : ℕ) (d : LatePart) → get_or (map (λ (p : LatePart). p.decl) parts) k d.decl ≡ (get_or parts k d).decl
 decl_at parts k d = get_or-map (λ (p : LatePart). p.decl) parts k d
@@ -114,7 +125,8 @@ has_all lines parts has j d within = has j d within ∙ ap (acts_of lines) zero_
     zero_first : j ≡ 0 + j
     zero_first = omega arith
 
-texts_from : (lines : List LateLine) (k : ℕ) (parts : List LatePart) → HasFrom lines k parts → flat_map late_part_text parts ≡ late_parts_from lines k (map (λ (p : LatePart). p.decl) parts)
+texts_from : (lines : List LateLine) (k : ℕ) (parts : List LatePart) → HasFrom lines k parts
+    → flat_map late_part_text parts ≡ late_parts_from lines k (map (λ (p : LatePart). p.decl) parts)
 texts_from lines k [] has = refl
 texts_from lines k (p ∷ ps) has =
     let first : p.acts.items ≡ acts_of lines k = has 0 p (omega arith) ∙ ap (acts_of lines) (add-zero k) in

@@ -20,9 +20,11 @@ late_part_is : (name : List ℕ) (quota : ℕ) (xs : List Arrival) (events : Lis
     → late_part name quota xs ≡ (heading name ++ flat_map (outcome_text quota events) lines) ++ late_end One (late_heap One quota events).live (replayed events)
 unfolding late_part
 late_part_is name quota xs events lines events_are lines_are =
-    λ i. (heading name ++ flat_map (outcome_text quota (sym events_are i)) (sym lines_are i)) ++ late_end One (late_heap One quota (sym events_are i)).live (replayed (sym events_are i))
+    λ i. (heading name ++ flat_map (outcome_text quota (sym events_are i)) (sym lines_are i))
+    ++ late_end One (late_heap One quota (sym events_are i)).live (replayed (sym events_are i))
 
-module _ (old new : LateMeaning) (name : List ℕ) (xs : List Arrival) (none : old.events ≡ []) (zero : old.bound ≡ 0) (took : TookIn old new xs) (lines : List LateOutcome) (are : lines ≡ outcome_of xs) where
+module _ (old new : LateMeaning) (name : List ℕ) (xs : List Arrival) (none : old.events ≡ []) (zero : old.bound ≡ 0) (took : TookIn old new xs)
+    (lines : List LateOutcome) (are : lines ≡ outcome_of xs) where
   -- each accepted event that a line tells of has its reply
   pub ones_there : All (IsOneOf (length new.events)) lines
   ones_there =
@@ -39,4 +41,5 @@ module _ (old new : LateMeaning) (name : List ℕ) (xs : List Arrival) (none : o
       ≡ (heading name ++ flat_map (outcome_text new.heap.quota new.events) lines) ++ late_end heap.version heap.state.live count
   part_whole heap count late same counted =
       let front : List ℕ = heading name ++ flat_map (outcome_text new.heap.quota new.events) lines in
-      part_by_heap ∙ (λ i. front ++ late_end (sym late.version i) (sym late.live i) (sym counted i)) ∙ (λ i. front ++ late_end (sym same i).version (sym same i).state.live count)
+      part_by_heap ∙ (λ i. front ++ late_end (sym late.version i) (sym late.live i) (sym counted i))
+      ∙ (λ i. front ++ late_end (sym same i).version (sym same i).state.live count)

@@ -2,8 +2,6 @@ pub mod ObjectText
 pub mod PassedOn
 pub mod CommandFacts
 pub mod PartFacts
-pub mod MadePlans
-pub mod StillPlans
 pub mod WaveFacts
 pub mod FileAnswers
 pub mod SavedFacts

@@ -28,7 +28,8 @@ as_restored v quota name s e time reply kept records after replied same_kept sam
 
 -- of what was made of a file this is what the file's header and logs say
 pub of_file : (time : Option ℕ) (bytes : List ℕ) (loaded : Loaded) (is : IsLoaded bytes loaded)
-    → restored_text loaded.heap.version loaded.heap.quota loaded.name (object_of loaded.heap.state loaded.chain) time ++ end_text ≡ loaded_text time is.head loaded.chain.logs
+    → restored_text loaded.heap.version loaded.heap.quota loaded.name (object_of loaded.heap.state loaded.chain) time ++ end_text
+    ≡ loaded_text time is.head loaded.chain.logs
 of_file time bytes loaded is = λ i. restored_text (is.heap i).version (is.heap i).quota (is.name i) (object_of (is.heap i).state loaded.chain) time ++ end_text
 
 -- and it is the answer to these bytes

@@ -12,8 +12,7 @@ use Rattle.dym_script.specs.Scripts.{Said, own}
 use Rattle.dym_script.specs.Answers.{IsLawful}
 use Rattle.dym_script.specs.Parts.{EachHas}
 use Rattle.dym_run.specs.Results.{parts_text}
-use Rattle.dym_run.specs.Parts.{own_of, IsRunnable}
-use Rattle.dym_run.specs.Report.{own_from, objects_of, part_text, report_text}
+use Rattle.dym_report.specs.Report.{own_of, IsRunnable, own_from, objects_of, part_text, report_text}
 use Rattle.dym_report.specs.Orders.{end_text}
 use Rattle.dym_run.specs.Views.{viewed_part, views_text}
 use Rattle.dymelor_top.specs.Answers.{outcome_text}
@@ -59,7 +58,8 @@ module _ (object : ℕ) where
   own_few : (lines : List Line) → length (map (λ (line : Line). line.command) (filter (λ line. line.object == object) lines)) ≤ length lines
   own_few [] = omega arith
   own_few (x ∷ xs) =
-      elim (x.object == object) as (λ b. length (map (λ (line : Line). line.command) (cond b (x ∷ filter (λ line. line.object == object) xs) (filter (λ line. line.object == object) xs))) ≤ suc (length xs)) [
+      elim (x.object == object) as (λ b. length
+      (map (λ (line : Line). line.command) (cond b (x ∷ filter (λ line. line.object == object) xs) (filter (λ line. line.object == object) xs))) ≤ suc (length xs)) [
         | true ↦ omega (arith, own_few xs)
         | false ↦ omega (arith, own_few xs)
       ]
@@ -85,19 +85,21 @@ parts_run s parts decls owns lawful k d within =
     }
 
 -- the report of a script that was read into its parts
-pub report_of_parts : (script : WholeScript PartCollector) (s : Said) → IsByObjects script s → report_text s ≡ flat_map (λ part. part_text script.version (own_of part)) script.kept.parts.items ++ end_text
+pub report_of_parts : (script : WholeScript PartCollector) (s : Said) (parts : List Part) → IsByObjects script s → parts ≡ script.kept.parts.items
+    → report_text s ≡ flat_map (λ part. part_text script.version (own_of part)) parts ++ end_text
 unfolding report_text
-report_of_parts script s are =
+report_of_parts script s parts are all =
     let ps : List Part = script.kept.parts.items in
     ap (λ l. l ++ end_text) (ap (flat_map (part_text s.version)) (sym (parts_are_objects s ps are.keeps.decls are.keeps.commands)) ∙ sym (texts_of_parts s.version ps))
-    ∙ ap (λ v. flat_map (λ part. part_text v (own_of part)) ps ++ end_text) are.version
+    ∙ (λ i. flat_map (λ part. part_text (are.version i) (own_of part)) (sym all i) ++ end_text)
 
 -- the same with the views
 viewed_of_parts : (v : Version) (parts : List Part) → flat_map (λ part. viewed_part v (own_of part)) parts ≡ flat_map (viewed_part v) (map own_of parts)
 viewed_of_parts v [] = refl
 viewed_of_parts v (p ∷ ps) = ap (λ l. viewed_part v (own_of p) ++ l) (viewed_of_parts v ps)
 
-pub views_of_parts : (script : WholeScript PartCollector) (s : Said) → IsByObjects script s → views_text s ≡ flat_map (λ part. viewed_part script.version (own_of part)) script.kept.parts.items ++ end_text
+pub views_of_parts : (script : WholeScript PartCollector) (s : Said) → IsByObjects script s
+    → views_text s ≡ flat_map (λ part. viewed_part script.version (own_of part)) script.kept.parts.items ++ end_text
 unfolding views_text
 views_of_parts script s are =
     let ps : List Part = script.kept.parts.items in
@@ -113,4 +115,5 @@ plain_texts v (p ∷ parts) = λ i. append-nil (part_text v (own_of p)) i ++ pla
 pub told_of_parts : (views : Bool) (script : WholeScript PartCollector) (s : Said) → IsByObjects script s
     → outcome_text views s ≡ parts_text (record { version = script.version; views = views }) script.kept.parts.items ++ end_text
 told_of_parts true script s are = views_of_parts script s are
-told_of_parts false script s are = report_of_parts script s are ∙ ap (λ l. l ++ end_text) (sym (plain_texts script.version script.kept.parts.items))
+told_of_parts false script s are =
+    report_of_parts script s script.kept.parts.items are refl ∙ ap (λ l. l ++ end_text) (sym (plain_texts script.version script.kept.parts.items))

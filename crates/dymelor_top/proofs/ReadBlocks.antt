@@ -34,7 +34,8 @@ pub drained_none : (pulled : ℕ) (s : Option (List ℕ)) (faults : ℕ) (G : Ty
 drained_none pulled s faults G within on = record { got = []; taken = Consumes-nil s; count = omega arith; within = omega (arith, within); faults = refl; more = on }
 
 -- a pull took more
-pub drained_more : (pulled : ℕ) (a b c : Option (List ℕ)) (f g h : ℕ) (G H : Type 0) (all n : ℕ) (out : List ℕ) → DrainedSoFar pulled a b f g G all → Consumes b c (take n out) → n ≤ length out → all + n ≤ MOST_INPUT_BYTES + 1 → h ≡ g → H
+pub drained_more : (pulled : ℕ) (a b c : Option (List ℕ)) (f g h : ℕ) (G H : Type 0) (all n : ℕ) (out : List ℕ) → DrainedSoFar pulled a b f g G all
+    → Consumes b c (take n out) → n ≤ length out → all + n ≤ MOST_INPUT_BYTES + 1 → h ≡ g → H
     → DrainedSoFar pulled a c f h H (all + n)
 drained_more pulled a b c f g h G H all n out so taken enough within calm on = record {
   got = so.got ++ take n out;
@@ -52,7 +53,8 @@ out_at_end n all (Some xs) None c got out before at_end none taken = absurd befo
 out_at_end n all (Some xs) (Some ys) None got out before at_end none taken = absurd taken
 out_at_end n all (Some xs) (Some ys) (Some zs) got out before at_end none taken = inl (sym (taken ∙ ap (λ k. take k out ++ zs) none) ∙ at_end.0 none)
 
-pub drained_end : (pulled : ℕ) (a b c : Option (List ℕ)) (f g : ℕ) (G : Type 0) (all n : ℕ) (out : List ℕ) → DrainedSoFar pulled a b f g G all → IsEmptyAtEnd b n → n ≡ 0 → Consumes b c (take n out) → IsDrained pulled a c all
+pub drained_end : (pulled : ℕ) (a b c : Option (List ℕ)) (f g : ℕ) (G : Type 0) (all n : ℕ) (out : List ℕ) → DrainedSoFar pulled a b f g G all → IsEmptyAtEnd b n
+    → n ≡ 0 → Consumes b c (take n out) → IsDrained pulled a c all
 drained_end pulled a b c f g G all n out so at_end none taken = record {
   got = so.got ++ take n out;
   taken = Consumes-trans a b c so.got (take n out) so.taken taken;
@@ -67,7 +69,8 @@ out_at_limit all None b full = tt
 out_at_limit all (Some xs) None full = tt
 out_at_limit all (Some xs) (Some ys) full = inr full
 
-pub drained_full : (pulled : ℕ) (a b : Option (List ℕ)) (f g : ℕ) (G : Type 0) (all : ℕ) → DrainedSoFar pulled a b f g G all → MOST_INPUT_BYTES < all → IsDrained pulled a b all
+pub drained_full : (pulled : ℕ) (a b : Option (List ℕ)) (f g : ℕ) (G : Type 0) (all : ℕ) → DrainedSoFar pulled a b f g G all → MOST_INPUT_BYTES < all
+    → IsDrained pulled a b all
 drained_full pulled a b f g G all so long = record {
   got = so.got;
   taken = so.taken;
@@ -83,7 +86,8 @@ pub took_before : (most n : ℕ) (a b c : Option (List ℕ)) (got : List ℕ) �
 took_before most n a b c got taken len few kept = record { got = got; taken = Consumes-kept a b c got taken kept; few = omega (arith, len, few) }
 
 -- it took these bytes, and so many at most behind them
-pub took_both : (most n more : ℕ) (a b c : Option (List ℕ)) (got : List ℕ) → Consumes a b got → length got ≡ n → n + more ≤ most → TookAtMost more b c → TookAtMost most a c
+pub took_both : (most n more : ℕ) (a b c : Option (List ℕ)) (got : List ℕ) → Consumes a b got → length got ≡ n → n + more ≤ most → TookAtMost more b c
+    → TookAtMost most a c
 took_both most n more a b c got taken len few then = record {
   got = got ++ then.got;
   taken = Consumes-trans a b c got then.got taken then.taken;
@@ -105,7 +109,8 @@ gives_says : (Gives : Result Said Fault → Type 0) (bytes : List ℕ) → lengt
 gives_says Gives bytes short gives = subst Gives (sym (script_says bytes short)) gives
 
 -- behind a bad line the source was read out, and the bytes aren't too many
-pub fault_told : (pulled line all : ℕ) (kind : BadKind) (front : List ℕ) (a b : Option (List ℕ)) → IsDrained pulled a b all → all ≤ MOST_INPUT_BYTES → length front ≡ pulled → IsFaultOf front line kind → TakesBytes front a b (FailsSo (fail.Bad line kind))
+pub fault_told : (pulled line all : ℕ) (kind : BadKind) (front : List ℕ) (a b : Option (List ℕ)) → IsDrained pulled a b all → all ≤ MOST_INPUT_BYTES
+    → length front ≡ pulled → IsFaultOf front line kind → TakesBytes front a b (FailsSo (fail.Bad line kind))
 fault_told pulled line all kind front a b drained short long faulty =
     let len : length (front ++ drained.got) ≡ all = omega (arith, drained.count, long, length-append front drained.got) in
     record {
@@ -117,7 +122,8 @@ fault_told pulled line all kind front a b drained short long faulty =
     }
 
 -- or they are
-pub long_told : (pulled all : ℕ) (front : List ℕ) (a b : Option (List ℕ)) → IsDrained pulled a b all → MOST_INPUT_BYTES < all → length front ≡ pulled → TakesBytes front a b (FailsSo (fail.Bad 0 bad.TooLong))
+pub long_told : (pulled all : ℕ) (front : List ℕ) (a b : Option (List ℕ)) → IsDrained pulled a b all → MOST_INPUT_BYTES < all → length front ≡ pulled
+    → TakesBytes front a b (FailsSo (fail.Bad 0 bad.TooLong))
 long_told pulled all front a b drained big long =
     let len : length (front ++ drained.got) ≡ all = omega (arith, drained.count, long, length-append front drained.got) in
     record {
@@ -150,7 +156,9 @@ read_none Takes s faults left none took = record {
 }
 
 -- the source has no more: what is left is the last piece
-pub read_end : (a b c : Option (List ℕ)) (f g n pulled : ℕ) (Takes : List ℕ → Type 0) (left out : List ℕ) (Gives : Result Said Fault → Type 0) (so : ReadSoFar a b f g Takes left pulled) → IsEmptyAtEnd b n → n ≡ 0 → Consumes b c (take n out)
+pub read_end : (a b c : Option (List ℕ)) (f g n pulled : ℕ) (Takes : List ℕ → Type 0) (left out : List ℕ) (Gives : Result Said Fault → Type 0)
+    (so : ReadSoFar a b f g Takes left pulled)
+    → IsEmptyAtEnd b n → n ≡ 0 → Consumes b c (take n out)
     → ((taken : List ℕ) → Takes taken → Gives (says (taken ++ left))) → TakesBytes [] a c Gives
 read_end a b c f g n pulled Takes left out Gives so at_end none taken gives =
     let got = so.taken ++ left in
@@ -171,19 +179,22 @@ pub record PulledBehind (a c : Option (List ℕ)) (Takes : List ℕ → Type 0) 
   pub consumed : Consumes a c (taken ++ text)
   pub count : length taken + length text ≡ pulled
 
-pub pulled_behind : (a b c : Option (List ℕ)) (f g n k pulled : ℕ) (Takes : List ℕ → Type 0) (old new : List ℕ) → ReadSoFar a b f g Takes (take k old) pulled → take k new ≡ take k old → Consumes b c (take n (drop k new)) → k + n ≤ length new
+pub pulled_behind : (a b c : Option (List ℕ)) (f g n k pulled : ℕ) (Takes : List ℕ → Type 0) (old new : List ℕ) → ReadSoFar a b f g Takes (take k old) pulled
+    → take k new ≡ take k old → Consumes b c (take n (drop k new)) → k + n ≤ length new
     → PulledBehind a c Takes (take (k + n) new) (pulled + n)
 pulled_behind a b c f g n k pulled Takes old new so kept taken enough =
     let text : take (k + n) new ≡ take k old ++ take n (drop k new) = take-add k n new ∙ ap (λ l. l ++ take n (drop k new)) kept in
     record {
       taken = so.taken;
       took = so.took;
-      consumed = subst (Consumes a c) (append_assoc so.taken (take k old) (take n (drop k new)) ∙ ap (λ l. so.taken ++ l) (sym text)) (Consumes-trans a b c (so.taken ++ take k old) (take n (drop k new)) so.consumed taken);
+      consumed = subst (Consumes a c) (append_assoc so.taken (take k old) (take n (drop k new)) ∙ ap (λ l. so.taken ++ l) (sym text))
+          (Consumes-trans a b c (so.taken ++ take k old) (take n (drop k new)) so.consumed taken);
       count = omega (arith, so.count, ap length text, length-append (take k old) (take n (drop k new)), length-take n (drop k new), length-drop k new);
     }
 
 -- so many bytes were pulled that the input is too long
-pub pulled_long : (a c : Option (List ℕ)) (Takes : List ℕ → Type 0) (text : List ℕ) (pulled : ℕ) → PulledBehind a c Takes text pulled → MOST_INPUT_BYTES < pulled → pulled ≤ MOST_INPUT_BYTES + 1 → TakesBytes [] a c (FailsSo (fail.Bad 0 bad.TooLong))
+pub pulled_long : (a c : Option (List ℕ)) (Takes : List ℕ → Type 0) (text : List ℕ) (pulled : ℕ) → PulledBehind a c Takes text pulled → MOST_INPUT_BYTES < pulled
+    → pulled ≤ MOST_INPUT_BYTES + 1 → TakesBytes [] a c (FailsSo (fail.Bad 0 bad.TooLong))
 pulled_long a c Takes text pulled so big within =
     let got = so.taken ++ text in
     let len : length got ≡ pulled = omega (arith, so.count, length-append so.taken text) in
@@ -196,7 +207,8 @@ pulled_long a c Takes text pulled so big within =
     }
 
 -- the ended lines of the text were read
-pub read_more : (a c : Option (List ℕ)) (f g : ℕ) (Takes TakesNow : List ℕ → Type 0) (text left : List ℕ) (n pulled : ℕ) → PulledBehind a c Takes text pulled → pulled ≤ MOST_INPUT_BYTES → g ≡ f → TakesPiece Takes TakesNow text (Ok n) → left ≡ drop (length text - n) text
+pub read_more : (a c : Option (List ℕ)) (f g : ℕ) (Takes TakesNow : List ℕ → Type 0) (text left : List ℕ) (n pulled : ℕ) → PulledBehind a c Takes text pulled
+    → pulled ≤ MOST_INPUT_BYTES → g ≡ f → TakesPiece Takes TakesNow text (Ok n) → left ≡ drop (length text - n) text
     → ReadSoFar a c f g TakesNow left pulled
 read_more a c f g Takes TakesNow text left n pulled so within faults takes is =
     let front = take (length text - n) text in
@@ -216,7 +228,8 @@ out_since n (Some xs) None c got taken out = absurd taken
 out_since n (Some xs) (Some ys) c got taken out = out
 
 -- a line of the text is bad, and the rest was read
-pub read_bad : (a b c : Option (List ℕ)) (Takes TakesNow : List ℕ → Type 0) (text : List ℕ) (pulled line : ℕ) (kind : BadKind) (failed : ScriptFail) → PulledBehind a b Takes text pulled → TakesPiece Takes TakesNow text (Err (fail.Bad line kind))
+pub read_bad : (a b c : Option (List ℕ)) (Takes TakesNow : List ℕ → Type 0) (text : List ℕ) (pulled line : ℕ) (kind : BadKind) (failed : ScriptFail)
+    → PulledBehind a b Takes text pulled → TakesPiece Takes TakesNow text (Err (fail.Bad line kind))
     → ((front : List ℕ) → length front ≡ pulled → IsFaultOf front line kind → TakesBytes front b c (FailsSo failed)) → TakesBytes [] a c (FailsSo failed)
 read_bad a b c Takes TakesNow text pulled line kind failed so takes outcome =
     let front = so.taken ++ text in
@@ -237,11 +250,13 @@ same_gives Gives read all (inl same) gives = subst (λ l. Gives (script_of l)) s
 same_gives Gives read all (inr long) gives = subst Gives (too_long read long.0 ∙ sym (too_long all long.1)) gives
 
 -- the input was read as far as must be, and what it says is known
-pub told_input : (n : ℕ) (old new : Option (List ℕ)) (Gives : Result Said Fault → Type 0) (all : List ℕ) → n ≡ MOST_INPUT_BYTES + 1 → old ≡ Some all → TakesBytes [] old new Gives → (new ≡ Some (drop n all)) × Gives (script_of all)
+pub told_input : (n : ℕ) (old new : Option (List ℕ)) (Gives : Result Said Fault → Type 0) (all : List ℕ) → n ≡ MOST_INPUT_BYTES + 1 → old ≡ Some all
+    → TakesBytes [] old new Gives → (new ≡ Some (drop n all)) × Gives (script_of all)
 told_input n old new Gives all limit known tells =
     outcome new (subst (λ l. Consumes l new tells.got) known tells.taken) (subst (λ l. IsReadOut l new (length tells.got)) known tells.out)
   where
-    outcome : (left : Option (List ℕ)) → Consumes (Some all) left tells.got → IsReadOut (Some all) left (length tells.got) → (left ≡ Some (drop n all)) × Gives (script_of all)
+    outcome : (left : Option (List ℕ)) → Consumes (Some all) left tells.got → IsReadOut (Some all) left (length tells.got)
+        → (left ≡ Some (drop n all)) × Gives (script_of all)
     outcome None taken out = absurd taken
     outcome (Some more) taken out =
         let so = read_so n all tells.got more limit taken (omega (arith, limit, tells.within)) (elim out [ inl none ↦ inl none | inr full ↦ inr (full ∙ sym limit) ]) in
@@ -256,21 +271,25 @@ kept_end block end rest within inside =
     let last : List ℕ = drop at block in
     let same : end - at ≡ rest = omega (arith, within) in
     let sum : at + rest ≡ end = omega (arith, within) in
-    ap (λ n. take rest (paste block 0 last n)) same ∙ ap (λ k. take k (paste block 0 last rest)) (sym (zero-add rest)) ∙ take-paste block 0 last rest (omega arith) (omega (arith, length-drop at block, within, inside))
+    ap (λ n. take rest (paste block 0 last n)) same ∙ ap (λ k. take k (paste block 0 last rest)) (sym (zero-add rest))
+    ∙ take-paste block 0 last rest (omega arith) (omega (arith, length-drop at block, within, inside))
     ∙ sym (drop-take at rest block) ∙ ap (λ k. drop at (take k block)) sum
 
 -- ---- the whole call
 
-pub result_some : {M E : Type 0} → (old new : Option (List ℕ)) (Gives : M → Result Said Fault → Type 0) (result : Result M E) → IfOk result (λ made. TakesBytes [] old new (Gives made)) → IfOk result (λ made. (bytes : List ℕ) × Gives made (script_of bytes))
+pub result_some : {M E : Type 0} → (old new : Option (List ℕ)) (Gives : M → Result Said Fault → Type 0) (result : Result M E)
+    → IfOk result (λ made. TakesBytes [] old new (Gives made)) → IfOk result (λ made. (bytes : List ℕ) × Gives made (script_of bytes))
 result_some old new Gives (Ok made) tells = (tells.got, tells.gives)
 result_some old new Gives (Err e) tells = tt
 
-pub result_gives : {M E : Type 0} → (n : ℕ) (old new : Option (List ℕ)) (Gives : M → Result Said Fault → Type 0) (result : Result M E) (all : List ℕ) → n ≡ MOST_INPUT_BYTES + 1 → old ≡ Some all → IfOk result (λ made. TakesBytes [] old new (Gives made))
+pub result_gives : {M E : Type 0} → (n : ℕ) (old new : Option (List ℕ)) (Gives : M → Result Said Fault → Type 0) (result : Result M E) (all : List ℕ)
+    → n ≡ MOST_INPUT_BYTES + 1 → old ≡ Some all → IfOk result (λ made. TakesBytes [] old new (Gives made))
     → IfOk result (λ made. Gives made (script_of all))
 result_gives n old new Gives (Ok made) all limit known tells = (told_input n old new (Gives made) all limit known tells).1
 result_gives n old new Gives (Err e) all limit known tells = tt
 
-pub result_read : {M E : Type 0} → (n : ℕ) (old new : Option (List ℕ)) (Gives : M → Result Said Fault → Type 0) (result : Result M E) (all : List ℕ) → n ≡ MOST_INPUT_BYTES + 1 → old ≡ Some all → IfOk result (λ made. TakesBytes [] old new (Gives made))
+pub result_read : {M E : Type 0} → (n : ℕ) (old new : Option (List ℕ)) (Gives : M → Result Said Fault → Type 0) (result : Result M E) (all : List ℕ)
+    → n ≡ MOST_INPUT_BYTES + 1 → old ≡ Some all → IfOk result (λ made. TakesBytes [] old new (Gives made))
     → OnOk result (new ≡ Some (drop n all))
 result_read n old new Gives (Ok made) all limit known tells = (told_input n old new (Gives made) all limit known tells).0
 result_read n old new Gives (Err e) all limit known tells = tt

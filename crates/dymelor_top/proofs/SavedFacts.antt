@@ -25,8 +25,7 @@ use Rattle.dym_script.specs.declared.script.Decl.{Decl}
 use Rattle.dym_turn.specs.Turns.{Ran}
 use Rattle.dymelor_top.specs.Answers.{Answer, fault_answer, file_answer, named_answer}
 use Rattle.dymelor_top.specs.Checkpoints.{own_named, own_file}
-use Rattle.dym_run.specs.Parts.{own_of, IsRunnable}
-use Rattle.dym_run.specs.Report.{Own}
+use Rattle.dym_report.specs.Report.{own_of, IsRunnable, Own}
 use Rattle.dymelor_top.proofs.CommandFacts.{command_at, command_fact, none_behind}
 use Rattle.dymelor_top.proofs.PartFacts.{parts_are_objects, parts_run, decl_at, length_decls}
 
@@ -40,7 +39,8 @@ module _ (name : List ℕ) where
   pub found_own : (parts : List Part) → find (λ (o : Own). bytes_eq o.decl.name name) (map own_of parts) ≡ option_map own_of (find (has_name name) parts)
   found_own [] = refl
   found_own (p ∷ ps) =
-      elim (has_name name p) as (λ b. cond b (Some (own_of p)) (find (λ (o : Own). bytes_eq o.decl.name name) (map own_of ps)) ≡ option_map own_of (cond b (Some p) (find (has_name name) ps))) [
+      elim (has_name name p)
+      as (λ b. cond b (Some (own_of p)) (find (λ (o : Own). bytes_eq o.decl.name name) (map own_of ps)) ≡ option_map own_of (cond b (Some p) (find (has_name name) ps))) [
         | true ↦ refl
         | false ↦ found_own ps
       ]
@@ -67,11 +67,14 @@ module _ (script : WholeScript PartCollector) (s : Said) (name : List ℕ) (are 
   named_is =
       let parts : List Part = script.kept.parts.items in
       let own : own_named name s ≡ option_map own_of found =
-      ap (λ os. find (λ (o : Own). bytes_eq o.decl.name name) os) (sym (parts_are_objects s parts are.keeps.decls are.keeps.commands)) ∙ found_own name parts ∙ ap (option_map own_of) (sym is) in
+      ap (λ os. find (λ (o : Own). bytes_eq o.decl.name name) os) (sym (parts_are_objects s parts are.keeps.decls are.keeps.commands)) ∙ found_own name parts
+      ∙ ap (option_map own_of) (sym is) in
       λ i. named_answer (are.version i) (own i)
 
   pub named_runs : IfSome found IsRunnable
-  named_runs = subst (λ o. IfSome o IsRunnable) (sym is) (found_fact name IsRunnable script.kept.parts.items (parts_run s script.kept.parts.items are.keeps.decls are.keeps.commands are.valid))
+  named_runs =
+      subst (λ o. IfSome o IsRunnable) (sym is)
+      (found_fact name IsRunnable script.kept.parts.items (parts_run s script.kept.parts.items are.keeps.decls are.keeps.commands are.valid))
 
   pub named_named : IfSome found (λ (p : Part). IsTrue (is_name p.decl.name))
   named_named =
@@ -89,7 +92,8 @@ run_more law commands k old new reply within has ran =
     subst (λ cs. HasRun cs new) (sym at.front) (law (take k commands) old new at.one has did.step.object did.step.base_logs did.step.heap)
 
 -- and the heap's version and quota stand
-pub run_heap : (commands : List Command) (k : ℕ) (old new : ObjectMeaning) (reply : Reply) → k < length commands → IfSome (slice_get commands k) (λ c. Ran old c new reply)
+pub run_heap : (commands : List Command) (k : ℕ) (old new : ObjectMeaning) (reply : Reply) → k < length commands
+    → IfSome (slice_get commands k) (λ c. Ran old c new reply)
     → (new.heap.version ≡ old.heap.version) × (new.heap.quota ≡ old.heap.quota)
 run_heap commands k old new reply within ran =
     let at = command_at commands k within in
@@ -99,7 +103,8 @@ run_heap commands k old new reply within ran =
 -- past the last one all were run
 pub run_all_of : (commands : List Command) (k : ℕ) (o : ObjectMeaning) → length commands ≤ k → HasRun (take k commands) o → HasRun commands o
 run_all_of commands k o all has =
-    let whole : take k commands ≡ commands = sym (append-nil (take k commands)) ∙ ap (λ l. take k commands ++ l) (sym (none_behind commands k all)) ∙ take-append-drop k commands in
+    let whole : take k commands ≡ commands =
+    sym (append-nil (take k commands)) ∙ ap (λ l. take k commands ++ l) (sym (none_behind commands k all)) ∙ take-append-drop k commands in
     subst (λ cs. HasRun cs o) whole has
 
 -- ---- the file of an object that ran them

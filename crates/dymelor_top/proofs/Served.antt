@@ -1,6 +1,7 @@
 -- From what the parts of a top call do to the headline.
-use Rattle.std.proofs.Common.{◌≡◌, ℕ, ◌+◌, ◌<◌, ◌≤◌, ◌⊎◌, inl, inr, Bool, true, false, cond, List, [], ◌++◌, length, drop, nat_lt, Option, Some, None, IfSome, Result, Ok, Err, IsErr, IsErrAnd, IsErrOf, MatchBool, refl, sym, ap, subst, ◌∙◌, append-nil, length-append, arith}
+use Rattle.std.proofs.Common.{◌≡◌, ℕ, ◌+◌, ◌<◌, ◌≤◌, ◌⊎◌, inl, inr, Bool, true, false, cond, List, [], ◌++◌, length, drop, nat_lt, Option, Some, None, IfSome, Result, Ok, Err, IsErr, IsErrAnd, IsErrOf, IfOk, MatchBool, refl, sym, ap, subst, ◌∙◌, append-nil, length-append, arith}
 use Rattle.std.specs.Option.{OnSome}
+use Rattle.std.specs.Prelude.{⊤, OnOk}
 use Rattle.std.proofs.Math.ListN.{drop_of_length-le}
 use Rattle.std.proofs.Math.Seq.{drop-append_seam}
 use Rattle.std.proofs.lemmas.Bool.Decides.{nat_tests}
@@ -8,11 +9,10 @@ use Rattle.std.specs.Io.KnownBytes.{Consumes, Keeps}
 use Rattle.std.proofs.KnownBytes.{Consumes-nil, Keeps-refl}
 use Rattle.dym_base.specs.declared.limits.TheConstants.{MOST_INPUT_BYTES}
 use Rattle.dym_base.specs.declared.bad_kind.BadKind.TheVariants as bad
-use Rattle.dym_io.specs.Faults.{RoseOnce}
+use Rattle.dym_io.specs.Faults.{Rose, RoseOnce}
 use Rattle.dym_io.specs.Source.{IsEndOrLimit, TookAtMost}
 use Rattle.dym_io.specs.Sink.{Output, Appended, AppendedFront, Stopped, Blames, AllFlushed}
-use Rattle.dym_io.specs.Laws.{appends_kept, appended_nothing, once_rose}
-use Rattle.dym_gen.specs.Scripts.{generated}
+use Rattle.dym_io.specs.Laws.{appends_kept, appended_nothing, front_of_appended, once_rose, rose_later}
 use Rattle.dym_base.specs.Lines.{lines_of}
 use Rattle.dym_script.specs.Late.{late_of, late_lines, late_start}
 use Rattle.dym_script.specs.Scripts.{Said, Fault, script_of, read_lines, start}
@@ -23,15 +23,16 @@ use Rattle.dymelor_top.specs.declared.plan.Reading.{Reading}
 use Rattle.dymelor_top.specs.declared.plan.Reading.TheVariants as reading
 use Rattle.dymelor_top.specs.declared.plan.Plan.{Plan}
 use Rattle.dymelor_top.specs.declared.plan.Plan.TheVariants as plan
-use Rattle.dym_run.specs.declared.write_fail.WriteFail.{WriteFail}
-use Rattle.dym_run.specs.declared.write_fail.WriteFail.TheVariants as fail
+use Rattle.dymelor_top.specs.declared.plan.WaveText.{WaveText}
+use Rattle.dym_report.specs.declared.write_fail.WriteFail.{WriteFail}
+use Rattle.dym_report.specs.declared.write_fail.WriteFail.TheVariants as fail
 use Rattle.dymelor_top.specs.declared.stop.Stop.{Stop}
 use Rattle.dymelor_top.specs.declared.stop.Stop.TheVariants as stop
-use Rattle.dymelor_top.specs.Stops.{stop_status, of_write}
-use Rattle.dym_run.specs.Report.{report_text}
-use Rattle.dym_run.specs.Summary.{summary_of}
-use Rattle.dymelor_top.specs.Answers.{Answer, fault_answer, of_script, waves_text, of_waves, counts_of, of_verdict, IsJudged, IsTraceAnswer, saved_answer, IsLoadedText, IsPartFault, of_late, IsRead, IsAnswer, made_answer, usage_answer, reads}
-use Rattle.dymelor_top.specs.Headline.{Input, WroteFront, WroteAll, WasRead, Serves, Writes, WritesSo, PlanHeadline}
+use Rattle.dymelor_top.specs.Stops.{stop_status, status_of}
+use Rattle.dym_report.specs.Report.{report_text}
+use Rattle.dym_report.specs.Summary.{summary_of}
+use Rattle.dymelor_top.specs.Answers.{Answer, fault_answer, of_script, waves_text, of_waves, counts_of, of_verdict, IsJudged, IsTraceAnswer, saved_answer, IsLoadedText, IsPartFault, of_late, IsRead, IsInWaves, IsAnswer, input_bytes, reads}
+use Rattle.dymelor_top.specs.Headline.{Input, IsInput, WroteFront, WroteAll, WasRead, Serves, Writes, WritesSo, PlanHeadline}
 use Rattle.dymelor_top.proofs.FileAnswers.{one_loaded}
 
 -- What was written
@@ -54,14 +55,28 @@ front_wrote a b t p = record { front = p.front; rest = p.rest; whole = p.whole; 
 pub front_kept : (a b c : Output) (t : List ℕ) → Appended a b t → Keeps b.written c.written → WroteFront a c t
 front_kept a b c t p keeps = record { front = t; rest = []; whole = sym (append-nil t); written = appends_kept a.written b.written c.written t p.written keeps }
 
-pub serves_front : {E : Type 0} → (Is : Answer → Type 0) (a b : Output) (r : Result ℕ E) → IsErr r → ((answer : Answer) → Is answer → WroteFront a b answer.text) → Serves Is a b r
+pub serves_front : {E : Type 0} → (Is : Answer → Type 0) (a b : Output) (r : Result ℕ E) → IsErr r → ((answer : Answer) → Is answer → WroteFront a b answer.text)
+    → Serves Is a b r
 serves_front Is a b (Ok status) is front = absurd (cc)
 serves_front Is a b (Err e) is front = front
 
 -- a call that stopped wrote a front
-pub stopped_front : {E : Type 0} → (Is : Answer → Type 0) (a b : Output) (r : Result ℕ E) → IsErr r → ((answer : Answer) → Is answer → AppendedFront a b answer.text) → WritesSo Is a b r
+pub stopped_front : {E : Type 0} → (Is : Answer → Type 0) (a b : Output) (r : Result ℕ E) → IsErr r → ((answer : Answer) → Is answer → AppendedFront a b answer.text)
+    → WritesSo Is a b r
 stopped_front Is a b (Ok status) is front = absurd (cc)
 stopped_front Is a b (Err e) is front = front
+
+-- the answer of what a call was asked to make
+pub answered_as : (asked r : Reading) (bytes : List ℕ) (a b : Output) (status : ℕ) → asked ≡ r → (x : Answer) → IsRead r bytes x → status ≡ x.status → Appended a b x.text
+    → (x : Answer) × IsRead asked bytes x × (status ≡ x.status) × Appended a b x.text
+answered_as asked r bytes a b status is x of_x same done =
+    subst (λ q. (y : Answer) × IsRead q bytes y × (status ≡ y.status) × Appended a b y.text) (sym is) (x, of_x, same, done)
+
+-- a call that stopped wrote a front of it
+pub stopped_as : (asked r : Reading) (bytes : List ℕ) (a b : Output) (result : Result ℕ Stop) → asked ≡ r → IsErr result
+    → ((answer : Answer) → IsRead r bytes answer → AppendedFront a b answer.text) → WritesSo (IsRead asked bytes) a b result
+stopped_as asked r bytes a b result is err front =
+    stopped_front (IsRead asked bytes) a b result err (λ answer of_answer. front answer (subst (λ q. IsRead q bytes answer) is of_answer))
 
 -- What was read
 
@@ -94,7 +109,7 @@ read_so n all read more limit is within (inr full) =
     let longer : MOST_INPUT_BYTES < length all = omega (arith, long, ap length is, length-append read more) in
     (sym (drop_front n read more full) ∙ ap (drop n) (sym is), inr (long, longer))
 
-pub read_whole_input : (n : ℕ) (left_old left_new : Option (List ℕ)) (read all : List ℕ) → n ≡ MOST_INPUT_BYTES + 1 → left_old ≡ Some all
+read_whole_input : (n : ℕ) (left_old left_new : Option (List ℕ)) (read all : List ℕ) → n ≡ MOST_INPUT_BYTES + 1 → left_old ≡ Some all
     → Consumes left_old left_new read → length read ≤ n → IsEndOrLimit n left_old left_new read
     → (left_new ≡ Some (drop n all)) × SameVerdict read all
 read_whole_input n left_old left_new read all limit known consumed within ended =
@@ -103,6 +118,15 @@ read_whole_input n left_old left_new read all limit known consumed within ended 
     outcome : (new : Option (List ℕ)) → Consumes (Some all) new read → IsEndOrLimit n (Some all) new read → (new ≡ Some (drop n all)) × SameVerdict read all
     outcome None taken end = absurd taken
     outcome (Some more) taken end = let so = read_so n all read more limit taken within end in (ap Some so.0, so.1)
+
+-- of a known input these bytes were read, to its end, or as many as tell that it is too long
+module _ (old new : Option (List ℕ)) (read all : List ℕ) (known : old ≡ Some all) (taken : Consumes old new read) (within : length read ≤ MOST_INPUT_BYTES + 1)
+    (end : IsEndOrLimit (MOST_INPUT_BYTES + 1) old new read) where
+  pub input_left : new ≡ Some (drop (MOST_INPUT_BYTES + 1) all)
+  input_left = (read_whole_input (MOST_INPUT_BYTES + 1) old new read all refl known taken within end).0
+
+  pub input_same : SameVerdict read all
+  input_same = (read_whole_input (MOST_INPUT_BYTES + 1) old new read all refl known taken within end).1
 
 test_long : (bytes : List ℕ) → MOST_INPUT_BYTES < length bytes → nat_lt MOST_INPUT_BYTES (length bytes) ≡ true
 test_long bytes long = grind (arith, nat_tests)
@@ -132,7 +156,7 @@ same_tested Is read all answer (inr long) is =
     let named : answer ≡ fault_answer 0 bad.TooLong = subst (P read) (test_long read long.0) is in
     subst (P all) (sym (test_long all long.1)) named
 
-turned : (read all : List ℕ) → SameVerdict read all → SameVerdict all read
+pub turned : (read all : List ℕ) → SameVerdict read all → SameVerdict all read
 turned read all (inl same) = inl (sym same)
 turned read all (inr long) = inr (long.1, long.0)
 
@@ -144,20 +168,15 @@ same_answer reading.Trace read all answer same is = same_tested (λ l. IsJudged 
 same_answer (reading.File name) read all answer same is = same_script (saved_answer name) read all answer same is
 same_answer (reading.Loaded time) read all answer same is = same_tested (λ l. IsLoadedText time l answer ⊎ IsPartFault l answer) read all answer same is
 same_answer reading.Late read all answer same is = same_late read all answer same is
-same_answer (reading.Waves n text) read all answer same is = same_script (of_waves n (waves_text text)) read all answer same is
+
+-- the same of a script whose objects run in waves
+pub same_waves : (n : ℕ) (text : WaveText) (read all : List ℕ) (answer : Answer) → SameVerdict read all → IsInWaves n text read answer → IsInWaves n text all answer
+same_waves n text read all answer same is = same_script (of_waves n (waves_text text)) read all answer same is
 
 pub same_back : (r : Reading) (read all : List ℕ) (answer : Answer) → SameVerdict read all → IsRead r all answer → IsRead r read answer
 same_back r read all answer same is = same_answer r all read answer (turned read all same) is
 
 -- The headline
-
-no_usage : {P : Type 0} (status : ℕ) → (status ≡ 0) ⊎ (status ≡ 2) → status ≡ 1 → P
-no_usage status (inl zero) is = absurd (omega arith)
-no_usage status (inr two) is = absurd (omega arith)
-
-small : (status : ℕ) → (status ≡ 0) ⊎ (status ≡ 2) → status ≤ 2
-small status (inl zero) = omega arith
-small status (inr two) = omega arith
 
 -- a trace has one verdict, and so each input one answer
 one_judged : (bytes : List ℕ) (x y : Answer) → IsJudged bytes x → IsJudged bytes y → x ≡ y
@@ -177,283 +196,264 @@ one_read (reading.File name) bytes x y p q = p ∙ sym q
 one_read (reading.Loaded time) bytes x y p q =
     one_tested (λ a. IsLoadedText time bytes a ⊎ IsPartFault bytes a) (one_loaded time bytes) (nat_lt MOST_INPUT_BYTES (length bytes)) x y p q
 one_read reading.Late bytes x y p q = p ∙ sym q
-one_read (reading.Waves n text) bytes x y p q = p ∙ sym q
 
 pub one_answer : (p : Plan) (bytes : List ℕ) (x y : Answer) → IsAnswer p bytes x → IsAnswer p bytes y → x ≡ y
-one_answer (plan.Read r) bytes x y p q = one_read r bytes x y p q
-one_answer (plan.ReadMade r seed objects commands) bytes x y p q = one_read r (generated seed objects commands) x y p q
+one_answer (plan.Read input r) bytes x y p q = one_read r (input_bytes input bytes) x y p q
+one_answer (plan.Run run) bytes x y p q = p ∙ sym q
 one_answer (plan.Make seed objects commands) bytes x y p q = p ∙ sym q
 one_answer plan.Usage bytes x y p q = p ∙ sym q
 
-no_plan : {P : Type 0} (r : Reading) → plan.Read r ≡ plan.Usage → P
-no_plan r is = absurd (cc)
+-- the status of a plan whose whole answer was written
+abbrev pub IsWholeStatus : Plan → ℕ → Type 0
+IsWholeStatus (plan.Read input r) status = (status ≡ 0) ⊎ (status ≡ 2)
+IsWholeStatus (plan.Run run) status = (status ≡ 0) ⊎ (status ≡ 2)
+IsWholeStatus (plan.Make seed objects commands) status = status ≡ 0
+IsWholeStatus plan.Usage status = status ≡ 1
 
-no_make : {P : Type 0} (r : Reading) (seed objects commands : ℕ) → plan.Read r ≡ plan.Make seed objects commands → P
-no_make r seed objects commands is = absurd (cc)
+-- what may stop a plan: a text that is given is stopped by the sink alone
+abbrev pub MayStop : Plan → Stop → Type 0
+MayStop (plan.Read input r) stopped = ⊤
+MayStop (plan.Run run) stopped = ⊤
+MayStop (plan.Make seed objects commands) stopped = stopped ≡ stop.Sink
+MayStop plan.Usage stopped = stopped ≡ stop.Sink
 
-no_source : {P : Type 0} (r : Reading) → reads (plan.Read r) ≡ false → P
-no_source r is = absurd (cc)
+small : (status : ℕ) → (status ≡ 0) ⊎ (status ≡ 2) → status ≤ 2
+small status (inl zero) = omega (arith, zero)
+small status (inr two) = omega (arith, two)
+
+no_usage : {P : Type 0} (status : ℕ) → (status ≡ 0) ⊎ (status ≡ 2) → status ≡ 1 → P
+no_usage status (inl zero) is = absurd (omega (arith, zero, is))
+no_usage status (inr two) is = absurd (omega (arith, two, is))
+
+low_status : (p : Plan) (status : ℕ) → IsWholeStatus p status → status ≤ 2
+low_status (plan.Read input r) status fits = small status fits
+low_status (plan.Run run) status fits = small status fits
+low_status (plan.Make seed objects commands) status fits = omega (arith, fits)
+low_status plan.Usage status fits = omega (arith, fits)
+
+usage_status : (p : Plan) (status : ℕ) → IsWholeStatus p status → status ≡ 1 → p ≡ plan.Usage
+usage_status (plan.Read input r) status fits is = no_usage status fits is
+usage_status (plan.Run run) status fits is = no_usage status fits is
+usage_status (plan.Make seed objects commands) status fits is = absurd (omega (arith, fits, is))
+usage_status plan.Usage status fits is = refl
+
+-- a text that is given was written whole, or the sink stopped it
+module _ (p : Plan) (status : ℕ) (fits : IsWholeStatus p status) where
+  usage_whole : p ≡ plan.Usage → (status ≡ 1) ⊎ (status ≡ 4)
+  usage_whole is = inl (subst (λ q. IsWholeStatus q status) is fits)
+
+  made_whole : (seed objects commands : ℕ) → p ≡ plan.Make seed objects commands → (status ≡ 0) ⊎ (status ≡ 4)
+  made_whole seed objects commands is = inl (subst (λ q. IsWholeStatus q status) is fits)
+
+module _ (p : Plan) (stopped : Stop) (may : MayStop p stopped) where
+  usage_stopped : p ≡ plan.Usage → (stop_status stopped ≡ 1) ⊎ (stop_status stopped ≡ 4)
+  usage_stopped is = inr (ap stop_status (subst (λ q. MayStop q stopped) is may))
+
+  made_stopped : (seed objects commands : ℕ) → p ≡ plan.Make seed objects commands → (stop_status stopped ≡ 0) ⊎ (stop_status stopped ≡ 4)
+  made_stopped seed objects commands is = inr (ap stop_status (subst (λ q. MayStop q stopped) is may))
 
 all_is_front : (a b : Output) (t : List ℕ) → WroteAll a b t → WroteFront a b t
 all_is_front a b t p = record { front = t; rest = []; whole = sym (append-nil t); written = p.written }
 
--- of the one answer all was written
-whole_front : (r : Reading) (bytes : List ℕ) (a b : Output) (status : ℕ) → (x : Answer) × IsRead r bytes x × (status ≡ x.status) × WroteAll a b x.text
-    → (answer : Answer) → IsRead r bytes answer → WroteFront a b answer.text
-whole_front r bytes a b status w answer is =
-    subst (λ (x : Answer). WroteFront a b x.text) (one_read r bytes w.0 answer w.1 is) (all_is_front a b w.0.text w.3)
-
 -- nothing was taken of a source that isn't read
-took_nothing : (most : ℕ) (left : Option (List ℕ)) → TookAtMost most left left
+pub took_nothing : (most : ℕ) (left : Option (List ℕ)) → TookAtMost most left left
 took_nothing most left = record { got = []; taken = Consumes-nil left; few = omega arith }
-
--- an answer was written whole
-pub read_whole : (r : Reading) (old new : Input) (a b : Output) (status : ℕ)
-    → ((bytes : List ℕ) → old.left ≡ Some bytes → (x : Answer) × IsRead r bytes x × (status ≡ x.status) × WroteAll a b x.text)
-    → ((bytes : List ℕ) → old.left ≡ Some bytes → new.left ≡ Some (drop (MOST_INPUT_BYTES + 1) bytes))
-    → TookAtMost (MOST_INPUT_BYTES + 1) old.left new.left → new.faults ≡ old.faults → b.faults ≡ a.faults
-    → (status ≡ 0) ⊎ (status ≡ 2) → PlanHeadline (plan.Read r) old new a b status
-read_whole r old new a b status served read bounded source_calm sink_calm zero_or_two =
-    let low : status ≤ 2 = small status zero_or_two in
-    record {
-      answered = λ bytes known. record {
-        prefix = whole_front r bytes a b status (served bytes known);
-        whole = λ le. served bytes known;
-        complete = λ source sink. inl low;
-      };
-      bounded = bounded;
-      read = λ le. read;
-      unread = λ is. no_source r is;
-      usage = λ is. no_usage status zero_or_two is;
-      only_usage = λ is. no_plan r is;
-      made = λ seed objects commands is. no_make r seed objects commands is;
-      source = λ is. absurd (omega (arith, low, is));
-      sink = λ is. absurd (omega (arith, low, is));
-      source_stands = λ other. source_calm;
-      sink_stands = λ other. sink_calm;
-      known = omega (arith, low);
-    }
-
--- what the counts tell of why a call that reads its source stopped
-pub record StopCauses (old new : Input) (a b : Output) (stopped : Stop) : Type 0 where
-  pub source : stopped ≡ stop.Source → RoseOnce old.faults new.faults × (b ≡ a)
-  pub source_stands : ¬ (stopped ≡ stop.Source) → new.faults ≡ old.faults
-  pub sink : stopped ≡ stop.Sink → RoseOnce a.faults b.faults
-  pub sink_stands : ¬ (stopped ≡ stop.Sink) → b.faults ≡ a.faults
-
-err_of : Result ℕ Stop → Stop
-err_of (Ok status) = stop.Memory
-err_of (Err stopped) = stopped
-
-pub stop_causes : (old new : Input) (a b : Output) (r : Result ℕ Stop) (stopped : Stop) → r ≡ Err stopped
-    → (IsErrOf r stop.Source → RoseOnce old.faults new.faults × (b ≡ a)) → (¬ IsErrOf r stop.Source → new.faults ≡ old.faults)
-    → (IsErrOf r stop.Sink → RoseOnce a.faults b.faults) → (¬ IsErrOf r stop.Sink → b.faults ≡ a.faults) → StopCauses old new a b stopped
-unfolding err_of
-stop_causes old new a b r stopped is source source_stands sink sink_stands = record {
-  source = λ s. source (is ∙ ap Err s);
-  source_stands = λ other. source_stands (λ e. other (ap err_of (sym is ∙ e)));
-  sink = λ s. sink (is ∙ ap Err s);
-  sink_stands = λ other. sink_stands (λ e. other (ap err_of (sym is ∙ e)));
-}
-
--- a call that reads its source stopped
-pub read_stopped : (r : Reading) (old new : Input) (a b : Output) (stopped : Stop)
-    → ((bytes : List ℕ) → old.left ≡ Some bytes → (x : Answer) → IsRead r bytes x → WroteFront a b x.text)
-    → TookAtMost (MOST_INPUT_BYTES + 1) old.left new.left → StopCauses old new a b stopped → PlanHeadline (plan.Read r) old new a b (stop_status stopped)
-read_stopped r old new a b stop.Source front bounded causes =
-    let why = causes.source refl in
-    let still : b.faults ≡ a.faults = ap (λ o. o.faults) why.1 in
-    record {
-      answered = λ bytes known. record { prefix = front bytes known; whole = λ le. absurd (omega (arith, le)); complete = λ calm still. absurd (calm (once_rose old.faults new.faults why.0)) };
-      bounded = bounded;
-      read = λ le. absurd (omega (arith, le));
-      unread = λ is. no_source r is;
-      usage = λ is. absurd (omega (arith, is));
-      only_usage = λ is. no_plan r is;
-      made = λ seed objects commands is. no_make r seed objects commands is;
-      source = λ is. (why.0, subst (λ o. Appended a o []) (sym why.1) (appended_nothing a));
-      sink = λ is. absurd (omega (arith, is));
-      source_stands = λ other. absurd (other refl);
-      sink_stands = λ other. still;
-      known = omega arith;
-    }
-read_stopped r old new a b stop.Sink front bounded causes = record {
-  answered = λ bytes known. record { prefix = front bytes known; whole = λ le. absurd (omega (arith, le)); complete = λ calm still. absurd (still (once_rose a.faults b.faults (causes.sink refl))) };
-  bounded = bounded;
-  read = λ le. absurd (omega (arith, le));
-  unread = λ is. no_source r is;
-  usage = λ is. absurd (omega (arith, is));
-  only_usage = λ is. no_plan r is;
-  made = λ seed objects commands is. no_make r seed objects commands is;
-  source = λ is. absurd (omega (arith, is));
-  sink = λ is. causes.sink refl;
-  source_stands = λ other. causes.source_stands (λ is. absurd (cc));
-  sink_stands = λ other. absurd (other refl);
-  known = omega arith;
-}
-read_stopped r old new a b stop.Memory front bounded causes = record {
-  answered = λ bytes known. record { prefix = front bytes known; whole = λ le. absurd (omega (arith, le)); complete = λ calm still. inr refl };
-  bounded = bounded;
-  read = λ le. absurd (omega (arith, le));
-  unread = λ is. no_source r is;
-  usage = λ is. absurd (omega (arith, is));
-  only_usage = λ is. no_plan r is;
-  made = λ seed objects commands is. no_make r seed objects commands is;
-  source = λ is. absurd (omega (arith, is));
-  sink = λ is. absurd (omega (arith, is));
-  source_stands = λ other. causes.source_stands (λ is. absurd (cc));
-  sink_stands = λ other. causes.sink_stands (λ is. absurd (cc));
-  known = omega arith;
-}
 
 -- a count that stays at 0 didn't rise
 pub never_once : ¬ RoseOnce 0 0
 never_once (inl e) = omega (arith, e)
 never_once (inr e) = omega (arith, e.0)
 
--- a made script was answered whole
-pub made_whole : (r : Reading) (seed objects commands : ℕ) (old : Input) (a b : Output) (status : ℕ)
-    → (x : Answer) × IsRead r (generated seed objects commands) x × (status ≡ x.status) × WroteAll a b x.text
-    → b.faults ≡ a.faults → (status ≡ 0) ⊎ (status ≡ 2) → PlanHeadline (plan.ReadMade r seed objects commands) old old a b status
-made_whole r seed objects commands old a b status served calm zero_or_two =
-    let low : status ≤ 2 = small status zero_or_two in
-    record {
-      answered = λ bytes known. record {
-        prefix = whole_front r (generated seed objects commands) a b status served;
-        whole = λ le. served;
-        complete = λ source sink. inl low;
-      };
-      bounded = took_nothing (MOST_INPUT_BYTES + 1) old.left;
-      read = λ le. tt;
-      unread = λ is. (Keeps-refl old.left, refl);
-      usage = λ is. no_usage status zero_or_two is;
-      only_usage = λ is. absurd (cc);
-      made = λ s o c is. absurd (cc);
-      source = λ is. absurd (omega (arith, low, is));
-      sink = λ is. absurd (omega (arith, low, is));
+-- what the counts tell of why a call stopped
+pub record StopCauses (old new : Input) (a b : Output) (stopped : Stop) : Type 0 where
+  pub source : stopped ≡ stop.Source → RoseOnce old.faults new.faults × (b ≡ a)
+  pub source_stands : ¬ (stopped ≡ stop.Source) → new.faults ≡ old.faults
+  pub sink : stopped ≡ stop.Sink → RoseOnce a.faults b.faults
+  pub sink_stands : ¬ (stopped ≡ stop.Sink) → b.faults ≡ a.faults
+
+source_of : (stopped : Stop) → stop_status stopped ≡ 3 → stopped ≡ stop.Source
+source_of stop.Source is = refl
+source_of stop.Sink is = absurd (omega (arith, is))
+source_of stop.Memory is = absurd (omega (arith, is))
+
+sink_of : (stopped : Stop) → stop_status stopped ≡ 4 → stopped ≡ stop.Sink
+sink_of stop.Source is = absurd (omega (arith, is))
+sink_of stop.Sink is = refl
+sink_of stop.Memory is = absurd (omega (arith, is))
+
+high_status : (stopped : Stop) → (3 ≤ stop_status stopped) × (stop_status stopped ≤ 5)
+high_status stop.Source = (omega arith, omega arith)
+high_status stop.Sink = (omega arith, omega arith)
+high_status stop.Memory = (omega arith, omega arith)
+
+abbrev err_of : Result ℕ Stop → Stop
+err_of (Ok status) = stop.Memory
+err_of (Err stopped) = stopped
+
+sink_alone : {P : Type 0} → stop.Sink ≡ stop.Source → P
+sink_alone is = absurd (cc)
+
+memory_no_source : {P : Type 0} → stop.Memory ≡ stop.Source → P
+memory_no_source is = absurd (cc)
+
+memory_no_sink : {P : Type 0} → stop.Memory ≡ stop.Sink → P
+memory_no_sink is = absurd (cc)
+
+-- one call on the source failed, and nothing was written
+source_only : (old new : Input) (a b : Output) (stopped : Stop) → StopCauses old new a b stopped → stop_status stopped ≡ 3
+    → RoseOnce old.faults new.faults × Appended a b []
+source_only old new a b stopped causes is =
+    let why = causes.source (source_of stopped is) in
+    (why.0, subst (λ o. Appended a o []) (sym why.1) (appended_nothing a))
+
+-- where neither the source nor the sink failed, memory ran out
+completes : (old new : Input) (a b : Output) (stopped : Stop) → StopCauses old new a b stopped → ¬ Rose old.faults new.faults → ¬ Rose a.faults b.faults
+    → (stop_status stopped ≤ 2) ⊎ (stop_status stopped ≡ 5)
+completes old new a b stop.Source causes calm still = absurd (calm (once_rose old.faults new.faults (causes.source refl).0))
+completes old new a b stop.Sink causes calm still = absurd (still (once_rose a.faults b.faults (causes.sink refl)))
+completes old new a b stop.Memory causes calm still = inr refl
+
+-- the headline of a plan, by what its call wrote and took
+module _ (p : Plan) (old new : Input) (a b : Output) where
+  -- of the one answer all was written
+  whole_front : (bytes : List ℕ) (status : ℕ) → (x : Answer) × IsAnswer p bytes x × (status ≡ x.status) × WroteAll a b x.text
+      → (y : Answer) → IsAnswer p bytes y → WroteFront a b y.text
+  whole_front bytes status w y is =
+      subst (λ (x : Answer). WroteFront a b x.text) (one_answer p bytes w.0 y w.1 is) (all_is_front a b w.0.text w.3)
+
+  pub whole : (status : ℕ) → IsWholeStatus p status
+      → ((bytes : List ℕ) → IsInput (reads p) old bytes → (x : Answer) × IsAnswer p bytes x × (status ≡ x.status) × WroteAll a b x.text)
+      → TookAtMost (MOST_INPUT_BYTES + 1) old.left new.left → WasRead (reads p) old new → (reads p ≡ false → Keeps old.left new.left)
+      → new.faults ≡ old.faults → b.faults ≡ a.faults → PlanHeadline p old new a b status
+  whole status fits served bounded read unread source_calm sink_calm =
+      let low : status ≤ 2 = low_status p status fits in
+      record {
+        answered = λ bytes known. record {
+          prefix = whole_front bytes status (served bytes known);
+          whole = λ le. served bytes known;
+          complete = λ source sink. inl low;
+        };
+        bounded = bounded;
+        read = λ le. read;
+        unread = λ is. (unread is, source_calm);
+        usage = usage_status p status fits;
+        only_usage = usage_whole p status fits;
+        made = made_whole p status fits;
+        source = λ is. absurd (omega (arith, low, is));
+        sink = λ is. absurd (omega (arith, low, is));
+        source_stands = λ other. source_calm;
+        sink_stands = λ other. sink_calm;
+        known = omega (arith, low);
+      }
+
+  -- a front of it was written
+  pub stopped_so : (stopped : Stop) → MayStop p stopped
+      → ((bytes : List ℕ) → IsInput (reads p) old bytes → (x : Answer) → IsAnswer p bytes x → WroteFront a b x.text)
+      → TookAtMost (MOST_INPUT_BYTES + 1) old.left new.left → (reads p ≡ false → Keeps old.left new.left × (new.faults ≡ old.faults))
+      → StopCauses old new a b stopped → PlanHeadline p old new a b (stop_status stopped)
+  stopped_so stopped may front bounded unread causes =
+      let high = high_status stopped in
+      record {
+        answered = λ bytes known. record {
+          prefix = front bytes known;
+          whole = λ le. absurd (omega (arith, high.0, le));
+          complete = completes old new a b stopped causes;
+        };
+        bounded = bounded;
+        read = λ le. absurd (omega (arith, high.0, le));
+        unread = unread;
+        usage = λ is. absurd (omega (arith, high.0, is));
+        only_usage = usage_stopped p stopped may;
+        made = made_stopped p stopped may;
+        source = λ is. source_only old new a b stopped causes is;
+        sink = λ is. causes.sink (sink_of stopped is);
+        source_stands = λ other. causes.source_stands (λ is. other (ap stop_status is));
+        sink_stands = λ other. causes.sink_stands (λ is. other (ap stop_status is));
+        known = high.1;
+      }
+
+  -- a call that reads an input ended
+  pub ended : (r : Result ℕ Stop) → IfOk r (IsWholeStatus p) → ((stopped : Stop) → MayStop p stopped)
+      → ((bytes : List ℕ) → IsInput (reads p) old bytes → Serves (IsAnswer p bytes) a b r)
+      → TookAtMost (MOST_INPUT_BYTES + 1) old.left new.left → OnOk r (WasRead (reads p) old new)
+      → (reads p ≡ false → Keeps old.left new.left × (new.faults ≡ old.faults))
+      → (IsErrOf r stop.Source → RoseOnce old.faults new.faults × (b ≡ a)) → (¬ IsErrOf r stop.Source → new.faults ≡ old.faults)
+      → (IsErrOf r stop.Sink → RoseOnce a.faults b.faults) → (¬ IsErrOf r stop.Sink → b.faults ≡ a.faults) → PlanHeadline p old new a b (status_of r)
+  ended (Ok status) fits may served bounded read unread source source_stands sink sink_stands =
+      whole status fits served bounded read (λ is. (unread is).0) (source_stands (λ is. absurd (cc))) (sink_stands (λ is. absurd (cc)))
+  ended (Err stopped) fits may served bounded read unread source source_stands sink sink_stands =
+      stopped_so stopped (may stopped) served bounded unread (record {
+        source = λ s. source (ap Err s);
+        source_stands = λ other. source_stands (λ e. other (ap err_of e));
+        sink = λ s. sink (ap Err s);
+        sink_stands = λ other. sink_stands (λ e. other (ap err_of e));
+      })
+
+-- what a call read of its source, or of none
+pub was_read : (old new : Input) (r : Result ℕ Stop) → ((bytes : List ℕ) → old.left ≡ Some bytes → OnOk r (new.left ≡ Some (drop (MOST_INPUT_BYTES + 1) bytes)))
+    → OnOk r (WasRead true old new)
+was_read old new (Ok status) read = read
+was_read old new (Err stopped) read = tt
+
+pub not_read : (old new : Input) (r : Result ℕ Stop) → OnOk r (WasRead false old new)
+not_read old new (Ok status) = tt
+not_read old new (Err stopped) = tt
+
+pub unread : (source : Input) → Keeps source.left source.left × (source.faults ≡ source.faults)
+unread source = (Keeps-refl source.left, refl)
+
+-- memory was wanting before anything was written
+pub wanting : (p : Plan) (source : Input) (a : Output) (r : Result ℕ Stop) → IsErrAnd r (λ e. e ≡ stop.Memory) → ((stopped : Stop) → MayStop p stopped)
+    → PlanHeadline p source source a a (status_of r)
+wanting p source a (Ok status) is may = absurd is
+wanting p source a (Err stopped) is may =
+    stopped_so p source source a a stopped (may stopped) (λ bytes known x of_x. front_wrote a a x.text (front_of_appended a a [] x.text (appended_nothing a)))
+    (took_nothing (MOST_INPUT_BYTES + 1) source.left) (λ none. unread source) (record {
+      source = λ other. memory_no_source (sym is ∙ other);
       source_stands = λ other. refl;
-      sink_stands = λ other. calm;
-      known = omega (arith, low);
-    }
+      sink = λ other. memory_no_sink (sym is ∙ other);
+      sink_stands = λ other. refl;
+    })
 
--- and where that stopped, which no source does
-pub made_stopped : (r : Reading) (seed objects commands : ℕ) (old : Input) (a b : Output) (stopped : Stop)
-    → ((x : Answer) → IsRead r (generated seed objects commands) x → WroteFront a b x.text)
-    → ¬ (stopped ≡ stop.Source) → (stopped ≡ stop.Sink → RoseOnce a.faults b.faults) → (¬ (stopped ≡ stop.Sink) → b.faults ≡ a.faults)
-    → PlanHeadline (plan.ReadMade r seed objects commands) old old a b (stop_status stopped)
-made_stopped r seed objects commands old a b stop.Source front none rose stands = absurd (none refl)
-made_stopped r seed objects commands old a b stop.Sink front none rose stands = record {
-  answered = λ bytes known. record { prefix = front; whole = λ le. absurd (omega (arith, le)); complete = λ calm still. absurd (still (once_rose a.faults b.faults (rose refl))) };
-  bounded = took_nothing (MOST_INPUT_BYTES + 1) old.left;
-  read = λ le. absurd (omega (arith, le));
-  unread = λ is. (Keeps-refl old.left, refl);
-  usage = λ is. absurd (omega (arith, is));
-  only_usage = λ is. absurd (cc);
-  made = λ s o c is. absurd (cc);
-  source = λ is. absurd (omega (arith, is));
-  sink = λ is. rose refl;
-  source_stands = λ other. refl;
-  sink_stands = λ other. absurd (other refl);
-  known = omega arith;
-}
-made_stopped r seed objects commands old a b stop.Memory front none rose stands = record {
-  answered = λ bytes known. record { prefix = front; whole = λ le. absurd (omega (arith, le)); complete = λ calm still. inr refl };
-  bounded = took_nothing (MOST_INPUT_BYTES + 1) old.left;
-  read = λ le. absurd (omega (arith, le));
-  unread = λ is. (Keeps-refl old.left, refl);
-  usage = λ is. absurd (omega (arith, is));
-  only_usage = λ is. absurd (cc);
-  made = λ s o c is. absurd (cc);
-  source = λ is. absurd (omega (arith, is));
-  sink = λ is. absurd (omega (arith, is));
-  source_stands = λ other. refl;
-  sink_stands = λ other. stands (λ is. absurd (cc));
-  known = omega arith;
-}
+-- a text that is given is written by a call that takes nothing
+module _ (p : Plan) (source : Input) (x : Answer) (none : reads p ≡ false) (is : (bytes : List ℕ) → IsAnswer p bytes x) (fits : IsWholeStatus p x.status)
+    (may : MayStop p stop.Sink) where
+  given_front : (a b : Output) → WroteFront a b x.text → (bytes : List ℕ) (y : Answer) → IsAnswer p bytes y → WroteFront a b y.text
+  given_front a b front bytes y of_y = subst (λ (z : Answer). WroteFront a b z.text) (one_answer p bytes x y (is bytes) of_y) front
 
--- a text that takes no memory was written whole, or in part: a made script, or what words of no order get
-pub given_whole : (p : Plan) (old : Input) (a b : Output) (x : Answer) → reads p ≡ false → ((bytes : List ℕ) → (y : Answer) → IsAnswer p bytes y → x ≡ y) → ((bytes : List ℕ) → IsAnswer p bytes x)
-    → (x.status ≡ 1 → p ≡ plan.Usage) → (p ≡ plan.Usage → x.status ≡ 1) → ((seed objects commands : ℕ) → p ≡ plan.Make seed objects commands → x.status ≡ 0) → x.status ≤ 2
-    → WroteAll a b x.text → b.faults ≡ a.faults → PlanHeadline p old old a b x.status
-given_whole p old a b x unread one is usage only made low whole calm = record {
-  answered = λ bytes known. record {
-    prefix = λ y of_y. subst (λ (z : Answer). WroteFront a b z.text) (one bytes y of_y) (all_is_front a b x.text whole);
-    whole = λ le. (x, is bytes, refl, whole);
-    complete = λ source sink. inl low;
-  };
-  bounded = took_nothing (MOST_INPUT_BYTES + 1) old.left;
-  read = λ le. subst (λ b. WasRead b old old) (sym unread) tt;
-  unread = λ is. (Keeps-refl old.left, refl);
-  usage = usage;
-  only_usage = λ is. inl (only is);
-  made = λ seed objects commands is. inl (made seed objects commands is);
-  source = λ is. absurd (omega (arith, low, is));
-  sink = λ is. absurd (omega (arith, low, is));
-  source_stands = λ other. refl;
-  sink_stands = λ other. calm;
-  known = omega (arith, low);
-}
+  given_stopped : (a b : Output) (r : Result ℕ Stop) → IsErrAnd r (λ e. e ≡ stop.Sink) → WroteFront a b x.text → RoseOnce a.faults b.faults
+      → PlanHeadline p source source a b (status_of r)
+  given_stopped a b (Ok status) cause front rose = absurd cause
+  given_stopped a b (Err stopped) cause front rose =
+      stopped_so p source source a b stopped (subst (MayStop p) (sym cause) may) (λ bytes known. given_front a b front bytes)
+      (took_nothing (MOST_INPUT_BYTES + 1) source.left) (λ none. unread source) (record {
+        source = λ other. sink_alone (sym cause ∙ other);
+        source_stands = λ other. refl;
+        sink = λ other. rose;
+        sink_stands = λ other. absurd (other cause);
+      })
 
-pub given_stopped : (p : Plan) (old : Input) (a b : Output) (x : Answer) → reads p ≡ false → ((bytes : List ℕ) → (y : Answer) → IsAnswer p bytes y → x ≡ y)
-    → WroteFront a b x.text → RoseOnce a.faults b.faults → PlanHeadline p old old a b 4
-given_stopped p old a b x unread one front rose = record {
-  answered = λ bytes known. record {
-    prefix = λ y of_y. subst (λ (z : Answer). WroteFront a b z.text) (one bytes y of_y) front;
-    whole = λ le. absurd (omega (arith, le));
-    complete = λ calm still. absurd (still (once_rose a.faults b.faults rose));
-  };
-  bounded = took_nothing (MOST_INPUT_BYTES + 1) old.left;
-  read = λ le. absurd (omega (arith, le));
-  unread = λ is. (Keeps-refl old.left, refl);
-  usage = λ is. absurd (omega (arith, is));
-  only_usage = λ is. inr refl;
-  made = λ seed objects commands is. inr refl;
-  source = λ is. absurd (omega (arith, is));
-  sink = λ is. rose;
-  source_stands = λ other. refl;
-  sink_stands = λ other. absurd (other refl);
-  known = omega arith;
-}
+  -- the sink stopped it
+  pub given_cut : (a b : Output) (r : Result ℕ Stop) → IsErrAnd r (λ e. e ≡ stop.Sink) → Stopped a b x.text → PlanHeadline p source source a b (status_of r)
+  given_cut a b r cause stopped = given_stopped a b r cause (front_wrote a b x.text stopped.front) stopped.rose
 
--- a script that a seed makes was written whole
-pub script_whole : (seed objects commands : ℕ) (old : Input) (a b : Output) (status : ℕ)
-    → (x : Answer) × (x ≡ made_answer seed objects commands) × (status ≡ x.status) × WroteAll a b x.text
-    → b.faults ≡ a.faults → PlanHeadline (plan.Make seed objects commands) old old a b status
-script_whole seed objects commands old a b status served calm =
-    let x : Answer = made_answer seed objects commands in
-    let all : WroteAll a b x.text = subst (λ (y : Answer). WroteAll a b y.text) served.1 served.3 in
-    let zero : status ≡ x.status = served.2 ∙ ap (λ (y : Answer). y.status) served.1 in
-    subst (PlanHeadline (plan.Make seed objects commands) old old a b) (sym zero)
-    (given_whole (plan.Make seed objects commands) old a b x refl (λ bytes y of_y. sym of_y) (λ bytes. refl) (λ one. absurd (omega (arith, one))) (λ is. absurd (cc)) (λ s o c is. refl) (omega arith) all calm)
+  -- it was not flushed
+  pub given_unflushed : (a b c : Output) (r : Result ℕ Stop) → IsErrAnd r (λ e. e ≡ stop.Sink) → Appended a b x.text → Keeps b.written c.written
+      → RoseOnce b.faults c.faults
+      → PlanHeadline p source source a c (status_of r)
+  given_unflushed a b c r cause done keeps rose =
+      given_stopped a c r cause (front_kept a b c x.text done keeps) (rose_later a.faults b.faults c.faults done.faults rose)
 
--- or in part
-pub script_stopped : (seed objects commands : ℕ) (old : Input) (a b : Output) (stopped : WriteFail)
-    → ((x : Answer) → x ≡ made_answer seed objects commands → WroteFront a b x.text)
-    → (stopped ≡ fail.Sink) × RoseOnce a.faults b.faults → PlanHeadline (plan.Make seed objects commands) old old a b (stop_status (of_write stopped))
-script_stopped seed objects commands old a b stopped front cause =
-    let x : Answer = made_answer seed objects commands in
-    let four : stop_status (of_write stopped) ≡ 4 = ap (λ (f : WriteFail). stop_status (of_write f)) cause.0 in
-    subst (PlanHeadline (plan.Make seed objects commands) old old a b) (sym four)
-    (given_stopped (plan.Make seed objects commands) old a b x refl (λ bytes y of_y. sym of_y) (front x refl) cause.1)
+  pub given_whole : (a b c : Output) → Appended a b x.text → Keeps b.written c.written → AllFlushed b c → c.faults ≡ b.faults → PlanHeadline p source source a c x.status
+  given_whole a b c done keeps flushed calm =
+      whole p source source a c x.status fits (λ bytes known. (x, is bytes, refl, wrote_all a b c x.text done keeps flushed))
+      (took_nothing (MOST_INPUT_BYTES + 1) source.left) (subst (λ b. WasRead b source source) (sym none) tt) (λ none. Keeps-refl source.left)
+      refl (calm ∙ done.faults)
 
--- words of no order were answered whole
-pub usage_whole : (old : Input) (a b : Output) (status : ℕ)
-    → (x : Answer) × (x ≡ usage_answer) × (status ≡ x.status) × WroteAll a b x.text
-    → b.faults ≡ a.faults → PlanHeadline plan.Usage old old a b status
-usage_whole old a b status served calm =
-    let all : WroteAll a b usage_answer.text = subst (λ (y : Answer). WroteAll a b y.text) served.1 served.3 in
-    let one : status ≡ usage_answer.status = served.2 ∙ ap (λ (y : Answer). y.status) served.1 in
-    subst (PlanHeadline plan.Usage old old a b) (sym one)
-    (given_whole plan.Usage old a b usage_answer refl (λ bytes y of_y. sym of_y) (λ bytes. refl) (λ is. refl) (λ is. refl) (λ s o c is. absurd (cc)) (omega arith) all calm)
-
--- or in part
-pub usage_stopped : (old : Input) (a b : Output) (stopped : WriteFail)
-    → ((x : Answer) → x ≡ usage_answer → WroteFront a b x.text)
-    → (stopped ≡ fail.Sink) × RoseOnce a.faults b.faults → PlanHeadline plan.Usage old old a b (stop_status (of_write stopped))
-usage_stopped old a b stopped front cause =
-    let four : stop_status (of_write stopped) ≡ 4 = ap (λ (f : WriteFail). stop_status (of_write f)) cause.0 in
-    subst (PlanHeadline plan.Usage old old a b) (sym four)
-    (given_stopped plan.Usage old a b usage_answer refl (λ bytes y of_y. sym of_y) (front usage_answer refl) cause.1)
+-- the headline of the plan that an order has
+pub planned : (p q : Plan) (old new : Input) (a b : Output) (r : Result ℕ Stop) (status : ℕ) → p ≡ q → status ≡ status_of r
+    → PlanHeadline p old new a b (status_of r) → PlanHeadline q old new a b status
+planned p q old new a b r status is same headline = subst (λ x. PlanHeadline x old new a b status) is (subst (PlanHeadline p old new a b) (sym same) headline)
 
 -- Traces
 
@@ -483,7 +483,8 @@ one_stopped Is one a b (Err e) x is err stopped = (
   subst (λ x. Blames (x ≡ fail.Sink) a b) (sym err) (λ _. stopped.rose, λ other. absurd (other refl)),
 )
 
-pub trace_stopped : (bytes : List ℕ) (a b : Output) (r : Result ℕ WriteFail) (v : TraceAnswer) (x : Answer) → length bytes ≤ MOST_INPUT_BYTES → IsVerdict bytes v → of_verdict v ≡ x
+pub trace_stopped : (bytes : List ℕ) (a b : Output) (r : Result ℕ WriteFail) (v : TraceAnswer) (x : Answer) → length bytes ≤ MOST_INPUT_BYTES → IsVerdict bytes v
+    → of_verdict v ≡ x
     → IsErrAnd r (λ e. e ≡ fail.Sink) → Stopped a b x.text → Writes (IsTraceAnswer bytes) a b r
 trace_stopped bytes a b r v x short right is err stopped =
     one_stopped (IsTraceAnswer bytes) (one_read reading.Trace bytes) a b r x (subst (IsTraceAnswer bytes) is (judged_trace bytes v short right)) err stopped

@@ -1,5 +1,5 @@
 -- What objects come to, counted one after another.
-use Rattle.std.proofs.Common.{◌≡◌, ℕ, suc, ◌+◌, ◌<◌, ◌≤◌, true, false, not, cond, List, [], ◌∷◌, All, IfSome, length, map, filter, drop, get_or, slice_get, count_by, sum_by, refl, subst, sym, ap, ◌∙◌, ◌-◌, add-one, add-zero, drop-cons, le_of_eq, Bool, ◌⊎◌, inl, inr, arith, ◌==◌}
+use Rattle.std.proofs.Common.{◌≡◌, ℕ, suc, ◌+◌, ◌<◌, ◌≤◌, cond, List, [], ◌∷◌, All, IfSome, length, map, filter, drop, get_or, slice_get, count_by, sum_by, refl, subst, sym, ap, ◌∙◌, ◌-◌, add-one, drop-cons, le_of_eq, ◌⊎◌, inl, inr, arith, ◌==◌}
 use Rattle.std.specs.Prelude.{nat_le}
 use Rattle.std.specs.FinMap.{len}
 use Rattle.std.proofs.lemmas.Bool.{cases_order, cond-true, cond-false, eq-eqb, ne_eqb, le-leb, lt-leb}
@@ -7,7 +7,6 @@ use Rattle.std.proofs.lemmas.List.Elements.{All-head, All-tail, All-weaker}
 use Rattle.std.proofs.lemmas.List.Sums.{sum_by-cons, length-filter}
 use Rattle.std.proofs.Math.ListN.{drop_of_length-le}
 use Rattle.std.proofs.lemmas.List.{length-map}
-use Rattle.dym_base.specs.Heaps.{held}
 use Rattle.dym_base.specs.RunLaws.{IsLogList, RunsKeepLogs}
 use Rattle.dym_base.specs.Objects.{LogEntry, ObjectState, ObjectAnswer, object_start, object_step, replies_from, object_after, slots}
 use Rattle.dym_base.specs.declared.command.Version.{Version}
@@ -22,13 +21,13 @@ use Rattle.dym_script.specs.declared.pieces.WholeScript.{WholeScript}
 use Rattle.dym_script.specs.ByObjects.{IsByObjects}
 use Rattle.dym_script.specs.Scripts.{Said, own}
 use Rattle.dym_script.specs.Parts.{EachHas}
-use Rattle.dym_run.specs.declared.tally.Tally.{Tally}
-use Rattle.dym_run.specs.Parts.{own_of}
-use Rattle.dym_run.specs.Report.{objects_of}
+use Rattle.dym_report.specs.declared.tally.Tally.{Tally}
+use Rattle.dym_report.specs.Report.{own_of, objects_of}
 use Rattle.dym_turn.specs.Turns.{Ran}
 use Rattle.dymelor_top.proofs.CommandFacts.{command_at, command_fact}
 use Rattle.dymelor_top.proofs.PartFacts.{OwnsFrom, owns_first, owns_later, owns_all, parts_are_objects}
-use Rattle.dym_run.specs.Summary.{is_refusal, tally_of, no_tally, both_tallies, tally_all, totals_of}
+use Rattle.dym_report.specs.Summary.{is_refusal, tally_of, tally_with, both_tallies, tally_all, totals_with, totals_of}
+use Rattle.dym_report.proofs.Tallies.{tally_last, tally_regroup}
 
 -- ---- the commands of all objects are those of the lines
 
@@ -40,9 +39,30 @@ step : (k n : ℕ) → cond (n == k) 1 0 + cond (nat_le (k + 1) n) 1 0 ≡ cond 
 step k n = by (cases_order n k)
   where
     by : (n ≡ k) ⊎ ((n < k) ⊎ (k < n)) → cond (n == k) 1 0 + cond (nat_le (k + 1) n) 1 0 ≡ cond (nat_le k n) 1 0
-    by (inl eq) = omega (arith, cond-true {A = ℕ} (n == k) 1 0 (eq-eqb n k eq), cond-false {A = ℕ} (nat_le (k + 1) n) 1 0 (lt-leb (k + 1) n (omega (arith, eq))), cond-true {A = ℕ} (nat_le k n) 1 0 (le-leb k n (omega (arith, eq))))
-    by (inr (inl lt)) = omega (arith, cond-false {A = ℕ} (n == k) 1 0 (ne_eqb n k (λ e. omega (arith, e, lt))), cond-false {A = ℕ} (nat_le (k + 1) n) 1 0 (lt-leb (k + 1) n (omega arith)), cond-false {A = ℕ} (nat_le k n) 1 0 (lt-leb k n lt))
-    by (inr (inr gt)) = omega (arith, cond-false {A = ℕ} (n == k) 1 0 (ne_eqb n k (λ e. omega (arith, e, gt))), cond-true {A = ℕ} (nat_le (k + 1) n) 1 0 (le-leb (k + 1) n (omega arith)), cond-true {A = ℕ} (nat_le k n) 1 0 (le-leb k n (omega arith)))
+    by (inl eq) =
+        omega (
+          arith,
+          cond-true {A = ℕ} (n == k) 1 0 (eq-eqb n k eq),
+          cond-false {A = ℕ} (nat_le (k + 1) n) 1 0 (lt-leb (k + 1) n (omega (arith, eq))),
+          cond-true
+              {A = ℕ} (nat_le k n) 1 0 (le-leb k n (omega (arith, eq))),
+        )
+    by (inr (inl lt)) =
+        omega (
+          arith,
+          cond-false {A = ℕ} (n == k) 1 0 (ne_eqb n k (λ e. omega (arith, e, lt))),
+          cond-false {A = ℕ} (nat_le (k + 1) n) 1 0
+              (lt-leb (k + 1) n (omega arith)),
+          cond-false {A = ℕ} (nat_le k n) 1 0 (lt-leb k n lt),
+        )
+    by (inr (inr gt)) =
+        omega (
+          arith,
+          cond-false {A = ℕ} (n == k) 1 0 (ne_eqb n k (λ e. omega (arith, e, gt))),
+          cond-true {A = ℕ} (nat_le (k + 1) n) 1 0
+              (le-leb (k + 1) n (omega arith)),
+          cond-true {A = ℕ} (nat_le k n) 1 0 (le-leb k n (omega arith)),
+        )
 
 split_reach : (k : ℕ) (lines : List Line) → count_by (λ line. line.object == k) lines + reach (k + 1) lines ≡ reach k lines
 split_reach k [] = refl
@@ -74,10 +94,17 @@ reach_none k (x ∷ xs) all =
 reach_all : (lines : List Line) → reach 0 lines ≡ length lines
 reach_all [] = refl
 reach_all (x ∷ xs) =
-    omega (arith, sum_by-cons (λ (line : Line). cond (nat_le 0 line.object) 1 0) x xs, cond-true {A = ℕ} (nat_le 0 x.object) 1 0 (le-leb 0 x.object (omega arith)), reach_all xs)
+    omega (
+      arith,
+      sum_by-cons (λ (line : Line). cond (nat_le 0 line.object) 1 0) x xs,
+      cond-true {A = ℕ} (nat_le 0 x.object) 1 0 (le-leb 0 x.object (omega arith)),
+      reach_all xs,
+    )
 
-commands_from : (s : Said) (k : ℕ) (parts : List Part) → OwnsFrom s k parts → All (λ line. line.object < k + length parts) s.lines → sum_by (λ part. length part.commands) parts ≡ reach k s.lines
-commands_from s k [] owns all = sym (reach_none k s.lines (All-weaker (λ line. line.object < k + 0) (λ line. line.object < k) (λ line base_logs. omega (arith, base_logs)) s.lines all))
+commands_from : (s : Said) (k : ℕ) (parts : List Part) → OwnsFrom s k parts → All (λ line. line.object < k + length parts) s.lines
+    → sum_by (λ part. length part.commands) parts ≡ reach k s.lines
+commands_from s k [] owns all =
+    sym (reach_none k s.lines (All-weaker (λ line. line.object < k + 0) (λ line. line.object < k) (λ line base_logs. omega (arith, base_logs)) s.lines all))
 commands_from s k (p ∷ ps) owns all =
     let within : All (λ line. line.object < (k + 1) + length ps) s.lines =
     All-weaker (λ line. line.object < k + suc (length ps)) (λ line. line.object < (k + 1) + length ps) (λ line base_logs. omega (arith, base_logs)) s.lines all in
@@ -101,25 +128,11 @@ commands_all s parts owns same declared =
 pub objects_of_parts : (script : WholeScript PartCollector) (s : Said) → IsByObjects script s → length script.kept.parts.items ≡ length s.objects
 objects_of_parts script s are = sym (length-map script.kept.parts.items (λ (p : Part). p.decl)) ∙ ap length are.keeps.decls
 
-pub commands_of_parts : (script : WholeScript PartCollector) (s : Said) → IsByObjects script s → sum_by (λ part. length part.commands) script.kept.parts.items ≡ length s.lines
+pub commands_of_parts : (script : WholeScript PartCollector) (s : Said) → IsByObjects script s
+    → sum_by (λ part. length part.commands) script.kept.parts.items ≡ length s.lines
 commands_of_parts script s are = commands_all s script.kept.parts.items are.keeps.commands (objects_of_parts script s are) are.valid.declared
 
 -- ---- sums of tallies
-
-pub tally_none : (t : Tally) → both_tallies no_tally t ≡ t
-tally_none t = λ i. record { ok = zero_add t.ok i; refused = zero_add t.refused i; chunks = zero_add t.chunks i; segments = zero_add t.segments i; kept = zero_add t.kept i; slots = zero_add t.slots i }
-  where
-    zero_add : (n : ℕ) → 0 + n ≡ n
-    zero_add n = omega arith
-
-pub tally_last : (t : Tally) → both_tallies t no_tally ≡ t
-tally_last t = λ i. record { ok = add-zero t.ok i; refused = add-zero t.refused i; chunks = add-zero t.chunks i; segments = add-zero t.segments i; kept = add-zero t.kept i; slots = add-zero t.slots i }
-
-pub tally_regroup : (a b c : Tally) → both_tallies (both_tallies a b) c ≡ both_tallies a (both_tallies b c)
-tally_regroup a b c = λ i. record { ok = regroup a.ok b.ok c.ok i; refused = regroup a.refused b.refused c.refused i; chunks = regroup a.chunks b.chunks c.chunks i; segments = regroup a.segments b.segments c.segments i; kept = regroup a.kept b.kept c.kept i; slots = regroup a.slots b.slots c.slots i }
-  where
-    regroup : (x y z : ℕ) → (x + y) + z ≡ x + (y + z)
-    regroup x y z = omega arith
 
 -- after the first i parts were counted, what they come to with the others is what all come to
 abbrev pub Counted : Version → List Part → ℕ → Tally → Type 0
@@ -142,9 +155,10 @@ counted_all v parts i tally all counted =
     sym (tally_last tally) ∙ ap (λ ps. both_tallies tally (tally_all v (map own_of ps))) (sym none) ∙ counted
 
 -- the totals of a script's parts
-pub total_is : (script : WholeScript PartCollector) (s : Said) (tally : Tally) (objects : ℕ) → IsByObjects script s → tally ≡ tally_all script.version (map own_of script.kept.parts.items)
+pub total_is : (script : WholeScript PartCollector) (s : Said) (tally : Tally) (objects : ℕ) → IsByObjects script s
+    → tally ≡ tally_all script.version (map own_of script.kept.parts.items)
     → tally.ok + tally.refused ≡ sum_by (λ part. length part.commands) script.kept.parts.items → objects ≡ length script.kept.parts.items
-    → record { objects = objects; commands = tally.ok + tally.refused; ok = tally.ok; refused = tally.refused; chunks = tally.chunks; segments = tally.segments; kept = tally.kept; slots = tally.slots } ≡ totals_of s
+    → totals_with objects tally ≡ totals_of s
 total_is script s tally objects are is replies len =
     let ps : List Part = script.kept.parts.items in
     let all : tally ≡ tally_all s.version (objects_of s) = is ∙ (λ i. tally_all (sym are.version i) (parts_are_objects s ps are.keeps.decls are.keeps.commands i)) in
@@ -163,31 +177,17 @@ total_is script s tally objects are is replies len =
 
 -- ---- one object
 
-count_not : (replies : List Reply) → count_by (λ r. not (is_refusal r)) replies + count_by is_refusal replies ≡ length replies
-count_not [] = refl
-count_not (r ∷ rs) =
-    omega (arith, one (is_refusal r), count_not rs, sum_by-cons (λ (r : Reply). cond (not (is_refusal r)) 1 0) r rs, sum_by-cons (λ (r : Reply). cond (is_refusal r) 1 0) r rs)
-  where
-    one : (b : Bool) → cond (not b) 1 0 + cond b 1 0 ≡ 1
-    one true = refl
-    one false = refl
-
-pub length_replies : (v : Version) (quota : ℕ) (s : ObjectState) (commands : List Command) → length (replies_from v quota s commands) ≡ length commands
-length_replies v quota s [] = refl
-length_replies v quota s (c ∷ cs) = ap suc (length_replies v quota (object_step v quota s c).object cs)
-
-pub not_refused : (replies : List Reply) (n refused : ℕ) → n ≡ length replies → refused ≡ count_by is_refusal replies → n - refused ≡ count_by (λ r. not (is_refusal r)) replies
-not_refused replies n refused all is = omega (arith, all, is, count_not replies)
-
 -- with so many refusals so far, those of the replies to the commands that are left make those of the whole run
 pub record Refusing (start now : ObjectMeaning) (commands rest : List Command) (refused : ℕ) : Type 0 where
   pub version : now.heap.version ≡ start.heap.version
   pub quota : now.heap.quota ≡ start.heap.quota
-  pub counted : refused + count_by is_refusal (replies_from start.heap.version start.heap.quota (state_of now) rest) ≡ count_by is_refusal (replies_from start.heap.version start.heap.quota (state_of start) commands)
+  pub counted : refused + count_by is_refusal (replies_from start.heap.version start.heap.quota (state_of now) rest)
+      ≡ count_by is_refusal (replies_from start.heap.version start.heap.quota (state_of start) commands)
   pub ends : object_after start.heap.version start.heap.quota (state_of now) rest ≡ object_after start.heap.version start.heap.quota (state_of start) commands
 
 -- one command more was run
-refusing_more : (start now next : ObjectMeaning) (commands rest after : List Command) (c : Command) (reply : Reply) (refused more : ℕ) → Refusing start now commands rest refused → rest ≡ c ∷ after
+refusing_more : (start now next : ObjectMeaning) (commands rest after : List Command) (c : Command) (reply : Reply) (refused more : ℕ)
+    → Refusing start now commands rest refused → rest ≡ c ∷ after
     → reply ≡ (step_by now c).reply → state_of next ≡ (step_by now c).object → next.heap.version ≡ now.heap.version → next.heap.quota ≡ now.heap.quota
     → more ≡ refused + cond (is_refusal reply) 1 0 → Refusing start next commands after more
 refusing_more start now next commands rest after c reply refused more r cut replied left version quota counts =
@@ -197,7 +197,8 @@ refusing_more start now next commands rest after c reply refused more r cut repl
     let step : step_by now c ≡ object_step v q (state_of now) c = λ j. object_step (r.version j) (r.quota j) (state_of now) c in
     let said : reply ≡ (object_step v q (state_of now) c).reply = replied ∙ ap (λ (a : ObjectAnswer). a.reply) step in
     let state : state_of next ≡ (object_step v q (state_of now) c).object = left ∙ ap (λ (a : ObjectAnswer). a.object) step in
-    let whole : replies_from v q (state_of now) rest ≡ reply ∷ others = ap (replies_from v q (state_of now)) cut ∙ (λ j. sym said j ∷ replies_from v q (sym state j) after) in
+    let whole : replies_from v q (state_of now) rest ≡ reply ∷ others =
+    ap (replies_from v q (state_of now)) cut ∙ (λ j. sym said j ∷ replies_from v q (sym state j) after) in
     record {
       version = version ∙ r.version;
       quota = quota ∙ r.quota;
@@ -206,16 +207,19 @@ refusing_more start now next commands rest after c reply refused more r cut repl
     }
 
 -- the ith command was run
-pub refusing_ran : (commands : List Command) (i : ℕ) (start now next : ObjectMeaning) (reply : Reply) (refused more : ℕ) → i < length commands → Refusing start now commands (drop i commands) refused
+pub refusing_ran : (commands : List Command) (i : ℕ) (start now next : ObjectMeaning) (reply : Reply) (refused more : ℕ) → i < length commands
+    → Refusing start now commands (drop i commands) refused
     → IfSome (slice_get commands i) (λ c. Ran now c next reply) → more ≡ refused + cond (is_refusal reply) 1 0 → Refusing start next commands (drop (i + 1) commands) more
 refusing_ran commands i start now next reply refused more within r ran counts =
     let at = command_at commands i within in
     let did : Ran now at.one next reply = command_fact (λ c. Ran now c next reply) (slice_get commands i) at.one at.is ran in
-    refusing_more start now next commands _ _ at.one reply refused more r at.cut did.reply did.step.object (ap (λ (h : HeapMeaning). h.version) did.step.heap) (ap (λ (h : HeapMeaning). h.quota) did.step.heap) counts
+    refusing_more start now next commands _ _ at.one reply refused more r at.cut did.reply did.step.object (ap (λ (h : HeapMeaning). h.version) did.step.heap)
+    (ap (λ (h : HeapMeaning). h.quota) did.step.heap) counts
 
 -- all commands were run
 pub refusing_all : (start now : ObjectMeaning) (commands rest : List Command) (refused : ℕ) → Refusing start now commands rest refused → rest ≡ []
-    → (refused ≡ count_by is_refusal (replies_from start.heap.version start.heap.quota (state_of start) commands)) × (state_of now ≡ object_after start.heap.version start.heap.quota (state_of start) commands)
+    → (refused ≡ count_by is_refusal (replies_from start.heap.version start.heap.quota (state_of start) commands))
+    × (state_of now ≡ object_after start.heap.version start.heap.quota (state_of start) commands)
 refusing_all start now commands rest refused r none =
     let v : Version = start.heap.version in
     let q : ℕ = start.heap.quota in (
@@ -225,14 +229,7 @@ refusing_all start now commands rest refused r none =
 
 -- what replies and an end come to
 abbrev pub counted : List Reply → ObjectState → Tally
-counted replies s = record {
-  ok = count_by (λ r. not (is_refusal r)) replies;
-  refused = count_by is_refusal replies;
-  chunks = len s.heap.live;
-  segments = held s.heap.live;
-  kept = length s.logs;
-  slots = slots s.logs;
-}
+counted replies s = tally_with replies s.heap.live (length s.logs) (slots s.logs)
 
 tally_is : (v : Version) (part : Part)
     → tally_of v (own_of part) ≡ counted (replies_from v part.decl.quota object_start part.commands) (object_after v part.decl.quota object_start part.commands)
@@ -248,12 +245,14 @@ slots_few (e ∷ es) lawful = omega (arith, lawful.0, lawful.1.0)
 pub log_list : RunsKeepLogs → (start now : ObjectMeaning) (commands : List Command) → state_of start ≡ object_start
     → state_of now ≡ object_after start.heap.version start.heap.quota (state_of start) commands → IsLogList now.chain.logs
 log_list keep start now commands begun ends =
-    subst (λ (s : ObjectState). IsLogList s.logs) (sym (ends ∙ ap (λ s. object_after start.heap.version start.heap.quota s commands) begun)) (keep start.heap.version start.heap.quota commands)
+    subst (λ (s : ObjectState). IsLogList s.logs) (sym (ends ∙ ap (λ s. object_after start.heap.version start.heap.quota s commands) begun))
+    (keep start.heap.version start.heap.quota commands)
 
 -- those of a run are what the part comes to
 pub tally_shown : (part : Part) (start : ObjectMeaning) (commands : List Command)
     → commands ≡ part.commands → start.heap.quota ≡ part.decl.quota → state_of start ≡ object_start
-    → counted (replies_from start.heap.version start.heap.quota (state_of start) commands) (object_after start.heap.version start.heap.quota (state_of start) commands) ≡ tally_of start.heap.version (own_of part)
+    → counted (replies_from start.heap.version start.heap.quota (state_of start) commands)
+    (object_after start.heap.version start.heap.quota (state_of start) commands) ≡ tally_of start.heap.version (own_of part)
 tally_shown part start commands same quota begun =
     let v : Version = start.heap.version in
     (λ i. counted (replies_from v (quota i) (begun i) (same i)) (object_after v (quota i) (begun i) (same i))) ∙ sym (tally_is v part)

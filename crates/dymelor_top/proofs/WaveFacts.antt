@@ -24,7 +24,8 @@ module _ (segments : ℕ) where
   above_decl : (parts : List Part) → first_above segments (map (λ (p : Part). p.decl) parts) ≡ option_map (λ (p : Part). p.decl) (find is_above parts)
   above_decl [] = refl
   above_decl (p ∷ ps) =
-      elim (is_above p) as (λ b. cond b (Some p.decl) (first_above segments (map (λ (p : Part). p.decl) ps)) ≡ option_map (λ (p : Part). p.decl) (cond b (Some p) (find is_above ps))) [
+      elim (is_above p)
+      as (λ b. cond b (Some p.decl) (first_above segments (map (λ (p : Part). p.decl) ps)) ≡ option_map (λ (p : Part). p.decl) (cond b (Some p) (find is_above ps))) [
         | true ↦ refl
         | false ↦ above_decl ps
       ]
@@ -43,11 +44,13 @@ no_part None is = refl
 no_part (Some p) is = absurd (cc)
 
 -- where no line was found, all objects fit
-pub all_fit : (segments : ℕ) (parts : List Part) → None ≡ option_map (λ (p : Part). p.decl.line) (find (is_above segments) parts) → All (λ (p : Part). p.decl.quota ≤ segments) parts
+pub all_fit : (segments : ℕ) (parts : List Part) → None ≡ option_map (λ (p : Part). p.decl.line) (find (is_above segments) parts)
+    → All (λ (p : Part). p.decl.quota ≤ segments) parts
 all_fit segments parts none = none_above segments parts (no_part (find (is_above segments) parts) none)
 
 module _ (segments : ℕ) (text : List ℕ) where
-  told_line : (o : Option Part) (line : ℕ) → Some line ≡ option_map (λ (p : Part). p.decl.line) o → unless_above text (option_map (λ (p : Part). p.decl) o) ≡ fault_answer line bad.QuotaRange
+  told_line : (o : Option Part) (line : ℕ) → Some line ≡ option_map (λ (p : Part). p.decl.line) o
+      → unless_above text (option_map (λ (p : Part). p.decl) o) ≡ fault_answer line bad.QuotaRange
   told_line None line is = absurd (cc)
   told_line (Some p) line is =
       let same : p.decl.line ≡ line = cc in

@@ -21,7 +21,8 @@ lines_of v quota s commands = flat_map reply_line (replies_from v quota s comman
 pub record Written (start now : ObjectMeaning) (commands rest : List Command) (page : List ℕ) (old new : Output) : Type 0 where
   pub version : now.heap.version ≡ start.heap.version
   pub quota : now.heap.quota ≡ start.heap.quota
-  pub leaves : Leaves old new (lines_of start.heap.version start.heap.quota (state_of start) commands) (page ++ lines_of start.heap.version start.heap.quota (state_of now) rest)
+  pub leaves : Leaves old new (lines_of start.heap.version start.heap.quota (state_of start) commands)
+      (page ++ lines_of start.heap.version start.heap.quota (state_of now) rest)
   pub ends : object_after start.heap.version start.heap.quota (state_of now) rest ≡ object_after start.heap.version start.heap.quota (state_of start) commands
 
 -- nothing is written yet
@@ -36,17 +37,20 @@ module _ (start now : ObjectMeaning) (commands rest after : List Command) (c : C
   step = λ j. object_step (w.version j) (w.quota j) (state_of now) c
 
   -- what is left begins with the page and the line of this reply
-  line_first : Leaves old mid (lines_of start.heap.version start.heap.quota (state_of start) commands) ((page ++ reply_line reply) ++ lines_of start.heap.version start.heap.quota (step_by now c).object after)
+  line_first : Leaves old mid (lines_of start.heap.version start.heap.quota (state_of start) commands)
+      ((page ++ reply_line reply) ++ lines_of start.heap.version start.heap.quota (step_by now c).object after)
   line_first =
       let v : Version = start.heap.version in
       let q : ℕ = start.heap.quota in
       let others : List ℕ = lines_of v q (step_by now c).object after in
       let said : lines_of v q (state_of now) rest ≡ reply_line reply ++ others =
-      ap (lines_of v q (state_of now)) cut ∙ (λ j. reply_line (sym step j).reply ++ lines_of v q (sym step j).object after) ∙ ap (λ r. reply_line r ++ others) (sym replied) in
+      ap (lines_of v q (state_of now)) cut ∙ (λ j. reply_line (sym step j).reply ++ lines_of v q (sym step j).object after)
+      ∙ ap (λ r. reply_line r ++ others) (sym replied) in
       leaves_same old mid _ _ _ w.leaves (ap (λ l. page ++ l) said ∙ sym (append_assoc page (reply_line reply) others))
 
   -- the line was added to the page
-  pub written_more : (next : ObjectMeaning) (left : List ℕ) → state_of next ≡ (step_by now c).object → next.heap.version ≡ now.heap.version → next.heap.quota ≡ now.heap.quota
+  pub written_more : (next : ObjectMeaning) (left : List ℕ) → state_of next ≡ (step_by now c).object → next.heap.version ≡ now.heap.version
+      → next.heap.quota ≡ now.heap.quota
       → Leaves mid new (page ++ reply_line reply) left → Written start next commands after left old new
   written_more next left state version quota added =
       let v : Version = start.heap.version in
@@ -55,7 +59,8 @@ module _ (start now : ObjectMeaning) (commands rest after : List Command) (c : C
       record {
         version = version ∙ w.version;
         quota = quota ∙ w.quota;
-        leaves = leaves_same old new _ _ _ (leaves_within old mid new _ (page ++ reply_line reply) (lines_of v q (step_by now c).object after) left line_first added) (λ j. left ++ lines_of v q (sym state j) after);
+        leaves = leaves_same old new _ _ _ (leaves_within old mid new _ (page ++ reply_line reply) (lines_of v q (step_by now c).object after) left line_first added)
+            (λ j. left ++ lines_of v q (sym state j) after);
         ends = ap (λ s. object_after v q s after) ran ∙ ap (object_after v q (state_of now)) (sym cut) ∙ w.ends;
       }
 
@@ -64,7 +69,8 @@ module _ (start now : ObjectMeaning) (commands rest after : List Command) (c : C
   written_cut stopped = leaves_cut old mid new _ (page ++ reply_line reply) _ line_first stopped
 
 -- no command is left
-module _ (start now : ObjectMeaning) (commands rest : List Command) (page : List ℕ) (old mid : Output) (w : Written start now commands rest page old mid) (none : rest ≡ []) where
+module _ (start now : ObjectMeaning) (commands rest : List Command) (page : List ℕ) (old mid : Output) (w : Written start now commands rest page old mid)
+    (none : rest ≡ []) where
   page_left : Leaves old mid (lines_of start.heap.version start.heap.quota (state_of start) commands) page
   page_left =
       let v : Version = start.heap.version in
@@ -90,7 +96,9 @@ module _ (commands : List Command) (i : ℕ) (start now next : ObjectMeaning) (p
   did = command_fact (λ c. Ran now c next reply) (slice_get commands i) at.one at.is ran
 
   pub ran_more : (left : List ℕ) → Leaves mid new (page ++ reply_line reply) left → Written start next commands (drop (i + 1) commands) left old new
-  ran_more left added = written_more start now commands _ _ at.one page reply old mid new w at.cut did.reply next left did.step.object (ap (λ (h : HeapMeaning). h.version) did.step.heap) (ap (λ (h : HeapMeaning). h.quota) did.step.heap) added
+  ran_more left added =
+      written_more start now commands _ _ at.one page reply old mid new w at.cut did.reply next left did.step.object
+      (ap (λ (h : HeapMeaning). h.version) did.step.heap) (ap (λ (h : HeapMeaning). h.quota) did.step.heap) added
 
   pub ran_cut : Stopped mid new (page ++ reply_line reply) → Stopped old new (lines_of start.heap.version start.heap.quota (state_of start) commands)
   ran_cut stopped = written_cut start now commands _ _ at.one page reply old mid new w at.cut did.reply stopped

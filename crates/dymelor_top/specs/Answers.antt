@@ -1,5 +1,5 @@
 -- The defined answer to an order: a status and a text.
-use Rattle.std.specs.Prelude.{⊤, ◌≡◌, ◌⊎◌, ℕ, Bool, true, false, nat_lt, if◌then◌else◌, MatchBool, List, length, Option, None, Some, Result, Ok, Err}
+use Rattle.std.specs.Prelude.{◌≡◌, ◌⊎◌, ℕ, Bool, true, false, nat_lt, if◌then◌else◌, MatchBool, List, length, Option, None, Some, Result, Ok, Err}
 use Rattle.std.specs.List.{find}
 use Rattle.dym_base.specs.declared.limits.TheConstants.{MOST_INPUT_BYTES}
 use Rattle.dym_base.specs.declared.bad_kind.BadKind.{BadKind}
@@ -14,6 +14,8 @@ use Rattle.dym_trace.specs.declared.answer.TraceAnswer.{TraceAnswer}
 use Rattle.dym_trace.specs.declared.answer.TraceAnswer.TheVariants.{Good, Bad}
 use Rattle.dym_trace.specs.Verdict.{IsVerdict}
 use Rattle.dym_gen.specs.Scripts.{generated}
+use Rattle.dym_words.specs.declared.order.Input.{Input}
+use Rattle.dym_words.specs.declared.order.Input.TheVariants.{Script, GenNumbers}
 use Rattle.dym_report.specs.Orders.{counts_text, events_text, error_text, usage_text}
 use Rattle.dymelor_top.specs.declared.plan.Reading.{Reading}
 use Rattle.dymelor_top.specs.declared.plan.Reading.TheVariants as reading
@@ -23,8 +25,8 @@ use Rattle.dymelor_top.specs.declared.plan.Plan.{Plan}
 use Rattle.dymelor_top.specs.declared.plan.Plan.TheVariants as plan
 use Rattle.dymelor_top.specs.Checkpoints.{HoldsLogs, own_named, own_file, loaded_text}
 use Rattle.dymelor_top.specs.LateReport.{late_text}
-use Rattle.dym_run.specs.Report.{Own, report_text}
-use Rattle.dym_run.specs.Summary.{summary_of}
+use Rattle.dym_report.specs.Report.{Own, report_text}
+use Rattle.dym_report.specs.Summary.{summary_of}
 use Rattle.dym_run.specs.Views.{views_text}
 
 pub record Answer : Type 0 where
@@ -131,12 +133,10 @@ IsRead reading.Trace bytes answer = IsTraceAnswer bytes answer
 IsRead (reading.File name) bytes answer = answer ≡ saved_answer name (script_of bytes)
 IsRead (reading.Loaded time) bytes answer = IsLoadAnswer time bytes answer
 IsRead reading.Late bytes answer = answer ≡ of_late (late_of bytes)
-IsRead (reading.Waves segments text) bytes answer = answer ≡ of_waves segments (waves_text text) (script_of bytes)
 
--- a reading that starts no thread
-abbrev pub IsStill : Reading → Type 0
-IsStill (reading.Waves segments text) = ⊥
-IsStill r = ⊤
+-- the answer to a script whose objects run in waves over so many segments
+abbrev pub IsInWaves : ℕ → WaveText → List ℕ → Answer → Type 0
+IsInWaves segments text bytes answer = answer ≡ of_waves segments (waves_text text) (script_of bytes)
 
 -- the answer to an order to make a script: its text
 abbrev pub made_answer : ℕ → ℕ → ℕ → Answer
@@ -145,17 +145,26 @@ made_answer seed objects commands = record { status = 0; text = generated seed o
 abbrev pub usage_answer : Answer
 usage_answer = record { status = 1; text = usage_text }
 
--- the answer that a plan has, for the bytes of its input
+-- the bytes that a plan is for: those that are read, or the script that the generator makes
+abbrev pub input_bytes : Input → List ℕ → List ℕ
+input_bytes Script bytes = bytes
+input_bytes (GenNumbers seed objects commands) bytes = generated seed objects commands
+
+-- the answer that a plan has, for the bytes that are read
 abbrev pub IsAnswer : Plan → List ℕ → Answer → Type 0
-IsAnswer (plan.Read reading) bytes answer = IsRead reading bytes answer
-IsAnswer (plan.ReadMade reading seed objects commands) bytes answer = IsRead reading (generated seed objects commands) answer
+IsAnswer (plan.Read input reading) bytes answer = IsRead reading (input_bytes input bytes) answer
+IsAnswer (plan.Run run) bytes answer = IsInWaves run.segments run.text (input_bytes run.input bytes) answer
 IsAnswer (plan.Make seed objects commands) bytes answer = answer ≡ made_answer seed objects commands
 IsAnswer plan.Usage bytes answer = answer ≡ usage_answer
 
+abbrev pub is_read : Input → Bool
+is_read Script = true
+is_read (GenNumbers seed objects commands) = false
+
 -- whether a plan reads its source
 abbrev pub reads : Plan → Bool
-reads (plan.Read reading) = true
-reads (plan.ReadMade reading seed objects commands) = false
+reads (plan.Read input reading) = is_read input
+reads (plan.Run run) = is_read run.input
 reads (plan.Make seed objects commands) = false
 reads plan.Usage = false
 

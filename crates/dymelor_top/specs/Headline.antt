@@ -9,8 +9,8 @@ use Rattle.dym_io.specs.Source.{TookAtMost}
 use Rattle.dym_io.specs.Sink.{Output, AllFlushed, Appended, AppendedFront, Blames}
 use Rattle.dym_words.specs.declared.order.Order.{Order}
 use Rattle.dym_words.specs.declared.order.Usage.{Usage}
-use Rattle.dym_run.specs.declared.write_fail.WriteFail.{WriteFail}
-use Rattle.dym_run.specs.declared.write_fail.WriteFail.TheVariants as fail
+use Rattle.dym_report.specs.declared.write_fail.WriteFail.{WriteFail}
+use Rattle.dym_report.specs.declared.write_fail.WriteFail.TheVariants as fail
 use Rattle.dymelor_top.specs.declared.plan.Plan.{Plan}
 use Rattle.dymelor_top.specs.Plans.{plan_of, whole_plan_of}
 use Rattle.dymelor_top.specs.declared.plan.Plan.TheVariants as plan

@@ -1,8 +1,7 @@
--- What is done for an order. Orders that aren't served yet are answered as words of no order.
-use Rattle.std.specs.Prelude.{ℕ, Bool, true, false, Option, None, Some, Result, Ok, Err}
-use Rattle.dym_run.specs.declared.shape.Shape.{Shape}
-use Rattle.dym_words.specs.declared.order.Input.{Input}
-use Rattle.dym_words.specs.declared.order.Input.TheVariants.{Script, GenNumbers}
+-- What is done for an order.
+use Rattle.std.specs.Prelude.{⊤, Bool, true, false, Result, Ok, Err}
+use Rattle.dym_words.specs.Laws.{CanBeMade, CanRun, IsInputWithin}
+use Rattle.dym_words.specs.declared.order.Input.TheVariants.{Script}
 use Rattle.dym_words.specs.declared.order.Order.{Order}
 use Rattle.dym_words.specs.declared.order.Order.TheVariants.{Plain, Run, Check, Gen, Trace, Save, Load, Views, Late}
 use Rattle.dym_words.specs.declared.order.Usage.{Usage}
@@ -17,40 +16,36 @@ abbrev pub report_or_summary : Bool → Reading
 report_or_summary true = reading.Summary
 report_or_summary false = reading.Report
 
-abbrev pub plain_plan : Input → Bool → Plan
-plain_plan Script summary = plan.Read (report_or_summary summary)
-plain_plan (GenNumbers seed objects commands) summary = plan.ReadMade (report_or_summary summary) seed objects commands
-
--- an order to run a script in waves and write this of it, where all objects that run at a time have so many segments
-abbrev pub waves_plan : ℕ → Input → WaveText → Plan
-waves_plan segments Script text = plan.Read (reading.Waves segments text)
-waves_plan segments (GenNumbers seed objects commands) text = plan.ReadMade (reading.Waves segments text) seed objects commands
-
 abbrev pub run_text : Bool → WaveText
 run_text true = wave.Summary
 run_text false = wave.Report
 
--- what is done by a call that starts no thread
-abbrev pub plan_of : Result Order Usage → Plan
-plan_of (Ok (Plain input summary)) = plain_plan input summary
-plan_of (Ok (Run workers segments quantum input summary)) = plan.Usage
-plan_of (Ok Check) = plan.Read reading.Counts
-plan_of (Ok (Gen seed objects commands)) = plan.Make seed objects commands
-plan_of (Ok Trace) = plan.Read reading.Trace
-plan_of (Ok (Save name)) = plan.Read (reading.File name)
-plan_of (Ok (Load time)) = plan.Read (reading.Loaded time)
-plan_of (Ok (Views workers segments quantum)) = plan.Usage
-plan_of (Ok Late) = plan.Read reading.Late
-plan_of (Err usage) = plan.Usage
-
--- what is done by a call that may start threads: it runs scripts in waves too, and shows the views of their objects
+-- what is done by a call that may start threads
 abbrev pub whole_plan_of : Result Order Usage → Plan
-whole_plan_of (Ok (Run workers segments quantum input summary)) = waves_plan segments input (run_text summary)
-whole_plan_of (Ok (Views workers segments quantum)) = waves_plan segments Script wave.Views
-whole_plan_of order = plan_of order
+whole_plan_of (Ok (Plain input summary)) = plan.Read input (report_or_summary summary)
+whole_plan_of (Ok (Run workers segments quantum input summary)) =
+    plan.Run (record { input = input; workers = workers; segments = segments; quantum = quantum; text = run_text summary })
+whole_plan_of (Ok Check) = plan.Read Script reading.Counts
+whole_plan_of (Ok (Gen seed objects commands)) = plan.Make seed objects commands
+whole_plan_of (Ok Trace) = plan.Read Script reading.Trace
+whole_plan_of (Ok (Save name)) = plan.Read Script (reading.File name)
+whole_plan_of (Ok (Load time)) = plan.Read Script (reading.Loaded time)
+whole_plan_of (Ok (Views workers segments quantum)) =
+    plan.Run (record { input = Script; workers = workers; segments = segments; quantum = quantum; text = wave.Views })
+whole_plan_of (Ok Late) = plan.Read Script reading.Late
+whole_plan_of (Err usage) = plan.Usage
 
--- how the objects of an order run side by side, where they run in waves: by these workers, over these segments, with this quantum
-abbrev pub shape_of : Result Order Usage → Option Shape
-shape_of (Ok (Run workers segments quantum input summary)) = Some (record { workers = workers; segments = segments; quantum = quantum })
-shape_of (Ok (Views workers segments quantum)) = Some (record { workers = workers; segments = segments; quantum = quantum })
-shape_of order = None
+-- the plan of a call that starts no thread: an order to run in waves is answered as words of no order
+abbrev pub without_threads : Plan → Plan
+without_threads (plan.Run run) = plan.Usage
+without_threads p = p
+
+abbrev pub plan_of : Result Order Usage → Plan
+plan_of order = without_threads (whole_plan_of order)
+
+-- the numbers of a plan are within the limits
+abbrev pub IsPlanWithin : Plan → Type 0
+IsPlanWithin (plan.Read input reading) = IsInputWithin input
+IsPlanWithin (plan.Run run) = CanRun run.workers run.segments run.quantum × IsInputWithin run.input
+IsPlanWithin (plan.Make seed objects commands) = CanBeMade objects commands
+IsPlanWithin plan.Usage = ⊤

@@ -1,9 +1,9 @@
 -- Why a top call stops, and the status that tells of it.
-use Rattle.std.specs.Prelude.{ℕ}
+use Rattle.std.specs.Prelude.{ℕ, Result, Ok, Err}
 use Rattle.dym_io.specs.declared.whole_input.ReadFail.{ReadFail}
 use Rattle.dym_io.specs.declared.whole_input.ReadFail.TheVariants as read
-use Rattle.dym_run.specs.declared.write_fail.WriteFail.{WriteFail}
-use Rattle.dym_run.specs.declared.write_fail.WriteFail.TheVariants as write
+use Rattle.dym_report.specs.declared.write_fail.WriteFail.{WriteFail}
+use Rattle.dym_report.specs.declared.write_fail.WriteFail.TheVariants as write
 use Rattle.dymelor_top.specs.declared.stop.Stop.{Stop}
 use Rattle.dymelor_top.specs.declared.stop.Stop.TheVariants as stop
 
@@ -11,6 +11,11 @@ abbrev pub stop_status : Stop → ℕ
 stop_status stop.Source = 3
 stop_status stop.Sink = 4
 stop_status stop.Memory = 5
+
+-- the status of a call that ended, or stopped before it had written its whole answer
+abbrev pub status_of : Result ℕ Stop → ℕ
+status_of (Ok status) = status
+status_of (Err stop) = stop_status stop
 
 abbrev pub of_read : ReadFail → Stop
 of_read read.Source = stop.Source

@@ -1,15 +1,13 @@
 //! What is made of an input that was read.
-ghost use Rattle.std.specs.Prelude.{◌≡◌, ◌≤◌, ◌⊎◌, ◌+◌, ℕ, List, Some, drop, Result, IfOk, OnOk, IsErrOf};
+ghost use Rattle.std.specs.Prelude.{◌≡◌, ◌⊎◌, ◌+◌, ℕ, List, Some, drop, Result, IfOk, OnOk, IsErrOf};
 ghost use Rattle.dym_base.specs.declared.limits.TheConstants.{MOST_INPUT_BYTES};
 ghost use Rattle.dym_io.specs.Faults.{RoseOnce};
 ghost use Rattle.dym_io.specs.Source.{TookAtMost};
-ghost use Rattle.dym_script.specs.Scripts.{Said, Fault, script_of};
-ghost use Rattle.dym_script.specs.Answers.{GivesBy};
+ghost use Rattle.dym_script.specs.Scripts.{Said, Fault};
 ghost use Rattle.dym_script.specs.ByObjects.{GivesParts, GivesCounts};
-ghost use Rattle.dym_script.specs.Keepers.{IsWhole};
-ghost use Rattle.dym_run.specs.Report.{report_text};
-ghost use Rattle.dym_run.specs.Summary.{summary_of};
-ghost use Rattle.dymelor_top.specs.Answers.{of_script, counts_of, IsRead, IsStill, IsTraceAnswer};
+ghost use Rattle.dym_report.specs.Report.{report_text};
+ghost use Rattle.dym_report.specs.Summary.{summary_of};
+ghost use Rattle.dymelor_top.specs.Answers.{of_script, counts_of, IsRead, IsTraceAnswer};
 ghost use Rattle.dymelor_top.specs.Headline.{Writes, WritesSo, WritesAnswer, Counted};
 ghost use Rattle.dymelor_top.specs.declared.stop.Stop.TheVariants.{Source as SourceStopped, Sink as SinkStopped};
 
@@ -24,8 +22,7 @@ use crate::summary::total;
 use dym_base::BadKind;
 use dym_base::limits::MOST_INPUT_BYTES;
 use dym_io::{Sink, Source, read_whole};
-use dym_report::{write_counts, write_error, write_events, write_summary};
-use dym_run::WriteFail;
+use dym_report::{WriteFail, write_counts, write_error, write_events, write_summary};
 use dym_script::{Counter, PartCollector, ScriptFail, WholeScript};
 use dym_trace::{TraceAnswer, check_trace};
 use std::alloc::Global;
@@ -38,8 +35,7 @@ pub fn answer_source<R: Source, W: Sink>(
     source: &mut R,
     sink: &mut W,
 ) -> Result<u8, Stop>
-    requires goes_on { R.goes_on source.old }
-    requires still { IsStill reading }
+    requires { R.goes_on source.old }
     ensures answered { (bytes : List ℕ) → R.left source.old ≡ Some bytes
         → WritesSo (IsRead reading bytes) (W.output sink.old) (W.output sink.new) result }
     ensures read { (bytes : List ℕ) → R.left source.old ≡ Some bytes
@@ -47,8 +43,10 @@ pub fn answer_source<R: Source, W: Sink>(
     ensures status { IfOk result (λ status. (status ≡ 0) ⊎ (status ≡ 2)) }
     ensures bounded { TookAtMost (MOST_INPUT_BYTES + 1) (R.left source.old) (R.left source.new) }
     ensures source_fault { IsErrOf result SourceStopped
-        → RoseOnce (R.faults source.old) (R.faults source.new) × (W.output sink.new ≡ W.output sink.old) }
-    ensures source_stands { ¬ IsErrOf result SourceStopped → R.faults source.new ≡ R.faults source.old }
+        → RoseOnce (R.faults source.old) (R.faults source.new)
+        × (W.output sink.new ≡ W.output sink.old) }
+    ensures source_stands { ¬ IsErrOf result SourceStopped
+        → R.faults source.new ≡ R.faults source.old }
     ensures sink_fault { IsErrOf result SinkStopped
         → RoseOnce (W.output sink.old).faults (W.output sink.new).faults }
     ensures sink_stands { ¬ IsErrOf result SinkStopped
@@ -83,7 +81,6 @@ pub fn answer_source<R: Source, W: Sink>(
             let late = read_whole(alloc, source, MOST_INPUT_BYTES + 1)?;
             Ok(answer_late(alloc, &late, sink)?)
         }
-        Reading::Waves { .. } => unreachable!(),
     }
 }
 
@@ -170,7 +167,8 @@ fn answer_counted<W: Sink>(
 
 /// Writes the verdict on a trace.
 fn answer_trace<W: Sink>(alloc: Global, bytes: Vec<u8>, sink: &mut W) -> Result<u8, WriteFail>
-    ensures answered { Writes (IsTraceAnswer bytes.items) (W.output sink.old) (W.output sink.new) result }
+    ensures answered { Writes (IsTraceAnswer bytes.items) (W.output sink.old) (W.output sink.new)
+        result }
     ensures status { IfOk result (λ status. (status ≡ 0) ⊎ (status ≡ 2)) }
 {
     if bytes.len() > MOST_INPUT_BYTES {

@@ -1,5 +1,5 @@
 //! Reads the script that a source gives, block by block, so that no input is kept whole.
-ghost use Rattle.std.specs.Prelude.{◌≡◌, ◌+◌, ◌-◌, ◌<◌, ◌≤◌, ℕ, List, [], ◌++◌, Some, take, drop, length, IfOk, OnOk, OnErr, IsErrOf};
+ghost use Rattle.std.specs.Prelude.{◌≡◌, ◌+◌, ◌-◌, ◌<◌, ◌≤◌, ℕ, List, [], Some, take, drop, length, IfOk, OnOk, OnErr, IsErrOf};
 ghost use Rattle.std.specs.Io.KnownBytes.{Consumes, Keeps};
 ghost use Rattle.dym_io.specs.Faults.{RoseOnce};
 ghost use Rattle.dym_io.specs.Source.{IsEmptyAtEnd, TookAtMost};
@@ -31,13 +31,15 @@ pub fn read_source<K: Keeper + Drop, R: Source>(
     source: &mut R,
 ) -> Result<Result<WholeScript<K>, ScriptFail>, ReadFail>
     requires { R.goes_on source.old }
-    ensures some { IfOk result (λ made. (bytes : List ℕ) × GivesWhole K.keeps made (script_of bytes)) }
+    ensures some { IfOk result
+        (λ made. (bytes : List ℕ) × GivesWhole K.keeps made (script_of bytes)) }
     ensures gives { (bytes : List ℕ) → R.left source.old ≡ Some bytes
         → IfOk result (λ made. GivesWhole K.keeps made (script_of bytes)) }
     ensures read { (bytes : List ℕ) → R.left source.old ≡ Some bytes
         → OnOk result (R.left source.new ≡ Some (drop (MOST_INPUT_BYTES + 1) bytes)) }
     ensures bounded { TookAtMost (MOST_INPUT_BYTES + 1) (R.left source.old) (R.left source.new) }
-    ensures failed { IsErrOf result ReadFail.Source → RoseOnce (R.faults source.old) (R.faults source.new) }
+    ensures failed { IsErrOf result ReadFail.Source
+        → RoseOnce (R.faults source.old) (R.faults source.new) }
     ensures count { ¬ IsErrOf result ReadFail.Source → R.faults source.new ≡ R.faults source.old }
 {
     let mut block = Vec::with_capacity(alloc, BLOCK_ROOM)?;
@@ -56,7 +58,8 @@ fn read_blocks<K: Keeper + Drop, R: Source>(
     ensures outcome { IfOk result (λ made.
         TakesBytes [] (R.left source.old) (R.left source.new) (GivesWhole K.keeps made)) }
     ensures bounded { TookAtMost (MOST_INPUT_BYTES + 1) (R.left source.old) (R.left source.new) }
-    ensures failed { IsErrOf result ReadFail.Source → RoseOnce (R.faults source.old) (R.faults source.new) }
+    ensures failed { IsErrOf result ReadFail.Source
+        → RoseOnce (R.faults source.old) (R.faults source.new) }
     ensures count { ¬ IsErrOf result ReadFail.Source → R.faults source.new ≡ R.faults source.old }
 {
     let mut script = Pieces::<K>::new(alloc);
@@ -131,8 +134,10 @@ fn fault<R: Source>(
     requires within { pulled ≤ MOST_INPUT_BYTES }
     requires goes_on { R.goes_on source.old }
     ensures outcome { (front : List ℕ) → length front ≡ pulled → IsFaultOf front line kind
-        → IfOk result (λ fail. TakesBytes front (R.left source.old) (R.left source.new) (FailsSo fail)) }
-    ensures bounded { TookAtMost (MOST_INPUT_BYTES + 1 - pulled) (R.left source.old) (R.left source.new) }
+        → IfOk result
+        (λ fail. TakesBytes front (R.left source.old) (R.left source.new) (FailsSo fail)) }
+    ensures bounded { TookAtMost (MOST_INPUT_BYTES + 1 - pulled) (R.left source.old)
+        (R.left source.new) }
     ensures count { OnOk result (R.faults source.new ≡ R.faults source.old) }
     ensures failed { OnErr result (RoseOnce (R.faults source.old) (R.faults source.new)) }
 {
@@ -150,7 +155,8 @@ fn drain<R: Source>(source: &mut R, block: &mut [u8], pulled: usize) -> Result<u
     requires within { pulled ≤ MOST_INPUT_BYTES }
     requires goes_on { R.goes_on source.old }
     ensures drained { IfOk result (IsDrained pulled (R.left source.old) (R.left source.new)) }
-    ensures bounded { TookAtMost (MOST_INPUT_BYTES + 1 - pulled) (R.left source.old) (R.left source.new) }
+    ensures bounded { TookAtMost (MOST_INPUT_BYTES + 1 - pulled) (R.left source.old)
+        (R.left source.new) }
     ensures count { OnOk result (R.faults source.new ≡ R.faults source.old) }
     ensures failed { OnErr result (RoseOnce (R.faults source.old) (R.faults source.new)) }
 {

@@ -1,7 +1,7 @@
 //! A script that a seed makes, written into memory, and a source of its bytes.
-ghost use Rattle.std.specs.Prelude.{◌≡◌, ◌<◌, ◌≤◌, Some, None, IfOk, ⊤};
-ghost use Rattle.dym_base.specs.declared.limits.TheConstants.{MOST_OBJECTS, MOST_MADE_COMMANDS};
+ghost use Rattle.std.specs.Prelude.{◌≡◌, Some, None, IfOk, ⊤};
 ghost use Rattle.dym_gen.specs.Scripts.{generated};
+ghost use Rattle.dym_words.specs.Laws.{CanBeMade};
 
 use dym_gen::gen_script;
 use dym_io::{Failed, Sink, Source};
@@ -42,7 +42,8 @@ struct GeneratedText {
 }
 
 impl Sink for GeneratedText {
-    ghost output = { λ s. record { written = Some s.bytes.items; flushed = None; faults = s.faults } };
+    ghost output = { λ s.
+        record { written = Some s.bytes.items; flushed = None; faults = s.faults } };
 
     fn push(&mut self, piece: &[u8]) -> Result<usize, Failed> {
         match self.bytes.extend_from_slice(piece) {
@@ -67,9 +68,7 @@ pub fn generated_script(
     objects: u32,
     commands: u32,
 ) -> Result<Vec<u8>, AllocError>
-    requires some { 0 < objects }
-    requires objects { objects ≤ MOST_OBJECTS }
-    requires commands { commands ≤ MOST_MADE_COMMANDS }
+    requires made { CanBeMade objects commands }
     ensures { IfOk result (λ made. made.items ≡ generated seed objects commands) }
 {
     let mut text = GeneratedText {

@@ -7,14 +7,13 @@ ghost use Rattle.dymelor_top.specs.LateReport.{late_text};
 ghost use Rattle.dymelor_top.specs.LateParts.{IsLatePart, late_part_text};
 ghost use Rattle.dymelor_top.specs.Answers.{of_late};
 ghost use Rattle.dymelor_top.specs.Headline.{WritesAnswer, Counted};
-ghost use Rattle.dym_run.specs.declared.write_fail.WriteFail.TheVariants.{Sink as SinkFailed};
+ghost use Rattle.dym_report.specs.declared.write_fail.WriteFail.TheVariants.{Sink as SinkFailed};
 
 use crate::late_parts::{LatePart, late_parts};
 use crate::late_run::write_late_part;
 use crate::segment_store::SegmentStore;
 use dym_io::Sink;
-use dym_report::{write_end, write_error};
-use dym_run::WriteFail;
+use dym_report::{WriteFail, write_end, write_error};
 use dym_script::{LateScript, ScriptFail, read_late};
 use std::alloc::Global;
 

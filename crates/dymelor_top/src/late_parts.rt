@@ -15,7 +15,8 @@ pub struct LatePart {
 /// The objects of a script, each with what its own lines say, in their order.
 pub fn late_parts(alloc: Global, script: LateScript) -> Result<Vec<LatePart>, AllocError>
     requires { All (λ line. line.object < length script.objects.items) script.lines.items }
-    ensures { IfOk result (λ parts. AreLateParts parts.items script.objects.items script.lines.items) }
+    ensures { IfOk result
+        (λ parts. AreLateParts parts.items script.objects.items script.lines.items) }
 {
     let LateScript { objects, lines } = script;
     let mut parts = silent_parts(alloc, objects)?;

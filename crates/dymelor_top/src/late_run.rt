@@ -8,7 +8,7 @@ ghost use Rattle.dym_script.specs.Late.{is_event};
 ghost use Rattle.dym_script.specs.LateArrivals.{MayAct, arrival};
 ghost use Rattle.dymelor_top.specs.LateReport.{outcome_at, outcome_of, outcome_text, late_part};
 ghost use Rattle.dymelor_top.specs.LateParts.{IsLatePart, IsOneOf, TookIn, arrivals_by, late_part_text};
-ghost use Rattle.dym_run.specs.declared.write_fail.WriteFail.TheVariants.{Sink as SinkFailed};
+ghost use Rattle.dym_report.specs.declared.write_fail.WriteFail.TheVariants.{Sink as SinkFailed};
 
 use crate::late_outcome::LateOutcome;
 use crate::late_parts::LatePart;
@@ -17,8 +17,7 @@ use dym_base::Name;
 use dym_io::{Sink, SinkFault};
 use dym_late::{LateError, LateHeap};
 use dym_quota::OwnSupply;
-use dym_report::{LateOut, write_heading, write_late_end, write_late_line};
-use dym_run::WriteFail;
+use dym_report::{LateOut, WriteFail, write_heading, write_late_end, write_late_line};
 use dym_script::LateAct;
 use std::alloc::{AllocError, Global};
 

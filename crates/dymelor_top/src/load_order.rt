@@ -17,8 +17,7 @@ use dym_ckpt::{FileFail, Loaded, load_file};
 use dym_heap::Heap;
 use dym_io::{Sink, SinkFault};
 use dym_quota::OwnSupply;
-use dym_report::{write_end, write_error, write_object};
-use dym_run::WriteFail;
+use dym_report::{WriteFail, write_end, write_error, write_object};
 use std::alloc::Global;
 
 /// Writes what a file holds, or the first of its parts that fails.
@@ -28,7 +27,8 @@ pub fn answer_loaded<W: Sink>(
     file: Vec<u8>,
     sink: &mut W,
 ) -> Result<u8, WriteFail>
-    ensures answered { Writes (IsLoadAnswer time file.items) (W.output sink.old) (W.output sink.new) result }
+    ensures answered { Writes (IsLoadAnswer time file.items) (W.output sink.old)
+        (W.output sink.new) result }
     ensures status { IfOk result (λ status. (status ≡ 0) ⊎ (status ≡ 2)) }
 {
     if file.len() > MOST_INPUT_BYTES {
@@ -52,7 +52,8 @@ pub fn answer_loaded<W: Sink>(
 fn write_loaded<W: Sink>(loaded: Loaded, time: Option<u64>, sink: &mut W) -> Result<(), SinkFault>
     requires { (bytes : List ℕ) × IsLoaded bytes loaded }
     ensures { (bytes : List ℕ) → (is : IsLoaded bytes loaded)
-        → WritesText (W.output sink.old) (W.output sink.new) (loaded_text time is.head loaded.chain.logs) result }
+        → WritesText (W.output sink.old) (W.output sink.new)
+        (loaded_text time is.head loaded.chain.logs) result }
 {
     let Loaded {
         name,
@@ -77,7 +78,8 @@ fn write_restored<W: Sink>(
     requires sound { IsSound heap.old }
     requires idle { chain.old.lifted ≡ None }
     ensures written { WritesText (W.output sink.old) (W.output sink.new)
-        (restored_text heap.old.version heap.old.quota name.now (object_of heap.old.state chain.old) time ++ end_text) result }
+        (restored_text heap.old.version heap.old.quota name.now
+        (object_of heap.old.state chain.old) time ++ end_text) result }
     ensures idle { chain.new.lifted ≡ None }
 {
     write_part(name, heap, chain, time, sink)?;
@@ -96,7 +98,8 @@ fn write_part<W: Sink>(
     requires sound { IsSound heap.old }
     requires idle { chain.old.lifted ≡ None }
     ensures written { WritesText (W.output sink.old) (W.output sink.new)
-        (restored_text heap.old.version heap.old.quota name.now (object_of heap.old.state chain.old) time) result }
+        (restored_text heap.old.version heap.old.quota name.now
+        (object_of heap.old.state chain.old) time) result }
     ensures idle { chain.new.lifted ≡ None }
 {
     match time {

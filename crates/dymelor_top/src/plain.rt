@@ -7,9 +7,8 @@ ghost use Rattle.dym_object.specs.Meaning.{state_of};
 ghost use Rattle.dym_report.specs.Replies.{reply_line};
 ghost use Rattle.dym_script.specs.Scripts.{Said};
 ghost use Rattle.dym_script.specs.ByObjects.{IsByObjects};
-ghost use Rattle.dym_run.specs.Parts.{IsRunnable, own_of};
-ghost use Rattle.dym_run.specs.Report.{part_text, report_text};
-ghost use Rattle.dym_run.specs.declared.write_fail.WriteFail.TheVariants.{Sink as SinkFailed};
+ghost use Rattle.dym_report.specs.Report.{IsRunnable, own_of, part_text, report_text};
+ghost use Rattle.dym_report.specs.declared.write_fail.WriteFail.TheVariants.{Sink as SinkFailed};
 
 use crate::segment_store::SegmentStore;
 use dym_base::Version;
@@ -18,8 +17,7 @@ use dym_commands::Commands;
 use dym_io::Sink;
 use dym_object::Object;
 use dym_quota::OwnSupply;
-use dym_report::{Page, write_end, write_heading, write_state};
-use dym_run::WriteFail;
+use dym_report::{Page, WriteFail, write_end, write_heading, write_state};
 use dym_script::{Part, PartCollector, WholeScript};
 use dym_turn::Turn;
 use std::alloc::{AllocError, Global};
@@ -130,10 +128,12 @@ fn run_and_write<W: Sink>(
     requires few { length commands.now ≤ MOST_COMMANDS }
     requires ran { turn.old.object.ran ≡ 0 }
     ensures replies { WritesOr (λ fail. fail ≡ SinkFailed) (W.output sink.old) (W.output sink.new)
-        (flat_map reply_line (replies_from turn.old.object.heap.version turn.old.object.heap.quota (state_of turn.old.object) commands.now))
+        (flat_map reply_line (replies_from turn.old.object.heap.version turn.old.object.heap.quota
+        (state_of turn.old.object) commands.now))
         result }
     ensures state { OnOk result (state_of turn.new.object
-        ≡ object_after turn.old.object.heap.version turn.old.object.heap.quota (state_of turn.old.object) commands.now) }
+        ≡ object_after turn.old.object.heap.version turn.old.object.heap.quota
+        (state_of turn.old.object) commands.now) }
     ensures version { OnOk result (turn.new.object.heap.version ≡ turn.old.object.heap.version) }
 {
     let mut page = Page::new();

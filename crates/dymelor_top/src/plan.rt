@@ -1,11 +1,14 @@
 //! What is to be done for the words of a command line.
-ghost use Rattle.std.specs.Prelude.{◌≡◌};
-ghost use Rattle.dymelor_top.specs.Plans.{plan_of, plain_plan};
+ghost use Rattle.std.specs.Prelude.{◌≡◌, IfOk};
+ghost use Rattle.dym_words.specs.Laws.{IsWithin};
+ghost use Rattle.dym_words.specs.declared.order.Input.TheVariants.{Script};
+ghost use Rattle.dymelor_top.specs.declared.plan.Plan.TheVariants.{Read};
+ghost use Rattle.dymelor_top.specs.Plans.{report_or_summary, run_text, whole_plan_of, IsPlanWithin};
 
 use dym_base::Name;
 use dym_words::{Input, Order, Usage};
 
-/// What is made of an input that is read.
+/// What is made of an input by a call that starts no thread.
 #[derive(Drop)]
 pub enum Reading {
     /// The report of a script.
@@ -22,8 +25,6 @@ pub enum Reading {
     Loaded { time: Option<u64> },
     /// The report of a script of late events.
     Late,
-    /// What is written of a script whose objects run in waves. All that run at a time have so many segments.
-    Waves { segments: u32, text: WaveText },
 }
 
 /// What is written of a script whose objects run in waves.
@@ -37,18 +38,27 @@ pub enum WaveText {
     Views,
 }
 
+/// A script whose objects run in waves: where it comes from, by how many workers, over how many segments and with how many commands of a
+/// turn they run, and what is written of it.
+#[derive(Clone, Copy, Debug, PartialEq, Eq)]
+pub struct Run {
+    pub input: Input,
+    pub workers: u32,
+    pub segments: u32,
+    pub quantum: u32,
+    pub text: WaveText,
+}
+
 /// What is to be done for the words of a command line.
 #[derive(Drop)]
 pub enum Plan {
-    /// Read the source, and write what is made of it.
-    Read(Reading),
-    /// Write what is made of the script that the generator makes of these numbers. Nothing is read.
-    ReadMade {
+    /// Write what is made of an input.
+    Read {
+        input: Input,
         reading: Reading,
-        seed: u64,
-        objects: u32,
-        commands: u32,
     },
+    /// Run the objects of a script in waves.
+    Run(Run),
     /// Write the script that the generator makes of these numbers.
     Make {
         seed: u64,
@@ -61,12 +71,30 @@ pub enum Plan {
 
 /// What is to be done for an order.
 pub fn plan_for(order: Result<Order, Usage>) -> Plan
-    ensures { result ≡ plan_of order }
+    ensures plan { result ≡ whole_plan_of order }
+    ensures within { IfOk order IsWithin → IsPlanWithin result }
 {
     match order {
-        Ok(Order::Plain { input, summary }) => plan_for_plain(input, summary),
-        Ok(Order::Run { .. }) => Plan::Usage,
-        Ok(Order::Check) => Plan::Read(Reading::Counts),
+        Ok(Order::Plain { input, summary }) => Plan::Read {
+            input,
+            reading: report_or_summary(summary),
+        },
+        Ok(
+            Order::Run {
+                workers,
+                segments,
+                quantum,
+                input,
+                summary,
+            },
+        ) => Plan::Run(Run {
+            input,
+            workers,
+            segments,
+            quantum,
+            text: run_text(summary),
+        }),
+        Ok(Order::Check) => read(Reading::Counts),
         Ok(
             Order::Gen {
                 seed,
@@ -78,34 +106,55 @@ pub fn plan_for(order: Result<Order, Usage>) -> Plan
             objects,
             commands,
         },
-        Ok(Order::Trace) => Plan::Read(Reading::Trace),
-        Ok(Order::Save { name }) => Plan::Read(Reading::File { name }),
-        Ok(Order::Load { time }) => Plan::Read(Reading::Loaded { time }),
-        Ok(Order::Views { .. }) => Plan::Usage,
-        Ok(Order::Late) => Plan::Read(Reading::Late),
+        Ok(Order::Trace) => read(Reading::Trace),
+        Ok(Order::Save { name }) => read(Reading::File { name }),
+        Ok(Order::Load { time }) => read(Reading::Loaded { time }),
+        Ok(
+            Order::Views {
+                workers,
+                segments,
+                quantum,
+            },
+        ) => Plan::Run(Run {
+            input: Input::Script,
+            workers,
+            segments,
+            quantum,
+            text: WaveText::Views,
+        }),
+        Ok(Order::Late) => read(Reading::Late),
         Err(_) => Plan::Usage,
     }
 }
 
-fn plan_for_plain(input: Input, summary: bool) -> Plan
-    ensures { result ≡ plain_plan input summary }
+/// To write what is made of the source.
+fn read(reading: Reading) -> Plan
+    ensures { result ≡ Read Script reading }
 {
-    let reading = if summary {
+    Plan::Read {
+        input: Input::Script,
+        reading,
+    }
+}
+
+/// What the order `plain` writes.
+fn report_or_summary(is_summary: bool) -> Reading
+    ensures { result ≡ report_or_summary is_summary }
+{
+    if is_summary {
         Reading::Summary
     } else {
         Reading::Report
-    };
-    match input {
-        Input::Script => Plan::Read(reading),
-        Input::GenNumbers {
-            seed,
-            objects,
-            commands,
-        } => Plan::ReadMade {
-            reading,
-            seed,
-            objects,
-            commands,
-        },
+    }
+}
+
+/// What the order `run` writes.
+fn run_text(is_summary: bool) -> WaveText
+    ensures { result ≡ run_text is_summary }
+{
+    if is_summary {
+        WaveText::Summary
+    } else {
+        WaveText::Report
     }
 }

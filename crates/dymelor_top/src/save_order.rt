@@ -9,7 +9,7 @@ ghost use Rattle.dym_object.specs.Meaning.{HasRun, IsWhole, state_of};
 ghost use Rattle.dym_script.specs.Scripts.{Said, Fault};
 ghost use Rattle.dym_script.specs.ByObjects.{GivesParts, IsByObjects};
 ghost use Rattle.dymelor_top.specs.Checkpoints.{own_file, own_named};
-ghost use Rattle.dym_run.specs.Parts.{IsRunnable, own_of};
+ghost use Rattle.dym_report.specs.Report.{IsRunnable, own_of};
 ghost use Rattle.dymelor_top.specs.Answers.{file_answer, named_answer, saved_answer};
 ghost use Rattle.dymelor_top.specs.Headline.{WritesAnswer, Counted};
 
@@ -23,8 +23,7 @@ use dym_commands::Commands;
 use dym_io::Sink;
 use dym_object::{LentObject, laws};
 use dym_quota::OwnSupply;
-use dym_report::write_error;
-use dym_run::WriteFail;
+use dym_report::{WriteFail, write_error};
 use dym_script::{Part, PartCollector, ScriptFail, WholeScript};
 use dym_turn::Turn;
 use std::alloc::{AllocError, Global};
@@ -99,8 +98,8 @@ fn save_part<W: Sink>(
 ) -> Result<u8, WriteFail>
     requires runnable { IsRunnable part.now }
     requires named { IsTrue (is_name part.now.decl.name) }
-    ensures answered { WritesAnswer (file_answer (own_file version (own_of part.now))) (W.output sink.old)
-        (W.output sink.new) result }
+    ensures answered { WritesAnswer (file_answer (own_file version (own_of part.now)))
+        (W.output sink.old) (W.output sink.new) result }
     ensures status { IfOk result (λ status. (status ≡ 0) ⊎ (status ≡ 2)) }
     ensures counted { Counted (W.output sink.old) (W.output sink.new) result }
 {
@@ -142,7 +141,8 @@ fn save_run<W: Sink>(
     requires run { OnOk ran (HasRun part.now.commands object.old) }
     requires quota { object.old.heap.quota ≡ part.now.decl.quota }
     requires whole { IsWhole object.old }
-    ensures answered { WritesAnswer (file_answer (own_file object.old.heap.version (own_of part.now)))
+    ensures answered { WritesAnswer
+        (file_answer (own_file object.old.heap.version (own_of part.now)))
         (W.output sink.old) (W.output sink.new) result }
     ensures status { IfOk result (λ status. (status ≡ 0) ⊎ (status ≡ 2)) }
     ensures counted { Counted (W.output sink.old) (W.output sink.new) result }

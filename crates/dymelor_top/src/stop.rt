@@ -1,8 +1,9 @@
 //! Why a top call stops before it has written its whole answer.
 ghost use Rattle.std.specs.Prelude.{◌≡◌};
+ghost use Rattle.dymelor_top.specs.Stops.{status_of};
 
-use dym_io::ReadFail;
-use dym_run::WriteFail;
+use dym_io::{ReadFail, SinkFault};
+use dym_report::WriteFail;
 use std::alloc::AllocError;
 
 /// Why a top call stops before it has written its whole answer.
@@ -20,7 +21,7 @@ impl Stop {
     ghost use Rattle.dymelor_top.specs.Stops.{stop_status};
 
     /// The status that tells of it.
-    pub fn status(self) -> u8
+    fn status(self) -> u8
         ensures { result ≡ stop_status self }
     {
         match self {
@@ -31,6 +32,16 @@ impl Stop {
     }
 }
 
+/// The status of a call that ended, or stopped before it had written its whole answer.
+pub fn status_of(served: Result<u8, Stop>) -> u8
+    ensures { result ≡ status_of served }
+{
+    match served {
+        Ok(status) => status,
+        Err(stop) => stop.status(),
+    }
+}
+
 impl From<AllocError> for Stop {
     ghost use Rattle.dymelor_top.specs.declared.stop.Stop.TheVariants as stop;
 
@@ -38,6 +49,16 @@ impl From<AllocError> for Stop {
 
     fn from(_: AllocError) -> Stop {
         Stop::Memory
+    }
+}
+
+impl From<SinkFault> for Stop {
+    ghost use Rattle.dymelor_top.specs.declared.stop.Stop.TheVariants as stop;
+
+    ghost from_gives = { λ _ stopped. stopped ≡ stop.Sink };
+
+    fn from(_: SinkFault) -> Stop {
+        Stop::Sink
     }
 }
 

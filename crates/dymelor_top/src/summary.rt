@@ -5,8 +5,8 @@ ghost use Rattle.dym_base.specs.declared.limits.TheConstants.{MOST_OBJECTS, MOST
 ghost use Rattle.dym_object.specs.Meaning.{state_of};
 ghost use Rattle.dym_script.specs.Scripts.{Said};
 ghost use Rattle.dym_script.specs.ByObjects.{IsByObjects};
-ghost use Rattle.dym_run.specs.Parts.{IsRunnable, own_of};
-ghost use Rattle.dym_run.specs.Summary.{is_refusal, tally_of, tally_all, totals_of};
+ghost use Rattle.dym_report.specs.Report.{IsRunnable, own_of};
+ghost use Rattle.dym_report.specs.Summary.{is_refusal, tally_of, tally_all, totals_of};
 
 use crate::plain::open_object;
 use crate::segment_store::SegmentStore;
@@ -14,8 +14,7 @@ use dym_base::{Reply, Version, laws};
 use dym_chain::VecKeep;
 use dym_commands::Commands;
 use dym_quota::OwnSupply;
-use dym_report::{Totals, live_chunks};
-use dym_run::Tally;
+use dym_report::{Tally, Totals};
 use dym_script::{Part, PartCollector, WholeScript};
 use dym_turn::Turn;
 use std::alloc::{AllocError, Global};
@@ -26,16 +25,7 @@ pub fn total(alloc: Global, script: &WholeScript<PartCollector>) -> Result<Total
     ensures { IfOk result (λ totals. (s : Said) → IsByObjects script.now s → totals ≡ totals_of s) }
 {
     let tally = tally_parts(alloc, script.version, &script.kept.parts)?;
-    Ok(Totals {
-        objects: script.kept.parts.len() as u32,
-        commands: tally.ok + tally.refused,
-        ok: tally.ok,
-        refused: tally.refused,
-        chunks: tally.chunks,
-        segments: tally.segments,
-        kept: tally.kept,
-        slots: tally.slots,
-    })
+    Ok(tally.totals(script.kept.parts.len() as u32))
 }
 
 /// What objects come to together.
@@ -84,7 +74,8 @@ fn tally_run(turn: &mut Turn<OwnSupply, VecKeep>, part: &Part) -> Result<Tally, 
     requires quota { turn.old.object.heap.quota ≡ part.now.decl.quota }
     requires start { state_of turn.old.object ≡ object_start }
     requires ran { turn.old.object.ran ≡ 0 }
-    ensures counted { IfOk result (λ tally. tally ≡ tally_of turn.old.object.heap.version (own_of part.now)) }
+    ensures counted { IfOk result
+        (λ tally. tally ≡ tally_of turn.old.object.heap.version (own_of part.now)) }
     ensures replies { IfOk result (λ tally. tally.ok + tally.refused ≡ length part.now.commands) }
     ensures chunks { IfOk result (λ tally. tally.chunks ≤ 2 ^ 37) }
     ensures segments { IfOk result (λ tally. tally.segments ≤ MOST_QUOTA) }
@@ -94,15 +85,14 @@ fn tally_run(turn: &mut Turn<OwnSupply, VecKeep>, part: &Part) -> Result<Tally, 
     laws::runs_keep_logs();
     let refused = refusals(turn, &part.commands)?;
     let object = &turn.object;
-    let heap = object.heap();
-    Ok(Tally {
-        ok: part.commands.len() as u32 - refused,
+    let replies = part.commands.len() as u32;
+    Ok(Tally::of(
+        replies,
         refused,
-        chunks: live_chunks(heap),
-        segments: u64::from(heap.held()),
-        kept: u64::from(object.kept()),
-        slots: u64::from(object.slots()),
-    })
+        object.heap(),
+        object.kept(),
+        object.slots(),
+    ))
 }
 
 /// Runs commands of an object that ran none yet, and counts those that it refuses.
@@ -111,9 +101,11 @@ fn refusals(turn: &mut Turn<OwnSupply, VecKeep>, commands: &Commands) -> Result<
     requires ran { turn.old.object.ran ≡ 0 }
     ensures within { IfOk result (λ n. n ≤ length commands.now) }
     ensures counted { IfOk result (λ n. n
-        ≡ count_by is_refusal (replies_from turn.old.object.heap.version turn.old.object.heap.quota (state_of turn.old.object) commands.now)) }
+        ≡ count_by is_refusal (replies_from turn.old.object.heap.version turn.old.object.heap.quota
+        (state_of turn.old.object) commands.now)) }
     ensures state { OnOk result (state_of turn.new.object
-        ≡ object_after turn.old.object.heap.version turn.old.object.heap.quota (state_of turn.old.object) commands.now) }
+        ≡ object_after turn.old.object.heap.version turn.old.object.heap.quota
+        (state_of turn.old.object) commands.now) }
 {
     let mut refused = 0;
     for k in 0..commands.len() {

@@ -6,13 +6,12 @@ ghost use Rattle.dym_io.specs.Faults.{RoseOnce};
 ghost use Rattle.dym_io.specs.Sink.{WritesOr};
 ghost use Rattle.dym_io.specs.Source.{TookAtMost};
 ghost use Rattle.dym_run.specs.Parts.{IsShape};
-ghost use Rattle.dym_run.specs.Summary.{summary_of, totals_of};
-ghost use Rattle.dym_run.specs.declared.write_fail.WriteFail.TheVariants.{Sink as SinkFailed};
+ghost use Rattle.dym_report.specs.Summary.{summary_of, totals_of};
+ghost use Rattle.dym_report.specs.declared.write_fail.WriteFail.TheVariants.{Sink as SinkFailed};
 ghost use Rattle.dym_script.specs.Scripts.{Said, Fault, script_of};
 ghost use Rattle.dym_script.specs.ByObjects.{GivesParts, IsByObjects};
-ghost use Rattle.dymelor_top.specs.Answers.{first_above, of_waves, outcome_text, unless_above, waves_text, IsRead};
+ghost use Rattle.dymelor_top.specs.Answers.{first_above, of_waves, outcome_text, unless_above, waves_text, IsInWaves};
 ghost use Rattle.dymelor_top.specs.Headline.{Serves, WritesAnswer, Counted};
-ghost use Rattle.dymelor_top.specs.declared.plan.Reading.TheVariants.{Waves};
 ghost use Rattle.dymelor_top.specs.declared.stop.Stop.TheVariants.{Source as SourceStopped, Sink as SinkStopped};
 
 use crate::plan::WaveText;
@@ -22,60 +21,69 @@ use dym_base::BadKind;
 use dym_base::limits::MOST_INPUT_BYTES;
 use dym_io::{Sink, Source, read_whole};
 use dym_pool::Gate;
-use dym_report::{Totals, write_end, write_error, write_summary};
-use dym_run::{ReportOptions, Shape, WriteFail, tally_waves, write_waves};
+use dym_report::{Totals, WriteFail, write_end, write_error, write_summary};
+use dym_run::{ReportOptions, Shape, tally_waves, write_waves};
 use dym_script::{Part, PartCollector, ScriptFail, WholeScript, read_parallel};
 use std::alloc::{AllocError, Global};
 use std::sync::Wait;
 use std::thread::Threads;
 
+/// How the objects of a script run in waves, and what is written of it.
+#[derive(Clone, Copy, Debug, PartialEq, Eq)]
+pub struct Waves {
+    pub shape: Shape,
+    pub text: WaveText,
+}
+
 /// Reads a script, runs its objects in waves, and writes what is asked for of them.
 pub fn serve_waves<R: Threads + Wait + Send + Sync, S: Source, W: Sink, G: Gate>(
     rt: &R,
     alloc: Global,
-    shape: Shape,
-    text: WaveText,
+    waves: Waves,
     source: &mut S,
     sink: &mut W,
     gate: &G,
 ) -> Result<u8, Stop>
     requires goes_on { S.goes_on source.old }
-    requires shape { IsShape shape }
+    requires shape { IsShape waves.shape }
     ensures served { (bytes : List ℕ) → S.left source.old ≡ Some bytes
-        → Serves (IsRead (Waves shape.segments text) bytes) (W.output sink.old) (W.output sink.new) result }
+        → Serves (IsInWaves waves.shape.segments waves.text bytes) (W.output sink.old)
+        (W.output sink.new) result }
     ensures read { (bytes : List ℕ) → S.left source.old ≡ Some bytes
         → OnOk result (S.left source.new ≡ Some (drop (MOST_INPUT_BYTES + 1) bytes)) }
     ensures status { IfOk result (λ status. (status ≡ 0) ⊎ (status ≡ 2)) }
     ensures bounded { TookAtMost (MOST_INPUT_BYTES + 1) (S.left source.old) (S.left source.new) }
     ensures source_fault { IsErrOf result SourceStopped
-        → RoseOnce (S.faults source.old) (S.faults source.new) × (W.output sink.new ≡ W.output sink.old) }
-    ensures source_stands { ¬ IsErrOf result SourceStopped → S.faults source.new ≡ S.faults source.old }
+        → RoseOnce (S.faults source.old) (S.faults source.new)
+        × (W.output sink.new ≡ W.output sink.old) }
+    ensures source_stands { ¬ IsErrOf result SourceStopped
+        → S.faults source.new ≡ S.faults source.old }
     ensures sink_fault { IsErrOf result SinkStopped
         → RoseOnce (W.output sink.old).faults (W.output sink.new).faults }
     ensures sink_stands { ¬ IsErrOf result SinkStopped
         → (W.output sink.new).faults ≡ (W.output sink.old).faults }
 {
     let bytes = read_whole(alloc, source, MOST_INPUT_BYTES + 1)?;
-    Ok(serve_text(rt, alloc, shape, text, bytes, sink, gate)?)
+    Ok(serve_text(rt, alloc, waves, bytes, sink, gate)?)
 }
 
 /// The same of a script that is in memory.
 pub fn serve_text<R: Threads + Wait + Send + Sync, W: Sink, G: Gate>(
     rt: &R,
     alloc: Global,
-    shape: Shape,
-    text: WaveText,
+    waves: Waves,
     bytes: Vec<u8>,
     sink: &mut W,
     gate: &G,
 ) -> Result<u8, WriteFail>
-    requires shape { IsShape shape }
-    ensures served { Serves (IsRead (Waves shape.segments text) bytes.items) (W.output sink.old) (W.output sink.new) result }
+    requires shape { IsShape waves.shape }
+    ensures served { Serves (IsInWaves waves.shape.segments waves.text bytes.items)
+        (W.output sink.old) (W.output sink.new) result }
     ensures status { IfOk result (λ status. (status ≡ 0) ⊎ (status ≡ 2)) }
     ensures counted { Counted (W.output sink.old) (W.output sink.new) result }
 {
-    let script = read_text(rt, alloc, shape.workers, bytes);
-    let status = answer_waves(rt, alloc, shape, text, script, sink, gate)?;
+    let script = read_text(rt, alloc, waves.shape.workers, bytes);
+    let status = answer_waves(rt, alloc, waves, script, sink, gate)?;
     flush(sink)?;
     Ok(status)
 }
@@ -97,21 +105,21 @@ fn read_text<R: Threads + Sync>(
 fn answer_waves<R: Threads + Wait + Send + Sync, W: Sink, G: Gate>(
     rt: &R,
     alloc: Global,
-    shape: Shape,
-    text: WaveText,
+    waves: Waves,
     script: Result<WholeScript<PartCollector>, ScriptFail>,
     sink: &mut W,
     gate: &G,
 ) -> Result<u8, WriteFail>
     requires made { (read : Result Said Fault) × GivesParts script read }
-    requires shape { IsShape shape }
+    requires shape { IsShape waves.shape }
     ensures answered { (read : Result Said Fault) → GivesParts script read
-        → WritesAnswer (of_waves shape.segments (waves_text text) read) (W.output sink.old) (W.output sink.new) result }
+        → WritesAnswer (of_waves waves.shape.segments (waves_text waves.text) read)
+        (W.output sink.old) (W.output sink.new) result }
     ensures status { IfOk result (λ status. (status ≡ 0) ⊎ (status ≡ 2)) }
     ensures counted { Counted (W.output sink.old) (W.output sink.new) result }
 {
     match script {
-        Ok(script) => run_script(rt, alloc, shape, text, script, sink, gate),
+        Ok(script) => run_script(rt, alloc, waves, script, sink, gate),
         Err(ScriptFail::Bad { line, kind }) => {
             write_error(sink, line, kind)?;
             Ok(2)
@@ -124,26 +132,27 @@ fn answer_waves<R: Threads + Wait + Send + Sync, W: Sink, G: Gate>(
 fn run_script<R: Threads + Wait + Send + Sync, W: Sink, G: Gate>(
     rt: &R,
     alloc: Global,
-    shape: Shape,
-    text: WaveText,
+    waves: Waves,
     script: WholeScript<PartCollector>,
     sink: &mut W,
     gate: &G,
 ) -> Result<u8, WriteFail>
     requires made { (s : Said) × IsByObjects script s }
-    requires shape { IsShape shape }
+    requires shape { IsShape waves.shape }
     ensures answered { (s : Said) → IsByObjects script s
-        → WritesAnswer (unless_above (waves_text text s) (first_above shape.segments s.objects)) (W.output sink.old) (W.output sink.new) result }
+        → WritesAnswer
+        (unless_above (waves_text waves.text s) (first_above waves.shape.segments s.objects))
+        (W.output sink.old) (W.output sink.new) result }
     ensures status { IfOk result (λ status. (status ≡ 0) ⊎ (status ≡ 2)) }
     ensures counted { Counted (W.output sink.old) (W.output sink.new) result }
 {
-    match line_above(&script.kept.parts, shape.segments) {
+    match line_above(&script.kept.parts, waves.shape.segments) {
         Some(line) => {
             write_error(sink, line, BadKind::QuotaRange)?;
             Ok(2)
         }
         None => {
-            run_fitting(rt, alloc, shape, text, script, sink, gate)?;
+            run_fitting(rt, alloc, waves, script, sink, gate)?;
             Ok(0)
         }
     }
@@ -164,19 +173,20 @@ fn line_above(parts: &[Part], segments: u32) -> Option<u32>
 fn run_fitting<R: Threads + Wait + Send + Sync, W: Sink, G: Gate>(
     rt: &R,
     alloc: Global,
-    shape: Shape,
-    text: WaveText,
+    waves: Waves,
     script: WholeScript<PartCollector>,
     sink: &mut W,
     gate: &G,
 ) -> Result<(), WriteFail>
     requires made { (s : Said) × IsByObjects script s }
-    requires shape { IsShape shape }
-    requires fits { All (λ part. part.decl.quota ≤ shape.segments) script.kept.parts.items }
+    requires shape { IsShape waves.shape }
+    requires fits { All (λ part. part.decl.quota ≤ waves.shape.segments) script.kept.parts.items }
     ensures { (s : Said) → IsByObjects script s
-        → WritesOr (λ fail. fail ≡ SinkFailed) (W.output sink.old) (W.output sink.new) (waves_text text s) result }
+        → WritesOr (λ fail. fail ≡ SinkFailed) (W.output sink.old) (W.output sink.new)
+        (waves_text waves.text s) result }
 {
-    match text {
+    let shape = waves.shape;
+    match waves.text {
         WaveText::Report => report_waves(rt, alloc, false, shape, script, sink, gate),
         WaveText::Summary => summarize(rt, alloc, shape, script, sink, gate),
         WaveText::Views => report_waves(rt, alloc, true, shape, script, sink, gate),
@@ -220,7 +230,8 @@ fn summarize<R: Threads + Wait + Send + Sync, W: Sink, G: Gate>(
     requires shape { IsShape shape }
     requires fits { All (λ part. part.decl.quota ≤ shape.segments) script.kept.parts.items }
     ensures { (s : Said) → IsByObjects script s
-        → WritesOr (λ fail. fail ≡ SinkFailed) (W.output sink.old) (W.output sink.new) (summary_of s) result }
+        → WritesOr (λ fail. fail ≡ SinkFailed) (W.output sink.old) (W.output sink.new)
+        (summary_of s) result }
 {
     let totals = total(rt, alloc, shape, script, gate)?;
     write_summary(sink, &totals)?;
@@ -243,14 +254,5 @@ fn total<R: Threads + Wait + Send + Sync, G: Gate>(
     let WholeScript { version, kept, .. } = script;
     let objects = kept.parts.len() as u32;
     let tally = tally_waves(rt, alloc, version, kept.parts, shape, gate)?;
-    Ok(Totals {
-        objects,
-        commands: tally.ok + tally.refused,
-        ok: tally.ok,
-        refused: tally.refused,
-        chunks: tally.chunks,
-        segments: tally.segments,
-        kept: tally.kept,
-        slots: tally.slots,
-    })
+    Ok(tally.totals(objects))
 }

@@ -8,13 +8,15 @@ use Rattle.dym_report.proofs.hex_text.write_digits.Goals as goal
 
 pub returns-in_err-write_piece : goal.returns-in_err-write_piece
 returns-in_err-write_piece g c =
-    let split : encode_lower c.pieces.rest.now ≡ encode_lower c.split_at.result.0.now ++ encode_lower c.split_at.result.1.now = rw (c.split_at.ensures.front, c.split_at.ensures.back) (encode_lower-cut c.pieces.rest.now c.min.result) in
+    let split : encode_lower c.pieces.rest.now ≡ encode_lower c.split_at.result.0.now ++ encode_lower c.split_at.result.1.now =
+    rw (c.split_at.ensures.front, c.split_at.ensures.back) (encode_lower-cut c.pieces.rest.now c.min.result) in
     let left = leaves_same _ _ _ _ _ c.pieces.invariant split in
     writes_stopped _ _ _ _ c.from_residual.ensures.0 (leaves_cut _ _ _ _ _ _ left c.in_err-write_piece.ensures)
 
 pub pieces-preserved : goal.pieces-preserved
 pieces-preserved g c =
-    let split : encode_lower c.pieces.rest.now ≡ encode_lower c.split_at.result.0.now ++ encode_lower c.split_at.result.1.now = rw (c.split_at.ensures.front, c.split_at.ensures.back) (encode_lower-cut c.pieces.rest.now c.min.result) in
+    let split : encode_lower c.pieces.rest.now ≡ encode_lower c.split_at.result.0.now ++ encode_lower c.split_at.result.1.now =
+    rw (c.split_at.ensures.front, c.split_at.ensures.back) (encode_lower-cut c.pieces.rest.now c.min.result) in
     let left = leaves_same _ _ _ _ _ c.pieces.invariant split in
     leaves_more _ _ _ _ _ _ left c.in_ok-write_piece.ensures
 

@@ -16,9 +16,11 @@ pub returns-in_err-write_images : goal.returns-in_err-write_images
 returns-in_err-write_images g c =
     let live = c.args.heap.now.state.live in
     writes_stopped _ _ _ _ c.from_residual-in_err-write_images.ensures.0
-    (cut_second _ _ _ (heap_line (len live) (held live)) (images_text c.args.heap.now.version live) (replayed_line c.args.replayed) c.in_ok-write_heap.ensures c.in_err-write_images.ensures)
+    (cut_second _ _ _ (heap_line (len live) (held live)) (images_text c.args.heap.now.version live) (replayed_line c.args.replayed) c.in_ok-write_heap.ensures
+    c.in_err-write_images.ensures)
 
 pub returns : goal.returns
 returns g c =
     let live = c.args.heap.now.state.live in
-    third_ends _ _ _ _ (heap_line (len live) (held live)) (images_text c.args.heap.now.version live) (replayed_line c.args.replayed) _ c.in_ok-write_heap.ensures c.in_ok-write_images.ensures c.write_number.ensures
+    third_ends _ _ _ _ (heap_line (len live) (held live)) (images_text c.args.heap.now.version live) (replayed_line c.args.replayed) _ c.in_ok-write_heap.ensures
+    c.in_ok-write_images.ensures c.write_number.ensures

@@ -12,13 +12,15 @@ small_key k within = omega (arith, within)
 
 pub loop-handle-init : goal.loop-handle-init
 loop-handle-init g c =
-    let all : length (left_after c.args.heap.now.state.live None) ≡ len c.args.heap.now.state.live = ap length (entries_from_start c.args.heap.now.state.live) ∙ sym (len-entries c.args.heap.now.state.live) in
+    let all : length (left_after c.args.heap.now.state.live None) ≡ len c.args.heap.now.state.live =
+    ap length (entries_from_start c.args.heap.now.state.live) ∙ sym (len-entries c.args.heap.now.state.live) in
     record { count = omega (arith, all); few = omega arith; small = omega arith }
 
 pub loop-handle-smaller : goal.loop-handle-smaller
 loop-handle-smaller g c =
     let shorter = walk_shortens c.args.heap.now.state.live c.loop-handle.last c.in-Some.handle c.in-Some.ensures in
-    let less : length (left_after c.args.heap.now.state.live (Some c.in-Some.handle)) < length (left_after c.args.heap.now.state.live c.loop-handle.last) = omega (arith, shorter) in
+    let less : length (left_after c.args.heap.now.state.live (Some c.in-Some.handle)) < length (left_after c.args.heap.now.state.live c.loop-handle.last) =
+    omega (arith, shorter) in
     less
 
 pub loop-handle-preserved : goal.loop-handle-preserved
@@ -26,7 +28,12 @@ loop-handle-preserved g c =
     let next : IsNextLive c.args.heap.now.state.live (after_key c.loop-handle.last) (key c.in-Some.handle) = c.in-Some.ensures in
     let shorter = walk_shortens c.args.heap.now.state.live c.loop-handle.last c.in-Some.handle next in
     let few : c.loop-handle.chunks + 1 ≤ key c.in-Some.handle + 1 = omega (arith, next.at_least, c.loop-handle.invariant.few) in
-    record { count = omega (arith, shorter, c.loop-handle.invariant.count); few = few; small = omega (arith, few, small_key (key c.in-Some.handle) (c.requires.sound.most_class (key c.in-Some.handle) next.is_live)) }
+    record {
+      count = omega (arith, shorter, c.loop-handle.invariant.count);
+      few = few;
+      small = omega
+          (arith, few, small_key (key c.in-Some.handle) (c.requires.sound.most_class (key c.in-Some.handle) next.is_live));
+    }
 
 pub returns-clause-few : goal.returns-clause-few
 returns-clause-few g c = c.loop-handle.invariant.small

@@ -12,12 +12,14 @@ use Rattle.dym_report.proofs.live.write_images.Goals as goal
 pub loop-handle-init : goal.loop-handle-init
 loop-handle-init g c =
     let line : ℕ × List ℕ → List ℕ = λ e. image_line c.args.heap.now.version (handle_of e.0) e.1 in
-    leaves_same _ _ _ _ _ (leaves_all _ (images_text c.args.heap.now.version c.args.heap.now.state.live)) (ap (flat_map line) (sym (entries_from_start c.args.heap.now.state.live)))
+    leaves_same _ _ _ _ _ (leaves_all _ (images_text c.args.heap.now.version c.args.heap.now.state.live))
+    (ap (flat_map line) (sym (entries_from_start c.args.heap.now.state.live)))
 
 pub loop-handle-smaller : goal.loop-handle-smaller
 loop-handle-smaller g c =
     let shorter = walk_shortens c.args.heap.now.state.live c.loop-handle.last c.in-Some.handle c.in-Some.ensures in
-    let less : length (left_after c.args.heap.now.state.live (Some c.in-Some.handle)) < length (left_after c.args.heap.now.state.live c.loop-handle.last) = omega (arith, shorter) in
+    let less : length (left_after c.args.heap.now.state.live (Some c.in-Some.handle)) < length (left_after c.args.heap.now.state.live c.loop-handle.last) =
+    omega (arith, shorter) in
     less
 
 pub returns-in_err-write_live : goal.returns-in_err-write_live
@@ -27,7 +29,8 @@ returns-in_err-write_live g c =
     let found = bytes_of c.args.heap.now.state.live (key c.in-Some.handle) next.is_live in
     let first = ap (flat_map line) (walk_goes c.args.heap.now.state.live c.loop-handle.last c.in-Some.handle found.0 next found.1) in
     let stopped : Stopped (g.W.Sink.output c.loop-handle.sink) (g.W.Sink.output c.write_live.new.sink) (line (key c.in-Some.handle, found.0)) =
-    subst (λ o. IfSome o (λ bytes. Stopped (g.W.Sink.output c.loop-handle.sink) (g.W.Sink.output c.write_live.new.sink) (line (key c.in-Some.handle, bytes)))) found.1 c.in_err-write_live.ensures in
+    subst (λ o. IfSome o (λ bytes. Stopped (g.W.Sink.output c.loop-handle.sink) (g.W.Sink.output c.write_live.new.sink) (line (key c.in-Some.handle, bytes))))
+    found.1 c.in_err-write_live.ensures in
     writes_stopped _ _ _ _ c.from_residual.ensures.0 (leaves_cut _ _ _ _ _ _ (leaves_same _ _ _ _ _ c.loop-handle.invariant first) stopped)
 
 pub loop-handle-preserved : goal.loop-handle-preserved
@@ -37,7 +40,8 @@ loop-handle-preserved g c =
     let found = bytes_of c.args.heap.now.state.live (key c.in-Some.handle) next.is_live in
     let first = ap (flat_map line) (walk_goes c.args.heap.now.state.live c.loop-handle.last c.in-Some.handle found.0 next found.1) in
     let written : Appended (g.W.Sink.output c.loop-handle.sink) (g.W.Sink.output c.write_live.new.sink) (line (key c.in-Some.handle, found.0)) =
-    subst (λ o. IfSome o (λ bytes. Appended (g.W.Sink.output c.loop-handle.sink) (g.W.Sink.output c.write_live.new.sink) (line (key c.in-Some.handle, bytes)))) found.1 c.in_ok-write_live.ensures in
+    subst (λ o. IfSome o (λ bytes. Appended (g.W.Sink.output c.loop-handle.sink) (g.W.Sink.output c.write_live.new.sink) (line (key c.in-Some.handle, bytes))))
+    found.1 c.in_ok-write_live.ensures in
     leaves_more _ _ _ _ _ _ (leaves_same _ _ _ _ _ c.loop-handle.invariant first) written
 
 pub returns : goal.returns

@@ -12,4 +12,5 @@ returns g c =
     each_some (get c.args.heap.now.state.live (number c.args.exp c.args.index)) (λ bytes is.
     let image : c.in-Some.bytes.now ≡ bytes = one_some (sym c.in-Some.ensures ∙ is) in
     let handle = sym (named c.args.exp c.args.index c.ranges.index.fits) in
-    subst (λ t. Writes (g.W.Sink.output c.args.sink.now) (g.W.Sink.output c.write_image.new.sink) t c.write_image.result) (λ i. image_line (c.version.ensures i) (handle i) (image i)) c.write_image.ensures)
+    subst (λ t. Writes (g.W.Sink.output c.args.sink.now) (g.W.Sink.output c.write_image.new.sink) t c.write_image.result)
+    (λ i. image_line (c.version.ensures i) (handle i) (image i)) c.write_image.ensures)

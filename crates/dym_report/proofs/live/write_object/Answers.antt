@@ -18,10 +18,12 @@ returns-in_err-write_replies g c =
     let whole = object_is c.args.heap.now.version c.args.name.now c.args.replies.now c.args.heap.now.state.live c.args.kept c.args.slots in
     let rest = state_text c.args.heap.now.version c.args.heap.now.state.live c.args.kept c.args.slots in
     writes_stopped _ _ _ _ c.from_residual-in_err-write_replies.ensures.0
-    (subst (Stopped _ _) (sym whole) (cut_second _ _ _ (heading c.args.name.now) (flat_map reply_line c.args.replies.now) rest c.in_ok-write_heading.ensures c.in_err-write_replies.ensures))
+    (subst (Stopped _ _) (sym whole)
+    (cut_second _ _ _ (heading c.args.name.now) (flat_map reply_line c.args.replies.now) rest c.in_ok-write_heading.ensures c.in_err-write_replies.ensures))
 
 pub returns : goal.returns
 returns g c =
     let whole = object_is c.args.heap.now.version c.args.name.now c.args.replies.now c.args.heap.now.state.live c.args.kept c.args.slots in
     let rest = state_text c.args.heap.now.version c.args.heap.now.state.live c.args.kept c.args.slots in
-    third_ends_as _ _ _ _ _ (heading c.args.name.now) (flat_map reply_line c.args.replies.now) rest _ whole c.in_ok-write_heading.ensures c.in_ok-write_replies.ensures c.write_state.ensures
+    third_ends_as _ _ _ _ _ (heading c.args.name.now) (flat_map reply_line c.args.replies.now) rest _ whole c.in_ok-write_heading.ensures
+    c.in_ok-write_replies.ensures c.write_state.ensures

@@ -7,7 +7,8 @@ use Rattle.dym_report.proofs.reply.write_replies.Goals as goal
 
 pub returns-in_err-add : goal.returns-in_err-add
 returns-in_err-add g c =
-    writes_stopped _ _ _ _ c.from_residual.ensures.0 (page_cut reply_line c.args.replies.now _ _ _ _ _ _ _ c.loop-reply-test.true c.reply-item.is c.loop-reply.invariant c.in_err-add.ensures.stopped)
+    writes_stopped _ _ _ _ c.from_residual.ensures.0
+    (page_cut reply_line c.args.replies.now _ _ _ _ _ _ _ c.loop-reply-test.true c.reply-item.is c.loop-reply.invariant c.in_err-add.ensures.stopped)
 
 pub loop-reply-preserved : goal.loop-reply-preserved
 loop-reply-preserved g c =

@@ -2,7 +2,7 @@ use Rattle.std.proofs.Common.{◌≡◌, [], map, ◌∙◌, arith}
 use Rattle.std.proofs.lemmas.List.{length-map}
 use Rattle.std.proofs.lemmas.List.Sorted.{IsPermutation-trans, length_permutation}
 use Rattle.dym_io.specs.Laws.{blames_later}
-use Rattle.dym_run.specs.declared.write_fail.WriteFail.TheVariants.{Sink as SinkFailed}
+use Rattle.dym_report.specs.declared.write_fail.WriteFail.TheVariants.{Sink as SinkFailed}
 use Rattle.dym_region.specs.contracts.raw_segment.RawSegmentSegment.TheImpl.{ghosts}
 use Rattle.dym_run.proofs.Progress.{wave_more, wave_cut, writes_or_passed}
 use Rattle.dym_run.proofs.wave_report.write_all.Goals as goal

@@ -1,5 +1,5 @@
 use Rattle.std.proofs.Common.{Ok, ap, sym, ◌∙◌}
-use Rattle.dym_lines.specs.Lines.{words_of}
+use Rattle.dym_script.specs.Lines.{words_of}
 use Rattle.dym_script.proofs.LateVerbs.{event_may}
 use Rattle.dym_script.proofs.late_words.event_at.Goals as goal
 

@@ -1,7 +1,7 @@
 use Rattle.std.proofs.Common.{◌≡◌, refl, subst, sym, ap}
 use Rattle.dym_io.specs.Sink.{Appended, AppendedFront}
 use Rattle.dym_script.specs.ByObjects.{GivesParts}
-use Rattle.dym_run.specs.Report.{report_text}
+use Rattle.dym_report.specs.Report.{report_text}
 use Rattle.dymelor_top.specs.Answers.{Answer, of_script}
 use Rattle.dymelor_top.proofs.PassedOn.{answer_passed}
 use Rattle.dymelor_top.proofs.answer.answer_report.Goals as goal

@@ -1,130 +1,125 @@
-use Rattle.std.proofs.Common.{◌≡◌, ◌+◌, [], refl, subst, sym}
-use Rattle.dym_base.specs.declared.limits.TheConstants.{MOST_INPUT_BYTES}
+use Rattle.std.proofs.Common.{◌≡◌, [], refl, subst, sym}
 use Rattle.dym_io.specs.Sink.{Appended, AppendedFront}
 use Rattle.dym_io.specs.Laws.{appended_nothing, front_of_appended}
 use Rattle.dym_script.specs.Late.{late_of}
 use Rattle.dym_script.specs.Scripts.{script_of}
 use Rattle.dymelor_top.specs.declared.plan.Reading.TheVariants as reading
-use Rattle.dym_run.specs.Report.{report_text}
-use Rattle.dym_run.specs.Summary.{summary_of}
-use Rattle.dymelor_top.specs.Answers.{Answer, of_script, counts_of, saved_answer, of_late, IsRead}
-use Rattle.dymelor_top.proofs.Served.{stopped_front, read_whole_input, same_answer, same_back}
+use Rattle.dym_report.specs.Report.{report_text}
+use Rattle.dym_report.specs.Summary.{summary_of}
+use Rattle.dymelor_top.specs.Answers.{Answer, of_script, counts_of, saved_answer, of_late}
+use Rattle.dymelor_top.proofs.Served.{answered_as, stopped_as, input_left, input_same, same_answer, same_back}
 use Rattle.dymelor_top.proofs.answer.answer_source.Goals as goal
 
 pub returns-in_ok-answer_report-in-Report-clause-answered : goal.returns-in_ok-answer_report-in-Report-clause-answered
 returns-in_ok-answer_report-in-Report-clause-answered g c bytes known =
-    let a = g.W.Sink.output c.args.sink.now in
-    let b = g.W.Sink.output c.answer_report.new.sink in
-    let whole : Answer = of_script report_text (script_of bytes) in
     let w = c.in_ok-answer_report-in-Report.ensures.answered (script_of bytes) (c.in_ok-script-in-Report.ensures.gives bytes known) in
-    subst (λ r. (x : Answer) × IsRead r bytes x × (c.in_ok-answer_report-in-Report.field-0 ≡ x.status) × Appended a b x.text) (sym c.in-Report.is) (whole, refl, w.0, w.1)
+    answered_as c.args.reading reading.Report bytes _ _ _ c.in-Report.is (of_script report_text (script_of bytes)) refl w.0 w.1
 
 pub returns-in_ok-answer_summary-in-Summary-clause-answered : goal.returns-in_ok-answer_summary-in-Summary-clause-answered
 returns-in_ok-answer_summary-in-Summary-clause-answered g c bytes known =
-    let a = g.W.Sink.output c.args.sink.now in
-    let b = g.W.Sink.output c.answer_summary.new.sink in
-    let whole : Answer = of_script summary_of (script_of bytes) in
     let w = c.in_ok-answer_summary-in-Summary.ensures.answered (script_of bytes) (c.in_ok-script-in-Summary.ensures.gives bytes known) in
-    subst (λ r. (x : Answer) × IsRead r bytes x × (c.in_ok-answer_summary-in-Summary.field-0 ≡ x.status) × Appended a b x.text) (sym c.in-Summary.is) (whole, refl, w.0, w.1)
+    answered_as c.args.reading reading.Summary bytes _ _ _ c.in-Summary.is (of_script summary_of (script_of bytes)) refl w.0 w.1
 
 pub returns-in_err-answer_counted-in-Counts-clause-answered : goal.returns-in_err-answer_counted-in-Counts-clause-answered
 returns-in_err-answer_counted-in-Counts-clause-answered g c bytes known =
     let a = g.W.Sink.output c.args.sink.now in
     let b = g.W.Sink.output c.answer_counted.new.sink in
     let w = c.in_err-answer_counted-in-Counts.ensures.answered (script_of bytes) (c.in_ok-counted-in-Counts.ensures.gives bytes known) in
-    stopped_front (IsRead c.args.reading bytes) a b _ c.from_residual-in_err-answer_counted-in-Counts.ensures.0
-    (λ answer is. subst (λ (x : Answer). AppendedFront a b x.text) (sym (subst (λ r. IsRead r bytes answer) c.in-Counts.is is)) w.0)
+    stopped_as c.args.reading reading.Counts bytes a b _ c.in-Counts.is c.from_residual-in_err-answer_counted-in-Counts.ensures.0
+    (λ answer is. subst (λ (x : Answer). AppendedFront a b x.text) (sym is) w.0)
 
 pub returns-in_ok-answer_counted-in-Counts-clause-answered : goal.returns-in_ok-answer_counted-in-Counts-clause-answered
 returns-in_ok-answer_counted-in-Counts-clause-answered g c bytes known =
-    let a = g.W.Sink.output c.args.sink.now in
-    let b = g.W.Sink.output c.answer_counted.new.sink in
-    let whole : Answer = of_script counts_of (script_of bytes) in
     let w = c.in_ok-answer_counted-in-Counts.ensures.answered (script_of bytes) (c.in_ok-counted-in-Counts.ensures.gives bytes known) in
-    subst (λ r. (x : Answer) × IsRead r bytes x × (c.in_ok-answer_counted-in-Counts.field-0 ≡ x.status) × Appended a b x.text) (sym c.in-Counts.is) (whole, refl, w.0, w.1)
+    answered_as c.args.reading reading.Counts bytes _ _ _ c.in-Counts.is (of_script counts_of (script_of bytes)) refl w.0 w.1
+
+pub returns-in_ok-answer_saved-in-File-clause-answered : goal.returns-in_ok-answer_saved-in-File-clause-answered
+returns-in_ok-answer_saved-in-File-clause-answered g c bytes known =
+    let w = c.in_ok-answer_saved-in-File.ensures.answered (script_of bytes) (c.in_ok-script-in-File.ensures.gives bytes known) in
+    answered_as c.args.reading (reading.File c.in-File.name) bytes _ _ _ c.in-File.is (saved_answer c.in-File.name (script_of bytes)) refl w.0 w.1
 
 pub returns-in_err-answer_trace-in-Trace-clause-answered : goal.returns-in_err-answer_trace-in-Trace-clause-answered
 returns-in_err-answer_trace-in-Trace-clause-answered g c bytes known =
     let a = g.W.Sink.output c.args.sink.now in
     let b = g.W.Sink.output c.answer_trace.new.sink in
     let got = c.in_ok-bytes-in-Trace in
-    let read = read_whole_input (MOST_INPUT_BYTES + 1) (g.R.Source.left c.args.source.now) (g.R.Source.left c.read_whole.new.source) got.bytes.items bytes refl known got.ensures.taken got.ensures.within got.ensures.ended in
-    stopped_front (IsRead c.args.reading bytes) a b _ c.from_residual-in_err-answer_trace-in-Trace.ensures.0
-    (λ answer is. c.in_err-answer_trace-in-Trace.ensures.answered.0 answer (same_back reading.Trace got.bytes.items bytes answer read.1 (subst (λ r. IsRead r bytes answer) c.in-Trace.is is)))
+    let same = input_same (g.R.Source.left c.args.source.now) (g.R.Source.left c.read_whole.new.source) got.bytes.items bytes known
+    got.ensures.taken got.ensures.within got.ensures.ended in
+    stopped_as c.args.reading reading.Trace bytes a b _ c.in-Trace.is c.from_residual-in_err-answer_trace-in-Trace.ensures.0
+    (λ answer is. c.in_err-answer_trace-in-Trace.ensures.answered.0 answer (same_back reading.Trace got.bytes.items bytes answer same is))
 
 pub returns-in_ok-answer_trace-in-Trace-clause-answered : goal.returns-in_ok-answer_trace-in-Trace-clause-answered
 returns-in_ok-answer_trace-in-Trace-clause-answered g c bytes known =
-    let a = g.W.Sink.output c.args.sink.now in
-    let b = g.W.Sink.output c.answer_trace.new.sink in
     let got = c.in_ok-bytes-in-Trace in
-    let read = read_whole_input (MOST_INPUT_BYTES + 1) (g.R.Source.left c.args.source.now) (g.R.Source.left c.read_whole.new.source) got.bytes.items bytes refl known got.ensures.taken got.ensures.within got.ensures.ended in
+    let same = input_same (g.R.Source.left c.args.source.now) (g.R.Source.left c.read_whole.new.source) got.bytes.items bytes known
+    got.ensures.taken got.ensures.within got.ensures.ended in
     let w = c.in_ok-answer_trace-in-Trace.ensures.answered in
-    subst (λ r. (x : Answer) × IsRead r bytes x × (c.in_ok-answer_trace-in-Trace.field-0 ≡ x.status) × Appended a b x.text) (sym c.in-Trace.is) (w.0, same_answer reading.Trace got.bytes.items bytes w.0 read.1 w.1, w.2, w.3)
+    answered_as c.args.reading reading.Trace bytes _ _ _ c.in-Trace.is w.0 (same_answer reading.Trace got.bytes.items bytes w.0 same w.1) w.2 w.3
 
 pub returns-in_ok-answer_trace-in-Trace-clause-read : goal.returns-in_ok-answer_trace-in-Trace-clause-read
 returns-in_ok-answer_trace-in-Trace-clause-read g c bytes known =
     let got = c.in_ok-bytes-in-Trace in
-    (read_whole_input (MOST_INPUT_BYTES + 1) (g.R.Source.left c.args.source.now) (g.R.Source.left c.read_whole.new.source) got.bytes.items bytes refl known got.ensures.taken got.ensures.within got.ensures.ended).0
-
-pub returns-in_ok-answer_saved-in-File-clause-answered : goal.returns-in_ok-answer_saved-in-File-clause-answered
-returns-in_ok-answer_saved-in-File-clause-answered g c bytes known =
-    let a = g.W.Sink.output c.args.sink.now in
-    let b = g.W.Sink.output c.answer_saved.new.sink in
-    let whole : Answer = saved_answer c.in-File.name (script_of bytes) in
-    let w = c.in_ok-answer_saved-in-File.ensures.answered (script_of bytes) (c.in_ok-script-in-File.ensures.gives bytes known) in
-    subst (λ r. (x : Answer) × IsRead r bytes x × (c.in_ok-answer_saved-in-File.field-0 ≡ x.status) × Appended a b x.text) (sym c.in-File.is) (whole, refl, w.0, w.1)
+    input_left (g.R.Source.left c.args.source.now) (g.R.Source.left c.read_whole.new.source) got.bytes.items bytes known
+    got.ensures.taken got.ensures.within got.ensures.ended
 
 pub returns-in_err-file-in-Loaded-clause-answered : goal.returns-in_err-file-in-Loaded-clause-answered
 returns-in_err-file-in-Loaded-clause-answered g c bytes known =
     let a = g.W.Sink.output c.args.sink.now in
-    stopped_front (IsRead c.args.reading bytes) a a _ c.from_residual-in_err-file-in-Loaded.ensures.0 (λ answer is. front_of_appended a a [] answer.text (appended_nothing a))
+    stopped_as c.args.reading (reading.Loaded c.in-Loaded.time) bytes a a _ c.in-Loaded.is c.from_residual-in_err-file-in-Loaded.ensures.0
+    (λ answer is. front_of_appended a a [] answer.text (appended_nothing a))
 
 pub returns-in_err-answer_loaded-in-Loaded-clause-answered : goal.returns-in_err-answer_loaded-in-Loaded-clause-answered
 returns-in_err-answer_loaded-in-Loaded-clause-answered g c bytes known =
     let a = g.W.Sink.output c.args.sink.now in
     let b = g.W.Sink.output c.answer_loaded.new.sink in
     let got = c.in_ok-file-in-Loaded in
-    let read = read_whole_input (MOST_INPUT_BYTES + 1) (g.R.Source.left c.args.source.now) (g.R.Source.left c.read_whole-in-Loaded.new.source) got.file.items bytes refl known got.ensures.taken got.ensures.within got.ensures.ended in
-    stopped_front (IsRead c.args.reading bytes) a b _ c.from_residual-in_err-answer_loaded-in-Loaded.ensures.0
-    (λ answer is. c.in_err-answer_loaded-in-Loaded.ensures.answered.0 answer (same_back (reading.Loaded c.in-Loaded.time) got.file.items bytes answer read.1 (subst (λ r. IsRead r bytes answer) c.in-Loaded.is is)))
+    let same = input_same (g.R.Source.left c.args.source.now) (g.R.Source.left c.read_whole-in-Loaded.new.source) got.file.items bytes known
+    got.ensures.taken got.ensures.within got.ensures.ended in
+    stopped_as c.args.reading (reading.Loaded c.in-Loaded.time) bytes a b _ c.in-Loaded.is c.from_residual-in_err-answer_loaded-in-Loaded.ensures.0
+    (λ answer is. c.in_err-answer_loaded-in-Loaded.ensures.answered.0 answer (same_back (reading.Loaded c.in-Loaded.time) got.file.items bytes answer same is))
 
 pub returns-in_ok-answer_loaded-in-Loaded-clause-answered : goal.returns-in_ok-answer_loaded-in-Loaded-clause-answered
 returns-in_ok-answer_loaded-in-Loaded-clause-answered g c bytes known =
-    let a = g.W.Sink.output c.args.sink.now in
-    let b = g.W.Sink.output c.answer_loaded.new.sink in
     let got = c.in_ok-file-in-Loaded in
-    let read = read_whole_input (MOST_INPUT_BYTES + 1) (g.R.Source.left c.args.source.now) (g.R.Source.left c.read_whole-in-Loaded.new.source) got.file.items bytes refl known got.ensures.taken got.ensures.within got.ensures.ended in
+    let same = input_same (g.R.Source.left c.args.source.now) (g.R.Source.left c.read_whole-in-Loaded.new.source) got.file.items bytes known
+    got.ensures.taken got.ensures.within got.ensures.ended in
     let w = c.in_ok-answer_loaded-in-Loaded.ensures.answered in
-    subst (λ r. (x : Answer) × IsRead r bytes x × (c.in_ok-answer_loaded-in-Loaded.field-0 ≡ x.status) × Appended a b x.text) (sym c.in-Loaded.is)
-    (w.0, same_answer (reading.Loaded c.in-Loaded.time) got.file.items bytes w.0 read.1 w.1, w.2, w.3)
+    answered_as c.args.reading (reading.Loaded c.in-Loaded.time) bytes _ _ _ c.in-Loaded.is w.0
+    (same_answer (reading.Loaded c.in-Loaded.time) got.file.items bytes w.0 same w.1) w.2 w.3
 
 pub returns-in_ok-answer_loaded-in-Loaded-clause-read : goal.returns-in_ok-answer_loaded-in-Loaded-clause-read
 returns-in_ok-answer_loaded-in-Loaded-clause-read g c bytes known =
     let got = c.in_ok-file-in-Loaded in
-    (read_whole_input (MOST_INPUT_BYTES + 1) (g.R.Source.left c.args.source.now) (g.R.Source.left c.read_whole-in-Loaded.new.source) got.file.items bytes refl known got.ensures.taken got.ensures.within got.ensures.ended).0
+    input_left (g.R.Source.left c.args.source.now) (g.R.Source.left c.read_whole-in-Loaded.new.source) got.file.items bytes known
+    got.ensures.taken got.ensures.within got.ensures.ended
 
 pub returns-in_err-answer_late-in-Late-clause-answered : goal.returns-in_err-answer_late-in-Late-clause-answered
 returns-in_err-answer_late-in-Late-clause-answered g c bytes known =
     let a = g.W.Sink.output c.args.sink.now in
     let b = g.W.Sink.output c.answer_late.new.sink in
     let got = c.in_ok-late-in-Late in
-    let read = read_whole_input (MOST_INPUT_BYTES + 1) (g.R.Source.left c.args.source.now) (g.R.Source.left c.read_whole-in-Late.new.source) got.late.items bytes refl known got.ensures.taken got.ensures.within got.ensures.ended in
+    let same = input_same (g.R.Source.left c.args.source.now) (g.R.Source.left c.read_whole-in-Late.new.source) got.late.items bytes known
+    got.ensures.taken got.ensures.within got.ensures.ended in
     let front = subst (λ l. AppendedFront a b (of_late (late_of l)).text) c.deref.ensures.value c.in_err-answer_late-in-Late.ensures.answered.0 in
-    stopped_front (IsRead c.args.reading bytes) a b _ c.from_residual-in_err-answer_late-in-Late.ensures.0
-    (λ answer is. subst (λ (x : Answer). AppendedFront a b x.text) (sym (same_back reading.Late got.late.items bytes answer read.1 (subst (λ r. IsRead r bytes answer) c.in-Late.is is))) front)
+    stopped_as c.args.reading reading.Late bytes a b _ c.in-Late.is c.from_residual-in_err-answer_late-in-Late.ensures.0
+    (λ answer is. subst (λ (x : Answer). AppendedFront a b x.text) (sym (same_back reading.Late got.late.items bytes answer same is)) front)
 
 pub returns-in_ok-answer_late-in-Late-clause-answered : goal.returns-in_ok-answer_late-in-Late-clause-answered
 returns-in_ok-answer_late-in-Late-clause-answered g c bytes known =
     let a = g.W.Sink.output c.args.sink.now in
     let b = g.W.Sink.output c.answer_late.new.sink in
     let got = c.in_ok-late-in-Late in
-    let read = read_whole_input (MOST_INPUT_BYTES + 1) (g.R.Source.left c.args.source.now) (g.R.Source.left c.read_whole-in-Late.new.source) got.late.items bytes refl known got.ensures.taken got.ensures.within got.ensures.ended in
-    let status = c.in_ok-answer_late-in-Late.field-0 in
-    let w = subst (λ l. (status ≡ (of_late (late_of l)).status) × Appended a b (of_late (late_of l)).text) c.deref.ensures.value c.in_ok-answer_late-in-Late.ensures.answered in
+    let same = input_same (g.R.Source.left c.args.source.now) (g.R.Source.left c.read_whole-in-Late.new.source) got.late.items bytes known
+    got.ensures.taken got.ensures.within got.ensures.ended in
     let whole : Answer = of_late (late_of got.late.items) in
-    subst (λ r. (x : Answer) × IsRead r bytes x × (status ≡ x.status) × Appended a b x.text) (sym c.in-Late.is) (whole, same_answer reading.Late got.late.items bytes whole read.1 refl, w.0, w.1)
+    let status = c.in_ok-answer_late-in-Late.field-0 in
+    let w =
+    subst (λ l. (status ≡ (of_late (late_of l)).status) × Appended a b (of_late (late_of l)).text) c.deref.ensures.value
+    c.in_ok-answer_late-in-Late.ensures.answered in
+    answered_as c.args.reading reading.Late bytes a b status c.in-Late.is whole (same_answer reading.Late got.late.items bytes whole same refl) w.0 w.1
 
 pub returns-in_ok-answer_late-in-Late-clause-read : goal.returns-in_ok-answer_late-in-Late-clause-read
 returns-in_ok-answer_late-in-Late-clause-read g c bytes known =
     let got = c.in_ok-late-in-Late in
-    (read_whole_input (MOST_INPUT_BYTES + 1) (g.R.Source.left c.args.source.now) (g.R.Source.left c.read_whole-in-Late.new.source) got.late.items bytes refl known got.ensures.taken got.ensures.within got.ensures.ended).0
+    input_left (g.R.Source.left c.args.source.now) (g.R.Source.left c.read_whole-in-Late.new.source) got.late.items bytes known
+    got.ensures.taken got.ensures.within got.ensures.ended

@@ -22,7 +22,8 @@ returns-in_err-write_events-in-Good-clause-answered g c =
     let short : length bytes ≤ MOST_INPUT_BYTES = omega (arith, same, c.if-len-gt-MOST_INPUT_BYTES.false) in
     let v = c.in_ok-events.field-0 in
     let right : IsVerdict bytes v = subst (λ l. IsVerdict l v) c.deref.ensures.value c.in_ok-events.ensures in
-    trace_stopped bytes a (g.W.Sink.output c.write_events.new.sink) _ v _ short right (ap of_verdict c.in-Good.is) c.from_residual-in_err-write_events-in-Good.ensures.1 c.in_err-write_events-in-Good.ensures
+    trace_stopped bytes a (g.W.Sink.output c.write_events.new.sink) _ v _ short right (ap of_verdict c.in-Good.is)
+    c.from_residual-in_err-write_events-in-Good.ensures.1 c.in_err-write_events-in-Good.ensures
 
 pub returns-in-Good-clause-answered : goal.returns-in-Good-clause-answered
 returns-in-Good-clause-answered g c =
@@ -42,7 +43,8 @@ returns-in_err-write_error-in-Bad-clause-answered g c =
     let short : length bytes ≤ MOST_INPUT_BYTES = omega (arith, same, c.if-len-gt-MOST_INPUT_BYTES.false) in
     let v = c.in_ok-events.field-0 in
     let right : IsVerdict bytes v = subst (λ l. IsVerdict l v) c.deref.ensures.value c.in_ok-events.ensures in
-    trace_stopped bytes a (g.W.Sink.output c.write_error-in-Bad.new.sink) _ v _ short right (ap of_verdict c.in-Bad.is) c.from_residual-in_err-write_error-in-Bad.ensures.1 c.in_err-write_error-in-Bad.ensures
+    trace_stopped bytes a (g.W.Sink.output c.write_error-in-Bad.new.sink) _ v _ short right (ap of_verdict c.in-Bad.is)
+    c.from_residual-in_err-write_error-in-Bad.ensures.1 c.in_err-write_error-in-Bad.ensures
 
 pub returns-clause-answered : goal.returns-clause-answered
 returns-clause-answered g c =

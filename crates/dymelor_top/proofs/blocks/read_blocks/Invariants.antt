@@ -8,7 +8,8 @@ abbrev pub invariant-pieces : goal.invariant-pieces
 invariant-pieces g l = record {
   short : l.left ≤ MOST_LINE_BYTES;
   more : g.R.Source.goes_on l.source;
-  read : ReadSoFar (g.R.Source.left l.initial.source) (g.R.Source.left l.source) (g.R.Source.faults l.initial.source) (g.R.Source.faults l.source) (TookBy (g.K.Keeper.keeps l.script.keeper) l.script.reader l.script.commands l.script.number) (take l.left l.block) l.pulled;
+  read : ReadSoFar (g.R.Source.left l.initial.source) (g.R.Source.left l.source) (g.R.Source.faults l.initial.source) (g.R.Source.faults l.source)
+      (TookBy (g.K.Keeper.keeps l.script.keeper) l.script.reader l.script.commands l.script.number) (take l.left l.block) l.pulled;
 }
 
 abbrev pub decreases-pieces : goal.decreases-pieces

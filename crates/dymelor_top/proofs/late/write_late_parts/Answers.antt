@@ -1,7 +1,7 @@
 use Rattle.std.proofs.Common.{◌≡◌, All, subst}
 use Rattle.std.proofs.lemmas.List.Elements.{All-tail}
 use Rattle.dym_io.specs.Laws.{blames_later}
-use Rattle.dym_run.specs.declared.write_fail.WriteFail.TheVariants as fail
+use Rattle.dym_report.specs.declared.write_fail.WriteFail.TheVariants as fail
 use Rattle.dymelor_top.specs.LateParts.{IsLatePart, late_part_text}
 use Rattle.dymelor_top.proofs.PassedOn.{writes_or_passed}
 use Rattle.dymelor_top.proofs.Yielded.{one_more, text_more, text_front}

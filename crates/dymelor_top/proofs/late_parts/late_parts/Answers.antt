@@ -16,7 +16,8 @@ loop-line-preserved c =
     let many = many_parts c.loop-line.parts.items objects c.loop-line.yielded c.loop-line.invariant.parts in
     let inside : line.object < length c.loop-line.parts.items = omega (arith, declared, many) in
     record {
-      parts = parts_more c.loop-line.parts.items objects line c.index_mut.result.now c.keep.new.part c.loop-line.yielded inside c.index_mut.ensures.value c.keep.ensures.decl c.in_ok-keep.ensures.acts c.loop-line.invariant.parts;
+      parts = parts_more c.loop-line.parts.items objects line c.index_mut.result.now c.keep.new.part c.loop-line.yielded inside c.index_mut.ensures.value
+          c.keep.ensures.decl c.in_ok-keep.ensures.acts c.loop-line.invariant.parts;
       lines = one_more c.args.script.lines.items c.loop-line.yielded _ others line c.loop-line.invariant.lines cut;
       within = All-tail (λ (l : LateLine). l.object < length objects) line others rest;
     }

@@ -31,8 +31,10 @@ loop-act-preserved c =
     let before = c.loop-act.invariant in
     record {
       took = took_push old mid new c.loop-act.yielded act before.took c.in_ok-became.ensures.took;
-      outcome = c.in_ok-push.ensures.items ∙ told_more old mid c.requires.events c.requires.bound c.loop-act.yielded act c.loop-act.outcome.items c.in_ok-became.became before.took before.outcome c.in_ok-became.ensures.outcome;
+      outcome = c.in_ok-push.ensures.items ∙ told_more old mid c.requires.events c.requires.bound c.loop-act.yielded act c.loop-act.outcome.items
+          c.in_ok-became.became before.took before.outcome c.in_ok-became.ensures.outcome;
       acts = one_more c.args.acts.items c.loop-act.yielded _ others act before.acts cut;
       may = All-tail MayAct act others (subst (All MayAct) cut before.may);
-      few = room_later mid new MOST_LATE_EVENTS act others (subst (λ l. length mid.events + count_by is_event l ≤ MOST_LATE_EVENTS) cut before.few) c.in_ok-became.ensures.took;
+      few = room_later mid new MOST_LATE_EVENTS act others (subst (λ l. length mid.events + count_by is_event l ≤ MOST_LATE_EVENTS) cut before.few)
+          c.in_ok-became.ensures.took;
     }

@@ -30,7 +30,8 @@ returns-in_err-write_loaded-in-Ok-clause-answered g c =
     let is : IsLoaded bytes loaded = subst (λ l. IsLoaded l loaded) c.deref.ensures.value c.in-Ok.ensures.loaded in
     let x : Answer = record { status = 0; text = loaded_text time is.head loaded.chain.logs } in
     one_stopped (IsLoadAnswer time bytes) (one_read (reading.Loaded time) bytes) (g.W.Sink.output c.args.sink.now) (g.W.Sink.output c.write_loaded.new.sink) _ x
-    (short_file time bytes x short (inl (is_loaded time bytes loaded is))) c.from_residual-in_err-write_loaded-in-Ok.ensures.1 (c.in_err-write_loaded-in-Ok.ensures bytes is)
+    (short_file time bytes x short (inl (is_loaded time bytes loaded is))) c.from_residual-in_err-write_loaded-in-Ok.ensures.1
+    (c.in_err-write_loaded-in-Ok.ensures bytes is)
 
 pub returns-in-Ok-clause-answered : goal.returns-in-Ok-clause-answered
 returns-in-Ok-clause-answered g c =
@@ -50,12 +51,14 @@ returns-in_err-write_error-in-Err-Bad-clause-answered g c =
     let same : c.len.result ≡ length bytes = c.len.ensures ∙ c.args.file.ok.0 in
     let short : length bytes ≤ MOST_INPUT_BYTES = omega (arith, same, c.if-len-gt-MOST_INPUT_BYTES.false) in
     let part = c.in-Err-Bad.part in
-    let fails : FailsAt bytes part = subst (λ l. FailsAt l part) c.deref.ensures.value (subst (FailsAs c.deref.result.now) c.in-Err-Bad.field-0-is c.in-Err-Bad.ensures.fails) in
+    let fails : FailsAt bytes part =
+    subst (λ l. FailsAt l part) c.deref.ensures.value (subst (FailsAs c.deref.result.now) c.in-Err-Bad.field-0-is c.in-Err-Bad.ensures.fails) in
     let x : Answer = fault_answer part bad.File in
     let fault : IsPartFault bytes x = record { part = part; fails = fails; is = refl } in
     one_stopped (IsLoadAnswer time bytes) (one_read (reading.Loaded time) bytes) (g.W.Sink.output c.args.sink.now) (g.W.Sink.output c.write_error-in-Err-Bad.new.sink) _ x
     (short_file time bytes x short (inr fault)) c.from_residual-in_err-write_error-in-Err-Bad.ensures.1
-    (subst (λ n. Stopped (g.W.Sink.output c.args.sink.now) (g.W.Sink.output c.write_error-in-Err-Bad.new.sink) (fault_answer n bad.File).text) c.in-Err-Bad.part-is c.in_err-write_error-in-Err-Bad.ensures)
+    (subst (λ n. Stopped (g.W.Sink.output c.args.sink.now) (g.W.Sink.output c.write_error-in-Err-Bad.new.sink) (fault_answer n bad.File).text) c.in-Err-Bad.part-is
+    c.in_err-write_error-in-Err-Bad.ensures)
 
 pub returns-in-Err-Bad-clause-answered : goal.returns-in-Err-Bad-clause-answered
 returns-in-Err-Bad-clause-answered g c =
@@ -64,11 +67,13 @@ returns-in-Err-Bad-clause-answered g c =
     let same : c.len.result ≡ length bytes = c.len.ensures ∙ c.args.file.ok.0 in
     let short : length bytes ≤ MOST_INPUT_BYTES = omega (arith, same, c.if-len-gt-MOST_INPUT_BYTES.false) in
     let part = c.in-Err-Bad.part in
-    let fails : FailsAt bytes part = subst (λ l. FailsAt l part) c.deref.ensures.value (subst (FailsAs c.deref.result.now) c.in-Err-Bad.field-0-is c.in-Err-Bad.ensures.fails) in
+    let fails : FailsAt bytes part =
+    subst (λ l. FailsAt l part) c.deref.ensures.value (subst (FailsAs c.deref.result.now) c.in-Err-Bad.field-0-is c.in-Err-Bad.ensures.fails) in
     let x : Answer = fault_answer part bad.File in
     let fault : IsPartFault bytes x = record { part = part; fails = fails; is = refl } in (
       x,
       short_file time bytes x short (inr fault),
       refl,
-      subst (λ n. Appended (g.W.Sink.output c.args.sink.now) (g.W.Sink.output c.write_error-in-Err-Bad.new.sink) (fault_answer n bad.File).text) c.in-Err-Bad.part-is c.in_ok-write_error-in-Err-Bad.ensures,
+      subst (λ n. Appended (g.W.Sink.output c.args.sink.now) (g.W.Sink.output c.write_error-in-Err-Bad.new.sink) (fault_answer n bad.File).text) c.in-Err-Bad.part-is
+          c.in_ok-write_error-in-Err-Bad.ensures,
     )

@@ -1,9 +1,8 @@
 use Rattle.std.proofs.Common.{◌≡◌, subst, ap, ◌∙◌}
 use Rattle.dym_object.specs.Meaning.{ObjectMeaning}
 use Rattle.dym_io.specs.Sink.{WritesOr}
-use Rattle.dym_run.specs.declared.write_fail.WriteFail.TheVariants as fail
-use Rattle.dym_run.specs.Parts.{own_of}
-use Rattle.dym_run.specs.Report.{part_text}
+use Rattle.dym_report.specs.declared.write_fail.WriteFail.TheVariants as fail
+use Rattle.dym_report.specs.Report.{own_of, part_text}
 use Rattle.dymelor_top.proofs.plain.write_part.Goals as goal
 
 pub returns : goal.returns

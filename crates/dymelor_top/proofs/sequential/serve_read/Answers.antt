@@ -1,29 +1,44 @@
-use Rattle.std.proofs.Common.{subst}
-use Rattle.dymelor_top.specs.Answers.{Answer, IsRead}
-use Rattle.dymelor_top.specs.Headline.{WroteFront}
-use Rattle.dymelor_top.proofs.Served.{wrote_all, front_wrote, front_kept, serves_front, one_read}
+use Rattle.std.proofs.Common.{◌+◌, Some, refl, sym, ap, subst, ◌∙◌}
+use Rattle.dym_base.specs.declared.limits.TheConstants.{MOST_INPUT_BYTES}
+use Rattle.dym_gen.specs.Scripts.{generated}
+use Rattle.dym_words.specs.Laws.{IsInputWithin}
+use Rattle.dym_words.specs.declared.order.Input.TheVariants as input
+use Rattle.dymelor_top.specs.declared.plan.Plan.TheVariants as plan
+use Rattle.dymelor_top.specs.Stops.{status_of}
+use Rattle.dymelor_top.specs.Headline.{Input, PlanHeadline}
+use Rattle.dymelor_top.proofs.Served.{ended, was_read, not_read, unread, wanting, took_nothing, never_once}
 use Rattle.dymelor_top.proofs.sequential.serve_read.Goals as goal
 
-pub returns-in_err-status-clause-served : goal.returns-in_err-status-clause-served
-returns-in_err-status-clause-served g c bytes known =
-    let start = g.W.Sink.output c.args.sink.now in
-    let after = g.W.Sink.output c.answer_source.new.sink in
-    serves_front (IsRead c.args.reading bytes) start after _ c.from_residual.ensures.0 (λ answer is. front_wrote start after answer.text (c.in_err-status.ensures.answered bytes known answer is))
+pub returns-in-Script : goal.returns-in-Script
+returns-in-Script g c =
+    let old : Input = record { left = g.R.Source.left c.args.source.now; faults = g.R.Source.faults c.args.source.now } in
+    let new : Input = record { left = g.R.Source.left c.serve_source.new.source; faults = g.R.Source.faults c.serve_source.new.source } in
+    let a = g.W.Sink.output c.args.sink.now in
+    let b = g.W.Sink.output c.serve_source.new.sink in
+    let r = c.serve_source.result in
+    let is = c.serve_source.ensures in
+    subst (λ i. PlanHeadline (plan.Read i c.args.reading) old new a b (status_of r)) (sym c.in-Script.is)
+    (ended (plan.Read input.Script c.args.reading) old new a b r is.status (λ stopped. tt) is.served is.bounded (was_read old new r is.read)
+    (λ none. absurd (cc)) is.source_fault is.source_stands is.sink_fault is.sink_stands)
 
--- what was written before the flush is all of the one answer
-pub returns-in_err-flush-clause-served : goal.returns-in_err-flush-clause-served
-returns-in_err-flush-clause-served g c bytes known =
-    let start = g.W.Sink.output c.args.sink.now in
-    let middle = g.W.Sink.output c.answer_source.new.sink in
-    let after = g.W.Sink.output c.flush.new.sink in
-    let w = c.in_ok-status.ensures.answered bytes known in
-    serves_front (IsRead c.args.reading bytes) start after _ c.from_residual-in_err-flush.ensures.0
-    (λ answer is. subst (λ (x : Answer). WroteFront start after x.text) (one_read c.args.reading bytes w.0 answer w.1 is) (front_kept start middle after w.0.text w.3 c.in_err-flush.ensures.written))
+pub generated_script-requires : goal.generated_script-requires
+generated_script-requires g c = record { made = subst IsInputWithin c.in-GenNumbers.is c.requires.input }
 
-pub returns-clause-served : goal.returns-clause-served
-returns-clause-served g c bytes known =
-    let start = g.W.Sink.output c.args.sink.now in
-    let middle = g.W.Sink.output c.answer_source.new.sink in
-    let after = g.W.Sink.output c.flush.new.sink in
-    let w = c.in_ok-status.ensures.answered bytes known in
-    (w.0, w.1, w.2, wrote_all start middle after w.0.text w.3 c.in_ok-flush.ensures.written c.in_ok-flush.ensures.flushed)
+pub returns-in_err-made-in-GenNumbers : goal.returns-in_err-made-in-GenNumbers
+returns-in_err-made-in-GenNumbers g c =
+    let old : Input = record { left = g.R.Source.left c.args.source.now; faults = g.R.Source.faults c.args.source.now } in
+    wanting (plan.Read c.args.input c.args.reading) old (g.W.Sink.output c.args.sink.now) _ c.from_residual.ensures.1 (λ stopped. tt)
+
+pub returns-in_ok-made-in-GenNumbers : goal.returns-in_ok-made-in-GenNumbers
+returns-in_ok-made-in-GenNumbers g c =
+    let old : Input = record { left = g.R.Source.left c.args.source.now; faults = g.R.Source.faults c.args.source.now } in
+    let a = g.W.Sink.output c.args.sink.now in
+    let b = g.W.Sink.output c.serve_source-in-GenNumbers.new.sink in
+    let r = c.serve_source-in-GenNumbers.result in
+    let is = c.serve_source-in-GenNumbers.ensures in
+    let made = c.in-GenNumbers in
+    let script = generated made.seed made.objects made.commands in
+    subst (λ i. PlanHeadline (plan.Read i c.args.reading) old old a b (status_of r)) (sym made.is)
+    (ended (plan.Read (input.GenNumbers made.seed made.objects made.commands) c.args.reading) old old a b r is.status (λ stopped. tt)
+    (λ bytes known. is.served script (ap Some (c.deref.ensures.value ∙ c.in_ok-made-in-GenNumbers.ensures))) (took_nothing (MOST_INPUT_BYTES + 1) old.left)
+    (not_read old old r) (λ none. unread old) (λ e. absurd (never_once (is.source_fault e).0)) (λ other. refl) is.sink_fault is.sink_stands)

@@ -1,8 +1,8 @@
 use Rattle.std.proofs.Common.{◌≡◌, ◌+◌, ◌≤◌, All, map, length, sum_by, subst, sym, ap, ◌∙◌, arith}
 use Rattle.dym_base.specs.declared.limits.TheConstants.{MOST_COMMANDS}
 use Rattle.dym_script.specs.declared.parts.Part.{Part}
-use Rattle.dym_run.specs.Parts.{own_of, IsRunnable}
-use Rattle.dym_run.specs.Summary.{tally_all}
+use Rattle.dym_report.specs.Report.{own_of, IsRunnable}
+use Rattle.dym_report.specs.Summary.{tally_all}
 use Rattle.dymelor_top.proofs.PartFacts.{parts_run}
 use Rattle.dymelor_top.proofs.SummaryFacts.{commands_of_parts, objects_of_parts, total_is}
 use Rattle.dymelor_top.proofs.summary.total.Goals as goal
@@ -24,8 +24,8 @@ tally_parts-requires-clause-commands c =
     omega (arith, commands_of_parts c.args.script.now c.requires.made.0 are, are.valid.lines) in
     subst (λ ps. sum_by (λ (part : Part). length part.commands) ps ≤ MOST_COMMANDS) (sym c.deref.ensures.value) few
 
-pub overflow_add-result : goal.overflow_add-result
-overflow_add-result c =
+pub totals-requires : goal.totals-requires
+totals-requires c =
     let are = c.requires.made.1 in
     let replies : c.in_ok-tally.tally.ok + c.in_ok-tally.tally.refused ≡ sum_by (λ (part : Part). length part.commands) c.args.script.now.kept.parts.items =
     c.in_ok-tally.ensures.replies ∙ ap (sum_by (λ (part : Part). length part.commands)) c.deref.ensures.value in
@@ -38,4 +38,4 @@ returns c s are =
     c.in_ok-tally.ensures.counted ∙ ap (λ ps. tally_all c.args.script.now.version (map own_of ps)) c.deref.ensures.value in
     let replies : tally.ok + tally.refused ≡ sum_by (λ (part : Part). length part.commands) c.args.script.now.kept.parts.items =
     c.in_ok-tally.ensures.replies ∙ ap (sum_by (λ (part : Part). length part.commands)) c.deref.ensures.value in
-    total_is c.args.script.now s tally c.len.result are all replies (omega (arith, c.len.ensures))
+    c.totals.ensures ∙ total_is c.args.script.now s tally c.len.result are all replies (omega (arith, c.len.ensures))

@@ -1,66 +1,46 @@
-use Rattle.std.proofs.Common.{subst, sym, ap, Err, refl}
+use Rattle.std.proofs.Common.{◌+◌, Some, refl, sym, ap, subst, ◌∙◌}
+use Rattle.dym_base.specs.declared.limits.TheConstants.{MOST_INPUT_BYTES}
+use Rattle.dym_gen.specs.Scripts.{generated}
 use Rattle.dym_words.specs.Laws.{IsInputWithin}
+use Rattle.dym_words.specs.declared.order.Input.TheVariants as input
 use Rattle.dymelor_top.specs.declared.plan.Plan.TheVariants as plan
-use Rattle.dymelor_top.specs.declared.plan.Reading.{Reading}
-use Rattle.dymelor_top.specs.declared.plan.Reading.TheVariants as reading
-use Rattle.dymelor_top.specs.Stops.{stop_status}
-use Rattle.dymelor_top.specs.Plans.{waves_plan}
+use Rattle.dymelor_top.specs.Stops.{status_of}
 use Rattle.dymelor_top.specs.Headline.{Input, PlanHeadline}
-use Rattle.dymelor_top.proofs.Served.{read_whole, read_stopped, stop_causes, made_whole, made_stopped}
+use Rattle.dymelor_top.proofs.Served.{ended, was_read, not_read, unread, wanting, took_nothing, never_once}
 use Rattle.dymelor_top.proofs.threaded.serve_run.Goals as goal
 
-pub returns-in-Ok : goal.returns-in-Ok
-returns-in-Ok g c =
+pub returns-in-Script : goal.returns-in-Script
+returns-in-Script g c =
     let run = c.args.run in
-    let r : Reading = reading.Waves run.shape.segments run.text in
     let old : Input = record { left = g.S.Source.left c.args.source.now; faults = g.S.Source.faults c.args.source.now } in
     let new : Input = record { left = g.S.Source.left c.serve_waves.new.source; faults = g.S.Source.faults c.serve_waves.new.source } in
     let a = g.W.Sink.output c.args.sink.now in
     let b = g.W.Sink.output c.serve_waves.new.sink in
-    let ok = c.in-Ok in
-    subst (λ i. PlanHeadline (waves_plan run.shape.segments i run.text) old new a b ok.status) (sym c.in-Script.is)
-    (read_whole r old new a b ok.status ok.ensures.served ok.ensures.read ok.ensures.bounded (ok.ensures.source_stands (λ is. absurd (cc))) (ok.ensures.sink_stands (λ is. absurd (cc))) ok.ensures.status)
+    let r = c.serve_waves.result in
+    let is = c.serve_waves.ensures in
+    subst (λ i. PlanHeadline (plan.Run (record run { input = i })) old new a b (status_of r)) (sym c.in-Script.is)
+    (ended (plan.Run (record run { input = input.Script })) old new a b r is.status (λ stopped. tt) is.served is.bounded (was_read old new r is.read)
+    (λ none. absurd (cc)) is.source_fault is.source_stands is.sink_fault is.sink_stands)
 
-pub returns-in-Err : goal.returns-in-Err
-returns-in-Err g c =
-    let run = c.args.run in
-    let r : Reading = reading.Waves run.shape.segments run.text in
+pub generated_script-requires : goal.generated_script-requires
+generated_script-requires g c = record { made = subst IsInputWithin c.in-GenNumbers.is c.requires.input }
+
+pub returns-in_err-made-in-GenNumbers : goal.returns-in_err-made-in-GenNumbers
+returns-in_err-made-in-GenNumbers g c =
     let old : Input = record { left = g.S.Source.left c.args.source.now; faults = g.S.Source.faults c.args.source.now } in
-    let new : Input = record { left = g.S.Source.left c.serve_waves.new.source; faults = g.S.Source.faults c.serve_waves.new.source } in
-    let a = g.W.Sink.output c.args.sink.now in
-    let b = g.W.Sink.output c.serve_waves.new.sink in
-    let err = c.in-Err in
-    let headline : PlanHeadline (plan.Read r) old new a b (stop_status err.stop) =
-    read_stopped r old new a b err.stop err.ensures.served err.ensures.bounded (stop_causes old new a b (Err err.stop) err.stop refl err.ensures.source_fault err.ensures.source_stands err.ensures.sink_fault err.ensures.sink_stands) in
-    subst (λ i. PlanHeadline (waves_plan run.shape.segments i run.text) old new a b c.status.result) (sym c.in-Script.is)
-    (subst (PlanHeadline (plan.Read r) old new a b) (sym c.status.ensures) headline)
+    wanting (plan.Run c.args.run) old (g.W.Sink.output c.args.sink.now) _ c.from_residual.ensures.1 (λ stopped. tt)
 
-pub serve_made_waves-requires-clause-made : goal.serve_made_waves-requires-clause-made
-serve_made_waves-requires-clause-made g c κs within = subst IsInputWithin c.in-GenNumbers.is c.requires.input
-
-pub returns-in-Ok-serve_made_waves : goal.returns-in-Ok-serve_made_waves
-returns-in-Ok-serve_made_waves g c =
+pub returns-in_ok-made-in-GenNumbers : goal.returns-in_ok-made-in-GenNumbers
+returns-in_ok-made-in-GenNumbers g c =
     let run = c.args.run in
-    let r : Reading = reading.Waves run.shape.segments run.text in
     let old : Input = record { left = g.S.Source.left c.args.source.now; faults = g.S.Source.faults c.args.source.now } in
     let a = g.W.Sink.output c.args.sink.now in
-    let b = g.W.Sink.output c.serve_made_waves.new.sink in
+    let b = g.W.Sink.output c.serve_waves-in-GenNumbers.new.sink in
+    let r = c.serve_waves-in-GenNumbers.result in
+    let is = c.serve_waves-in-GenNumbers.ensures in
     let made = c.in-GenNumbers in
-    let ok = c.in-Ok-serve_made_waves in
-    subst (λ i. PlanHeadline (waves_plan run.shape.segments i run.text) old old a b ok.status) (sym made.is)
-    (made_whole r made.seed made.objects made.commands old a b ok.status ok.ensures.served (ok.ensures.sink_stands (λ is. absurd (cc))) ok.ensures.status)
-
-pub returns-in-Err-serve_made_waves : goal.returns-in-Err-serve_made_waves
-returns-in-Err-serve_made_waves g c =
-    let run = c.args.run in
-    let r : Reading = reading.Waves run.shape.segments run.text in
-    let old : Input = record { left = g.S.Source.left c.args.source.now; faults = g.S.Source.faults c.args.source.now } in
-    let a = g.W.Sink.output c.args.sink.now in
-    let b = g.W.Sink.output c.serve_made_waves.new.sink in
-    let made = c.in-GenNumbers in
-    let err = c.in-Err-serve_made_waves in
-    let causes = stop_causes old old a b (Err err.stop) err.stop refl (λ is. absurd (err.ensures.no_source is)) (λ other. refl) err.ensures.sink_fault err.ensures.sink_stands in
-    let headline : PlanHeadline (plan.ReadMade r made.seed made.objects made.commands) old old a b (stop_status err.stop) =
-    made_stopped r made.seed made.objects made.commands old a b err.stop err.ensures.served (λ is. err.ensures.no_source (ap Err is)) causes.sink causes.sink_stands in
-    subst (λ i. PlanHeadline (waves_plan run.shape.segments i run.text) old old a b c.status-in-Err-serve_made_waves.result) (sym made.is)
-    (subst (PlanHeadline (plan.ReadMade r made.seed made.objects made.commands) old old a b) (sym c.status-in-Err-serve_made_waves.ensures) headline)
+    let script = generated made.seed made.objects made.commands in
+    subst (λ i. PlanHeadline (plan.Run (record run { input = i })) old old a b (status_of r)) (sym made.is)
+    (ended (plan.Run (record run { input = input.GenNumbers made.seed made.objects made.commands })) old old a b r is.status (λ stopped. tt)
+    (λ bytes known. is.served script (ap Some (c.deref.ensures.value ∙ c.in_ok-made-in-GenNumbers.ensures))) (took_nothing (MOST_INPUT_BYTES + 1) old.left)
+    (not_read old old r) (λ none. unread old) (λ e. absurd (never_once (is.source_fault e).0)) (λ other. refl) is.sink_fault is.sink_stands)

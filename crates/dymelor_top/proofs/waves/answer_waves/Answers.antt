@@ -13,4 +13,4 @@ pub returns-in-Ok-clause-answered : goal.returns-in-Ok-clause-answered
 returns-in-Ok-clause-answered g c read gives =
     let made = subst (λ r. GivesParts r read) c.in-Ok.is gives in
     subst (λ (x : Answer). WritesAnswer x (g.W.Sink.output c.args.sink.now) (g.W.Sink.output c.run_script.new.sink) c.run_script.result)
-    (sym (ap (of_waves c.args.shape.segments (waves_text c.args.text)) made.1)) (c.run_script.ensures.answered made.0 made.2)
+    (sym (ap (of_waves c.args.waves.shape.segments (waves_text c.args.waves.text)) made.1)) (c.run_script.ensures.answered made.0 made.2)

@@ -1,8 +1,7 @@
 use Rattle.std.proofs.Common.{refl, sym, subst}
 use Rattle.dym_script.specs.Scripts.{script_of}
-use Rattle.dymelor_top.specs.Answers.{Answer, of_waves, waves_text, IsRead}
+use Rattle.dymelor_top.specs.Answers.{Answer, of_waves, waves_text, IsInWaves}
 use Rattle.dymelor_top.specs.Headline.{WroteFront}
-use Rattle.dymelor_top.specs.declared.plan.Reading.TheVariants as reading
 use Rattle.dymelor_top.proofs.Served.{wrote_all, front_kept, serves_front}
 use Rattle.dymelor_top.proofs.waves.serve_text.Goals as goal
 
@@ -13,9 +12,9 @@ returns-in_err-flush-clause-served g c =
     let middle = g.W.Sink.output c.answer_waves.new.sink in
     let after = g.W.Sink.output c.flush.new.sink in
     let bytes = c.args.bytes.items in
-    let whole : Answer = of_waves c.args.shape.segments (waves_text c.args.text) (script_of bytes) in
+    let whole : Answer = of_waves c.args.waves.shape.segments (waves_text c.args.waves.text) (script_of bytes) in
     let w = c.in_ok-status.ensures.answered (script_of bytes) c.read_text-script.ensures in
-    serves_front (IsRead (reading.Waves c.args.shape.segments c.args.text) bytes) start after _ c.from_residual-in_err-flush.ensures.0
+    serves_front (IsInWaves c.args.waves.shape.segments c.args.waves.text bytes) start after _ c.from_residual-in_err-flush.ensures.0
     (λ answer is. subst (λ (x : Answer). WroteFront start after x.text) (sym is) (front_kept start middle after whole.text w.1 c.in_err-flush.ensures.written))
 
 pub returns-clause-served : goal.returns-clause-served
@@ -24,6 +23,6 @@ returns-clause-served g c =
     let middle = g.W.Sink.output c.answer_waves.new.sink in
     let after = g.W.Sink.output c.flush.new.sink in
     let bytes = c.args.bytes.items in
-    let whole : Answer = of_waves c.args.shape.segments (waves_text c.args.text) (script_of bytes) in
+    let whole : Answer = of_waves c.args.waves.shape.segments (waves_text c.args.waves.text) (script_of bytes) in
     let w = c.in_ok-status.ensures.answered (script_of bytes) c.read_text-script.ensures in
     (whole, refl, w.0, wrote_all start middle after whole.text w.1 c.in_ok-flush.ensures.written c.in_ok-flush.ensures.flushed)

@@ -1,4 +1,4 @@
-use Rattle.std.proofs.Common.{arith}
+use Rattle.std.proofs.Common.{arith, ◌∙◌}
 use Rattle.dymelor_top.proofs.PartFacts.{parts_run}
 use Rattle.dymelor_top.proofs.SummaryFacts.{commands_of_parts, total_is}
 use Rattle.dymelor_top.proofs.waves.total.Goals as goal
@@ -13,11 +13,12 @@ tally_waves-requires-clause-commands g c κs within =
     let are = c.requires.made.1 in
     omega (arith, commands_of_parts c.args.script c.requires.made.0 are, are.valid.lines)
 
-pub overflow_add-result : goal.overflow_add-result
-overflow_add-result g c =
+pub totals-requires : goal.totals-requires
+totals-requires g c =
     let are = c.requires.made.1 in
     omega (arith, c.in_ok-tally.ensures.replies, commands_of_parts c.args.script c.requires.made.0 are, are.valid.lines)
 
 pub returns : goal.returns
 returns g c s are =
-    total_is c.args.script s c.in_ok-tally.tally c.len-objects.result are c.in_ok-tally.ensures.counted c.in_ok-tally.ensures.replies (omega (arith, c.len-objects.ensures))
+    c.totals.ensures ∙ total_is c.args.script s c.in_ok-tally.tally c.len-objects.result are c.in_ok-tally.ensures.counted c.in_ok-tally.ensures.replies
+    (omega (arith, c.len-objects.ensures))

@@ -1,6 +1,6 @@
-use Rattle.std.proofs.Common.{◌≤◌, map, ap, ◌∙◌, arith}
+use Rattle.std.proofs.Common.{◌≤◌, map, ap, subst, ◌∙◌, arith}
 use Rattle.std.proofs.lemmas.List.Elements.{All-same, All-map}
-use Rattle.dym_run.specs.Parts.{quota_of}
+use Rattle.dym_run.specs.Parts.{IsSumOfRun, quota_of}
 use Rattle.dym_run.proofs.QuotaRuns.{largest_least}
 use Rattle.dym_run.proofs.object_queue.ObjectQueue.of.Goals as goal
 
@@ -15,3 +15,8 @@ returns-clause-least c =
     largest_least c.args.parts.items c.largest_wave-most.result c.deref-2.result.now
     (c.deref-2.ensures.value ∙ c.in_ok-quotas.ensures ∙ ap (map quota_of) c.deref.ensures.value)
     c.requires.runnable (omega (arith, c.requires.some, c.args.parts.ok.0)) c.largest_wave-most.ensures.enough
+
+pub returns-clause-needed : goal.returns-clause-needed
+returns-clause-needed c =
+    subst (λ quotas. IsSumOfRun quotas c.largest_wave-most.result) (c.deref-2.ensures.value ∙ c.in_ok-quotas.ensures ∙ ap (map quota_of) c.deref.ensures.value)
+    c.largest_wave-most.ensures.needed

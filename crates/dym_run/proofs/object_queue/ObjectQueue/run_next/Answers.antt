@@ -1,6 +1,6 @@
 use Rattle.std.proofs.Common.{[], map, arith, ap, subst, sym, ◌∙◌, length, drop, vec_len, IfOk}
 use Rattle.dym_run.specs.Results.{PartsRan}
-use Rattle.dym_run.specs.Parts.{IsRunnable}
+use Rattle.dym_report.specs.Report.{IsRunnable}
 use Rattle.dym_run.specs.WaveJobs.{job_shown}
 use Rattle.dym_run.proofs.QuotaRuns.{run_quotas, run_lined, run_count, all_back, lined_rest}
 use Rattle.dym_run.proofs.object_queue.ObjectQueue.run_next.Goals as goal

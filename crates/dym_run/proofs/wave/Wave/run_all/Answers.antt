@@ -1,7 +1,7 @@
 use Rattle.std.proofs.Common.{◌≡◌, false, All, OnOk, arith, subst, ◌∙◌}
 use Rattle.dym_pool.specs.Jobs.{AllEnded}
 use Rattle.dym_run.specs.WaveJobs.{WaveJobMeaning, left_of}
-use Rattle.dym_run.proofs.WaveOrigins.{jobs_many, jobs_numbered, jobs_quotas, jobs_shown, jobs_supplies, still_made}
+use Rattle.dym_run.proofs.WaveOrigins.{jobs_many, jobs_numbered, jobs_quantum, jobs_quotas, jobs_shown, jobs_supplies, still_made}
 use Rattle.dym_run.proofs.wave.Wave.run_all.Goals as goal
 
 pub run_wave_jobs-jobs-requires-clause-few : goal.run_wave_jobs-jobs-requires-clause-few
@@ -60,3 +60,10 @@ returns-in-Ok-ran-clause-ran g c =
     let jobs = c.run_wave_jobs-jobs.result.0.items in
     let made = still_made c.args.options c.args.shape.quantum _ _ old.berths.items _ jobs c.make_jobs-jobs.ensures.made c.run_wave_jobs-jobs.ensures.origins in
     jobs_shown c.args.options c.args.shape.quantum _ _ old.berths.items jobs made _ old.berths.ok.0
+
+pub returns-in-Ok-ran-clause-quantum : goal.returns-in-Ok-ran-clause-quantum
+returns-in-Ok-ran-clause-quantum g c =
+    let old = c.args.self in
+    let jobs = c.run_wave_jobs-jobs.result.0.items in
+    let made = still_made c.args.options c.args.shape.quantum _ _ old.berths.items _ jobs c.make_jobs-jobs.ensures.made c.run_wave_jobs-jobs.ensures.origins in
+    jobs_quantum c.args.options c.args.shape.quantum _ _ old.berths.items jobs made

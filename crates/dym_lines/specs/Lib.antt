@@ -1,5 +1,0 @@
-pub mod Lines
-pub mod Words
-pub mod Table
-pub mod Quick
-pub mod Fronts

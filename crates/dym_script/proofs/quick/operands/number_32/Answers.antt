@@ -1,0 +1,6 @@
+use Rattle.std.proofs.Common.{arith, ◌-◌, ◌^◌}
+use Rattle.dym_script.proofs.Spelled.{begins_number}
+use Rattle.dym_script.proofs.quick.operands.number_32.Goals as goal
+
+pub returns : goal.returns
+returns c = begins_number (2 ^ 32 - 1) _ _ _ _ c.in_ok-after_byte.ensures c.in_ok-number.ensures.0 (omega (arith, c.in_ok-number.ensures.1, c.from.ensures))
