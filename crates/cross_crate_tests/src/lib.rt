@@ -1,33 +1,21 @@
-//! Tests of all crates above the heap's memory and logs, in one place: what several of them do together, and what only a test shows of one.
-//! A crate with tests of its own is proved twice, once with them, so that those of the larger crates stand here.
+//! Tests of what several crates do together, and of what no clause says of one: that memory is there, that a source and a sink that fail
+//! are told of, and that parts work side by side in threads.
 //!
-//! It stands on all of these and nothing stands on it. Each part is proved by its own crate's contracts; this shows what no contract
-//! says: that memory is there, that a source and a sink that fail are told of, and that the parts work side by side in threads.
+//! It stands on all of these and nothing stands on it: a crate with tests of its own is proved twice. What the built program shows by
+//! rows (`checks/lib/rows`), or a program in C (`checks/c`), is not shown here again.
 #![tactic(auto)]
 
 #[cfg(test)]
-mod berth_tests;
-#[cfg(test)]
-mod keep_tests;
-#[cfg(test)]
-mod late_tests;
-#[cfg(test)]
-mod parallel_reader_tests;
+mod order_tests;
 #[cfg(test)]
 mod pool_tests;
 #[cfg(test)]
-mod program_tests;
-#[cfg(test)]
 mod pruner_tests;
-#[cfg(test)]
-mod quick_reader_tests;
-#[cfg(test)]
-mod run_tests;
 #[cfg(test)]
 mod script_tests;
 #[cfg(test)]
-mod table_keep_tests;
+mod slot_tests;
 #[cfg(test)]
 mod view_tests;
 #[cfg(test)]
-mod views_tests;
+mod watch;

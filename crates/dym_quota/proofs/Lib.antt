@@ -1,6 +1,5 @@
 mod Missing
 pub mod Copies
-pub mod Ends
 pub mod KeepsRule
 pub mod Orders
 pub mod Queued

@@ -19,14 +19,10 @@ mod own_supply;
 mod pass_view;
 mod queue_setup;
 mod queue_teardown;
-#[cfg(test)]
-mod queue_tests;
 mod quota_queue;
 mod rule;
 mod steps;
 mod supply;
-#[cfg(test)]
-mod tests;
 
 pub use berth::Berth;
 pub use fixed::FixedSupply;

@@ -13,8 +13,6 @@ mod raw_segment;
 mod region;
 mod runs;
 mod segment;
-#[cfg(test)]
-mod tests;
 mod vec_segment;
 
 pub use raw_segment::RawSegment;

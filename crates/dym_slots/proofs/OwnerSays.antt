@@ -10,7 +10,7 @@ use Rattle.dym_slots.specs.declared.machine.TheConstants.{RECORD_NUMBERS}
 use Rattle.dym_slots.specs.Slots.{entry}
 use Rattle.dym_slots.specs.declared.view.Listed.{Listed}
 use Rattle.dym_slots.specs.declared.view.SeatView.TheVariants.{Owns}
-use Rattle.dym_slots.specs.SeatViews.{owner_of, with_put, lowered, with_raised, holding}
+use Rattle.dym_slots.specs.SeatViews.{owner_of, with_put, with_raised, holding}
 use Rattle.dym_slots.specs.TableStates.{Held, Knowing}
 use Rattle.atomic_table.specs.Seated.{TableId}
 use Rattle.dym_slots.specs.Owners.{OutIs}
@@ -137,10 +137,6 @@ put_after order items len next_number slot me mid after bytes s same room left a
 
 pub held_stands : (order : List Entry) (len next_number slot : ℕ) (me after : Knowing) (home : Held) → Stands order len next_number me → after ≡ (Owns (holding slot (owner_of me.0)), (slot, home) ∷ []) → Stands order len next_number after
 held_stands order len next_number slot me after home s is =
-    subst (Stands order len next_number) (sym is) (record { seat = refl; order_is = s.order_is; list = s.list; few = s.few; next = s.next; most = s.most; rise = s.rise; remembered = s.remembered })
-
-pub lowered_stands : (order : List Entry) (len next_number slot : ℕ) (me after : Knowing) → Stands order len next_number me → after ≡ (Owns (lowered slot (owner_of me.0)), []) → Stands order len next_number after
-lowered_stands order len next_number slot me after s is =
     subst (Stands order len next_number) (sym is) (record { seat = refl; order_is = s.order_is; list = s.list; few = s.few; next = s.next; most = s.most; rise = s.rise; remembered = s.remembered })
 
 -- Cuts at the end

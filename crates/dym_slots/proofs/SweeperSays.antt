@@ -1,51 +1,25 @@
 -- From what a step tells to what the sweeper's functions say.
-use Rattle.std.proofs.Common.{◌≡◌, ◌≢◌, ℕ, ◌+◌, ◌<◌, inl, inr, Bool, false, List, [], ◌∷◌, sym, refl, ap, ◌∙◌, subst, arith, Some, None}
-use Rattle.std.specs.Prelude.{◌==◌, if◌then◌else◌}
+use Rattle.std.proofs.Common.{◌≡◌, ℕ, ◌+◌, ◌<◌, List, [], ◌∷◌, sym, ap, ◌∙◌, subst, Some, None}
+use Rattle.std.specs.Prelude.{◌==◌}
 use prog.Atomic.{either}
 use Rattle.atomic_table.specs.Table.{rest, Allows}
 use Rattle.dym_slots.specs.declared.machine.Slot.{Slot}
 use Rattle.dym_slots.specs.declared.machine.Slot.TheVariants.{Free, Live, OutSweeper}
 use Rattle.dym_slots.specs.SlotWords.{slot_word}
-use Rattle.dym_slots.specs.SlotSteps.{is_retired}
 use Rattle.dym_slots.specs.declared.view.SeatView.TheVariants.{Sweeps}
-use Rattle.dym_slots.specs.SeatViews.{sweeper_of, IsSweeper, glanced, grabbed, with_taken_back}
+use Rattle.dym_slots.specs.SeatViews.{sweeper_of, IsSweeper, glanced, with_taken_back}
 use Rattle.dym_slots.specs.TableStates.{Held, Knowing, Holds}
-use Rattle.dym_slots.specs.Moves.{IsIdleSweeper, SweeperLooked, TriedGrab, GaveBack, SweptSlot}
+use Rattle.dym_slots.specs.Moves.{IsIdleSweeper, SweeperLooked, TriedGrab, GaveBack}
 use Rattle.dym_slots.proofs.SweeperMoves.{grabs, sweeper_frees}
 
 pub glanced_at : (n : ℕ) (me after : Knowing) (x : Slot) → SweeperLooked me n after → ((shown : Slot) → n ≡ slot_word shown → x ≡ shown) → after ≡ (Sweeps (glanced x (sweeper_of me.0)), me.1)
 glanced_at n me after x l reads = l.after_is ∙ ap (λ (y : Slot). (Sweeps (glanced y (sweeper_of me.0)), me.1)) (sym (reads l.state l.shown))
-
--- a slot that isn't retired is clean after a look
-pub clean_after : (me after : Knowing) (x : Slot) → IsIdleSweeper me → is_retired (sweeper_of me.0).root_seen x ≡ false → after ≡ (Sweeps (glanced x (sweeper_of me.0)), me.1) → SweptSlot false me after
-clean_after me after x idle kept is =
-    let w = sweeper_of me.0 in
-    let here : SweptSlot false me (Sweeps (glanced x w), me.1) = record {
-      idle = record { seat = refl; none = idle.none; empty = idle.empty };
-      same = record { root = refl; least_root = refl; rounds = refl };
-      clean = ap (λ (b : Bool). if b then w.clean else (w.clean + 1)) kept;
-      count = omega arith;
-    } in
-    subst (SweptSlot false me) (sym is) here
 
 pub grabs_by : (count slots id : ℕ) (me : Knowing) (s n old new : ℕ) → old ≡ slot_word (Live n) → new ≡ slot_word (OutSweeper n) → IsIdleSweeper me → s ≡ (sweeper_of me.0).clean → s < count → (sweeper_of me.0).found ≡ Some n → n < (sweeper_of me.0).root_seen
     → Allows (Holds count) slots id me (s + 1) (λ k. either (k == old) new k) (TriedGrab me old)
 grabs_by count slots id me s n old new a b idle turn inside found past =
     subst (λ (p : ℕ × ℕ). Allows (Holds count) slots id me (s + 1) (λ k. either (k == p.0) p.1 k) (TriedGrab me p.0)) (λ j. (sym a j, sym b j))
     (grabs count slots id me s n idle turn inside found past)
-
-pub grab_won : (s first n : ℕ) (me after : Knowing) → me.1 ≡ [] → s ≡ (sweeper_of me.0).clean → TriedGrab me first n after → n ≡ first
-    → (bytes : List ℕ) × (after ≡ (Sweeps (grabbed s (sweeper_of me.0)), (s, Some bytes) ∷ []))
-grab_won s first n me after empty turn t hit = elim t.outcome [
-  | inl (same, (bytes, is)) ↦ (bytes, is ∙ (λ j. (Sweeps (grabbed (sym turn j) (sweeper_of me.0)), (sym turn j, Some bytes) ∷ empty j)))
-  | inr (miss, other) ↦ absurd (miss hit)
-]
-
-pub grab_lost : (first n : ℕ) (me after : Knowing) → IsIdleSweeper me → TriedGrab me first n after → n ≢ first → SweptSlot false me after
-grab_lost first n me after idle t miss = elim t.outcome [
-  | inl (same, won) ↦ absurd (miss same)
-  | inr (other, (state, shown, kept, is)) ↦ clean_after me after state idle kept is
-]
 
 pub gives_by : (count slots id : ℕ) (me mid : Knowing) (s word : ℕ) → word ≡ slot_word Free → IsSweeper me.0 → (sweeper_of me.0).out ≡ Some s → ((home : Held) × (me.1 ≡ (s, home) ∷ [])) → mid ≡ (me.0, (s, None) ∷ rest me.1)
     → s ≡ (sweeper_of me.0).clean → s < count → Allows (Holds count) slots id mid (s + 1) (λ _. word) (λ _ after. GaveBack mid after)

@@ -5,11 +5,12 @@
 //! Below stand `dym_base` and `dym_pack`, whose records the slots keep; above stand the chain of
 //! logs, which keeps its records with the owner, the pruner, which sweeps, and the judge of traces,
 //! which knows the machine alone. Its one contract: the owner is a list of numbered records,
-//! whatever the sweeper does meanwhile, and each step of either on the table is one step of the
-//! machine, which keeps all facts. The sweeper is seen as its table, its rounds, what it took back,
-//! its clean count and the root that it read; the two are of one table where
-//! `owner.origin ≡ shared sweeper.table`. A sweeper that has learnt a note of its owner's takes back
-//! all that was let go before.
+//! whatever the sweeper does meanwhile, and at every moment the table shows a state of the machine
+//! that has all its facts. The laws say that the machine's steps keep these; that each step of the
+//! code is one of the machine's is how this is proved, and no clause. The sweeper is seen as its
+//! table, its rounds, what it took back, its clean count and the root that it read; the two are of
+//! one table where `owner.origin ≡ shared sweeper.table`. A sweeper that has learnt a note of its
+//! owner's takes back all that was let go before.
 #![tactic(auto)]
 
 mod laws;
@@ -23,8 +24,6 @@ mod rule;
 mod sweeper;
 mod sweeper_calls;
 mod sweeper_steps;
-#[cfg(test)]
-mod tests;
 mod view;
 
 pub use laws::{

@@ -1,25 +1,13 @@
-//! What no contract of the libraries says, tried by their public calls alone: that memory is there, that calls answer what a person
-//! worked out by hand, that a source and a sink may fail at each call, and that files and late events come back as they should.
+//! What no contract of the libraries says, tried by their public calls alone: that a source and a sink may fail at each call, and that an
+//! object is as it was where an allocation failed.
 //!
-//! It stands on all of these and nothing stands on it. The tests stand here, and not in the crates that they try, since a crate that
-//! has tests is proved twice. A test that calls what is private to a crate stands in that crate.
+//! It stands on all of these and nothing stands on it: a crate with tests of its own is proved twice. What the built program shows by
+//! rows (`checks/lib/rows`), or a program in C (`checks/c`), is not shown here again.
 #![tactic(auto)]
 
-#[cfg(test)]
-mod base_tests;
-#[cfg(test)]
-mod bits_tests;
-#[cfg(test)]
-mod chunk_tests;
-#[cfg(test)]
-mod file_tests;
-#[cfg(test)]
-mod heap_tests;
 #[cfg(test)]
 mod io_tests;
 #[cfg(test)]
 mod late_tests;
 #[cfg(test)]
 mod object_tests;
-#[cfg(test)]
-mod record_tests;

@@ -1,9 +1,6 @@
-//! Worked commands to an object over segments of its own and a vector of records: one that lends them, and one beside which each
-//! allocation can be made to fail. The program's rows have the others.
-ghost use Rattle.std.specs.Prelude.{◌≤◌, ◌<◌, ◌^◌};
-
-use dym_base::{Blob, Command, Handle, Kind, Reply, Version};
-use dym_chain::{KeptLogs, VecKeep};
+//! Commands to an object beside which each allocation can be made to fail: `rt try --test --fail-alloc N`.
+use dym_base::{Command, Handle, Reply};
+use dym_chain::VecKeep;
 use dym_object::Object;
 use dym_quota::OwnSupply;
 use std::alloc::{AllocError, Global};
@@ -11,206 +8,101 @@ use std::process::Abort;
 
 const CHUNK: Handle = Handle { exp: 6, index: 0 };
 
-fn opened(alloc: Global, version: Version) -> Result<Object<OwnSupply, VecKeep>, AllocError> {
+fn opened(alloc: Global) -> Result<Object<OwnSupply, VecKeep>, AllocError> {
     let keep = VecKeep::open(alloc)?;
     let supply = OwnSupply::open(alloc, 1)?;
-    match Object::open_as(alloc, supply, keep, version) {
+    match Object::open(alloc, supply, keep) {
         Ok(object) => Ok(object),
         Err((error, _, _)) => Err(error),
     }
 }
 
-/// Whether a command gets this reply.
-fn gets(
-    object: &mut Object<OwnSupply, VecKeep>,
-    alloc: Global,
-    command: Command,
-    want: Reply,
-) -> Result<bool, AllocError> {
-    if object.ran() >= 1_000 {
-        return Ok(false);
-    }
-    Ok(object.run(&(), alloc, &command)? == want)
-}
-
-fn fill(at: u32, len: u32, byte: u8) -> Command {
+fn fill(at: u32, byte: u8) -> Command {
     Command::Fill {
         h: CHUNK,
         at,
-        len,
+        len: 40,
         byte,
     }
 }
 
-fn logged(kind: Kind, len: u64) -> Reply {
-    Reply::Logged { kind, len }
-}
-
-/// A chunk with a byte, a full log and an incremental one, of which the full one is no kept log any more.
-fn logs_twice(object: &mut Object<OwnSupply, VecKeep>, alloc: Global) -> Result<bool, AllocError> {
-    let bytes = Blob::new(alloc, b"\x2a")?;
-    let write = Command::Write {
-        h: CHUNK,
-        at: 0,
-        bytes,
-    };
-    Ok(
-        gets(
-            object,
-            alloc,
-            Command::Malloc { len: 40 },
-            Reply::Chunk(CHUNK),
-        )? && gets(
-            object,
-            alloc,
-            Command::Log { time: 10 },
-            logged(Kind::Full, 210),
-        )? && gets(object, alloc, write, Reply::Done)?
-            && gets(
-                object,
-                alloc,
-                Command::Ilog { time: 20 },
-                logged(Kind::Inc, 338),
-            )?
-            && gets(
-                object,
-                alloc,
-                Command::Prune { bound: 20 },
-                Reply::Dropped(1),
-            )?
-            && gets(object, alloc, fill(0, 40, 7), Reply::Done)?,
-    )
-}
-
-/// How long the first of the records is, which the object lends for this.
-fn first_record_len(object: Object<OwnSupply, VecKeep>) -> (Object<OwnSupply, VecKeep>, u64) {
-    let mut lent = object.lend();
-    if lent.slots() == 0 {
-        return (lent.take_back(), 0);
+/// The command of a step.
+fn command(step: u64) -> Command {
+    match step {
+        0 => Command::Malloc { len: 40 },
+        1 => fill(0, 3),
+        2 => Command::Log { time: 10 },
+        3 => fill(20, 4),
+        4 => Command::Ilog { time: 20 },
+        5 => Command::Read {
+            h: CHUNK,
+            at: 19,
+            len: 20,
+        },
+        6 => fill(0, 5),
+        7 => Command::Restore { time: 20 },
+        8 => Command::Ilog { time: 30 },
+        _ => Command::Restore { time: 10 },
     }
-    let rec = lent.lift(0);
-    let len = rec.len();
-    lent.lower(0, rec);
-    (lent.take_back(), len)
 }
 
-#[test]
-fn lends_its_records(rt: HostRuntime) -> Result<(), AllocError> {
-    let alloc = rt.alloc();
-    let mut object = opened(alloc, Version::One)?;
-    let is_logged = logs_twice(&mut object, alloc);
-    let (mut object, len) = first_record_len(object);
-    let slots = Reply::Slots { kept: 1, slots: 2 };
-    let is_kept = gets(&mut object, alloc, Command::Logs, slots);
-    let is_back = gets(
-        &mut object,
-        alloc,
-        Command::Restore { time: 25 },
-        Reply::At(20),
-    );
-    let is_read = gets(
-        &mut object,
-        alloc,
-        Command::Sum { h: CHUNK },
-        Reply::Total(42),
-    );
-    object.end(&());
-    assert!(rt; is_logged? && is_kept? && is_back? && is_read?);
-    assert!(rt; len == 210);
-    Ok(())
+/// What an object is after a step: its kept logs, its records, and the sum of its chunk.
+const AFTER: [[u64; 3]; 10] = [
+    [0, 0, 0],
+    [0, 0, 120],
+    [1, 1, 120],
+    [1, 1, 220],
+    [2, 2, 220],
+    [2, 2, 220],
+    [2, 2, 280],
+    [2, 2, 220],
+    [3, 3, 220],
+    [1, 1, 120],
+];
+
+/// What can be seen of an object.
+fn seen(object: &Object<OwnSupply, VecKeep>) -> [u64; 3] {
+    let sum = object.heap().sum(CHUNK).unwrap_or(999);
+    [u64::from(object.kept()), u64::from(object.slots()), sum]
 }
 
-/// What can be seen of an object: how many commands it ran, its kept logs, its records, and the sum of its chunk.
-fn seen(object: &Object<OwnSupply, VecKeep>) -> (u64, u32, u32, Option<u64>) {
-    let sum = object.heap().sum(CHUNK).ok();
-    (object.ran(), object.kept(), object.slots(), sum)
-}
-
-/// Whether a command gets this reply. Where memory is wanting the object is as it was, and the command then gets its reply.
-fn gets_at_last(
+/// Whether the command of a step was run.
+fn runs(
     object: &mut Object<OwnSupply, VecKeep>,
     alloc: Global,
-    command: Command,
-    want: Reply,
+    step: u64,
+    reply: &mut Reply,
 ) -> bool {
+    if object.ran() != step || step >= 10 {
+        return false;
+    }
+    object.run_into(&(), alloc, &command(step), reply).is_ok()
+}
+
+/// Runs the command of a step. Where memory is wanting the object and the reply are as they were, and the command then runs.
+fn run_at_last(object: &mut Object<OwnSupply, VecKeep>, alloc: Global, step: u64) -> bool {
     let before = seen(object);
-    if object.ran() >= 1_000 {
-        return false;
-    }
     let mut reply = Reply::Dropped(7);
-    if object.run_into(&(), alloc, &command, &mut reply).is_ok() {
-        return reply == want;
+    if runs(object, alloc, step, &mut reply) {
+        return true;
     }
-    if reply != Reply::Dropped(7) || seen(object) != before {
-        return false;
-    }
-    gets(object, alloc, command, want) == Ok(true)
+    let is_same = matches!(reply, Reply::Dropped(7)) && seen(object) == before;
+    is_same && runs(object, alloc, step, &mut reply)
 }
 
-/// Logs, and a read of some bytes: the commands that take memory.
-fn run_where_memory_is_wanting(
-    rt: &impl Abort,
-    object: &mut Object<OwnSupply, VecKeep>,
-    alloc: Global,
-) -> Result<(), AllocError> {
-    let read = Command::Read {
-        h: CHUNK,
-        at: 19,
-        len: 20,
-    };
-    let bytes = Blob::new(
-        alloc,
-        b"\x03\x04\x04\x04\x04\x04\x04\x04\x04\x04\x04\x04\x04\x04\x04\x04\x04\x04\x04\x04",
-    )?;
-    assert!(rt;
-        gets_at_last(
-            object,
-            alloc,
-            Command::Malloc { len: 40 },
-            Reply::Chunk(CHUNK)
-        )
-    );
-    assert!(rt; gets_at_last(object, alloc, fill(0, 40, 3), Reply::Done));
-    assert!(rt;
-        gets_at_last(
-            object,
-            alloc,
-            Command::Log { time: 10 },
-            logged(Kind::Full, 210)
-        )
-    );
-    assert!(rt; gets_at_last(object, alloc, fill(20, 40, 4), Reply::Done));
-    assert!(rt;
-        gets_at_last(
-            object,
-            alloc,
-            Command::Ilog { time: 20 },
-            logged(Kind::Inc, 338)
-        )
-    );
-    assert!(rt; gets_at_last(object, alloc, read, Reply::Bytes(bytes)));
-    assert!(rt; gets_at_last(object, alloc, fill(0, 64, 5), Reply::Done));
-    assert!(rt; gets_at_last(object, alloc, Command::Restore { time: 20 }, Reply::At(20)));
-    assert!(rt;
-        gets_at_last(
-            object,
-            alloc,
-            Command::Ilog { time: 30 },
-            logged(Kind::Inc, 274)
-        )
-    );
-    assert!(rt; gets_at_last(object, alloc, Command::Restore { time: 10 }, Reply::At(10)));
-    assert!(rt; gets_at_last(object, alloc, Command::Sum { h: CHUNK }, Reply::Total(120)));
-    Ok(())
+fn run_all(rt: &impl Abort, object: &mut Object<OwnSupply, VecKeep>, alloc: Global) {
+    for step in 0..10 {
+        assert!(rt; run_at_last(object, alloc, step), "step {step}");
+        assert!(rt; seen(object) == AFTER[step as usize], "after step {step}");
+    }
 }
 
-/// With a failing allocation this ends at it where it belongs to the test, and goes on where it was a command's.
 #[test]
 fn unchanged_where_memory_is_wanting(rt: HostRuntime) -> Result<(), AllocError> {
-    let Ok(mut object) = opened(rt.alloc(), Version::One) else {
+    let Ok(mut object) = opened(rt.alloc()) else {
         return Ok(());
     };
-    let _ended = run_where_memory_is_wanting(&rt, &mut object, rt.alloc());
+    run_all(&rt, &mut object, rt.alloc());
     object.end(&());
     Ok(())
 }
