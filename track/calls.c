@@ -12,26 +12,21 @@ dym_status __real_dym_log(dym_object *object, uint32_t kind, uint64_t time, dym_
 dym_status __real_dym_restore(dym_object *object, uint64_t time, uint64_t *restored);
 dym_status __real_dym_restore_before(dym_object *object, uint64_t time, uint64_t *restored);
 
-_Thread_local current dym_current;
+_Thread_local current dym_current = {&dym_no_table, NULL};
 
 /* The thread names the object of a table, and none where that is null. */
 static void name(table *t, dym_object *object)
 {
-    current fresh = {0, 0, NULL, NULL};
-    if (dym_current.table != NULL) dym_table_release(dym_current.table);
-    if (t != NULL) {
-        fresh.start = t->start;
-        fresh.size = t->size;
-        fresh.table = t;
-        fresh.object = object;
-    }
-    dym_current = fresh;
+    if (dym_current.table != &dym_no_table) dym_table_release(dym_current.table);
+    dym_current.table = t != NULL ? t : &dym_no_table;
+    dym_current.object = t != NULL ? object : NULL;
 }
 
 /* Whether the thread has named the open object whose block begins there. */
 static int is_current(uintptr_t start)
 {
-    return dym_current.table != NULL && dym_current.start == start && table_is_open(dym_current.table);
+    const table *t = dym_current.table;
+    return t != &dym_no_table && t->start == start && table_is_open(t);
 }
 
 dym_status dym_track(dym_object *object)

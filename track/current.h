@@ -5,10 +5,8 @@
 #include "dymelor.h"
 #include "table.h"
 
-/* All zero where none is named. The table says whether the object was closed since. */
+/* Where none is named, the table is that of no object. It says whether the object was closed since. */
 typedef struct current {
-    uintptr_t start; /* of the object's block */
-    size_t size;
     table *table;
     dym_object *object;
 } current;

@@ -15,31 +15,33 @@
 #include <string.h>
 #include <unistd.h>
 
-/* The chunk is touched by the library, if there is a live one in an open object, and its table notes that. */
-static void touch(size_t offset)
+/* A store into a chunk of the object, if it is live, that isn't remembered: it is touched by the library where it isn't known to be. */
+static void tell_chunk(table *t, size_t offset)
 {
-    dym_handle chunk;
-    void *address;
-    if (table_is_open(dym_current.table) && dym_handle_at(dym_current.object, offset, &chunk) == DYM_DONE &&
-        dym_touch(dym_current.object, chunk, &address) == DYM_DONE)
-        dym_table_note(dym_current.table, offset);
+    area *a = area_at(t, offset);
+    size_t chunk = area_chunk(a, offset);
+    if (!area_knows(t, a, chunk)) {
+        if (!table_is_open(t) || dym_wrote_at(dym_current.object, offset, 1) != DYM_DONE) return;
+        area_note(t, a, chunk);
+    }
+    table_remember(t, a, offset);
 }
 
 /* A store of some bytes, which lie in one chunk. */
 static inline void tell(const volatile void *address)
 {
-    size_t offset = (uintptr_t)address - dym_current.start;
-    if (offset < dym_current.size && !table_knows(dym_current.table, offset)) touch(offset);
+    table *t = dym_current.table;
+    size_t offset = (uintptr_t)address - t->start;
+    if (offset < t->size && !table_remembers(t, offset)) tell_chunk(t, offset);
 }
 
 void dym_told_range(const volatile void *address, size_t length)
 {
-    const table *t = dym_current.table;
-    size_t offset = (uintptr_t)address - dym_current.start, end;
-    if (offset >= dym_current.size) return;
-    end = length < dym_current.size - offset ? offset + length : dym_current.size;
-    for (; offset < end; offset = table_end(t, offset))
-        if (!table_knows(t, offset)) touch(offset);
+    table *t = dym_current.table;
+    size_t offset = (uintptr_t)address - t->start, end;
+    if (offset >= t->size) return;
+    end = length < t->size - offset ? offset + length : t->size;
+    for (; offset < end; offset = area_end(area_at(t, offset), offset)) tell_chunk(t, offset);
 }
 
 #define TOLD(size) \

@@ -16,6 +16,8 @@ typedef struct bucket {
 
 static bucket buckets[BUCKETS];
 
+table dym_no_table;
+
 /* The bucket of a block, locked. */
 static bucket *lock(uintptr_t start)
 {
@@ -74,6 +76,8 @@ table *dym_table_open(uintptr_t start, uint32_t quota)
     }
     t->start = start;
     t->size = (size_t)CLASSES * quota * AREA_BYTES;
+    atomic_init(&t->chunk, 0);
+    atomic_init(&t->chunk_bytes, 0);
     atomic_init(&t->era, 1);
     atomic_init(&t->is_closed, 0);
     atomic_init(&t->holders, 1);
@@ -120,14 +124,8 @@ void dym_table_begin_era(uintptr_t start)
     unlock(b);
 }
 
-void dym_table_note(table *t, size_t offset)
+void dym_area_begin_era(const table *t, area *a)
 {
-    area *a = &t->areas[offset >> AREA_BITS];
-    size_t chunk = area_chunk(a, offset);
-    uint64_t era = atomic_load_explicit(&t->era, memory_order_relaxed);
-    if (a->era != era) {
-        memset(a->touched, 0, words(a->exponent) * sizeof *a->touched);
-        a->era = era;
-    }
-    a->touched[chunk / WORD_BITS] |= UINT64_C(1) << chunk % WORD_BITS;
+    memset(a->touched, 0, words(a->exponent) * sizeof *a->touched);
+    a->era = atomic_load_explicit(&t->era, memory_order_relaxed);
 }
