@@ -68,6 +68,7 @@ static void closed_object(dym_object *object)
     ANSWERS(dym_touch(object, h, &address), DYM_BAD);
     ANSWERS(dym_touch_all(object), DYM_BAD);
     ANSWERS(dym_wrote_at(object, 0, 8), DYM_BAD);
+    ANSWERS(dym_untold(object, &h), DYM_BAD);
     ANSWERS(dym_wrote(object, bytes, 4), DYM_BAD);
     ANSWERS(dym_start(object, &place), DYM_BAD);
     ANSWERS(dym_handle_at(object, 0, &h), DYM_BAD);
@@ -304,6 +305,38 @@ static void touches(void)
     ANSWERS(dym_close(&object), DYM_DONE);
 }
 
+static void expect_untold(const dym_object *object, dym_handle want)
+{
+    dym_handle found = handle(9, 9);
+    ANSWERS(dym_untold(object, &found), DYM_DONE);
+    EXPECT(dym_same(found, want));
+}
+
+/* The first chunk is named in which a byte was written and no call told. */
+static void untold_writes(void)
+{
+    dym_object object = {0};
+    dym_handle a, b;
+    dym_logged logged;
+    void *first = NULL, *second = NULL;
+    ANSWERS(dym_open(&object, 2, 2), DYM_DONE);
+    ANSWERS(dym_malloc_at(&object, 64, &a, &first), DYM_DONE);
+    ANSWERS(dym_malloc_at(&object, 33, &b, &second), DYM_DONE);
+    expect_untold(&object, dym_nil);
+    ANSWERS(dym_log(&object, DYM_FULL, 1, &logged), DYM_DONE);
+    ((uint8_t *)second)[32] = 1;
+    expect_untold(&object, b);
+    ((uint8_t *)first)[0] = 1;
+    expect_untold(&object, a);
+    ANSWERS(dym_touch(&object, a, &first), DYM_DONE);
+    expect_untold(&object, b);
+    ANSWERS(dym_log(&object, DYM_INCREMENTAL, 2, &logged), DYM_DONE);
+    expect_untold(&object, b);
+    ((uint8_t *)second)[32] = 0;
+    expect_untold(&object, dym_nil);
+    ANSWERS(dym_close(&object), DYM_DONE);
+}
+
 static void strictly_before(void)
 {
     dym_object object = {0};
@@ -528,6 +561,7 @@ int main(void)
     exact_lengths();
     files();
     touches();
+    untold_writes();
     strictly_before();
     inline_functions();
     ANSWERS(dym_close(&object), DYM_DONE);

@@ -1,7 +1,7 @@
 /*
  * What small states and many objects cost: the memory of objects that do little, the calls of a small object, and the events a second of
  * a model that logs its state at each event, beside whole copies of the state. Each number is the least (of rates the greatest) of several
- * rounds. Prints one line for each row: its name, a tab, its figure with its unit.
+ * rounds. It prints bars for checks/lib/measured; where two figures stand, they are of versions 1 and 2.
  */
 #define _POSIX_C_SOURCE 200809L
 
@@ -41,6 +41,13 @@ static void keep_least(double *best, double each)
     if (*best == 0 || each < *best) *best = each;
 }
 
+/* A row: what was measured in versions 1 and 2, and how much it may be. */
+static void tell(const char *what, const double found[2], double most)
+{
+    const char *missed = found[0] <= most && found[1] <= most ? "" : ", missed";
+    printf("%s\t%.*f; %.*f\t≤ %g%s\n", what, most < 100, found[0], most < 100, found[1], most, missed);
+}
+
 /* The resident memory of this process, in KiB. */
 static double resident(void)
 {
@@ -67,25 +74,40 @@ static void log_often(dym_object *object)
     }
 }
 
-static void weigh_objects(uint32_t version)
+/* What one weighs when it was opened, and when it was logged. */
+static void weigh_objects(uint32_t version, double weights[2])
 {
     dym_object *objects = must_have(calloc(MANY, sizeof *objects));
-    double before, opened;
+    double before;
     size_t k;
     memset(objects, 0, MANY * sizeof *objects);
     before = resident();
     for (k = 0; k < MANY; k++) must(dym_open(&objects[k], 4, version));
-    opened = resident();
-    printf("an object of quota 4, opened, version %u\t%.1f KiB\n", version, (opened - before) / MANY);
+    weights[0] = (resident() - before) / MANY;
     for (k = 0; k < MANY; k++) log_often(&objects[k]);
-    printf("the same with a chunk of 200 bytes and 12 logs, version %u\t%.1f KiB\n", version, (resident() - before) / MANY);
+    weights[1] = (resident() - before) / MANY;
     for (k = 0; k < MANY; k++) must(dym_close(&objects[k]));
     free(objects);
 }
 
+/* The same in a child, which has no memory that others gave back. */
+static void weigh_apart(uint32_t version, double *opened, double *logged)
+{
+    double weights[2];
+    int ends[2];
+    if (pipe(ends) != 0) exit(1);
+    if (fork() == 0) {
+        weigh_objects(version, weights);
+        _exit(write(ends[1], weights, sizeof weights) != sizeof weights);
+    }
+    if (read(ends[0], weights, sizeof weights) != sizeof weights) exit(1);
+    *opened = weights[0];
+    *logged = weights[1];
+}
+
 /* ---- calls of a small object */
 
-static void time_opening(uint32_t version)
+static double time_opening(uint32_t version)
 {
     dym_object object = {0};
     double best = 0, start;
@@ -98,7 +120,7 @@ static void time_opening(uint32_t version)
         }
         keep_least(&best, (now() - start) / TURNS);
     }
-    printf("open and close, version %u\t%.0f ns\n", version, best);
+    return best;
 }
 
 /* Fills an object with chunks of a length, and logs it in full at time 1. */
@@ -111,14 +133,27 @@ static void prepare(dym_object *object, uint32_t version, dym_handle *chunks, si
     must(dym_log(object, DYM_FULL, 1, &logged));
 }
 
+/* What it takes to read the clock, which is part of each call that is timed by itself. */
+static double time_clock(void)
+{
+    double best = 0, start;
+    int round, k;
+    for (round = 0; round < ROUNDS; round++) {
+        start = now();
+        for (k = 1; k < TURNS; k++) now();
+        keep_least(&best, (now() - start) / TURNS);
+    }
+    return best;
+}
+
 /* A chunk is written, logged and brought back, again and again. */
-static void time_rollbacks(uint32_t version, size_t count, uint64_t length)
+static void time_rollbacks(uint32_t version, size_t count, uint64_t length, double *log_time, double *restore_time)
 {
     static dym_handle chunks[SMALL_CHUNKS];
     dym_object object = {0};
     dym_logged logged;
     uint64_t restored;
-    double logs = 0, restores = 0, log, restore, start;
+    double logs = 0, restores = 0, log, restore, start, reading = time_clock();
     uint8_t byte = 1;
     int round, k;
     prepare(&object, version, chunks, count, length);
@@ -137,8 +172,8 @@ static void time_rollbacks(uint32_t version, size_t count, uint64_t length)
         keep_least(&logs, log / TURNS);
         keep_least(&restores, restore / TURNS);
     }
-    printf("a log, one of %zu chunks of %u bytes changed, version %u\t%.0f ns\n", count, (unsigned)length, version, logs);
-    printf("a restore over it, version %u\t%.0f ns\n", version, restores);
+    *log_time = logs - reading;
+    *restore_time = restores - reading;
     must(dym_close(&object));
 }
 
@@ -162,7 +197,7 @@ static size_t place(const shape *s, uint64_t event, size_t k)
 
 static double by_library(const shape *s, uint64_t events)
 {
-    size_t count = s->bytes / s->chunk, k, at;
+    size_t count = s->bytes / s->chunk, k, at, touched;
     dym_handle *chunks = must_have(calloc(count, sizeof *chunks));
     dym_object object = {0};
     dym_logged logged;
@@ -173,9 +208,10 @@ static double by_library(const shape *s, uint64_t events)
     prepare(&object, 1, chunks, count, s->chunk);
     start = now();
     for (event = 1; event <= events; event++) {
+        touched = count;
         for (k = 0; k < s->words; k++) {
             at = place(s, event, k) * WORD;
-            must(dym_touch(&object, chunks[at / s->chunk], &bytes));
+            if (at / s->chunk != touched) must(dym_touch(&object, chunks[touched = at / s->chunk], &bytes));
             memcpy((uint8_t *)bytes + at % s->chunk, &event, WORD);
         }
         must(dym_log(&object, DYM_INCREMENTAL, ++time, &logged));
@@ -218,7 +254,8 @@ static double by_copies(const shape *s, uint64_t events)
     return (double)events / start * 1e9;
 }
 
-static void compare(const char *name, shape s, uint64_t events)
+/* Events a second by the library, times those by whole copies. */
+static double compare(shape s, uint64_t events)
 {
     double library = 0, copies = 0, rate;
     int round;
@@ -228,22 +265,37 @@ static void compare(const char *name, shape s, uint64_t events)
         rate = by_copies(&s, events);
         if (rate > copies) copies = rate;
     }
-    printf("%s\t%.0f events a second by the library, %.0f by copies: %.2f\n", name, library, copies, library / copies);
+    return library / copies;
+}
+
+/* A row about events. */
+static void tell_events(const char *what, shape s, uint64_t events, double least)
+{
+    double found = compare(s, events);
+    printf("%s\t%.2f\t≥ %g%s\n", what, found, least, found >= least ? "" : ", missed");
 }
 
 int main(void)
 {
-    uint32_t version;
-    for (version = 1; version <= 2; version++) {
-        weigh_objects(version);
-        time_opening(version);
-        time_rollbacks(version, 1, 256);
-        time_rollbacks(version, SMALL_CHUNKS, 32);
+    double opened[2], logged[2], opening[2], log[2], restore[2], many_log[2], many_restore[2];
+    uint32_t k;
+    for (k = 0; k < 2; k++) {
+        weigh_apart(k + 1, &opened[k], &logged[k]);
+        opening[k] = time_opening(k + 1);
+        time_rollbacks(k + 1, 1, 256, &log[k], &restore[k]);
+        time_rollbacks(k + 1, SMALL_CHUNKS, 32, &many_log[k], &many_restore[k]);
     }
-    compare("256 bytes of state", (shape){256, 256, 2, 0}, 200000);
-    compare("4 KiB, a hundredth together", (shape){4096, 64, 5, 0}, 100000);
-    compare("4 KiB, a hundredth scattered", (shape){4096, 64, 5, 1}, 100000);
-    compare("64 KiB, a hundredth together", (shape){65536, 256, 82, 0}, 20000);
-    compare("64 KiB, a hundredth scattered", (shape){65536, 32, 82, 1}, 20000);
+    printf("bars small\n");
+    tell("an object of quota 4, resident, KiB", opened, 8);
+    tell("the same with 200 bytes and 11 incremental logs, KiB", logged, 16);
+    tell("open and close, ns", opening, 500);
+    tell("a log of one changed chunk of 256 bytes, ns", log, 100);
+    tell("a restore over it, ns", restore, 150);
+    tell("a restore, one of 2,048 chunks changed, ns", many_restore, 600);
+    tell_events("256 bytes of state: events, times whole copies", (shape){256, 256, 2, 0}, 200000, 0.9);
+    tell_events("4 KiB, a hundredth changes together", (shape){4096, 64, 5, 0}, 100000, 1.2);
+    tell_events("4 KiB, scattered words", (shape){4096, 64, 5, 1}, 100000, 0.8);
+    tell_events("64 KiB, together", (shape){65536, 256, 82, 0}, 20000, 6);
+    tell_events("64 KiB, scattered", (shape){65536, 32, 82, 1}, 20000, 1.5);
     return 0;
 }

@@ -272,9 +272,11 @@ static void found(void)
         must(dym_untold(&p->object, &chunk), "dym_untold");
         if (!dym_same(chunk, dym_nil)) fail("nothing was left out, and it is found", way_of(p, chunk));
         change_some(p, k % way_count);
-        must(dym_log(&p->object, DYM_INCREMENTAL, ++p->now, &logged), "dym_log");
         must(dym_untold(&p->object, &chunk), "dym_untold");
         if (!dym_same(chunk, p->chunks[k % way_count])) fail("it was left out, and isn't found", ways[k % way_count]->name);
+        must(dym_log(&p->object, DYM_INCREMENTAL, ++p->now, &logged), "dym_log");
+        must(dym_untold(&p->object, &chunk), "dym_untold");
+        if (!dym_same(chunk, p->chunks[k % way_count])) fail("it was left out, and isn't found after a log", ways[k % way_count]->name);
     }
     close_process(p);
 }

@@ -1,7 +1,7 @@
 /*
  * What it costs that stores are told: events a second and bytes logged for each event of one model by touches by hand, told, with every chunk
  * touched before each event, and by whole copies of a flat state; and nanoseconds of one store. Each number is the best of several rounds, which
- * take the ways in turns. stores_speed ROUNDS prints tables; its status is 1 where a bar isn't reached.
+ * take the ways in turns. stores_speed ROUNDS prints figures and bars, for checks/lib/measured.
  */
 #define _XOPEN_SOURCE 700
 
@@ -132,8 +132,8 @@ static measured measure(int way, size_t bytes, size_t changes, size_t period, do
     return m;
 }
 
-/* A row of the table; told beside by hand. */
-static double row(size_t bytes, size_t changes, size_t period, int rounds)
+/* The rows of a state, one for each way; answers told beside by hand. */
+static double rows(size_t bytes, size_t changes, size_t period, int rounds)
 {
     measured best[WAYS] = {{0, 0}};
     for (int round = 0; round < rounds; round++)
@@ -141,9 +141,8 @@ static double row(size_t bytes, size_t changes, size_t period, int rounds)
             measured m = measure(way, bytes, changes, period, 0.1);
             if (m.rate > best[way].rate) best[way] = m;
         }
-    printf("| %zu | %zu | %zu |", bytes, changes, period);
-    for (int way = 0; way < WAYS; way++) printf(" %.0f, %.0f B |", best[way].rate / 1000, best[way].bytes);
-    printf(" %.2f |\n", best[1].rate / best[0].rate);
+    for (int way = 0; way < WAYS; way++)
+        printf("%zu,%zu,%zu,%s,%.*f,%.0f\n", bytes, changes, period, names[way], best[way].rate < 1e5, best[way].rate / 1000, best[way].bytes);
     fflush(stdout);
     return best[1].rate / best[0].rate;
 }
@@ -160,52 +159,48 @@ static double nanoseconds(void (*stores)(volatile uint64_t *, size_t), volatile 
     return best;
 }
 
-static int judge(const char *what, double found, double bar, int is_most)
+static void judge(const char *what, double found, double bar, int is_most)
 {
     int is_reached = is_most ? found <= bar : found >= bar;
-    printf("| %s | %.2f | %s %.2f | %s |\n", what, found, is_most ? "at most" : "at least", bar, is_reached ? "yes" : "no");
-    return is_reached;
+    printf("%s\t%.2f\t%s %g%s\n", what, found, is_most ? "≤" : "≥", bar, is_reached ? "" : ", missed");
 }
 
-static int judge_stores(int rounds)
+static void judge_stores(int rounds)
 {
     dym_object object = {0};
     dym_handle chunk;
     void *inside = NULL;
     uint64_t outside[CHUNK_NUMBERS];
-    double plain, touched, other, none;
+    double plain, touched, other;
     must(dym_open(&object, 1, 1));
     must(dym_malloc_at(&object, CHUNK_BYTES, &chunk, &inside));
     plain = nanoseconds(stores_plain, outside, rounds);
-    none = nanoseconds(stores_told, outside, rounds) - plain;
     must(dym_track(&object));
     touched = nanoseconds(stores_told, inside, rounds) - plain;
     other = nanoseconds(stores_told, outside, rounds) - plain;
     must(dym_track(NULL));
     must(dym_close(&object));
-    return judge("a store into a touched chunk, ns more than untold", touched, 4, 1) &
-           judge("a store outside the object, ns more", other, 2, 1) & judge("a store where no object is named, ns more", none, 2, 1);
+    judge("a told store into a touched chunk, ns more", touched, 4, 1);
+    judge("a told store outside the object, ns more", other, 2, 1);
 }
 
 int main(int count, char **words)
 {
     static const size_t states[] = {256, 4096, 65536, 1048576};
-    int rounds = count == 2 ? atoi(words[1]) : 3, is_reached;
+    int rounds = count == 2 ? atoi(words[1]) : 3;
     double least = 1e9;
-    printf("| state | chunks an event changes | events a log |");
-    for (int way = 0; way < WAYS; way++) printf(" %s |", names[way]);
-    printf(" told to by hand |\n|---|---|---|---|---|---|---|---|\n");
+    printf("figures stores\nstate,chunks an event changes,events a log,way,thousand events a second,bytes logged an event\n");
     for (size_t k = 0; k < 4; k++)
         for (size_t changes = 1;;) {
             for (size_t period = 1; period <= 16; period *= 16) {
-                double ratio = row(states[k], changes, period, rounds);
+                double ratio = rows(states[k], changes, period, rounds);
                 if (states[k] == 65536 && ratio < least) least = ratio;
             }
             if (changes > 1 || states[k] / CHUNK_BYTES / 100 <= 1) break;
             changes = states[k] / CHUNK_BYTES / 100;
         }
-    printf("\n| what | measured | bar | reached |\n|---|---|---|---|\n");
-    is_reached = judge("told to by hand with 65,536 bytes, the least", least, 0.75, 0);
-    is_reached &= judge_stores(rounds);
-    return is_reached ? 0 : 1;
+    printf("bars stores\n");
+    judge("64 KiB told, times by hand: the least", least, 0.75, 0);
+    judge_stores(rounds);
+    return 0;
 }

@@ -93,6 +93,18 @@ static void copies(dym_object *object)
     EXPECT(status == DYM_DONE && part == 99 && dym_close(&other) == DYM_DONE);
 }
 
+/* Looks for what was written and not touched, of which there is none. */
+static void looks(const dym_object *object)
+{
+    dym_handle found = {9, 9};
+    dym_status status = dym_untold(object, &found);
+    if (status == DYM_MEMORY) {
+        EXPECT(has_failed && found.exponent == 9);
+        status = dym_untold(object, &found);
+    }
+    EXPECT(status == DYM_DONE && dym_same(found, dym_nil));
+}
+
 /* What an object does, in which one allocation fails. */
 static void run(void)
 {
@@ -108,6 +120,7 @@ static void run(void)
     EXPECT(dym_write(&object, h, 0, bytes, 600) == DYM_DONE);
     logs(&object, DYM_INCREMENTAL, 30);
     copies(&object);
+    looks(&object);
     EXPECT(dym_restore(&object, 25, &time) == DYM_DONE && time == 20);
     EXPECT(dym_sum(&object, h, &total) == DYM_DONE && total == 1800);
     EXPECT(dym_close(&object) == DYM_DONE);
