@@ -27,7 +27,7 @@ fn main() {
         Err(why) => {
             eprintln!(
                 "dymelor: {why}\n\
-                 The C library libdymelor.a is wanted: install it, so that `pkg-config --libs dymelor` \
+                 The C library libdymelor.a is needed: install it, so that `pkg-config --libs dymelor` \
                  finds it, or set DYMELOR_DIR to a folder that has lib/libdymelor.a."
             );
             exit(1);

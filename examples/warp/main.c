@@ -4,7 +4,6 @@
 #include <stdlib.h>
 #include <string.h>
 
-#include "clock.h"
 #include "kernel.h"
 #include "resources.h"
 #include "sequential.h"
@@ -50,11 +49,9 @@ static fault run_optimistic(const settings *s)
 static fault run_in_order(const settings *s)
 {
     outcome out;
-    uint64_t begin = clock_now();
     fault f;
     memset(&out, 0, sizeof out);
-    f = run_sequentially(s, &out.counts);
-    out.time = clock_now() - begin;
+    f = run_sequentially(s, &out);
     out.counts.memory = resources_peak();
     if (f == FAULT_NONE && transport_is_first()) print_outcome(&out, s);
     return f;

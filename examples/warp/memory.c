@@ -22,6 +22,7 @@ fault memory_open(memory *m, const memory_way *way, uint32_t quota)
     m->way = way;
     m->inside = NULL;
     m->fault = FAULT_NONE;
+    m->edited_at = NULL;
     return way->open(m, quota);
 }
 
@@ -93,5 +94,6 @@ fault memory_load(memory *m, const memory_way *way, const uint8_t *bytes, uint64
     m->way = way;
     m->inside = NULL;
     m->fault = FAULT_NONE;
+    m->edited_at = NULL;
     return way->load(m, bytes, length);
 }

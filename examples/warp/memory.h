@@ -38,6 +38,8 @@ struct memory {
     const memory_way *way;
     void *inside; /* the way's own; null while it is closed */
     fault fault;  /* the first fault of a chunk's call */
+    chunk edited; /* the chunk of the last edit in place, and where its bytes are: a put of them has nothing to do */
+    const void *edited_at;
 };
 
 extern const memory_way memory_copies;

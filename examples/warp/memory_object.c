@@ -112,7 +112,10 @@ static void *place_edit(memory *m, chunk c, uint32_t at, uint32_t length, void *
 {
     void *start = NULL;
     m->fault = has(c, at, length) ? fault_of(dym_touch(m->inside, handle_of(c), &start)) : FAULT_LOG;
-    return m->fault == FAULT_NONE ? (uint8_t *)start + at : memset(room, 0, length);
+    if (m->fault != FAULT_NONE) return memset(room, 0, length);
+    m->edited = c;
+    m->edited_at = (uint8_t *)start + at;
+    return (uint8_t *)start + at;
 }
 
 /* After an edit the bytes are where they belong; a put without one brings others. */
@@ -120,6 +123,7 @@ static void place_put(memory *m, chunk c, uint32_t at, uint32_t length, const vo
 {
     const void *start = NULL;
     void *touched = NULL;
+    if (c == m->edited && bytes == m->edited_at) return;
     m->fault = has(c, at, length) ? fault_of(dym_address(m->inside, handle_of(c), &start)) : FAULT_LOG;
     if (m->fault != FAULT_NONE || (const uint8_t *)start + at == bytes) return;
     m->fault = fault_of(dym_touch(m->inside, handle_of(c), &touched));

@@ -2,6 +2,7 @@
 
 #include <stdlib.h>
 
+#include "clock.h"
 #include "list.h"
 
 /* The queue is a binary heap by keys. A process is its context and its state, which is never logged. */
@@ -78,8 +79,9 @@ static fault start(queue *q, const settings *s)
     return FAULT_NONE;
 }
 
-static fault run(queue *q, const settings *s, counts *out)
+static fault run(queue *q, const settings *s, outcome *out)
 {
+    uint64_t begin = clock_now();
     uint32_t k;
     while (q->heap.count > 0 && q->heap.items[0].time <= s->end) {
         event e = take(&q->heap);
@@ -87,13 +89,14 @@ static fault run(queue *q, const settings *s, counts *out)
         c->now = e.time;
         s->model->run(c, &e);
         if (fault_of(c) != FAULT_NONE) return fault_of(c);
-        out->committed++;
+        out->counts.committed++;
     }
-    for (k = 0; k < s->processes; k++) out->checksum += model_mixed(s->model->checksum(&q->contexts[k]) + k);
+    out->time = clock_now() - begin;
+    for (k = 0; k < s->processes; k++) out->counts.checksum += model_mixed(s->model->checksum(&q->contexts[k]) + k);
     return FAULT_NONE;
 }
 
-fault run_sequentially(const settings *s, counts *out)
+fault run_sequentially(const settings *s, outcome *out)
 {
     queue q = {{NULL, 0, 0}, 0, NULL, NULL};
     uint32_t k;

@@ -2,10 +2,9 @@
 #ifndef SEQUENTIAL_H
 #define SEQUENTIAL_H
 
-#include "counts.h"
-#include "settings.h"
+#include "kernel.h"
 
-/* Runs the model to its end. *out has how many events were run, and the checksum. */
-fault run_sequentially(const settings *s, counts *out);
+/* Runs the model to its end. *out has how many events were run, for how long, and the checksum. */
+fault run_sequentially(const settings *s, outcome *out);
 
 #endif

@@ -1,13 +1,14 @@
 use std::fmt;
 
-/// Why a call did not do what it says: each status of the header but the one of success.
+/// Why a call did not do what it says. Each variant is the status of that name in the header, but [`File`](Error::File), which stands for
+/// the `DYM_BAD` of `dym_load`.
 ///
 /// The variants up to [`NoLog`](Error::NoLog) are refusals. A refused call changes nothing of the object but the count of its
-/// commands, on which [`Spent`](Error::Spent) alone depends; the other variants change nothing of it at all.
+/// commands, on which only [`Spent`](Error::Spent) depends. A call that returns another variant changes nothing of it at all.
 ///
-/// Where more than one would be right, [`Bad`](Error::Bad) comes first, then [`Spent`](Error::Spent), then the refusals in the order
-/// in which the call names them; [`Memory`](Error::Memory) comes only where none of these does, but for
-/// [`Object::save`](crate::Object::save).
+/// If more than one would be right, [`Bad`](Error::Bad) comes first, then [`Spent`](Error::Spent), then the refusals in the order
+/// in which the call names them; [`Memory`](Error::Memory) comes only if none of these does, but for
+/// [`Object::save`](crate::Object::save). [`Object::chunk_mut`](crate::Object::chunk_mut) says [`Dead`](Error::Dead) before `Spent`.
 #[derive(Clone, Copy, Debug, PartialEq, Eq, Hash)]
 pub enum Error {
     /// No class has chunks of that length; the greatest is 65,536 bytes.
@@ -24,7 +25,7 @@ pub enum Error {
     LogsFull,
     /// No log has a time at or before the one asked for.
     NoLog,
-    /// Memory was wanting.
+    /// Memory ran out.
     Memory,
     /// An argument was bad: the quota of [`Object::open`](crate::Object::open) or the name of
     /// [`Object::save`](crate::Object::save). The types of this crate leave no others.
@@ -71,7 +72,7 @@ impl fmt::Display for Error {
             Error::NotAfter => "the newest log has this time or a later one",
             Error::LogsFull => "256 logs are kept, the most that an object keeps",
             Error::NoLog => "no log has this time or an earlier one",
-            Error::Memory => "memory is wanting",
+            Error::Memory => "memory ran out",
             Error::Bad => "the quota or the name is bad",
             Error::Spent => "the object has run 2^60 commands, the most that it may",
             Error::File { part } => {

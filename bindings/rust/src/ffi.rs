@@ -116,8 +116,8 @@ pub(crate) struct OpenObject {
 }
 
 // SAFETY: "one call at a time on an object. It may be another thread's than the call before: a lock, a barrier, a thread's start or
-// join, or a sequentially consistent atomic then stands between the two." Safe Rust hands a value to another thread by one of these, or by what
-// likewise has the calls before it happen before those after it, as the release and the acquire of a channel.
+// join, or an atomic that is stored with release and loaded with acquire then stands between the two." Whatever safe Rust moves a value to
+// another thread by is one of these.
 unsafe impl Send for OpenObject {}
 
 impl OpenObject {
@@ -140,7 +140,7 @@ impl OpenObject {
     pub fn load(file: &[u8]) -> Result<OpenObject, Error> {
         let object = OpenObject::closed();
         let mut part = 0;
-        // SAFETY: "a dym_object is zeroed before its first use", and "any bytes may be handed in".
+        // SAFETY: "a dym_object is zeroed before its first use", and "Any bytes may be handed in".
         let status = unsafe { dym_load(object.object.get(), file.as_ptr(), file.len(), &mut part) };
         match status {
             BAD => Err(Error::File { part }),

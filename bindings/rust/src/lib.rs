@@ -1,9 +1,9 @@
 //! Heaps that can be logged at simulation times and rolled back, for simulators of the Time Warp kind.
 //!
 //! An [`Object`] is the heap of one logical process. Its chunks are named by [`Handle`]s, which stay valid over rollbacks; their bytes are
-//! written and read by calls, or borrowed where they lie, so that the object knows what changed. A log keeps the heap at a simulation [`Time`], the whole of it or
-//! what changed since the log before; a restore brings back the newest log at or before a time; a prune drops the logs that a commit bound
-//! makes useless. Two events of a process, and a straggler:
+//! written and read by calls, or borrowed where they lie, so that the object knows what changed. A log keeps the heap at a simulation
+//! [`Time`], the whole of it or what changed since the log before; a restore brings back the newest log at or before a time; a prune drops
+//! the logs that no rollback can reach. Two events of a process, and a straggler:
 //!
 //! ```
 //! use dymelor::{Error, LogKind, Object, Time, Version};
@@ -26,12 +26,12 @@
 //!
 //! # What it stands on
 //!
-//! The crate calls the C library `libdymelor.a`, each export of which is proved to do what its header `dymelor.h` says. Not proved is what
-//! Rust adds: this crate, which takes over what the header asks of a caller, so that none of it is left to the program. It is tested
-//! alone. It has no dependency but `std`.
+//! The crate calls the C library `libdymelor.a`, each export of which is proved to do what its header `dymelor.h` says. What Rust adds is
+//! only tested: this crate, which takes over what the header asks of a caller, so that none of it is left to the program. It depends only
+//! on `std`.
 //!
-//! `build.rs` finds the library by `pkg-config --libs dymelor`, or under the prefix that the environment variable `DYMELOR_DIR` names, in
-//! its folder `lib`.
+//! `build.rs` asks `pkg-config` for the library `dymelor`, of this crate's version or a later one with the same second number. If the
+//! environment variable `DYMELOR_DIR` names a prefix, it takes the library in its folder `lib` instead, whatever its version.
 //!
 //! What the header asks of a whole program holds of one in safe Rust: no call comes from a signal handler, nor from the forked child of a
 //! process that has threads, as both are reached by `unsafe` alone; and `malloc`, `realloc` and `free` are those of the C library that the

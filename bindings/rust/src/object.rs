@@ -8,11 +8,12 @@ use std::fmt;
 
 /// The heap of one logical process, with its logs. It is closed, and all its memory freed, when it is dropped.
 ///
-/// What changes the heap or the logs takes the object by `&mut self`; what only looks takes it by `&self`. Commands are counted all the
-/// same: each method but [`size`](Object::size), [`chunk`](Object::chunk), [`next_chunk`](Object::next_chunk), [`chunks`](Object::chunks) and
-/// [`save`](Object::save) can answer [`Error::Spent`], which isn't named again below.
+/// What changes the heap or the logs takes the object by `&mut self`; what only looks takes it by `&self`. Commands of both kinds are
+/// counted: each method can return [`Error::Spent`], which isn't named again below, but [`open`](Object::open), [`load`](Object::load),
+/// [`save`](Object::save), [`size`](Object::size), [`chunk`](Object::chunk), [`next_chunk`](Object::next_chunk) and
+/// [`chunks`](Object::chunks).
 ///
-/// An object may cross to another thread. It can't be shared by threads, as C owes one call at a time:
+/// An object may move to another thread. Threads can't share it, since the library allows one call at a time on an object:
 ///
 /// ```
 /// fn crosses<T: Send>() {}
@@ -38,7 +39,7 @@ impl Object {
     ///
     /// # Errors
     ///
-    /// [`Error::Bad`] where the quota is 0 or above 1,024, and [`Error::Memory`].
+    /// [`Error::Bad`] if the quota is 0 or above 1,024, and [`Error::Memory`].
     pub fn open(quota: u32, version: Version) -> Result<Object, Error> {
         let version = match version {
             Version::One => 1,
@@ -48,12 +49,12 @@ impl Object {
         Ok(Object { inside })
     }
 
-    /// Opens an object as the newest log of a file has it, with all its logs, and empty where the file has none. Its quota and version are
+    /// Opens an object as the newest log of a file has it, with all its logs, and empty if the file has none. Its quota and version are
     /// the file's. Any bytes may be handed in: an object comes of them exactly where they are a file. The name that the file has isn't told.
     ///
     /// # Errors
     ///
-    /// [`Error::File`] where the bytes are no file, and [`Error::Memory`].
+    /// [`Error::File`] if the bytes are no file, and [`Error::Memory`].
     pub fn load(file: &[u8]) -> Result<Object, Error> {
         let inside = OpenObject::load(file)?;
         Ok(Object { inside })
@@ -65,7 +66,7 @@ impl Object {
     ///
     /// # Errors
     ///
-    /// [`Error::Bad`] where the name is none, and [`Error::Memory`].
+    /// [`Error::Bad`] if it isn't such a name, and [`Error::Memory`].
     pub fn save(&self, name: &str) -> Result<Vec<u8>, Error> {
         let length = self.saved_length(name)?;
         let mut file = Vec::new();
@@ -145,7 +146,7 @@ impl Object {
         self.inside.fill(sent(chunk), at, length, byte)
     }
 
-    /// Copies bytes of a chunk, from its place `at` on, to `bytes`. They stay as they were where the call is refused.
+    /// Copies bytes of a chunk, from its place `at` on, to `bytes`, which stay as they were if the call is refused.
     ///
     /// # Errors
     ///
@@ -163,8 +164,8 @@ impl Object {
         self.inside.chunk(sent(chunk))
     }
 
-    /// The bytes of a chunk, where they lie, to be changed: it is a [`write`](Object::write) of all of them, by those that stand there when
-    /// the borrow ends.
+    /// The bytes of a chunk, where they lie, to be changed. This counts as a [`write`](Object::write) of all of them, with those that stand
+    /// there when the borrow ends. A chunk of length 0 has no byte to be written, and isn't touched.
     ///
     /// # Errors
     ///
@@ -264,7 +265,7 @@ impl Object {
     ///
     /// # Errors
     ///
-    /// [`Error::Spent`] alone.
+    /// Only [`Error::Spent`].
     pub fn prune(&mut self, bound: Time) -> Result<u32, Error> {
         self.inside.prune(bound.0)
     }
@@ -273,7 +274,7 @@ impl Object {
     ///
     /// # Errors
     ///
-    /// [`Error::Spent`] alone.
+    /// Only [`Error::Spent`].
     pub fn logs(&self) -> Result<Logs, Error> {
         let slots = self.inside.logs()?;
         Ok(Logs {

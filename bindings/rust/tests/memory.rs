@@ -35,7 +35,7 @@ fn want_of_memory_is_an_error() -> Result<(), Error> {
         "{text}{}",
         String::from_utf8_lossy(&output.stderr)
     );
-    assert!(text.contains("memory is wanting"), "{text}");
+    assert!(text.contains("memory ran out"), "{text}");
     Ok(())
 }
 

@@ -28,15 +28,22 @@ static chunk chunk_at(context *c, chunk table, uint32_t k)
     return *(const chunk *)chunk_see(c->memory, table, k * (uint32_t)sizeof room, sizeof room, &room);
 }
 
+/* A chunk of at least the length of the others, so that small states have chunks of one class: each class costs bitmaps in each log. */
+static chunk alloc(context *c, uint32_t length)
+{
+    uint32_t least = (uint32_t)c->options[CHUNK];
+    return chunk_alloc(c->memory, length > least ? length : least);
+}
+
 static void start(context *c)
 {
     uint64_t random = model_seed(c), job;
     root r = {random, 0, 0, 0};
     uint32_t k;
-    c->root = chunk_alloc(c->memory, sizeof r);
-    r.table = chunk_alloc(c->memory, chunks(c) * (uint32_t)sizeof(chunk));
+    c->root = alloc(c, sizeof r);
+    r.table = alloc(c, chunks(c) * (uint32_t)sizeof(chunk));
     for (k = 0; k < chunks(c); k++) {
-        chunk made = chunk_alloc(c->memory, (uint32_t)c->options[CHUNK]);
+        chunk made = alloc(c, 0);
         chunk_put(c->memory, r.table, k * (uint32_t)sizeof made, sizeof made, &made);
     }
     chunk_put(c->memory, c->root, 0, sizeof r, &r);
