@@ -16,7 +16,7 @@ use Rattle.std.proofs.lemmas.Nat.{shr-shr, pow-add, pow_pos, and_mask, shl_whole
 use Rattle.std.proofs.lemmas.Nat.Bits.{bit_at-lt, bit_at_lowest, bit_at_cat_low, bit_at_cat_high, bit_at_or, bit_at_and, bit_at_not, bit_at_ones, bit_at_ones_above, bit_at_above}
 use Rattle.std.proofs.Math.Nat.{pow-suc}
 use Rattle.std.proofs.lemmas.List.{drop-replicate, append-nil, take_all, replicate-append-replicate}
-use Rattle.std.proofs.lemmas.Slice.{take-put_mid, drop-put_mid}
+use Rattle.std.proofs.lemmas.Slice.{take-put_mid}
 use borrow.Rule.Slice.PartMut.{put_mid}
 use Rattle.dym_bits.specs.Bits.{digit, digits, bits_of, clear_bits, bit_in, bytes_of_bits, AreZeroFrom}
 use Rattle.dym_bits.proofs.UsedWords.{zero_of_zeros, rest_is_zeros}
@@ -357,14 +357,6 @@ bits_past_used k ns n m some long rest =
     ∙ bits_of-append k (take n ns) (drop n ns)
     ∙ ap (λ bits. bits_of k (take n ns) ++ bits) (ap (bits_of k) (rest_is_zeros ns n m long rest) ∙ bits_of-replicate k (m - n) some)
 
--- words and bytes with the same bits in the used ones
-pub same_bits : (words bytes : List ℕ) (used : ℕ) → length words ≡ 32 → length bytes ≡ 256 → used ≤ 32 → AreZeroFrom used words → AreZeroFrom (8 * used) bytes → bits_of 8 (take (8 * used) bytes) ≡ bits_of 64 (take used words) → bits_of 8 bytes ≡ bits_of 64 words
-same_bits words bytes used long_words long_bytes within rest_words rest_bytes same =
-    let cut : (256 - 8 * used) * 8 ≡ (32 - used) * 64 = omega arith in
-    bits_past_used 8 bytes (8 * used) 256 (omega arith) long_bytes rest_bytes
-    ∙ (λ i. same i ++ clear_bits (cut i))
-    ∙ sym (bits_past_used 64 words used 32 (omega arith) long_words rest_words)
-
 -- one word more, read from bytes
 pub word_from_bytes : (ns bytes : List ℕ) (q n : ℕ) → q < length ns → 8 * q ≤ length bytes → bits_of 64 (take q ns) ≡ bits_of 8 (take (8 * q) bytes) ++ clear_bits (64 * q - 8 * length bytes)
     → digits 64 n ≡ bits_of 8 (take 8 (drop (8 * q) bytes)) ++ clear_bits (64 - 8 * (length bytes - 8 * q)) → bits_of 64 (take (q + 1) (set ns q n)) ≡ bits_of 8 (take (8 * (q + 1)) bytes) ++ clear_bits (64 * (q + 1) - 8 * length bytes)
@@ -396,15 +388,6 @@ bits_from_bytes words bytes used long within all rest same =
 pub length-put_mid : (a k : ℕ) (xs part : List ℕ) → a + k ≤ length xs → length part ≡ k → length (put_mid a k xs part) ≡ length xs
 length-put_mid a k xs part room long =
     omega (arith, length-append (take a xs) (part ++ drop k (drop a xs)), length-append part (drop k (drop a xs)), length-take-le a xs (omega arith), length-drop k (drop a xs), length-drop a xs)
-
--- the part written, and behind it as before
-pub rest_after_part : (a k n : ℕ) (xs part : List ℕ) → a + k ≤ n → a ≤ length xs → length part ≡ k → AreZeroFrom a xs → AreZeroFrom n (put_mid a k xs part)
-rest_after_part a k n xs part reaches room long rest p past =
-    ap (λ i. get_or (put_mid a k xs part) i 0) (omega arith)
-    ∙ sym (get_or-drop n (put_mid a k xs part) (p - n) 0)
-    ∙ ap (λ ys. get_or ys (p - n) 0) (drop-put_mid a k xs part n reaches room long)
-    ∙ get_or-drop n xs (p - n) 0
-    ∙ rest (n + (p - n)) (omega arith)
 
 -- one word more, written as bytes
 pub word_to_bytes : (ns bytes part : List ℕ) (q k : ℕ) → q < length ns → 8 * q ≤ length bytes → part ≡ to_le_bytes w64 (get_or ns q 0) → bits_of 8 (take (8 * q) bytes) ≡ bits_of 64 (take q ns) → bits_of 8 (take (8 * (q + 1)) (put_mid (8 * q) k bytes part)) ≡ bits_of 64 (take (q + 1) ns)

@@ -3,9 +3,9 @@ use Rattle.std.proofs.Common.{◌≡◌, ℕ, ◌+◌, ◌*◌, ◌/◌, ◌%◌
 use Rattle.std.specs.Int.{bit_at, bit_not}
 use Rattle.std.proofs.lemmas.List.{get_or_past, get_or-set_same, get_or-set_other}
 use Rattle.std.proofs.lemmas.Nat.{div_below, mod_below}
-use Rattle.std.proofs.lemmas.Nat.Bits.{bit_at_and, bit_at_or, bit_at_not, bit_at-lt, bit_at-zero}
+use Rattle.std.proofs.lemmas.Nat.Bits.{bit_at_and, bit_at_or, bit_at_not, bit_at-lt}
 use Rattle.std.proofs.lemmas.Bool.{cases_eq, cases_lt}
-use Rattle.dym_bits.specs.Bits.{digit, bits_of, AreZeroFrom}
+use Rattle.dym_bits.specs.Bits.{digit, bits_of}
 use Rattle.dym_bits.proofs.BitmapLemmas.{digit_is_set, digit_is_clear, length-bits_of, get_or-bits_of_at}
 
 -- ---- one word
@@ -57,24 +57,13 @@ each_more op xs ys zs q n within is each p below =
       | inr ne ↦ get_or-set_other zs q p n 0 ne ∙ each p (omega arith)
     ]
 
--- the words from q on are 0, and so would be those made of them
-pub each_of_all : (op : ℕ → ℕ → ℕ) (xs ys zs : List ℕ) (q : ℕ) → ((p : ℕ) → p < q → get_or zs p 0 ≡ op (get_or xs p 0) (get_or ys p 0)) → AreZeroFrom q zs
-    → ((p : ℕ) → q ≤ p → op (get_or xs p 0) (get_or ys p 0) ≡ 0) → (p : ℕ) → get_or zs p 0 ≡ op (get_or xs p 0) (get_or ys p 0)
-each_of_all op xs ys zs q each rest none p =
-    elim (cases_lt p q) as (λ _. get_or zs p 0 ≡ op (get_or xs p 0) (get_or ys p 0)) [
-      | inl before ↦ each p before
-      | inr past ↦ rest p past ∙ sym (none p past)
-    ]
-
--- the same of the bits, where the others fit in 64 bits as far as they were read
-pub digits_without : (xs ys zs : List ℕ) (q : ℕ) → ((p : ℕ) → p < q → get_or zs p 0 ≡ bit_and (get_or xs p 0) (bit_not w64 (get_or ys p 0))) → ((p : ℕ) → p < q → get_or ys p 0 < 2 ^ 64)
-    → AreZeroFrom q zs → AreZeroFrom q xs → (p r : ℕ) → r < 64 → digit (get_or zs p 0) r ≡ (digit (get_or xs p 0) r && not (digit (get_or ys p 0) r))
-digits_without xs ys zs q each fits rest none p r short =
-    elim (cases_lt p q) as (λ _. digit (get_or zs p 0) r ≡ (digit (get_or xs p 0) r && not (digit (get_or ys p 0) r))) [
-      | inl before ↦ ap (λ n. digit n r) (each p before) ∙ digit_without (get_or xs p 0) (get_or ys p 0) r (fits p before) short
-      | inr past ↦
-          let clear : (n : ℕ) → n ≡ 0 → digit n r ≡ false = λ n zero. digit_is_clear n r (ap (λ m. bit_at m r) zero ∙ bit_at-zero r) in
-          clear (get_or zs p 0) (rest p past) ∙ sym (ap (λ x. x && not (digit (get_or ys p 0) r)) (clear (get_or xs p 0) (none p past)))
+-- a word that is made of two is 0 where what it is made by answers 0
+pub zero_of_zero : (op : ℕ → ℕ → ℕ) (xs ys zs : List ℕ) (q : ℕ) → length zs ≤ q → ((p : ℕ) → p < q → get_or zs p 0 ≡ op (get_or xs p 0) (get_or ys p 0))
+    → (p : ℕ) → op (get_or xs p 0) (get_or ys p 0) ≡ 0 → get_or zs p 0 ≡ 0
+zero_of_zero op xs ys zs q all each p none =
+    elim (cases_lt p q) [
+      | inl before ↦ each p before ∙ none
+      | inr past ↦ get_or_past zs p 0 (omega arith)
     ]
 
 pub bits_by : (f : Bool → Bool → Bool) → f false false ≡ false → (xs ys zs : List ℕ) → length xs ≡ length zs → length ys ≡ length zs

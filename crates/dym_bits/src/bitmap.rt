@@ -11,7 +11,8 @@ use std::marker::Model;
 
 /// 2,048 bits, one for each chunk that a segment can have. No call takes memory.
 ///
-/// A pass over the bits stops where the used words end: all words from there on are 0. A word that is used may be 0 too.
+/// A search stops where the used words end: all words from there on are 0. A word that is used may be 0 too. What is made of two bitmaps, or
+/// written, is made of all words: such a loop has a constant length, and the compiler takes several words at once.
 #[derive(Drop)]
 pub struct Bits {
     words: [u64; WORDS],
@@ -219,10 +220,9 @@ impl Bits {
         ensures bits { (i : ℕ) → bit_in result i ≡ (bit_in self.now i || bit_in other.now i) }
         ensures len { length result ≡ MOST_CHUNKS }
     {
-        let used = self.used_words.max(other.used_words);
         Bits {
-            words: words_union(&self.words, &other.words, used),
-            used_words: used,
+            words: words_union(&self.words, &other.words),
+            used_words: self.used_words.max(other.used_words),
         }
     }
 
@@ -231,10 +231,9 @@ impl Bits {
         ensures bits { (i : ℕ) → bit_in result i ≡ (bit_in self.now i && bit_in other.now i) }
         ensures len { length result ≡ MOST_CHUNKS }
     {
-        let used = self.used_words.min(other.used_words);
         Bits {
-            words: words_intersection(&self.words, &other.words, used),
-            used_words: used,
+            words: words_intersection(&self.words, &other.words),
+            used_words: self.used_words.min(other.used_words),
         }
     }
 
@@ -244,7 +243,7 @@ impl Bits {
         ensures len { length result ≡ MOST_CHUNKS }
     {
         Bits {
-            words: words_difference(&self.words, &other.words, self.used_words),
+            words: words_difference(&self.words, &other.words),
             used_words: self.used_words,
         }
     }
@@ -299,7 +298,7 @@ impl Bits {
             → ((i : ℕ) → n ≤ i → IsClear self.now i) → take k result ≡ bitmap n (bit_in self.now) }
         ensures bits { bits_of_bytes result ≡ self.now }
     {
-        let bytes = bytes_of(&self.words, self.used_words);
+        let bytes = bytes_of(&self.words);
         bytes_fit(&bytes);
         bytes
     }

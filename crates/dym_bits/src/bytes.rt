@@ -1,7 +1,7 @@
 //! Between the words of a bitmap and its bytes.
 
 ghost use Rattle.std.specs.Prelude.{◌≡◌, ℕ, ◌<◌, slice_index, ◌+◌, ◌-◌, ◌*◌, ◌≤◌, ◌++◌, length, take, drop};
-ghost use Rattle.dym_bits.specs.Bits.{digits, bits_of, bits_of_bytes, clear_bits, AreZeroFrom};
+ghost use Rattle.dym_bits.specs.Bits.{digits, bits_of, bits_of_bytes, clear_bits};
 
 use dym_base::limits::MOST_CHUNKS;
 
@@ -39,14 +39,12 @@ pub(crate) fn word_at(bytes: &[u8], at: usize) -> u64
     ])
 }
 
-/// The bytes whose bits are those of the words, which are 0 from `used` on.
-pub(crate) fn bytes_of(words: &[u64; WORDS], used: u32) -> [u8; BITMAP_BYTES]
-    requires within { used ≤ WORDS }
-    requires rest { AreZeroFrom used words.now }
+/// The bytes whose bits are those of the words.
+pub(crate) fn bytes_of(words: &[u64; WORDS]) -> [u8; BITMAP_BYTES]
     ensures { bits_of_bytes result ≡ bits_of 64 words.now }
 {
     let mut room = [0; BITMAP_BYTES];
-    for q in 0..used as usize {
+    for q in 0..WORDS {
         room[8 * q..8 * q + 8].copy_from_slice(&words[q].to_le_bytes());
     }
     room

@@ -1,6 +1,6 @@
 //! Searches in the words of a bitmap.
 
-ghost use Rattle.std.specs.Prelude.{◌≡◌, ℕ, ◌≤◌, true, false, not, ◌&&◌, ◌||◌, bit_and, slice_index_or, MatchOption};
+ghost use Rattle.std.specs.Prelude.{◌≡◌, ℕ, ◌≤◌, true, false, not, ◌&&◌, ◌||◌, MatchOption};
 ghost use Rattle.dym_bits.specs.Bits.{bits_of, bit_in, AreZeroFrom, IsSet, IsClear, IsNextSet};
 
 use crate::bytes::{WORD_BITS, WORDS};
@@ -47,56 +47,41 @@ pub(crate) fn words_within(words: &[u64; WORDS], others: &[u64; WORDS], used: u3
     true
 }
 
-/// The words of the bits that are set in the words or in the others, where both are 0 from `used` on.
-pub(crate) fn words_union(words: &[u64; WORDS], others: &[u64; WORDS], used: u32) -> [u64; WORDS]
-    requires within { used ≤ WORDS }
-    requires rest { AreZeroFrom used words.now }
-    requires others { AreZeroFrom used others.now }
-    ensures rest { AreZeroFrom used result }
+/// The words of the bits that are set in the words or in the others.
+pub(crate) fn words_union(words: &[u64; WORDS], others: &[u64; WORDS]) -> [u64; WORDS]
+    ensures rest { (n : ℕ) → AreZeroFrom n words.now → AreZeroFrom n others.now → AreZeroFrom n result }
     ensures bits { (k : ℕ) → bit_in (bits_of 64 result) k
         ≡ (bit_in (bits_of 64 words.now) k || bit_in (bits_of 64 others.now) k) }
 {
     let mut joined = [0; WORDS];
-    for q in 0..used as usize {
+    for q in 0..WORDS {
         joined[q] = words[q] | others[q];
     }
     joined
 }
 
-/// The words of the bits that are set in the words and in the others, which have none in common from word `used` on.
-pub(crate) fn words_intersection(
-    words: &[u64; WORDS],
-    others: &[u64; WORDS],
-    used: u32,
-) -> [u64; WORDS]
-    requires within { used ≤ WORDS }
-    requires rest { (q : ℕ) → used ≤ q
-        → bit_and (slice_index_or words.now q 0) (slice_index_or others.now q 0) ≡ 0 }
-    ensures rest { AreZeroFrom used result }
+/// The words of the bits that are set in the words and in the others.
+pub(crate) fn words_intersection(words: &[u64; WORDS], others: &[u64; WORDS]) -> [u64; WORDS]
+    ensures rest { (n : ℕ) → AreZeroFrom n words.now → AreZeroFrom n result }
+    ensures others { (n : ℕ) → AreZeroFrom n others.now → AreZeroFrom n result }
     ensures bits { (k : ℕ) → bit_in (bits_of 64 result) k
         ≡ (bit_in (bits_of 64 words.now) k && bit_in (bits_of 64 others.now) k) }
 {
     let mut joined = [0; WORDS];
-    for q in 0..used as usize {
+    for q in 0..WORDS {
         joined[q] = words[q] & others[q];
     }
     joined
 }
 
-/// The words of the bits that are set in the words, which are 0 from `used` on, and not in the others.
-pub(crate) fn words_difference(
-    words: &[u64; WORDS],
-    others: &[u64; WORDS],
-    used: u32,
-) -> [u64; WORDS]
-    requires within { used ≤ WORDS }
-    requires rest { AreZeroFrom used words.now }
-    ensures rest { AreZeroFrom used result }
+/// The words of the bits that are set in the words and not in the others.
+pub(crate) fn words_difference(words: &[u64; WORDS], others: &[u64; WORDS]) -> [u64; WORDS]
+    ensures rest { (n : ℕ) → AreZeroFrom n words.now → AreZeroFrom n result }
     ensures bits { (k : ℕ) → bit_in (bits_of 64 result) k
         ≡ (bit_in (bits_of 64 words.now) k && not (bit_in (bits_of 64 others.now) k)) }
 {
     let mut joined = [0; WORDS];
-    for q in 0..used as usize {
+    for q in 0..WORDS {
         joined[q] = words[q] & !others[q];
     }
     joined

@@ -1,10 +1,8 @@
 use Rattle.std.proofs.Common.{◌≡◌, ℕ, ◌<◌, length, get_or, bit_or}
-use Rattle.dym_bits.specs.Bits.{AreZeroFrom}
 use Rattle.dym_bits.proofs.scan.words_union.Given as goal
 
 abbrev pub invariant-loop-q : goal.invariant-loop-q
 invariant-loop-q l = record {
   long : length l.joined ≡ 32;
   each : (p : ℕ) → p < l.q → get_or l.joined p 0 ≡ bit_or (get_or l.words p 0) (get_or l.others p 0);
-  rest : AreZeroFrom l.q l.joined;
 }
