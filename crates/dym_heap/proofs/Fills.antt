@@ -38,11 +38,6 @@ splice-more at n m b old fits =
 abbrev pub FilledSo : SizedAreaMeaning → SizedAreaMeaning → ℕ → ℕ → ℕ → ℕ → Type 0
 FilledSo p q i at n b = MatchOption (get_or p.chunks i None) ⊥ (λ old. q ≡ area_with_chunk p i (Some (splice at (replicate n b) old)) true)
 
--- the first piece
-pub fill_first : (p q : SizedAreaMeaning) (i at n : ℕ) (block ys : List ℕ) → IsRepeated block → n ≤ length block → ys ≡ take n block → MatchOption (get_or p.chunks i None) ⊥ (λ old. q ≡ area_with_chunk p i (Some (splice at ys old)) true)
-    → FilledSo p q i at n (get_or block 0 0)
-fill_first p q i at n block ys is fits same gives = subst (λ zs. MatchOption (get_or p.chunks i None) ⊥ (λ old. q ≡ area_with_chunk p i (Some (splice at zs old)) true)) (same ∙ piece block n is fits) gives
-
 -- what is there after some pieces
 chunk_now : (p q : SizedAreaMeaning) (i : ℕ) (x : List ℕ) → i < length p.chunks → q ≡ area_with_chunk p i (Some x) true → get_or q.chunks i None ≡ Some x
 chunk_now p q i x l is = ap (λ (z : SizedAreaMeaning). get_or z.chunks i None) is ∙ get_or-set_same p.chunks i (Some x) None l

@@ -11,7 +11,7 @@ use Rattle.dym_base.specs.Packed.{bitmap}
 use Rattle.dym_pack.specs.Areas.{AreaName, area_at}
 use Rattle.dym_heap.specs.Table.{Row, empty_row, row_at}
 use Rattle.dym_heap.specs.Shelves.{ShelfMeaning, IsValidShelf, Keeps, with_row, longer}
-use Rattle.dym_heap.specs.ShapeSteps.{HasAreas, HasAtMost, AgreeTo}
+use Rattle.dym_heap.specs.ShapeSteps.{HasAreas, HasAtMost}
 use Rattle.dym_heap.specs.Fetches.{row_chunk}
 use Rattle.dym_heap.proofs.AreaLists.{named}
 
@@ -69,22 +69,6 @@ longer_rows old new e valid_shelf low high added d i =
           ∙ (λ j. record { bytes = get_behind row.chunks (per e) i None j; touched = get_behind row.touched (per e) i false j })
           ∙ sym (ap (λ x. row_chunk old.rows x i) same)
     ]
-
--- the last area of a class goes, and the ones that should stay do
-pub agree_less : (old mid new : List Row) (counts : List ℕ) (e n x : ℕ) → 5 ≤ e → e ≤ 16 → ((d i : ℕ) → (d ≡ e - 5 → i < length (row_at new d).chunks) → row_chunk new d i ≡ row_chunk mid d i)
-    → length (row_at new (e - 5)).chunks + per e ≡ length (row_at mid (e - 5)).chunks → HasAreas mid (e - 5) n → x ≡ get_or counts (e - 5) 0 → x < n
-    → ((c : ℕ) → c < 12 → AgreeTo old mid c (get_or counts c 0)) → (c : ℕ) → c < 12 → AgreeTo old new c (get_or counts c 0)
-agree_less old mid new counts e n x low high rows fewer many x_is more agree c l i within =
-    rows c i
-    (λ same.
-    let row : e - 5 + 5 ≡ e = omega arith in
-    let p : n * per (e - 5 + 5) ≡ n * per e = ap (λ z. n * per z) row in
-    let m = mul-le (x + 1) (per e) n (per e) (omega arith) (omega arith) in
-    let s = add-mul x 1 (per e) in
-    let y : get_or counts c 0 * per (c + 5) ≡ x * per e = ap (λ z. get_or counts z 0 * per (z + 5)) same ∙ ap (λ z. z * per (e - 5 + 5)) (sym x_is) ∙ ap (λ z. x * per z) row in
-    let room : i < length (row_at new (e - 5)).chunks = omega arith in
-    subst (λ z. i < length (row_at new z).chunks) (sym same) room)
-    ∙ agree c l i within
 
 pub keeps_trans : (a b c : ShelfMeaning) → Keeps a b → Keeps b c → Keeps a c
 keeps_trans a b c x y = record { version = y.version ∙ x.version; quota = y.quota ∙ x.quota; origin = y.origin ∙ x.origin }

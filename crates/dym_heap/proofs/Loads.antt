@@ -94,14 +94,6 @@ module _ (v : Version) (old : AreaMeaning) (bits wanted : List Bool) (body : Lis
     pub set : (k : ℕ) → start ≤ k → k < end → IsSet bits k
 
   module _ (is : IsBodyOf v old.exponent bits body f) (sub : (i : ℕ) → IsSet wanted i → IsSet bits i) (valid : IsValidArea old) where
-    pub loaded_none : LoadedTo old 0 0
-    loaded_none = record {
-      same = refl;
-      rest = is.is ∙ (let z : per old.exponent ≡ per old.exponent - 0 = omega arith in ap (λ n. packs (filter (bit_in bits) (range_with_len 0 n))) z);
-      done = λ i l h. absurd (omega arith);
-      valid_shelf = λ i n l m out. refl;
-    }
-
     pub loaded_all : (now : AreaMeaning) (from at : ℕ) → LoadedTo now from at → ((k : ℕ) → from ≤ k → IsClear wanted k) → HoldsLoaded old now wanted f
     loaded_all now from at done none = record {
       same = done.same;
@@ -584,11 +576,3 @@ loaded_chunk old now wanted i bytes valid within fits set step =
                 (elim (chunks_apart e i k ne) as (λ _. (k * n + m ≤ i * n) ⊎ (i * n + length bytes ≤ k * n)) [ inl before ↦ inl (omega arith) | inr past ↦ inr (omega arith) ])
           ];
     }
-
--- where the chunk isn't wanted nothing is put
-pub loaded_nothing : (old : AreaMeaning) (wanted : List Bool) (i : ℕ) (f : ℕ → List ℕ) → IsClear wanted i → IsLoadedRange old old wanted i (i + 1) f
-loaded_nothing old wanted i f clear = record {
-  same = refl;
-  loaded = λ k low high h. (let same : k ≡ i = omega arith in absurd (true≢false (sym h ∙ ap (bit_in wanted) same ∙ clear)));
-  valid_shelf = λ k m l short out. refl;
-}

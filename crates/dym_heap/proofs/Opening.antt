@@ -1,7 +1,7 @@
 -- A shelf with no area, and the empty heap.
-use Rattle.std.proofs.Common.{◌≡◌, ℕ, zero, ◌+◌, ◌-◌, ◌<◌, ◌≤◌, inl, inr, Bool, false, None, List, [], ◌∷◌, ◌++◌, length, get_or, take, drop, replicate, length-take, refl, sym, ap, subst, ◌∙◌, arith, sum_by, slice_range}
+use Rattle.std.proofs.Common.{◌≡◌, ℕ, zero, ◌+◌, ◌-◌, ◌<◌, ◌≤◌, inl, inr, Bool, false, None, List, [], length, get_or, take, drop, replicate, length-take, refl, sym, ap, subst, ◌∙◌, arith, sum_by, slice_range}
 use Rattle.std.proofs.lemmas.Bool.{cases_lt}
-use Rattle.std.proofs.lemmas.List.{ext_get_or, get_or_past, get_or_push, get_or_append_left, length-drop, nil_from_length, length-replicate, get_or-replicate}
+use Rattle.std.proofs.lemmas.List.{ext_get_or, get_or_past, length-drop, nil_from_length, length-replicate, get_or-replicate}
 use Rattle.std.specs.Ordering.{nat_cmp}
 use Rattle.std.specs.Cmp.{nat_cmp_total}
 use Rattle.std.specs.FinMap as map_of
@@ -12,32 +12,17 @@ use Rattle.dym_base.specs.Numbers.{per}
 use Rattle.dym_base.specs.Origins.{Origin}
 use Rattle.dym_base.specs.Objects.{empty_heap}
 use Rattle.dym_base.specs.declared.command.Version.{Version}
-use Rattle.dym_base.specs.declared.limits.TheConstants.{MOST_CHUNKS}
-use Rattle.dym_bits.specs.Bits.{IsClear}
 use Rattle.dym_region.specs.declared.segment.SegmentId.{SegmentId}
 use Rattle.dym_heap.specs.Table.{Row, empty_row, row_at, live_of, touched_of, state_of}
 use Rattle.dym_heap.specs.Shape.{IsTrimmed}
 use Rattle.dym_heap.specs.Shelves.{ShelfMeaning, IsValidShelf, IsTidy, empty_rows}
 use Rattle.dym_heap.specs.SizedAreas.{SizedAreaMeaning}
-use Rattle.dym_heap.specs.Arrangement.{row_of, rows_upto, HasTables, AreClear, IsShelf, shelf_of, marks_of_class}
+use Rattle.dym_heap.specs.Arrangement.{row_of, rows_upto, HasTables, AreClear, IsShelf, shelf_of}
 use Rattle.dym_heap.proofs.Rows.{length-rows, row-rows}
 use Rattle.dym_heap.proofs.Entries.{below, at, splits, get-live_of, get-live_of_below, contains-touched_of, contains-touched_of_below}
 use Rattle.dym_heap.proofs.Steps.{kept_fits, kept_marks_fit}
 
 -- ---- bitmaps that are pushed
-
-pub clear_more : (full full' : List (List Bool)) (n : ℕ) (bits : List Bool) → length full ≡ n → full' ≡ full ++ bits ∷ [] → length bits ≡ MOST_CHUNKS → ((o : ℕ) → IsClear bits o)
-    → ((c : ℕ) → c < n → length (marks_of_class full c) ≡ MOST_CHUNKS) → ((c o : ℕ) → c < n → IsClear (marks_of_class full c) o)
-    → ((c : ℕ) → c < n + 1 → length (marks_of_class full' c) ≡ MOST_CHUNKS) × ((c o : ℕ) → c < n + 1 → IsClear (marks_of_class full' c) o)
-clear_more full full' n bits many is long clear longs clears =
-    let old : (c : ℕ) → c < n → (marks_of_class full' c ≡ marks_of_class full c) = λ c l. ap (λ xs. marks_of_class xs c) is ∙ get_or_append_left full (bits ∷ []) [] c (omega arith) in
-    let new : (c : ℕ) → c ≡ n → (marks_of_class full' c ≡ bits) = λ c e. ap (λ xs. marks_of_class xs c) is ∙ get_or_push full bits [] c (many ∙ sym e) in (
-      (λ c l. elim (cases_lt c n) as (λ _. length (marks_of_class full' c) ≡ MOST_CHUNKS) [ inl low ↦ ap length (old c low) ∙ longs c low | inr high ↦ ap length (new c (omega arith)) ∙ long ]),
-      (λ c o l. elim (cases_lt c n) as (λ _. IsClear (marks_of_class full' c) o) [
-        | inl low ↦ subst (λ b. IsClear b o) (sym (old c low)) (clears c o low)
-        | inr high ↦ subst (λ b. IsClear b o) (sym (new c (omega arith))) (clear o)
-      ]),
-    )
 
 -- ---- no area
 

@@ -4,7 +4,7 @@ use Rattle.std.specs.List.{insert, remove}
 use Rattle.std.proofs.lemmas.Bool.{eq-eqb, eqb-true}
 use Rattle.std.proofs.lemmas.List.{get_or_push, length_push, nil_from_length}
 use Rattle.std.proofs.lemmas.List.Edits.{length-insert, length-remove}
-use Rattle.std.proofs.lemmas.List.Sums.{sum_by-cons, sum_by-append, sum_by_push, sum_by-set, sum_by-insert, sum_by-remove, get_or-le-sum_by}
+use Rattle.std.proofs.lemmas.List.Sums.{sum_by-cons, sum_by-append, sum_by-set, sum_by-insert, sum_by-remove, get_or-le-sum_by}
 use Rattle.dym_base.specs.declared.command.Version.{Version}
 use Rattle.dym_base.specs.declared.command.Version.TheVariants.{One, Two}
 use Rattle.dym_region.specs.declared.segment.SegmentId.{SegmentId}
@@ -152,12 +152,6 @@ supplied-remove v quota ids ids' sized_areas room spare spare' spare_room spare_
       omega arith;
 }
 
-pub more_tables_one : (quota areas areas' spare room : ℕ) → HasTables One quota areas spare room → HasTables One quota areas' spare room
-more_tables_one quota areas areas' spare room has = has
-
-pub more_tables_two : (quota areas areas' spare spare' room room' : ℕ) → HasTables Two quota areas spare room → areas' + 1 ≡ areas → spare' ≡ spare + 1 → room ≤ room' → HasTables Two quota areas' spare' room'
-more_tables_two quota areas areas' spare spare' room room' has less more bigger = let a = has.0 in let b = has.1 in (omega arith, omega arith)
-
 -- ---- giving all areas back
 
 pub owns_held : (ids : List SegmentId) (sized_areas : List SizedAreaMeaning) (k : ℕ) (d : SizedAreaMeaning) → Owns ids sized_areas → k < length sized_areas → IsHeld ids (get_or sized_areas k d).identity
@@ -172,15 +166,6 @@ pub last_owned : (ids : List SegmentId) (sized_areas sized_areas' : List SizedAr
 last_owned ids sized_areas sized_areas' p owns is =
     subst (λ (q : SizedAreaMeaning). IsHeld ids q.identity) (ap (λ xs. get_or xs (length sized_areas') p) is ∙ get_or_push sized_areas' p p (length sized_areas') refl)
     (owns_held ids sized_areas (length sized_areas') p owns (let n = ap length is in omega (arith, length_push sized_areas' p)))
-
-pub owns_less : (ids ids' : List SegmentId) (sized_areas sized_areas' : List SizedAreaMeaning) (p : SizedAreaMeaning) → Owns ids sized_areas → sized_areas ≡ sized_areas' ++ p ∷ [] → GivesBack ids ids' p.identity → Owns ids' sized_areas'
-owns_less ids ids' sized_areas sized_areas' p owns is back weight =
-    let before = owns weight in
-    let all = ap (sum_by (λ (q : SizedAreaMeaning). weight q.identity)) is ∙ sum_by_push (λ (q : SizedAreaMeaning). weight q.identity) sized_areas' p in
-    let was = ap (sum_by weight) back.was ∙ sum_by-append weight back.front (p.identity ∷ back.back) in
-    let first = sum_by-cons weight p.identity back.back in
-    let now = ap (sum_by weight) back.is ∙ sum_by-append weight back.front back.back in
-    omega arith
 
 ones : {A : Type 0} (xs : List A) → sum_by (λ x. 1) xs ≡ length xs
 ones [] = refl

@@ -11,12 +11,12 @@ use Rattle.dym_region.specs.Content.{part_of}
 use Rattle.dym_area.specs.Area.{AreaMeaning, IsValidArea, chunk_start, with_taken, with_released, with_written, with_clean}
 use Rattle.dym_heap.specs.Meaning.{IsSizeOf}
 use Rattle.dym_heap.specs.Shelves.{FitsIn}
-use Rattle.dym_heap.specs.SizedAreas.{SizedAreaMeaning, len_of, chunk_in, version_by, place_of, IsMeasured, IsSizedArea, area_with_chunk, IsFreeIn, IsUsedFrom, with_length}
+use Rattle.dym_heap.specs.SizedAreas.{SizedAreaMeaning, len_of, chunk_in, version_by, place_of, IsMeasured, area_with_chunk, IsFreeIn, IsUsedFrom, with_length}
 use Rattle.dym_heap.specs.declared.lengths.Lengths.{Lengths}
 use Rattle.dym_heap.specs.Lengths.{numbers_of}
 use Rattle.dym_heap.proofs.Parts.{length-part_of, get_or-part_of}
 use Rattle.dym_heap.proofs.Sizes.{size_fits, per_fits}
-use Rattle.dym_heap.proofs.PlaceSteps.{length-chunks_in, chunk_of, used_chunk, unused_chunk, some_used, chunk_room, length_of_chunk, is_place, Reaches}
+use Rattle.dym_heap.proofs.PlaceSteps.{length-chunks_in, chunk_of, used_chunk, unused_chunk, some_used, chunk_room, length_of_chunk, Reaches}
 use Rattle.dym_heap.proofs.PlaceCalls.{Steps, taken, released, written, grown, shrunk, cleaned, first_free}
 
 pub reaches : (lengths : Option Lengths) (i : ℕ) → i < MOST_CHUNKS → Reaches (numbers_of lengths) i
@@ -41,9 +41,6 @@ module _ (area : AreaMeaning) (ls : Option (List ℕ)) (p : SizedAreaMeaning) (v
 
   pub set_p : (i : ℕ) → IsSome (get_or p.chunks i None) → IsSet area.used i
   set_p i some = sym (some_used area ls i) ∙ sym (ap is_some (chunk_at_p i)) ∙ some
-
-  pub lawful_p : IsSizedArea p
-  lawful_p = subst IsSizedArea v (is_place area ls m)
 
   -- ---- queries
 

@@ -66,9 +66,6 @@ rows-set n starts starts' sized_areas sized_areas' c r l here others =
 -- ---- the areas of one class
 
 module _ (v : Version) (starts : List ℕ) (sized_areas : List SizedAreaMeaning) (full : List (List Bool)) (is : IsArranged v starts sized_areas full) (c : ℕ) (l : c < 12) where
-  pub from_c : ℕ
-  from_c = get_or starts c 0
-
   pub count_c : ℕ
   count_c = get_or starts (c + 1) 0 - get_or starts c 0
 

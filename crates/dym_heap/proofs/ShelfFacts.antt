@@ -99,11 +99,6 @@ module _ (v : Version) (quota : ℕ) (ids : List SegmentId) (origin : Origin) (s
   pub index_s : (c i : ℕ) → i / per (c + 5) * per (c + 5) + i % per (c + 5) ≡ i
   index_s c i = div-add-mod' i (per (c + 5))
 
-  pub found_s : (c i k : ℕ) (d : SizedAreaMeaning) (l : c < 12) (within : get_or starts c 0 + i / per (c + 5) < get_or starts (c + 1) 0) (at : k ≡ get_or starts c 0 + i / per (c + 5))
-      → chunk_at s.rows c i ≡ get_or (get_or sized_areas k d).chunks (i % per (c + 5)) None
-  found_s c i k d l within at =
-      ap (chunk_at s.rows c) (sym (index_s c i)) ∙ chunk_s c (i / per (c + 5)) (i % per (c + 5)) k (spot_of c i k l within at) d
-
   -- past the areas of a class no chunk is in use
   pub past_s : (c i : ℕ) → c < 12 → get_or starts (c + 1) 0 ≤ get_or starts c 0 + i / per (c + 5) → chunk_at s.rows c i ≡ None
   past_s c i l past =

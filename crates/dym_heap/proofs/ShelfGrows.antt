@@ -20,7 +20,7 @@ use Rattle.dym_heap.specs.Lengths.{version_of}
 use Rattle.dym_heap.specs.declared.lengths.Lengths.{Lengths}
 use Rattle.dym_heap.specs.Arrangement.{row_of, class_sized_areas, rows_upto, IsPlaced, HasFree, HasTables, IsShelf, shelf_of, Shifts, Unshifts}
 use Rattle.dym_heap.proofs.Rows as Rows
-use Rattle.dym_heap.proofs.Rows.{class_end, row-rows, count_c, count_is, whole_row, chunk-row, is_kept, ids_are}
+use Rattle.dym_heap.proofs.Rows.{class_end, count_c, count_is, whole_row, is_kept, ids_are}
 use Rattle.dym_heap.proofs.RowSteps.{arranged-insert, rows-insert, arranged-remove, rows-remove}
 use Rattle.dym_heap.proofs.Owned.{place_held, supplied-insert, supplied-remove, table_there}
 use Rattle.dym_heap.proofs.PlaceCalls.{empty_place}
@@ -146,9 +146,6 @@ module _ (v : Version) (quota : ℕ) (ids : List SegmentId) (origin : Origin) (s
 
   pub below_quota : length s.held_ids < s.quota → length sized_areas < quota
   below_quota l = let a = ids_s in let b = quota_s in omega arith
-
-  pub ids_below : length s.held_ids < s.quota → length ids < quota
-  ids_below l = let a = ids_are v quota ids sized_areas room spare spare_room is.supplied in let b = below_quota l in omega arith
 
   pub end_in : (k : ℕ) → k ≡ e - 5 → get_or starts (k + 1) 0 ≤ length sized_areas
   end_in k same = let top = class_end v starts sized_areas full (e - 5) is.arranged class_in in let a : get_or starts (k + 1) 0 ≡ get_or starts (e - 5 + 1) 0 = ap (λ x. get_or starts (x + 1) 0) same in omega arith

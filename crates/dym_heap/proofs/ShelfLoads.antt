@@ -17,10 +17,6 @@ use Rattle.dym_heap.proofs.ShelfFacts.{past_s}
 use Rattle.dym_heap.proofs.PlaceLoads.{loaded_some}
 use Rattle.dym_heap.proofs.Swaps as swaps
 
--- an index in an area
-same_area : (n o i d : ℕ) → i < n → 0 < n → (o * n + i) / n ≡ o
-same_area n o i d l some = div-mul-add o n i l
-
 module _ (v : Version) (quota : ℕ) (ids : List SegmentId) (origin : Origin) (starts : List ℕ) (sized_areas : List SizedAreaMeaning) (full : List (List Bool)) (room spare spare_room : ℕ)
     (s : ShelfMeaning) (view : shelf_of v quota ids origin starts sized_areas ≡ s) (is : IsShelf v quota ids starts sized_areas full room spare spare_room) (e : ℕ) (low : 5 ≤ e) (high : e ≤ 16) where
   per_is : per (e - 5 + 5) ≡ per e

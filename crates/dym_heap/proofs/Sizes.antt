@@ -37,9 +37,6 @@ cls_bounds n e is =
     let found = found_in (λ e. nat_le n (size e)) IsExponent classes e exponents is in
     (found.0.0, found.0.1, leb-true n (size e) found.1)
 
-pub cls_small : (n e : ℕ) → cls n ≡ Some e → n ≤ 65536
-cls_small n e is = let b = cls_bounds n e is in let high = b.1 in let low = b.2 in omega (arith, pow-le-pow_right {n = 2} (omega arith) {i = e} {j = 16} high)
-
 -- no length above that of the greatest class has one
 none_in : (p : ℕ → Bool) (xs : List ℕ) → All (λ e. p e ≡ false) xs → find p xs ≡ None
 none_in p [] all = refl

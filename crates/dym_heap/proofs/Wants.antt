@@ -7,10 +7,6 @@ pub both_first : (a b : Bool) → (a && b) ≡ true → a ≡ true
 both_first true b h = refl
 both_first false b h = h
 
-pub both_second : (a b : Bool) → (a && b) ≡ true → b ≡ true
-both_second true b h = h
-both_second false b h = absurd cc
-
 abbrev pub no_chunk : ChunkMeaning
 no_chunk = record { bytes = None; touched = false }
 

@@ -189,10 +189,6 @@ module _ (n q bound : ℕ) (next : q ≡ suc n) (events : List Event) (numbers :
         kept = (let kept = is.kept in omega (arith, same, kept));
       }
 
-  -- there is room for a log
-  pub log_room : IsMark q → length chain.logs < 256
-  log_room mark = (let due = (one_due n q next mark).2 in let kept = is.kept in omega (arith, due, kept))
-
   -- and it comes after the newest one
   pub log_later : IsMark q → (log : LogEntry) → newest chain.logs ≡ Some log → log.time < q
   log_later mark log last =

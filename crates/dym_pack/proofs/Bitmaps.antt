@@ -41,9 +41,9 @@ eight : (a b c d e f g h : ℕ) → a < 2 → b < 2 → c < 2 → d < 2 → e < 
     (n % 2 ≡ a) × (n / 2 % 2 ≡ b) × (n / 4 % 2 ≡ c) × (n / 8 % 2 ≡ d) × (n / 16 % 2 ≡ e) × (n / 32 % 2 ≡ f) × (n / 64 % 2 ≡ g) × (n / 128 % 2 ≡ h))
 eight a b c d e f g h ka kb kc kd ke kf kg kh = (omega arith, omega arith, omega arith, omega arith, omega arith, omega arith, omega arith, omega arith)
 
-weighed : (t : Bool) (w : ℕ) → cond t w 0 ≡ cond t 1 0 * w
-weighed true w = omega arith
-weighed false w = omega arith
+cond_times : (t : Bool) (w : ℕ) → cond t w 0 ≡ cond t 1 0 * w
+cond_times true w = omega arith
+cond_times false w = omega arith
 
 bit_few : (t : Bool) → cond t 1 0 < 2
 bit_few true = omega arith
@@ -52,7 +52,7 @@ bit_few false = omega arith
 -- a byte of a bitmap by its bits as numbers
 byte_is : (f : ℕ → Bool) (q : ℕ) → (let b : ℕ → ℕ = λ j. cond (f (8 * q + j)) 1 0 in bitmap_byte f q ≡ b 0 + b 1 * 2 + b 2 * 4 + b 3 * 8 + b 4 * 16 + b 5 * 32 + b 6 * 64 + b 7 * 128)
 byte_is f q =
-    omega (arith, weighed (f (8 * q + 1)) 2, weighed (f (8 * q + 2)) 4, weighed (f (8 * q + 3)) 8, weighed (f (8 * q + 4)) 16, weighed (f (8 * q + 5)) 32, weighed (f (8 * q + 6)) 64, weighed (f (8 * q + 7)) 128)
+    omega (arith, cond_times (f (8 * q + 1)) 2, cond_times (f (8 * q + 2)) 4, cond_times (f (8 * q + 3)) 8, cond_times (f (8 * q + 4)) 16, cond_times (f (8 * q + 5)) 32, cond_times (f (8 * q + 6)) 64, cond_times (f (8 * q + 7)) 128)
 
 by_place : (r : ℕ) → r < 8 → (P : ℕ → Type 0) → P 0 → P 1 → P 2 → P 3 → P 4 → P 5 → P 6 → P 7 → P r
 by_place zero short P a b c d e f g h = a

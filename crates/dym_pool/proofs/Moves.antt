@@ -7,7 +7,7 @@ use lib.ListN.{get_elem?}
 use Rattle.crossbeam_deque.specs.Tasks.{Pushes, Takes, Pops, Finds, Learns, Admits, Forks, Merges}
 use Rattle.crossbeam_deque.proofs.Lists.{set_else}
 use Rattle.dym_pool.specs.Shares.{Has, Within}
-use Rattle.dym_pool.specs.Deques.{share_view, opening, spent, IsViewAt, Knows, InOneHand, IsTaking, IsReturn, HasAllAtLast}
+use Rattle.dym_pool.specs.Deques.{share_view, first_share, spent, IsViewAt, Knows, InOneHand, IsTaking, IsReturn, HasAllAtLast}
 use Rattle.dym_pool.specs.declared.view.ShareView.{ShareView}
 use Rattle.dym_pool.proofs.Elements.{has-left, has-right, has-split}
 use Rattle.dym_pool.proofs.Views.{sum-set, sum-push, sum-part, sum-alone, each-set, each-push, sum-one, has_number, there_weighs, weighs_there}
@@ -39,19 +39,19 @@ module _ {O : Type 0} where
   within_both : (list xs ys : List (ℕ × O)) → Within list xs → Within list ys → Within list (xs ++ ys)
   within_both list xs ys a b x h = ⊎_elim (λ (l : Has xs x). a x l) (λ (r : Has ys x). b x r) (has-split xs ys x h)
 
-  only_first : (j : ℕ) (u : ShareView O) → j ≢ 0 → get_elem? (opening ∷ []) j ≡ some u → ⊥
+  only_first : (j : ℕ) (u : ShareView O) → j ≢ 0 → get_elem? (first_share ∷ []) j ≡ some u → ⊥
   only_first zero u n e = n refl
   only_first (suc j) u n e = some-ne-none u (sym e)
 
   module _ {T : Type 0} (label : T → ℕ × O) where
-    pub begins : InOneHand label [] (opening ∷ [])
+    pub begins : InOneHand label [] (first_share ∷ [])
     begins = record {
       list = [];
-      once = λ h. omega (arith, sum_by-cons (weight h) opening []);
-      held = λ pass v at x h. each-set (λ (u : ShareView O). Within [] u.hand) (opening ∷ []) 0 opening (λ x h. h) (λ j u n e. absurd (only_first j u n e)) pass v at x h;
+      once = λ h. omega (arith, sum_by-cons (weight h) first_share []);
+      held = λ pass v at x h. each-set (λ (u : ShareView O). Within [] u.hand) (first_share ∷ []) 0 first_share (λ x h. h) (λ j u n e. absurd (only_first j u n e)) pass v at x h;
       queued = λ x h. h;
-      whole = omega (arith, sum_by-cons part_of opening []);
-      known = each-set (Knows []) (opening ∷ []) 0 opening (inr (refl, omega arith)) (λ j u n e. absurd (only_first j u n e));
+      whole = omega (arith, sum_by-cons part_of first_share []);
+      known = each-set (Knows []) (first_share ∷ []) 0 first_share (inr (refl, omega arith)) (λ j u n e. absurd (only_first j u n e));
     }
 
     pub loads : (pass : ℕ) (v : ShareView O) (xs : List T) → v.part ≡ 65 → Pushes (InOneHand label) pass v xs (λ w. w ≡ share_view (v.list ++ map label xs) v.hand v.part)

@@ -10,8 +10,8 @@ module _ {O : Type 0} where
   share_view list hand part = record { list = list; hand = hand; part = part }
 
   -- the whole of a share that has no jobs yet: a part for each of at most 64 workers, and one that stays with its own worker
-  abbrev pub opening : ShareView O
-  opening = share_view [] [] 65
+  abbrev pub first_share : ShareView O
+  first_share = share_view [] [] 65
 
   -- what is left of a view that went into another
   abbrev pub spent : ShareView O

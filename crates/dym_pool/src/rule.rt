@@ -22,11 +22,11 @@ pub struct ShareRule<R, J> {
 }
 
 impl<R, J: Job<R>> Protocol<Box<J>, ShareView<J::Origin>> for ShareRule<R, J> {
-    ghost use Rattle.dym_pool.specs.Deques.{InOneHand, opening, spent};
+    ghost use Rattle.dym_pool.specs.Deques.{InOneHand, first_share, spent};
 
     ghost holds = { λ items views. InOneHand (λ b. (J.number_of b.value, J.origin_of b.value)) items views };
 
-    ghost first = { opening };
+    ghost first = { first_share };
 
     ghost guest = { spent };
 }

@@ -2,7 +2,7 @@
 ghost use Rattle.std.specs.Prelude.{◌≡◌, ◌+◌, ◌<◌, ◌≤◌, ◌-◌, [], ◌∷◌, ◌++◌, IfOk, MatchOption, MatchResult, length, List, ℕ};
 ghost use Rattle.crossbeam_deque.specs.Handles.{view, IsPassOf, worker_deque, worker_view, worker_flavor, worker_index, worker_capacity, stealer_deque, SameWorker};
 ghost use Rattle.crossbeam_deque.specs.Steals.{MatchSteal};
-ghost use Rattle.dym_pool.specs.Deques.{share_view, opening, spent, IsTaking, IsReturn, HasAllAtLast};
+ghost use Rattle.dym_pool.specs.Deques.{share_view, first_share, spent, IsTaking, IsReturn, HasAllAtLast};
 
 use crate::job::Job;
 use crate::rule::{
@@ -16,7 +16,7 @@ pub(crate) fn open_deque<R, J: Job<R> + Drop>(
     alloc: Global,
     room: usize,
 ) -> Result<ShareDeque<R, J, J::Origin>, AllocError>
-    ensures opened { IfOk result (λ w. worker_view w ≡ opening) }
+    ensures opened { IfOk result (λ w. worker_view w ≡ first_share) }
     ensures last_out { IfOk result (λ w. worker_flavor w ≡ 1) }
     ensures index { IfOk result (λ w. worker_index w ≡ 0) }
     ensures room { IfOk result (λ w. room ≤ worker_capacity w) }

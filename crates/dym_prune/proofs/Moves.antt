@@ -1,6 +1,7 @@
 -- Each step of a stop keeps its rule.
-use Rattle.std.proofs.Common.{◌≡◌, ◌≢◌, ℕ, zero, suc, ◌+◌, ◌<◌, ◌⊎◌, Bool, true, false, true≢false, List, [], ◌∷◌, ◌++◌, length, get_or, set, sym, refl, ap, ◌∙◌, subst, inl, inr, ⊎_elim, arith}
+use Rattle.std.proofs.Common.{◌≡◌, ◌≢◌, ℕ, zero, suc, ◌+◌, ◌<◌, Bool, true, false, true≢false, List, [], ◌∷◌, length, set, sym, refl, ap, ◌∙◌, subst, inl, inr, ⊎_elim, arith}
 use Rattle.std.specs.Prelude.{slice_index}
+use Rattle.std.proofs.lemmas.Bool.{cases_Bool, cases_eq}
 use Rattle.std.proofs.lemmas.List.{length-set, get_or-set_same, set-get_or}
 use mathlib.Core.Option.{some, some-injective, some-ne-none}
 use lib.ListN.{get_elem?}
@@ -9,21 +10,11 @@ use Rattle.atomic_table.proofs.Lists.{at_set, at_snoc, at_longer, set_here, set_
 use Rattle.dym_prune.specs.declared.stop_view.StopView.{StopView}
 use Rattle.dym_prune.specs.Stops.{stop_view, flag, HasAsker, IsStop, Asks, Listens}
 
-is_true_or_false : (b : Bool) → (b ≡ true) ⊎ (b ≡ false)
-is_true_or_false true = inl refl
-is_true_or_false false = inr refl
-
 -- a place that has a view is below their number
 is_below : (views : List StopView) (i : ℕ) (v : StopView) → get_elem? views i ≡ some v → i < length views
 is_below [] i v at = absurd (some-ne-none v (sym at))
 is_below (x ∷ xs) zero v at = omega arith
 is_below (x ∷ xs) (suc i) v at = let below = is_below xs i v at in omega arith
-
-are_same_or_not : (i j : ℕ) → (i ≡ j) ⊎ (i ≢ j)
-are_same_or_not zero zero = inl refl
-are_same_or_not zero (suc j) = inr (λ same. omega arith)
-are_same_or_not (suc i) zero = inr (λ same. omega arith)
-are_same_or_not (suc i) (suc j) = ⊎_elim (λ (e : i ≡ j). inl (ap suc e)) (λ (n : i ≢ j). inr (λ same. n (omega arith))) (are_same_or_not i j)
 
 -- only the place of the asker has a view that asks
 abbrev OneAsks : List StopView → ℕ → Type 0
@@ -55,7 +46,7 @@ has_asker word views id v w asker at has asks asked =
       has.3 ∙ ap (λ (y : StopView). flag y.asked) own ∙ ap flag (sym asked),
     ))
     (λ (other : asker ≢ id). (has.0, set_else views id asker w other ∙ has.1, has.2, has.3))
-    (are_same_or_not asker id)
+    (cases_eq asker id)
 
 -- and has heard only where the word is 1
 heard_is_asked : (word : ℕ) (views : List StopView) (id : ℕ) (w : StopView) → (w.heard ≡ true → word ≡ 1)
@@ -113,10 +104,10 @@ may_listen {S} slots id me s is homes at fits =
     (λ (unasked : is.2.0.asked ≡ false).
     let none : n ≡ 0 = is.2.3 ∙ ap flag unasked in
     let deaf : v.heard ≡ false =
-    ⊎_elim (λ (o : v.heard ≡ true). let one = is.4 id v at o in absurd (omega arith)) (λ o. o) (is_true_or_false v.heard) in
+    ⊎_elim (λ (o : v.heard ≡ true). let one = is.4 id v at o in absurd (omega arith)) (λ o. o) (cases_Bool v.heard) in
     let w = stop_view v.asks v.asked false (v.misses + 1) in
     (w, keeps, tt, after_load s id v w me.1 is at refl refl (λ o. absurd (true≢false (sym o))), inl (none, deaf, refl)))
-    (is_true_or_false is.2.0.asked)
+    (cases_Bool is.2.0.asked)
 
 first_asks : (i : ℕ) (v : StopView) → get_elem? (stop_view true false false 0 ∷ []) i ≡ some v → v.asks ≡ true → i ≡ 0
 first_asks zero v here o = refl
@@ -164,7 +155,10 @@ joins id v other w knows s is at apart there =
     let word = slice_index s.words 0 in
     let views = set s.views id both in
     let was : get_elem? s.views other ≡ some w =
-    ⊎_elim (λ (x : (other ≡ id) × (both ≡ w)). absurd (apart x.0)) (λ (x : (other ≢ id) × (get_elem? s.views other ≡ some w)). x.1) (at_set s.views id other both w there) in
+    ⊎_elim
+    (λ (x : (other ≡ id) × (both ≡ w)). absurd (apart x.0))
+    (λ (x : (other ≢ id) × (get_elem? s.views other ≡ some w)). x.1)
+    (at_set s.views id other both w there) in
     let one : word ≡ 1 = is.4 other w was (ap (λ (y : StopView). y.heard) knows) in
     let first = has_asker word s.views id v both is.1 at is.2 refl refl in (
       is.0,

@@ -78,16 +78,16 @@ impl Play<(), StopView> for Listen {
     ghost then = { λ _ me n after. Listens me n after };
 }
 
-type Board = Table<(), StopView, (), StopRule, Global>;
+type StopTable = Table<(), StopView, (), StopRule, Global>;
 
 type End = Seat<(), StopView>;
 
 /// The end of a stop that asks for it. Contracts see of which stop it is, and whether it has asked.
 #[derive(Drop)]
 pub struct Asker {
-    board: Arc<Board, Global>,
+    table: Arc<StopTable, Global>,
     seat: End,
-    ghost seated: { (seat.table_id ≡ board.value.shared.table_id) × (board.value.shared.table_id.words ≡ 1) },
+    ghost seated: { (seat.table_id ≡ table.value.shared.table_id) × (table.value.shared.table_id.words ≡ 1) },
     ghost asks: { seat.me.0.asks ≡ true },
 }
 
@@ -120,10 +120,10 @@ impl Model for Note {
 /// nothing.
 #[derive(Drop)]
 pub struct Ear {
-    board: Arc<Board, Global>,
+    table: Arc<StopTable, Global>,
     seat: End,
     heard: bool,
-    ghost seated: { (seat.table_id ≡ board.value.shared.table_id) × (board.value.shared.table_id.words ≡ 1) },
+    ghost seated: { (seat.table_id ≡ table.value.shared.table_id) × (table.value.shared.table_id.words ≡ 1) },
     ghost knows: { seat.me.0.heard ≡ heard },
 }
 
@@ -142,15 +142,15 @@ impl Stop {
         ensures asker { IfOk result (λ ends. ends.0.asked ≡ false) }
         ensures ear { IfOk result (λ ends. ends.1 ≡ record { stop = ends.0.stop; heard = false; misses = 0 }) }
     {
-        let (table, mut seat) = Board::of_words(alloc, &[0], &())?;
-        let board = Arc::new(alloc, table)?;
-        let theirs = Arc::try_clone(&board)?;
-        let ear = board.shared.split_seat::<Ends>(&mut seat);
-        let asker = Asker { board, seat };
+        let (words, mut seat) = StopTable::of_words(alloc, &[0], &())?;
+        let table = Arc::new(alloc, words)?;
+        let theirs = Arc::try_clone(&table)?;
+        let ear = table.shared.split_seat::<Ends>(&mut seat);
+        let asker = Asker { table, seat };
         Ok((
             asker,
             Ear {
-                board: theirs,
+                table: theirs,
                 seat: ear,
                 heard: false,
             },
@@ -163,8 +163,8 @@ impl Asker {
     pub fn ask(&mut self)
         ensures { self.new ≡ record { stop = self.old.stop; asked = true } }
     {
-        self.board.shared.store::<Ask>(&mut self.seat, 0, 1);
-        self.board.shared.wake_one(0);
+        self.table.shared.store::<Ask>(&mut self.seat, 0, 1);
+        self.table.shared.wake_one(0);
     }
 
     /// A note that the stop was asked for, once it was.
@@ -173,7 +173,7 @@ impl Asker {
         ensures same { self.new ≡ self.old }
         ensures stop { result.stop ≡ self.old.stop }
     {
-        let seat = self.board.shared.split_seat::<Noted>(&mut self.seat);
+        let seat = self.table.shared.split_seat::<Noted>(&mut self.seat);
         Note { seat }
     }
 }
@@ -185,7 +185,7 @@ impl Ear {
         ensures { self.new ≡ record { stop = self.old.stop; heard = true; misses = self.old.misses } }
     {
         let Note { seat } = note;
-        self.board.shared.join_seat::<Hear>(&mut self.seat, seat);
+        self.table.shared.join_seat::<Hear>(&mut self.seat, seat);
         self.heard = true;
     }
 
@@ -195,7 +195,7 @@ impl Ear {
         ensures missed { IsFalse result → self.new ≡ record { stop = self.old.stop; heard = false; misses = self.old.misses + 1 } }
         ensures again { self.old.heard ≡ true → IsTrue result }
     {
-        let found = self.board.shared.load::<Listen>(&mut self.seat, 0);
+        let found = self.table.shared.load::<Listen>(&mut self.seat, 0);
         if found == 0 {
             return false;
         }
@@ -208,7 +208,7 @@ impl Ear {
         ensures found { IsTrue result → self.new ≡ record { stop = self.old.stop; heard = true; misses = self.old.misses } }
         ensures missed { IsFalse result → self.new ≡ record { stop = self.old.stop; heard = false; misses = self.old.misses + 1 } }
     {
-        self.board.shared.park_timeout(rt, 0, 0, longest);
+        self.table.shared.park_timeout(rt, 0, 0, longest);
         self.asked()
     }
 

@@ -9,7 +9,7 @@ use lib.ListN.{get_elem?}
 use Rattle.crossbeam_queue.proofs.Lists.{at_set, at_snoc, set_else}
 use Rattle.dym_region.specs.declared.segment.SegmentId.{SegmentId}
 use Rattle.dym_quota.specs.declared.pass_view.PassView.{PassView}
-use Rattle.dym_quota.specs.SegmentRule.{opening, spent, IsViewAt, all_held, SegmentRule}
+use Rattle.dym_quota.specs.SegmentRule.{first_pass, spent, IsViewAt, all_held, SegmentRule}
 use Rattle.dym_quota.specs.SegmentSteps.{IsStocking, IsPop, IsPush, IsSplit, IsJoin}
 use Rattle.dym_quota.proofs.Weights.{same_weights}
 use Rattle.dym_quota.proofs.Views.{Each, sum-set, sum-push, weigh-all, each-set, each-push}
@@ -65,16 +65,16 @@ alone-set views pass v w at opens goes alone a b p q ea eb o n =
     (at_set views pass a w p ea)
 
 -- ---- at the start
-first_view : (F : PassView → Type 0) → F opening → Each F (opening ∷ [])
-first_view F mine zero v e = subst F (some-injective opening v e) mine
+first_view : (F : PassView → Type 0) → F first_pass → Each F (first_pass ∷ [])
+first_view F mine zero v e = subst F (some-injective first_pass v e) mine
 first_view F mine (suc i) v e = absurd (some-ne-none v (sym e))
 
-first_alone : Alone (opening ∷ [])
+first_alone : Alone (first_pass ∷ [])
 first_alone zero zero v w ei ej o n = absurd (n refl)
 first_alone zero (suc j) v w ei ej o n = absurd (some-ne-none w (sym ej))
 first_alone (suc i) j v w ei ej o n = absurd (some-ne-none v (sym ei))
 
-pub begins : SegmentRule [] (opening ∷ [])
+pub begins : SegmentRule [] (first_pass ∷ [])
 begins = record {
   stock = [];
   known = first_view (KnowsStock []) (inr refl);

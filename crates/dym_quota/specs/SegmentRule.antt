@@ -7,8 +7,8 @@ use Rattle.dym_region.specs.Identity.{AreDistinct}
 use Rattle.dym_quota.specs.declared.pass_view.PassView.{PassView}
 
 -- the view of the first pass, before anything is stocked
-abbrev pub opening : PassView
-opening = record { quota = 0; held = []; stock = []; opens = true }
+abbrev pub first_pass : PassView
+first_pass = record { quota = 0; held = []; stock = []; opens = true }
 
 -- the view of a pass that was given up: no quota, nothing held, and it doesn't open
 abbrev pub spent : PassView

@@ -7,7 +7,7 @@ ghost use Rattle.dym_base.specs.declared.limits.TheConstants.{MOST_QUOTA};
 ghost use Rattle.dym_region.specs.Identity.{AreDistinct};
 ghost use Rattle.dym_quota.specs.Berths.{IsIdleBerth};
 ghost use Rattle.dym_quota.specs.QueueShape.{queue_name};
-ghost use Rattle.dym_quota.specs.SegmentRule.{opening};
+ghost use Rattle.dym_quota.specs.SegmentRule.{first_pass};
 
 use crate::berth::Berth;
 use crate::quota_queue::QuotaQueue;
@@ -83,7 +83,7 @@ struct Frame<R> {
 fn made_frame<R: Wait>(alloc: Global, places: usize, count: usize) -> Result<Frame<R>, AllocError>
     requires some_places { 0 < places }
     ensures pass { IfOk result (λ f. IsPassOf (arc_value f.line) f.pass) }
-    ensures opens { IfOk result (λ f. view f.pass ≡ opening) }
+    ensures opens { IfOk result (λ f. view f.pass ≡ first_pass) }
     ensures places { IfOk result (λ f. ruled_capacity (arc_value f.line) ≡ places) }
     ensures ends { IfOk result (λ f. All (λ end. arc_value end ≡ arc_value f.line) f.ends.items) }
     ensures count { IfOk result (λ f. vec_len f.ends ≡ count) }
@@ -128,7 +128,7 @@ fn stock_last<R: Wait>(
     count: usize,
 )
     requires queue { IsPassOf line.now pass.old }
-    requires opens { view pass.old ≡ opening }
+    requires opens { view pass.old ≡ first_pass }
     requires enough { count ≤ vec_len segments.old }
     requires distinct { AreDistinct (reverse (map ⟦<RawSegment as Segment>⟧.id segments.old.items)) }
     requires places { count ≤ ruled_capacity line.now }
@@ -156,7 +156,7 @@ fn stock_first<R: Wait>(
     count: usize,
 )
     requires queue { IsPassOf line.now pass.old }
-    requires opens { view pass.old ≡ opening }
+    requires opens { view pass.old ≡ first_pass }
     requires enough { count ≤ vec_len segments.old }
     requires distinct { AreDistinct (map ⟦<RawSegment as Segment>⟧.id segments.old.items) }
     requires places { count ≤ ruled_capacity line.now }

@@ -18,11 +18,11 @@ pub struct ByRule;
 
 impl Protocol<RawSegment, PassView> for ByRule {
     ghost use Rattle.std.specs.Prelude.{map};
-    ghost use Rattle.dym_quota.specs.SegmentRule.{SegmentRule, opening};
+    ghost use Rattle.dym_quota.specs.SegmentRule.{SegmentRule, first_pass};
 
     ghost holds = { λ items views. SegmentRule (map ⟦<RawSegment as Segment>⟧.id items) views };
 
-    ghost first = { opening };
+    ghost first = { first_pass };
 }
 
 /// Puts a new segment into the queue.

@@ -7,13 +7,6 @@ rise_head r [] next_number h j lt = absurd (omega arith)
 rise_head r (s ∷ rs) next_number h zero lt = h.0
 rise_head r (s ∷ rs) next_number h (suc j) lt = let later = rise_head s rs next_number h.1 j (omega arith) in let first = h.0 in omega arith
 
-pub rise_at : (rs : List Numbered) (next_number i j : ℕ) → NumbersRise rs next_number → i < j → j < length rs → (record_at rs i).number < (record_at rs j).number
-rise_at [] next_number i j h lt inside = absurd (omega arith)
-rise_at (r ∷ rs) next_number zero zero h lt inside = absurd (omega arith)
-rise_at (r ∷ rs) next_number zero (suc j) h lt inside = rise_head r rs next_number h j (omega arith)
-rise_at (r ∷ rs) next_number (suc i) zero h lt inside = absurd (omega arith)
-rise_at (r ∷ rs) next_number (suc i) (suc j) h lt inside = rise_at rs next_number i j h.1 (omega arith) (omega arith)
-
 -- each number is below the next one
 pub below_made : (rs : List Numbered) (next_number i : ℕ) → NumbersRise rs next_number → i < length rs → (record_at rs i).number < next_number
 below_made [] next_number i h lt = absurd (omega arith)

@@ -1,4 +1,4 @@
-use Rattle.std.proofs.Common.{rules, arith}
+use Rattle.std.proofs.Common.{rules}
 use Rattle.dym_prune.proofs.Moves.{may_ask}
 use Rattle.dym_prune.proofs.stop.Asker.ask.Goals as goal
 

@@ -1,4 +1,4 @@
-use Rattle.std.proofs.Common.{rules, arith, true, ap, sym, ◌∙◌}
+use Rattle.std.proofs.Common.{rules, true, ap, ◌∙◌}
 use Rattle.dym_prune.specs.Stops.{AskerMeaning}
 use Rattle.dym_prune.proofs.Moves.{splits}
 use Rattle.dym_prune.proofs.stop.Asker.note.Goals as goal

@@ -1,4 +1,4 @@
-use Rattle.std.proofs.Common.{rules, arith, ap}
+use Rattle.std.proofs.Common.{rules, ap}
 use Rattle.dym_prune.proofs.Moves.{joins}
 use Rattle.dym_prune.proofs.stop.Ear.hear.Goals as goal
 

@@ -1,4 +1,4 @@
-use Rattle.std.proofs.Common.{rules, arith, sym, false, true≢false}
+use Rattle.std.proofs.Common.{rules, sym, false, true≢false}
 use Rattle.dym_prune.proofs.Moves.{begins, splits}
 use Rattle.dym_prune.proofs.stop.Stop.open.Goals as goal
 
