@@ -1,6 +1,6 @@
 //! What no row shows: that a whole script is read with the commands of one object apart, and that a line in the usual spelling is read once.
 use dym_base::Command;
-use dym_commands::Asked;
+use dym_commands::Request;
 use dym_script::{ScriptFail, own_commands, quick_rest, read_script};
 use std::alloc::Global;
 use std::test::Fail;
@@ -25,7 +25,7 @@ fn a_script_is_read(rt: HostRuntime) -> Result<(), Fail> {
 
 /// How many bytes at the front of a text are read quickly, with the line end.
 fn length_read(text: &[u8]) -> usize {
-    let mut asked = Asked::Plain(Command::Logs);
+    let mut asked = Request::Plain(Command::Logs);
     match quick_rest(text, &mut asked) {
         Some(rest) => text.len().saturating_sub(rest.len()),
         None => 0,

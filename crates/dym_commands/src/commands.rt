@@ -5,8 +5,9 @@ ghost use Rattle.dym_commands.specs.Requests.{asks};
 ghost use Rattle.dym_commands.specs.Reads.{read_room};
 ghost use Rattle.dym_commands.specs.Pieces.{behind, commands_in, Follow, IsAt};
 
+use crate::hex_bytes::HexBytes;
 use crate::piece::Piece;
-use crate::request::Asked;
+use crate::request::Request;
 use crate::runner::Runner;
 use std::alloc::{AllocError, Global};
 use std::marker::Model;
@@ -78,7 +79,7 @@ impl Commands {
 
     /// Appends what a line asks. Only memory can be wanting.
     #[inline(always)]
-    pub fn push(&mut self, asked: &Asked<'_>) -> Result<(), AllocError>
+    pub fn push(&mut self, asked: &Request<HexBytes<'_>>) -> Result<(), AllocError>
         requires { length self.old < MOST_COMMANDS }
         ensures pushed { OnOk result (self.new ≡ self.old ++ asks asked.now ∷ []) }
         ensures same { OnErr result (self.new ≡ self.old) }

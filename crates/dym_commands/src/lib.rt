@@ -17,5 +17,5 @@ mod stored_command;
 
 pub use commands::Commands;
 pub use hex_bytes::HexBytes;
-pub use request::Asked;
+pub use request::Request;
 pub use runner::Runner;

@@ -3,7 +3,8 @@ ghost use Rattle.std.specs.Prelude.{◌≡◌, ◌<◌, ◌≤◌, [], ◌∷◌
 ghost use Rattle.dym_base.specs.declared.limits.TheConstants.{MOST_COMMANDS};
 ghost use Rattle.dym_commands.specs.Requests.{asks};
 
-use crate::request::Asked;
+use crate::hex_bytes::HexBytes;
+use crate::request::Request;
 use crate::runner::Runner;
 use crate::stored_command::{StoredCommand, Tables};
 use std::alloc::{AllocError, Global};
@@ -49,7 +50,7 @@ impl Piece {
 
     /// Appends what a line asks. Only memory can be wanting.
     #[inline(always)]
-    pub fn push(&mut self, asked: &Asked<'_>) -> Result<(), AllocError>
+    pub fn push(&mut self, asked: &Request<HexBytes<'_>>) -> Result<(), AllocError>
         requires { length self.old < MOST_COMMANDS }
         ensures pushed { OnOk result (self.new ≡ self.old ++ asks asked.now ∷ []) }
         ensures same { OnErr result (self.new ≡ self.old) }
@@ -74,6 +75,6 @@ impl Piece {
             (λ command. R.does runner.old command runner.new)) }
         ensures stays { OnErr result (R.stays runner.old runner.new) }
     {
-        self.tables.run(&self.stored[k], context, runner)
+        runner.run(context, self.tables.request(&self.stored[k]))
     }
 }

@@ -1,4 +1,4 @@
-//! What a command line asks, before the bytes of a write are made.
+//! What is asked of an object.
 ghost use Rattle.std.specs.Prelude.{◌≡◌, ◌≤◌, IfOk};
 ghost use Rattle.dym_base.specs.declared.limits.TheConstants.{SEGMENT_BYTES};
 ghost use Rattle.dym_commands.specs.Requests.{asks};
@@ -9,27 +9,23 @@ use dym_base::limits::SEGMENT_BYTES;
 use dym_base::{Command, Handle};
 use std::alloc::{AllocError, Global};
 
-/// What a command line asks.
+/// What is asked of an object, by how the bytes of a write are held: as the word of a line, or borrowed.
 #[derive(Drop)]
-pub enum Asked<'a> {
+pub enum Request<Bytes> {
     /// A command that has all that it needs.
     Plain(Command),
-    /// A write, whose bytes are still the word of the line that writes them.
-    Write {
-        h: Handle,
-        at: u32,
-        bytes: HexBytes<'a>,
-    },
+    /// A write, whose bytes stand elsewhere.
+    Write { h: Handle, at: u32, bytes: Bytes },
 }
 
-impl<'a> Asked<'a> {
+impl<'a> Request<HexBytes<'a>> {
     /// A copy of the command, with bytes of its own. Only memory for these can be wanting.
     pub fn command(&self, alloc: Global) -> Result<Command, AllocError>
         ensures { IfOk result (λ command. command ≡ asks self.now) }
     {
         match self {
-            Asked::Plain(command) => command.clone(),
-            Asked::Write { h, at, bytes } => Ok(Command::Write {
+            Request::Plain(command) => command.clone(),
+            Request::Write { h, at, bytes } => Ok(Command::Write {
                 h: *h,
                 at: *at,
                 bytes: bytes.blob(alloc)?,
@@ -44,7 +40,7 @@ impl<'a> Asked<'a> {
         ensures small { result ≤ SEGMENT_BYTES }
     {
         match self {
-            Asked::Plain(Command::Read { len, .. }) if *len <= SEGMENT_BYTES => *len as usize,
+            Request::Plain(Command::Read { len, .. }) if *len <= SEGMENT_BYTES => *len as usize,
             _ => 0,
         }
     }

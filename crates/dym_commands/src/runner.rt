@@ -1,9 +1,9 @@
 //! What runs commands.
 ghost use Rattle.std.specs.Prelude.{OnOk, OnErr};
 ghost use Rattle.dym_base.specs.declared.command.Command.{Command};
-ghost use Rattle.dym_base.specs.declared.command.Command.TheVariants.{Write};
+ghost use Rattle.dym_commands.specs.Requests.{asks_borrowed};
 
-use dym_base::{Command, Handle};
+use crate::request::Request;
 
 /// Runs commands. Each is handed over where its kind is told: where `run` is inlined, no command is made of it, and only that
 /// kind's code is left.
@@ -23,21 +23,9 @@ pub trait Runner {
     /// It was the one, couldn't run a command, and is the other.
     ghost stays: { Self → Self → Type 0 };
 
-    /// Runs a command.
-    fn run(&mut self, context: &Self::Context, command: Command) -> Result<(), Self::Fail>
+    /// Runs the command that is asked. The bytes of a write are borrowed, so that they aren't copied into a command.
+    fn run(&mut self, context: &Self::Context, request: Request<&[u8]>) -> Result<(), Self::Fail>
         requires { ready self.old }
-        ensures does { OnOk result (does self.old command self.new) }
-        ensures stays { OnErr result (stays self.old self.new) };
-
-    /// Runs a write of bytes that stand elsewhere, so that they aren't copied into a command.
-    fn write(
-        &mut self,
-        context: &Self::Context,
-        h: Handle,
-        at: u32,
-        bytes: &[u8],
-    ) -> Result<(), Self::Fail>
-        requires { ready self.old }
-        ensures does { OnOk result (does self.old (Write h at bytes.now) self.new) }
+        ensures does { OnOk result (does self.old (asks_borrowed request.entry) self.new) }
         ensures stays { OnErr result (stays self.old self.new) };
 }

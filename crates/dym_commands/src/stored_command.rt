@@ -1,12 +1,13 @@
 //! One command in 16 bytes, and the tables that have what doesn't fit.
-ghost use Rattle.std.specs.Prelude.{◌≡◌, ◌≤◌, ◌<◌, ◌^◌, [], ◌∷◌, ◌++◌, length, drop, IfOk, OnOk, OnErr};
+ghost use Rattle.std.specs.Prelude.{◌≡◌, ◌+◌, ◌≤◌, ◌<◌, ◌^◌, [], ◌∷◌, ◌++◌, length, drop, IfOk, OnOk, OnErr};
 ghost use Rattle.dym_base.specs.declared.command.Command.TheVariants.{Calloc, Write};
-ghost use Rattle.dym_commands.specs.Requests.{asks};
-ghost use Rattle.dym_commands.specs.StoredCommands.{command_of, IsFit, IsStored, Still};
+ghost use Rattle.dym_commands.specs.Handles.{handle_of};
+ghost use Rattle.dym_commands.specs.Requests.{asks, asks_borrowed};
+ghost use Rattle.dym_commands.specs.StoredCommands.{bytes_at, command_of, IsFit, IsStored, Still};
 
+use crate::hex_bytes::HexBytes;
 use crate::packed_handle::{PackedHandle, pack, pack_or_nil, unpack, unpack_or_nil};
-use crate::request::Asked;
-use crate::runner::Runner;
+use crate::request::Request;
 use dym_base::{Command, Handle};
 use std::alloc::{AllocError, Global};
 use std::mem::size_of;
@@ -113,15 +114,15 @@ impl Tables {
 
     /// Keeps what a line asks.
     #[inline(always)]
-    pub fn store(&mut self, asked: &Asked<'_>) -> Result<StoredCommand, AllocError>
+    pub fn store(&mut self, asked: &Request<HexBytes<'_>>) -> Result<StoredCommand, AllocError>
         requires { length self.old.wide.items < 2 ^ 32 }
         ensures same_rows { OnErr result (self.new.wide.items ≡ self.old.wide.items) }
         ensures still { Still self.old self.new }
         ensures stored { IfOk result (IsStored self.old self.new (asks asked.now)) }
     {
         match asked {
-            Asked::Plain(command) => self.store_plain(command),
-            Asked::Write { h, at, bytes } => {
+            Request::Plain(command) => self.store_plain(command),
+            Request::Write { h, at, bytes } => {
                 let place = self.bytes.len();
                 bytes.append_to(&mut self.bytes)?;
                 self.store_write(*h, *at, place)
@@ -228,73 +229,69 @@ impl Tables {
         Ok(row)
     }
 
-    /// Runs a command that is kept, where its kind is told.
+    /// What a kept command asks, with the bytes of a write where they stand.
     #[inline(always)]
-    pub fn run<R: Runner>(
-        &self,
-        stored: &StoredCommand,
-        context: &R::Context,
-        runner: &mut R,
-    ) -> Result<(), R::Fail>
-        requires fit { IsFit self.now stored.now }
-        requires ready { R.ready runner.old }
-        ensures does { OnOk result (R.does runner.old (command_of self.now stored.now) runner.new) }
-        ensures stays { OnErr result (R.stays runner.old runner.new) }
+    pub fn request(&self, stored: &StoredCommand) -> Request<&[u8]>
+        requires { IsFit self.now stored.now }
+        ensures { asks_borrowed result ≡ command_of self.now stored.now }
     {
-        match *stored {
-            StoredCommand::Malloc { len } => runner.run(context, Command::Malloc { len }),
+        Request::Plain(match *stored {
+            StoredCommand::Malloc { len } => Command::Malloc { len },
             StoredCommand::Calloc { n, len } => {
                 let (n, len) = (u64::from(n), u64::from(len));
-                runner.run(context, Command::Calloc { n, len })
+                Command::Calloc { n, len }
             }
             StoredCommand::WideCalloc { row } => {
                 let wide = self.wide[row as usize];
                 let (n, len) = (wide.first, wide.second);
-                runner.run(context, Command::Calloc { n, len })
+                Command::Calloc { n, len }
             }
             StoredCommand::Realloc { h, len } => {
                 let h = unpack_or_nil(h);
-                runner.run(context, Command::Realloc { h, len })
+                Command::Realloc { h, len }
             }
-            StoredCommand::Free { h } => runner.run(
-                context,
-                Command::Free {
-                    h: unpack_or_nil(h),
-                },
-            ),
+            StoredCommand::Free { h } => Command::Free {
+                h: unpack_or_nil(h),
+            },
             StoredCommand::Write { h, len, at, place } => {
-                let place = place as usize;
-                let bytes = &self.bytes[place..place + len as usize];
-                runner.write(context, unpack(h), at, bytes)
+                return self.write_request(h, at, place as usize, len as usize);
             }
             StoredCommand::WideWrite { h, at, row } => {
                 let Wide { first, second } = self.wide[row as usize];
-                let place = first as usize;
-                let bytes = &self.bytes[place..place + second as usize];
-                runner.write(context, unpack(h), at, bytes)
+                return self.write_request(h, at, first as usize, second as usize);
             }
             StoredCommand::Fill { h, byte, at, len } => {
                 let h = unpack(h);
-                runner.run(context, Command::Fill { h, at, len, byte })
+                Command::Fill { h, at, len, byte }
             }
             StoredCommand::Read { h, at, len } => {
                 let h = unpack(h);
-                runner.run(context, Command::Read { h, at, len })
+                Command::Read { h, at, len }
             }
             StoredCommand::Link { h, to, at } => {
                 let (h, to) = (unpack(h), unpack_or_nil(to));
-                runner.run(context, Command::Link { h, at, to })
+                Command::Link { h, at, to }
             }
-            StoredCommand::Follow { h, at } => runner.run(
-                context,
-                Command::Follow { h: unpack(h), at },
-            ),
-            StoredCommand::Sum { h } => runner.run(context, Command::Sum { h: unpack(h) }),
-            StoredCommand::Log { time } => runner.run(context, Command::Log { time }),
-            StoredCommand::Ilog { time } => runner.run(context, Command::Ilog { time }),
-            StoredCommand::Restore { time } => runner.run(context, Command::Restore { time }),
-            StoredCommand::Prune { bound } => runner.run(context, Command::Prune { bound }),
-            StoredCommand::Logs => runner.run(context, Command::Logs),
+            StoredCommand::Follow { h, at } => Command::Follow { h: unpack(h), at },
+            StoredCommand::Sum { h } => Command::Sum { h: unpack(h) },
+            StoredCommand::Log { time } => Command::Log { time },
+            StoredCommand::Ilog { time } => Command::Ilog { time },
+            StoredCommand::Restore { time } => Command::Restore { time },
+            StoredCommand::Prune { bound } => Command::Prune { bound },
+            StoredCommand::Logs => Command::Logs,
+        })
+    }
+
+    /// A write of so many bytes that stand from a place on.
+    #[inline(always)]
+    fn write_request(&self, h: PackedHandle, at: u32, place: usize, len: usize) -> Request<&[u8]>
+        requires { place + len ≤ length self.now.bytes.items }
+        ensures { asks_borrowed result ≡ Write (handle_of h) at (bytes_at self.now place len) }
+    {
+        Request::Write {
+            h: unpack(h),
+            at,
+            bytes: &self.bytes[place..place + len],
         }
     }
 }

@@ -69,12 +69,14 @@ values_low (b ∷ bs) fits none most =
 small_8 : (n : ℕ) → small (to_le_bytes w64 n)
 small_8 n = (omega arith, (omega arith, (omega arith, (omega arith, (omega arith, (omega arith, (omega arith, (omega arith, tt))))))))
 
-horner : (a b c d e f g h : ℕ) → word_of (a ∷ b ∷ c ∷ d ∷ e ∷ f ∷ g ∷ h ∷ []) ≡ a + b * 256 + c * 65536 + d * 16777216 + e * 4294967296 + f * 1099511627776 + g * 281474976710656 + h * 72057594037927936
+horner : (a b c d e f g h : ℕ) → word_of
+    (a ∷ b ∷ c ∷ d ∷ e ∷ f ∷ g ∷ h ∷ []) ≡ a + b * 256 + c * 65536 + d * 16777216 + e * 4294967296 + f * 1099511627776 + g * 281474976710656 + h * 72057594037927936
 horner a b c d e f g h = omega arith
 
 -- a word is the number of its bytes
 word_is : (n : ℕ) → n < 2 ^ 64 → word_of (to_le_bytes w64 n) ≡ n
-word_is n fits = horner (n % 256) (n / 256 % 256) (n / 65536 % 256) (n / 16777216 % 256) (n / 4294967296 % 256) (n / 1099511627776 % 256) (n / 281474976710656 % 256) (n / 72057594037927936 % 256) ∙ from_le_bytes-to_le_bytes_8 n fits
+word_is n fits = horner (n % 256) (n / 256 % 256) (n / 65536 % 256) (n / 16777216 % 256) (n / 4294967296 % 256) (n / 1099511627776 % 256)
+    (n / 281474976710656 % 256) (n / 72057594037927936 % 256) ∙ from_le_bytes-to_le_bytes_8 n fits
 
 -- a word with no byte's highest bit has room for more
 pub word_room : (n : ℕ) → n < 2 ^ 64 → bit_and n 0x8080808080808080 ≡ 0 → n ≤ 0x7f7f7f7f7f7f7f7f
@@ -110,7 +112,16 @@ digits_of : (a b c d e f g h n more : ℕ) → low (a ∷ b ∷ c ∷ d ∷ e �
     → (list_all is_ascii_digit (to_le_bytes w64 more) ≡ true) × (n < 2 ^ 60)
 digits_of a b c d e f g h n more (a', (b', (c', (d', (e', (f', (g', (h', _)))))))) is from =
     let list : List ℕ = (a + 48) ∷ (b + 48) ∷ (c + 48) ∷ (d + 48) ∷ (e + 48) ∷ (f + 48) ∷ (g + 48) ∷ (h + 48) ∷ [] in
-    let fits : small list = (omega (arith, a'), (omega (arith, b'), (omega (arith, c'), (omega (arith, d'), (omega (arith, e'), (omega (arith, f'), (omega (arith, g'), (omega (arith, h'), tt)))))))) in
+    let fits : small list = (
+      omega (arith, a'),
+      (
+        omega (arith, b'),
+        (
+          omega (arith, c'),
+          (omega (arith, d'), (omega (arith, e'), (omega (arith, f'), (omega (arith, g'), (omega (arith, h'), tt))))),
+        ),
+      ),
+    ) in
     let bytes : to_le_bytes w64 more ≡ list = le_bytes_8 list more refl (fits_at list fits) (omega (arith, is, from, a', b', c', d', e', f', g', h')) in
     let digit : (b : ℕ) → b ≤ 9 → is_ascii_digit (b + 48) ≡ true = λ b few. digit_from (b + 48) (omega arith) (omega (arith, few)) in (
       ap (list_all is_ascii_digit) bytes ∙ rw (digit a a', digit b b', digit c c', digit d d', digit e e', digit f f', digit g g', digit h h') refl,
@@ -118,14 +129,16 @@ digits_of a b c d e f g h n more (a', (b', (c', (d', (e', (f', (g', (h', _))))))
     )
 
 -- a word's bytes are digits' values where its tests say so
-pub values_digits : (n : ℕ) → n < 2 ^ 64 → (nat_eq (bit_and n 0x8080808080808080) 0 && nat_eq (bit_and ((n + 0x7676767676767676) % 18446744073709551616) 0x8080808080808080) 0) ≡ true
+pub values_digits : (n : ℕ) → n < 2 ^ 64
+    → (nat_eq (bit_and n 0x8080808080808080) 0 && nat_eq (bit_and ((n + 0x7676767676767676) % 18446744073709551616) 0x8080808080808080) 0) ≡ true
     → (list_all is_ascii_digit (to_le_bytes w64 ((n + 0x3030303030303030) % 18446744073709551616)) ≡ true) × (n < 2 ^ 60)
 values_digits n fits both =
     let two = both_true (nat_eq (bit_and n 0x8080808080808080) 0) (nat_eq (bit_and ((n + 0x7676767676767676) % 18446744073709551616) 0x8080808080808080) 0) both in
     let none : bit_and n 0x8080808080808080 ≡ 0 = grind (arith, nat_tests, two.0) in
     let most : bit_and ((n + 0x7676767676767676) % 18446744073709551616) 0x8080808080808080 ≡ 0 = grind (arith, nat_tests, two.1) in
     let values = values_of n fits none most in
-    digits_of (n % 256) (n / 256 % 256) (n / 65536 % 256) (n / 16777216 % 256) (n / 4294967296 % 256) (n / 1099511627776 % 256) (n / 281474976710656 % 256) (n / 72057594037927936 % 256) n _ values.each (from_le_bytes-to_le_bytes_8 n fits) refl
+    digits_of (n % 256) (n / 256 % 256) (n / 65536 % 256) (n / 16777216 % 256) (n / 4294967296 % 256) (n / 1099511627776 % 256)
+    (n / 281474976710656 % 256) (n / 72057594037927936 % 256) n _ values.each (from_le_bytes-to_le_bytes_8 n fits) refl
 
 small_of : (bs : List ℕ) → ((i : ℕ) → get_or bs i 0 < 256) → small bs
 small_of [] each = tt
@@ -148,7 +161,16 @@ pairs_bytes : (a b c d e f g h values pairs : ℕ) → a < 10 → b < 10 → c <
 pairs_bytes a b c d e f g h values pairs a' b' c' d' e' f' g' h' is from =
     let back : values / 256 ≡ b + c * 256 + d * 65536 + e * 16777216 + f * 4294967296 + g * 1099511627776 + h * 281474976710656 = omega (arith, is, a') in
     let list : List ℕ = (a * 10 + b) ∷ (b * 10 + c) ∷ (c * 10 + d) ∷ (d * 10 + e) ∷ (e * 10 + f) ∷ (f * 10 + g) ∷ (g * 10 + h) ∷ (h * 10) ∷ [] in
-    let fits : small list = (omega (arith, a', b'), (omega (arith, b', c'), (omega (arith, c', d'), (omega (arith, d', e'), (omega (arith, e', f'), (omega (arith, f', g'), (omega (arith, g', h'), (omega (arith, h'), tt)))))))) in
+    let fits : small list = (
+      omega (arith, a', b'),
+      (
+        omega (arith, b', c'),
+        (
+          omega (arith, c', d'),
+          (omega (arith, d', e'), (omega (arith, e', f'), (omega (arith, f', g'), (omega (arith, g', h'), (omega (arith, h'), tt))))),
+        ),
+      ),
+    ) in
     le_bytes_8 list pairs refl (fits_at list fits)
     (omega (arith, is, from, back))
 
@@ -182,9 +204,12 @@ value_of_eight a b c d e f g h n ab cd ef gh bytes all is from at_ab at_cd at_ef
     let six = digit_first f (g ∷ h ∷ []) five.1 in
     let seven = digit_first g (h ∷ []) six.1 in
     let eight = digit_first h [] seven.1 in
-    let values : n - 0x3030303030303030 ≡ digit_value a + digit_value b * 256 + digit_value c * 65536 + digit_value d * 16777216 + digit_value e * 4294967296 + digit_value f * 1099511627776 + digit_value g * 281474976710656 + digit_value h * 72057594037927936 =
+    let values : n - 0x3030303030303030 ≡ digit_value a + digit_value b * 256 + digit_value c * 65536 + digit_value d * 16777216 + digit_value
+    e * 4294967296 + digit_value f * 1099511627776 + digit_value g * 281474976710656 + digit_value h * 72057594037927936 =
     omega (arith, is, one.0.is, two.0.is, three.0.is, four.0.is, five.0.is, six.0.is, seven.0.is, eight.0.is) in
-    let listed = from ∙ pairs_bytes (digit_value a) (digit_value b) (digit_value c) (digit_value d) (digit_value e) (digit_value f) (digit_value g) (digit_value h) (n - 0x3030303030303030) ((n - 0x3030303030303030) * 10 + (n - 0x3030303030303030) / 256) one.0.few two.0.few three.0.few four.0.few five.0.few six.0.few seven.0.few eight.0.few values refl in
+    let listed = from ∙ pairs_bytes (digit_value a) (digit_value b) (digit_value c) (digit_value d) (digit_value e) (digit_value f) (digit_value g)
+    (digit_value h) (n - 0x3030303030303030) ((n - 0x3030303030303030) * 10 + (n - 0x3030303030303030) / 256) one.0.few two.0.few three.0.few
+    four.0.few five.0.few six.0.few seven.0.few eight.0.few values refl in
     let first = at_ab ∙ ap (λ l. get_or l 0 0) listed in
     let second = at_cd ∙ ap (λ l. get_or l 2 0) listed in
     let third = at_ef ∙ ap (λ l. get_or l 4 0) listed in
@@ -197,7 +222,9 @@ word_value : (n ab cd ef gh : ℕ) (bytes : List ℕ) → n < 2 ^ 64 → list_al
     → ab ≡ get_or bytes 0 0 → cd ≡ get_or bytes 2 0 → ef ≡ get_or bytes 4 0 → gh ≡ get_or bytes 6 0
     → (ab * 100 + cd) * 10000 + (ef * 100 + gh) ≡ digits_value 10 (to_le_bytes w64 n)
 word_value n ab cd ef gh bytes fits all from at_ab at_cd at_ef at_gh =
-    value_of_eight (n % 256) (n / 256 % 256) (n / 65536 % 256) (n / 16777216 % 256) (n / 4294967296 % 256) (n / 1099511627776 % 256) (n / 281474976710656 % 256) (n / 72057594037927936 % 256) n ab cd ef gh bytes all (from_le_bytes-to_le_bytes_8 n fits) from at_ab at_cd at_ef at_gh
+    value_of_eight (n % 256) (n / 256 % 256) (n / 65536 % 256) (n / 16777216 % 256) (n / 4294967296 % 256) (n / 1099511627776 % 256)
+    (n / 281474976710656 % 256) (n / 72057594037927936 % 256) n ab cd ef gh bytes all (from_le_bytes-to_le_bytes_8 n fits) from at_ab at_cd at_ef
+    at_gh
 
 -- the same of the digits' values
 pub values_value : (n ab cd ef gh : ℕ) (bytes : List ℕ) → n < 2 ^ 60 → list_all is_ascii_digit (to_le_bytes w64 ((n + 0x3030303030303030) % 18446744073709551616)) ≡ true
@@ -219,7 +246,8 @@ zeros_digits zero bytes all = all
 zeros_digits (suc k) bytes all = zeros_digits k bytes all
 
 -- digits at the front of a text, of which a word has all
-pub counts_few : (text rest : List ℕ) (word count value : ℕ) → IsFront text word count → list_all is_ascii_digit (to_le_bytes w64 word) ≡ true → value ≡ digits_value 10 (to_le_bytes w64 word) → rest ≡ take (length text - count) (drop count text)
+pub counts_few : (text rest : List ℕ) (word count value : ℕ) → IsFront text word count → list_all is_ascii_digit (to_le_bytes w64 word) ≡ true
+    → value ≡ digits_value 10 (to_le_bytes w64 word) → rest ≡ take (length text - count) (drop count text)
     → Counts text value rest
 counts_few text rest word count value front all is after =
     let within : count ≤ length text = omega (arith, front.within, front.few) in
@@ -240,7 +268,8 @@ counts_few text rest word count value front all is after =
 front_sum : (a b c d e f g h word count : ℕ) (more : List ℕ) → a < 256 → b < 256 → c < 256 → d < 256 → e < 256 → f < 256 → g < 256 → h < 256
     → word ≡ a + b * 256 + c * 65536 + d * 16777216 + e * 4294967296 + f * 1099511627776 + g * 281474976710656 + h * 72057594037927936
     → 0 < count → count < 8
-    → (word * 2 ^ (64 - 8 * count) % 18446744073709551616 + 3472328296227680304 / 2 ^ (8 * count) ≡ from_le_bytes w64 (replicate (8 - count) 48 ++ take count (a ∷ b ∷ c ∷ d ∷ e ∷ f ∷ g ∷ h ∷ more)))
+    → (word * 2 ^ (64 - 8 * count) % 18446744073709551616 + 3472328296227680304 / 2 ^ (8 * count) ≡ from_le_bytes w64
+    (replicate (8 - count) 48 ++ take count (a ∷ b ∷ c ∷ d ∷ e ∷ f ∷ g ∷ h ∷ more)))
     × (word * 2 ^ (64 - 8 * count) % 18446744073709551616 ≡ from_le_bytes w64 (replicate (8 - count) 0 ++ take count (a ∷ b ∷ c ∷ d ∷ e ∷ f ∷ g ∷ h ∷ more)))
 front_sum a b c d e f g h word zero more a' b' c' d' e' f' g' h' is some few = absurd (omega arith)
 front_sum a b c d e f g h word (suc zero) more a' b' c' d' e' f' g' h' is some few = (omega arith, omega arith)
@@ -254,7 +283,8 @@ front_sum a b c d e f g h word (suc (suc (suc (suc (suc (suc (suc (suc n))))))))
 
 -- the same of any text of eight bytes or more
 front_number : (text : List ℕ) (word count : ℕ) → small text → 8 ≤ length text
-    → word ≡ get_or text 0 0 + get_or text 1 0 * 256 + get_or text 2 0 * 65536 + get_or text 3 0 * 16777216 + get_or text 4 0 * 4294967296 + get_or text 5 0 * 1099511627776 + get_or text 6 0 * 281474976710656 + get_or text 7 0 * 72057594037927936
+    → word ≡ get_or text 0 0 + get_or text 1 0 * 256 + get_or text 2 0 * 65536 + get_or text 3 0 * 16777216 + get_or text 4 0 * 4294967296 + get_or
+    text 5 0 * 1099511627776 + get_or text 6 0 * 281474976710656 + get_or text 7 0 * 72057594037927936
     → 0 < count → count < 8
     → (word * 2 ^ (64 - 8 * count) % 18446744073709551616 + 3472328296227680304 / 2 ^ (8 * count) ≡ from_le_bytes w64 (replicate (8 - count) 48 ++ take count text))
     × (word * 2 ^ (64 - 8 * count) % 18446744073709551616 ≡ from_le_bytes w64 (replicate (8 - count) 0 ++ take count text))
@@ -269,13 +299,11 @@ front_number (a ∷ b ∷ c ∷ d ∷ e ∷ []) word count fits long is some few
 front_number (a ∷ b ∷ c ∷ d ∷ e ∷ f ∷ []) word count fits long is some few = absurd (omega arith)
 front_number (a ∷ b ∷ c ∷ d ∷ e ∷ f ∷ g ∷ []) word count fits long is some few = absurd (omega arith)
 
--- the bytes of a number below 2 ^ 64
-room_8 : (bs : List ℕ) → small bs → from_le_bytes w64 bs < 2 ^ 64
-room_8 bs fits = omega (arith, fits_at bs fits 0, fits_at bs fits 1, fits_at bs fits 2, fits_at bs fits 3, fits_at bs fits 4, fits_at bs fits 5, fits_at bs fits 6, fits_at bs fits 7)
-
 -- zeros taken from a word before its bytes are moved, and added after it, are the zeros behind which these stand
 moved_values : (word count : ℕ) → word < 2 ^ 64 → 0 < count → count < 8
-    → ((word + 14974415777481871312) % 18446744073709551616 * 2 ^ (64 - 8 * count) % 18446744073709551616 + 0x3030303030303030) % 18446744073709551616 ≡ word * 2 ^ (64 - 8 * count) % 18446744073709551616 + 3472328296227680304 / 2 ^ (8 * count)
+    → ((word + 14974415777481871312) % 18446744073709551616 * 2 ^
+    (64 - 8 * count) % 18446744073709551616 + 0x3030303030303030) % 18446744073709551616 ≡ word * 2 ^
+    (64 - 8 * count) % 18446744073709551616 + 3472328296227680304 / 2 ^ (8 * count)
 moved_values word zero fits some few = absurd (omega arith)
 moved_values word (suc zero) fits some few = omega (arith, fits)
 moved_values word (suc (suc zero)) fits some few = omega (arith, fits)
@@ -287,7 +315,13 @@ moved_values word (suc (suc (suc (suc (suc (suc (suc zero))))))) fits some few =
 moved_values word (suc (suc (suc (suc (suc (suc (suc (suc n)))))))) fits some few = absurd (omega arith)
 
 len_8 : (text : List ℕ) (byte count : ℕ) → 8 ≤ length text → count < 8 → length (replicate (8 - count) byte ++ take count text) ≡ 8
-len_8 text byte count long few = omega (arith, length-append (replicate (8 - count) byte) (take count text), length-replicate {A = ℕ} (8 - count) byte, length-take count text)
+len_8 text byte count long few = omega (
+  arith,
+  length-append (replicate (8 - count) byte) (take count text),
+  length-replicate {A = ℕ} (8 - count)
+      byte,
+  length-take count text,
+)
 
 -- with zeros it is these, and the digits after them
 front_is : (text : List ℕ) (word count : ℕ) → ((i : ℕ) → get_or text i 0 < 256) → 8 ≤ length text
@@ -299,18 +333,25 @@ front_is text word count each long is some few =
       some = some;
       few = few;
       within = long;
-      bytes = le_bytes_8 (replicate (8 - count) 48 ++ take count text) _ (len_8 text 48 count long few) (fits_at (replicate (8 - count) 48 ++ take count text) (small_padded (8 - count) 48 (take count text) (omega arith) (small_take count text fits))) (front_number text word count fits long is some few).0;
+      bytes = le_bytes_8 (replicate (8 - count) 48 ++ take count text) _ (len_8 text 48 count long few)
+          (fits_at (replicate (8 - count) 48 ++ take count text)
+          (small_padded (8 - count) 48 (take count text) (omega arith) (small_take count text fits)))
+          (front_number text word count fits long is some few).0;
     }
 
 -- the same where the zeros are taken before
 pub front_values : (text : List ℕ) (word count : ℕ) → ((i : ℕ) → get_or text i 0 < 256) → 8 ≤ length text
     → word ≡ from_le_bytes w64 text → word < 2 ^ 64 → 0 < count → count < 8
-    → IsFront text (((word + 14974415777481871312) % 18446744073709551616 * 2 ^ (64 - 8 * count) % 18446744073709551616 + 0x3030303030303030) % 18446744073709551616) count
+    → IsFront text (((word + 14974415777481871312) % 18446744073709551616 * 2 ^
+    (64 - 8 * count) % 18446744073709551616 + 0x3030303030303030) % 18446744073709551616) count
 front_values text word count each long is fits some few =
     subst (λ m. IsFront text m count) (sym (moved_values word count fits some few)) (front_is text word count each long is some few)
 
 -- the bytes of such a word where what stands before them is 0
-pub moved_bytes : (text : List ℕ) (word count : ℕ) → ((i : ℕ) → get_or text i 0 < 256) → 8 ≤ length text → word ≡ from_le_bytes w64 text → 0 < count → count < 8 → to_le_bytes w64 (word * 2 ^ (64 - 8 * count) % 18446744073709551616) ≡ replicate (8 - count) 0 ++ take count text
+pub moved_bytes : (text : List ℕ) (word count : ℕ) → ((i : ℕ) → get_or text i 0 < 256) → 8 ≤ length text → word ≡ from_le_bytes w64 text → 0 < count
+    → count < 8 → to_le_bytes w64 (word * 2 ^ (64 - 8 * count) % 18446744073709551616) ≡ replicate (8 - count) 0 ++ take count text
 moved_bytes text word count each long is some few =
     let fits = small_of text each in
-    le_bytes_8 (replicate (8 - count) 0 ++ take count text) _ (len_8 text 0 count long few) (fits_at (replicate (8 - count) 0 ++ take count text) (small_padded (8 - count) 0 (take count text) (omega arith) (small_take count text fits))) (front_number text word count fits long is some few).1
+    le_bytes_8 (replicate (8 - count) 0 ++ take count text) _ (len_8 text 0 count long few)
+    (fits_at (replicate (8 - count) 0 ++ take count text) (small_padded (8 - count) 0 (take count text) (omega arith) (small_take count text fits)))
+    (front_number text word count fits long is some few).1

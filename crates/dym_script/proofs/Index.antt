@@ -21,16 +21,20 @@ pub with_last_no : (o : Option ℕ) (n : ℕ) → with_last o false n ≡ o
 with_last_no None n = refl
 with_last_no (Some i) n = refl
 
-position_from_push : (test : Decl → Bool) (i : ℕ) (ds : List Decl) (d : Decl) → position_from test i (ds ++ d ∷ []) ≡ with_last (position_from test i ds) (test d) (i + length ds)
+position_from_push : (test : Decl → Bool) (i : ℕ) (ds : List Decl) (d : Decl)
+    → position_from test i (ds ++ d ∷ []) ≡ with_last (position_from test i ds) (test d) (i + length ds)
 position_from_push test i [] d = ap (λ n. cond (test d) (Some n) None) (sym (add-zero i))
-position_from_push test i (e ∷ ds) d = elim (test e) as (λ b. cond b (Some i) (position_from test (i + 1) (ds ++ d ∷ [])) ≡ with_last (cond b (Some i) (position_from test (i + 1) ds)) (test d) (i + length (e ∷ ds))) [
-  | true ↦ refl
-  | false ↦ position_from_push test (i + 1) ds d ∙ ap (with_last (position_from test (i + 1) ds) (test d)) (omega arith)
-]
+position_from_push test i (e ∷ ds) d =
+    elim (test e) as (λ b. cond b (Some i) (position_from test (i + 1) (ds ++ d ∷ [])) ≡ with_last (cond b (Some i) (position_from test (i + 1) ds))
+    (test d) (i + length (e ∷ ds))) [
+      | true ↦ refl
+      | false ↦ position_from_push test (i + 1) ds d ∙ ap (with_last (position_from test (i + 1) ds) (test d)) (omega arith)
+    ]
 
 pub object_of_push : (ds : List Decl) (d : Decl) (name : List ℕ) → object_of (ds ++ d ∷ []) name ≡ with_last (object_of ds name) (bytes_eq d.name name) (length ds)
 unfolding object_of
-object_of_push ds d name = position_from_push (λ e. bytes_eq e.name name) 0 ds d ∙ ap (with_last (position_from (λ e. bytes_eq e.name name) 0 ds) (bytes_eq d.name name)) (omega arith)
+object_of_push ds d name = position_from_push (λ e. bytes_eq e.name name) 0 ds d
+    ∙ ap (with_last (position_from (λ e. bytes_eq e.name name) 0 ds) (bytes_eq d.name name)) (omega arith)
 
 -- a new name leaves each declaration the first of its name, and the new one is
 pub first_push : (ds : List Decl) (d : Decl) → ((k : ℕ) (e : Decl) → k < length ds → object_of ds (get_or ds k e).name ≡ Some k) → object_of ds d.name ≡ None
@@ -45,13 +49,9 @@ first_push ds d first fresh k e below =
           let last : k ≡ length ds = grind (arith, nat_tests, length-append ds (d ∷ [])) in
           let same : bytes_eq d.name d.name ≡ true = (bytes_decides d.name d.name).1 refl in
           ap (λ (x : Decl). object_of (ds ++ d ∷ []) x.name) (ap (λ n. get_or (ds ++ d ∷ []) n e) last ∙ get_or-append_seam ds d [] e)
-          ∙ object_of_push ds d d.name ∙ ap (λ o. with_last o (bytes_eq d.name d.name) (length ds)) fresh ∙ ap (λ b. with_last None b (length ds)) same ∙ ap (λ n. Some n) (sym last)
+          ∙ object_of_push ds d d.name ∙ ap (λ o. with_last o (bytes_eq d.name d.name) (length ds)) fresh
+          ∙ ap (λ b. with_last None b (length ds)) same ∙ ap (λ n. Some n) (sym last)
     ] refl
-
--- the declaration in this place, where a name is its own, is the one that the name finds
-pub first_of_name : (ds : List Decl) (d : Decl) (k : ℕ) (name : List ℕ) → ((k : ℕ) (e : Decl) → k < length ds → object_of ds (get_or ds k e).name ≡ Some k) → k < length ds → d ≡ get_or ds k d
-    → bytes_eq d.name name ≡ true → object_of ds name ≡ Some k
-first_of_name ds d k name first inside at same = subst (λ n. object_of ds n ≡ Some k) ((bytes_decides d.name name).0 same) (ap (λ (x : Decl). object_of ds x.name) at ∙ first k d inside)
 
 position_from_within : (test : Decl → Bool) (i : ℕ) (ds : List Decl) (k : ℕ) → position_from test i ds ≡ Some k → k < i + length ds
 position_from_within test i [] k found = absurd (cc)
@@ -65,12 +65,15 @@ pub object_of_within : (ds : List Decl) (name : List ℕ) (k : ℕ) → object_o
 unfolding object_of
 object_of_within ds name k found = omega (arith, position_from_within (λ d. bytes_eq d.name name) 0 ds k found)
 
-position_from_name : (name : List ℕ) (i : ℕ) (ds : List Decl) (k : ℕ) → All (λ d. IsTrue (is_name d.name)) ds → position_from (λ d. bytes_eq d.name name) i ds ≡ Some k → IsTrue (is_name name)
+position_from_name : (name : List ℕ) (i : ℕ) (ds : List Decl) (k : ℕ) → All (λ d. IsTrue (is_name d.name)) ds
+    → position_from (λ d. bytes_eq d.name name) i ds ≡ Some k → IsTrue (is_name name)
 position_from_name name i [] k names found = absurd (cc)
-position_from_name name i (d ∷ ds) k names found = elim (bytes_eq d.name name) as (λ b. bytes_eq d.name name ≡ b → cond b (Some i) (position_from (λ e. bytes_eq e.name name) (i + 1) ds) ≡ Some k → IsTrue (is_name name)) [
-  | true ↦ λ same here. subst (λ n. IsTrue (is_name n)) ((bytes_decides d.name name).0 same) (All-head (λ e. IsTrue (is_name e.name)) d ds names)
-  | false ↦ λ other later. position_from_name name (i + 1) ds k (All-tail (λ e. IsTrue (is_name e.name)) d ds names) later
-] refl found
+position_from_name name i (d ∷ ds) k names found =
+    elim (bytes_eq d.name name) as (λ b. bytes_eq d.name name ≡ b → cond b (Some i) (position_from (λ e. bytes_eq e.name name) (i + 1) ds) ≡ Some k
+    → IsTrue (is_name name)) [
+      | true ↦ λ same here. subst (λ n. IsTrue (is_name n)) ((bytes_decides d.name name).0 same) (All-head (λ e. IsTrue (is_name e.name)) d ds names)
+      | false ↦ λ other later. position_from_name name (i + 1) ds k (All-tail (λ e. IsTrue (is_name e.name)) d ds names) later
+    ] refl found
 
 -- a name that is declared is a name
 pub object_of_name : (ds : List Decl) (name : List ℕ) (k : ℕ) → All (λ d. IsTrue (is_name d.name)) ds → object_of ds name ≡ Some k → IsTrue (is_name name)
@@ -79,9 +82,11 @@ object_of_name ds name k names found = position_from_name name 0 ds k names foun
 
 module _ {K X : Type 0} (bytes : K → List ℕ) (key cs : List ℕ) (old new : List (K × X)) where
   -- other bytes than the key's are found as before
-  pub other_bytes : KeepsOthers (λ x y. bytes_eq (bytes x) (bytes y)) (λ y. bytes_eq key (bytes y)) old new → bytes_eq key cs ≡ false → lookup (λ y. bytes_eq cs (bytes y)) new ≡ lookup (λ y. bytes_eq cs (bytes y)) old
+  pub other_bytes : KeepsOthers (λ x y. bytes_eq (bytes x) (bytes y)) (λ y. bytes_eq key (bytes y)) old new → bytes_eq key cs ≡ false
+      → lookup (λ y. bytes_eq cs (bytes y)) new ≡ lookup (λ y. bytes_eq cs (bytes y)) old
   unfolding KeepsOthers
-  other_bytes keeps other = keeps (λ y. bytes_eq cs (bytes y)) (λ x y. nat_list_eq_equiv.congr cs (bytes x) (bytes y)) (λ y same. nat_list_eq_equiv.symm cs (bytes y) ∙ sym (nat_list_eq_equiv.congr key (bytes y) cs same) ∙ other)
+  other_bytes keeps other = keeps (λ y. bytes_eq cs (bytes y)) (λ x y. nat_list_eq_equiv.congr cs (bytes x) (bytes y))
+      (λ y same. nat_list_eq_equiv.symm cs (bytes y) ∙ sym (nat_list_eq_equiv.congr key (bytes y) cs same) ∙ other)
 
 pub found_within : (ds : List Decl) (name : List ℕ) (r : Option ℕ) → r ≡ object_of ds name → IfSome r (λ k. k < length ds)
 found_within ds name None found = tt
@@ -98,10 +103,12 @@ object_of_none name = refl
 
 position_from_more : (test : Decl → Bool) (i : ℕ) (ds more : List Decl) (k : ℕ) → position_from test i ds ≡ Some k → position_from test i (ds ++ more) ≡ Some k
 position_from_more test i [] more k found = absurd (cc)
-position_from_more test i (d ∷ ds) more k found = elim (test d) as (λ b. cond b (Some i) (position_from test (i + 1) ds) ≡ Some k → cond b (Some i) (position_from test (i + 1) (ds ++ more)) ≡ Some k) [
-  | true ↦ λ here. here
-  | false ↦ λ later. position_from_more test (i + 1) ds more k later
-] found
+position_from_more test i (d ∷ ds) more k found =
+    elim (test d) as (λ b. cond b (Some i) (position_from test (i + 1) ds) ≡ Some k
+    → cond b (Some i) (position_from test (i + 1) (ds ++ more)) ≡ Some k) [
+      | true ↦ λ here. here
+      | false ↦ λ later. position_from_more test (i + 1) ds more k later
+    ] found
 
 -- a name that is found keeps its place, whatever is declared behind
 pub object_of_more : (ds more : List Decl) (name : List ℕ) (k : ℕ) → object_of ds name ≡ Some k → object_of (ds ++ more) name ≡ Some k

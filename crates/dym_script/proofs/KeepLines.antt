@@ -1,11 +1,10 @@
 -- How what is kept of a script goes on line by line.
-use Rattle.std.proofs.Common.{◌≡◌, ℕ, ◌+◌, ◌<◌, ◌≤◌, ◌==◌, inl, inr, true, false, List, [], ◌∷◌, ◌++◌, length, get_or, refl, sym, ap, ◌∙◌, arith, append_assoc, length-append, eq-eqb, Option, Some, None, Result, Ok, Err, IfOk, subst}
+use Rattle.std.proofs.Common.{◌≡◌, ℕ, ◌+◌, ◌<◌, ◌≤◌, inl, inr, true, List, [], ◌∷◌, ◌++◌, length, get_or, refl, sym, ap, ◌∙◌, arith, append_assoc, length-append, Option, Some, None, Result, Ok, Err, IfOk, subst}
 use Rattle.std.proofs.Math.Seq.{get_or-append_seam}
 use Rattle.std.proofs.lemmas.List.Elements.{All-push, All-weaker}
 use Rattle.std.proofs.lemmas.Bool.Decides.{nat_tests}
 use denote.Ref.{Bor}
 use Rattle.dym_base.specs.declared.bad_kind.BadKind.{BadKind}
-use Rattle.dym_base.specs.declared.bad_kind.BadKind.TheVariants as bad
 use Rattle.dym_base.specs.declared.limits.TheConstants.{MOST_COMMANDS}
 use Rattle.dym_base.specs.declared.command.Command.{Command}
 use Rattle.dym_commands.specs.Requests.{asks}
@@ -17,7 +16,7 @@ use Rattle.dym_script.specs.declared.script.Decl.{Decl}
 use Rattle.dym_script.specs.declared.script.Line.{Line}
 use Rattle.dym_base.specs.Lines.{lines_of}
 use Rattle.dym_script.specs.Scripts.{Reading, ask_at, read_line, read_lines, start}
-use Rattle.dym_script.specs.Keepers.{Asks, Declares, CanAsk, Holds, Stands, IsReady, HoldsLine, IsWhole}
+use Rattle.dym_script.specs.Keepers.{Asks, Declares, Holds, Stands, IsReady, HoldsLine, IsWhole}
 use Rattle.dym_script.specs.Pieces.{ReadsNext}
 use Rattle.dym_script.specs.Readers.{IsValidReader, Grows, GoesOn, reading_of, reading, with_ask}
 use Rattle.dym_script.proofs.PiecesRead.{lines_next}
@@ -39,7 +38,8 @@ stands_start P r kept is nothing = record {
 }
 
 -- a command more
-pub holds_asked : (P Q : List Decl → List Line → Type 0) (r : Reader) (n : ℕ) (object : ℕ) (command : Command) (lines : List Line) → object < length r.objects.items → n < MOST_COMMANDS → Asks P Q object command
+pub holds_asked : (P Q : List Decl → List Line → Type 0) (r : Reader) (n : ℕ) (object : ℕ) (command : Command) (lines : List Line)
+    → object < length r.objects.items → n < MOST_COMMANDS → Asks P Q object command
     → Holds P r n lines → Holds Q r (n + 1) (lines ++ record { object = object; command = command } ∷ [])
 holds_asked P Q r n object command lines within room asks holds =
     let line : Line = record { object = object; command = command } in
@@ -55,30 +55,9 @@ holds_asked P Q r n object command lines within room asks holds =
       };
     }
 
--- what the grammar says of it where there is room, and where there is none
-pub asked_room : (r : Reader) (n : ℕ) (object : ℕ) (command : Command) (lines : List Line) → length lines ≡ n → n < MOST_COMMANDS
-    → reading r.begun (ask_at (reading_of r lines).said command (Some object)) ≡ Ok (reading_of r (lines ++ record { object = object; command = command } ∷ []))
-asked_room r n object command lines count room =
-    let free : (length lines == MOST_COMMANDS) ≡ false = grind (arith, nat_tests) in
-    rw free refl
-
-pub asked_full : (r : Reader) (object : ℕ) (command : Command) (lines : List Line) → length lines ≡ MOST_COMMANDS → reading r.begun (ask_at (reading_of r lines).said command (Some object)) ≡ Err bad.Many
-asked_full r object command lines full =
-    let same : (length lines == MOST_COMMANDS) ≡ true = eq-eqb (length lines) MOST_COMMANDS full in
-    rw same refl
-
 -- there is room for one more
 pub below_most : (n : ℕ) → n ≤ MOST_COMMANDS → ¬ (n ≡ MOST_COMMANDS) → n < MOST_COMMANDS
 below_most n within other = grind (arith, nat_tests)
-
--- there is room for what is asked
-pub can_ask : (P : List Decl → List Line → Type 0) (r : Reader) (n object : ℕ) → IsReady P r n → object < length r.objects.items → n < MOST_COMMANDS → CanAsk P object
-can_ask P r n object ready within room =
-    let (now, stands) = ready.some in
-    let lines = stands.lines in
-    let holds = stands.holds in
-    let is = stands.is in
-    record { objects = r.objects.items; lines = lines; keeps = holds.keeps; within = within; room = omega (arith, holds.count, room) }
 
 grown_long : (old new : List Decl) → Grows old new → length old ≤ length new
 grown_long old new (inl same) = rw same (omega arith)
@@ -96,12 +75,14 @@ holds_declared P Q r s n lines kept grows told holds = record {
     lines = holds.valid.lines;
     names = kept.valid.names;
     quotas = kept.valid.quotas;
-    declared = All-weaker (λ line. line.object < length r.objects.items) (λ line. line.object < length s.objects.items) (λ line below. omega (arith, below, grown_long r.objects.items s.objects.items grows)) lines holds.valid.declared;
+    declared = All-weaker (λ line. line.object < length r.objects.items) (λ line. line.object < length s.objects.items)
+        (λ line below. omega (arith, below, grown_long r.objects.items s.objects.items grows)) lines holds.valid.declared;
   };
 }
 
 -- a line more may be read after a command
-pub ready_asked : (P Q : List Decl → List Line → Type 0) (r : Reader) (n object : ℕ) (command : Command) → IsReady P r n → object < length r.objects.items → n < MOST_COMMANDS → Asks P Q object command → IsReady Q r (n + 1)
+pub ready_asked : (P Q : List Decl → List Line → Type 0) (r : Reader) (n object : ℕ) (command : Command) → IsReady P r n
+    → object < length r.objects.items → n < MOST_COMMANDS → Asks P Q object command → IsReady Q r (n + 1)
 ready_asked P Q r n object command ready within room asks =
     let (now, stands) = ready.some in
     let lines = stands.lines in
@@ -111,7 +92,15 @@ ready_asked P Q r n object command ready within room asks =
     record {
       kept = ready.kept;
       few = omega (arith, room);
-      some = (reading_of r (lines ++ line ∷ []), record { lines = lines ++ line ∷ []; holds = holds_asked P Q r n object command lines within room asks holds; is = refl });
+      some = (
+        reading_of r (lines ++ line ∷ []),
+        record {
+          lines = lines ++ line ∷ [];
+          holds =
+              holds_asked P Q r n object command lines within room asks holds;
+          is = refl;
+        },
+      );
     }
 
 -- after a declaration
@@ -123,7 +112,12 @@ ready_declared P Q r s n ready kept grows told =
     let lines = stands.lines in
     let holds = stands.holds in
     let is = stands.is in
-    record { kept = kept; few = ready.few; some = (reading_of s lines, record { lines = lines; holds = holds_declared P Q r s n lines kept grows told holds; is = refl }) }
+    record {
+      kept = kept;
+      few = ready.few;
+      some =
+          (reading_of s lines, record { lines = lines; holds = holds_declared P Q r s n lines kept grows told holds; is = refl });
+    }
 
 -- and after the name and the words of a line in the usual spelling
 abbrev pub quickly : Reader → Reader
@@ -145,19 +139,29 @@ ready_quickly P r n ready =
     }
 
 -- the grammar says what is held with a line that asks nothing
-pub exact_none : (P Q : List Decl → List Line → Type 0) (r s : Reader) (ask : Option Ask) (n number : ℕ) (text rest line : List ℕ) → ask ≡ None → lines_of text ≡ line ∷ lines_of rest
+pub exact_none : (P Q : List Decl → List Line → Type 0) (r s : Reader) (ask : Option Ask) (n number : ℕ) (text rest line : List ℕ) → ask ≡ None
+    → lines_of text ≡ line ∷ lines_of rest
     → ((lines : List Line) → read_line (reading_of r lines) number line ≡ reading s.begun (with_ask (reading_of s lines).said ask))
     → ((lines : List Line) → Holds P r n lines → Holds Q s n lines)
-    → (old : Reading) → Stands P r n old → (new : Reading) × Stands Q s n new × ((others : List (List ℕ)) → read_lines old number (lines_of text ++ others) ≡ read_lines new (number + 1) (lines_of rest ++ others))
+    → (old : Reading) → Stands P r n old
+    → (new : Reading) × Stands Q s n new × ((others : List (List ℕ))
+    → read_lines old number (lines_of text ++ others) ≡ read_lines new (number + 1) (lines_of rest ++ others))
 exact_none P Q r s ask n number text rest line none cut gives declared old stands =
     let lines = stands.lines in
     let holds = stands.holds in
     let is = stands.is in
-    let good : read_line (reading_of r lines) number line ≡ Ok (reading_of s lines) = gives lines ∙ ap (λ a. reading s.begun (with_ask (reading_of s lines).said a)) none in
-    (reading_of s lines, record { lines = lines; holds = declared lines holds; is = refl }, λ others. ap (λ x. read_lines x number (lines_of text ++ others)) is ∙ lines_next (reading_of r lines) number text line (lines_of rest) others (Ok (reading_of s lines)) cut good)
+    let good : read_line (reading_of r lines) number line ≡ Ok (reading_of s lines) = gives lines
+    ∙ ap (λ a. reading s.begun (with_ask (reading_of s lines).said a)) none in (
+      reading_of s lines,
+      record { lines = lines; holds = declared lines holds; is = refl },
+      λ others.
+          ap (λ x. read_lines x number (lines_of text ++ others)) is
+          ∙ lines_next (reading_of r lines) number text line (lines_of rest) others (Ok (reading_of s lines)) cut good,
+    )
 
 -- and with one that asks something of a declared object, or that it is bad
-pub line_asks : (P O Q : List Decl → List Line → Type 0) (r s t : Reader) (ask : Ask) (n m number : ℕ) (text rest line : List ℕ) (result : Result (Bor (List ℕ)) LineFail) → lines_of text ≡ line ∷ lines_of rest
+pub line_asks : (P O Q : List Decl → List Line → Type 0) (r s t : Reader) (ask : Ask) (n m number : ℕ) (text rest line : List ℕ)
+    (result : Result (Bor (List ℕ)) LineFail) → lines_of text ≡ line ∷ lines_of rest
     → ((lines : List Line) → read_line (reading_of r lines) number line ≡ reading s.begun (with_ask (reading_of s lines).said (Some ask)))
     → ((lines : List Line) → Holds P r n lines → Holds O s n lines)
     → IfOk result (λ left. left.now ≡ rest)
@@ -168,13 +172,18 @@ line_asks P O Q r s t ask n m number text rest line (Ok left) cut gives declared
     let holds = stands.holds in
     let is = stands.is in
     let (more, held, good) = takes lines (declared lines holds) in
-    let ends : lines_of text ≡ line ∷ lines_of left.now = cut ∙ ap (λ b. line ∷ lines_of b) (sym same) in
-    (reading_of t more, record { lines = more; holds = held; is = refl }, λ others. ap (λ x. read_lines x number (lines_of text ++ others)) is ∙ lines_next (reading_of r lines) number text line (lines_of left.now) others (Ok (reading_of t more)) ends (gives lines ∙ good))
+    let ends : lines_of text ≡ line ∷ lines_of left.now = cut ∙ ap (λ b. line ∷ lines_of b) (sym same) in (
+      reading_of t more,
+      record { lines = more; holds = held; is = refl },
+      λ others. ap (λ x. read_lines x number (lines_of text ++ others)) is
+          ∙ lines_next (reading_of r lines) number text line (lines_of left.now) others (Ok (reading_of t more)) ends (gives lines ∙ good),
+    )
 line_asks P O Q r s t ask n m number text rest line (Err (fail.Bad kind)) cut gives declared same takes = λ old stands others.
     let lines = stands.lines in
     let holds = stands.holds in
     let is = stands.is in
-    ap (λ x. read_lines x number (lines_of text ++ others)) is ∙ lines_next (reading_of r lines) number text line (lines_of rest) others (Err kind) cut (gives lines ∙ takes lines (declared lines holds))
+    ap (λ x. read_lines x number (lines_of text ++ others)) is
+    ∙ lines_next (reading_of r lines) number text line (lines_of rest) others (Err kind) cut (gives lines ∙ takes lines (declared lines holds))
 line_asks P O Q r s t ask n m number text rest line (Err fail.Memory) cut gives declared same takes = tt
 
 -- when all lines are read, the whole script is
@@ -201,12 +210,14 @@ told_last P Q decls n decl more at declares objects lines len (inr (last, is)) k
     subst (λ ds. Q ds lines) (sym is) (subst (λ d. Q (objects ++ d ∷ []) lines) here (declares objects lines keeps))
 
 -- no declaration came
-pub told_none : (P : List Decl → List Line → Type 0) (decls : List Decl) (n : ℕ) → length decls ≤ n → (objects : List Decl) (lines : List Line) → length objects ≡ n → Grows objects decls → P objects lines → P decls lines
+pub told_none : (P : List Decl → List Line → Type 0) (decls : List Decl) (n : ℕ) → length decls ≤ n → (objects : List Decl) (lines : List Line)
+    → length objects ≡ n → Grows objects decls → P objects lines → P decls lines
 told_none P decls n few objects lines len (inl same) keeps = subst (λ ds. P ds lines) (sym same) keeps
 told_none P decls n few objects lines len (inr (last, is)) keeps = absurd (omega (arith, few, len, ap length is, length-append objects (last ∷ [])))
 
 -- the bad line is named
-pub next_bad : (Before After : Reading → Type 0) (number : ℕ) (text : List ℕ) (failed : LineFail) (kind told : BadKind) → failed ≡ fail.Bad kind → told ≡ kind → ReadsNext Before After number text (Err failed)
+pub next_bad : (Before After : Reading → Type 0) (number : ℕ) (text : List ℕ) (failed : LineFail) (kind told : BadKind) → failed ≡ fail.Bad kind
+    → told ≡ kind → ReadsNext Before After number text (Err failed)
     → (old : Reading) → Before old → (others : List (List ℕ)) → read_lines old number (lines_of text ++ others) ≡ Err (record { line = number; kind = told })
 next_bad Before After number text failed kind told is same reads old stands others =
     let bad : ReadsNext Before After number text (Err (fail.Bad kind)) = subst (λ e. ReadsNext Before After number text (Err e)) is reads in

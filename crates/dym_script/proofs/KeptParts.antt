@@ -26,10 +26,12 @@ commands_of_none (line ∷ lines) n all =
 -- an object's commands are no more than all
 pub commands_few : (lines : List Line) (n : ℕ) → length (commands_of lines n) ≤ length lines
 commands_few [] n = omega arith
-commands_few (line ∷ lines) n = elim (line.object == n) as (λ b. length (map (λ (l : Line). l.command) (cond b (line ∷ filter (λ l. l.object == n) lines) (filter (λ l. l.object == n) lines))) ≤ length (line ∷ lines)) [
-  | true ↦ omega (arith, commands_few lines n)
-  | false ↦ omega (arith, commands_few lines n)
-]
+commands_few (line ∷ lines) n = elim (line.object == n) as (λ b.
+    length (map (λ (l : Line). l.command) (cond b (line ∷ filter (λ l. l.object == n) lines) (filter (λ l. l.object == n) lines))) ≤ length
+    (line ∷ lines)) [
+      | true ↦ omega (arith, commands_few lines n)
+      | false ↦ omega (arith, commands_few lines n)
+    ]
 
 -- so many are the parts
 pub parts_long : (parts : List Part) (objects : List Decl) → map (λ part. part.decl) parts ≡ objects → length objects ≡ length parts
@@ -46,7 +48,8 @@ part_room parts object part can at =
     omega (arith, ap length has, commands_few can.lines object, can.room)
 
 -- a part more
-pub parts_declared : (parts : List Part) (part : Part) (decl : Decl) → part.decl ≡ decl → part.commands ≡ [] → Declares (ArePartsOf parts) (ArePartsOf (parts ++ part ∷ [])) decl
+pub parts_declared : (parts : List Part) (part : Part) (decl : Decl) → part.decl ≡ decl → part.commands ≡ []
+    → Declares (ArePartsOf parts) (ArePartsOf (parts ++ part ∷ [])) decl
 parts_declared parts part decl is empty objects lines are =
     let long = parts_long parts objects are.decls in
     record {
@@ -57,15 +60,19 @@ parts_declared parts part decl is empty objects lines are =
             ap (λ (p : Part). p.commands) (get_or-append parts (part ∷ []) d k inside) ∙ are.commands k d inside
         | false ↦ λ last.
             let here : k ≡ length parts = grind (arith, nat_tests, length-append parts (part ∷ [])) in
-            let all : All (λ line. line.object < length parts) lines = All-weaker (λ line. line.object < length objects) (λ line. line.object < length parts) (λ line below. omega (arith, below, long)) lines are.within in
+            let all : All (λ line. line.object < length parts) lines =
+            All-weaker (λ line. line.object < length objects) (λ line. line.object < length parts) (λ line below. omega (arith, below, long)) lines
+            are.within in
             ap (λ (p : Part). p.commands) (ap (λ n. get_or (parts ++ part ∷ []) n d) here ∙ get_or-append_seam parts part [] d) ∙ empty
             ∙ sym (ap (commands_of lines) here ∙ commands_of_none lines (length parts) all)
       ] refl;
-      within = All-weaker (λ line. line.object < length objects) (λ line. line.object < length (objects ++ decl ∷ [])) (λ line below. omega (arith, below, length-append objects (decl ∷ []))) lines are.within;
+      within = All-weaker (λ line. line.object < length objects) (λ line. line.object < length (objects ++ decl ∷ []))
+          (λ line below. omega (arith, below, length-append objects (decl ∷ []))) lines are.within;
     }
 
 -- a command more
-pub parts_asked : (parts : List Part) (object : ℕ) (command : Command) (old new : Part) → object < length parts → old ≡ get_or parts object old → new.decl ≡ old.decl → new.commands ≡ old.commands ++ command ∷ []
+pub parts_asked : (parts : List Part) (object : ℕ) (command : Command) (old new : Part) → object < length parts → old ≡ get_or parts object old
+    → new.decl ≡ old.decl → new.commands ≡ old.commands ++ command ∷ []
     → Asks (ArePartsOf parts) (ArePartsOf (set parts object new)) object command
 parts_asked parts object command old new inside at same pushed objects lines are =
     let line : Line = record { object = object; command = command } in

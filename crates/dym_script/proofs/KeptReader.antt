@@ -29,20 +29,25 @@ kept_start r names objects = record {
 }
 
 -- one declaration more is lawful
-pub lawful_declare : (s : Said) (d : Decl) → IsLawful s → length s.objects < MOST_OBJECTS → IsTrue (is_name d.name) → 1 ≤ d.quota → d.quota ≤ MOST_QUOTA → IsLawful (record s { objects = s.objects ++ d ∷ [] })
+pub lawful_declare : (s : Said) (d : Decl) → IsLawful s → length s.objects < MOST_OBJECTS → IsTrue (is_name d.name) → 1 ≤ d.quota
+    → d.quota ≤ MOST_QUOTA → IsLawful (record s { objects = s.objects ++ d ∷ [] })
 lawful_declare s d valid room name low high = record {
   objects = omega (arith, length-append s.objects (d ∷ []));
   lines = valid.lines;
   names = All-push (λ e. IsTrue (is_name e.name)) s.objects d valid.names name;
   quotas = All-push (λ e. (1 ≤ e.quota) × (e.quota ≤ MOST_QUOTA)) s.objects d valid.quotas (low, high);
-  declared = All-weaker (λ line. line.object < length s.objects) (λ line. line.object < length (s.objects ++ d ∷ [])) (λ line below. omega (arith, length-append s.objects (d ∷ []))) s.lines valid.declared;
+  declared = All-weaker (λ line. line.object < length s.objects) (λ line. line.object < length (s.objects ++ d ∷ []))
+      (λ line below. omega (arith, length-append s.objects (d ∷ []))) s.lines valid.declared;
 }
 
 -- a new key is found, and other bytes as before
-pub put_bytes : (r s : Reader) (key : Vec ℕ Global) (place : ℕ) (bytes : List ℕ) → key.items ≡ bytes → Updates (λ x y. pointwise nat_eq x.items y.items) r.names s.names key (Some place)
-    → (get_by (λ k. bytes_eq bytes k.items) s.names ≡ Some place) × ((name : List ℕ) → bytes_eq bytes name ≡ false → get_by (λ k. bytes_eq name k.items) s.names ≡ get_by (λ k. bytes_eq name k.items) r.names)
+pub put_bytes : (r s : Reader) (key : Vec ℕ Global) (place : ℕ) (bytes : List ℕ) → key.items ≡ bytes
+    → Updates (λ x y. pointwise nat_eq x.items y.items) r.names s.names key (Some place)
+    → (get_by (λ k. bytes_eq bytes k.items) s.names ≡ Some place) × ((name : List ℕ) → bytes_eq bytes name ≡ false
+    → get_by (λ k. bytes_eq name k.items) s.names ≡ get_by (λ k. bytes_eq name k.items) r.names)
 put_bytes r s key place bytes same updates =
-    let P : List ℕ → Type 0 = λ bs. (get_by (λ k. bytes_eq bs k.items) s.names ≡ Some place) × ((name : List ℕ) → bytes_eq bs name ≡ false → get_by (λ k. bytes_eq name k.items) s.names ≡ get_by (λ k. bytes_eq name k.items) r.names) in
+    let P : List ℕ → Type 0 = λ bs. (get_by (λ k. bytes_eq bs k.items) s.names ≡ Some place) × ((name : List ℕ) → bytes_eq bs name ≡ false
+    → get_by (λ k. bytes_eq name k.items) s.names ≡ get_by (λ k. bytes_eq name k.items) r.names) in
     subst P same (updates.1, λ name other. other_bytes (λ (k : Vec ℕ Global). k.items) key.items name r.names.entries s.names.entries updates.3 other)
 
 -- the index finds one name more
@@ -57,5 +62,7 @@ indexed_declare r s d kept absent found others objects name =
     let here : P d.name = found ∙ sym (ap (λ o. with_last o (bytes_eq d.name d.name) (length old)) absent ∙ ap (λ b. with_last None b (length old)) same) in
     rw objects (elim (bytes_eq d.name name) as (λ b. bytes_eq d.name name ≡ b → get_by (λ k. bytes_eq name k.items) s.names ≡ object_of (old ++ d ∷ []) name) [
       | true ↦ λ equal. subst P ((bytes_decides d.name name).0 equal) here ∙ sym (object_of_push old d name)
-      | false ↦ λ other. others name other ∙ kept.indexed name ∙ sym (object_of_push old d name ∙ ap (λ b. with_last (object_of old name) b (length old)) other ∙ with_last_no (object_of old name) (length old))
+      | false ↦ λ other. others name other ∙ kept.indexed name
+          ∙ sym (object_of_push old d name ∙ ap (λ b. with_last (object_of old name) b (length old)) other
+          ∙ with_last_no (object_of old name) (length old))
     ] refl)

@@ -23,19 +23,24 @@ abbrev pub ReadTo : List ℕ → LateSaid → ℕ → List ℕ → Type 0
 ReadTo bytes s number rest = late_lines late_start 1 (lines_of bytes) ≡ late_lines s (number + 1) (lines_of rest)
 
 -- the next line is good
-pub read_more : (bytes : List ℕ) (s t : LateSaid) (number : ℕ) (rest line after : List ℕ) → ReadTo bytes s number rest → lines_of rest ≡ line ∷ lines_of after → late_line s (number + 1) line ≡ Ok t → ReadTo bytes t (number + 1) after
+pub read_more : (bytes : List ℕ) (s t : LateSaid) (number : ℕ) (rest line after : List ℕ) → ReadTo bytes s number rest
+    → lines_of rest ≡ line ∷ lines_of after → late_line s (number + 1) line ≡ Ok t → ReadTo bytes t (number + 1) after
 read_more bytes s t number rest line after so cut good =
     so ∙ ap (late_lines s (number + 1)) cut ∙ ap (λ r. late_on (number + 1) r (λ next. late_lines next (number + 1 + 1) (lines_of after))) good
 
 -- the next line is bad
-pub read_bad : (bytes : List ℕ) (s t : LateSaid) (number : ℕ) (rest line after : List ℕ) (failed : LineFail) (kind told : BadKind) → length bytes ≤ MOST_INPUT_BYTES → ReadTo bytes s number rest → lines_of rest ≡ line ∷ lines_of after
-    → failed ≡ fail.Bad kind → told ≡ kind → GivesLateLine t (Err failed) (late_line s (number + 1) line) → late_of bytes ≡ Err (record { line = number + 1; kind = told })
+pub read_bad : (bytes : List ℕ) (s t : LateSaid) (number : ℕ) (rest line after : List ℕ) (failed : LineFail) (kind told : BadKind)
+    → length bytes ≤ MOST_INPUT_BYTES → ReadTo bytes s number rest → lines_of rest ≡ line ∷ lines_of after
+    → failed ≡ fail.Bad kind → told ≡ kind → GivesLateLine t (Err failed) (late_line s (number + 1) line)
+    → late_of bytes ≡ Err (record { line = number + 1; kind = told })
 read_bad bytes s t number rest line after failed kind told short so cut is same gives =
     let bad : late_line s (number + 1) line ≡ Err kind = subst (λ e. GivesLateLine t (Err e) (late_line s (number + 1) line)) is gives in
-    late_says bytes short ∙ so ∙ ap (late_lines s (number + 1)) cut ∙ ap (λ r. late_on (number + 1) r (λ next. late_lines next (number + 1 + 1) (lines_of after))) (bad ∙ ap (λ k. Err k) (sym same))
+    late_says bytes short ∙ so ∙ ap (late_lines s (number + 1)) cut
+    ∙ ap (λ r. late_on (number + 1) r (λ next. late_lines next (number + 1 + 1) (lines_of after))) (bad ∙ ap (λ k. Err k) (sym same))
 
 -- no line is left
-pub read_end : (bytes : List ℕ) (s : LateSaid) (number : ℕ) (rest : List ℕ) → length bytes ≤ MOST_INPUT_BYTES → ReadTo bytes s number rest → lines_of rest ≡ [] → late_of bytes ≡ Ok s
+pub read_end : (bytes : List ℕ) (s : LateSaid) (number : ℕ) (rest : List ℕ) → length bytes ≤ MOST_INPUT_BYTES → ReadTo bytes s number rest
+    → lines_of rest ≡ [] → late_of bytes ≡ Ok s
 read_end bytes s number rest short so none = late_says bytes short ∙ so ∙ ap (late_lines s (number + 1)) none
 
 -- what is kept is lawful

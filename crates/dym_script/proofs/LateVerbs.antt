@@ -18,18 +18,23 @@ unfolding command_of
 command_values v words c =
     let operands = (row v).operands in
     let Goal : Type 0 = (found : Values (row v).operands) × ((row v).make found ≡ c) in
-    elim (not (length words == length operands)) as (λ b. (if b then Err bad.Command else if wrong is_number operands words then Err bad.Number else if wrong is_handle operands words then Err bad.Handle else if wrong is_hex operands words then Err bad.Hex else made v (values_of operands words)) ≡ Ok c → Goal) [
+    elim (not (length words == length operands)) as (λ b.
+    (if b then Err bad.Command else if wrong is_number operands words then Err bad.Number else if wrong is_handle operands words then Err bad.Handle
+    else if wrong is_hex operands words then Err bad.Hex else made v (values_of operands words)) ≡ Ok c → Goal) [
       | true ↦ λ is. absurd (cc)
-      | false ↦ elim (wrong is_number operands words) as (λ b. (if b then Err bad.Number else if wrong is_handle operands words then Err bad.Handle else if wrong is_hex operands words then Err bad.Hex else made v (values_of operands words)) ≡ Ok c → Goal) [
-        | true ↦ λ is. absurd (cc)
-        | false ↦ elim (wrong is_handle operands words) as (λ b. (if b then Err bad.Handle else if wrong is_hex operands words then Err bad.Hex else made v (values_of operands words)) ≡ Ok c → Goal) [
-          | true ↦ λ is. absurd (cc)
-          | false ↦ elim (wrong is_hex operands words) as (λ b. (if b then Err bad.Hex else made v (values_of operands words)) ≡ Ok c → Goal) [
+      | false ↦ elim (wrong is_number operands words) as (λ b.
+          (if b then Err bad.Number else if wrong is_handle operands words then Err bad.Handle else if wrong is_hex operands words then Err bad.Hex else
+          made v (values_of operands words)) ≡ Ok c → Goal) [
             | true ↦ λ is. absurd (cc)
-            | false ↦ made_values v (values_of operands words) c
+            | false ↦ elim (wrong is_handle operands words) as (λ b.
+                (if b then Err bad.Handle else if wrong is_hex operands words then Err bad.Hex else made v (values_of operands words)) ≡ Ok c → Goal) [
+                  | true ↦ λ is. absurd (cc)
+                  | false ↦ elim (wrong is_hex operands words) as (λ b. (if b then Err bad.Hex else made v (values_of operands words)) ≡ Ok c → Goal) [
+                    | true ↦ λ is. absurd (cc)
+                    | false ↦ made_values v (values_of operands words) c
+                  ]
+                ]
           ]
-        ]
-      ]
     ]
 
 -- a verb of events makes a command of events

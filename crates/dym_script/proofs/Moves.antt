@@ -8,15 +8,23 @@ use Rattle.dym_script.specs.declared.parts.Part.{Part}
 use Rattle.dym_script.specs.Parts.{commands_of, EachHas}
 
 -- the commands of an object, with one line more
-pub commands_of_push : (lines : List Line) (line : Line) (k : ℕ) → commands_of (lines ++ line ∷ []) k ≡ commands_of lines k ++ cond (line.object == k) (line.command ∷ []) []
-commands_of_push [] line k = elim (line.object == k) as (λ b. map (λ (l : Line). l.command) (cond b (line ∷ []) []) ≡ cond b (line.command ∷ []) []) [ true ↦ refl | false ↦ refl ]
-commands_of_push (l ∷ ls) line k = elim (l.object == k) as (λ b. map (λ (m : Line). m.command) (cond b (l ∷ filter (λ m. m.object == k) (ls ++ line ∷ [])) (filter (λ m. m.object == k) (ls ++ line ∷ []))) ≡ map (λ m. m.command) (cond b (l ∷ filter (λ m. m.object == k) ls) (filter (λ m. m.object == k) ls)) ++ cond (line.object == k) (line.command ∷ []) []) [
-  | true ↦ ap (λ cs. l.command ∷ cs) (commands_of_push ls line k)
-  | false ↦ commands_of_push ls line k
+pub commands_of_push : (lines : List Line) (line : Line) (k : ℕ)
+    → commands_of (lines ++ line ∷ []) k ≡ commands_of lines k ++ cond (line.object == k) (line.command ∷ []) []
+commands_of_push [] line k = elim (line.object == k) as (λ b. map (λ (l : Line). l.command) (cond b (line ∷ []) []) ≡ cond b (line.command ∷ []) []) [
+  | true ↦ refl
+  | false ↦ refl
 ]
+commands_of_push (l ∷ ls) line k = elim (l.object == k) as (λ b.
+    map (λ (m : Line). m.command) (cond b (l ∷ filter (λ m. m.object == k) (ls ++ line ∷ [])) (filter (λ m. m.object == k) (ls ++ line ∷ []))) ≡ map
+    (λ m. m.command) (cond b (l ∷ filter (λ m. m.object == k) ls) (filter (λ m. m.object == k) ls)) ++ cond (line.object == k) (line.command ∷ [])
+    []) [
+      | true ↦ ap (λ cs. l.command ∷ cs) (commands_of_push ls line k)
+      | false ↦ commands_of_push ls line k
+    ]
 
 -- the part of the line's object gains its command, and the others stay
-pub commands_more : (parts : List Part) (line : Line) (old new : Part) (lines : List Line) → line.object < length parts → old ≡ get_or parts line.object old → new.commands ≡ old.commands ++ line.command ∷ []
+pub commands_more : (parts : List Part) (line : Line) (old new : Part) (lines : List Line) → line.object < length parts
+    → old ≡ get_or parts line.object old → new.commands ≡ old.commands ++ line.command ∷ []
     → EachHas parts lines → EachHas (set parts line.object new) (lines ++ line ∷ [])
 commands_more parts line old new lines inside at pushed owns k d small =
     elim (line.object == k) as (λ b. (line.object == k) ≡ b → (get_or (set parts line.object new) k d).commands ≡ commands_of (lines ++ line ∷ []) k) [
@@ -32,5 +40,6 @@ commands_more parts line old new lines inside at pushed owns k d small =
     ] refl
 
 -- the declarations stay
-pub decls_more : (parts : List Part) (i : ℕ) (old new : Part) → i < length parts → old ≡ get_or parts i old → new.decl ≡ old.decl → map (λ part. part.decl) (set parts i new) ≡ map (λ part. part.decl) parts
+pub decls_more : (parts : List Part) (i : ℕ) (old new : Part) → i < length parts → old ≡ get_or parts i old → new.decl ≡ old.decl
+    → map (λ part. part.decl) (set parts i new) ≡ map (λ part. part.decl) parts
 decls_more parts i old new inside at same = map-set_same (λ (part : Part). part.decl) parts i new old (same ∙ ap (λ (p : Part). p.decl) at)

@@ -23,7 +23,8 @@ pub digit_small : (c : ℕ) → is_ascii_digit c ≡ true → digit_value c < 10
 digit_small c digit = let range = digit_range c digit in omega (arith, digit_is c digit)
 
 -- one digit more
-pub digits_more : (word : List ℕ) (i value digit : ℕ) → i < length word → list_all is_ascii_digit (take i word) ≡ true → value ≡ digits_value 10 (take i word) → is_ascii_digit (get_or word i 0) ≡ true → digit + 48 ≡ get_or word i 0
+pub digits_more : (word : List ℕ) (i value digit : ℕ) → i < length word → list_all is_ascii_digit (take i word) ≡ true
+    → value ≡ digits_value 10 (take i word) → is_ascii_digit (get_or word i 0) ≡ true → digit + 48 ≡ get_or word i 0
     → (value * 10 + digit ≡ digits_value 10 (take (i + 1) word)) × (list_all is_ascii_digit (take (i + 1) word) ≡ true)
 digits_more word i value digit inside digits is passes same = (
   omega (arith, digits_value_more 10 word i inside, digit_is (get_or word i 0) passes),
@@ -31,7 +32,8 @@ digits_more word i value digit inside digits is passes same = (
 )
 
 -- a number is too great where its first digits are
-pub too_great : (most value digit i : ℕ) (word : List ℕ) → most < 2 ^ 64 → i < length word → list_all is_ascii_digit (take i word) ≡ true → value ≡ digits_value 10 (take i word) → is_ascii_digit (get_or word i 0) ≡ true → digit + 48 ≡ get_or word i 0
+pub too_great : (most value digit i : ℕ) (word : List ℕ) → most < 2 ^ 64 → i < length word → list_all is_ascii_digit (take i word) ≡ true
+    → value ≡ digits_value 10 (take i word) → is_ascii_digit (get_or word i 0) ≡ true → digit + 48 ≡ get_or word i 0
     → 2 ^ 64 ≤ value * 10 + digit → None ≡ number_to most word
 unfolding number_to
 too_great most value digit i word small inside digits is passes same great =

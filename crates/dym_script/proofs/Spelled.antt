@@ -13,7 +13,7 @@ use Rattle.hex.specs.Hex.{is_hex_digit}
 use Rattle.dym_base.specs.declared.handle.Handle.{Handle}
 use Rattle.dym_script.specs.declared.verb.Verb.{Verb}
 use Rattle.dym_script.specs.declared.verb.Verb.TheVariants as verb
-use Rattle.dym_commands.specs.declared.request.Asked.{Asked}
+use Rattle.dym_commands.specs.declared.request.Request.{Request}
 use Rattle.dym_base.specs.Lines.{lines_of}
 use Rattle.dym_script.specs.Lines.{words_of, is_space, is_word, is_printable}
 use Rattle.dym_commands.specs.Requests.{asks}
@@ -41,7 +41,8 @@ bare_printable : (x : ℕ) → is_bare x ≡ true → is_printable x ≡ true
 bare_printable x bare = grind (arith, nat_tests)
 
 -- a word's bytes join the first piece of what follows
-split_word : (word rest piece : List ℕ) (pieces : List (List ℕ)) → list_all is_bare word ≡ true → slice_split is_space rest ≡ piece ∷ pieces → slice_split is_space (word ++ rest) ≡ (word ++ piece) ∷ pieces
+split_word : (word rest piece : List ℕ) (pieces : List (List ℕ)) → list_all is_bare word ≡ true → slice_split is_space rest ≡ piece ∷ pieces
+    → slice_split is_space (word ++ rest) ≡ (word ++ piece) ∷ pieces
 split_word [] rest piece pieces bare split = split
 split_word (x ∷ xs) rest piece pieces bare split =
     let two = both_true (is_bare x) (list_all is_bare xs) bare in
@@ -62,11 +63,13 @@ words_stay (word ∷ words) bare =
     rw (good.0, words_stay words two.1) refl
 
 -- the words of a line in the usual spelling
-pub words_of_spelled : (name : List ℕ) (words : List (List ℕ)) → is_bare_word name ≡ true → list_all is_bare_word words ≡ true → words_of (name ++ spelled words) ≡ name ∷ words
+pub words_of_spelled : (name : List ℕ) (words : List (List ℕ)) → is_bare_word name ≡ true → list_all is_bare_word words ≡ true
+    → words_of (name ++ spelled words) ≡ name ∷ words
 unfolding words_of
 words_of_spelled name words named bare =
     let good = both_true (is_word name) (list_all is_bare name) named in
-    ap (filter is_word) (split_word name (spelled words) [] words good.1 (split_spelled words bare) ∙ ap (λ w. w ∷ words) (append-nil name)) ∙ rw (good.0, words_stay words bare) refl
+    ap (filter is_word) (split_word name (spelled words) [] words good.1 (split_spelled words bare) ∙ ap (λ w. w ∷ words) (append-nil name))
+    ∙ rw (good.0, words_stay words bare) refl
 
 word_printable : (word : List ℕ) → is_bare_word word ≡ true → list_all is_printable word ≡ true
 word_printable word bare = all_weaker is_bare is_printable bare_printable word (both_true (is_word word) (list_all is_bare word) bare).1
@@ -78,7 +81,8 @@ words_printable (word ∷ words) bare =
     list_all-append is_printable word (spelled words) ∙ rw (word_printable word two.0, words_printable words two.1) refl
 
 -- a line in the usual spelling has only bytes that may stand in a line
-pub line_printable : (name : List ℕ) (words : List (List ℕ)) → is_bare_word name ≡ true → list_all is_bare_word words ≡ true → list_all is_printable (name ++ spelled words) ≡ true
+pub line_printable : (name : List ℕ) (words : List (List ℕ)) → is_bare_word name ≡ true → list_all is_bare_word words ≡ true
+    → list_all is_printable (name ++ spelled words) ≡ true
 line_printable name words named bare = list_all-append is_printable name (spelled words) ∙ rw (word_printable name named, words_printable words bare) refl
 
 -- a line end may not
@@ -103,7 +107,8 @@ spells_end text after is = record {
 }
 
 -- one word more at the front
-pub spells_more : (operand : Operand) (operands : List Operand) (text rest after : List ℕ) (value : Value operand) (values : Values operands) → Begins (value_of operand) text value rest → Spells operands rest values after → Spells (operand ∷ operands) text (value, values) after
+pub spells_more : (operand : Operand) (operands : List Operand) (text rest after : List ℕ) (value : Value operand) (values : Values operands)
+    → Begins (value_of operand) text value rest → Spells operands rest values after → Spells (operand ∷ operands) text (value, values) after
 spells_more operand operands text rest after value values begins spells = record {
   words = begins.word ∷ spells.words;
   is = begins.is ∙ ap (λ t. 32 ∷ t) (ap (λ t. begins.word ++ t) spells.is ∙ sym (append_assoc begins.word (spelled spells.words) (10 ∷ after)));
@@ -138,11 +143,14 @@ starts_at text (c ∷ front) i inside has =
     ∙ ap (λ t. c ∷ t) (starts_at text front (suc i) (omega arith) has.1 ∙ ap (λ n. front ++ drop n text) (omega arith))
 
 -- these bytes stand at the front of a text
-pub starts : (text front rest : List ℕ) → length front ≤ length text → HasBytesAt text 0 front → rest ≡ take (length text - length front) (drop (length front) text) → text ≡ front ++ rest
-starts text front rest inside has is = starts_at text front 0 (omega arith) has ∙ ap (λ t. front ++ t) (ap (λ n. drop n text) (omega arith) ∙ sym (is ∙ take_rest (length front) text))
+pub starts : (text front rest : List ℕ) → length front ≤ length text → HasBytesAt text 0 front
+    → rest ≡ take (length text - length front) (drop (length front) text) → text ≡ front ++ rest
+starts text front rest inside has is = starts_at text front 0 (omega arith) has
+    ∙ ap (λ t. front ++ t) (ap (λ n. drop n text) (omega arith) ∙ sym (is ∙ take_rest (length front) text))
 
 -- a verb in the usual spelling asks what the values of its words make
-pub demands : (v : Verb) (text rest after : List ℕ) (asked : Asked) (values : Values (row v).operands) → text ≡ 32 ∷ (row v).word ++ rest → Spells (row v).operands rest values after → (row v).make values ≡ asks asked → Demands text asked after
+pub demands : (v : Verb) (text rest after : List ℕ) (asked : Request (List ℕ)) (values : Values (row v).operands) → text ≡ 32 ∷ (row v).word ++ rest
+    → Spells (row v).operands rest values after → (row v).make values ≡ asks asked → Demands text asked after
 demands v text rest after asked values at spells makes = record {
   verb = v;
   word = (row v).word;
@@ -158,18 +166,22 @@ digit_bare c digit = grind (arith, nat_tests)
 
 pub digits_bare : (word : List ℕ) → is_digits word ≡ true → is_bare_word word ≡ true
 digits_bare [] good = absurd (cc)
-digits_bare (c ∷ cs) good = all_weaker is_ascii_digit is_bare digit_bare (c ∷ cs) (both_true (nat_le 1 (length (c ∷ cs)) && nat_le (length (c ∷ cs)) 20) (list_all is_ascii_digit (c ∷ cs)) good).1
+digits_bare (c ∷ cs) good = all_weaker is_ascii_digit is_bare digit_bare (c ∷ cs)
+    (both_true (nat_le 1 (length (c ∷ cs)) && nat_le (length (c ∷ cs)) 20) (list_all is_ascii_digit (c ∷ cs)) good).1
 
 -- a number that a word writes
 number_good : (most value : ℕ) (word : List ℕ) → Some value ≡ number_to most word → (is_digits word ≡ true) × (digits_value 10 word ≡ value)
 unfolding number_to
-number_good most value word is = elim (is_digits word) as (λ b. is_digits word ≡ b → Some value ≡ (if b && nat_le (digits_value 10 word) most then Some (digits_value 10 word) else None) → (is_digits word ≡ true) × (digits_value 10 word ≡ value)) [
-  | true ↦ λ good. elim (nat_le (digits_value 10 word) most) as (λ b. Some value ≡ (if b then Some (digits_value 10 word) else None) → (is_digits word ≡ true) × (digits_value 10 word ≡ value)) [
-    | true ↦ λ same. (good, cc)
-    | false ↦ λ clash. absurd (cc)
-  ]
-  | false ↦ λ other clash. absurd (cc)
-] refl is
+number_good most value word is = elim (is_digits word) as (λ b. is_digits word ≡ b
+    → Some value ≡ (if b && nat_le (digits_value 10 word) most then Some (digits_value 10 word) else None)
+    → (is_digits word ≡ true) × (digits_value 10 word ≡ value)) [
+      | true ↦ λ good. elim (nat_le (digits_value 10 word) most) as (λ b. Some value ≡ (if b then Some (digits_value 10 word) else None)
+          → (is_digits word ≡ true) × (digits_value 10 word ≡ value)) [
+            | true ↦ λ same. (good, cc)
+            | false ↦ λ clash. absurd (cc)
+          ]
+      | false ↦ λ other clash. absurd (cc)
+    ] refl is
 
 -- a word at the front of a text that writes a number
 pub counts_word : (text word rest : List ℕ) (most n value : ℕ) → word ≡ take n text → rest ≡ drop n text → Some value ≡ number_to most word → Counts text value rest
@@ -189,7 +201,8 @@ number_read most value word good is small =
     let fits : nat_le value most ≡ true = grind (arith, nat_tests) in
     rw (good, is, fits) refl
 
-pub begins_number : (most : ℕ) (text digits rest : List ℕ) (value : ℕ) → text ≡ 32 ∷ digits → Counts digits value rest → value ≤ most → Begins (number_to most) text value rest
+pub begins_number : (most : ℕ) (text digits rest : List ℕ) (value : ℕ) → text ≡ 32 ∷ digits → Counts digits value rest → value ≤ most
+    → Begins (number_to most) text value rest
 begins_number most text digits rest value at counts small = record {
   word = counts.digits;
   is = at ∙ ap (λ t. 32 ∷ t) counts.is;
@@ -203,7 +216,8 @@ colon_after (x ∷ xs) rest whole =
     let two = both_true (not (x == 58)) (list_all (λ b. not (b == 58)) xs) whole in
     rw (no_more (x == 58) two.0) (ap (λ n. 1 + n) (colon_after xs rest two.1) ∙ omega arith)
 
-handle_read : (size digits : List ℕ) (exp index : ℕ) → list_all (λ b. not (b == 58)) size ≡ true → exponent_of size ≡ Some exp → number_to (2 ^ 32 - 1) digits ≡ Some index → handle_of (size ++ 58 ∷ digits) ≡ Some (record { exp = exp; index = index })
+handle_read : (size digits : List ℕ) (exp index : ℕ) → list_all (λ b. not (b == 58)) size ≡ true → exponent_of size ≡ Some exp
+    → number_to (2 ^ 32 - 1) digits ≡ Some index → handle_of (size ++ 58 ∷ digits) ≡ Some (record { exp = exp; index = index })
 unfolding handle_of
 handle_read size digits exp index whole is number =
     let inside : nat_lt (length size) (length (size ++ 58 ∷ digits)) ≡ true = grind (arith, nat_tests, length-append size (58 ∷ digits)) in
@@ -216,19 +230,23 @@ word_front : (xs ys : List ℕ) → list_all is_bare (xs ++ 58 ∷ ys) ≡ true 
 word_front [] ys bare = bare
 word_front (x ∷ xs) ys bare = bare
 
-pub begins_handle : (text after digits rest : List ℕ) (exp index : ℕ) → text ≡ 32 ∷ after → Sizes after exp digits → Counts digits index rest → index ≤ 2 ^ 32 - 1 → Begins handle_of text (record { exp = exp; index = index }) rest
+pub begins_handle : (text after digits rest : List ℕ) (exp index : ℕ) → text ≡ 32 ∷ after → Sizes after exp digits → Counts digits index rest
+    → index ≤ 2 ^ 32 - 1 → Begins handle_of text (record { exp = exp; index = index }) rest
 begins_handle text after digits rest exp index at sizes counts small =
     let bare = digits_bare counts.digits counts.good in
-    let joined : after ≡ (sizes.size ++ 58 ∷ counts.digits) ++ rest = sizes.is ∙ ap (λ t. sizes.size ++ 58 ∷ t) counts.is ∙ sym (append_assoc sizes.size (58 ∷ counts.digits) rest) in
+    let joined : after ≡ (sizes.size ++ 58 ∷ counts.digits) ++ rest = sizes.is ∙ ap (λ t. sizes.size ++ 58 ∷ t) counts.is
+    ∙ sym (append_assoc sizes.size (58 ∷ counts.digits) rest) in
     record {
       word = sizes.size ++ 58 ∷ counts.digits;
       is = at ∙ ap (λ t. 32 ∷ t) joined;
-      bare = word_front sizes.size counts.digits (bare_front sizes.size counts.digits sizes.bare (both_true (is_word counts.digits) (list_all is_bare counts.digits) bare).1);
+      bare = word_front sizes.size counts.digits
+          (bare_front sizes.size counts.digits sizes.bare (both_true (is_word counts.digits) (list_all is_bare counts.digits) bare).1);
       reads = handle_read sizes.size counts.digits exp index sizes.whole sizes.value (number_read (2 ^ 32 - 1) index counts.digits counts.good counts.value small);
     }
 
 -- a chunk size and its colon at the front of a text
-pub sizes_front : (text size rest : List ℕ) (exp : ℕ) → text ≡ (size ++ 58 ∷ []) ++ rest → list_all is_bare size ≡ true → list_all (λ b. not (b == 58)) size ≡ true → exponent_of size ≡ Some exp → Sizes text exp rest
+pub sizes_front : (text size rest : List ℕ) (exp : ℕ) → text ≡ (size ++ 58 ∷ []) ++ rest → list_all is_bare size ≡ true
+    → list_all (λ b. not (b == 58)) size ≡ true → exponent_of size ≡ Some exp → Sizes text exp rest
 sizes_front text size rest exp at bare whole value = record {
   size = size;
   is = at ∙ append_assoc size (58 ∷ []) rest;

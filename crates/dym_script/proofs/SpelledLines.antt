@@ -67,13 +67,26 @@ begin_reading (Ok s) = refl
 begin_reading (Err kind) = refl
 
 -- a line of these words asks this of the object of this name
-read_asking : (r : Reading) (number place : ℕ) (line name word : List ℕ) (words : List (List ℕ)) (v : Verb) (command : Command) → length line ≤ MOST_LINE_BYTES → list_all is_printable line ≡ true → words_of line ≡ name ∷ word ∷ words
+read_asking : (r : Reading) (number place : ℕ) (line name word : List ℕ) (words : List (List ℕ)) (v : Verb) (command : Command)
+    → length line ≤ MOST_LINE_BYTES → list_all is_printable line ≡ true → words_of line ≡ name ∷ word ∷ words
     → is_name name ≡ true → verb_of word ≡ Some v → command_of v words ≡ Ok command → object_of r.said.objects name ≡ Some place
     → read_line r number line ≡ reading true (ask_at r.said command (Some place))
 unfolding read_line
 read_asking r number place line name word words v command short good cut named verb makes object =
     let fits : nat_lt MOST_LINE_BYTES (length line) ≡ false = grind (arith, nat_tests) in
-    rw (fits, good, cut, name_no_hash name named, not_version name word words v verb, and_no (not r.begun), (name_parts name named).2, verb, makes, named, object) (begin_reading (ask_at r.said command (Some place)))
+    rw (
+      fits,
+      good,
+      cut,
+      name_no_hash name named,
+      not_version name word words v verb,
+      and_no (not r.begun),
+      (name_parts name named).2,
+      verb,
+      makes,
+      named,
+      object,
+    ) (begin_reading (ask_at r.said command (Some place)))
 
 first_stays : (b : ℕ) (lines : List (List ℕ)) → onto_first b lines ≡ [] → ⊥
 first_stays b [] none = absurd (cc)
@@ -88,7 +101,9 @@ some_line (b ∷ bytes) some none = elim (b == 10) as (λ t. cond t ([] ∷ line
 ] none
 
 -- a line in the usual spelling that names a declared object is the next to be read
-pub next_asked : (r : Reader) (text name words rest : List ℕ) (ask : Ask) → text ≡ name ++ words → is_name name ≡ true → Some ask.object ≡ object_of r.objects.items name → ask.object < length r.objects.items → Demands words ask.asked rest → length text - length rest ≤ MOST_LINE_BYTES + 1 → IsNext r text ask rest
+pub next_asked : (r : Reader) (text name words rest : List ℕ) (ask : Ask) → text ≡ name ++ words → is_name name ≡ true
+    → Some ask.object ≡ object_of r.objects.items name → ask.object < length r.objects.items → Demands words ask.asked rest
+    → length text - length rest ≤ MOST_LINE_BYTES + 1 → IsNext r text ask rest
 next_asked r text name words rest ask front named found within d short =
     let spoken = d.word ∷ d.words in
     let line = name ++ spelled spoken in
@@ -102,7 +117,8 @@ next_asked r text name words rest ask front named found within d short =
       first = (
         line,
         ap lines_of is ∙ lines_of_front line rest printable,
-        λ now more number are. read_asking now number ask.object line name d.word d.words d.verb (asks ask.asked) (omega arith) printable (words_of_spelled name spoken bare d.bare) named d.named d.makes
+        λ now more number are. read_asking now number ask.object line name d.word d.words d.verb (asks ask.asked) (omega arith) printable
+            (words_of_spelled name spoken bare d.bare) named d.named d.makes
             (ap (λ ds. object_of ds name) are ∙ object_of_more r.objects.items more name ask.object (sym found)),
       );
     }

@@ -15,7 +15,8 @@ pub verb_front : (text padded rest : List ℕ) (word len : ℕ) → ((i : ℕ) �
     → rest ≡ take (length text - len) (drop len text) → text ≡ drop (8 - len) padded ++ rest
 verb_front text padded rest word len each long is some few eight fits same after =
     let moved = moved_bytes text word len each long is some few in
-    let whole : padded ≡ replicate (8 - len) 0 ++ take len text = sym (le_bytes_8 padded (from_le_bytes w64 padded) eight fits refl) ∙ ap (to_le_bytes w64) (sym same) ∙ moved in
+    let whole : padded ≡ replicate (8 - len) 0 ++ take len text = sym (le_bytes_8 padded (from_le_bytes w64 padded) eight fits refl)
+    ∙ ap (to_le_bytes w64) (sym same) ∙ moved in
     let front : drop (8 - len) padded ≡ take len text = ap (drop (8 - len)) whole ∙ drop_zeros (8 - len) (take len text) in
     let back : rest ≡ drop len text = after ∙ take_rest len text in
     sym (take-append-drop len text) ∙ (λ i. sym front i ++ sym back i)

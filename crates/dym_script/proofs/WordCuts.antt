@@ -11,7 +11,8 @@ both_true true b both = (refl, both)
 both_true false b both = absurd (cc)
 
 -- no line end stands before place n, and one stands there
-pub lines_of_cut : (xs : List ℕ) (n : ℕ) → n < length xs → ((k : ℕ) → k < n → eqb (get_or xs k 0) 10 ≡ false) → eqb (get_or xs n 0) 10 ≡ true → lines_of xs ≡ take n xs ∷ lines_of (drop (suc n) xs)
+pub lines_of_cut : (xs : List ℕ) (n : ℕ) → n < length xs → ((k : ℕ) → k < n → eqb (get_or xs k 0) 10 ≡ false) → eqb (get_or xs n 0) 10 ≡ true
+    → lines_of xs ≡ take n xs ∷ lines_of (drop (suc n) xs)
 lines_of_cut [] n inside before here = absurd (omega arith)
 lines_of_cut (x ∷ xs) zero inside before here = rw here refl
 lines_of_cut (x ∷ xs) (suc n) inside before here =
@@ -44,28 +45,42 @@ words_of_spaces (x ∷ xs) = elim (is_space x) as (λ b. is_space x ≡ b → wo
 ] refl
 
 -- before the first space stands the first piece, and after it the words that are left
-pub pieces_of_cut : (xs : List ℕ) → (rest : List (List ℕ)) × (slice_split is_space xs ≡ take (prefix_len (λ b. not (is_space b)) xs) xs ∷ rest) × (filter is_word rest ≡ words_of (drop (prefix_len (λ b. not (is_space b)) xs) xs))
+pub pieces_of_cut : (xs : List ℕ) → (rest : List (List ℕ)) × (slice_split is_space xs ≡ take (prefix_len (λ b. not (is_space b)) xs)
+    xs ∷ rest) × (filter is_word rest ≡ words_of (drop (prefix_len (λ b. not (is_space b)) xs) xs))
 unfolding words_of
 pieces_of_cut [] = ([], refl, refl)
-pieces_of_cut (x ∷ xs) = elim (is_space x) as (λ b. is_space x ≡ b → (rest : List (List ℕ)) × (cond b ([] ∷ slice_split is_space xs) (onto_first x (slice_split is_space xs)) ≡ take (cond (not b) (1 + prefix_len (λ c. not (is_space c)) xs) 0) (x ∷ xs) ∷ rest) × (filter is_word rest ≡ words_of (drop (cond (not b) (1 + prefix_len (λ c. not (is_space c)) xs) 0) (x ∷ xs)))) [
-  | true ↦ λ space. (slice_split is_space xs, refl, rw space refl)
-  | false ↦ λ other. let (rest, cut, words) = pieces_of_cut xs in (rest, rw (one-add (prefix_len (λ c. not (is_space c)) xs), cut) refl, rw (one-add (prefix_len (λ c. not (is_space c)) xs)) words)
-] refl
+pieces_of_cut (x ∷ xs) = elim (is_space x) as (λ b. is_space x ≡ b
+    → (rest : List (List ℕ)) × (cond b ([] ∷ slice_split is_space xs) (onto_first x (slice_split is_space xs)) ≡ take
+    (cond (not b) (1 + prefix_len (λ c. not (is_space c)) xs) 0) (x ∷ xs) ∷ rest) × (filter is_word rest ≡ words_of
+    (drop (cond (not b) (1 + prefix_len (λ c. not (is_space c)) xs) 0) (x ∷ xs)))) [
+      | true ↦ λ space. (slice_split is_space xs, refl, rw space refl)
+      | false ↦ λ other. let (rest, cut, words) =
+          pieces_of_cut xs in (
+            rest,
+            rw (one-add (prefix_len (λ c. not (is_space c)) xs), cut) refl,
+            rw (one-add (prefix_len (λ c. not (is_space c)) xs))
+                words,
+          )
+    ] refl
 
 -- the first word of a text that doesn't begin with a space
-pub words_of_cut : (xs : List ℕ) → 0 < length xs → is_space (get_or xs 0 0) ≡ false → words_of xs ≡ take (prefix_len (λ b. not (is_space b)) xs) xs ∷ words_of (drop (prefix_len (λ b. not (is_space b)) xs) xs)
+pub words_of_cut : (xs : List ℕ) → 0 < length xs → is_space (get_or xs 0 0) ≡ false
+    → words_of xs ≡ take (prefix_len (λ b. not (is_space b)) xs) xs ∷ words_of (drop (prefix_len (λ b. not (is_space b)) xs) xs)
 unfolding words_of
 words_of_cut [] some other = absurd (omega arith)
 words_of_cut (x ∷ xs) some other =
     let (rest, cut, words) = pieces_of_cut (x ∷ xs) in
-    ap (filter is_word) cut ∙ rw (other, one-add (prefix_len (λ b. not (is_space b)) xs)) (ap (λ ws. (x ∷ take (prefix_len (λ b. not (is_space b)) xs) xs) ∷ ws) (words ∙ rw (other, one-add (prefix_len (λ b. not (is_space b)) xs)) refl))
+    ap (filter is_word) cut ∙ rw (other, one-add (prefix_len (λ b. not (is_space b)) xs))
+    (ap (λ ws. (x ∷ take (prefix_len (λ b. not (is_space b)) xs) xs) ∷ ws) (words ∙ rw (other, one-add (prefix_len (λ b. not (is_space b)) xs)) refl))
 
 -- the first word of a text
-pub first_word : (xs ys : List ℕ) (n m : ℕ) → n ≡ prefix_len is_space xs → ys ≡ drop n xs → 0 < length ys → m ≡ prefix_len (λ b. not (is_space b)) ys → words_of xs ≡ take m ys ∷ words_of (drop m ys)
+pub first_word : (xs ys : List ℕ) (n m : ℕ) → n ≡ prefix_len is_space xs → ys ≡ drop n xs → 0 < length ys → m ≡ prefix_len (λ b. not (is_space b)) ys
+    → words_of xs ≡ take m ys ∷ words_of (drop m ys)
 first_word xs ys n m count rest some len =
     let same : words_of xs ≡ words_of ys = rw (rest, count) (sym (words_of_spaces xs)) in
     let long : length ys ≡ length xs - n = ap length rest ∙ length-drop n xs in
-    let stops : is_space (get_or (drop (prefix_len is_space xs) xs) 0 0) ≡ false = rw (get_or-drop (prefix_len is_space xs) xs 0 0, add-zero) (prefix_len_stops is_space xs 0 (omega arith)) in
+    let stops : is_space (get_or (drop (prefix_len is_space xs) xs) 0 0) ≡ false =
+    rw (get_or-drop (prefix_len is_space xs) xs 0 0, add-zero) (prefix_len_stops is_space xs 0 (omega arith)) in
     rw len (same ∙ words_of_cut ys some (rw (rest, count) stops))
 
 -- a text of spaces alone has no word

@@ -7,11 +7,11 @@ use Rattle.dym_script.specs.declared.script.ScriptFail.{ScriptFail}
 use Rattle.dym_script.specs.Scripts.{Said, Fault}
 use Rattle.dym_script.specs.Answers.{GivesBy}
 use Rattle.dym_script.specs.Keepers.{IsWhole}
-use Rattle.dym_script.specs.Parts.{ArePartsOf}
+use Rattle.dym_script.specs.Parts.{KeepsParts}
 
 -- what was read is what a script says, by its objects
 abbrev pub IsByObjects : WholeScript PartCollector → Said → Type 0
-IsByObjects whole s = IsWhole (ArePartsOf whole.kept.parts.items) whole.version whole.objects.items whole.commands s
+IsByObjects whole s = IsWhole (KeepsParts whole.kept) whole.version whole.objects.items whole.commands s
 
 -- the answer of the reader of parts is what the grammar gives, unless memory ran out
 abbrev pub GivesParts : Result (WholeScript PartCollector) ScriptFail → Result Said Fault → Type 0

@@ -13,7 +13,6 @@ use Rattle.dym_script.specs.declared.script.Line.{Line}
 use Rattle.dym_script.specs.Scripts.{Said, Reading}
 use Rattle.dym_script.specs.Answers.{IsLawful}
 use Rattle.dym_script.specs.Readers.{IsValidReader, reading_of}
-use Rattle.dym_script.specs.Pieces.{Took}
 
 -- one declaration more is kept
 abbrev pub Declares : (List Decl → List Line → Type 0) → (List Decl → List Line → Type 0) → Decl → Type 0
@@ -49,10 +48,6 @@ pub record IsReady (Keeps : List Decl → List Line → Type 0) (r : Reader) (co
   pub kept : IsValidReader r
   pub few : commands ≤ MOST_COMMANDS
   pub some : (now : Reading) × Stands Keeps r commands now
-
--- so many lines were read, which are all of a text and are ended
-abbrev pub TookBy : (List Decl → List Line → Type 0) → Reader → ℕ → ℕ → (List ℕ → Type 0)
-TookBy Keeps r commands number = Took (IsReady Keeps r commands) (Stands Keeps r commands) number
 
 -- where something is held before the line, so it is after it, of lines of which the grammar says the same
 abbrev pub HoldsLine : {X : Type 0} → (List Line → Type 0) → (List Line → Type 0) → (List Line → Reading) → Result X LineFail → (List Line → Result Reading BadKind) → Type 0

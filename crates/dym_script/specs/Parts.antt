@@ -2,6 +2,7 @@
 use Rattle.std.specs.Prelude.{◌≡◌, ◌<◌, ◌==◌, ℕ, List, length, map, filter, All, slice_index_or}
 use Rattle.dym_base.specs.declared.command.Command.{Command}
 use Rattle.dym_script.specs.declared.parts.Part.{Part}
+use Rattle.dym_script.specs.declared.parts.PartCollector.{PartCollector}
 use Rattle.dym_script.specs.declared.script.Decl.{Decl}
 use Rattle.dym_script.specs.declared.script.Line.{Line}
 
@@ -18,3 +19,7 @@ pub record ArePartsOf (parts : List Part) (objects : List Decl) (lines : List Li
   pub decls : map (λ part. part.decl) parts ≡ objects
   pub commands : EachHas parts lines
   pub within : All (λ line. line.object < length objects) lines
+
+-- the collector has these parts
+abbrev pub KeepsParts : PartCollector → List Decl → List Line → Type 0
+KeepsParts collector = ArePartsOf collector.parts.items

@@ -3,7 +3,7 @@ use Rattle.std.specs.Prelude.{◌≡◌, ◌&&◌, ◌==◌, ℕ, Bool, true, no
 use Rattle.std.specs.List.{list_all}
 use Rattle.std.specs.Str.Parse.{digits_value}
 use Rattle.dym_script.specs.declared.verb.Verb.{Verb}
-use Rattle.dym_commands.specs.declared.request.Asked.{Asked}
+use Rattle.dym_commands.specs.declared.request.Request.{Request}
 use Rattle.dym_script.specs.Lines.{is_word}
 use Rattle.dym_commands.specs.Requests.{asks}
 use Rattle.dym_script.specs.Words.{is_digits, exponent_of}
@@ -53,7 +53,7 @@ pub record Spells (operands : List Operand) (text : List ℕ) (values : Values o
   pub reads : values_of operands words ≡ Some values
 
 -- the text is a verb and its words in the usual spelling, which ask this, a line end, and what stands after it
-pub record Demands (text : List ℕ) (asked : Asked) (after : List ℕ) : Type 0 where
+pub record Demands (text : List ℕ) (asked : Request (List ℕ)) (after : List ℕ) : Type 0 where
   pub verb : Verb
   pub word : List ℕ
   pub words : List (List ℕ)

@@ -2,7 +2,7 @@
 
 use crate::keeper::Keeper;
 use crate::script::Decl;
-use dym_commands::Asked;
+use dym_commands::{HexBytes, Request};
 use std::alloc::{AllocError, Global};
 
 /// Keeps nothing of a script, which is counted then.
@@ -21,7 +21,12 @@ impl Keeper for Counter {
     }
 
     #[inline(always)]
-    fn ask(&mut self, _alloc: Global, _object: u32, _asked: &Asked<'_>) -> Result<(), AllocError> {
+    fn ask(
+        &mut self,
+        _alloc: Global,
+        _object: u32,
+        _asked: &Request<HexBytes<'_>>,
+    ) -> Result<(), AllocError> {
         Ok(())
     }
 }

@@ -7,7 +7,7 @@ ghost use Rattle.dym_script.specs.declared.script.Line.{Line};
 ghost use Rattle.dym_script.specs.Keepers.{CanAsk, Declares, Asks};
 
 use crate::script::Decl;
-use dym_commands::Asked;
+use dym_commands::{HexBytes, Request};
 use std::alloc::{AllocError, Global};
 
 /// Keeps of a script what it needs of it. It is handed each declaration and what each other line asks, in their order.
@@ -25,7 +25,12 @@ pub trait Keeper {
         ensures { OnOk result (Declares (keeps self.old) (keeps self.new) decl.now) };
 
     /// Keeps what a line asks of the object in a place.
-    fn ask(&mut self, alloc: Global, object: u32, asked: &Asked<'_>) -> Result<(), AllocError>
+    fn ask(
+        &mut self,
+        alloc: Global,
+        object: u32,
+        asked: &Request<HexBytes<'_>>,
+    ) -> Result<(), AllocError>
         requires { CanAsk (keeps self.old) object }
         ensures { OnOk result (Asks (keeps self.old) (keeps self.new) object (asks asked.now)) };
 }

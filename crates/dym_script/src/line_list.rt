@@ -9,7 +9,7 @@ use crate::pieces::{Pieces, WholeScript};
 use crate::script::{Decl, Line, Script, ScriptFail};
 use dym_base::BadKind;
 use dym_base::limits::MOST_INPUT_BYTES;
-use dym_commands::Asked;
+use dym_commands::{HexBytes, Request};
 use std::alloc::{AllocError, Global};
 
 /// Keeps each line that asks something.
@@ -31,7 +31,12 @@ impl Keeper for Lines {
         Ok(())
     }
 
-    fn ask(&mut self, alloc: Global, object: u32, asked: &Asked<'_>) -> Result<(), AllocError> {
+    fn ask(
+        &mut self,
+        alloc: Global,
+        object: u32,
+        asked: &Request<HexBytes<'_>>,
+    ) -> Result<(), AllocError> {
         let command = asked.command(alloc)?;
         self.lines.push(Line { object, command })?;
         Ok(())

@@ -5,11 +5,11 @@ ghost use Rattle.dym_base.specs.declared.limits.TheConstants.{MOST_INPUT_BYTES, 
 ghost use Rattle.dym_script.specs.declared.script.Decl.{Decl};
 ghost use Rattle.dym_script.specs.ReadAheads.{IsAhead, ReadsRest};
 ghost use Rattle.dym_script.specs.ByObjects.{GivesParts};
-ghost use Rattle.dym_script.specs.Keepers.{IsReady, Stands, TookBy};
-ghost use Rattle.dym_script.specs.Parts.{ArePartsOf};
+ghost use Rattle.dym_script.specs.Parts.{KeepsParts};
 ghost use Rattle.dym_script.specs.Pieces.{ReadsFront, ReadsText, TakesPiece};
 ghost use Rattle.dym_script.specs.Readers.{GoesOn, IsValidReader};
 ghost use Rattle.dym_script.specs.Scripts.{script_of};
+ghost use Rattle.dym_script.specs.WholeScripts.{MayRead, StandsAt, TookBy};
 
 use crate::line_fail::LineFail;
 use crate::parts::PartCollector;
@@ -19,7 +19,7 @@ use crate::reader::Reader;
 use crate::script::ScriptFail;
 use dym_base::limits::{MOST_COMMANDS, MOST_INPUT_BYTES, MOST_LINE_BYTES};
 use dym_base::{BadKind, Command};
-use dym_commands::Asked;
+use dym_commands::Request;
 use std::alloc::{AllocError, Global};
 use std::thread::Threads;
 
@@ -62,13 +62,10 @@ impl Pieces<PartCollector> {
         text: &[u8],
     ) -> Result<usize, ScriptFail>
         requires threads { 1 ≤ threads }
-        requires taken { (taken : List ℕ) × TookBy (ArePartsOf self.old.keeper.parts.items) self.old.reader self.old.commands self.old.number taken
+        requires taken { (taken : List ℕ) × TookBy KeepsParts self.old taken
             × (length taken + length text.now ≤ MOST_INPUT_BYTES) }
         ensures within { IfOk result (λ left. left ≤ length text.now) }
-        ensures took { TakesPiece
-            (TookBy (ArePartsOf self.old.keeper.parts.items) self.old.reader self.old.commands self.old.number)
-            (TookBy (ArePartsOf self.new.keeper.parts.items) self.new.reader self.new.commands self.new.number)
-            text.now result }
+        ensures took { TakesPiece (TookBy KeepsParts self.old) (TookBy KeepsParts self.new) text.now result }
     {
         let (lines, last) = text.split_at(ended_bytes(text));
         self.read_lines(rt, alloc, threads, lines)?;
@@ -90,12 +87,12 @@ impl Pieces<PartCollector> {
         text: &[u8],
     ) -> Result<(), ScriptFail>
         requires threads { 1 ≤ threads }
-        requires ready { IsReady (ArePartsOf self.old.keeper.parts.items) self.old.reader self.old.commands }
+        requires ready { MayRead KeepsParts self.old }
         requires room { self.old.number + length text.now ≤ MOST_INPUT_BYTES }
-        ensures ready { OnOk result (IsReady (ArePartsOf self.new.keeper.parts.items) self.new.reader self.new.commands) }
+        ensures ready { OnOk result (MayRead KeepsParts self.new) }
         ensures number { OnOk result (self.new.number ≤ self.old.number + length text.now) }
         ensures read { ReadsText
-            (Stands (ArePartsOf self.old.keeper.parts.items) self.old.reader self.old.commands) (Stands (ArePartsOf self.new.keeper.parts.items) self.new.reader self.new.commands)
+            (StandsAt KeepsParts self.old) (StandsAt KeepsParts self.new)
             self.old.number self.new.number text.now result }
     {
         let rest = self.read_front(alloc, text)?;
@@ -107,12 +104,12 @@ impl Pieces<PartCollector> {
 
     /// Reads the lines of a text up to the first that asks something in the usual spelling. The text from there on is left.
     fn read_front<'a>(&mut self, alloc: Global, text: &'a [u8]) -> Result<&'a [u8], ScriptFail>
-        requires ready { IsReady (ArePartsOf self.old.keeper.parts.items) self.old.reader self.old.commands }
+        requires ready { MayRead KeepsParts self.old }
         requires room { self.old.number + length text.now ≤ MOST_INPUT_BYTES }
-        ensures ready { OnOk result (IsReady (ArePartsOf self.new.keeper.parts.items) self.new.reader self.new.commands) }
+        ensures ready { OnOk result (MayRead KeepsParts self.new) }
         ensures number { IfOk result (λ rest. self.new.number + length rest.now ≤ self.old.number + length text.now) }
         ensures read { ReadsRest
-            (Stands (ArePartsOf self.old.keeper.parts.items) self.old.reader self.old.commands) (Stands (ArePartsOf self.new.keeper.parts.items) self.new.reader self.new.commands)
+            (StandsAt KeepsParts self.old) (StandsAt KeepsParts self.new)
             self.old.number self.new.number text.now result }
     {
         let mut rest = text;
@@ -136,15 +133,15 @@ impl Pieces<PartCollector> {
         parts: &Vec<&[u8]>,
         all: Vec<Result<ReadAhead<'_>, AllocError>>,
     ) -> Result<(), ScriptFail>
-        requires ready { IsReady (ArePartsOf self.old.keeper.parts.items) self.old.reader self.old.commands }
+        requires ready { MayRead KeepsParts self.old }
         requires room { self.old.number + sum_by (λ part. length part.now) parts.now.items ≤ MOST_INPUT_BYTES }
         requires len { length all.items ≡ length parts.now.items }
         requires each { (k : ℕ) (d : _) (e : _) → k < length parts.now.items
             → IfOk (slice_index_or all.items k e) (IsAhead self.old.reader.objects.items (slice_index_or parts.now.items k d).now) }
-        ensures ready { OnOk result (IsReady (ArePartsOf self.new.keeper.parts.items) self.new.reader self.new.commands) }
+        ensures ready { OnOk result (MayRead KeepsParts self.new) }
         ensures number { OnOk result (self.new.number ≤ self.old.number + sum_by (λ part. length part.now) parts.now.items) }
         ensures read { ReadsFront
-            (Stands (ArePartsOf self.old.keeper.parts.items) self.old.reader self.old.commands) (Stands (ArePartsOf self.new.keeper.parts.items) self.new.reader self.new.commands)
+            (StandsAt KeepsParts self.old) (StandsAt KeepsParts self.new)
             self.old.number self.new.number (flat_map (λ part. lines_of part.now) parts.now.items) [] result }
     {
         let mut place = 0;
@@ -163,14 +160,14 @@ impl Pieces<PartCollector> {
         text: &[u8],
         ahead: ReadAhead<'_>,
     ) -> Result<(), ScriptFail>
-        requires ready { IsReady (ArePartsOf self.old.keeper.parts.items) self.old.reader self.old.commands }
+        requires ready { MayRead KeepsParts self.old }
         requires room { self.old.number + length text.now ≤ MOST_INPUT_BYTES }
         requires ahead { (objects : List Decl) × GoesOn objects self.old.reader.objects.items × IsAhead objects text.now ahead }
-        ensures ready { OnOk result (IsReady (ArePartsOf self.new.keeper.parts.items) self.new.reader self.new.commands) }
+        ensures ready { OnOk result (MayRead KeepsParts self.new) }
         ensures number { OnOk result (self.new.number ≤ self.old.number + length text.now) }
         ensures grows { OnOk result (GoesOn self.old.reader.objects.items self.new.reader.objects.items) }
         ensures read { ReadsText
-            (Stands (ArePartsOf self.old.keeper.parts.items) self.old.reader self.old.commands) (Stands (ArePartsOf self.new.keeper.parts.items) self.new.reader self.new.commands)
+            (StandsAt KeepsParts self.old) (StandsAt KeepsParts self.new)
             self.old.number self.new.number text.now result }
     {
         let ReadAhead { own, lines, rest } = ahead;
@@ -189,7 +186,7 @@ impl Pieces<PartCollector> {
 fn is_quick(reader: &Reader, text: &[u8]) -> bool
     requires { IsValidReader reader.now }
 {
-    let mut asked = Asked::Plain(Command::Logs);
+    let mut asked = Request::Plain(Command::Logs);
     reader.next_quickly(text, &mut asked).is_some()
 }
 

@@ -2,12 +2,12 @@
 ghost use Rattle.std.specs.Prelude.{◌≡◌, ◌+◌, ◌<◌, ◌≤◌, ℕ, length, slice_index_or, OnOk};
 ghost use Rattle.dym_base.specs.declared.limits.TheConstants.{MOST_COMMANDS};
 ghost use Rattle.dym_script.specs.ReadAheads.{HasOwn};
-ghost use Rattle.dym_script.specs.Parts.{ArePartsOf};
+ghost use Rattle.dym_script.specs.Parts.{KeepsParts};
 
 use crate::keeper::Keeper;
 use crate::script::Decl;
 use dym_base::Name;
-use dym_commands::{Asked, Commands};
+use dym_commands::{Commands, HexBytes, Request};
 use std::alloc::{AllocError, Global};
 
 /// A declared object and the commands of its own lines.
@@ -44,7 +44,7 @@ impl PartCollector {
 }
 
 impl Keeper for PartCollector {
-    ghost keeps = { λ h objects lines. ArePartsOf h.parts.items objects lines };
+    ghost keeps = { KeepsParts };
 
     fn new(alloc: Global) -> PartCollector {
         PartCollector {
@@ -67,7 +67,12 @@ impl Keeper for PartCollector {
     }
 
     #[inline(always)]
-    fn ask(&mut self, _alloc: Global, object: u32, asked: &Asked<'_>) -> Result<(), AllocError> {
+    fn ask(
+        &mut self,
+        _alloc: Global,
+        object: u32,
+        asked: &Request<HexBytes<'_>>,
+    ) -> Result<(), AllocError> {
         let part = &mut self.parts[object as usize];
         part.commands.push(asked)?;
         Ok(())

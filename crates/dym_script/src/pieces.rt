@@ -4,8 +4,8 @@ ghost use Rattle.dym_base.specs.declared.limits.TheConstants.{MOST_INPUT_BYTES};
 ghost use Rattle.dym_commands.specs.Requests.{asks};
 ghost use Rattle.dym_script.specs.declared.script.Decl.{Decl};
 ghost use Rattle.dym_script.specs.declared.script.Line.{Line};
-ghost use Rattle.dym_script.specs.WholeScripts.{GivesWhole};
-ghost use Rattle.dym_script.specs.Keepers.{Holds, Stands, IsReady, TookBy, HoldsLine};
+ghost use Rattle.dym_script.specs.WholeScripts.{GivesWhole, MayRead, StandsAt, TookBy};
+ghost use Rattle.dym_script.specs.Keepers.{Holds, HoldsLine};
 ghost use Rattle.dym_script.specs.Pieces.{says, IsEnded, IsOpen, TakesPiece, ReadsText, ReadsNext};
 ghost use Rattle.dym_script.specs.Readers.{IsValidReader, reading_of, reading, Grows, GoesOn};
 ghost use Rattle.dym_script.specs.Scripts.{ask_at};
@@ -16,7 +16,7 @@ use crate::reader::{Ask, Next, Reader};
 use crate::script::{Decl, ScriptFail};
 use dym_base::limits::{MOST_COMMANDS, MOST_LINE_BYTES};
 use dym_base::{BadKind, Command, Version};
-use dym_commands::Asked;
+use dym_commands::{HexBytes, Request};
 use memchr::memrchr;
 use std::alloc::{AllocError, Global};
 
@@ -46,7 +46,7 @@ pub struct Pieces<K: Keeper> {
 impl<K: Keeper + Drop> Pieces<K> {
     /// Nothing is read yet.
     pub fn new(alloc: Global) -> Pieces<K>
-        ensures { TookBy (K.keeps result.keeper) result.reader result.commands result.number [] }
+        ensures { TookBy K.keeps result [] }
     {
         Pieces {
             reader: Reader::new(alloc),
@@ -60,14 +60,11 @@ impl<K: Keeper + Drop> Pieces<K> {
     /// at the piece's end. They are not read: the next piece begins with them. The error is the first bad line, which a
     /// line that is too long already is, or want of memory.
     pub fn take(&mut self, alloc: Global, text: &[u8]) -> Result<usize, ScriptFail>
-        requires { (taken : List ℕ) × TookBy (K.keeps self.old.keeper) self.old.reader self.old.commands self.old.number taken
+        requires { (taken : List ℕ) × TookBy K.keeps self.old taken
             × (length taken + length text.now ≤ MOST_INPUT_BYTES) }
         ensures short { IfOk result (λ left. left ≤ MOST_LINE_BYTES) }
         ensures within { IfOk result (λ left. left ≤ length text.now) }
-        ensures took { TakesPiece
-            (TookBy (K.keeps self.old.keeper) self.old.reader self.old.commands self.old.number)
-            (TookBy (K.keeps self.new.keeper) self.new.reader self.new.commands self.new.number)
-            text.now result }
+        ensures took { TakesPiece (TookBy K.keeps self.old) (TookBy K.keeps self.new) text.now result }
     {
         let (lines, last) = text.split_at(ended_bytes(text));
         self.read_all(alloc, lines)?;
@@ -82,9 +79,9 @@ impl<K: Keeper + Drop> Pieces<K> {
 
     /// Reads the last piece, whose last line may lack its end, and answers what was read of the whole script.
     pub fn finish(mut self, alloc: Global, last: &[u8]) -> Result<WholeScript<K>, ScriptFail>
-        requires { (taken : List ℕ) × TookBy (K.keeps self.keeper) self.reader self.commands self.number taken
+        requires { (taken : List ℕ) × TookBy K.keeps self taken
             × (length taken + length last.now ≤ MOST_INPUT_BYTES) }
-        ensures { (taken : List ℕ) → TookBy (K.keeps self.keeper) self.reader self.commands self.number taken
+        ensures { (taken : List ℕ) → TookBy K.keeps self taken
             → GivesWhole K.keeps result (says (taken ++ last.now)) }
     {
         self.read_all(alloc, last)?;
@@ -109,13 +106,13 @@ impl<K: Keeper + Drop> Pieces<K> {
 
     /// Reads all lines of a text, whose last line may lack its end.
     pub(crate) fn read_all(&mut self, alloc: Global, text: &[u8]) -> Result<(), ScriptFail>
-        requires ready { IsReady (K.keeps self.old.keeper) self.old.reader self.old.commands }
+        requires ready { MayRead K.keeps self.old }
         requires room { self.old.number + length text.now ≤ MOST_INPUT_BYTES }
-        ensures ready { OnOk result (IsReady (K.keeps self.new.keeper) self.new.reader self.new.commands) }
+        ensures ready { OnOk result (MayRead K.keeps self.new) }
         ensures number { OnOk result (self.new.number ≤ self.old.number + length text.now) }
         ensures grows { OnOk result (GoesOn self.old.reader.objects.items self.new.reader.objects.items) }
         ensures read { ReadsText
-            (Stands (K.keeps self.old.keeper) self.old.reader self.old.commands) (Stands (K.keeps self.new.keeper) self.new.reader self.new.commands)
+            (StandsAt K.keeps self.old) (StandsAt K.keeps self.new)
             self.old.number self.new.number text.now result }
     {
         let mut rest = text;
@@ -140,16 +137,16 @@ impl<K: Keeper + Drop> Pieces<K> {
         number: u32,
         text: &'a [u8],
     ) -> Result<&'a [u8], LineFail>
-        requires ready { IsReady (K.keeps self.old.keeper) self.old.reader self.old.commands }
+        requires ready { MayRead K.keeps self.old }
         requires some { 0 < length text.now }
-        ensures ready { OnOk result (IsReady (K.keeps self.new.keeper) self.new.reader self.new.commands) }
+        ensures ready { OnOk result (MayRead K.keeps self.new) }
         ensures shorter { IfOk result (λ rest. length rest.now < length text.now) }
         ensures grows { OnOk result (GoesOn self.old.reader.objects.items self.new.reader.objects.items) }
         ensures read { ReadsNext
-            (Stands (K.keeps self.old.keeper) self.old.reader self.old.commands) (Stands (K.keeps self.new.keeper) self.new.reader self.new.commands)
+            (StandsAt K.keeps self.old) (StandsAt K.keeps self.new)
             number text.now result }
     {
-        let mut asked = Asked::Plain(Command::Logs);
+        let mut asked = Request::Plain(Command::Logs);
         if let Some((object, rest)) = self.reader.next_quickly(text, &mut asked) {
             self.reader.begun = true;
             return self.ask(alloc, object, &asked, rest);
@@ -165,13 +162,13 @@ impl<K: Keeper + Drop> Pieces<K> {
         number: u32,
         text: &'a [u8],
     ) -> Result<&'a [u8], LineFail>
-        requires ready { IsReady (K.keeps self.old.keeper) self.old.reader self.old.commands }
+        requires ready { MayRead K.keeps self.old }
         requires some { 0 < length text.now }
-        ensures ready { OnOk result (IsReady (K.keeps self.new.keeper) self.new.reader self.new.commands) }
+        ensures ready { OnOk result (MayRead K.keeps self.new) }
         ensures shorter { IfOk result (λ rest. length rest.now < length text.now) }
         ensures grows { OnOk result (GoesOn self.old.reader.objects.items self.new.reader.objects.items) }
         ensures read { ReadsNext
-            (Stands (K.keeps self.old.keeper) self.old.reader self.old.commands) (Stands (K.keeps self.new.keeper) self.new.reader self.new.commands)
+            (StandsAt K.keeps self.old) (StandsAt K.keeps self.new)
             number text.now result }
     {
         let before = self.reader.objects.len();
@@ -189,12 +186,12 @@ impl<K: Keeper + Drop> Pieces<K> {
         &mut self,
         alloc: Global,
         object: u32,
-        asked: &Asked<'_>,
+        asked: &Request<HexBytes<'_>>,
         rest: &'a [u8],
     ) -> Result<&'a [u8], LineFail>
-        requires ready { IsReady (K.keeps self.old.keeper) self.old.reader self.old.commands }
+        requires ready { MayRead K.keeps self.old }
         requires within { object < length self.old.reader.objects.items }
-        ensures ready { OnOk result (IsReady (K.keeps self.new.keeper) self.new.reader self.new.commands) }
+        ensures ready { OnOk result (MayRead K.keeps self.new) }
         ensures rest { IfOk result (λ left. left.now ≡ rest.now) }
         ensures reader { self.new.reader ≡ self.old.reader }
         ensures holds { HoldsLine (Holds (K.keeps self.old.keeper) self.old.reader self.old.commands) (Holds (K.keeps self.new.keeper) self.new.reader self.new.commands)

@@ -13,7 +13,7 @@ mod verbs;
 use crate::quick::numerals::first_word;
 use crate::quick::verbs::{bytes_verb, chunk_verb, link_verb, log_verb};
 use crate::verb::Verb;
-use dym_commands::Asked;
+use dym_commands::{HexBytes, Request};
 
 /// How many rows the table of verbs has. Fifteen are in use, and the other repeats a verb.
 const VERB_ROWS: usize = 16;
@@ -44,7 +44,7 @@ const VERBS: [Verb; VERB_ROWS] = [
 
 /// What a line asks of which the name was read goes into a place, without a copy, and the text after the line is left.
 #[inline(never)]
-pub fn quick_rest<'a>(text: &'a [u8], asked: &mut Asked<'a>) -> Option<&'a [u8]>
+pub fn quick_rest<'a>(text: &'a [u8], asked: &mut Request<HexBytes<'a>>) -> Option<&'a [u8]>
     ensures { IfSome result (λ rest. Demands text.now asked.new rest.now) }
 {
     let word = first_word(text)?;

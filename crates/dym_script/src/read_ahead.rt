@@ -8,7 +8,7 @@ ghost use Rattle.dym_script.specs.Readers.{IsValidReader};
 use crate::reader::Reader;
 use dym_base::Command;
 use dym_base::limits::MOST_COMMANDS;
-use dym_commands::{Asked, Commands};
+use dym_commands::{Commands, Request};
 use memchr::memchr;
 use std::alloc::{AllocError, Global};
 use std::thread;
@@ -37,7 +37,7 @@ fn read_ahead<'a>(
     let mut own = no_commands(alloc, reader.objects.len())?;
     let mut lines = 0;
     let mut rest = text;
-    let mut asked = Asked::Plain(Command::Logs);
+    let mut asked = Request::Plain(Command::Logs);
     while (lines as usize) < MOST_COMMANDS {
         let Some((object, after)) = reader.next_quickly(rest, &mut asked) else {
             break;

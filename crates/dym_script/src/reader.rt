@@ -11,7 +11,7 @@ use crate::script::Decl;
 use crate::verb::Verb;
 use dym_base::limits::{MOST_LINE_BYTES, MOST_OBJECTS, MOST_QUOTA};
 use dym_base::{BadKind, Name, Version};
-use dym_commands::Asked;
+use dym_commands::{HexBytes, Request};
 use std::alloc::{AllocError, Global};
 use std::collections::HashMap;
 
@@ -19,7 +19,7 @@ use std::collections::HashMap;
 #[derive(Drop)]
 pub struct Ask<'a> {
     pub object: u32,
-    pub asked: Asked<'a>,
+    pub asked: Request<HexBytes<'a>>,
 }
 
 /// What the first line of a text asks, and the text after the line.
@@ -89,7 +89,11 @@ impl Reader {
     /// The object that the first line of a text asks something of, where it is in the usual spelling, and the text after the
     /// line. What is asked goes into a place. Such a line has no byte that a line may not have.
     #[inline(always)]
-    pub fn next_quickly<'a>(&self, text: &'a [u8], asked: &mut Asked<'a>) -> Option<(u32, &'a [u8])>
+    pub fn next_quickly<'a>(
+        &self,
+        text: &'a [u8],
+        asked: &mut Request<HexBytes<'a>>,
+    ) -> Option<(u32, &'a [u8])>
         requires kept { IsValidReader self.now }
         ensures { IfSome result (λ next.
             IsNext self.now text.now (record { object = next.0; asked = asked.new }) next.1.now) }

@@ -1,5 +1,6 @@
 //! The commands of the table, by their words.
 ghost use Rattle.std.specs.Prelude.{◌≡◌};
+ghost use Rattle.dym_script.specs.declared.verb.Verb.TheVariants as verb;
 ghost use Rattle.dym_script.specs.Table.{command_of, verb_of, Gives};
 ghost use Rattle.dym_script.specs.Lines.{words_of};
 ghost use Rattle.dym_commands.specs.Requests.{asks};
@@ -9,7 +10,7 @@ use crate::operands::{
     byte_of, bytes_of, handle_of, handle_or_nil_of, number_32_of, number_of, read_len_of,
 };
 use dym_base::{BadKind, Command};
-use dym_commands::Asked;
+use dym_commands::{HexBytes, Request};
 
 /// What a command line asks.
 #[derive(Clone, Copy)]
@@ -59,78 +60,120 @@ impl Verb {
 
     /// What the words after the verb ask, or what is wrong with them first: how many they are, then a number, a handle, the bytes.
     #[tactic(auto, unfolding(crate::specs::Table::command_of))]
-    pub fn asked(self, words: &[u8]) -> Result<Asked<'_>, BadKind>
+    pub fn asked(self, words: &[u8]) -> Result<Request<HexBytes<'_>>, BadKind>
         ensures { Gives asks result (command_of self (words_of words.now)) }
     {
         match self {
             Verb::Malloc => {
                 let len = number_of(one_word(words)?)?;
-                Ok(Asked::Plain(Command::Malloc { len }))
+                Ok(Request::Plain(Command::Malloc { len }))
             }
-            Verb::Calloc => {
-                let (n, len) = two_words(words)?;
-                let (n, len) = (number_of(n)?, number_of(len)?);
-                Ok(Asked::Plain(Command::Calloc { n, len }))
-            }
-            Verb::Realloc => {
-                let (h, len) = two_words(words)?;
-                let (len, h) = (number_of(len)?, handle_or_nil_of(h)?);
-                Ok(Asked::Plain(Command::Realloc { h, len }))
-            }
+            Verb::Calloc => calloc_asked(words),
+            Verb::Realloc => realloc_asked(words),
             Verb::Free => {
                 let h = handle_or_nil_of(one_word(words)?)?;
-                Ok(Asked::Plain(Command::Free { h }))
+                Ok(Request::Plain(Command::Free { h }))
             }
-            Verb::Write => {
-                let (h, at, bytes) = three_words(words)?;
-                let (at, h, bytes) = (number_32_of(at)?, handle_of(h)?, bytes_of(bytes)?);
-                Ok(Asked::Write { h, at, bytes })
-            }
-            Verb::Fill => {
-                let (h, at, len, byte) = four_words(words)?;
-                let (at, len, byte) = (number_32_of(at)?, number_32_of(len)?, byte_of(byte)?);
-                let h = handle_of(h)?;
-                Ok(Asked::Plain(Command::Fill { h, at, len, byte }))
-            }
-            Verb::Read => {
-                let (h, at, len) = three_words(words)?;
-                let (at, len, h) = (number_32_of(at)?, read_len_of(len)?, handle_of(h)?);
-                Ok(Asked::Plain(Command::Read { h, at, len }))
-            }
-            Verb::Link => {
-                let (h, at, to) = three_words(words)?;
-                let (at, h, to) = (number_32_of(at)?, handle_of(h)?, handle_or_nil_of(to)?);
-                Ok(Asked::Plain(Command::Link { h, at, to }))
-            }
-            Verb::Follow => {
-                let (h, at) = two_words(words)?;
-                let (at, h) = (number_32_of(at)?, handle_of(h)?);
-                Ok(Asked::Plain(Command::Follow { h, at }))
-            }
+            Verb::Write => write_asked(words),
+            Verb::Fill => fill_asked(words),
+            Verb::Read => read_asked(words),
+            Verb::Link => link_asked(words),
+            Verb::Follow => follow_asked(words),
             Verb::Sum => {
                 let h = handle_of(one_word(words)?)?;
-                Ok(Asked::Plain(Command::Sum { h }))
+                Ok(Request::Plain(Command::Sum { h }))
             }
             Verb::Log => {
                 let time = number_of(one_word(words)?)?;
-                Ok(Asked::Plain(Command::Log { time }))
+                Ok(Request::Plain(Command::Log { time }))
             }
             Verb::Ilog => {
                 let time = number_of(one_word(words)?)?;
-                Ok(Asked::Plain(Command::Ilog { time }))
+                Ok(Request::Plain(Command::Ilog { time }))
             }
             Verb::Restore => {
                 let time = number_of(one_word(words)?)?;
-                Ok(Asked::Plain(Command::Restore { time }))
+                Ok(Request::Plain(Command::Restore { time }))
             }
             Verb::Prune => {
                 let bound = number_of(one_word(words)?)?;
-                Ok(Asked::Plain(Command::Prune { bound }))
+                Ok(Request::Plain(Command::Prune { bound }))
             }
             Verb::Logs => match next_word(words) {
                 Some(_) => Err(BadKind::Command),
-                None => Ok(Asked::Plain(Command::Logs)),
+                None => Ok(Request::Plain(Command::Logs)),
             },
         }
     }
+}
+
+/// What the words after `calloc` ask.
+#[tactic(auto, unfolding(crate::specs::Table::command_of))]
+fn calloc_asked(words: &[u8]) -> Result<Request<HexBytes<'_>>, BadKind>
+    ensures { Gives asks result (command_of verb.Calloc (words_of words.now)) }
+{
+    let (n, len) = two_words(words)?;
+    let (n, len) = (number_of(n)?, number_of(len)?);
+    Ok(Request::Plain(Command::Calloc { n, len }))
+}
+
+/// What the words after `realloc` ask.
+#[tactic(auto, unfolding(crate::specs::Table::command_of))]
+fn realloc_asked(words: &[u8]) -> Result<Request<HexBytes<'_>>, BadKind>
+    ensures { Gives asks result (command_of verb.Realloc (words_of words.now)) }
+{
+    let (h, len) = two_words(words)?;
+    let (len, h) = (number_of(len)?, handle_or_nil_of(h)?);
+    Ok(Request::Plain(Command::Realloc { h, len }))
+}
+
+/// What the words after `write` ask.
+#[tactic(auto, unfolding(crate::specs::Table::command_of))]
+fn write_asked(words: &[u8]) -> Result<Request<HexBytes<'_>>, BadKind>
+    ensures { Gives asks result (command_of verb.Write (words_of words.now)) }
+{
+    let (h, at, bytes) = three_words(words)?;
+    let (at, h, bytes) = (number_32_of(at)?, handle_of(h)?, bytes_of(bytes)?);
+    Ok(Request::Write { h, at, bytes })
+}
+
+/// What the words after `fill` ask.
+#[tactic(auto, unfolding(crate::specs::Table::command_of))]
+fn fill_asked(words: &[u8]) -> Result<Request<HexBytes<'_>>, BadKind>
+    ensures { Gives asks result (command_of verb.Fill (words_of words.now)) }
+{
+    let (h, at, len, byte) = four_words(words)?;
+    let (at, len, byte) = (number_32_of(at)?, number_32_of(len)?, byte_of(byte)?);
+    let h = handle_of(h)?;
+    Ok(Request::Plain(Command::Fill { h, at, len, byte }))
+}
+
+/// What the words after `read` ask.
+#[tactic(auto, unfolding(crate::specs::Table::command_of))]
+fn read_asked(words: &[u8]) -> Result<Request<HexBytes<'_>>, BadKind>
+    ensures { Gives asks result (command_of verb.Read (words_of words.now)) }
+{
+    let (h, at, len) = three_words(words)?;
+    let (at, len, h) = (number_32_of(at)?, read_len_of(len)?, handle_of(h)?);
+    Ok(Request::Plain(Command::Read { h, at, len }))
+}
+
+/// What the words after `link` ask.
+#[tactic(auto, unfolding(crate::specs::Table::command_of))]
+fn link_asked(words: &[u8]) -> Result<Request<HexBytes<'_>>, BadKind>
+    ensures { Gives asks result (command_of verb.Link (words_of words.now)) }
+{
+    let (h, at, to) = three_words(words)?;
+    let (at, h, to) = (number_32_of(at)?, handle_of(h)?, handle_or_nil_of(to)?);
+    Ok(Request::Plain(Command::Link { h, at, to }))
+}
+
+/// What the words after `follow` ask.
+#[tactic(auto, unfolding(crate::specs::Table::command_of))]
+fn follow_asked(words: &[u8]) -> Result<Request<HexBytes<'_>>, BadKind>
+    ensures { Gives asks result (command_of verb.Follow (words_of words.now)) }
+{
+    let (h, at) = two_words(words)?;
+    let (at, h) = (number_32_of(at)?, handle_of(h)?);
+    Ok(Request::Plain(Command::Follow { h, at }))
 }

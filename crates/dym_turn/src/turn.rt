@@ -2,9 +2,9 @@
 ghost use Rattle.std.specs.Prelude.{◌≡◌, ◌<◌};
 ghost use Rattle.dym_base.specs.declared.limits.TheConstants.{COUNT_LIMIT};
 
-use dym_base::{Command, Handle, Reply};
+use dym_base::Reply;
 use dym_chain::LogKeep;
-use dym_commands::Runner;
+use dym_commands::{Request, Runner};
 use dym_heap::replies;
 use dym_object::Object;
 use dym_quota::Supply;
@@ -57,20 +57,16 @@ impl<S: Supply, K: LogKeep> Runner for Turn<S, K> {
     ghost stays = { λ old new. Stayed old.object old.reply new.object new.reply };
 
     #[inline(always)]
-    fn run(&mut self, context: &S::Context, command: Command) -> Result<(), AllocError> {
-        self.object
-            .run_into(context, self.alloc, &command, &mut self.reply)
-    }
-
-    #[inline(always)]
-    fn write(
-        &mut self,
-        _way: &S::Context,
-        h: Handle,
-        at: u32,
-        bytes: &[u8],
-    ) -> Result<(), AllocError> {
-        self.reply = replies::of_done(self.object.write(h, at, bytes));
-        Ok(())
+    fn run(&mut self, context: &S::Context, request: Request<&[u8]>) -> Result<(), AllocError> {
+        match request {
+            Request::Plain(command) => {
+                self.object
+                    .run_into(context, self.alloc, &command, &mut self.reply)
+            }
+            Request::Write { h, at, bytes } => {
+                self.reply = replies::of_done(self.object.write(h, at, bytes));
+                Ok(())
+            }
+        }
     }
 }

@@ -8,25 +8,29 @@ use crate::quick::operands::{
 };
 use crate::verb::Verb;
 use dym_base::Command;
-use dym_commands::Asked;
+use dym_commands::{HexBytes, Request};
 
 /// Of the verbs that make, change and free chunks.
 #[inline(always)]
-pub fn chunk_verb<'a>(verb: Verb, text: &'a [u8], asked: &mut Asked<'a>) -> Option<&'a [u8]>
+pub fn chunk_verb<'a>(
+    verb: Verb,
+    text: &'a [u8],
+    asked: &mut Request<HexBytes<'a>>,
+) -> Option<&'a [u8]>
     ensures { IfSome result (λ after. Demands text.now asked.new after.now) }
 {
     match verb {
         Verb::Malloc => {
             let rest = after_verb(text, b"\0 malloc", 7)?;
             let (len, rest) = number(rest)?;
-            *asked = Asked::Plain(Command::Malloc { len });
+            *asked = Request::Plain(Command::Malloc { len });
             after_byte(rest, b'\n')
         }
         Verb::Calloc => {
             let rest = after_verb(text, b"\0 calloc", 7)?;
             let (n, rest) = number(rest)?;
             let (len, rest) = number(rest)?;
-            *asked = Asked::Plain(Command::Calloc { n, len });
+            *asked = Request::Plain(Command::Calloc { n, len });
             after_byte(rest, b'\n')
         }
         Verb::Realloc => {
@@ -34,13 +38,13 @@ pub fn chunk_verb<'a>(verb: Verb, text: &'a [u8], asked: &mut Asked<'a>) -> Opti
             let rest = after_byte(end, b'c')?;
             let (h, rest) = handle_or_nil(rest)?;
             let (len, rest) = number(rest)?;
-            *asked = Asked::Plain(Command::Realloc { h, len });
+            *asked = Request::Plain(Command::Realloc { h, len });
             after_byte(rest, b'\n')
         }
         Verb::Free => {
             let rest = after_verb(text, b"\0\0\0 free", 5)?;
             let (h, rest) = handle_or_nil(rest)?;
-            *asked = Asked::Plain(Command::Free { h });
+            *asked = Request::Plain(Command::Free { h });
             after_byte(rest, b'\n')
         }
         _ => None,
@@ -49,7 +53,11 @@ pub fn chunk_verb<'a>(verb: Verb, text: &'a [u8], asked: &mut Asked<'a>) -> Opti
 
 /// Of the verbs that write and read bytes.
 #[inline(always)]
-pub fn bytes_verb<'a>(verb: Verb, text: &'a [u8], asked: &mut Asked<'a>) -> Option<&'a [u8]>
+pub fn bytes_verb<'a>(
+    verb: Verb,
+    text: &'a [u8],
+    asked: &mut Request<HexBytes<'a>>,
+) -> Option<&'a [u8]>
     ensures { IfSome result (λ after. Demands text.now asked.new after.now) }
 {
     match verb {
@@ -58,7 +66,7 @@ pub fn bytes_verb<'a>(verb: Verb, text: &'a [u8], asked: &mut Asked<'a>) -> Opti
             let (h, rest) = handle(rest)?;
             let (at, rest) = number_32(rest)?;
             let (bytes, rest) = hex(rest)?;
-            *asked = Asked::Write { h, at, bytes };
+            *asked = Request::Write { h, at, bytes };
             after_byte(rest, b'\n')
         }
         Verb::Fill => {
@@ -67,7 +75,7 @@ pub fn bytes_verb<'a>(verb: Verb, text: &'a [u8], asked: &mut Asked<'a>) -> Opti
             let (at, rest) = number_32(rest)?;
             let (len, rest) = number_32(rest)?;
             let (byte, rest) = byte_value(rest)?;
-            *asked = Asked::Plain(Command::Fill { h, at, len, byte });
+            *asked = Request::Plain(Command::Fill { h, at, len, byte });
             after_byte(rest, b'\n')
         }
         Verb::Read => {
@@ -75,7 +83,7 @@ pub fn bytes_verb<'a>(verb: Verb, text: &'a [u8], asked: &mut Asked<'a>) -> Opti
             let (h, rest) = handle(rest)?;
             let (at, rest) = number_32(rest)?;
             let (len, rest) = read_len(rest)?;
-            *asked = Asked::Plain(Command::Read { h, at, len });
+            *asked = Request::Plain(Command::Read { h, at, len });
             after_byte(rest, b'\n')
         }
         _ => None,
@@ -84,7 +92,11 @@ pub fn bytes_verb<'a>(verb: Verb, text: &'a [u8], asked: &mut Asked<'a>) -> Opti
 
 /// Of the verbs that chain chunks and sum their bytes.
 #[inline(always)]
-pub fn link_verb<'a>(verb: Verb, text: &'a [u8], asked: &mut Asked<'a>) -> Option<&'a [u8]>
+pub fn link_verb<'a>(
+    verb: Verb,
+    text: &'a [u8],
+    asked: &mut Request<HexBytes<'a>>,
+) -> Option<&'a [u8]>
     ensures { IfSome result (λ after. Demands text.now asked.new after.now) }
 {
     match verb {
@@ -93,20 +105,20 @@ pub fn link_verb<'a>(verb: Verb, text: &'a [u8], asked: &mut Asked<'a>) -> Optio
             let (h, rest) = handle(rest)?;
             let (at, rest) = number_32(rest)?;
             let (to, rest) = handle_or_nil(rest)?;
-            *asked = Asked::Plain(Command::Link { h, at, to });
+            *asked = Request::Plain(Command::Link { h, at, to });
             after_byte(rest, b'\n')
         }
         Verb::Follow => {
             let rest = after_verb(text, b"\0 follow", 7)?;
             let (h, rest) = handle(rest)?;
             let (at, rest) = number_32(rest)?;
-            *asked = Asked::Plain(Command::Follow { h, at });
+            *asked = Request::Plain(Command::Follow { h, at });
             after_byte(rest, b'\n')
         }
         Verb::Sum => {
             let rest = after_verb(text, b"\0\0\0\0 sum", 4)?;
             let (h, rest) = handle(rest)?;
-            *asked = Asked::Plain(Command::Sum { h });
+            *asked = Request::Plain(Command::Sum { h });
             after_byte(rest, b'\n')
         }
         _ => None,
@@ -115,38 +127,42 @@ pub fn link_verb<'a>(verb: Verb, text: &'a [u8], asked: &mut Asked<'a>) -> Optio
 
 /// Of the verbs that log, restore and prune.
 #[inline(always)]
-pub fn log_verb<'a>(verb: Verb, text: &'a [u8], asked: &mut Asked<'a>) -> Option<&'a [u8]>
+pub fn log_verb<'a>(
+    verb: Verb,
+    text: &'a [u8],
+    asked: &mut Request<HexBytes<'a>>,
+) -> Option<&'a [u8]>
     ensures { IfSome result (λ after. Demands text.now asked.new after.now) }
 {
     match verb {
         Verb::Log => {
             let rest = after_verb(text, b"\0\0\0\0 log", 4)?;
             let (time, rest) = number(rest)?;
-            *asked = Asked::Plain(Command::Log { time });
+            *asked = Request::Plain(Command::Log { time });
             after_byte(rest, b'\n')
         }
         Verb::Ilog => {
             let rest = after_verb(text, b"\0\0\0 ilog", 5)?;
             let (time, rest) = number(rest)?;
-            *asked = Asked::Plain(Command::Ilog { time });
+            *asked = Request::Plain(Command::Ilog { time });
             after_byte(rest, b'\n')
         }
         Verb::Restore => {
             let end = after_verb(text, b"\0 restor", 7)?;
             let rest = after_byte(end, b'e')?;
             let (time, rest) = number(rest)?;
-            *asked = Asked::Plain(Command::Restore { time });
+            *asked = Request::Plain(Command::Restore { time });
             after_byte(rest, b'\n')
         }
         Verb::Prune => {
             let rest = after_verb(text, b"\0\0 prune", 6)?;
             let (bound, rest) = number(rest)?;
-            *asked = Asked::Plain(Command::Prune { bound });
+            *asked = Request::Plain(Command::Prune { bound });
             after_byte(rest, b'\n')
         }
         Verb::Logs => {
             let rest = after_verb(text, b"\0\0\0 logs", 5)?;
-            *asked = Asked::Plain(Command::Logs);
+            *asked = Request::Plain(Command::Logs);
             after_byte(rest, b'\n')
         }
         _ => None,

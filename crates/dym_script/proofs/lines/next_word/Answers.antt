@@ -6,4 +6,5 @@ pub returns-then-is_empty : goal.returns-then-is_empty
 returns-then-is_empty c = no_word _ _ _ c.spaces_before.ensures.value c.split_at.ensures.back (grind arith)
 
 pub returns : goal.returns
-returns c = rw (c.split_at-2.ensures.front, c.split_at-2.ensures.back) (first_word _ _ _ _ c.spaces_before.ensures.value c.split_at.ensures.back (grind arith) c.word_before.ensures.value)
+returns c = rw (c.split_at-2.ensures.front, c.split_at-2.ensures.back)
+    (first_word _ _ _ _ c.spaces_before.ensures.value c.split_at.ensures.back (grind arith) c.word_before.ensures.value)

@@ -3,4 +3,6 @@ use Rattle.std.proofs.lemmas.Iterator.{YieldsList-from_slice, YieldsList-from_zi
 use Rattle.dym_script.proofs.name_cache.is_same_name.Goals as goal
 
 pub returns-then-a-b : goal.returns-then-a-b
-returns-then-a-b c = same_from_all c.all.new.self _ _ _ _ c.all.ensures.ran (YieldsList-from_zip (YieldsList-from_slice c.args.a.now cc) (YieldsList-from_slice c.args.b.now cc)) (search rules) (λ x q k. search (rules, tests)) (λ x q k. search (rules, tests))
+returns-then-a-b c = same_from_all c.all.new.self _ _ _ _ c.all.ensures.ran
+    (YieldsList-from_zip (YieldsList-from_slice c.args.a.now cc) (YieldsList-from_slice c.args.b.now cc)) (search rules)
+    (λ x q k. search (rules, tests)) (λ x q k. search (rules, tests))

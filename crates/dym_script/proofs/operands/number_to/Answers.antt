@@ -9,7 +9,8 @@ returns-in_err-checked_mul-clause-value c =
     let i = c.loop-digit.digit-index in
     let passes : is_ascii_digit (get_or word i 0) ≡ true = sym c.if-not-is_ascii_digit.ensures.value in
     let range = digit_range (get_or word i 0) passes in
-    c.from_residual.ensures ∙ too_great c.args.most c.loop-digit.value (get_or word i 0 - 48) i word (omega (arith, c.ranges.most.fits)) c.loop-digit-test.true c.loop-digit.invariant.digits c.loop-digit.invariant.value passes (omega (arith, range.0))
+    c.from_residual.ensures ∙ too_great c.args.most c.loop-digit.value (get_or word i 0 - 48) i word (omega (arith, c.ranges.most.fits))
+    c.loop-digit-test.true c.loop-digit.invariant.digits c.loop-digit.invariant.value passes (omega (arith, range.0))
     (omega (arith, c.in_err-checked_mul.ensures))
 
 pub returns-in_err-value-clause-value : goal.returns-in_err-value-clause-value
@@ -19,7 +20,9 @@ returns-in_err-value-clause-value c =
     let passes : is_ascii_digit (get_or word i 0) ≡ true = sym c.if-not-is_ascii_digit.ensures.value in
     let range = digit_range (get_or word i 0) passes in
     let digit : c.from.result + 48 ≡ get_or word i 0 = omega (arith, range.0, c.from.ensures) in
-    c.from_residual-in_err-value.ensures ∙ too_great c.args.most c.loop-digit.value c.from.result i word (omega (arith, c.ranges.most.fits)) c.loop-digit-test.true c.loop-digit.invariant.digits c.loop-digit.invariant.value passes digit
+    c.from_residual-in_err-value.ensures
+    ∙ too_great c.args.most c.loop-digit.value c.from.result i word (omega (arith, c.ranges.most.fits)) c.loop-digit-test.true
+    c.loop-digit.invariant.digits c.loop-digit.invariant.value passes digit
     (omega (arith, c.in_ok-checked_mul.ensures, c.in_err-value.ensures))
 
 pub loop-digit-preserved : goal.loop-digit-preserved

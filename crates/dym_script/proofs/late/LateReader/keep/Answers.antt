@@ -20,11 +20,15 @@ returns-clause-kept c =
       | then-is_event+else-count-eq-MOST_LATE_EVENTS w ↦
           let n : ℕ = w.index_mut-count.result.now in
           let events : mid.events.items ≡ set r.events.items c.args.object (n + 1) = ap (λ (x : LateReader). x.events.items) w.self-is in
-          let counts = counts_event r.lines.items line r.events.items n _ old inside (sym w.if-is_event.ensures) w.index_mut-count.ensures.value w.if-count-eq-MOST_LATE_EVENTS.false in
-          kept_line r s line kept (ap (λ (x : LateReader). x.declared) w.self-is) (c.in_ok-push.ensures.items ∙ ap (λ (x : LateReader). x.lines.items ++ line ∷ []) w.self-is) (ap length events ∙ length-set r.events.items c.args.object (n + 1)) room c.requires.within c.requires.may
+          let counts = counts_event r.lines.items line r.events.items n _ old inside (sym w.if-is_event.ensures) w.index_mut-count.ensures.value
+          w.if-count-eq-MOST_LATE_EVENTS.false in
+          kept_line r s line kept (ap (λ (x : LateReader). x.declared) w.self-is) (c.in_ok-push.ensures.items
+          ∙ ap (λ (x : LateReader). x.lines.items ++ line ∷ []) w.self-is) (ap length events ∙ length-set r.events.items c.args.object (n + 1)) room
+          c.requires.within c.requires.may
           (subst (Counts (r.lines.items ++ line ∷ [])) (sym events) counts)
       | else-is_event w ↦
           let events : mid.events.items ≡ r.events.items = ap (λ (x : LateReader). x.events.items) w.self-is in
-          kept_line r s line kept (ap (λ (x : LateReader). x.declared) w.self-is) (c.in_ok-push.ensures.items ∙ ap (λ (x : LateReader). x.lines.items ++ line ∷ []) w.self-is) (ap length events) room c.requires.within c.requires.may
+          kept_line r s line kept (ap (λ (x : LateReader). x.declared) w.self-is) (c.in_ok-push.ensures.items
+          ∙ ap (λ (x : LateReader). x.lines.items ++ line ∷ []) w.self-is) (ap length events) room c.requires.within c.requires.may
           (subst (Counts (r.lines.items ++ line ∷ [])) (sym events) (counts_commit r.lines.items line r.events.items old (sym w.if-is_event.ensures)))
     ]

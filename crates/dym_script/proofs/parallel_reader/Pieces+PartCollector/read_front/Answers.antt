@@ -1,6 +1,6 @@
 use Rattle.std.proofs.Common.{◌+◌, ◌∙◌, arith}
-use Rattle.dym_script.specs.Keepers.{Stands}
-use Rattle.dym_script.specs.Parts.{ArePartsOf}
+use Rattle.dym_script.specs.Parts.{KeepsParts}
+use Rattle.dym_script.specs.WholeScripts.{StandsAt}
 use Rattle.dym_script.proofs.KeepLines.{next_bad}
 use Rattle.dym_script.proofs.parallel_reader.Pieces+PartCollector.read_front.Goals as goal
 
@@ -17,9 +17,7 @@ loop-self-preserved c = record {
 pub returns-in-Err-Bad-clause-read : goal.returns-in-Err-Bad-clause-read
 returns-in-Err-Bad-clause-read c old stands others =
     let l = c.loop-self in
-    let now = l.self in
-    let new = c.read_exactly.new.self in
     let (mid, between, reads) = l.invariant.read old stands in
     reads others
-    ∙ next_bad (Stands (ArePartsOf now.keeper.parts.items) now.reader now.commands) (Stands (ArePartsOf new.keeper.parts.items) new.reader new.commands) (l.number + 1) l.rest.now c.in-Err-Bad.field-0 c.in-Err-Bad.kind _
+    ∙ next_bad (StandsAt KeepsParts l.self) (StandsAt KeepsParts c.read_exactly.new.self) (l.number + 1) l.rest.now c.in-Err-Bad.field-0 c.in-Err-Bad.kind _
     c.in-Err-Bad.field-0-is c.in-Err-Bad.kind-is c.in-Err-Bad.ensures.read mid between others

@@ -1,5 +1,5 @@
-use Rattle.dym_script.specs.Keepers.{Stands}
-use Rattle.dym_script.specs.Parts.{ArePartsOf}
+use Rattle.dym_script.specs.Parts.{KeepsParts}
+use Rattle.dym_script.specs.WholeScripts.{StandsAt}
 use Rattle.dym_script.proofs.PiecesRead.{front_then}
 use Rattle.dym_script.proofs.parallel_reader.Pieces+PartCollector.read_lines.Goals as goal
 
@@ -8,5 +8,5 @@ returns-clause-read g c =
     let old = c.args.self.now in
     let mid = c.read_front.new.self in
     let new = c.take_all.new.self in
-    front_then (Stands (ArePartsOf old.keeper.parts.items) old.reader old.commands) (Stands (ArePartsOf mid.keeper.parts.items) mid.reader mid.commands) (Stands (ArePartsOf new.keeper.parts.items) new.reader new.commands)
+    front_then (StandsAt KeepsParts old) (StandsAt KeepsParts mid) (StandsAt KeepsParts new)
     old.number mid.number new.number _ _ _ c.take_all.result c.in_ok-parts.ensures.lines c.in_ok-rest.ensures.read c.take_all.ensures.read

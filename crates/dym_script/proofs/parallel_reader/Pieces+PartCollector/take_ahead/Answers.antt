@@ -1,8 +1,9 @@
 use Rattle.std.proofs.Common.{◌+◌, ◌≤◌, length, sym, subst, arith}
 use Rattle.dym_base.specs.declared.limits.TheConstants.{MOST_COMMANDS}
 use Rattle.dym_script.specs.Keepers.{IsReady, Stands}
-use Rattle.dym_script.specs.Parts.{ArePartsOf}
+use Rattle.dym_script.specs.Parts.{ArePartsOf, KeepsParts}
 use Rattle.dym_script.specs.Pieces.{ReadsText}
+use Rattle.dym_script.specs.WholeScripts.{StandsAt}
 use Rattle.dym_script.proofs.AheadParts.{parts_room}
 use Rattle.dym_script.proofs.ReadOn.{goes_long, ahead_within, took_in, keeps_ahead, ready_ahead, text_ahead}
 use Rattle.dym_script.proofs.parallel_reader.Pieces+PartCollector.take_ahead.Goals as goal
@@ -42,7 +43,7 @@ returns-clause-read c =
     let (objects, goes, ahead) = c.requires.ahead in
     let room : now.commands + length ahead.asked ≤ MOST_COMMANDS = omega (arith, ahead.count, c.requires.ready.few, c.if-lines-self.false) in
     let keeps = keeps_ahead old new objects now.reader text c.args.ahead goes ahead c.in_ok-append.ensures in
-    let after = Stands (ArePartsOf end.keeper.parts.items) end.reader end.commands in
+    let after = StandsAt KeepsParts end in
     text_ahead (ArePartsOf old) (ArePartsOf new) after now.reader now.commands now.number end.number objects ahead.asked text rest result goes ahead.ask room keeps
     (subst (λ n. ReadsText (Stands (ArePartsOf new) (took_in now.reader n) (now.commands + n)) after (now.number + n) end.number rest result) (sym ahead.count)
     c.read_all-2.ensures.read)

@@ -3,9 +3,9 @@ use Rattle.std.proofs.Common.{sym, ap, subst, ◌∙◌, arith, rules, length-ap
 use Rattle.std.proofs.lemmas.List.{drop_all}
 use Rattle.std.proofs.lemmas.List.Sums.{sum_by-drop_more}
 use Rattle.dym_script.specs.ReadAheads.{IsAhead}
-use Rattle.dym_script.specs.Keepers.{Stands}
-use Rattle.dym_script.specs.Parts.{ArePartsOf}
+use Rattle.dym_script.specs.Parts.{KeepsParts}
 use Rattle.dym_script.specs.Scripts.{read_lines}
+use Rattle.dym_script.specs.WholeScripts.{StandsAt}
 use Rattle.dym_script.proofs.KeepLines.{goes_on}
 use Rattle.dym_script.proofs.AheadTexts.{next_at, next_within, all_lines, part_more, part_failed}
 use Rattle.dym_script.proofs.parallel_reader.Pieces+PartCollector.take_all.Goals as goal
@@ -36,9 +36,9 @@ returns-in_err-take_ahead-clause-read c =
     let old = c.args.self.now in
     let mid = l.self in
     let new = c.take_ahead.new.self in
-    let Before = Stands (ArePartsOf old.keeper.parts.items) old.reader old.commands in
-    let Mid = Stands (ArePartsOf mid.keeper.parts.items) mid.reader mid.commands in
-    let After = Stands (ArePartsOf new.keeper.parts.items) new.reader new.commands in
+    let Before = StandsAt KeepsParts old in
+    let Mid = StandsAt KeepsParts mid in
+    let After = StandsAt KeepsParts new in
     let inside = next_within c.args.all.items l.yielded rest others c.in-Some.ahead parts l.place l.invariant.all cut l.invariant.place c.requires.len in
     let failed = c.in_err-take_ahead.field-0.0 in
     let reads = part_more Before Mid After old.number mid.number new.number parts l.place c.index.result.now (Err failed) inside c.index.ensures l.invariant.read
@@ -59,9 +59,9 @@ loop-ahead-preserved c =
     let mid = l.self in
     let new = c.take_ahead.new.self in
     let took = c.in_ok-take_ahead.ensures in
-    let Before = Stands (ArePartsOf old.keeper.parts.items) old.reader old.commands in
-    let Mid = Stands (ArePartsOf mid.keeper.parts.items) mid.reader mid.commands in
-    let After = Stands (ArePartsOf new.keeper.parts.items) new.reader new.commands in
+    let Before = StandsAt KeepsParts old in
+    let Mid = StandsAt KeepsParts mid in
+    let After = StandsAt KeepsParts new in
     let inside = next_within c.args.all.items l.yielded rest others x parts l.place l.invariant.all cut l.invariant.place c.requires.len in
     let left = sum_by-drop_more (λ (p : Bor (List ℕ)). length p.now) parts l.place part inside in
     record {

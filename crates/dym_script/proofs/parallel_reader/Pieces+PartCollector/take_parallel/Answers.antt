@@ -1,6 +1,5 @@
-use Rattle.dym_script.specs.Keepers.{Stands, IsReady}
-use Rattle.dym_script.specs.Parts.{ArePartsOf}
-use Rattle.dym_script.specs.Pieces.{Took}
+use Rattle.dym_script.specs.Parts.{KeepsParts}
+use Rattle.dym_script.specs.WholeScripts.{MayRead, StandsAt, TookBy}
 use Rattle.dym_script.proofs.PiecesRead.{took_piece, piece_failed, piece_long}
 use Rattle.dym_script.proofs.parallel_reader.Pieces+PartCollector.take_parallel.Goals as goal
 
@@ -8,25 +7,25 @@ pub returns-in_err-read_lines-clause-took : goal.returns-in_err-read_lines-claus
 returns-in_err-read_lines-clause-took g c =
     let old = c.args.self.now in
     let new = c.read_lines.new.self in
-    let P = ArePartsOf old.keeper.parts.items in
-    let Q = ArePartsOf new.keeper.parts.items in
-    piece_failed (IsReady P old.reader old.commands) (Stands P old.reader old.commands) (Stands Q new.reader new.commands) (Took (IsReady Q new.reader new.commands) (Stands Q new.reader new.commands) new.number) c.ended_bytes.result old.number new.number c.args.text.now c.split_at.result.0.now c.split_at.result.1.now c.from_residual.result c.in_err-read_lines.field-0.0
+    piece_failed (MayRead KeepsParts old) (StandsAt KeepsParts old) (StandsAt KeepsParts new) (TookBy KeepsParts new) c.ended_bytes.result old.number new.number
+    c.args.text.now c.split_at.result.0.now c.split_at.result.1.now c.from_residual.result c.in_err-read_lines.field-0.0
     c.split_at.ensures.front c.split_at.ensures.back c.ended_bytes.ensures.ended c.in_err-read_lines.ensures.read c.from_residual.ensures.0 c.from_residual.ensures.1
 
 pub returns-then-last-gt-MOST_LINE_BYTES-clause-took : goal.returns-then-last-gt-MOST_LINE_BYTES-clause-took
 returns-then-last-gt-MOST_LINE_BYTES-clause-took g c taken more took =
     let old = c.args.self.now in
     let new = c.read_lines.new.self in
-    let P = ArePartsOf old.keeper.parts.items in
-    let Q = ArePartsOf new.keeper.parts.items in
-    piece_long (IsReady P old.reader old.commands) (IsReady Q new.reader new.commands) (Stands P old.reader old.commands) (Stands Q new.reader new.commands) c.ended_bytes.result old.number new.number c.args.text.now c.split_at.result.0.now c.split_at.result.1.now taken more
-    c.split_at.ensures.front c.split_at.ensures.back c.ended_bytes.ensures.ended c.ended_bytes.ensures.last c.in_ok-read_lines.ensures.ready c.in_ok-read_lines.ensures.number c.in_ok-read_lines.ensures.read took c.if-last-gt-MOST_LINE_BYTES.true
+    let read = c.in_ok-read_lines.ensures in
+    piece_long (MayRead KeepsParts old) (MayRead KeepsParts new) (StandsAt KeepsParts old) (StandsAt KeepsParts new) c.ended_bytes.result old.number new.number
+    c.args.text.now c.split_at.result.0.now c.split_at.result.1.now taken more
+    c.split_at.ensures.front c.split_at.ensures.back c.ended_bytes.ensures.ended c.ended_bytes.ensures.last
+    read.ready read.number read.read took c.if-last-gt-MOST_LINE_BYTES.true
 
 pub returns-clause-took : goal.returns-clause-took
 returns-clause-took g c taken took =
     let old = c.args.self.now in
     let new = c.read_lines.new.self in
-    let P = ArePartsOf old.keeper.parts.items in
-    let Q = ArePartsOf new.keeper.parts.items in
-    took_piece (IsReady P old.reader old.commands) (IsReady Q new.reader new.commands) (Stands P old.reader old.commands) (Stands Q new.reader new.commands) c.ended_bytes.result old.number new.number c.args.text.now c.split_at.result.0.now c.split_at.result.1.now taken
-    c.split_at.ensures.front c.split_at.ensures.back c.ended_bytes.ensures.ended c.in_ok-read_lines.ensures.ready c.in_ok-read_lines.ensures.number c.in_ok-read_lines.ensures.read took
+    let read = c.in_ok-read_lines.ensures in
+    took_piece (MayRead KeepsParts old) (MayRead KeepsParts new) (StandsAt KeepsParts old) (StandsAt KeepsParts new) c.ended_bytes.result old.number new.number
+    c.args.text.now c.split_at.result.0.now c.split_at.result.1.now taken
+    c.split_at.ensures.front c.split_at.ensures.back c.ended_bytes.ensures.ended read.ready read.number read.read took

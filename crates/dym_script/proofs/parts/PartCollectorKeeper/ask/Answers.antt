@@ -12,4 +12,5 @@ returns c =
     let parts = c.args.self.now.parts.items in
     let old : Part = c.index_mut-part.result.now in
     let new : Part = record { decl = old.decl; commands = c.push.new.self } in
-    parts_asked parts c.args.object (asks c.args.asked.now) old new (part_within parts c.args.object c.requires) c.index_mut-part.ensures.value refl c.in_ok-push.ensures.pushed
+    parts_asked parts c.args.object (asks c.args.asked.now) old new (part_within parts c.args.object c.requires) c.index_mut-part.ensures.value refl
+    c.in_ok-push.ensures.pushed

@@ -1,8 +1,8 @@
 use Rattle.std.proofs.Common.{◌≡◌, ◌+◌, ◌++◌, ◌∙◌, [], ap, length, arith}
 use Rattle.std.proofs.lemmas.Bool.Decides.{nat_tests}
-use Rattle.dym_script.specs.Keepers.{Stands}
 use Rattle.dym_base.specs.Lines.{lines_of}
 use Rattle.dym_script.specs.Scripts.{read_lines}
+use Rattle.dym_script.specs.WholeScripts.{StandsAt}
 use Rattle.dym_script.proofs.KeepLines.{goes_on, next_bad, empty_is}
 use Rattle.dym_script.proofs.pieces.Pieces.read_all.Goals as goal
 
@@ -19,13 +19,12 @@ loop-rest-preserved g c = record {
 
 pub returns-in-Err-Bad-clause-read : goal.returns-in-Err-Bad-clause-read
 returns-in-Err-Bad-clause-read g c old stands others =
+    let keeps = g.K.Keeper.keeps in
     let l = c.loop-rest in
-    let now = l.self in
-    let new = c.read_next.new.self in
     let (mid, between, reads) = l.invariant.read old stands in
     reads others
-    ∙ next_bad (Stands (g.K.Keeper.keeps now.keeper) now.reader now.commands) (Stands (g.K.Keeper.keeps new.keeper) new.reader new.commands) (l.number + 1) l.rest.now c.in-Err-Bad.field-0 c.in-Err-Bad.kind _ c.in-Err-Bad.field-0-is c.in-Err-Bad.kind-is c.in-Err-Bad.ensures.read
-    mid between others
+    ∙ next_bad (StandsAt keeps l.self) (StandsAt keeps c.read_next.new.self) (l.number + 1) l.rest.now c.in-Err-Bad.field-0 c.in-Err-Bad.kind _
+    c.in-Err-Bad.field-0-is c.in-Err-Bad.kind-is c.in-Err-Bad.ensures.read mid between others
 
 pub returns-clause-read : goal.returns-clause-read
 returns-clause-read g c old stands =

@@ -17,4 +17,6 @@ returns-in-Some-clause-read g c =
     let r = old.reader in
     let one : Ask = record { object = c.in-Some.object; asked = c.next_quickly.new.asked } in
     let (line, cut, gives) = c.in-Some.ensures.first in
-    line_asks P P (g.K.Keeper.keeps new.keeper) r (quickly r) new.reader one old.commands new.commands c.args.number c.args.text.now c.in-Some.rest.now line c.ask.result cut (λ lines. gives (reading_of r lines) [] c.args.number (sym (append-nil r.objects.items))) (holds_quickly P r old.commands) c.ask.ensures.rest c.ask.ensures.holds
+    line_asks P P (g.K.Keeper.keeps new.keeper) r (quickly r) new.reader one old.commands new.commands c.args.number c.args.text.now
+    c.in-Some.rest.now line c.ask.result cut (λ lines. gives (reading_of r lines) [] c.args.number (sym (append-nil r.objects.items)))
+    (holds_quickly P r old.commands) c.ask.ensures.rest c.ask.ensures.holds

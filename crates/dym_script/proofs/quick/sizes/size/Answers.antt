@@ -9,10 +9,12 @@ pub slice_bounds-result-start : goal.slice_bounds-result-start
 slice_bounds-result-start c = omega (arith, row_short c.row_of-row.result c.row_of-row.ensures, c.in_ok-word.ensures.within)
 
 pub returns : goal.returns
-returns c = row_is c.args.text.now _ c.in_ok-word.word c.row_of-row.result (λ i. omega (arith, c.type_inv.text i)) c.in_ok-word.ensures.within c.in_ok-word.ensures.word c.row_of-row.ensures c.if-word-length.false refl
+returns c = row_is c.args.text.now _ c.in_ok-word.word c.row_of-row.result (λ i. omega (arith, c.type_inv.text i)) c.in_ok-word.ensures.within
+    c.in_ok-word.ensures.word c.row_of-row.ensures c.if-word-length.false refl
 
 pub returns-then-word-row : goal.returns-then-word-row
-returns-then-word-row c = row_is_shortest c.args.text.now _ c.in_ok-word.word c.row_of-row.result (λ i. omega (arith, c.type_inv.text i)) c.in_ok-word.ensures.within c.in_ok-word.ensures.word c.row_of-row.ensures c.if-word-row.true refl
+returns-then-word-row c = row_is_shortest c.args.text.now _ c.in_ok-word.word c.row_of-row.result (λ i. omega (arith, c.type_inv.text i))
+    c.in_ok-word.ensures.within c.in_ok-word.ensures.word c.row_of-row.ensures c.if-word-row.true refl
 
 pub overflow_mul-length : goal.overflow_mul-length
 overflow_mul-length c = omega (arith, row_short c.row_of-row.result c.row_of-row.ensures)

@@ -17,8 +17,10 @@ returns-in_ok-len-in-Calloc c = IfSome_then _ c.after_byte-in-Calloc.ensures (λ
 
 pub returns-in_ok-len-in-Realloc : goal.returns-in_ok-len-in-Realloc
 returns-in_ok-len-in-Realloc c = IfSome_then _ c.after_byte-in-Realloc-2.ensures (λ after h.
-    demands verb.Realloc _ _ _ _ (c.in_ok-h-in-Realloc.h, (c.in_ok-len-in-Realloc.len, tt)) (c.in_ok-end-in-Realloc.ensures ∙ ap (λ t. codes " reallo" ++ t) c.in_ok-rest-in-Realloc.ensures)
-    (spells_more Operand.HandleOrNil _ _ _ _ _ _ c.in_ok-h-in-Realloc.ensures (spells_more Operand.Num _ _ _ _ _ _ c.in_ok-len-in-Realloc.ensures (spells_end _ _ h))) refl)
+    demands verb.Realloc _ _ _ _ (c.in_ok-h-in-Realloc.h, (c.in_ok-len-in-Realloc.len, tt)) (c.in_ok-end-in-Realloc.ensures
+    ∙ ap (λ t. codes " reallo" ++ t) c.in_ok-rest-in-Realloc.ensures)
+    (spells_more Operand.HandleOrNil _ _ _ _ _ _ c.in_ok-h-in-Realloc.ensures
+    (spells_more Operand.Num _ _ _ _ _ _ c.in_ok-len-in-Realloc.ensures (spells_end _ _ h))) refl)
 
 pub returns-in_ok-h-in-Free : goal.returns-in_ok-h-in-Free
 returns-in_ok-h-in-Free c = IfSome_then _ c.after_byte-in-Free.ensures (λ after h.

@@ -20,5 +20,6 @@ returns-clause-kept c =
     record {
       indexed = indexed_declare r s c.args.decl c.requires.kept c.requires.fresh (put.0 ∙ ap (λ n. Some n) place) put.1 c.in_ok-push.ensures.items;
       first = rw c.in_ok-push.ensures.items (first_push r.objects.items c.args.decl c.requires.kept.first c.requires.fresh);
-      valid = rw c.in_ok-push.ensures.items (lawful_declare (reading_of r []).said c.args.decl c.requires.kept.valid c.requires.room c.requires.name c.requires.least c.requires.most);
+      valid = rw c.in_ok-push.ensures.items
+          (lawful_declare (reading_of r []).said c.args.decl c.requires.kept.valid c.requires.room c.requires.name c.requires.least c.requires.most);
     }
