@@ -1,18 +1,12 @@
 -- Berths of one queue, and parts that stand in line for them.
 use Rattle.std.proofs.Common.{◌≡◌, ℕ, List, ◌∷◌, ◌++◌, map, sym, ap, ◌∙◌}
-use Rattle.dym_base.specs.Origins.{TableName, Origin, own, shared}
+use Rattle.dym_base.specs.Origins.{TableName, shared}
 use Rattle.dym_script.specs.declared.parts.Part.{Part}
 use Rattle.dym_run.specs.Parts.{quota_of}
 use Rattle.dym_run.proofs.Lists.{one_head, one_tail}
 
--- the name that a shared origin has
-name_or : TableName → Origin → TableName
-name_or d own = d
-name_or d (shared name) = name
-
 pub one_name : (a b : TableName) → shared a ≡ shared b → a ≡ b
-unfolding name_or
-one_name a b same = ap (name_or a) same
+one_name a b same = cc same
 
 -- the first of the parts and of the berths leave together
 module _ {B : Type 0} (q : B → ℕ) (bs all : List B) (b : B) (parts ps : List Part) (p : Part) (rest : List ℕ)

@@ -11,10 +11,7 @@ use Rattle.dym_run.specs.Views.{shown_view}
 abbrev told_by : Option Beginning → List LogEntry → Option (Option ViewLine)
 told_by view logs = option_map (λ _. option_map view_of (oldest logs)) view
 
-pub told_view : (view : Option Beginning) (line : Option (Option ViewLine)) (logs : List LogEntry) (s : ObjectState) → line ≡ told_by view logs → logs ≡ s.logs → line ≡ shown_view (is_some line) s
+pub told_view : (view : Option Beginning) (line : Option (Option ViewLine)) (logs : List LogEntry) (s : ObjectState) → line ≡ told_by view logs → logs ≡ s.logs
+    → line ≡ shown_view (is_some line) s
 told_view None line logs s is same = subst (λ l. l ≡ shown_view (is_some l) s) (sym is) refl
 told_view (Some b) line logs s is same = subst (λ l. l ≡ shown_view (is_some l) s) (sym is) (ap (λ l. Some (option_map view_of (oldest l))) same)
-
-pub told_where : (view : Option Beginning) (line : Option (Option ViewLine)) (logs : List LogEntry) → line ≡ told_by view logs → is_some line ≡ is_some view
-told_where None line logs is = ap is_some is
-told_where (Some b) line logs is = ap is_some is

@@ -1,7 +1,6 @@
 -- The oldest kept log of an object only goes on: it stays, or a later one is the oldest. Once a log is kept, one is.
 use Rattle.std.proofs.Common.{◌≡◌, ℕ, zero, suc, ◌-◌, ◌<◌, ◌≤◌, ◌⊎◌, inl, inr, nat_le, ◌==◌, Option, Some, None, List, [], ◌∷◌, ◌++◌, length, take, drop, option_map, refl, sym, ap, subst, ◌∙◌, arith}
 use Rattle.std.proofs.lemmas.Bool.{cond_both}
-use Rattle.std.specs.Option.{ForSome}
 use Rattle.std.proofs.lemmas.Option.{none-some}
 use Rattle.std.proofs.lemmas.List.Sums.{count_by-le-length}
 use Rattle.dym_base.specs.declared.command.Version.{Version}
@@ -13,10 +12,10 @@ use Rattle.dym_base.specs.declared.limits.TheConstants.{MOST_KEPT_LOGS}
 use Rattle.dym_base.specs.Objects.{LogEntry, ObjectState, ObjectAnswer, object_start, newest, new_entry, log_more, log_after, reached, restore_to, object_step, object_after, run_end}
 use Rattle.dym_base.specs.RunLaws.{EachFollows, IsLogList}
 use Rattle.dym_base.proofs.Runs.{log_list_kept}
-use Rattle.dym_view.specs.Commits.{CommitMeaning, committed, oldest}
+use Rattle.dym_view.specs.Commits.{committed, oldest}
 use Rattle.dym_run.specs.ViewedWorkMeanings.{GoesOn, MayShow}
 
-pub goes_self : (a : Option LogEntry) → GoesOn a a
+goes_self : (a : Option LogEntry) → GoesOn a a
 goes_self None = tt
 goes_self (Some e) = inl refl
 
@@ -26,7 +25,7 @@ later_by e f g (inl same) (inr later) = inr (subst (λ (x : LogEntry). x.time < 
 later_by e f g (inr later) (inl same) = inr (subst (λ (x : LogEntry). e.time < x.time) (sym same) later)
 later_by e f g (inr later) (inr more) = inr (omega (arith, later, more))
 
-pub goes_further : (a b c : Option LogEntry) → GoesOn a b → GoesOn b c → GoesOn a c
+goes_further : (a b c : Option LogEntry) → GoesOn a b → GoesOn b c → GoesOn a c
 goes_further None b c p q = tt
 goes_further (Some e) None c p q = absurd p
 goes_further (Some e) (Some f) None p q = absurd q
@@ -52,7 +51,7 @@ goes_drop (suc n) e (f ∷ logs) each few =
 goes_prune : (g : ℕ) (logs : List LogEntry) → EachFollows logs → GoesOn (oldest logs) (oldest (drop (reached g logs - 1) logs))
 goes_prune g [] each = tt
 goes_prune g (e ∷ logs) each =
-    goes_drop (reached g (e ∷ logs) - 1) e logs each (let few = count_by-le-length (λ (f : LogEntry). nat_le f.time g) (e ∷ logs) in omega (arith, few))
+    goes_drop (reached g (e ∷ logs) - 1) e logs each (omega (arith, count_by-le-length (λ (f : LogEntry). nat_le f.time g) (e ∷ logs)))
 
 module _ (v : Version) (quota : ℕ) (s : ObjectState) where
   abbrev Goes : ObjectAnswer → Type 0
@@ -72,7 +71,7 @@ module _ (v : Version) (quota : ℕ) (s : ObjectState) where
   goes_restore n None is = stays
   goes_restore n (Some e) is = goes_take n s.logs e is
 
-  pub goes_step : (c : Command) → EachFollows s.logs → Goes (object_step v quota s c)
+  goes_step : (c : Command) → EachFollows s.logs → Goes (object_step v quota s c)
   goes_step (Log t) each = goes_after t Full (newest s.logs)
   goes_step (Ilog t) each = goes_after t Inc (newest s.logs)
   goes_step (Restore t) each = goes_restore (reached t s.logs) (newest (take (reached t s.logs) s.logs)) refl
@@ -108,7 +107,8 @@ module _ (v : Version) (quota : ℕ) where
       goes_between commands n m (object_step v quota s c).object (omega (arith, less)) (log_list_kept v quota s c list)
 
   -- the oldest log after more of a run's commands
-  pub goes_on : (commands : List Command) (n m : ℕ) → n ≤ m → GoesOn (oldest (run_end v quota (take n commands)).logs) (oldest (run_end v quota (take m commands)).logs)
+  pub goes_on : (commands : List Command) (n m : ℕ) → n ≤ m
+      → GoesOn (oldest (run_end v quota (take n commands)).logs) (oldest (run_end v quota (take m commands)).logs)
   goes_on commands n m less = goes_between commands n m object_start less (omega arith, tt, tt)
 
 -- the same of commits
@@ -118,31 +118,3 @@ may_show None b goes = tt
 may_show (Some e) None goes = absurd goes
 may_show (Some e) (Some f) (inl same) = inl (ap committed same)
 may_show (Some e) (Some f) (inr later) = inr later
-
--- where the times are one, the commit is the log
-pub same_time : (last : Option CommitMeaning) (o : Option LogEntry) → MayShow last (option_map committed o)
-    → option_map (λ (e : LogEntry). e.time) o ≡ option_map (λ (c : CommitMeaning). c.time) last → last ≡ option_map committed o
-same_time None None may same = refl
-same_time None (Some e) may same = absurd (cc same)
-same_time (Some c) None may same = absurd may
-same_time (Some c) (Some e) (inl is) same = ap Some (sym is)
-same_time (Some c) (Some e) (inr later) same = let times : e.time ≡ c.time = cc same in absurd (omega (arith, later, times))
-
--- where they are not, a commit of the log may come next
-pub other_time : (last : Option CommitMeaning) (o : Option LogEntry) (commit : CommitMeaning) → MayShow last (option_map committed o) → Some commit ≡ option_map committed o
-    → (option_map (λ (e : LogEntry). e.time) o ≡ option_map (λ (c : CommitMeaning). c.time) last → ⊥) → ForSome (option_map (λ (c : CommitMeaning). c.time) last) (λ t. t < commit.time)
-other_time None o commit may is other = λ t none. absurd (none-some t none)
-other_time (Some c) None commit may is other = absurd (cc is)
-other_time (Some c) (Some e) commit may is other = λ t at. let same : c.time ≡ t = cc at in subst (λ n. n < commit.time) same (of_times may)
-  where
-    one : commit ≡ committed e
-    one = cc is
-
-    of_times : (committed e ≡ c) ⊎ (c.time < e.time) → c.time < commit.time
-    of_times (inl same) = absurd (other (ap (λ (x : CommitMeaning). Some x.time) same))
-    of_times (inr later) = subst (λ (x : CommitMeaning). c.time < x.time) (sym one) later
-
-pub nothing_shown : (last : Option CommitMeaning) (o : Option LogEntry) → MayShow last (option_map committed o) → None ≡ option_map committed o → last ≡ option_map committed o
-nothing_shown None o may is = is
-nothing_shown (Some c) None may is = absurd may
-nothing_shown (Some c) (Some e) may is = absurd (cc is)

@@ -1,9 +1,9 @@
 -- A work and what it publishes.
-use Rattle.std.proofs.Common.{◌≡◌, ℕ, ◌<◌, ◌≤◌, Bool, true, false, Option, None, Some, List, [], length, take, option_map, refl, sym, ap, subst, ◌∙◌, arith}
-use Rattle.std.specs.Prelude.{if◌then◌else◌, IfSome}
+use Rattle.std.proofs.Common.{◌≡◌, ℕ, ◌<◌, ◌≤◌, Bool, false, Option, None, Some, List, [], length, take, option_map, sym, ap, subst, ◌∙◌, arith}
+use Rattle.std.specs.Prelude.{IfSome}
 use Rattle.dym_base.specs.Objects.{LogEntry, ObjectState, run_end}
 use Rattle.dym_base.specs.declared.reply.Reply.{Reply}
-use Rattle.dym_base.specs.declared.limits.TheConstants.{COUNT_LIMIT, MOST_COMMANDS}
+use Rattle.dym_base.specs.declared.limits.TheConstants.{COUNT_LIMIT}
 use Rattle.dym_view.specs.Commits.{CommitMeaning, committed, oldest}
 use Rattle.dym_view.specs.Histories.{Beginning, last_commit}
 use Rattle.dym_wave.specs.Works.{OriginMeaning, WorkMeaning, JobMeaning, ran}
@@ -17,11 +17,6 @@ fresh_shows w commits job fresh empty =
     let none : w.object.chain.logs ≡ [] = ap (λ (s : ObjectState). s.logs) (job.object ∙ ap run fresh) in
     ap last_commit empty ∙ sym (ap (λ l. option_map committed (oldest l)) none)
 
--- how much is left
-pub open_while_left : (out_of_memory : Bool) (n : ℕ) → 0 < (if out_of_memory then 0 else n) → (out_of_memory ≡ false) × (0 < n)
-open_while_left true n l = absurd (omega (arith, l))
-open_while_left false n l = (refl, l)
-
 -- the log that was the oldest, and the one that is the oldest after more commands
 module _ (old new : WorkMeaning) (was : JobMeaning old) (job : JobMeaning new) (same : new.origin ≡ old.origin) (grown : ran old ≤ ran new) where
   run_of : OriginMeaning → ℕ → List LogEntry
@@ -33,7 +28,8 @@ module _ (old new : WorkMeaning) (was : JobMeaning old) (job : JobMeaning new) (
       let o = old.origin in
       let before : old.object.chain.logs ≡ run_of o (ran old) = ap (λ (s : ObjectState). s.logs) was.object in
       let is : new.object.chain.logs ≡ run_of o (ran new) = ap (λ (s : ObjectState). s.logs) job.object ∙ ap (λ x. run_of x (ran new)) same in
-      subst (λ l. GoesOn (oldest l) (oldest new.object.chain.logs)) (sym before) (subst (λ l. GoesOn (oldest (run_of o (ran old))) (oldest l)) (sym is) (goes_on o.version o.quota o.commands (ran old) (ran new) grown))
+      subst (λ l. GoesOn (oldest l) (oldest new.object.chain.logs)) (sym before)
+      (subst (λ l. GoesOn (oldest (run_of o (ran old))) (oldest l)) (sym is) (goes_on o.version o.quota o.commands (ran old) (ran new) grown))
 
   -- where a history is published, the log that is the oldest now may come next
   pub turn_may_show : (out_of_memory : Bool) (view : Option Beginning) → IfSome view (IsPublished old out_of_memory) → out_of_memory ≡ false → old.out_of_memory ≡ false

@@ -23,8 +23,8 @@ module _ (v : Version) (replies : List Reply) (s : ObjectState) where
   end_is name = append_assoc (heading name) (flat_map reply_line replies) (state_text v s.heap.live (length s.logs) (slots s.logs))
 
   -- what is made of the replies and the heap is what stands there
-  pub untold_text : {R : Type 0} → (b : JobOutput R) (given : RepliesMeaning) (heap : HeapMeaning) (kept taken : ℕ) → b ≡ Values given heap kept taken → IsOutputOf v replies s b
-      → body_text heap.version given.replies heap.state.live kept taken ≡ behind
+  pub untold_text : {R : Type 0} → (b : JobOutput R) (given : RepliesMeaning) (heap : HeapMeaning) (kept taken : ℕ) → b ≡ Values given heap kept taken
+      → IsOutputOf v replies s b → body_text heap.version given.replies heap.state.live kept taken ≡ behind
   untold_text b given heap kept taken is of_run =
       let job_output = subst (IsOutputOf v replies s) is of_run in
       λ i. body_text (job_output.1 i) (job_output.2 i) (job_output.3 i).live (job_output.4 i) (job_output.5 i)

@@ -1,7 +1,8 @@
 -- Parts of which the first ones were written, or counted.
-use Rattle.std.proofs.Common.{◌≡◌, ℕ, ◌+◌, ◌<◌, ◌≤◌, List, [], ◌++◌, length, map, flat_map, sum_by, refl, sym, ap, subst, ◌∙◌, arith, append-nil, append_assoc, length-append, Result, Ok, Err, IfOk, IsErrAnd}
+use Rattle.std.proofs.Common.{◌≡◌, ℕ, ◌+◌, ◌<◌, ◌≤◌, List, [], ◌++◌, length, map, flat_map, sum_by, refl, sym, ap, subst, ◌∙◌, arith, append_assoc, length-append, Result, Ok, Err, IfOk, IsErrAnd, IsPermutation}
 use Rattle.std.proofs.lemmas.Grind.{flat_map-append}
 use Rattle.std.proofs.lemmas.List.{map-append, length-map}
+use Rattle.std.proofs.lemmas.List.Sorted.{length_permutation}
 use Rattle.std.proofs.lemmas.List.Sums.{sum_by-append}
 use Rattle.dym_run.specs.declared.report_options.ReportOptions.{ReportOptions}
 use Rattle.dym_base.specs.declared.limits.TheConstants.{MOST_OBJECTS, MOST_COMMANDS}
@@ -17,9 +18,8 @@ use Rattle.dym_run.specs.Results.{PartsRan, WritesFirst, TalliesFirst, own_shown
 use Rattle.dym_report.specs.Report.{own_of}
 use Rattle.dym_run.specs.WaveJobs.{WaveJobMeaning, job_shown}
 use Rattle.dym_run.specs.Views.{part_with_view}
-use Rattle.dym_report.specs.Summary.{both_tallies, no_tally, tally_all}
-use Rattle.dym_run.proofs.Lists.{none_left}
-use Rattle.dym_run.proofs.Tallies.{Fits, fits_both, replies_in, replies_of_parts, replies_of_jobs, tally_of_parts, tally_of_none, tally_of_both}
+use Rattle.dym_report.specs.Summary.{both_tallies, tally_all}
+use Rattle.dym_run.proofs.Tallies.{Fits, fits_both, replies_in, replies_of_parts, replies_of_jobs, tally_of_parts, tally_of_both}
 use Rattle.dym_run.proofs.Texts.{same_texts}
 
 -- ---- written
@@ -30,28 +30,21 @@ pub record Written (v : ReportOptions) (all left : List Part) (old new : Output)
   pub taken : all ≡ done ++ left
   pub written : Appended old new (parts_text v done)
 
-pub written_none : (v : ReportOptions) (all : List Part) (old : Output) → Written v all all old old
-written_none v all old = record { done = []; taken = refl; written = appended_nothing old }
-
 both_texts : (v : ReportOptions) (xs ys : List Part) → parts_text v (xs ++ ys) ≡ parts_text v xs ++ parts_text v ys
 both_texts v xs ys = flat_map-append (λ (part : Part). part_with_view v (own_of part)) xs ys
 
 module _ (v : ReportOptions) (all left : List Part) (old mid new : Output) (w : Written v all left old mid) where
-  pub written_more : (next rest : List Part) → left ≡ next ++ rest → Appended mid new (parts_text v next) → Written v all rest old new
+  written_more : (next rest : List Part) → left ≡ next ++ rest → Appended mid new (parts_text v next) → Written v all rest old new
   written_more next rest cut more = record {
     done = w.done ++ next;
     taken = w.taken ∙ ap (λ l. w.done ++ l) cut ∙ sym (append_assoc w.done next rest);
     written = subst (Appended old new) (sym (both_texts v w.done next)) (appended_both old mid new (parts_text v w.done) (parts_text v next) w.written more);
   }
 
-  pub written_front : AppendedFront mid new (parts_text v left) → AppendedFront old new (parts_text v all)
+  written_front : AppendedFront mid new (parts_text v left) → AppendedFront old new (parts_text v all)
   written_front front =
       subst (AppendedFront old new) (sym (ap (parts_text v) w.taken ∙ both_texts v w.done left))
       (front_after old mid new (parts_text v w.done) (parts_text v left) w.written front)
-
-  pub written_all : length left ≡ 0 → Appended old mid (parts_text v all)
-  written_all none =
-      subst (λ l. Appended old mid (parts_text v l)) (sym (w.taken ∙ ap (λ l. w.done ++ l) (none_left left none) ∙ append-nil w.done)) w.written
 
 -- ---- counted
 
@@ -61,56 +54,43 @@ pub record Counted (v : ReportOptions) (all left : List Part) (tally : Tally) : 
   pub taken : all ≡ done ++ left
   pub counted : IsTallyOf tally (parts_shown v done)
 
-pub counted_none : (v : ReportOptions) (all : List Part) (tally : Tally) → tally ≡ no_tally → Counted v all all tally
-counted_none v all tally none = record { done = []; taken = refl; counted = subst (λ t. IsTallyOf t []) (sym none) tally_of_none }
-
 abbrev commands_in : List Part → ℕ
 commands_in parts = sum_by (λ part. length part.commands) parts
 
-module _ (v : ReportOptions) (all left : List Part) (tally : Tally) (c : Counted v all left tally) where
-  pub few_left : length all ≤ MOST_OBJECTS → length left ≤ MOST_OBJECTS
-  few_left few = omega (arith, few, ap {B = ℕ} length c.taken, length-append c.done left)
+module _ (v : ReportOptions) (all left : List Part) (tally : Tally) (c : Counted v all left tally)
+    (next rest : List Part) (more : Tally) (cut : left ≡ next ++ rest) (of_next : IsTallyOf more (parts_shown v next)) where
+  whole : all ≡ (c.done ++ next) ++ rest
+  whole = c.taken ∙ ap (λ l. c.done ++ l) cut ∙ sym (append_assoc c.done next rest)
 
-  pub little_left : commands_in all ≤ MOST_COMMANDS → commands_in left ≤ MOST_COMMANDS
-  little_left little = omega (arith, little, ap commands_in c.taken, sum_by-append (λ (part : Part). length part.commands) c.done left)
+  counted_fits : length all ≤ MOST_OBJECTS → commands_in all ≤ MOST_COMMANDS → Fits tally more
+  counted_fits few little =
+      fits_both tally more (parts_shown v c.done) (parts_shown v next) c.counted of_next
+      (omega (
+        arith,
+        few,
+        ap {B = ℕ} length whole,
+        length-append (c.done ++ next) rest,
+        length-append c.done next,
+        length-map c.done (λ (p : Part). own_shown v (own_of p)),
+        length-map next (λ (p : Part). own_shown v (own_of p)),
+      ))
+      (omega (
+        arith,
+        little,
+        ap commands_in whole,
+        sum_by-append (λ (part : Part). length part.commands) (c.done ++ next) rest,
+        sum_by-append (λ (part : Part). length part.commands) c.done next,
+        replies_of_parts v c.done,
+        replies_of_parts v next,
+      ))
 
-  pub counted_all : length left ≡ 0 → IsTallyOf tally (parts_shown v all)
-  counted_all none =
-      subst (λ l. IsTallyOf tally (parts_shown v l)) (sym (c.taken ∙ ap (λ l. c.done ++ l) (none_left left none) ∙ append-nil c.done)) c.counted
-
-  module _ (next rest : List Part) (more : Tally) (cut : left ≡ next ++ rest) (of_next : IsTallyOf more (parts_shown v next)) where
-    whole : all ≡ (c.done ++ next) ++ rest
-    whole = c.taken ∙ ap (λ l. c.done ++ l) cut ∙ sym (append_assoc c.done next rest)
-
-    pub counted_fits : length all ≤ MOST_OBJECTS → commands_in all ≤ MOST_COMMANDS → Fits tally more
-    counted_fits few little =
-        fits_both tally more (parts_shown v c.done) (parts_shown v next) c.counted of_next
-        (omega (
-          arith,
-          few,
-          ap {B = ℕ} length whole,
-          length-append (c.done ++ next) rest,
-          length-append c.done next,
-          length-map c.done (λ (p : Part). own_shown v (own_of p)),
-          length-map next (λ (p : Part). own_shown v (own_of p)),
-        ))
-        (omega (
-          arith,
-          little,
-          ap commands_in whole,
-          sum_by-append (λ (part : Part). length part.commands) (c.done ++ next) rest,
-          sum_by-append (λ (part : Part). length part.commands) c.done next,
-          replies_of_parts v c.done,
-          replies_of_parts v next,
-        ))
-
-    pub counted_more : (both : Tally) → both ≡ both_tallies tally more → Counted v all rest both
-    counted_more both is = record {
-      done = c.done ++ next;
-      taken = whole;
-      counted = subst (IsTallyOf both) (sym (map-append (λ (p : Part). own_shown v (own_of p)) c.done next))
-          (tally_of_both tally more both (parts_shown v c.done) (parts_shown v next) c.counted of_next is);
-    }
+  counted_more : (both : Tally) → both ≡ both_tallies tally more → Counted v all rest both
+  counted_more both is = record {
+    done = c.done ++ next;
+    taken = whole;
+    counted = subst (IsTallyOf both) (sym (map-append (λ (p : Part). own_shown v (own_of p)) c.done next))
+        (tally_of_both tally more both (parts_shown v c.done) (parts_shown v next) c.counted of_next is);
+  }
 
 -- ---- one wave
 
@@ -166,6 +146,12 @@ memory_wanting a t (Ok x) is = absurd is
 memory_wanting a t (Err e) is = (front_of_appended a a [] t (appended_nothing a), ((λ sinks. absurd (omega (arith, ap of_sink (sym is ∙ sinks)))), λ _. refl))
 
 -- ---- wave after wave
+
+-- where the segments of a wave are back they are enough for the next one
+pub still_enough : {S I : Type 0} (id : S → I) (before after : List S) (n m most rest : ℕ) → n ≡ length before → m ≡ length after
+    → IsPermutation (map id before) (map id after) → rest ≡ most → most ≤ n → rest ≤ m
+still_enough id before after n m most rest many long same is enough =
+    omega (arith, enough, is, length_permutation (map id before) (map id after) same, length-map before id, length-map after id, many, long)
 
 -- the same error, where it may be the sink's
 pub writes_or_passed : {T E : Type 0} → (IsSinks : E → Type 0) (a b : Output) (t : List ℕ) (r : Result T E) (e : E) → IsErrAnd r (λ x. x ≡ e)

@@ -1,7 +1,7 @@
 -- Runs of quotas.
-use Rattle.std.proofs.Common.{◌≡◌, ℕ, refl, ◌+◌, ◌-◌, ◌<◌, ◌≤◌, List, [], ◌∷◌, ◌++◌, length, take, drop, sum, All, sym, ap, subst, ◌∙◌, arith, map, length-append, drop-drop, ◌⊎◌, inl, inr}
+use Rattle.std.proofs.Common.{◌≡◌, ℕ, ◌+◌, ◌-◌, ◌<◌, ◌≤◌, List, [], ◌∷◌, ◌++◌, length, take, drop, sum, All, sym, ap, subst, ◌∙◌, arith, map, length-append, drop-drop, ◌⊎◌, inl, inr}
 use Rattle.std.specs.Prelude.{slice_range}
-use Rattle.std.proofs.lemmas.List.Elements.{All-same, All-append, All-weaker, All-take, All-drop, All-map, All-head}
+use Rattle.std.proofs.lemmas.List.Elements.{All-same, All-append, All-weaker, All-take, All-map, All-head}
 use Rattle.std.proofs.lemmas.List.Sums.{get_or-le-sum_by}
 use Rattle.std.proofs.lemmas.List.{map-append, length-map, length-take-le, length-drop, get_or-append-add}
 use Rattle.std.proofs.lemmas.List.Folds.{drop_split}
@@ -12,11 +12,11 @@ use Rattle.dym_report.specs.Report.{IsRunnable}
 use Rattle.dym_run.specs.Parts.{quota_of, IsSumOfRun}
 
 -- each of some numbers is at most their sum
-pub each_in_sum : (xs : List ℕ) → All (λ x. x ≤ sum xs) xs
+each_in_sum : (xs : List ℕ) → All (λ x. x ≤ sum xs) xs
 each_in_sum xs k d within = get_or-le-sum_by (λ x. x) xs k d within
 
 -- the first `end` are the first `from` and the run between
-pub take_range : (xs : List ℕ) (from end : ℕ) → from ≤ end → take end xs ≡ take from xs ++ slice_range xs from end
+take_range : (xs : List ℕ) (from end : ℕ) → from ≤ end → take end xs ≡ take from xs ++ slice_range xs from end
 take_range xs from end order =
     ap (λ n. take n xs) (omega arith) ∙ take-add from (end - from) xs
 
@@ -26,17 +26,15 @@ fits_more xs from end largest total more order fits is left right =
     All-same (λ x. x ≤ more) (take end xs) (take from xs ++ slice_range xs from end) (take_range xs from end order)
     (All-append (λ x. x ≤ more) (take from xs) (slice_range xs from end)
     (All-weaker (λ x. x ≤ largest) (λ x. x ≤ more) (λ x h. omega (arith, h, left)) (take from xs) fits)
-    (All-weaker (λ x. x ≤ sum (slice_range xs from end)) (λ x. x ≤ more) (λ x h. omega (arith, h, is, right)) (slice_range xs from end) (each_in_sum (slice_range xs from end))))
+    (All-weaker (λ x. x ≤ sum (slice_range xs from end)) (λ x. x ≤ more) (λ x h. omega (arith, h, is, right)) (slice_range xs from end)
+    (each_in_sum (slice_range xs from end))))
 
 -- all of them
 pub fits_all : (xs : List ℕ) (from largest : ℕ) → length xs ≤ from → from ≤ length xs → All (λ x. x ≤ largest) (take from xs) → All (λ x. x ≤ largest) xs
 fits_all xs from largest over inside fits =
     All-same (λ x. x ≤ largest) xs (take from xs) (sym (take-length xs) ∙ ap (λ n. take n xs) (omega (arith, over, inside))) fits
 
--- no object needs nothing, and the greater of what two runs need is what a run needs
-pub needs_nothing : (xs : List ℕ) → IsSumOfRun xs 0
-needs_nothing xs = record { from = 0; end = 0; is = refl }
-
+-- the greater of what two runs need is what a run needs
 pub needs_greater : (xs : List ℕ) (a b greater : ℕ) → IsSumOfRun xs a → IsSumOfRun xs b
     → a ≤ greater → b ≤ greater → ((most : ℕ) → a ≤ most → b ≤ most → greater ≤ most) → IsSumOfRun xs greater
 needs_greater xs a b greater of_a of_b over_a over_b least = of (cases_lt a b)
@@ -45,17 +43,15 @@ needs_greater xs a b greater of_a of_b over_a over_b least = of (cases_lt a b)
     of (inl less) = subst (IsSumOfRun xs) (omega (arith, over_b, least b (omega (arith, less)) (omega arith))) of_b
     of (inr less) = subst (IsSumOfRun xs) (omega (arith, over_a, least a (omega arith) less)) of_a
 
--- what holds of all holds of a run of them
-pub all_in_run : (P : ℕ → Type 0) (xs : List ℕ) (from end : ℕ) → All P xs → All P (slice_range xs from end)
-all_in_run P xs from end h = All-take P (end - from) (drop from xs) (All-drop P from xs h)
-
 -- a quota of some objects is at least 1
-pub quotas_least : (parts : List Part) → All IsRunnable parts → All (λ q. (1 ≤ q) × (q ≤ 1024)) (map quota_of parts)
+quotas_least : (parts : List Part) → All IsRunnable parts → All (λ q. (1 ≤ q) × (q ≤ 1024)) (map quota_of parts)
 quotas_least parts runnable =
-    All-map (λ q. (1 ≤ q) × (q ≤ 1024)) quota_of parts (All-weaker IsRunnable (λ p. (1 ≤ quota_of p) × (quota_of p ≤ 1024)) (λ p h. (h.quota_least, h.quota_most)) parts runnable)
+    All-map (λ q. (1 ≤ q) × (q ≤ 1024)) quota_of parts
+    (All-weaker IsRunnable (λ p. (1 ≤ quota_of p) × (quota_of p ≤ 1024)) (λ p h. (h.quota_least, h.quota_most)) parts runnable)
 
 -- the largest is at least 1
-pub largest_least : (parts : List Part) (largest : ℕ) (quotas : List ℕ) → quotas ≡ map quota_of parts → All IsRunnable parts → 0 < length parts → All (λ q. q ≤ largest) quotas → 1 ≤ largest
+pub largest_least : (parts : List Part) (largest : ℕ) (quotas : List ℕ) → quotas ≡ map quota_of parts → All IsRunnable parts → 0 < length parts
+    → All (λ q. q ≤ largest) quotas → 1 ≤ largest
 largest_least [] largest quotas is runnable some fits = absurd (omega (arith, some))
 largest_least (p ∷ parts) largest quotas is runnable some fits =
     let of : All (λ q. q ≤ largest) (map quota_of (p ∷ parts)) = All-same (λ q. q ≤ largest) (map quota_of (p ∷ parts)) quotas (sym is) fits in
@@ -89,8 +85,8 @@ run_quotas parts quotas from end runnable lined =
     let P : ℕ → Type 0 = λ q. (1 ≤ q) × (q ≤ 1024) in
     All-take P (end - from) (drop from quotas) (All-same P (drop from quotas) (map quota_of parts) (sym lined) (quotas_least parts runnable))
 
-pub run_lined : (parts : List Part) (quotas lined_up : List ℕ) (from end : ℕ) → from ≤ end → map quota_of parts ≡ drop from quotas → lined_up ≡ slice_range quotas from end
-    → (rest : List ℕ) × (map quota_of parts ≡ lined_up ++ rest)
+pub run_lined : (parts : List Part) (quotas lined_up : List ℕ) (from end : ℕ) → from ≤ end → map quota_of parts ≡ drop from quotas
+    → lined_up ≡ slice_range quotas from end → (rest : List ℕ) × (map quota_of parts ≡ lined_up ++ rest)
 run_lined parts quotas lined_up from end order lined is =
     (drop end quotas, lined ∙ drop_split quotas from end order ∙ ap (λ l. l ++ drop end quotas) (sym is))
 

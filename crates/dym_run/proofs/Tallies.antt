@@ -10,7 +10,7 @@ use Rattle.dym_run.specs.declared.report_options.ReportOptions.{ReportOptions}
 use Rattle.dym_run.specs.Results.{Shown, own_shown, parts_shown, shown_tally, tally_shown, IsTallyOf}
 use Rattle.dym_report.specs.Report.{own_of}
 use Rattle.dym_run.specs.WaveJobs.{WaveJobMeaning, job_shown}
-use Rattle.dym_report.specs.Summary.{tally_of, no_tally, both_tallies, tally_all}
+use Rattle.dym_report.specs.Summary.{tally_of, both_tallies, tally_all}
 use Rattle.dym_report.proofs.Tallies.{tally_none, tally_last, tally_regroup, length_replies}
 
 shown_both : (xs ys : List Shown) → tally_shown (xs ++ ys) ≡ both_tallies (tally_shown xs) (tally_shown ys)
@@ -19,10 +19,6 @@ shown_both (x ∷ xs) ys = ap (both_tallies (shown_tally x)) (shown_both xs ys) 
 
 abbrev pub replies_in : List Shown → ℕ
 replies_in objects = sum_by (λ s. length s.replies) objects
-
--- no object comes to nothing
-pub tally_of_none : IsTallyOf no_tally []
-tally_of_none = record { counted = refl; replies = refl; chunks = omega arith; segments = omega arith; kept = omega arith; slots = omega arith }
 
 -- two sets of objects come to the sum
 pub tally_of_both : (a b c : Tally) (xs ys : List Shown) → IsTallyOf a xs → IsTallyOf b ys → c ≡ both_tallies a b → IsTallyOf c (xs ++ ys)
@@ -95,7 +91,12 @@ fits_both a b xs ys p q few little = record {
 pub replies_of_jobs : (jobs : List WaveJobMeaning) → replies_in (map job_shown jobs) ≡ sum_by (λ (e : WaveJobMeaning). length (job_shown e).replies) jobs
 replies_of_jobs [] = refl
 replies_of_jobs (e ∷ jobs) =
-    omega (arith, replies_of_jobs jobs, sum_by-cons (λ (s : Shown). length s.replies) (job_shown e) (map job_shown jobs), sum_by-cons (λ (e : WaveJobMeaning). length (job_shown e).replies) e jobs)
+    omega (
+      arith,
+      replies_of_jobs jobs,
+      sum_by-cons (λ (s : Shown). length s.replies) (job_shown e) (map job_shown jobs),
+      sum_by-cons (λ (e : WaveJobMeaning). length (job_shown e).replies) e jobs,
+    )
 
 module _ (jobs : List WaveJobMeaning) (i : ℕ) (e : WaveJobMeaning) (a b : Tally) (within : i < length jobs) (is : e ≡ get_or jobs i e)
     (p : IsTallyOf a (map job_shown (take i jobs))) (q : IsTallyOf b (job_shown e ∷ [])) where

@@ -1,9 +1,9 @@
 -- What a work publishes, from its start and turn by turn.
-use Rattle.std.proofs.Common.{◌≡◌, ◌<◌, ◌≤◌, Bool, true, false, Option, None, Some, [], length, Result, Ok, Err, OnOk, option_map, refl, ap, sym, subst, ◌∙◌, arith}
+use Rattle.std.proofs.Common.{◌≡◌, ◌<◌, ◌≤◌, Bool, true, false, Option, None, Some, [], length, Result, Ok, Err, OnOk, option_map, ap, sym, subst, ◌∙◌, arith}
 use Rattle.std.proofs.lemmas.Bool.{false≢true}
 use Rattle.std.specs.List.{AllByRecursion}
-use Rattle.std.specs.Prelude.{IfSome, is_some, is_err}
-use Rattle.dym_view.specs.Commits.{CommitMeaning, committed, oldest}
+use Rattle.std.specs.Prelude.{IfSome, is_err}
+use Rattle.dym_view.specs.Commits.{committed, oldest}
 use Rattle.dym_view.specs.Histories.{Beginning}
 use Rattle.dym_wave.specs.Works.{OriginMeaning, WorkMeaning, JobMeaning, ran}
 use Rattle.dym_run.specs.ViewedWorkMeanings.{IsPublished, MoreWhere, ShowsOldest, WasOldest}
@@ -11,8 +11,8 @@ use Rattle.dym_run.proofs.Jobs.{fresh_shows, oldest_was}
 use Rattle.dym_run.proofs.Sights.{more_few, more_own}
 
 -- a work that has run nothing has published nothing
-pub nothing_published : (w : WorkMeaning) (out_of_memory : Bool) (view : Option Beginning) → JobMeaning w → w.replies ≡ [] → IfSome view (λ (b : Beginning). b.commits ≡ [])
-    → IfSome view (IsPublished w out_of_memory)
+pub nothing_published : (w : WorkMeaning) (out_of_memory : Bool) (view : Option Beginning) → JobMeaning w → w.replies ≡ []
+    → IfSome view (λ (b : Beginning). b.commits ≡ []) → IfSome view (IsPublished w out_of_memory)
 nothing_published w out_of_memory None job fresh empty = tt
 nothing_published w out_of_memory (Some b) job fresh empty = record {
   own = subst (AllByRecursion (WasOldest w.origin)) (sym empty) tt;
@@ -40,7 +40,8 @@ module _ (old new : WorkMeaning) (was_out : Bool) (job : JobMeaning new) (same :
       }
 
   -- its work found no memory, and nothing was published
-  pub turned_short : (view : Option Beginning) → IfSome view (IsPublished old was_out) → ran old ≤ ran new → new.out_of_memory ≡ true → IfSome view (IsPublished new was_out)
+  pub turned_short : (view : Option Beginning) → IfSome view (IsPublished old was_out) → ran old ≤ ran new → new.out_of_memory ≡ true
+      → IfSome view (IsPublished new was_out)
   turned_short None published on wanting = tt
   turned_short (Some b) published on wanting =
       let few = published.few in
@@ -49,13 +50,6 @@ module _ (old new : WorkMeaning) (was_out : Bool) (job : JobMeaning new) (same :
         few = omega (arith, few, on);
         shown = λ _ long. absurd (false≢true (sym long ∙ wanting));
       }
-
--- a history stays one
-pub still_told : (c : Option CommitMeaning) (old new : Option Beginning) → MoreWhere c old new → is_some new ≡ is_some old
-still_told c None None by = refl
-still_told c None (Some new) by = absurd by
-still_told c (Some old) None by = absurd by
-still_told c (Some old) (Some new) by = refl
 
 -- what is ensured of an answer that isn't an error
 pub unless_err : {T E P : Type 0} (r : Result T E) (b : Bool) → b ≡ is_err r → b ≡ false → OnOk r P → P

@@ -1,13 +1,13 @@
 -- Where the jobs of a wave come from, which stand over its berths.
-use Rattle.std.proofs.Common.{◌≡◌, ℕ, zero, suc, ◌+◌, ◌<◌, ◌≤◌, Bool, true, false, List, [], ◌∷◌, ◌++◌, length, map, sum, sum_by, All, Option, None, Some, option_to_list, MatchOption, Result, Ok, Err, IfOk, refl, sym, ap, subst, ◌∙◌, arith, append-nil, append_assoc, length-append}
+use Rattle.std.proofs.Common.{◌≡◌, ℕ, zero, suc, ◌+◌, ◌<◌, Bool, true, false, List, [], ◌∷◌, ◌++◌, length, map, sum, sum_by, All, Option, None, Some, option_to_list, MatchOption, Result, Ok, Err, IfOk, refl, sym, ap, subst, ◌∙◌, arith, append_assoc, length-append}
 use Rattle.std.specs.Prelude.{slice_index_or, is_some, IfSome}
-use Rattle.std.proofs.lemmas.List.{map_push, length-map, get_or-map}
+use Rattle.std.proofs.lemmas.Simd.{map-map}
+use Rattle.std.proofs.lemmas.List.{map_push, length-map, get_or-map, nil_from_length}
 use Rattle.std.proofs.lemmas.List.Elements.{All-nil, All-cons, All-head, All-tail}
 use Rattle.std.proofs.lemmas.List.Sums.{sum-map}
-use Rattle.dym_base.specs.Origins.{TableName, own, shared}
+use Rattle.dym_base.specs.Origins.{TableName, shared}
 use Rattle.dym_pool.specs.Jobs.{Numbered, labels}
 use Rattle.dym_quota.specs.Berths.{IsIdleBerth}
-use Rattle.dym_quota.specs.QueueShape.{queue_name}
 use Rattle.dym_quota.specs.declared.berth.Berth.{Berth}
 use Rattle.dym_script.specs.declared.parts.Part.{Part}
 use Rattle.dym_view.specs.Histories.{Beginning}
@@ -18,7 +18,7 @@ use Rattle.dym_run.specs.Results.{PartsRan, Shown, own_shown, result_shown}
 use Rattle.dym_report.specs.Report.{own_of}
 use Rattle.dym_run.specs.Parts.{quota_of}
 use Rattle.dym_run.specs.WaveJobs.{WaveJobMeaning, number_of, origin_of, job_quota, job_shown, job_supply}
-use Rattle.dym_run.proofs.Lists.{all_front, all_images, all_last, map_twice, none_left, one_head, one_tail}
+use Rattle.dym_run.proofs.Lists.{all_front, all_images, all_last, one_head, one_tail}
 
 -- what is printed of the object of a job that comes from there and ran all its commands
 abbrev origin_shown : JobOriginMeaning → Shown
@@ -39,8 +39,8 @@ module _ {R : Type 0} (options : ReportOptions) (quantum : ℕ) where
   from_queue queue n [] over idle = All-nil (λ (o : JobOriginMeaning). o.source.origin.supply ≡ shared queue)
   from_queue queue n (p ∷ done) [] idle = All-nil (λ (o : JobOriginMeaning). o.source.origin.supply ≡ shared queue)
   from_queue queue n (p ∷ done) (b ∷ over) idle =
-      All-cons (λ (o : JobOriginMeaning). o.source.origin.supply ≡ shared queue) _ (origins_from options quantum (n + 1) done over) (ap shared (All-head (IsIdleBerth queue) b over idle).0)
-      (from_queue queue (n + 1) done over (All-tail (IsIdleBerth queue) b over idle))
+      All-cons (λ (o : JobOriginMeaning). o.source.origin.supply ≡ shared queue) _ (origins_from options quantum (n + 1) done over)
+      (ap shared (All-head (IsIdleBerth queue) b over idle).0) (from_queue queue (n + 1) done over (All-tail (IsIdleBerth queue) b over idle))
 
   from_quantum : (n : ℕ) (done : List Part) (over : List (Berth R)) → All (λ (o : JobOriginMeaning). o.quantum ≡ quantum) (origins_from options quantum n done over)
   from_quantum n [] over = All-nil (λ (o : JobOriginMeaning). o.quantum ≡ quantum)
@@ -61,20 +61,24 @@ module _ {R : Type 0} (options : ReportOptions) (quantum : ℕ) where
   from_shown n [] (b ∷ over) same = absurd (omega (arith, ap {B = ℕ} length same))
   from_shown n (p ∷ done) [] same = absurd (omega (arith, ap {B = ℕ} length same))
   from_shown n (p ∷ done) (b ∷ over) same =
-      λ i. own_shown options (record { decl = record p.decl { quota = sym (one_head _ _ _ _ same) i }; commands = p.commands }) ∷ from_shown (n + 1) done over (one_tail _ _ _ _ same) i
+      let quota = sym (one_head _ _ _ _ same) in
+      let rest = from_shown (n + 1) done over (one_tail _ _ _ _ same) in
+      λ i. own_shown options (record { decl = record p.decl { quota = quota i }; commands = p.commands }) ∷ rest i
 
   -- jobs that are back come from where those that were made do
-  pub still_made : (before now : List Part) (berths : List (Berth R)) (jobs back : List WaveJobMeaning) → TakesParts options quantum before now berths (map origin_of jobs)
-      → map origin_of back ≡ map origin_of jobs → TakesParts options quantum before now berths (map origin_of back)
+  pub still_made : (before now : List Part) (berths : List (Berth R)) (jobs back : List WaveJobMeaning)
+      → TakesParts options quantum before now berths (map origin_of jobs) → map origin_of back ≡ map origin_of jobs → TakesParts options quantum before now berths (map origin_of back)
   still_made before now berths jobs back made same = subst (TakesParts options quantum before now berths) (sym same) made
 
   -- ---- jobs that come from there
 
-  module _ (before now : List Part) (berths : List (Berth R)) (jobs : List WaveJobMeaning) (made : TakesParts options quantum before now berths (map origin_of jobs)) where
+  module _ (before now : List Part) (berths : List (Berth R)) (jobs : List WaveJobMeaning)
+      (made : TakesParts options quantum before now berths (map origin_of jobs)) where
     pub jobs_quotas : sum_by job_quota jobs ≡ sum_by (λ (b : Berth R). b.quota) berths
     jobs_quotas =
         sym (sum-map job_quota jobs)
-        ∙ ap sum (sym (map_twice (λ (o : JobOriginMeaning). o.source.origin.quota) origin_of jobs) ∙ ap (map (λ (o : JobOriginMeaning). o.source.origin.quota)) made.origins_are ∙ from_quotas 0 made.done berths made.quotas)
+        ∙ ap sum (sym (map-map (λ (o : JobOriginMeaning). o.source.origin.quota) origin_of jobs)
+        ∙ ap (map (λ (o : JobOriginMeaning). o.source.origin.quota)) made.origins_are ∙ from_quotas 0 made.done berths made.quotas)
         ∙ sum-map (λ (b : Berth R). b.quota) berths
 
     many_done : length made.done ≡ length berths
@@ -93,7 +97,8 @@ module _ {R : Type 0} (options : ReportOptions) (quantum : ℕ) where
 
     pub jobs_quantum : All (λ (p : WaveJobMeaning). p.quantum ≡ quantum) jobs
     jobs_quantum =
-        all_images origin_of (λ (o : JobOriginMeaning). o.quantum ≡ quantum) jobs (origins_from options quantum 0 made.done berths) made.origins_are (from_quantum 0 made.done berths)
+        all_images origin_of (λ (o : JobOriginMeaning). o.quantum ≡ quantum) jobs (origins_from options quantum 0 made.done berths) made.origins_are
+        (from_quantum 0 made.done berths)
 
     pub jobs_numbered : Numbered number_of jobs
     jobs_numbered k d within =
@@ -112,7 +117,7 @@ module _ {R : Type 0} (options : ReportOptions) (quantum : ℕ) where
       done = made.done;
       counted = many_done ∙ sym counted;
       taken = made.taken;
-      shown = sym (map_twice origin_shown origin_of jobs) ∙ ap (map origin_shown) made.origins_are ∙ from_shown 0 made.done berths made.quotas;
+      shown = sym (map-map origin_shown origin_of jobs) ∙ ap (map origin_shown) made.origins_are ∙ from_shown 0 made.done berths made.quotas;
     }
 
   -- ---- jobs that are made one by one
@@ -126,18 +131,16 @@ module _ {R : Type 0} (options : ReportOptions) (quantum : ℕ) where
     pub quotas : map quota_of done ≡ map (λ (b : Berth R). b.quota) over
     pub origins_are : origins ≡ origins_from options quantum 0 done over
 
-  pub taking_none : (parts : List Part) (berths : List (Berth R)) (origins : List JobOriginMeaning) → origins ≡ [] → Taking parts parts berths berths origins
-  taking_none parts berths origins none = record { done = []; over = []; taken = refl; split = refl; quotas = refl; origins_are = none }
-
-  origins_more : (n m : ℕ) (done : List Part) (over : List (Berth R)) (p : Part) (b : Berth R) → map quota_of done ≡ map (λ (b : Berth R). b.quota) over → m ≡ n + length done
-      → origins_from options quantum n (done ++ p ∷ []) (over ++ b ∷ []) ≡ origins_from options quantum n done over ++ origin_at options quantum m p b ∷ []
+  origins_more : (n m : ℕ) (done : List Part) (over : List (Berth R)) (p : Part) (b : Berth R) → map quota_of done ≡ map (λ (b : Berth R). b.quota) over
+      → m ≡ n + length done → origins_from options quantum n (done ++ p ∷ []) (over ++ b ∷ []) ≡ origins_from options quantum n done over ++ origin_at options quantum m p b ∷ []
   origins_more n m [] [] p b same is = ap {B = List JobOriginMeaning} (λ k. origin_at options quantum k p b ∷ []) (omega (arith, is))
   origins_more n m [] (c ∷ over) p b same is = absurd (omega (arith, ap {B = ℕ} length same))
   origins_more n m (q ∷ done) [] p b same is = absurd (omega (arith, ap {B = ℕ} length same))
   origins_more n m (q ∷ done) (c ∷ over) p b same is =
       ap {B = List JobOriginMeaning} (λ l. origin_at options quantum n q c ∷ l) (origins_more (n + 1) m done over p b (one_tail _ _ _ _ same) (omega (arith, is)))
 
-  origins_long : (n : ℕ) (done : List Part) (over : List (Berth R)) → map quota_of done ≡ map (λ (b : Berth R). b.quota) over → length (origins_from options quantum n done over) ≡ length done
+  origins_long : (n : ℕ) (done : List Part) (over : List (Berth R)) → map quota_of done ≡ map (λ (b : Berth R). b.quota) over
+      → length (origins_from options quantum n done over) ≡ length done
   origins_long n done over same =
       sym (length-map (origins_from options quantum n done over) (λ (o : JobOriginMeaning). o.source.origin.quota))
       ∙ ap {B = ℕ} length (from_quotas n done over same ∙ sym same) ∙ length-map done quota_of
@@ -155,19 +158,9 @@ module _ {R : Type 0} (options : ReportOptions) (quantum : ℕ) where
         ∙ sym (origins_more 0 number t.done t.over p b t.quotas (omega (arith, numbered, ap {B = ℕ} length t.origins_are, origins_long 0 t.done t.over t.quotas)));
   }
 
-  pub taking_all : (before now : List Part) (all left : List (Berth R)) (origins : List JobOriginMeaning) → left ≡ [] → Taking before now all left origins
-      → TakesParts options quantum before now all origins
-  taking_all before now all left origins none t =
-      let over : all ≡ t.over = t.split ∙ ap (λ l. t.over ++ l) none ∙ append-nil t.over in
-      record {
-        done = t.done;
-        taken = t.taken;
-        quotas = t.quotas ∙ ap (map (λ (b : Berth R). b.quota)) (sym over);
-        origins_are = t.origins_are ∙ ap (origins_from options quantum 0 t.done) (sym over);
-      }
-
 -- jobs that are back with their labels come from where they did
-pub origins_back : (before after : List WaveJobMeaning) → labels number_of origin_of after ≡ labels number_of origin_of before → map origin_of after ≡ map origin_of before
+pub origins_back : (before after : List WaveJobMeaning) → labels number_of origin_of after ≡ labels number_of origin_of before
+    → map origin_of after ≡ map origin_of before
 origins_back before after same = sym (of after) ∙ ap (map (λ (l : ℕ × JobOriginMeaning). l.1)) same ∙ of before
   where
     of : (ps : List WaveJobMeaning) → map (λ (l : ℕ × JobOriginMeaning). l.1) (labels number_of origin_of ps) ≡ map origin_of ps
@@ -194,7 +187,7 @@ publisher_taken P Q true count all k publishers rest (Some b) long cases cut one
 publisher_taken P Q false count all k publishers rest None long cases cut one are = record {
   told = refl;
   empty = tt;
-  left = none_left rest (omega (arith, ap {B = ℕ} length cut, ap {B = ℕ} length are, length-append rest []));
+  left = nil_from_length rest (omega (arith, ap {B = ℕ} length cut, ap {B = ℕ} length are, length-append rest []));
 }
 publisher_taken P Q false count all k publishers rest (Some b) long cases cut one are =
     absurd (omega (arith, ap {B = ℕ} length cut, ap {B = ℕ} length are, length-append rest (b ∷ [])))
@@ -207,8 +200,3 @@ opened_told views count len of (Err e) long told many empty = tt
 
 pub opened_untold : (views : Bool) (count : ℕ) (publishers : List Beginning) → views ≡ false → publishers ≡ [] → ArePublishers views count publishers
 opened_untold views count publishers untold none = subst (λ b. ArePublishers b count publishers) (sym untold) none
-
--- none is left once no job is to be made
-pub no_publisher : (views : Bool) (publishers : List Beginning) → ArePublishers views 0 publishers → length publishers ≡ 0
-no_publisher true publishers are = are.0
-no_publisher false publishers are = ap {B = ℕ} length are

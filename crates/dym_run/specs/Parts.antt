@@ -1,5 +1,5 @@
 -- The parts of a script that was read into its objects.
-use Rattle.std.specs.Prelude.{◌≡◌, ℕ, ◌≤◌, List, ◌++◌, map, sum, slice_range}
+use Rattle.std.specs.Prelude.{◌≡◌, ℕ, List, ◌++◌, map, sum, slice_range}
 use Rattle.dym_script.specs.declared.parts.Part.{Part}
 use Rattle.dym_words.specs.Laws.{CanRun}
 use Rattle.dym_run.specs.declared.shape.Shape.{Shape}

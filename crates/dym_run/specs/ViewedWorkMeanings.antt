@@ -6,8 +6,6 @@ use Rattle.dym_view.specs.Commits.{CommitMeaning, committed, oldest}
 use Rattle.dym_view.specs.Histories.{Beginning, last_commit}
 use Rattle.dym_wave.specs.Works.{OriginMeaning, WorkMeaning, JobMeaning, ran}
 use Rattle.dym_wave.specs.Works as Works
-use Rattle.dym_report.specs.declared.late.ViewLine.{ViewLine}
-use Rattle.dym_run.specs.Lines.{oldest_view}
 
 -- the work, the history that it publishes where its view is told, and whether a commit or its publication found no memory
 pub record ViewedWorkMeaning : Type 0 where
@@ -49,10 +47,6 @@ pub record IsPublished (w : WorkMeaning) (out_of_memory : Bool) (view : Beginnin
 pub record IsViewed (w : ViewedWorkMeaning) : Type 0 where
   pub job : JobMeaning w.work
   pub published : IfSome w.view (IsPublished w.work w.out_of_memory)
-
--- what is to be seen of an object of this origin once it has run all its commands
-abbrev pub end_view : OriginMeaning → Option ViewLine
-end_view o = oldest_view (run_end o.version o.quota o.commands)
 
 -- what comes after a log that was the oldest: that log, or a later one
 abbrev pub GoesOn : Option LogEntry → Option LogEntry → Type 0

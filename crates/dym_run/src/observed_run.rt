@@ -58,47 +58,14 @@ pub fn run_observed<R: Threads + Wait + Send + Sync, J: Job<R>, G: Gate>(
             ran,
         };
     }
-    let (mut asker, mut ear) = match Stop::open(alloc) {
-        Ok(ends) => ends,
-        Err(error) => {
-            return ObservedResults {
-                jobs,
-                sweepers,
-                viewers,
-                ran: Err(error),
-            };
-        }
-    };
-    let (_, ran) = join_mut(
+    let ran = run_beside(
         rt,
-        &mut || -> bool
-            ensures { LookedOn viewers.entry.items viewers.exit.items }
-        {
-            observe(rt, &mut viewers, &mut ear);
-            ear.heard()
-        },
-        &mut || -> Result<(), AllocError>
-            requires { (vec_len jobs ≤ MOST_OBJECTS) × Numbered J.number_of jobs.items × (1 ≤ workers)
-                × (workers ≤ MOST_WORKERS) × (asker.asked ≡ false) }
-            ensures labels { labels J.number_of J.origin_of jobs.exit.items
-                ≡ labels J.number_of J.origin_of jobs.entry.items }
-            ensures ended { OnOk result (AllEnded J.left_of jobs.exit.items) }
-            ensures tables { SameTables sweepers.entry.items sweepers.exit.items }
-            ensures swept { OnOk result (EachSwept sweepers.entry.items sweepers.exit.items) }
-            ensures asked { asker.exit.asked ≡ true }
-        {
-            let ran = run_in_place(
-                rt,
-                alloc,
-                &mut jobs,
-                &mut sweepers,
-                workers,
-                gate,
-                Some(&asker),
-            );
-            asker.ask();
-            ran
-        },
+        alloc,
+        &mut jobs,
+        &mut sweepers,
+        &mut viewers,
+        workers,
+        gate,
     );
     ObservedResults {
         jobs,
@@ -106,6 +73,53 @@ pub fn run_observed<R: Threads + Wait + Send + Sync, J: Job<R>, G: Gate>(
         viewers,
         ran,
     }
+}
+
+/// Runs jobs to their ends in their lists, beside a thread that looks until the last of them has ended.
+fn run_beside<R: Threads + Wait + Send + Sync, J: Job<R>, G: Gate>(
+    rt: &R,
+    alloc: Global,
+    jobs: &mut Vec<J>,
+    sweepers: &mut Vec<Sweeper>,
+    viewers: &mut Vec<Viewer>,
+    workers: u32,
+    gate: &G,
+) -> Result<(), AllocError>
+    requires few { vec_len jobs.old ≤ MOST_OBJECTS }
+    requires numbered { Numbered J.number_of jobs.old.items }
+    requires some { 1 ≤ workers }
+    requires most { workers ≤ MOST_WORKERS }
+    ensures labels { labels J.number_of J.origin_of jobs.new.items ≡ labels J.number_of J.origin_of jobs.old.items }
+    ensures ended { OnOk result (AllEnded J.left_of jobs.new.items) }
+    ensures tables { SameTables sweepers.old.items sweepers.new.items }
+    ensures swept { OnOk result (EachSwept sweepers.old.items sweepers.new.items) }
+    ensures looked { LookedOn viewers.old.items viewers.new.items }
+{
+    let (mut asker, mut ear) = Stop::open(alloc)?;
+    let (_, ran) = join_mut(
+        rt,
+        &mut || -> bool
+            ensures { LookedOn viewers.entry.now.items viewers.exit.now.items }
+        {
+            observe(rt, viewers, &mut ear);
+            ear.heard()
+        },
+        &mut || -> Result<(), AllocError>
+            requires { (vec_len jobs.now ≤ MOST_OBJECTS) × Numbered J.number_of jobs.now.items × (1 ≤ workers)
+                × (workers ≤ MOST_WORKERS) × (asker.asked ≡ false) }
+            ensures labels { labels J.number_of J.origin_of jobs.exit.now.items
+                ≡ labels J.number_of J.origin_of jobs.entry.now.items }
+            ensures ended { OnOk result (AllEnded J.left_of jobs.exit.now.items) }
+            ensures tables { SameTables sweepers.entry.now.items sweepers.exit.now.items }
+            ensures swept { OnOk result (EachSwept sweepers.entry.now.items sweepers.exit.now.items) }
+            ensures asked { asker.exit.asked ≡ true }
+        {
+            let ran = run_in_place(rt, alloc, jobs, sweepers, workers, gate, Some(&asker));
+            asker.ask();
+            ran
+        },
+    );
+    ran
 }
 
 /// Runs jobs to their ends, in the lists in which they and their sweepers are. No one asks a thread that looks to end before or meanwhile.

@@ -1,7 +1,6 @@
 -- Each step on the book of a history keeps its rule.
 use Rattle.std.proofs.Common.{◌≡◌, ◌≢◌, ℕ, zero, suc, ◌+◌, ◌<◌, ◌==◌, Bool, true, false, true≢false, List, [], ◌∷◌, ◌++◌, length, map, set, refl, ap, sym, subst, ◌∙◌, arith, inl, length-append, None, Some}
-use Rattle.std.specs.Prelude.{slice_index_or}
-use Rattle.std.proofs.lemmas.List.{append-nil, get_or-set_same, get_or-set_other}
+use Rattle.std.proofs.lemmas.List.{append-nil, length-map, length-set, map-append, map_push, nil_from_length, get_or-set_same, get_or-set_other}
 use Rattle.std.proofs.lemmas.Bool.Decides.{nat_tests}
 use mathlib.Core.List.{IsPrefix}
 use prog.Atomic.{either}
@@ -51,11 +50,6 @@ first_more : (cs : List Cell) (c : Cell) → 0 < length cs → cell (cs ++ c ∷
 first_more [] c low = absurd (omega arith)
 first_more (d ∷ cs) c low = refl
 
-length_set : (cs : List Cell) (k : ℕ) (c : Cell) → length (set cs k c) ≡ length cs
-length_set [] k c = refl
-length_set (d ∷ cs) zero c = refl
-length_set (d ∷ cs) (suc k) c = ap suc (length_set cs k c)
-
 used_kept : (cs ds : List Cell) → ((i : ℕ) → IsHome cs i → IsHome ds i) → (log : List Entry) → AreUsed cs log → AreUsed ds log
 used_kept cs ds stays [] used = tt
 used_kept cs ds stays (e ∷ []) used = tt
@@ -66,13 +60,9 @@ used_more cs [] e used home = tt
 used_more cs (f ∷ []) e used home = (home, tt)
 used_more cs (f ∷ g ∷ es) e used home = (used.0, used_more cs (g ∷ es) e used.1 home)
 
-firsts_more : (es : List Entry) (e : Entry) → map (λ (x : Entry). x.0) (es ++ e ∷ []) ≡ map (λ (x : Entry). x.0) es ++ e.0 ∷ []
-firsts_more [] e = refl
-firsts_more (f ∷ es) e = ap (λ l. f.0 ∷ l) (firsts_more es e)
-
 commits_more : (log : List Entry) (e : Entry) → 0 < length log → commits_of (log ++ e ∷ []) ≡ commits_of log ++ e.0 ∷ []
 commits_more [] e some = absurd (omega arith)
-commits_more (f ∷ es) e some = firsts_more es e
+commits_more (f ∷ es) e some = map_push (λ (x : Entry). x.0) es e
 
 -- an entry whose cell isn't home is the last
 pub is_whole : (v log : List Entry) (cs : List Cell) → IsPrefix v log → AreUsed cs log → 0 < length v → (cell cs (next_key v)).1 ≡ false → v ≡ log
@@ -105,7 +95,7 @@ claims_moves v e cs log kept pre away =
     let x = either (n == 0) 0 n in
     let ds = set cs 0 (x, true) in
     let es = ds ++ (0, false) ∷ [] in
-    let some : 0 < length ds = omega (arith, kept.some, length_set cs 0 (x, true)) in
+    let some : 0 < length ds = omega (arith, kept.some, length-set cs 0 (x, true)) in
     let count : x ≡ length log = stays_as n 0 (n == 0) refl ∙ ap (λ (c : Cell). c.0) kept.word in
     let word : cell es 0 ≡ (length log, true) = first_more ds (0, false) some ∙ get_or-set_same cs 0 (x, true) (0, false) kept.some ∙ ap (λ (k : ℕ). (k, true)) count in
     let is : IsBookOf es log = record {
@@ -119,10 +109,6 @@ claims_moves v e cs log kept pre away =
       (adds, [], None, tt, subst (IsBookOf es) (sym (append-nil log)) is, inl (refl, refl), refl),
     )
 
-none_of : (log : List Entry) → length log ≡ 0 → log ≡ []
-none_of [] is = refl
-none_of (e ∷ log) is = absurd (omega arith)
-
 -- the first entry, or none
 begins_goes : (v : List Entry) (e : Entry) (p : Nib) (cs : List Cell) (log : List Entry) → IsBookOf cs log → (b : Bool) → ((cell cs 0).0 == 0) ≡ b
     → Goes IsBookOf shown moved 0 (v, (p, None)) (λ n. either (n == 0) 1 n) (Begins (step 0 0 1 e) (v, (p, None))) cs log
@@ -131,11 +117,11 @@ begins_goes v e p cs log kept true is =
     let x = either (n == 0) 1 n in
     let ds = set cs 0 (x, true) in
     let none : n ≡ 0 = grind (arith, nat_tests) in
-    let empty : log ≡ [] = none_of log (ap (λ (c : Cell). c.0) (sym kept.word) ∙ none) in
+    let empty : log ≡ [] = nil_from_length log (ap (λ (c : Cell). c.0) (sym kept.word) ∙ none) in
     let whole : log ++ e ∷ [] ≡ e ∷ [] = ap (λ (l : List Entry). l ++ e ∷ []) empty in
     let one : x ≡ 1 = becomes n 0 1 none true is in
     let book : IsBookOf ds (e ∷ []) = record {
-      some = omega (arith, kept.some, length_set cs 0 (x, true));
+      some = omega (arith, kept.some, length-set cs 0 (x, true));
       word = get_or-set_same cs 0 (x, true) (0, false) kept.some ∙ ap (λ (k : ℕ). (k, true)) one;
       rising = tt;
       used = tt;
@@ -146,7 +132,7 @@ begins_goes v e p cs log kept false is =
     let ds = set cs 0 (x, true) in
     let count : x ≡ length log = rw is (ap (λ (c : Cell). c.0) kept.word) in
     let book : IsBookOf ds log = record {
-      some = omega (arith, kept.some, length_set cs 0 (x, true));
+      some = omega (arith, kept.some, length-set cs 0 (x, true));
       word = get_or-set_same cs 0 (x, true) (0, false) kept.some ∙ ap (λ (k : ℕ). (k, true)) count;
       rising = kept.rising;
       used = used_kept cs ds (λ i home. home_set cs 0 i x home) log kept.used;
@@ -158,7 +144,8 @@ begins_moves v e p cs log kept pre away =
     (kept.some, ap (λ (c : Cell). c.1) kept.word, begins_goes v e p cs log kept ((cell cs 0).0 == 0) refl)
 
 -- whoever has the right to bring the last cell home adds an entry to all that was seen
-pub adds_moves : (v : List Entry) (e : Entry) (p : Nib) (old new : ℕ) → new ≡ old + 1 → 0 < length v → length v ≡ old → p.right ≡ may_write → p.key ≡ next_key v → IsHistory (commits_of v) → MayFollow (commits_of v) e.0.time
+pub adds_moves : (v : List Entry) (e : Entry) (p : Nib) (old new : ℕ) → new ≡ old + 1 → 0 < length v → length v ≡ old → p.right ≡ may_write → p.key ≡ next_key v
+    → IsHistory (commits_of v) → MayFollow (commits_of v) e.0.time
     → Moves IsBookOf shown moved 0 (v, (p, None)) (λ n. either (n == old) new n) (Adds (step 0 old new e) (v, (p, None)))
 adds_moves v e p old new up some len right key rising may cs log kept pre away =
     let out = away right in
@@ -171,12 +158,12 @@ adds_moves v e p old new up some len right key rising may cs log kept pre away =
     let here : n ≡ old = ap (λ (c : Cell). c.0) kept.word ∙ ap length (sym same) ∙ len in
     let other : 0 ≢ p.key = λ (is : 0 ≡ p.key). true≢false (sym (ap (λ (c : Cell). c.1) kept.word) ∙ ap (λ (k : ℕ). (cell cs k).1) is ∙ out.1) in
     let more : x ≡ length (v ++ e ∷ []) = becomes n old new here (n == old) refl ∙ omega (arith, up, len, length-append v (e ∷ [])) in
-    let low : p.key < length ds = omega (arith, out.0, length_set cs 0 (x, true)) in
+    let low : p.key < length ds = omega (arith, out.0, length-set cs 0 (x, true)) in
     let stays : (i : ℕ) → IsHome cs i → IsHome es i = λ i home. home_set ds p.key i p.value (home_set cs 0 i x home) in
     let home : IsHome es (next_key v) = subst (IsHome es) key (home_here ds p.key p.value low) in
     let used : AreUsed es v = used_kept cs es stays v (subst (AreUsed cs) (sym same) kept.used) in
     let book : IsBookOf es (v ++ e ∷ []) = record {
-      some = omega (arith, kept.some, length_set cs 0 (x, true), length_set ds p.key (p.value, true));
+      some = omega (arith, kept.some, length-set cs 0 (x, true), length-set ds p.key (p.value, true));
       word = get_or-set_other ds p.key 0 (p.value, true) (0, false) other ∙ get_or-set_same cs 0 (x, true) (0, false) kept.some ∙ ap (λ (k : ℕ). (k, true)) more;
       rising = subst IsHistory (sym (commits_more v e some)) (rises_more (commits_of v) e.0 rising may);
       used = used_more es v e used home;
@@ -213,32 +200,19 @@ module _ (v w : List Entry) (e : Entry) (is : w ≡ v ++ e ∷ []) where
   pub rising_more : 0 < length v → IsHistory (commits_of v) → MayFollow (commits_of v) e.0.time → IsHistory (commits_of w)
   rising_more some rising may = subst IsHistory (sym (is_more some)) (rises_more (commits_of v) e.0 rising may)
 
-firsts_length : (es : List Entry) → length (map (λ (x : Entry). x.0) es) ≡ length es
-firsts_length [] = refl
-firsts_length (e ∷ es) = ap suc (firsts_length es)
-
 -- the entries are one more than the commits
 pub counts_entries : (v : List Entry) → 0 < length v → length v ≡ length (commits_of v) + 1
 counts_entries [] some = absurd (omega arith)
-counts_entries (e ∷ es) some = ap suc (sym (firsts_length es)) ∙ omega arith
+counts_entries (e ∷ es) some = omega (arith, length-map es (λ (x : Entry). x.0))
 
--- the number and the last commit of a history that has one commit more
-pub counts_more : (old new : List CommitMeaning) (c : CommitMeaning) (n : ℕ) → n ≡ length old → new ≡ old ++ c ∷ [] → n + 1 ≡ length new
-counts_more old new c n counts is = omega (arith, length-append old (c ∷ []), ap length is)
-
+-- the last commit of a history that has one commit more
 pub last_more : (old new : List CommitMeaning) (c : CommitMeaning) → new ≡ old ++ c ∷ [] → Some c ≡ last_commit new
 last_more old new c is = sym (ap last_commit is ∙ last-more old c)
-
-firsts_begin : (v w : List Entry) → IsPrefix v w → IsPrefix (map (λ (x : Entry). x.0) v) (map (λ (x : Entry). x.0) w)
-firsts_begin [] w pre = (map (λ (x : Entry). x.0) w, refl)
-firsts_begin (e ∷ v) [] pre = absurd (cc (pre.1))
-firsts_begin (e ∷ v) (f ∷ w) pre =
-    let rest = firsts_begin v w (pre.0, cc (pre.1)) in
-    let same : e ≡ f = cc (pre.1) in
-    (rest.0, (λ i. (same i).0 ∷ rest.1 i))
 
 -- a beginning of the entries has a beginning of the commits
 pub commits_begin : (v w : List Entry) → IsPrefix v w → IsPrefix (commits_of v) (commits_of w)
 commits_begin [] w pre = (commits_of w, refl)
 commits_begin (e ∷ v) [] pre = absurd (cc (pre.1))
-commits_begin (e ∷ v) (f ∷ w) pre = firsts_begin v w (pre.0, cc (pre.1))
+commits_begin (e ∷ v) (f ∷ w) pre =
+    let rest : v ++ pre.0 ≡ w = cc (pre.1) in
+    (map (λ (x : Entry). x.0) pre.0, sym (map-append (λ (x : Entry). x.0) v pre.0) ∙ ap (map (λ (x : Entry). x.0)) rest)

@@ -4,9 +4,10 @@ use Rattle.std.proofs.lemmas.Bool.Decides.{nat_tests}
 use Rattle.std.proofs.lemmas.Bool.{cases_eq, cases_lt}
 use Rattle.std.proofs.lemmas.List.{append-nil}
 use Rattle.std.specs.Ordering.{nat_cmp, eq_by_cmp, is_lt}
-use Rattle.std.specs.FinMap.{get, entries, entries_sorted, find, is_sorted, get-entries}
+use Rattle.std.specs.FinMap.{get, contains_key, entries, entries_sorted, find, is_sorted, get-entries}
 use Rattle.std.specs.FinMap.Entries.{below_all}
 use Rattle.dym_base.specs.Heaps.{Live}
+use Rattle.dym_chain.proofs.Stands.{none_of}
 
 abbrev pub Chunks : Type 0
 Chunks = List (ℕ × List ℕ)
@@ -128,10 +129,10 @@ nothing_left : (from : ℕ) (es : Chunks) → From from es → ((q : ℕ) → fr
 nothing_left from [] h none = refl
 nothing_left from (e ∷ es) h none = some_none (sym (find_head e.0 e es refl) ∙ none e.0 h.0)
 
-pub met_all : (live : Live) (met : Chunks) (from : ℕ) → IsMet (entries live) met from → ((q : ℕ) → from ≤ q → get live q ≡ None) → met ≡ entries live
+pub met_all : (live : Live) (met : Chunks) (from : ℕ) → IsMet (entries live) met from → ((q : ℕ) → from ≤ q → contains_key live q ≡ false) → met ≡ entries live
 met_all live met from is none =
     let end : is.left ≡ [] = nothing_left from is.left is.after
-    (λ q le. sym (find_behind q from met is.left le is.before) ∙ (ap (find nat_cmp q) (sym is.whole) ∙ (sym (get-entries live q) ∙ none q le))) in
+    (λ q le. sym (find_behind q from met is.left le is.before) ∙ (ap (find nat_cmp q) (sym is.whole) ∙ (sym (get-entries live q) ∙ none_of (get live q) (none q le)))) in
     sym (is.whole ∙ (ap (λ es. met ++ es) end ∙ append-nil met))
 
 -- the least chunk from there on comes first of those that are left
@@ -157,15 +158,17 @@ comes_first from k bytes (e ∷ es) h r le is least = elim (cases_eq k e.0) as (
     apart ne (inr past) = some_none (sym (find_head e.0 e es refl) ∙ least e.0 h.0 past)
 
 -- and once it was met, those above it are to come
-pub met_more : (live : Live) (met : Chunks) (from k : ℕ) (bytes : List ℕ) → IsMet (entries live) met from → from ≤ k → get live k ≡ Some bytes
-    → ((q : ℕ) → from ≤ q → q < k → get live q ≡ None) → IsMet (entries live) (met ++ (k, bytes) ∷ []) (k + 1)
-met_more live met from k bytes is le there least =
-    let at : (q : ℕ) → from ≤ q → find nat_cmp q is.left ≡ get live q = λ q reach. sym (find_behind q from met is.left reach is.before) ∙ (ap (find nat_cmp q) (sym is.whole) ∙ sym (get-entries live q)) in
-    let next = comes_first from k bytes is.left is.after is.rising le (at k le ∙ there) (λ q reach lt. at q reach ∙ least q reach lt) in
+pub met_more : (live : Live) (met more : Chunks) (from n k : ℕ) (bytes : List ℕ) → more ≡ met ++ (n, bytes) ∷ [] → n ≡ k → IsMet (entries live) met from → from ≤ k
+    → get live k ≡ Some bytes → ((q : ℕ) → from ≤ q → q < k → contains_key live q ≡ false) → IsMet (entries live) more (k + 1)
+met_more live met more from n k bytes put same is le there least =
+    let at : (q : ℕ) → from ≤ q → find nat_cmp q is.left ≡ get live q =
+    λ q reach. sym (find_behind q from met is.left reach is.before) ∙ (ap (find nat_cmp q) (sym is.whole) ∙ sym (get-entries live q)) in
+    let next = comes_first from k bytes is.left is.after is.rising le (at k le ∙ there) (λ q reach lt. at q reach ∙ none_of (get live q) (least q reach lt)) in
+    let added : met ++ (k, bytes) ∷ [] ≡ more = sym (put ∙ ap (λ m. met ++ (m, bytes) ∷ []) same) in
     record {
       left = next.0;
-      whole = is.whole ∙ (ap (λ es. met ++ es) next.1 ∙ sym (append_assoc met ((k, bytes) ∷ []) next.0));
-      before = below_added (k + 1) met (k, bytes) (below_more from (k + 1) met (omega arith) is.before) (omega arith);
+      whole = is.whole ∙ ap (λ es. met ++ es) next.1 ∙ sym (append_assoc met ((k, bytes) ∷ []) next.0) ∙ ap (λ es. es ++ next.0) added;
+      before = subst (Below (k + 1)) added (below_added (k + 1) met (k, bytes) (below_more from (k + 1) met (omega arith) is.before) (omega arith));
       after = from_above k next.0 next.2;
       rising = next.3;
     }

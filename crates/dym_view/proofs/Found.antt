@@ -1,5 +1,5 @@
 -- What a search finds in a table of copied chunks.
-use Rattle.std.proofs.Common.{◌≡◌, ℕ, ◌-◌, ◌<◌, ◌≤◌, List, length, take, drop, get_or, Some, None, Result, Ok, Err, MatchResult, sym, ap, subst, ◌∙◌, arith, [], ◌∷◌, ◌+◌, zero, suc, inl, inr}
+use Rattle.std.proofs.Common.{◌≡◌, ℕ, ◌-◌, ◌<◌, ◌≤◌, List, length, take, drop, get_or, Some, None, Result, Ok, Err, MatchResult, sym, ap, subst, ◌∙◌, arith, ◌+◌, inl, inr}
 use Rattle.std.specs.List.{HoldsAt}
 use Rattle.std.specs.List.Sorted.{IsSearchInRange, IsBinarySearchResult, IsNonDecreasingBy}
 use Rattle.std.specs.Ordering.{nat_cmp, ordering_index}
@@ -9,7 +9,7 @@ use Rattle.std.proofs.lemmas.List.{length-map, get_or-map}
 use Rattle.std.proofs.lemmas.List.Sorted.{IsNonDecreasingBy-from_default}
 use Rattle.std.proofs.lemmas.Bool.Decides.{nat_tests}
 use Rattle.std.proofs.lemmas.Bool.{cases_lt}
-use Rattle.dym_view.specs.Copies.{entry_at, entries_of, copy_of, AreWithin, IsWhole}
+use Rattle.dym_view.specs.Copies.{entry_at, entries_of, copy_of, IsWhole}
 use Rattle.dym_view.specs.declared.chunk_copies.ChunkRange.{ChunkRange}
 use Rattle.dym_view.specs.declared.chunk_copies.ChunkCopies.{ChunkCopies}
 use Rattle.dym_view.proofs.Entries.{rising, rising_at, find_at, find_none}
@@ -18,15 +18,10 @@ use Rattle.dym_view.proofs.Tables.{holds}
 abbrev pub no_spot : ChunkRange
 no_spot = record { number = 0; at = 0; len = 0 }
 
--- a spot is within the bytes
-pub within_at : (n : ℕ) (chunk_ranges : List ChunkRange) (i : ℕ) (d : ChunkRange) → AreWithin n chunk_ranges → i < length chunk_ranges → (get_or chunk_ranges i d).at + (get_or chunk_ranges i d).len ≤ n
-within_at n [] i d h lt = absurd (omega arith)
-within_at n (s ∷ chunk_ranges) zero d h lt = h.0
-within_at n (s ∷ chunk_ranges) (suc i) d h lt = within_at n chunk_ranges i d h.1 (omega arith)
-
 module _ (c : ChunkCopies) (whole : IsWhole c) where
   -- the chunk in a place
-  at_place : (i : ℕ) (d : ChunkRange) → i < length c.chunk_ranges.items → get_or (entries_of c) i (entry_at c.bytes.items d) ≡ entry_at c.bytes.items (get_or c.chunk_ranges.items i d)
+  at_place : (i : ℕ) (d : ChunkRange) → i < length c.chunk_ranges.items
+      → get_or (entries_of c) i (entry_at c.bytes.items d) ≡ entry_at c.bytes.items (get_or c.chunk_ranges.items i d)
   at_place i d lt = get_or-map (entry_at c.bytes.items) c.chunk_ranges.items i d (entry_at c.bytes.items d) lt
 
   as_many : length (entries_of c) ≡ length c.chunk_ranges.items
@@ -36,7 +31,8 @@ module _ (c : ChunkCopies) (whole : IsWhole c) where
   get_is n = get-from_sorted nat_cmp (entries_of c) n (holds _ whole.sorted)
 
   -- the numbers don't fall
-  numbers_rise : (i j : ℕ) (d : ChunkRange) → i ≤ j → j < length c.chunk_ranges.items → (get_or c.chunk_ranges.items i d).number ≤ (get_or c.chunk_ranges.items j d).number
+  numbers_rise : (i j : ℕ) (d : ChunkRange) → i ≤ j → j < length c.chunk_ranges.items
+      → (get_or c.chunk_ranges.items i d).number ≤ (get_or c.chunk_ranges.items j d).number
   numbers_rise i j d le lt = elim (cases_lt i j) [
     | inl less ↦ (
         let up = rising_at (entries_of c) i j (entry_at c.bytes.items d) (rising (entries_of c) (holds _ whole.sorted)) less (omega (arith, as_many)) in
@@ -59,7 +55,8 @@ module _ (c : ChunkCopies) (whole : IsWhole c) where
       ∙ ap (λ (e : ℕ × List ℕ). Some e.1) there
 
   -- a search finds the place of a number's chunk, or there is none
-  pub searched : (n : ℕ) (r : Result ℕ ℕ) → IsSearchInRange r (length c.chunk_ranges.items) → IsBinarySearchResult (λ (s : ChunkRange). nat_cmp s.number n) c.chunk_ranges.items r
+  pub searched : (n : ℕ) (r : Result ℕ ℕ) → IsSearchInRange r (length c.chunk_ranges.items)
+      → IsBinarySearchResult (λ (s : ChunkRange). nat_cmp s.number n) c.chunk_ranges.items r
       → MatchResult r (λ i. (i < length c.chunk_ranges.items) × HoldsAt (λ (s : ChunkRange). s.number ≡ n) c.chunk_ranges.items i) (λ i. get (copy_of c) n ≡ None)
   searched n (Ok i) within equal = (within, λ d. ranked _ n _ (sym (equal d)))
   searched n (Err i) within parted =
@@ -82,7 +79,9 @@ module _ (c : ChunkCopies) (whole : IsWhole c) (n : ℕ) (items : List ChunkRang
   NoPlace i = get (copy_of c) n ≡ None
 
   all : MatchResult r Place NoPlace
-  all = searched c whole n r (subst (λ (xs : List ChunkRange). IsSearchInRange r (length xs)) are within) (subst (λ (xs : List ChunkRange). IsBinarySearchResult (λ (s : ChunkRange). nat_cmp s.number n) xs r) are by_key)
+  all =
+      searched c whole n r (subst (λ (xs : List ChunkRange). IsSearchInRange r (length xs)) are within)
+      (subst (λ (xs : List ChunkRange). IsBinarySearchResult (λ (s : ChunkRange). nat_cmp s.number n) xs r) are by_key)
 
   pub place_found : (i : ℕ) → r ≡ Ok i → (i < length c.chunk_ranges.items) × HoldsAt (λ (s : ChunkRange). s.number ≡ n) c.chunk_ranges.items i
   place_found i is = subst (λ (q : Result ℕ ℕ). MatchResult q Place NoPlace) is all

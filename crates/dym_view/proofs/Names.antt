@@ -1,14 +1,12 @@
 -- What seats know of what is published: its history's name.
-use Rattle.std.proofs.Common.{◌≡◌, ◌≢◌, ℕ, List, [], ◌∷◌, ◌++◌, Result, Ok, Err, MatchResult, IfOk, fold, set, sym, refl, ap, subst, ◌∙◌, ⊎_elim, Option, None, Some}
-use mathlib.Core.List.{IsPrefix}
+use Rattle.std.proofs.Common.{◌≡◌, ◌≢◌, ℕ, List, [], ◌∷◌, Result, Ok, Err, MatchResult, IfOk, set, sym, refl, ap, subst, ◌∙◌, ⊎_elim, Option, None, Some}
 use mathlib.Core.Option.{some}
 use Rattle.core.specs.Result.{result_and}
 use lib.ListN.{get_elem?}
 use Rattle.left_right.specs.Register.{Admits, TurnsAt, Forks, Merges}
 use Rattle.atomic_table.proofs.Lists.{at_set, at_snoc}
 use Rattle.dym_view.specs.Histories.{HistoryName, Beginning}
-use Rattle.dym_view.specs.Rules.{AreOfPublished, Takes, HasSeen, Knows, AreOf, AreThis, last_of}
-use Rattle.dym_view.proofs.Beginnings.{prefix_trans}
+use Rattle.dym_view.specs.Rules.{AreOfPublished, Takes, HasSeen, AreOf, AreThis, last_of}
 
 -- a seat that comes has seen nothing
 pub admits : Admits AreOfPublished None
@@ -29,7 +27,10 @@ takes seat v x y same views h at = (
 pub forks : (seat : ℕ) (v : Option Beginning) → Forks AreOfPublished seat v v v
 forks seat v x views h at j seen e =
     ⊎_elim
-    (λ (k : get_elem? (set views seat v) j ≡ some (Some seen)). ⊎_elim (λ (t : (j ≡ seat) × (v ≡ Some seen)). h seat seen (at ∙ ap some t.1)) (λ (t : (j ≢ seat) × (get_elem? views j ≡ some (Some seen))). h j seen t.1) (at_set views seat j v (Some seen) k))
+    (λ (k : get_elem? (set views seat v) j ≡ some (Some seen)). ⊎_elim
+    (λ (t : (j ≡ seat) × (v ≡ Some seen)). h seat seen (at ∙ ap some t.1))
+    (λ (t : (j ≢ seat) × (get_elem? views j ≡ some (Some seen))). h j seen t.1)
+    (at_set views seat j v (Some seen) k))
     (λ (same : v ≡ Some seen). h seat seen (at ∙ ap some same))
     (at_snoc (set views seat v) v (Some seen) j e)
 
@@ -39,15 +40,16 @@ merges seat v other w x views h at apart there j seen e =
     ⊎_elim
     (λ (t : (j ≡ other) × (None ≡ Some seen)). absurd (cc (t.1)))
     (λ (t : (j ≢ other) × (get_elem? (set views seat w) j ≡ some (Some seen))).
-    let was : (other ≢ seat) → get_elem? views other ≡ some w = λ ne. ⊎_elim (λ (u : (other ≡ seat) × (w ≡ w)). absurd (apart u.0)) (λ (u : (other ≢ seat) × (get_elem? views other ≡ some w)). u.1) (at_set views seat other w w there) in
+    let was : get_elem? views other ≡ some w =
+    ⊎_elim (λ (u : (other ≡ seat) × (w ≡ w)). absurd (apart u.0)) (λ (u : (other ≢ seat) × (get_elem? views other ≡ some w)). u.1) (at_set views seat other w w there) in
     ⊎_elim
-    (λ (u : (j ≡ seat) × (w ≡ Some seen)). h other seen (was apart ∙ ap some u.1))
+    (λ (u : (j ≡ seat) × (w ≡ Some seen)). h other seen (was ∙ ap some u.1))
     (λ (u : (j ≢ seat) × (get_elem? views j ≡ some (Some seen))). h j seen u.1)
     (at_set views seat j w (Some seen) t.1))
     (at_set (set views seat w) other j None (Some seen) e)
 
 -- what is published in the end is of the history of what stood and of all that waited
-pub published_of : (name : HistoryName) (shown : Beginning) (waiting : List Beginning) → shown.history ≡ name → AreOf name waiting → (fold (λ (before front : Beginning). front) shown waiting).history ≡ name
+pub published_of : (name : HistoryName) (shown : Beginning) (waiting : List Beginning) → shown.history ≡ name → AreOf name waiting → (last_of shown waiting).history ≡ name
 published_of name shown [] is all = is
 published_of name shown (front ∷ waiting) is all = published_of name front waiting all.0 all.1
 
@@ -60,36 +62,19 @@ module _ {E : Type 0} (shown shown' : Beginning) (waiting waiting' : List Beginn
   shown_kept (Ok u) all is = ap (λ (b : Beginning). b.history) is.0 ∙ published_of shown.history shown waiting refl all
   shown_kept (Err e) all is = ap (λ (b : Beginning). b.history) is.0
 
-  pub seen_after : (r : Result (Unit {0}) E) (v v' : Option Beginning) → AreOf shown.history waiting → Published r → MatchResult r (λ _. Takes v shown shown' v') (λ _. v' ≡ v) → IfOk r (λ _. HasSeen shown.history v')
+  pub seen_after : (r : Result (Unit {0}) E) (v v' : Option Beginning) → AreOf shown.history waiting → Published r
+      → MatchResult r (λ _. Takes v shown shown' v') (λ _. v' ≡ v) → IfOk r (λ _. HasSeen shown.history v')
   seen_after (Ok u) v v' all is rule = subst (HasSeen shown.history) (sym rule.0) (shown_kept (Ok u) all is)
   seen_after (Err e) v v' all is rule = tt
-
--- one that waits alone is of its history
-pub one_waits : (name : HistoryName) (waiting : List Beginning) (front : Beginning) → waiting ≡ front ∷ [] → front.history ≡ name → AreOf name waiting
-one_waits name waiting front is same = subst (AreOf name) (sym is) (same, tt)
 
 -- where all that waits is what stands, nothing changes
 pub last_of_these : (front shown : Beginning) (waiting : List Beginning) → shown ≡ front → AreThis front waiting → last_of shown waiting ≡ front
 last_of_these front shown [] is all = is
 last_of_these front shown (b ∷ waiting) is all = last_of_these front b waiting all.0 all.1
 
-pub these_are_of : (front : Beginning) (waiting : List Beginning) → AreThis front waiting → AreOf front.history waiting
-these_are_of front [] all = tt
-these_are_of front (b ∷ waiting) all = (ap (λ (c : Beginning). c.history) all.0, these_are_of front waiting all.1)
-
--- what waits with one more that is the same
-these_more : (front : Beginning) (waiting : List Beginning) (b : Beginning) → AreThis front waiting → b ≡ front → AreThis front (waiting ++ b ∷ [])
-these_more front [] b all is = (is, tt)
-these_more front (c ∷ waiting) b all is = (all.0, these_more front waiting b all.1 is)
-
--- and where it was appended, or came back
-pub these_after : (front : Beginning) (waiting waiting' : List Beginning) (b : Beginning) (r : Result (Unit {0}) Beginning) → AreThis front waiting → b ≡ front
-    → MatchResult r (λ _. waiting' ≡ waiting ++ b ∷ []) (λ x. (x ≡ b) × (waiting' ≡ waiting)) → AreThis front waiting'
-these_after front waiting waiting' b (Ok u) all is e = subst (AreThis front) (sym e) (these_more front waiting b all is)
-these_after front waiting waiting' b (Err x) all is e = subst (AreThis front) (sym e.1) all
-
 -- what stands after two publications where all that waits is what stands
-pub shown_after : (front first second third : Beginning) (waiting then : List Beginning) → first ≡ front → AreThis front waiting → second ≡ last_of first waiting → then ≡ [] → third ≡ last_of second then → third ≡ front
+pub shown_after : (front first second third : Beginning) (waiting then : List Beginning) → first ≡ front → AreThis front waiting → second ≡ last_of first waiting
+    → then ≡ [] → third ≡ last_of second then → third ≡ front
 shown_after front first second third waiting then is all once none twice =
     let stands : second ≡ front = once ∙ last_of_these front first waiting is all in
     twice ∙ last_of_these front second then stands (subst (AreThis front) (sym none) tt)
@@ -98,8 +83,3 @@ shown_after front first second third waiting then is all once none twice =
 pub both_went : {T U E : Type 0} (P : U → Type 0) (r : Result T E) (s : Result U E) (u : U) → result_and r s ≡ Ok u → IfOk s P → P u
 both_went P (Ok x) s u is all = subst (λ t. IfOk t P) is all
 both_went P (Err e) s u is all = absurd (cc (is))
-
--- what a seat has seen is known where more is
-pub knows_more : (known more : Beginning) (seen : Option Beginning) → IsPrefix known.commits more.commits → Knows known seen → Knows more seen
-knows_more known more None begins is = is
-knows_more known more (Some b) begins is = prefix_trans b.commits known.commits more.commits is begins

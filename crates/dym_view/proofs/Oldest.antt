@@ -25,7 +25,16 @@ use Rattle.dym_view.specs.Commits.{oldest}
 
 module _ (c : ChainMeaning) (kept : AreKeptRecords c) (some : 0 < length c.logs) where
   lawful : IsLawful c
-  lawful = record { version = kept.version; records = kept.records; recorded = kept.recorded; list = kept.list; full = kept.full; follows = kept.follows; keeps = kept.keeps; base = kept.base }
+  lawful = record {
+    version = kept.version;
+    records = kept.records;
+    recorded = kept.recorded;
+    list = kept.list;
+    full = kept.full;
+    follows = kept.follows;
+    keeps = kept.keeps;
+    base = kept.base;
+  }
 
   -- as many records stand before that of the oldest log as its depth
   base_is : (log_at c.logs 0).depth ≡ length c.base_logs
@@ -57,7 +66,8 @@ module _ (c : ChainMeaning) (kept : AreKeptRecords c) (some : 0 < length c.logs)
   recorded_is = target_recorded c kept.version 1 lawful kept.records (omega arith) (omega (arith, some))
 
   -- what is true of each log with its bytes is true of it
-  pub told_of : (rec : List ℕ) (P : Logged → Type 0) → rec ≡ (record_at c.records (log_at c.logs 0).depth).bytes → OfLog rec P → P (logged_of kept.version (log_at c.logs 0))
+  pub told_of : (rec : List ℕ) (P : Logged → Type 0) → rec ≡ (record_at c.records (log_at c.logs 0).depth).bytes → OfLog rec P
+      → P (logged_of kept.version (log_at c.logs 0))
   told_of rec P is all = all (logged_of kept.version (log_at c.logs 0)) recorded_is (sym (is ∙ record_is))
 
   -- the records up to it have one version
@@ -71,10 +81,12 @@ module _ (c : ChainMeaning) (kept : AreKeptRecords c) (some : 0 < length c.logs)
 
   -- loaded into a heap with its handles they bring its copy
   pub live_is : (shaped live : Live) → HaveOneSetOfHandles shaped (log_at c.logs 0).copy
-      → ((logs : List Logged) → AllByRecursion IsRecorded logs → map packed logs ≡ take ((log_at c.logs 0).depth + 1) (bytes_of c.records) → AreLoaded logs shaped live) → live ≡ (log_at c.logs 0).copy
+      → ((logs : List Logged) → AllByRecursion IsRecorded logs → map packed logs ≡ take ((log_at c.logs 0).depth + 1) (bytes_of c.records) → AreLoaded logs shaped live)
+      → live ≡ (log_at c.logs 0).copy
   live_is shaped live handles loaded =
       let stands : StandsFor (records_to c 0) (log_at c.logs 0).copy = kept.stands 0 some in
-      loaded_is stands.logs (log_at c.logs 0).copy shaped live stands.stand handles (loaded stands.logs stands.recorded (stands.are ∙ same_records c.logs (bytes_of c.records) some))
+      loaded_is stands.logs (log_at c.logs 0).copy shaped live stands.stand handles
+      (loaded stands.logs stands.recorded (stands.are ∙ same_records c.logs (bytes_of c.records) some))
 
 -- it is the first of the logs
 pub oldest_is : (logs : List LogEntry) → 0 < length logs → oldest logs ≡ Some (log_at logs 0)

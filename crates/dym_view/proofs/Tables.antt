@@ -52,7 +52,8 @@ kept at len bytes more within =
 come : (bytes more : List ℕ) → take (length more) (drop (length bytes) (bytes ++ more)) ≡ more
 come bytes more = ap (take (length more)) (drop-append_seam bytes more) ∙ take-length more
 
-all_kept : (chunk_ranges : List ChunkRange) (bytes more : List ℕ) → AreWithin (length bytes) chunk_ranges → map (entry_at (bytes ++ more)) chunk_ranges ≡ map (entry_at bytes) chunk_ranges
+all_kept : (chunk_ranges : List ChunkRange) (bytes more : List ℕ) → AreWithin (length bytes) chunk_ranges
+    → map (entry_at (bytes ++ more)) chunk_ranges ≡ map (entry_at bytes) chunk_ranges
 all_kept [] bytes more within = refl
 all_kept (s ∷ chunk_ranges) bytes more within = λ i. (s.number, kept s.at s.len bytes more within.0 i) ∷ all_kept chunk_ranges bytes more within.1 i
 
@@ -65,7 +66,8 @@ within_added n [] s within last = (last, tt)
 within_added n (t ∷ chunk_ranges) s within last = (within.0, within_added n chunk_ranges s within.1 last)
 
 module _ (old new : ChunkCopies) (number : ℕ) (more : List ℕ)
-    (chunk_ranges : new.chunk_ranges.items ≡ old.chunk_ranges.items ++ record { number = number; at = length old.bytes.items; len = length more } ∷ []) (bytes : new.bytes.items ≡ old.bytes.items ++ more) (table : IsTable old) where
+    (chunk_ranges : new.chunk_ranges.items ≡ old.chunk_ranges.items ++ record { number = number; at = length old.bytes.items; len = length more } ∷ [])
+    (bytes : new.bytes.items ≡ old.bytes.items ++ more) (table : IsTable old) where
   -- one chunk more stands in the table
   pub one_more : entries_of new ≡ entries_of old ++ (number, more) ∷ []
   one_more =
@@ -81,7 +83,8 @@ module _ (old new : ChunkCopies) (number : ℕ) (more : List ℕ)
       let long : length new.bytes.items ≡ length old.bytes.items + length more = ap length bytes ∙ length-append old.bytes.items more in
       record {
         within = subst (AreWithin (length new.bytes.items)) (sym chunk_ranges)
-            (within_added (length new.bytes.items) old.chunk_ranges.items _ (within_more (length old.bytes.items) (length new.bytes.items) old.chunk_ranges.items (omega (arith, long)) table.within) (omega (arith, long)));
+            (within_added (length new.bytes.items) old.chunk_ranges.items _
+            (within_more (length old.bytes.items) (length new.bytes.items) old.chunk_ranges.items (omega (arith, long)) table.within) (omega (arith, long)));
         total = total ∙ ap (λ n. n + sum more) table.total ∙ sums ∙ ap (sum_by bytes_sum) (sym one_more);
       }
     where

@@ -1,5 +1,5 @@
 -- How many chunks a heap can have: a walk over them counts no further than this.
-use Rattle.std.proofs.Common.{◌≡◌, ℕ, ◌+◌, ◌-◌, ◌*◌, ◌/◌, ◌%◌, ◌^◌, ◌<◌, ◌≤◌, min, true, false, arith, refl, pow_pos, ap, length, length-append, vec_len, Option, Some, None, is_some, List}
+use Rattle.std.proofs.Common.{◌≡◌, ℕ, ◌+◌, ◌-◌, ◌*◌, ◌/◌, ◌%◌, ◌^◌, ◌<◌, ◌≤◌, min, true, arith, refl, pow_pos, ap, length, length-append, vec_len}
 use Rattle.std.proofs.lemmas.List.{length-map}
 use Rattle.std.specs.FinMap.{contains_key}
 use Rattle.std.proofs.Math.Nat.{div-lt_iff_lt-mul}
@@ -44,8 +44,3 @@ small_index h k sound is =
 pub count_within : (all : Chunks) (c : ChunkCopies) (from : ℕ) → IsMet all (entries_of c) from → vec_len c.chunk_ranges ≤ length all
 count_within all c from is =
     omega (arith, ap length is.whole, length-append (entries_of c) is.left, length-map c.chunk_ranges.items (entry_at c.bytes.items), c.chunk_ranges.ok.0)
-
--- what isn't there is none
-pub none_of : (o : Option (List ℕ)) → is_some o ≡ false → o ≡ None
-none_of None is = refl
-none_of (Some bytes) is = absurd cc

@@ -60,7 +60,6 @@ pub fn open_view<R: Wait>(rt: &R, alloc: Global) -> Result<(Publisher, Viewer), 
         Viewer {
             view_reader,
             front: known,
-            has_taken: false,
         },
     ))
 }

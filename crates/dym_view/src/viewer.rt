@@ -1,12 +1,14 @@
 //! The viewer of a history.
-ghost use Rattle.std.specs.Prelude.{◌≡◌, ◌⊎◌, length};
+ghost use Rattle.std.specs.Prelude.{◌≡◌, ◌⊎◌, length, OnOk};
 ghost use mathlib.Core.List.{IsPrefix};
+ghost use Rattle.left_right.specs.Sides.{view as view_of};
 ghost use Rattle.dym_view.specs.Answers.{glance_of, seen_of, read_of};
 ghost use Rattle.dym_view.specs.Histories.{IsHistory};
+ghost use Rattle.dym_view.specs.Rules.{HasSeen, Knows};
 
 use crate::front::Front;
 use crate::glance::{Glance, Seen};
-use crate::publication::{Eye, look_through};
+use crate::publication::{Eye, Unread, look_through};
 use crate::told::Told;
 use core::mem::replace_with;
 use dym_base::Handle;
@@ -21,18 +23,15 @@ use std::marker::Model;
 pub struct Viewer {
     pub(crate) view_reader: Eye,
     pub(crate) front: Front,
-    /// Whether the last look took what is published, and could share it.
-    pub(crate) has_taken: bool,
 }
 
 impl Model for Viewer {
-    ghost use Rattle.std.specs.Prelude.{◌≡◌, true};
     ghost use Rattle.std.specs.Coded.{codes};
     ghost use Rattle.logbook.specs.Pages.{book_coded};
     ghost use Rattle.left_right.specs.Sides.{view as view_of};
     ghost use Rattle.dym_heap.specs.Meaning.{live_code};
     ghost use Rattle.dym_view.specs.Histories.{Beginning};
-    ghost use Rattle.dym_view.specs.Rules.{HasSeen, Knows};
+    ghost use Rattle.dym_view.specs.Rules.{HasSeen};
 
     ghost Value = { Beginning };
 
@@ -40,7 +39,7 @@ impl Model for Viewer {
 
     ghost view = { λ v. v.front };
 
-    ghost invariant = { λ v. HasSeen v.front.history (view_of v.view_reader.place) × (v.has_taken ≡ true → Knows v.front (view_of v.view_reader.place)) };
+    ghost invariant = { λ v. HasSeen v.front.history (view_of v.view_reader.place) };
 }
 
 impl Viewer {
@@ -64,7 +63,7 @@ impl Viewer {
         ensures history { IsHistory self.new.commits }
         ensures glance { result ≡ glance_of self.new.commits }
     {
-        self.refresh();
+        let _ = refresh(&mut self.view_reader, &mut self.front);
         self.front.glance()
     }
 
@@ -77,7 +76,7 @@ impl Viewer {
         ensures seen { result ≡ seen_of self.new.commits h at (length out.old) }
         ensures out { out.new ≡ read_of self.new.commits h at out.old }
     {
-        self.refresh();
+        let _ = refresh(&mut self.view_reader, &mut self.front);
         let number = self.front.number();
         match self.front.last() {
             Some(commit) if commit.read(h, at, out) => Seen::Bytes { number },
@@ -85,16 +84,18 @@ impl Viewer {
             None => Seen::Nothing,
         }
     }
+}
 
-    /// Knows from now on what is published, where it can be read and shared.
-    fn refresh(&mut self)
-        ensures name { self.new.history ≡ self.old.history }
-        ensures known { IsPrefix self.old.commits self.new.commits }
-    {
-        let taken = replace_with(&mut self.view_reader, &self.front, look_through);
-        self.has_taken = taken.is_ok();
-        if let Ok(Some(front)) = taken {
-            self.front = front;
-        }
+/// Makes known what is published, where it can be read and shared.
+fn refresh(view_reader: &mut Eye, front: &mut Front) -> Result<(), Unread>
+    requires { HasSeen front.old.history (view_of view_reader.old.place) }
+    ensures view_reader { HasSeen front.new.history (view_of view_reader.new.place) }
+    ensures name { front.new.history ≡ front.old.history }
+    ensures known { IsPrefix front.old.commits front.new.commits }
+    ensures taken { OnOk result (Knows front.new (view_of view_reader.new.place)) }
+{
+    if let Some(newer) = replace_with(view_reader, &*front, look_through)? {
+        *front = newer;
     }
+    Ok(())
 }

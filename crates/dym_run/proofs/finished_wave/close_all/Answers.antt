@@ -1,4 +1,4 @@
-use Rattle.std.proofs.Common.{◌≡◌, ◌++◌, [], ◌∷◌, ap, arith, length, sum_by, sym, ◌∙◌}
+use Rattle.std.proofs.Common.{◌≡◌, ◌++◌, [], ◌∷◌, ap, arith, length, sum_by, ◌∙◌}
 use Rattle.std.proofs.lemmas.List.Elements.{All-nil, All-same, All-push}
 use Rattle.dym_base.specs.Origins.{shared}
 use Rattle.dym_quota.specs.Berths.{IsIdleBerth}
@@ -25,7 +25,8 @@ loop-job-preserved g c =
     let put = c.push_reserved.ensures.items in
     let inv = c.loop-job.invariant in
     let back = c.give_up in
-    let of_name = back.ensures.supply ∙ all_last (λ (p : WaveJobMeaning). job_supply p ≡ shared name) c.pop.new.self.items c.loop-job.jobs.items c.in-Some.job was inv.of_queue in
+    let of_name = back.ensures.supply
+    ∙ all_last (λ (p : WaveJobMeaning). job_supply p ≡ shared name) c.pop.new.self.items c.loop-job.jobs.items c.in-Some.job was inv.of_queue in
     record {
       idle = All-same (IsIdleBerth name) c.push_reserved.new.self.items (c.loop-job.berths.items ++ back.result ∷ []) put
           (All-push (IsIdleBerth name) c.loop-job.berths.items back.result inv.idle (one_name _ name of_name, back.ensures.nothing_held));

@@ -14,5 +14,6 @@ loop-place-preserved c =
     let now = c.loop-place.viewers.items in
     let same = length_all_zip LooksOn start now c.loop-place.invariant in
     let on : LooksOn c.index_mut.result.now c.look.new.self = record { name = c.look.ensures.name; known = c.look.ensures.known } in
-    looked_at start now c.loop-place.place c.index_mut.result.now c.look.new.self c.loop-place.invariant (omega (arith, c.loop-place-test.true, c.len-place-end.ensures, same))
+    looked_at start now c.loop-place.place c.index_mut.result.now c.look.new.self c.loop-place.invariant
+    (omega (arith, c.loop-place-test.true, c.len-place-end.ensures, same))
     (subst (λ (v : Beginning). LooksOn v c.look.new.self) c.index_mut.ensures.value on)

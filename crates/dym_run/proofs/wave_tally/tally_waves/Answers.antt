@@ -4,10 +4,12 @@ use Rattle.dym_run.proofs.wave_tally.tally_waves.Goals as goal
 
 pub returns-clause-counted : goal.returns-clause-counted
 returns-clause-counted g c =
-    all_counted (record { version = c.args.version; views = false }) c.in_ok-object_queue.object_queue.options c.args.parts.items c.in_ok-object_queue.object_queue.parts.items c.in_ok-object_queue.ensures.options c.in_ok-object_queue.ensures.parts
+    let all = c.in_ok-object_queue in
+    all_counted (record { version = c.args.version; views = false }) all.object_queue.options c.args.parts.items all.object_queue.parts.items all.ensures.options all.ensures.parts
     c.tally_all-tally.result c.tally_all-tally.ensures.counted
 
 pub returns-clause-replies : goal.returns-clause-replies
 returns-clause-replies g c =
-    all_replied (record { version = c.args.version; views = false }) c.in_ok-object_queue.object_queue.options c.args.parts.items c.in_ok-object_queue.object_queue.parts.items c.in_ok-object_queue.ensures.options c.in_ok-object_queue.ensures.parts
+    let all = c.in_ok-object_queue in
+    all_replied (record { version = c.args.version; views = false }) all.object_queue.options c.args.parts.items all.object_queue.parts.items all.ensures.options all.ensures.parts
     c.tally_all-tally.result c.tally_all-tally.ensures.counted

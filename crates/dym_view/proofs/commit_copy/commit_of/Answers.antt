@@ -12,5 +12,6 @@ returns-clause-commit g c =
     let some : 0 < length m.logs = omega (arith, c.if-kept-eq0.false, c.kept.ensures) in
     let time : c.entry-entry.result.time ≡ (log_at m.logs 0).time = ap (λ (e : Entry). e.time) c.entry-entry.ensures in
     let copy : copy_of c.in_ok-copied.field-0 ≡ (log_at m.logs 0).copy = c.in_ok-copied.ensures.copy ∙ c.in_ok-heap.ensures.copy in
-    let one : ◌≡◌ {A = CommitMeaning} (record { time = c.entry-entry.result.time; copy = copy_of c.in_ok-copied.field-0 }) (committed (log_at m.logs 0)) = λ i. record { time = time i; copy = copy i } in
+    let one : ◌≡◌ {A = CommitMeaning} (record { time = c.entry-entry.result.time; copy = copy_of c.in_ok-copied.field-0 }) (committed (log_at m.logs 0)) =
+    λ i. record { time = time i; copy = copy i } in
     ap Some one ∙ sym (ap (option_map committed) (oldest_is m.logs some))

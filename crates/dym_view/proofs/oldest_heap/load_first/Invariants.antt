@@ -1,4 +1,4 @@
-use Rattle.std.proofs.Common.{◌≡◌, ◌-◌, List, map, take, drop}
+use Rattle.std.proofs.Common.{◌≡◌, List, map, take}
 use Rattle.std.specs.List.{AllByRecursion}
 use Rattle.dym_base.specs.Packed.{Logged, packed}
 use Rattle.dym_base.specs.Recorded.{IsRecorded}
@@ -12,5 +12,6 @@ invariant-loop-place g l = record {
   logs : g.L.KeptLogs.meaning l.logs ≡ g.L.KeptLogs.meaning l.fn.logs;
   same : l.heap ≡ record l.fn.heap { state = record { live = l.heap.state.live; touched = l.fn.heap.state.touched } };
   sound : IsSound l.heap;
-  loaded : (all : List Logged) → AllByRecursion IsRecorded all → map packed all ≡ take l.count (drop 0 (bytes_of (g.L.KeptLogs.meaning l.fn.logs).records)) → AreLoaded (take (l.place - 0) all) l.fn.heap.state.live l.heap.state.live;
+  loaded : (all : List Logged) → AllByRecursion IsRecorded all → map packed all ≡ take l.count (bytes_of (g.L.KeptLogs.meaning l.fn.logs).records)
+      → AreLoaded (take l.place all) l.fn.heap.state.live l.heap.state.live;
 }

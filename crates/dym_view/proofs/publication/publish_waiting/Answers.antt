@@ -11,5 +11,7 @@ publish_as-requires g c next is =
 
 pub returns-clause-seen : goal.returns-clause-seen
 returns-clause-seen g c =
-    seen_after c.args.view_writer.desk.shown.value c.publish_as.result.0.desk.shown.value (drop c.args.view_writer.behind c.args.view_writer.log.items) (drop c.publish_as.result.0.behind c.publish_as.result.0.log.items)
-    c.publish_as.result.1 (view c.args.view_writer.desk.place) (view c.publish_as.result.0.desk.place) c.requires c.publish_as.ensures.values c.publish_as.ensures.rule
+    let old = c.args.view_writer in
+    let new = c.publish_as.result.0 in
+    seen_after old.desk.shown.value new.desk.shown.value (drop old.behind old.log.items) (drop new.behind new.log.items)
+    c.publish_as.result.1 (view old.desk.place) (view new.desk.place) c.requires c.publish_as.ensures.values c.publish_as.ensures.rule

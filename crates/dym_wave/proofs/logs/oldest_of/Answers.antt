@@ -1,4 +1,4 @@
-use Rattle.std.proofs.Common.{◌≡◌, Some, arith, ap, ◌∙◌}
+use Rattle.std.proofs.Common.{Some, arith, ap, ◌∙◌}
 use Rattle.dym_chain.specs.declared.entry.Entry.{Entry}
 use Rattle.dym_wave.proofs.Oldests.{no_time, first_time}
 use Rattle.dym_wave.proofs.logs.oldest_of.Goals as goal

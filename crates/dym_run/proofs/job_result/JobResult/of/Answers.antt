@@ -1,4 +1,4 @@
-use Rattle.std.proofs.Common.{◌≡◌, List, [], ◌∷◌, None, length, ap, subst, sym, ◌∙◌}
+use Rattle.std.proofs.Common.{[], ◌∷◌, None, length, ap, subst, sym, ◌∙◌}
 use Rattle.dym_base.specs.Objects.{ObjectState, run_replies, run_end, slots}
 use Rattle.dym_heap.specs.Meaning.{HeapMeaning, IsSound}
 use Rattle.dym_object.specs.Meaning.{ObjectMeaning, state_of}
@@ -25,6 +25,7 @@ invariant_of-job_result g c =
     let records = c.slots-slots.ensures.slots ∙ ap slots logs in
     let told_logs = ap (λ (w : WorkMeaning). w.object.chain.logs) (sym ended.work) ∙ ap (λ (o : ObjectMeaning). o.chain.logs) (sym parts.object) ∙ logs in (
       (subst IsSound (sym split.heap) split.whole.sound, is_version, replies, live, kept, records),
-      subst (λ (s : Shown). IsTallyOf c.tally_of-tally.result (s ∷ [])) (λ i. shown_with [] (is_version i) (replies i) (live i) (kept i) (records i) None) c.tally_of-tally.ensures,
+      subst (λ (s : Shown). IsTallyOf c.tally_of-tally.result (s ∷ []))
+          (λ i. shown_with [] (is_version i) (replies i) (live i) (kept i) (records i) None) c.tally_of-tally.ensures,
       told_view c.args.work.view c.end-work.result.1 c.args.work.work.object.chain.logs _ ended.told told_logs,
     )

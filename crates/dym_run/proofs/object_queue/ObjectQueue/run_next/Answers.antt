@@ -13,7 +13,8 @@ open-requires-clause-each_quota g c =
 pub run_all-ran-requires-clause-lined : goal.run_all-ran-requires-clause-lined
 run_all-ran-requires-clause-lined g c κs within =
     let old = c.args.self.now in
-    run_lined old.parts.items c.deref-2.result.now _ old.from c.waves-end.result (omega (arith, c.waves-end.ensures.some)) (old.lined ∙ ap (drop old.from) (sym c.deref-2.ensures.value)) c.in_ok-wave.ensures.quotas
+    run_lined old.parts.items c.deref-2.result.now _ old.from c.waves-end.result (omega (arith, c.waves-end.ensures.some))
+    (old.lined ∙ ap (drop old.from) (sym c.deref-2.ensures.value)) c.in_ok-wave.ensures.quotas
 
 pub invariant_of-self : goal.invariant_of-self
 invariant_of-self g c =
@@ -22,13 +23,16 @@ invariant_of-self g c =
     let same = c.deref-2.ensures.value in
     let inside = c.waves-end.ensures.longest.inside in
     let order = c.waves-end.ensures.some in
-    let ran = subst (λ r. IfOk r (λ s. PartsRan old.options (vec_len c.in_ok-wave.wave.berths) old.parts.items c.run_all-ran.new.parts.items [] (map job_shown s.jobs.items))) c.in-Ok.is c.run_all-ran.ensures.ran in
-    let count = run_count (λ b. b.quota) c.in_ok-wave.wave.berths.items quotas old.from c.waves-end.result (omega (arith, order)) (omega (arith, inside, ap length c.deref.ensures.value, ap length same)) c.in_ok-wave.ensures.quotas in
+    let berths = c.in_ok-wave.wave.berths in
+    let left = c.run_all-ran.new.parts.items in
+    let ran = subst (λ r. IfOk r (λ s. PartsRan old.options (vec_len berths) old.parts.items left [] (map job_shown s.jobs.items))) c.in-Ok.is c.run_all-ran.ensures.ran in
+    let count = run_count (λ b. b.quota) berths.items quotas old.from c.waves-end.result
+    (omega (arith, order)) (omega (arith, inside, ap length c.deref.ensures.value, ap length same)) c.in_ok-wave.ensures.quotas in
     record {
-      runnable = all_back IsRunnable ran.done c.run_all-ran.new.parts.items old.parts.items ran.taken old.runnable;
+      runnable = all_back IsRunnable ran.done left old.parts.items ran.taken old.runnable;
       shaped = old.shaped;
-      lined = lined_rest ran.done c.run_all-ran.new.parts.items old.parts.items old.quotas.items old.from c.waves-end.result ran.taken (omega (arith, order))
-          (ran.counted ∙ c.in_ok-wave.wave.berths.ok.0 ∙ count) old.lined;
+      lined = lined_rest ran.done left old.parts.items old.quotas.items old.from c.waves-end.result ran.taken (omega (arith, order))
+          (ran.counted ∙ berths.ok.0 ∙ count) old.lined;
       inside = omega (arith, inside, ap length c.deref.ensures.value, old.quotas.ok.0);
       fits = old.fits;
       few = old.few;

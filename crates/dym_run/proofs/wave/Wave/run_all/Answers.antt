@@ -19,7 +19,8 @@ pub close_all-requires-clause-room : goal.close_all-requires-clause-room
 close_all-requires-clause-room g c =
     let old = c.args.self in
     let jobs = c.run_wave_jobs-jobs.result.0 in
-    let many = jobs_many c.args.options c.args.shape.quantum _ _ old.berths.items jobs.items (still_made c.args.options c.args.shape.quantum _ _ old.berths.items _ jobs.items c.make_jobs-jobs.ensures.made c.run_wave_jobs-jobs.ensures.origins) in
+    let made = still_made c.args.options c.args.shape.quantum _ _ old.berths.items _ jobs.items c.make_jobs-jobs.ensures.made c.run_wave_jobs-jobs.ensures.origins in
+    let many = jobs_many c.args.options c.args.shape.quantum _ _ old.berths.items jobs.items made in
     omega (arith, many, c.make_jobs-jobs.ensures.room, jobs.ok.0, old.berths.ok.0, old.berths.ok.1)
 
 pub close_all-requires-clause-of_queue : goal.close_all-requires-clause-of_queue

@@ -1,7 +1,7 @@
 use Rattle.std.proofs.Common.{◌≡◌, ◌+◌, ◌++◌, ◌∷◌, [], ap, sym, subst, arith, length, ◌∙◌}
 use Rattle.std.specs.Arc.{arc_value}
 use Rattle.dym_view.specs.Histories.{Beginning, MayFollow}
-use Rattle.dym_view.specs.Rules.{Entry, head_of, commits_of}
+use Rattle.dym_view.specs.Rules.{Entry, head_of}
 use Rattle.dym_view.proofs.Adding.{adds_moves, begun_more, key_more, rising_more, counts_entries}
 use Rattle.dym_view.proofs.law.Head.add.Goals as goal
 
@@ -19,7 +19,8 @@ compare_exchange-requires c =
       can.same ∙ sym (ap (λ w. w.book) h),
       offer.0,
       rw (ap (λ w. w.key) h, offer.1, offer.3)
-          (adds_moves log (arc_value c.args.commit, c.claim_cell-next.result.nib.key) c.self.inside.turn.nib (c.args.number + 1) (c.args.number + 2) (omega arith) can.begun count can.may can.key can.rising later),
+          (adds_moves log (arc_value c.args.commit, c.claim_cell-next.result.nib.key) c.self.inside.turn.nib (c.args.number + 1) (c.args.number + 2)
+          (omega arith) can.begun count can.may can.key can.rising later),
     )
 
 pub invariant_of-self : goal.invariant_of-self
