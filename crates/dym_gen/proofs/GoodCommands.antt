@@ -1,5 +1,5 @@
 -- Each command of a made script is good: a verb, and a word for each of its operands.
-use Rattle.std.proofs.Common.{◌≡◌, ℕ, zero, suc, ◌-◌, ◌%◌, ◌^◌, ◌<◌, ◌≤◌, ◌==◌, Bool, true, false, cond, ◌&&◌, List, [], ◌∷◌, ◌++◌, length, codes, Option, Some, None, refl, sym, ap, ◌∙◌, arith, append_assoc, append-nil}
+use Rattle.std.proofs.Common.{◌≡◌, ℕ, zero, suc, ◌-◌, ◌^◌, ◌<◌, ◌≤◌, true, false, List, [], ◌∷◌, ◌++◌, length, codes, Some, None, refl, sym, ap, ◌∙◌, arith, append_assoc, append-nil}
 use Rattle.std.specs.Prelude.{decimal}
 use Rattle.std.specs.List.{list_all}
 use Rattle.std.specs.Str.{bytes_eq}
@@ -13,7 +13,9 @@ use Rattle.dym_script.specs.Table.{Operand, Num, Num32, OneHandle, HandleOrNil, 
 use Rattle.dym_script.specs.Quick.{is_bare_word, spelled}
 use Rattle.dym_commands.specs.Hexes.{hex_of}
 use Rattle.dym_gen.specs.Draws.{next, below, size_at, text_from}
-use Rattle.dym_gen.specs.Commands.{drawn_command, fixed_command, goes_back, command_text}
+use Rattle.dym_gen.specs.Commands.{drawn_command, fixed_command, command_text}
+use Rattle.dym_gen.proofs.Sizes.{below_lt}
+use Rattle.dym_gen.proofs.FixedCommands.{each_fixed}
 use Rattle.dym_gen.proofs.GoodWords.{decimal_bare, decimal_read, IsSize, size_read, chunk, chunk_bare, chunk_read}
 
 -- the word is one for the operand
@@ -53,11 +55,8 @@ pub record IsCommand (text : List ℕ) : Type 0 where
 number_fills : (n : ℕ) → n < 1000000 → Fills Num (decimal n)
 number_fills n small = record { value = n; reads = decimal_read (2 ^ 64 - 1) n small (omega arith); bare = decimal_bare n small }
 
-at_fills : (n : ℕ) → n < 1000 → Fills Num32 (decimal n)
-at_fills n small = record { value = n; reads = decimal_read (2 ^ 32 - 1) n (omega arith) (omega arith); bare = decimal_bare n (omega arith) }
-
-len_fills : (n : ℕ) → n < 1000 → Fills Num32 (decimal n)
-len_fills n small = record { value = n; reads = decimal_read (2 ^ 32 - 1) n (omega arith) (omega arith); bare = decimal_bare n (omega arith) }
+num32_fills : (n : ℕ) → n < 1000 → Fills Num32 (decimal n)
+num32_fills n small = record { value = n; reads = decimal_read (2 ^ 32 - 1) n (omega arith) (omega arith); bare = decimal_bare n (omega arith) }
 
 byte_fills : (n : ℕ) → n < 256 → Fills Byte (decimal n)
 byte_fills n small = record { value = n; reads = decimal_read 255 n (omega arith) (omega arith); bare = decimal_bare n (omega arith) }
@@ -102,9 +101,6 @@ hex_fills = record { value = 1 ∷ 255 ∷ []; reads = refl; bare = refl }
 
 -- Commands that are drawn
 
-below_lt : (m x : ℕ) → 0 < m → below m x < m
-below_lt m x some = omega arith
-
 -- a chunk and what stands behind it
 chunk_text : (size : List ℕ) (index : ℕ) (rest : List ℕ) → size ++ 58 ∷ (decimal index ++ rest) ≡ chunk size index ++ rest
 chunk_text size index rest = sym (append_assoc size (58 ∷ decimal index) rest)
@@ -136,7 +132,7 @@ number_drawn : (limit x : ℕ) → 0 < limit → limit ≤ 1000 → Fills Num (d
 number_drawn limit x some most = let lt : below limit x < limit = below_lt limit x some in number_fills (below limit x) (omega arith)
 
 at_drawn : (x : ℕ) → Fills Num32 (decimal (below 40 x))
-at_drawn x = let lt : below 40 x < 40 = below_lt 40 x (omega arith) in at_fills (below 40 x) (omega arith)
+at_drawn x = let lt : below 40 x < 40 = below_lt 40 x (omega arith) in num32_fills (below 40 x) (omega arith)
 
 -- words behind the first, which is a chunk
 spelled_chunk : (x : ℕ) (words : List (List ℕ)) → 32 ∷ (drawn_size x ++ 58 ∷ (decimal (drawn_index x) ++ spelled words)) ≡ spelled (drawn_chunk x ∷ words)
@@ -190,7 +186,7 @@ is_fill x =
       words = drawn_chunk x ∷ words;
       is = ap (λ t. codes " fill" ++ t) (spelled_chunk x words);
       fill = one_more OneHandle (Num32 ∷ Num32 ∷ Byte ∷ []) _ _ (chunk_drawn x) (one_more Num32 (Num32 ∷ Byte ∷ []) _ _ (at_drawn y)
-          (one_more Num32 (Byte ∷ []) _ _ (len_fills (below 20 (next y)) (omega arith))
+          (one_more Num32 (Byte ∷ []) _ _ (num32_fills (below 20 (next y)) (omega arith))
           (one_more Byte [] _ [] (byte_fills (below 256 (next (next y))) (below_lt 256 (next (next y)) (omega arith))) no_operands)));
     }
 
@@ -221,7 +217,8 @@ is_read x = record {
   verb = verb.Read;
   words = drawn_chunk x ∷ codes "0" ∷ codes "16" ∷ [];
   is = ap (λ t. codes " read" ++ t) (spelled_chunk x (codes "0" ∷ codes "16" ∷ []));
-  fill = one_more OneHandle (Num32 ∷ ReadLen ∷ []) _ _ (chunk_drawn x) (one_more Num32 (ReadLen ∷ []) _ _ nought_fills (one_more ReadLen [] _ [] sixteen_fills no_operands));
+  fill = one_more OneHandle (Num32 ∷ ReadLen ∷ []) _ _ (chunk_drawn x)
+      (one_more Num32 (ReadLen ∷ []) _ _ nought_fills (one_more ReadLen [] _ [] sixteen_fills no_operands));
 }
 
 is_realloc : (x : ℕ) → IsCommand (text_from x (drawn_command 8))
@@ -260,10 +257,6 @@ drawn x = is_drawn (below 10 (next x)) (next x) (below_lt 10 (next x) (omega ari
 
 -- Commands that are chosen without a draw
 
-either : (b : Bool) (o p : Option (List ℕ)) (x : ℕ) → IsCommand (command_text o x) → IsCommand (command_text p x) → IsCommand (command_text (cond b o p) x)
-either true o p x first second = first
-either false o p x first second = second
-
 -- a verb and a number
 named : (v : Verb) (n : ℕ) → (row v).operands ≡ Num ∷ [] → n < 1000000 → IsCommand ((row v).word ++ 32 ∷ decimal n)
 named v n operands small = record {
@@ -287,28 +280,8 @@ is_first = record { verb = verb.Malloc; words = codes "40" ∷ []; is = refl; fi
 is_second : IsCommand (codes "malloc 65536")
 is_second = record { verb = verb.Malloc; words = codes "65536" ∷ []; is = refl; fill = one_more Num [] _ [] segment no_operands }
 
-abbrev ilogs : ℕ → Option (List ℕ)
-ilogs j = cond (j % 4 == 2) (Some (codes "ilog " ++ decimal j)) None
-
-abbrev logs : ℕ → Option (List ℕ)
-logs j = cond (j % 32 == 2) (Some (codes "log " ++ decimal j)) (ilogs j)
-
-abbrev prunes : ℕ → ℕ → Option (List ℕ)
-prunes object j = cond (j % 32 == 30 && goes_back object) (Some (codes "prune " ++ decimal (j - 16))) (logs j)
-
-abbrev restores : ℕ → ℕ → Option (List ℕ)
-restores object j = cond (j % 32 == 22 && goes_back object) (Some (codes "restore " ++ decimal (j - 8))) (prunes object j)
-
-abbrev mallocs : ℕ → ℕ → Option (List ℕ)
-mallocs object j = cond (j == 1) (Some (codes "malloc 65536")) (restores object j)
-
 -- each command that an object gets
 pub each_command : (object j x : ℕ) → j < 1000000 → IsCommand (command_text (fixed_command object j) x)
 each_command object j x small =
-    let ilog = either (j % 4 == 2) (Some (codes "ilog " ++ decimal j)) None x (named verb.Ilog j refl small) (drawn x) in
-    let log = either (j % 32 == 2) (Some (codes "log " ++ decimal j)) (ilogs j) x (named verb.Log j refl small) ilog in
-    let prune = either (j % 32 == 30 && goes_back object) (Some (codes "prune " ++ decimal (j - 16))) (logs j) x (named verb.Prune (j - 16) refl (omega arith)) log in
-    let restore = either (j % 32 == 22 && goes_back object) (Some (codes "restore " ++ decimal (j - 8))) (prunes object j) x
-    (named verb.Restore (j - 8) refl (omega arith)) prune in
-    let malloc = either (j == 1) (Some (codes "malloc 65536")) (restores object j) x is_second restore in
-    either (j == 0) (Some (codes "malloc 40")) (mallocs object j) x is_first malloc
+    each_fixed IsCommand object j x is_first is_second (named verb.Restore (j - 8) refl (omega arith)) (named verb.Prune (j - 16) refl (omega arith))
+    (named verb.Log j refl small) (named verb.Ilog j refl small) (drawn x)

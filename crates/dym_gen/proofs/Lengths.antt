@@ -1,13 +1,14 @@
 -- How long the lines of a made script are.
-use Rattle.std.proofs.Common.{ℕ, zero, suc, ◌+◌, ◌*◌, ◌-◌, ◌/◌, ◌%◌, ◌^◌, ◌<◌, ◌≤◌, Bool, true, false, cond, List, [], ◌∷◌, ◌++◌, length, arith, rules, length-append}
-use Rattle.std.specs.Prelude.{decimal, codes, flat_map, ◌==◌, ◌&&◌, Option, None, Some}
+use Rattle.std.proofs.Common.{ℕ, zero, suc, ◌+◌, ◌*◌, ◌-◌, ◌/◌, ◌%◌, ◌^◌, ◌<◌, ◌≤◌, List, [], ◌∷◌, ◌++◌, length, arith, rules, length-append}
+use Rattle.std.specs.Prelude.{decimal, codes, flat_map, None}
 use Rattle.std.specs.List.{range_with_len}
 use Rattle.std.proofs.Math.Nat.{div-le_self}
 use Rattle.std.proofs.lemmas.Fmt.{length-decimal-le}
 use Rattle.dym_gen.specs.Draws.{Part, word, number, size, next, below, size_at, text_from}
-use Rattle.dym_gen.specs.Commands.{drawn_command, fixed_command, goes_back, command_text}
+use Rattle.dym_gen.specs.Commands.{drawn_command, fixed_command, command_text}
 use Rattle.dym_gen.specs.Scripts.{object_line, command_line, line_state, command_lines, object_lines, generated}
-use Rattle.dym_gen.proofs.Sizes.{size_lt}
+use Rattle.dym_gen.proofs.Sizes.{below_lt, size_lt}
+use Rattle.dym_gen.proofs.FixedCommands.{each_fixed}
 
 decimal_3 : (n : ℕ) → n < 1000 → length (decimal n) ≤ 3
 decimal_3 n h = length-decimal-le 3 n (omega arith) (omega arith) (omega arith)
@@ -31,9 +32,6 @@ AreSmall [] = Unit {0}
 AreSmall (word t ∷ ps) = AreSmall ps
 AreSmall (number m ∷ ps) = (0 < m) × (m ≤ 1000) × AreSmall ps
 AreSmall (size ∷ ps) = AreSmall ps
-
-below_lt : (m x : ℕ) → 0 < m → below m x < m
-below_lt m x some = omega arith
 
 text_from-le : (x : ℕ) (ps : List Part) → AreSmall ps → length (text_from x ps) ≤ room ps
 text_from-le x [] small = omega arith
@@ -65,38 +63,16 @@ drawn_le x =
     let short = drawn_short (below 10 (next x)) in
     omega (arith, text_from-le (next x) (drawn_command (below 10 (next x))) short.0, short.1)
 
-either_le : (b : Bool) (o p : Option (List ℕ)) (x : ℕ) → length (command_text o x) ≤ 24 → length (command_text p x) ≤ 24 → length (command_text (cond b o p) x) ≤ 24
-either_le true o p x first second = first
-either_le false o p x first second = second
-
 -- a word and a number
 named_le : (name : List ℕ) (n : ℕ) → length name ≤ 8 → n < 1000000 → length (name ++ decimal n) ≤ 24
 named_le name n short small = omega (arith, length-append name (decimal n), decimal_6 n small)
 
-abbrev ilogs : ℕ → Option (List ℕ)
-ilogs j = cond (j % 4 == 2) (Some (codes "ilog " ++ decimal j)) None
-
-abbrev logs : ℕ → Option (List ℕ)
-logs j = cond (j % 32 == 2) (Some (codes "log " ++ decimal j)) (ilogs j)
-
-abbrev prunes : ℕ → ℕ → Option (List ℕ)
-prunes object j = cond (j % 32 == 30 && goes_back object) (Some (codes "prune " ++ decimal (j - 16))) (logs j)
-
-abbrev restores : ℕ → ℕ → Option (List ℕ)
-restores object j = cond (j % 32 == 22 && goes_back object) (Some (codes "restore " ++ decimal (j - 8))) (prunes object j)
-
-abbrev mallocs : ℕ → ℕ → Option (List ℕ)
-mallocs object j = cond (j == 1) (Some (codes "malloc 65536")) (restores object j)
-
 -- a command takes at most 24 bytes
 command_le : (object j x : ℕ) → j < 1000000 → length (command_text (fixed_command object j) x) ≤ 24
 command_le object j x small =
-    let ilog = either_le (j % 4 == 2) (Some (codes "ilog " ++ decimal j)) None x (named_le (codes "ilog ") j (omega arith) small) (drawn_le x) in
-    let log = either_le (j % 32 == 2) (Some (codes "log " ++ decimal j)) (ilogs j) x (named_le (codes "log ") j (omega arith) small) ilog in
-    let prune = either_le (j % 32 == 30 && goes_back object) (Some (codes "prune " ++ decimal (j - 16))) (logs j) x (named_le (codes "prune ") (j - 16) (omega arith) (omega arith)) log in
-    let restore = either_le (j % 32 == 22 && goes_back object) (Some (codes "restore " ++ decimal (j - 8))) (prunes object j) x (named_le (codes "restore ") (j - 8) (omega arith) (omega arith)) prune in
-    let malloc = either_le (j == 1) (Some (codes "malloc 65536")) (restores object j) x (omega arith) restore in
-    either_le (j == 0) (Some (codes "malloc 40")) (mallocs object j) x (omega arith) malloc
+    each_fixed (λ text. length text ≤ 24) object j x (omega arith) (omega arith) (named_le (codes "restore ") (j - 8) (omega arith) (omega arith))
+    (named_le (codes "prune ") (j - 16) (omega arith) (omega arith)) (named_le (codes "log ") j (omega arith) small) (named_le (codes "ilog ") j (omega arith) small)
+    (drawn_le x)
 
 pub object_line-le : (object : ℕ) → object < 4096 → length (object_line object) ≤ 32
 object_line-le object small =

@@ -1,5 +1,6 @@
 pub mod Lines
 pub mod Sizes
+pub mod FixedCommands
 pub mod Lengths
 pub mod GoodWords
 pub mod GoodCommands

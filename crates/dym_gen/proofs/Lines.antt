@@ -32,13 +32,16 @@ objects_left objects first count text within put =
     ∙ ap (λ l. l ++ declarations (first + count) (objects - (first + count))) (sym put)
 
 -- of the lines of commands those of a front stand in `front`: line k is put behind it
-pub commands_more : (objects first start i n k x y : ℕ) (front new : List ℕ) → command_lines objects (i + (n + 1)) first start ≡ front ++ command_lines objects (n + 1) k x → new ≡ front ++ command_line objects k x → y ≡ line_state objects k x
+pub commands_more : (objects first start i n k x y : ℕ) (front new : List ℕ)
+    → command_lines objects (i + (n + 1)) first start ≡ front ++ command_lines objects (n + 1) k x
+    → new ≡ front ++ command_line objects k x → y ≡ line_state objects k x
     → command_lines objects (i + 1 + n) first start ≡ new ++ command_lines objects n (k + 1) y
 commands_more objects first start i n k x y front new before put state =
     let count : i + 1 + n ≡ i + (n + 1) = omega arith in
     let after = command_lines objects n (k + 1) (line_state objects k x) in
     let more : n + 1 ≡ suc n = omega arith in
-    ap (λ m. command_lines objects m first start) count ∙ before ∙ ap (λ m. front ++ command_lines objects m k x) more ∙ sym (append_assoc front (command_line objects k x) after)
+    ap (λ m. command_lines objects m first start) count ∙ before ∙ ap (λ m. front ++ command_lines objects m k x) more
+    ∙ sym (append_assoc front (command_line objects k x) after)
     ∙ ap (λ l. l ++ after) (sym put) ∙ ap (λ s. new ++ command_lines objects n (k + 1) s) (sym state)
 
 -- the same of the lines of commands

@@ -1,5 +1,5 @@
 -- A walk over the live chunks, from each to the next.
-use Rattle.std.proofs.Common.{◌≡◌, ℕ, ◌+◌, ◌≤◌, true, false, List, [], ◌∷◌, length, refl, ap, Option, Some, None, is_some, arith}
+use Rattle.std.proofs.Common.{◌≡◌, ℕ, ◌+◌, ◌<◌, ◌≤◌, true, false, List, [], ◌∷◌, length, refl, ap, Option, Some, None, is_some, arith}
 use Rattle.std.specs.FinMap.{get, contains_key, entries}
 use Rattle.dym_base.specs.Heaps.{Live}
 use Rattle.dym_base.specs.HeapStep.{key}
@@ -41,3 +41,7 @@ walk_shortens live last h next =
     let found = bytes_of live (key h) next.is_live in
     let goes : length (left_after live last) ≡ length ((key h, found.0) ∷ left_after live (Some h)) = ap length (walk_goes live last h found.0 next found.1) in
     omega (arith, goes)
+
+pub walk_falls : (live : Live) (last : Option Handle) (h : Handle) → IsNextLive live (after_key last) (key h)
+    → length (left_after live (Some h)) < length (left_after live last)
+walk_falls live last h next = omega (arith, walk_shortens live last h next)

@@ -21,7 +21,8 @@ pub cut_second : (a b c : Output) (t u w : List ℕ) → Appended a b t → Stop
 cut_second a b c t u w p q = stopped_within a c (t ++ u) w (stopped_after a b c t u p q)
 
 -- the third ends it
-pub third_ends : {T E : Type 0} → (a b c d : Output) (t u w : List ℕ) (r : Result T E) → Appended a b t → Appended b c u → Writes c d w r → Writes a d ((t ++ u) ++ w) r
+pub third_ends : {T E : Type 0} → (a b c d : Output) (t u w : List ℕ) (r : Result T E) → Appended a b t → Appended b c u → Writes c d w r
+    → Writes a d ((t ++ u) ++ w) r
 third_ends a b c d t u w r p q last = writes_after a c d (t ++ u) w r (appended_both a b c t u p q) last
 
 pub third_ends_as : {T E : Type 0} → (a b c d : Output) (text t u w : List ℕ) (r : Result T E) → text ≡ (t ++ u) ++ w → Appended a b t → Appended b c u

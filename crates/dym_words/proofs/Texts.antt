@@ -19,15 +19,20 @@ take_while-map : {X Y : Type 0} (h : Y → X) (p : X → Bool) (ys : List Y) →
 take_while-map h p ys = rw (prefix_len-map h p ys) (take-map h (prefix_len (λ y. p (h y)) ys) ys)
 
 -- the values that stand after place i
-after_place : {Y : Type 0} (h : Y → List ℕ) (ys : List Y) (i : ℕ) → take_while (λ v. not (is_option v)) (drop (i + 1) (map h ys)) ≡ map h (take_while (λ y. not (is_option (h y))) (drop (i + 1) ys))
+after_place : {Y : Type 0} (h : Y → List ℕ) (ys : List Y) (i : ℕ)
+    → take_while (λ v. not (is_option v)) (drop (i + 1) (map h ys)) ≡ map h (take_while (λ y. not (is_option (h y))) (drop (i + 1) ys))
 after_place h ys i = rw (drop-map h (i + 1) ys) (take_while-map h (λ v. not (is_option v)) (drop (i + 1) ys))
 
-at_place : {Y : Type 0} (h : Y → List ℕ) (ys : List Y) (o : Option ℕ) → option_map (λ i. take_while (λ v. not (is_option v)) (drop (i + 1) (map h ys))) o ≡ option_map (λ i. map h (take_while (λ y. not (is_option (h y))) (drop (i + 1) ys))) o
+at_place : {Y : Type 0} (h : Y → List ℕ) (ys : List Y) (o : Option ℕ)
+    → option_map (λ i. take_while (λ v. not (is_option v)) (drop (i + 1) (map h ys))) o
+    ≡ option_map (λ i. map h (take_while (λ y. not (is_option (h y))) (drop (i + 1) ys))) o
 at_place h ys None = refl
 at_place h ys (Some i) = ap Some (after_place h ys i)
 
 -- the values of an option, by the words themselves
-pub values_of-map : {Y : Type 0} (h : Y → List ℕ) (name : List ℕ) (ys : List Y) → values_of name (map h ys) ≡ option_map (λ i. map h (take_while (λ y. not (is_option (h y))) (drop (i + 1) ys))) (position (λ y. is_text name (h y)) ys)
+pub values_of-map : {Y : Type 0} (h : Y → List ℕ) (name : List ℕ) (ys : List Y)
+    → values_of name (map h ys)
+    ≡ option_map (λ i. map h (take_while (λ y. not (is_option (h y))) (drop (i + 1) ys))) (position (λ y. is_text name (h y)) ys)
 values_of-map h name ys = rw (position-map h (is_text name) ys) (at_place h ys (position (λ y. is_text name (h y)) ys))
 
 list_any-map : {X Y : Type 0} (h : Y → X) (p : X → Bool) (ys : List Y) → list_any p (map h ys) ≡ list_any (λ y. p (h y)) ys
@@ -35,10 +40,12 @@ list_any-map h p [] = refl
 list_any-map h p (y ∷ ys) = ap (λ b. p (h y) || b) (list_any-map h p ys)
 
 -- the tests of a list of options, by the names and the words themselves
-pub are_known-map : {N Y : Type 0} (g : N → List ℕ) (h : Y → List ℕ) (ns : List N) (ys : List Y) → are_known (map g ns) (map h ys) ≡ list_all (λ y. not (is_option (h y)) || list_any (λ n. is_text (g n) (h y)) ns) ys
+pub are_known-map : {N Y : Type 0} (g : N → List ℕ) (h : Y → List ℕ) (ns : List N) (ys : List Y)
+    → are_known (map g ns) (map h ys) ≡ list_all (λ y. not (is_option (h y)) || list_any (λ n. is_text (g n) (h y)) ns) ys
 are_known-map g h ns ys = simp (list_all-map, list_any-map)
 
-pub are_single-map : {N Y : Type 0} (g : N → List ℕ) (h : Y → List ℕ) (ns : List N) (ys : List Y) → are_single (map g ns) (map h ys) ≡ list_all (λ n. nat_le (count_by (is_text (g n)) (map h ys)) 1) ns
+pub are_single-map : {N Y : Type 0} (g : N → List ℕ) (h : Y → List ℕ) (ns : List N) (ys : List Y)
+    → are_single (map g ns) (map h ys) ≡ list_all (λ n. nat_le (count_by (is_text (g n)) (map h ys)) 1) ns
 are_single-map g h ns ys = list_all-map (λ name. nat_le (count_by (is_text name) (map h ys)) 1) g ns
 
 -- where none is an option, all words stand before the first

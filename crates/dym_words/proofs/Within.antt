@@ -15,7 +15,8 @@ use Rattle.dym_words.specs.Orders.{made_of, alone, input_or, input_of, summary_o
 use Rattle.dym_words.specs.Laws.{CanBeMade, CanRun, IsInputWithin, IsWithin, MadeOrdersAreWithin}
 
 -- what holds of each value that a step gives holds of what the steps give
-and_then : {X Y : Type 0} (P : X → Type 0) (Q : Y → Type 0) (f : X → Option Y) (o : Option X) → IfSome o P → ((x : X) → P x → IfSome (f x) Q) → IfSome (option_and_then f o) Q
+and_then : {X Y : Type 0} (P : X → Type 0) (Q : Y → Type 0) (f : X → Option Y) (o : Option X) → IfSome o P
+    → ((x : X) → P x → IfSome (f x) Q) → IfSome (option_and_then f o) Q
 and_then P Q f None known step = tt
 and_then P Q f (Some x) known step = step x known
 

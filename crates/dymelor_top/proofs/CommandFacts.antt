@@ -1,5 +1,5 @@
 -- One command of a list.
-use Rattle.std.proofs.Common.{◌≡◌, ℕ, ◌+◌, ◌<◌, ◌≤◌, List, [], ◌∷◌, ◌++◌, length, take, drop, get_or, slice_get, Option, Some, IfSome, subst, add-one, drop-cons}
+use Rattle.std.proofs.Common.{◌≡◌, ℕ, ◌+◌, ◌<◌, ◌≤◌, List, [], ◌∷◌, ◌++◌, length, take, drop, get_or, slice_get, Option, Some, IfSome, subst, ap, ◌∙◌, add-one, drop-cons}
 use Rattle.std.proofs.lemmas.Option.{slice_get-get_or}
 use Rattle.std.proofs.Math.ListN.{drop_of_length-le}
 use Rattle.std.proofs.Math.Seq.{take-suc}
@@ -34,8 +34,8 @@ none_behind commands i all = drop_of_length-le commands all
 
 -- a command that was run is counted
 pub ran_counted : (commands : List Command) (i : ℕ) (old new : ObjectMeaning) (reply : Reply) → i < length commands
-    → IfSome (slice_get commands i) (λ c. Ran old c new reply) → new.ran ≡ old.ran + 1
-ran_counted commands i old new reply within ran =
+    → IfSome (slice_get commands i) (λ c. Ran old c new reply) → old.ran ≡ i → new.ran ≡ i + 1
+ran_counted commands i old new reply within ran count =
     let at = command_at commands i within in
     let did : Ran old at.one new reply = command_fact (λ c. Ran old c new reply) (slice_get commands i) at.one at.is ran in
-    did.step.ran
+    did.step.ran ∙ ap (λ n. n + 1) count

@@ -3,7 +3,7 @@ use Rattle.std.proofs.Common.{◌≡◌, ℕ, ◌<◌, ◌≤◌, ◌⊎◌, inl
 use Rattle.std.proofs.lemmas.Bool.Decides.{nat_tests}
 use Rattle.dym_base.specs.declared.limits.TheConstants.{MOST_INPUT_BYTES}
 use Rattle.dym_base.specs.declared.bad_kind.BadKind.TheVariants as bad
-use Rattle.dym_base.specs.Files.{FileHead}
+use Rattle.dym_base.specs.Files.{FileHead, FailsAt}
 use Rattle.dym_base.specs.LawfulLists.{IsLawful}
 use Rattle.dym_base.specs.Objects.{LogEntry}
 use Rattle.dym_chain.specs.AdoptedLogs.{entries_of}
@@ -33,15 +33,23 @@ one_loaded time bytes x y (inl p) (inr q) = absurd (no_file bytes p.head p.holds
 one_loaded time bytes x y (inr p) (inl q) = absurd (no_file bytes q.head q.holds.records p.part q.holds.file p.fails)
 one_loaded time bytes x y (inr p) (inr q) = p.is ∙ ap (λ n. fault_answer n bad.File) (one_part bytes p.part q.part p.fails q.fails) ∙ sym q.is
 
--- the answers that bytes have, by their length
-pub too_long_file : (time : Option ℕ) (bytes : List ℕ) → MOST_INPUT_BYTES < length bytes → IsLoadAnswer time bytes (fault_answer 0 bad.TooLong)
-too_long_file time bytes long =
+-- the answer to bytes whose length is tested first
+pub tested_long : (Is : Answer → Type 0) (bytes : List ℕ) → MOST_INPUT_BYTES < length bytes
+    → MatchBool (nat_lt MOST_INPUT_BYTES (length bytes)) (fault_answer 0 bad.TooLong ≡ fault_answer 0 bad.TooLong) (Is (fault_answer 0 bad.TooLong))
+tested_long Is bytes long =
     let x : Answer = fault_answer 0 bad.TooLong in
     let test : nat_lt MOST_INPUT_BYTES (length bytes) ≡ true = grind (arith, nat_tests) in
-    subst (λ b. MatchBool b (x ≡ fault_answer 0 bad.TooLong) (IsLoadedText time bytes x ⊎ IsPartFault bytes x)) (sym test) refl
+    subst (λ b. MatchBool b (x ≡ x) (Is x)) (sym test) refl
 
-pub short_file : (time : Option ℕ) (bytes : List ℕ) (x : Answer) → length bytes ≤ MOST_INPUT_BYTES → IsLoadedText time bytes x ⊎ IsPartFault bytes x
-    → IsLoadAnswer time bytes x
-short_file time bytes x short is =
+pub tested_short : (Is : Answer → Type 0) (bytes : List ℕ) (x : Answer) → length bytes ≤ MOST_INPUT_BYTES → Is x
+    → MatchBool (nat_lt MOST_INPUT_BYTES (length bytes)) (x ≡ fault_answer 0 bad.TooLong) (Is x)
+tested_short Is bytes x short is =
     let test : nat_lt MOST_INPUT_BYTES (length bytes) ≡ false = grind (arith, nat_tests) in
-    subst (λ b. MatchBool b (x ≡ fault_answer 0 bad.TooLong) (IsLoadedText time bytes x ⊎ IsPartFault bytes x)) (sym test) is
+    subst (λ b. MatchBool b (x ≡ fault_answer 0 bad.TooLong) (Is x)) (sym test) is
+
+-- the answer to bytes of which a part fails
+pub part_answer : (time : Option ℕ) (bytes read : List ℕ) (part : ℕ) → read ≡ bytes → length bytes ≤ MOST_INPUT_BYTES → FailsAt read part
+    → IsLoadAnswer time bytes (fault_answer part bad.File)
+part_answer time bytes read part same short fails =
+    tested_short (λ x. IsLoadedText time bytes x ⊎ IsPartFault bytes x) bytes (fault_answer part bad.File) short
+    (inr (record { part = part; fails = subst (λ l. FailsAt l part) same fails; is = refl }))

@@ -93,9 +93,6 @@ count_cons act acts =
     let f : LateAct → ℕ = λ a. cond (is_event a) 1 0 in
     sum_by-cons f act acts ∙ ap (λ n. n + count_by is_event acts) (sym (sum_by-cons f act [] ∙ add-zero (f act)))
 
-pub room_now : (n most : ℕ) (act : LateAct) (acts : List LateAct) → n + count_by is_event (act ∷ acts) ≤ most → n + count_by is_event (act ∷ []) ≤ most
-room_now n most act acts few = omega (arith, few, count_cons act acts)
-
 pub room_later : (old new : LateMeaning) (most : ℕ) (act : LateAct) (acts : List LateAct) → length old.events + count_by is_event (act ∷ acts) ≤ most
     → TookIn old new (arrival act ∷ [])
     → length new.events + count_by is_event acts ≤ most

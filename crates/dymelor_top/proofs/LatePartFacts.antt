@@ -54,11 +54,6 @@ parts_more parts objects line old new lines inside at same pushed are = record {
   acts = acts_more parts line old new lines inside at pushed are.acts;
 }
 
--- no line yet
-pub parts_silent : (parts : List LatePart) (objects : List Decl) → map (λ part. part.decl) parts ≡ objects → All (λ part. part.acts.items ≡ []) parts
-    → AreLateParts parts objects []
-parts_silent parts objects decls silent = record { decls = decls; acts = λ k d within. silent k d within }
-
 -- so many are the parts
 pub many_parts : (parts : List LatePart) (objects : List Decl) (lines : List LateLine) → AreLateParts parts objects lines → length parts ≡ length objects
 many_parts parts objects lines are = sym (length-map parts (λ (p : LatePart). p.decl)) ∙ ap length are.decls
@@ -87,9 +82,10 @@ events_are (l ∷ ls) k =
 may_act : (lines : List LateLine) (k : ℕ) → All (λ line. MayAct line.act) lines → All MayAct (acts_of lines k)
 may_act [] k all = All-nil MayAct
 may_act (l ∷ ls) k all =
+    let others = may_act ls k (All-tail (λ (m : LateLine). MayAct m.act) l ls all) in
     elim (l.object == k) as (λ b. All MayAct (map (λ (m : LateLine). m.act) (cond b (l ∷ filter (λ m. m.object == k) ls) (filter (λ m. m.object == k) ls)))) [
-      | true ↦ All-cons MayAct l.act (acts_of ls k) (All-head (λ (m : LateLine). MayAct m.act) l ls all) (may_act ls k (All-tail (λ (m : LateLine). MayAct m.act) l ls all))
-      | false ↦ may_act ls k (All-tail (λ (m : LateLine). MayAct m.act) l ls all)
+      | true ↦ All-cons MayAct l.act (acts_of ls k) (All-head (λ (m : LateLine). MayAct m.act) l ls all) others
+      | false ↦ others
     ]
 
 decl_at : (parts : List LatePart) (k : ℕ) (d : LatePart) → get_or (map (λ (p : LatePart). p.decl) parts) k d.decl ≡ (get_or parts k d).decl

@@ -2,7 +2,7 @@
 use Rattle.std.proofs.Common.{◌≡◌, ℕ, suc, ◌+◌, ◌<◌, List, ◌∷◌, ◌++◌, length, take, drop, get_or, flat_map, Result, Ok, Err, IsErrAnd, refl, sym, ap, subst, ◌∙◌, add-one, drop-cons, take-append-drop}
 use Rattle.std.proofs.lemmas.Grind.{flat_map-append}
 use Rattle.dym_io.specs.Sink.{Output, Appended, AppendedFront, Stopped, Blames, WritesOr}
-use Rattle.dym_io.specs.Laws.{appended_both, blames_later, front_after, front_within, stopped_after, stopped_within, writes_or_stopped}
+use Rattle.dym_io.specs.Laws.{appended_both, front_after, front_within, stopped_after, stopped_within, writes_or_stopped}
 use Rattle.dym_report.specs.declared.write_fail.WriteFail.{WriteFail}
 use Rattle.dym_report.specs.declared.write_fail.WriteFail.TheVariants as fail
 use Rattle.dymelor_top.specs.Answers.{Answer}
@@ -30,11 +30,6 @@ module _ (a : Output) (text t u : List ℕ) (whole : text ≡ t ++ u) where
   pub second_stopped : {T : Type 0} → (b c : Output) (r : Result T WriteFail) → IsErrAnd r IsSinks → Appended a b t → Stopped b c u → WritesOr IsSinks a c text r
   second_stopped b c r is p q = writes_or_stopped IsSinks a c text r is (subst (Stopped a c) (sym whole) (stopped_after a b c t u p q))
 
-  pub second_passed : {T : Type 0} → (b c : Output) (r : Result T WriteFail) (e : WriteFail) → IsErrAnd r (λ x. x ≡ e) → Appended a b t → AppendedFront b c u
-      → Blames (IsSinks e) b c → WritesOr IsSinks a c text r
-  second_passed b c r e is p q blames =
-      writes_or_passed IsSinks a c text r e is (subst (AppendedFront a c) (sym whole) (front_after a b c t u p q)) (blames_later (IsSinks e) a b c t p blames)
-
   pub second_done : (b c : Output) → Appended a b t → Appended b c u → Appended a c text
   second_done b c p q = subst (Appended a c) (sym whole) (appended_both a b c t u p q)
 
@@ -48,13 +43,13 @@ each_front_item f items i x a b c within is p q =
     subst (AppendedFront a c) (sym whole)
     (front_after a b c (flat_map f (take i items)) (f x ++ flat_map f (drop (i + 1) items)) p (front_within b c (f x) (flat_map f (drop (i + 1) items)) q))
 
--- where the sink stopped a call, a front of the answer that is given was written
-pub answer_stopped : (defined : Answer) (a b : Output) (r : Result ℕ WriteFail) → IsErrAnd r (λ e. e ≡ fail.Sink) → Stopped a b defined.text → WritesAnswer defined a b r
-answer_stopped defined a b (Ok status) is stopped = absurd is
-answer_stopped defined a b (Err e) is stopped = (stopped.front, subst (λ x. Blames (x ≡ fail.Sink) a b) (sym is) (λ _. stopped.rose, λ other. absurd (other refl)))
-
 -- the same of an answer that is given
 pub answer_passed : (defined : Answer) (a b : Output) (r : Result ℕ WriteFail) (e : WriteFail) → IsErrAnd r (λ x. x ≡ e)
     → AppendedFront a b defined.text → Blames (e ≡ fail.Sink) a b → WritesAnswer defined a b r
 answer_passed defined a b (Ok x) e is front blames = absurd is
 answer_passed defined a b (Err x) e is front blames = (front, subst (λ x. Blames (x ≡ fail.Sink) a b) (sym is) blames)
+
+-- where the sink stopped the call
+pub answer_stopped : (defined : Answer) (a b : Output) (r : Result ℕ WriteFail) → IsErrAnd r (λ e. e ≡ fail.Sink) → Stopped a b defined.text
+    → WritesAnswer defined a b r
+answer_stopped defined a b r is stopped = answer_passed defined a b r fail.Sink is stopped.front (λ _. stopped.rose, λ other. absurd (other refl))

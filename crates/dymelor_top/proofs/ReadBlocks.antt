@@ -1,11 +1,11 @@
 -- What holds while a source is read and its script with it, and what is known at the end.
-use Rattle.std.proofs.Common.{◌≡◌, ℕ, ◌+◌, ◌-◌, ◌<◌, ◌≤◌, inl, inr, List, [], ◌++◌, length, take, drop, Option, Some, None, Result, Ok, Err, IfOk, OnOk, sym, ap, subst, ◌∙◌, append_assoc, append-nil, length-append, length-take, length-drop, take-append-drop, zero-add, refl, arith}
+use Rattle.std.proofs.Common.{◌≡◌, ℕ, ◌+◌, ◌-◌, ◌<◌, ◌≤◌, inl, inr, List, [], ◌++◌, length, take, drop, Option, Some, None, Result, Ok, Err, IfOk, OnOk, sym, ap, subst, ◌∙◌, append_assoc, append-nil, length-append, length-take, length-drop, take-append-drop, zero-add, arith}
 use Rattle.std.specs.List.{copy_within}
 use Rattle.std.proofs.Math.Seq.{paste, take-add}
 use Rattle.std.proofs.lemmas.List.{drop-take}
 use Rattle.std.proofs.lemmas.List.Edits.{take-paste}
 use Rattle.std.specs.Io.KnownBytes.{Consumes, Keeps}
-use Rattle.std.proofs.KnownBytes.{Consumes-nil, Consumes-trans, Consumes-kept}
+use Rattle.std.proofs.KnownBytes.{Consumes-trans, Consumes-kept}
 use Rattle.dym_base.specs.declared.limits.TheConstants.{MOST_INPUT_BYTES}
 use Rattle.dym_base.specs.declared.bad_kind.BadKind.{BadKind}
 use Rattle.dym_base.specs.declared.bad_kind.BadKind.TheVariants as bad
@@ -30,9 +30,6 @@ pub record DrainedSoFar (pulled : ℕ) (old new : Option (List ℕ)) (faults_old
   pub faults : faults_new ≡ faults_old
   pub more : goes_on
 
-pub drained_none : (pulled : ℕ) (s : Option (List ℕ)) (faults : ℕ) (G : Type 0) → pulled ≤ MOST_INPUT_BYTES → G → DrainedSoFar pulled s s faults faults G pulled
-drained_none pulled s faults G within on = record { got = []; taken = Consumes-nil s; count = omega arith; within = omega (arith, within); faults = refl; more = on }
-
 -- a pull took more
 pub drained_more : (pulled : ℕ) (a b c : Option (List ℕ)) (f g h : ℕ) (G H : Type 0) (all n : ℕ) (out : List ℕ) → DrainedSoFar pulled a b f g G all
     → Consumes b c (take n out) → n ≤ length out → all + n ≤ MOST_INPUT_BYTES + 1 → h ≡ g → H
@@ -53,31 +50,11 @@ out_at_end n all (Some xs) None c got out before at_end none taken = absurd befo
 out_at_end n all (Some xs) (Some ys) None got out before at_end none taken = absurd taken
 out_at_end n all (Some xs) (Some ys) (Some zs) got out before at_end none taken = inl (sym (taken ∙ ap (λ k. take k out ++ zs) none) ∙ at_end.0 none)
 
-pub drained_end : (pulled : ℕ) (a b c : Option (List ℕ)) (f g : ℕ) (G : Type 0) (all n : ℕ) (out : List ℕ) → DrainedSoFar pulled a b f g G all → IsEmptyAtEnd b n
-    → n ≡ 0 → Consumes b c (take n out) → IsDrained pulled a c all
-drained_end pulled a b c f g G all n out so at_end none taken = record {
-  got = so.got ++ take n out;
-  taken = Consumes-trans a b c so.got (take n out) so.taken taken;
-  count = omega (arith, so.count, length-append so.got (take n out), length-take n out, none);
-  within = so.within;
-  out = out_at_end n all a b c so.got out so.taken at_end none taken;
-}
-
 -- so much was read that the input is too long
 out_at_limit : (all : ℕ) (a b : Option (List ℕ)) → all ≡ MOST_INPUT_BYTES + 1 → IsReadOut a b all
 out_at_limit all None b full = tt
 out_at_limit all (Some xs) None full = tt
 out_at_limit all (Some xs) (Some ys) full = inr full
-
-pub drained_full : (pulled : ℕ) (a b : Option (List ℕ)) (f g : ℕ) (G : Type 0) (all : ℕ) → DrainedSoFar pulled a b f g G all → MOST_INPUT_BYTES < all
-    → IsDrained pulled a b all
-drained_full pulled a b f g G all so long = record {
-  got = so.got;
-  taken = so.taken;
-  count = so.count;
-  within = so.within;
-  out = out_at_limit all a b (omega (arith, so.within, long));
-}
 
 -- whatever the call answers, so many bytes at most were taken
 
@@ -96,9 +73,6 @@ took_both most n more a b c got taken len few then = record {
 
 pub told_few : (old new : Option (List ℕ)) (Gives : Result Said Fault → Type 0) → TakesBytes [] old new Gives → TookAtMost (MOST_INPUT_BYTES + 1) old new
 told_few old new Gives tells = record { got = tells.got; taken = tells.taken; few = tells.within }
-
-pub drained_few : (pulled all most : ℕ) (old new : Option (List ℕ)) → IsDrained pulled old new all → most ≡ MOST_INPUT_BYTES + 1 - pulled → TookAtMost most old new
-drained_few pulled all most old new drained is = record { got = drained.got; taken = drained.taken; few = omega (arith, drained.count, drained.within, is) }
 
 -- ---- what the bytes that were read say
 
@@ -144,16 +118,6 @@ pub record ReadSoFar (old new : Option (List ℕ)) (faults_old faults_new : ℕ)
   pub count : length taken + length left ≡ pulled
   pub within : pulled ≤ MOST_INPUT_BYTES
   pub faults : faults_new ≡ faults_old
-
-pub read_none : (Takes : List ℕ → Type 0) (s : Option (List ℕ)) (faults : ℕ) (left : List ℕ) → left ≡ [] → Takes [] → ReadSoFar s s faults faults Takes left 0
-read_none Takes s faults left none took = record {
-  taken = [];
-  took = took;
-  consumed = subst (Consumes s s) (sym none) (Consumes-nil s);
-  count = omega (arith, ap length none);
-  within = omega arith;
-  faults = refl;
-}
 
 -- the source has no more: what is left is the last piece
 pub read_end : (a b c : Option (List ℕ)) (f g n pulled : ℕ) (Takes : List ℕ → Type 0) (left out : List ℕ) (Gives : Result Said Fault → Type 0)

@@ -2,7 +2,7 @@
 use Rattle.std.proofs.Common.{◌≡◌, ℕ, ◌+◌, ◌<◌, ◌≤◌, Bool, true, false, cond, List, [], ◌∷◌, ◌++◌, All, IsTrue, length, map, take, get_or, slice_get, nat_lt, Option, Some, IfSome, option_map, refl, sym, ap, subst, ◌∙◌, append-nil, take-append-drop, arith}
 use Rattle.std.specs.List.{find}
 use Rattle.std.specs.Str.{bytes_eq}
-use Rattle.std.proofs.lemmas.Bool.{cond-true, cond-false}
+use Rattle.std.proofs.lemmas.Bool.{cond-false}
 use Rattle.std.proofs.lemmas.Bool.Decides.{nat_tests}
 use Rattle.std.proofs.lemmas.List.Elements.{All-head, All-tail}
 use Rattle.dym_base.specs.declared.limits.TheConstants.{MOST_INPUT_BYTES}
@@ -10,7 +10,9 @@ use Rattle.dym_base.specs.declared.bad_kind.BadKind.TheVariants as bad
 use Rattle.dym_base.specs.Names.{is_name}
 use Rattle.dym_base.specs.Objects.{ObjectState}
 use Rattle.dym_base.specs.declared.command.Command.{Command}
+use Rattle.dym_base.specs.declared.command.Version.{Version}
 use Rattle.dym_base.specs.declared.reply.Reply.{Reply}
+use Rattle.dym_chain.specs.Chains.{ChainMeaning}
 use Rattle.dym_ckpt.specs.SavedFiles.{file_of_logs}
 use Rattle.dym_object.specs.Laws.{RunsGoOn}
 use Rattle.dym_heap.specs.Meaning.{HeapMeaning}
@@ -32,7 +34,7 @@ use Rattle.dymelor_top.proofs.PartFacts.{parts_are_objects, parts_run, decl_at, 
 -- ---- the object of a name
 
 -- the part has the name
-abbrev pub has_name : List ℕ → Part → Bool
+abbrev has_name : List ℕ → Part → Bool
 has_name name part = bytes_eq part.decl.name name
 
 module _ (name : List ℕ) where
@@ -61,24 +63,28 @@ parts_named s parts decls lawful k d within =
     let reach : k < length s.objects = omega (arith, length_decls parts, ap length decls, within) in
     subst (λ (x : Decl). IsTrue (is_name x.name)) at (lawful.names k d.decl reach)
 
-module _ (script : WholeScript PartCollector) (s : Said) (name : List ℕ) (are : IsByObjects script s) (found : Option Part)
-    (is : found ≡ find (has_name name) script.kept.parts.items) where
+-- the first of that name was looked for among these parts
+module _ (script : WholeScript PartCollector) (s : Said) (name : List ℕ) (parts : List Part) (looked found : Option Part) (are : IsByObjects script s)
+    (same : parts ≡ script.kept.parts.items) (by_name : looked ≡ find (has_name name) parts) (is : looked ≡ found) where
+  found_is : find (has_name name) script.kept.parts.items ≡ found
+  found_is = ap (find (has_name name)) (sym same) ∙ sym by_name ∙ is
+
   pub named_is : named_answer s.version (own_named name s) ≡ named_answer script.version (option_map own_of found)
   named_is =
-      let parts : List Part = script.kept.parts.items in
+      let items : List Part = script.kept.parts.items in
       let own : own_named name s ≡ option_map own_of found =
-      ap (λ os. find (λ (o : Own). bytes_eq o.decl.name name) os) (sym (parts_are_objects s parts are.keeps.decls are.keeps.commands)) ∙ found_own name parts
-      ∙ ap (option_map own_of) (sym is) in
+      ap (λ os. find (λ (o : Own). bytes_eq o.decl.name name) os) (sym (parts_are_objects s items are.keeps.decls are.keeps.commands)) ∙ found_own name items
+      ∙ ap (option_map own_of) found_is in
       λ i. named_answer (are.version i) (own i)
 
   pub named_runs : IfSome found IsRunnable
   named_runs =
-      subst (λ o. IfSome o IsRunnable) (sym is)
+      subst (λ o. IfSome o IsRunnable) found_is
       (found_fact name IsRunnable script.kept.parts.items (parts_run s script.kept.parts.items are.keeps.decls are.keeps.commands are.valid))
 
   pub named_named : IfSome found (λ (p : Part). IsTrue (is_name p.decl.name))
   named_named =
-      subst (λ o. IfSome o (λ (p : Part). IsTrue (is_name p.decl.name))) (sym is)
+      subst (λ o. IfSome o (λ (p : Part). IsTrue (is_name p.decl.name))) found_is
       (found_fact name (λ (p : Part). IsTrue (is_name p.decl.name)) script.kept.parts.items (parts_named s script.kept.parts.items are.keeps.decls are.valid))
 
 -- ---- the run of its own commands
@@ -109,19 +115,22 @@ run_all_of commands k o all has =
 
 -- ---- the file of an object that ran them
 
-pub file_is : (o : ObjectMeaning) (part : Part) → HasRun part.commands o → o.heap.quota ≡ part.decl.quota
+file_is : (o : ObjectMeaning) (part : Part) → HasRun part.commands o → o.heap.quota ≡ part.decl.quota
     → file_of_logs part.decl.name part.decl.quota o.heap.version o.chain ≡ own_file o.heap.version (own_of part)
 file_is o part has quota =
     let logs : o.chain.logs ≡ _ = ap (λ (s : ObjectState). s.logs) has.object in
     (λ i. file_of_logs part.decl.name (sym quota i) o.heap.version (record o.chain { base_logs = has.base_logs i; logs = logs i }))
     ∙ (λ i. own_file o.heap.version (record { decl = record part.decl { quota = quota i }; commands = part.commands }))
 
-pub long_file : (file : List ℕ) → MOST_INPUT_BYTES < length file → file_answer file ≡ fault_answer 0 bad.TooLong
-long_file file long =
-    let test : nat_lt MOST_INPUT_BYTES (length file) ≡ true = grind (arith, nat_tests) in
-    cond-true {A = Answer} (nat_lt MOST_INPUT_BYTES (length file)) (fault_answer 0 bad.TooLong) (record { status = 0; text = file }) test
-
-pub fit_file : (file : List ℕ) → length file ≤ MOST_INPUT_BYTES → file_answer file ≡ record { status = 0; text = file }
+fit_file : (file : List ℕ) → length file ≤ MOST_INPUT_BYTES → file_answer file ≡ record { status = 0; text = file }
 fit_file file fits =
     let test : nat_lt MOST_INPUT_BYTES (length file) ≡ false = grind (arith, nat_tests) in
     cond-false {A = Answer} (nat_lt MOST_INPUT_BYTES (length file)) (fault_answer 0 bad.TooLong) (record { status = 0; text = file }) test
+
+-- the file that is written of such an object is the answer, where it is no longer than an input may be
+pub saved_is : (o : ObjectMeaning) (part : Part) (version : Version) (chain : ChainMeaning) → HasRun part.commands o → o.heap.quota ≡ part.decl.quota
+    → version ≡ o.heap.version → chain ≡ o.chain → length (file_of_logs part.decl.name part.decl.quota o.heap.version o.chain) ≤ MOST_INPUT_BYTES
+    → file_answer (own_file o.heap.version (own_of part)) ≡ record { status = 0; text = file_of_logs part.decl.name part.decl.quota version chain }
+saved_is o part version chain has quota same_version same_chain short =
+    ap file_answer (sym (file_is o part has quota)) ∙ fit_file (file_of_logs part.decl.name part.decl.quota o.heap.version o.chain) short
+    ∙ (λ i. record { status = 0; text = file_of_logs part.decl.name part.decl.quota (sym same_version i) (sym same_chain i) })

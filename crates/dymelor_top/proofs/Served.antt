@@ -1,9 +1,10 @@
 -- From what the parts of a top call do to the headline.
-use Rattle.std.proofs.Common.{◌≡◌, ℕ, ◌+◌, ◌<◌, ◌≤◌, ◌⊎◌, inl, inr, Bool, true, false, cond, List, [], ◌++◌, length, drop, nat_lt, Option, Some, None, IfSome, Result, Ok, Err, IsErr, IsErrAnd, IsErrOf, IfOk, MatchBool, refl, sym, ap, subst, ◌∙◌, append-nil, length-append, arith}
+use Rattle.std.proofs.Common.{◌≡◌, ℕ, ◌+◌, ◌<◌, ◌≤◌, ◌⊎◌, inl, inr, Bool, true, false, List, [], ◌++◌, length, drop, nat_lt, Option, Some, None, IfSome, Result, Ok, Err, IsErr, IsErrAnd, IfOk, MatchBool, refl, sym, ap, subst, ◌∙◌, append-nil, length-append, arith}
 use Rattle.std.specs.Option.{OnSome}
 use Rattle.std.specs.Prelude.{⊤, OnOk}
 use Rattle.std.proofs.Math.ListN.{drop_of_length-le}
 use Rattle.std.proofs.Math.Seq.{drop-append_seam}
+use Rattle.std.proofs.lemmas.Bool.{cond-true}
 use Rattle.std.proofs.lemmas.Bool.Decides.{nat_tests}
 use Rattle.std.specs.Io.KnownBytes.{Consumes, Keeps}
 use Rattle.std.proofs.KnownBytes.{Consumes-nil, Keeps-refl}
@@ -11,28 +12,31 @@ use Rattle.dym_base.specs.declared.limits.TheConstants.{MOST_INPUT_BYTES}
 use Rattle.dym_base.specs.declared.bad_kind.BadKind.TheVariants as bad
 use Rattle.dym_io.specs.Faults.{Rose, RoseOnce}
 use Rattle.dym_io.specs.Source.{IsEndOrLimit, TookAtMost}
-use Rattle.dym_io.specs.Sink.{Output, Appended, AppendedFront, Stopped, Blames, AllFlushed}
+use Rattle.dym_io.specs.Sink.{Output, Appended, AppendedFront, Stopped, AllFlushed}
 use Rattle.dym_io.specs.Laws.{appends_kept, appended_nothing, front_of_appended, once_rose, rose_later}
 use Rattle.dym_base.specs.Lines.{lines_of}
 use Rattle.dym_script.specs.Late.{late_of, late_lines, late_start}
 use Rattle.dym_script.specs.Scripts.{Said, Fault, script_of, read_lines, start}
-use Rattle.dym_trace.specs.declared.answer.TraceAnswer.{TraceAnswer}
-use Rattle.dym_trace.specs.Verdict.{IsVerdict}
 use Rattle.dym_trace.proofs.Once.{one_verdict}
+use Rattle.dym_words.proofs.Within.{orders_are_within}
+use Rattle.dym_words.specs.Laws.{IsWithin}
+use Rattle.dym_words.specs.Orders.{order}
+use Rattle.dym_words.specs.declared.order.Order.{Order}
+use Rattle.dym_words.specs.declared.order.Usage.{Usage}
+use Rattle.dymelor_top.specs.Plans.{IsPlanWithin}
 use Rattle.dymelor_top.specs.declared.plan.Reading.{Reading}
 use Rattle.dymelor_top.specs.declared.plan.Reading.TheVariants as reading
 use Rattle.dymelor_top.specs.declared.plan.Plan.{Plan}
 use Rattle.dymelor_top.specs.declared.plan.Plan.TheVariants as plan
 use Rattle.dymelor_top.specs.declared.plan.WaveText.{WaveText}
 use Rattle.dym_report.specs.declared.write_fail.WriteFail.{WriteFail}
-use Rattle.dym_report.specs.declared.write_fail.WriteFail.TheVariants as fail
 use Rattle.dymelor_top.specs.declared.stop.Stop.{Stop}
 use Rattle.dymelor_top.specs.declared.stop.Stop.TheVariants as stop
-use Rattle.dymelor_top.specs.Stops.{stop_status, status_of}
+use Rattle.dymelor_top.specs.Stops.{stop_status, status_of, StopCauses}
 use Rattle.dym_report.specs.Report.{report_text}
 use Rattle.dym_report.specs.Summary.{summary_of}
-use Rattle.dymelor_top.specs.Answers.{Answer, fault_answer, of_script, waves_text, of_waves, counts_of, of_verdict, IsJudged, IsTraceAnswer, saved_answer, IsLoadedText, IsPartFault, of_late, IsRead, IsInWaves, IsAnswer, input_bytes, reads}
-use Rattle.dymelor_top.specs.Headline.{Input, IsInput, WroteFront, WroteAll, WasRead, Serves, Writes, WritesSo, PlanHeadline}
+use Rattle.dymelor_top.specs.Answers.{Answer, fault_answer, of_script, waves_text, of_waves, counts_of, of_verdict, IsJudged, saved_answer, IsLoadedText, IsPartFault, of_late, IsRead, IsInWaves, IsAnswer, input_bytes, reads}
+use Rattle.dymelor_top.specs.Headline.{Input, IsInput, WroteFront, WroteAll, WasRead, Serves, Writes, WritesSo, WritesAnswer, PlanHeadline}
 use Rattle.dymelor_top.proofs.FileAnswers.{one_loaded}
 
 -- What was written
@@ -80,16 +84,14 @@ stopped_as asked r bytes a b result is err front =
 
 -- What was read
 
-cut_true : {A : Type 0} (b : Bool) (x y : A) → b ≡ true → cond b x y ≡ x
-cut_true true x y is = refl
-cut_true false x y is = absurd (cc)
+test_long : (bytes : List ℕ) → MOST_INPUT_BYTES < length bytes → nat_lt MOST_INPUT_BYTES (length bytes) ≡ true
+test_long bytes long = grind (arith, nat_tests)
 
 -- an input that is too long has one verdict, whatever its bytes
 pub too_long : (bytes : List ℕ) → MOST_INPUT_BYTES < length bytes → script_of bytes ≡ Err (record { line = 0; kind = bad.TooLong })
 unfolding script_of
 too_long bytes long =
-    let test : nat_lt MOST_INPUT_BYTES (length bytes) ≡ true = grind (arith, nat_tests) in
-    cut_true (nat_lt MOST_INPUT_BYTES (length bytes)) (Err (record { line = 0; kind = bad.TooLong })) (read_lines start 1 (lines_of bytes)) test
+    cond-true (nat_lt MOST_INPUT_BYTES (length bytes)) (Err (record { line = 0; kind = bad.TooLong })) (read_lines start 1 (lines_of bytes)) (test_long bytes long)
 
 drop_front : (n : ℕ) (xs ys : List ℕ) → length xs ≡ n → drop n (xs ++ ys) ≡ ys
 drop_front n xs ys is = ap (λ k. drop k (xs ++ ys)) (sym is) ∙ drop-append_seam xs ys
@@ -128,9 +130,6 @@ module _ (old new : Option (List ℕ)) (read all : List ℕ) (known : old ≡ So
   pub input_same : SameVerdict read all
   input_same = (read_whole_input (MOST_INPUT_BYTES + 1) old new read all refl known taken within end).1
 
-test_long : (bytes : List ℕ) → MOST_INPUT_BYTES < length bytes → nat_lt MOST_INPUT_BYTES (length bytes) ≡ true
-test_long bytes long = grind (arith, nat_tests)
-
 -- so both have the same answers
 same_script : (f : Result Said Fault → Answer) (read all : List ℕ) (answer : Answer) → SameVerdict read all → answer ≡ f (script_of read) → answer ≡ f (script_of all)
 same_script f read all answer (inl same) is = is ∙ ap (λ l. f (script_of l)) same
@@ -140,7 +139,7 @@ same_script f read all answer (inr long) is = is ∙ ap f (too_long read long.0 
 too_long_late : (bytes : List ℕ) → MOST_INPUT_BYTES < length bytes → late_of bytes ≡ Err (record { line = 0; kind = bad.TooLong })
 unfolding late_of
 too_long_late bytes long =
-    cut_true (nat_lt MOST_INPUT_BYTES (length bytes)) (Err (record { line = 0; kind = bad.TooLong })) (late_lines late_start 1 (lines_of bytes)) (test_long bytes long)
+    cond-true (nat_lt MOST_INPUT_BYTES (length bytes)) (Err (record { line = 0; kind = bad.TooLong })) (late_lines late_start 1 (lines_of bytes)) (test_long bytes long)
 
 same_late : (read all : List ℕ) (answer : Answer) → SameVerdict read all → answer ≡ of_late (late_of read) → answer ≡ of_late (late_of all)
 same_late read all answer (inl same) is = is ∙ ap (λ l. of_late (late_of l)) same
@@ -173,8 +172,14 @@ same_answer reading.Late read all answer same is = same_late read all answer sam
 pub same_waves : (n : ℕ) (text : WaveText) (read all : List ℕ) (answer : Answer) → SameVerdict read all → IsInWaves n text read answer → IsInWaves n text all answer
 same_waves n text read all answer same is = same_script (of_waves n (waves_text text)) read all answer same is
 
-pub same_back : (r : Reading) (read all : List ℕ) (answer : Answer) → SameVerdict read all → IsRead r all answer → IsRead r read answer
-same_back r read all answer same is = same_answer r all read answer (turned read all same) is
+-- so what a call wrote of what it read, as it was asked to, it wrote of the whole input
+module _ (asked r : Reading) (read all : List ℕ) (a b : Output) (is : asked ≡ r) (same : SameVerdict read all) where
+  pub answered_whole : (status : ℕ) → (x : Answer) × IsRead r read x × (status ≡ x.status) × Appended a b x.text
+      → (x : Answer) × IsRead asked all x × (status ≡ x.status) × Appended a b x.text
+  answered_whole status w = answered_as asked r all a b status is w.0 (same_answer r read all w.0 same w.1) w.2 w.3
+
+  pub stopped_whole : (result : Result ℕ Stop) → IsErr result → ((x : Answer) → IsRead r read x → AppendedFront a b x.text) → WritesSo (IsRead asked all) a b result
+  stopped_whole result err front = stopped_as asked r all a b result is err (λ x of_x. front x (same_answer r all read x (turned read all same) of_x))
 
 -- The headline
 
@@ -260,16 +265,18 @@ pub took_nothing : (most : ℕ) (left : Option (List ℕ)) → TookAtMost most l
 took_nothing most left = record { got = []; taken = Consumes-nil left; few = omega arith }
 
 -- a count that stays at 0 didn't rise
-pub never_once : ¬ RoseOnce 0 0
+never_once : ¬ RoseOnce 0 0
 never_once (inl e) = omega (arith, e)
 never_once (inr e) = omega (arith, e.0)
 
--- what the counts tell of why a call stopped
-pub record StopCauses (old new : Input) (a b : Output) (stopped : Stop) : Type 0 where
-  pub source : stopped ≡ stop.Source → RoseOnce old.faults new.faults × (b ≡ a)
-  pub source_stands : ¬ (stopped ≡ stop.Source) → new.faults ≡ old.faults
-  pub sink : stopped ≡ stop.Sink → RoseOnce a.faults b.faults
-  pub sink_stands : ¬ (stopped ≡ stop.Sink) → b.faults ≡ a.faults
+-- so a source that never fails is no cause
+pub no_source : (n : ℕ) (a b : Output) (r : Result ℕ Stop) → StopCauses 0 0 a b r → StopCauses n n a b r
+no_source n a b r causes = record {
+  source = λ is. absurd (never_once (causes.source is).0);
+  source_stands = λ other. refl;
+  sink = causes.sink;
+  sink_stands = causes.sink_stands;
+}
 
 source_of : (stopped : Stop) → stop_status stopped ≡ 3 → stopped ≡ stop.Source
 source_of stop.Source is = refl
@@ -286,30 +293,16 @@ high_status stop.Source = (omega arith, omega arith)
 high_status stop.Sink = (omega arith, omega arith)
 high_status stop.Memory = (omega arith, omega arith)
 
-abbrev err_of : Result ℕ Stop → Stop
-err_of (Ok status) = stop.Memory
-err_of (Err stopped) = stopped
-
-sink_alone : {P : Type 0} → stop.Sink ≡ stop.Source → P
-sink_alone is = absurd (cc)
-
-memory_no_source : {P : Type 0} → stop.Memory ≡ stop.Source → P
-memory_no_source is = absurd (cc)
-
-memory_no_sink : {P : Type 0} → stop.Memory ≡ stop.Sink → P
-memory_no_sink is = absurd (cc)
-
 -- one call on the source failed, and nothing was written
-source_only : (old new : Input) (a b : Output) (stopped : Stop) → StopCauses old new a b stopped → stop_status stopped ≡ 3
-    → RoseOnce old.faults new.faults × Appended a b []
+source_only : (old new : ℕ) (a b : Output) (stopped : Stop) → StopCauses old new a b (Err stopped) → stop_status stopped ≡ 3 → RoseOnce old new × Appended a b []
 source_only old new a b stopped causes is =
-    let why = causes.source (source_of stopped is) in
+    let why = causes.source (ap Err (source_of stopped is)) in
     (why.0, subst (λ o. Appended a o []) (sym why.1) (appended_nothing a))
 
 -- where neither the source nor the sink failed, memory ran out
-completes : (old new : Input) (a b : Output) (stopped : Stop) → StopCauses old new a b stopped → ¬ Rose old.faults new.faults → ¬ Rose a.faults b.faults
+completes : (old new : ℕ) (a b : Output) (stopped : Stop) → StopCauses old new a b (Err stopped) → ¬ Rose old new → ¬ Rose a.faults b.faults
     → (stop_status stopped ≤ 2) ⊎ (stop_status stopped ≡ 5)
-completes old new a b stop.Source causes calm still = absurd (calm (once_rose old.faults new.faults (causes.source refl).0))
+completes old new a b stop.Source causes calm still = absurd (calm (once_rose old new (causes.source refl).0))
 completes old new a b stop.Sink causes calm still = absurd (still (once_rose a.faults b.faults (causes.sink refl)))
 completes old new a b stop.Memory causes calm still = inr refl
 
@@ -350,14 +343,14 @@ module _ (p : Plan) (old new : Input) (a b : Output) where
   pub stopped_so : (stopped : Stop) → MayStop p stopped
       → ((bytes : List ℕ) → IsInput (reads p) old bytes → (x : Answer) → IsAnswer p bytes x → WroteFront a b x.text)
       → TookAtMost (MOST_INPUT_BYTES + 1) old.left new.left → (reads p ≡ false → Keeps old.left new.left × (new.faults ≡ old.faults))
-      → StopCauses old new a b stopped → PlanHeadline p old new a b (stop_status stopped)
+      → StopCauses old.faults new.faults a b (Err stopped) → PlanHeadline p old new a b (stop_status stopped)
   stopped_so stopped may front bounded unread causes =
       let high = high_status stopped in
       record {
         answered = λ bytes known. record {
           prefix = front bytes known;
           whole = λ le. absurd (omega (arith, high.0, le));
-          complete = completes old new a b stopped causes;
+          complete = completes old.faults new.faults a b stopped causes;
         };
         bounded = bounded;
         read = λ le. absurd (omega (arith, high.0, le));
@@ -365,10 +358,10 @@ module _ (p : Plan) (old new : Input) (a b : Output) where
         usage = λ is. absurd (omega (arith, high.0, is));
         only_usage = usage_stopped p stopped may;
         made = made_stopped p stopped may;
-        source = λ is. source_only old new a b stopped causes is;
-        sink = λ is. causes.sink (sink_of stopped is);
-        source_stands = λ other. causes.source_stands (λ is. other (ap stop_status is));
-        sink_stands = λ other. causes.sink_stands (λ is. other (ap stop_status is));
+        source = source_only old.faults new.faults a b stopped causes;
+        sink = λ is. causes.sink (ap Err (sink_of stopped is));
+        source_stands = λ other. causes.source_stands (λ is. other (ap status_of is));
+        sink_stands = λ other. causes.sink_stands (λ is. other (ap status_of is));
         known = high.1;
       }
 
@@ -377,17 +370,10 @@ module _ (p : Plan) (old new : Input) (a b : Output) where
       → ((bytes : List ℕ) → IsInput (reads p) old bytes → Serves (IsAnswer p bytes) a b r)
       → TookAtMost (MOST_INPUT_BYTES + 1) old.left new.left → OnOk r (WasRead (reads p) old new)
       → (reads p ≡ false → Keeps old.left new.left × (new.faults ≡ old.faults))
-      → (IsErrOf r stop.Source → RoseOnce old.faults new.faults × (b ≡ a)) → (¬ IsErrOf r stop.Source → new.faults ≡ old.faults)
-      → (IsErrOf r stop.Sink → RoseOnce a.faults b.faults) → (¬ IsErrOf r stop.Sink → b.faults ≡ a.faults) → PlanHeadline p old new a b (status_of r)
-  ended (Ok status) fits may served bounded read unread source source_stands sink sink_stands =
-      whole status fits served bounded read (λ is. (unread is).0) (source_stands (λ is. absurd (cc))) (sink_stands (λ is. absurd (cc)))
-  ended (Err stopped) fits may served bounded read unread source source_stands sink sink_stands =
-      stopped_so stopped (may stopped) served bounded unread (record {
-        source = λ s. source (ap Err s);
-        source_stands = λ other. source_stands (λ e. other (ap err_of e));
-        sink = λ s. sink (ap Err s);
-        sink_stands = λ other. sink_stands (λ e. other (ap err_of e));
-      })
+      → StopCauses old.faults new.faults a b r → PlanHeadline p old new a b (status_of r)
+  ended (Ok status) fits may served bounded read unread causes =
+      whole status fits served bounded read (λ is. (unread is).0) (causes.source_stands (λ is. absurd (cc))) (causes.sink_stands (λ is. absurd (cc)))
+  ended (Err stopped) fits may served bounded read unread causes = stopped_so stopped (may stopped) served bounded unread causes
 
 -- what a call read of its source, or of none
 pub was_read : (old new : Input) (r : Result ℕ Stop) → ((bytes : List ℕ) → old.left ≡ Some bytes → OnOk r (new.left ≡ Some (drop (MOST_INPUT_BYTES + 1) bytes)))
@@ -409,9 +395,9 @@ wanting p source a (Ok status) is may = absurd is
 wanting p source a (Err stopped) is may =
     stopped_so p source source a a stopped (may stopped) (λ bytes known x of_x. front_wrote a a x.text (front_of_appended a a [] x.text (appended_nothing a)))
     (took_nothing (MOST_INPUT_BYTES + 1) source.left) (λ none. unread source) (record {
-      source = λ other. memory_no_source (sym is ∙ other);
+      source = λ other. absurd (cc);
       source_stands = λ other. refl;
-      sink = λ other. memory_no_sink (sym is ∙ other);
+      sink = λ other. absurd (cc);
       sink_stands = λ other. refl;
     })
 
@@ -427,10 +413,10 @@ module _ (p : Plan) (source : Input) (x : Answer) (none : reads p ≡ false) (is
   given_stopped a b (Err stopped) cause front rose =
       stopped_so p source source a b stopped (subst (MayStop p) (sym cause) may) (λ bytes known. given_front a b front bytes)
       (took_nothing (MOST_INPUT_BYTES + 1) source.left) (λ none. unread source) (record {
-        source = λ other. sink_alone (sym cause ∙ other);
+        source = λ other. absurd (cc);
         source_stands = λ other. refl;
-        sink = λ other. rose;
-        sink_stands = λ other. absurd (other cause);
+        sink = λ is. rose;
+        sink_stands = λ other. absurd (other (ap Err cause));
       })
 
   -- the sink stopped it
@@ -450,41 +436,18 @@ module _ (p : Plan) (source : Input) (x : Answer) (none : reads p ≡ false) (is
       (took_nothing (MOST_INPUT_BYTES + 1) source.left) (subst (λ b. WasRead b source source) (sym none) tt) (λ none. Keeps-refl source.left)
       refl (calm ∙ done.faults)
 
+-- the plan of a command line is within the limits
+pub words_within : (words : List (List ℕ)) (read : Result Order Usage) (p q : Plan) → read ≡ order words → (IfOk read IsWithin → IsPlanWithin p) → p ≡ q → IsPlanWithin q
+words_within words read p q is within same = subst IsPlanWithin same (within (subst (λ r. IfOk r IsWithin) (sym is) (orders_are_within words)))
+
 -- the headline of the plan that an order has
 pub planned : (p q : Plan) (old new : Input) (a b : Output) (r : Result ℕ Stop) (status : ℕ) → p ≡ q → status ≡ status_of r
     → PlanHeadline p old new a b (status_of r) → PlanHeadline q old new a b status
 planned p q old new a b r status is same headline = subst (λ x. PlanHeadline x old new a b status) is (subst (PlanHeadline p old new a b) (sym same) headline)
 
--- Traces
-
-pub too_long_trace : (bytes : List ℕ) → MOST_INPUT_BYTES < length bytes → IsTraceAnswer bytes (fault_answer 0 bad.TooLong)
-too_long_trace bytes long =
-    let P : Bool → Type 0 = λ b. MatchBool b (fault_answer 0 bad.TooLong ≡ fault_answer 0 bad.TooLong) (IsJudged bytes (fault_answer 0 bad.TooLong)) in
-    subst P (sym (test_long bytes long)) refl
-
-pub judged_trace : (bytes : List ℕ) (v : TraceAnswer) → length bytes ≤ MOST_INPUT_BYTES → IsVerdict bytes v → IsTraceAnswer bytes (of_verdict v)
-judged_trace bytes v short right =
-    let test : nat_lt MOST_INPUT_BYTES (length bytes) ≡ false = grind (arith, nat_tests) in
-    let P : Bool → Type 0 = λ b. MatchBool b (of_verdict v ≡ fault_answer 0 bad.TooLong) (IsJudged bytes (of_verdict v)) in
-    subst P (sym test) (record { verdict = v; right = right; is = refl })
-
--- the text of the one answer was written, or a front of it
-pub trace_written : (bytes : List ℕ) (a b : Output) (status : ℕ) (v : TraceAnswer) (x : Answer) → length bytes ≤ MOST_INPUT_BYTES → IsVerdict bytes v → of_verdict v ≡ x
-    → status ≡ x.status → Appended a b x.text → (y : Answer) × IsTraceAnswer bytes y × (status ≡ y.status) × Appended a b y.text
-trace_written bytes a b status v x short right is same done =
-    (x, subst (IsTraceAnswer bytes) is (judged_trace bytes v short right), same, done)
-
--- where the call stopped, a front of the one answer was written
-pub one_stopped : (Is : Answer → Type 0) → ((x y : Answer) → Is x → Is y → x ≡ y) → (a b : Output) (r : Result ℕ WriteFail) (x : Answer) → Is x
-    → IsErrAnd r (λ e. e ≡ fail.Sink) → Stopped a b x.text → Writes Is a b r
-one_stopped Is one a b (Ok status) x is err stopped = absurd err
-one_stopped Is one a b (Err e) x is err stopped = (
-  λ y of_y. subst (λ (z : Answer). AppendedFront a b z.text) (one x y is of_y) stopped.front,
-  subst (λ x. Blames (x ≡ fail.Sink) a b) (sym err) (λ _. stopped.rose, λ other. absurd (other refl)),
-)
-
-pub trace_stopped : (bytes : List ℕ) (a b : Output) (r : Result ℕ WriteFail) (v : TraceAnswer) (x : Answer) → length bytes ≤ MOST_INPUT_BYTES → IsVerdict bytes v
-    → of_verdict v ≡ x
-    → IsErrAnd r (λ e. e ≡ fail.Sink) → Stopped a b x.text → Writes (IsTraceAnswer bytes) a b r
-trace_stopped bytes a b r v x short right is err stopped =
-    one_stopped (IsTraceAnswer bytes) (one_read reading.Trace bytes) a b r x (subst (IsTraceAnswer bytes) is (judged_trace bytes v short right)) err stopped
+-- where the answer that is given is one to an input, a call that writes it writes whatever answer the input has
+pub one_written : (r : Reading) (bytes : List ℕ) (a b : Output) (result : Result ℕ WriteFail) (x : Answer) → IsRead r bytes x → WritesAnswer x a b result
+    → Writes (IsRead r bytes) a b result
+one_written r bytes a b (Ok status) x is written = (x, is, written.0, written.1)
+one_written r bytes a b (Err e) x is written =
+    (λ y of_y. subst (λ (z : Answer). AppendedFront a b z.text) (one_read r bytes x y is of_y) written.0, written.1)

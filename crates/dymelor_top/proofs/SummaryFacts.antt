@@ -1,11 +1,10 @@
 -- What objects come to, counted one after another.
-use Rattle.std.proofs.Common.{◌≡◌, ℕ, suc, ◌+◌, ◌<◌, ◌≤◌, cond, List, [], ◌∷◌, All, IfSome, length, map, filter, drop, get_or, slice_get, count_by, sum_by, refl, subst, sym, ap, ◌∙◌, ◌-◌, add-one, drop-cons, le_of_eq, ◌⊎◌, inl, inr, arith, ◌==◌}
+use Rattle.std.proofs.Common.{◌≡◌, ℕ, suc, ◌+◌, ◌<◌, ◌≤◌, cond, List, [], ◌∷◌, All, IfSome, length, map, filter, drop, slice_get, count_by, sum_by, refl, subst, sym, ap, ◌∙◌, ◌-◌, ◌⊎◌, inl, inr, arith, ◌==◌}
 use Rattle.std.specs.Prelude.{nat_le}
 use Rattle.std.specs.FinMap.{len}
 use Rattle.std.proofs.lemmas.Bool.{cases_order, cond-true, cond-false, eq-eqb, ne_eqb, le-leb, lt-leb}
 use Rattle.std.proofs.lemmas.List.Elements.{All-head, All-tail, All-weaker}
 use Rattle.std.proofs.lemmas.List.Sums.{sum_by-cons, length-filter}
-use Rattle.std.proofs.Math.ListN.{drop_of_length-le}
 use Rattle.std.proofs.lemmas.List.{length-map}
 use Rattle.dym_base.specs.RunLaws.{IsLogList, RunsKeepLogs}
 use Rattle.dym_base.specs.Objects.{LogEntry, ObjectState, ObjectAnswer, object_start, object_step, replies_from, object_after, slots}
@@ -27,7 +26,6 @@ use Rattle.dym_turn.specs.Turns.{Ran}
 use Rattle.dymelor_top.proofs.CommandFacts.{command_at, command_fact}
 use Rattle.dymelor_top.proofs.PartFacts.{OwnsFrom, owns_first, owns_later, owns_all, parts_are_objects}
 use Rattle.dym_report.specs.Summary.{is_refusal, tally_of, tally_with, both_tallies, tally_all, totals_with, totals_of}
-use Rattle.dym_report.proofs.Tallies.{tally_last, tally_regroup}
 
 -- ---- the commands of all objects are those of the lines
 
@@ -137,22 +135,6 @@ commands_of_parts script s are = commands_all s script.kept.parts.items are.keep
 -- after the first i parts were counted, what they come to with the others is what all come to
 abbrev pub Counted : Version → List Part → ℕ → Tally → Type 0
 Counted v parts i tally = both_tallies tally (tally_all v (map own_of (drop i parts))) ≡ tally_all v (map own_of parts)
-
-pub counted_more : (v : Version) (parts : List Part) (i : ℕ) (p : Part) (tally more new : Tally) → i < length parts → p ≡ get_or parts i p
-    → Counted v parts i tally → more ≡ tally_of v (own_of p) → new ≡ both_tallies tally more → Counted v parts (i + 1) new
-counted_more v parts i p tally more new within at counted is sum =
-    let rest : List Part = drop (i + 1) parts in
-    let cut : drop i parts ≡ p ∷ rest = rw (add-one, drop-cons parts i p within) (λ j. sym at j ∷ drop (suc i) parts) in
-    ap (λ t. both_tallies t (tally_all v (map own_of rest))) sum
-    ∙ tally_regroup tally more (tally_all v (map own_of rest))
-    ∙ ap (λ t. both_tallies tally (both_tallies t (tally_all v (map own_of rest)))) is
-    ∙ ap (λ ps. both_tallies tally (tally_all v (map own_of ps))) (sym cut)
-    ∙ counted
-
-pub counted_all : (v : Version) (parts : List Part) (i : ℕ) (tally : Tally) → length parts ≡ i → Counted v parts i tally → tally ≡ tally_all v (map own_of parts)
-counted_all v parts i tally all counted =
-    let none : drop i parts ≡ [] = drop_of_length-le parts (le_of_eq all) in
-    sym (tally_last tally) ∙ ap (λ ps. both_tallies tally (tally_all v (map own_of ps))) (sym none) ∙ counted
 
 -- the totals of a script's parts
 pub total_is : (script : WholeScript PartCollector) (s : Said) (tally : Tally) (objects : ℕ) → IsByObjects script s

@@ -1,5 +1,5 @@
 -- Objects that run in waves: the first that may hold more than there is room for, or that all of them fit; and which orders run so.
-use Rattle.std.proofs.Common.{◌≡◌, ℕ, ◌≤◌, Bool, true, false, cond, List, [], ◌∷◌, All, map, nat_lt, Option, Some, None, option_map, refl, sym, ap, ◌∙◌, arith}
+use Rattle.std.proofs.Common.{◌≡◌, ℕ, ◌≤◌, Bool, true, false, cond, List, [], ◌∷◌, All, map, nat_lt, Option, Some, None, option_map, refl, sym, ap, subst, ◌∙◌, arith}
 use Rattle.std.specs.List.{find}
 use Rattle.std.proofs.lemmas.Bool.Decides.{nat_tests}
 use Rattle.std.proofs.lemmas.List.Elements.{All-nil, All-cons}
@@ -18,7 +18,7 @@ fits_not_above segments quota is = grind (arith, nat_tests)
 
 module _ (segments : ℕ) where
   -- the part's object may hold more
-  abbrev pub is_above : Part → Bool
+  abbrev is_above : Part → Bool
   is_above part = nat_lt segments part.decl.quota
 
   above_decl : (parts : List Part) → first_above segments (map (λ (p : Part). p.decl) parts) ≡ option_map (λ (p : Part). p.decl) (find is_above parts)
@@ -43,35 +43,31 @@ no_part : (o : Option Part) → None ≡ option_map (λ (p : Part). p.decl.line)
 no_part None is = refl
 no_part (Some p) is = absurd (cc)
 
--- where no line was found, all objects fit
-pub all_fit : (segments : ℕ) (parts : List Part) → None ≡ option_map (λ (p : Part). p.decl.line) (find (is_above segments) parts)
-    → All (λ (p : Part). p.decl.quota ≤ segments) parts
-all_fit segments parts none = none_above segments parts (no_part (find (is_above segments) parts) none)
+told_line : (text : List ℕ) (o : Option Part) (line : ℕ) → Some line ≡ option_map (λ (p : Part). p.decl.line) o
+    → unless_above text (option_map (λ (p : Part). p.decl) o) ≡ fault_answer line bad.QuotaRange
+told_line text None line is = absurd (cc)
+told_line text (Some p) line is =
+    let same : p.decl.line ≡ line = cc in
+    ap (λ n. fault_answer n bad.QuotaRange) same
 
-module _ (segments : ℕ) (text : List ℕ) where
-  told_line : (o : Option Part) (line : ℕ) → Some line ≡ option_map (λ (p : Part). p.decl.line) o
-      → unless_above text (option_map (λ (p : Part). p.decl) o) ≡ fault_answer line bad.QuotaRange
-  told_line None line is = absurd (cc)
-  told_line (Some p) line is =
-      let same : p.decl.line ≡ line = cc in
-      ap (λ n. fault_answer n bad.QuotaRange) same
-
-  above_of_parts : (script : WholeScript PartCollector) (s : Said) → IsByObjects script s
-      → unless_above text (first_above segments s.objects) ≡ unless_above text (option_map (λ (p : Part). p.decl) (find (is_above segments) script.kept.parts.items))
-  above_of_parts script s are =
+-- the line of the first such object was looked for among these parts
+module _ (segments : ℕ) (script : WholeScript PartCollector) (s : Said) (parts : List Part) (line : Option ℕ) (are : IsByObjects script s)
+    (same : parts ≡ script.kept.parts.items) (found : line ≡ option_map (λ (p : Part). p.decl.line) (find (is_above segments) parts)) where
+  above_of_parts : (text : List ℕ)
+      → unless_above text (first_above segments s.objects) ≡ unless_above text (option_map (λ (p : Part). p.decl) (find (is_above segments) parts))
+  above_of_parts text =
       ap (λ ds. unless_above text (first_above segments ds)) (sym are.keeps.decls) ∙ ap (unless_above text) (above_decl segments script.kept.parts.items)
+      ∙ ap (λ ps. unless_above text (option_map (λ (p : Part). p.decl) (find (is_above segments) ps))) (sym same)
 
-  -- the answer where a line was found
-  pub above_answer : (script : WholeScript PartCollector) (s : Said) (line : ℕ) → IsByObjects script s
-      → Some line ≡ option_map (λ (p : Part). p.decl.line) (find (is_above segments) script.kept.parts.items)
-      → unless_above text (first_above segments s.objects) ≡ fault_answer line bad.QuotaRange
-  above_answer script s line are found =
-      above_of_parts script s are ∙ told_line (find (is_above segments) script.kept.parts.items) line found
+  -- where it was found, the answer tells of it
+  pub above_answer : (text : List ℕ) (n : ℕ) → line ≡ Some n → unless_above text (first_above segments s.objects) ≡ fault_answer n bad.QuotaRange
+  above_answer text n is = above_of_parts text ∙ told_line text (find (is_above segments) parts) n (sym is ∙ found)
 
-  -- and where none was
-  pub fitting_answer : (script : WholeScript PartCollector) (s : Said) → IsByObjects script s
-      → None ≡ option_map (λ (p : Part). p.decl.line) (find (is_above segments) script.kept.parts.items)
-      → unless_above text (first_above segments s.objects) ≡ record { status = 0; text = text }
-  fitting_answer script s are none =
-      above_of_parts script s are
-      ∙ ap (λ o. unless_above text (option_map (λ (p : Part). p.decl) o)) (no_part (find (is_above segments) script.kept.parts.items) none)
+  -- where it wasn't, all objects fit, and the answer is the text
+  pub all_fit : line ≡ None → All (λ (p : Part). p.decl.quota ≤ segments) script.kept.parts.items
+  all_fit is =
+      subst (All (λ (p : Part). p.decl.quota ≤ segments)) same (none_above segments parts (no_part (find (is_above segments) parts) (sym is ∙ found)))
+
+  pub fitting_answer : (text : List ℕ) → line ≡ None → unless_above text (first_above segments s.objects) ≡ record { status = 0; text = text }
+  fitting_answer text is =
+      above_of_parts text ∙ ap (λ o. unless_above text (option_map (λ (p : Part). p.decl) o)) (no_part (find (is_above segments) parts) (sym is ∙ found))

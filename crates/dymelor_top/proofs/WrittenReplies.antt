@@ -1,5 +1,5 @@
 -- Replies whose lines are written, or wait on a page.
-use Rattle.std.proofs.Common.{◌≡◌, ℕ, ◌+◌, ◌<◌, IfSome, length, drop, slice_get, List, [], ◌∷◌, ◌++◌, flat_map, refl, sym, ap, ◌∙◌, append_assoc, append-nil}
+use Rattle.std.proofs.Common.{◌≡◌, ℕ, ◌+◌, ◌<◌, IfSome, length, drop, slice_get, List, [], ◌∷◌, ◌++◌, flat_map, sym, ap, ◌∙◌, append_assoc, append-nil}
 use Rattle.dym_base.specs.Objects.{ObjectState, ObjectAnswer, object_step, replies_from, object_after}
 use Rattle.dym_base.specs.declared.command.Version.{Version}
 use Rattle.dym_base.specs.declared.command.Command.{Command}
@@ -7,7 +7,7 @@ use Rattle.dym_base.specs.declared.reply.Reply.{Reply}
 use Rattle.dym_heap.specs.Meaning.{HeapMeaning}
 use Rattle.dym_object.specs.Meaning.{ObjectMeaning, state_of, step_by}
 use Rattle.dym_io.specs.Sink.{Output, Appended, Stopped, Leaves}
-use Rattle.dym_io.specs.Laws.{leaves_all, leaves_same, leaves_cut, leaves_more, leaves_nothing}
+use Rattle.dym_io.specs.Laws.{leaves_same, leaves_cut, leaves_more, leaves_nothing}
 use Rattle.dym_report.specs.Replies.{reply_line}
 use Rattle.dym_report.proofs.PageLines.{leaves_within}
 use Rattle.dym_turn.specs.Turns.{Ran}
@@ -24,12 +24,6 @@ pub record Written (start now : ObjectMeaning) (commands rest : List Command) (p
   pub leaves : Leaves old new (lines_of start.heap.version start.heap.quota (state_of start) commands)
       (page ++ lines_of start.heap.version start.heap.quota (state_of now) rest)
   pub ends : object_after start.heap.version start.heap.quota (state_of now) rest ≡ object_after start.heap.version start.heap.quota (state_of start) commands
-
--- nothing is written yet
-pub written_none : (start : ObjectMeaning) (commands : List Command) (page : List ℕ) (old : Output) → page ≡ [] → Written start start commands commands page old old
-written_none start commands page old none =
-    let text : List ℕ = lines_of start.heap.version start.heap.quota (state_of start) commands in
-    record { version = refl; quota = refl; leaves = leaves_same old old text text _ (leaves_all old text) (ap (λ l. l ++ text) (sym none)); ends = refl }
 
 module _ (start now : ObjectMeaning) (commands rest after : List Command) (c : Command) (page : List ℕ) (reply : Reply) (old mid new : Output)
     (w : Written start now commands rest page old mid) (cut : rest ≡ c ∷ after) (replied : reply ≡ (step_by now c).reply) where

@@ -8,10 +8,6 @@ use Rattle.dym_io.specs.Laws.{appended_both, front_after, front_within}
 pub one_more : {X : Type 0} → (all before rest others : List X) (x : X) → all ≡ before ++ rest → rest ≡ x ∷ others → all ≡ (before ++ x ∷ []) ++ others
 one_more all before rest others x whole cut = whole ∙ ap (λ l. before ++ l) cut ∙ sym (append_assoc before (x ∷ []) others)
 
--- none is left
-pub all_taken : {X : Type 0} → (all before rest : List X) → all ≡ before ++ rest → rest ≡ [] → all ≡ before
-all_taken all before rest whole none = whole ∙ ap (λ l. before ++ l) none ∙ append-nil before
-
 -- the texts of those that were taken are written, and that of one more
 pub text_more : {X : Type 0} → (f : X → List ℕ) (before : List X) (x : X) (a b c : Output) → Appended a b (flat_map f before) → Appended b c (f x)
     → Appended a c (flat_map f (before ++ x ∷ []))

@@ -1,5 +1,7 @@
 -- Why a top call stops, and the status that tells of it.
-use Rattle.std.specs.Prelude.{ℕ, Result, Ok, Err}
+use Rattle.std.specs.Prelude.{◌≡◌, ℕ, Result, Ok, Err, IsErrOf}
+use Rattle.dym_io.specs.Faults.{RoseOnce}
+use Rattle.dym_io.specs.Sink.{Output}
 use Rattle.dym_io.specs.declared.whole_input.ReadFail.{ReadFail}
 use Rattle.dym_io.specs.declared.whole_input.ReadFail.TheVariants as read
 use Rattle.dym_report.specs.declared.write_fail.WriteFail.{WriteFail}
@@ -24,3 +26,12 @@ of_read read.Memory = stop.Memory
 abbrev pub of_write : WriteFail → Stop
 of_write write.Sink = stop.Sink
 of_write write.Memory = stop.Memory
+
+-- what the counts of faults of a source and a sink tell of why a call stopped
+pub record StopCauses (old new : ℕ) (sink_old sink_new : Output) (result : Result ℕ Stop) : Type 0 where
+  -- where the source is the cause, one call on it failed, and nothing was written; else none failed
+  pub source : IsErrOf result stop.Source → RoseOnce old new × (sink_new ≡ sink_old)
+  pub source_stands : ¬ IsErrOf result stop.Source → new ≡ old
+  -- where the sink is, one call on it failed; else none failed
+  pub sink : IsErrOf result stop.Sink → RoseOnce sink_old.faults sink_new.faults
+  pub sink_stands : ¬ IsErrOf result stop.Sink → sink_new.faults ≡ sink_old.faults

@@ -1,15 +1,14 @@
 //! What is made of an input that was read.
-ghost use Rattle.std.specs.Prelude.{◌≡◌, ◌⊎◌, ◌+◌, ℕ, List, Some, drop, Result, IfOk, OnOk, IsErrOf};
+ghost use Rattle.std.specs.Prelude.{◌≡◌, ◌⊎◌, ◌+◌, ℕ, List, Some, drop, Result, IfOk, OnOk};
 ghost use Rattle.dym_base.specs.declared.limits.TheConstants.{MOST_INPUT_BYTES};
-ghost use Rattle.dym_io.specs.Faults.{RoseOnce};
 ghost use Rattle.dym_io.specs.Source.{TookAtMost};
 ghost use Rattle.dym_script.specs.Scripts.{Said, Fault};
 ghost use Rattle.dym_script.specs.ByObjects.{GivesParts, GivesCounts};
 ghost use Rattle.dym_report.specs.Report.{report_text};
 ghost use Rattle.dym_report.specs.Summary.{summary_of};
-ghost use Rattle.dymelor_top.specs.Answers.{of_script, counts_of, IsRead, IsTraceAnswer};
+ghost use Rattle.dymelor_top.specs.Answers.{of_script, counts_of, of_verdict, IsRead, IsTraceAnswer};
 ghost use Rattle.dymelor_top.specs.Headline.{Writes, WritesSo, WritesAnswer, Counted};
-ghost use Rattle.dymelor_top.specs.declared.stop.Stop.TheVariants.{Source as SourceStopped, Sink as SinkStopped};
+ghost use Rattle.dymelor_top.specs.Stops.{StopCauses};
 
 use crate::blocks::read_source;
 use crate::late::answer_late;
@@ -42,15 +41,8 @@ pub fn answer_source<R: Source, W: Sink>(
         → OnOk result (R.left source.new ≡ Some (drop (MOST_INPUT_BYTES + 1) bytes)) }
     ensures status { IfOk result (λ status. (status ≡ 0) ⊎ (status ≡ 2)) }
     ensures bounded { TookAtMost (MOST_INPUT_BYTES + 1) (R.left source.old) (R.left source.new) }
-    ensures source_fault { IsErrOf result SourceStopped
-        → RoseOnce (R.faults source.old) (R.faults source.new)
-        × (W.output sink.new ≡ W.output sink.old) }
-    ensures source_stands { ¬ IsErrOf result SourceStopped
-        → R.faults source.new ≡ R.faults source.old }
-    ensures sink_fault { IsErrOf result SinkStopped
-        → RoseOnce (W.output sink.old).faults (W.output sink.new).faults }
-    ensures sink_stands { ¬ IsErrOf result SinkStopped
-        → (W.output sink.new).faults ≡ (W.output sink.old).faults }
+    ensures causes { StopCauses (R.faults source.old) (R.faults source.new)
+        (W.output sink.old) (W.output sink.new) result }
 {
     match reading {
         Reading::Report => {
@@ -175,7 +167,17 @@ fn answer_trace<W: Sink>(alloc: Global, bytes: Vec<u8>, sink: &mut W) -> Result<
         write_error(sink, 0, BadKind::TooLong)?;
         return Ok(2);
     }
-    match check_trace(alloc, &bytes)? {
+    let verdict = check_trace(alloc, &bytes)?;
+    write_verdict(verdict, sink)
+}
+
+/// Writes how many events a good trace has, or the line of the first that is no step.
+fn write_verdict<W: Sink>(verdict: TraceAnswer, sink: &mut W) -> Result<u8, WriteFail>
+    ensures answered { WritesAnswer (of_verdict verdict) (W.output sink.old) (W.output sink.new)
+        result }
+    ensures status { IfOk result (λ status. (status ≡ 0) ⊎ (status ≡ 2)) }
+{
+    match verdict {
         TraceAnswer::Good { events } => {
             write_events(sink, events)?;
             Ok(0)

@@ -2,7 +2,7 @@
 ghost use Rattle.std.specs.Prelude.{◌≡◌, IfOk};
 ghost use Rattle.dym_words.specs.Laws.{IsWithin};
 ghost use Rattle.dym_words.specs.declared.order.Input.TheVariants.{Script};
-ghost use Rattle.dymelor_top.specs.declared.plan.Plan.TheVariants.{Read};
+ghost use Rattle.dymelor_top.specs.declared.plan.Plan.TheVariants.{Read, Run as InWaves};
 ghost use Rattle.dymelor_top.specs.Plans.{report_or_summary, run_text, whole_plan_of, IsPlanWithin};
 
 use dym_base::Name;
@@ -74,56 +74,40 @@ pub fn plan_for(order: Result<Order, Usage>) -> Plan
     ensures plan { result ≡ whole_plan_of order }
     ensures within { IfOk order IsWithin → IsPlanWithin result }
 {
+    let Ok(order) = order else {
+        return Plan::Usage;
+    };
     match order {
-        Ok(Order::Plain { input, summary }) => Plan::Read {
+        Order::Plain { input, summary } => Plan::Read {
             input,
             reading: report_or_summary(summary),
         },
-        Ok(
-            Order::Run {
-                workers,
-                segments,
-                quantum,
-                input,
-                summary,
-            },
-        ) => Plan::Run(Run {
-            input,
+        Order::Run {
             workers,
             segments,
             quantum,
-            text: run_text(summary),
-        }),
-        Ok(Order::Check) => read(Reading::Counts),
-        Ok(
-            Order::Gen {
-                seed,
-                objects,
-                commands,
-            },
-        ) => Plan::Make {
+            input,
+            summary,
+        } => in_waves(input, workers, segments, quantum, run_text(summary)),
+        Order::Check => read(Reading::Counts),
+        Order::Gen {
+            seed,
+            objects,
+            commands,
+        } => Plan::Make {
             seed,
             objects,
             commands,
         },
-        Ok(Order::Trace) => read(Reading::Trace),
-        Ok(Order::Save { name }) => read(Reading::File { name }),
-        Ok(Order::Load { time }) => read(Reading::Loaded { time }),
-        Ok(
-            Order::Views {
-                workers,
-                segments,
-                quantum,
-            },
-        ) => Plan::Run(Run {
-            input: Input::Script,
+        Order::Trace => read(Reading::Trace),
+        Order::Save { name } => read(Reading::File { name }),
+        Order::Load { time } => read(Reading::Loaded { time }),
+        Order::Views {
             workers,
             segments,
             quantum,
-            text: WaveText::Views,
-        }),
-        Ok(Order::Late) => read(Reading::Late),
-        Err(_) => Plan::Usage,
+        } => in_waves(Input::Script, workers, segments, quantum, WaveText::Views),
+        Order::Late => read(Reading::Late),
     }
 }
 
@@ -135,6 +119,25 @@ fn read(reading: Reading) -> Plan
         input: Input::Script,
         reading,
     }
+}
+
+/// To run the objects of a script in waves.
+fn in_waves(input: Input, workers: u32, segments: u32, quantum: u32, text: WaveText) -> Plan
+    ensures { result ≡ InWaves (record {
+      input = input;
+      workers = workers;
+      segments = segments;
+      quantum = quantum;
+      text = text;
+    }) }
+{
+    Plan::Run(Run {
+        input,
+        workers,
+        segments,
+        quantum,
+        text,
+    })
 }
 
 /// What the order `plain` writes.

@@ -1,5 +1,5 @@
 //! The top call that starts no thread.
-ghost use Rattle.std.specs.Prelude.{◌≡◌, ◌⊎◌, ◌+◌, ℕ, List, Some, drop, map, string_bytes, IfOk, OnOk, OnErr, IsErrOf};
+ghost use Rattle.std.specs.Prelude.{◌≡◌, ◌⊎◌, ◌+◌, ℕ, List, Some, drop, map, string_bytes, IfOk, OnOk, OnErr};
 ghost use Rattle.dym_base.specs.declared.limits.TheConstants.{MOST_INPUT_BYTES};
 ghost use Rattle.dym_io.specs.Faults.{RoseOnce};
 ghost use Rattle.std.specs.Io.KnownBytes.{Keeps};
@@ -9,9 +9,8 @@ ghost use Rattle.dym_words.specs.Laws.{CanBeMade, IsInputWithin};
 ghost use Rattle.dym_words.specs.Orders.{order};
 ghost use Rattle.dymelor_top.specs.Answers.{IsRead};
 ghost use Rattle.dymelor_top.specs.Headline.{Headline, Input as SourceState, PlanHeadline, Serves};
-ghost use Rattle.dymelor_top.specs.Stops.{status_of};
+ghost use Rattle.dymelor_top.specs.Stops.{StopCauses, status_of};
 ghost use Rattle.dymelor_top.specs.declared.plan.Plan.TheVariants as plan;
-ghost use Rattle.dymelor_top.specs.declared.stop.Stop.TheVariants.{Source as SourceStopped, Sink as SinkStopped};
 
 use crate::answer::answer_source;
 use crate::generator_text::{GeneratedSource, generated_script};
@@ -121,15 +120,8 @@ fn serve_source<R: Source, W: Sink>(
         → OnOk result (R.left source.new ≡ Some (drop (MOST_INPUT_BYTES + 1) bytes)) }
     ensures status { IfOk result (λ status. (status ≡ 0) ⊎ (status ≡ 2)) }
     ensures bounded { TookAtMost (MOST_INPUT_BYTES + 1) (R.left source.old) (R.left source.new) }
-    ensures source_fault { IsErrOf result SourceStopped
-        → RoseOnce (R.faults source.old) (R.faults source.new)
-        × (W.output sink.new ≡ W.output sink.old) }
-    ensures source_stands { ¬ IsErrOf result SourceStopped
-        → R.faults source.new ≡ R.faults source.old }
-    ensures sink_fault { IsErrOf result SinkStopped
-        → RoseOnce (W.output sink.old).faults (W.output sink.new).faults }
-    ensures sink_stands { ¬ IsErrOf result SinkStopped
-        → (W.output sink.new).faults ≡ (W.output sink.old).faults }
+    ensures causes { StopCauses (R.faults source.old) (R.faults source.new)
+        (W.output sink.old) (W.output sink.new) result }
 {
     let status = answer_source(alloc, reading, source, sink)?;
     flush(sink)?;

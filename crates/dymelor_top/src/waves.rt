@@ -1,8 +1,7 @@
 //! The orders `run` and `views`: the objects of a script run in waves of workers.
-ghost use Rattle.std.specs.Prelude.{◌≡◌, ◌⊎◌, ◌+◌, ◌≤◌, ℕ, List, Some, drop, nat_lt, All, option_map, Result, IfOk, OnOk, IsErrOf};
+ghost use Rattle.std.specs.Prelude.{◌≡◌, ◌⊎◌, ◌+◌, ◌≤◌, ℕ, List, Some, drop, nat_lt, All, option_map, Result, IfOk, OnOk};
 ghost use Rattle.std.specs.List.{find};
 ghost use Rattle.dym_base.specs.declared.limits.TheConstants.{MOST_INPUT_BYTES};
-ghost use Rattle.dym_io.specs.Faults.{RoseOnce};
 ghost use Rattle.dym_io.specs.Sink.{WritesOr};
 ghost use Rattle.dym_io.specs.Source.{TookAtMost};
 ghost use Rattle.dym_run.specs.Parts.{IsShape};
@@ -12,7 +11,7 @@ ghost use Rattle.dym_script.specs.Scripts.{Said, Fault, script_of};
 ghost use Rattle.dym_script.specs.ByObjects.{GivesParts, IsByObjects};
 ghost use Rattle.dymelor_top.specs.Answers.{first_above, of_waves, outcome_text, unless_above, waves_text, IsInWaves};
 ghost use Rattle.dymelor_top.specs.Headline.{Serves, WritesAnswer, Counted};
-ghost use Rattle.dymelor_top.specs.declared.stop.Stop.TheVariants.{Source as SourceStopped, Sink as SinkStopped};
+ghost use Rattle.dymelor_top.specs.Stops.{StopCauses};
 
 use crate::plan::WaveText;
 use crate::sequential::flush;
@@ -53,15 +52,8 @@ pub fn serve_waves<R: Threads + Wait + Send + Sync, S: Source, W: Sink, G: Gate>
         → OnOk result (S.left source.new ≡ Some (drop (MOST_INPUT_BYTES + 1) bytes)) }
     ensures status { IfOk result (λ status. (status ≡ 0) ⊎ (status ≡ 2)) }
     ensures bounded { TookAtMost (MOST_INPUT_BYTES + 1) (S.left source.old) (S.left source.new) }
-    ensures source_fault { IsErrOf result SourceStopped
-        → RoseOnce (S.faults source.old) (S.faults source.new)
-        × (W.output sink.new ≡ W.output sink.old) }
-    ensures source_stands { ¬ IsErrOf result SourceStopped
-        → S.faults source.new ≡ S.faults source.old }
-    ensures sink_fault { IsErrOf result SinkStopped
-        → RoseOnce (W.output sink.old).faults (W.output sink.new).faults }
-    ensures sink_stands { ¬ IsErrOf result SinkStopped
-        → (W.output sink.new).faults ≡ (W.output sink.old).faults }
+    ensures causes { StopCauses (S.faults source.old) (S.faults source.new)
+        (W.output sink.old) (W.output sink.new) result }
 {
     let bytes = read_whole(alloc, source, MOST_INPUT_BYTES + 1)?;
     Ok(serve_text(rt, alloc, waves, bytes, sink, gate)?)

@@ -1,10 +1,10 @@
 -- Of the live chunks those after the last one are not yet counted.
-use Rattle.std.proofs.Common.{◌≡◌, ℕ, ◌+◌, ◌/◌, ◌^◌, ◌<◌, ◌≤◌, length, ap, sym, ◌∙◌, arith, Some, None}
+use Rattle.std.proofs.Common.{◌≡◌, ℕ, ◌+◌, ◌/◌, ◌^◌, ◌≤◌, length, ap, sym, ◌∙◌, arith, None}
 use Rattle.std.specs.FinMap.{len, len-entries}
 use Rattle.dym_base.specs.HeapStep.{key}
 use Rattle.dym_heap.specs.Replies.{after_key, IsNextLive}
 use Rattle.dym_report.proofs.EntriesInOrder.{entries_from_start}
-use Rattle.dym_report.proofs.LiveWalk.{left_after, walk_ends, walk_shortens}
+use Rattle.dym_report.proofs.LiveWalk.{left_after, walk_ends, walk_shortens, walk_falls}
 use Rattle.dym_report.proofs.live.live_chunks.Goals as goal
 
 small_key : (k : ℕ) → k / 2 ^ 32 ≤ 16 → k + 1 ≤ 2 ^ 37
@@ -17,11 +17,7 @@ loop-handle-init g c =
     record { count = omega (arith, all); few = omega arith; small = omega arith }
 
 pub loop-handle-smaller : goal.loop-handle-smaller
-loop-handle-smaller g c =
-    let shorter = walk_shortens c.args.heap.now.state.live c.loop-handle.last c.in-Some.handle c.in-Some.ensures in
-    let less : length (left_after c.args.heap.now.state.live (Some c.in-Some.handle)) < length (left_after c.args.heap.now.state.live c.loop-handle.last) =
-    omega (arith, shorter) in
-    less
+loop-handle-smaller g c = walk_falls c.args.heap.now.state.live c.loop-handle.last c.in-Some.handle c.in-Some.ensures
 
 pub loop-handle-preserved : goal.loop-handle-preserved
 loop-handle-preserved g c =

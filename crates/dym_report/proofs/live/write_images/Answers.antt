@@ -1,12 +1,12 @@
 -- What is left to write is the lines of the chunks after the last one.
-use Rattle.std.proofs.Common.{◌<◌, List, ℕ, length, flat_map, IfSome, Some, ap, sym, subst, arith}
+use Rattle.std.proofs.Common.{List, ℕ, flat_map, IfSome, ap, sym, subst}
 use Rattle.dym_base.specs.HeapStep.{key, handle_of}
 use Rattle.dym_heap.specs.Replies.{after_key, IsNextLive}
 use Rattle.dym_io.specs.Sink.{Appended, Stopped}
 use Rattle.dym_io.specs.Laws.{leaves_all, leaves_same, leaves_more, leaves_cut, leaves_nothing, writes_stopped}
 use Rattle.dym_report.specs.Objects.{image_line, images_text}
 use Rattle.dym_report.proofs.EntriesInOrder.{entries_from_start}
-use Rattle.dym_report.proofs.LiveWalk.{left_after, bytes_of, walk_ends, walk_goes, walk_shortens}
+use Rattle.dym_report.proofs.LiveWalk.{bytes_of, walk_ends, walk_goes, walk_falls}
 use Rattle.dym_report.proofs.live.write_images.Goals as goal
 
 pub loop-handle-init : goal.loop-handle-init
@@ -16,11 +16,7 @@ loop-handle-init g c =
     (ap (flat_map line) (sym (entries_from_start c.args.heap.now.state.live)))
 
 pub loop-handle-smaller : goal.loop-handle-smaller
-loop-handle-smaller g c =
-    let shorter = walk_shortens c.args.heap.now.state.live c.loop-handle.last c.in-Some.handle c.in-Some.ensures in
-    let less : length (left_after c.args.heap.now.state.live (Some c.in-Some.handle)) < length (left_after c.args.heap.now.state.live c.loop-handle.last) =
-    omega (arith, shorter) in
-    less
+loop-handle-smaller g c = walk_falls c.args.heap.now.state.live c.loop-handle.last c.in-Some.handle c.in-Some.ensures
 
 pub returns-in_err-write_live : goal.returns-in_err-write_live
 returns-in_err-write_live g c =

@@ -5,9 +5,6 @@ use Rattle.std.proofs.lemmas.Grind.{common_steps}
 use Rattle.dym_words.proofs.Texts.{are_known-map, are_single-map}
 use Rattle.dym_words.proofs.options.are_options.Goals as goal
 
-text_of : Bor (List ℕ) → List ℕ
-text_of n = n.now
-
 pub returns-then-are_known : goal.returns-then-are_known
 returns-then-are_known c =
     let known = are_known-map (λ (n : Bor (List ℕ)). n.now) (λ (w : String Global). string_bytes w) c.args.names.now c.args.words.now in

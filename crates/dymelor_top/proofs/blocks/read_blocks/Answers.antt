@@ -5,7 +5,8 @@ use Rattle.dym_script.specs.declared.script.ScriptFail.TheVariants as fail
 use Rattle.dym_script.specs.Answers.{FailsSo, GivesBy}
 use Rattle.dym_script.specs.Pieces.{says, TakesPiece}
 use Rattle.dym_script.specs.declared.pieces.WholeScript.{WholeScript}
-use Rattle.dym_script.specs.Keepers.{TookBy, IsWhole}
+use Rattle.dym_script.specs.Keepers.{IsWhole}
+use Rattle.dym_script.specs.WholeScripts.{TookBy}
 use Rattle.dymelor_top.specs.Blocks.{IsFaultOf, TakesBytes}
 use Rattle.dymelor_top.proofs.ReadBlocks.{read_end, pulled_behind, pulled_long, read_more, read_bad, took_before, took_both, told_few}
 use Rattle.dymelor_top.proofs.blocks.read_blocks.Goals as goal
@@ -16,7 +17,7 @@ returns-then-amount-eq0-clause-outcome g c =
     let pulled = c.in_ok-amount.ensures in
     read_end (g.R.Source.left c.args.source.now) (g.R.Source.left l.source) (g.R.Source.left c.pull_behind.new.source) (g.R.Source.faults c.args.source.now)
     (g.R.Source.faults l.source)
-    c.in_ok-amount.amount l.pulled (TookBy (g.K.Keeper.keeps l.script.keeper) l.script.reader l.script.commands l.script.number) (take l.left l.block)
+    c.in_ok-amount.amount l.pulled (TookBy g.K.Keeper.keeps l.script) (take l.left l.block)
     (drop l.left c.pull_behind.new.block)
     (GivesBy (λ (whole : WholeScript g.row.K.Denot). IsWhole (g.K.Keeper.keeps whole.kept) whole.version whole.objects.items whole.commands) c.finish.result)
     l.invariant.read pulled.end c.if-amount-eq0.true pulled.taken
@@ -29,7 +30,7 @@ returns-then-pulled-gt-MOST_INPUT_BYTES-clause-outcome g c =
     let l = c.pieces in
     let pulled = c.in_ok-amount.ensures in
     let n = c.in_ok-amount.amount in
-    let before = TookBy (g.K.Keeper.keeps l.script.keeper) l.script.reader l.script.commands l.script.number in
+    let before = TookBy g.K.Keeper.keeps l.script in
     let a = g.R.Source.left c.args.source.now in
     let b = g.R.Source.left l.source in
     let after = g.R.Source.left c.pull_behind.new.source in
@@ -46,8 +47,8 @@ pieces-preserved g c =
     let l = c.pieces in
     let pulled = c.in_ok-amount.ensures in
     let n = c.in_ok-amount.amount in
-    let before = TookBy (g.K.Keeper.keeps l.script.keeper) l.script.reader l.script.commands l.script.number in
-    let now = TookBy (g.K.Keeper.keeps c.take.new.self.keeper) c.take.new.self.reader c.take.new.self.commands c.take.new.self.number in
+    let before = TookBy g.K.Keeper.keeps l.script in
+    let now = TookBy g.K.Keeper.keeps c.take.new.self in
     let a = g.R.Source.left c.args.source.now in
     let b = g.R.Source.left l.source in
     let after = g.R.Source.left c.pull_behind.new.source in
@@ -72,8 +73,8 @@ returns-in-Err-Bad-clause-outcome g c =
     let l = c.pieces in
     let pulled = c.in_ok-amount.ensures in
     let n = c.in_ok-amount.amount in
-    let before = TookBy (g.K.Keeper.keeps l.script.keeper) l.script.reader l.script.commands l.script.number in
-    let now = TookBy (g.K.Keeper.keeps c.take.new.self.keeper) c.take.new.self.reader c.take.new.self.commands c.take.new.self.number in
+    let before = TookBy g.K.Keeper.keeps l.script in
+    let now = TookBy g.K.Keeper.keeps c.take.new.self in
     let a = g.R.Source.left c.args.source.now in
     let b = g.R.Source.left l.source in
     let middle = g.R.Source.left c.pull_behind.new.source in
@@ -114,7 +115,7 @@ returns-in_err-fault-in-Err-Bad-clause-bounded g c =
     let l = c.pieces in
     let pulled = c.in_ok-amount.ensures in
     let n = c.in_ok-amount.amount in
-    let before = TookBy (g.K.Keeper.keeps l.script.keeper) l.script.reader l.script.commands l.script.number in
+    let before = TookBy g.K.Keeper.keeps l.script in
     let a = g.R.Source.left c.args.source.now in
     let b = g.R.Source.left l.source in
     let middle = g.R.Source.left c.pull_behind.new.source in
@@ -133,7 +134,7 @@ returns-in-Err-Memory-clause-bounded g c =
     let l = c.pieces in
     let pulled = c.in_ok-amount.ensures in
     let n = c.in_ok-amount.amount in
-    let before = TookBy (g.K.Keeper.keeps l.script.keeper) l.script.reader l.script.commands l.script.number in
+    let before = TookBy g.K.Keeper.keeps l.script in
     let a = g.R.Source.left c.args.source.now in
     let b = g.R.Source.left l.source in
     let after = g.R.Source.left c.pull_behind.new.source in

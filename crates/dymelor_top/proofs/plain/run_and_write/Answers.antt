@@ -20,12 +20,8 @@ loop-k-preserved g c =
           (g.W.Sink.output c.args.sink.now) (g.W.Sink.output c.loop-k.sink) (g.W.Sink.output c.add.new.sink)
           (omega (arith, c.loop-k-test.true, c.len-k-end.ensures.length)) c.loop-k.invariant.written c.in_ok-run.ensures.does
           c.add.new.self c.in_ok-add.ensures.added;
-      count = omega (
-        arith,
-        ran_counted c.args.commands.now c.loop-k.k c.loop-k.turn.object c.run.new.runner.object c.run.new.runner.reply
-            (omega (arith, c.loop-k-test.true, c.len-k-end.ensures.length)) c.in_ok-run.ensures.does,
-        c.loop-k.invariant.count,
-      );
+      count = ran_counted c.args.commands.now c.loop-k.k c.loop-k.turn.object c.run.new.runner.object c.run.new.runner.reply
+          (omega (arith, c.loop-k-test.true, c.len-k-end.ensures.length)) c.in_ok-run.ensures.does c.loop-k.invariant.count;
     }
 
 pub returns-in_err-write-clause-replies : goal.returns-in_err-write-clause-replies

@@ -13,7 +13,7 @@ loop-k-preserved c =
     let same = run_heap commands k before after c.run.new.runner.reply within c.in_ok-run.ensures.does in
     record {
       run = run_more c.runs_go_on.ensures.step commands k before after c.run.new.runner.reply within c.loop-k.invariant.run c.in_ok-run.ensures.does;
-      count = omega (arith, ran_counted commands k before after c.run.new.runner.reply within c.in_ok-run.ensures.does, c.loop-k.invariant.count);
+      count = ran_counted commands k before after c.run.new.runner.reply within c.in_ok-run.ensures.does c.loop-k.invariant.count;
       version = same.0 ∙ c.loop-k.invariant.version;
       quota = same.1 ∙ c.loop-k.invariant.quota;
     }

@@ -1,4 +1,4 @@
-use Rattle.std.proofs.Common.{◌+◌, Some, refl, sym, ap, subst, ◌∙◌}
+use Rattle.std.proofs.Common.{◌+◌, Some, sym, ap, subst, ◌∙◌}
 use Rattle.dym_base.specs.declared.limits.TheConstants.{MOST_INPUT_BYTES}
 use Rattle.dym_gen.specs.Scripts.{generated}
 use Rattle.dym_words.specs.Laws.{IsInputWithin}
@@ -6,7 +6,7 @@ use Rattle.dym_words.specs.declared.order.Input.TheVariants as input
 use Rattle.dymelor_top.specs.declared.plan.Plan.TheVariants as plan
 use Rattle.dymelor_top.specs.Stops.{status_of}
 use Rattle.dymelor_top.specs.Headline.{Input, PlanHeadline}
-use Rattle.dymelor_top.proofs.Served.{ended, was_read, not_read, unread, wanting, took_nothing, never_once}
+use Rattle.dymelor_top.proofs.Served.{ended, was_read, not_read, unread, wanting, took_nothing, no_source}
 use Rattle.dymelor_top.proofs.sequential.serve_read.Goals as goal
 
 pub returns-in-Script : goal.returns-in-Script
@@ -19,7 +19,7 @@ returns-in-Script g c =
     let is = c.serve_source.ensures in
     subst (λ i. PlanHeadline (plan.Read i c.args.reading) old new a b (status_of r)) (sym c.in-Script.is)
     (ended (plan.Read input.Script c.args.reading) old new a b r is.status (λ stopped. tt) is.served is.bounded (was_read old new r is.read)
-    (λ none. absurd (cc)) is.source_fault is.source_stands is.sink_fault is.sink_stands)
+    (λ none. absurd (cc)) is.causes)
 
 pub generated_script-requires : goal.generated_script-requires
 generated_script-requires g c = record { made = subst IsInputWithin c.in-GenNumbers.is c.requires.input }
@@ -41,4 +41,4 @@ returns-in_ok-made-in-GenNumbers g c =
     subst (λ i. PlanHeadline (plan.Read i c.args.reading) old old a b (status_of r)) (sym made.is)
     (ended (plan.Read (input.GenNumbers made.seed made.objects made.commands) c.args.reading) old old a b r is.status (λ stopped. tt)
     (λ bytes known. is.served script (ap Some (c.deref.ensures.value ∙ c.in_ok-made-in-GenNumbers.ensures))) (took_nothing (MOST_INPUT_BYTES + 1) old.left)
-    (not_read old old r) (λ none. unread old) (λ e. absurd (never_once (is.source_fault e).0)) (λ other. refl) is.sink_fault is.sink_stands)
+    (not_read old old r) (λ none. unread old) (no_source old.faults a b r is.causes))

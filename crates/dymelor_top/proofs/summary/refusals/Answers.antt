@@ -22,12 +22,8 @@ loop-k-preserved c =
           (omega (arith, c.loop-k-test.true, c.len-k-end.ensures.length)) c.loop-k.invariant.refusing c.in_ok-run.ensures.does counts;
       within = elim c.if-is_refusal.branch
           [ then-is_refusal w ↦ omega (arith, w.refused-is, c.loop-k.invariant.within) | else-is_refusal w ↦ omega (arith, w.refused-is, c.loop-k.invariant.within) ];
-      count = omega (
-        arith,
-        ran_counted c.args.commands.now c.loop-k.k c.loop-k.turn.object c.run.new.runner.object c.run.new.runner.reply
-            (omega (arith, c.loop-k-test.true, c.len-k-end.ensures.length)) c.in_ok-run.ensures.does,
-        c.loop-k.invariant.count,
-      );
+      count = ran_counted c.args.commands.now c.loop-k.k c.loop-k.turn.object c.run.new.runner.object c.run.new.runner.reply
+          (omega (arith, c.loop-k-test.true, c.len-k-end.ensures.length)) c.in_ok-run.ensures.does c.loop-k.invariant.count;
     }
 
 pub returns-clause-counted : goal.returns-clause-counted
