@@ -1,5 +1,5 @@
 -- Which bytes are hexadecimal digits, and which words write bytes.
-use Rattle.std.proofs.Common.{◌≡◌, ℕ, zero, suc, ◌+◌, ◌*◌, ◌%◌, ◌<◌, ◌≤◌, ◌==◌, ◌&&◌, not, Bool, Option, Some, None, arith, true, false, List, [], ◌∷◌, ◌++◌, length, get_or, replicate, ap, subst, Result, Ok, Err, codes, is_some, nat_lt, refl, sym, ◌∙◌}
+use Rattle.std.proofs.Common.{◌≡◌, ℕ, ◌+◌, ◌*◌, ◌%◌, ◌<◌, ◌≤◌, ◌==◌, ◌&&◌, Bool, Some, None, arith, true, false, List, [], ◌∷◌, length, get_or, Result, Ok, Err, codes, nat_lt, refl, sym, ◌∙◌}
 use Rattle.std.specs.List.{list_all}
 use Rattle.std.specs.Str.{bytes_eq}
 use Rattle.std.specs.Result.{result_ok}
@@ -17,52 +17,6 @@ pair_is high low i h l first second = rw (first, second) refl
 both_true : (a b : Bool) → (a && b) ≡ true → (a ≡ true) × (b ≡ true)
 both_true true b both = (refl, both)
 both_true false b both = absurd (cc)
-
--- the value of each byte that is a digit, and 16 of each other
-abbrev pub values : List ℕ
-values = replicate 48 16 ++ (0 ∷ 1 ∷ 2 ∷ 3 ∷ 4 ∷ 5 ∷ 6 ∷ 7 ∷ 8 ∷ 9 ∷ []) ++ replicate 7 16 ++ (10 ∷ 11 ∷ 12 ∷ 13 ∷ 14 ∷ 15 ∷ []) ++ replicate 26 16 ++ (10 ∷ 11 ∷ 12 ∷ 13 ∷ 14 ∷ 15 ∷ []) ++ replicate 153 16
-
--- a table's value is right for a byte with this value
-abbrev tells : Option ℕ → ℕ → Bool
-tells None v = v == 16
-tells (Some w) v = v == w && nat_lt v 16
-
--- the values are right for the bytes from k on
-abbrev all_tell : ℕ → List ℕ → Bool
-all_tell k [] = true
-all_tell k (v ∷ vs) = tells (hex_digit_value k) v && all_tell (suc k) vs
-
-tells_at : (k : ℕ) (vs : List ℕ) (i j : ℕ) → k + i ≡ j → all_tell k vs ≡ true → i < length vs → tells (hex_digit_value j) (get_or vs i 0) ≡ true
-tells_at k [] i j at all inside = absurd (omega arith)
-tells_at k (v ∷ vs) zero j at all inside =
-    let same : k ≡ j = omega (arith, at) in
-    subst (λ n. tells (hex_digit_value n) v ≡ true) same (both_true (tells (hex_digit_value k) v) (all_tell (suc k) vs) all).0
-tells_at k (v ∷ vs) (suc i) j at all inside = tells_at (suc k) vs i j (omega (arith, at)) (both_true (tells (hex_digit_value k) v) (all_tell (suc k) vs) all).1 (omega (arith, inside))
-
-told : (byte : ℕ) → byte < 256 → tells (hex_digit_value byte) (get_or values byte 0) ≡ true
-told byte fits = tells_at 0 values byte byte (omega arith) refl fits
-
-known : (o : Option ℕ) (v : ℕ) → tells o v ≡ true → not (v == 16) ≡ is_some o
-known None v good = rw good refl
-known (Some w) v good =
-    let less : v < 16 = grind (arith, nat_tests, (both_true (v == w) (nat_lt v 16) good).1) in
-    let other : (v == 16) ≡ false = grind (arith, nat_tests, less) in
-    rw other refl
-
-valued : (o : Option ℕ) (v : ℕ) → tells o v ≡ true → is_some o ≡ true → (o ≡ Some v) × (v < 16)
-valued None v good some = absurd (cc)
-valued (Some w) v good some =
-    let two = both_true (v == w) (nat_lt v 16) good in
-    let same : w ≡ v = grind (arith, nat_tests, two.0) in
-    (ap Some same, grind (arith, nat_tests, two.1))
-
--- the table tells whether a byte is a digit
-pub digit_known : (byte : ℕ) → byte < 256 → not (get_or values byte 0 == 16) ≡ is_hex_digit byte
-digit_known byte fits = known (hex_digit_value byte) (get_or values byte 0) (told byte fits)
-
--- and the value of one
-pub digit_valued : (byte : ℕ) → byte < 256 → is_hex_digit byte ≡ true → (hex_digit_value byte ≡ Some (get_or values byte 0)) × (get_or values byte 0 < 16)
-digit_valued byte fits is = valued (hex_digit_value byte) (get_or values byte 0) (told byte fits) is
 
 -- each of some digits is one
 pub digit_at : (digits : List ℕ) (k : ℕ) → list_all is_hex_digit digits ≡ true → k < length digits → is_hex_digit (get_or digits k 0) ≡ true

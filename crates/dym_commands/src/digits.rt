@@ -1,47 +1,21 @@
-//! Hexadecimal digits, by a table.
+//! Hexadecimal digits.
 ghost use Rattle.std.specs.Prelude.{◌≡◌, ◌≤◌, ◌<◌, ◌*◌, true, Some, Ok, length, take, IfSome};
 ghost use Rattle.std.specs.List.{list_all};
 ghost use Rattle.hex.specs.Hex.{is_hex_digit, hex_digit_value, decode_of};
 
 use memchr::memchr;
 
-/// Stands in the table for a byte that is no digit.
-const NO_DIGIT: u8 = 16;
-
 /// More digits than these are tested all at once.
 const FEW_DIGITS: usize = 16;
 
-/// The value of each byte that is a hexadecimal digit, in either case.
-const VALUES: [u8; 256] = [
-    16, 16, 16, 16, 16, 16, 16, 16, 16, 16, 16, 16, 16, 16, 16, 16, 16, 16, 16, 16, 16, 16, 16, 16,
-    16, 16, 16, 16, 16, 16, 16, 16, 16, 16, 16, 16, 16, 16, 16, 16, 16, 16, 16, 16, 16, 16, 16, 16,
-    0, 1, 2, 3, 4, 5, 6, 7, 8, 9, 16, 16, 16, 16, 16, 16, 16, 10, 11, 12, 13, 14, 15, 16, 16, 16,
-    16, 16, 16, 16, 16, 16, 16, 16, 16, 16, 16, 16, 16, 16, 16, 16, 16, 16, 16, 16, 16, 16, 16, 10,
-    11, 12, 13, 14, 15, 16, 16, 16, 16, 16, 16, 16, 16, 16, 16, 16, 16, 16, 16, 16, 16, 16, 16, 16,
-    16, 16, 16, 16, 16, 16, 16, 16, 16, 16, 16, 16, 16, 16, 16, 16, 16, 16, 16, 16, 16, 16, 16, 16,
-    16, 16, 16, 16, 16, 16, 16, 16, 16, 16, 16, 16, 16, 16, 16, 16, 16, 16, 16, 16, 16, 16, 16, 16,
-    16, 16, 16, 16, 16, 16, 16, 16, 16, 16, 16, 16, 16, 16, 16, 16, 16, 16, 16, 16, 16, 16, 16, 16,
-    16, 16, 16, 16, 16, 16, 16, 16, 16, 16, 16, 16, 16, 16, 16, 16, 16, 16, 16, 16, 16, 16, 16, 16,
-    16, 16, 16, 16, 16, 16, 16, 16, 16, 16, 16, 16, 16, 16, 16, 16, 16, 16, 16, 16, 16, 16, 16, 16,
-    16, 16, 16, 16, 16, 16, 16, 16, 16, 16, 16, 16, 16, 16,
-];
-
-/// The value of a hexadecimal digit, in either case.
+/// The value of a hexadecimal digit, in either case. The last four bits of an A are 1, and letters alone are 64 and more.
 #[inline(always)]
 fn digit_value(byte: u8) -> u8
     requires { is_hex_digit byte ≡ true }
     ensures value { hex_digit_value byte ≡ Some result }
     ensures small { result < 16 }
 {
-    VALUES[byte as usize]
-}
-
-/// Whether this is a hexadecimal digit, in either case.
-#[inline(always)]
-fn is_digit(byte: u8) -> bool
-    ensures { result ≡ is_hex_digit byte }
-{
-    VALUES[byte as usize] != NO_DIGIT
+    byte % 16 + byte / 64 * 9
 }
 
 /// How many hexadecimal digits stand before the first byte that is none, or before the end of a line with many digits.
@@ -52,7 +26,7 @@ pub fn digits_at_front(text: &[u8]) -> Option<usize>
 {
     let (front, _) = text.split_at(text.len().min(FEW_DIGITS));
     for (at, byte) in front.iter().enumerate() {
-        if !is_digit(*byte) {
+        if !is_hex_digit(*byte) {
             return Some(at);
         }
     }
@@ -85,6 +59,7 @@ pub fn are_digits(word: &[u8]) -> bool
 }
 
 /// Whether this is a hexadecimal digit. All tests are made, since which of them holds can't be foretold.
+#[inline(always)]
 fn is_hex_digit(byte: u8) -> bool
     ensures { result ≡ is_hex_digit byte }
 {
