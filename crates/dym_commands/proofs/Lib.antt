@@ -1,3 +1,4 @@
 pub mod HexFacts
 pub mod KeptLists
 pub mod PieceLists
+pub mod StoredReplies

@@ -4,3 +4,4 @@ pub mod Hexes
 pub mod StoredCommands
 pub mod Pieces
 pub mod Reads
+pub mod Replies

@@ -5,8 +5,7 @@ ghost use Rattle.dym_commands.specs.Requests.{asks_borrowed};
 
 use crate::request::Request;
 
-/// Runs commands. Each is handed over where its kind is told: where `run` is inlined, no command is made of it, and only that
-/// kind's code is left.
+/// Runs commands. Each is handed over as what is asked, with the bytes of a write where they stand: none are copied.
 pub trait Runner {
     /// By what commands are run, as a supply's way.
     type Context;

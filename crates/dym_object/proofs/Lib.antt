@@ -3,3 +3,4 @@ pub mod Calls
 pub mod Runs
 pub mod Ends
 pub mod Touches
+pub mod ReadRoom

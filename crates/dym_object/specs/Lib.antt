@@ -4,3 +4,4 @@ pub mod Commands
 pub mod Laws
 pub mod Meaning
 pub mod ObjectLends
+pub mod Turns

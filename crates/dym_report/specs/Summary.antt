@@ -5,7 +5,7 @@ use Rattle.dym_base.specs.Heaps.{Live, held}
 use Rattle.dym_base.specs.Objects.{slots}
 use Rattle.dym_base.specs.declared.command.Version.{Version}
 use Rattle.dym_base.specs.declared.reply.Reply.{Reply}
-pub use Rattle.dym_turn.specs.Replies.{is_refusal}
+pub use Rattle.dym_commands.specs.Replies.{is_refusal}
 use Rattle.dym_script.specs.Scripts.{Said}
 use Rattle.dym_report.specs.declared.totals.Totals.{Totals}
 use Rattle.dym_report.specs.Orders.{summary_text}

@@ -1,6 +1,6 @@
 //! What the program prints: replies, heaps, logs, summaries and errors, as text in a sink.
 //!
-//! Below stand `dym_script` and `dym_turn`, whose parts and replies its definitions speak of,
+//! Below stand `dym_script` and `dym_commands`, whose parts and replies its definitions speak of,
 //! `dym_heap`, whose chunks are printed, and `dym_io`; above stand the top call and what runs objects
 //! in waves. Its one contract: each call writes the text that its definition says, or a front of it
 //! where the sink failed, and then the count of its faults rose. No call takes memory. What a script's

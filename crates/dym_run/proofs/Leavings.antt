@@ -8,7 +8,7 @@ use Rattle.dym_io.specs.Sink.{Output, Appended, Stopped, Writes}
 use Rattle.dym_io.specs.Laws.{writes_cut, writes_after}
 use Rattle.dym_report.specs.Objects.{heading, state_text, object_text}
 use Rattle.dym_report.specs.Replies.{reply_line}
-use Rattle.dym_turn.specs.Replies.{RepliesMeaning}
+use Rattle.dym_commands.specs.Replies.{RepliesMeaning}
 use Rattle.dym_run.specs.declared.job_output.JobOutput.{JobOutput}
 use Rattle.dym_run.specs.declared.job_output.JobOutput.TheVariants.{Values}
 use Rattle.dym_run.specs.JobOutputs.{IsOutputOf, body_text, end_text}

@@ -9,11 +9,11 @@ ghost use Rattle.dym_run.specs.JobOutputs.{CanEnd, IsOutputOf, output_quota, out
 
 use crate::part_text::write_body;
 use dym_base::Name;
+use dym_commands::Replies;
 use dym_heap::Heap;
 use dym_io::{MemSink, Sink, SinkFault, push_all};
 use dym_quota::{Berth, Supply};
 use dym_report::write_heading;
-use dym_turn::Replies;
 use std::alloc::{AllocError, Global};
 use std::sync::Wait;
 

@@ -6,11 +6,11 @@ ghost use Rattle.dym_run.specs.JobOutputs.{body_text};
 ghost use Rattle.dym_report.specs.Replies.{reply_line};
 
 use dym_base::Reply;
+use dym_commands::Replies;
 use dym_heap::Heap;
 use dym_io::{Sink, SinkFault};
 use dym_quota::Supply;
 use dym_report::{Page, write_state};
-use dym_turn::Replies;
 
 /// Writes what stands behind an object's name: its replies, its heap, and how many logs it keeps, which take that many records. Its
 /// only error is that of the sink.

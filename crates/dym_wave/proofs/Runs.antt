@@ -11,9 +11,9 @@ use Rattle.dym_base.specs.declared.command.Command.TheVariants.{Logs}
 use Rattle.dym_base.specs.declared.reply.Reply.{Reply}
 use Rattle.dym_commands.specs.Reads.{read_room}
 use Rattle.dym_object.specs.Meaning.{ObjectMeaning, IsWhole}
-use Rattle.dym_turn.specs.Turns.{Ran}
-use Rattle.dym_turn.specs.Replies.{RepliesMeaning, bytes_of}
-use Rattle.dym_turn.proofs.ReadRoom.{reply_room, room_small}
+use Rattle.dym_object.specs.Turns.{Ran}
+use Rattle.dym_commands.specs.Replies.{RepliesMeaning, bytes_of}
+use Rattle.dym_object.proofs.ReadRoom.{reply_room, room_small}
 use Rattle.dym_wave.specs.Works.{WorkMeaning, JobMeaning, HasRoom, origin_with, work_with, ran, left_of}
 
 module _ (v : Version) (quota : ℕ) where

@@ -9,7 +9,7 @@ use Rattle.dym_base.specs.declared.limits.TheConstants.{COUNT_LIMIT, MOST_COMMAN
 use Rattle.dym_base.specs.declared.reply.Reply.{Reply}
 use Rattle.dym_commands.specs.Reads.{read_room}
 use Rattle.dym_object.specs.Meaning.{ObjectMeaning, IsWhole, state_of}
-use Rattle.dym_turn.specs.Replies.{RepliesMeaning}
+use Rattle.dym_commands.specs.Replies.{RepliesMeaning}
 
 -- where a work came from, which no turn changes: the object's place in its wave, its quota, the version of its heap, its own
 -- commands, the origin of its supply, and the origin of its keep

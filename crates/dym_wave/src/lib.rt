@@ -1,7 +1,7 @@
 //! A wave: objects that run as jobs of workers while a pruner sweeps their log tables in a thread
 //! of its own.
 //!
-//! Below stand `dym_turn`, which runs an object's commands one by one, `dym_pool`, whose workers
+//! Below stand `dym_object`, which runs an object's commands one by one, `dym_pool`, whose workers
 //! take the objects' turns, `dym_prune`, which sweeps, and `dym_view`, by which a work's oldest log
 //! is a commit; above stands `dym_run`. Its one contract: every work is back once,
 //! in order, with its origin, and its replies and its object are those of a run of its own commands

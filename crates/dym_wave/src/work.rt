@@ -7,10 +7,9 @@ ghost use Rattle.dym_wave.specs.Works.{JobMeaning, EndsWhole, opened, origin_wit
 
 use crate::table_keep::TableKeep;
 use dym_base::limits::MOST_QUANTUM;
-use dym_commands::Commands;
-use dym_object::Object;
+use dym_commands::{Commands, Replies};
+use dym_object::{Object, Turn};
 use dym_quota::Berth;
-use dym_turn::{Replies, Turn};
 use std::alloc::{AllocError, Global};
 use std::marker::Model;
 use std::sync::Wait;

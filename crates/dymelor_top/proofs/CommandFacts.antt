@@ -7,7 +7,7 @@ use Rattle.dym_base.specs.declared.command.Command.{Command}
 use Rattle.dym_base.specs.declared.command.Command.TheVariants as command
 use Rattle.dym_base.specs.declared.reply.Reply.{Reply}
 use Rattle.dym_object.specs.Meaning.{ObjectMeaning}
-use Rattle.dym_turn.specs.Turns.{Ran}
+use Rattle.dym_object.specs.Turns.{Ran}
 
 -- the ith command stands behind those before it and before those after it
 pub record CommandAt (commands : List Command) (i : ℕ) : Type 0 where

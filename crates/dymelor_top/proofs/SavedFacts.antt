@@ -24,7 +24,7 @@ use Rattle.dym_script.specs.declared.parts.PartCollector.{PartCollector}
 use Rattle.dym_script.specs.declared.parts.Part.{Part}
 use Rattle.dym_script.specs.declared.pieces.WholeScript.{WholeScript}
 use Rattle.dym_script.specs.declared.script.Decl.{Decl}
-use Rattle.dym_turn.specs.Turns.{Ran}
+use Rattle.dym_object.specs.Turns.{Ran}
 use Rattle.dymelor_top.specs.Answers.{Answer, fault_answer, file_answer, named_answer}
 use Rattle.dymelor_top.specs.Checkpoints.{own_named, own_file}
 use Rattle.dym_report.specs.Report.{own_of, IsRunnable, Own}

@@ -22,7 +22,7 @@ use Rattle.dym_script.specs.Scripts.{Said, own}
 use Rattle.dym_script.specs.Parts.{EachHas}
 use Rattle.dym_report.specs.declared.tally.Tally.{Tally}
 use Rattle.dym_report.specs.Report.{own_of, objects_of}
-use Rattle.dym_turn.specs.Turns.{Ran}
+use Rattle.dym_object.specs.Turns.{Ran}
 use Rattle.dymelor_top.proofs.CommandFacts.{command_at, command_fact}
 use Rattle.dymelor_top.proofs.PartFacts.{OwnsFrom, owns_first, owns_later, owns_all, parts_are_objects}
 use Rattle.dym_report.specs.Summary.{is_refusal, tally_of, tally_with, both_tallies, tally_all, totals_with, totals_of}

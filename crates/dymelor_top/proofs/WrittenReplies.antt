@@ -10,7 +10,7 @@ use Rattle.dym_io.specs.Sink.{Output, Appended, Stopped, Leaves}
 use Rattle.dym_io.specs.Laws.{leaves_same, leaves_cut, leaves_more, leaves_nothing}
 use Rattle.dym_report.specs.Replies.{reply_line}
 use Rattle.dym_report.proofs.PageLines.{leaves_within}
-use Rattle.dym_turn.specs.Turns.{Ran}
+use Rattle.dym_object.specs.Turns.{Ran}
 use Rattle.dymelor_top.proofs.CommandFacts.{CommandAt, command_at, command_fact}
 
 -- the lines of the replies to commands

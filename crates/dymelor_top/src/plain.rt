@@ -15,11 +15,10 @@ use dym_base::Version;
 use dym_chain::VecKeep;
 use dym_commands::Commands;
 use dym_io::Sink;
-use dym_object::Object;
+use dym_object::{Object, Turn};
 use dym_quota::OwnSupply;
 use dym_report::{Page, WriteFail, write_end, write_heading, write_state};
 use dym_script::{Part, PartCollector, WholeScript};
-use dym_turn::Turn;
 use std::alloc::{AllocError, Global};
 
 /// Writes the report of a script, one object after another.

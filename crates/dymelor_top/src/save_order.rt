@@ -21,11 +21,10 @@ use dym_chain::VecKeep;
 use dym_ckpt::{save, saved_len};
 use dym_commands::Commands;
 use dym_io::Sink;
-use dym_object::{LentObject, laws};
+use dym_object::{LentObject, Turn, laws};
 use dym_quota::OwnSupply;
 use dym_report::{WriteFail, write_error};
 use dym_script::{Part, PartCollector, ScriptFail, WholeScript};
-use dym_turn::Turn;
 use std::alloc::{AllocError, Global};
 
 /// Writes the file of a script's object of this name, or the line of the script's first fault.

@@ -13,10 +13,10 @@ use crate::segment_store::SegmentStore;
 use dym_base::{Reply, Version, laws};
 use dym_chain::VecKeep;
 use dym_commands::Commands;
+use dym_object::Turn;
 use dym_quota::OwnSupply;
 use dym_report::{Tally, Totals};
 use dym_script::{Part, PartCollector, WholeScript};
-use dym_turn::Turn;
 use std::alloc::{AllocError, Global};
 
 /// What the objects of a script come to.

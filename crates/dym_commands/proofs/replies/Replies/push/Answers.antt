@@ -1,9 +1,9 @@
 use Rattle.std.proofs.Common.{◌≡◌, List, ◌+◌, ◌++◌, ◌∷◌, [], ap, sym, subst, ◌∙◌}
 use Rattle.std.specs.Int.{from_bool}
-use Rattle.dym_turn.specs.declared.replies.StoredReply.{StoredReply}
-use Rattle.dym_turn.specs.Replies.{is_refusal, replies_of_stored, bytes_of, AreStored, RepliesMeaning}
-use Rattle.dym_turn.proofs.KeptReplies.{more_replies, more_are_kept}
-use Rattle.dym_turn.proofs.replies.Replies.push.Goals as goal
+use Rattle.dym_commands.specs.declared.replies.StoredReply.{StoredReply}
+use Rattle.dym_commands.specs.Replies.{is_refusal, replies_of_stored, bytes_of, AreStored, RepliesMeaning}
+use Rattle.dym_commands.proofs.StoredReplies.{more_replies, more_are_kept}
+use Rattle.dym_commands.proofs.replies.Replies.push.Goals as goal
 
 pub returns-clause-replies : goal.returns-clause-replies
 returns-clause-replies c =

@@ -3,8 +3,8 @@ use Rattle.std.specs.Prelude.{◌≡◌, ◌+◌, ◌^◌, ◌≤◌, ◌<◌, �
 use Rattle.dym_base.specs.declared.reply.Reply.{Reply}
 use Rattle.dym_base.specs.declared.reply.Reply.TheVariants as reply
 use Rattle.dym_base.specs.declared.reply.Refusal.TheVariants as refusal
-use Rattle.dym_turn.specs.declared.replies.StoredReply.{StoredReply}
-use Rattle.dym_turn.specs.declared.replies.StoredReply.TheVariants as stored
+use Rattle.dym_commands.specs.declared.replies.StoredReply.{StoredReply}
+use Rattle.dym_commands.specs.declared.replies.StoredReply.TheVariants as stored
 
 -- replies to commands: the list of them, for how many more there is room, and for how many more bytes that reads tell
 pub record RepliesMeaning : Type 0 where

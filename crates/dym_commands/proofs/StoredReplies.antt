@@ -6,9 +6,9 @@ use Rattle.std.proofs.lemmas.List.Sums.{sum_by_push}
 use Rattle.std.specs.Int.{from_bool}
 use Rattle.dym_base.specs.declared.reply.Reply.{Reply}
 use Rattle.dym_base.specs.declared.reply.Reply.TheVariants as reply
-use Rattle.dym_turn.specs.declared.replies.StoredReply.{StoredReply}
-use Rattle.dym_turn.specs.declared.replies.StoredReply.TheVariants.{Bytes}
-use Rattle.dym_turn.specs.Replies.{is_refusal, reply_of_stored, replies_of_stored, IsStored, AreStored}
+use Rattle.dym_commands.specs.declared.replies.StoredReply.{StoredReply}
+use Rattle.dym_commands.specs.declared.replies.StoredReply.TheVariants.{Bytes}
+use Rattle.dym_commands.specs.Replies.{is_refusal, reply_of_stored, replies_of_stored, IsStored, AreStored}
 
 -- what is kept stays the same where the table grows at its end
 same_reply : (table more : List ℕ) (stored : StoredReply) → IsStored table stored → reply_of_stored (table ++ more) stored ≡ reply_of_stored table stored

@@ -2,11 +2,11 @@
 ghost use Rattle.std.specs.Prelude.{◌≡◌, ◌<◌};
 ghost use Rattle.dym_base.specs.declared.limits.TheConstants.{COUNT_LIMIT};
 
+use crate::object::Object;
 use dym_base::Reply;
 use dym_chain::LogKeep;
 use dym_commands::{Request, Runner};
 use dym_heap::replies;
-use dym_object::Object;
 use dym_quota::Supply;
 use std::alloc::{AllocError, Global};
 
@@ -48,7 +48,7 @@ impl<S: Supply, K: LogKeep> Runner for Turn<S, K> {
 
     type Fail = AllocError;
 
-    ghost use Rattle.dym_turn.specs.Turns.{Ran, Stayed};
+    ghost use Rattle.dym_object.specs.Turns.{Ran, Stayed};
 
     ghost ready = { λ t. t.object.ran < COUNT_LIMIT };
 

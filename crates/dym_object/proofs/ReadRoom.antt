@@ -20,8 +20,8 @@ use Rattle.dym_base.specs.declared.reply.Refusal.TheVariants.{Range}
 use Rattle.dym_commands.specs.Reads.{read_room}
 use Rattle.dym_heap.proofs.Sums.{chunk_fits}
 use Rattle.dym_object.specs.Meaning.{ObjectMeaning, IsWhole}
-use Rattle.dym_turn.specs.Replies.{bytes_of}
-use Rattle.dym_turn.specs.Turns.{Ran}
+use Rattle.dym_commands.specs.Replies.{bytes_of}
+use Rattle.dym_object.specs.Turns.{Ran}
 
 -- only a read is told bytes
 module _ (v : Version) (quota : ℕ) (s : HeapState) where

@@ -1,7 +1,7 @@
 //! The replies to commands, kept in little memory.
 ghost use Rattle.std.specs.Prelude.{◌≡◌, ℕ, List, ◌+◌, ◌≤◌, ◌<◌, ◌^◌, ◌↔◌, [], ◌∷◌, ◌++◌, length, count_by, slice_get, vec_len, vec_capacity, Some, IfOk, MatchOption, IsTrue};
 ghost use Rattle.dym_base.specs.declared.reply.Reply.TheVariants.{Bytes, Refused};
-ghost use Rattle.dym_turn.specs.Replies.{replies_with, reply_of_stored, bytes_of, is_refusal, HasRoomFor, IsStored, IsPlain};
+ghost use Rattle.dym_commands.specs.Replies.{replies_with, reply_of_stored, bytes_of, is_refusal, HasRoomFor, IsStored, IsPlain};
 
 use dym_base::{Handle, Kind, Refusal, Reply};
 use std::alloc::{AllocError, Global};
@@ -44,7 +44,7 @@ pub struct Replies {
 
 impl Model for Replies {
     ghost use Rattle.std.specs.Prelude.{vec_len, vec_capacity, ◌-◌};
-    ghost use Rattle.dym_turn.specs.Replies.{RepliesMeaning, replies_with, replies_of_stored, AreStored};
+    ghost use Rattle.dym_commands.specs.Replies.{RepliesMeaning, replies_with, replies_of_stored, AreStored};
 
     ghost Value = { RepliesMeaning };
 

@@ -1,2 +1,0 @@
-pub mod KeptReplies
-pub mod ReadRoom
