@@ -122,9 +122,6 @@ areas_insert live k bytes e =
     ]) in
     omega arith
 
-pub areas_remove : (live : Live) (k e : ℕ) → areas (remove live k) e ≤ areas live e
-areas_remove live k = areas_grow (remove live k) live (λ q has. (has_removed live k q has).1)
-
 -- held
 
 sum_zero : (f : ℕ → ℕ) (xs : List ℕ) → ((x : ℕ) → f x ≡ 0) → sum_by f xs ≡ 0

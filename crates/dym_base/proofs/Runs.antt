@@ -83,18 +83,22 @@ none_reached t [] all = refl
 none_reached t (e ∷ logs) all =
     reached_cons t e logs ∙ ap (λ b. cond b 1 0 + reached t logs) (lt-leb e.time t all.0) ∙ (let rest = none_reached t logs all.1 in omega arith)
 
-pub reached_before : (t : ℕ) (logs : List LogEntry) → EachFollows logs → AllByRecursion (λ e. e.time ≤ t) (take (reached t logs) logs) × AllByRecursion (λ e. t < e.time) (drop (reached t logs) logs)
+-- the first n logs are at or before t, and the others later
+abbrev pub CutAt : ℕ → List LogEntry → ℕ → Type 0
+CutAt t logs n = AllByRecursion (λ e. e.time ≤ t) (take n logs) × AllByRecursion (λ e. t < e.time) (drop n logs)
+
+pub reached_before : (t : ℕ) (logs : List LogEntry) → EachFollows logs → CutAt t logs (reached t logs)
 reached_before t [] each = (tt, tt)
 reached_before t (e ∷ logs) each =
-    elim (cases_lt t e.time) as (λ _. AllByRecursion (λ f. f.time ≤ t) (take (reached t (e ∷ logs)) (e ∷ logs)) × AllByRecursion (λ f. t < f.time) (drop (reached t (e ∷ logs)) (e ∷ logs))) [
+    elim (cases_lt t e.time) as (λ _. CutAt t (e ∷ logs) (reached t (e ∷ logs))) [
       | inl later ↦ (
           let all = later_too t e logs later each.0 each.1 in
           let none : reached t (e ∷ logs) ≡ 0 = none_reached t (e ∷ logs) (later, all) in
-          subst (λ n. AllByRecursion (λ f. f.time ≤ t) (take n (e ∷ logs)) × AllByRecursion (λ f. t < f.time) (drop n (e ∷ logs))) (sym none) (tt, (later, all)))
+          subst (CutAt t (e ∷ logs)) (sym none) (tt, (later, all)))
       | inr before ↦ (
           let rest = reached_before t logs each.1 in
           let one_more : reached t (e ∷ logs) ≡ suc (reached t logs) = reached_cons t e logs ∙ ap (λ b. cond b 1 0 + reached t logs) (le-leb e.time t before) ∙ omega arith in
-          subst (λ n. AllByRecursion (λ f. f.time ≤ t) (take n (e ∷ logs)) × AllByRecursion (λ f. t < f.time) (drop n (e ∷ logs))) (sym one_more) ((before, rest.0), rest.1))
+          subst (CutAt t (e ∷ logs)) (sym one_more) ((before, rest.0), rest.1))
     ]
 
 -- what one command can make of an object: nothing, a heap after one step, a log more, a log restored, or logs dropped

@@ -7,8 +7,8 @@ ghost use Rattle.dym_base.specs.declared.limits.TheConstants.{LEAST_EXPONENT, GR
 /// 65,536.
 pub fn class_of(len: u64) -> Option<u8>
     ensures value { result ≡ cls len }
-    ensures class { IfSome result
-        (λ e. (LEAST_EXPONENT ≤ e) × (e ≤ GREATEST_EXPONENT) × (len ≤ size e) × (len ≤ SEGMENT_BYTES)) }
+    ensures class { IfSome result (λ e. (LEAST_EXPONENT ≤ e) × (e ≤ GREATEST_EXPONENT)
+        × (len ≤ size e) × (len ≤ SEGMENT_BYTES)) }
 {
     if len <= 32 {
         return Some(5);

@@ -22,7 +22,8 @@ impl Handle {
 
     /// The handle of a number, where its exponent is that of a class. The number 0 is nil, and names no handle.
     pub fn of_number(n: u64) -> Option<Handle>
-        ensures none { IsNone result ↔ ((n / 2 ^ 32 < LEAST_EXPONENT) ⊎ (GREATEST_EXPONENT < n / 2 ^ 32)) }
+        ensures none { IsNone result
+            ↔ ((n / 2 ^ 32 < LEAST_EXPONENT) ⊎ (GREATEST_EXPONENT < n / 2 ^ 32)) }
         ensures some { IfSome result (λ h. n ≡ number h.exp h.index) }
         ensures class { IfSome result (λ h. IsClass h.exp) }
     {
