@@ -67,8 +67,15 @@ module _ (al : Al) {M : Type 1} {𝓤 : Ura M} (𝓛 : Logic 𝓤) (κ : Lft) (q
   abbrev tail : List ℕ
   tail = drop_l (i + m - i) (drop_l i xs)
 
-  abbrev lent : Ptr → ℕ × ℕ × GName → Item 𝓤
-  lent start at = given ((start ≡ block_ptr at.0 at.1) × (m < 2 ^ 64)) (‵ ((MutSlice (named 0) κ byte).own_val (record { ref_ptr = (at.0, at.1 + i); ghost_name = at.2; now = part_of h.items i m }) (slice_val (at.0, at.1 + i) m ∷ [])) ⊛ ‵ (flft κ q) ⊛ ‵ (follows V (Array byte 0) γ at.2 (vec_with_lent h i m)))
+  -- the run as a slice of a length at a place, and the vector that follows it
+  abbrev owned : GName → ℕ × ℕ → ℕ → Item 𝓤
+  owned γ' at n = ‵ ((MutSlice (named 0) κ byte).own_val (record { ref_ptr = at; ghost_name = γ'; now = run }) (slice_val at n ∷ []))
+
+  abbrev following : GName → Fml
+  following γ' = follows V (Array byte 0) γ γ' (vec_with_lent h i m)
+
+  abbrev pub lent : Ptr → ℕ × ℕ × GName → Item 𝓤
+  lent start at = given ((start ≡ block_ptr at.0 at.1) × (m < 2 ^ 64)) (owned at.2 (at.0, at.1 + i) m ⊛ ‵ (flft κ q) ⊛ ‵ (following at.2))
 
   front_long : length front ≡ i
   front_long = length-take-le i xs (omega (arith, li, h.ok.0))
@@ -113,12 +120,12 @@ module _ (al : Al) {M : Type 1} {𝓤 : Ura M} (𝓛 : Logic 𝓤) (κ : Lft) (q
         by ! (all.back E 𝓛 κ q rb ro γ h b o hv at_b fl fc fit (with_lent xs i m ws) (ap length (with_lent_whole xs i m ws l) ∙ long))
 
     exits : (start : Ptr) (γ' : GName) → start ≡ block_ptr b o → m < 2 ^ 64
-        → ent 𝓤 (sep 𝓤 (sem 𝓛 ((MutSlice (named 0) κ byte).own_val (record { ref_ptr = (b, p); ghost_name = γ'; now = run }) (slice_val (b, p) (length run) ∷ []))) (sep 𝓤 (A.lft κ q) (sem 𝓛 (follows V (Array byte 0) γ γ' (vec_with_lent h i m))))) (mean 𝓛 (some (lent start)))
+        → ent 𝓤 (sep 𝓤 (mean 𝓛 (owned γ' (b, p) (length run))) (sep 𝓤 (A.lft κ q) (sem 𝓛 (following γ')))) (mean 𝓛 (some (lent start)))
     exits start γ' there small =
         let same : (b, p) ≡ (b, o + i) = ap (λ (k : ℕ). (b, k)) (omega arith) in
-        qed 𝓛 (‵ ((MutSlice (named 0) κ byte).own_val (record { ref_ptr = (b, p); ghost_name = γ'; now = run }) (slice_val (b, p) (length run) ∷ [])) ∷ ‵ (flft κ q) ∷ ‵ (follows V (Array byte 0) γ γ' (vec_with_lent h i m)) ∷ []) ∵
-        rewrite ! 0 (λ (k : ℕ). ‵ ((MutSlice (named 0) κ byte).own_val (record { ref_ptr = (b, p); ghost_name = γ'; now = run }) (slice_val (b, p) k ∷ []))) run_long refl $
-        rewrite ! 0 (λ (z : ℕ × ℕ). ‵ ((MutSlice (named 0) κ byte).own_val (record { ref_ptr = z; ghost_name = γ'; now = run }) (slice_val z m ∷ []))) same refl $
+        qed 𝓛 (owned γ' (b, p) (length run) ∷ ‵ (flft κ q) ∷ ‵ (following γ') ∷ []) ∵
+        rewrite ! 0 (owned γ' (b, p)) run_long refl $
+        rewrite ! 0 (λ (z : ℕ × ℕ). owned γ' z m) same refl $
         show ! (λ at. mean 𝓛 (lent start at)) (b, o, γ') $ check ! (there, small) $ done !
 
   pub lends_run : (start : Ptr) → start ≡ h.ptr → (vs : List Val)

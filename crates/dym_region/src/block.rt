@@ -24,7 +24,8 @@ impl Owns for Claim {
 impl Move for Claim {
     // With the room of all its bytes it is an empty vector that has that room.
     ghost own_val = { λ a vs. fwand (room_in a.block 0 a.size)
-        (fex Inside (λ it. fsep (feq (List ℕ) it.hollow.items []) (fsep (feq ℕ it.hollow.cap a.size) (Fields.own_val it vs)))) };
+        (fex Inside (λ it. fsep (feq (List ℕ) it.hollow.items [])
+        (fsep (feq ℕ it.hollow.cap a.size) (Fields.own_val it vs)))) };
 }
 
 /// Takes the room out of an empty vector. It begins its block.
@@ -83,8 +84,8 @@ pub(crate) fn join(mut front: Vec<u8, Lodged>, back: Vec<u8, Lodged>) -> Vec<u8,
 // The room of an empty vector as a vector that lies at `start`, and the claim to put it back.
 unsafe fn hollow_out(whole: Vec<u8>, start: *mut u8, size: usize) -> (Vec<u8, Lodged>, Claim)
     requires { (start ≡ whole.ptr) × (whole.len ≡ 0) × (size ≡ whole.cap) × (0 < size) }
-    ensures { (result.0.items ≡ []) × (result.0.cap ≡ size) × (result.0.ptr ≡ block_ptr result.1.block 0)
-        × (result.1.size ≡ size) }
+    ensures { (result.0.items ≡ []) × (result.0.cap ≡ size)
+        × (result.0.ptr ≡ block_ptr result.1.block 0) × (result.1.size ≡ size) }
 {
     (lodge(start, 0, size), Claim { hollow: whole })
 }

@@ -49,7 +49,8 @@ pub(crate) fn bytes_at<A: Allocator>(bytes: &Vec<u8, A>, at: usize, len: usize) 
 /// Copies the segment's bytes from place `at` on into `out`.
 pub(crate) fn read_at<A: Allocator>(bytes: &Vec<u8, A>, at: usize, out: &mut [u8])
     requires { at + length out.old ≤ vec_capacity bytes.now }
-    ensures { out.new ≡ part_of (zeros_behind (vec_capacity bytes.now) bytes.now.items) at (length out.old) }
+    ensures { out.new
+        ≡ part_of (zeros_behind (vec_capacity bytes.now) bytes.now.items) at (length out.old) }
 {
     let end = at + out.len();
     if end <= bytes.len() {
@@ -63,7 +64,8 @@ pub(crate) fn read_at<A: Allocator>(bytes: &Vec<u8, A>, at: usize, out: &mut [u8
 fn read_past<A: Allocator>(bytes: &Vec<u8, A>, at: usize, out: &mut [u8])
     requires within { at + length out.old ≤ vec_capacity bytes.now }
     requires past { vec_len bytes.now ≤ at + length out.old }
-    ensures { out.new ≡ part_of (zeros_behind (vec_capacity bytes.now) bytes.now.items) at (length out.old) }
+    ensures { out.new
+        ≡ part_of (zeros_behind (vec_capacity bytes.now) bytes.now.items) at (length out.old) }
 {
     out.fill(0);
     if at < bytes.len() {

@@ -7,7 +7,7 @@ ghost use Rattle.dym_region.specs.Identity.{start_of};
 ghost use Rattle.dym_region.specs.Lending.{vec_with_lent};
 
 use crate::front::{bytes_at, fill_to, read_at, write_at, zero_at};
-use crate::runs::part_run;
+use crate::runs::run;
 use crate::segment::Segment;
 use dym_base::limits::SEGMENT_BYTES;
 use std_alloc::vec::Lodged;
@@ -47,9 +47,15 @@ impl Segment for RawSegment {
 
     ghost filled = { λ s. vec_len s.bytes };
 
-    ghost lent = { λ s at len ws. record { bytes = vec_with_lent s.bytes at len ws; number = s.number; room = s.room; placed = s.placed } };
+    ghost lent = { λ s at len ws. record {
+      bytes = vec_with_lent s.bytes at len ws;
+      number = s.number;
+      room = s.room;
+      placed = s.placed;
+    } };
 
-    ghost content_is_whole = { λ s. length-zeros_behind (vec_capacity s.bytes) SEGMENT_BYTES (vec_len s.bytes) s.bytes.items s.bytes.ok s.room };
+    ghost content_is_whole = { λ s. length-zeros_behind (vec_capacity s.bytes) SEGMENT_BYTES
+        (vec_len s.bytes) s.bytes.items s.bytes.ok s.room };
 
     fn start(&self) -> *const u8 {
         self.bytes.as_ptr()
@@ -60,7 +66,7 @@ impl Segment for RawSegment {
     }
 
     fn bytes_mut(&mut self, at: u32, len: u32) -> &mut [u8] {
-        part_run(&mut self.bytes, at as usize, len as usize)
+        run(&mut self.bytes, at as usize, len as usize)
     }
 
     fn fill(&mut self, to: u32) {

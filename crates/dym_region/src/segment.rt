@@ -46,8 +46,10 @@ pub trait Segment {
     /// The same to be changed in place. What is written through the result is as long as it is.
     fn bytes_mut(&mut self, at: u32, len: u32) -> &mut [u8]
         requires { at + len ≤ filled self.old }
-        ensures* writes_back { sem 𝓛 (Lends Self.row (Array byte 0) self.entry result (lent self.old at len)) }
-        ensures content { (ws : List ℕ) → content (lent self.old at len ws) ≡ with_lent (content self.old) at len ws }
+        ensures* writes_back { sem 𝓛
+            (Lends Self.row (Array byte 0) self.entry result (lent self.old at len)) }
+        ensures content { (ws : List ℕ) → content (lent self.old at len ws)
+            ≡ with_lent (content self.old) at len ws }
         ensures filled { (ws : List ℕ) → filled (lent self.old at len ws) ≡ filled self.old }
         ensures same { (ws : List ℕ) → id (lent self.old at len ws) ≡ id self.old }
         ensures value { result.now ≡ part_of (content self.old) at len };

@@ -6,7 +6,7 @@ ghost use Rattle.dym_region.specs.Lending.{vec_with_lent};
 ghost use Rattle.dym_region.specs.Identity.{lone_id};
 
 use crate::front::{bytes_at, fill_to, read_at, write_at, zero_at};
-use crate::runs::heap_run;
+use crate::runs::run;
 use crate::segment::Segment;
 use dym_base::limits::SEGMENT_BYTES;
 use std::alloc::{AllocError, Global};
@@ -21,7 +21,8 @@ pub struct VecSegment {
 impl VecSegment {
     /// A segment of zero bytes.
     pub fn new(alloc: Global) -> Result<VecSegment, AllocError>
-        ensures { IfOk result (λ s. ⟦<VecSegment as Segment>⟧.content s ≡ replicate SEGMENT_BYTES 0) }
+        ensures { IfOk result (λ s. ⟦<VecSegment as Segment>⟧.content s
+            ≡ replicate SEGMENT_BYTES 0) }
     {
         let bytes = Vec::with_capacity(alloc, SEGMENT_BYTES as usize)?;
         Ok(VecSegment { bytes })
@@ -37,9 +38,13 @@ impl Segment for VecSegment {
 
     ghost filled = { λ s. vec_len s.bytes };
 
-    ghost lent = { λ s at len ws. record { bytes = vec_with_lent s.bytes at len ws; room = s.room } };
+    ghost lent = { λ s at len ws. record {
+      bytes = vec_with_lent s.bytes at len ws;
+      room = s.room;
+    } };
 
-    ghost content_is_whole = { λ s. length-zeros_behind (vec_capacity s.bytes) SEGMENT_BYTES (vec_len s.bytes) s.bytes.items s.bytes.ok s.room };
+    ghost content_is_whole = { λ s. length-zeros_behind (vec_capacity s.bytes) SEGMENT_BYTES
+        (vec_len s.bytes) s.bytes.items s.bytes.ok s.room };
 
     fn start(&self) -> *const u8 {
         self.bytes.as_ptr()
@@ -50,7 +55,7 @@ impl Segment for VecSegment {
     }
 
     fn bytes_mut(&mut self, at: u32, len: u32) -> &mut [u8] {
-        heap_run(&mut self.bytes, at as usize, len as usize)
+        run(&mut self.bytes, at as usize, len as usize)
     }
 
     fn fill(&mut self, to: u32) {

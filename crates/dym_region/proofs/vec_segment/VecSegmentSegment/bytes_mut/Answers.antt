@@ -23,6 +23,6 @@ returns c =
         content = λ ws. zeros-vec_with_lent s.bytes.cap s.bytes at len ws c.requires;
         filled = λ _. refl;
         same = λ _. refl;
-        value = c.heap_run.ensures.value ∙ sym (part_within s.bytes.cap s.bytes.items at len (omega (arith, c.requires, s.bytes.ok.0)));
+        value = c.run.ensures.value ∙ sym (part_within s.bytes.cap s.bytes.items at len (omega (arith, c.requires, s.bytes.ok.0)));
       },
     )
