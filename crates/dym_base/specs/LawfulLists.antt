@@ -1,5 +1,5 @@
 -- A record of a version within a quota, and the lists of records that later ones may stand on.
-use Rattle.std.specs.Prelude.{◌≡◌, ⊤, ℕ, zero, suc, ◌<◌, ◌≤◌, true, false, List, [], ◌∷◌, map, take, drop}
+use Rattle.std.specs.Prelude.{◌≡◌, ⊤, ℕ, suc, ◌<◌, ◌≤◌, true, false, List, [], ◌∷◌, map, take, drop}
 use Rattle.std.specs.List.{AllByRecursion}
 use Rattle.std.specs.FinMap.{contains_key}
 use Rattle.dym_base.specs.declared.limits.TheConstants.{MOST_DEPTH}
