@@ -1,12 +1,12 @@
 -- How texts that are written one after the other make one text, and counts of faults in parts of a call one count.
 use Rattle.std.specs.Prelude.{◌≡◌, ℕ, ◌+◌, ◌<◌, List, [], ◌∷◌, ◌++◌, refl, length, take, drop, get_or, Option, Some, None, Result, Ok, Err, IsErr, IsErrAnd, flat_map}
 use Rattle.std.proofs.Common.{sym, ◌∙◌, ap, subst, inl, inr, append_assoc, append-nil, arith, take-append-drop, add-one}
-use Rattle.std.proofs.Math.Seq.{drop-cons, take-suc}
+use Rattle.std.proofs.Math.Seq.{drop-cons}
 use Rattle.std.proofs.lemmas.Grind.{flat_map-append}
 use Rattle.std.specs.Io.KnownBytes.{Appends, Keeps}
 use Rattle.std.proofs.KnownBytes.{Appends-nil, Appends-trans}
 use Rattle.dym_io.specs.Faults.{Rose, RoseOnce}
-use Rattle.dym_io.specs.Sink.{Output, Appended, AppendedFront, Faulted, Stopped, Writes, Blames, WritesOr, Leaves}
+use Rattle.dym_io.specs.Sink.{Output, Appended, AppendedFront, Stopped, Writes, Blames, WritesOr, Leaves}
 
 -- ---- a fault in the last part of a call
 
@@ -72,18 +72,6 @@ stopped_after a b c t u p q = record {
   rose = rose_later a.faults b.faults c.faults p.faults q.rose;
 }
 
--- a call failed, behind a text that is written
-pub stopped_behind : (a b c : Output) (t u : List ℕ) → Appended a b t → Faulted b c → Stopped a c (t ++ u)
-stopped_behind a b c t u p q = record {
-  front = record { front = t; rest = u; whole = refl; written = appends_kept a.written b.written c.written t p.written q.written; flushed = q.flushed ∙ p.flushed };
-  rose = rose_later a.faults b.faults c.faults p.faults q.rose;
-}
-
--- of a text that is written in parts one is cut short: `done` is written, and `rest` comes behind it
-pub stopped_part : (a b c : Output) (text done t rest : List ℕ) → Appended a b done → Stopped b c t → text ≡ (done ++ t) ++ rest → Stopped a c text
-stopped_part a b c text done t rest p q e =
-    subst (Stopped a c) (sym e) (stopped_within a c (done ++ t) rest (stopped_after a b c done t p q))
-
 -- ---- a text that is written after another
 
 pub writes_after : {T E : Type 0} → (a b c : Output) (t u : List ℕ) (r : Result T E) → Appended a b t → Writes b c u r → Writes a c (t ++ u) r
@@ -93,10 +81,6 @@ writes_after a b c t u (Err e) p q = stopped_after a b c t u p q
 -- what the count tells of a cause it tells behind a text that was written, too
 pub blames_later : (is_sinks : Type 0) (a b c : Output) (t : List ℕ) → Appended a b t → Blames is_sinks b c → Blames is_sinks a c
 blames_later is_sinks a b c t p q = (λ is. rose_later a.faults b.faults c.faults p.faults (q.0 is), λ other. q.1 other ∙ p.faults)
-
-pub writes_or_after : {T E : Type 0} → (IsSinks : E → Type 0) (a b c : Output) (t u : List ℕ) (r : Result T E) → Appended a b t → WritesOr IsSinks b c u r → WritesOr IsSinks a c (t ++ u) r
-writes_or_after IsSinks a b c t u (Ok x) p q = appended_both a b c t u p q
-writes_or_after IsSinks a b c t u (Err e) p q = (front_after a b c t u p q.0, blames_later (IsSinks e) a b c t p q.1)
 
 -- ---- at an error that `?` passes on
 
@@ -112,11 +96,6 @@ writes_cut a b t u r is p = writes_stopped a b (t ++ u) r is (stopped_within a b
 pub writes_or_stopped : {T E : Type 0} → (IsSinks : E → Type 0) (a b : Output) (t : List ℕ) (r : Result T E) → IsErrAnd r IsSinks → Stopped a b t → WritesOr IsSinks a b t r
 writes_or_stopped IsSinks a b t (Ok x) is p = absurd is
 writes_or_stopped IsSinks a b t (Err e) is p = (p.front, (λ _. p.rose, λ other. absurd (other is)))
-
--- an error of another cause, as `?` makes it, behind the front of the text
-pub writes_or_other : {T E : Type 0} → (IsSinks : E → Type 0) (a b : Output) (t u : List ℕ) (r : Result T E) (cause : E) → IsErrAnd r (λ e. e ≡ cause) → ¬ IsSinks cause → Appended a b t → WritesOr IsSinks a b (t ++ u) r
-writes_or_other IsSinks a b t u (Ok x) cause is other p = absurd is
-writes_or_other IsSinks a b t u (Err e) cause is other p = (front_of_appended a b t u p, (λ h. absurd (other (subst IsSinks is h)), λ _. p.faults))
 
 -- ---- a chain of texts: all but a rest is written
 
@@ -151,13 +130,6 @@ leaves_last a b c text t r p q =
 pub leaves_nothing : (a b : Output) (text : List ℕ) → Leaves a b text [] → Appended a b text
 leaves_nothing a b text p = subst (Appended a b) (sym (p.whole ∙ append-nil p.done)) p.appended
 
-pub leaves_front : (a b : Output) (text rest : List ℕ) → Leaves a b text rest → AppendedFront a b text
-leaves_front a b text rest p = record { front = p.done; rest = rest; whole = p.whole; written = p.appended.written; flushed = p.appended.flushed }
-
--- the next call failed
-pub leaves_stopped : (a b c : Output) (text rest : List ℕ) → Leaves a b text rest → Faulted b c → Stopped a c text
-leaves_stopped a b c text rest p q = subst (Stopped a c) (sym p.whole) (stopped_behind a b c p.done rest p.appended q)
-
 -- ---- a loop: of the texts of some items, those of the first i are written. `d` is what a read past the end gives
 
 texts_at_item : {X : Type 0} → (f : X → List ℕ) (items : List X) (i : ℕ) (d : X) → i < length items
@@ -165,17 +137,6 @@ texts_at_item : {X : Type 0} → (f : X → List ℕ) (items : List X) (i : ℕ)
 texts_at_item f items i d within =
     let tail : drop i items ≡ get_or items i d ∷ drop (i + 1) items = rw add-one (drop-cons items i d within) in
     ap (flat_map f) (sym (take-append-drop i items)) ∙ flat_map-append f (take i items) (drop i items) ∙ ap (λ l. flat_map f (take i items) ++ flat_map f l) tail
-
-texts_to_item : {X : Type 0} → (f : X → List ℕ) (items : List X) (i : ℕ) (d : X) → i < length items
-    → flat_map f (take (i + 1) items) ≡ flat_map f (take i items) ++ f (get_or items i d)
-texts_to_item f items i d within =
-    let one : take (i + 1) items ≡ take i items ++ (get_or items i d ∷ []) = rw add-one (take-suc items i d within) in
-    ap (flat_map f) one ∙ flat_map-append f (take i items) (get_or items i d ∷ []) ∙ ap (λ l. flat_map f (take i items) ++ l) (append-nil (f (get_or items i d)))
-
-pub each_more : {X : Type 0} → (f : X → List ℕ) (items : List X) (i : ℕ) (d : X) (a b c : Output) → i < length items
-    → Appended a b (flat_map f (take i items)) → Appended b c (f (get_or items i d)) → Appended a c (flat_map f (take (i + 1) items))
-each_more f items i d a b c within p q =
-    subst (Appended a c) (sym (texts_to_item f items i d within)) (appended_both a b c (flat_map f (take i items)) (f (get_or items i d)) p q)
 
 pub each_cut : {X : Type 0} → (f : X → List ℕ) (items : List X) (i : ℕ) (d : X) (a b c : Output) → i < length items
     → Appended a b (flat_map f (take i items)) → Stopped b c (f (get_or items i d)) → Stopped a c (flat_map f items)
@@ -186,11 +147,6 @@ each_cut f items i d a b c within p q =
     subst (Stopped a c) (sym (texts_at_item f items i d within)) whole
 
 -- the same for an item of a type parameter or of a type that owns memory, which goals name with the equation
-pub each_more_item : {X : Type 0} → (f : X → List ℕ) (items : List X) (i : ℕ) (x : X) (a b c : Output) → i < length items → x ≡ get_or items i x
-    → Appended a b (flat_map f (take i items)) → Appended b c (f x) → Appended a c (flat_map f (take (i + 1) items))
-each_more_item f items i x a b c within is p q =
-    each_more f items i x a b c within p (subst (λ y. Appended b c (f y)) is q)
-
 pub each_cut_item : {X : Type 0} → (f : X → List ℕ) (items : List X) (i : ℕ) (x : X) (a b c : Output) → i < length items → x ≡ get_or items i x
     → Appended a b (flat_map f (take i items)) → Stopped b c (f x) → Stopped a c (flat_map f items)
 each_cut_item f items i x a b c within is p q =
