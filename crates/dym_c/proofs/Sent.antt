@@ -18,7 +18,7 @@ use Rattle.dym_c.specs.contracts.object_content.ObjectContent as inside
 use Rattle.dym_c.specs.contracts.object.DymObject as kept
 use Rattle.dym_object.specs.contracts.object.Object as Object
 use Rattle.dym_object.proofs.object.Object.TheSendSync as object
-use Rattle.dym_quota.specs.contracts.fixed.FixedSupply as fixed
+use Rattle.dym_quota.specs.contracts.fixed_supply.FixedSupply as fixed
 use Rattle.dym_region.specs.contracts.block.Claim as claim
 use Rattle.dym_region.specs.contracts.block.Claim.TheInside as claim_fields
 use Rattle.dym_region.specs.contracts.region.Region as region

@@ -29,6 +29,16 @@ Within v = length v.held ≤ v.quota
 abbrev Alone : List PassView → Type 0
 Alone views = (pass other : ℕ) (v w : PassView) → IsViewAt views pass v → IsViewAt views other w → v.opens ≡ true → other ≢ pass → w ≡ spent
 
+-- views that are the same agree in each part
+same_quota : {v w : PassView} → v ≡ w → v.quota ≡ w.quota
+same_quota e j = (e j).quota
+
+same_stock : {v w : PassView} → v ≡ w → v.stock ≡ w.stock
+same_stock e j = (e j).stock
+
+same_opens : {v w : PassView} → v ≡ w → v.opens ≡ w.opens
+same_opens e j = (e j).opens
+
 -- each identity once, said by weights
 pub weights : (queued : List SegmentId) (views : List PassView) (r : SegmentRule queued views) (h : SegmentId → ℕ) → sum_by h r.stock ≡ sum_by h queued + sum_by (weight h) views
 weights queued views r h =
@@ -43,20 +53,20 @@ pub knows : (stock : List SegmentId) (v : PassView) → KnowsStock stock v → �
 knows stock v k not = ⊎_elim (λ (e : v ≡ spent). absurd (not e)) (λ (e : v.stock ≡ stock). e) k
 
 pub has_quota : (v : PassView) → 0 < v.quota → ¬ (v ≡ spent)
-has_quota v much e = let none : v.quota ≡ 0 = ap (λ (u : PassView). u.quota) e in absurd (omega arith)
+has_quota v much e = let none : v.quota ≡ 0 = same_quota e in absurd (omega arith)
 
 pub has_stock : (v : PassView) → 0 < length v.stock → ¬ (v ≡ spent)
-has_stock v much e = let none : length v.stock ≡ 0 = ap (λ (u : PassView). length u.stock) e in absurd (omega arith)
+has_stock v much e = let none : length v.stock ≡ 0 = ap length (same_stock e) in absurd (omega arith)
 
 pub is_open : (v : PassView) → v.opens ≡ true → ¬ (v ≡ spent)
-is_open v o e = true≢false (sym o ∙ ap (λ (u : PassView). u.opens) e)
+is_open v o e = true≢false (sym o ∙ same_opens e)
 
 alone-set : (views : List PassView) (pass : ℕ) (v w : PassView) → IsViewAt views pass v → (w.opens ≡ true → v.opens ≡ true) → (v ≡ spent → w ≡ spent) → Alone views → Alone (set views pass w)
 alone-set views pass v w at opens goes alone a b p q ea eb o n =
     ⊎_elim
     (λ (x : (a ≡ pass) × (w ≡ p)).
     ⊎_elim (λ (y : (b ≡ pass) × (w ≡ q)). absurd (n (y.0 ∙ sym x.0)))
-    (λ (y : (b ≢ pass) × (get_elem? views b ≡ some q)). alone pass b v q at y.1 (opens (ap (λ (u : PassView). u.opens) x.1 ∙ o)) y.0)
+    (λ (y : (b ≢ pass) × (get_elem? views b ≡ some q)). alone pass b v q at y.1 (opens (same_opens x.1 ∙ o)) y.0)
     (at_set views pass b w q eb))
     (λ (x : (a ≢ pass) × (get_elem? views a ≡ some p)).
     ⊎_elim (λ (y : (b ≡ pass) × (w ≡ q)). sym y.1 ∙ goes (alone a pass p v x.1 at o (λ e. x.0 (sym e))))
@@ -91,12 +101,12 @@ pub stocking_keeps : (queued : List SegmentId) (views : List PassView) (pass : �
 stocking_keeps queued views pass v w one r at s =
     let same = knows r.stock v (r.known pass v at) (is_open v s.opens) in
     let stock = r.stock ++ one ∷ [] in
-    let quota : w.quota ≡ v.quota + 1 = ap (λ (u : PassView). u.quota) s.is in
-    let held : length w.held ≡ length v.held = ap (λ (u : PassView). length u.held) s.is in
+    let quota : w.quota ≡ v.quota + 1 = same_quota s.is in
+    let held : length w.held ≡ length v.held = λ j. length (s.is j).held in
     let mine = r.within pass v at in
     record {
       stock = stock;
-      known = each-set (KnowsStock stock) views pass w (inr (ap (λ (u : PassView). u.stock) s.is ∙ ap (λ (l : List SegmentId). l ++ one ∷ []) same)) (λ j u n e. inl (r.alone pass j v u at e s.opens n));
+      known = each-set (KnowsStock stock) views pass w (inr (same_stock s.is ∙ ap (λ (l : List SegmentId). l ++ one ∷ []) same)) (λ j u n e. inl (r.alone pass j v u at e s.opens n));
       distinct = all_pairs_push (λ a b. a ≢ b) r.stock one r.distinct (subst (λ (l : List SegmentId). (k : ℕ) (d : SegmentId) → k < length l → get_or l k d ≢ one) same s.fresh);
       each_once = once stock (queued ++ one ∷ []) (set views pass w) (λ h.
           let sum = sum-set (weight h) views pass v w at in
@@ -113,12 +123,12 @@ pub pop_keeps : (queued : List SegmentId) (views : List PassView) (pass : ℕ) (
 pop_keeps queued views pass v w one r at s =
     let not = has_quota v (let b = s.below in omega arith) in
     let same = knows r.stock v (r.known pass v at) not in
-    let quota : w.quota ≡ v.quota = ap (λ (u : PassView). u.quota) s.is in
-    let held : length w.held ≡ length (v.held ++ one ∷ []) = ap (λ (u : PassView). length u.held) s.is in
+    let quota : w.quota ≡ v.quota = same_quota s.is in
+    let held : length w.held ≡ length (v.held ++ one ∷ []) = λ j. length (s.is j).held in
     let below = s.below in
     record {
       stock = r.stock;
-      known = each-set (KnowsStock r.stock) views pass w (inr (ap (λ (u : PassView). u.stock) s.is ∙ same)) (λ j u n e. r.known j u e);
+      known = each-set (KnowsStock r.stock) views pass w (inr (same_stock s.is ∙ same)) (λ j u n e. r.known j u e);
       distinct = r.distinct;
       each_once = once r.stock queued (set views pass w) (λ h.
           let sum = sum-set (weight h) views pass v w at in
@@ -127,7 +137,7 @@ pop_keeps queued views pass v w one r at s =
           omega (arith, sum_by-append h v.held (one ∷ []), sum_by-cons h one queued, sum_by-cons h one []));
       within = each-set Within views pass w (omega (arith, length-append v.held (one ∷ []))) (λ j u n e. r.within j u e);
       quotas = (let sum = sum-set quota_of views pass v w at in let before = r.quotas in omega arith);
-      alone = alone-set views pass v w at (λ o. sym (ap (λ (u : PassView). u.opens) s.is) ∙ o) (λ e. absurd (not e)) r.alone;
+      alone = alone-set views pass v w at (λ o. sym (same_opens s.is) ∙ o) (λ e. absurd (not e)) r.alone;
     }
 
 -- ---- push
@@ -140,10 +150,10 @@ push_keeps queued views pass v w one r at s =
     let mine = r.within pass v at in
     let not = has_quota v (omega (arith, length-append g.front (one ∷ g.back))) in
     let same = knows r.stock v (r.known pass v at) not in
-    let quota : w.quota ≡ v.quota = ap (λ (u : PassView). u.quota) s.is in
+    let quota : w.quota ≡ v.quota = same_quota s.is in
     record {
       stock = r.stock;
-      known = each-set (KnowsStock r.stock) views pass w (inr (ap (λ (u : PassView). u.stock) s.is ∙ same)) (λ j u n e. r.known j u e);
+      known = each-set (KnowsStock r.stock) views pass w (inr (same_stock s.is ∙ same)) (λ j u n e. r.known j u e);
       distinct = r.distinct;
       each_once = once r.stock (queued ++ one ∷ []) (set views pass w) (λ h.
           let sum = sum-set (weight h) views pass v w at in
@@ -153,7 +163,7 @@ push_keeps queued views pass v w one r at s =
           omega (arith, sum_by-append h g.front (one ∷ g.back), sum_by-append h g.front g.back, sum_by-append h queued (one ∷ []), sum_by-cons h one g.back, sum_by-cons h one []));
       within = each-set Within views pass w (omega (arith, length-append g.front (one ∷ g.back), length-append g.front g.back)) (λ j u n e. r.within j u e);
       quotas = (let sum = sum-set quota_of views pass v w at in let before = r.quotas in omega arith);
-      alone = alone-set views pass v w at (λ o. sym (ap (λ (u : PassView). u.opens) s.is) ∙ o) (λ e. absurd (not e)) r.alone;
+      alone = alone-set views pass v w at (λ o. sym (same_opens s.is) ∙ o) (λ e. absurd (not e)) r.alone;
     }
 
 -- ---- split
@@ -164,10 +174,10 @@ nothing (x ∷ xs) e = absurd (omega arith)
 -- a half of a spent view is spent
 half_spent : (v u : PassView) → v ≡ spent → u.quota ≤ v.quota → length u.held ≤ u.quota → u.stock ≡ v.stock → u.opens ≡ false → u ≡ spent
 half_spent v u e less within stock closed =
-    let none : v.quota ≡ 0 = ap (λ (x : PassView). x.quota) e in
+    let none : v.quota ≡ 0 = same_quota e in
     let quota : u.quota ≡ 0 = omega arith in
     let held : u.held ≡ [] = nothing u.held (omega arith) in
-    let empty : u.stock ≡ [] = stock ∙ ap (λ (x : PassView). x.stock) e in
+    let empty : u.stock ≡ [] = stock ∙ same_stock e in
     λ i. record { quota = quota i; held = held i; stock = empty i; opens = closed i }
 
 half_knows : (stock : List SegmentId) (v u : PassView) → KnowsStock stock v → (v ≡ spent → u ≡ spent) → u.stock ≡ v.stock → KnowsStock stock u
@@ -181,7 +191,7 @@ alone-push views t closed goes alone a b p q ea eb o n =
     ⊎_elim
     (λ (x : get_elem? views a ≡ some p).
     ⊎_elim (λ (y : get_elem? views b ≡ some q). alone a b p q x y o n) (λ (y : t ≡ q). sym y ∙ goes a p x o) (at_snoc views t q b eb))
-    (λ (x : t ≡ p). absurd (closed_not t closed (ap (λ (u : PassView). u.opens) x ∙ o)))
+    (λ (x : t ≡ p). absurd (closed_not t closed (same_opens x ∙ o)))
     (at_snoc views t p a ea)
 
 pub split_keeps : (queued : List SegmentId) (views : List PassView) (pass : ℕ) (v left right : PassView) → SegmentRule queued views → IsViewAt views pass v → IsSplit v left right
@@ -199,7 +209,7 @@ split_keeps queued views pass v left right r at s =
     let alone = alone-set views pass v left at (λ o. absurd (closed_not left s.closed.0 o)) goes_left r.alone in
     let others_open : (j : ℕ) (p : PassView) → IsViewAt vs j p → p.opens ≡ true → right ≡ spent = λ j p e o.
     ⊎_elim
-    (λ (x : (j ≡ pass) × (left ≡ p)). absurd (closed_not left s.closed.0 (ap (λ (u : PassView). u.opens) x.1 ∙ o)))
+    (λ (x : (j ≡ pass) × (left ≡ p)). absurd (closed_not left s.closed.0 (same_opens x.1 ∙ o)))
     (λ (x : (j ≢ pass) × (get_elem? views j ≡ some p)). goes_right (r.alone j pass p v x.1 at o (λ e. x.0 (sym e))))
     (at_set views pass j left p e) in
     record {
@@ -225,10 +235,10 @@ pub join_keeps : (queued : List SegmentId) (views : List PassView) (pass : ℕ) 
 join_keeps queued views pass v other w b r at apart at_other s =
     let vs = set views pass b in
     let there : IsViewAt vs other w = set_else views pass other b apart ∙ at_other in
-    let quota : b.quota ≡ v.quota + w.quota = ap (λ (u : PassView). u.quota) s.is in
-    let held : length b.held ≡ length (v.held ++ w.held) = ap (λ (u : PassView). length u.held) s.is in
-    let closed : b.opens ≡ false = ap (λ (u : PassView). u.opens) s.is in
-    let stock : b.stock ≡ v.stock = ap (λ (u : PassView). u.stock) s.is in
+    let quota : b.quota ≡ v.quota + w.quota = same_quota s.is in
+    let held : length b.held ≡ length (v.held ++ w.held) = λ j. length (s.is j).held in
+    let closed : b.opens ≡ false = same_opens s.is in
+    let stock : b.stock ≡ v.stock = same_stock s.is in
     let mine = r.within pass v at in
     let theirs = r.within other w at_other in
     let knows_b : KnowsStock r.stock b =
@@ -237,9 +247,9 @@ join_keeps queued views pass v other w b r at apart at_other s =
     (λ (e : v.stock ≡ r.stock). inr (stock ∙ e))
     (r.known pass v at) in
     let was : (a : ℕ) (p : PassView) → IsViewAt (set vs other spent) a p → p.opens ≡ true → (a ≢ pass) × (a ≢ other) × (IsViewAt views a p) = λ a p e o.
-    ⊎_elim (λ (x : (a ≡ other) × (spent ≡ p)). absurd (true≢false (sym o ∙ sym (ap (λ (u : PassView). u.opens) x.1))))
+    ⊎_elim (λ (x : (a ≡ other) × (spent ≡ p)). absurd (true≢false (sym o ∙ sym (same_opens x.1))))
     (λ (x : (a ≢ other) × (get_elem? vs a ≡ some p)).
-    ⊎_elim (λ (y : (a ≡ pass) × (b ≡ p)). absurd (closed_not b closed (ap (λ (u : PassView). u.opens) y.1 ∙ o)))
+    ⊎_elim (λ (y : (a ≡ pass) × (b ≡ p)). absurd (closed_not b closed (same_opens y.1 ∙ o)))
     (λ (y : (a ≢ pass) × (get_elem? views a ≡ some p)). (y.0, x.0, y.1))
     (at_set views pass a b p x.1))
     (at_set vs other a spent p e) in

@@ -20,71 +20,85 @@ heads x y xs ys e = ap (λ (zs : List SegmentId). get_or zs 0 x) (sym e)
 tails : (x y : SegmentId) (xs ys : List SegmentId) → x ∷ xs ≡ y ∷ ys → xs ≡ ys
 tails x y xs ys e = ap (drop 1) e
 
-module _ {X : Type 0} where
-  more : (region from : ℕ) (y : Option X) (xs ys : List (Option X)) (id : SegmentId)
-      → GivesBack (missing region (from + 1) ys) (missing region (from + 1) xs) id → GivesBack (missing region from (y ∷ ys)) (missing region from (y ∷ xs)) id
-  more region from None xs ys id back = record { front = at region from ∷ back.front; back = back.back; was = ap (λ zs. at region from ∷ zs) back.was; is = ap (λ zs. at region from ∷ zs) back.is }
-  more region from (Some y) xs ys id back = back
+module _ {X : Type 0} (region : ℕ) where
+  -- `id` is missing from the first slots beside what is missing from the second
+  abbrev GoesOut : ℕ → List (Option X) → List (Option X) → SegmentId → Type 0
+  GoesOut from xs ys id = GivesBack (missing region from xs) (missing region from ys) id
+
+  more : (from : ℕ) (y : Option X) (xs ys : List (Option X)) (id : SegmentId)
+      → GoesOut (from + 1) ys xs id → GoesOut from (y ∷ ys) (y ∷ xs) id
+  more from None xs ys id back = record { front = at region from ∷ back.front; back = back.back; was = ap (λ zs. at region from ∷ zs) back.was; is = ap (λ zs. at region from ∷ zs) back.is }
+  more from (Some y) xs ys id back = back
+
+  first_out : (from : ℕ) (xs : List (Option X)) (x : X) → GoesOut from (None ∷ xs) (Some x ∷ xs) (at region (from + 0))
+  first_out from xs x = record { front = []; back = missing region (from + 1) xs; was = ap (λ n. at region n ∷ missing region (from + 1) xs) (omega arith); is = refl }
 
   -- a segment that stands at its place goes out
-  pub goes_out : (region from : ℕ) (xs : List (Option X)) (k : ℕ) (x : X) → get_or xs k None ≡ Some x → GivesBack (missing region from (set xs k None)) (missing region from xs) (at region (from + k))
-  goes_out region from [] k x is = absurd cc
-  goes_out region from (y ∷ xs) zero x is =
-      elim y as (λ y. y ≡ Some x → GivesBack (missing region from (None ∷ xs)) (missing region from (y ∷ xs)) (at region (from + 0))) [
+  pub goes_out : (from : ℕ) (xs : List (Option X)) (k : ℕ) (x : X) → get_or xs k None ≡ Some x → GoesOut from (set xs k None) xs (at region (from + k))
+  goes_out from [] k x is = absurd cc
+  goes_out from (y ∷ xs) zero x is =
+      elim y as (λ y. y ≡ Some x → GoesOut from (None ∷ xs) (y ∷ xs) (at region (from + 0))) [
         | None ↦ λ e. absurd cc
-        | Some z ↦ λ e. record { front = []; back = missing region (from + 1) xs; was = ap (λ n. at region n ∷ missing region (from + 1) xs) (omega arith); is = refl }
+        | Some z ↦ λ e. first_out from xs z
       ] is
-  goes_out region from (y ∷ xs) (suc k) x is = subst (GivesBack (missing region from (y ∷ set xs k None)) (missing region from (y ∷ xs))) (one_on region from k) (more region from y xs (set xs k None) _ (goes_out region (from + 1) xs k x is))
+  goes_out from (y ∷ xs) (suc k) x is = subst (GoesOut from (y ∷ set xs k None) (y ∷ xs)) (one_on region from k) (more from y xs (set xs k None) _ (goes_out (from + 1) xs k x is))
 
   -- and comes back
-  pub comes_back : (region from : ℕ) (xs : List (Option X)) (k : ℕ) (x : X) → k < length xs → get_or xs k None ≡ None → GivesBack (missing region from xs) (missing region from (set xs k (Some x))) (at region (from + k))
-  comes_back region from [] k x l is = absurd (omega arith)
-  comes_back region from (y ∷ xs) zero x l is =
-      elim y as (λ y. y ≡ None → GivesBack (missing region from (y ∷ xs)) (missing region from (Some x ∷ xs)) (at region (from + 0))) [
-        | None ↦ λ e. record { front = []; back = missing region (from + 1) xs; was = ap (λ n. at region n ∷ missing region (from + 1) xs) (omega arith); is = refl }
+  pub comes_back : (from : ℕ) (xs : List (Option X)) (k : ℕ) (x : X) → k < length xs → get_or xs k None ≡ None → GoesOut from xs (set xs k (Some x)) (at region (from + k))
+  comes_back from [] k x l is = absurd (omega arith)
+  comes_back from (y ∷ xs) zero x l is =
+      elim y as (λ y. y ≡ None → GoesOut from (y ∷ xs) (Some x ∷ xs) (at region (from + 0))) [
+        | None ↦ λ e. first_out from xs x
         | Some z ↦ λ e. absurd cc
       ] is
-  comes_back region from (y ∷ xs) (suc k) x l is = subst (GivesBack (missing region from (y ∷ xs)) (missing region from (y ∷ set xs k (Some x)))) (one_on region from k) (more region from y (set xs k (Some x)) xs _ (comes_back region (from + 1) xs k x (omega arith) is))
+  comes_back from (y ∷ xs) (suc k) x l is = subst (GoesOut from (y ∷ xs) (y ∷ set xs k (Some x))) (one_on region from k) (more from y (set xs k (Some x)) xs _ (comes_back (from + 1) xs k x (omega arith) is))
 
   -- a segment is out whose place is empty
-  pub empty_held : (region from : ℕ) (xs : List (Option X)) (k : ℕ) → k < length xs → get_or xs k None ≡ None → IsHeld (missing region from xs) (at region (from + k))
-  empty_held region from [] k l is = absurd (omega arith)
-  empty_held region from (y ∷ xs) zero l is =
+  pub empty_held : (from : ℕ) (xs : List (Option X)) (k : ℕ) → k < length xs → get_or xs k None ≡ None → IsHeld (missing region from xs) (at region (from + k))
+  empty_held from [] k l is = absurd (omega arith)
+  empty_held from (y ∷ xs) zero l is =
       elim y as (λ y. y ≡ None → IsHeld (missing region from (y ∷ xs)) (at region (from + 0))) [
         | None ↦ λ e. record { front = []; back = missing region (from + 1) xs; is = ap (λ n. at region n ∷ missing region (from + 1) xs) (omega arith) }
         | Some z ↦ λ e. absurd cc
       ] is
-  empty_held region from (y ∷ xs) (suc k) l is =
-      let rest : IsHeld (missing region (from + 1) xs) (at region (from + suc k)) = subst (IsHeld (missing region (from + 1) xs)) (one_on region from k) (empty_held region (from + 1) xs k (omega arith) is) in
+  empty_held from (y ∷ xs) (suc k) l is =
+      let rest : IsHeld (missing region (from + 1) xs) (at region (from + suc k)) = subst (IsHeld (missing region (from + 1) xs)) (one_on region from k) (empty_held (from + 1) xs k (omega arith) is) in
       elim y as (λ y. IsHeld (missing region from (y ∷ xs)) (at region (from + suc k))) [
         | None ↦ record { front = at region from ∷ rest.front; back = rest.back; is = ap (λ zs. at region from ∷ zs) rest.is }
         | Some z ↦ rest
       ]
 
   -- where a segment is out its place is empty
-  pub record IsEmptyAt (region from : ℕ) (xs : List (Option X)) (id : SegmentId) : Type 0 where
+  pub record IsEmptyAt (from : ℕ) (xs : List (Option X)) (id : SegmentId) : Type 0 where
     pub place : ℕ
     pub within : place < length xs
     pub empty : get_or xs place None ≡ None
     pub region_is : id.region ≡ region
     pub number_is : id.number ≡ from + place
 
-  next : (region from : ℕ) (y : Option X) (xs : List (Option X)) (id : SegmentId) → IsEmptyAt region (from + 1) xs id → IsEmptyAt region from (y ∷ xs) id
-  next region from y xs id e = record { place = suc e.place; within = (let w = e.within in omega arith); empty = e.empty; region_is = e.region_is; number_is = (let n = e.number_is in omega arith) }
+  next : (from : ℕ) (y : Option X) (xs : List (Option X)) (id : SegmentId) → IsEmptyAt (from + 1) xs id → IsEmptyAt from (y ∷ xs) id
+  next from y xs id e = record { place = suc e.place; within = (let w = e.within in omega arith); empty = e.empty; region_is = e.region_is; number_is = (let n = e.number_is in omega arith) }
 
-  pub held_empty : (region from : ℕ) (xs : List (Option X)) (front back : List SegmentId) (id : SegmentId) → missing region from xs ≡ front ++ id ∷ back → IsEmptyAt region from xs id
-  held_empty region from [] front back id is = absurd (let n = ap length is in omega (arith, length-append front (id ∷ back)))
-  held_empty region from (Some x ∷ xs) front back id is = next region from (Some x) xs id (held_empty region (from + 1) xs front back id is)
-  held_empty region from (None ∷ xs) [] back id is =
+  pub held_empty : (from : ℕ) (xs : List (Option X)) (front back : List SegmentId) (id : SegmentId) → missing region from xs ≡ front ++ id ∷ back → IsEmptyAt from xs id
+  held_empty from [] front back id is = absurd (let n = ap length is in omega (arith, length-append front (id ∷ back)))
+  held_empty from (Some x ∷ xs) front back id is = next from (Some x) xs id (held_empty (from + 1) xs front back id is)
+  held_empty from (None ∷ xs) [] back id is =
       let e : id ≡ at region from = heads (at region from) id (missing region (from + 1) xs) back is in
       record { place = 0; within = omega arith; empty = refl; region_is = ap (λ (z : SegmentId). z.region) e; number_is = ap (λ (z : SegmentId). z.number) e ∙ omega arith }
-  held_empty region from (None ∷ xs) (f ∷ front) back id is = next region from None xs id (held_empty region (from + 1) xs front back id (tails (at region from) f (missing region (from + 1) xs) (front ++ id ∷ back) is))
+  held_empty from (None ∷ xs) (f ∷ front) back id is = next from None xs id (held_empty (from + 1) xs front back id (tails (at region from) f (missing region (from + 1) xs) (front ++ id ∷ back) is))
 
   -- no segment is out where each stands at its place
-  pub none_missing : (region from : ℕ) (xs : List X) → missing region from (map Some xs) ≡ []
-  none_missing region from [] = refl
-  none_missing region from (x ∷ xs) = none_missing region (from + 1) xs
+  pub none_missing : (from : ℕ) (xs : List X) → missing region from (map Some xs) ≡ []
+  none_missing from [] = refl
+  none_missing from (x ∷ xs) = none_missing (from + 1) xs
 
+  -- all are there where none is out
+  pub all_present : (from : ℕ) (xs : List (Option X)) → missing region from xs ≡ [] → map Some (present xs) ≡ xs
+  all_present from [] none = refl
+  all_present from (None ∷ xs) none = absurd cc
+  all_present from (Some y ∷ xs) none = ap (λ zs. Some y ∷ zs) (all_present (from + 1) xs none)
+
+module _ {X : Type 0} where
   -- those that are there, of one slot more
   pub present_some : (xs : List (Option X)) (x : X) → present (xs ++ Some x ∷ []) ≡ present xs ++ x ∷ []
   present_some [] x = refl
@@ -100,12 +114,6 @@ module _ {X : Type 0} where
   length-present [] = omega arith
   length-present (None ∷ xs) = let l = length-present xs in omega arith
   length-present (Some y ∷ xs) = let l = length-present xs in omega arith
-
-  -- all are there where none is out
-  pub all_present : (region from : ℕ) (xs : List (Option X)) → missing region from xs ≡ [] → map Some (present xs) ≡ xs
-  all_present region from [] none = refl
-  all_present region from (None ∷ xs) none = absurd cc
-  all_present region from (Some y ∷ xs) none = ap (λ zs. Some y ∷ zs) (all_present region (from + 1) xs none)
 
 -- one less is out
 pub fewer_by_one : (old new : List SegmentId) (id : SegmentId) → GivesBack old new id → length new + 1 ≡ length old

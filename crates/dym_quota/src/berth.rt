@@ -1,12 +1,16 @@
 //! A right to a part of a queue's segments.
-ghost use Rattle.std.specs.Prelude.{◌≡◌, ◌<◌, ◌≤◌, length};
+ghost use Rattle.std.specs.Prelude.{None, ◌≡◌, ◌<◌, ◌≤◌, ◌++◌, [], ◌∷◌, length};
 ghost use Rattle.std.specs.Arc.{arc_value};
 ghost use Rattle.crossbeam_queue.specs.Passes.{view, IsPassOf, ruled_capacity};
+ghost use Rattle.dym_quota.specs.HeldIds.{IsHeld, GivesBack};
 
 use crate::rule::{SegmentLine, SegmentPass};
+use crate::steps::{give, take};
+use crate::supply::Supply;
+use dym_region::RawSegment;
 use std::alloc::Global;
 use std::marker::PhantomData;
-use std::sync::Arc;
+use std::sync::{Arc, Wait};
 
 /// A supply of segments that stand in one queue, which other berths take from too.
 ///
@@ -25,4 +29,42 @@ pub struct Berth<R> {
     ghost some_quota: { 0 < quota },
     ghost counts_quota: { (view pass).quota ≡ quota },
     ghost counts_held: { length (view pass).held ≡ held },
+}
+
+impl<R: Wait> Supply for Berth<R> {
+    type Seg = RawSegment;
+
+    type Context = R;
+
+    ghost use Rattle.dym_base.specs.Origins.{shared};
+    ghost use Rattle.dym_quota.specs.QueueShape.{queue_name, known_by};
+
+    ghost quota_of = { λ b. b.quota };
+
+    ghost held_ids = { λ b. (known_by b.pass).held };
+
+    ghost origin = { λ b. shared (queue_name b.pass) };
+
+    ghost bound = { λ _ _. None };
+
+    ghost bound_apart = { λ _ _. tt };
+
+    fn quota(&self) -> u32 {
+        self.quota
+    }
+
+    fn held(&self) -> u32 {
+        self.held
+    }
+
+    fn take(&mut self, context: &R, _class: u32, _ordinal: u32) -> RawSegment {
+        let segment = take(context, &self.line, &mut self.pass);
+        self.held += 1;
+        segment
+    }
+
+    fn give(&mut self, context: &R, segment: RawSegment) {
+        give(context, &self.line, &mut self.pass, segment);
+        self.held -= 1;
+    }
 }

@@ -10,11 +10,8 @@
 #![tactic(auto)]
 
 mod berth;
-mod berth_supply;
-mod fixed;
 mod fixed_supply;
 mod longest_run;
-mod own;
 mod own_supply;
 mod pass_view;
 mod queue_setup;
@@ -25,8 +22,8 @@ mod steps;
 mod supply;
 
 pub use berth::Berth;
-pub use fixed::FixedSupply;
+pub use fixed_supply::FixedSupply;
 pub use longest_run::waves;
-pub use own::OwnSupply;
+pub use own_supply::OwnSupply;
 pub use quota_queue::QuotaQueue;
 pub use supply::Supply;

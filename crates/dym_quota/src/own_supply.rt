@@ -1,17 +1,30 @@
-//! How a supply with segments of its own is made, and that it is a supply.
+//! A supply that owns all its segments.
 ghost use Rattle.std.specs.Prelude.{None, ◌≡◌, ◌+◌, ◌-◌, ◌≤◌, max, [], IfOk, IfErr, OnOk, OnErr, replicate, vec_len, vec_capacity};
 ghost use Rattle.dym_base.specs.Origins.{Origin, own};
 ghost use Rattle.dym_base.specs.declared.limits.TheConstants.{MOST_QUOTA};
 ghost use Rattle.dym_region.specs.Identity.{lone_id};
-ghost use Rattle.dym_quota.specs.OwnSegments.{owned};
 
-use crate::own::OwnSupply;
 use crate::supply::Supply;
 use dym_base::limits::MOST_QUOTA;
 use dym_region::VecSegment;
 use std::alloc::{AllocError, Global};
 
+/// A supply whose segments are made when it opens, and wait in a list. All of them have one identity, since nothing depends on where
+/// a segment in a vector of its own lies: one that another such supply gave out may come back here, and serves as well. How many
+/// are out is what counts.
+#[derive(Drop)]
+pub struct OwnSupply {
+    pub(crate) quota: u32,
+    pub(crate) spare: Vec<VecSegment>,
+    /// Segments above the quota. They wait for a greater one.
+    pub(crate) aside: Vec<VecSegment>,
+    ghost within: { vec_len spare ≤ quota },
+    ghost room: { quota ≤ vec_capacity spare },
+}
+
 impl OwnSupply {
+    ghost use Rattle.dym_quota.specs.OwnSegments.{owned};
+
     /// A supply with no segment, for one that gets its quota later.
     pub fn empty(alloc: Global) -> OwnSupply
         ensures nothing_held { ⟦<OwnSupply as Supply>⟧.held_ids result ≡ [] }

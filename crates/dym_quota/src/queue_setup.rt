@@ -36,7 +36,8 @@ impl QuotaQueue {
         requires each_quota { All (λ q. (1 ≤ q) × (q ≤ MOST_QUOTA)) quotas.now }
         requires enough { sum quotas.now ≤ vec_len segments }
         requires distinct { AreDistinct (map ⟦<RawSegment as Segment>⟧.id segments.items) }
-        ensures quotas { IfOk result (λ r. map ⟦<Berth<R> as Supply>⟧.quota_of r.1.items ≡ quotas.now) }
+        ensures quotas { IfOk result (λ r. map ⟦<Berth<R> as Supply>⟧.quota_of r.1.items
+            ≡ quotas.now) }
         ensures nothing_held { IfOk result (λ r. All
             (λ b. ⟦<Berth<R> as Supply>⟧.held_ids b ≡ []) r.1.items) }
         ensures origin { IfOk result (λ r. All
@@ -108,7 +109,8 @@ fn ends_of(
     line: &Arc<SegmentLine, Global>,
     count: usize,
 ) -> Result<Vec<Arc<SegmentLine, Global>>, AllocError>
-    ensures same { IfOk result (λ ends. All (λ end. arc_value end ≡ arc_value line.now) ends.items) }
+    ensures same { IfOk result
+        (λ ends. All (λ end. arc_value end ≡ arc_value line.now) ends.items) }
     ensures count { IfOk result (λ ends. vec_len ends ≡ count) }
 {
     let mut ends = Vec::with_capacity(alloc, count)?;
@@ -130,13 +132,15 @@ fn stock_last<R: Wait>(
     requires queue { IsPassOf line.now pass.old }
     requires opens { view pass.old ≡ first_pass }
     requires enough { count ≤ vec_len segments.old }
-    requires distinct { AreDistinct (reverse (map ⟦<RawSegment as Segment>⟧.id segments.old.items)) }
+    requires distinct { AreDistinct
+        (reverse (map ⟦<RawSegment as Segment>⟧.id segments.old.items)) }
     requires places { count ≤ ruled_capacity line.now }
     ensures queue { IsPassOf line.now pass.new }
     ensures quota { (view pass.new).quota ≡ count }
     ensures nothing_held { (view pass.new).held ≡ [] }
     ensures stocked { length (view pass.new).stock ≡ count }
-    ensures order { (view pass.new).stock ++ reverse (map ⟦<RawSegment as Segment>⟧.id segments.new.items)
+    ensures order { (view pass.new).stock
+        ++ reverse (map ⟦<RawSegment as Segment>⟧.id segments.new.items)
         ≡ reverse (map ⟦<RawSegment as Segment>⟧.id segments.old.items) }
     ensures rest { vec_len segments.new + count ≡ vec_len segments.old }
     ensures room { vec_capacity segments.new ≡ vec_capacity segments.old }

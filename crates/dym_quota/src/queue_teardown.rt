@@ -18,8 +18,10 @@ impl QuotaQueue {
     /// All segments that `open` was handed, in any order and in the same list. The berths are all those that `open` gave, and
     /// hold nothing. No memory is taken.
     pub fn close<R: Wait>(self, context: &R, berths: Vec<Berth<R>>) -> Vec<RawSegment>
-        requires origin { All (λ b. ⟦<Berth<R> as Supply>⟧.origin b ≡ shared self.name) berths.items }
-        requires quotas { sum_by ⟦<Berth<R> as Supply>⟧.quota_of berths.items ≡ length self.stocked }
+        requires origin { All (λ b. ⟦<Berth<R> as Supply>⟧.origin b ≡ shared self.name)
+            berths.items }
+        requires quotas { sum_by ⟦<Berth<R> as Supply>⟧.quota_of berths.items
+            ≡ length self.stocked }
         requires nothing_held { All (λ b. ⟦<Berth<R> as Supply>⟧.held_ids b ≡ []) berths.items }
         ensures all { IsPermutation (self.stocked ++ self.aside)
             (map ⟦<RawSegment as Segment>⟧.id result.items) }
@@ -46,7 +48,8 @@ fn join_all<R>(line: &SegmentLine, keeper: &mut SegmentPass, mut berths: Vec<Ber
     requires nothing_held { (view keeper.old).held ≡ [] }
     requires idle { All (IsIdleBerth (queue_name keeper.old)) berths.items }
     ensures queue { IsPassOf line.now keeper.new }
-    ensures quota { (view keeper.new).quota ≡ (view keeper.old).quota + sum_by (λ b. b.quota) berths.items }
+    ensures quota { (view keeper.new).quota
+        ≡ (view keeper.old).quota + sum_by (λ b. b.quota) berths.items }
     ensures holds_nothing { (view keeper.new).held ≡ [] }
     ensures stock { (view keeper.new).stock ≡ (view keeper.old).stock }
 {

@@ -26,10 +26,18 @@ impl Model for QuotaQueue {
 
     ghost Value = { QueueShape };
 
-    ghost view = { λ q. record { name = queue_name q.keeper; stocked = (known_by q.keeper).stock; aside = map ⟦<RawSegment as Segment>⟧.id q.aside.items; room = vec_capacity q.aside } };
+    ghost view = { λ q. record {
+      name = queue_name q.keeper;
+      stocked = (known_by q.keeper).stock;
+      aside = map ⟦<RawSegment as Segment>⟧.id q.aside.items;
+      room = vec_capacity q.aside;
+    } };
 
     // The keeper has no quota of its own, the list has room for all that was stocked, and no identity was handed in twice.
-    ghost invariant = { λ q. IsPassOf (arc_value q.line) q.keeper × ((known_by q.keeper).held ≡ []) × ((known_by q.keeper).quota ≡ 0)
-        × (length (known_by q.keeper).stock ≡ q.count) × (0 < q.count) × (vec_len q.aside + q.count ≤ vec_capacity q.aside)
-        × AreDistinct ((known_by q.keeper).stock ++ map ⟦<RawSegment as Segment>⟧.id q.aside.items) };
+    ghost invariant = { λ q. IsPassOf (arc_value q.line) q.keeper
+        × ((known_by q.keeper).held ≡ []) × ((known_by q.keeper).quota ≡ 0)
+        × (length (known_by q.keeper).stock ≡ q.count) × (0 < q.count)
+        × (vec_len q.aside + q.count ≤ vec_capacity q.aside)
+        × AreDistinct
+        ((known_by q.keeper).stock ++ map ⟦<RawSegment as Segment>⟧.id q.aside.items) };
 }

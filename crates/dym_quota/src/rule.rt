@@ -76,7 +76,8 @@ pub struct HoldsAll;
 impl Lesson<RawSegment, PassView> for HoldsAll {
     ghost use Rattle.std.specs.Prelude.{◌++◌, map, IsPermutation};
 
-    ghost fact = { λ v items. IsPermutation v.stock (map ⟦<RawSegment as Segment>⟧.id items ++ v.held) };
+    ghost fact = { λ v items. IsPermutation v.stock
+        (map ⟦<RawSegment as Segment>⟧.id items ++ v.held) };
 }
 
 /// A number that contracts pick at a call.
@@ -96,7 +97,12 @@ pub struct Cut<N> {
 impl<N: Amount> Split<PassView> for Cut<N> {
     ghost use Rattle.std.specs.Prelude.{false, [], ◌-◌};
 
-    ghost left = { λ v. record { quota = v.quota - N.amount; held = v.held; stock = v.stock; opens = false } };
+    ghost left = { λ v. record {
+      quota = v.quota - N.amount;
+      held = v.held;
+      stock = v.stock;
+      opens = false;
+    } };
 
     ghost right = { λ v. record { quota = N.amount; held = []; stock = v.stock; opens = false } };
 }
@@ -108,7 +114,12 @@ impl Join<PassView> for Together {
     ghost use Rattle.std.specs.Prelude.{false, ◌++◌, ◌+◌};
     ghost use Rattle.dym_quota.specs.SegmentRule.{spent};
 
-    ghost both = { λ v w. record { quota = v.quota + w.quota; held = v.held ++ w.held; stock = v.stock; opens = false } };
+    ghost both = { λ v w. record {
+      quota = v.quota + w.quota;
+      held = v.held ++ w.held;
+      stock = v.stock;
+      opens = false;
+    } };
 
     ghost spent = { spent };
 }

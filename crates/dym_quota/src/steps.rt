@@ -23,7 +23,8 @@ pub(crate) fn stock<R: Wait>(
     requires fresh { All (λ x. x ≢ ⟦<RawSegment as Segment>⟧.id segment) (view pass.old).stock }
     requires room { length (view pass.old).stock < ruled_capacity line.now }
     ensures queue { IsPassOf line.now pass.new }
-    ensures stocked { IsStocking (⟦<RawSegment as Segment>⟧.id segment) (view pass.old) (view pass.new) }
+    ensures stocked { IsStocking (⟦<RawSegment as Segment>⟧.id segment)
+        (view pass.old) (view pass.new) }
 {
     let Ok(()) = line.push_as::<Stocks, R>(context, pass, segment) else {
         unreachable!()

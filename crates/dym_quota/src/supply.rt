@@ -42,9 +42,11 @@ pub trait Supply {
         requires room { length (held_ids self.old) < quota_of self.old }
         requires class { class < 12 }
         requires ordinal { ordinal < quota_of self.old }
-        requires free { IsFreeFor (bound (origin self.old) (quota_of self.old)) (held_ids self.old) class ordinal }
+        requires free { IsFreeFor (bound (origin self.old) (quota_of self.old)) (held_ids self.old)
+            class ordinal }
         ensures taken { GivesBack (held_ids self.new) (held_ids self.old) (Self.Seg.id result) }
-        ensures is_bound { IsBoundTo (bound (origin self.old) (quota_of self.old)) class ordinal (Self.Seg.id result) }
+        ensures is_bound { IsBoundTo (bound (origin self.old) (quota_of self.old)) class ordinal
+            (Self.Seg.id result) }
         ensures quota { quota_of self.new ≡ quota_of self.old }
         ensures origin { origin self.new ≡ origin self.old };
 

@@ -7,15 +7,12 @@ use Rattle.dym_quota.proofs.fixed_supply.segments_of.Goals as goal
 
 pub push_reserved-requires : goal.push_reserved-requires
 push_reserved-requires c =
-    let turn = YieldsList-turn (YieldsList-from_vec {s = c.into_iter-slot-iterator.result} c.args.slots.items c.into_iter-slot-iterator.ensures.into_iter_gives.0 (c.into_iter-slot-iterator.ensures.into_iter_gives.1 ∙ c.args.slots.ok.0)) c.loop-slot.yielded c.loop-slot.slot-iterator c.loop-slot.yielded_by c.next.result c.next.new.self c.in-Some.slot c.in-Some.is c.next.ensures.steps in
-    let few = length-present c.loop-slot.yielded in
-    let list = c.loop-slot.list.ok.0 in
-    let slots = c.args.slots.ok.0 in
-    let have = ap length c.loop-slot.invariant.list in
-    let room = c.loop-slot.invariant.room in
-    let all = c.requires.room in
-    let below = turn.0 in
-    omega arith
+    let slots = c.args.slots in
+    let loop = c.loop-slot in
+    let gives = c.into_iter-slot-iterator.ensures.into_iter_gives in
+    let yields = YieldsList-from_vec {s = c.into_iter-slot-iterator.result} slots.items gives.0 (gives.1 ∙ slots.ok.0) in
+    let turn = YieldsList-turn yields loop.yielded loop.slot-iterator loop.yielded_by c.next.result c.next.new.self c.in-Some.slot c.in-Some.is c.next.ensures.steps in
+    omega (arith, turn.0, length-present loop.yielded, loop.list.ok.0, slots.ok.0, ap length loop.invariant.list, loop.invariant.room, c.requires.room)
 
 pub loop-slot-preserved-in-Some-slot : goal.loop-slot-preserved-in-Some-slot
 loop-slot-preserved-in-Some-slot c = record {

@@ -5,7 +5,7 @@ use Rattle.std.specs.List.Sorted.{IsPermutation}
 use Rattle.dym_region.specs.Identity.{ids_of}
 use Rattle.dym_region.specs.declared.raw_segment.RawSegment.{RawSegment}
 use Rattle.dym_quota.proofs.Missing.{all_present, ids_present}
-use Rattle.dym_quota.proofs.fixed.FixedSupply.close.Goals as goal
+use Rattle.dym_quota.proofs.fixed_supply.FixedSupply.close.Goals as goal
 
 pub close-requires : goal.close-requires
 close-requires c =
