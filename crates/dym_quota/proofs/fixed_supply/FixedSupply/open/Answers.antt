@@ -1,4 +1,4 @@
-use Rattle.std.proofs.Common.{◌*◌, ◌<◌, length, get_or, List, None, Some, ap, refl, sym, ◌∙◌, subst, arith, vec_len}
+use Rattle.std.proofs.Common.{◌*◌, ◌<◌, length, get_or, None, Some, ap, refl, sym, ◌∙◌, arith}
 use denote.RawPtr.{block_ptr}
 use Rattle.std.proofs.lemmas.List.{length-map, get_or-map}
 use Rattle.dym_base.specs.declared.limits.TheConstants.{SEGMENT_BYTES}
