@@ -111,15 +111,13 @@ weight_of_bit : (t : Bool) (w : ℕ) → cond t w 0 ≡ w * cond t 1 0
 weight_of_bit true w = omega arith
 weight_of_bit false w = omega arith
 
-regroup : (c d e f g h i j : Bool) → cond c 1 0 + cond d 2 0 + cond e 4 0 + cond f 8 0 + cond g 16 0 + cond h 32 0 + cond i 64 0 + cond j 128 0 ≡ number_of (c ∷ d ∷ e ∷ f ∷ g ∷ h ∷ i ∷ j ∷ [])
-regroup c d e f g h i j =
-    omega (arith, weight_of_bit d 2, weight_of_bit e 4, weight_of_bit f 8, weight_of_bit g 16, weight_of_bit h 32, weight_of_bit i 64, weight_of_bit j 128)
-
 -- the sum of a byte's weights
-sum_of_weights : (b : ℕ) → b < 2 ^ 8 → cond (digit b 0) 1 0 + cond (digit b 1) 2 0 + cond (digit b 2) 4 0 + cond (digit b 3) 8 0 + cond (digit b 4) 16 0 + cond (digit b 5) 32 0 + cond (digit b 6) 64 0 + cond (digit b 7) 128 0 ≡ b
+sum_of_weights : (b : ℕ) → b < 2 ^ 8 → (let at : ℕ → ℕ = λ j. cond (digit b j) (2 ^ j) 0 in at 0 + at 1 + at 2 + at 3 + at 4 + at 5 + at 6 + at 7) ≡ b
 unfolding digits
 sum_of_weights b below =
-    regroup (digit b 0) (digit b 1) (digit b 2) (digit b 3) (digit b 4) (digit b 5) (digit b 6) (digit b 7) ∙ number_of-digits 8 b below
+    let at : (j : ℕ) → cond (digit b j) (2 ^ j) 0 ≡ 2 ^ j * cond (digit b j) 1 0 = λ j. weight_of_bit (digit b j) (2 ^ j) in
+    let all : number_of (digits 8 b) ≡ b = number_of-digits 8 b below in
+    omega (arith, at 1, at 2, at 3, at 4, at 5, at 6, at 7, all)
 
 -- two bitmaps that agree have the same bytes
 bitmap_byte_same : (f g : ℕ → Bool) → ((i : ℕ) → f i ≡ g i) → (k : ℕ) → bitmap_byte f k ≡ bitmap_byte g k
@@ -199,138 +197,155 @@ digit_shifted x a j at_least =
 abbrev pub with_byte : ℕ → ℕ → ℕ → ℕ
 with_byte n a v = bit_or (bit_and n (bit_not w64 (255 * 2 ^ a % 2 ^ 64))) (v * 2 ^ a % 2 ^ 64)
 
-bit_of_with_byte : (n a v j : ℕ) → a + 8 ≤ 64 → v < 2 ^ 8 → j < 64 → bit_at (with_byte n a v) j ≡ max (min (bit_at n j) (1 - bit_at (255 * 2 ^ a) j)) (bit_at (v * 2 ^ a) j)
-bit_of_with_byte n a v j room fits short =
-    let mask_is : 255 * 2 ^ a % 2 ^ 64 ≡ 255 * 2 ^ a = shl_whole 255 8 a 64 (omega arith) (omega arith) in
-    let value_is : v * 2 ^ a % 2 ^ 64 ≡ v * 2 ^ a = shl_whole v 8 a 64 fits (omega arith) in
-    bit_at_or (bit_and n (bit_not w64 (255 * 2 ^ a % 2 ^ 64))) (v * 2 ^ a % 2 ^ 64) j
-    ∙ ap (λ m. max m (bit_at (v * 2 ^ a % 2 ^ 64) j))
-    (bit_at_and n (bit_not w64 (255 * 2 ^ a % 2 ^ 64)) j
-    ∙ ap (λ m. min (bit_at n j) m) (bit_at_not w64 (255 * 2 ^ a % 2 ^ 64) j (omega arith) short ∙ ap (λ m. 1 - bit_at m j) mask_is))
-    ∙ ap (λ m. max (min (bit_at n j) (1 - bit_at (255 * 2 ^ a) j)) (bit_at m j)) value_is
+module _ (n a v j : ℕ) (room : a + 8 ≤ 64) (fits : v < 2 ^ 8) where
+  bit_of_with_byte : j < 64 → bit_at (with_byte n a v) j ≡ max (min (bit_at n j) (1 - bit_at (255 * 2 ^ a) j)) (bit_at (v * 2 ^ a) j)
+  bit_of_with_byte short =
+      let mask = 255 * 2 ^ a % 2 ^ 64 in
+      let value = v * 2 ^ a % 2 ^ 64 in
+      bit_at_or (bit_and n (bit_not w64 mask)) value j
+      ∙ ap (λ m. max m (bit_at value j)) (bit_at_and n (bit_not w64 mask) j ∙ ap (min (bit_at n j)) (bit_at_not w64 mask j (omega arith) short))
+      ∙ (λ i. max (min (bit_at n j) (1 - bit_at (shl_whole 255 8 a 64 (omega arith) (omega arith) i) j)) (bit_at (shl_whole v 8 a 64 fits (omega arith) i) j))
 
-pub with_byte_inside : (n a v j : ℕ) → a + 8 ≤ 64 → v < 2 ^ 8 → a ≤ j → j < a + 8 → digit (with_byte n a v) j ≡ digit v (j - a)
-with_byte_inside n a v j room fits at_least below =
-    ap (λ m. nat_eq m 1)
-    (bit_of_with_byte n a v j room fits (omega arith)
-    ∙ omega (arith, digit_shifted 255 a j at_least, bit_at_ones 8 (j - a) (omega arith), digit_shifted v a j at_least, bit_at-lt n j))
+  with_byte_inside : a ≤ j → j < a + 8 → digit (with_byte n a v) j ≡ digit v (j - a)
+  with_byte_inside at_least below =
+      ap (λ m. nat_eq m 1)
+      (bit_of_with_byte (omega arith)
+      ∙ omega (arith, digit_shifted 255 a j at_least, bit_at_ones 8 (j - a) (omega arith), digit_shifted v a j at_least, bit_at-lt n j))
 
-pub with_byte_outside : (n a v j : ℕ) → a + 8 ≤ 64 → v < 2 ^ 8 → j < 64 → (j < a) ⊎ (a + 8 ≤ j) → digit (with_byte n a v) j ≡ digit n j
-with_byte_outside n a v j room fits short away =
-    ap (λ m. nat_eq m 1)
-    (bit_of_with_byte n a v j room fits short
-    ∙ elim away [
-      | inl before ↦ omega (arith, digit_shifted_below 255 a j before, digit_shifted_below v a j before, bit_at-lt n j)
-      | inr after ↦ omega (arith, digit_shifted 255 a j (omega arith), bit_at_ones_above 8 (j - a) (omega arith), digit_shifted v a j (omega arith), bit_at_above v 8 (j - a) fits (omega arith), bit_at-lt n j)
-    ])
+  with_byte_outside : j < 64 → (j < a) ⊎ (a + 8 ≤ j) → digit (with_byte n a v) j ≡ digit n j
+  with_byte_outside short away =
+      ap (λ m. nat_eq m 1)
+      (bit_of_with_byte short
+      ∙ elim away [
+        | inl before ↦ omega (arith, digit_shifted_below 255 a j before, digit_shifted_below v a j before, bit_at-lt n j)
+        | inr after ↦
+            let past : a ≤ j = omega arith in
+            omega (arith, digit_shifted 255 a j past, bit_at_ones_above 8 (j - a) (omega arith), digit_shifted v a j past, bit_at_above v 8 (j - a) fits (omega arith), bit_at-lt n j)
+      ])
 
 place_away : (k i : ℕ) → i / 64 ≡ k / 8 → (i < 8 * k) ⊎ (8 * k + 8 ≤ i) → (i % 64 < k % 8 * 8) ⊎ (k % 8 * 8 + 8 ≤ i % 64)
 place_away k i word away = elim away [ inl before ↦ inl (omega arith) | inr after ↦ inr (omega arith) ]
 
--- bit i of the words where word k / 8 has the byte v put over it
-put_inside : (ns : List ℕ) (k v i : ℕ) → k / 8 < length ns → v < 2 ^ 8 → 8 * k ≤ i → i < 8 * k + 8 → digit (get_or (set ns (k / 8) (with_byte (get_or ns (k / 8) 0) (k % 8 * 8) v)) (i / 64) 0) (i % 64) ≡ digit v (i - 8 * k)
-put_inside ns k v i within fits at_least below =
-    let word : i / 64 ≡ k / 8 = omega arith in
-    let place : i % 64 ≡ k % 8 * 8 + (i - 8 * k) = omega arith in
-    ap (λ q. digit (get_or (set ns (k / 8) (with_byte (get_or ns (k / 8) 0) (k % 8 * 8) v)) q 0) (i % 64)) word
-    ∙ ap (λ m. digit m (i % 64)) (get_or-set_same ns (k / 8) (with_byte (get_or ns (k / 8) 0) (k % 8 * 8) v) 0 within)
-    ∙ with_byte_inside (get_or ns (k / 8) 0) (k % 8 * 8) v (i % 64) (omega arith) fits (omega arith) (omega arith)
-    ∙ ap (digit v) (omega arith)
-
-put_outside : (ns : List ℕ) (k v i : ℕ) → k / 8 < length ns → v < 2 ^ 8 → (i < 8 * k) ⊎ (8 * k + 8 ≤ i) → digit (get_or (set ns (k / 8) (with_byte (get_or ns (k / 8) 0) (k % 8 * 8) v)) (i / 64) 0) (i % 64) ≡ digit (get_or ns (i / 64) 0) (i % 64)
-put_outside ns k v i within fits away =
-    elim (cases_eq (i / 64) (k / 8)) [
-      | inl word ↦
-          ap (λ q. digit (get_or (set ns (k / 8) (with_byte (get_or ns (k / 8) 0) (k % 8 * 8) v)) q 0) (i % 64)) word
-          ∙ ap (λ m. digit m (i % 64)) (get_or-set_same ns (k / 8) (with_byte (get_or ns (k / 8) 0) (k % 8 * 8) v) 0 within)
-          ∙ with_byte_outside (get_or ns (k / 8) 0) (k % 8 * 8) v (i % 64) (omega arith) fits (omega arith) (place_away k i word away)
-          ∙ sym (ap (λ q. digit (get_or ns q 0) (i % 64)) word)
-      | inr other ↦ ap (λ m. digit m (i % 64)) (get_or-set_other ns (k / 8) (i / 64) (with_byte (get_or ns (k / 8) 0) (k % 8 * 8) v) 0 other)
-    ]
-
 -- a list with a part replaced, read in the part and beside it
-read_part : (bits part : List Bool) (at i : ℕ) → at + length part ≤ length bits → at ≤ i → i < at + length part → get_or (take at bits ++ part ++ drop (at + length part) bits) i false ≡ get_or part (i - at) false
-read_part bits part at i room at_least below =
-    let long : length (take at bits) ≡ at = length-take-le at bits (omega arith) in
-    get_or_append_left (take at bits ++ part) (drop (at + length part) bits) false i (omega (arith, length-append (take at bits) part))
-    ∙ get_or-append_right (take at bits) part at i false long at_least
+module _ (bits part : List Bool) (at : ℕ) (room : at + length part ≤ length bits) where
+  abbrev replaced : List Bool
+  replaced = take at bits ++ part ++ drop (at + length part) bits
 
-read_beside : (bits part : List Bool) (at i : ℕ) → at + length part ≤ length bits → (i < at) ⊎ (at + length part ≤ i) → get_or (take at bits ++ part ++ drop (at + length part) bits) i false ≡ get_or bits i false
-read_beside bits part at i room away =
-    let long : length (take at bits) ≡ at = length-take-le at bits (omega arith) in
-    let front_long : length (take at bits ++ part) ≡ at + length part = length-append (take at bits) part ∙ ap (λ n. n + length part) long in
-    elim away [
-      | inl before ↦
-          get_or_append_left (take at bits ++ part) (drop (at + length part) bits) false i (omega arith)
-          ∙ get_or_append_left (take at bits) part false i (omega arith)
-          ∙ get_or-take at bits i false before
-      | inr after ↦
-          get_or-append_right (take at bits ++ part) (drop (at + length part) bits) (at + length part) i false front_long after
-          ∙ get_or-drop (at + length part) bits (i - (at + length part)) false
-          ∙ ap (λ j. get_or bits j false) (omega arith)
-    ]
+  front_length : length (take at bits) ≡ at
+  front_length = length-take-le at bits (omega arith)
 
-length_replaced : (bits part : List Bool) (at : ℕ) → at + length part ≤ length bits → length (take at bits ++ part ++ drop (at + length part) bits) ≡ length bits
-length_replaced bits part at room =
-    omega (arith, length-append (take at bits ++ part) (drop (at + length part) bits), length-append (take at bits) part, length-take-le at bits (omega arith), length-drop (at + length part) bits)
+  part_length : length (take at bits ++ part) ≡ at + length part
+  part_length = length-append (take at bits) part ∙ ap (λ n. n + length part) front_length
 
-replaced_at : (ns : List ℕ) (k v i : ℕ) → k / 8 < length ns → v < 2 ^ 8 → i < length ns * 64 → (part : List Bool) → part ≡ digits 8 v → length part ≡ 8 → digit (get_or (set ns (k / 8) (with_byte (get_or ns (k / 8) 0) (k % 8 * 8) v)) (i / 64) 0) (i % 64) ≡ get_or (take (8 * k) (bits_of 64 ns) ++ part ++ drop (8 * k + length part) (bits_of 64 ns)) i false
-replaced_at ns k v i within fits inside part part_is long =
-    let room : 8 * k + length part ≤ length (bits_of 64 ns) = omega (arith, length-bits_of 64 ns) in
-    elim (cases_lt i (8 * k)) [
-      | inl before ↦
-          put_outside ns k v i within fits (inl before)
-          ∙ sym (read_beside (bits_of 64 ns) part (8 * k) i room (inl before) ∙ get_or-bits_of_at 64 ns i (omega arith) inside)
-      | inr from_here ↦
-          elim (cases_lt i (8 * k + 8)) [
-            | inl below ↦
-                put_inside ns k v i within fits from_here below
-                ∙ sym (read_part (bits_of 64 ns) part (8 * k) i room from_here (omega arith) ∙ ap (λ bits. get_or bits (i - 8 * k) false) part_is ∙ get_or-digits 8 v (i - 8 * k) (omega arith))
-            | inr after ↦
-                put_outside ns k v i within fits (inr after)
-                ∙ sym (read_beside (bits_of 64 ns) part (8 * k) i room (inr (omega arith)) ∙ get_or-bits_of_at 64 ns i (omega arith) inside)
-          ]
-    ]
+  read_part : (i : ℕ) → at ≤ i → i < at + length part → get_or replaced i false ≡ get_or part (i - at) false
+  read_part i at_least below =
+      get_or_append_left (take at bits ++ part) (drop (at + length part) bits) false i (omega (arith, part_length))
+      ∙ get_or-append_right (take at bits) part at i false front_length at_least
 
-pub bits_with_byte : (ns : List ℕ) (k v : ℕ) → k / 8 < length ns → v < 2 ^ 8 → bits_of 64 (set ns (k / 8) (with_byte (get_or ns (k / 8) 0) (k % 8 * 8) v)) ≡ take (8 * k) (bits_of 64 ns) ++ digits 8 v ++ drop (8 * k + 8) (bits_of 64 ns)
-bits_with_byte ns k v within fits =
-    let after : List ℕ = set ns (k / 8) (with_byte (get_or ns (k / 8) 0) (k % 8 * 8) v) in
-    let after_long : length (bits_of 64 after) ≡ length ns * 64 = length-bits_of 64 after ∙ ap (λ l. l * 64) (length-set ns (k / 8) _) in
-    ext_get_or false _ _
-    (after_long ∙ sym (length_replaced (bits_of 64 ns) (digits 8 v) (8 * k) (omega (arith, length-bits_of 64 ns, length-digits 8 v)) ∙ length-bits_of 64 ns))
-    (λ i below.
-    get_or-bits_of_at 64 after i (omega arith) (omega (arith, length-bits_of 64 after))
-    ∙ replaced_at ns k v i within fits (omega arith) (digits 8 v) refl (length-digits 8 v))
-    ∙ ap (λ n. take (8 * k) (bits_of 64 ns) ++ digits 8 v ++ drop (8 * k + n) (bits_of 64 ns)) (length-digits 8 v)
+  read_beside : (i : ℕ) → (i < at) ⊎ (at + length part ≤ i) → get_or replaced i false ≡ get_or bits i false
+  read_beside i away =
+      elim away [
+        | inl before ↦
+            get_or_append_left (take at bits ++ part) (drop (at + length part) bits) false i (omega (arith, part_length))
+            ∙ get_or_append_left (take at bits) part false i (omega (arith, front_length))
+            ∙ get_or-take at bits i false before
+        | inr after ↦
+            get_or-append_right (take at bits ++ part) (drop (at + length part) bits) (at + length part) i false part_length after
+            ∙ get_or-drop (at + length part) bits (i - (at + length part)) false
+            ∙ ap (λ j. get_or bits j false) (omega arith)
+      ]
+
+  length_replaced : length replaced ≡ length bits
+  length_replaced =
+      omega (arith, length-append (take at bits ++ part) (drop (at + length part) bits), part_length, length-drop (at + length part) bits)
+
+-- the words where word k / 8 has the byte v put over it
+module _ (ns : List ℕ) (k v : ℕ) (within : k / 8 < length ns) (fits : v < 2 ^ 8) where
+  abbrev word : ℕ
+  word = with_byte (get_or ns (k / 8) 0) (k % 8 * 8) v
+
+  abbrev put : List ℕ
+  put = set ns (k / 8) word
+
+  put_digit : (i : ℕ) → i / 64 ≡ k / 8 → digit (get_or put (i / 64) 0) (i % 64) ≡ digit word (i % 64)
+  put_digit i here =
+      ap (λ q. digit (get_or put q 0) (i % 64)) here
+      ∙ ap (λ m. digit m (i % 64)) (get_or-set_same ns (k / 8) word 0 within)
+
+  put_inside : (i : ℕ) → 8 * k ≤ i → i < 8 * k + 8 → digit (get_or put (i / 64) 0) (i % 64) ≡ digit v (i - 8 * k)
+  put_inside i at_least below =
+      let place : i % 64 ≡ k % 8 * 8 + (i - 8 * k) = omega arith in
+      put_digit i (omega arith)
+      ∙ with_byte_inside (get_or ns (k / 8) 0) (k % 8 * 8) v (i % 64) (omega arith) fits (omega arith) (omega arith)
+      ∙ ap (digit v) (omega arith)
+
+  put_outside : (i : ℕ) → (i < 8 * k) ⊎ (8 * k + 8 ≤ i) → digit (get_or put (i / 64) 0) (i % 64) ≡ digit (get_or ns (i / 64) 0) (i % 64)
+  put_outside i away =
+      elim (cases_eq (i / 64) (k / 8)) [
+        | inl here ↦
+            put_digit i here
+            ∙ with_byte_outside (get_or ns (k / 8) 0) (k % 8 * 8) v (i % 64) (omega arith) fits (omega arith) (place_away k i here away)
+            ∙ sym (ap (λ q. digit (get_or ns q 0) (i % 64)) here)
+        | inr other ↦ ap (λ m. digit m (i % 64)) (get_or-set_other ns (k / 8) (i / 64) word 0 other)
+      ]
+
+  replaced_at : (i : ℕ) → i < length ns * 64 → (part : List Bool) → part ≡ digits 8 v → length part ≡ 8 → digit (get_or put (i / 64) 0) (i % 64) ≡ get_or (take (8 * k) (bits_of 64 ns) ++ part ++ drop (8 * k + length part) (bits_of 64 ns)) i false
+  replaced_at i inside part part_is long =
+      let bits = bits_of 64 ns in
+      let room : 8 * k + length part ≤ length bits = omega (arith, length-bits_of 64 ns) in
+      let beside = λ (away : (i < 8 * k) ⊎ (8 * k + 8 ≤ i)) (apart : (i < 8 * k) ⊎ (8 * k + length part ≤ i)).
+      put_outside i away ∙ sym (read_beside bits part (8 * k) room i apart ∙ get_or-bits_of_at 64 ns i (omega arith) inside) in
+      elim (cases_lt i (8 * k)) [
+        | inl before ↦ beside (inl before) (inl before)
+        | inr from_here ↦
+            elim (cases_lt i (8 * k + 8)) [
+              | inl below ↦
+                  put_inside i from_here below
+                  ∙ sym (read_part bits part (8 * k) room i from_here (omega arith) ∙ ap (λ bs. get_or bs (i - 8 * k) false) part_is ∙ get_or-digits 8 v (i - 8 * k) (omega arith))
+              | inr after ↦ beside (inr after) (inr (omega arith))
+            ]
+      ]
+
+  pub bits_with_byte : bits_of 64 put ≡ take (8 * k) (bits_of 64 ns) ++ digits 8 v ++ drop (8 * k + 8) (bits_of 64 ns)
+  bits_with_byte =
+      let put_length : length (bits_of 64 put) ≡ length ns * 64 = length-bits_of 64 put ∙ ap (λ l. l * 64) (length-set ns (k / 8) word) in
+      ext_get_or false _ _
+      (put_length ∙ sym (length_replaced (bits_of 64 ns) (digits 8 v) (8 * k) (omega (arith, length-bits_of 64 ns, length-digits 8 v)) ∙ length-bits_of 64 ns))
+      (λ i below.
+      get_or-bits_of_at 64 put i (omega arith) (omega (arith, length-bits_of 64 put))
+      ∙ replaced_at i (omega arith) (digits 8 v) refl (length-digits 8 v))
+      ∙ ap (λ n. take (8 * k) (bits_of 64 ns) ++ digits 8 v ++ drop (8 * k + n) (bits_of 64 ns)) (length-digits 8 v)
 
 -- ---- bytes that fill the words
 
 -- fewer than eight bytes, filled up with 0
-filled_below : (front bytes : List ℕ) → front ≡ bytes → ((k : ℕ) → get_or bytes k 0 < 256) → (i : ℕ) → get_or (front ++ drop (length bytes) (replicate 8 0)) i 0 < 256
-filled_below front bytes same fits i =
-    let Small : ℕ → Type 0 = λ n. n < 256 in
-    elim (cases_lt i (length front)) [
-      | inl below ↦ subst Small (sym (get_or_append_left front (drop (length bytes) (replicate 8 0)) 0 i below ∙ ap (λ xs. get_or xs i 0) same)) (fits i)
-      | inr past ↦
-          subst Small
-          (sym (get_or-append_right front (drop (length bytes) (replicate 8 0)) (length front) i 0 refl past
-          ∙ get_or-drop (length bytes) (replicate 8 0) (i - length front) 0
-          ∙ zero_of_zeros 8 (length bytes + (i - length front))))
-          (omega arith)
-    ]
+module _ (front bytes : List ℕ) (same : front ≡ bytes) (fits : (k : ℕ) → get_or bytes k 0 < 256) where
+  abbrev padding : List ℕ
+  padding = drop (length bytes) (replicate 8 0)
 
-pub word_of_filled : (front bytes : List ℕ) (n : ℕ) → front ≡ bytes → length bytes < 8 → ((k : ℕ) → get_or bytes k 0 < 256) → n ≡ from_le_bytes w64 (front ++ drop (length bytes) (replicate 8 0)) → digits 64 n ≡ bits_of 8 bytes ++ clear_bits (64 - 8 * length bytes)
-word_of_filled front bytes n same short fits is =
-    let filled = front ++ drop (length bytes) (replicate 8 0) in
-    let long : length filled ≡ 8 = length-append front (drop (length bytes) (replicate 8 0)) ∙ omega (arith, ap length same, length-drop (length bytes) (replicate {A = ℕ} 8 0)) in
-    digits_of_bytes n
-    ∙ ap (bits_of 8) (le_bytes_8 filled n long (filled_below front bytes same fits) is)
-    ∙ ap (λ xs. bits_of 8 (xs ++ drop (length bytes) (replicate 8 0))) same
-    ∙ bits_of-append 8 bytes (drop (length bytes) (replicate 8 0))
-    ∙ ap (λ bits. bits_of 8 bytes ++ bits)
-    (ap (bits_of 8) (drop-replicate (length bytes) 8 0)
-    ∙ bits_of-replicate 8 (8 - length bytes) (omega arith)
-    ∙ ap clear_bits (omega arith))
+  filled_below : (i : ℕ) → get_or (front ++ padding) i 0 < 256
+  filled_below i =
+      let Small : ℕ → Type 0 = λ n. n < 256 in
+      elim (cases_lt i (length front)) [
+        | inl below ↦ subst Small (sym (get_or_append_left front padding 0 i below ∙ ap (λ xs. get_or xs i 0) same)) (fits i)
+        | inr past ↦
+            subst Small
+            (sym (get_or-append_right front padding (length front) i 0 refl past
+            ∙ get_or-drop (length bytes) (replicate 8 0) (i - length front) 0
+            ∙ zero_of_zeros 8 (length bytes + (i - length front))))
+            (omega arith)
+      ]
+
+  pub word_of_filled : (n : ℕ) → length bytes < 8 → n ≡ from_le_bytes w64 (front ++ padding) → digits 64 n ≡ bits_of 8 bytes ++ clear_bits (64 - 8 * length bytes)
+  word_of_filled n short is =
+      let long : length (front ++ padding) ≡ 8 = length-append front padding ∙ omega (arith, ap length same, length-drop (length bytes) (replicate {A = ℕ} 8 0)) in
+      digits_of_bytes n
+      ∙ ap (bits_of 8) (le_bytes_8 (front ++ padding) n long filled_below is ∙ ap (λ xs. xs ++ padding) same)
+      ∙ bits_of-append 8 bytes padding
+      ∙ ap (λ bits. bits_of 8 bytes ++ bits)
+      (ap (bits_of 8) (drop-replicate (length bytes) 8 0)
+      ∙ bits_of-replicate 8 (8 - length bytes) (omega arith)
+      ∙ ap clear_bits (omega arith))
 
 -- no clear bits behind a list, and more of them
 pub none_behind : (bits : List Bool) (n : ℕ) → n ≡ 0 → bits ++ clear_bits n ≡ bits
@@ -342,13 +357,16 @@ unfolding clear_bits
 more_clear m n = replicate-append-replicate m n false
 
 -- the bytes that are left, where they are fewer than eight
-pub last_word : (bytes : List ℕ) (at n : ℕ) → length bytes - at < 8 → (let rest = take (length bytes - at) (drop at bytes) in digits 64 n ≡ bits_of 8 rest ++ clear_bits (64 - 8 * length rest)) → digits 64 n ≡ bits_of 8 (take 8 (drop at bytes)) ++ clear_bits (64 - 8 * (length bytes - at))
+pub last_word : (bytes : List ℕ) (at n : ℕ) → length bytes - at < 8
+    → (let rest = take (length bytes - at) (drop at bytes) in digits 64 n ≡ bits_of 8 rest ++ clear_bits (64 - 8 * length rest))
+    → digits 64 n ≡ bits_of 8 (take 8 (drop at bytes)) ++ clear_bits (64 - 8 * (length bytes - at))
 last_word bytes at n few is =
-    let left : take (length bytes - at) (drop at bytes) ≡ drop at bytes = take_all (length bytes - at) (drop at bytes) (omega (arith, length-drop at bytes)) in
-    let eight : take 8 (drop at bytes) ≡ drop at bytes = take_all 8 (drop at bytes) (omega (arith, length-drop at bytes)) in
+    let left = drop at bytes in
+    let whole : (m : ℕ) → length bytes - at ≤ m → take m left ≡ left = λ m all. take_all m left (omega (arith, length-drop at bytes)) in
+    let eight : take 8 left ≡ left = whole 8 (omega arith) in
     is
-    ∙ ap (λ xs. bits_of 8 xs ++ clear_bits (64 - 8 * length xs)) (left ∙ sym eight)
-    ∙ ap (λ m. bits_of 8 (take 8 (drop at bytes)) ++ clear_bits (64 - 8 * m)) (ap length eight ∙ length-drop at bytes)
+    ∙ ap (λ xs. bits_of 8 xs ++ clear_bits (64 - 8 * length xs)) (whole (length bytes - at) (omega arith) ∙ sym eight)
+    ∙ ap (λ m. bits_of 8 (take 8 left) ++ clear_bits (64 - 8 * m)) (ap length eight ∙ length-drop at bytes)
 
 -- numbers that are 0 from number n on
 bits_past_used : (k : ℕ) (ns : List ℕ) (n m : ℕ) → 0 < k → length ns ≡ m → AreZeroFrom n ns → bits_of k ns ≡ bits_of k (take n ns) ++ clear_bits ((m - n) * k)
@@ -358,23 +376,25 @@ bits_past_used k ns n m some long rest =
     ∙ ap (λ bits. bits_of k (take n ns) ++ bits) (ap (bits_of k) (rest_is_zeros ns n m long rest) ∙ bits_of-replicate k (m - n) some)
 
 -- one word more, read from bytes
-pub word_from_bytes : (ns bytes : List ℕ) (q n : ℕ) → q < length ns → 8 * q ≤ length bytes → bits_of 64 (take q ns) ≡ bits_of 8 (take (8 * q) bytes) ++ clear_bits (64 * q - 8 * length bytes)
-    → digits 64 n ≡ bits_of 8 (take 8 (drop (8 * q) bytes)) ++ clear_bits (64 - 8 * (length bytes - 8 * q)) → bits_of 64 (take (q + 1) (set ns q n)) ≡ bits_of 8 (take (8 * (q + 1)) bytes) ++ clear_bits (64 * (q + 1) - 8 * length bytes)
+pub word_from_bytes : (ns bytes : List ℕ) (q n : ℕ) → q < length ns → 8 * q ≤ length bytes
+    → bits_of 64 (take q ns) ≡ bits_of 8 (take (8 * q) bytes) ++ clear_bits (64 * q - 8 * length bytes)
+    → digits 64 n ≡ bits_of 8 (take 8 (drop (8 * q) bytes)) ++ clear_bits (64 - 8 * (length bytes - 8 * q))
+    → bits_of 64 (take (q + 1) (set ns q n)) ≡ bits_of 8 (take (8 * (q + 1)) bytes) ++ clear_bits (64 * (q + 1) - 8 * length bytes)
 word_from_bytes ns bytes q n within left so_far next =
     let front = bits_of 8 (take (8 * q) bytes) in
-    let here = bits_of 8 (take 8 (drop (8 * q) bytes)) in
-    let cut : 64 - 8 * (length bytes - 8 * q) ≡ 64 * (q + 1) - 8 * length bytes = omega arith in
-    let before : bits_of 64 (take q ns) ≡ front = so_far ∙ none_behind front (64 * q - 8 * length bytes) (omega arith) in
+    let eight = take 8 (drop (8 * q) bytes) in
+    let past = clear_bits (64 - 8 * (length bytes - 8 * q)) in
     ap (bits_of 64) (take_more_set ns q n within)
     ∙ bits_of-append 64 (take q ns) (n ∷ [])
-    ∙ ap (λ bits. bits_of 64 (take q ns) ++ bits) (bits_of-single 64 n ∙ next)
-    ∙ ap (λ bits. bits ++ (here ++ clear_bits (64 - 8 * (length bytes - 8 * q)))) before
-    ∙ sym (append_assoc front here (clear_bits (64 - 8 * (length bytes - 8 * q))))
-    ∙ ap (λ bits. bits ++ clear_bits (64 - 8 * (length bytes - 8 * q))) (sym (ap (bits_of 8) (take_eight_more bytes q) ∙ bits_of-append 8 (take (8 * q) bytes) (take 8 (drop (8 * q) bytes))))
-    ∙ ap (λ m. bits_of 8 (take (8 * (q + 1)) bytes) ++ clear_bits m) cut
+    ∙ (λ i. (so_far ∙ none_behind front (64 * q - 8 * length bytes) (omega arith)) i ++ (bits_of-single 64 n ∙ next) i)
+    ∙ sym (append_assoc front (bits_of 8 eight) past)
+    ∙ ap (λ bits. bits ++ past) (sym (ap (bits_of 8) (take_eight_more bytes q) ∙ bits_of-append 8 (take (8 * q) bytes) eight))
+    ∙ ap (λ m. bits_of 8 (take (8 * (q + 1)) bytes) ++ clear_bits m) (omega arith)
 
 -- all words read from bytes
-pub bits_from_bytes : (words bytes : List ℕ) (used : ℕ) → length words ≡ 32 → used ≤ 32 → length bytes ≤ 8 * used → AreZeroFrom used words → bits_of 64 (take used words) ≡ bits_of 8 (take (8 * used) bytes) ++ clear_bits (64 * used - 8 * length bytes) → bits_of 64 words ≡ bits_of 8 bytes ++ clear_bits (2048 - 8 * length bytes)
+pub bits_from_bytes : (words bytes : List ℕ) (used : ℕ) → length words ≡ 32 → used ≤ 32 → length bytes ≤ 8 * used → AreZeroFrom used words
+    → bits_of 64 (take used words) ≡ bits_of 8 (take (8 * used) bytes) ++ clear_bits (64 * used - 8 * length bytes)
+    → bits_of 64 words ≡ bits_of 8 bytes ++ clear_bits (2048 - 8 * length bytes)
 bits_from_bytes words bytes used long within all rest same =
     let behind = clear_bits ((32 - used) * 64) in
     let past = clear_bits (64 * used - 8 * length bytes) in
