@@ -89,8 +89,19 @@ module _ (ns : List ℕ) where
   abbrev word : ℕ → ℕ
   word q = get_or ns q 0
 
-  -- all bits from one place up to another are alike, where those of each word there are
-  alike_between : (v : Bool) (from to : ℕ) → to ≤ length ns * 64 → ((q r : ℕ) → r < 64 → from ≤ q * 64 + r → q * 64 + r < to → digit (word q) r ≡ v) → (i : ℕ) → from ≤ i → i < to → get_or bits i false ≡ v
+  -- all bits from one place up to another are bits v
+  abbrev AreAlike : Bool → ℕ → ℕ → Type 0
+  AreAlike v from to = (i : ℕ) → from ≤ i → i < to → get_or bits i false ≡ v
+
+  -- the words below word q are this number, or those of them behind word `first`
+  abbrev AllBelow : ℕ → ℕ → Type 0
+  AllBelow n q = (p : ℕ) → p < q → word p ≡ n
+
+  abbrev AllBetween : ℕ → ℕ → ℕ → Type 0
+  AllBetween n first q = (p : ℕ) → first < p → p < q → word p ≡ n
+
+  -- bits are alike where those of each word are
+  alike_between : (v : Bool) (from to : ℕ) → to ≤ length ns * 64 → ((q r : ℕ) → r < 64 → from ≤ q * 64 + r → q * 64 + r < to → digit (word q) r ≡ v) → AreAlike v from to
   alike_between v from to within each i at_least below =
       get_or-bits_of_at 64 ns i (omega arith) (omega arith)
       ∙ each (i / 64) (i % 64) (omega arith) (omega (arith, div-add-mod' i 64)) (omega (arith, div-add-mod' i 64))
@@ -99,11 +110,15 @@ module _ (ns : List ℕ) where
   clear_past i past = get_or_past bits i false (omega (arith, length-bits_of 64 ns))
 
   module _ {seen : ℕ → ℕ} {blank : ℕ} {v w : Bool} (sight : IsSight seen blank v w) (from : ℕ) where
+    -- the words below word q have no bit to be found from `from` on
+    abbrev NoneBelow : ℕ → Type 0
+    NoneBelow q = (p r : ℕ) → r < 64 → from ≤ p * 64 + r → p < q → digit (word p) r ≡ v
+
     blank_digit : (p r : ℕ) → r < 64 → word p ≡ blank → digit (word p) r ≡ v
     blank_digit p r short is = ap (λ n. digit n r) is ∙ sight.empty r short
 
-    -- the first word that isn't blank, behind words with no bit to be found
-    found_behind : (q : ℕ) → q < length ns → word q < 2 ^ 64 → (seen (word q) ≡ 0 → ⊥) → from ≤ q * 64 → ((p r : ℕ) → r < 64 → from ≤ p * 64 + r → p < q → digit (word p) r ≡ v) → IsNext v w bits from (q * 64 + trailing_zeros w64 (seen (word q)))
+    -- the first word that isn't blank
+    found_behind : (q : ℕ) → q < length ns → word q < 2 ^ 64 → (seen (word q) ≡ 0 → ⊥) → from ≤ q * 64 → NoneBelow q → IsNext v w bits from (q * 64 + trailing_zeros w64 (seen (word q)))
     found_behind q within fits some at_least before =
         let r = trailing_zeros w64 (seen (word q)) in
         let found = bit_at-trailing_zeros w64 (seen (word q)) (pos_of_ne-zero some) (sight.fits (word q) fits) in
@@ -151,46 +166,49 @@ module _ (ns : List ℕ) where
           sight.none (word (from / 64)) r fits short (sym (digit_masked (seen (word (from / 64))) (from % 64) r at_least short) ∙ ap (λ m. bit_at m r) none ∙ bit_at-zero r)
 
       -- neither there nor in the blank words before word q
-      alike_before : (q : ℕ) → rest ≡ 0 → ((p : ℕ) → from / 64 < p → p < q → word p ≡ blank) → (p r : ℕ) → r < 64 → from ≤ p * 64 + r → p < q → digit (word p) r ≡ v
+      alike_before : (q : ℕ) → rest ≡ 0 → AllBetween blank (from / 64) q → NoneBelow q
       alike_before q none blanks p r short from_here before =
           elim (cases_eq p (from / 64)) [
             | inl same ↦ ap (λ m. digit (word m) r) same ∙ alike_here none r (omega (arith, div-add-mod' from 64)) short
             | inr other ↦ blank_digit p r short (blanks p (omega (arith, div-add-mod' from 64)) before)
           ]
 
-      none_before : (to q : ℕ) → to ≤ length ns * 64 → to ≤ q * 64 → rest ≡ 0 → ((p : ℕ) → from / 64 < p → p < q → word p ≡ blank) → (i : ℕ) → from ≤ i → i < to → get_or bits i false ≡ v
+      none_before : (to q : ℕ) → to ≤ length ns * 64 → to ≤ q * 64 → rest ≡ 0 → AllBetween blank (from / 64) q → AreAlike v from to
       none_before to q within reached none blanks =
           alike_between v from to within (λ p r short from_here before. alike_before q none blanks p r short from_here (omega arith))
 
   -- ---- the first clear bit
 
   -- the words before word q are full, and word q isn't
-  first_clear_at : (q : ℕ) → q < length ns → word q + 1 < 2 ^ 64 → ((p : ℕ) → p < q → word p ≡ 2 ^ 64 - 1) → IsNext true false bits 0 (q * 64 + trailing_ones w64 (word q))
+  first_clear_at : (q : ℕ) → q < length ns → word q + 1 < 2 ^ 64 → AllBelow (2 ^ 64 - 1) q → IsNext true false bits 0 (q * 64 + trailing_ones w64 (word q))
   first_clear_at q within room full =
       found_behind turned 0 q within (omega arith) (λ none. omega arith) (omega arith) (λ p r short _ before. blank_digit turned 0 p r short (full p before))
 
-  pub set_before_clear : (q : ℕ) → q < length ns → word q + 1 < 2 ^ 64 → ((p : ℕ) → p < q → word p ≡ 2 ^ 64 - 1) → (i : ℕ) → i < q * 64 + trailing_ones w64 (word q) → get_or bits i false ≡ true
+  pub set_before_clear : (q : ℕ) → q < length ns → word q + 1 < 2 ^ 64 → AllBelow (2 ^ 64 - 1) q → (i : ℕ) → i < q * 64 + trailing_ones w64 (word q) → get_or bits i false ≡ true
   set_before_clear q within room full i below = (first_clear_at q within room full).least i (omega arith) below
 
-  pub first_clear_found : (q limit : ℕ) → q < length ns → word q + 1 < 2 ^ 64 → ((p : ℕ) → p < q → word p ≡ 2 ^ 64 - 1) → q * 64 + trailing_ones w64 (word q) < limit → IsFirstClear bits limit (q * 64 + trailing_ones w64 (word q))
+  pub first_clear_found : (q limit : ℕ) → q < length ns → word q + 1 < 2 ^ 64 → AllBelow (2 ^ 64 - 1) q → q * 64 + trailing_ones w64 (word q) < limit → IsFirstClear bits limit (q * 64 + trailing_ones w64 (word q))
   first_clear_found q limit within room full below =
       record { below = below; is_clear = (first_clear_at q within room full).is; least = set_before_clear q within room full }
 
-  pub none_clear : (limit : ℕ) → limit ≤ length ns * 64 → ((p : ℕ) → p < length ns → word p ≡ 2 ^ 64 - 1) → (i : ℕ) → i < limit → get_or bits i false ≡ true
+  pub none_clear : (limit : ℕ) → limit ≤ length ns * 64 → AllBelow (2 ^ 64 - 1) (length ns) → (i : ℕ) → i < limit → get_or bits i false ≡ true
   none_clear limit within full i below =
       alike_between true 0 limit within (λ p r short _ before. blank_digit turned 0 p r short (full p (omega arith))) i (omega arith) below
 
   -- ---- the next set bit
 
-  pub next_set_in_rest : (from : ℕ) → from < length ns * 64 → word (from / 64) < 2 ^ 64 → (let rest = from_bit (word (from / 64)) (from % 64) in (rest ≡ 0 → ⊥) → IsNextSet bits from (from / 64 * 64 + trailing_zeros w64 rest))
+  abbrev set_rest : ℕ → ℕ
+  set_rest from = from_bit (word (from / 64)) (from % 64)
+
+  pub next_set_in_rest : (from : ℕ) → from < length ns * 64 → word (from / 64) < 2 ^ 64 → (set_rest from ≡ 0 → ⊥) → IsNextSet bits from (from / 64 * 64 + trailing_zeros w64 (set_rest from))
   next_set_in_rest from within fits some = next_set (found_here as_it_stands from fits within some)
 
-  pub next_set_in_word : (from q : ℕ) → q < length ns → from / 64 < q → word (from / 64) < 2 ^ 64 → from_bit (word (from / 64)) (from % 64) ≡ 0 → ((p : ℕ) → from / 64 < p → p < q → word p ≡ 0) → (word q ≡ 0 → ⊥) → word q < 2 ^ 64 → IsNextSet bits from (q * 64 + trailing_zeros w64 (word q))
+  pub next_set_in_word : (from q : ℕ) → q < length ns → from / 64 < q → word (from / 64) < 2 ^ 64 → set_rest from ≡ 0 → AllBetween 0 (from / 64) q → (word q ≡ 0 → ⊥) → word q < 2 ^ 64 → IsNextSet bits from (q * 64 + trailing_zeros w64 (word q))
   next_set_in_word from q within later first rest none some fits =
       next_set (found_behind as_it_stands from q within fits some (omega (arith, div-add-mod' from 64)) (alike_before as_it_stands from first q rest none))
 
   -- no bit is set in the words up to the one before `last`, nor from `limit` on
-  pub none_set_within : (from limit last : ℕ) → limit ≤ length ns * 64 → limit ≤ last * 64 → word (from / 64) < 2 ^ 64 → from_bit (word (from / 64)) (from % 64) ≡ 0 → ((p : ℕ) → from / 64 < p → p < last → word p ≡ 0) → ((i : ℕ) → limit ≤ i → get_or bits i false ≡ false) → (i : ℕ) → from ≤ i → get_or bits i false ≡ false
+  pub none_set_within : (from limit last : ℕ) → limit ≤ length ns * 64 → limit ≤ last * 64 → word (from / 64) < 2 ^ 64 → set_rest from ≡ 0 → AllBetween 0 (from / 64) last → ((i : ℕ) → limit ≤ i → get_or bits i false ≡ false) → (i : ℕ) → from ≤ i → get_or bits i false ≡ false
   none_set_within from limit last within reached fits rest none clear i at_least =
       elim (cases_lt i limit) [
         | inl below ↦ none_before as_it_stands from fits limit last within reached rest none i at_least below
@@ -220,11 +238,11 @@ module _ (ns : List ℕ) where
         ∙ ap (λ m. digit (word m) (i % 64)) same
         ∙ alike_here turned from fits none (i % 64) (omega (arith, div-add-mod' i 64, div-add-mod' from 64)) (omega arith)
 
-    pub next_clear_in_word : (q : ℕ) → q < length ns → from / 64 < q → clear_rest ≡ 0 → ((p : ℕ) → from / 64 < p → p < q → word p ≡ 2 ^ 64 - 1) → word q + 1 < 2 ^ 64 → IsNextClear bits from (q * 64 + trailing_ones w64 (word q))
+    pub next_clear_in_word : (q : ℕ) → q < length ns → from / 64 < q → clear_rest ≡ 0 → AllBetween (2 ^ 64 - 1) (from / 64) q → word q + 1 < 2 ^ 64 → IsNextClear bits from (q * 64 + trailing_ones w64 (word q))
     next_clear_in_word q within later none full room =
         next_clear (found_behind turned from q within (omega arith) (λ blank. omega arith) (omega (arith, div-add-mod' from 64)) (alike_before turned from fits q none full))
 
-    pub none_clear_from : clear_rest ≡ 0 → ((p : ℕ) → from / 64 < p → p < length ns → word p ≡ 2 ^ 64 - 1) → (i : ℕ) → from ≤ i → i < length ns * 64 → get_or bits i false ≡ true
+    pub none_clear_from : clear_rest ≡ 0 → AllBetween (2 ^ 64 - 1) (from / 64) (length ns) → AreAlike true from (length ns * 64)
     none_clear_from none full = none_before turned from fits (length ns * 64) (length ns) (omega arith) (omega arith) none full
 
   -- ---- the last set bit

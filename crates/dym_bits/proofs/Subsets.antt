@@ -22,7 +22,7 @@ set_in_both a b r fits short none set =
 
 pub set_within : (xs ys : List ℕ) (used : ℕ) → length xs ≡ length ys → used ≤ length xs → AreZeroFrom used xs → ((p : ℕ) → p < used → get_or ys p 0 < 2 ^ 64) → ((p : ℕ) → p < used → bit_and (get_or xs p 0) (bit_not w64 (get_or ys p 0)) ≡ 0) → (k : ℕ) → get_or (bits_of 64 xs) k false ≡ true → get_or (bits_of 64 ys) k false ≡ true
 set_within xs ys used long within rest fits none k set =
-    elim (cases_lt k (used * 64)) as (λ _. get_or (bits_of 64 ys) k false ≡ true) [
+    elim (cases_lt k (used * 64)) [
       | inl below ↦ (
           let q : k / 64 < used = omega (arith, div-add-mod' k 64) in
           get_or-bits_of_at 64 ys k (omega arith) (omega arith)

@@ -12,7 +12,7 @@ use Rattle.dym_bits.proofs.BitmapLemmas.{digit_is_set, digit_is_clear, length-bi
 
 pub digit_or : (a b r : ℕ) → digit (bit_or a b) r ≡ (digit a r || digit b r)
 digit_or a b r =
-    elim (cases_eq (bit_at a r) 1) as (λ _. digit (bit_or a b) r ≡ (digit a r || digit b r)) [
+    elim (cases_eq (bit_at a r) 1) [
       | inl one ↦
           digit_is_set (bit_or a b) r (bit_at_or a b r ∙ omega (arith, bit_at-lt b r))
           ∙ sym (ap (λ x. x || digit b r) (digit_is_set a r one))
@@ -24,7 +24,7 @@ digit_or a b r =
 
 pub digit_and : (a b r : ℕ) → digit (bit_and a b) r ≡ (digit a r && digit b r)
 digit_and a b r =
-    elim (cases_eq (bit_at a r) 1) as (λ _. digit (bit_and a b) r ≡ (digit a r && digit b r)) [
+    elim (cases_eq (bit_at a r) 1) [
       | inl one ↦
           let same : min (bit_at a r) (bit_at b r) ≡ bit_at b r = omega (arith, bit_at-lt b r) in
           ap (λ n. nat_eq n 1) (bit_at_and a b r ∙ same) ∙ sym (ap (λ x. x && digit b r) (digit_is_set a r one))
@@ -36,7 +36,7 @@ digit_and a b r =
 
 digit_not : (b r : ℕ) → b < 2 ^ 64 → r < 64 → digit (bit_not w64 b) r ≡ not (digit b r)
 digit_not b r fits short =
-    elim (cases_eq (bit_at b r) 1) as (λ _. digit (bit_not w64 b) r ≡ not (digit b r)) [
+    elim (cases_eq (bit_at b r) 1) [
       | inl one ↦ digit_is_clear (bit_not w64 b) r (bit_at_not w64 b r fits short ∙ omega arith) ∙ sym (ap not (digit_is_set b r one))
       | inr ne ↦
           let none : bit_at b r ≡ 0 = omega (arith, bit_at-lt b r) in
@@ -52,7 +52,7 @@ digit_without a b r fits short = digit_and a (bit_not w64 b) r ∙ ap (λ x. dig
 pub each_more : (op : ℕ → ℕ → ℕ) (xs ys zs : List ℕ) (q n : ℕ) → q < length zs → n ≡ op (get_or xs q 0) (get_or ys q 0) → ((p : ℕ) → p < q → get_or zs p 0 ≡ op (get_or xs p 0) (get_or ys p 0))
     → (p : ℕ) → p < q + 1 → get_or (set zs q n) p 0 ≡ op (get_or xs p 0) (get_or ys p 0)
 each_more op xs ys zs q n within is each p below =
-    elim (cases_eq p q) as (λ _. get_or (set zs q n) p 0 ≡ op (get_or xs p 0) (get_or ys p 0)) [
+    elim (cases_eq p q) [
       | inl same ↦ ap (λ i. get_or (set zs q n) i 0) same ∙ get_or-set_same zs q n 0 within ∙ is ∙ sym (ap (λ i. op (get_or xs i 0) (get_or ys i 0)) same)
       | inr ne ↦ get_or-set_other zs q p n 0 ne ∙ each p (omega arith)
     ]
@@ -70,7 +70,7 @@ pub bits_by : (f : Bool → Bool → Bool) → f false false ≡ false → (xs y
     → ((p r : ℕ) → p < length zs → r < 64 → digit (get_or zs p 0) r ≡ f (digit (get_or xs p 0) r) (digit (get_or ys p 0) r))
     → (k : ℕ) → get_or (bits_of 64 zs) k false ≡ f (get_or (bits_of 64 xs) k false) (get_or (bits_of 64 ys) k false)
 bits_by f none xs ys zs long_x long_y each k =
-    elim (cases_lt k (length zs * 64)) as (λ _. get_or (bits_of 64 zs) k false ≡ f (get_or (bits_of 64 xs) k false) (get_or (bits_of 64 ys) k false)) [
+    elim (cases_lt k (length zs * 64)) [
       | inl below ↦
           let x : get_or (bits_of 64 xs) k false ≡ digit (get_or xs (k / 64) 0) (k % 64) = get_or-bits_of_at 64 xs k (omega arith) (omega arith) in
           let y : get_or (bits_of 64 ys) k false ≡ digit (get_or ys (k / 64) 0) (k % 64) = get_or-bits_of_at 64 ys k (omega arith) (omega arith) in
