@@ -6,29 +6,17 @@ use Rattle.dym_region.specs.Content.{part_of}
 use Rattle.dym_region.specs.Lending.{with_lent}
 use Rattle.dym_area.specs.Area.{AreaMeaning, IsValidArea, chunk_start, dirty_after, with_chunk_lent}
 use Rattle.dym_area.proofs.AreaLent.{length-refilled, length-dirty_after, dirty_after-used}
-use Rattle.dym_area.proofs.Classes.{place_fits}
+use Rattle.dym_area.proofs.Classes.{place_fits, place_seen, place_real}
 use Rattle.dym_area.proofs.chunks.Area.bytes_mut.Goals as goal
 
 pub overflow_mul-start : goal.overflow_mul-start
-overflow_mul-start g c =
-    let same : size c.self.inside.exp ≡ size c.args.self.now.exponent = ap (λ a. size a.exponent) c.self.view_is in
-    let used : IsSet c.self.inside.used c.args.i = ap (λ a. bit_in a.used c.args.i) c.self.view_is ∙ c.requires.used in
-    let start : c.args.i * c.size_of_class.result ≡ c.args.i * size c.self.inside.exp = ap (λ s. c.args.i * s) c.size_of_class.ensures in
-    omega (arith, place_fits c.self.inside.exp c.args.i c.args.at (c.args.len) c.self.invariant.valid.greatest (c.self.invariant.valid.used_below c.args.i used) (omega arith))
+overflow_mul-start g c = omega (arith, place_seen c.self.view_is c.self.invariant.valid c.args.i c.args.at c.args.len c.size_of_class.ensures c.requires.used c.requires.within)
 
 pub overflow_add-start : goal.overflow_add-start
-overflow_add-start g c =
-    let same : size c.self.inside.exp ≡ size c.args.self.now.exponent = ap (λ a. size a.exponent) c.self.view_is in
-    let used : IsSet c.self.inside.used c.args.i = ap (λ a. bit_in a.used c.args.i) c.self.view_is ∙ c.requires.used in
-    let start : c.args.i * c.size_of_class.result ≡ c.args.i * size c.self.inside.exp = ap (λ s. c.args.i * s) c.size_of_class.ensures in
-    omega (arith, place_fits c.self.inside.exp c.args.i c.args.at (c.args.len) c.self.invariant.valid.greatest (c.self.invariant.valid.used_below c.args.i used) (omega arith))
+overflow_add-start g c = omega (arith, place_seen c.self.view_is c.self.invariant.valid c.args.i c.args.at c.args.len c.size_of_class.ensures c.requires.used c.requires.within)
 
 pub bytes_mut-requires : goal.bytes_mut-requires
-bytes_mut-requires g c =
-    let same : size c.self.inside.exp ≡ size c.args.self.now.exponent = ap (λ a. size a.exponent) c.self.view_is in
-    let used : IsSet c.self.inside.used c.args.i = ap (λ a. bit_in a.used c.args.i) c.self.view_is ∙ c.requires.used in
-    let start : c.args.i * c.size_of_class.result ≡ c.args.i * size c.self.inside.exp = ap (λ s. c.args.i * s) c.size_of_class.ensures in
-    omega (arith, place_fits c.self.inside.exp c.args.i c.args.at (c.args.len) c.self.invariant.valid.greatest (c.self.invariant.valid.used_below c.args.i used) (omega arith))
+bytes_mut-requires g c = place_real c.self.view_is c.self.invariant.valid _ c.args.i c.args.at c.args.len c.size_of_class.ensures c.requires.used c.requires.within c.self.invariant.real
 
 pub returns : goal.returns
 returns g c =

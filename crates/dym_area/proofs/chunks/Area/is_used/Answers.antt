@@ -1,9 +1,6 @@
-use Rattle.std.proofs.Common.{ap, arith}
-use Rattle.dym_base.specs.Numbers.{per}
-use Rattle.dym_area.proofs.Classes.{per_small}
+use Rattle.std.proofs.Common.{arith}
+use Rattle.dym_area.proofs.Classes.{bit_seen}
 use Rattle.dym_area.proofs.chunks.Area.is_used.Goals as goal
 
 pub get-requires : goal.get-requires
-get-requires g c =
-    let same = ap (λ a. per a.exponent) c.self.view_is in
-    omega (arith, per_small c.self.inside.exp c.self.invariant.valid.least)
+get-requires g c = bit_seen c.self.view_is c.self.invariant.valid c.args.i c.requires

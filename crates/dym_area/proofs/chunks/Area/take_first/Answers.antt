@@ -2,54 +2,37 @@ use Rattle.std.proofs.Common.{◌≡◌, ℕ, ◌+◌, ◌*◌, ◌<◌, ◌≤�
 use Rattle.dym_base.specs.Numbers.{size, per}
 use Rattle.dym_area.specs.Area.{AreaMeaning, AreFilled}
 use Rattle.dym_bits.specs.Bits.{IsSet}
-use Rattle.dym_area.proofs.Classes.{per_small, chunk_fits}
+use Rattle.dym_area.proofs.Classes.{index_seen, bit_seen, chunk_seen}
 use Rattle.dym_area.proofs.Reach.{filled_taken}
 use Rattle.dym_area.proofs.Taken.{set_below, used_below_taken, dirty_used_taken}
 use Rattle.dym_area.proofs.chunks.Area.take_first.Goals as goal
 
 pub set-requires : goal.set-requires
-set-requires g c =
-    let same : per c.self.inside.exp ≡ per c.args.self.now.exponent = ap (λ (a : AreaMeaning). per a.exponent) c.self.view_is in
-    omega (arith, same, per_small c.self.inside.exp c.self.invariant.valid.least, c.in_ok-i.ensures.below)
+set-requires g c = bit_seen c.self.view_is c.self.invariant.valid c.in_ok-i.i c.in_ok-i.ensures.below
 
 pub set-requires-2 : goal.set-requires-2
-set-requires-2 g c =
-    let same : per c.self.inside.exp ≡ per c.args.self.now.exponent = ap (λ (a : AreaMeaning). per a.exponent) c.self.view_is in
-    omega (arith, same, per_small c.self.inside.exp c.self.invariant.valid.least, c.in_ok-i.ensures.below)
+set-requires-2 g c = bit_seen c.self.view_is c.self.invariant.valid c.in_ok-i.i c.in_ok-i.ensures.below
 
 pub overflow_mul-i : goal.overflow_mul-i
-overflow_mul-i g c =
-    let start : c.in_ok-i.i * c.size_of_class-size.result ≡ c.in_ok-i.i * size c.self.inside.exp = ap (λ s. c.in_ok-i.i * s) c.size_of_class-size.ensures in
-    let same : per c.self.inside.exp ≡ per c.args.self.now.exponent = ap (λ (a : AreaMeaning). per a.exponent) c.self.view_is in
-    let within : c.in_ok-i.i < per c.self.inside.exp = omega (arith, same, c.in_ok-i.ensures.below) in
-    omega (arith, chunk_fits c.self.inside.exp c.in_ok-i.i c.self.invariant.valid.greatest within)
+overflow_mul-i g c = omega (arith, chunk_seen c.self.view_is c.self.invariant.valid c.in_ok-i.i c.size_of_class-size.ensures c.in_ok-i.ensures.below)
 
 pub zero-requires : goal.zero-requires
-zero-requires g c =
-    let start : c.in_ok-i.i * c.size_of_class-size.result ≡ c.in_ok-i.i * size c.self.inside.exp = ap (λ s. c.in_ok-i.i * s) c.size_of_class-size.ensures in
-    let same : per c.self.inside.exp ≡ per c.args.self.now.exponent = ap (λ (a : AreaMeaning). per a.exponent) c.self.view_is in
-    let within : c.in_ok-i.i < per c.self.inside.exp = omega (arith, same, c.in_ok-i.ensures.below) in
-    omega (arith, chunk_fits c.self.inside.exp c.in_ok-i.i c.self.invariant.valid.greatest within)
+zero-requires g c = chunk_seen c.self.view_is c.self.invariant.valid c.in_ok-i.i c.size_of_class-size.ensures c.in_ok-i.ensures.below
 
 pub after_take-self-inside-requires-clause-within : goal.after_take-self-inside-requires-clause-within
-after_take-self-inside-requires-clause-within g c =
-    let same : per c.self.inside.exp ≡ per c.args.self.now.exponent = ap (λ (a : AreaMeaning). per a.exponent) c.self.view_is in
-    omega (arith, same, per_small c.self.inside.exp c.self.invariant.valid.least, c.in_ok-i.ensures.below)
+after_take-self-inside-requires-clause-within g c = bit_seen c.self.view_is c.self.invariant.valid c.in_ok-i.i c.in_ok-i.ensures.below
 
 pub after_take-self-inside-requires-clause-below : goal.after_take-self-inside-requires-clause-below
 after_take-self-inside-requires-clause-below g c k most =
-    let i = c.in_ok-i.i in
-    let below : (k : ℕ) → k < i → IsSet c.self.inside.used k = λ k lt. subst (λ (a : AreaMeaning). IsSet a.used k) (sym c.self.view_is) (c.in_ok-i.ensures.least k lt) in
-    let same : per c.self.inside.exp ≡ per c.args.self.now.exponent = ap (λ (a : AreaMeaning). per a.exponent) c.self.view_is in
-    let within : i < length c.self.inside.used = omega (arith, same, per_small c.self.inside.exp c.self.invariant.valid.least, c.in_ok-i.ensures.below, c.self.invariant.valid.used_len) in
-    subst (λ bits. IsSet bits k) (sym c.set.ensures.after) (set_below c.self.inside.used i within below k (omega (arith, most)))
+    let below : (k : ℕ) → k < c.in_ok-i.i → IsSet c.self.inside.used k = λ k lt. subst (λ (a : AreaMeaning). IsSet a.used k) (sym c.self.view_is) (c.in_ok-i.ensures.least k lt) in
+    let within : c.in_ok-i.i < length c.self.inside.used = omega (arith, bit_seen c.self.view_is c.self.invariant.valid c.in_ok-i.i c.in_ok-i.ensures.below, c.self.invariant.valid.used_len) in
+    subst (λ bits. IsSet bits k) (sym c.set.ensures.after) (set_below c.self.inside.used c.in_ok-i.i within below k (omega (arith, most)))
 
 pub invariant_of-self : goal.invariant_of-self
 invariant_of-self g c =
     let i = c.in_ok-i.i in
-    let same : per c.self.inside.exp ≡ per c.args.self.now.exponent = ap (λ (a : AreaMeaning). per a.exponent) c.self.view_is in
-    let within : i < per c.self.inside.exp = omega (arith, same, c.in_ok-i.ensures.below) in
-    let there : i < length c.self.inside.used = omega (arith, within, per_small c.self.inside.exp c.self.invariant.valid.least, c.self.invariant.valid.used_len) in
+    let within : i < per c.self.inside.exp = index_seen c.self.view_is c.self.invariant.valid c.in_ok-i.i c.in_ok-i.ensures.below in
+    let there : i < length c.self.inside.used = omega (arith, bit_seen c.self.view_is c.self.invariant.valid c.in_ok-i.i c.in_ok-i.ensures.below, c.self.invariant.valid.used_len) in
     let start : i * c.size_of_class-size.result ≡ i * size c.self.inside.exp = ap (λ s. i * s) c.size_of_class-size.ensures in
     let reached : i * size c.self.inside.exp + size c.self.inside.exp ≤ g.G.Segment.filled c.zero.new.self = omega (arith, start, c.size_of_class-size.ensures, c.zero.ensures.reached) in
     record {
