@@ -100,12 +100,12 @@ at_parts a k is =
 
 at_other : (a b : Content) → IsSmall b → (i : ℕ) → i < per b.exponent → (a.exponent < b.exponent) ⊎ ((b.exponent ≡ a.exponent) × (a.ordinal + 1 ≤ b.ordinal)) → is_at a (num b i) ≡ false
 at_other a b is i inside apart =
-    elim (cases_Bool (is_at a (num b i))) as (λ _. is_at a (num b i) ≡ false) [
+    elim (cases_Bool (is_at a (num b i))) [
       | inl yes_at ↦ (
           let parts = at_parts a (num b i) yes_at in
           let class : b.exponent ≡ a.exponent = sym (num_exponent b is i inside) ∙ parts.0 in
           let offset : b.ordinal ≡ a.ordinal = sym (num_area b is i inside) ∙ ap (λ e. index_of (num b i) / per e) class ∙ parts.1 in
-          absurd (elim apart as (λ _. ⊥) [ inl above ↦ omega arith | inr more ↦ omega (arith, more.1) ]))
+          absurd (elim apart [ inl above ↦ omega arith | inr more ↦ omega (arith, more.1) ]))
       | inr not_at ↦ not_at
     ]
 
@@ -144,11 +144,11 @@ record Found (cs : List Content) (k : ℕ) (x : List ℕ) : Type 0 where
 found : (cs : List Content) (k : ℕ) (x : List ℕ) → value_of cs k ≡ Some x → Found cs k x
 found [] k x is = absurd (true≢false (sym (ap is_some is)))
 found (a ∷ cs) k x is =
-    elim (cases_Bool (is_at a k)) as (λ _. Found (a ∷ cs) k x) [
+    elim (cases_Bool (is_at a k)) [
       | inl at ↦ (
           let i = index_of k % per a.exponent in
           let here : value_in a i ≡ Some x = sym (cond-true (is_at a k) _ _ at) ∙ is in
-          elim (cases_Bool (a.used i)) as (λ _. Found (a ∷ cs) k x) [
+          elim (cases_Bool (a.used i)) [
             | inl used ↦ record { area = a; there = inl refl; at = at; used = used; is = same_Some (a.chunk i) x (sym (cond-true (a.used i) _ _ used) ∙ here) }
             | inr unused ↦ absurd (true≢false (sym (ap is_some (sym (cond-false (a.used i) _ _ unused) ∙ here))))
           ])
@@ -161,7 +161,7 @@ found (a ∷ cs) k x is =
 marked : (v : Version) (cs : List Content) (k : ℕ) → AllByRecursion (IsContent v) cs → mark_of cs k ≡ true → is_some (value_of cs k) ≡ true
 marked v [] k each is = absurd (true≢false (sym is))
 marked v (a ∷ cs) k each is =
-    elim (cases_Bool (is_at a k)) as (λ _. is_some (value_of (a ∷ cs) k) ≡ true) [
+    elim (cases_Bool (is_at a k)) [
       | inl at ↦ (
           let i = index_of k % per a.exponent in
           let mark : a.touched i ≡ true = sym (cond-true (is_at a k) _ _ at) ∙ is in
@@ -178,7 +178,7 @@ none_far : (cs : List Content) → ((a : Content) → In a cs → a.exponent ≤
 none_far [] most k far = (refl, refl)
 none_far (a ∷ cs) most k far =
     let low : a.exponent ≤ 16 = most a (inl refl) in
-    let off : is_at a k ≡ false = elim (cases_Bool (is_at a k)) as (λ _. is_at a k ≡ false) [
+    let off : is_at a k ≡ false = elim (cases_Bool (is_at a k)) [
       | inl at ↦ absurd (let class = (at_parts a k at).0 in omega arith)
       | inr off ↦ off
     ] in
@@ -256,7 +256,7 @@ found_live v cs good k mark = has_value v cs good k ∙ marked v cs k good.each 
 any_in_range : (p : ℕ → Bool) (n from : ℕ) → list_any p (range_with_len from n) ≡ true → (i : ℕ) × (i < from + n) × (p i ≡ true)
 any_in_range p zero from is = absurd (true≢false (sym is))
 any_in_range p (suc n) from is =
-    elim (cases_Bool (p from)) as (λ _. (i : ℕ) × (i < from + suc n) × (p i ≡ true)) [
+    elim (cases_Bool (p from)) [
       | inl here ↦ (from, omega arith, here)
       | inr there ↦ (let rest = any_in_range p n (from + 1) (later_any (p from) _ there is) in (rest.0, omega (arith, rest.1), rest.2))
     ]
@@ -281,7 +281,7 @@ areas_are v cs good e =
           omega arith)
       | None ↦ λ is some. absurd (true≢false (sym some))
     ] refl (sym (has_value v cs good k) ∙ has)) in
-    let least : of_class e cs ≤ areas live e = elim (cases_eq (of_class e cs) 0) as (λ _. of_class e cs ≤ areas live e) [
+    let least : of_class e cs ≤ areas live e = elim (cases_eq (of_class e cs) 0) [
       | inl none ↦ omega arith
       | inr some ↦ (
           let last = last_used 5 0 true cs good.ordered e (omega arith) in

@@ -20,7 +20,7 @@ pub bitmap_same : (n : ℕ) (f g : ℕ → Bool) → ((i : ℕ) → i < n → f 
 unfolding bitmap
 bitmap_same n f g same =
     ap (λ (h : ℕ → Bool). map (bitmap_byte h) (range_with_len 0 (max 1 (n / 8))))
-    (fun_ext (λ i. elim (cases_lt i n) as (λ _. (nat_lt i n && f i) ≡ (nat_lt i n && g i)) [
+    (fun_ext (λ i. elim (cases_lt i n) [
       | inl below ↦ ap (λ b. nat_lt i n && b) (same i below)
       | inr above ↦ and_left (nat_lt i n) (f i) (le-ltb i n above) ∙ sym (and_left (nat_lt i n) (g i) (le-ltb i n above))
     ]))
@@ -94,7 +94,7 @@ test_of_bitmap n f i inside below =
 -- the bits that a bitmap's bytes have
 pub bits_of_bitmap : (n : ℕ) (f : ℕ → Bool) (i : ℕ) → n ≤ 8 * max 1 (n / 8) → bit_in (bits_of_bytes (bitmap n f)) i ≡ (nat_lt i n && f i)
 bits_of_bitmap n f i room =
-    elim (cases_lt i (length (bitmap n f) * 8)) as (λ _. bit_in (bits_of_bytes (bitmap n f)) i ≡ (nat_lt i n && f i)) [
+    elim (cases_lt i (length (bitmap n f) * 8)) [
       | inl below ↦
           get_or-bits_of_at 8 (bitmap n f) i (omega arith) below
           ∙ ap (λ m. nat_eq m 1) (bit_of_bitmap n f i (omega (arith, length_bitmap n f)))

@@ -85,7 +85,7 @@ each_content log ok (x ∷ xs) each = (content_is log ok x each.0, each_content 
 any_from : (p : ℕ → Bool) (n from i : ℕ) → from ≤ i → i < from + n → p i ≡ true → list_any p (range_with_len from n) ≡ true
 any_from p zero from i low high hit = absurd (omega arith)
 any_from p (suc n) from i low high hit =
-    elim (cases_eq i from) as (λ _. list_any p (range_with_len from (suc n)) ≡ true) [
+    elim (cases_eq i from) [
       | inl here ↦ ap (λ b. b || list_any p (range_with_len (from + 1) n)) (sym (ap p here) ∙ hit)
       | inr later ↦ either (p from) _ (any_from p n (from + 1) i (omega arith) (omega arith) hit)
     ]
@@ -118,8 +118,8 @@ rows_ordered log zero e exponent next behind = refl
 rows_ordered log (suc d) e exponent next behind =
     let names = flat_map (row log.copy) (range_with_len (e + 1) d) in
     let Goal : ℕ → Type 0 = λ n. AreOrdered exponent next true (map (content_of log) (map (named e) (range_with_len 0 n) ++ names)) in
-    let low : exponent ≤ e = elim behind as (λ _. exponent ≤ e) [ inl below ↦ omega arith | inr same ↦ omega (arith, same.0) ] in
-    let follows : Follows exponent next true e 0 = elim behind as (λ _. Follows exponent next true e 0) [ inl below ↦ inr (below, refl, refl) | inr same ↦ inl (same.0, sym same.1) ] in
+    let low : exponent ≤ e = elim behind [ inl below ↦ omega arith | inr same ↦ omega (arith, same.0) ] in
+    let follows : Follows exponent next true e 0 = elim behind [ inl below ↦ inr (below, refl, refl) | inr same ↦ inl (same.0, sym same.1) ] in
     elim (areas log.copy e) as (λ n. areas log.copy e ≡ n → Goal n) [
       | zero ↦ λ none. rows_ordered log d (e + 1) exponent next (inl (omega arith))
       | suc n ↦ λ count.

@@ -21,7 +21,7 @@ values_below (suc n) f = with_value (values_below n f) n (f n)
 
 get_with : (m : Live) (k q : ℕ) (x : Option (List ℕ)) → map.get m k ≡ None → map.get (with_value m k x) q ≡ cond (q == k) x (map.get m q)
 get_with m k q None gone =
-    elim (cases_eq q k) as (λ _. map.get m q ≡ cond (q == k) None (map.get m q)) [
+    elim (cases_eq q k) [
       | inl same ↦ ap (map.get m) same ∙ gone ∙ sym (cond-true (q == k) _ _ (eq-eqb q k same))
       | inr other ↦ sym (cond-false (q == k) _ _ (ne_eqb q k other))
     ]
@@ -40,7 +40,7 @@ unfolding values_below
 get_below zero f q below = absurd (omega arith)
 get_below (suc n) f q below =
     get_with (values_below n f) n q (f n) (none_past n f n (omega arith))
-    ∙ elim (cases_eq q n) as (λ _. cond (q == n) (f n) (map.get (values_below n f) q) ≡ f q) [
+    ∙ elim (cases_eq q n) [
       | inl same ↦ cond-true (q == n) _ _ (eq-eqb q n same) ∙ ap f (sym same)
       | inr other ↦ cond-false (q == n) _ _ (ne_eqb q n other) ∙ get_below n f q (omega arith)
     ]
@@ -48,7 +48,7 @@ get_below (suc n) f q below =
 -- a function that is None from n on is that of a map
 pub values_get : (n : ℕ) (f : ℕ → Option (List ℕ)) → ((q : ℕ) → n ≤ q → f q ≡ None) → (q : ℕ) → map.get (values_below n f) q ≡ f q
 values_get n f past q =
-    elim (cases_lt q n) as (λ _. map.get (values_below n f) q ≡ f q) [
+    elim (cases_lt q n) [
       | inl below ↦ get_below n f q below
       | inr beyond ↦ none_past n f q beyond ∙ sym (past q beyond)
     ]
@@ -65,7 +65,7 @@ marks_below (suc n) f = with_mark (marks_below n f) n (f n)
 
 has_with : (s : Touched) (k q : ℕ) (x : Bool) → set.contains s k ≡ false → set.contains (with_mark s k x) q ≡ cond (q == k) x (set.contains s q)
 has_with s k q false gone =
-    elim (cases_eq q k) as (λ _. set.contains s q ≡ cond (q == k) false (set.contains s q)) [
+    elim (cases_eq q k) [
       | inl same ↦ ap (set.contains s) same ∙ gone ∙ sym (cond-true (q == k) _ _ (eq-eqb q k same))
       | inr other ↦ sym (cond-false (q == k) _ _ (ne_eqb q k other))
     ]
@@ -91,14 +91,14 @@ unfolding marks_below
 marked_below zero f q below = absurd (omega arith)
 marked_below (suc n) f q below =
     has_with (marks_below n f) n q (f n) (unmarked_past n f n (omega arith))
-    ∙ elim (cases_eq q n) as (λ _. cond (q == n) (f n) (set.contains (marks_below n f) q) ≡ f q) [
+    ∙ elim (cases_eq q n) [
       | inl same ↦ cond-true (q == n) _ _ (eq-eqb q n same) ∙ ap f (sym same)
       | inr other ↦ cond-false (q == n) _ _ (ne_eqb q n other) ∙ marked_below n f q (omega arith)
     ]
 
 pub marks_has : (n : ℕ) (f : ℕ → Bool) → ((q : ℕ) → n ≤ q → f q ≡ false) → (q : ℕ) → set.contains (marks_below n f) q ≡ f q
 marks_has n f past q =
-    elim (cases_lt q n) as (λ _. set.contains (marks_below n f) q ≡ f q) [
+    elim (cases_lt q n) [
       | inl below ↦ marked_below n f q below
       | inr beyond ↦ unmarked_past n f q beyond ∙ sym (past q beyond)
     ]

@@ -118,7 +118,7 @@ touched_next e map bytes parsed size is =
 -- no touched bit stands outside
 pub none_outside : (e map k : ℕ) (bytes : List ℕ) (parsed : ParsedMaps) (used touched : List Bool) → 5 ≤ e → e ≤ 16 → map ≡ max 1 (per e / 8) → IsMaps Inc e bytes parsed → take map bytes ≡ bitmap (per e) (bit_in used) → take map (drop map bytes) ≡ bitmap (per e) (bit_in touched) → ((i : ℕ) → per e ≤ i → bit_in touched i ≡ false) → bit_in touched k ≡ true → bit_in used k ≡ false → ⊥
 none_outside e map k bytes parsed used touched least most size is first next clear set unset =
-    elim (cases_lt k (per e)) as (λ _. ⊥) [
+    elim (cases_lt k (per e)) [
       | inl below ↦ (
           let room = per_room e least most in
           let t : bit_in touched k ≡ is.touched k = bitmap_tells (per e) (bit_in touched) is.touched room (sym next ∙ touched_next e map bytes parsed size is) k below in

@@ -24,14 +24,14 @@ picked_no p n miss = picked_more p n ∙ ap (λ xs. picked n p ++ xs) (cond-fals
 pub rank_less : (p : ℕ → Bool) (n i : ℕ) → i < n → p i ≡ true → length (picked i p) < length (picked n p)
 rank_less p zero i below hit = absurd (omega arith)
 rank_less p (suc n) i below hit =
-    elim (cases_eq i n) as (λ _. length (picked i p) < length (picked (suc n) p)) [
+    elim (cases_eq i n) [
       | inl same ↦ (
           let at : p n ≡ true = sym (ap p same) ∙ hit in
           let before = ap (λ m. length (picked m p)) same in
           omega (arith, ap length (picked_yes p n at), length-append (picked n p) (n ∷ [])))
       | inr other ↦ (
           let before = rank_less p n i (omega arith) hit in
-          elim (cases_Bool (p n)) as (λ _. length (picked i p) < length (picked (suc n) p)) [
+          elim (cases_Bool (p n)) [
             | inl at ↦ omega (arith, ap length (picked_yes p n at), length-append (picked n p) (n ∷ []))
             | inr not ↦ omega (arith, ap length (picked_no p n not))
           ])
@@ -45,7 +45,7 @@ pub chunks_ranked : (p : ℕ → Bool) (chunks : List (List ℕ)) (other : List 
 chunks_ranked p chunks other zero room = refl
 chunks_ranked p chunks other (suc n) room =
     let f = chunk_by p chunks other in
-    elim (cases_Bool (p n)) as (λ _. map f (picked (suc n) p) ≡ take (length (picked (suc n) p)) chunks) [
+    elim (cases_Bool (p n)) [
       | inl hit ↦ (
           let more = picked_yes p n hit in
           let count : length (picked (suc n) p) ≡ length (picked n p) + 1 = ap length more ∙ length-append (picked n p) (n ∷ []) in

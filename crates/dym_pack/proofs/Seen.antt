@@ -1,5 +1,5 @@
 -- The area that bytes begin with, by its parts.
-use Rattle.std.proofs.Common.{◌≡◌, ℕ, zero, suc, ◌+◌, ◌-◌, ◌^◌, ◌<◌, ◌≤◌, ◌⊎◌, Bool, true, false, cond, Option, Some, None, is_some, List, [], ◌∷◌, ◌++◌, length, map, take, drop, get_or, replicate, refl, sym, ap, subst, ◌∙◌, arith, inl, inr}
+use Rattle.std.proofs.Common.{◌≡◌, ℕ, zero, suc, ◌+◌, ◌-◌, ◌^◌, ◌<◌, ◌≤◌, Bool, true, false, cond, Option, Some, None, is_some, List, [], ◌∷◌, ◌++◌, length, map, take, drop, get_or, replicate, refl, sym, ap, subst, ◌∙◌, arith, inl, inr}
 use Rattle.std.specs.Int.{w32, from_le_bytes}
 use Rattle.std.specs.List.{flat_map, filter, range_with_len, AllByRecursion}
 use Rattle.std.proofs.lemmas.List.{append_assoc, length-append, length-map, length-take, take-append-drop, drop_at, drop-drop, length-replicate}
@@ -95,7 +95,7 @@ size_fits : (v : Version) (e : ℕ) → 5 ≤ e → e ≤ 16 → IsLengthOf v e 
 size_fits One e least most = zeros_long (size e)
 size_fits Two e least most =
     ap cls (zeros_long (size e))
-    ∙ cls_is (size e) e least most (elim (cases_eq e 5) as (λ _. (e ≡ 5) ⊎ (2 ^ (e - 1) < size e)) [
+    ∙ cls_is (size e) e least most (elim (cases_eq e 5) [
       | inl same ↦ inl same
       | inr other ↦ inr (let more : e ≡ suc (e - 1) = omega arith in subst (λ x. 2 ^ (e - 1) < 2 ^ x) (sym more) (let one : 1 ≤ 2 ^ (e - 1) = pow_pos (e - 1) in omega (arith, pow-suc 2 (e - 1))))
     ]) (omega arith)
@@ -120,7 +120,7 @@ seen_is v kind bytes e o maps len least most small named m b =
         least = least;
         most = most;
         small = small;
-        sized = λ i below used. elim (cases_Bool (p i)) as (λ _. IsLengthOf v e (length (chunk_by p b.chunks other i))) [
+        sized = λ i below used. elim (cases_Bool (p i)) [
           | inl hit ↦ subst (λ x. IsLengthOf v e (length x)) (sym (cond-true (p i) _ _ hit))
               (All-from_recursion (λ (x : List ℕ). IsLengthOf v e (length x)) b.chunks b.sized (length (picked i p)) [] (omega (arith, rank_less p n i below hit)))
           | inr miss ↦ subst (λ x. IsLengthOf v e (length x)) (sym (cond-false (p i) _ _ miss)) (size_fits v e least most)

@@ -30,7 +30,7 @@ right_part P (x ∷ xs) ys all = right_part P xs ys all.1
 of_class : (P : AreaName → Type 0) (f : ℕ → List AreaName) (a n e : ℕ) → a ≤ e → e < a + n → AllByRecursion P (flat_map f (range_with_len a n)) → AllByRecursion P (f e)
 of_class P f a zero e low high all = absurd (omega arith)
 of_class P f a (suc n) e low high all =
-    elim (cases_lt a e) as (λ _. AllByRecursion P (f e)) [
+    elim (cases_lt a e) [
       | inl later ↦ of_class P f (a + 1) n e (omega arith) (omega arith) (right_part P (f a) (flat_map f (range_with_len (a + 1) n)) all)
       | inr here ↦
           let same : a ≡ e = omega arith in
@@ -40,7 +40,7 @@ of_class P f a (suc n) e low high all =
 in_row : (P : AreaName → Type 0) (e from n o : ℕ) → from ≤ o → o < from + n → AllByRecursion P (map (named e) (range_with_len from n)) → P (named e o)
 in_row P e from zero o low high all = absurd (omega arith)
 in_row P e from (suc n) o low high all =
-    elim (cases_lt from o) as (λ _. P (named e o)) [
+    elim (cases_lt from o) [
       | inl later ↦ in_row P e (from + 1) n o (omega arith) (omega arith) all.1
       | inr here ↦
           let same : from ≡ o = omega arith in
@@ -130,7 +130,7 @@ has_same a b ok also same q = same_truth (contains_key a.copy q) (contains_key b
 
 packs_same : (a b : Logged) → IsRecorded a → IsRecorded b → packed a ≡ packed b → (q : ℕ) → packed_by a q ≡ packed_by b q
 packs_same a b ok also same q =
-    elim (cases_Bool (contains_key a.copy q)) as (λ _. packed_by a q ≡ packed_by b q) [
+    elim (cases_Bool (contains_key a.copy q)) [
       | inl has ↦ packs_too a b ok also same q has
       | inr gone ↦ packs_none a q gone ∙ sym (packs_none b q (sym (has_same a b ok also same q) ∙ gone))
     ]

@@ -25,7 +25,7 @@ get_same m n q here there same =
 
 pub packed_same : (a b : Logged) → IsPackable (parts a) → IsPackable (parts b) → (x : AreaName) → SameArea a b x → (i : ℕ) → i < per x.exponent → packed_by a (num x i) ≡ packed_by b (num x i)
 packed_same a b ok also x is i inside =
-    elim (cases_Bool (packs_of a x i)) as (λ _. packed_by a (num x i) ≡ packed_by b (num x i)) [
+    elim (cases_Bool (packs_of a x i)) [
       | inl packs ↦ (
           let too = sym (is.packs i inside) ∙ packs in
           cond-true (packs_of a x i) _ _ packs

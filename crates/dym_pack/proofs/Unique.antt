@@ -64,7 +64,7 @@ eight_same n m small few same = sym (from_le_bytes-to_le_bytes_8 n small) ∙ ap
 -- the chunks of a class have all the bits of their bitmap
 pub per_room : (e : ℕ) → 5 ≤ e → e ≤ 16 → per e ≤ 8 * max 1 (per e / 8)
 per_room e low high =
-    elim (cases_lt e 14) as (λ _. per e ≤ 8 * max 1 (per e / 8)) [
+    elim (cases_lt e 14) [
       | inl large ↦ (
           let three : 16 - e ≡ 13 - e + 3 = omega arith in
           let eights : per e ≡ 2 ^ (13 - e) * 2 ^ 3 = ap (λ n. 2 ^ n) three ∙ pow-add 2 (13 - e) 3 in
@@ -103,13 +103,13 @@ chunks_no v p f from d r there = ap (λ xs. flat_map (λ i. packed_chunk v (f i)
 body_same : (v : Version) (e : ℕ) (p : ℕ → Bool) (f g : ℕ → List ℕ) (d from : ℕ) (r t : List ℕ) → ((j : ℕ) → from ≤ j → j < from + d → p j ≡ true → IsLengthOf v e (length (f j)) × IsLengthOf v e (length (g j))) → chunks v p f from d ++ r ≡ chunks v p g from d ++ t → ((j : ℕ) → from ≤ j → j < from + d → p j ≡ true → f j ≡ g j) × (r ≡ t)
 body_same v e p f g zero from r t lens same = (λ j l h is. absurd (omega arith), same)
 body_same v e p f g (suc d) from r t lens same =
-    elim (cases_Bool (p from)) as (λ _. ((j : ℕ) → from ≤ j → j < from + suc d → p j ≡ true → f j ≡ g j) × (r ≡ t)) [
+    elim (cases_Bool (p from)) [
       | inl here ↦ (
           let long = lens from (omega arith) (omega arith) here in
           let first = chunk_same v e (f from) (g from) (chunks v p f (from + 1) d ++ r) (chunks v p g (from + 1) d ++ t) long.0 long.1
           (sym (chunks_yes v p f from d r here) ∙ same ∙ chunks_yes v p g from d t here) in
           let rest = body_same v e p f g d (from + 1) r t (λ j l h. lens j (omega arith) (omega arith)) first.1 in (
-            λ j l h is. elim (cases_eq j from) as (λ _. f j ≡ g j) [
+            λ j l h is. elim (cases_eq j from) [
               | inl at ↦ ap f at ∙ first.0 ∙ ap g (sym at)
               | inr other ↦ rest.0 j (omega arith) (omega arith) is
             ],
@@ -118,7 +118,7 @@ body_same v e p f g (suc d) from r t lens same =
       | inr there ↦ (
           let rest = body_same v e p f g d (from + 1) r t (λ j l h. lens j (omega arith) (omega arith))
           (sym (chunks_no v p f from d r there) ∙ same ∙ chunks_no v p g from d t there) in (
-            λ j l h is. elim (cases_eq j from) as (λ _. f j ≡ g j) [
+            λ j l h is. elim (cases_eq j from) [
               | inl at ↦ absurd (true≢false (sym is ∙ ap p at ∙ there))
               | inr other ↦ rest.0 j (omega arith) (omega arith) is
             ],
@@ -163,9 +163,12 @@ sound log ok x is =
       ] refl (packs_has log ok (num x i) packs);
     }
 
+abbrev pub SameUse : Logged → Logged → AreaName → Type 0
+SameUse a b x = (i : ℕ) → i < per x.exponent → contains_key a.copy (num x i) ≡ contains_key b.copy (num x i)
+
 -- what two logs say alike of an area
 pub record SameArea (a b : Logged) (x : AreaName) : Type 0 where
-  pub used : (i : ℕ) → i < per x.exponent → contains_key a.copy (num x i) ≡ contains_key b.copy (num x i)
+  pub used : SameUse a b x
   pub packs : (i : ℕ) → i < per x.exponent → packs_of a x i ≡ packs_of b x i
   pub bytes : (i : ℕ) → i < per x.exponent → packs_of a x i ≡ true → bytes_of a x i ≡ bytes_of b x i
   pub whole : area_bytes a x ≡ area_bytes b x
@@ -179,7 +182,17 @@ found_bits log x = touched_bits log.kind (per x.exponent) (λ i. contains log.fo
 abbrev pub body_of : Logged → AreaName → List ℕ
 body_of log x = chunks log.version (packs_of log x) (bytes_of log x) 0 (per x.exponent)
 
-pub area_parts : (log : Logged) (x : AreaName) (r : List ℕ) → area_bytes log x ++ r ≡ x.exponent ∷ (to_le_bytes w32 x.ordinal ++ (used_bits log x ++ (found_bits log x ++ (body_of log x ++ r))))
+-- what stands behind the name of an area, and behind its used bits
+abbrev behind_used : Logged → AreaName → List ℕ → List ℕ
+behind_used log x r = found_bits log x ++ (body_of log x ++ r)
+
+abbrev pub behind_name : Logged → AreaName → List ℕ → List ℕ
+behind_name log x r = used_bits log x ++ behind_used log x r
+
+abbrev all_bytes : Logged → List AreaName → List ℕ
+all_bytes log = flat_map (area_bytes log)
+
+pub area_parts : (log : Logged) (x : AreaName) (r : List ℕ) → area_bytes log x ++ r ≡ x.exponent ∷ (to_le_bytes w32 x.ordinal ++ behind_name log x r)
 unfolding packed_area
 area_parts log x r =
     let name = to_le_bytes w32 x.ordinal in
@@ -192,7 +205,7 @@ touched_long : (d : Kind) (n : ℕ) (f g : ℕ → Bool) → length (touched_bit
 touched_long Full n f g = refl
 touched_long Inc n f g = length_bitmap n f ∙ sym (length_bitmap n g)
 
-packs_same : (d : Kind) (a b : Logged) (x : AreaName) → per x.exponent ≤ 8 * max 1 (per x.exponent / 8) → ((i : ℕ) → i < per x.exponent → contains_key a.copy (num x i) ≡ contains_key b.copy (num x i)) → touched_bits d (per x.exponent) (λ i. contains a.found (num x i)) ≡ touched_bits d (per x.exponent) (λ i. contains b.found (num x i)) → (i : ℕ) → i < per x.exponent → packs_by d a.copy a.found (num x i) ≡ packs_by d b.copy b.found (num x i)
+packs_same : (d : Kind) (a b : Logged) (x : AreaName) → per x.exponent ≤ 8 * max 1 (per x.exponent / 8) → (SameUse a b x) → touched_bits d (per x.exponent) (λ i. contains a.found (num x i)) ≡ touched_bits d (per x.exponent) (λ i. contains b.found (num x i)) → (i : ℕ) → i < per x.exponent → packs_by d a.copy a.found (num x i) ≡ packs_by d b.copy b.found (num x i)
 packs_same Full a b x room used found i inside = used i inside
 packs_same Inc a b x room used found i inside = bitmap_tells (per x.exponent) (λ j. contains a.found (num x j)) (λ j. contains b.found (num x j)) room found i inside
 
@@ -201,12 +214,12 @@ area_same_at a b x r t version kind ok also same =
     let n = per x.exponent in
     let room = per_room x.exponent ok.least ok.most in
     let all = sym (area_parts a x r) ∙ same ∙ area_parts b x t in
-    let named_off = split_same (x.exponent ∷ to_le_bytes w32 x.ordinal) (x.exponent ∷ to_le_bytes w32 x.ordinal) (used_bits a x ++ (found_bits a x ++ (body_of a x ++ r))) (used_bits b x ++ (found_bits b x ++ (body_of b x ++ t))) refl all in
-    let used_off = split_same (used_bits a x) (used_bits b x) (found_bits a x ++ (body_of a x ++ r)) (found_bits b x ++ (body_of b x ++ t)) (length_bitmap n _ ∙ sym (length_bitmap n _)) named_off.1 in
+    let named_off = split_same (x.exponent ∷ to_le_bytes w32 x.ordinal) (x.exponent ∷ to_le_bytes w32 x.ordinal) (behind_name a x r) (behind_name b x t) refl all in
+    let used_off = split_same (used_bits a x) (used_bits b x) (behind_used a x r) (behind_used b x t) (length_bitmap n _ ∙ sym (length_bitmap n _)) named_off.1 in
     let found_b : found_bits b x ≡ touched_bits a.kind n (λ i. contains b.found (num x i)) = ap (λ d. touched_bits d n (λ i. contains b.found (num x i))) (sym kind) in
     let found_off = split_same (found_bits a x) (found_bits b x) (body_of a x ++ r) (body_of b x ++ t)
     (touched_long a.kind n (λ i. contains a.found (num x i)) (λ i. contains b.found (num x i)) ∙ ap length (sym found_b)) used_off.1 in
-    let used : (i : ℕ) → i < n → contains_key a.copy (num x i) ≡ contains_key b.copy (num x i) = bitmap_tells n (λ i. contains_key a.copy (num x i)) (λ i. contains_key b.copy (num x i)) room used_off.0 in
+    let used : SameUse a b x = bitmap_tells n (λ i. contains_key a.copy (num x i)) (λ i. contains_key b.copy (num x i)) room used_off.0 in
     let packs : (i : ℕ) → i < n → packs_of a x i ≡ packs_of b x i
     = λ i inside. packs_same a.kind a b x room used (found_off.0 ∙ found_b) i inside ∙ ap (λ d. packs_by d b.copy b.found (num x i)) kind in
     let body_b : body_of b x ≡ chunks a.version (packs_of a x) (bytes_of b x) 0 n
@@ -227,23 +240,21 @@ area_same_at a b x r t version kind ok also same =
 name_same : (a b : Logged) (x y : AreaName) (r t : List ℕ) → IsSound a x → IsSound b y → area_bytes a x ++ r ≡ area_bytes b y ++ t → x ≡ y
 name_same a b x y r t ok also same =
     let all = sym (area_parts a x r) ∙ same ∙ area_parts b y t in
-    let rest_x = used_bits a x ++ (found_bits a x ++ (body_of a x ++ r)) in
-    let rest_y = used_bits b y ++ (found_bits b y ++ (body_of b y ++ t)) in
-    let first = split_same (x.exponent ∷ []) (y.exponent ∷ []) (to_le_bytes w32 x.ordinal ++ rest_x) (to_le_bytes w32 y.ordinal ++ rest_y) refl all in
+    let first = split_same (x.exponent ∷ []) (y.exponent ∷ []) (to_le_bytes w32 x.ordinal ++ behind_name a x r) (to_le_bytes w32 y.ordinal ++ behind_name b y t) refl all in
     let class : x.exponent ≡ y.exponent = ap (λ es. get_or es 0 0) first.0 in
-    let second = split_same (to_le_bytes w32 x.ordinal) (to_le_bytes w32 y.ordinal) rest_x rest_y refl first.1 in
+    let second = split_same (to_le_bytes w32 x.ordinal) (to_le_bytes w32 y.ordinal) (behind_name a x r) (behind_name b y t) refl first.1 in
     let ordinal : x.ordinal ≡ y.ordinal = four_same x.ordinal y.ordinal (omega (arith, ok.small)) (omega (arith, also.small)) second.0 in
     ap (λ e. named e x.ordinal) class ∙ ap (named y.exponent) ordinal
 
 -- ---- all areas
 
-areas_same : (a b : Logged) → a.version ≡ b.version → a.kind ≡ b.kind → (xs ys : List AreaName) → length xs ≡ length ys → AllByRecursion (IsSound a) xs → AllByRecursion (IsSound b) ys → flat_map (area_bytes a) xs ≡ flat_map (area_bytes b) ys → (xs ≡ ys) × AllByRecursion (SameArea a b) xs
+areas_same : (a b : Logged) → a.version ≡ b.version → a.kind ≡ b.kind → (xs ys : List AreaName) → length xs ≡ length ys → AllByRecursion (IsSound a) xs → AllByRecursion (IsSound b) ys → all_bytes a xs ≡ all_bytes b ys → (xs ≡ ys) × AllByRecursion (SameArea a b) xs
 areas_same a b version kind [] [] long ok also same = (refl, tt)
 areas_same a b version kind [] (y ∷ ys) long ok also same = absurd (omega arith)
 areas_same a b version kind (x ∷ xs) [] long ok also same = absurd (omega arith)
 areas_same a b version kind (x ∷ xs) (y ∷ ys) long ok also same =
-    let name = name_same a b x y (flat_map (area_bytes a) xs) (flat_map (area_bytes b) ys) ok.0 also.0 same in
-    let here = area_same_at a b x (flat_map (area_bytes a) xs) (flat_map (area_bytes b) ys) version kind ok.0 (subst (IsSound b) (sym name) also.0) (same ∙ ap (λ z. area_bytes b z ++ flat_map (area_bytes b) ys) (sym name)) in
+    let name = name_same a b x y (all_bytes a xs) (all_bytes b ys) ok.0 also.0 same in
+    let here = area_same_at a b x (all_bytes a xs) (all_bytes b ys) version kind ok.0 (subst (IsSound b) (sym name) also.0) (same ∙ ap (λ z. area_bytes b z ++ all_bytes b ys) (sym name)) in
     let rest = areas_same a b version kind xs ys (omega arith) ok.1 also.1 here.1 in
     (ap (λ z. z ∷ xs) name ∙ ap (λ zs. y ∷ zs) rest.0, (here.0, rest.1))
 
@@ -268,9 +279,7 @@ held_small log ok = omega (arith, ok.few)
 
 pub alike : (a b : Logged) → IsRecorded a → IsRecorded b → packed a ≡ packed b → Alike a b
 alike a b ok also same =
-    let all_a = flat_map (area_bytes a) (area_list a.copy) in
-    let all_b = flat_map (area_bytes b) (area_list b.copy) in
-    let headed = split_same (header a) (header b) all_a all_b refl (sym (packed_is a) ∙ same ∙ packed_is b) in
+    let headed = split_same (header a) (header b) (all_bytes a (area_list a.copy)) (all_bytes b (area_list b.copy)) refl (sym (packed_is a) ∙ same ∙ packed_is b) in
     let first = split_same (kind_byte a.version a.kind ∷ []) (kind_byte b.version b.kind ∷ []) (to_le_bytes w64 a.time ++ to_le_bytes w32 (held a.copy)) (to_le_bytes w64 b.time ++ to_le_bytes w32 (held b.copy)) refl headed.0 in
     let kinds = kinds_same a.version b.version a.kind b.kind (ap (λ es. get_or es 0 0) first.0) in
     let second = split_same (to_le_bytes w64 a.time) (to_le_bytes w64 b.time) (to_le_bytes w32 (held a.copy)) (to_le_bytes w32 (held b.copy)) refl first.1 in
@@ -287,19 +296,19 @@ alike a b ok also same =
 
 -- ---- where the areas begin
 
-flat_same : (a b : Logged) (xs : List AreaName) → AllByRecursion (SameArea a b) xs → (k : ℕ) → flat_map (area_bytes a) (take k xs) ≡ flat_map (area_bytes b) (take k xs)
+flat_same : (a b : Logged) (xs : List AreaName) → AllByRecursion (SameArea a b) xs → (k : ℕ) → all_bytes a (take k xs) ≡ all_bytes b (take k xs)
 flat_same a b xs each zero = refl
 flat_same a b [] each (suc k) = refl
 flat_same a b (x ∷ xs) each (suc k) =
-    ap (λ ys. ys ++ flat_map (area_bytes a) (take k xs)) each.0.whole
+    ap (λ ys. ys ++ all_bytes a (take k xs)) each.0.whole
     ∙ ap (λ ys. area_bytes b x ++ ys) (flat_same a b xs each.1 k)
 
 front_long : (a b : Logged) → Alike a b → (k : ℕ) → start_of a k ≡ start_of b k
 unfolding front
 front_long a b is k =
-    ap (λ ys. length (header a ++ ys)) (flat_same a b (area_list a.copy) is.each k ∙ ap (λ xs. flat_map (area_bytes b) (take k xs)) is.names)
-    ∙ length-append (header a) (flat_map (area_bytes b) (take k (area_list b.copy)))
-    ∙ sym (length-append (header b) (flat_map (area_bytes b) (take k (area_list b.copy))))
+    ap (λ ys. length (header a ++ ys)) (flat_same a b (area_list a.copy) is.each k ∙ ap (λ xs. all_bytes b (take k xs)) is.names)
+    ∙ length-append (header a) (all_bytes b (take k (area_list b.copy)))
+    ∙ sym (length-append (header b) (all_bytes b (take k (area_list b.copy))))
 
 pub same_starts : (a b : Logged) → IsRecorded a → IsRecorded b → packed a ≡ packed b → starts_of a ≡ starts_of b
 unfolding starts_of

@@ -43,7 +43,7 @@ pub seen_within : (v : Version) (kind : Kind) (bytes : List ℕ) (parsed : Parse
 seen_within v kind bytes parsed is = omega (arith, is.len, ap length is.are, length-append (content_bytes v kind is.content) is.rest)
 
 pub next_few : (exponent next : ℕ) (used : Bool) (e o k : ℕ) → Follows exponent next used e o → next ≤ k → o ≤ k
-next_few exponent next used e o k is few = elim is as (λ _. o ≤ k) [ inl same ↦ omega (arith, same.1) | inr higher ↦ omega (arith, higher.2) ]
+next_few exponent next used e o k is few = elim is [ inl same ↦ omega (arith, same.1) | inr higher ↦ omega (arith, higher.2) ]
 
 -- ---- what was read
 

@@ -1,9 +1,9 @@
-use Rattle.std.proofs.Common.{◌+◌, ◌-◌, ◌<◌, length, ap, arith}
+use Rattle.std.proofs.Common.{length, ap, arith}
 use Rattle.dym_pack.specs.Areas.{chunks_of, logged}
 use Rattle.dym_pack.specs.ParsedAreas.{packs_at}
 use Rattle.dym_pack.proofs.Bitmaps.{clear_past}
 use Rattle.dym_pack.proofs.Named.{few_chunks}
-use Rattle.dym_pack.proofs.Chunks.{next_packed, none_packed, packs_used, chunk_len_most, body_most, step_len_two}
+use Rattle.dym_pack.proofs.Chunks.{next_packed, none_packed, next_smaller, packed_len_most, body_most, step_len_two}
 use Rattle.dym_pack.proofs.Logs.{lent}
 use Rattle.dym_pack.proofs.area_bytes.chunks_len.Goals as goal
 
@@ -25,7 +25,7 @@ overflow_add-len g c =
     let m = g.A.Areas.meaning c.args.areas.now in
     let log = logged m c.args.kind 0 in
     let next = next_packed log c.args.k c.args.bits.now c.requires.bits c.loop-i.from c.in-Some.i c.in-Some.ensures in
-    let most = chunk_len_most m c.requires.packable c.args.k c.in-Some.i c.requires.area next.0 (packs_used log (lent m c.args.kind 0 c.requires.packable) c.args.k c.in-Some.i next.1) in
+    let most = packed_len_most log (lent m c.args.kind 0 c.requires.packable) c.args.k c.in-Some.i c.requires.area next.0 next.1 in
     omega (arith, c.chunk_len.ensures)
 
 pub overflow_add-len-in-Some : goal.overflow_add-len-in-Some
@@ -39,13 +39,7 @@ overflow_add-len-in-Some g c =
 
 pub loop-i-smaller : goal.loop-i-smaller
 loop-i-smaller g c =
-    let m = g.A.Areas.meaning c.args.areas.now in
-    let log = logged m c.args.kind 0 in
-    let next = next_packed log c.args.k c.args.bits.now c.requires.bits c.loop-i.from c.in-Some.i c.in-Some.ensures in
-    let few = few_chunks m.live c.args.k c.requires.area in
-    let at_least = c.in-Some.ensures.at_least in
-    let less : 2048 - (c.in-Some.i + 1) < 2048 - c.loop-i.from = omega (arith, next.0) in
-    less
+    next_smaller (logged (g.A.Areas.meaning c.args.areas.now) c.args.kind 0) c.args.k c.args.bits.now c.requires.bits c.requires.area c.loop-i.from c.in-Some.i c.in-Some.ensures
 
 pub loop-i-preserved : goal.loop-i-preserved
 loop-i-preserved g c =

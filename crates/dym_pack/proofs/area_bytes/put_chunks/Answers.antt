@@ -1,11 +1,11 @@
-use Rattle.std.proofs.Common.{◌+◌, ◌-◌, ◌<◌, ◌++◌, length, ap, sym, ◌∙◌, arith}
+use Rattle.std.proofs.Common.{◌+◌, ◌++◌, length, ap, sym, ◌∙◌, arith}
 use Rattle.dym_base.specs.Packed.{packed_chunk}
 use Rattle.dym_base.specs.declared.command.Version.TheVariants.{Two}
 use Rattle.dym_pack.specs.Areas.{chunks_of, logged}
 use Rattle.dym_pack.specs.ParsedAreas.{packs_at, body_from}
 use Rattle.dym_pack.proofs.Bitmaps.{clear_past}
 use Rattle.dym_pack.proofs.Named.{few_chunks}
-use Rattle.dym_pack.proofs.Chunks.{next_packed, none_packed, packs_used, chunk_bytes, chunk_bytes_two, chunk_len_most}
+use Rattle.dym_pack.proofs.Chunks.{next_packed, none_packed, next_smaller, packed_len_most, chunk_bytes, chunk_bytes_two}
 use Rattle.dym_pack.proofs.Logs.{lent}
 use Rattle.dym_pack.proofs.Written.{put_more, put_all}
 use Rattle.dym_pack.proofs.area_bytes.put_chunks.Goals as goal
@@ -28,17 +28,11 @@ put_chunk-requires g c =
     let m = g.A.Areas.meaning c.args.areas.now in
     let log = logged m c.args.kind 0 in
     let next = next_packed log c.args.k c.args.bits.now c.requires.bits c.loop-i.from c.in-Some.i c.in-Some.ensures in
-    omega (arith, ap length c.chunk_bytes.ensures, chunk_len_most m c.requires.packable c.args.k c.in-Some.i c.requires.area next.0 (packs_used log (lent m c.args.kind 0 c.requires.packable) c.args.k c.in-Some.i next.1))
+    omega (arith, ap length c.chunk_bytes.ensures, packed_len_most log (lent m c.args.kind 0 c.requires.packable) c.args.k c.in-Some.i c.requires.area next.0 next.1)
 
 pub loop-i-smaller : goal.loop-i-smaller
 loop-i-smaller g c =
-    let m = g.A.Areas.meaning c.args.areas.now in
-    let log = logged m c.args.kind 0 in
-    let few = few_chunks m.live c.args.k c.requires.area in
-    let next = next_packed log c.args.k c.args.bits.now c.requires.bits c.loop-i.from c.in-Some.i c.in-Some.ensures in
-    let at_least = c.in-Some.ensures.at_least in
-    let less : 2048 - (c.in-Some.i + 1) < 2048 - c.loop-i.from = omega (arith, next.0) in
-    less
+    next_smaller (logged (g.A.Areas.meaning c.args.areas.now) c.args.kind 0) c.args.k c.args.bits.now c.requires.bits c.requires.area c.loop-i.from c.in-Some.i c.in-Some.ensures
 
 pub loop-i-preserved : goal.loop-i-preserved
 loop-i-preserved g c =

@@ -10,7 +10,7 @@ pub returns-then-quota-count-clause-only : goal.returns-then-quota-count-clause-
 returns-then-quota-count-clause-only c kind time count short within few room is =
     let both = header_count c.args.version kind c.args.bytes.now (drop 13 c.args.bytes.now) time count (omega arith) is in
     let counts : c.length_at-count.result ≡ count = c.length_at-count.ensures ∙ both.1 in
-    absurd (elim c.then-quota-count.branch as (λ _. ⊥) [
+    absurd (elim c.then-quota-count.branch [
       | then-quota-count-via-then-quota-count w ↦ omega (arith, w.if-quota-count.true)
       | then-quota-count-via-else-quota-count+then-count-gt-MOST_QUOTA w ↦ omega (arith, w.if-count-gt-MOST_QUOTA.true)
       | then-quota-count-via-else-quota-count+else-count-gt-MOST_QUOTA+then-room-count w ↦ omega (arith, w.if-room-count.true)

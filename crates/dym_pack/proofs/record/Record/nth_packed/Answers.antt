@@ -13,7 +13,7 @@ slice_bounds-result-end c =
     let one = sym (c.version.ensures log rec same) ∙ c.in-One.is in
     let size_is : c.size_of_class-size.result ≡ size (area_at log.copy c.args.k).exponent = c.size_of_class-size.ensures ∙ ap size (c.area_exp.ensures.is log rec same) in
     let at_is : c.args.n * c.size_of_class-size.result ≡ length (before_chunk log c.args.k c.args.i) * size (area_at log.copy c.args.k).exponent = ap (λ n. n * c.size_of_class-size.result) (c.requires.count log rec same) ∙ ap (λ s. length (before_chunk log c.args.k c.args.i) * s) size_is in
-    let room = nth_room_one log (packable log rec) one c.args.k c.args.i (c.requires.area log rec same) (c.requires.chunk log rec same) (c.requires.packs log rec same) in
+    let room = nth_room_one log (packable log rec) one c.args.k (c.requires.area log rec same) c.args.i (c.requires.chunk log rec same) (c.requires.packs log rec same) in
     let short : c.args.n * c.size_of_class-size.result + c.size_of_class-size.result ≤ length c.body-body.result.now = omega (arith, ap length (c.body-body.ensures log rec same)) in
     short
 
@@ -34,7 +34,7 @@ returns-in-One c log rec same =
     let len = at + c.size_of_class-size.result - at in
     let len_is : len ≡ size (area_at log.copy c.args.k).exponent = omega arith in
     ap (λ bytes. take len (drop at bytes)) (c.body-body.ensures log rec same)
-    ∙ nth_read_one log (packable log rec) one c.args.k c.args.i at len (c.requires.area log rec same) (c.requires.chunk log rec same) (c.requires.packs log rec same) at_is len_is
+    ∙ nth_read_one log (packable log rec) one c.args.k (c.requires.area log rec same) c.args.i (c.requires.chunk log rec same) (c.requires.packs log rec same) at len at_is len_is
 
 pub returns-in-Two : goal.returns-in-Two
 returns-in-Two c log rec same =
