@@ -259,7 +259,8 @@ impl Bits {
     /// Puts the bits of `v`, the lowest first, in the place of bits `8 * k` to `8 * k + 7`.
     pub fn set_byte(&mut self, k: u32, v: u8)
         requires { 8 * k < MOST_CHUNKS }
-        ensures after { self.new ≡ take (8 * k) self.old ++ digits 8 v ++ drop (8 * k + 8) self.old }
+        ensures after { self.new
+            ≡ take (8 * k) self.old ++ digits 8 v ++ drop (8 * k + 8) self.old }
         ensures len { length self.new ≡ MOST_CHUNKS }
     {
         let q = (k / 8) as usize;
@@ -277,8 +278,8 @@ impl Bits {
         ensures bits { (i : ℕ) → bit_in self.new i ≡ bit_in (bits_of_bytes bytes.now) i }
 
         // Where no bit from n on is set, the bytes are the bitmap of n bits.
-        ensures whole { (n : ℕ) → length bytes.now ≡ max 1 (n / 8) → ((i : ℕ) → n ≤ i → IsClear self.new i)
-            → bytes.now ≡ bitmap n (bit_in self.new) }
+        ensures whole { (n : ℕ) → length bytes.now ≡ max 1 (n / 8)
+            → ((i : ℕ) → n ≤ i → IsClear self.new i) → bytes.now ≡ bitmap n (bit_in self.new) }
     {
         bytes_fit(bytes);
         let used = bytes.len().div_ceil(8);

@@ -49,7 +49,8 @@ pub(crate) fn words_within(words: &[u64; WORDS], others: &[u64; WORDS], used: u3
 
 /// The words of the bits that are set in the words or in the others.
 pub(crate) fn words_union(words: &[u64; WORDS], others: &[u64; WORDS]) -> [u64; WORDS]
-    ensures rest { (n : ℕ) → AreZeroFrom n words.now → AreZeroFrom n others.now → AreZeroFrom n result }
+    ensures rest { (n : ℕ) → AreZeroFrom n words.now → AreZeroFrom n others.now
+        → AreZeroFrom n result }
     ensures bits { (k : ℕ) → bit_in (bits_of 64 result) k
         ≡ (bit_in (bits_of 64 words.now) k || bit_in (bits_of 64 others.now) k) }
 {
