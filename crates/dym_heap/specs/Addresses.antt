@@ -1,5 +1,5 @@
 -- Where a chunk lies, in a heap whose supply binds each area to a segment of one region.
-use Rattle.std.specs.Prelude.{◌≡◌, ℕ, ◌+◌, ◌-◌, ◌*◌, ◌/◌, ◌%◌, ◌≤◌, ◌<◌, length, Option, None, Some, MatchOption}
+use Rattle.std.specs.Prelude.{◌≡◌, ℕ, ◌+◌, ◌*◌, ◌/◌, ◌%◌, ◌≤◌, ◌<◌, length, Option, None, Some, MatchOption}
 use Rattle.std.specs.FinMap.{get}
 use Rattle.dym_base.specs.Numbers.{size, per}
 use Rattle.dym_base.specs.HeapStep.{key}
@@ -7,10 +7,11 @@ use Rattle.dym_base.specs.Origins.{Origin, own, shared}
 use Rattle.dym_base.specs.declared.handle.Handle.{Handle}
 use Rattle.dym_base.specs.declared.limits.TheConstants.{SEGMENT_BYTES, LEAST_EXPONENT, GREATEST_EXPONENT}
 use Rattle.dym_heap.specs.Meaning.{HeapMeaning}
+use Rattle.dym_heap.specs.Table.{row_index}
 
 -- how far into the region the chunk of a handle lies: area o of class c has segment c * quota + o
 abbrev pub chunk_offset : ℕ → Handle → ℕ
-chunk_offset quota h = ((h.exp - 5) * quota + h.index / per h.exp) * SEGMENT_BYTES + (h.index % per h.exp) * size h.exp
+chunk_offset quota h = (row_index h.exp * quota + h.index / per h.exp) * SEGMENT_BYTES + (h.index % per h.exp) * size h.exp
 
 -- the block of the region that segments come from, where they come from one
 abbrev pub region_of : Origin → Option ℕ

@@ -1,5 +1,5 @@
 -- How a shelf keeps its areas: those of all classes in one list, class after class, and a mark for each that is full.
-use Rattle.std.specs.Prelude.{◌≡◌, ℕ, ◌+◌, ◌-◌, ◌≤◌, ◌<◌, Bool, List, [], map, length, slice_index, slice_index_or, slice_range, None, IsSome, sum_by}
+use Rattle.std.specs.Prelude.{◌≡◌, ℕ, ◌+◌, ◌≤◌, ◌<◌, Bool, List, [], map, length, slice_index, slice_index_or, slice_range, None, IsSome, sum_by}
 use Rattle.std.specs.List.{range_with_len, flat_map}
 use Rattle.dym_base.specs.declared.command.Version.{Version}
 use Rattle.dym_base.specs.declared.command.Version.TheVariants.{One, Two}
@@ -8,7 +8,7 @@ use Rattle.dym_bits.specs.Bits.{IsSet, IsClear}
 use Rattle.dym_region.specs.declared.segment.SegmentId.{SegmentId}
 use Rattle.dym_base.specs.Origins.{Origin}
 use Rattle.dym_quota.specs.Bound.{Binding, IsBoundTo}
-use Rattle.dym_heap.specs.Table.{Row}
+use Rattle.dym_heap.specs.Table.{Row, row_index}
 use Rattle.dym_heap.specs.Shelves.{ShelfMeaning}
 use Rattle.dym_heap.specs.SizedAreas.{SizedAreaMeaning, IsSizedArea}
 
@@ -71,7 +71,7 @@ Owns ids sized_areas = (weight : SegmentId → ℕ) → sum_by weight ids ≡ su
 -- each area is over the segment that it is bound to, where a supply binds areas to segments
 abbrev pub AreBound : Binding → List SizedAreaMeaning → Type 0
 AreBound binding sized_areas = (k : ℕ) (d : SizedAreaMeaning) → k < length sized_areas
-    → IsBoundTo binding ((slice_index_or sized_areas k d).exponent - 5) (slice_index_or sized_areas k d).ordinal (slice_index_or sized_areas k d).identity
+    → IsBoundTo binding (row_index (slice_index_or sized_areas k d).exponent) (slice_index_or sized_areas k d).ordinal (slice_index_or sized_areas k d).identity
 
 -- the areas are over the segments that are held, and there is room for as many as the quota allows
 pub record IsSupplied (v : Version) (quota : ℕ) (ids : List SegmentId) (sized_areas : List SizedAreaMeaning) (room spare spare_room : ℕ) : Type 0 where

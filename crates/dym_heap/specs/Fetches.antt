@@ -1,5 +1,5 @@
 -- Chunks that want their bytes: the touched ones, while a heap is brought back to a log.
-use Rattle.std.specs.Prelude.{◌≡◌, ℕ, ◌+◌, ◌-◌, ◌*◌, ◌/◌, ◌<◌, Bool, true, false, not, ◌&&◌, ◌||◌, if◌then◌else◌, List, slice_index_or, Option, None, Some, is_some}
+use Rattle.std.specs.Prelude.{◌≡◌, ℕ, ◌+◌, ◌*◌, ◌/◌, ◌<◌, Bool, true, false, not, ◌&&◌, ◌||◌, if◌then◌else◌, List, slice_index_or, Option, None, Some, is_some}
 use Rattle.std.specs.FinMap.{get}
 use Rattle.std.specs.FinSet.{contains}
 use Rattle.dym_base.specs.Numbers.{per}
@@ -7,7 +7,7 @@ use Rattle.dym_base.specs.Heaps.{HeapState}
 use Rattle.dym_base.specs.Packed.{Logged}
 use Rattle.dym_base.specs.StandsFor.{or_else}
 use Rattle.dym_pack.specs.Areas.{area_at, chunk_number}
-use Rattle.dym_heap.specs.Table.{Row, chunk_at, touch_at}
+use Rattle.dym_heap.specs.Table.{Row, row_index, chunk_at, touch_at}
 use Rattle.dym_heap.specs.SizedAreas.{SizedAreaMeaning}
 
 -- a chunk: its bytes, where it is live, and whether it is touched
@@ -53,7 +53,7 @@ pub record IsChangedArea (old new : List Row) (c o : ℕ) (Change : ℕ → Chun
 abbrev pub IsAreaChange : Logged → ℕ → List Row → List Row → (ℕ → ChunkMeaning → ChunkMeaning → Type 0) → Type 0
 IsAreaChange log k old new Change =
     let area = area_at log.copy k in
-    IsChangedArea old new (area.exponent - 5) area.ordinal (λ i. Change (chunk_number log.copy k i))
+    IsChangedArea old new (row_index area.exponent) area.ordinal (λ i. Change (chunk_number log.copy k i))
 
 -- the bytes that are packed for chunk i where its bit is set
 abbrev pub packed_at : List Bool → (ℕ → List ℕ) → ℕ → Option (List ℕ)

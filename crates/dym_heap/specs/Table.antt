@@ -1,5 +1,5 @@
 -- The chunks of a heap, class by class, and the maps that they stand for.
-use Rattle.std.specs.Prelude.{ℕ, ◌+◌, Bool, true, false, List, [], ◌∷◌, ◌++◌, slice_index_or, Option, None, Some}
+use Rattle.std.specs.Prelude.{ℕ, ◌+◌, ◌-◌, Bool, true, false, List, [], ◌∷◌, ◌++◌, slice_index_or, Option, None, Some}
 use Rattle.std.specs.FinMap as map
 use Rattle.std.specs.FinSet as set
 use Rattle.dym_base.specs.Numbers.{number}
@@ -12,6 +12,10 @@ pub record Row : Type 0 where
 
 abbrev pub empty_row : Row
 empty_row = record { chunks = []; touched = [] }
+
+-- the place of class e among the twelve, which is the index of its row in a table
+abbrev pub row_index : ℕ → ℕ
+row_index e = e - 5
 
 -- row c of a table, which is that of class c + 5
 abbrev pub row_at : List Row → ℕ → Row

@@ -1,5 +1,5 @@
 //! Chunks of a shelf by their handles.
-ghost use Rattle.std.specs.Prelude.{IfOk, ◌≡◌, ℕ, ◌+◌, ◌-◌, ◌≤◌, ◌<◌, true, None, Some, List, length, replicate, Ok, MatchOption, IsSome, is_some, MatchBool, option_map};
+ghost use Rattle.std.specs.Prelude.{IfOk, ◌≡◌, ℕ, ◌+◌, ◌≤◌, ◌<◌, true, None, Some, List, length, replicate, Ok, MatchOption, IsSome, is_some, MatchBool, option_map};
 ghost use Rattle.std.specs.FinMap.{get};
 ghost use Rattle.dym_base.specs.Numbers.{number, IsClass};
 ghost use Rattle.dym_base.specs.HeapStep.{key, splice, with_chunk, without_chunk, found_at, resize, fitted, held_with_fresh};
@@ -9,7 +9,7 @@ ghost use Rattle.dym_base.specs.declared.limits.TheConstants.{LEAST_EXPONENT, GR
 ghost use Rattle.dym_heap.specs.ChunkLends.{check_answer};
 ghost use Rattle.dym_heap.specs.Meaning.{IsSizeOf};
 ghost use Rattle.dym_heap.specs.Replies.{found_reply};
-ghost use Rattle.dym_heap.specs.Table.{chunk_at, live_of, state_of};
+ghost use Rattle.dym_heap.specs.Table.{row_index, chunk_at, live_of, state_of};
 ghost use Rattle.dym_heap.specs.Shelves.{ShelfMeaning, IsTidy, IsValidShelf, Keeps, FitsIn, Copied};
 
 use crate::found::Found;
@@ -24,7 +24,7 @@ pub(crate) fn len_of_handle<S: Supply>(shelf: &Shelf<S>, h: Handle) -> Option<u3
     requires { IsTidy shelf.now }
     ensures len { result ≡ option_map length (get (live_of shelf.now.rows) (key h)) }
     ensures sized_area { IsSome result → (LEAST_EXPONENT ≤ h.exp) × (h.exp ≤ GREATEST_EXPONENT)
-        × (get (live_of shelf.now.rows) (key h) ≡ chunk_at shelf.now.rows (h.exp - 5) h.index) }
+        × (get (live_of shelf.now.rows) (key h) ≡ chunk_at shelf.now.rows (row_index h.exp) h.index) }
 {
     if h.exp < LEAST_EXPONENT {
         return None;
@@ -40,8 +40,8 @@ pub(crate) fn check_chunk<S: Supply>(shelf: &Shelf<S>, h: Handle) -> Result<(), 
     requires { IsTidy shelf.now }
     ensures answer { result ≡ check_answer (get (live_of shelf.now.rows) (key h)) }
     ensures chunk { IfOk result (λ _. (LEAST_EXPONENT ≤ h.exp) × (h.exp ≤ GREATEST_EXPONENT)
-        × (get (live_of shelf.now.rows) (key h) ≡ chunk_at shelf.now.rows (h.exp - 5) h.index)
-        × FitsIn (chunk_at shelf.now.rows (h.exp - 5) h.index) 1) }
+        × (get (live_of shelf.now.rows) (key h) ≡ chunk_at shelf.now.rows (row_index h.exp) h.index)
+        × FitsIn (chunk_at shelf.now.rows (row_index h.exp) h.index) 1) }
 {
     let Some(len) = len_of_handle(shelf, h) else {
         return Err(Refusal::Dead);
@@ -72,7 +72,7 @@ pub(crate) fn free_chunk<S: Supply>(shelf: &mut Shelf<S>, context: &S::Context, 
     requires least { LEAST_EXPONENT ≤ exp }
     requires most { exp ≤ GREATEST_EXPONENT }
     requires tidy { IsTidy shelf.old }
-    requires live { IsSome (chunk_at shelf.old.rows (exp - 5) index) }
+    requires live { IsSome (chunk_at shelf.old.rows (row_index exp) index) }
     ensures after { state_of shelf.new.rows ≡ without_chunk (state_of shelf.old.rows) (number exp index) }
     ensures keeps { Keeps shelf.old shelf.new }
     ensures tidy { IsTidy shelf.new }
@@ -115,8 +115,8 @@ pub(crate) fn write_chunk<S: Supply>(
     requires most { exp ≤ GREATEST_EXPONENT }
     requires tidy { IsTidy shelf.old }
     requires some { 0 < length bytes.now }
-    requires within { FitsIn (chunk_at shelf.old.rows (exp - 5) index) (at + length bytes.now) }
-    ensures after { MatchOption (chunk_at shelf.old.rows (exp - 5) index) ⊥
+    requires within { FitsIn (chunk_at shelf.old.rows (row_index exp) index) (at + length bytes.now) }
+    ensures after { MatchOption (chunk_at shelf.old.rows (row_index exp) index) ⊥
         (λ old. state_of shelf.new.rows
         ≡ with_chunk (state_of shelf.old.rows) (number exp index) (splice at bytes.now old)) }
     ensures keeps { Keeps shelf.old shelf.new }
@@ -139,8 +139,8 @@ pub(crate) fn fill_chunk<S: Supply>(
     requires most { exp ≤ GREATEST_EXPONENT }
     requires tidy { IsTidy shelf.old }
     requires some { 0 < len }
-    requires within { FitsIn (chunk_at shelf.old.rows (exp - 5) index) (at + len) }
-    ensures after { MatchOption (chunk_at shelf.old.rows (exp - 5) index) ⊥
+    requires within { FitsIn (chunk_at shelf.old.rows (row_index exp) index) (at + len) }
+    ensures after { MatchOption (chunk_at shelf.old.rows (row_index exp) index) ⊥
         (λ old. state_of shelf.new.rows
         ≡ with_chunk (state_of shelf.old.rows) (number exp index) (splice at (replicate len byte) old)) }
     ensures keeps { Keeps shelf.old shelf.new }
@@ -173,9 +173,9 @@ pub(crate) fn resize_chunk<S: Supply>(shelf: &mut Shelf<S>, h: Handle, old: u32,
     requires most { h.exp ≤ GREATEST_EXPONENT }
     requires tidy { IsTidy shelf.old }
     requires sized { IsSizeOf Two h.exp len }
-    requires live { MatchOption (chunk_at shelf.old.rows (h.exp - 5) h.index) ⊥
+    requires live { MatchOption (chunk_at shelf.old.rows (row_index h.exp) h.index) ⊥
         (λ bytes. length bytes ≡ old) }
-    ensures after { MatchOption (chunk_at shelf.old.rows (h.exp - 5) h.index) ⊥
+    ensures after { MatchOption (chunk_at shelf.old.rows (row_index h.exp) h.index) ⊥
         (λ bytes. state_of shelf.new.rows ≡ resize shelf.old.version (state_of shelf.old.rows) h len bytes) }
     ensures keeps { Keeps shelf.old shelf.new }
     ensures held { shelf.new.held_ids ≡ shelf.old.held_ids }
@@ -196,9 +196,9 @@ fn copy_chunk<S: Supply>(shelf: &mut Shelf<S>, from: Handle, to: Handle, len: u3
     requires to_class { IsClass to.exp }
     requires apart { from.exp ≡ to.exp → ⊥ }
     requires valid_shelf { IsValidShelf shelf.old }
-    requires source { FitsIn (chunk_at shelf.old.rows (from.exp - 5) from.index) len }
-    requires target { FitsIn (chunk_at shelf.old.rows (to.exp - 5) to.index) len }
-    ensures copied { Copied shelf.old shelf.new (from.exp - 5) from.index (to.exp - 5) to.index len }
+    requires source { FitsIn (chunk_at shelf.old.rows (row_index from.exp) from.index) len }
+    requires target { FitsIn (chunk_at shelf.old.rows (row_index to.exp) to.index) len }
+    ensures copied { Copied shelf.old shelf.new (row_index from.exp) from.index (row_index to.exp) to.index len }
     ensures valid_shelf { IsValidShelf shelf.new }
 {
     if len == 0 {
@@ -222,12 +222,12 @@ pub(crate) fn move_chunk<S: Supply>(
     requires apart { from.exp ≡ exp → ⊥ }
     requires tidy { IsTidy shelf.old }
     requires sized { IsSizeOf shelf.old.version exp len }
-    requires live { MatchOption (chunk_at shelf.old.rows (from.exp - 5) from.index) ⊥
+    requires live { MatchOption (chunk_at shelf.old.rows (row_index from.exp) from.index) ⊥
         (λ bytes. length bytes ≡ old) }
     ensures answer { MatchOption result (shelf.old.quota < held_with_fresh (live_of shelf.old.rows) exp)
         (λ i. (held_with_fresh (live_of shelf.old.rows) exp ≤ shelf.old.quota) × (i ≡ fresh (live_of shelf.old.rows) exp)) }
     ensures after { MatchOption result (shelf.new ≡ shelf.old)
-        (λ i. MatchOption (chunk_at shelf.old.rows (from.exp - 5) from.index) ⊥ (λ bytes. state_of shelf.new.rows ≡ without_chunk (with_chunk (state_of shelf.old.rows) (number exp i) (fitted len bytes)) (key from))) }
+        (λ i. MatchOption (chunk_at shelf.old.rows (row_index from.exp) from.index) ⊥ (λ bytes. state_of shelf.new.rows ≡ without_chunk (with_chunk (state_of shelf.old.rows) (number exp i) (fitted len bytes)) (key from))) }
     ensures keeps { Keeps shelf.old shelf.new }
     ensures tidy { IsTidy shelf.new }
 {

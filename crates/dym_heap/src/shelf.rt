@@ -1,12 +1,12 @@
 //! The areas of a heap, class by class.
-ghost use Rattle.std.specs.Prelude.{◌≡◌, ℕ, ◌+◌, ◌-◌, ◌*◌, ◌/◌, max, ◌≤◌, ◌<◌, true, false, None, Some, [], List, map, length, take, drop, replicate, slice_index_or, IsSome, IsTrue, MatchBool, MatchOption, OnOk, OnErr, IfOk, IfErr, is_some, option_map, vec_len, vec_capacity};
+ghost use Rattle.std.specs.Prelude.{◌≡◌, ℕ, ◌+◌, ◌*◌, ◌/◌, max, ◌≤◌, ◌<◌, true, false, None, Some, [], List, map, length, take, drop, replicate, slice_index_or, IsSome, IsTrue, MatchBool, MatchOption, OnOk, OnErr, IfOk, IfErr, is_some, option_map, vec_len, vec_capacity};
 ghost use Rattle.dym_base.specs.Numbers.{per, IsClass};
 ghost use Rattle.dym_base.specs.HeapStep.{splice, fitted};
 ghost use Rattle.dym_base.specs.declared.command.Version.TheVariants.{Two};
 ghost use Rattle.dym_base.specs.declared.limits.TheConstants.{MOST_QUOTA, LEAST_EXPONENT, GREATEST_EXPONENT};
 ghost use Rattle.dym_bits.specs.Bits.{bit_in, bits_of_bytes, IsSet};
 ghost use Rattle.dym_heap.specs.Meaning.{IsSizeOf};
-ghost use Rattle.dym_heap.specs.Table.{row_at, chunk_at, live_of, touched_of};
+ghost use Rattle.dym_heap.specs.Table.{row_at, row_index, chunk_at, live_of, touched_of};
 ghost use Rattle.dym_heap.specs.Shape.{IsTrimmed};
 ghost use Rattle.dym_heap.specs.SizedAreas.{clean, used_touched};
 ghost use Rattle.dym_heap.specs.Bodies.{IsBodyOf, IsBody, IsLoadedArea};
@@ -145,9 +145,9 @@ impl<S: Supply> Shelf<S> {
         requires most { exp ≤ GREATEST_EXPONENT }
         requires sized { IsSizeOf self.old.version exp len }
         ensures taken { MatchOption result (self.new ≡ self.old)
-            (λ i. self.new ≡ with_put self.old (exp - 5) i (Some (replicate len 0)) true) }
-        ensures sized_area { MatchOption result ((i : ℕ) → i < length (row_at self.old.rows (exp - 5)).chunks
-            → IsSome (chunk_at self.old.rows (exp - 5) i)) (λ i. IsFirstFree self.old.rows (exp - 5) i) }
+            (λ i. self.new ≡ with_put self.old (row_index exp) i (Some (replicate len 0)) true) }
+        ensures sized_area { MatchOption result ((i : ℕ) → i < length (row_at self.old.rows (row_index exp)).chunks
+            → IsSome (chunk_at self.old.rows (row_index exp) i)) (λ i. IsFirstFree self.old.rows (row_index exp) i) }
         ensures valid_shelf { IsValidShelf self.new }
     {
         let class = class_index(exp);
@@ -171,8 +171,8 @@ impl<S: Supply> Shelf<S> {
         requires least { LEAST_EXPONENT ≤ exp }
         requires most { exp ≤ GREATEST_EXPONENT }
         requires room { length self.old.held_ids < self.old.quota }
-        ensures added { self.new ≡ record (with_row self.old (exp - 5)
-            (longer (per exp) (row_at self.old.rows (exp - 5)))) { held_ids = self.new.held_ids } }
+        ensures added { self.new ≡ record (with_row self.old (row_index exp)
+            (longer (per exp) (row_at self.old.rows (row_index exp)))) { held_ids = self.new.held_ids } }
         ensures valid_shelf { IsValidShelf self.new }
     {
         let class = class_index(exp);
@@ -190,7 +190,7 @@ impl<S: Supply> Shelf<S> {
         requires least { LEAST_EXPONENT ≤ exp }
         requires most { exp ≤ GREATEST_EXPONENT }
         requires valid_shelf { IsValidShelf self.old }
-        ensures trims { Trims self.old self.new (exp - 5) }
+        ensures trims { Trims self.old self.new (row_index exp) }
         ensures valid_shelf { IsValidShelf self.new }
     {
         while self.ends_free(exp) {
@@ -202,8 +202,8 @@ impl<S: Supply> Shelf<S> {
     fn ends_free(&self, exp: u8) -> bool
         requires least { LEAST_EXPONENT ≤ exp }
         requires most { exp ≤ GREATEST_EXPONENT }
-        ensures { MatchBool result (EndsFree self.now.rows (exp - 5) (per exp))
-            (IsTrimmed (per exp) (row_at self.now.rows (exp - 5))) }
+        ensures { MatchBool result (EndsFree self.now.rows (row_index exp) (per exp))
+            (IsTrimmed (per exp) (row_at self.now.rows (row_index exp))) }
     {
         let class = class_index(exp);
         let end = self.starts[class + 1];
@@ -217,8 +217,8 @@ impl<S: Supply> Shelf<S> {
     fn drop_area(&mut self, context: &S::Context, exp: u8)
         requires least { LEAST_EXPONENT ≤ exp }
         requires most { exp ≤ GREATEST_EXPONENT }
-        requires free { EndsFree self.old.rows (exp - 5) (per exp) }
-        ensures dropped { self.new ≡ without_last self.old (exp - 5) (per exp) self.new.held_ids }
+        requires free { EndsFree self.old.rows (row_index exp) (per exp) }
+        ensures dropped { self.new ≡ without_last self.old (row_index exp) (per exp) self.new.held_ids }
         ensures fewer { length self.new.held_ids + 1 ≡ length self.old.held_ids }
         ensures valid_shelf { IsValidShelf self.new }
     {
@@ -245,8 +245,8 @@ impl<S: Supply> Shelf<S> {
     pub(crate) fn bytes(&self, exp: u8, index: u32) -> Option<&[u8]>
         requires least { LEAST_EXPONENT ≤ exp }
         requires most { exp ≤ GREATEST_EXPONENT }
-        ensures { MatchOption result (chunk_at self.now.rows (exp - 5) index ≡ None)
-            (λ bytes. chunk_at self.now.rows (exp - 5) index ≡ Some bytes.now) }
+        ensures { MatchOption result (chunk_at self.now.rows (row_index exp) index ≡ None)
+            (λ bytes. chunk_at self.now.rows (row_index exp) index ≡ Some bytes.now) }
     {
         let Some(location) = find(&self.starts, exp, index) else {
             return None;
@@ -258,10 +258,10 @@ impl<S: Supply> Shelf<S> {
     pub(crate) fn bytes_mut(&mut self, exp: u8, index: u32) -> &mut [u8]
         requires least { LEAST_EXPONENT ≤ exp }
         requires most { exp ≤ GREATEST_EXPONENT }
-        requires some { FitsIn (chunk_at self.old.rows (exp - 5) index) 1 }
-        ensures* writes_back { sem 𝓛 (lends_of_shelf S.row S.Seg.row S.Context.row S.Seg.Segment S.Supply self.entry (exp - 5) index result) }
-        ensures value { Some result.now ≡ chunk_at self.old.rows (exp - 5) index }
-        ensures valid_shelf { (ws : List ℕ) → IsValidShelf (shelf_lent self.old (exp - 5) index ws) }
+        requires some { FitsIn (chunk_at self.old.rows (row_index exp) index) 1 }
+        ensures* writes_back { sem 𝓛 (lends_of_shelf S.row S.Seg.row S.Context.row S.Seg.Segment S.Supply self.entry (row_index exp) index result) }
+        ensures value { Some result.now ≡ chunk_at self.old.rows (row_index exp) index }
+        ensures valid_shelf { (ws : List ℕ) → IsValidShelf (shelf_lent self.old (row_index exp) index ws) }
     {
         let Some(location) = find(&self.starts, exp, index) else {
             unreachable!();
@@ -274,9 +274,9 @@ impl<S: Supply> Shelf<S> {
     pub(crate) fn touch(&mut self, exp: u8, index: u32)
         requires least { LEAST_EXPONENT ≤ exp }
         requires most { exp ≤ GREATEST_EXPONENT }
-        requires some { FitsIn (chunk_at self.old.rows (exp - 5) index) 1 }
-        ensures touched { MatchOption (chunk_at self.old.rows (exp - 5) index) ⊥
-            (λ bytes. self.new ≡ with_put self.old (exp - 5) index (Some bytes) true) }
+        requires some { FitsIn (chunk_at self.old.rows (row_index exp) index) 1 }
+        ensures touched { MatchOption (chunk_at self.old.rows (row_index exp) index) ⊥
+            (λ bytes. self.new ≡ with_put self.old (row_index exp) index (Some bytes) true) }
         ensures valid_shelf { IsValidShelf self.new }
     {
         let _bytes = self.bytes_mut(exp, index);
@@ -286,9 +286,9 @@ impl<S: Supply> Shelf<S> {
     pub(crate) fn start(&self, exp: u8, index: u32) -> *const u8
         requires least { LEAST_EXPONENT ≤ exp }
         requires most { exp ≤ GREATEST_EXPONENT }
-        requires used { IsSome (chunk_at self.now.rows (exp - 5) index) }
+        requires used { IsSome (chunk_at self.now.rows (row_index exp) index) }
         ensures { ForSome (S.bound self.now.origin self.now.quota) (λ f.
-            ForSome (S.Seg.place_of (f (exp - 5) (index / per exp))) (λ place. result ≡ place)) }
+            ForSome (S.Seg.place_of (f (row_index exp) (index / per exp))) (λ place. result ≡ place)) }
     {
         let Some(location) = find(&self.starts, exp, index) else {
             unreachable!();
@@ -300,7 +300,7 @@ impl<S: Supply> Shelf<S> {
     pub(crate) fn chunk_len(&self, exp: u8, index: u32) -> Option<u32>
         requires least { LEAST_EXPONENT ≤ exp }
         requires most { exp ≤ GREATEST_EXPONENT }
-        ensures { result ≡ option_map length (chunk_at self.now.rows (exp - 5) index) }
+        ensures { result ≡ option_map length (chunk_at self.now.rows (row_index exp) index) }
     {
         let Some(location) = find(&self.starts, exp, index) else {
             return None;
@@ -312,8 +312,8 @@ impl<S: Supply> Shelf<S> {
     pub(crate) fn next_used(&self, exp: u8, from: u64) -> Option<u32>
         requires least { LEAST_EXPONENT ≤ exp }
         requires most { exp ≤ GREATEST_EXPONENT }
-        ensures { MatchOption result ((i : ℕ) → from ≤ i → chunk_at self.now.rows (exp - 5) i ≡ None)
-            (λ i. IsNextUsed self.now.rows (exp - 5) from i) }
+        ensures { MatchOption result ((i : ℕ) → from ≤ i → chunk_at self.now.rows (row_index exp) i ≡ None)
+            (λ i. IsNextUsed self.now.rows (row_index exp) from i) }
     {
         let class = class_index(exp);
         let per = per_area(exp);
@@ -340,8 +340,8 @@ impl<S: Supply> Shelf<S> {
     pub(crate) fn release(&mut self, exp: u8, index: u32) -> bool
         requires least { LEAST_EXPONENT ≤ exp }
         requires most { exp ≤ GREATEST_EXPONENT }
-        ensures used { result ≡ is_some (chunk_at self.old.rows (exp - 5) index) }
-        ensures freed { MatchBool result (self.new ≡ with_put self.old (exp - 5) index None false)
+        ensures used { result ≡ is_some (chunk_at self.old.rows (row_index exp) index) }
+        ensures freed { MatchBool result (self.new ≡ with_put self.old (row_index exp) index None false)
             (self.new ≡ self.old) }
         ensures valid_shelf { IsValidShelf self.new }
     {
@@ -362,8 +362,8 @@ impl<S: Supply> Shelf<S> {
     pub(crate) fn read(&self, exp: u8, index: u32, at: u32, out: &mut [u8])
         requires least { LEAST_EXPONENT ≤ exp }
         requires most { exp ≤ GREATEST_EXPONENT }
-        requires within { FitsIn (chunk_at self.now.rows (exp - 5) index) (at + length out.old) }
-        ensures { MatchOption (chunk_at self.now.rows (exp - 5) index) ⊥
+        requires within { FitsIn (chunk_at self.now.rows (row_index exp) index) (at + length out.old) }
+        ensures { MatchOption (chunk_at self.now.rows (row_index exp) index) ⊥
             (λ bytes. out.new ≡ take (length out.old) (drop at bytes)) }
     {
         let Some(location) = find(&self.starts, exp, index) else {
@@ -378,11 +378,11 @@ impl<S: Supply> Shelf<S> {
         requires to_class { IsClass to.exp }
         requires apart { from.exp ≡ to.exp → ⊥ }
         requires some { 0 < len }
-        requires source { FitsIn (chunk_at self.old.rows (from.exp - 5) from.index) len }
-        requires target { FitsIn (chunk_at self.old.rows (to.exp - 5) to.index) len }
-        ensures copied { MatchOption (chunk_at self.old.rows (from.exp - 5) from.index) ⊥
-            (λ source. MatchOption (chunk_at self.old.rows (to.exp - 5) to.index) ⊥
-            (λ old. self.new ≡ with_put self.old (to.exp - 5) to.index
+        requires source { FitsIn (chunk_at self.old.rows (row_index from.exp) from.index) len }
+        requires target { FitsIn (chunk_at self.old.rows (row_index to.exp) to.index) len }
+        ensures copied { MatchOption (chunk_at self.old.rows (row_index from.exp) from.index) ⊥
+            (λ source. MatchOption (chunk_at self.old.rows (row_index to.exp) to.index) ⊥
+            (λ old. self.new ≡ with_put self.old (row_index to.exp) to.index
             (Some (splice 0 (take len source) old)) true)) }
         ensures valid_shelf { IsValidShelf self.new }
     {
@@ -400,9 +400,9 @@ impl<S: Supply> Shelf<S> {
         requires least { LEAST_EXPONENT ≤ exp }
         requires most { exp ≤ GREATEST_EXPONENT }
         requires some { 0 < length bytes.now }
-        requires within { FitsIn (chunk_at self.old.rows (exp - 5) index) (at + length bytes.now) }
-        ensures written { MatchOption (chunk_at self.old.rows (exp - 5) index) ⊥
-            (λ old. self.new ≡ with_put self.old (exp - 5) index (Some (splice at bytes.now old)) true) }
+        requires within { FitsIn (chunk_at self.old.rows (row_index exp) index) (at + length bytes.now) }
+        ensures written { MatchOption (chunk_at self.old.rows (row_index exp) index) ⊥
+            (λ old. self.new ≡ with_put self.old (row_index exp) index (Some (splice at bytes.now old)) true) }
         ensures valid_shelf { IsValidShelf self.new }
     {
         let Some(location) = find(&self.starts, exp, index) else {
@@ -417,9 +417,9 @@ impl<S: Supply> Shelf<S> {
         requires least { LEAST_EXPONENT ≤ exp }
         requires most { exp ≤ GREATEST_EXPONENT }
         requires some { 0 < len }
-        requires within { FitsIn (chunk_at self.old.rows (exp - 5) index) (at + len) }
-        ensures filled { MatchOption (chunk_at self.old.rows (exp - 5) index) ⊥
-            (λ old. self.new ≡ with_put self.old (exp - 5) index
+        requires within { FitsIn (chunk_at self.old.rows (row_index exp) index) (at + len) }
+        ensures filled { MatchOption (chunk_at self.old.rows (row_index exp) index) ⊥
+            (λ old. self.new ≡ with_put self.old (row_index exp) index
             (Some (splice at (replicate len byte) old)) true) }
         ensures valid_shelf { IsValidShelf self.new }
     {
@@ -436,10 +436,10 @@ impl<S: Supply> Shelf<S> {
         requires most { exp ≤ GREATEST_EXPONENT }
         requires version { self.old.version ≡ Two }
         requires sized { IsSizeOf Two exp len }
-        requires another { MatchOption (chunk_at self.old.rows (exp - 5) index) ⊥
+        requires another { MatchOption (chunk_at self.old.rows (row_index exp) index) ⊥
             (λ old. length old ≡ len → ⊥) }
-        ensures resized { MatchOption (chunk_at self.old.rows (exp - 5) index) ⊥
-            (λ old. self.new ≡ with_put self.old (exp - 5) index (Some (fitted len old)) true) }
+        ensures resized { MatchOption (chunk_at self.old.rows (row_index exp) index) ⊥
+            (λ old. self.new ≡ with_put self.old (row_index exp) index (Some (fitted len old)) true) }
         ensures valid_shelf { IsValidShelf self.new }
     {
         let Some(location) = find(&self.starts, exp, index) else {
@@ -455,7 +455,7 @@ impl<S: Supply> Shelf<S> {
         requires most { exp ≤ GREATEST_EXPONENT }
         requires body { IsBody self.old.version exp packed.now body.now }
         ensures loaded { (f : ℕ → List ℕ) → IsBodyOf self.old.version exp packed.now body.now f
-            → IsLoadedArea self.old.rows self.new.rows (exp - 5) ordinal packed.now f }
+            → IsLoadedArea self.old.rows self.new.rows (row_index exp) ordinal packed.now f }
         ensures long { (d : ℕ) → length (row_at self.new.rows d).chunks
             ≡ length (row_at self.old.rows d).chunks }
         ensures same { self.new ≡ record self.old { rows = self.new.rows } }
@@ -474,7 +474,7 @@ impl<S: Supply> Shelf<S> {
     pub(crate) fn areas(&self, exp: u8) -> u32
         requires least { LEAST_EXPONENT ≤ exp }
         requires most { exp ≤ GREATEST_EXPONENT }
-        ensures { HasAreas self.now.rows (exp - 5) result }
+        ensures { HasAreas self.now.rows (row_index exp) result }
     {
         let class = class_index(exp);
         self.starts[class + 1] - self.starts[class]
@@ -485,10 +485,10 @@ impl<S: Supply> Shelf<S> {
     pub(crate) fn shape_area(&mut self, exp: u8, ordinal: u32, use_bytes: &[u8])
         requires least { LEAST_EXPONENT ≤ exp }
         requires most { exp ≤ GREATEST_EXPONENT }
-        requires area { ordinal * per exp < length (row_at self.old.rows (exp - 5)).chunks }
+        requires area { ordinal * per exp < length (row_at self.old.rows (row_index exp)).chunks }
         requires len { length use_bytes.now ≡ max 1 (per exp / 8) }
         requires below { (i : ℕ) → IsSet (bits_of_bytes use_bytes.now) i → i < per exp }
-        ensures shaped { IsChangedArea self.old.rows self.new.rows (exp - 5) ordinal
+        ensures shaped { IsChangedArea self.old.rows self.new.rows (row_index exp) ordinal
             (λ i old new. IsReshaped (bit_in (bits_of_bytes use_bytes.now) i) old new) }
         ensures long { (d : ℕ) → length (row_at self.new.rows d).chunks
             ≡ length (row_at self.old.rows d).chunks }
@@ -506,7 +506,7 @@ impl<S: Supply> Shelf<S> {
     pub(crate) fn mark_area(&mut self, exp: u8, ordinal: u32, packed: &Bits)
         requires least { LEAST_EXPONENT ≤ exp }
         requires most { exp ≤ GREATEST_EXPONENT }
-        ensures marked { IsChangedArea self.old.rows self.new.rows (exp - 5) ordinal
+        ensures marked { IsChangedArea self.old.rows self.new.rows (row_index exp) ordinal
             (λ i old new. new ≡ marked (bit_in packed.now i) old) }
         ensures long { (d : ℕ) → length (row_at self.new.rows d).chunks
             ≡ length (row_at self.old.rows d).chunks }
@@ -529,7 +529,7 @@ impl<S: Supply> Shelf<S> {
         requires most { exp ≤ GREATEST_EXPONENT }
         requires body { IsBody self.old.version exp packed.now body.now }
         ensures fetched { (f : ℕ → List ℕ) → IsBodyOf self.old.version exp packed.now body.now f
-            → IsChangedArea self.old.rows self.new.rows (exp - 5) ordinal (λ i old new.
+            → IsChangedArea self.old.rows self.new.rows (row_index exp) ordinal (λ i old new.
             new ≡ fetched (packed_at packed.now f i) old) }
         ensures long { (d : ℕ) → length (row_at self.new.rows d).chunks
             ≡ length (row_at self.old.rows d).chunks }
@@ -549,13 +549,13 @@ impl<S: Supply> Shelf<S> {
     pub(crate) fn give_last(&mut self, context: &S::Context, exp: u8)
         requires least { LEAST_EXPONENT ≤ exp }
         requires most { exp ≤ GREATEST_EXPONENT }
-        requires some { per exp ≤ length (row_at self.old.rows (exp - 5)).chunks }
+        requires some { per exp ≤ length (row_at self.old.rows (row_index exp)).chunks }
         requires valid_shelf { IsValidShelf self.old }
-        ensures fewer { length (row_at self.new.rows (exp - 5)).chunks + per exp
-            ≡ length (row_at self.old.rows (exp - 5)).chunks }
-        ensures others { (d : ℕ) → (d ≡ exp - 5 → ⊥)
+        ensures fewer { length (row_at self.new.rows (row_index exp)).chunks + per exp
+            ≡ length (row_at self.old.rows (row_index exp)).chunks }
+        ensures others { (d : ℕ) → (d ≡ row_index exp → ⊥)
             → length (row_at self.new.rows d).chunks ≡ length (row_at self.old.rows d).chunks }
-        ensures rows { (d i : ℕ) → (d ≡ exp - 5 → i < length (row_at self.new.rows d).chunks)
+        ensures rows { (d i : ℕ) → (d ≡ row_index exp → i < length (row_at self.new.rows d).chunks)
             → row_chunk self.new.rows d i ≡ row_chunk self.old.rows d i }
         ensures keeps { Keeps self.old self.new }
         ensures valid_shelf { IsValidShelf self.new }
