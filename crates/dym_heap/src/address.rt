@@ -41,16 +41,19 @@ impl Heap<FixedSupply> {
     /// Where the region begins: the byte at offset 0.
     pub fn start(&self) -> *const u8
         ensures region { IsSome (region_of self.now.origin) }
-        ensures start { ForSome (region_of self.now.origin) (λ region. result ≡ block_ptr region 0) }
+        ensures start { ForSome (region_of self.now.origin)
+            (λ region. result ≡ block_ptr region 0) }
     {
         self.shelf.supply().start()
     }
 
     /// The live chunk that has the byte at `offset` of the region, and None where none has it. It takes constant time.
     pub fn handle_at(&self, offset: u64) -> Option<Handle>
-        ensures class { IfSome result (λ h. (LEAST_EXPONENT ≤ h.exp) × (h.exp ≤ GREATEST_EXPONENT)) }
+        ensures class { IfSome result
+            (λ h. (LEAST_EXPONENT ≤ h.exp) × (h.exp ≤ GREATEST_EXPONENT)) }
         ensures found { IfSome result (λ h. HasByteAt self.now h offset) }
-        ensures only { (k : ℕ) → HasByteAt self.now (handle_of k) offset → option_map key result ≡ Some k }
+        ensures only { (k : ℕ) → HasByteAt self.now (handle_of k) offset
+            → option_map key result ≡ Some k }
     {
         let Some((h, at)) = chunk_around(self.shelf.quota(), offset) else {
             return None;
@@ -100,7 +103,8 @@ fn touch_range<S: Supply>(shelf: &mut Shelf<S>, from: u64, end: u64)
 fn touch_byte<S: Supply>(shelf: &mut Shelf<S>, h: Handle, at: u32)
     requires tidy { IsTidy shelf.old }
     ensures touched { (k : ℕ) → heap_chunk (state_of shelf.new.rows) k
-        ≡ touched_besides (is_hit (live_of shelf.old.rows) h at k) (heap_chunk (state_of shelf.old.rows) k) }
+        ≡ touched_besides (is_hit (live_of shelf.old.rows) h at k)
+        (heap_chunk (state_of shelf.old.rows) k) }
     ensures same { shelf.new ≡ record shelf.old { rows = shelf.new.rows } }
     ensures tidy { IsTidy shelf.new }
 {

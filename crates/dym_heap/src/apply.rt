@@ -32,7 +32,8 @@ impl<S: Supply> Heap<S> {
     pub fn step(&mut self, context: &S::Context, command: &Command) -> Reply
         requires command { IsEventCommand command.now }
         ensures reply { result ≡ (step_of self.old command.now).reply }
-        ensures after { self.new ≡ record (stepped self.old command.now) { held_ids = self.new.held_ids } }
+        ensures after { self.new
+            ≡ record (stepped self.old command.now) { held_ids = self.new.held_ids } }
         ensures refused { OnRefusal result (self.new ≡ self.old) }
         ensures sound { IsSound self.new }
     {

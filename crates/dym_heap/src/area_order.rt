@@ -61,10 +61,13 @@ pub(crate) fn copy_between<G: Segment>(
     requires target_area { target.sized_area < length sized_areas.old.items }
     requires some { 0 < len }
     requires source { (d : SizedAreaMeaning) → FitsIn
-        (slice_index_or (slice_index_or sized_areas.old.items source.sized_area d).chunks source.chunk None) len }
+        (slice_index_or (slice_index_or sized_areas.old.items source.sized_area d).chunks
+        source.chunk None) len }
     requires target { (d : SizedAreaMeaning) → FitsIn
-        (slice_index_or (slice_index_or sized_areas.old.items target.sized_area d).chunks target.chunk None) len }
-    ensures copied { IsCopiedOver sized_areas.old.items sized_areas.new.items source.sized_area source.chunk target.sized_area target.chunk len }
+        (slice_index_or (slice_index_or sized_areas.old.items target.sized_area d).chunks
+        target.chunk None) len }
+    ensures copied { IsCopiedOver sized_areas.old.items sized_areas.new.items
+        source.sized_area source.chunk target.sized_area target.chunk len }
     ensures capacity { vec_capacity sized_areas.new ≡ vec_capacity sized_areas.old }
 {
     if source.sized_area < target.sized_area {
@@ -85,10 +88,13 @@ fn copy_up<G: Segment>(
     requires within { target.sized_area < length sized_areas.old }
     requires some { 0 < len }
     requires source { (d : SizedAreaMeaning) → FitsIn
-        (slice_index_or (slice_index_or sized_areas.old source.sized_area d).chunks source.chunk None) len }
+        (slice_index_or (slice_index_or sized_areas.old source.sized_area d).chunks
+        source.chunk None) len }
     requires target { (d : SizedAreaMeaning) → FitsIn
-        (slice_index_or (slice_index_or sized_areas.old target.sized_area d).chunks target.chunk None) len }
-    ensures { IsCopiedOver sized_areas.old sized_areas.new source.sized_area source.chunk target.sized_area target.chunk len }
+        (slice_index_or (slice_index_or sized_areas.old target.sized_area d).chunks
+        target.chunk None) len }
+    ensures { IsCopiedOver sized_areas.old sized_areas.new
+        source.sized_area source.chunk target.sized_area target.chunk len }
 {
     let (low, high) = sized_areas.split_at_mut(target.sized_area);
     let sized_area = &mut high[0];
@@ -106,10 +112,13 @@ fn copy_down<G: Segment>(
     requires within { source.sized_area < length sized_areas.old }
     requires some { 0 < len }
     requires source { (d : SizedAreaMeaning) → FitsIn
-        (slice_index_or (slice_index_or sized_areas.old source.sized_area d).chunks source.chunk None) len }
+        (slice_index_or (slice_index_or sized_areas.old source.sized_area d).chunks
+        source.chunk None) len }
     requires target { (d : SizedAreaMeaning) → FitsIn
-        (slice_index_or (slice_index_or sized_areas.old target.sized_area d).chunks target.chunk None) len }
-    ensures { IsCopiedOver sized_areas.old sized_areas.new source.sized_area source.chunk target.sized_area target.chunk len }
+        (slice_index_or (slice_index_or sized_areas.old target.sized_area d).chunks
+        target.chunk None) len }
+    ensures { IsCopiedOver sized_areas.old sized_areas.new
+        source.sized_area source.chunk target.sized_area target.chunk len }
 {
     let (low, high) = sized_areas.split_at_mut(source.sized_area);
     let sized_area = &mut low[target.sized_area];

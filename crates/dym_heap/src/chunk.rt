@@ -24,7 +24,8 @@ pub(crate) fn len_of_handle<S: Supply>(shelf: &Shelf<S>, h: Handle) -> Option<u3
     requires { IsTidy shelf.now }
     ensures len { result ≡ option_map length (get (live_of shelf.now.rows) (key h)) }
     ensures sized_area { IsSome result → (LEAST_EXPONENT ≤ h.exp) × (h.exp ≤ GREATEST_EXPONENT)
-        × (get (live_of shelf.now.rows) (key h) ≡ chunk_at shelf.now.rows (row_index h.exp) h.index) }
+        × (get (live_of shelf.now.rows) (key h)
+        ≡ chunk_at shelf.now.rows (row_index h.exp) h.index) }
 {
     if h.exp < LEAST_EXPONENT {
         return None;
@@ -73,7 +74,8 @@ pub(crate) fn free_chunk<S: Supply>(shelf: &mut Shelf<S>, context: &S::Context, 
     requires most { exp ≤ GREATEST_EXPONENT }
     requires tidy { IsTidy shelf.old }
     requires live { IsSome (chunk_at shelf.old.rows (row_index exp) index) }
-    ensures after { state_of shelf.new.rows ≡ without_chunk (state_of shelf.old.rows) (number exp index) }
+    ensures after { state_of shelf.new.rows
+        ≡ without_chunk (state_of shelf.old.rows) (number exp index) }
     ensures keeps { Keeps shelf.old shelf.new }
     ensures tidy { IsTidy shelf.new }
 {
@@ -115,7 +117,8 @@ pub(crate) fn write_chunk<S: Supply>(
     requires most { exp ≤ GREATEST_EXPONENT }
     requires tidy { IsTidy shelf.old }
     requires some { 0 < length bytes.now }
-    requires within { FitsIn (chunk_at shelf.old.rows (row_index exp) index) (at + length bytes.now) }
+    requires within { FitsIn (chunk_at shelf.old.rows (row_index exp) index)
+        (at + length bytes.now) }
     ensures after { MatchOption (chunk_at shelf.old.rows (row_index exp) index) ⊥
         (λ old. state_of shelf.new.rows
         ≡ with_chunk (state_of shelf.old.rows) (number exp index) (splice at bytes.now old)) }
@@ -142,7 +145,8 @@ pub(crate) fn fill_chunk<S: Supply>(
     requires within { FitsIn (chunk_at shelf.old.rows (row_index exp) index) (at + len) }
     ensures after { MatchOption (chunk_at shelf.old.rows (row_index exp) index) ⊥
         (λ old. state_of shelf.new.rows
-        ≡ with_chunk (state_of shelf.old.rows) (number exp index) (splice at (replicate len byte) old)) }
+        ≡ with_chunk (state_of shelf.old.rows) (number exp index)
+        (splice at (replicate len byte) old)) }
     ensures keeps { Keeps shelf.old shelf.new }
     ensures held { shelf.new.held_ids ≡ shelf.old.held_ids }
     ensures tidy { IsTidy shelf.new }
@@ -176,7 +180,8 @@ pub(crate) fn resize_chunk<S: Supply>(shelf: &mut Shelf<S>, h: Handle, old: u32,
     requires live { MatchOption (chunk_at shelf.old.rows (row_index h.exp) h.index) ⊥
         (λ bytes. length bytes ≡ old) }
     ensures after { MatchOption (chunk_at shelf.old.rows (row_index h.exp) h.index) ⊥
-        (λ bytes. state_of shelf.new.rows ≡ resize shelf.old.version (state_of shelf.old.rows) h len bytes) }
+        (λ bytes. state_of shelf.new.rows
+        ≡ resize shelf.old.version (state_of shelf.old.rows) h len bytes) }
     ensures keeps { Keeps shelf.old shelf.new }
     ensures held { shelf.new.held_ids ≡ shelf.old.held_ids }
     ensures tidy { IsTidy shelf.new }
@@ -198,7 +203,8 @@ fn copy_chunk<S: Supply>(shelf: &mut Shelf<S>, from: Handle, to: Handle, len: u3
     requires valid_shelf { IsValidShelf shelf.old }
     requires source { FitsIn (chunk_at shelf.old.rows (row_index from.exp) from.index) len }
     requires target { FitsIn (chunk_at shelf.old.rows (row_index to.exp) to.index) len }
-    ensures copied { Copied shelf.old shelf.new (row_index from.exp) from.index (row_index to.exp) to.index len }
+    ensures copied { Copied shelf.old shelf.new (row_index from.exp) from.index
+        (row_index to.exp) to.index len }
     ensures valid_shelf { IsValidShelf shelf.new }
 {
     if len == 0 {
@@ -224,10 +230,15 @@ pub(crate) fn move_chunk<S: Supply>(
     requires sized { IsSizeOf shelf.old.version exp len }
     requires live { MatchOption (chunk_at shelf.old.rows (row_index from.exp) from.index) ⊥
         (λ bytes. length bytes ≡ old) }
-    ensures answer { MatchOption result (shelf.old.quota < held_with_fresh (live_of shelf.old.rows) exp)
-        (λ i. (held_with_fresh (live_of shelf.old.rows) exp ≤ shelf.old.quota) × (i ≡ fresh (live_of shelf.old.rows) exp)) }
+    ensures answer { MatchOption result
+        (shelf.old.quota < held_with_fresh (live_of shelf.old.rows) exp)
+        (λ i. (held_with_fresh (live_of shelf.old.rows) exp ≤ shelf.old.quota)
+        × (i ≡ fresh (live_of shelf.old.rows) exp)) }
     ensures after { MatchOption result (shelf.new ≡ shelf.old)
-        (λ i. MatchOption (chunk_at shelf.old.rows (row_index from.exp) from.index) ⊥ (λ bytes. state_of shelf.new.rows ≡ without_chunk (with_chunk (state_of shelf.old.rows) (number exp i) (fitted len bytes)) (key from))) }
+        (λ i. MatchOption (chunk_at shelf.old.rows (row_index from.exp) from.index) ⊥
+        (λ bytes. state_of shelf.new.rows
+        ≡ without_chunk (with_chunk (state_of shelf.old.rows) (number exp i) (fitted len bytes))
+        (key from))) }
     ensures keeps { Keeps shelf.old shelf.new }
     ensures tidy { IsTidy shelf.new }
 {

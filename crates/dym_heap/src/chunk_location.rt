@@ -31,10 +31,14 @@ pub(crate) fn class_index(exp: u8) -> usize
 pub(crate) fn find(starts: &[u32; 13], exp: u8, index: u32) -> Option<ChunkLocation>
     requires least { LEAST_EXPONENT ≤ exp }
     requires most { exp ≤ GREATEST_EXPONENT }
-    requires rising { slice_index starts.now (row_index exp) ≤ slice_index starts.now (row_index exp + 1) }
-    ensures { MatchOption result (slice_index starts.now (row_index exp + 1) ≤ slice_index starts.now (row_index exp) + index / per exp)
-        (λ location. (location.ordinal ≡ index / per exp) × (location.chunk ≡ index % per exp) × (location.sized_area ≡ slice_index starts.now (row_index exp) + index / per exp)
-        × (slice_index starts.now (row_index exp) + index / per exp < slice_index starts.now (row_index exp + 1))) }
+    requires rising { slice_index starts.now (row_index exp)
+        ≤ slice_index starts.now (row_index exp + 1) }
+    ensures { MatchOption result (slice_index starts.now (row_index exp + 1)
+        ≤ slice_index starts.now (row_index exp) + index / per exp)
+        (λ location. (location.ordinal ≡ index / per exp) × (location.chunk ≡ index % per exp)
+        × (location.sized_area ≡ slice_index starts.now (row_index exp) + index / per exp)
+        × (slice_index starts.now (row_index exp) + index / per exp
+        < slice_index starts.now (row_index exp + 1))) }
 {
     let class = class_index(exp);
     let per = per_area(exp);
@@ -114,7 +118,8 @@ pub(crate) fn take_table(spare: &mut Vec<SpareLengths>) -> Option<Lengths>
 /// Keeps the memory of a table of lengths, where there is one, in room that is there.
 pub(crate) fn keep_table(spare: &mut Vec<SpareLengths>, lengths: Option<Lengths>)
     requires { IsSome lengths → vec_len spare.old < vec_capacity spare.old }
-    ensures len { vec_len spare.new ≡ (if is_some lengths then vec_len spare.old + 1 else vec_len spare.old) }
+    ensures len { vec_len spare.new
+        ≡ (if is_some lengths then vec_len spare.old + 1 else vec_len spare.old) }
     ensures room { vec_capacity spare.old ≤ vec_capacity spare.new }
 {
     if let Some(lengths) = lengths {

@@ -23,10 +23,13 @@ pub(crate) fn take_fresh<S: Supply>(
     requires most { exp ≤ GREATEST_EXPONENT }
     requires tidy { IsTidy shelf.old }
     requires sized { IsSizeOf shelf.old.version exp len }
-    ensures answer { MatchOption result (shelf.old.quota < held_with_fresh (live_of shelf.old.rows) exp)
-        (λ i. (held_with_fresh (live_of shelf.old.rows) exp ≤ shelf.old.quota) × (i ≡ fresh (live_of shelf.old.rows) exp)) }
+    ensures answer { MatchOption result
+        (shelf.old.quota < held_with_fresh (live_of shelf.old.rows) exp)
+        (λ i. (held_with_fresh (live_of shelf.old.rows) exp ≤ shelf.old.quota)
+        × (i ≡ fresh (live_of shelf.old.rows) exp)) }
     ensures after { MatchOption result (shelf.new ≡ shelf.old)
-        (λ i. state_of shelf.new.rows ≡ with_chunk (state_of shelf.old.rows) (number exp i) (replicate len 0)) }
+        (λ i. state_of shelf.new.rows
+        ≡ with_chunk (state_of shelf.old.rows) (number exp i) (replicate len 0)) }
     ensures keeps { Keeps shelf.old shelf.new }
     ensures tidy { IsTidy shelf.new }
 {

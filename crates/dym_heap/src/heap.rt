@@ -59,7 +59,14 @@ impl<S: Supply> Model for Heap<S> {
     ghost use Rattle.dym_heap.specs.Table.{state_of};
     ghost use Rattle.dym_heap.specs.Shelves.{IsTidy};
 
-    ghost view = { λ h. record { version = h.shelf.version; quota = h.shelf.quota; state = state_of h.shelf.rows; held_ids = h.shelf.held_ids; origin = h.shelf.origin; applied = h.applied } };
+    ghost view = { λ h. record {
+      version = h.shelf.version;
+      quota = h.shelf.quota;
+      state = state_of h.shelf.rows;
+      held_ids = h.shelf.held_ids;
+      origin = h.shelf.origin;
+      applied = h.applied;
+    } };
 
     ghost invariant = { λ h. IsTidy h.shelf };
 }
@@ -139,7 +146,8 @@ impl<S: Supply> Heap<S> {
     /// A fresh chunk of `len` zero bytes. In version 1 it has all bytes of its class.
     pub fn malloc(&mut self, context: &S::Context, len: u64) -> Result<Handle, Refusal>
         ensures reply { chunk_reply result ≡ (step_of self.old (Malloc len)).reply }
-        ensures after { self.new ≡ record (stepped self.old (Malloc len)) { held_ids = self.new.held_ids } }
+        ensures after { self.new
+            ≡ record (stepped self.old (Malloc len)) { held_ids = self.new.held_ids } }
         ensures refused { OnErr result (self.new ≡ self.old) }
         ensures sound { IsSound self.new }
     {
@@ -157,7 +165,8 @@ impl<S: Supply> Heap<S> {
     /// A fresh chunk of `n * len` zero bytes.
     pub fn calloc(&mut self, context: &S::Context, n: u64, len: u64) -> Result<Handle, Refusal>
         ensures reply { chunk_reply result ≡ (step_of self.old (Calloc n len)).reply }
-        ensures after { self.new ≡ record (stepped self.old (Calloc n len)) { held_ids = self.new.held_ids } }
+        ensures after { self.new
+            ≡ record (stepped self.old (Calloc n len)) { held_ids = self.new.held_ids } }
         ensures refused { OnErr result (self.new ≡ self.old) }
         ensures sound { IsSound self.new }
     {
@@ -227,7 +236,8 @@ impl<S: Supply> Heap<S> {
     /// Frees a chunk. Nil does nothing.
     pub fn free(&mut self, context: &S::Context, h: Option<Handle>) -> Result<(), Refusal>
         ensures reply { done_reply result ≡ (step_of self.old (Free h)).reply }
-        ensures after { self.new ≡ record (stepped self.old (Free h)) { held_ids = self.new.held_ids } }
+        ensures after { self.new
+            ≡ record (stepped self.old (Free h)) { held_ids = self.new.held_ids } }
         ensures refused { OnErr result (self.new ≡ self.old) }
         ensures sound { IsSound self.new }
     {
@@ -267,7 +277,8 @@ impl<S: Supply> Heap<S> {
         requires least { LEAST_EXPONENT ≤ h.exp }
         requires most { h.exp ≤ GREATEST_EXPONENT }
         requires some { HasByte self.old h }
-        ensures* writes_back { sem 𝓛 (lends_live S.row S.Seg.row S.Context.row S.Seg.Segment S.Supply self.entry h result) }
+        ensures* writes_back { sem 𝓛 (lends_live S.row S.Seg.row S.Context.row S.Seg.Segment
+            S.Supply self.entry h result) }
         ensures value { get self.old.state.live (key h) ≡ Some result.now }
         ensures sound { (ws : List ℕ) → IsSound (heap_lent self.old h ws) }
     {
@@ -341,7 +352,8 @@ impl<S: Supply> Heap<S> {
 
     /// Copies the bytes of a chunk from its place `at` on into `out`.
     pub fn read(&self, h: Handle, at: u32, out: &mut [u8]) -> Result<(), Refusal>
-        ensures reply { bytes_reply result out.new ≡ (step_of self.now (Read h at (length out.old))).reply }
+        ensures reply { bytes_reply result out.new
+            ≡ (step_of self.now (Read h at (length out.old))).reply }
         ensures refused { OnErr result (out.new ≡ out.old) }
     {
         let Some(len) = len_of_handle(&self.shelf, h) else {
@@ -414,7 +426,8 @@ impl<S: Supply> Heap<S> {
         requires within { OfLog rec.now (λ log. held log.copy ≤ self.old.quota) }
         ensures handles { OfLog rec.now (λ log. HaveOneSetOfHandles self.new.state.live log.copy) }
         ensures touched { self.new.state.touched ≡ FinSet.empty }
-        ensures same { self.new ≡ record self.old { state = self.new.state; held_ids = self.new.held_ids } }
+        ensures same { self.new
+            ≡ record self.old { state = self.new.state; held_ids = self.new.held_ids } }
         ensures sound { IsSound self.new }
     {
         shape_shelf(&mut self.shelf, context, rec);
@@ -425,7 +438,8 @@ impl<S: Supply> Heap<S> {
     /// touched stays as it is.
     pub fn load(&mut self, rec: &Record)
         requires version { OfLog rec.now (λ log. log.version ≡ self.old.version) }
-        ensures loaded { OfLog rec.now (λ log. IsLoaded log self.old.state.live self.new.state.live) }
+        ensures loaded { OfLog rec.now (λ log.
+            IsLoaded log self.old.state.live self.new.state.live) }
         ensures same { self.new ≡ record self.old {
           state = record {
             live = self.new.state.live;
@@ -453,8 +467,10 @@ impl<S: Supply> Heap<S> {
     pub fn reshape(&mut self, context: &S::Context, rec: &Record)
         requires within { OfLog rec.now (λ log. held log.copy ≤ self.old.quota) }
         ensures shaped { OfLog rec.now (λ log.
-            (k : ℕ) → IsReshaped (contains_key log.copy k) (heap_chunk self.old.state k) (heap_chunk self.new.state k)) }
-        ensures same { self.new ≡ record self.old { state = self.new.state; held_ids = self.new.held_ids } }
+            (k : ℕ) → IsReshaped (contains_key log.copy k)
+            (heap_chunk self.old.state k) (heap_chunk self.new.state k)) }
+        ensures same { self.new
+            ≡ record self.old { state = self.new.state; held_ids = self.new.held_ids } }
         ensures sound { IsSound self.new }
     {
         shape_shelf(&mut self.shelf, context, rec);
@@ -464,7 +480,8 @@ impl<S: Supply> Heap<S> {
     pub fn fetch(&mut self, rec: &Record)
         requires version { OfLog rec.now (λ log. log.version ≡ self.old.version) }
         ensures fetched { OfLog rec.now (λ log.
-            (k : ℕ) → heap_chunk self.new.state k ≡ fetched (packed_by log k) (heap_chunk self.old.state k)) }
+            (k : ℕ) → heap_chunk self.new.state k
+            ≡ fetched (packed_by log k) (heap_chunk self.old.state k)) }
         ensures same { self.new ≡ record self.old { state = self.new.state } }
         ensures sound { IsSound self.new }
     {

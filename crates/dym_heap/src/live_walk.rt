@@ -36,7 +36,8 @@ fn start_of(after: Option<Handle>) -> (u8, u64)
     ensures least { LEAST_EXPONENT ≤ result.0 }
     ensures fits { result.1 ≤ 2 ^ 32 }
     ensures start { after_key after ≤ number result.0 result.1 }
-    ensures near { (number result.0 result.1 ≡ after_key after) ⊎ (number result.0 result.1 ≡ number 5 0) }
+    ensures near { (number result.0 result.1 ≡ after_key after)
+        ⊎ (number result.0 result.1 ≡ number 5 0) }
 {
     let Some(h) = after else {
         return (LEAST_EXPONENT, 0);

@@ -66,7 +66,8 @@ fn fetch_area_of<S: Supply>(shelf: &mut Shelf<S>, rec: &Record, k: u32)
     requires version { OfLog rec.now (λ log. log.version ≡ shelf.old.version) }
     requires valid_shelf { IsValidShelf shelf.old }
     ensures fetched { OfLog rec.now (λ log.
-        IsAreaChange log k shelf.old.rows shelf.new.rows (λ q old new. new ≡ fetched (packed_by log q) old)) }
+        IsAreaChange log k shelf.old.rows shelf.new.rows
+        (λ q old new. new ≡ fetched (packed_by log q) old)) }
     ensures long { (d : ℕ) → length (row_at shelf.new.rows d).chunks
         ≡ length (row_at shelf.old.rows d).chunks }
     ensures same { shelf.new ≡ record shelf.old { rows = shelf.new.rows } }

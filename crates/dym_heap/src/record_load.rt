@@ -13,7 +13,8 @@ use dym_quota::Supply;
 pub(crate) fn load_record<S: Supply>(shelf: &mut Shelf<S>, rec: &Record)
     requires version { OfLog rec.now (λ log. log.version ≡ shelf.old.version) }
     requires tidy { IsTidy shelf.old }
-    ensures loaded { OfLog rec.now (λ log. IsLoaded log (live_of shelf.old.rows) (live_of shelf.new.rows)) }
+    ensures loaded { OfLog rec.now (λ log.
+        IsLoaded log (live_of shelf.old.rows) (live_of shelf.new.rows)) }
     ensures touched { touched_of shelf.new.rows ≡ touched_of shelf.old.rows }
     ensures same { shelf.new ≡ record shelf.old { rows = shelf.new.rows } }
     ensures tidy { IsTidy shelf.new }

@@ -20,8 +20,8 @@ pub(crate) fn shape_shelf<S: Supply>(shelf: &mut Shelf<S>, context: &S::Context,
     requires tidy { IsTidy shelf.old }
     requires within { OfLog rec.now (λ log. held log.copy ≤ shelf.old.quota) }
     ensures shaped { OfLog rec.now (λ log.
-        (k : ℕ) → IsReshaped (contains_key log.copy k) (heap_chunk (state_of shelf.old.rows) k) (heap_chunk
-        (state_of shelf.new.rows) k)) }
+        (k : ℕ) → IsReshaped (contains_key log.copy k)
+        (heap_chunk (state_of shelf.old.rows) k) (heap_chunk (state_of shelf.new.rows) k)) }
     ensures keeps { Keeps shelf.old shelf.new }
     ensures tidy { IsTidy shelf.new }
 {
@@ -33,8 +33,10 @@ pub(crate) fn shape_shelf<S: Supply>(shelf: &mut Shelf<S>, context: &S::Context,
 
 /// How many areas of each class a record has.
 fn count_areas(rec: &Record) -> [u32; 12]
-    ensures are { OfLog rec.now (λ log. (c : ℕ) → c < 12 → slice_index result c ≡ areas log.copy (c + 5)) }
-    ensures total { (quota : ℕ) → OfLog rec.now (λ log. held log.copy ≤ quota) → sum result ≤ quota }
+    ensures are { OfLog rec.now (λ log.
+        (c : ℕ) → c < 12 → slice_index result c ≡ areas log.copy (c + 5)) }
+    ensures total { (quota : ℕ) → OfLog rec.now (λ log. held log.copy ≤ quota)
+        → sum result ≤ quota }
 {
     let mut counts = [0; 12];
     for k in 0..rec.area_count() {
@@ -48,7 +50,8 @@ fn count_areas(rec: &Record) -> [u32; 12]
 fn give_areas<S: Supply>(shelf: &mut Shelf<S>, context: &S::Context, counts: &[u32; 12])
     requires valid_shelf { IsValidShelf shelf.old }
     ensures most { (c : ℕ) → c < 12 → HasAtMost shelf.new.rows c (slice_index counts.now c) }
-    ensures agree { (c : ℕ) → c < 12 → AgreeTo shelf.old.rows shelf.new.rows c (slice_index counts.now c) }
+    ensures agree { (c : ℕ) → c < 12
+        → AgreeTo shelf.old.rows shelf.new.rows c (slice_index counts.now c) }
     ensures keeps { Keeps shelf.old shelf.new }
     ensures valid_shelf { IsValidShelf shelf.new }
 {
@@ -84,8 +87,8 @@ fn use_areas<S: Supply>(shelf: &mut Shelf<S>, rec: &Record)
     requires are { OfLog rec.now (λ log.
         (c : ℕ) → c < 12 → HasAreas shelf.old.rows c (areas log.copy (c + 5))) }
     ensures shaped { OfLog rec.now (λ log.
-        (k : ℕ) → IsReshaped (contains_key log.copy k) (heap_chunk (state_of shelf.old.rows) k) (heap_chunk
-        (state_of shelf.new.rows) k)) }
+        (k : ℕ) → IsReshaped (contains_key log.copy k)
+        (heap_chunk (state_of shelf.old.rows) k) (heap_chunk (state_of shelf.new.rows) k)) }
     ensures same { shelf.new ≡ record shelf.old { rows = shelf.new.rows } }
     ensures tidy { IsTidy shelf.new }
 {

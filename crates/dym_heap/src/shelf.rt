@@ -61,9 +61,12 @@ impl<S: Supply> Model for Shelf<S> {
     ghost use Rattle.std.specs.Prelude.{vec_len, vec_capacity};
     ghost use Rattle.dym_heap.specs.Arrangement.{shelf_of, IsShelf, AreBound};
 
-    ghost view = { λ s. shelf_of s.version (S.quota_of s.supply) (S.held_ids s.supply) (S.origin s.supply) s.starts s.sized_areas.items };
+    ghost view = { λ s. shelf_of s.version (S.quota_of s.supply) (S.held_ids s.supply)
+        (S.origin s.supply) s.starts s.sized_areas.items };
 
-    ghost invariant = { λ s. IsShelf s.version (S.quota_of s.supply) (S.held_ids s.supply) s.starts s.sized_areas.items s.full.items (vec_capacity s.sized_areas) (vec_len s.spare) (vec_capacity s.spare)
+    ghost invariant = { λ s. IsShelf s.version (S.quota_of s.supply) (S.held_ids s.supply)
+        s.starts s.sized_areas.items s.full.items
+        (vec_capacity s.sized_areas) (vec_len s.spare) (vec_capacity s.spare)
         × AreBound (S.bound (S.origin s.supply) (S.quota_of s.supply)) s.sized_areas.items };
 }
 
@@ -146,8 +149,10 @@ impl<S: Supply> Shelf<S> {
         requires sized { IsSizeOf self.old.version exp len }
         ensures taken { MatchOption result (self.new ≡ self.old)
             (λ i. self.new ≡ with_put self.old (row_index exp) i (Some (replicate len 0)) true) }
-        ensures sized_area { MatchOption result ((i : ℕ) → i < length (row_at self.old.rows (row_index exp)).chunks
-            → IsSome (chunk_at self.old.rows (row_index exp) i)) (λ i. IsFirstFree self.old.rows (row_index exp) i) }
+        ensures sized_area { MatchOption result
+            ((i : ℕ) → i < length (row_at self.old.rows (row_index exp)).chunks
+            → IsSome (chunk_at self.old.rows (row_index exp) i))
+            (λ i. IsFirstFree self.old.rows (row_index exp) i) }
         ensures valid_shelf { IsValidShelf self.new }
     {
         let class = class_index(exp);
@@ -172,7 +177,8 @@ impl<S: Supply> Shelf<S> {
         requires most { exp ≤ GREATEST_EXPONENT }
         requires room { length self.old.held_ids < self.old.quota }
         ensures added { self.new ≡ record (with_row self.old (row_index exp)
-            (longer (per exp) (row_at self.old.rows (row_index exp)))) { held_ids = self.new.held_ids } }
+            (longer (per exp) (row_at self.old.rows (row_index exp))))
+            { held_ids = self.new.held_ids } }
         ensures valid_shelf { IsValidShelf self.new }
     {
         let class = class_index(exp);
@@ -218,7 +224,8 @@ impl<S: Supply> Shelf<S> {
         requires least { LEAST_EXPONENT ≤ exp }
         requires most { exp ≤ GREATEST_EXPONENT }
         requires free { EndsFree self.old.rows (row_index exp) (per exp) }
-        ensures dropped { self.new ≡ without_last self.old (row_index exp) (per exp) self.new.held_ids }
+        ensures dropped { self.new
+            ≡ without_last self.old (row_index exp) (per exp) self.new.held_ids }
         ensures fewer { length self.new.held_ids + 1 ≡ length self.old.held_ids }
         ensures valid_shelf { IsValidShelf self.new }
     {
@@ -259,9 +266,11 @@ impl<S: Supply> Shelf<S> {
         requires least { LEAST_EXPONENT ≤ exp }
         requires most { exp ≤ GREATEST_EXPONENT }
         requires some { FitsIn (chunk_at self.old.rows (row_index exp) index) 1 }
-        ensures* writes_back { sem 𝓛 (lends_of_shelf S.row S.Seg.row S.Context.row S.Seg.Segment S.Supply self.entry (row_index exp) index result) }
+        ensures* writes_back { sem 𝓛 (lends_of_shelf S.row S.Seg.row S.Context.row S.Seg.Segment
+            S.Supply self.entry (row_index exp) index result) }
         ensures value { Some result.now ≡ chunk_at self.old.rows (row_index exp) index }
-        ensures valid_shelf { (ws : List ℕ) → IsValidShelf (shelf_lent self.old (row_index exp) index ws) }
+        ensures valid_shelf { (ws : List ℕ)
+            → IsValidShelf (shelf_lent self.old (row_index exp) index ws) }
     {
         let Some(location) = find(&self.starts, exp, index) else {
             unreachable!();
@@ -288,7 +297,8 @@ impl<S: Supply> Shelf<S> {
         requires most { exp ≤ GREATEST_EXPONENT }
         requires used { IsSome (chunk_at self.now.rows (row_index exp) index) }
         ensures { ForSome (S.bound self.now.origin self.now.quota) (λ f.
-            ForSome (S.Seg.place_of (f (row_index exp) (index / per exp))) (λ place. result ≡ place)) }
+            ForSome (S.Seg.place_of (f (row_index exp) (index / per exp)))
+            (λ place. result ≡ place)) }
     {
         let Some(location) = find(&self.starts, exp, index) else {
             unreachable!();
@@ -312,7 +322,8 @@ impl<S: Supply> Shelf<S> {
     pub(crate) fn next_used(&self, exp: u8, from: u64) -> Option<u32>
         requires least { LEAST_EXPONENT ≤ exp }
         requires most { exp ≤ GREATEST_EXPONENT }
-        ensures { MatchOption result ((i : ℕ) → from ≤ i → chunk_at self.now.rows (row_index exp) i ≡ None)
+        ensures { MatchOption result ((i : ℕ) → from ≤ i
+            → chunk_at self.now.rows (row_index exp) i ≡ None)
             (λ i. IsNextUsed self.now.rows (row_index exp) from i) }
     {
         let class = class_index(exp);
@@ -341,7 +352,8 @@ impl<S: Supply> Shelf<S> {
         requires least { LEAST_EXPONENT ≤ exp }
         requires most { exp ≤ GREATEST_EXPONENT }
         ensures used { result ≡ is_some (chunk_at self.old.rows (row_index exp) index) }
-        ensures freed { MatchBool result (self.new ≡ with_put self.old (row_index exp) index None false)
+        ensures freed { MatchBool result
+            (self.new ≡ with_put self.old (row_index exp) index None false)
             (self.new ≡ self.old) }
         ensures valid_shelf { IsValidShelf self.new }
     {
@@ -362,7 +374,8 @@ impl<S: Supply> Shelf<S> {
     pub(crate) fn read(&self, exp: u8, index: u32, at: u32, out: &mut [u8])
         requires least { LEAST_EXPONENT ≤ exp }
         requires most { exp ≤ GREATEST_EXPONENT }
-        requires within { FitsIn (chunk_at self.now.rows (row_index exp) index) (at + length out.old) }
+        requires within { FitsIn (chunk_at self.now.rows (row_index exp) index)
+            (at + length out.old) }
         ensures { MatchOption (chunk_at self.now.rows (row_index exp) index) ⊥
             (λ bytes. out.new ≡ take (length out.old) (drop at bytes)) }
     {
@@ -400,9 +413,11 @@ impl<S: Supply> Shelf<S> {
         requires least { LEAST_EXPONENT ≤ exp }
         requires most { exp ≤ GREATEST_EXPONENT }
         requires some { 0 < length bytes.now }
-        requires within { FitsIn (chunk_at self.old.rows (row_index exp) index) (at + length bytes.now) }
+        requires within { FitsIn (chunk_at self.old.rows (row_index exp) index)
+            (at + length bytes.now) }
         ensures written { MatchOption (chunk_at self.old.rows (row_index exp) index) ⊥
-            (λ old. self.new ≡ with_put self.old (row_index exp) index (Some (splice at bytes.now old)) true) }
+            (λ old. self.new ≡ with_put self.old (row_index exp) index
+            (Some (splice at bytes.now old)) true) }
         ensures valid_shelf { IsValidShelf self.new }
     {
         let Some(location) = find(&self.starts, exp, index) else {
@@ -439,7 +454,8 @@ impl<S: Supply> Shelf<S> {
         requires another { MatchOption (chunk_at self.old.rows (row_index exp) index) ⊥
             (λ old. length old ≡ len → ⊥) }
         ensures resized { MatchOption (chunk_at self.old.rows (row_index exp) index) ⊥
-            (λ old. self.new ≡ with_put self.old (row_index exp) index (Some (fitted len old)) true) }
+            (λ old. self.new ≡ with_put self.old (row_index exp) index
+            (Some (fitted len old)) true) }
         ensures valid_shelf { IsValidShelf self.new }
     {
         let Some(location) = find(&self.starts, exp, index) else {
@@ -583,7 +599,8 @@ impl<S: Supply> Shelf<S> {
 
     /// Whether no chunk is touched. Where the answer is no, no clause tells that one is.
     pub(crate) fn is_unmodified(&self) -> bool
-        ensures unmodified { IsTrue result → self.now ≡ record self.now { rows = untouched_rows self.now.rows } }
+        ensures unmodified { IsTrue result
+            → self.now ≡ record self.now { rows = untouched_rows self.now.rows } }
         ensures valid_shelf { IsValidShelf self.now }
     {
         are_unmodified(&self.sized_areas)
@@ -621,7 +638,8 @@ fn clear_marks(alloc: Global) -> Result<Vec<Bits>, AllocError>
 
 /// Memory for the tables of lengths of as many areas as the quota allows, in version 2 alone.
 fn tables(alloc: Global, version: Version, quota: u32) -> Result<Vec<SpareLengths>, AllocError>
-    ensures { IfOk result (λ spare. HasTables version quota 0 (vec_len spare) (vec_capacity spare)) }
+    ensures { IfOk result (λ spare.
+        HasTables version quota 0 (vec_len spare) (vec_capacity spare)) }
 {
     match version {
         Version::One => Ok(Vec::new(alloc)),

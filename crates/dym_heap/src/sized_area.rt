@@ -108,7 +108,8 @@ impl<G: Segment> SizedArea<G> {
     /// The least index from `from` on of a chunk in use.
     pub(crate) fn next_used(&self, from: u32) -> Option<u32>
         requires { from ≤ MOST_CHUNKS }
-        ensures { MatchOption result ((i : ℕ) → from ≤ i → slice_index_or self.now.chunks i None ≡ None)
+        ensures { MatchOption result ((i : ℕ) → from ≤ i
+            → slice_index_or self.now.chunks i None ≡ None)
             (λ i. IsUsedFrom self.now.chunks from i) }
     {
         self.area.next_used(from)
@@ -218,7 +219,8 @@ impl<G: Segment> SizedArea<G> {
 
     /// The bytes of `count` chunks in use from chunk `from` on, each as long as its class allows: in version 1 those of the chunks.
     pub(crate) fn run_bytes(&self, from: u32, count: u32) -> &[u8]
-        requires within { from * size self.now.exponent + count * size self.now.exponent ≤ SEGMENT_BYTES }
+        requires within { from * size self.now.exponent + count * size self.now.exponent
+            ≤ SEGMENT_BYTES }
         requires used { IsUsedRun self.now.chunks from count }
         ensures { self.now.version ≡ One
             → result.now ≡ flat_map (λ i.
@@ -272,7 +274,8 @@ impl<G: Segment> SizedArea<G> {
         requires target { FitsIn (slice_index_or self.old.chunks i None) len }
         ensures copied { MatchOption (slice_index_or source.now.chunks j None) ⊥
             (λ bytes. MatchOption (slice_index_or self.old.chunks i None) ⊥
-            (λ old. self.new ≡ area_with_chunk self.old i (Some (splice 0 (take len bytes) old)) true)) }
+            (λ old. self.new ≡ area_with_chunk self.old i
+            (Some (splice 0 (take len bytes) old)) true)) }
         ensures valid { IsSizedArea self.new }
     {
         self.write(i, 0, source.front(j, len));
@@ -283,7 +286,8 @@ impl<G: Segment> SizedArea<G> {
         requires some { 0 < len }
         requires within { FitsIn (slice_index_or self.old.chunks i None) (at + len) }
         ensures filled { MatchOption (slice_index_or self.old.chunks i None) ⊥
-            (λ old. self.new ≡ area_with_chunk self.old i (Some (splice at (replicate len byte) old)) true) }
+            (λ old. self.new ≡ area_with_chunk self.old i
+            (Some (splice at (replicate len byte) old)) true) }
         ensures valid { IsSizedArea self.new }
     {
         if len as usize <= SMALL_BLOCK {
@@ -335,7 +339,8 @@ impl<G: Segment> SizedArea<G> {
 
     /// No chunk is touched.
     pub(crate) fn clear_touched(&mut self)
-        ensures cleared { self.new ≡ record self.old { touched = replicate (length self.old.touched) false } }
+        ensures cleared { self.new
+            ≡ record self.old { touched = replicate (length self.old.touched) false } }
         ensures valid { IsSizedArea self.new }
     {
         self.area.clear_dirty();
@@ -378,7 +383,8 @@ impl<G: Segment> SizedArea<G> {
     pub(crate) fn load(&mut self, packed: &Bits, wanted: &Bits, body: &[u8])
         requires body { IsBody self.old.version self.old.exponent packed.now body.now }
         requires wanted { (i : ℕ) → IsSet wanted.now i → IsSet packed.now i }
-        ensures loaded { (f : ℕ → List ℕ) → IsBodyOf self.old.version self.old.exponent packed.now body.now f
+        ensures loaded { (f : ℕ → List ℕ)
+            → IsBodyOf self.old.version self.old.exponent packed.now body.now f
             → IsLoadedSizedArea self.old self.new wanted.now f }
         ensures valid { IsSizedArea self.new }
     {
@@ -392,9 +398,12 @@ impl<G: Segment> SizedArea<G> {
     /// no more.
     pub(crate) fn fetch(&mut self, packed: &Bits, body: &[u8])
         requires body { IsBody self.old.version self.old.exponent packed.now body.now }
-        ensures same { self.new ≡ record self.old { chunks = self.new.chunks; touched = self.new.touched } }
-        ensures fetched { (f : ℕ → List ℕ) → IsBodyOf self.old.version self.old.exponent packed.now body.now f
-            → (i : ℕ) → area_chunk self.new i ≡ fetched (packed_at packed.now f i) (area_chunk self.old i) }
+        ensures same { self.new
+            ≡ record self.old { chunks = self.new.chunks; touched = self.new.touched } }
+        ensures fetched { (f : ℕ → List ℕ)
+            → IsBodyOf self.old.version self.old.exponent packed.now body.now f
+            → (i : ℕ) → area_chunk self.new i
+            ≡ fetched (packed_at packed.now f i) (area_chunk self.old i) }
         ensures valid { IsSizedArea self.new }
     {
         let wanted = self.wanted_of(packed);
@@ -429,8 +438,10 @@ impl<G: Segment> SizedArea<G> {
     /// and has in version 2 all bytes of its class.
     pub(crate) fn shape(&mut self, use_bytes: &[u8])
         requires len { length use_bytes.now ≡ max 1 (per self.old.exponent / 8) }
-        requires below { (i : ℕ) → IsSet (bits_of_bytes use_bytes.now) i → i < per self.old.exponent }
-        ensures same { self.new ≡ record self.old { chunks = self.new.chunks; touched = self.new.touched } }
+        requires below { (i : ℕ) → IsSet (bits_of_bytes use_bytes.now) i
+            → i < per self.old.exponent }
+        ensures same { self.new
+            ≡ record self.old { chunks = self.new.chunks; touched = self.new.touched } }
         ensures shaped { (i : ℕ) → IsReshaped (bit_in (bits_of_bytes use_bytes.now) i)
             (area_chunk self.old i) (area_chunk self.new i) }
         ensures valid { IsSizedArea self.new }
@@ -459,7 +470,8 @@ impl<G: Segment> SizedArea<G> {
 /// Notes `len` as the length of each of these chunks.
 fn note_all(lengths: &mut Lengths, chunks: &Bits, len: u32)
     requires { length chunks.now ≡ MOST_CHUNKS }
-    ensures with_length { (i : ℕ) → IsSet chunks.now i → slice_index lengths.new.table.items i ≡ len }
+    ensures with_length { (i : ℕ) → IsSet chunks.now i
+        → slice_index lengths.new.table.items i ≡ len }
     ensures valid_shelf { (i : ℕ) → IsClear chunks.now i
         → slice_index lengths.new.table.items i ≡ slice_index lengths.old.table.items i }
 {
