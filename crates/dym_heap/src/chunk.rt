@@ -13,7 +13,7 @@ ghost use Rattle.dym_heap.specs.Table.{row_index, chunk_at, live_of, state_of};
 ghost use Rattle.dym_heap.specs.Shelves.{ShelfMeaning, IsTidy, IsValidShelf, Keeps, FitsIn, Copied};
 
 use crate::found::Found;
-use crate::fresh::take_fresh;
+use crate::fresh_chunk::take_fresh;
 use crate::shelf::Shelf;
 use dym_base::limits::{GREATEST_EXPONENT, LEAST_EXPONENT};
 use dym_base::{Handle, Refusal, Version};

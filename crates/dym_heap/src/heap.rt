@@ -18,18 +18,18 @@ ghost use Rattle.dym_heap.specs.Fetches.{heap_chunk, marked, fetched, IsReshaped
 ghost use Rattle.dym_heap.specs.Touches.{all_touched};
 ghost use Rattle.dym_heap.specs.Replies.{step_of, stepped, done_reply, chunk_reply, moved_reply, bytes_reply, found_reply, total_reply, after_key, IsNextLive};
 
+use crate::byte_sum::sum_bytes;
 use crate::chunk::{
     bytes_of_handle, check_chunk, fill_chunk, find_number, free_handle, len_of_handle, move_chunk,
     resize_chunk, write_chunk,
 };
 use crate::found::Found;
-use crate::fresh::take_fresh;
+use crate::fresh_chunk::take_fresh;
 use crate::live_walk::next_from;
 use crate::record_fetch::{fetch_record, mark_record};
 use crate::record_load::load_record;
-use crate::shape::shape_shelf;
+use crate::record_shape::shape_shelf;
 use crate::shelf::Shelf;
-use crate::sum::sum_bytes;
 use dym_base::limits::MOST_QUOTA;
 use dym_base::{Handle, Refusal, Version, class_of, size_of_class};
 use dym_pack::Record;

@@ -9,25 +9,25 @@
 #![tactic(auto)]
 
 mod address;
-mod apply;
 mod area_order;
 mod areas;
+mod byte_sum;
 mod chunk;
 mod chunk_load;
 mod chunk_location;
+mod command_run;
 mod found;
-mod fresh;
+mod fresh_chunk;
 mod heap;
 pub mod laws;
 mod lengths;
 mod live_walk;
 mod record_fetch;
 mod record_load;
+mod record_shape;
 pub mod replies;
-mod shape;
 mod shelf;
 mod sized_area;
-mod sum;
 
 pub use found::Found;
 pub use heap::Heap;

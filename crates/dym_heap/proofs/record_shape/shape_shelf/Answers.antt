@@ -5,7 +5,7 @@ use Rattle.dym_base.specs.Numbers.{per}
 use Rattle.dym_heap.specs.Table.{state_of}
 use Rattle.dym_heap.proofs.Reshapes as reshapes
 use Rattle.dym_heap.proofs.Fitting as fit
-use Rattle.dym_heap.proofs.shape.shape_shelf.Goals as goal
+use Rattle.dym_heap.proofs.record_shape.shape_shelf.Goals as goal
 
 pub take_areas-requires-clause-within : goal.take_areas-requires-clause-within
 take_areas-requires-clause-within g c =

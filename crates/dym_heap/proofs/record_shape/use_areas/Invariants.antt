@@ -6,7 +6,7 @@ use Rattle.dym_heap.specs.ShapeSteps.{HasAreas}
 use Rattle.dym_heap.specs.Table.{state_of}
 use Rattle.dym_heap.proofs.AreaSteps.{UpTo}
 use Rattle.dym_heap.proofs.Reshapes.{Reshaped}
-use Rattle.dym_heap.proofs.shape.use_areas.Given as goal
+use Rattle.dym_heap.proofs.record_shape.use_areas.Given as goal
 
 abbrev pub invariant-loop-k : goal.invariant-loop-k
 invariant-loop-k g l = record {

@@ -1,7 +1,7 @@
 use Rattle.std.proofs.Common.{arith, length, ap}
 use Rattle.dym_heap.specs.Shelves.{ShelfMeaning}
 use Rattle.dym_heap.proofs.Taking.{took_first, took_later, held_first, held_full, grown_free_later}
-use Rattle.dym_heap.proofs.fresh.take_fresh.Goals as goal
+use Rattle.dym_heap.proofs.fresh_chunk.take_fresh.Goals as goal
 
 pub returns-in-Some-clause-answer : goal.returns-in-Some-clause-answer
 returns-in-Some-clause-answer g c =

@@ -6,7 +6,7 @@ use Rattle.dym_pack.specs.Areas.{area_at}
 use Rattle.dym_heap.specs.Fetches.{IsReshaped}
 use Rattle.dym_heap.proofs.Fitting as fit
 use Rattle.dym_heap.proofs.Fetches as fetches
-use Rattle.dym_heap.proofs.shape.use_area.Goals as goal
+use Rattle.dym_heap.proofs.record_shape.use_area.Goals as goal
 
 pub shape_area-requires-clause-area : goal.shape_area-requires-clause-area
 shape_area-requires-clause-area g c =

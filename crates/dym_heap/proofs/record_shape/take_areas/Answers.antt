@@ -2,7 +2,7 @@ use Rattle.std.proofs.Common.{arith, ap, get_or, ◌-◌, ◌∙◌}
 use Rattle.std.proofs.lemmas.Nat.{pow_pos}
 use Rattle.dym_heap.proofs.Counts.{room_left}
 use Rattle.dym_heap.proofs.Fitting as fit
-use Rattle.dym_heap.proofs.shape.take_areas.Goals as goal
+use Rattle.dym_heap.proofs.record_shape.take_areas.Goals as goal
 
 pub add_area-requires-clause-room : goal.add_area-requires-clause-room
 add_area-requires-clause-room g c =

@@ -4,7 +4,7 @@ use Rattle.dym_heap.specs.Table.{state_of}
 use Rattle.dym_heap.proofs.AreaSteps as steps
 use Rattle.dym_heap.proofs.AreaSteps.{UpTo}
 use Rattle.dym_heap.proofs.Reshapes as reshapes
-use Rattle.dym_heap.proofs.shape.use_areas.Goals as goal
+use Rattle.dym_heap.proofs.record_shape.use_areas.Goals as goal
 
 pub use_area-requires-clause-area : goal.use_area-requires-clause-area
 use_area-requires-clause-area g c = λ log is e. let n = c.area_count-k-end.ensures.count log is e in let t = c.loop-k-test.true in omega arith

@@ -1,5 +1,5 @@
 use Rattle.dym_heap.proofs.Counts.{Counted}
-use Rattle.dym_heap.proofs.shape.count_areas.Given as goal
+use Rattle.dym_heap.proofs.record_shape.count_areas.Given as goal
 
 abbrev pub invariant-loop-k : goal.invariant-loop-k
 invariant-loop-k l = record { counted : Counted l.rec l.counts l.k }

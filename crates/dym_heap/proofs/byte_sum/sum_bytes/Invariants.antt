@@ -1,5 +1,5 @@
 use Rattle.std.proofs.Common.{◌≡◌, ◌*◌, ◌≤◌, sum, take}
-use Rattle.dym_heap.proofs.sum.sum_bytes.Given as goal
+use Rattle.dym_heap.proofs.byte_sum.sum_bytes.Given as goal
 
 abbrev pub invariant-loop-byte : goal.invariant-loop-byte
 invariant-loop-byte l = record {

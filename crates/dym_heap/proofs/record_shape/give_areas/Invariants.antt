@@ -2,7 +2,7 @@ use Rattle.std.proofs.Common.{ℕ, ◌+◌, ◌-◌, ◌≤◌, ◌<◌, length,
 use Rattle.dym_heap.specs.Table.{row_at}
 use Rattle.dym_heap.specs.Shelves.{IsValidShelf, Keeps}
 use Rattle.dym_heap.specs.ShapeSteps.{HasAtMost, AgreeTo}
-use Rattle.dym_heap.proofs.shape.give_areas.Given as goal
+use Rattle.dym_heap.proofs.record_shape.give_areas.Given as goal
 
 abbrev pub invariant-loop-exp : goal.invariant-loop-exp
 invariant-loop-exp g l = record {

@@ -4,7 +4,7 @@ use Rattle.dym_heap.specs.Table.{row_at}
 use Rattle.dym_heap.specs.Shelves.{IsValidShelf, Keeps}
 use Rattle.dym_heap.specs.ShapeSteps.{HasAreas, HasAtMost}
 use Rattle.dym_heap.specs.Fetches.{row_chunk}
-use Rattle.dym_heap.proofs.shape.take_areas.Given as goal
+use Rattle.dym_heap.proofs.record_shape.take_areas.Given as goal
 
 abbrev pub invariant-loop-exp : goal.invariant-loop-exp
 invariant-loop-exp g l = record {

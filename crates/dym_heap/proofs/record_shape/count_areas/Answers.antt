@@ -5,7 +5,7 @@ use Rattle.dym_pack.specs.Areas.{AreaName}
 use Rattle.dym_heap.proofs.AreaLists.{named}
 use Rattle.dym_heap.proofs.RecordLoads.{class_low, class_high}
 use Rattle.dym_heap.proofs.Counts as counts
-use Rattle.dym_heap.proofs.shape.count_areas.Goals as goal
+use Rattle.dym_heap.proofs.record_shape.count_areas.Goals as goal
 
 -- the greater of two, as the code takes it
 greater : (x a b : ℕ) → x ≡ ord_max nat_cmp a b → x ≡ max a b
