@@ -37,33 +37,31 @@ made_live c d s n inside is kept t m live past =
       | inr q ↦ sym q.1 ∙ now
     ]
 
+-- the slots after a step
+slots_of : {c d : Core} → d ≡ c → d.slots ≡ c.slots
+slots_of after = ap (λ (x : Core). x.slots) after
+
 -- where no slot changes
 unchanged : (c d : Core) → d.slots ≡ c.slots → (t : ℕ) → state_of d t ≡ state_of c t
 unchanged c d is t = ap (λ (xs : List Slot). get_or xs t Free) is
 
 pub past_was_past : (e : Event) (c d : Core) → Step e c d → Facts c → (t m : ℕ) → state_of d t ≡ Live m → m < c.sweeper.root_seen → state_of c t ≡ Live m
-past_was_past (OwnerLook s) c d h f t m live past = sym (unchanged c d (ap (λ (x : Core). x.slots) h.after) t) ∙ live
-past_was_past (OwnerClaim s) c d h f t m live past = unlive c d s (OutOwner c.owner.next) h.exists (ap (λ (x : Core). x.slots) h.after) (λ k e. cc) t m live
-past_was_past (OwnerTake s) c d h f t m live past = unlive c d s (OutOwner h.number) (inside_live c s h.number h.live) (ap (λ (x : Core). x.slots) h.after) (λ k e. cc) t m live
-past_was_past (OwnerEmpty s) c d h f t m live past = sym (unchanged c d (ap (λ (x : Core). x.slots) h.after) t) ∙ live
-past_was_past (OwnerFill s n) c d h f t m live past = sym (unchanged c d (ap (λ (x : Core). x.slots) h.after) t) ∙ live
+past_was_past (OwnerClaim s) c d h f t m live past = unlive c d s (OutOwner c.owner.next) h.exists (slots_of h.after) (λ k e. cc) t m live
+past_was_past (OwnerTake s) c d h f t m live past = unlive c d s (OutOwner h.number) (inside_live c s h.number h.live) (slots_of h.after) (λ k e. cc) t m live
 past_was_past (OwnerPut s) c d h f t m live past =
     let a = f.seen in
     let b = f.list.root_below_next in
-    made_live c d s c.owner.next (inside_owner c s h.number h.out) (ap (λ (x : Core). x.slots) h.after) (omega arith) t m live past
+    made_live c d s c.owner.next (inside_owner c s h.number h.out) (slots_of h.after) (omega arith) t m live past
 past_was_past (OwnerLower s) c d h f t m live past =
     let a = f.seen in
     let b = f.list.from_root h.listed.0 h.number h.listed.1 in
-    made_live c d s h.number (inside_owner c s h.number h.out) (ap (λ (x : Core). x.slots) h.after) (omega arith) t m live past
-past_was_past (OwnerFree s) c d h f t m live past = unlive c d s Free (inside_owner c s h.number h.out) (ap (λ (x : Core). x.slots) h.after) (λ k e. cc) t m live
-past_was_past (OwnerRaise n) c d h f t m live past = sym (unchanged c d (ap (λ (x : Core). x.slots) h.after) t) ∙ live
-past_was_past SweeperRoot c d h f t m live past = sym (unchanged c d (ap (λ (x : Core). x.slots) h.after) t) ∙ live
-past_was_past (SweeperLook s) c d h f t m live past = sym (unchanged c d (ap (λ (x : Core). x.slots) h.after) t) ∙ live
-past_was_past (SweeperGrab s) c d h f t m live past = unlive c d s (OutSweeper h.number) (inside_live c s h.number h.live) (ap (λ (x : Core). x.slots) h.after) (λ k e. cc) t m live
-past_was_past (SweeperEmpty s) c d h f t m live past = sym (unchanged c d (ap (λ (x : Core). x.slots) h.after) t) ∙ live
+    made_live c d s h.number (inside_owner c s h.number h.out) (slots_of h.after) (omega arith) t m live past
+past_was_past (OwnerFree s) c d h f t m live past = unlive c d s Free (inside_owner c s h.number h.out) (slots_of h.after) (λ k e. cc) t m live
+past_was_past (SweeperGrab s) c d h f t m live past = unlive c d s (OutSweeper h.number) (inside_live c s h.number h.live) (slots_of h.after) (λ k e. cc) t m live
 past_was_past (SweeperFree s) c d h f t m live past =
     let out = f.sweeper.out s h.holds in
-    unlive c d s Free (inside_sweeper c s out.0 out.1) (ap (λ (x : Core). x.slots) h.after) (λ k e. cc) t m live
+    unlive c d s Free (inside_sweeper c s out.0 out.1) (slots_of h.after) (λ k e. cc) t m live
+past_was_past _ c d h f t m live past = sym (unchanged c d (slots_of h.after) t) ∙ live
 
 -- The owner's note
 
@@ -93,6 +91,10 @@ elsewhere s c d was same l = record {
 other_slots : (s : ℕ) (w : Slot) (c d : Core) → d.slots ≡ set c.slots s w → (t : ℕ) → t ≢ s → state_of d t ≡ state_of c t
 other_slots s w c d is t other = ap (λ (xs : List Slot). get_or xs t Free) is ∙ get_or-set_other c.slots s t w Free other
 
+-- a step that writes the slot s keeps a look at another one
+moved : (s : ℕ) (w : Slot) (a b : Noted) → b.core.slots ≡ set a.core.slots s w → b.owner ≡ forget s a.owner → LookStands a.owner a.core → LookStands b.owner b.core
+moved s w a b is note l = rw note (elsewhere s a.core b.core a.owner (other_slots s w a.core b.core is) l)
+
 still : (c d : Core) (was : OwnerNote) → d.slots ≡ c.slots → LookStands was c → LookStands was d
 still c d was is l = record {
   free = λ t e. unchanged c d is t ∙ l.free t e;
@@ -101,7 +103,7 @@ still c d was is l = record {
 
 look_stands : (e : Event) (a b : Noted) → NotedStep e a b → Facts a.core → LookStands a.owner a.core → LookStands b.owner b.core
 look_stands (OwnerLook s) a b h f l =
-    let is : b.core.slots ≡ a.core.slots = ap (λ (x : Core). x.slots) h.step.after in
+    let is : b.core.slots ≡ a.core.slots = slots_of h.step.after in
     let seen : (t : ℕ) (w : Slot) → b.owner ≡ Some (record { slot = t; found = w }) → state_of b.core t ≡ w = λ t w e.
     let both : Some (record { slot = s; found = state_of a.core s }) ≡ Some (record { slot = t; found = w }) = sym h.owner ∙ e in
     let look : record { slot = s; found = state_of a.core s } ≡ record { slot = t; found = w } = cc in
@@ -109,33 +111,30 @@ look_stands (OwnerLook s) a b h f l =
     let found : state_of a.core s ≡ w = ap (λ (x : Look). x.found) look in
     unchanged a.core b.core is t ∙ (rw (← slot) found) in
     record { free = λ t e. seen t Free e; live = λ t n e. inl (seen t (Live n) e) }
-look_stands (OwnerClaim s) a b h f l = rw h.owner (elsewhere s a.core b.core a.owner (other_slots s (OutOwner a.core.owner.next) a.core b.core (ap (λ (x : Core). x.slots) h.step.after)) l)
-look_stands (OwnerTake s) a b h f l = rw h.owner (elsewhere s a.core b.core a.owner (other_slots s (OutOwner h.step.number) a.core b.core (ap (λ (x : Core). x.slots) h.step.after)) l)
-look_stands (OwnerEmpty s) a b h f l = rw h.owner (elsewhere s a.core b.core a.owner (λ t other. unchanged a.core b.core (ap (λ (x : Core). x.slots) h.step.after) t) l)
-look_stands (OwnerFill s n) a b h f l = rw h.owner (elsewhere s a.core b.core a.owner (λ t other. unchanged a.core b.core (ap (λ (x : Core). x.slots) h.step.after) t) l)
-look_stands (OwnerPut s) a b h f l = rw h.owner (elsewhere s a.core b.core a.owner (other_slots s (Live a.core.owner.next) a.core b.core (ap (λ (x : Core). x.slots) h.step.after)) l)
-look_stands (OwnerLower s) a b h f l = rw h.owner (elsewhere s a.core b.core a.owner (other_slots s (Live h.step.number) a.core b.core (ap (λ (x : Core). x.slots) h.step.after)) l)
-look_stands (OwnerFree s) a b h f l = rw h.owner (elsewhere s a.core b.core a.owner (other_slots s Free a.core b.core (ap (λ (x : Core). x.slots) h.step.after)) l)
-look_stands (OwnerRaise n) a b h f l = rw h.owner (still a.core b.core a.owner (ap (λ (x : Core). x.slots) h.step.after) l)
-look_stands SweeperRoot a b h f l = rw h.owner (still a.core b.core a.owner (ap (λ (x : Core). x.slots) h.step.after) l)
-look_stands (SweeperLook s) a b h f l = rw h.owner (still a.core b.core a.owner (ap (λ (x : Core). x.slots) h.step.after) l)
+look_stands (OwnerClaim s) a b h f l = moved s _ a b (slots_of h.step.after) h.owner l
+look_stands (OwnerTake s) a b h f l = moved s _ a b (slots_of h.step.after) h.owner l
+look_stands (OwnerEmpty s) a b h f l = rw h.owner (elsewhere s a.core b.core a.owner (λ t other. unchanged a.core b.core (slots_of h.step.after) t) l)
+look_stands (OwnerFill s n) a b h f l = rw h.owner (elsewhere s a.core b.core a.owner (λ t other. unchanged a.core b.core (slots_of h.step.after) t) l)
+look_stands (OwnerPut s) a b h f l = moved s _ a b (slots_of h.step.after) h.owner l
+look_stands (OwnerLower s) a b h f l = moved s _ a b (slots_of h.step.after) h.owner l
+look_stands (OwnerFree s) a b h f l = moved s _ a b (slots_of h.step.after) h.owner l
 look_stands (SweeperGrab s) a b h f l =
-    let is : b.core.slots ≡ set a.core.slots s (OutSweeper h.step.number) = ap (λ (x : Core). x.slots) h.step.after in
+    let is : b.core.slots ≡ set a.core.slots s (OutSweeper h.step.number) = slots_of h.step.after in
     let at : (t : ℕ) → ((t ≡ s) × (state_of b.core t ≡ OutSweeper h.step.number)) ⊎ ((t ≢ s) × (state_of b.core t ≡ state_of a.core t)) = λ t. rw is (written a.core.slots s t (OutSweeper h.step.number) Free (inside_live a.core s h.step.number h.step.live)) in
     let live = h.step.live in
     rw h.owner (record {
       free = λ t e. let was = l.free t e in let x = at t in grind arith;
       live = λ t n e. let was = l.live t n e in let x = at t in grind arith;
     })
-look_stands (SweeperEmpty s) a b h f l = rw h.owner (still a.core b.core a.owner (ap (λ (x : Core). x.slots) h.step.after) l)
 look_stands (SweeperFree s) a b h f l =
-    let is : b.core.slots ≡ set a.core.slots s Free = ap (λ (x : Core). x.slots) h.step.after in
+    let is : b.core.slots ≡ set a.core.slots s Free = slots_of h.step.after in
     let out = f.sweeper.out s h.step.holds in
     let at : (t : ℕ) → ((t ≡ s) × (state_of b.core t ≡ Free)) ⊎ ((t ≢ s) × (state_of b.core t ≡ state_of a.core t)) = λ t. rw is (written a.core.slots s t Free Free (inside_sweeper a.core s out.0 out.1)) in
     rw h.owner (record {
       free = λ t e. let was = l.free t e in let x = at t in grind arith;
       live = λ t n e. let was = l.live t n e in let x = at t in grind arith;
     })
+look_stands _ a b h f l = rw h.owner (still a.core b.core a.owner (slots_of h.step.after) l)
 
 -- The sweeper's note
 
@@ -149,22 +148,13 @@ found_kept e a b step f note clean seen stands n m found live past =
     stands n m (sym note ∙ found) (past_was_past e a.core b.core step f a.core.sweeper.clean m live' past') past'
 
 found_stands : (e : Event) (a b : Noted) → NotedStep e a b → Facts a.core → FoundStands a.sweeper a.core → FoundStands b.sweeper b.core
-found_stands (OwnerLook s) a b h f g = found_kept (OwnerLook s) a b h.step f (ap (λ (x : SweeperNote). x.found) h.sweeper) (ap (λ (x : Core). x.sweeper.clean) h.step.after) (ap (λ (x : Core). x.sweeper.root_seen) h.step.after) g
-found_stands (OwnerClaim s) a b h f g = found_kept (OwnerClaim s) a b h.step f (ap (λ (x : SweeperNote). x.found) h.sweeper) (ap (λ (x : Core). x.sweeper.clean) h.step.after) (ap (λ (x : Core). x.sweeper.root_seen) h.step.after) g
-found_stands (OwnerTake s) a b h f g = found_kept (OwnerTake s) a b h.step f (ap (λ (x : SweeperNote). x.found) h.sweeper) (ap (λ (x : Core). x.sweeper.clean) h.step.after) (ap (λ (x : Core). x.sweeper.root_seen) h.step.after) g
-found_stands (OwnerEmpty s) a b h f g = found_kept (OwnerEmpty s) a b h.step f (ap (λ (x : SweeperNote). x.found) h.sweeper) (ap (λ (x : Core). x.sweeper.clean) h.step.after) (ap (λ (x : Core). x.sweeper.root_seen) h.step.after) g
-found_stands (OwnerFill s k) a b h f g = found_kept (OwnerFill s k) a b h.step f (ap (λ (x : SweeperNote). x.found) h.sweeper) (ap (λ (x : Core). x.sweeper.clean) h.step.after) (ap (λ (x : Core). x.sweeper.root_seen) h.step.after) g
-found_stands (OwnerPut s) a b h f g = found_kept (OwnerPut s) a b h.step f (ap (λ (x : SweeperNote). x.found) h.sweeper) (ap (λ (x : Core). x.sweeper.clean) h.step.after) (ap (λ (x : Core). x.sweeper.root_seen) h.step.after) g
-found_stands (OwnerLower s) a b h f g = found_kept (OwnerLower s) a b h.step f (ap (λ (x : SweeperNote). x.found) h.sweeper) (ap (λ (x : Core). x.sweeper.clean) h.step.after) (ap (λ (x : Core). x.sweeper.root_seen) h.step.after) g
-found_stands (OwnerFree s) a b h f g = found_kept (OwnerFree s) a b h.step f (ap (λ (x : SweeperNote). x.found) h.sweeper) (ap (λ (x : Core). x.sweeper.clean) h.step.after) (ap (λ (x : Core). x.sweeper.root_seen) h.step.after) g
-found_stands (OwnerRaise k) a b h f g = found_kept (OwnerRaise k) a b h.step f (ap (λ (x : SweeperNote). x.found) h.sweeper) (ap (λ (x : Core). x.sweeper.clean) h.step.after) (ap (λ (x : Core). x.sweeper.root_seen) h.step.after) g
 found_stands SweeperRoot a b h f g = λ n m found live past.
     let none : b.sweeper.found ≡ None = ap (λ (x : SweeperNote). x.found) h.sweeper in
     let wrong : None ≡ Some n = sym none ∙ found in cc
 found_stands (SweeperLook s) a b h f g = λ n m found live past.
     let note : b.sweeper.found ≡ (if is_retired a.core.sweeper.root_seen (state_of a.core s) then live_number (state_of a.core s) else None) = ap (λ (x : SweeperNote). x.found) h.sweeper in
     let clean : b.core.sweeper.clean ≡ (if is_retired a.core.sweeper.root_seen (state_of a.core s) then a.core.sweeper.clean else (a.core.sweeper.clean + 1)) = ap (λ (x : Core). x.sweeper.clean) h.step.after in
-    let same : state_of b.core s ≡ state_of a.core s = unchanged a.core b.core (ap (λ (x : Core). x.slots) h.step.after) s in
+    let same : state_of b.core s ≡ state_of a.core s = unchanged a.core b.core (slots_of h.step.after) s in
     looked_stands a.core.sweeper.root_seen (state_of a.core s) n m s a.core.sweeper.clean b.core.sweeper.clean h.step.in_turn clean (sym note ∙ found)
     (λ here. sym same ∙ (rw here at live))
   where
@@ -178,8 +168,6 @@ found_stands (SweeperLook s) a b h f g = λ n m found live past.
               cc
           | false ↦ λ rises number. absurd cc
         ] is note
-found_stands (SweeperGrab s) a b h f g = found_kept (SweeperGrab s) a b h.step f (ap (λ (x : SweeperNote). x.found) h.sweeper) (ap (λ (x : Core). x.sweeper.clean) h.step.after) (ap (λ (x : Core). x.sweeper.root_seen) h.step.after) g
-found_stands (SweeperEmpty s) a b h f g = found_kept (SweeperEmpty s) a b h.step f (ap (λ (x : SweeperNote). x.found) h.sweeper) (ap (λ (x : Core). x.sweeper.clean) h.step.after) (ap (λ (x : Core). x.sweeper.root_seen) h.step.after) g
 found_stands (SweeperFree s) a b h f g = elim (cases_eq s a.core.sweeper.clean) [
   | inl same ↦ λ n m found live past.
       let hit : nat_eq s a.core.sweeper.clean ≡ true = grind (arith, nat_tests) in
@@ -192,6 +180,8 @@ found_stands (SweeperFree s) a b h f g = elim (cases_eq s a.core.sweeper.clean) 
       let clean : b.core.sweeper.clean ≡ (if nat_eq s a.core.sweeper.clean then (a.core.sweeper.clean + 1) else a.core.sweeper.clean) = ap (λ (x : Core). x.sweeper.clean) h.step.after in
       found_kept (SweeperFree s) a b h.step f (rw miss at note) (rw miss at clean) (ap (λ (x : Core). x.sweeper.root_seen) h.step.after) g
 ]
+found_stands e a b h f g =
+    found_kept e a b h.step f (ap (λ (x : SweeperNote). x.found) h.sweeper) (ap (λ (x : Core). x.sweeper.clean) h.step.after) (ap (λ (x : Core). x.sweeper.root_seen) h.step.after) g
 
 pub step_keeps_notes : (e : Event) (a b : Noted) → NotedStep e a b → Facts a.core → NotesStand a → NotesStand b
 step_keeps_notes e a b h f stand = record { look = look_stands e a b h f stand.look; found = found_stands e a b h f stand.found }
@@ -202,36 +192,12 @@ counted : {X : Type 0} (p : X → Bool) (x : X) (xs : List X) → length (filter
 counted p x xs = elim (p x) as (λ b. length (cond b (x ∷ filter p xs) (filter p xs)) ≡ cond b 1 0 + length (filter p xs)) [ true ↦ omega arith | false ↦ omega arith ]
 
 rounds_step : (e : Event) (a b : Noted) → NotedStep e a b → b.sweeper.rounds ≡ a.sweeper.rounds + cond (is_round e) 1 0
-rounds_step (OwnerLook s) a b h = let is = ap (λ (x : SweeperNote). x.rounds) h.sweeper in omega arith
-rounds_step (OwnerClaim s) a b h = let is = ap (λ (x : SweeperNote). x.rounds) h.sweeper in omega arith
-rounds_step (OwnerTake s) a b h = let is = ap (λ (x : SweeperNote). x.rounds) h.sweeper in omega arith
-rounds_step (OwnerEmpty s) a b h = let is = ap (λ (x : SweeperNote). x.rounds) h.sweeper in omega arith
-rounds_step (OwnerFill s n) a b h = let is = ap (λ (x : SweeperNote). x.rounds) h.sweeper in omega arith
-rounds_step (OwnerPut s) a b h = let is = ap (λ (x : SweeperNote). x.rounds) h.sweeper in omega arith
-rounds_step (OwnerLower s) a b h = let is = ap (λ (x : SweeperNote). x.rounds) h.sweeper in omega arith
-rounds_step (OwnerFree s) a b h = let is = ap (λ (x : SweeperNote). x.rounds) h.sweeper in omega arith
-rounds_step (OwnerRaise n) a b h = let is = ap (λ (x : SweeperNote). x.rounds) h.sweeper in omega arith
 rounds_step SweeperRoot a b h = let is = ap (λ (x : SweeperNote). x.rounds) h.sweeper in omega arith
-rounds_step (SweeperLook s) a b h = let is = ap (λ (x : SweeperNote). x.rounds) h.sweeper in omega arith
-rounds_step (SweeperGrab s) a b h = let is = ap (λ (x : SweeperNote). x.rounds) h.sweeper in omega arith
-rounds_step (SweeperEmpty s) a b h = let is = ap (λ (x : SweeperNote). x.rounds) h.sweeper in omega arith
-rounds_step (SweeperFree s) a b h = let is = ap (λ (x : SweeperNote). x.rounds) h.sweeper in omega arith
+rounds_step _ a b h = let is = ap (λ (x : SweeperNote). x.rounds) h.sweeper in omega arith
 
 taken_back_step : (e : Event) (a b : Noted) → NotedStep e a b → b.sweeper.taken_back ≡ a.sweeper.taken_back + cond (is_taking_back e) 1 0
-taken_back_step (OwnerLook s) a b h = let is = ap (λ (x : SweeperNote). x.taken_back) h.sweeper in omega arith
-taken_back_step (OwnerClaim s) a b h = let is = ap (λ (x : SweeperNote). x.taken_back) h.sweeper in omega arith
-taken_back_step (OwnerTake s) a b h = let is = ap (λ (x : SweeperNote). x.taken_back) h.sweeper in omega arith
-taken_back_step (OwnerEmpty s) a b h = let is = ap (λ (x : SweeperNote). x.taken_back) h.sweeper in omega arith
-taken_back_step (OwnerFill s n) a b h = let is = ap (λ (x : SweeperNote). x.taken_back) h.sweeper in omega arith
-taken_back_step (OwnerPut s) a b h = let is = ap (λ (x : SweeperNote). x.taken_back) h.sweeper in omega arith
-taken_back_step (OwnerLower s) a b h = let is = ap (λ (x : SweeperNote). x.taken_back) h.sweeper in omega arith
-taken_back_step (OwnerFree s) a b h = let is = ap (λ (x : SweeperNote). x.taken_back) h.sweeper in omega arith
-taken_back_step (OwnerRaise n) a b h = let is = ap (λ (x : SweeperNote). x.taken_back) h.sweeper in omega arith
-taken_back_step SweeperRoot a b h = let is = ap (λ (x : SweeperNote). x.taken_back) h.sweeper in omega arith
-taken_back_step (SweeperLook s) a b h = let is = ap (λ (x : SweeperNote). x.taken_back) h.sweeper in omega arith
-taken_back_step (SweeperGrab s) a b h = let is = ap (λ (x : SweeperNote). x.taken_back) h.sweeper in omega arith
-taken_back_step (SweeperEmpty s) a b h = let is = ap (λ (x : SweeperNote). x.taken_back) h.sweeper in omega arith
 taken_back_step (SweeperFree s) a b h = let is = ap (λ (x : SweeperNote). x.taken_back) h.sweeper in omega arith
+taken_back_step _ a b h = let is = ap (λ (x : SweeperNote). x.taken_back) h.sweeper in omega arith
 
 -- what a list of steps keeps
 pub record RunKeeps (es : List Event) (a b : Noted) : Type 0 where

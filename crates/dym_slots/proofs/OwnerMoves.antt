@@ -197,21 +197,10 @@ takes_own count slots id me x idle has inside st holds len at fits =
 
 pub apart : (x y : Slot) → slot_word x ≡ slot_word y → x ≡ y
 apart Free Free e = refl
-apart Free (Live n) e = absurd (omega arith)
-apart Free (OutOwner n) e = absurd (omega arith)
-apart Free (OutSweeper n) e = absurd (omega arith)
-apart (Live m) Free e = absurd (omega arith)
 apart (Live m) (Live n) e = ap Live (omega arith)
-apart (Live m) (OutOwner n) e = absurd (omega arith)
-apart (Live m) (OutSweeper n) e = absurd (omega arith)
-apart (OutOwner m) Free e = absurd (omega arith)
-apart (OutOwner m) (Live n) e = absurd (omega arith)
 apart (OutOwner m) (OutOwner n) e = ap OutOwner (omega arith)
-apart (OutOwner m) (OutSweeper n) e = absurd (omega arith)
-apart (OutSweeper m) Free e = absurd (omega arith)
-apart (OutSweeper m) (Live n) e = absurd (omega arith)
-apart (OutSweeper m) (OutOwner n) e = absurd (omega arith)
 apart (OutSweeper m) (OutSweeper n) e = ap OutSweeper (omega arith)
+apart _ _ e = absurd (omega arith)
 
 pub takes_retired : (count slots id : ℕ) (me : Knowing) (s n : ℕ) → IsIdleOwner me → (owner_of me.0).look ≡ Some (glimpse s (Live n)) → s < count
     → Allows (Holds count) slots id me (s + 1) (λ k. either (k == 4 * n + 1) (4 * n + 2) k) (TookRetired (s + 1) me)

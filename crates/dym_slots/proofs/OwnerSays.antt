@@ -175,20 +175,6 @@ dropped_one order len next_number last me now after s lt left (older, x, is, new
     (sym is ∙ left.list_is ∙ take_more list last (record { entry = no_entry; bytes = [] }) (omega arith)) in
     record { idle = new.idle; list_is = new.list_is ∙ front; next = new.next ∙ left.next; remembered = new.remembered ∙ left.remembered }
 
-pub take_whole : (list : List Listed) (n : ℕ) → length list ≤ n → list ≡ take n list
-take_whole [] zero le = refl
-take_whole [] (suc n) le = refl
-take_whole (x ∷ xs) zero le = absurd (omega arith)
-take_whole (x ∷ xs) (suc n) le = ap (λ (l : List Listed). x ∷ l) (take_whole xs n (omega arith))
-
-pub all_left : (order : List Entry) (len next_number : ℕ) (me : Knowing) → Stands order len next_number me → IsIdleOwner me → HasLeft (take len (owner_of me.0).list) me me
-all_left order len next_number me s idle = record {
-  idle = idle;
-  list_is = take_whole (owner_of me.0).list len (let n = size_of_list order len next_number me s in omega arith);
-  next = refl;
-  remembered = refl;
-}
-
 take_less : (xs : List Entry) (kept len : ℕ) → kept ≤ len → take kept (take len xs) ≡ take kept xs
 take_less [] zero zero le = refl
 take_less [] zero (suc len) le = refl

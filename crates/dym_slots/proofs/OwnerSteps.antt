@@ -15,128 +15,66 @@ use Rattle.dym_slots.specs.declared.machine.Slot.TheVariants.{Free, Live, OutOwn
 use Rattle.dym_slots.specs.Slots.{Core, state_of, entry, IsEntry, IsListed}
 use Rattle.dym_slots.specs.SlotSteps.{OwnerLooks, OwnerClaims, OwnerTakes, OwnerEmpties, OwnerFills, OwnerPuts, OwnerLowers, OwnerFrees, OwnerRaises, remember, without, from_number}
 use Rattle.dym_slots.specs.SlotFacts.{Facts, RememberedIsPast, IsSwept}
-use Rattle.dym_slots.proofs.SlotPlaces.{written, inside_live, inside_owner, one_slot, remembered_kept, from_filter, into_filter}
+use Rattle.dym_slots.proofs.SlotPlaces.{written, inside_live, inside_owner, one_slot, list_kept, sweeper_kept, home_keeps, remembered_kept, from_filter, into_filter}
 
-pub claim_keeps : (s : ℕ) (c d : Core) → OwnerClaims s c d → Facts c → Facts d
-claim_keeps s c d h f =
-    let at : (t : ℕ) → ((t ≡ s) × (get_or (set c.slots s (OutOwner c.owner.next)) t Free ≡ OutOwner c.owner.next)) ⊎ ((t ≢ s) × (get_or (set c.slots s (OutOwner c.owner.next)) t Free ≡ get_or c.slots t Free)) = λ t. written c.slots s t (OutOwner c.owner.next) Free (h.exists) in
-    let idle = h.idle in
-    let free = h.free in
-    subst Facts (sym h.after) record {
-      homes = f.homes ∙ sym (length-set c.slots s (OutOwner c.owner.next));
-      list = record { numbers_rise = f.list.numbers_rise; slots_differ = f.list.slots_differ; from_root = f.list.from_root; below_next = f.list.below_next; root_below_next = f.list.root_below_next };
+-- a slot that was Live, or Free and takes the next number, goes out with the owner
+out_keeps : (c : Core) (s n : ℕ) → s < length c.slots → c.owner.out ≡ None → (state_of c s ≡ Live n) ⊎ ((state_of c s ≡ Free) × (n ≡ c.owner.next)) → Facts c
+    → Facts (record c { slots = set c.slots s (OutOwner n); owner = record c.owner { out = Some s } })
+out_keeps c s n inside idle was f =
+    let at = λ (t : ℕ). written c.slots s t (OutOwner n) Free inside in
+    let known : IsEntry c s n ⊎ ((n < c.root) ⊎ (n ≡ c.owner.next)) = elim was [
+      | inl live ↦ elim (f.live.listed_or_retired s n live) [ inl e ↦ inl e | inr lt ↦ inr (inl lt) ]
+      | inr new ↦ inr (inr new.1)
+    ] in
+    record {
+      homes = f.homes ∙ sym (length-set c.slots s (OutOwner n));
+      list = list_kept c f.list;
       seen = f.seen;
-      entries = λ t n e. let a = at t in let had = f.entries t n e in grind arith;
+      entries = λ t m e. let a = at t in let had = f.entries t m e in grind arith;
       live = record {
-        at_home = λ t n l. let a = at t in grind (arith, f.live.at_home t n);
-        listed_or_retired = λ t n l. let a = at t in grind (arith, f.live.listed_or_retired t n);
+        at_home = λ t m l. let a = at t in grind (arith, f.live.at_home t m);
+        listed_or_retired = λ t m l. let a = at t in grind (arith, f.live.listed_or_retired t m);
       };
       owner = record {
-        held = λ t n o. let a = at t in grind (arith, f.owner.held t n);
-        out = λ t o. let a = at t in (c.owner.next, grind arith);
-        number = λ t n o. let a = at t in grind (arith, f.owner.number t n);
+        held = λ t m o. let a = at t in grind (arith, f.owner.held t m);
+        out = λ t o. let a = at t in (n, grind arith);
+        number = λ t m o. let a = at t in grind (arith, f.owner.number t m);
       };
-      sweeper = record {
-        held = λ t n o. let a = at t in grind (arith, f.sweeper.held t n);
-        out = λ t o. let a = at t in let old = f.sweeper.out t o in (old.0, grind arith);
-        number = λ t n o. let a = at t in grind (arith, f.sweeper.number t n);
-      };
+      sweeper = sweeper_kept c (λ t m o. let a = at t in grind arith) (λ t m o. let a = at t in grind arith) f.sweeper;
       free = λ t e. let a = at t in grind (arith, f.free t);
       remembered = remembered_kept c _ refl
           (λ t has. elim (f.remembered.state t has) [
-            | inl (n, out) ↦ let a = at t in inl (n, grind arith)
-            | inr (inl was) ↦ elim (at t) [
-              | inl p ↦ inr (inr (ap Some (sym p.0), (c.owner.next, (p.1, λ (x, e). let below = f.list.below_next x c.owner.next e in absurd (omega arith)))))
-              | inr q ↦ inr (inl (q.1 ∙ was))
+            | inl (m, out) ↦ let a = at t in inl (m, grind arith)
+            | inr (inl free) ↦ elim (at t) [
+              | inl p ↦ elim was [
+                | inl live ↦ let wrong : Free ≡ Live n = sym free ∙ (rw p.0 live) in cc
+                | inr new ↦ inr (inr (ap Some (sym p.0), (n, (p.1, λ (x, e). let below = f.list.below_next x n e in let next = new.1 in absurd (omega arith)))))
+              ]
+              | inr q ↦ inr (inl (q.1 ∙ free))
             ]
             | inr (inr reused) ↦ let o : c.owner.out ≡ Some t = reused.0 in cc
           ])
-          (λ t n out has. let a = at t in (n, grind arith))
+          (λ t m out has. let a = at t in (m, grind arith))
           f.remembered;
-      clean = λ t n lt l. let a = at t in grind (arith, f.clean t n);
+      clean = λ t m lt l. let a = at t in grind (arith, f.clean t m);
     }
+
+pub claim_keeps : (s : ℕ) (c d : Core) → OwnerClaims s c d → Facts c → Facts d
+claim_keeps s c d h f = subst Facts (sym h.after) (out_keeps c s c.owner.next h.exists h.idle (inr (h.free, refl)) f)
 
 pub take_keeps : (s : ℕ) (c d : Core) → OwnerTakes s c d → Facts c → Facts d
-take_keeps s c d h f =
-    let at : (t : ℕ) → ((t ≡ s) × (get_or (set c.slots s (OutOwner h.number)) t Free ≡ OutOwner h.number)) ⊎ ((t ≢ s) × (get_or (set c.slots s (OutOwner h.number)) t Free ≡ get_or c.slots t Free)) = λ t. written c.slots s t (OutOwner h.number) Free (inside_live c s h.number h.live) in
-    let idle = h.idle in
-    let live = h.live in
-    subst Facts (sym h.after) record {
-      homes = f.homes ∙ sym (length-set c.slots s (OutOwner h.number));
-      list = record { numbers_rise = f.list.numbers_rise; slots_differ = f.list.slots_differ; from_root = f.list.from_root; below_next = f.list.below_next; root_below_next = f.list.root_below_next };
-      seen = f.seen;
-      entries = λ t n e. let a = at t in let had = f.entries t n e in grind arith;
-      live = record {
-        at_home = λ t n l. let a = at t in grind (arith, f.live.at_home t n);
-        listed_or_retired = λ t n l. let a = at t in grind (arith, f.live.listed_or_retired t n);
-      };
-      owner = record {
-        held = λ t n o. let a = at t in grind (arith, f.owner.held t n);
-        out = λ t o. let a = at t in (h.number, grind arith);
-        number = λ t n o. let a = at t in let was = f.live.listed_or_retired s h.number live in grind (arith, f.owner.number t n);
-      };
-      sweeper = record {
-        held = λ t n o. let a = at t in grind (arith, f.sweeper.held t n);
-        out = λ t o. let a = at t in let old = f.sweeper.out t o in (old.0, grind arith);
-        number = λ t n o. let a = at t in grind (arith, f.sweeper.number t n);
-      };
-      free = λ t e. let a = at t in grind (arith, f.free t);
-      remembered = remembered_kept c _ refl
-          (λ t has. elim (f.remembered.state t has) [
-            | inl (n, out) ↦ let a = at t in inl (n, grind arith)
-            | inr (inl was) ↦ let a = at t in inr (inl (grind arith))
-            | inr (inr reused) ↦ let o : c.owner.out ≡ Some t = reused.0 in cc
-          ])
-          (λ t n out has. let a = at t in (n, grind arith))
-          f.remembered;
-      clean = λ t n lt l. let a = at t in grind (arith, f.clean t n);
-    }
+take_keeps s c d h f = subst Facts (sym h.after) (out_keeps c s h.number (inside_live c s h.number h.live) h.idle (inl h.live) f)
 
 pub empty_keeps : (s : ℕ) (c d : Core) → OwnerEmpties s c d → Facts c → Facts d
-empty_keeps s c d h f =
-    let out = f.owner.out s h.holds in
-    let inside : s < length c.homes = rw f.homes (inside_owner c s out.0 out.1) in
-    let at : (t : ℕ) → ((t ≡ s) × (get_or (set c.homes s (None)) t None ≡ None)) ⊎ ((t ≢ s) × (get_or (set c.homes s (None)) t None ≡ get_or c.homes t None)) = λ t. written c.homes s t (None) None (inside) in
-    subst Facts (sym h.after) record {
-      homes = length-set c.homes s (None) ∙ f.homes;
-      list = record { numbers_rise = f.list.numbers_rise; slots_differ = f.list.slots_differ; from_root = f.list.from_root; below_next = f.list.below_next; root_below_next = f.list.root_below_next };
-      seen = f.seen;
-      entries = f.entries;
-      live = record {
-        at_home = λ t n l. let a = at t in grind (arith, f.live.at_home t n);
-        listed_or_retired = f.live.listed_or_retired;
-      };
-      owner = record { held = f.owner.held; out = f.owner.out; number = f.owner.number };
-      sweeper = record { held = f.sweeper.held; out = f.sweeper.out; number = f.sweeper.number };
-      free = λ t e. let a = at t in grind (arith, f.free t);
-      remembered = record { state = f.remembered.state; only_last = f.remembered.only_last };
-      clean = f.clean;
-    }
+empty_keeps s c d h f = subst Facts (sym h.after) (home_keeps c s None (inl (f.owner.out s h.holds)) f)
 
 pub fill_keeps : (s n : ℕ) (c d : Core) → OwnerFills s n c d → Facts c → Facts d
-fill_keeps s n c d h f =
-    let out = f.owner.out s h.holds in
-    let inside : s < length c.homes = rw f.homes (inside_owner c s out.0 out.1) in
-    let at : (t : ℕ) → ((t ≡ s) × (get_or (set c.homes s (Some n)) t None ≡ Some n)) ⊎ ((t ≢ s) × (get_or (set c.homes s (Some n)) t None ≡ get_or c.homes t None)) = λ t. written c.homes s t (Some n) None (inside) in
-    subst Facts (sym h.after) record {
-      homes = length-set c.homes s (Some n) ∙ f.homes;
-      list = record { numbers_rise = f.list.numbers_rise; slots_differ = f.list.slots_differ; from_root = f.list.from_root; below_next = f.list.below_next; root_below_next = f.list.root_below_next };
-      seen = f.seen;
-      entries = f.entries;
-      live = record {
-        at_home = λ t n l. let a = at t in grind (arith, f.live.at_home t n);
-        listed_or_retired = f.live.listed_or_retired;
-      };
-      owner = record { held = f.owner.held; out = f.owner.out; number = f.owner.number };
-      sweeper = record { held = f.sweeper.held; out = f.sweeper.out; number = f.sweeper.number };
-      free = λ t e. let a = at t in grind (arith, f.free t);
-      remembered = record { state = f.remembered.state; only_last = f.remembered.only_last };
-      clean = f.clean;
-    }
+fill_keeps s n c d h f = subst Facts (sym h.after) (home_keeps c s (Some n) (inl (f.owner.out s h.holds)) f)
 
 pub put_keeps : (s : ℕ) (c d : Core) → OwnerPuts s c d → Facts c → Facts d
 put_keeps s c d h f =
-    let at : (t : ℕ) → ((t ≡ s) × (get_or (set c.slots s (Live c.owner.next)) t Free ≡ Live c.owner.next)) ⊎ ((t ≢ s) × (get_or (set c.slots s (Live c.owner.next)) t Free ≡ get_or c.slots t Free)) = λ t. written c.slots s t (Live c.owner.next) Free (inside_owner c s h.number h.out) in
+    let at = λ (t : ℕ). written c.slots s t (Live c.owner.next) Free (inside_owner c s h.number h.out) in
+    let new = entry s c.owner.next in
     let out = h.out in
     let home = h.at_home in
     let holds = h.holds in
@@ -150,22 +88,22 @@ put_keeps s c d h f =
     subst Facts (sym h.after) record {
       homes = f.homes ∙ sym (length-set c.slots s (Live c.owner.next));
       list = record {
-        numbers_rise = all_pairs_push (λ a b. a.number < b.number) c.owner.list (entry s c.owner.next) f.list.numbers_rise (λ k d lt. f.list.below_next (get_or c.owner.list k d).slot (get_or c.owner.list k d).number (Contains-get_or c.owner.list k d lt));
-        slots_differ = all_pairs_push (λ a b. a.slot ≢ b.slot) c.owner.list (entry s c.owner.next) f.list.slots_differ (λ k d lt. elsewhere (get_or c.owner.list k d).slot (get_or c.owner.list k d).number (Contains-get_or c.owner.list k d lt));
-        from_root = λ t n e. elim (Contains-push_cases c.owner.list (entry s c.owner.next) (entry t n) e) [
+        numbers_rise = all_pairs_push (λ a b. a.number < b.number) c.owner.list (new) f.list.numbers_rise (λ k d lt. f.list.below_next (get_or c.owner.list k d).slot (get_or c.owner.list k d).number (Contains-get_or c.owner.list k d lt));
+        slots_differ = all_pairs_push (λ a b. a.slot ≢ b.slot) c.owner.list (new) f.list.slots_differ (λ k d lt. elsewhere (get_or c.owner.list k d).slot (get_or c.owner.list k d).number (Contains-get_or c.owner.list k d lt));
+        from_root = λ t n e. elim (Contains-push_cases c.owner.list (new) (entry t n) e) [
           | inl old ↦ f.list.from_root t n old
-          | inr new ↦ let same : c.owner.next ≡ n = ap (λ (x : Entry). x.number) new in let b = f.list.root_below_next in omega arith
+          | inr is ↦ let same : c.owner.next ≡ n = ap (λ (x : Entry). x.number) is in let b = f.list.root_below_next in omega arith
         ];
-        below_next = λ t n e. elim (Contains-push_cases c.owner.list (entry s c.owner.next) (entry t n) e) [
+        below_next = λ t n e. elim (Contains-push_cases c.owner.list (new) (entry t n) e) [
           | inl old ↦ let b = f.list.below_next t n old in omega arith
-          | inr new ↦ let same : c.owner.next ≡ n = ap (λ (x : Entry). x.number) new in omega arith
+          | inr is ↦ let same : c.owner.next ≡ n = ap (λ (x : Entry). x.number) is in omega arith
         ];
         root_below_next = let b = f.list.root_below_next in omega arith;
       };
       seen = f.seen;
-      entries = λ t n e. elim (Contains-push_cases c.owner.list (entry s c.owner.next) (entry t n) e) [
+      entries = λ t n e. elim (Contains-push_cases c.owner.list (new) (entry t n) e) [
         | inl old ↦ let a = at t in let other = elsewhere t n old in let had = f.entries t n old in grind arith
-        | inr new ↦ let slot : s ≡ t = ap (λ (x : Entry). x.slot) new in let same : c.owner.next ≡ n = ap (λ (x : Entry). x.number) new in let a = at t in inl (grind arith)
+        | inr is ↦ let slot : s ≡ t = ap (λ (x : Entry). x.slot) is in let same : c.owner.next ≡ n = ap (λ (x : Entry). x.number) is in let a = at t in inl (grind arith)
       ];
       live = record {
         at_home = λ t n l. let a = at t in grind (arith, f.live.at_home t n);
@@ -173,10 +111,10 @@ put_keeps s c d h f =
           | inl p ↦
               let same : Live c.owner.next ≡ Live n = sym p.1 ∙ l in
               let number : c.owner.next ≡ n = cc in
-              let e : entry s c.owner.next ≡ entry t n = rw (p.0, number) refl in
-              inl (subst (λ x. Contains (c.owner.list ++ entry s c.owner.next ∷ []) x) e (Contains-push c.owner.list (entry s c.owner.next)))
+              let e : new ≡ entry t n = rw (p.0, number) refl in
+              inl (subst (λ x. Contains (c.owner.list ++ new ∷ []) x) e (Contains-push c.owner.list (new)))
           | inr q ↦ elim (f.live.listed_or_retired t n (sym q.1 ∙ l)) [
-            | inl old ↦ inl (Contains-append_left c.owner.list (entry s c.owner.next ∷ []) (entry t n) old)
+            | inl old ↦ inl (Contains-append_left c.owner.list (new ∷ []) (entry t n) old)
             | inr past ↦ inr past
           ]
         ];
@@ -186,11 +124,7 @@ put_keeps s c d h f =
         out = λ t o. absurd cc;
         number = λ t n o. let a = at t in let was = f.owner.held t n in grind arith;
       };
-      sweeper = record {
-        held = λ t n o. let a = at t in grind (arith, f.sweeper.held t n);
-        out = λ t o. let a = at t in let old = f.sweeper.out t o in (old.0, grind arith);
-        number = λ t n o. let a = at t in grind (arith, f.sweeper.number t n);
-      };
+      sweeper = sweeper_kept c (λ t n o. let a = at t in grind arith) (λ t n o. let a = at t in grind arith) f.sweeper;
       free = λ t e. let a = at t in grind (arith, f.free t);
       remembered = record { state = λ t has. absurd (let none = has.1 in omega arith); only_last = λ i j k lt within. absurd (omega arith) };
       clean = λ t n lt l. let a = at t in let b = f.list.root_below_next in let b2 = f.seen in grind (arith, f.clean t n);
@@ -198,7 +132,7 @@ put_keeps s c d h f =
 
 pub lower_keeps : (s : ℕ) (c d : Core) → OwnerLowers s c d → Facts c → Facts d
 lower_keeps s c d h f =
-    let at : (t : ℕ) → ((t ≡ s) × (get_or (set c.slots s (Live h.number)) t Free ≡ Live h.number)) ⊎ ((t ≢ s) × (get_or (set c.slots s (Live h.number)) t Free ≡ get_or c.slots t Free)) = λ t. written c.slots s t (Live h.number) Free (inside_owner c s h.number h.out) in
+    let at = λ (t : ℕ). written c.slots s t (Live h.number) Free (inside_owner c s h.number h.out) in
     let out = h.out in
     let home = h.at_home in
     let holds = h.holds in
@@ -210,7 +144,7 @@ lower_keeps s c d h f =
     let from = f.list.from_root s h.number own in
     subst Facts (sym h.after) record {
       homes = f.homes ∙ sym (length-set c.slots s (Live h.number));
-      list = record { numbers_rise = f.list.numbers_rise; slots_differ = f.list.slots_differ; from_root = f.list.from_root; below_next = f.list.below_next; root_below_next = f.list.root_below_next };
+      list = list_kept c f.list;
       seen = f.seen;
       entries = λ t n e. let a = at t in let had = f.entries t n e in grind arith;
       live = record {
@@ -222,11 +156,7 @@ lower_keeps s c d h f =
         out = λ t o. absurd cc;
         number = λ t n o. let a = at t in let was = f.owner.held t n in grind arith;
       };
-      sweeper = record {
-        held = λ t n o. let a = at t in grind (arith, f.sweeper.held t n);
-        out = λ t o. let a = at t in let old = f.sweeper.out t o in (old.0, grind arith);
-        number = λ t n o. let a = at t in grind (arith, f.sweeper.number t n);
-      };
+      sweeper = sweeper_kept c (λ t n o. let a = at t in grind arith) (λ t n o. let a = at t in grind arith) f.sweeper;
       free = λ t e. let a = at t in grind (arith, f.free t);
       remembered = remembered_kept c _ refl
           (λ t has. elim (f.remembered.state t has) [
@@ -245,7 +175,7 @@ lower_keeps s c d h f =
 
 pub free_keeps : (s : ℕ) (c d : Core) → OwnerFrees s c d → Facts c → Facts d
 free_keeps s c d h f =
-    let at : (t : ℕ) → ((t ≡ s) × (get_or (set c.slots s (Free)) t Free ≡ Free)) ⊎ ((t ≢ s) × (get_or (set c.slots s (Free)) t Free ≡ get_or c.slots t Free)) = λ t. written c.slots s t (Free) Free (inside_owner c s h.number h.out) in
+    let at = λ (t : ℕ). written c.slots s t Free Free (inside_owner c s h.number h.out) in
     let out = h.out in
     let home = h.empty in
     let holds = h.holds in
@@ -295,11 +225,7 @@ free_keeps s c d h f =
           | inr q ↦ let e : Some s ≡ Some t = sym holds ∙ f.owner.held t n (sym q.1 ∙ o) in absurd (q.0 cc)
         ];
       };
-      sweeper = record {
-        held = λ t n o. let a = at t in grind (arith, f.sweeper.held t n);
-        out = λ t o. let a = at t in let old = f.sweeper.out t o in (old.0, grind arith);
-        number = λ t n o. let a = at t in grind (arith, f.sweeper.number t n);
-      };
+      sweeper = sweeper_kept c (λ t n o. let a = at t in grind arith) (λ t n o. let a = at t in grind arith) f.sweeper;
       free = λ t e. let a = at t in grind (arith, f.free t);
       remembered = remembered_kept c _ refl
           (λ t has. elim (f.remembered.state t has) [
@@ -364,9 +290,6 @@ raise_keeps n c d h f =
 -- a look remembers a slot that is out with the sweeper, and none that was remembered before is
 pub look_remembers : (s : ℕ) (c : Core) (w : Slot) → w ≡ state_of c s → Facts c →
     RememberedIsPast (record c { owner = record c.owner { remembered = remember w s c.owner.remembered } })
-look_remembers s c Free is f = record { state = f.remembered.state; only_last = f.remembered.only_last }
-look_remembers s c (Live n) is f = record { state = f.remembered.state; only_last = f.remembered.only_last }
-look_remembers s c (OutOwner n) is f = record { state = f.remembered.state; only_last = f.remembered.only_last }
 look_remembers s c (OutSweeper n) is f = elim (list_any (λ t. nat_eq t s) c.owner.remembered) as (λ b. list_any (λ t. nat_eq t s) c.owner.remembered ≡ b → RememberedIsPast (record c { owner = record c.owner { remembered = if b then c.owner.remembered else (c.owner.remembered ++ s ∷ []) } })) [
   | true ↦ λ known. record { state = f.remembered.state; only_last = f.remembered.only_last }
   | false ↦ λ new. record {
@@ -375,22 +298,22 @@ look_remembers s c (OutSweeper n) is f = elim (list_any (λ t. nat_eq t s) c.own
       | inr same ↦ inl (n, rw (← same) (sym is))
     ];
     only_last = all_pairs_push (λ earlier later. ¬ IsSwept c earlier) c.owner.remembered s f.remembered.only_last (λ k d lt swept.
-        let one : c.sweeper.out ≡ Some (get_or c.owner.remembered k d) = f.sweeper.held (get_or c.owner.remembered k d) swept.0 swept.1 in
-        let other : c.sweeper.out ≡ Some s = f.sweeper.held s n (sym is) in
-        let both : Some (get_or c.owner.remembered k d) ≡ Some s = sym one ∙ other in
-        let same : get_or c.owner.remembered k d ≡ s = cc in
-        let passes : nat_eq (get_or c.owner.remembered k d) s ≡ true = grind (arith, nat_tests) in
+        let t = get_or c.owner.remembered k d in
+        let both : Some t ≡ Some s = sym (f.sweeper.held t swept.0 swept.1) ∙ f.sweeper.held s n (sym is) in
+        let same : t ≡ s = cc in
+        let passes : nat_eq t s ≡ true = grind (arith, nat_tests) in
         let found : list_any (λ t. nat_eq t s) c.owner.remembered ≡ true = list_any_at (λ t. nat_eq t s) c.owner.remembered k d lt passes in
         let wrong : false ≡ true = sym new ∙ found in cc);
   }
 ] refl
+look_remembers s c _ is f = record { state = f.remembered.state; only_last = f.remembered.only_last }
 
 pub look_keeps : (s : ℕ) (c d : Core) → OwnerLooks s c d → Facts c → Facts d
 look_keeps s c d h f =
     let idle = h.exists in
     subst Facts (sym h.after) record {
       homes = f.homes;
-      list = record { numbers_rise = f.list.numbers_rise; slots_differ = f.list.slots_differ; from_root = f.list.from_root; below_next = f.list.below_next; root_below_next = f.list.root_below_next };
+      list = list_kept c f.list;
       seen = f.seen;
       entries = f.entries;
       live = record { at_home = f.live.at_home; listed_or_retired = f.live.listed_or_retired };

@@ -54,17 +54,7 @@ raised_first c n f (s, (k, lt, is)) =
     ap (λ (l : List Entry). first_of l c.owner.next) left
 
 pub step_keeps_root : (e : Event) (c d : Core) → Step e c d → Facts c → RootIsFirst c → RootIsFirst d
-step_keeps_root (OwnerLook s) c d h f r = subst RootIsFirst (sym h.after) r
-step_keeps_root (OwnerClaim s) c d h f r = subst RootIsFirst (sym h.after) r
-step_keeps_root (OwnerTake s) c d h f r = subst RootIsFirst (sym h.after) r
-step_keeps_root (OwnerEmpty s) c d h f r = subst RootIsFirst (sym h.after) r
-step_keeps_root (OwnerFill s n) c d h f r = subst RootIsFirst (sym h.after) r
 step_keeps_root (OwnerPut s) c d h f r = subst RootIsFirst (sym h.after) (first_put c.owner.list s c.owner.next c.root r)
-step_keeps_root (OwnerLower s) c d h f r = subst RootIsFirst (sym h.after) r
 step_keeps_root (OwnerFree s) c d h f r = subst RootIsFirst (sym h.after) (freed_first s c d h f r)
 step_keeps_root (OwnerRaise n) c d h f r = subst RootIsFirst (sym h.after) (raised_first c n f h.listed)
-step_keeps_root SweeperRoot c d h f r = subst RootIsFirst (sym h.after) r
-step_keeps_root (SweeperLook s) c d h f r = subst RootIsFirst (sym h.after) r
-step_keeps_root (SweeperGrab s) c d h f r = subst RootIsFirst (sym h.after) r
-step_keeps_root (SweeperEmpty s) c d h f r = subst RootIsFirst (sym h.after) r
-step_keeps_root (SweeperFree s) c d h f r = subst RootIsFirst (sym h.after) r
+step_keeps_root _ c d h f r = subst RootIsFirst (sym h.after) r

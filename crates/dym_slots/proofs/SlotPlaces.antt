@@ -1,13 +1,14 @@
 -- What a list of slots has after one place was written, and what the entries of a rising list share.
-use Rattle.std.proofs.Common.{◌≡◌, ◌≢◌, ℕ, ◌<◌, ◌⊎◌, inl, inr, List, length, get_or, set, sym, ◌∙◌, ap, arith, Bool, true, false, cond, [], ◌∷◌, zero, suc}
+use Rattle.std.proofs.Common.{◌≡◌, ◌≢◌, ℕ, ◌<◌, ◌⊎◌, inl, inr, List, length, get_or, set, sym, ◌∙◌, ap, arith, Bool, true, false, cond, [], ◌∷◌, zero, suc, Option, Some, None}
 use Rattle.std.specs.List.{Contains, filter}
 use Rattle.std.proofs.lemmas.List.Elements.{All-contains, All-filter, All-contains_itself, filter_passes}
-use Rattle.std.proofs.lemmas.List.{get_or-set_same, get_or-set_other, get_or_past, get_or_default}
+use Rattle.std.proofs.lemmas.List.{length-set, get_or-set_same, get_or-set_other, get_or_past, get_or_default}
 use Rattle.std.proofs.lemmas.Bool.{cases_eq, cases_lt}
 use Rattle.dym_slots.specs.declared.machine.Slot.TheVariants.{Free, Live, OutOwner, OutSweeper}
 use Rattle.dym_slots.specs.declared.machine.Entry.{Entry}
-use Rattle.dym_slots.specs.Slots.{Core, state_of, entry, IsEntry}
-use Rattle.dym_slots.specs.SlotFacts.{ListRises, RememberedIsPast, IsSwept, IsReused}
+use Rattle.dym_slots.specs.declared.machine.Slot.{Slot}
+use Rattle.dym_slots.specs.Slots.{Core, OwnerView, SweeperView, state_of, entry, IsEntry}
+use Rattle.dym_slots.specs.SlotFacts.{Facts, ListRises, SweeperHoldsOne, RememberedIsPast, IsSwept, IsReused}
 
 -- the place that was written has the new value, and each other one what it had
 pub written : {X : Type 0} (xs : List X) (s t : ℕ) (w d : X) → s < length xs →
@@ -35,25 +36,55 @@ inside_sweeper c s n out = inside_unless_free c s (λ free. let e : OutSweeper n
 
 -- two entries with the same number are in the same slot
 pub one_slot : (c : Core) → ListRises c → (s t n : ℕ) → IsEntry c s n → IsEntry c t n → s ≡ t
-one_slot c l s t n (i, ilt, ie) (j, jlt, je) = elim (cases_lt i j) [
-  | inl lt ↦ absurd (let rise = l.numbers_rise i j (entry s n) lt jlt in
-      let jd : get_or c.owner.list j (entry s n) ≡ entry t n = get_or_default c.owner.list j (entry s n) (entry t n) jlt ∙ je in
-      let a : (get_or c.owner.list i (entry s n)).number ≡ n = ap (λ (x : Entry). x.number) ie in
-      let b : (get_or c.owner.list j (entry s n)).number ≡ n = ap (λ (x : Entry). x.number) jd in
-      omega (arith, rise))
-  | inr ge ↦ elim (cases_lt j i) [
-    | inl lt ↦ absurd (let rise = l.numbers_rise j i (entry s n) lt ilt in
-        let jd : get_or c.owner.list j (entry s n) ≡ entry t n = get_or_default c.owner.list j (entry s n) (entry t n) jlt ∙ je in
-        let a : (get_or c.owner.list i (entry s n)).number ≡ n = ap (λ (x : Entry). x.number) ie in
-        let b : (get_or c.owner.list j (entry s n)).number ≡ n = ap (λ (x : Entry). x.number) jd in
-        omega (arith, rise))
-    | inr le ↦
-        let same : j ≡ i = omega arith in
-        let jd : get_or c.owner.list j (entry s n) ≡ entry t n = get_or_default c.owner.list j (entry s n) (entry t n) jlt ∙ je in
-        let ji : get_or c.owner.list i (entry s n) ≡ entry t n = rw same at jd in
-        ap (λ (x : Entry). x.slot) (sym ie ∙ ji)
-  ]
-]
+one_slot c l s t n (i, ilt, ie) (j, jlt, je) =
+    let x : ℕ → Entry = λ k. get_or c.owner.list k (entry s n) in
+    let jd : x j ≡ entry t n = get_or_default c.owner.list j (entry s n) (entry t n) jlt ∙ je in
+    let a : (x i).number ≡ n = ap (λ (e : Entry). e.number) ie in
+    let b : (x j).number ≡ n = ap (λ (e : Entry). e.number) jd in
+    elim (cases_lt i j) [
+      | inl lt ↦ absurd (omega (arith, l.numbers_rise i j (entry s n) lt jlt))
+      | inr ge ↦ elim (cases_lt j i) [
+        | inl lt ↦ absurd (omega (arith, l.numbers_rise j i (entry s n) lt ilt))
+        | inr le ↦ let same : i ≡ j = omega arith in ap (λ (e : Entry). e.slot) (sym ie ∙ ap x same ∙ jd)
+      ]
+    ]
+
+-- a step that leaves the root, the list and the next number keeps the list's facts
+pub list_kept : (c : Core) {slots : List Slot} {homes : List (Option ℕ)} {out : Option ℕ} {remembered : List ℕ} {sweeper : SweeperView} → ListRises c
+    → ListRises (record c { slots = slots; homes = homes; owner = record c.owner { out = out; remembered = remembered }; sweeper = sweeper })
+list_kept c l = record { numbers_rise = l.numbers_rise; slots_differ = l.slots_differ; from_root = l.from_root; below_next = l.below_next; root_below_next = l.root_below_next }
+
+-- the same slots are out with the sweeper, under the same numbers
+pub sweeper_kept : (c : Core) {slots : List Slot} {owner : OwnerView} →
+    ((t n : ℕ) → get_or slots t Free ≡ OutSweeper n → state_of c t ≡ OutSweeper n) →
+    ((t n : ℕ) → state_of c t ≡ OutSweeper n → get_or slots t Free ≡ OutSweeper n) →
+    SweeperHoldsOne c → SweeperHoldsOne (record c { slots = slots; owner = owner })
+sweeper_kept c was is f = record {
+  held = λ t n o. f.held t n (was t n o);
+  out = λ t o. let old = f.out t o in (old.0, is t old.0 old.1);
+  number = λ t n o. f.number t n (was t n o);
+}
+
+-- what is at home in a slot that is out is free to change
+pub home_keeps : (c : Core) (s : ℕ) (home : Option ℕ) → ((n : ℕ) × (state_of c s ≡ OutOwner n)) ⊎ ((n : ℕ) × (state_of c s ≡ OutSweeper n)) → Facts c → Facts (record c { homes = set c.homes s home })
+home_keeps c s home is_out f =
+    let inside : s < length c.homes = rw f.homes (elim is_out [ inl out ↦ inside_owner c s out.0 out.1 | inr out ↦ inside_sweeper c s out.0 out.1 ]) in
+    let at = λ (t : ℕ). written c.homes s t home None inside in
+    record {
+      homes = length-set c.homes s home ∙ f.homes;
+      list = list_kept c f.list;
+      seen = f.seen;
+      entries = f.entries;
+      live = record {
+        at_home = λ t n l. let a = at t in grind (arith, f.live.at_home t n);
+        listed_or_retired = f.live.listed_or_retired;
+      };
+      owner = record { held = f.owner.held; out = f.owner.out; number = f.owner.number };
+      sweeper = record { held = f.sweeper.held; out = f.sweeper.out; number = f.sweeper.number };
+      free = λ t e. let a = at t in grind (arith, f.free t);
+      remembered = record { state = f.remembered.state; only_last = f.remembered.only_last };
+      clean = f.clean;
+    }
 
 -- what is remembered stays so, where no remembered slot changes
 pub remembered_kept : (c d : Core) → d.owner.remembered ≡ c.owner.remembered →

@@ -29,20 +29,14 @@ step_keeps (SweeperFree s) c d h f = sweeper_free_keeps s c d h f
 
 -- no step adds a slot or takes one away
 pub step_counts : (e : Event) (c d : Core) → Step e c d → length d.slots ≡ length c.slots
-step_counts (OwnerLook s) c d h = ap (λ (x : Core). length x.slots) h.after
 step_counts (OwnerClaim s) c d h = rw h.after (simp length-set)
 step_counts (OwnerTake s) c d h = rw h.after (simp length-set)
-step_counts (OwnerEmpty s) c d h = ap (λ (x : Core). length x.slots) h.after
-step_counts (OwnerFill s n) c d h = ap (λ (x : Core). length x.slots) h.after
 step_counts (OwnerPut s) c d h = rw h.after (simp length-set)
 step_counts (OwnerLower s) c d h = rw h.after (simp length-set)
 step_counts (OwnerFree s) c d h = rw h.after (simp length-set)
-step_counts (OwnerRaise n) c d h = ap (λ (x : Core). length x.slots) h.after
-step_counts SweeperRoot c d h = ap (λ (x : Core). length x.slots) h.after
-step_counts (SweeperLook s) c d h = ap (λ (x : Core). length x.slots) h.after
 step_counts (SweeperGrab s) c d h = rw h.after (simp length-set)
-step_counts (SweeperEmpty s) c d h = ap (λ (x : Core). length x.slots) h.after
 step_counts (SweeperFree s) c d h = rw h.after (simp length-set)
+step_counts _ c d h = ap (λ (x : Core). length x.slots) h.after
 
 -- the start meets the facts
 pub start_meets : (count : ℕ) → Facts (start count)

@@ -9,13 +9,13 @@ use Rattle.dym_slots.specs.declared.machine.Slot.TheVariants.{Free, Live, OutOwn
 use Rattle.dym_slots.specs.Slots.{Core, state_of}
 use Rattle.dym_slots.specs.SlotSteps.{SweeperReadsRoot, SweeperLooks, SweeperGrabs, SweeperEmpties, SweeperFrees, is_retired}
 use Rattle.dym_slots.specs.SlotFacts.{Facts}
-use Rattle.dym_slots.proofs.SlotPlaces.{written, inside_live, inside_sweeper, remembered_kept}
+use Rattle.dym_slots.proofs.SlotPlaces.{written, inside_live, inside_sweeper, list_kept, home_keeps, remembered_kept}
 
 pub root_keeps : (c d : Core) → SweeperReadsRoot c d → Facts c → Facts d
 root_keeps c d h f =
     subst Facts (sym h.after) record {
       homes = f.homes;
-      list = record { numbers_rise = f.list.numbers_rise; slots_differ = f.list.slots_differ; from_root = f.list.from_root; below_next = f.list.below_next; root_below_next = f.list.root_below_next };
+      list = list_kept c f.list;
       seen = omega arith;
       entries = f.entries;
       live = record { at_home = f.live.at_home; listed_or_retired = f.live.listed_or_retired };
@@ -55,7 +55,7 @@ pub sweeper_look_keeps : (s : ℕ) (c d : Core) → SweeperLooks s c d → Facts
 sweeper_look_keeps s c d h f =
     subst Facts (sym h.after) record {
       homes = f.homes;
-      list = record { numbers_rise = f.list.numbers_rise; slots_differ = f.list.slots_differ; from_root = f.list.from_root; below_next = f.list.below_next; root_below_next = f.list.root_below_next };
+      list = list_kept c f.list;
       seen = f.seen;
       entries = f.entries;
       live = record { at_home = f.live.at_home; listed_or_retired = f.live.listed_or_retired };
@@ -68,13 +68,13 @@ sweeper_look_keeps s c d h f =
 
 pub grab_keeps : (s : ℕ) (c d : Core) → SweeperGrabs s c d → Facts c → Facts d
 grab_keeps s c d h f =
-    let at : (t : ℕ) → ((t ≡ s) × (get_or (set c.slots s (OutSweeper h.number)) t Free ≡ OutSweeper h.number)) ⊎ ((t ≢ s) × (get_or (set c.slots s (OutSweeper h.number)) t Free ≡ get_or c.slots t Free)) = λ t. written c.slots s t (OutSweeper h.number) Free (inside_live c s h.number h.live) in
+    let at = λ (t : ℕ). written c.slots s t (OutSweeper h.number) Free (inside_live c s h.number h.live) in
     let idle = h.idle in
     let live = h.live in
     let retired = h.retired in
     subst Facts (sym h.after) record {
       homes = f.homes ∙ sym (length-set c.slots s (OutSweeper h.number));
-      list = record { numbers_rise = f.list.numbers_rise; slots_differ = f.list.slots_differ; from_root = f.list.from_root; below_next = f.list.below_next; root_below_next = f.list.root_below_next };
+      list = list_kept c f.list;
       seen = f.seen;
       entries = λ t n e.
           let a = at t in
@@ -116,25 +116,7 @@ grab_keeps s c d h f =
     }
 
 pub sweeper_empty_keeps : (s : ℕ) (c d : Core) → SweeperEmpties s c d → Facts c → Facts d
-sweeper_empty_keeps s c d h f =
-    let out = f.sweeper.out s h.holds in
-    let inside : s < length c.homes = rw f.homes (inside_sweeper c s out.0 out.1) in
-    let at : (t : ℕ) → ((t ≡ s) × (get_or (set c.homes s (None)) t None ≡ None)) ⊎ ((t ≢ s) × (get_or (set c.homes s (None)) t None ≡ get_or c.homes t None)) = λ t. written c.homes s t (None) None (inside) in
-    subst Facts (sym h.after) record {
-      homes = length-set c.homes s None ∙ f.homes;
-      list = record { numbers_rise = f.list.numbers_rise; slots_differ = f.list.slots_differ; from_root = f.list.from_root; below_next = f.list.below_next; root_below_next = f.list.root_below_next };
-      seen = f.seen;
-      entries = f.entries;
-      live = record {
-        at_home = λ t n l. let a = at t in grind (arith, f.live.at_home t n);
-        listed_or_retired = f.live.listed_or_retired;
-      };
-      owner = record { held = f.owner.held; out = f.owner.out; number = f.owner.number };
-      sweeper = record { held = f.sweeper.held; out = f.sweeper.out; number = f.sweeper.number };
-      free = λ t e. let a = at t in grind (arith, f.free t);
-      remembered = record { state = f.remembered.state; only_last = f.remembered.only_last };
-      clean = f.clean;
-    }
+sweeper_empty_keeps s c d h f = subst Facts (sym h.after) (home_keeps c s None (inr (f.sweeper.out s h.holds)) f)
 
 pub sweeper_free_keeps : (s : ℕ) (c d : Core) → SweeperFrees s c d → Facts c → Facts d
 sweeper_free_keeps s c d h f =
@@ -142,10 +124,10 @@ sweeper_free_keeps s c d h f =
     let swept = out.1 in
     let holds = h.holds in
     let home = h.empty in
-    let at : (t : ℕ) → ((t ≡ s) × (get_or (set c.slots s (Free)) t Free ≡ Free)) ⊎ ((t ≢ s) × (get_or (set c.slots s (Free)) t Free ≡ get_or c.slots t Free)) = λ t. written c.slots s t (Free) Free (inside_sweeper c s out.0 out.1) in
+    let at = λ (t : ℕ). written c.slots s t Free Free (inside_sweeper c s out.0 out.1) in
     subst Facts (sym h.after) record {
       homes = f.homes ∙ sym (length-set c.slots s Free);
-      list = record { numbers_rise = f.list.numbers_rise; slots_differ = f.list.slots_differ; from_root = f.list.from_root; below_next = f.list.below_next; root_below_next = f.list.root_below_next };
+      list = list_kept c f.list;
       seen = f.seen;
       entries = λ t n e. let a = at t in let had = f.entries t n e in grind arith;
       live = record {
