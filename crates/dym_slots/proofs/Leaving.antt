@@ -1,5 +1,5 @@
 -- What a sweep leaves in a slot.
-use Rattle.std.proofs.Common.{◌≡◌, ℕ, ◌<◌, ◌≤◌, ◌⊎◌, inl, inr, length, sym, refl, ◌∙◌, None, Some, arith}
+use Rattle.std.proofs.Common.{◌≡◌, ℕ, ◌≤◌, ◌⊎◌, inl, inr, length, sym, ◌∙◌, None, Some, arith}
 use Rattle.dym_slots.specs.declared.machine.Slot.{Slot}
 use Rattle.dym_slots.specs.declared.machine.Slot.TheVariants.{Free, Live, OutOwner, OutSweeper}
 use Rattle.dym_slots.specs.Slots.{Core, state_of, IsEntry}

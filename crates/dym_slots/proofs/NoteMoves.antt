@@ -1,16 +1,13 @@
 -- A note of the root is cut off the owner's seat, and the sweeper's takes it in.
-use Rattle.std.proofs.Common.{◌≡◌, ℕ, zero, suc, ◌≤◌, max, inl, inr, List, [], ◌∷◌, ◌++◌, map, set, sym, refl, ap, ◌∙◌, subst, arith}
+use Rattle.std.proofs.Common.{◌≡◌, ℕ, zero, suc, ◌≤◌, max, inr, List, [], ◌∷◌, ◌++◌, map, set, sym, refl, ap, ◌∙◌, subst, arith}
 use Rattle.std.specs.List.{All}
 use Rattle.std.proofs.lemmas.List.{map-append, map-set}
 use Rattle.std.proofs.lemmas.List.Elements.{All-head, All-tail, All-push, All-set}
 use mathlib.Core.Option.{some, some-injective, some-ne-none}
 use lib.ListN.{get_elem?}
 use Rattle.atomic_table.specs.Table.{Splits, Joins}
-use Rattle.atomic_table.specs.Seated.{TableId}
 use Rattle.atomic_table.proofs.Lists.{set_again}
 use Rattle.dym_slots.specs.declared.machine.Entry.{Entry}
-use Rattle.dym_slots.specs.Slots.{Core}
-use Rattle.dym_slots.specs.declared.view.Listed.{Listed}
 use Rattle.dym_slots.specs.declared.view.OwnerSeat.{OwnerSeat}
 use Rattle.dym_slots.specs.declared.view.SweeperSeat.{SweeperSeat}
 use Rattle.dym_slots.specs.declared.view.SeatView.{SeatView}
@@ -19,7 +16,7 @@ use Rattle.dym_slots.specs.SeatViews.{Naming, listed, owner_seat, sweeper_seat, 
 use Rattle.dym_slots.specs.TableStates.{Holds, first_of}
 use Rattle.dym_slots.specs.Meanings.{first_number}
 use Rattle.dym_slots.specs.Orders.{numbered, root_of}
-use Rattle.dym_slots.proofs.Running.{OwnerIn, owner_in, SweeperIn, sweeper_in, note_at}
+use Rattle.dym_slots.proofs.Running.{owner_in, sweeper_in, note_at}
 
 first_numbered : (records : Naming) (es : List Entry) (next : ℕ) → first_number (map numbered (map (listed records) es)) next ≡ first_of es next
 first_numbered records [] next = refl

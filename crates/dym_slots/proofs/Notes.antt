@@ -7,7 +7,7 @@ use Rattle.std.proofs.lemmas.Bool.Decides.{nat_tests}
 use Rattle.dym_slots.specs.declared.machine.Slot.{Slot}
 use Rattle.dym_slots.specs.declared.machine.Slot.TheVariants.{Free, Live, OutOwner, OutSweeper}
 use Rattle.dym_slots.specs.declared.machine.Event.{Event}
-use Rattle.dym_slots.specs.declared.machine.Event.TheVariants.{OwnerLook, OwnerClaim, OwnerTake, OwnerEmpty, OwnerFill, OwnerPut, OwnerLower, OwnerFree, OwnerRaise, SweeperRoot, SweeperLook, SweeperGrab, SweeperEmpty, SweeperFree}
+use Rattle.dym_slots.specs.declared.machine.Event.TheVariants.{OwnerLook, OwnerClaim, OwnerTake, OwnerEmpty, OwnerFill, OwnerPut, OwnerLower, OwnerFree, SweeperRoot, SweeperLook, SweeperGrab, SweeperFree}
 use Rattle.dym_slots.specs.Slots.{Core, state_of}
 use Rattle.dym_slots.specs.SlotSteps.{Step, Steps, is_retired}
 use Rattle.dym_slots.specs.SlotFacts.{Facts}

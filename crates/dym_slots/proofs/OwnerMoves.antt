@@ -18,8 +18,8 @@ use Rattle.dym_slots.specs.declared.machine.TheConstants.{RECORD_NUMBERS}
 use Rattle.dym_slots.specs.declared.machine.Event.TheVariants.{OwnerLook, OwnerClaim, OwnerTake, OwnerEmpty, OwnerFill, OwnerPut, OwnerLower, OwnerFree, OwnerRaise}
 use Rattle.dym_slots.specs.SlotWords.{slot_word}
 use Rattle.dym_slots.specs.Slots.{Core, OwnerView, state_of, entry, IsEntry, IsListed}
-use Rattle.dym_slots.specs.SlotSteps.{OwnerLooks, OwnerClaims, OwnerTakes, OwnerEmpties, OwnerFills, OwnerPuts, OwnerLowers, OwnerFrees, OwnerRaises, remember, without, from_number, IsNewestOfTwo}
-use Rattle.dym_slots.specs.SlotFacts.{Facts, NumbersRise, IsSwept, IsReused}
+use Rattle.dym_slots.specs.SlotSteps.{OwnerClaims, OwnerEmpties, OwnerFills, OwnerPuts, OwnerLowers, OwnerFrees, OwnerRaises, remember, without, from_number}
+use Rattle.dym_slots.specs.SlotFacts.{Facts, NumbersRise, IsSwept}
 use Rattle.dym_slots.specs.SlotNotes.{OwnerNote, forget}
 use Rattle.dym_slots.specs.declared.view.Listed.{Listed}
 use Rattle.dym_slots.specs.declared.view.OwnerSeat.{OwnerSeat}
@@ -28,7 +28,7 @@ use Rattle.dym_slots.specs.declared.view.SeatView.TheVariants.{Owns}
 use Rattle.dym_slots.specs.SeatViews.{Naming, listed, owner_seat, glimpse, glimpse_of, owner_of, IsOwner, past, looked, holding, with_put, lowered, with_freed, with_raised}
 use Rattle.dym_slots.specs.TableStates.{Held, Knowing, TableState, Sound, Holds}
 use Rattle.dym_slots.specs.Orders.{entry_of}
-use Rattle.dym_slots.specs.Moves.{IsIdleOwner, HasOut, OwnerLooked, IsKnownFree, Claimed, TookOwn, TookRetired, IsUnlisted, WasPut, WasLowered, FreedNewest, Raised}
+use Rattle.dym_slots.specs.Moves.{IsIdleOwner, HasOut, HasEntry, OwnerLooked, IsKnownFree, Claimed, TookOwn, TookRetired, IsUnlisted, WasPut, WasLowered, FreedNewest, Raised}
 use Rattle.dym_slots.proofs.Showing.{by_state, homes_by_state, words_set, word_at, homes_set, home_at, homes_agree, named}
 use Rattle.dym_slots.proofs.Entries.{map_entries, parts, contains_entry, contains_listed, without_newest, from_raised}
 use Rattle.dym_slots.proofs.Running.{OwnerIn, owner_in, owner_holds, noted, sound_after, live_numbered, live_below, past_forget, past_twice, look_of, wins, loses}
@@ -189,9 +189,9 @@ looks count slots id me s owner inside st holds len at fits =
       },
     )
 
-pub claims : (count slots id : ℕ) (me : Knowing) (s num : ℕ) → IsIdleOwner me → IsKnownFree s (owner_of me.0) → s < count → num ≡ (owner_of me.0).next → num < RECORD_NUMBERS
-    → Allows (Holds count) slots id me (s + 1) (λ k. either (k == 0) (4 * num + 2) k) (λ _ after. Claimed (s + 1) me after)
-claims count slots id me s num idle known inside number fits_number st holds len at fits =
+pub claims : (count slots id : ℕ) (me : Knowing) (s num old new : ℕ) → old ≡ slot_word Free → new ≡ slot_word (OutOwner num) → IsIdleOwner me → IsKnownFree s (owner_of me.0) → s < count
+    → num ≡ (owner_of me.0).next → num < RECORD_NUMBERS → Allows (Holds count) slots id me (s + 1) (λ k. either (k == old) new k) (λ _ after. Claimed (s + 1) me after)
+claims count slots id me s num old new a b idle known inside number fits_number st holds len at fits =
     let o = owner_of me.0 in
     let i = owner_in count st id o holds (at ∙ ap some idle.seat) in
     let c = i.state.core in
@@ -209,20 +209,23 @@ claims count slots id me s num idle known inside number fits_number st holds len
       Owns (holding s o),
       takes s None,
       home_of_state i s Free free inside,
-      taken i me.1 s c.owner.next None (sound_after count (OwnerClaim s) i.state d h i.sound.numbered i.sound) (either (k == 0) (4 * num + 2) k)
-          (wins k 0 (4 * num + 2) (word_of i s ∙ ap slot_word free) ∙ ap (λ (n : ℕ). 4 * n + 2) is_next),
+      taken i me.1 s c.owner.next None (sound_after count (OwnerClaim s) i.state d h i.sound.numbered i.sound) (either (k == old) new k)
+          (wins k old new (word_of i s ∙ ap slot_word free ∙ sym a) ∙ b ∙ ap (λ (n : ℕ). 4 * n + 2) is_next),
       record { slot = s; at = refl; after_is = refl },
     )
 
-pub takes_own : (count slots id : ℕ) (me : Knowing) (x : Listed) → IsIdleOwner me → Contains (owner_of me.0).list x → x.entry.slot < count
-    → Allows (Holds count) slots id me (x.entry.slot + 1) (λ k. either (k == 4 * x.entry.number + 1) (4 * x.entry.number + 2) k) (λ _ after. TookOwn (x.entry.slot + 1) (4 * x.entry.number + 1) me after)
-takes_own count slots id me x idle has inside st holds len at fits =
+-- an entry by its slot and number
+abbrev pub as_found : ℕ → ℕ → Listed → Listed
+as_found s n x = record { entry = entry s n; bytes = x.bytes }
+
+pub takes_own : (count slots id : ℕ) (me : Knowing) (s n old new : ℕ) → old ≡ slot_word (Live n) → new ≡ slot_word (OutOwner n) → IsIdleOwner me → HasEntry s n (owner_of me.0) → s < count
+    → Allows (Holds count) slots id me (s + 1) (λ k. either (k == old) new k) (λ _ after. TookOwn (s + 1) old me after)
+takes_own count slots id me s n old new a b idle (x, has, slot, number) inside st holds len at fits =
     let o = owner_of me.0 in
-    let s = x.entry.slot in
-    let n = x.entry.number in
     let i = owner_in count st id o holds (at ∙ ap some idle.seat) in
     let k = slice_index st.words (s + 1) in
-    let e = entry_in i x has in
+    let there : Contains o.list (as_found s n x) = subst (Contains o.list) (λ j. record { entry = record { slot = slot j; number = number j }; bytes = x.bytes }) has in
+    let e = entry_in i (as_found s n x) there in
     let live : state_of i.state.core s ≡ Live n = elim (i.sound.facts.entries s n e.0) [
       | inl l ↦ l
       | inr out ↦ absurd (let wrong : None ≡ Some s = sym idle.none ∙ sym (out_of i) ∙ out.1 in cc)
@@ -230,8 +233,8 @@ takes_own count slots id me x idle has inside st holds len at fits =
       Owns (holding s o),
       takes s (Some (i.records n)),
       home_of_state i s (Live n) live inside,
-      taken_live i me.1 s n idle.none live (either (k == 4 * n + 1) (4 * n + 2) k) (wins k (4 * n + 1) (4 * n + 2) (word_of i s ∙ ap slot_word live)),
-      record { found = x; there = has; at = refl; number = refl; after_is = ap (λ (b : List ℕ). (Owns (holding s o), (s, Some b) ∷ me.1)) e.1 },
+      taken_live i me.1 s n idle.none live (either (k == old) new k) (wins k old new (word_of i s ∙ ap slot_word live ∙ sym a) ∙ b),
+      record { found = as_found s n x; there = there; at = refl; number = a; after_is = ap (λ (l : List ℕ). (Owns (holding s o), (s, Some l) ∷ me.1)) e.1 },
     )
 
 pub apart : (x y : Slot) → slot_word x ≡ slot_word y → x ≡ y
@@ -241,20 +244,20 @@ apart (OutOwner m) (OutOwner n) e = ap OutOwner (omega arith)
 apart (OutSweeper m) (OutSweeper n) e = ap OutSweeper (omega arith)
 apart _ _ e = absurd (omega arith)
 
-pub takes_retired : (count slots id : ℕ) (me : Knowing) (s n : ℕ) → IsIdleOwner me → (owner_of me.0).look ≡ Some (glimpse s (Live n)) → s < count
-    → Allows (Holds count) slots id me (s + 1) (λ k. either (k == 4 * n + 1) (4 * n + 2) k) (TookRetired (s + 1) me)
-takes_retired count slots id me s n idle look inside st holds len at fits =
+pub takes_retired : (count slots id : ℕ) (me : Knowing) (s n old new : ℕ) → old ≡ slot_word (Live n) → new ≡ slot_word (OutOwner n) → IsIdleOwner me → (owner_of me.0).look ≡ Some (glimpse s (Live n)) → s < count
+    → Allows (Holds count) slots id me (s + 1) (λ k. either (k == old) new k) (TookRetired (s + 1) me)
+takes_retired count slots id me s n old new a b idle look inside st holds len at fits =
     let o = owner_of me.0 in
     let i = owner_in count st id o holds (at ∙ ap some idle.seat) in
     let x = state_of i.state.core s in
     let k = slice_index st.words (s + 1) in
     let lost : ((x ≡ Free) ⊎ ((m : ℕ) × (x ≡ OutSweeper m))) → x ≢ Live n
-    → (w : SeatView) × (act : Act Held) × Valid st.homes me.1 act × Holds count (stepped st (s + 1) (either (k == 4 * n + 1) (4 * n + 2) k) id me.1 w act) × TookRetired (s + 1) me k (w, carried_after me.1 act)
+    → (w : SeatView) × (act : Act Held) × Valid st.homes me.1 act × Holds count (stepped st (s + 1) (either (k == old) new k) id me.1 w act) × TookRetired (s + 1) me k (w, carried_after me.1 act)
     = λ found other. (
       Owns (looked s x o),
       keeps,
       tt,
-      own_look i me.1 s inside (either (k == 4 * n + 1) (4 * n + 2) k) (loses k (4 * n + 1) (4 * n + 2) (λ e. other (apart x (Live n) (sym (word_of i s) ∙ e)))),
+      own_look i me.1 s inside (either (k == old) new k) (loses k old new (λ e. other (apart x (Live n) (sym (word_of i s) ∙ e ∙ a)))),
       record { slot = s; state = x; at = refl; shown = word_of i s; outcome = inr (found, refl) },
     ) in
     elim (i.sound.notes.look.live s n (seen_of i s (Live n) look)) [
@@ -262,7 +265,7 @@ takes_retired count slots id me s n idle look inside st holds len at fits =
         Owns (holding s o),
         takes s (Some (i.records n)),
         home_of_state i s (Live n) live inside,
-        taken_live i me.1 s n idle.none live (either (k == 4 * n + 1) (4 * n + 2) k) (wins k (4 * n + 1) (4 * n + 2) (word_of i s ∙ ap slot_word live)),
+        taken_live i me.1 s n idle.none live (either (k == old) new k) (wins k old new (word_of i s ∙ ap slot_word live ∙ sym a) ∙ b),
         record { slot = s; state = x; at = refl; shown = word_of i s; outcome = inl (n, i.records n, live, refl) },
       )
       | inr (inl swept) ↦ lost (inr (n, swept)) (λ e. let wrong : Live n ≡ OutSweeper n = sym e ∙ swept in cc)
@@ -314,10 +317,10 @@ up_one : (n top : ℕ) → n < top → n + 1 ≤ top
 up_one n top lt = omega arith
 
 -- the step of a put of these bytes into the slot s, which is out
-put_holds : {count : ℕ} {st : TableState} {id : ℕ} {o : OwnerSeat} (i : OwnerIn count st id o) (carried : List (ℕ × Held)) (s num : ℕ) (bytes : List ℕ) → carried ≡ (s, Some bytes) ∷ [] → o.out ≡ Some s
-    → IsUnlisted s o.list → s < count → num ≡ i.state.core.owner.next → i.state.core.owner.next < RECORD_NUMBERS → length o.list < RECORD_ROOM
-    → Holds count (stepped st (s + 1) (4 * num + 1) id carried (Owns (with_put s bytes o)) gives)
-put_holds {count} {st} {id} {o} i carried s num bytes has held alone inside is_next left room =
+put_holds : {count : ℕ} {st : TableState} {id : ℕ} {o : OwnerSeat} (i : OwnerIn count st id o) (carried : List (ℕ × Held)) (s word : ℕ) (bytes : List ℕ) → carried ≡ (s, Some bytes) ∷ [] → o.out ≡ Some s
+    → IsUnlisted s o.list → s < count → word ≡ slot_word (Live i.state.core.owner.next) → i.state.core.owner.next < RECORD_NUMBERS → length o.list < RECORD_ROOM
+    → Holds count (stepped st (s + 1) word id carried (Owns (with_put s bytes o)) gives)
+put_holds {count} {st} {id} {o} i carried s word bytes has held alone inside w left room =
     let a = i.state in
     let c = a.core in
     let n = c.owner.next in
@@ -345,22 +348,22 @@ put_holds {count} {st} {id} {o} i carried s num bytes has held alone inside is_n
     let named_home : some (Some bytes) ≡ by_state records (Live n) = ap (λ (x : List ℕ). some (Some x)) (sym (named_here i.records n bytes)) in
     slot_holds i s (Live n) records d.homes v (forget s (forget s a.owner)) (with_put s bytes o)
     (sound_after count (OwnerPut s) b e puts (up_one n RECORD_NUMBERS left) mid)
-    (set st.words (s + 1) (4 * num + 1)) (ap (λ (k : ℕ). set st.words (s + 1) (4 * k + 1)) is_next)
+    (set st.words (s + 1) word) (ap (set st.words (s + 1)) w)
     (put_back st.homes carried) (ap (put_back st.homes) has ∙ ap (set st.homes s) named_home)
     (homes_of_slots i ∙ agree)
     (put_view i.records c a.owner s bytes i.sound.facts ∙ ap (with_put s bytes) i.seat)
 
-pub puts : (count slots id : ℕ) (me : Knowing) (s : ℕ) (bytes : List ℕ) (num : ℕ) → HasOut s (Some bytes) me → IsUnlisted s (owner_of me.0).list → s < count
+pub puts : (count slots id : ℕ) (me : Knowing) (s num word : ℕ) (bytes : List ℕ) → word ≡ slot_word (Live num) → HasOut s (Some bytes) me → IsUnlisted s (owner_of me.0).list → s < count
     → num ≡ (owner_of me.0).next → num < RECORD_NUMBERS → length (owner_of me.0).list < RECORD_ROOM
-    → Allows (Holds count) slots id me (s + 1) (λ _. 4 * num + 1) (λ _ after. WasPut (s + 1) me after)
-puts count slots id me s bytes num has alone inside number left room st holds len at fits =
+    → Allows (Holds count) slots id me (s + 1) (λ _. word) (λ _ after. WasPut (s + 1) me after)
+puts count slots id me s num word bytes w has alone inside number left room st holds len at fits =
     let o = owner_of me.0 in
     let i = owner_in count st id o holds (at ∙ ap some has.seat) in
     let is_next : num ≡ i.state.core.owner.next = number ∙ sym (next_of i) in (
       Owns (with_put s bytes o),
       gives,
       tt,
-      put_holds i me.1 s num bytes has.held has.out alone inside is_next (subst (λ (n : ℕ). n < RECORD_NUMBERS) is_next left) room,
+      put_holds i me.1 s word bytes has.held has.out alone inside (w ∙ ap (λ (n : ℕ). 4 * n + 1) is_next) (subst (λ (n : ℕ). n < RECORD_NUMBERS) is_next left) room,
       record { slot = s; bytes = bytes; at = refl; held = has.held; after_is = ap (λ (l : List (ℕ × Held)). (Owns (with_put s bytes o), rest l)) has.held },
     )
 

@@ -14,132 +14,29 @@ use Rattle.dym_slots.specs.SeatViews.{owner_of, with_put, with_raised, holding}
 use Rattle.dym_slots.specs.TableStates.{Held, Knowing}
 use Rattle.atomic_table.specs.Seated.{TableId}
 use Rattle.dym_slots.specs.Owners.{OutIs}
-use Rattle.dym_slots.specs.Moves.{SitsAt, IsIdleOwner, SameList, IsUnlisted, HasEntry, IsBytesOf}
+use Rattle.dym_slots.specs.Moves.{SitsAt, SameList, IsUnlisted, HasEntry, IsBytesOf}
 use Rattle.dym_slots.specs.Meanings.{Numbered, KeepMeaning, no_record, record_at, NumbersRise}
 use Rattle.dym_slots.specs.Orders.{IsOrder, no_entry, slot_at, numbered, entry_of, retired, Stands, HasLeft, IsNewest}
 use Rattle.dym_slots.proofs.Rising.{below_made, one_place, rise_push, rise_drop, rise_take}
 use Rattle.dym_slots.proofs.Places.{order_swap, order_numbered, EntryAt, entry_at, list_size, spare_slot, bytes_at, differ}
 
--- a list is shorter than the table
-pub fits : (order : List Entry) (len next_number : ℕ) (me : Knowing) → Stands order len next_number me → len + 2 ≤ length order
-fits order len next_number me s = let a = s.order_is.size in let b = s.few in omega arith
+-- the list that the seat knows, and its records
+abbrev list_of : Knowing → List Listed
+list_of me = (owner_of me.0).list
 
-pub size_of_list : (order : List Entry) (len next_number : ℕ) (me : Knowing) → Stands order len next_number me → length (owner_of me.0).list ≡ len
-size_of_list order len next_number me s = list_size (owner_of me.0).list order len s.list (let f = fits order len next_number me s in omega arith)
+abbrev records_of : Knowing → List Numbered
+records_of me = map numbered (owner_of me.0).list
 
-pub count_of_records : (order : List Entry) (len next_number : ℕ) (me : Knowing) → Stands order len next_number me → length (map numbered (owner_of me.0).list) ≡ len
-count_of_records order len next_number me s = length-map (owner_of me.0).list numbered ∙ size_of_list order len next_number me s
-
-trans_lt : (a b c : ℕ) → a < b → b ≤ c → a < c
-trans_lt a b c p q = omega arith
+-- what stands at a place past the end
+abbrev unlisted : Listed
+unlisted = record { entry = no_entry; bytes = [] }
 
 up_one : (n top : ℕ) → n < top → n + 1 ≤ top
 up_one n top lt = omega arith
 
--- The place of an entry
-
-pub entry_here : (order : List Entry) (len next_number : ℕ) (me : Knowing) (place : ℕ) → Stands order len next_number me → place < len → EntryAt (owner_of me.0).list order place
-entry_here order len next_number me place s lt = entry_at (owner_of me.0).list order len place s.list lt (let f = fits order len next_number me s in omega arith)
-
-pub number_here : (order : List Entry) (len next_number : ℕ) (me : Knowing) (place : ℕ) → Stands order len next_number me → place < len
-    → (get_or order place no_entry).number ≡ (record_at (map numbered (owner_of me.0).list) place).number
-number_here order len next_number me place s lt =
-    let x = entry_here order len next_number me place s lt in
-    ap (λ (e : Entry). e.number) (sym x.is) ∙ ap (λ (r : Numbered). r.number) x.shown
-
-pub number_fits : (order : List Entry) (len next_number : ℕ) (me : Knowing) (place : ℕ) → Stands order len next_number me → place < len → (get_or order place no_entry).number < RECORD_NUMBERS
-number_fits order len next_number me place s lt =
-    let is = number_here order len next_number me place s lt in
-    let below = below_made (map numbered (owner_of me.0).list) next_number place s.rise (let n = count_of_records order len next_number me s in omega arith) in
-    subst (λ (n : ℕ). n < RECORD_NUMBERS) (sym is) (let m = s.most in trans_lt (record_at (map numbered (owner_of me.0).list) place).number next_number RECORD_NUMBERS below m)
-
-pub has_entry : (order : List Entry) (len next_number : ℕ) (me : Knowing) (place : ℕ) → Stands order len next_number me → place < len
-    → HasEntry (slot_at order place) (get_or order place no_entry).number (owner_of me.0)
-has_entry order len next_number me place s lt =
-    let x = entry_here order len next_number me place s lt in
-    (x.found, x.there, ap (λ (e : Entry). e.slot) x.is, ap (λ (e : Entry). e.number) x.is)
-
--- the bytes of the entry at a place are those of the record there
-pub bytes_here : (order : List Entry) (len next_number : ℕ) (me : Knowing) (place n : ℕ) (bytes : List ℕ) → Stands order len next_number me → place < len → IsBytesOf (slot_at order place) n (owner_of me.0) bytes
-    → bytes ≡ (record_at (map numbered (owner_of me.0).list) place).bytes
-bytes_here order len next_number me place n bytes s lt (x, has, at, number, own) =
-    sym own ∙ bytes_at (owner_of me.0).list order len place x s.order_is s.list (let f = fits order len next_number me s in omega arith) lt has at
-
-pub is_bytes : (order : List Entry) (len next_number : ℕ) (me : Knowing) (place : ℕ) (bytes : List ℕ) → Stands order len next_number me → place < len → bytes ≡ (record_at (map numbered (owner_of me.0).list) place).bytes
-    → IsBytesOf (slot_at order place) (get_or order place no_entry).number (owner_of me.0) bytes
-is_bytes order len next_number me place bytes s lt own =
-    let x = entry_here order len next_number me place s lt in
-    (x.found, x.there, ap (λ (e : Entry). e.slot) x.is, ap (λ (e : Entry). e.number) x.is, ap (λ (r : Numbered). r.bytes) x.shown ∙ sym own)
-
--- Spare slots
-
-pub swapped : (order : List Entry) (len next_number : ℕ) (me : Knowing) → Stands order len next_number me → Stands (swap order len (len + 1)) len next_number me × (slot_at (swap order len (len + 1)) len ≡ slot_at order (len + 1))
-swapped order len next_number me s =
-    let f = fits order len next_number me s in
-    let is : swap order len (len + 1) ≡ set (set order len (get_or order (len + 1) no_entry)) (len + 1) (get_or order len no_entry) = sym (swap_is order len (len + 1) no_entry (omega arith) (omega arith)) in
-    let front : take len (swap order len (len + 1)) ≡ take len order =
-    rw is (take-set-le len (set order len (get_or order (len + 1) no_entry)) (len + 1) (get_or order len no_entry) (omega arith) ∙ take-set-le len order len (get_or order (len + 1) no_entry) (omega arith)) in (
-      record {
-        seat = s.seat;
-        order_is = order_swap order len (len + 1) (omega arith) (omega arith) s.order_is;
-        list = s.list ∙ sym front;
-        few = s.few;
-        next = s.next;
-        most = s.most;
-        rise = s.rise;
-        remembered = s.remembered;
-      },
-      rw is (ap (λ (e : Entry). e.slot) (get_or-set_other (set order len (get_or order (len + 1) no_entry)) (len + 1) len (get_or order len no_entry) no_entry (λ e. omega arith) ∙ get_or-set_same order len (get_or order (len + 1) no_entry) no_entry (omega arith))),
-    )
-
-pub unlisted_here : (order : List Entry) (len next_number : ℕ) (me after : Knowing) → Stands order len next_number me → SameList me after → IsUnlisted (slot_at order len) (owner_of after.0).list
-unlisted_here order len next_number me after s same =
-    let f = fits order len next_number me s in
-    subst (IsUnlisted (slot_at order len)) (sym same.list) (λ x has. spare_slot (owner_of me.0).list order len len x s.order_is s.list (omega arith) (omega arith) has)
-
--- Puts
-
-pub put_records : (order : List Entry) (len next_number : ℕ) (me mid : Knowing) (bytes : List ℕ) → Stands order len next_number me → SameList me mid
-    → map numbered (with_put (slot_at order len) bytes (owner_of mid.0)).list ≡ map numbered (owner_of me.0).list ++ record { number = next_number; bytes = bytes } ∷ []
-put_records order len next_number me mid bytes s same =
-    let next : (owner_of mid.0).next ≡ next_number = same.next ∙ s.next in
-    map-append numbered (owner_of mid.0).list (record { entry = entry (slot_at order len) (owner_of mid.0).next; bytes = bytes } ∷ [])
-    ∙ (λ j. map numbered (same.list j) ++ record { number = next j; bytes = bytes } ∷ [])
-
-pub put_stands : (order : List Entry) (len next_number : ℕ) (me mid : Knowing) (bytes : List ℕ) → Stands order len next_number me → SameList me mid → len < RECORD_ROOM → next_number < RECORD_NUMBERS
-    → Stands (set order len (entry (slot_at order len) next_number)) (len + 1) (next_number + 1) (Owns (with_put (slot_at order len) bytes (owner_of mid.0)), [])
-put_stands order len next_number me mid bytes s same room left =
-    let f = fits order len next_number me s in
-    let new : Entry = entry (slot_at order len) next_number in
-    let next : (owner_of mid.0).next ≡ next_number = same.next ∙ s.next in
-    let list : map entry_of (owner_of mid.0).list ≡ take len order = ap (map entry_of) same.list ∙ s.list in
-    record {
-      seat = refl;
-      order_is = order_numbered order len next_number s.order_is;
-      list = map-append entry_of (owner_of mid.0).list (record { entry = entry (slot_at order len) (owner_of mid.0).next; bytes = bytes } ∷ [])
-          ∙ (λ j. list j ++ entry (slot_at order len) (next j) ∷ [])
-          ∙ sym (take-set_at order len (len + 1) new refl (omega arith));
-      few = omega arith;
-      next = ap (λ (n : ℕ). n + 1) next;
-      most = up_one next_number RECORD_NUMBERS left;
-      rise = subst (λ (l : List Numbered). NumbersRise l (next_number + 1)) (sym (put_records order len next_number me mid bytes s same)) (rise_push (map numbered (owner_of me.0).list) next_number bytes s.rise);
-      remembered = refl;
-    }
-
-pub put_after : (order items : List Entry) (len next_number slot : ℕ) (me mid after : Knowing) (bytes : List ℕ) → Stands order len next_number me → SameList me mid → len < RECORD_ROOM → next_number < RECORD_NUMBERS
-    → slot ≡ slot_at order len → items ≡ set order len (entry (slot_at order len) next_number) → after ≡ (Owns (with_put slot bytes (owner_of mid.0)), [])
-    → Stands items (len + 1) (next_number + 1) after
-put_after order items len next_number slot me mid after bytes s same room left at is new =
-    let now : after ≡ (Owns (with_put (slot_at order len) bytes (owner_of mid.0)), []) = new ∙ ap (λ (t : ℕ). (Owns (with_put t bytes (owner_of mid.0)), [])) at in
-    subst (λ (p : List Entry × Knowing). Stands p.0 (len + 1) (next_number + 1) p.1) (λ j. (sym is j, sym now j)) (put_stands order len next_number me mid bytes s same room left)
-
--- Lifts and lowers
-
-pub held_stands : (order : List Entry) (len next_number slot : ℕ) (me after : Knowing) (home : Held) → Stands order len next_number me → after ≡ (Owns (holding slot (owner_of me.0)), (slot, home) ∷ []) → Stands order len next_number after
-held_stands order len next_number slot me after home s is =
-    subst (Stands order len next_number) (sym is) (record { seat = refl; order_is = s.order_is; list = s.list; few = s.few; next = s.next; most = s.most; rise = s.rise; remembered = s.remembered })
-
--- Cuts at the end
+-- a number below the next one is below the most
+below_most : (n m next top : ℕ) → n ≡ m → m < next → next ≤ top → n < top
+below_most n m next top is below most = omega arith
 
 snoc_front : (a b : List Listed) (x y : Listed) → a ++ x ∷ [] ≡ b ++ y ∷ [] → a ≡ b
 snoc_front [] [] x y e = refl
@@ -149,31 +46,6 @@ snoc_front (a ∷ as') (b ∷ bs) x y e =
     let head : a ≡ b = cc in
     let rest = snoc_front as' bs x y cc in
     λ j. head j ∷ rest j
-
-pub newest_here : (order : List Entry) (len next_number last : ℕ) (me now : Knowing) → Stands order len next_number me → last < len → 0 < last → HasLeft (take (last + 1) (owner_of me.0).list) me now
-    → IsNewest (get_or order last no_entry) (owner_of now.0).list
-newest_here order len next_number last me now s lt some_older left =
-    let list = (owner_of me.0).list in
-    let size = size_of_list order len next_number me s in
-    let x : Listed = get_or list last (record { entry = no_entry; bytes = [] }) in
-    let is : x.entry ≡ get_or order last no_entry
-    = sym (get_or-map entry_of list last (record { entry = no_entry; bytes = [] }) no_entry (omega arith)) ∙ ap (λ (l : List Entry). get_or l last no_entry) s.list ∙ get_or-take len order last no_entry lt in
-    record {
-      older = take last list;
-      newest = x;
-      list_is = left.list_is ∙ take_more list last (record { entry = no_entry; bytes = [] }) (omega arith);
-      entry_is = is;
-      some_older = (let t = length-take last list in omega arith);
-    }
-
-pub dropped_one : (order : List Entry) (len next_number last : ℕ) (me now after : Knowing) → Stands order len next_number me → last < len → HasLeft (take (last + 1) (owner_of me.0).list) me now
-    → ((older : List Listed) × (x : Listed) × ((owner_of now.0).list ≡ older ++ x ∷ []) × HasLeft older now after) → HasLeft (take last (owner_of me.0).list) me after
-dropped_one order len next_number last me now after s lt left (older, x, is, new) =
-    let list = (owner_of me.0).list in
-    let size = size_of_list order len next_number me s in
-    let front : older ≡ take last list = snoc_front older (take last list) x (get_or list last (record { entry = no_entry; bytes = [] }))
-    (sym is ∙ left.list_is ∙ take_more list last (record { entry = no_entry; bytes = [] }) (omega arith)) in
-    record { idle = new.idle; list_is = new.list_is ∙ front; next = new.next ∙ left.next; remembered = new.remembered ∙ left.remembered }
 
 take_less : (xs : List Entry) (kept len : ℕ) → kept ≤ len → take kept (take len xs) ≡ take kept xs
 take_less [] zero zero le = refl
@@ -188,54 +60,9 @@ take_less (x ∷ xs) (suc kept) (suc len) le = ap (λ (l : List Entry). x ∷ l)
 pub cut_records : (list : List Listed) (kept : ℕ) → map numbered (take kept list) ≡ take kept (map numbered list)
 cut_records list kept = sym (take-map numbered kept list)
 
-pub cut_stands : (order : List Entry) (len next_number kept : ℕ) (me after : Knowing) → Stands order len next_number me → kept ≤ len → HasLeft (take kept (owner_of me.0).list) me after → Stands order kept next_number after
-cut_stands order len next_number kept me after s le left =
-    let list = (owner_of me.0).list in
-    record {
-      seat = left.idle.seat;
-      order_is = s.order_is;
-      list = ap (map entry_of) left.list_is ∙ sym (take-map entry_of kept list) ∙ ap (take kept) s.list ∙ take_less order kept len le;
-      few = (let f = s.few in omega arith);
-      next = left.next ∙ s.next;
-      most = s.most;
-      rise = subst (λ (l : List Numbered). NumbersRise l next_number) (sym (ap (map numbered) left.list_is ∙ cut_records list kept)) (rise_take (map numbered list) next_number kept s.rise);
-      remembered = left.remembered ∙ s.remembered;
-    }
-
--- Cuts at the front
-
 drop_front : (a b : List Listed) → drop (length a) (a ++ b) ≡ b
 drop_front [] b = refl
 drop_front (x ∷ a) b = drop_front a b
-
-pub raise_parts : (order : List Entry) (len next_number place : ℕ) (me : Knowing) → Stands order len next_number me → place < len
-    → (dropped : List Listed) × (x : Listed) × (others : List Listed) × ((owner_of me.0).list ≡ dropped ++ x ∷ others) × (x.entry.number ≡ (get_or order place no_entry).number)
-raise_parts order len next_number place me s lt =
-    let list = (owner_of me.0).list in
-    let size = size_of_list order len next_number me s in
-    let x : Listed = get_or list place (record { entry = no_entry; bytes = [] }) in
-    let is : x.entry ≡ get_or order place no_entry
-    = sym (get_or-map entry_of list place (record { entry = no_entry; bytes = [] }) no_entry (omega arith)) ∙ ap (λ (l : List Entry). get_or l place no_entry) s.list ∙ get_or-take len order place no_entry lt in (
-      take place list,
-      x,
-      drop (place + 1) list,
-      sym (take-append-drop place list) ∙ ap (λ (l : List Listed). take place list ++ l) (drop_more list place (record { entry = no_entry; bytes = [] }) (omega arith)),
-      ap (λ (e : Entry). e.number) is,
-    )
-
-pub kept_is : (order : List Entry) (len next_number place : ℕ) (me : Knowing) (dropped : List Listed) (x : Listed) (others : List Listed) → Stands order len next_number me → place < len
-    → (owner_of me.0).list ≡ dropped ++ x ∷ others → x.entry.number ≡ (get_or order place no_entry).number → x ∷ others ≡ drop place (owner_of me.0).list
-kept_is order len next_number place me dropped x others s lt is number =
-    let list = (owner_of me.0).list in
-    let size = size_of_list order len next_number me s in
-    let count = count_of_records order len next_number me s in
-    let n = ap length is ∙ length-append dropped (x ∷ others) in
-    let inside : length dropped < length list = omega arith in
-    let at : record_at (map numbered list) (length dropped) ≡ numbered x
-    = get_or-map numbered list (length dropped) x no_record inside ∙ ap numbered (ap (λ (l : List Listed). get_or l (length dropped) x) is ∙ get_or_at dropped x others x (length dropped) refl) in
-    let same : length dropped ≡ place = one_place (map numbered list) next_number (length dropped) place s.rise (omega arith) (omega arith)
-    (ap (λ (r : Numbered). r.number) at ∙ number ∙ number_here order len next_number me place s lt) in
-    sym (ap (λ (l : List Listed). drop (length dropped) l) is ∙ drop_front dropped (x ∷ others)) ∙ ap (λ (k : ℕ). drop k list) same
 
 front : (m : ℕ) (xs ys : List Entry) → m ≤ length xs → take m xs ≡ take m (xs ++ ys)
 front zero [] ys le = refl
@@ -249,58 +76,237 @@ window (suc n) m zero xs ys e le = absurd (omega arith)
 window (suc n) m (suc len) [] ys e le = absurd (omega arith)
 window (suc n) m (suc len) (x ∷ xs) ys e le = window n m len xs ys (omega arith) (omega arith)
 
-pub raised_stands : (order : List Entry) (len next_number next_spares place left : ℕ) (me after : Knowing) (kept : List Listed) → Stands order len next_number me → place < len → left ≡ len - place → len ≤ next_spares → next_spares ≤ length order
-    → kept ≡ drop place (owner_of me.0).list → IsOrder (retired next_spares place order) → after ≡ (Owns (with_raised kept (owner_of me.0)), []) → Stands (retired next_spares place order) left next_number after
-raised_stands order len next_number next_spares place left me after kept s lt at le inside is turned new =
-    let list = (owner_of me.0).list in
-    let sum : left + place ≡ len = omega arith in
-    let size = length-take next_spares order in
-    subst (Stands (retired next_spares place order) left next_number) (sym new) (record {
-      seat = refl;
-      order_is = turned;
-      list = ap (map entry_of) is ∙ sym (drop-map entry_of place list) ∙ ap (drop place) (s.list ∙ sym (take_less order len next_spares le))
-          ∙ window place left len (take next_spares order) (take place (take next_spares order) ++ drop next_spares order) sum (omega arith);
-      few = (let r = s.few in omega arith);
-      next = s.next;
-      most = s.most;
-      rise = subst (λ (l : List Numbered). NumbersRise l next_number) (sym (ap (map numbered) is ∙ sym (drop-map numbered place list))) (rise_drop (map numbered list) next_number place s.rise);
-      remembered = s.remembered;
-    })
-
 pub raised_records : (list kept : List Listed) (place : ℕ) → kept ≡ drop place list → map numbered kept ≡ drop place (map numbered list)
 raised_records list kept place is = ap (map numbered) is ∙ sym (drop-map numbered place list)
 
+module _ {order : List Entry} {len next_number : ℕ} {me : Knowing} (s : Stands order len next_number me) where
+  -- a list is shorter than the table
+  pub fits : len + 2 ≤ length order
+  fits = let a = s.order_is.size in let b = s.few in omega arith
+
+  pub size_of_list : length (list_of me) ≡ len
+  size_of_list = list_size (list_of me) order len s.list (let f = fits in omega arith)
+
+  pub count_of_records : length (records_of me) ≡ len
+  count_of_records = length-map (list_of me) numbered ∙ size_of_list
+
+  -- The place of an entry
+
+  -- what was read at a place stands there
+  pub read_here : (place : ℕ) (x : Entry) → place < len → x ≡ get_or order place x → x ≡ get_or order place no_entry
+  read_here place x lt is = get_or_read order place x (let f = fits in omega arith) is no_entry
+
+  pub entry_here : (place : ℕ) → place < len → EntryAt (list_of me) order place
+  entry_here place lt = entry_at (list_of me) order len place s.list lt (let f = fits in omega arith)
+
+  pub number_here : (place : ℕ) → place < len → (get_or order place no_entry).number ≡ (record_at (records_of me) place).number
+  number_here place lt =
+      let x = entry_here place lt in
+      ap (λ (e : Entry). e.number) (sym x.is) ∙ ap (λ (r : Numbered). r.number) x.shown
+
+  pub number_fits : (place : ℕ) → place < len → (get_or order place no_entry).number < RECORD_NUMBERS
+  number_fits place lt =
+      let below = below_made (records_of me) next_number place s.rise (let n = count_of_records in omega arith) in
+      below_most _ _ next_number RECORD_NUMBERS (number_here place lt) below s.most
+
+  pub has_entry : (place : ℕ) → place < len → HasEntry (slot_at order place) (get_or order place no_entry).number (owner_of me.0)
+  has_entry place lt =
+      let x = entry_here place lt in
+      (x.found, x.there, ap (λ (e : Entry). e.slot) x.is, ap (λ (e : Entry). e.number) x.is)
+
+  -- the bytes of the entry at a place are those of the record there
+  pub bytes_here : (place n : ℕ) (bytes : List ℕ) → place < len → IsBytesOf (slot_at order place) n (owner_of me.0) bytes → bytes ≡ (record_at (records_of me) place).bytes
+  bytes_here place n bytes lt (x, has, at, number, own) =
+      sym own ∙ bytes_at (list_of me) order len place x s.order_is s.list (let f = fits in omega arith) lt has at
+
+  pub is_bytes : (place : ℕ) (bytes : List ℕ) → place < len → bytes ≡ (record_at (records_of me) place).bytes
+      → IsBytesOf (slot_at order place) (get_or order place no_entry).number (owner_of me.0) bytes
+  is_bytes place bytes lt own =
+      let x = entry_here place lt in
+      (x.found, x.there, ap (λ (e : Entry). e.slot) x.is, ap (λ (e : Entry). e.number) x.is, ap (λ (r : Numbered). r.bytes) x.shown ∙ sym own)
+
+  -- the entry at a place, from the list and from the order
+  entry_got : (place : ℕ) → place < len → (get_or (list_of me) place unlisted).entry ≡ get_or order place no_entry
+  entry_got place lt =
+      sym (get_or-map entry_of (list_of me) place unlisted no_entry (let n = size_of_list in omega arith))
+      ∙ ap (λ (l : List Entry). get_or l place no_entry) s.list
+      ∙ get_or-take len order place no_entry lt
+
+  -- Spare slots
+
+  pub swapped : Stands (swap order len (len + 1)) len next_number me × (slot_at (swap order len (len + 1)) len ≡ slot_at order (len + 1))
+  swapped =
+      let f = fits in
+      let spare = get_or order (len + 1) no_entry in
+      let is : swap order len (len + 1) ≡ set (set order len spare) (len + 1) (get_or order len no_entry) = sym (swap_is order len (len + 1) no_entry (omega arith) (omega arith)) in
+      let front : take len (swap order len (len + 1)) ≡ take len order =
+      rw is (take-set-le len (set order len spare) (len + 1) (get_or order len no_entry) (omega arith) ∙ take-set-le len order len spare (omega arith)) in (
+        record {
+          seat = s.seat;
+          order_is = order_swap order len (len + 1) (omega arith) (omega arith) s.order_is;
+          list = s.list ∙ sym front;
+          few = s.few;
+          next = s.next;
+          most = s.most;
+          rise = s.rise;
+          remembered = s.remembered;
+        },
+        rw is (ap (λ (e : Entry). e.slot) (get_or-set_other (set order len spare) (len + 1) len (get_or order len no_entry) no_entry (λ e. omega arith) ∙ get_or-set_same order len spare no_entry (omega arith))),
+      )
+
+  pub unlisted_here : (after : Knowing) → SameList me after → IsUnlisted (slot_at order len) (owner_of after.0).list
+  unlisted_here after same =
+      let f = fits in
+      subst (IsUnlisted (slot_at order len)) (sym same.list) (λ x has. spare_slot (list_of me) order len len x s.order_is s.list (omega arith) (omega arith) has)
+
+  -- the two slots behind the list's
+  pub two_spare : (x y : Entry) → x ≡ get_or order len x → y ≡ get_or order (len + 1) y → (x.slot < LOG_SLOTS) × (y.slot < LOG_SLOTS) × (x.slot ≢ y.slot)
+  two_spare x y a b =
+      let f = fits in
+      let p : x ≡ get_or order len no_entry = get_or_read order len x (omega arith) a no_entry in
+      let q : y ≡ get_or order (len + 1) no_entry = get_or_read order (len + 1) y (omega arith) b no_entry in (
+        subst (λ (e : Entry). e.slot < LOG_SLOTS) (sym p) (s.order_is.inside len no_entry (omega arith)),
+        subst (λ (e : Entry). e.slot < LOG_SLOTS) (sym q) (s.order_is.inside (len + 1) no_entry (omega arith)),
+        (λ e. differ order s.order_is len (len + 1) no_entry (omega arith) (omega arith) (λ n. omega arith)
+            (ap (λ (x : Entry). x.slot) (sym p) ∙ e ∙ ap (λ (x : Entry). x.slot) q)),
+      )
+
+  -- Puts
+
+  put_records : (mid : Knowing) (bytes : List ℕ) → SameList me mid
+      → map numbered (with_put (slot_at order len) bytes (owner_of mid.0)).list ≡ records_of me ++ record { number = next_number; bytes = bytes } ∷ []
+  put_records mid bytes same =
+      let next : (owner_of mid.0).next ≡ next_number = same.next ∙ s.next in
+      map-append numbered (list_of mid) (record { entry = entry (slot_at order len) (owner_of mid.0).next; bytes = bytes } ∷ [])
+      ∙ (λ j. map numbered (same.list j) ++ record { number = next j; bytes = bytes } ∷ [])
+
+  pub put_stands : (mid : Knowing) (bytes : List ℕ) → SameList me mid → len < RECORD_ROOM → next_number < RECORD_NUMBERS
+      → Stands (set order len (entry (slot_at order len) next_number)) (len + 1) (next_number + 1) (Owns (with_put (slot_at order len) bytes (owner_of mid.0)), [])
+  put_stands mid bytes same room left =
+      let f = fits in
+      let new : Entry = entry (slot_at order len) next_number in
+      let next : (owner_of mid.0).next ≡ next_number = same.next ∙ s.next in
+      let old : map entry_of (list_of mid) ≡ take len order = ap (map entry_of) same.list ∙ s.list in
+      record {
+        seat = refl;
+        order_is = order_numbered order len next_number s.order_is;
+        list = map-append entry_of (list_of mid) (record { entry = entry (slot_at order len) (owner_of mid.0).next; bytes = bytes } ∷ [])
+            ∙ (λ j. old j ++ entry (slot_at order len) (next j) ∷ [])
+            ∙ sym (take-set_at order len (len + 1) new refl (omega arith));
+        few = omega arith;
+        next = ap (λ (n : ℕ). n + 1) next;
+        most = up_one next_number RECORD_NUMBERS left;
+        rise = subst (λ (l : List Numbered). NumbersRise l (next_number + 1)) (sym (put_records mid bytes same)) (rise_push (records_of me) next_number bytes s.rise);
+        remembered = refl;
+      }
+
+  pub put_after : (items : List Entry) (slot : ℕ) (mid after : Knowing) (bytes : List ℕ) → SameList me mid → len < RECORD_ROOM → next_number < RECORD_NUMBERS
+      → slot ≡ slot_at order len → items ≡ set order len (entry (slot_at order len) next_number) → after ≡ (Owns (with_put slot bytes (owner_of mid.0)), [])
+      → Stands items (len + 1) (next_number + 1) after
+  put_after items slot mid after bytes same room left at is new =
+      let now : after ≡ (Owns (with_put (slot_at order len) bytes (owner_of mid.0)), []) = new ∙ ap (λ (t : ℕ). (Owns (with_put t bytes (owner_of mid.0)), [])) at in
+      subst (λ (p : List Entry × Knowing). Stands p.0 (len + 1) (next_number + 1) p.1) (λ j. (sym is j, sym now j)) (put_stands mid bytes same room left)
+
+  -- Lifts and lowers
+
+  pub held_stands : (slot : ℕ) (after : Knowing) (home : Held) → after ≡ (Owns (holding slot (owner_of me.0)), (slot, home) ∷ []) → Stands order len next_number after
+  held_stands slot after home is =
+      subst (Stands order len next_number) (sym is) (record { seat = refl; order_is = s.order_is; list = s.list; few = s.few; next = s.next; most = s.most; rise = s.rise; remembered = s.remembered })
+
+  -- Cuts at the end
+
+  pub newest_here : (last : ℕ) (now : Knowing) → last < len → 0 < last → HasLeft (take (last + 1) (list_of me)) me now → IsNewest (get_or order last no_entry) (list_of now)
+  newest_here last now lt some_older left =
+      let size = size_of_list in
+      record {
+        older = take last (list_of me);
+        newest = get_or (list_of me) last unlisted;
+        list_is = left.list_is ∙ take_more (list_of me) last unlisted (omega arith);
+        entry_is = entry_got last lt;
+        some_older = (let t = length-take last (list_of me) in omega arith);
+      }
+
+  pub dropped_one : (last : ℕ) (now after : Knowing) → last < len → HasLeft (take (last + 1) (list_of me)) me now
+      → ((older : List Listed) × (x : Listed) × (list_of now ≡ older ++ x ∷ []) × HasLeft older now after) → HasLeft (take last (list_of me)) me after
+  dropped_one last now after lt left (older, x, is, new) =
+      let size = size_of_list in
+      let front : older ≡ take last (list_of me) = snoc_front older (take last (list_of me)) x (get_or (list_of me) last unlisted)
+      (sym is ∙ left.list_is ∙ take_more (list_of me) last unlisted (omega arith)) in
+      record { idle = new.idle; list_is = new.list_is ∙ front; next = new.next ∙ left.next; remembered = new.remembered ∙ left.remembered }
+
+  pub cut_stands : (kept : ℕ) (after : Knowing) → kept ≤ len → HasLeft (take kept (list_of me)) me after → Stands order kept next_number after
+  cut_stands kept after le left = record {
+    seat = left.idle.seat;
+    order_is = s.order_is;
+    list = ap (map entry_of) left.list_is ∙ sym (take-map entry_of kept (list_of me)) ∙ ap (take kept) s.list ∙ take_less order kept len le;
+    few = (let f = s.few in omega arith);
+    next = left.next ∙ s.next;
+    most = s.most;
+    rise = subst (λ (l : List Numbered). NumbersRise l next_number) (sym (ap (map numbered) left.list_is ∙ cut_records (list_of me) kept)) (rise_take (records_of me) next_number kept s.rise);
+    remembered = left.remembered ∙ s.remembered;
+  }
+
+  -- Cuts at the front
+
+  pub raise_parts : (place : ℕ) → place < len
+      → (dropped : List Listed) × (x : Listed) × (others : List Listed) × (list_of me ≡ dropped ++ x ∷ others) × (x.entry.number ≡ (get_or order place no_entry).number)
+  raise_parts place lt =
+      let size = size_of_list in (
+        take place (list_of me),
+        get_or (list_of me) place unlisted,
+        drop (place + 1) (list_of me),
+        sym (take-append-drop place (list_of me)) ∙ ap (λ (l : List Listed). take place (list_of me) ++ l) (drop_more (list_of me) place unlisted (omega arith)),
+        ap (λ (e : Entry). e.number) (entry_got place lt),
+      )
+
+  pub kept_is : (place : ℕ) (dropped : List Listed) (x : Listed) (others : List Listed) → place < len
+      → list_of me ≡ dropped ++ x ∷ others → x.entry.number ≡ (get_or order place no_entry).number → x ∷ others ≡ drop place (list_of me)
+  kept_is place dropped x others lt is number =
+      let size = size_of_list in
+      let count = count_of_records in
+      let n = ap length is ∙ length-append dropped (x ∷ others) in
+      let inside : length dropped < length (list_of me) = omega arith in
+      let at : record_at (records_of me) (length dropped) ≡ numbered x
+      = get_or-map numbered (list_of me) (length dropped) x no_record inside ∙ ap numbered (ap (λ (l : List Listed). get_or l (length dropped) x) is ∙ get_or_at dropped x others x (length dropped) refl) in
+      let same : length dropped ≡ place = one_place (records_of me) next_number (length dropped) place s.rise (omega arith) (omega arith)
+      (ap (λ (r : Numbered). r.number) at ∙ number ∙ number_here place lt) in
+      sym (ap (λ (l : List Listed). drop (length dropped) l) is ∙ drop_front dropped (x ∷ others)) ∙ ap (λ (k : ℕ). drop k (list_of me)) same
+
+  pub raised_stands : (next_spares place left : ℕ) (after : Knowing) (kept : List Listed) → place < len → left ≡ len - place → len ≤ next_spares → next_spares ≤ length order
+      → kept ≡ drop place (list_of me) → IsOrder (retired next_spares place order) → after ≡ (Owns (with_raised kept (owner_of me.0)), []) → Stands (retired next_spares place order) left next_number after
+  raised_stands next_spares place left after kept lt at le inside is turned new =
+      let sum : left + place ≡ len = omega arith in
+      let size = length-take next_spares order in
+      subst (Stands (retired next_spares place order) left next_number) (sym new) (record {
+        seat = refl;
+        order_is = turned;
+        list = ap (map entry_of) is ∙ sym (drop-map entry_of place (list_of me)) ∙ ap (drop place) (s.list ∙ sym (take_less order len next_spares le))
+            ∙ window place left len (take next_spares order) (take place (take next_spares order) ++ drop next_spares order) sum (omega arith);
+        few = (let r = s.few in omega arith);
+        next = s.next;
+        most = s.most;
+        rise = subst (λ (l : List Numbered). NumbersRise l next_number) (sym (raised_records (list_of me) kept place is)) (rise_drop (records_of me) next_number place s.rise);
+        remembered = s.remembered;
+      })
+
 -- The list behind the meaning
 
-pub in_list : (v m : KeepMeaning) (len place : ℕ) → v ≡ m → length v.records ≡ len → place < length m.records → place < len
-in_list v m len place e n lt = let k = ap (λ (o : KeepMeaning). length o.records) e in omega arith
+pub in_list : {v m : KeepMeaning} {len : ℕ} (place : ℕ) → v ≡ m → length v.records ≡ len → place < length m.records → place < len
+in_list place e n lt = let k = ap (λ (o : KeepMeaning). length o.records) e in omega arith
 
-pub put_room : (v m : KeepMeaning) (len : ℕ) → v ≡ m → length v.records ≡ len → length m.records < RECORD_ROOM → len < RECORD_ROOM
-put_room v m len e n lt = let k = ap (λ (o : KeepMeaning). length o.records) e in omega arith
+pub put_room : {v m : KeepMeaning} {len : ℕ} → v ≡ m → length v.records ≡ len → length m.records < RECORD_ROOM → len < RECORD_ROOM
+put_room e n lt = let k = ap (λ (o : KeepMeaning). length o.records) e in omega arith
 
 -- What the fields say
 
-pub sits_still : (table a b : TableId) → b ≡ a → SitsAt table a → SitsAt table b
-sits_still table a b same s = record { same = same ∙ s.same; words = s.words; slots = s.slots }
+pub sits_still : {table a b : TableId} → b ≡ a → SitsAt table a → SitsAt table b
+sits_still same s = record { same = same ∙ s.same; words = s.words; slots = s.slots }
 
-pub out_idle : (order : List Entry) (lifted : Option ℕ) (me : Knowing) → lifted ≡ None → OutIs order lifted me → ((owner_of me.0).out ≡ None) × (me.1 ≡ [])
-out_idle order lifted me quiet out = subst (λ (l : Option ℕ). OutIs order l me) quiet out
+pub out_idle : (order : List Entry) {lifted : Option ℕ} (me : Knowing) → lifted ≡ None → OutIs order lifted me → ((owner_of me.0).out ≡ None) × (me.1 ≡ [])
+out_idle order me quiet out = subst (λ (l : Option ℕ). OutIs order l me) quiet out
 
-pub idle_out : (order : List Entry) (lifted : Option ℕ) (me : Knowing) → lifted ≡ None → (owner_of me.0).out ≡ None → me.1 ≡ [] → OutIs order lifted me
-idle_out order lifted me quiet out empty = subst (λ (l : Option ℕ). OutIs order l me) (sym quiet) (out, empty)
+pub idle_out : (order : List Entry) {lifted : Option ℕ} (me : Knowing) → lifted ≡ None → (owner_of me.0).out ≡ None → me.1 ≡ [] → OutIs order lifted me
+idle_out order me quiet out empty = subst (λ (l : Option ℕ). OutIs order l me) (sym quiet) (out, empty)
 
-pub never_inside : (lifted : Option ℕ) (len : ℕ) → lifted ≡ None → (place : ℕ) → lifted ≡ Some place → place < len
-never_inside lifted len quiet place is = let wrong : None ≡ Some place = sym quiet ∙ is in absurd cc
-
--- the two slots behind the list's
-pub two_spare : (order : List Entry) (len next_number : ℕ) (me : Knowing) (x y : Entry) → Stands order len next_number me → x ≡ get_or order len x → y ≡ get_or order (len + 1) y
-    → (x.slot < LOG_SLOTS) × (y.slot < LOG_SLOTS) × (x.slot ≢ y.slot)
-two_spare order len next_number me x y s a b =
-    let f = fits order len next_number me s in
-    let p : x ≡ get_or order len no_entry = get_or_read order len x (omega arith) a no_entry in
-    let q : y ≡ get_or order (len + 1) no_entry = get_or_read order (len + 1) y (omega arith) b no_entry in (
-      subst (λ (e : Entry). e.slot < LOG_SLOTS) (sym p) (s.order_is.inside len no_entry (omega arith)),
-      subst (λ (e : Entry). e.slot < LOG_SLOTS) (sym q) (s.order_is.inside (len + 1) no_entry (omega arith)),
-      (λ e. differ order s.order_is len (len + 1) no_entry (omega arith) (omega arith) (λ n. omega arith)
-          (ap (λ (x : Entry). x.slot) (sym p) ∙ e ∙ ap (λ (x : Entry). x.slot) q)),
-    )
+pub never_inside : {lifted : Option ℕ} (len : ℕ) → lifted ≡ None → (place : ℕ) → lifted ≡ Some place → place < len
+never_inside len quiet place is = let wrong : None ≡ Some place = sym quiet ∙ is in absurd cc

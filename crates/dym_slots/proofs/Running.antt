@@ -1,5 +1,5 @@
 -- From a table that keeps the rule to the state of the machine that it shows, and back after a step.
-use Rattle.std.proofs.Common.{◌≡◌, ◌≢◌, ℕ, zero, suc, ◌<◌, ◌≤◌, inl, inr, true, false, nat_eq, length, get_or, List, [], ◌∷◌, map, set, sym, refl, ap, ◌∙◌, subst, arith, Option, Some, None}
+use Rattle.std.proofs.Common.{◌≡◌, ◌≢◌, ℕ, zero, suc, ◌<◌, ◌≤◌, inl, inr, true, false, nat_eq, List, [], ◌∷◌, map, set, sym, refl, ap, ◌∙◌, arith, Option, Some, None}
 use Rattle.std.specs.Prelude.{option_map, if◌then◌else◌, ◌==◌}
 use mathlib.Core.Option as M
 use mathlib.Core.Option.{some, none, some-injective, some-ne-none}

@@ -1,20 +1,19 @@
 -- From what a step tells to what the owner's functions say.
 use Rattle.std.proofs.Common.{◌≡◌, ℕ, ◌+◌, ◌*◌, ◌<◌, ◌⊎◌, List, [], ◌∷◌, ◌++◌, length, sym, ap, ◌∙◌, subst, arith, Some, None}
-use Rattle.std.specs.Prelude.{◌==◌, Contains}
-use prog.Atomic.{either}
+use Rattle.std.specs.Prelude.{Contains}
 use Rattle.atomic_table.specs.Table.{rest, Allows}
 use Rattle.dym_base.specs.declared.limits.TheConstants.{RECORD_ROOM}
 use Rattle.dym_slots.specs.declared.machine.Slot.{Slot}
-use Rattle.dym_slots.specs.declared.machine.Slot.TheVariants.{Free, Live, OutOwner}
+use Rattle.dym_slots.specs.declared.machine.Slot.TheVariants.{Free, Live}
 use Rattle.dym_slots.specs.declared.machine.TheConstants.{RECORD_NUMBERS}
 use Rattle.dym_slots.specs.SlotWords.{slot_word}
 use Rattle.dym_slots.specs.declared.view.Listed.{Listed}
 use Rattle.dym_slots.specs.declared.view.SeatView.{SeatView}
 use Rattle.dym_slots.specs.declared.view.SeatView.TheVariants.{Owns}
-use Rattle.dym_slots.specs.SeatViews.{glimpse, owner_of, holding, with_put, lowered}
+use Rattle.dym_slots.specs.SeatViews.{owner_of, holding, with_put, lowered}
 use Rattle.dym_slots.specs.TableStates.{Held, Knowing, Holds}
-use Rattle.dym_slots.specs.Moves.{IsIdleOwner, HasOut, OwnerLooked, LookedAt, IsKnownFree, Claimed, TookOwn, TookRetired, Won, Lost, IsUnlisted, WasPut, WasLowered, FreedNewest, HasEntry, IsBytesOf}
-use Rattle.dym_slots.proofs.OwnerMoves.{claims, takes_own, takes_retired, puts, lowers, frees}
+use Rattle.dym_slots.specs.Moves.{HasOut, OwnerLooked, LookedAt, Claimed, TookOwn, TookRetired, Won, Lost, IsUnlisted, WasPut, WasLowered, FreedNewest, IsBytesOf}
+use Rattle.dym_slots.proofs.OwnerMoves.{puts, lowers, frees}
 
 same_slot : (s t : ℕ) → s + 1 ≡ t + 1 → t ≡ s
 same_slot s t e = omega arith
@@ -25,22 +24,10 @@ looked_at s n me after x l reads =
     let at : l.slot ≡ s = same_slot s l.slot l.at in
     subst (λ (p : ℕ × Slot). LookedAt p.0 p.1 me after) (λ j. (at j, is j)) (record { numbered = l.numbered; own = l.own; after_is = l.after_is })
 
-pub claims_by : (count slots id : ℕ) (me : Knowing) (s num old new : ℕ) → old ≡ slot_word Free → new ≡ slot_word (OutOwner num) → IsIdleOwner me → IsKnownFree s (owner_of me.0) → s < count
-    → num ≡ (owner_of me.0).next → num < RECORD_NUMBERS → Allows (Holds count) slots id me (s + 1) (λ k. either (k == old) new k) (λ _ after. Claimed (s + 1) me after)
-claims_by count slots id me s num old new a b idle known inside number below =
-    subst (λ (p : ℕ × ℕ). Allows (Holds count) slots id me (s + 1) (λ k. either (k == p.0) p.1 k) (λ _ after. Claimed (s + 1) me after)) (λ j. (sym a j, sym b j))
-    (claims count slots id me s num idle known inside number below)
-
 pub claimed_by : (s : ℕ) (me after : Knowing) → me.1 ≡ [] → Claimed (s + 1) me after → after ≡ (Owns (holding s (owner_of me.0)), (s, None) ∷ [])
 claimed_by s me after empty r =
     let at : r.slot ≡ s = same_slot s r.slot r.at in
     r.after_is ∙ (λ j. (Owns (holding (at j) (owner_of me.0)), (at j, None) ∷ empty j))
-
-pub takes_retired_by : (count slots id : ℕ) (me : Knowing) (s n old new : ℕ) → old ≡ slot_word (Live n) → new ≡ slot_word (OutOwner n) → IsIdleOwner me → (owner_of me.0).look ≡ Some (glimpse s (Live n)) → s < count
-    → Allows (Holds count) slots id me (s + 1) (λ k. either (k == old) new k) (TookRetired (s + 1) me)
-takes_retired_by count slots id me s n old new a b idle look inside =
-    subst (λ (p : ℕ × ℕ). Allows (Holds count) slots id me (s + 1) (λ k. either (k == p.0) p.1 k) (TookRetired (s + 1) me)) (λ j. (sym a j, sym b j))
-    (takes_retired count slots id me s n idle look inside)
 
 pub retired_by : (s n : ℕ) (me after : Knowing) (x : Slot) → TookRetired (s + 1) me n after → ((shown : Slot) → n ≡ slot_word shown → x ≡ shown) → Won s x me after ⊎ Lost s x me after
 retired_by s n me after x r reads =
@@ -60,9 +47,8 @@ pub puts_by : (count slots id : ℕ) (me mid : Knowing) (s num word : ℕ) (byte
 puts_by count slots id me mid s num word bytes w has is alone inside number below room =
     let seat : mid.0 ≡ me.0 = ap (λ (m : Knowing). m.0) is in
     let back = sym seat in
-    subst (λ (n : ℕ). Allows (Holds count) slots id mid (s + 1) (λ _. n) (λ _ after. WasPut (s + 1) mid after)) (sym w)
-    (puts count slots id mid s bytes num (now_out s has.0 (Some bytes) me mid has.1 is) (subst (λ (v : SeatView). IsUnlisted s (owner_of v).list) back alone) inside
-    (number ∙ ap (λ (v : SeatView). (owner_of v).next) back) below (subst (λ (v : SeatView). length (owner_of v).list < RECORD_ROOM) back room))
+    puts count slots id mid s num word bytes w (now_out s has.0 (Some bytes) me mid has.1 is) (subst (λ (v : SeatView). IsUnlisted s (owner_of v).list) back alone) inside
+    (number ∙ ap (λ (v : SeatView). (owner_of v).next) back) below (subst (λ (v : SeatView). length (owner_of v).list < RECORD_ROOM) back room)
 
 pub put_by : (me mid after : Knowing) (s : ℕ) (bytes : List ℕ) → ((home : Held) × HasOut s home me) → mid ≡ (me.0, (s, Some bytes) ∷ rest me.1) → WasPut (s + 1) mid after
     → after ≡ (Owns (with_put s bytes (owner_of me.0)), [])
@@ -74,19 +60,6 @@ put_by me mid after s bytes has is r =
     let home : Some r.bytes ≡ Some bytes = ap (λ (p : ℕ × Held). p.1) pair in
     let same : r.bytes ≡ bytes = cc in
     r.after_is ∙ (λ j. (Owns (with_put (at j) (same j) (owner_of (is j).0)), []))
-
--- an entry by its slot and number
-abbrev pub as_found : ℕ → ℕ → Listed → Listed
-as_found s n x = record { entry = record { slot = s; number = n }; bytes = x.bytes }
-
-found_again : (list : List Listed) (s n : ℕ) (x : Listed) → Contains list x → x.entry.slot ≡ s → x.entry.number ≡ n → Contains list (as_found s n x)
-found_again list s n x has a b = subst (Contains list) (λ j. record { entry = record { slot = a j; number = b j }; bytes = x.bytes }) has
-
-pub takes_own_by : (count slots id : ℕ) (me : Knowing) (s n old new : ℕ) → old ≡ slot_word (Live n) → new ≡ slot_word (OutOwner n) → IsIdleOwner me → HasEntry s n (owner_of me.0) → s < count
-    → Allows (Holds count) slots id me (s + 1) (λ k. either (k == old) new k) (λ _ after. TookOwn (s + 1) old me after)
-takes_own_by count slots id me s n old new a b idle (x, has, at, number) inside =
-    subst (λ (p : ℕ × ℕ). Allows (Holds count) slots id me (s + 1) (λ k. either (k == p.0) p.1 k) (λ _ after. TookOwn (s + 1) p.0 me after)) (λ j. (sym a j, sym b j))
-    (takes_own count slots id me (as_found s n x) idle (found_again (owner_of me.0).list s n x has at number) inside)
 
 same_number : (m n : ℕ) → 4 * n + 1 ≡ 4 * m + 1 → m ≡ n
 same_number m n e = omega arith

@@ -21,7 +21,12 @@ impl LogSlots {
     /// Makes an empty log table, with room for a full list. Only memory can be wanting.
     pub fn open(alloc: Global) -> Result<(Owner, Sweeper), AllocError>
         ensures owner { IfOk result (λ ends.
-            ends.0 ≡ record { records = []; next_number = 0; lifted = None; origin = shared ends.1.table }) }
+            ends.0 ≡ record {
+              records = [];
+              next_number = 0;
+              lifted = None;
+              origin = shared ends.1.table;
+            }) }
         ensures sweeper { IfOk result (λ ends. ends.1 ≡ record {
           table = ends.1.table;
           rounds = 0;

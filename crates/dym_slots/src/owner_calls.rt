@@ -179,7 +179,8 @@ fn drop_newest(table: &Slots, seat: &mut LogSeat, newest: Entry)
     requires slot { newest.slot < LOG_SLOTS }
     requires number { newest.number < RECORD_NUMBERS }
     ensures table { seat.new.table_id ≡ seat.old.table_id }
-    ensures after { (older : List Listed) × (x : Listed) × ((owner_of seat.old.me.0).list ≡ older ++ x ∷ [])
+    ensures after { (older : List Listed) × (x : Listed)
+        × ((owner_of seat.old.me.0).list ≡ older ++ x ∷ [])
         × HasLeft older seat.old.me seat.new.me }
 {
     drop(take_out(table, seat, newest.slot, newest.number));

@@ -107,7 +107,8 @@ fn claim(table: &Slots, seat: &mut LogSeat, slot: u32, next: u64)
     requires next { next ≡ (owner_of seat.old.me.0).next }
     requires number { next < RECORD_NUMBERS }
     ensures table { seat.new.table_id ≡ seat.old.table_id }
-    ensures after { seat.new.me ≡ (Owns (holding slot (owner_of seat.old.me.0)), (slot, None) ∷ []) }
+    ensures after { seat.new.me
+        ≡ (Owns (holding slot (owner_of seat.old.me.0)), (slot, None) ∷ []) }
 {
     let (old, new) = (Slot::Free.word(), Slot::OutOwner(next).word());
     table.compare_exchange::<Claims>(seat, slot as usize + 1, old, new);
@@ -121,7 +122,8 @@ fn take_retired(table: &Slots, seat: &mut LogSeat, slot: u32, number: u64) -> Sl
     requires seen { (owner_of seat.old.me.0).look ≡ Some (glimpse slot (Live number)) }
     requires number { number < RECORD_NUMBERS }
     ensures table { seat.new.table_id ≡ seat.old.table_id }
-    ensures outcome { Won slot result seat.old.me seat.new.me ⊎ Lost slot result seat.old.me seat.new.me }
+    ensures outcome { Won slot result seat.old.me seat.new.me
+        ⊎ Lost slot result seat.old.me seat.new.me }
 {
     let (old, new) = (Slot::Live(number).word(), Slot::OutOwner(number).word());
     Slot::of_word(table.compare_exchange::<TakesRetired>(seat, slot as usize + 1, old, new))
@@ -151,7 +153,8 @@ pub(crate) fn take_out(table: &Slots, seat: &mut LogSeat, slot: u32, number: u64
     requires listed { HasEntry slot number (owner_of seat.old.me.0) }
     requires number { number < RECORD_NUMBERS }
     ensures table { seat.new.table_id ≡ seat.old.table_id }
-    ensures after { seat.new.me ≡ (Owns (holding slot (owner_of seat.old.me.0)), (slot, None) ∷ []) }
+    ensures after { seat.new.me
+        ≡ (Owns (holding slot (owner_of seat.old.me.0)), (slot, None) ∷ []) }
     ensures bytes { IsBytesOf slot number (owner_of seat.old.me.0) result }
 {
     let (old, new) = (Slot::Live(number).word(), Slot::OutOwner(number).word());
@@ -181,10 +184,12 @@ pub(crate) fn free_newest(table: &Slots, seat: &mut LogSeat, slot: u32)
     requires table { SitsAt table.now.table_id seat.old.table_id }
     requires held { HasOut slot None seat.old.me }
     requires slot { slot < LOG_SLOTS }
-    requires newest { (older : List Listed) × (x : Listed) × ((owner_of seat.old.me.0).list ≡ older ++ x ∷ [])
+    requires newest { (older : List Listed) × (x : Listed)
+        × ((owner_of seat.old.me.0).list ≡ older ++ x ∷ [])
         × (0 < length older) × (x.entry.slot ≡ slot) }
     ensures table { seat.new.table_id ≡ seat.old.table_id }
-    ensures after { (older : List Listed) × (x : Listed) × ((owner_of seat.old.me.0).list ≡ older ++ x ∷ [])
+    ensures after { (older : List Listed) × (x : Listed)
+        × ((owner_of seat.old.me.0).list ≡ older ++ x ∷ [])
         × (seat.new.me ≡ (Owns (with_freed x.entry.slot older (owner_of seat.old.me.0)), [])) }
 {
     table.store::<Frees>(seat, slot as usize + 1, Slot::Free.word());
@@ -199,7 +204,8 @@ pub(crate) fn raise_root(table: &Slots, seat: &mut LogSeat, number: u64)
     ensures table { seat.new.table_id ≡ seat.old.table_id }
     ensures after { (dropped : List Listed) × (x : Listed) × (others : List Listed)
         × ((owner_of seat.old.me.0).list ≡ dropped ++ x ∷ others) × (x.entry.number ≡ number)
-        × (seat.new.me ≡ (Owns (with_raised (x ∷ others) (owner_of seat.old.me.0)), seat.old.me.1)) }
+        × (seat.new.me
+        ≡ (Owns (with_raised (x ∷ others) (owner_of seat.old.me.0)), seat.old.me.1)) }
 {
     table.store::<Raises>(seat, 0, number);
 }

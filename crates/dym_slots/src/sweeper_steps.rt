@@ -55,7 +55,8 @@ pub(crate) fn read_root(table: &Slots, seat: &mut LogSeat) -> u64
     requires table { SitsAt table.now.table_id seat.old.table_id }
     requires idle { IsIdleSweeper seat.old.me }
     ensures table { seat.new.table_id ≡ seat.old.table_id }
-    ensures after { seat.new.me ≡ (Sweeps (with_root result (sweeper_of seat.old.me.0)), seat.old.me.1) }
+    ensures after { seat.new.me
+        ≡ (Sweeps (with_root result (sweeper_of seat.old.me.0)), seat.old.me.1) }
     ensures numbered { result ≤ RECORD_NUMBERS }
     ensures rises { (sweeper_of seat.old.me.0).root_seen ≤ result }
     ensures reached { (sweeper_of seat.old.me.0).least_root ≤ result }
@@ -70,7 +71,8 @@ fn glance(table: &Slots, seat: &mut LogSeat, slot: u32) -> Slot
     requires slot { slot < LOG_SLOTS }
     requires turn { slot ≡ (sweeper_of seat.old.me.0).clean }
     ensures table { seat.new.table_id ≡ seat.old.table_id }
-    ensures after { seat.new.me ≡ (Sweeps (glanced result (sweeper_of seat.old.me.0)), seat.old.me.1) }
+    ensures after { seat.new.me
+        ≡ (Sweeps (glanced result (sweeper_of seat.old.me.0)), seat.old.me.1) }
 {
     Slot::of_word(table.load::<Glances>(seat, slot as usize + 1))
 }
@@ -86,7 +88,8 @@ fn grab(table: &Slots, seat: &mut LogSeat, slot: u32, number: u64) -> bool
     requires number { number < RECORD_NUMBERS }
     ensures table { seat.new.table_id ≡ seat.old.table_id }
     ensures won { IsTrue result → (bytes : List ℕ)
-        × (seat.new.me ≡ (Sweeps (grabbed slot (sweeper_of seat.old.me.0)), (slot, Some bytes) ∷ [])) }
+        × (seat.new.me
+        ≡ (Sweeps (grabbed slot (sweeper_of seat.old.me.0)), (slot, Some bytes) ∷ [])) }
     ensures lost { IsFalse result → SweptSlot false seat.old.me seat.new.me }
 {
     let (old, new) = (Slot::Live(number).word(), Slot::OutSweeper(number).word());
@@ -155,9 +158,11 @@ pub(crate) fn walk(table: &Slots, seat: &mut LogSeat, root: u64) -> u32
     ensures idle { IsIdleSweeper seat.new.me }
     ensures rounds { (sweeper_of seat.new.me.0).rounds ≡ (sweeper_of seat.old.me.0).rounds }
     ensures root { (sweeper_of seat.new.me.0).root_seen ≡ root }
-    ensures least_root { (sweeper_of seat.new.me.0).least_root ≡ (sweeper_of seat.old.me.0).least_root }
+    ensures least_root { (sweeper_of seat.new.me.0).least_root
+        ≡ (sweeper_of seat.old.me.0).least_root }
     ensures clean { (sweeper_of seat.new.me.0).clean ≡ LOG_SLOTS }
-    ensures taken { (sweeper_of seat.new.me.0).taken_back ≡ (sweeper_of seat.old.me.0).taken_back + result }
+    ensures taken { (sweeper_of seat.new.me.0).taken_back
+        ≡ (sweeper_of seat.old.me.0).taken_back + result }
 {
     let mut taken = 0;
     for slot in 0..LOG_SLOTS {
@@ -177,9 +182,11 @@ pub(crate) fn sweep_all(table: &Slots, seat: &mut LogSeat) -> u32
     ensures rounds { (sweeper_of seat.new.me.0).rounds ≡ (sweeper_of seat.old.me.0).rounds + 1 }
     ensures rises { (sweeper_of seat.old.me.0).root_seen ≤ (sweeper_of seat.new.me.0).root_seen }
     ensures reached { (sweeper_of seat.old.me.0).least_root ≤ (sweeper_of seat.new.me.0).root_seen }
-    ensures least_root { (sweeper_of seat.new.me.0).least_root ≡ (sweeper_of seat.old.me.0).least_root }
+    ensures least_root { (sweeper_of seat.new.me.0).least_root
+        ≡ (sweeper_of seat.old.me.0).least_root }
     ensures clean { (sweeper_of seat.new.me.0).clean ≡ LOG_SLOTS }
-    ensures taken { (sweeper_of seat.new.me.0).taken_back ≡ (sweeper_of seat.old.me.0).taken_back + result }
+    ensures taken { (sweeper_of seat.new.me.0).taken_back
+        ≡ (sweeper_of seat.old.me.0).taken_back + result }
 {
     let root = read_root(table, seat);
     walk(table, seat, root)

@@ -1,34 +1,31 @@
 use Rattle.std.proofs.Common.{◌∙◌, sym, subst, arith, ◌≡◌, ◌<◌, ◌+◌, ◌-◌, ℕ, take, refl}
-use Rattle.std.proofs.lemmas.List.{get_or_read}
 use Rattle.dym_slots.specs.declared.machine.Entry.{Entry}
 use Rattle.dym_slots.specs.declared.machine.TheConstants.{RECORD_NUMBERS}
 use Rattle.dym_slots.specs.SeatViews.{owner_of}
-use Rattle.dym_slots.specs.Orders.{no_entry, HasLeft, IsNewest}
-use Rattle.dym_slots.proofs.OwnerSays.{fits, newest_here, number_fits, dropped_one}
+use Rattle.dym_slots.specs.Orders.{HasLeft, IsNewest}
+use Rattle.dym_slots.proofs.OwnerSays.{read_here, newest_here, number_fits, dropped_one}
 use Rattle.dym_slots.proofs.owner_calls.drop_down.Goals as goal
 
 pub drop_newest-requires-clause-newest : goal.drop_newest-requires-clause-newest
 drop_newest-requires-clause-newest c =
     let s = c.requires.stands.1 in
-    let f = fits _ _ _ _ s in
     let inv = c.loop-last.invariant in
     let last = c.loop-last.last - 1 in
     let more = c.loop-last-test.true in
     let up : c.loop-last.last ≡ last + 1 = omega arith in
     let left = subst (λ (n : ℕ). HasLeft (take n (owner_of c.args.seat.now.me.0).list) c.args.seat.now.me c.loop-last.seat.me) up inv.5 in
-    let e = get_or_read c.args.order.now.items last c.index.result.now (omega arith) c.index.ensures no_entry in
+    let e = read_here s last c.index.result.now (omega arith) c.index.ensures in
     subst (λ (x : Entry). IsNewest x (owner_of c.loop-last.seat.me.0).list) (sym e)
-    (newest_here _ _ _ last _ _ s (omega arith) (omega arith) left)
+    (newest_here s last _ (omega arith) (omega arith) left)
 
 pub drop_newest-requires-clause-number : goal.drop_newest-requires-clause-number
 drop_newest-requires-clause-number c =
     let s = c.requires.stands.1 in
-    let f = fits _ _ _ _ s in
     let inv = c.loop-last.invariant in
     let last = c.loop-last.last - 1 in
     let more = c.loop-last-test.true in
-    let e = get_or_read c.args.order.now.items last c.index.result.now (omega arith) c.index.ensures no_entry in
-    subst (λ (x : Entry). x.number < RECORD_NUMBERS) (sym e) (number_fits _ _ _ _ last s (omega arith))
+    let e = read_here s last c.index.result.now (omega arith) c.index.ensures in
+    subst (λ (x : Entry). x.number < RECORD_NUMBERS) (sym e) (number_fits s last (omega arith))
 
 pub loop-last-preserved : goal.loop-last-preserved
 loop-last-preserved c =
@@ -43,5 +40,5 @@ loop-last-preserved c =
       refl,
       omega arith,
       omega arith,
-      dropped_one _ _ _ last _ _ _ s (omega arith) left c.drop_newest.ensures.after,
+      dropped_one s last _ _ (omega arith) left c.drop_newest.ensures.after,
     )

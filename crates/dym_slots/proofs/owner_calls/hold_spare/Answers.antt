@@ -5,8 +5,8 @@ use Rattle.dym_slots.proofs.OwnerSays.{two_spare, swapped}
 use Rattle.dym_slots.proofs.owner_calls.hold_spare.Goals as goal
 
 pub seize_either-requires-clause-slots : goal.seize_either-requires-clause-slots
-seize_either-requires-clause-slots c = two_spare _ _ _ _ _ _ c.requires.stands c.index.ensures c.index-2.ensures
+seize_either-requires-clause-slots c = two_spare c.requires.stands _ _ c.index.ensures c.index-2.ensures
 
 pub returns-clause-stands : goal.returns-clause-stands
 returns-clause-stands c =
-    subst (λ (l : List Entry). Stands l c.args.place c.args.next_number c.args.seat.now.me) (sym c.swap.ensures.items) (swapped _ _ _ _ c.requires.stands).0
+    subst (λ (l : List Entry). Stands l c.args.place c.args.next_number c.args.seat.now.me) (sym c.swap.ensures.items) (swapped c.requires.stands).0

@@ -8,7 +8,7 @@ use Rattle.dym_slots.proofs.owner.Owner.drop_after.Goals as goal
 
 pub overflow_add-kept : goal.overflow_add-kept
 overflow_add-kept c =
-    let lt = in_list _ _ _ c.args.place c.self.view_is (count_of_records _ _ _ _ c.self.invariant.stands) c.requires.place in
+    let lt = in_list c.args.place c.self.view_is (count_of_records c.self.invariant.stands) c.requires.place in
     let few = c.self.invariant.stands.few in
     omega arith
 
@@ -17,14 +17,14 @@ invariant_of-self c =
     let i = c.self.inside in
     let inv = c.self.invariant in
     let s = inv.stands in
-    let lt = in_list _ _ _ c.args.place c.self.view_is (count_of_records _ _ _ _ s) c.requires.place in
+    let lt = in_list c.args.place c.self.view_is (count_of_records s) c.requires.place in
     let quiet = ap (λ (m : KeepMeaning). m.lifted) c.self.view_is ∙ c.requires.idle in
     let left = c.drop_down.ensures.after in
     record {
-      seated = sits_still _ _ _ c.drop_down.ensures.table inv.seated;
-      stands = cut_stands _ _ _ (c.args.place + 1) _ _ s (omega arith) left;
-      inside = never_inside i.lifted (c.args.place + 1) quiet;
-      out = idle_out _ i.lifted _ quiet left.idle.none left.idle.empty;
+      seated = sits_still c.drop_down.ensures.table inv.seated;
+      stands = cut_stands s (c.args.place + 1) _ (omega arith) left;
+      inside = never_inside (c.args.place + 1) quiet;
+      out = idle_out _ _ quiet left.idle.none left.idle.empty;
     }
 
 pub returns : goal.returns

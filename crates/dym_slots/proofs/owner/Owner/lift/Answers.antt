@@ -1,5 +1,4 @@
-use Rattle.std.proofs.Common.{ap, ◌∙◌, sym, subst, arith, ◌<◌, [], ◌∷◌, None, Some}
-use Rattle.std.proofs.lemmas.List.{get_or_read}
+use Rattle.std.proofs.Common.{ap, ◌∙◌, sym, subst, ◌<◌, [], ◌∷◌, None, Some}
 use Rattle.std.proofs.lemmas.Option.{same_Some}
 use Rattle.dym_slots.specs.declared.machine.Entry.{Entry}
 use Rattle.dym_slots.specs.declared.machine.TheConstants.{RECORD_NUMBERS}
@@ -7,25 +6,22 @@ use Rattle.dym_slots.specs.SeatViews.{owner_of}
 use Rattle.dym_slots.specs.TableStates.{Knowing}
 use Rattle.dym_slots.specs.Moves.{HasEntry, IsBytesOf}
 use Rattle.dym_slots.specs.Meanings.{KeepMeaning, record_at}
-use Rattle.dym_slots.specs.Orders.{no_entry}
-use Rattle.dym_slots.proofs.OwnerSays.{fits, count_of_records, has_entry, number_fits, in_list, bytes_here, held_stands, sits_still}
+use Rattle.dym_slots.proofs.OwnerSays.{read_here, count_of_records, has_entry, number_fits, in_list, bytes_here, held_stands, sits_still}
 use Rattle.dym_slots.proofs.owner.Owner.lift.Goals as goal
 
 pub take_out-rec-requires-clause-listed : goal.take_out-rec-requires-clause-listed
 take_out-rec-requires-clause-listed c =
     let s = c.self.invariant.stands in
-    let lt = in_list _ _ _ c.args.place c.self.view_is (count_of_records _ _ _ _ s) c.requires.place in
-    let f = fits _ _ _ _ s in
-    let e = get_or_read c.self.inside.order.items c.args.place c.index.result.now (omega arith) c.index.ensures no_entry in
-    subst (λ (x : Entry). HasEntry x.slot x.number (owner_of c.self.inside.seat.me.0)) (sym e) (has_entry _ _ _ _ c.args.place s lt)
+    let lt = in_list c.args.place c.self.view_is (count_of_records s) c.requires.place in
+    let e = read_here s c.args.place c.index.result.now lt c.index.ensures in
+    subst (λ (x : Entry). HasEntry x.slot x.number (owner_of c.self.inside.seat.me.0)) (sym e) (has_entry s c.args.place lt)
 
 pub take_out-rec-requires-clause-number : goal.take_out-rec-requires-clause-number
 take_out-rec-requires-clause-number c =
     let s = c.self.invariant.stands in
-    let lt = in_list _ _ _ c.args.place c.self.view_is (count_of_records _ _ _ _ s) c.requires.place in
-    let f = fits _ _ _ _ s in
-    let e = get_or_read c.self.inside.order.items c.args.place c.index.result.now (omega arith) c.index.ensures no_entry in
-    subst (λ (x : Entry). x.number < RECORD_NUMBERS) (sym e) (number_fits _ _ _ _ c.args.place s lt)
+    let lt = in_list c.args.place c.self.view_is (count_of_records s) c.requires.place in
+    let e = read_here s c.args.place c.index.result.now lt c.index.ensures in
+    subst (λ (x : Entry). x.number < RECORD_NUMBERS) (sym e) (number_fits s c.args.place lt)
 
 pub invariant_of-self : goal.invariant_of-self
 invariant_of-self c =
@@ -33,13 +29,12 @@ invariant_of-self c =
     let inv = c.self.invariant in
     let s = inv.stands in
     let place = c.args.place in
-    let lt = in_list _ _ _ place c.self.view_is (count_of_records _ _ _ _ s) c.requires.place in
-    let f = fits _ _ _ _ s in
-    let e = get_or_read i.order.items place c.index.result.now (omega arith) c.index.ensures no_entry in
+    let lt = in_list place c.self.view_is (count_of_records s) c.requires.place in
+    let e = read_here s place c.index.result.now lt c.index.ensures in
     let after = c.take_out-rec.ensures.after in
     record {
-      seated = sits_still _ _ _ c.take_out-rec.ensures.table inv.seated;
-      stands = held_stands i.order.items i.len i.next_number c.index.result.now.slot i.seat.me c.take_out-rec.new.seat.me None s after;
+      seated = sits_still c.take_out-rec.ensures.table inv.seated;
+      stands = held_stands s c.index.result.now.slot c.take_out-rec.new.seat.me None after;
       inside = λ p is. subst (λ q. q < i.len) (same_Some place p is) lt;
       out = (
         ap (λ (m : Knowing). (owner_of m.0).out) after ∙ ap (λ (x : Entry). Some x.slot) e,
@@ -50,8 +45,7 @@ invariant_of-self c =
 pub returns-clause-bytes : goal.returns-clause-bytes
 returns-clause-bytes c =
     let s = c.self.invariant.stands in
-    let lt = in_list _ _ _ c.args.place c.self.view_is (count_of_records _ _ _ _ s) c.requires.place in
-    let f = fits _ _ _ _ s in
-    let e = get_or_read c.self.inside.order.items c.args.place c.index.result.now (omega arith) c.index.ensures no_entry in
+    let lt = in_list c.args.place c.self.view_is (count_of_records s) c.requires.place in
+    let e = read_here s c.args.place c.index.result.now lt c.index.ensures in
     let own = subst (λ (x : Entry). IsBytesOf x.slot x.number (owner_of c.self.inside.seat.me.0) c.take_out-rec.result) e c.take_out-rec.ensures.bytes in
-    bytes_here _ _ _ _ c.args.place _ _ s lt own ∙ ap (λ (m : KeepMeaning). (record_at m.records c.args.place).bytes) c.self.view_is
+    bytes_here s c.args.place _ _ lt own ∙ ap (λ (m : KeepMeaning). (record_at m.records c.args.place).bytes) c.self.view_is

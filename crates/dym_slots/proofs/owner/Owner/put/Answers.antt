@@ -12,12 +12,12 @@ use Rattle.dym_slots.proofs.OwnerSays.{fits, count_of_records, unlisted_here, pu
 use Rattle.dym_slots.proofs.owner.Owner.put.Goals as goal
 
 pub hold_spare-slot-requires-clause-room : goal.hold_spare-slot-requires-clause-room
-hold_spare-slot-requires-clause-room c = put_room _ _ _ c.self.view_is (count_of_records _ _ _ _ c.self.invariant.stands) c.requires.room
+hold_spare-slot-requires-clause-room c = put_room c.self.view_is (count_of_records c.self.invariant.stands) c.requires.room
 
 pub put_into-requires-clause-unlisted : goal.put_into-requires-clause-unlisted
 put_into-requires-clause-unlisted c =
     let h = c.hold_spare-slot.ensures in
-    subst (λ (s : ℕ). IsUnlisted s (owner_of c.hold_spare-slot.new.seat.me.0).list) (sym h.slot) (unlisted_here _ _ _ _ _ h.stands h.seized.same)
+    subst (λ (s : ℕ). IsUnlisted s (owner_of c.hold_spare-slot.new.seat.me.0).list) (sym h.slot) (unlisted_here h.stands _ h.seized.same)
 
 pub invariant_of-self : goal.invariant_of-self
 invariant_of-self c =
@@ -25,16 +25,16 @@ invariant_of-self c =
     let inv = c.self.invariant in
     let h = c.hold_spare-slot.ensures in
     let order = c.hold_spare-slot.new.order.items in
-    let f = fits _ _ _ _ h.stands in
+    let f = fits h.stands in
     let quiet = ap (λ (m : KeepMeaning). m.lifted) c.self.view_is ∙ c.requires.idle in
     let left : i.next_number < RECORD_NUMBERS = let e = ap (λ (m : KeepMeaning). m.next_number) c.self.view_is in let r = c.requires.next_number in omega arith in
-    let room = put_room _ _ _ c.self.view_is (count_of_records _ _ _ _ inv.stands) c.requires.room in
+    let room = put_room c.self.view_is (count_of_records inv.stands) c.requires.room in
     let e = get_or_read order i.len c.index_mut.result.now (omega arith) c.index_mut.ensures.value no_entry in
     let items = ap (λ (s : ℕ). set order i.len (entry s i.next_number)) (ap (λ (x : Entry). x.slot) e) in
     let now = c.put_into.ensures.after in
     record {
-      seated = sits_still _ _ _ (c.put_into.ensures.table ∙ h.table) inv.seated;
-      stands = put_after order _ i.len i.next_number c.hold_spare-slot.result i.seat.me c.hold_spare-slot.new.seat.me _ c.args.rec h.stands h.seized.same room left h.slot items now;
-      inside = never_inside i.lifted (i.len + 1) quiet;
-      out = idle_out _ i.lifted _ quiet (ap (λ (m : Knowing). (owner_of m.0).out) now) (ap (λ (m : Knowing). m.1) now);
+      seated = sits_still (c.put_into.ensures.table ∙ h.table) inv.seated;
+      stands = put_after h.stands _ c.hold_spare-slot.result c.hold_spare-slot.new.seat.me _ c.args.rec h.seized.same room left h.slot items now;
+      inside = never_inside (i.len + 1) quiet;
+      out = idle_out _ _ quiet (ap (λ (m : Knowing). (owner_of m.0).out) now) (ap (λ (m : Knowing). m.1) now);
     }
