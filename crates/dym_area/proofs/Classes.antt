@@ -1,6 +1,6 @@
 -- The sizes and numbers of chunks of a class, and where chunks lie.
 use Rattle.std.proofs.Common.{◌≡◌, ℕ, ◌+◌, ◌-◌, ◌*◌, ◌/◌, ◌^◌, ◌<◌, ◌≤◌, max, sym, ◌∙◌, ap, arith, le_refl}
-use Rattle.std.proofs.lemmas.Nat.{pow-add, pow_pos, row_fits}
+use Rattle.std.proofs.lemmas.Nat.{pow-add, row_fits}
 use Rattle.std.proofs.Math.Nat.{pow-le-pow_right}
 use Rattle.std.proofs.Common.{subst}
 use Rattle.dym_base.specs.Numbers.{size, per}

@@ -33,9 +33,23 @@ impl<G: Segment> Model for Area<G> {
 
     ghost Value = { AreaMeaning };
 
-    ghost view = { λ a. record { exponent = a.exp; ordinal = a.ordinal; used = a.used; dirty = a.dirty; content = G.content a.segment; identity = G.id a.segment } };
+    ghost view = { λ a. record {
+      exponent = a.exp;
+      ordinal = a.ordinal;
+      used = a.used;
+      dirty = a.dirty;
+      content = G.content a.segment;
+      identity = G.id a.segment;
+    } };
 
-    ghost invariant = { λ a. IsSummedArea (record { exponent = a.exp; ordinal = a.ordinal; used = a.used; dirty = a.dirty; content = G.content a.segment; identity = G.id a.segment }) a.room (G.filled a.segment) };
+    ghost invariant = { λ a. IsSummedArea (record {
+      exponent = a.exp;
+      ordinal = a.ordinal;
+      used = a.used;
+      dirty = a.dirty;
+      content = G.content a.segment;
+      identity = G.id a.segment;
+    }) a.room (G.filled a.segment) };
 }
 
 impl<G: Segment> Area<G> {
@@ -89,9 +103,11 @@ impl<G: Segment> Area<G> {
 
     /// Takes the least unused chunk, which becomes used, dirty and zero, and answers its index. None where all are used.
     pub fn take_first(&mut self) -> Option<u32>
-        ensures first { MatchOption result ((k : ℕ) → k < per self.old.exponent → IsSet self.old.used k)
+        ensures first { MatchOption result
+            ((k : ℕ) → k < per self.old.exponent → IsSet self.old.used k)
             (IsFirstClear self.old.used (per self.old.exponent)) }
-        ensures after { MatchOption result (self.new ≡ self.old) (λ i. self.new ≡ with_taken self.old i) }
+        ensures after { MatchOption result (self.new ≡ self.old)
+            (λ i. self.new ≡ with_taken self.old i) }
         ensures valid { IsValidArea self.new }
     {
         let i = self.first_free()?;
@@ -185,7 +201,8 @@ impl<G: Segment> Area<G> {
     pub fn read(&self, i: u32, at: u32, out: &mut [u8])
         requires used { IsSet self.now.used i }
         requires within { at + length out.old ≤ size self.now.exponent }
-        ensures { out.new ≡ part_of self.now.content (chunk_start self.now i + at) (length out.old) }
+        ensures { out.new
+            ≡ part_of self.now.content (chunk_start self.now i + at) (length out.old) }
     {
         let start = i * size_of_class(self.exp) + at;
         self.segment.read(start, out);
@@ -254,7 +271,8 @@ impl<G: Segment> Area<G> {
 
     /// The least used index, and None where no chunk is used. Only the bits of the class's chunks are read.
     pub fn first_used(&self) -> Option<u32>
-        ensures { MatchOption result ((i : ℕ) → 0 ≤ i → IsClear self.now.used i) (IsNextSet self.now.used 0) }
+        ensures { MatchOption result ((i : ℕ) → 0 ≤ i → IsClear self.now.used i)
+            (IsNextSet self.now.used 0) }
     {
         self.used.next_set_within(0, per_area(self.exp))
     }
@@ -294,7 +312,8 @@ impl<G: Segment> Area<G> {
     /// Takes the use bits from a bitmap of `max(1, per_area / 8)` bytes and marks no chunk dirty. The bytes stay.
     pub fn set_from(&mut self, use_bytes: &[u8])
         requires len { length use_bytes.now ≡ max 1 (per self.old.exponent / 8) }
-        requires below { (i : ℕ) → IsSet (bits_of_bytes use_bytes.now) i → i < per self.old.exponent }
+        requires below { (i : ℕ) → IsSet (bits_of_bytes use_bytes.now) i
+            → i < per self.old.exponent }
         ensures after { self.new ≡ with_used_bytes self.old use_bytes.now }
         ensures bits { (i : ℕ) → bit_in self.new.used i ≡ bit_in (bits_of_bytes use_bytes.now) i }
         ensures valid { IsValidArea self.new }

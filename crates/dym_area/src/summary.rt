@@ -56,7 +56,8 @@ pub(crate) fn after_take(room: u32, used: &Bits, exp: u8, i: u32) -> u32
     requires greatest { exp ≤ GREATEST_EXPONENT }
     requires within { i < MOST_CHUNKS }
     requires below { (k : ℕ) → k ≤ i → IsSet used.now k }
-    requires elsewhere { (q : ℕ) → bit_at room q ≡ 1 → (q ≡ i / 64 → ⊥) → HasRoom used.now (per exp) q }
+    requires elsewhere { (q : ℕ) → bit_at room q ≡ 1 → (q ≡ i / 64 → ⊥)
+        → HasRoom used.now (per exp) q }
     requires marked { (k : ℕ) → k < per exp → IsClear used.now k → bit_at room (k / 64) ≡ 1 }
     ensures { IsSummary used.now (per exp) result }
 {

@@ -1,6 +1,4 @@
-use Rattle.std.proofs.Common.{◌≡◌, ◌*◌, ◌∙◌, ap, arith}
-use Rattle.dym_base.specs.Numbers.{size}
-use Rattle.dym_bits.specs.Bits.{bit_in, IsSet}
+use Rattle.std.proofs.Common.{arith}
 use Rattle.dym_area.proofs.Classes.{place_seen, place_real}
 use Rattle.dym_area.proofs.chunks.Area.bytes.Goals as goal
 

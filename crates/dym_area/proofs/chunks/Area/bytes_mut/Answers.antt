@@ -1,12 +1,11 @@
 use Rattle.std.proofs.Common.{◌≡◌, ℕ, ◌+◌, ◌*◌, List, length, refl, sym, ap, subst, ◌∙◌, arith}
 use Rattle.std.specs.List.{refill}
-use Rattle.dym_base.specs.Numbers.{size}
 use Rattle.dym_bits.specs.Bits.{bit_in, IsSet}
 use Rattle.dym_region.specs.Content.{part_of}
 use Rattle.dym_region.specs.Lending.{with_lent}
 use Rattle.dym_area.specs.Area.{AreaMeaning, IsValidArea, chunk_start, dirty_after, with_chunk_lent}
 use Rattle.dym_area.proofs.AreaLent.{length-refilled, length-dirty_after, dirty_after-used}
-use Rattle.dym_area.proofs.Classes.{place_fits, place_seen, place_real}
+use Rattle.dym_area.proofs.Classes.{place_seen, place_real}
 use Rattle.dym_area.proofs.chunks.Area.bytes_mut.Goals as goal
 
 pub overflow_mul-start : goal.overflow_mul-start
@@ -28,14 +27,15 @@ returns g c =
     let a : AreaMeaning = record { exponent = s.exp; ordinal = s.ordinal; used = s.used; dirty = s.dirty; content = G.content s.segment; identity = G.id s.segment } in
     let is : a ≡ c.args.self.now = c.self.view_is in
     let used : IsSet s.used i = ap (λ (z : AreaMeaning). bit_in z.used i) is ∙ c.requires.used in
-    let size_is : size s.exp ≡ size c.args.self.now.exponent = ap (λ (z : AreaMeaning). size z.exponent) is in
-    let fits = place_fits s.exp i at len c.self.invariant.valid.greatest (c.self.invariant.valid.used_below i used) (omega (arith, c.requires.within, size_is)) in
-    let start : i * c.size_of_class.result + at ≡ chunk_start a i + at = ap (λ n. i * n + at) c.size_of_class.ensures in
-    let long : (ws : List ℕ) → length (refill len (part_of a.content (chunk_start a i + at) len) ws) ≡ len = λ ws. length-refilled a.content (chunk_start a i + at) len ws (omega (arith, fits, c.self.invariant.valid.content_len)) in
-    let marks : (ws : List ℕ) → c.touch.new.dirty ≡ dirty_after s.dirty i (length (refill len (part_of a.content (chunk_start a i + at) len) ws)) = λ ws. c.touch.ensures ∙ ap (dirty_after s.dirty i) (sym (long ws)) in
-    let bytes : (ws : List ℕ) → G.content (G.lent s.segment (i * c.size_of_class.result + at) len ws) ≡ with_lent a.content (chunk_start a i + at) len ws = λ ws. c.bytes_mut.ensures.content ws ∙ ap (λ n. with_lent a.content n len ws) start in
-    let view : (ws : List ℕ) → ◌≡◌ {A = AreaMeaning} (record { exponent = s.exp; ordinal = s.ordinal; used = s.used; dirty = c.touch.new.dirty; content = G.content (G.lent s.segment (i * c.size_of_class.result + at) len ws); identity = G.id (G.lent s.segment (i * c.size_of_class.result + at) len ws) }) (with_chunk_lent c.args.self.now i at len ws)
-    = λ ws. (λ j. record { exponent = s.exp; ordinal = s.ordinal; used = s.used; dirty = marks ws j; content = bytes ws j; identity = c.bytes_mut.ensures.same ws j }) ∙ ap (λ z. with_chunk_lent z i at len ws) is in (
+    let fits = place_seen is c.self.invariant.valid i at len refl c.requires.used c.requires.within in
+    let from = chunk_start a i + at in
+    let lent = λ (ws : List ℕ). G.lent s.segment (i * c.size_of_class.result + at) len ws in
+    let start : i * c.size_of_class.result + at ≡ from = ap (λ n. i * n + at) c.size_of_class.ensures in
+    let long : (ws : List ℕ) → length (refill len (part_of a.content from len) ws) ≡ len = λ ws. length-refilled a.content from len ws (omega (arith, fits, c.self.invariant.valid.content_len)) in
+    let marks : (ws : List ℕ) → c.touch.new.dirty ≡ dirty_after s.dirty i (length (refill len (part_of a.content from len) ws)) = λ ws. c.touch.ensures ∙ ap (dirty_after s.dirty i) (sym (long ws)) in
+    let bytes : (ws : List ℕ) → G.content (lent ws) ≡ with_lent a.content from len ws = λ ws. c.bytes_mut.ensures.content ws ∙ ap (λ n. with_lent a.content n len ws) start in
+    let view : (ws : List ℕ) → ◌≡◌ {A = AreaMeaning} (record a { dirty = c.touch.new.dirty; content = G.content (lent ws); identity = G.id (lent ws) }) (with_chunk_lent c.args.self.now i at len ws)
+    = λ ws. (λ j. record a { dirty = marks ws j; content = bytes ws j; identity = c.bytes_mut.ensures.same ws j }) ∙ ap (λ z. with_chunk_lent z i at len ws) is in (
       (refl, view),
       record {
         writes_back = tt;
@@ -47,7 +47,7 @@ returns g c =
           dirty_len = ap length c.touch.ensures ∙ length-dirty_after s.dirty i len ∙ c.self.invariant.valid.dirty_len;
           used_below = c.self.invariant.valid.used_below;
           dirty_used = λ k h. dirty_after-used s.used s.dirty i len used c.self.invariant.valid.dirty_used k (subst (λ bits. IsSet bits k) c.touch.ensures h);
-          content_len = g.met.G.Segment.content_is_whole (G.lent s.segment (i * c.size_of_class.result + at) len ws);
+          content_len = g.met.G.Segment.content_is_whole (lent ws);
         });
       },
     )

@@ -1,4 +1,3 @@
-use Rattle.std.proofs.Common.{arith}
 use Rattle.dym_area.proofs.Classes.{bit_seen}
 use Rattle.dym_area.proofs.chunks.Area.is_dirty.Goals as goal
 

@@ -1,6 +1,4 @@
-use Rattle.std.proofs.Common.{◌≡◌, ◌*◌, length, ◌∙◌, ap, arith}
-use Rattle.dym_base.specs.Numbers.{size}
-use Rattle.dym_bits.specs.Bits.{bit_in, IsSet}
+use Rattle.std.proofs.Common.{length, arith}
 use Rattle.dym_area.proofs.Classes.{place_seen}
 use Rattle.dym_area.proofs.chunks.Area.read.Goals as goal
 
