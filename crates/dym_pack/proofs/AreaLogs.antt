@@ -47,27 +47,28 @@ record IsSmall (a : Content) : Type 0 where
   most : a.exponent ≤ 16
   few : a.ordinal < 1024
 
-num_small : (a : Content) → IsSmall a → (i : ℕ) → i < per a.exponent → a.ordinal * per a.exponent + i < 2 ^ 32
-num_small a is i inside = index_small a.ordinal (per a.exponent) i is.few (most_per a.exponent is.least) inside
-
 index_of_small : (e n : ℕ) → n < 2 ^ 32 → index_of (number e n) ≡ n
 index_of_small e n small = omega arith
 
-num_exponent : (a : Content) → IsSmall a → (i : ℕ) → i < per a.exponent → exponent_of (num a i) ≡ a.exponent
-num_exponent a is i inside = exponent_of_number a.exponent (a.ordinal * per a.exponent + i) (num_small a is i inside)
+module _ (a : Content) (is : IsSmall a) (i : ℕ) (inside : i < per a.exponent) where
+  num_small : a.ordinal * per a.exponent + i < 2 ^ 32
+  num_small = index_small a.ordinal (per a.exponent) i is.few (most_per a.exponent is.least) inside
 
-num_index : (a : Content) → IsSmall a → (i : ℕ) → i < per a.exponent → index_of (num a i) ≡ a.ordinal * per a.exponent + i
-num_index a is i inside = index_of_small a.exponent (a.ordinal * per a.exponent + i) (num_small a is i inside)
+  num_exponent : exponent_of (num a i) ≡ a.exponent
+  num_exponent = exponent_of_number a.exponent (a.ordinal * per a.exponent + i) num_small
 
-num_area : (a : Content) → IsSmall a → (i : ℕ) → i < per a.exponent → index_of (num a i) / per a.exponent ≡ a.ordinal
-num_area a is i inside = ap (λ n. n / per a.exponent) (num_index a is i inside) ∙ div-mul-add a.ordinal (per a.exponent) i inside
+  num_index : index_of (num a i) ≡ a.ordinal * per a.exponent + i
+  num_index = index_of_small a.exponent (a.ordinal * per a.exponent + i) num_small
 
-num_place : (a : Content) → IsSmall a → (i : ℕ) → i < per a.exponent → index_of (num a i) % per a.exponent ≡ i
-num_place a is i inside =
-    let n = index_of (num a i) in
-    let sum : n / per a.exponent * per a.exponent + n % per a.exponent ≡ n = div-add-mod' n (per a.exponent) in
-    let whole : n / per a.exponent * per a.exponent ≡ a.ordinal * per a.exponent = ap (λ q. q * per a.exponent) (num_area a is i inside) in
-    omega (arith, num_index a is i inside)
+  num_area : index_of (num a i) / per a.exponent ≡ a.ordinal
+  num_area = ap (λ n. n / per a.exponent) num_index ∙ div-mul-add a.ordinal (per a.exponent) i inside
+
+  num_place : index_of (num a i) % per a.exponent ≡ i
+  num_place =
+      let n = index_of (num a i) in
+      let sum : n / per a.exponent * per a.exponent + n % per a.exponent ≡ n = div-add-mod' n (per a.exponent) in
+      let whole : n / per a.exponent * per a.exponent ≡ a.ordinal * per a.exponent = ap (λ q. q * per a.exponent) num_area in
+      omega (arith, num_index)
 
 -- ---- what the areas say of a number
 
@@ -204,17 +205,6 @@ none_or_none : (b : Bool) → cond {A = ℕ} b 0 0 ≡ 0
 none_or_none true = refl
 none_or_none false = refl
 
-below_count : (v : Version) (cs : List Content) → AreGood v cs → (a : Content) → In a cs → a.ordinal < of_class a.exponent cs
-below_count v cs good a inside = omega (arith, ordinals_below 5 0 true cs good.ordered a inside, none_or_none (a.exponent == 5))
-
-small_of : (v : Version) (cs : List Content) → AreGood v cs → (a : Content) → In a cs → IsSmall a
-small_of v cs good a inside =
-    let is = in_each (IsContent v) cs good.each a inside in
-    record { least = is.least; most = is.most; few = omega (arith, below_count v cs good a inside, class_few a.exponent cs, good.few) }
-
-most_of : (v : Version) (cs : List Content) → AreGood v cs → (a : Content) → In a cs → a.exponent ≤ 16
-most_of v cs good a inside = (in_each (IsContent v) cs good.each a inside).most
-
 past_all : ℕ
 past_all = 17 * 2 ^ 32
 
@@ -226,32 +216,6 @@ found_of cs = marks_below past_all (mark_of cs)
 
 abbrev pub log_of : Version → Kind → ℕ → List Content → Logged
 log_of v kind time cs = record { version = v; kind = kind; time = time; copy = copy_of cs; found = found_of cs }
-
-copy_get : (v : Version) (cs : List Content) → AreGood v cs → (k : ℕ) → map.get (copy_of cs) k ≡ value_of cs k
-unfolding copy_of past_all
-copy_get v cs good = values_get (17 * 2 ^ 32) (value_of cs) (λ q far. (none_far cs (most_of v cs good) q far).0)
-
-found_has : (v : Version) (cs : List Content) → AreGood v cs → (k : ℕ) → set.contains (found_of cs) k ≡ mark_of cs k
-unfolding found_of past_all
-found_has v cs good = marks_has (17 * 2 ^ 32) (mark_of cs) (λ q far. (none_far cs (most_of v cs good) q far).1)
-
-copy_sized : (v : Version) (cs : List Content) → AreGood v cs → IsWellSized v (copy_of cs)
-copy_sized v cs good k bytes has =
-    let at = found cs k bytes (sym (copy_get v cs good k) ∙ has) in
-    let parts = at_parts at.area k at.at in
-    let is = in_each (IsContent v) cs good.each at.area at.there in
-    let i = index_of k % per at.area.exponent in
-    let below : i < per at.area.exponent = (let some : 1 ≤ per at.area.exponent = pow_pos (16 - at.area.exponent) in omega arith) in (
-      omega (arith, parts.0, is.least),
-      omega (arith, parts.0, is.most),
-      subst (λ e. IsLengthOf v e (length bytes)) (sym parts.0) (subst (λ x. IsLengthOf v at.area.exponent (length x)) at.is (is.sized i below at.used)),
-    )
-
-has_value : (v : Version) (cs : List Content) → AreGood v cs → (k : ℕ) → map.contains_key (copy_of cs) k ≡ is_some (value_of cs k)
-has_value v cs good k = ap is_some (copy_get v cs good k)
-
-found_live : (v : Version) (cs : List Content) → AreGood v cs → (k : ℕ) → set.contains (found_of cs) k ≡ true → map.contains_key (copy_of cs) k ≡ true
-found_live v cs good k mark = has_value v cs good k ∙ marked v cs k good.each (sym (found_has v cs good k) ∙ mark)
 
 any_in_range : (p : ℕ → Bool) (n from : ℕ) → list_any p (range_with_len from n) ≡ true → (i : ℕ) × (i < from + n) × (p i ≡ true)
 any_in_range p zero from is = absurd (true≢false (sym is))
@@ -265,60 +229,9 @@ any_in_range p (suc n) from is =
     later_any true y no_x is = absurd (true≢false no_x)
     later_any false y no_x is = is
 
--- the map has as many areas of a class as there are
-areas_are : (v : Version) (cs : List Content) → AreGood v cs → (e : ℕ) → areas (copy_of cs) e ≡ of_class e cs
-areas_are v cs good e =
-    let live = copy_of cs in
-    let most : areas live e ≤ of_class e cs = (areas_below live e (of_class e cs)).1 (λ k has class.
-    elim (value_of cs k) as (λ o. value_of cs k ≡ o → is_some o ≡ true → index_of k / per e < of_class e cs) [
-      | Some x ↦ λ is some. (
-          let at = found cs k x is in
-          let parts = at_parts at.area k at.at in
-          let e_is : at.area.exponent ≡ e = sym parts.0 ∙ class in
-          let below = below_count v cs good at.area at.there in
-          let offset : index_of k / per e ≡ at.area.ordinal = sym (ap (λ x. index_of k / per x) e_is) ∙ parts.1 in
-          let count : of_class at.area.exponent cs ≡ of_class e cs = ap (λ x. of_class x cs) e_is in
-          omega arith)
-      | None ↦ λ is some. absurd (true≢false (sym some))
-    ] refl (sym (has_value v cs good k) ∙ has)) in
-    let least : of_class e cs ≤ areas live e = elim (cases_eq (of_class e cs) 0) [
-      | inl none ↦ omega arith
-      | inr some ↦ (
-          let last = last_used 5 0 true cs good.ordered e (omega arith) in
-          let a = last.area in
-          let used = any_in_range a.used (per a.exponent) 0 last.some in
-          let i = used.0 in
-          let inside : i < per a.exponent = omega (arith, used.1) in
-          let is = small_of v cs good a last.there in
-          let value = (says 5 0 true cs good.ordered (small_of v cs good) a last.there i inside).value in
-          let has : map.contains_key live (num a i) ≡ true = has_value v cs good (num a i) ∙ ap is_some (value ∙ cond-true (a.used i) _ _ used.2) in
-          let below = (areas_below live e (areas live e)).0 (le_refl (areas live e)) (num a i) has (num_exponent a is i inside ∙ last.class) in
-          let offset : index_of (num a i) / per e ≡ a.ordinal = sym (ap (λ x. index_of (num a i) / per x) last.class) ∙ num_area a is i inside in
-          omega (arith, last.last, none_or_none (e == 5)))
-    ] in
-    omega arith
-
 rows_eq : (live : Live) (cs : List Content) → ((e : ℕ) → areas live e ≡ of_class e cs) → (es : List ℕ) → flat_map (row live) es ≡ flat_map (row_of cs) es
 rows_eq live cs same [] = refl
 rows_eq live cs same (e ∷ es) = ap (λ n. map (named e) (range_with_len 0 n) ++ flat_map (row live) es) (same e) ∙ ap (λ xs. row_of cs e ++ xs) (rows_eq live cs same es)
-
-names_of_copy : (v : Version) (cs : List Content) → AreGood v cs → area_list (copy_of cs) ≡ map name_of cs
-names_of_copy v cs good =
-    area_list_is (copy_of cs)
-    ∙ rows_eq (copy_of cs) cs (areas_are v cs good) classes
-    ∙ sym (names_are 11 5 0 true cs refl good.ordered (most_of v cs good))
-
-held_of_copy : (v : Version) (cs : List Content) → AreGood v cs → held (copy_of cs) ≡ length cs
-held_of_copy v cs good = sym (length_areas (copy_of cs)) ∙ ap length (names_of_copy v cs good) ∙ length-map cs name_of
-
-pub log_recorded : (v : Version) (kind : Kind) (time quota : ℕ) (cs : List Content) → AreGood v cs → time < 2 ^ 64 → length cs ≤ quota → IsLogOf v quota (log_of v kind time cs)
-log_recorded v kind time quota cs good short within = record {
-  recorded = record { sized = copy_sized v cs good; found_live = found_live v cs good; few = omega (arith, held_of_copy v cs good, good.few); time = short };
-  version = refl;
-  within = omega (arith, held_of_copy v cs good);
-}
-
--- ---- its bytes
 
 some_value : (b : Bool) (x : List ℕ) → is_some (cond b (Some x) None) ≡ b
 some_value true x = refl
@@ -332,37 +245,11 @@ flat_picked : (p : ℕ → Bool) (f g : ℕ → List ℕ) (n from : ℕ) → ((i
 flat_picked p f g zero from same = refl
 flat_picked p f g (suc n) from same =
     let rest = flat_picked p f g n (from + 1) (λ i low high. same i (omega arith) (omega arith)) in
-    elim (p from) as (λ b. p from ≡ b → flat_map f (cond b (from ∷ filter p (range_with_len (from + 1) n)) (filter p (range_with_len (from + 1) n))) ≡ flat_map g (cond b (from ∷ filter p (range_with_len (from + 1) n)) (filter p (range_with_len (from + 1) n)))) [
-      | true ↦ λ hit. ap (λ xs. xs ++ flat_map f (filter p (range_with_len (from + 1) n))) (same from (omega arith) (omega arith) hit) ∙ ap (λ xs. g from ++ xs) rest
+    let tail = filter p (range_with_len (from + 1) n) in
+    elim (p from) as (λ b. p from ≡ b → flat_map f (cond b (from ∷ tail) tail) ≡ flat_map g (cond b (from ∷ tail) tail)) [
+      | true ↦ λ hit. (λ i. same from (omega arith) (omega arith) hit i ++ rest i)
       | false ↦ λ miss. rest
     ] refl
-
-area_bytes_are : (v : Version) (kind : Kind) (time : ℕ) (cs : List Content) → AreGood v cs → (a : Content) → In a cs → area_bytes (log_of v kind time cs) (name_of a) ≡ content_bytes v kind a
-area_bytes_are v kind time cs good a inside =
-    let log = log_of v kind time cs in
-    let x = name_of a in
-    let n = per a.exponent in
-    let is = in_each (IsContent v) cs good.each a inside in
-    let say : (i : ℕ) → i < n → Says cs a i = says 5 0 true cs good.ordered (small_of v cs good) a inside in
-    let used : (i : ℕ) → i < n → map.contains_key log.copy (num a i) ≡ a.used i
-    = λ i below. has_value v cs good (num a i) ∙ ap is_some (say i below).value ∙ some_value (a.used i) (a.chunk i) in
-    let touched : (i : ℕ) → i < n → set.contains log.found (num a i) ≡ a.touched i = λ i below. found_has v cs good (num a i) ∙ (say i below).mark in
-    let packs : (i : ℕ) → i < n → packs_by kind log.copy log.found (num a i) ≡ picks kind a.used a.touched i
-    = λ i below. elim kind as (λ d. packs_by d log.copy log.found (num a i) ≡ picks d a.used a.touched i) [ Full ↦ used i below | Inc ↦ touched i below ] in
-    let bytes : (i : ℕ) → i < n → picks kind a.used a.touched i ≡ true → unwrap_or (map.get log.copy (num a i)) [] ≡ a.chunk i
-    = λ i below hit.
-    let live = picks_used kind a.used a.touched i (is.touched i below) hit in
-    ap (λ o. unwrap_or o []) (copy_get v cs good (num a i) ∙ (say i below).value ∙ cond-true (a.used i) _ _ live) in
-    let body : body_of log x ≡ content_body v kind a
-    = ap (flat_map (λ i. packed_chunk v (unwrap_or (map.get log.copy (num a i)) []))) (filter_same (packs_of log x) (picks kind a.used a.touched) n 0 (λ j low high. packs j (omega arith)))
-    ∙ flat_picked (picks kind a.used a.touched) (λ i. packed_chunk v (unwrap_or (map.get log.copy (num a i)) [])) (λ i. packed_chunk v (a.chunk i)) n 0 (λ i low high hit. ap (packed_chunk v) (bytes i (omega arith) hit)) in
-    let all : area_bytes log x ++ [] ≡ content_bytes v kind a ++ []
-    = area_parts log x []
-    ∙ ap (λ ys. name_bytes a.exponent a.ordinal ++ (ys ++ (found_bits log x ++ (body_of log x ++ [])))) (bitmap_same n (λ i. map.contains_key log.copy (num a i)) a.used used)
-    ∙ ap (λ ys. name_bytes a.exponent a.ordinal ++ (use_part a ++ (ys ++ (body_of log x ++ [])))) (touched_same kind n (λ i. set.contains log.found (num a i)) a.touched touched)
-    ∙ ap (λ ys. name_bytes a.exponent a.ordinal ++ (use_part a ++ (touched_part kind a ++ (ys ++ [])))) body
-    ∙ sym (content_parts v kind a []) in
-    sym (append-nil (area_bytes log x)) ∙ all ∙ append-nil (content_bytes v kind a)
 
 areas_flat : (v : Version) (kind : Kind) (log : Logged) (cs : List Content) → ((a : Content) → In a cs → area_bytes log (name_of a) ≡ content_bytes v kind a) → flat_map (area_bytes log) (map name_of cs) ≡ contents_bytes v kind cs
 areas_flat v kind log [] same = refl
@@ -370,29 +257,11 @@ areas_flat v kind log (a ∷ cs) same =
     ap (λ ys. ys ++ flat_map (area_bytes log) (map name_of cs)) (same a (inl refl))
     ∙ ap (λ ys. content_bytes v kind a ++ ys) (areas_flat v kind log cs (λ b inside. same b (inr inside)))
 
-pub log_bytes : (v : Version) (kind : Kind) (time : ℕ) (cs : List Content) → AreGood v cs → packed (log_of v kind time cs) ≡ head_bytes v kind time (length cs) ++ contents_bytes v kind cs
-log_bytes v kind time cs good =
-    let log = log_of v kind time cs in
-    packed_is log
-    ∙ ap (λ n. head_bytes v kind time n ++ flat_map (area_bytes log) (area_list log.copy)) (held_of_copy v cs good)
-    ∙ ap (λ xs. head_bytes v kind time (length cs) ++ flat_map (area_bytes log) xs) (names_of_copy v cs good)
-    ∙ ap (λ ys. head_bytes v kind time (length cs) ++ ys) (areas_flat v kind log cs (area_bytes_are v kind time cs good))
-
--- ---- where its areas begin
-
 in_take : (k : ℕ) (cs : List Content) (a : Content) → In a (take k cs) → In a cs
 in_take zero cs a inside = absurd inside
 in_take (suc k) [] a inside = absurd inside
 in_take (suc k) (b ∷ cs) a (inl here) = inl here
 in_take (suc k) (b ∷ cs) a (inr there) = inr (in_take k cs a there)
-
-start_is : (v : Version) (kind : Kind) (time : ℕ) (cs : List Content) → AreGood v cs → (k : ℕ) → start_of (log_of v kind time cs) k ≡ 13 + length (contents_bytes v kind (take k cs))
-unfolding front
-start_is v kind time cs good k =
-    let log = log_of v kind time cs in
-    length-append (header log) (flat_map (area_bytes log) (take k (area_list log.copy)))
-    ∙ ap (λ xs. 13 + length (flat_map (area_bytes log) xs)) (ap (take k) (names_of_copy v cs good) ∙ take-map name_of k cs)
-    ∙ ap (λ ys. 13 + length ys) (areas_flat v kind log (take k cs) (λ a inside. area_bytes_are v kind time cs good a (in_take k cs a inside)))
 
 shift : (f g : ℕ → ℕ) (n from : ℕ) → ((k : ℕ) → f (k + 1) ≡ g k) → map f (range_with_len (from + 1) n) ≡ map g (range_with_len from n)
 shift f g zero from same = refl
@@ -411,12 +280,147 @@ offsets v kind (a ∷ cs) p =
     ∙ ap (λ q. q ∷ map f (range_with_len 1 (length cs + 1))) none
     ∙ ap (λ xs. p ∷ xs) (shift f g (length cs + 1) 0 next ∙ offsets v kind cs (p + la))
 
-pub log_starts : (v : Version) (kind : Kind) (time : ℕ) (cs : List Content) → AreGood v cs → starts_of (log_of v kind time cs) ≡ starts_from v kind 13 cs
-unfolding starts_of
-log_starts v kind time cs good =
-    ap (λ (f : ℕ → ℕ). map f (range_with_len 0 (held (copy_of cs) + 1))) (fun_ext (start_is v kind time cs good))
-    ∙ ap (λ n. map (λ k. 13 + length (contents_bytes v kind (take k cs))) (range_with_len 0 (n + 1))) (held_of_copy v cs good)
-    ∙ offsets v kind cs 13
+-- ---- areas of a record
+
+module _ (v : Version) (cs : List Content) (good : AreGood v cs) where
+  below_count : (a : Content) → In a cs → a.ordinal < of_class a.exponent cs
+  below_count a inside = omega (arith, ordinals_below 5 0 true cs good.ordered a inside, none_or_none (a.exponent == 5))
+
+  small_of : (a : Content) → In a cs → IsSmall a
+  small_of a inside =
+      let is = in_each (IsContent v) cs good.each a inside in
+      record { least = is.least; most = is.most; few = omega (arith, below_count a inside, class_few a.exponent cs, good.few) }
+
+  most_of : (a : Content) → In a cs → a.exponent ≤ 16
+  most_of a inside = (in_each (IsContent v) cs good.each a inside).most
+
+  copy_get : (k : ℕ) → map.get (copy_of cs) k ≡ value_of cs k
+  unfolding copy_of past_all
+  copy_get = values_get (17 * 2 ^ 32) (value_of cs) (λ q far. (none_far cs most_of q far).0)
+
+  found_has : (k : ℕ) → set.contains (found_of cs) k ≡ mark_of cs k
+  unfolding found_of past_all
+  found_has = marks_has (17 * 2 ^ 32) (mark_of cs) (λ q far. (none_far cs most_of q far).1)
+
+  copy_sized : IsWellSized v (copy_of cs)
+  copy_sized k bytes has =
+      let at = found cs k bytes (sym (copy_get k) ∙ has) in
+      let parts = at_parts at.area k at.at in
+      let is = in_each (IsContent v) cs good.each at.area at.there in
+      let i = index_of k % per at.area.exponent in
+      let below : i < per at.area.exponent = (let some : 1 ≤ per at.area.exponent = pow_pos (16 - at.area.exponent) in omega arith) in (
+        omega (arith, parts.0, is.least),
+        omega (arith, parts.0, is.most),
+        subst (λ e. IsLengthOf v e (length bytes)) (sym parts.0) (subst (λ x. IsLengthOf v at.area.exponent (length x)) at.is (is.sized i below at.used)),
+      )
+
+  has_value : (k : ℕ) → map.contains_key (copy_of cs) k ≡ is_some (value_of cs k)
+  has_value k = ap is_some (copy_get k)
+
+  found_live : (k : ℕ) → set.contains (found_of cs) k ≡ true → map.contains_key (copy_of cs) k ≡ true
+  found_live k mark = has_value k ∙ marked v cs k good.each (sym (found_has k) ∙ mark)
+
+  -- the map has as many areas of a class as there are
+  areas_are : (e : ℕ) → areas (copy_of cs) e ≡ of_class e cs
+  areas_are e =
+      let live = copy_of cs in
+      let most : areas live e ≤ of_class e cs = (areas_below live e (of_class e cs)).1 (λ k has class.
+      elim (value_of cs k) as (λ o. value_of cs k ≡ o → is_some o ≡ true → index_of k / per e < of_class e cs) [
+        | Some x ↦ λ is some. (
+            let at = found cs k x is in
+            let parts = at_parts at.area k at.at in
+            let e_is : at.area.exponent ≡ e = sym parts.0 ∙ class in
+            let below = below_count at.area at.there in
+            let offset : index_of k / per e ≡ at.area.ordinal = sym (ap (λ x. index_of k / per x) e_is) ∙ parts.1 in
+            let count : of_class at.area.exponent cs ≡ of_class e cs = ap (λ x. of_class x cs) e_is in
+            omega arith)
+        | None ↦ λ is some. absurd (true≢false (sym some))
+      ] refl (sym (has_value k) ∙ has)) in
+      let least : of_class e cs ≤ areas live e = elim (cases_eq (of_class e cs) 0) [
+        | inl none ↦ omega arith
+        | inr some ↦ (
+            let last = last_used 5 0 true cs good.ordered e (omega arith) in
+            let a = last.area in
+            let used = any_in_range a.used (per a.exponent) 0 last.some in
+            let i = used.0 in
+            let inside : i < per a.exponent = omega (arith, used.1) in
+            let is = small_of a last.there in
+            let value = (says 5 0 true cs good.ordered small_of a last.there i inside).value in
+            let has : map.contains_key live (num a i) ≡ true = has_value (num a i) ∙ ap is_some (value ∙ cond-true (a.used i) _ _ used.2) in
+            let below = (areas_below live e (areas live e)).0 (le_refl (areas live e)) (num a i) has (num_exponent a is i inside ∙ last.class) in
+            let offset : index_of (num a i) / per e ≡ a.ordinal = sym (ap (λ x. index_of (num a i) / per x) last.class) ∙ num_area a is i inside in
+            omega (arith, last.last, none_or_none (e == 5)))
+      ] in
+      omega arith
+
+  names_of_copy : area_list (copy_of cs) ≡ map name_of cs
+  names_of_copy =
+      area_list_is (copy_of cs)
+      ∙ rows_eq (copy_of cs) cs areas_are classes
+      ∙ sym (names_are 11 5 0 true cs refl good.ordered most_of)
+
+  held_of_copy : held (copy_of cs) ≡ length cs
+  held_of_copy = sym (length_areas (copy_of cs)) ∙ ap length names_of_copy ∙ length-map cs name_of
+
+  -- ---- their log
+
+  module _ (kind : Kind) (time : ℕ) where
+    abbrev log : Logged
+    log = log_of v kind time cs
+
+    pub log_recorded : (quota : ℕ) → time < 2 ^ 64 → length cs ≤ quota → IsLogOf v quota log
+    log_recorded quota short within = record {
+      recorded = record { sized = copy_sized; found_live = found_live; few = omega (arith, held_of_copy, good.few); time = short };
+      version = refl;
+      within = omega (arith, held_of_copy);
+    }
+
+    area_bytes_are : (a : Content) → In a cs → area_bytes log (name_of a) ≡ content_bytes v kind a
+    area_bytes_are a inside =
+        let x = name_of a in
+        let n = per a.exponent in
+        let is = in_each (IsContent v) cs good.each a inside in
+        let say : (i : ℕ) → i < n → Says cs a i = says 5 0 true cs good.ordered small_of a inside in
+        let used : (i : ℕ) → i < n → map.contains_key log.copy (num a i) ≡ a.used i
+        = λ i below. has_value (num a i) ∙ ap is_some (say i below).value ∙ some_value (a.used i) (a.chunk i) in
+        let touched : (i : ℕ) → i < n → set.contains log.found (num a i) ≡ a.touched i = λ i below. found_has (num a i) ∙ (say i below).mark in
+        let packs : (i : ℕ) → i < n → packs_by kind log.copy log.found (num a i) ≡ picks kind a.used a.touched i
+        = λ i below. elim kind as (λ d. packs_by d log.copy log.found (num a i) ≡ picks d a.used a.touched i) [ Full ↦ used i below | Inc ↦ touched i below ] in
+        let bytes : (i : ℕ) → i < n → picks kind a.used a.touched i ≡ true → unwrap_or (map.get log.copy (num a i)) [] ≡ a.chunk i
+        = λ i below hit.
+        let live = picks_used kind a.used a.touched i (is.touched i below) hit in
+        ap (λ o. unwrap_or o []) (copy_get (num a i) ∙ (say i below).value ∙ cond-true (a.used i) _ _ live) in
+        let body : body_of log x ≡ content_body v kind a
+        = ap (flat_map (λ i. packed_chunk v (unwrap_or (map.get log.copy (num a i)) []))) (filter_same (packs_of log x) (picks kind a.used a.touched) n 0 (λ j low high. packs j (omega arith)))
+        ∙ flat_picked (picks kind a.used a.touched) (λ i. packed_chunk v (unwrap_or (map.get log.copy (num a i)) [])) (λ i. packed_chunk v (a.chunk i)) n 0 (λ i low high hit. ap (packed_chunk v) (bytes i (omega arith) hit)) in
+        let all : area_bytes log x ++ [] ≡ content_bytes v kind a ++ []
+        = area_parts log x []
+        ∙ ap (λ ys. name_bytes a.exponent a.ordinal ++ (ys ++ (found_bits log x ++ (body_of log x ++ [])))) (bitmap_same n (λ i. map.contains_key log.copy (num a i)) a.used used)
+        ∙ ap (λ ys. name_bytes a.exponent a.ordinal ++ (use_part a ++ (ys ++ (body_of log x ++ [])))) (touched_same kind n (λ i. set.contains log.found (num a i)) a.touched touched)
+        ∙ ap (λ ys. name_bytes a.exponent a.ordinal ++ (use_part a ++ (touched_part kind a ++ (ys ++ [])))) body
+        ∙ sym (content_parts v kind a []) in
+        sym (append-nil (area_bytes log x)) ∙ all ∙ append-nil (content_bytes v kind a)
+
+    pub log_bytes : packed log ≡ head_bytes v kind time (length cs) ++ contents_bytes v kind cs
+    log_bytes =
+        packed_is log
+        ∙ ap (λ n. head_bytes v kind time n ++ flat_map (area_bytes log) (area_list log.copy)) held_of_copy
+        ∙ ap (λ xs. head_bytes v kind time (length cs) ++ flat_map (area_bytes log) xs) names_of_copy
+        ∙ ap (λ ys. head_bytes v kind time (length cs) ++ ys) (areas_flat v kind log cs area_bytes_are)
+
+    start_is : (k : ℕ) → start_of log k ≡ 13 + length (contents_bytes v kind (take k cs))
+    unfolding front
+    start_is k =
+        length-append (header log) (flat_map (area_bytes log) (take k (area_list log.copy)))
+        ∙ ap (λ xs. 13 + length (flat_map (area_bytes log) xs)) (ap (take k) names_of_copy ∙ take-map name_of k cs)
+        ∙ ap (λ ys. 13 + length ys) (areas_flat v kind log (take k cs) (λ a inside. area_bytes_are a (in_take k cs a inside)))
+
+    pub log_starts : starts_of log ≡ starts_from v kind 13 cs
+    unfolding starts_of
+    log_starts =
+        ap (λ (f : ℕ → ℕ). map f (range_with_len 0 (held (copy_of cs) + 1))) (fun_ext start_is)
+        ∙ ap (λ n. map (λ k. 13 + length (contents_bytes v kind (take k cs))) (range_with_len 0 (n + 1))) held_of_copy
+        ∙ offsets v kind cs 13
 
 -- bytes with a good header and good areas are a record
 pub record MadeRecord (v : Version) (quota : ℕ) (bytes starts : List ℕ) : Type 0 where
@@ -431,10 +435,10 @@ made_record v kind time quota count bytes starts is short within few headed =
     let good : AreGood v cs = record { each = is.each; ordered = is.ordered; few = omega (arith, is.many) } in
     record {
       log = log_of v kind time cs;
-      is = log_recorded v kind time quota cs good short (omega (arith, is.many));
-      are = log_bytes v kind time cs good
+      is = log_recorded v cs good kind time quota short (omega (arith, is.many));
+      are = log_bytes v cs good kind time
           ∙ ap (λ n. head_bytes v kind time n ++ contents_bytes v kind cs) is.many
           ∙ ap (λ ys. head_bytes v kind time count ++ ys) (sym is.are)
           ∙ sym headed;
-      placed = is.placed ∙ sym (log_starts v kind time cs good);
+      placed = is.placed ∙ sym (log_starts v cs good kind time);
     }

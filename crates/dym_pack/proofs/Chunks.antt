@@ -1,6 +1,6 @@
 -- The chunks that a log packs, and how long they are.
-use Rattle.std.proofs.Common.{◌≡◌, ℕ, suc, ◌+◌, ◌-◌, ◌*◌, ◌^◌, ◌<◌, ◌≤◌, Bool, true, false, is_some, Some, None, unwrap_or, List, [], ◌∷◌, ◌++◌, length, refl, sym, ◌∙◌, ap, subst, arith, nat_lt, ◌&&◌, get_or, take, drop, map, zero, cond}
-use Rattle.std.specs.List.{range_with_len, flat_map, filter, count_by, AllByRecursion}
+use Rattle.std.proofs.Common.{◌≡◌, ℕ, ◌+◌, ◌-◌, ◌*◌, ◌^◌, ◌<◌, ◌≤◌, Bool, true, false, is_some, Some, None, unwrap_or, List, [], ◌∷◌, ◌++◌, length, refl, sym, ◌∙◌, ap, subst, arith, nat_lt, ◌&&◌, get_or, take, drop, map}
+use Rattle.std.specs.List.{range_with_len, flat_map, filter, count_by}
 use Rattle.std.specs.FinMap.{get}
 use Rattle.std.proofs.lemmas.Bool.{true≢false, and_parts, lt-ltb, ltb-true}
 use Rattle.std.proofs.lemmas.List.{length-append, length-map, append-nil, take_all, take_at, drop_at}
@@ -18,7 +18,7 @@ use Rattle.dym_base.proofs.Classes.{cls_class}
 use Rattle.dym_base.specs.Recorded.{IsRecorded}
 use Rattle.dym_pack.specs.Areas.{AreasMeaning, IsPackable, area_at, chunks_of, chunk_number, is_used_at, bytes_at}
 use Rattle.dym_pack.specs.ParsedAreas.{packs_at, packed_from, body_from, IsNth}
-use Rattle.dym_pack.proofs.Ranges.{passing, passing_from, passing_one, passing_none, passing_run, length_each, length_most, filter_none, filter_same, filter_split, count_is_filter}
+use Rattle.dym_pack.proofs.Ranges.{all_picked, passing, passing_from, passing_one, passing_none, passing_run, length_each, length_most, filter_none, filter_same, filter_split, count_is_filter}
 use Rattle.dym_pack.proofs.Bitmaps.{clear_past}
 use Rattle.dym_bits.specs.Bits.{IsNextSet}
 use Rattle.dym_pack.proofs.Named.{area_is, exponent_at, few_chunks, whole_area}
@@ -66,15 +66,6 @@ two_len bytes = omega (arith, length-append {A = ℕ})
 many_map : (f : ℕ → List ℕ) (xs : List ℕ) → flat_map (λ i. packed_chunk Two (f i)) xs ≡ flat_map (packed_chunk Two) (map f xs)
 many_map f [] = refl
 many_map f (x ∷ xs) = ap (λ ys. packed_chunk Two (f x) ++ ys) (many_map f xs)
-
-each_small : (p : ℕ → Bool) (f : ℕ → List ℕ) (d from : ℕ) → ((j : ℕ) → from ≤ j → j < from + d → p j ≡ true → length (f j) < 2 ^ 32) → AllByRecursion (λ chunk. length chunk < 2 ^ 32) (map f (filter p (range_with_len from d)))
-each_small p f zero from few = tt
-each_small p f (suc d) from few =
-    let rest = each_small p f d (from + 1) (λ j l h. few j (omega arith) (omega arith)) in
-    elim (p from) as (λ b. p from ≡ b → AllByRecursion (λ chunk. length chunk < 2 ^ 32) (map f (cond b (from ∷ filter p (range_with_len (from + 1) d)) (filter p (range_with_len (from + 1) d))))) [
-      | true ↦ λ here. (few from (omega arith) (omega arith) here, rest)
-      | false ↦ λ there. rest
-    ] refl
 
 module _ (log : Logged) where
   -- ---- the packed bytes of an area
@@ -264,7 +255,7 @@ module _ (log : Logged) where
           before = map bytes (before_chunk k i);
           rest = body_from log k (i + 1);
           count = length-map (before_chunk k i) bytes ∙ sym many;
-          fits = each_small (packs_at log k) bytes i 0 (λ j l h is. omega (arith, packed_len_most k j within (omega arith) is));
+          fits = all_picked (λ chunk. length chunk < 2 ^ 32) bytes (packs_at log k) i 0 (λ j l h is. omega (arith, packed_len_most k j within (omega arith) is));
           small = omega (arith, packed_len_most k i within inside packs);
           is = body_nth k i inside packs
               ∙ ap (λ v. flat_map (λ j. packed_chunk v (bytes j)) (before_chunk k i) ++ (packed_chunk v (bytes i) ++ body_from log k (i + 1))) two

@@ -1,6 +1,6 @@
 -- Those numbers of a range that pass a test, and lists made of them.
-use Rattle.std.proofs.Common.{◌≡◌, ℕ, zero, suc, ◌+◌, ◌-◌, ◌*◌, ◌<◌, ◌≤◌, Bool, true, false, cond, List, [], ◌∷◌, ◌++◌, length, take, get_or, refl, sym, ◌∙◌, ap, arith, inl, inr}
-use Rattle.std.specs.List.{range_with_len, filter, flat_map, count_by}
+use Rattle.std.proofs.Common.{◌≡◌, ℕ, zero, suc, ◌+◌, ◌-◌, ◌*◌, ◌<◌, ◌≤◌, Bool, true, false, cond, List, [], ◌∷◌, ◌++◌, length, map, take, get_or, refl, sym, ◌∙◌, ap, arith, inl, inr}
+use Rattle.std.specs.List.{range_with_len, filter, flat_map, count_by, AllByRecursion}
 use Rattle.std.proofs.lemmas.List.{length-append, take_more, take_all, get_or_past}
 use Rattle.std.proofs.lemmas.List.Elements.{filter-append}
 use Rattle.std.proofs.lemmas.List.Sums.{sum_by_push}
@@ -107,6 +107,17 @@ length_most p f s (suc d) from long =
           let first = long from (omega arith) (omega arith) here in
           omega (arith, length-append (f from) (flat_map f tail)))
       | false ↦ λ there. omega arith
+    ] refl
+
+-- with what holds of each
+pub all_picked : (P : List ℕ → Type 0) (f : ℕ → List ℕ) (p : ℕ → Bool) (d from : ℕ) → ((j : ℕ) → from ≤ j → j < from + d → p j ≡ true → P (f j)) → AllByRecursion P (map f (kept p from d))
+all_picked P f p zero from each = tt
+all_picked P f p (suc d) from each =
+    let rest = all_picked P f p d (from + 1) (λ j low high. each j (omega arith) (omega arith)) in
+    let tail = kept p (from + 1) d in
+    elim (p from) as (λ b. p from ≡ b → AllByRecursion P (map f (cond b (from ∷ tail) tail))) [
+      | true ↦ λ hit. (each from (omega arith) (omega arith) hit, rest)
+      | false ↦ λ miss. rest
     ] refl
 
 -- ---- counts of bits

@@ -1,7 +1,7 @@
 -- The area that bytes begin with, by its parts.
-use Rattle.std.proofs.Common.{◌≡◌, ℕ, zero, suc, ◌+◌, ◌-◌, ◌^◌, ◌<◌, ◌≤◌, Bool, true, false, cond, Option, Some, None, is_some, List, [], ◌∷◌, ◌++◌, length, map, take, drop, get_or, replicate, refl, sym, ap, subst, ◌∙◌, arith, inl, inr}
+use Rattle.std.proofs.Common.{◌≡◌, ℕ, zero, suc, ◌+◌, ◌-◌, ◌^◌, ◌<◌, ◌≤◌, Bool, true, Option, Some, None, is_some, List, [], ◌∷◌, ◌++◌, length, map, take, drop, get_or, replicate, refl, sym, ap, subst, ◌∙◌, arith, inl, inr}
 use Rattle.std.specs.Int.{w32, from_le_bytes}
-use Rattle.std.specs.List.{flat_map, filter, range_with_len, AllByRecursion}
+use Rattle.std.specs.List.{flat_map}
 use Rattle.std.proofs.lemmas.List.{append_assoc, length-append, length-map, length-take, take-append-drop, drop_at, drop-drop, length-replicate}
 use Rattle.std.proofs.lemmas.List.Elements.{All-from_recursion}
 use Rattle.std.proofs.lemmas.Bool.{cases_Bool, cases_eq, cond-true, cond-false, true≢false}
@@ -21,6 +21,7 @@ use Rattle.dym_pack.specs.Offsets.{name_bytes}
 use Rattle.dym_pack.specs.Contents.{Content, IsContent, picks, picked, has_some, content_body, content_bytes, IsMaps, IsBody, IsSeen}
 use Rattle.dym_pack.specs.declared.parsed_area.ParsedMaps.{ParsedMaps}
 use Rattle.dym_pack.specs.declared.parsed_area.ParsedArea.{ParsedArea}
+use Rattle.dym_pack.proofs.Ranges.{all_picked}
 use Rattle.dym_pack.proofs.Picked.{chunk_by, chunks_picked, chunks_of_picked, rank_less}
 use Rattle.dym_pack.proofs.MapsRead.{made}
 
@@ -139,15 +140,6 @@ seen_is v kind bytes e o maps len least most small named m b =
 
 -- ---- the parts of an area
 
-all_picked : (P : List ℕ → Type 0) (g : ℕ → List ℕ) (p : ℕ → Bool) (n from : ℕ) → ((i : ℕ) → from ≤ i → i < from + n → p i ≡ true → P (g i)) → AllByRecursion P (map g (filter p (range_with_len from n)))
-all_picked P g p zero from each = tt
-all_picked P g p (suc n) from each =
-    let rest = all_picked P g p n (from + 1) (λ i low high. each i (omega arith) (omega arith)) in
-    elim (p from) as (λ b. p from ≡ b → AllByRecursion P (map g (cond b (from ∷ filter p (range_with_len (from + 1) n)) (filter p (range_with_len (from + 1) n))))) [
-      | true ↦ λ hit. (each from (omega arith) (omega arith) hit, rest)
-      | false ↦ λ miss. rest
-    ] refl
-
 abbrev pub maps_of : Kind → Content → ParsedMaps
 maps_of kind a = made (has_some (per a.exponent) a.used) (length (picked (per a.exponent) (picks kind a.used a.touched))) (length (use_part a) + length (touched_part kind a))
 
@@ -191,8 +183,4 @@ seen_parts v kind bytes a rest is are =
     }
 
 pub same_seen : (s t : ParsedArea) → s.exp ≡ t.exp → s.ordinal ≡ t.ordinal → s.used ≡ t.used → s.len ≡ t.len → s ≡ t
-same_seen s t exp ordinal used len =
-    ap (λ x. seen_made x s.ordinal s.used s.len) exp
-    ∙ ap (λ x. seen_made t.exp x s.used s.len) ordinal
-    ∙ ap (λ x. seen_made t.exp t.ordinal x s.len) used
-    ∙ ap (seen_made t.exp t.ordinal t.used) len
+same_seen s t exp ordinal used len = λ i. seen_made (exp i) (ordinal i) (used i) (len i)

@@ -37,12 +37,14 @@ pub trait Areas {
     /// The use bits of an area. Those past its last chunk are clear.
     fn used_bits(&self, k: u32) -> &Bits
         requires { k < held (meaning self.now).live }
-        ensures { (i : ℕ) → bit_in result.now i ≡ (nat_lt i (chunks_of (meaning self.now).live k) && is_used_at (meaning self.now).live k i) };
+        ensures { (i : ℕ) → bit_in result.now i ≡ (nat_lt i (chunks_of (meaning self.now).live k)
+            && is_used_at (meaning self.now).live k i) };
 
     /// The dirty bits of an area.
     fn dirty_bits(&self, k: u32) -> &Bits
         requires { k < held (meaning self.now).live }
-        ensures { (i : ℕ) → bit_in result.now i ≡ (nat_lt i (chunks_of (meaning self.now).live k) && contains (meaning self.now).touched (chunk_number (meaning self.now).live k i)) };
+        ensures { (i : ℕ) → bit_in result.now i ≡ (nat_lt i (chunks_of (meaning self.now).live k)
+            && contains (meaning self.now).touched (chunk_number (meaning self.now).live k i)) };
 
     /// Whether a chunk is in use.
     fn chunk_used(&self, k: u32, i: u32) -> bool
@@ -54,7 +56,8 @@ pub trait Areas {
     fn chunk_dirty(&self, k: u32, i: u32) -> bool
         requires area { k < held (meaning self.now).live }
         requires chunk { i < chunks_of (meaning self.now).live k }
-        ensures { result ≡ contains (meaning self.now).touched (chunk_number (meaning self.now).live k i) };
+        ensures { result
+            ≡ contains (meaning self.now).touched (chunk_number (meaning self.now).live k i) };
 
     /// The length of a chunk in use.
     fn chunk_len(&self, k: u32, i: u32) -> u32
@@ -77,5 +80,6 @@ pub trait Areas {
         requires chunks { from + count ≤ chunks_of (meaning self.now).live k }
         requires used { (i : ℕ) → from ≤ i → i < from + count
             → is_used_at (meaning self.now).live k i ≡ true }
-        ensures { result.now ≡ flat_map (bytes_at (meaning self.now).live k) (range_with_len from count) };
+        ensures { result.now
+            ≡ flat_map (bytes_at (meaning self.now).live k) (range_with_len from count) };
 }

@@ -47,8 +47,8 @@ pub(crate) fn put_header(
     count: u32,
     out: &mut Vec<u8>,
 ) -> Result<(), AllocError>
-    ensures { OnOk result (out.new.items
-        ≡ out.old.items ++ (kind_byte version kind ∷ to_le_bytes w64 time ++ to_le_bytes w32 count)) }
+    ensures { OnOk result (out.new.items ≡ out.old.items
+        ++ (kind_byte version kind ∷ to_le_bytes w64 time ++ to_le_bytes w32 count)) }
 {
     out.push(byte_of_kind(version, kind))?;
     out.extend_from_slice(&time.to_le_bytes())?;

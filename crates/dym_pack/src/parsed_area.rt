@@ -37,7 +37,8 @@ pub(crate) struct ParsedArea {
 /// The area that the bytes begin with, and None where they begin with none.
 pub(crate) fn area_in(bytes: &[u8], version: Version, kind: Kind) -> Option<ParsedArea>
     ensures is { IfSome result (λ parsed. IsSeen version kind bytes.now parsed) }
-    ensures only { (parsed : ParsedArea) → IsSeen version kind bytes.now parsed → result ≡ Some parsed }
+    ensures only { (parsed : ParsedArea) → IsSeen version kind bytes.now parsed
+        → result ≡ Some parsed }
 {
     let (exp, ordinal) = name_in(bytes)?;
     let maps = maps_in(rest_from(bytes, NAME_BYTES), kind, exp)?;
@@ -63,8 +64,8 @@ pub(crate) fn rest_from(bytes: &[u8], at: usize) -> &[u8]
 fn name_in(bytes: &[u8]) -> Option<(u8, u32)>
     ensures is { IfSome result (λ name. (bytes.now ≡ name_bytes name.0 name.1 ++ drop 5 bytes.now)
         × (LEAST_EXPONENT ≤ name.0) × (name.0 ≤ GREATEST_EXPONENT)) }
-    ensures only { (e o : ℕ) (rest : List ℕ) → LEAST_EXPONENT ≤ e → e ≤ GREATEST_EXPONENT → o < 2 ^ 32
-        → bytes.now ≡ name_bytes e o ++ rest → result ≡ Some (e, o) }
+    ensures only { (e o : ℕ) (rest : List ℕ) → LEAST_EXPONENT ≤ e → e ≤ GREATEST_EXPONENT
+        → o < 2 ^ 32 → bytes.now ≡ name_bytes e o ++ rest → result ≡ Some (e, o) }
 {
     if bytes.len() < NAME_BYTES || bytes[0] < LEAST_EXPONENT || GREATEST_EXPONENT < bytes[0] {
         return None;

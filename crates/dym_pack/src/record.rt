@@ -177,7 +177,8 @@ impl Record {
         requires area { OfLog self.now (λ log. k < held log.copy) }
         requires chunk { OfLog self.now (λ log. i < chunks_of log.copy k) }
         requires packs { OfLog self.now (λ log. packs_at log k i ≡ true) }
-        requires count { OfLog self.now (λ log. n ≡ length (filter (packs_at log k) (range_with_len 0 i))) }
+        requires count { OfLog self.now (λ log.
+            n ≡ length (filter (packs_at log k) (range_with_len 0 i))) }
         ensures { OfLog self.now (λ log. result.now ≡ bytes_at log.copy k i) }
     {
         let body = self.body(k);
@@ -256,7 +257,8 @@ impl Record {
     /// The bits of the chunks of area `k` that the record packs: in a full record the use bits, in another the touched bits.
     fn packed_bytes(&self, k: u32) -> &[u8]
         requires { OfLog self.now (λ log. k < held log.copy) }
-        ensures is { OfLog self.now (λ log. result.now ≡ bitmap (chunks_of log.copy k) (packs_at log k)) }
+        ensures is { OfLog self.now (λ log.
+            result.now ≡ bitmap (chunks_of log.copy k) (packs_at log k)) }
         ensures few { length result.now ≤ 256 }
     {
         match self.kind() {
@@ -269,7 +271,8 @@ impl Record {
     fn touched_bytes(&self, k: u32) -> &[u8]
         requires area { OfLog self.now (λ log. k < held log.copy) }
         requires kind { OfLog self.now (λ log. log.kind ≡ Inc) }
-        ensures is { OfLog self.now (λ log. result.now ≡ bitmap (chunks_of log.copy k) (packs_at log k)) }
+        ensures is { OfLog self.now (λ log.
+            result.now ≡ bitmap (chunks_of log.copy k) (packs_at log k)) }
         ensures few { length result.now ≤ 256 }
     {
         let bytes = self.whole();

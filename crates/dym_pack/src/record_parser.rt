@@ -86,11 +86,12 @@ fn record_in(
 fn header_in(bytes: &[u8], version: Version, quota: u32) -> Option<(Kind, u32)>
     ensures is { IfSome result (λ head.
         (time : ℕ) × (time < 2 ^ 64)
-        × (bytes.now ≡ head_bytes version head.0 time head.1 ++ drop 13 bytes.now) × (head.1 ≤ quota)
-        × (head.1 ≤ MOST_QUOTA) × (13 ≤ length bytes.now)) }
-    ensures only { (kind : Kind) (time count : ℕ) → time < 2 ^ 64 → count ≤ quota → count ≤ MOST_QUOTA
-        → 13 + 6 * count ≤ length bytes.now
-        → bytes.now ≡ head_bytes version kind time count ++ drop 13 bytes.now → result ≡ Some (kind, count) }
+        × (bytes.now ≡ head_bytes version head.0 time head.1 ++ drop 13 bytes.now)
+        × (head.1 ≤ quota) × (head.1 ≤ MOST_QUOTA) × (13 ≤ length bytes.now)) }
+    ensures only { (kind : Kind) (time count : ℕ) → time < 2 ^ 64 → count ≤ quota
+        → count ≤ MOST_QUOTA → 13 + 6 * count ≤ length bytes.now
+        → bytes.now ≡ head_bytes version kind time count ++ drop 13 bytes.now
+        → result ≡ Some (kind, count) }
 {
     if bytes.len() < HEADER_BYTES {
         return None;
