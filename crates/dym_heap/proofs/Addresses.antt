@@ -36,8 +36,8 @@ chunk_lies origin quota c o n n' p q some lies moved same region is =
     moved ∙ ap (λ (x : Ptr). x +ₚ n) s.at ∙ (λ j. block_ptr (one j) ((c * quota + o) * SEGMENT_BYTES + same j))
 
 -- a region begins at its first byte
-pub begins : (origin : Origin) (id : ℕ) (p : Ptr) → region_origin id ≡ origin → p ≡ block_ptr id 0 → IsSome (region_of origin) × ForSome (region_of origin) (λ region. p ≡ block_ptr region 0)
-begins origin id p same at =
+pub begins : {origin : Origin} (id : ℕ) {p : Ptr} → region_origin id ≡ origin → p ≡ block_ptr id 0 → IsSome (region_of origin) × ForSome (region_of origin) (λ region. p ≡ block_ptr region 0)
+begins id {p} same at =
     subst (λ o. IsSome (region_of o) × ForSome (region_of o) (λ region. p ≡ block_ptr region 0)) same
     (refl, λ region is. at ∙ ap (λ x. block_ptr (unwrap_or x 0) 0) is)
 

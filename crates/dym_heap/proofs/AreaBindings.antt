@@ -38,7 +38,7 @@ bound_set binding sized_areas k p bound inside alike i d l =
     ]
 
 -- a shelf with another area in the place of one: both stand at one place of one class, and own one segment
-module _ (binding : Binding) (v : Version) (quota quota' : ℕ) (ids : List SegmentId) (starts : List ℕ) (sized_areas : List SizedAreaMeaning) (full full' : List (List Bool)) (room spare spare_room room' spare' spare_room' : ℕ) (k : ℕ) (p : SizedAreaMeaning) where
+module _ {v : Version} {quota quota' : ℕ} {ids : List SegmentId} {starts : List ℕ} {sized_areas : List SizedAreaMeaning} {full full' : List (List Bool)} {room spare spare_room room' spare' spare_room' : ℕ} (k : ℕ) (p : SizedAreaMeaning) where
   alike_at : IsShelf v quota ids starts sized_areas full room spare spare_room → IsShelf v quota' ids starts (set sized_areas k p) full' room' spare' spare_room' → k < length sized_areas
       → (d : SizedAreaMeaning) → Alike p (get_or sized_areas k d)
   alike_at before after inside d =
@@ -49,18 +49,18 @@ module _ (binding : Binding) (v : Version) (quota quota' : ℕ) (ids : List Segm
       let now : IsPlaced v (at.c + 5) at.o p = subst (IsPlaced v (at.c + 5) at.o) there (subst (λ n. IsPlaced v (at.c + 5) at.o (get_or (set sized_areas k p) n d)) (sym at.at) (after.arranged.placed at.c at.o d at.small at.within)) in
       (now.exponent ∙ sym was.exponent, now.ordinal ∙ sym was.ordinal, same_identity ids sized_areas k d p before.supplied.owned after.supplied.owned inside)
 
-  pub bound_kept : IsShelf v quota ids starts sized_areas full room spare spare_room → IsShelf v quota' ids starts (set sized_areas k p) full' room' spare' spare_room' → AreBound binding sized_areas → AreBound binding (set sized_areas k p)
-  bound_kept before after bound i d l =
+  pub bound_kept : (binding : Binding) → IsShelf v quota ids starts sized_areas full room spare spare_room → IsShelf v quota' ids starts (set sized_areas k p) full' room' spare' spare_room' → AreBound binding sized_areas → AreBound binding (set sized_areas k p)
+  bound_kept binding before after bound i d l =
       elim (cases_lt k (length sized_areas)) as (λ _. BoundArea binding (get_or (set sized_areas k p) i d)) [
         | inl inside ↦ bound_set binding sized_areas k p bound inside (alike_at before after inside) i d l
         | inr past ↦ (let other : i ≡ k → ⊥ = λ e. omega (arith, e, past, l, length-set sized_areas k p) in
             subst (BoundArea binding) (sym (get_or-set_other sized_areas k i p d other)) (bound i d (omega (arith, l, length-set sized_areas k p))))
       ]
 
-  pub bound_kept_at : (sized_areas' : List SizedAreaMeaning) → sized_areas' ≡ set sized_areas k p → IsShelf v quota ids starts sized_areas full room spare spare_room → IsShelf v quota' ids starts sized_areas' full' room' spare' spare_room'
+  pub bound_kept_at : (binding : Binding) {sized_areas' : List SizedAreaMeaning} → sized_areas' ≡ set sized_areas k p → IsShelf v quota ids starts sized_areas full room spare spare_room → IsShelf v quota' ids starts sized_areas' full' room' spare' spare_room'
       → AreBound binding sized_areas → AreBound binding sized_areas'
-  bound_kept_at sized_areas' items before after bound =
-      subst (AreBound binding) (sym items) (bound_kept before (subst (λ xs. IsShelf v quota' ids starts xs full' room' spare' spare_room') items after) bound)
+  bound_kept_at binding items before after bound =
+      subst (AreBound binding) (sym items) (bound_kept binding before (subst (λ xs. IsShelf v quota' ids starts xs full' room' spare' spare_room') items after) bound)
 
 -- areas that change and keep their class, ordinal and segment
 bound_mapped : (f : SizedAreaMeaning → SizedAreaMeaning) → ((p : SizedAreaMeaning) → Alike (f p) p) → (binding : Binding) (sized_areas sized_areas' : List SizedAreaMeaning) → sized_areas' ≡ map f sized_areas
@@ -101,26 +101,26 @@ bound_remove binding sized_areas at inside bound k d l =
     ]
 
 -- a new area is over the segment that was asked for it
-pub bound_made : (binding : Binding) (p : SizedAreaMeaning) (class e o : ℕ) (id : SegmentId) → class ≡ e - 5 → p.exponent ≡ e → p.ordinal ≡ o → p.identity ≡ id → IsBoundTo binding class o id → BoundArea binding p
-bound_made None p class e o id class_is exponent ordinal identity is = tt
-bound_made (Some f) p class e o id class_is exponent ordinal identity is = identity ∙ is ∙ (λ j. f ((class_is ∙ ap (λ n. n - 5) (sym exponent)) j) (sym ordinal j))
+pub bound_made : (binding : Binding) (p : SizedAreaMeaning) {class e o : ℕ} {id : SegmentId} → class ≡ e - 5 → p.exponent ≡ e → p.ordinal ≡ o → p.identity ≡ id → IsBoundTo binding class o id → BoundArea binding p
+bound_made None p class_is exponent ordinal identity is = tt
+bound_made (Some f) p class_is exponent ordinal identity is = identity ∙ is ∙ (λ j. f ((class_is ∙ ap (λ n. n - 5) (sym exponent)) j) (sym ordinal j))
 
-pub bound_inserted : (binding binding' : Binding) (sized_areas sized_areas' : List SizedAreaMeaning) (at : ℕ) (p : SizedAreaMeaning) → sized_areas' ≡ insert sized_areas at p → at ≤ length sized_areas → BoundArea binding p
+pub bound_inserted : {binding binding' : Binding} (sized_areas : List SizedAreaMeaning) {sized_areas' : List SizedAreaMeaning} (at : ℕ) (p : SizedAreaMeaning) → sized_areas' ≡ insert sized_areas at p → at ≤ length sized_areas → BoundArea binding p
     → binding' ≡ binding → AreBound binding sized_areas → AreBound binding' sized_areas'
-bound_inserted binding binding' sized_areas sized_areas' at p items fits is same bound =
+bound_inserted {binding} sized_areas {sized_areas'} at p items fits is same bound =
     subst (λ b. AreBound b sized_areas') (sym same) (subst (AreBound binding) (sym items) (bound_insert binding sized_areas at p fits is bound))
 
-pub bound_removed : (binding binding' : Binding) (sized_areas sized_areas' : List SizedAreaMeaning) (at : ℕ) → sized_areas' ≡ remove sized_areas at → at < length sized_areas
+pub bound_removed : {binding binding' : Binding} (sized_areas : List SizedAreaMeaning) {sized_areas' : List SizedAreaMeaning} (at : ℕ) → sized_areas' ≡ remove sized_areas at → at < length sized_areas
     → binding' ≡ binding → AreBound binding sized_areas → AreBound binding' sized_areas'
-bound_removed binding binding' sized_areas sized_areas' at items inside same bound =
+bound_removed {binding} sized_areas {sized_areas'} at items inside same bound =
     subst (λ b. AreBound b sized_areas') (sym same) (subst (AreBound binding) (sym items) (bound_remove binding sized_areas at inside bound))
 
 -- the segment of the next area of a class isn't held
-pub next_free : (binding : Binding) (v : Version) (quota : ℕ) (ids : List SegmentId) (starts : List ℕ) (sized_areas : List SizedAreaMeaning) (full : List (List Bool)) (room spare spare_room : ℕ) (c : ℕ)
+pub next_free : (binding : Binding) {v : Version} {quota : ℕ} {ids : List SegmentId} {starts : List ℕ} {sized_areas : List SizedAreaMeaning} {full : List (List Bool)} {room spare spare_room : ℕ} (c : ℕ)
     → AreApart binding quota → IsShelf v quota ids starts sized_areas full room spare spare_room → AreBound binding sized_areas → c < 12 → length sized_areas < quota
     → IsFreeFor binding ids c (get_or starts (c + 1) 0 - get_or starts c 0)
-next_free None v quota ids starts sized_areas full room spare spare_room c apart is bound small less = tt
-next_free (Some f) v quota ids starts sized_areas full room spare spare_room c apart is bound small less = λ held.
+next_free None c apart is bound small less = tt
+next_free (Some f) {v} {quota} {ids} {starts} {sized_areas} {full} c apart is bound small less = λ held.
     let n : ℕ = get_or starts (c + 1) 0 - get_or starts c 0 in
     let found = held_area (f c n) ids sized_areas is.supplied.owned held in
     let k : ℕ = found.0 in
@@ -135,7 +135,7 @@ next_free (Some f) v quota ids starts sized_areas full room spare spare_room c a
           let within = at.within in
           let rising = is.arranged.rising c small in
           let low : at.o < quota = (let i = found.1 in let e = at.at in omega arith) in
-          let top = class_end v starts sized_areas full c is.arranged small in
+          let top = class_end c is.arranged small in
           let one = apart at.c at.o c n low (omega arith) (sym here ∙ found.2 d) in
           let end : get_or starts (at.c + 1) 0 ≡ get_or starts (c + 1) 0 = ap (λ x. get_or starts (x + 1) 0) one.0 in
           let start : get_or starts at.c 0 ≡ get_or starts c 0 = ap (λ x. get_or starts x 0) one.0 in

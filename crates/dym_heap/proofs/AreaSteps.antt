@@ -16,10 +16,10 @@ use Rattle.dym_heap.proofs.Wants.{no_chunk}
 
 -- ---- chunks by their numbers and by their rows
 
-pub chunk_in_row : (s : ShelfMeaning) → IsValidShelf s → (d j q : ℕ) → q ≡ number (d + 5) j → j < 2 ^ 32 → heap_chunk (state_of s.rows) q ≡ row_chunk s.rows d j
-chunk_in_row s valid_shelf d j q is small = λ i. record {
-  bytes = get-live_of s.rows (kept_fits s valid_shelf) d j q is small i;
-  touched = contains-touched_of s.rows (kept_marks_fit s valid_shelf) d j q is small i;
+pub chunk_in_row : {s : ShelfMeaning} → IsValidShelf s → (d j : ℕ) {q : ℕ} → q ≡ number (d + 5) j → j < 2 ^ 32 → heap_chunk (state_of s.rows) q ≡ row_chunk s.rows d j
+chunk_in_row {s} valid_shelf d j {q} is small = λ i. record {
+  bytes = get-live_of s.rows (kept_fits valid_shelf) d j is small i;
+  touched = contains-touched_of s.rows (kept_marks_fit valid_shelf) d j is small i;
 }
 
 pub chunk_below : (s : ShelfMeaning) (q : ℕ) → q < number 5 0 → heap_chunk (state_of s.rows) q ≡ no_chunk
@@ -53,7 +53,7 @@ upto_all R copy old new n all classed idle each q =
     ]
 
 module _ (R : ℕ → ChunkMeaning → ChunkMeaning → Type 0) (trans : (q : ℕ) (a b c : ChunkMeaning) → R q a b → R q b c → R q a c) (copy : Live) (few : held copy ≤ 1024) (k : ℕ) (l : k < held copy)
-    (old : HeapState) (mid new : ShelfMeaning) (kept_mid : IsValidShelf mid) (valid_shelf : IsValidShelf new)
+    (old : HeapState) {mid new : ShelfMeaning} (kept_mid : IsValidShelf mid) (valid_shelf : IsValidShelf new)
     (changes : IsChangedArea mid.rows new.rows ((area_at copy k).exponent - 5) (area_at copy k).ordinal (λ i. R (chunk_number copy k i))) where
   abbrev e : ℕ
   e = (area_at copy k).exponent
@@ -78,7 +78,7 @@ module _ (R : ℕ → ChunkMeaning → ChunkMeaning → Type 0) (trans : (q : �
 
   small_n : (i : ℕ) → i < per e → o * per e + i < 2 ^ 32
   small_n i b =
-      let x = small_k copy k i area_n few l (let y = ap per e_n in omega arith) in
+      let x = small_k i area_n few l (let y = ap per e_n in omega arith) in
       let z : o * per e ≡ area_n.o * per area_n.e = ap (λ a. a * per e) o_n ∙ ap (λ a. area_n.o * per a) e_n in
       omega arith
 
@@ -111,8 +111,8 @@ module _ (R : ℕ → ChunkMeaning → ChunkMeaning → Type 0) (trans : (q : �
       subst (λ x. R x (row_chunk mid.rows (e - 5) j) (row_chunk new.rows (e - 5) j)) (sym q_is)
       (subst (λ x. R (chunk_number copy k i) (row_chunk mid.rows (e - 5) x) (row_chunk new.rows (e - 5) x)) j_is (changes.here i (omega arith))) in
       let step : R q (heap_chunk (state_of mid.rows) q) (heap_chunk (state_of new.rows) q) =
-      subst (λ x. R q x (heap_chunk (state_of new.rows) q)) (sym (chunk_in_row mid kept_mid (e - 5) j q q_row small))
-      (subst (λ x. R q (row_chunk mid.rows (e - 5) j) x) (sym (chunk_in_row new valid_shelf (e - 5) j q q_row small)) here) in
+      subst (λ x. R q x (heap_chunk (state_of new.rows) q)) (sym (chunk_in_row kept_mid (e - 5) j q_row small))
+      (subst (λ x. R q (row_chunk mid.rows (e - 5) j) x) (sym (chunk_in_row valid_shelf (e - 5) j q_row small)) here) in
       inl (elim done as (λ _. R q (heap_chunk old q) (heap_chunk (state_of new.rows) q)) [
         | inl was ↦ trans q (heap_chunk old q) (heap_chunk (state_of mid.rows) q) (heap_chunk (state_of new.rows) q) was step
         | inr rest ↦ subst (λ x. R q x (heap_chunk (state_of new.rows) q)) rest.0 step
@@ -126,7 +126,7 @@ module _ (R : ℕ → ChunkMeaning → ChunkMeaning → Type 0) (trans : (q : �
         | below b ↦ outside q (chunk_below new q b ∙ sym (chunk_below mid q b)) (λ i m q_is. let low = e_low in omega arith) done
         | at d j q_is small ↦
             let same : (d ≡ e - 5 → j / n ≡ o → ⊥) → (heap_chunk (state_of new.rows) q ≡ heap_chunk (state_of mid.rows) q) = λ ne.
-            chunk_in_row new valid_shelf d j q q_is small ∙ changes.others d j ne ∙ sym (chunk_in_row mid kept_mid d j q q_is small) in
+            chunk_in_row valid_shelf d j q_is small ∙ changes.others d j ne ∙ sym (chunk_in_row kept_mid d j q_is small) in
             elim (cases_eq d (e - 5)) as (λ _. UpTo R copy old (state_of new.rows) (k + 1) q) [
               | inr ne ↦ outside q (same (λ x y. ne x)) (λ i m at_q. let s = small_n i m in let r = row_is in ne (omega arith)) done
               | inl one ↦
@@ -149,9 +149,9 @@ module _ (R : ℕ → ChunkMeaning → ChunkMeaning → Type 0) (trans : (q : �
 -- ---- the shelf stays tidy
 
 -- as many chunks are in use as before
-area_some : (mid new : ShelfMeaning) (c o : ℕ) (Change : ℕ → ChunkMeaning → ChunkMeaning → Type 0) → IsChangedArea mid.rows new.rows c o Change
+area_some : (mid new : ShelfMeaning) {c o : ℕ} {Change : ℕ → ChunkMeaning → ChunkMeaning → Type 0} → IsChangedArea mid.rows new.rows c o Change
     → ((i j : ℕ) → Change i (row_chunk mid.rows c j) (row_chunk new.rows c j) → is_some (chunk_at new.rows c j) ≡ is_some (chunk_at mid.rows c j)) → (d i : ℕ) → is_some (chunk_at new.rows d i) ≡ is_some (chunk_at mid.rows d i)
-area_some mid new c o Change changes keeps d i =
+area_some mid new {c} {o} changes keeps d i =
     let n : ℕ = per (c + 5) in
     elim (cases_eq d c) as (λ _. is_some (chunk_at new.rows d i) ≡ is_some (chunk_at mid.rows d i)) [
       | inr ne ↦ ap (λ (x : ChunkMeaning). is_some x.bytes) (changes.others d i (λ x y. ne x))
@@ -167,9 +167,9 @@ area_some mid new c o Change changes keeps d i =
           ]
     ]
 
-pub tidy_changed : (mid new : ShelfMeaning) (c o : ℕ) (Change : ℕ → ChunkMeaning → ChunkMeaning → Type 0) → IsTidy mid → IsValidShelf new → ((d : ℕ) → length (row_at new.rows d).chunks ≡ length (row_at mid.rows d).chunks)
+pub tidy_changed : {mid new : ShelfMeaning} {c o : ℕ} {Change : ℕ → ChunkMeaning → ChunkMeaning → Type 0} → IsTidy mid → IsValidShelf new → ((d : ℕ) → length (row_at new.rows d).chunks ≡ length (row_at mid.rows d).chunks)
     → IsChangedArea mid.rows new.rows c o Change → ((i j : ℕ) → Change i (row_chunk mid.rows c j) (row_chunk new.rows c j) → is_some (chunk_at new.rows c j) ≡ is_some (chunk_at mid.rows c j)) → IsTidy new
-tidy_changed mid new c o Change tidy valid_shelf long changes keeps = record {
+tidy_changed {mid} {new} {c} {o} {Change} tidy valid_shelf long changes keeps = record {
   valid_shelf = valid_shelf;
   trimmed = λ d l.
       let was = tidy.trimmed d l in
@@ -179,7 +179,7 @@ tidy_changed mid new c o Change tidy valid_shelf long changes keeps = record {
         whole = same ∙ was.whole;
         ends = elim was.ends as (λ _. (was.count ≡ 0) ⊎ ((i : ℕ) × (length (row_at new.rows d).chunks ≤ i + per (d + 5)) × IsSome (get_or (row_at new.rows d).chunks i None))) [
           | inl none ↦ inl none
-          | inr some ↦ inr (some.0, (let near = some.1 in omega arith), area_some mid new c o Change changes keeps d some.0 ∙ some.2)
+          | inr some ↦ inr (some.0, (let near = some.1 in omega arith), area_some mid new changes keeps d some.0 ∙ some.2)
         ];
       };
 }

@@ -34,7 +34,7 @@ length-refilled ws old = sym (length_refill (length old) old ws refl)
 pub splice_all : (ws old : List ℕ) → splice 0 (refilled ws old) old ≡ refilled ws old
 splice_all ws old = ap (λ xs. refilled ws old ++ xs) (drop_all (0 + length (refilled ws old)) old (omega (arith, length-refilled ws old))) ∙ append-nil (refilled ws old)
 
-module _ (area : AreaMeaning) (ls : Option (List ℕ)) (p : SizedAreaMeaning) (v : place_of area ls ≡ p) (m : IsMeasured area ls) (i len : ℕ) (u : InUse area ls p v m i 1) (n : len ≡ length u.old) (r : Reaches ls i) (ws : List ℕ) where
+module _ {area : AreaMeaning} {ls : Option (List ℕ)} {p : SizedAreaMeaning} {v : place_of area ls ≡ p} {m : IsMeasured area ls} {i len : ℕ} (u : InUse v m i 1) (n : len ≡ length u.old) (r : Reaches ls i) (ws : List ℕ) where
   pub part : part_of area.content (chunk_start area i + 0) len ≡ u.old
   part = (let e : chunk_start area i + 0 ≡ chunk_start area i = omega arith in ap (λ k. part_of area.content k len) e) ∙ ap (part_of area.content (chunk_start area i)) n ∙ sym u.bytes
 
@@ -49,8 +49,8 @@ module _ (area : AreaMeaning) (ls : Option (List ℕ)) (p : SizedAreaMeaning) (v
 
   pub lent_p : IsValidArea (with_chunk_lent area i 0 len ws) → Steps (with_chunk_lent area i 0 len ws) ls (area_lent p i ws)
   lent_p valid =
-      let u' : InUse area ls p v m i (0 + length new) = record { old = u.old; chunk = u.chunk; at = u.at; is_set = u.is_set; below = u.below; fits = omega (arith, long); noted_as = u.noted_as; small = u.small; bytes = u.bytes } in
-      let steps = facts.written_p area ls p v m (with_chunk_lent area i 0 len ws) i 0 new u' refl valid r (omega (arith, long, u.fits)) in
+      let u' : InUse v m i (0 + length new) = record { old = u.old; chunk = u.chunk; at = u.at; is_set = u.is_set; below = u.below; fits = omega (arith, long); noted_as = u.noted_as; small = u.small; bytes = u.bytes } in
+      let steps = facts.written_p v m 0 new u' refl valid r (omega (arith, long, u.fits)) in
       let e : Some (splice 0 new u.old) ≡ lent_chunk (get_or p.chunks i None) ws = ap (λ xs. Some (splice 0 xs u.old)) new_is ∙ ap Some (splice_all ws u.old) ∙ ap (λ o. lent_chunk o ws) (sym u.at) in
       subst (λ x. Steps (with_chunk_lent area i 0 len ws) ls (area_with_chunk p i x true)) e steps
 
@@ -87,7 +87,7 @@ pub some_there : (o : Option (List ℕ)) → FitsIn o 1 → (old : List ℕ) × 
 some_there None fits = absurd fits
 some_there (Some old) fits = (old, refl, omega (arith, fits))
 
-module _ (s : ShelfMeaning) (applied : ℕ) (h : HeapMeaning) (view : heap_of s applied ≡ h) (tidy : IsTidy s) (hd : Handle) (low : 5 ≤ hd.exp) (high : hd.exp ≤ 16)
+module _ {s : ShelfMeaning} {applied : ℕ} {h : HeapMeaning} (view : heap_of s applied ≡ h) (tidy : IsTidy s) (hd : Handle) (low : 5 ≤ hd.exp) (high : hd.exp ≤ 16)
     (live : get (live_of s.rows) (key hd) ≡ chunk_at s.rows (hd.exp - 5) hd.index) (fits : FitsIn (chunk_at s.rows (hd.exp - 5) hd.index) 1) (ws : List ℕ) (valid_shelf' : IsValidShelf (shelf_lent s (hd.exp - 5) hd.index ws)) where
   old : List ℕ
   old = (some_there (chunk_at s.rows (hd.exp - 5) hd.index) fits).0
@@ -100,7 +100,7 @@ module _ (s : ShelfMeaning) (applied : ℕ) (h : HeapMeaning) (view : heap_of s 
   lent = shelf_lent s (hd.exp - 5) hd.index ws
 
   wrote_h : Wrote s lent hd.exp hd.index (refilled ws old)
-  wrote_h = wrote s lent hd.exp hd.index (refilled ws old) tidy valid_shelf' (ap (λ o. with_put s (hd.exp - 5) hd.index (lent_chunk o ws) true) there) (ap is_some there) low high
+  wrote_h = wrote hd.exp hd.index (refilled ws old) tidy valid_shelf' (ap (λ o. with_put s (hd.exp - 5) hd.index (lent_chunk o ws) true) there) (ap is_some there) low high
 
   pub tidy_h : IsTidy lent
   tidy_h = wrote_h.tidy
@@ -114,12 +114,12 @@ module _ (s : ShelfMeaning) (applied : ℕ) (h : HeapMeaning) (view : heap_of s 
       ∙ ap (λ (x : HeapMeaning). heap_lent x hd ws) view
 
   pub sound_h : IsSound (heap_lent h hd ws)
-  sound_h = subst IsSound lent_h (sound_of lent applied tidy_h)
+  sound_h = subst IsSound lent_h (sound_of applied tidy_h)
 
 -- a live chunk of a heap is one of its shelf
-module _ (s : ShelfMeaning) (applied : ℕ) (h : HeapMeaning) (view : heap_of s applied ≡ h) (tidy : IsTidy s) (hd : Handle) (low : 5 ≤ hd.exp) (small : hd.index < 2 ^ 32) where
+module _ {s : ShelfMeaning} {applied : ℕ} {h : HeapMeaning} (view : heap_of s applied ≡ h) (tidy : IsTidy s) (hd : Handle) (low : 5 ≤ hd.exp) (small : hd.index < 2 ^ 32) where
   pub live_at : get (live_of s.rows) (key hd) ≡ chunk_at s.rows (hd.exp - 5) hd.index
-  live_at = get-live_of s.rows (kept_fits s tidy.valid_shelf) (hd.exp - 5) hd.index (key hd) (let e : hd.exp ≡ hd.exp - 5 + 5 = omega arith in ap (λ n. number n hd.index) e) small
+  live_at = get-live_of s.rows (kept_fits tidy.valid_shelf) (hd.exp - 5) hd.index {q = (key hd)} (let e : hd.exp ≡ hd.exp - 5 + 5 = omega arith in ap (λ n. number n hd.index) e) small
 
   pub fits_at : HasByte h hd → FitsIn (chunk_at s.rows (hd.exp - 5) hd.index) 1
   fits_at some = subst (λ o. FitsIn o 1) (ap (λ (x : HeapMeaning). get x.state.live (key hd)) (sym view) ∙ live_at) some

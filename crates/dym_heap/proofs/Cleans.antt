@@ -56,27 +56,27 @@ settled_places (p ∷ ps) each =
 
 -- ---- the shelf
 
-pub clean_view : (v : Version) (quota : ℕ) (ids : List SegmentId) (origin : Origin) (starts : List ℕ) (sized_areas : List SizedAreaMeaning) (s : ShelfMeaning) → shelf_of v quota ids origin starts sized_areas ≡ s
+pub clean_view : {v : Version} {quota : ℕ} {ids : List SegmentId} {origin : Origin} (starts : List ℕ) (sized_areas : List SizedAreaMeaning) {s : ShelfMeaning} → shelf_of v quota ids origin starts sized_areas ≡ s
     → shelf_of v quota ids origin starts (map clean sized_areas) ≡ record s { rows = untouched_rows s.rows }
-clean_view = marks.view_of no_marks makes_none
+clean_view starts sized_areas view = marks.view_of makes_none starts sized_areas view
 
-pub cleaned_shelf : (v : Version) (quota : ℕ) (ids : List SegmentId) (starts : List ℕ) (sized_areas sized_areas' : List SizedAreaMeaning) (full : List (List Bool)) (room room' spare spare_room : ℕ) → sized_areas' ≡ map clean sized_areas → room' ≡ room
+pub cleaned_shelf : {v : Version} {quota : ℕ} {ids : List SegmentId} {starts : List ℕ} {sized_areas sized_areas' : List SizedAreaMeaning} {full : List (List Bool)} {room room' spare spare_room : ℕ} → sized_areas' ≡ map clean sized_areas → room' ≡ room
     → IsShelf v quota ids starts sized_areas full room spare spare_room → IsShelf v quota ids starts sized_areas' full room' spare spare_room
-cleaned_shelf = marks.kept_shelf no_marks makes_none
+cleaned_shelf items same is = marks.kept_shelf makes_none items same is
 
 -- ---- the maps then
 
-pub clean_state : (s t : ShelfMeaning) → IsValidShelf s → IsValidShelf t → t.rows ≡ untouched_rows s.rows → state_of t.rows ≡ record { live = live_of s.rows; touched = set_of.empty {R = nat_cmp} }
-clean_state s t valid_shelf valid_shelf' is =
-    let lives : live_of t.rows ≡ live_of s.rows = marks.lives no_marks makes_none s t valid_shelf valid_shelf' is in
+pub clean_state : {s t : ShelfMeaning} → IsValidShelf s → IsValidShelf t → t.rows ≡ untouched_rows s.rows → state_of t.rows ≡ record { live = live_of s.rows; touched = set_of.empty {R = nat_cmp} }
+clean_state {s} {t} valid_shelf valid_shelf' is =
+    let lives : live_of t.rows ≡ live_of s.rows = marks.lives makes_none valid_shelf valid_shelf' is in
     let touches : touched_of t.rows ≡ set_of.empty {R = nat_cmp} =
     same_set nat_cmp_total nat_cmp-IsAntisymmetric (touched_of t.rows) (set_of.empty {R = nat_cmp}) (λ q.
     elim (splits q) as (λ _. set_of.contains (touched_of t.rows) q ≡ set_of.contains (set_of.empty {R = nat_cmp}) q) [
       | below b ↦ contains-touched_of_below t.rows q b ∙ sym (contains-empty nat_cmp q)
       | at c j e l ↦
-          contains-touched_of t.rows (kept_marks_fit t valid_shelf') c j q e l ∙ ap (λ (r : Row). get_or r.touched j false) (marks.row_is no_marks makes_none s t is c) ∙ no_mark (length (row_at s.rows c).touched) j ∙ sym (contains-empty nat_cmp q)
+          contains-touched_of t.rows (kept_marks_fit valid_shelf') c j e l ∙ ap (λ (r : Row). get_or r.touched j false) (marks.row_is makes_none s t is c) ∙ no_mark (length (row_at s.rows c).touched) j ∙ sym (contains-empty nat_cmp q)
     ]) in
     λ i. record { live = lives i; touched = touches i }
 
-pub clean_tidy : (s t : ShelfMeaning) → IsTidy s → IsValidShelf t → t.rows ≡ untouched_rows s.rows → IsTidy t
-clean_tidy = marks.kept_tidy no_marks makes_none
+pub clean_tidy : {s t : ShelfMeaning} → IsTidy s → IsValidShelf t → t.rows ≡ untouched_rows s.rows → IsTidy t
+clean_tidy tidy valid_shelf is = marks.kept_tidy makes_none tidy valid_shelf is

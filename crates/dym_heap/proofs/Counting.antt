@@ -130,7 +130,7 @@ row_areas rows fits c trimmed =
     areas-is (live_of rows) (c + 5) trimmed.count
     (λ k h same.
     let l : index_of k < 2 ^ 32 = omega arith in
-    let at : get (live_of rows) k ≡ chunk_at rows c (index_of k) = get-live_of rows fits c (index_of k) k (omega arith) l in
+    let at : get (live_of rows) k ≡ chunk_at rows c (index_of k) = get-live_of rows fits c (index_of k) {q = k} (omega arith) l in
     let within : index_of k < length (row_at rows c).chunks = some_within _ _ (sym (ap is_some at) ∙ h) in
     let whole = trimmed.whole in
     let below : index_of k / per (c + 5) < trimmed.count = div_below (index_of k) (per (c + 5)) trimmed.count positive (omega arith) in
@@ -144,7 +144,7 @@ row_areas rows fits c trimmed =
           let l : i < 2 ^ 32 = let f = fits c in omega arith in
           let k : ℕ = number (c + 5) i in
           let index_is : index_of k ≡ i = omega arith in
-          let at : get (live_of rows) k ≡ chunk_at rows c i = get-live_of rows fits c i k refl l in
+          let at : get (live_of rows) k ≡ chunk_at rows c i = get-live_of rows fits c i refl l in
           inr (
             k,
             ap is_some at ∙ used,

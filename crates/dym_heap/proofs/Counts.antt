@@ -93,9 +93,9 @@ counted_none bytes counts long zeros = record {
   over = λ log is e m l. absurd (omega arith);
 }
 
-pub counted_more : (bytes counts : List ℕ) (k c e o x : ℕ) → Counted bytes counts k → IsRecord bytes → OfLog bytes (λ log. k < held log.copy) → OfLog bytes (λ log. e ≡ (area_at log.copy k).exponent) → OfLog bytes (λ log. o ≡ (area_at log.copy k).ordinal)
+pub counted_more : {bytes counts : List ℕ} {k c : ℕ} (e o : ℕ) {x : ℕ} → Counted bytes counts k → IsRecord bytes → OfLog bytes (λ log. k < held log.copy) → OfLog bytes (λ log. e ≡ (area_at log.copy k).exponent) → OfLog bytes (λ log. o ≡ (area_at log.copy k).ordinal)
     → c ≡ e - 5 → x ≡ max (get_or counts c 0) (o + 1) → Counted bytes (set counts c x) (k + 1)
-counted_more bytes counts k c e o x was has inside exp ord c_is x_is =
+counted_more {counts} {k} {c} e o {x} was has inside exp ord c_is x_is =
     let small : c < 12 =
     (let n = named has.0.copy k (inside has.0 has.1 has.2) in let a = exp has.0 has.1 has.2 in let b = ap (λ (y : AreaName). y.exponent) n.is in let low = n.least in let high = n.most in omega arith) in
     let long = was.long in
@@ -141,8 +141,8 @@ counted_more bytes counts k c e o x was has inside exp ord c_is x_is =
           ];
     }
 
-pub counted_all : (bytes counts : List ℕ) (k : ℕ) → Counted bytes counts k → OfLog bytes (λ log. k ≡ held log.copy) → OfLog bytes (λ log. (c : ℕ) → c < 12 → get_or counts c 0 ≡ areas log.copy (c + 5))
-counted_all bytes counts k was all log is pk c l =
+pub counted_all : {bytes counts : List ℕ} {k : ℕ} → Counted bytes counts k → OfLog bytes (λ log. k ≡ held log.copy) → OfLog bytes (λ log. (c : ℕ) → c < 12 → get_or counts c 0 ≡ areas log.copy (c + 5))
+counted_all {counts} was all log is pk c l =
     let under = was.under log is pk c l in
     elim (cases_lt (get_or counts c 0) (areas log.copy (c + 5))) as (λ _. get_or counts c 0 ≡ areas log.copy (c + 5)) [
       | inr past ↦ omega arith
@@ -157,10 +157,10 @@ counted_all bytes counts k was all log is pk c l =
           absurd (omega arith)
     ]
 
-pub counted_total : (bytes counts : List ℕ) (k : ℕ) → Counted bytes counts k → IsRecord bytes → OfLog bytes (λ log. k ≡ held log.copy) → (quota : ℕ) → OfLog bytes (λ log. held log.copy ≤ quota) → sum counts ≤ quota
+pub counted_total : {bytes counts : List ℕ} {k : ℕ} → Counted bytes counts k → IsRecord bytes → OfLog bytes (λ log. k ≡ held log.copy) → (quota : ℕ) → OfLog bytes (λ log. held log.copy ≤ quota) → sum counts ≤ quota
 unfolding held
-counted_total bytes counts k was has all quota within =
-    let each = counted_all bytes counts k was all has.0 has.1 has.2 in
+counted_total {bytes} {counts} {k} was has all quota within =
+    let each = counted_all was all has.0 has.1 has.2 in
     let turn : (c : ℕ) → (c + 5 ≡ 5 + c) = λ c. omega arith in
     let total : sum counts ≡ held has.0.copy = sum_points (areas has.0.copy) counts 5 12 was.long (λ c l. each c l ∙ ap (areas has.0.copy) (turn c)) in
     let w = within has.0 has.1 has.2 in

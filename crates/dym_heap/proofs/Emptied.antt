@@ -64,8 +64,8 @@ module _ (rows : List Row) (e r : ℕ) (low : 5 ≤ e) (high : e ≤ 16) (many :
       }
 
 -- the chunks before the last area stay as they are
-module _ (old mid new : ShelfMeaning) (ids : List SegmentId) (e r : ℕ) (low : 5 ≤ e) (high : e ≤ 16) (many : length (row_at old.rows (e - 5)).chunks ≡ r * per (e - 5 + 5)) (some : per e ≤ length (row_at old.rows (e - 5)).chunks)
-    (Change : ℕ → ChunkMeaning → ChunkMeaning → Type 0) (shaped : IsChangedArea old.rows mid.rows (e - 5) (r - 1) Change) (long : length (row_at mid.rows (e - 5)).chunks ≡ length (row_at old.rows (e - 5)).chunks) (valid_shelf : IsValidShelf mid)
+module _ (old : ShelfMeaning) {mid new : ShelfMeaning} (ids : List SegmentId) (e r : ℕ) (low : 5 ≤ e) (high : e ≤ 16) (many : length (row_at old.rows (e - 5)).chunks ≡ r * per (e - 5 + 5)) (some : per e ≤ length (row_at old.rows (e - 5)).chunks)
+    {Change : ℕ → ChunkMeaning → ChunkMeaning → Type 0} (shaped : IsChangedArea old.rows mid.rows (e - 5) (r - 1) Change) (long : length (row_at mid.rows (e - 5)).chunks ≡ length (row_at old.rows (e - 5)).chunks) (valid_shelf : IsValidShelf mid)
     (dropped : new ≡ without_last mid (e - 5) (per e) ids) (positive : 0 < per e) where
   abbrev left : ℕ
   left = length (row_at mid.rows (e - 5)).chunks - per e

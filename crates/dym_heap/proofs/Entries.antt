@@ -66,9 +66,9 @@ rows_at q e (suc c) j (r ∷ rows) is l fits =
     ∙ rows_at q (e + 1) c j rows (omega arith) l (λ d. fits (suc d))
 
 -- the chunk of a handle
-pub get-live_of : (rows : List Row) → Fits rows → (c j q : ℕ) → q ≡ number (c + 5) j → j < 2 ^ 32 → get (live_of rows) q ≡ chunk_at rows c j
+pub get-live_of : (rows : List Row) → Fits rows → (c j : ℕ) {q : ℕ} → q ≡ number (c + 5) j → j < 2 ^ 32 → get (live_of rows) q ≡ chunk_at rows c j
 unfolding live_of
-get-live_of rows fits c j q is l = get-from_entries nat_cmp_total (entries_of 5 rows) q ∙ rows_at q 5 c j rows (omega arith) l fits
+get-live_of rows fits c j {q} is l = get-from_entries nat_cmp_total (entries_of 5 rows) q ∙ rows_at q 5 c j rows (omega arith) l fits
 
 -- no class is below 5
 pub get-live_of_below : (rows : List Row) (q : ℕ) → q < number 5 0 → get (live_of rows) q ≡ None
@@ -126,9 +126,9 @@ mark_rows_at q e (suc c) j (r ∷ rows) is l fits =
     (marks_at q (number e 0) ((c + 1) * 2 ^ 32 + j) r.touched (omega arith) ∙ get_or_past r.touched _ false (let f = fits 0 in omega arith))
     ∙ mark_rows_at q (e + 1) c j rows (omega arith) l (λ d. fits (suc d))
 
-pub contains-touched_of : (rows : List Row) → MarksFit rows → (c j q : ℕ) → q ≡ number (c + 5) j → j < 2 ^ 32 → fset.contains (touched_of rows) q ≡ touch_at rows c j
+pub contains-touched_of : (rows : List Row) → MarksFit rows → (c j : ℕ) {q : ℕ} → q ≡ number (c + 5) j → j < 2 ^ 32 → fset.contains (touched_of rows) q ≡ touch_at rows c j
 unfolding touched_of
-contains-touched_of rows fits c j q is l = contains-from_list_nat (marks_of 5 rows) q ∙ mark_rows_at q 5 c j rows (omega arith) l fits
+contains-touched_of rows fits c j {q} is l = contains-from_list_nat (marks_of 5 rows) q ∙ mark_rows_at q 5 c j rows (omega arith) l fits
 
 pub contains-touched_of_below : (rows : List Row) (q : ℕ) → q < number 5 0 → fset.contains (touched_of rows) q ≡ false
 unfolding touched_of
@@ -166,16 +166,16 @@ get-with_option : (m : Live) (k : ℕ) (o : Option (List ℕ)) (q : ℕ) → get
 get-with_option m k None q = get-remove nat_cmp_total m k q ∙ ap (λ b. cond b None (get m q)) (unsigned_tied q k)
 get-with_option m k (Some bytes) q = get-insert nat_cmp_total m k bytes q ∙ ap (λ b. cond b (Some bytes) (get m q)) (unsigned_tied q k)
 
-pub live_of-changed : (old new : List Row) (c j : ℕ) (o : Option (List ℕ)) → Fits old → Fits new → j < 2 ^ 32 → ChangesChunk old new c j o
+pub live_of-changed : {old new : List Row} {c : ℕ} (j : ℕ) {o : Option (List ℕ)} → Fits old → Fits new → j < 2 ^ 32 → ChangesChunk old new c j o
     → live_of new ≡ with_option (live_of old) (number (c + 5) j) o
-live_of-changed old new c j o fits fits' l change =
+live_of-changed {old} {new} {c} j {o} fits fits' l change =
     same_map nat_cmp_total nat_cmp-IsAntisymmetric (live_of new) (with_option (live_of old) (number (c + 5) j) o) (λ q.
     elim (splits q) as (λ _. get (live_of new) q ≡ get (with_option (live_of old) (number (c + 5) j) o) q) [
       | below b ↦
           get-live_of_below new q b
           ∙ sym (get-with_option (live_of old) (number (c + 5) j) o q ∙ cond-false (q == number (c + 5) j) o _ (ne_eqb q _ (λ e. omega arith)) ∙ get-live_of_below old q b)
       | at d i is within ↦
-          get-live_of new fits' d i q is within
+          get-live_of new fits' d i is within
           ∙ elim (cases_eq q (number (c + 5) j)) as (λ _. chunk_at new d i ≡ get (with_option (live_of old) (number (c + 5) j) o) q) [
             | inl e ↦
                 let same_class : d ≡ c = omega arith in
@@ -184,7 +184,7 @@ live_of-changed old new c j o fits fits' l change =
                 ∙ sym (get-with_option (live_of old) (number (c + 5) j) o q ∙ cond-true (q == number (c + 5) j) o _ (eq-eqb q _ e))
             | inr ne ↦
                 change.others d i (λ same_class same_index. ne (omega arith))
-                ∙ sym (get-with_option (live_of old) (number (c + 5) j) o q ∙ cond-false (q == number (c + 5) j) o _ (ne_eqb q _ ne) ∙ get-live_of old fits d i q is within)
+                ∙ sym (get-with_option (live_of old) (number (c + 5) j) o q ∙ cond-false (q == number (c + 5) j) o _ (ne_eqb q _ ne) ∙ get-live_of old fits d i is within)
           ]
     ])
 
@@ -193,7 +193,7 @@ live_of-same old new fits fits' each =
     same_map nat_cmp_total nat_cmp-IsAntisymmetric (live_of new) (live_of old) (λ q.
     elim (splits q) as (λ _. get (live_of new) q ≡ get (live_of old) q) [
       | below b ↦ get-live_of_below new q b ∙ sym (get-live_of_below old q b)
-      | at d i is within ↦ get-live_of new fits' d i q is within ∙ each d i ∙ sym (get-live_of old fits d i q is within)
+      | at d i is within ↦ get-live_of new fits' d i is within ∙ each d i ∙ sym (get-live_of old fits d i is within)
     ])
 
 abbrev pub with_mark : Touched → ℕ → Bool → Touched
@@ -208,16 +208,16 @@ contains-with_mark m k true q =
     contains-insert nat_cmp_total m k q ∙ ap (λ t. t || fset.contains m q) (unsigned_tied q k)
     ∙ elim (q == k) as (λ t. (t || fset.contains m q) ≡ cond t true (fset.contains m q)) [ true ↦ refl | false ↦ refl ]
 
-pub touched_of-changed : (old new : List Row) (c j : ℕ) (b : Bool) → MarksFit old → MarksFit new → j < 2 ^ 32 → ChangesMark old new c j b
+pub touched_of-changed : {old new : List Row} {c : ℕ} (j : ℕ) {b : Bool} → MarksFit old → MarksFit new → j < 2 ^ 32 → ChangesMark old new c j b
     → touched_of new ≡ with_mark (touched_of old) (number (c + 5) j) b
-touched_of-changed old new c j b fits fits' l change =
+touched_of-changed {old} {new} {c} j {b} fits fits' l change =
     same_set nat_cmp_total nat_cmp-IsAntisymmetric (touched_of new) (with_mark (touched_of old) (number (c + 5) j) b) (λ q.
     elim (splits q) as (λ _. fset.contains (touched_of new) q ≡ fset.contains (with_mark (touched_of old) (number (c + 5) j) b) q) [
       | below low ↦
           contains-touched_of_below new q low
           ∙ sym (contains-with_mark (touched_of old) (number (c + 5) j) b q ∙ cond-false (q == number (c + 5) j) b _ (ne_eqb q _ (λ e. omega arith)) ∙ contains-touched_of_below old q low)
       | at d i is within ↦
-          contains-touched_of new fits' d i q is within
+          contains-touched_of new fits' d i is within
           ∙ elim (cases_eq q (number (c + 5) j)) as (λ _. touch_at new d i ≡ fset.contains (with_mark (touched_of old) (number (c + 5) j) b) q) [
             | inl e ↦
                 let same_class : d ≡ c = omega arith in
@@ -226,7 +226,7 @@ touched_of-changed old new c j b fits fits' l change =
                 ∙ sym (contains-with_mark (touched_of old) (number (c + 5) j) b q ∙ cond-true (q == number (c + 5) j) b _ (eq-eqb q _ e))
             | inr ne ↦
                 change.others d i (λ same_class same_index. ne (omega arith))
-                ∙ sym (contains-with_mark (touched_of old) (number (c + 5) j) b q ∙ cond-false (q == number (c + 5) j) b _ (ne_eqb q _ ne) ∙ contains-touched_of old fits d i q is within)
+                ∙ sym (contains-with_mark (touched_of old) (number (c + 5) j) b q ∙ cond-false (q == number (c + 5) j) b _ (ne_eqb q _ ne) ∙ contains-touched_of old fits d i is within)
           ]
     ])
 
@@ -235,5 +235,5 @@ touched_of-same old new fits fits' each =
     same_set nat_cmp_total nat_cmp-IsAntisymmetric (touched_of new) (touched_of old) (λ q.
     elim (splits q) as (λ _. fset.contains (touched_of new) q ≡ fset.contains (touched_of old) q) [
       | below b ↦ contains-touched_of_below new q b ∙ sym (contains-touched_of_below old q b)
-      | at d i is within ↦ contains-touched_of new fits' d i q is within ∙ each d i ∙ sym (contains-touched_of old fits d i q is within)
+      | at d i is within ↦ contains-touched_of new fits' d i is within ∙ each d i ∙ sym (contains-touched_of old fits d i is within)
     ])

@@ -4,7 +4,7 @@ use Rattle.std.specs.Prelude.{unwrap_or, ◌==◌}
 use Rattle.std.specs.Int.{to_le_bytes, w32}
 use Rattle.std.specs.List.{flat_map, filter, range_with_len}
 use Rattle.std.specs.FinMap.{get, contains_key}
-use Rattle.std.proofs.lemmas.Bool.{cases_eq, eqb-true, lt-ltb, true≢false}
+use Rattle.std.proofs.lemmas.Bool.{cases_eq, eqb-true, lt-ltb}
 use Rattle.dym_base.specs.Numbers.{per, exponent_of}
 use Rattle.dym_base.specs.Heaps.{held}
 use Rattle.dym_base.specs.Laws.{IsLengthOf}
@@ -21,7 +21,7 @@ use Rattle.dym_heap.specs.Shelves.{ShelfMeaning, IsValidShelf, IsTidy}
 use Rattle.dym_heap.specs.Fetches.{ChunkMeaning, row_chunk, marked, fetched, packed_at, IsReshaped, IsChangedArea, IsAreaChange}
 use Rattle.dym_heap.proofs.Sizes.{size_least}
 use Rattle.dym_heap.proofs.AreaSteps.{tidy_changed}
-use Rattle.dym_heap.proofs.RecordLoads.{class_low, class_high, packs_live, packed_is, some_bytes}
+use Rattle.dym_heap.proofs.RecordLoads.{class_low, class_high, packs_live, packed_is, packed_gone, some_bytes, area_as, bit_is}
 use Rattle.dym_heap.proofs.Reshapes.{class_of}
 use Rattle.dym_heap.proofs.Wants.{marked_again, marked_none, fetched_again, fetched_none, fetched_some}
 
@@ -43,15 +43,8 @@ fetched_twice log q a b c first second = second ∙ ap (fetched (packed_by log q
 pub packs_some : (log : Logged) → IsRecorded log → (q : ℕ) → is_some (packed_by log q) ≡ packs_by log.kind log.copy log.found q
 packs_some log is q =
     elim (packs_by log.kind log.copy log.found q) as (λ b. packs_by log.kind log.copy log.found q ≡ b → is_some (packed_by log q) ≡ b) [
-      | true ↦ λ h. ap is_some (packed_is log is q true h)
-      | false ↦ λ h. ap is_some (packed_is log is q false h)
-    ] refl
-
-pub packed_gone : (log : Logged) → IsRecorded log → (q : ℕ) → contains_key log.copy q ≡ false → packed_by log q ≡ None
-packed_gone log is q gone =
-    elim (packs_by log.kind log.copy log.found q) as (λ b. packs_by log.kind log.copy log.found q ≡ b → packed_by log q ≡ None) [
-      | true ↦ λ h. absurd (true≢false (sym (packs_live log is q h) ∙ gone))
-      | false ↦ λ h. packed_is log is q false h
+      | true ↦ λ h. ap is_some (packed_is is q true h)
+      | false ↦ λ h. ap is_some (packed_is is q false h)
     ] refl
 
 pub marked_idle : (log : Logged) → IsRecorded log → (q : ℕ) (a : ChunkMeaning) → contains_key log.copy q ≡ false → Marked log q a a
@@ -64,53 +57,38 @@ pub classes : (log : Logged) → IsRecorded log → (q : ℕ) → contains_key l
 classes log is = class_of log.version log.copy is.sized
 
 pub class_k : (log : Logged) → IsRecorded log → (k : ℕ) → k < held log.copy → (area_at log.copy k).exponent - 5 < 12
-class_k log is k l = let low = class_low log is k l in let high = class_high log is k l in omega arith
+class_k log is k l = let low = class_low is k l in let high = class_high is k l in omega arith
 
 -- ---- the shelf stays tidy
 
 pub tidy_marked : (log : Logged) (k : ℕ) (mid new : ShelfMeaning) → (area_at log.copy k).exponent - 5 < 12 → IsTidy mid → IsValidShelf new → ((d : ℕ) → length (row_at new.rows d).chunks ≡ length (row_at mid.rows d).chunks)
     → IsAreaChange log k mid.rows new.rows (Marked log) → IsTidy new
 tidy_marked log k mid new small tidy valid_shelf long changes =
-    tidy_changed mid new ((area_at log.copy k).exponent - 5) (area_at log.copy k).ordinal (λ i. Marked log (chunk_number log.copy k i)) tidy valid_shelf long changes
+    tidy_changed tidy valid_shelf long changes
     (λ i j e. ap (λ (x : ChunkMeaning). is_some x.bytes) e)
 
 pub tidy_fetched : (log : Logged) (k : ℕ) (mid new : ShelfMeaning) → (area_at log.copy k).exponent - 5 < 12 → IsTidy mid → IsValidShelf new → ((d : ℕ) → length (row_at new.rows d).chunks ≡ length (row_at mid.rows d).chunks)
     → IsAreaChange log k mid.rows new.rows (Fetched log) → IsTidy new
 tidy_fetched log k mid new small tidy valid_shelf long changes =
     let c : ℕ = (area_at log.copy k).exponent - 5 in
-    tidy_changed mid new c (area_at log.copy k).ordinal (λ i. Fetched log (chunk_number log.copy k i)) tidy valid_shelf long changes
+    tidy_changed tidy valid_shelf long changes
     (λ i j e. ap (λ (x : ChunkMeaning). is_some x.bytes) e ∙ fetched_some (packed_by log (chunk_number log.copy k i)) (row_chunk mid.rows c j) (λ t. (tidy.valid_shelf.row c small).touched_used j t))
 
 -- ---- one area
 
--- an area of a shelf, by its class and ordinal, is that of the record
-pub area_as : (log : Logged) (k : ℕ) (old new : List Row) (e o : ℕ) (Change C : ℕ → ChunkMeaning → ChunkMeaning → Type 0) → 5 ≤ e → e ≡ (area_at log.copy k).exponent → o ≡ (area_at log.copy k).ordinal
-    → ((i : ℕ) (a b : ChunkMeaning) → i < per e → Change i a b → C (chunk_number log.copy k i) a b) → IsChangedArea old new (e - 5) o Change → IsAreaChange log k old new C
-area_as log k old new e o Change C low e_is o_is means changes =
-    let step : IsChangedArea old new ((area_at log.copy k).exponent - 5) (area_at log.copy k).ordinal Change =
-    subst (λ x. IsChangedArea old new (x - 5) (area_at log.copy k).ordinal Change) e_is (subst (λ x. IsChangedArea old new (e - 5) x Change) o_is changes) in
-    let row : (area_at log.copy k).exponent - 5 + 5 ≡ e = omega arith in
-    record {
-      here = λ i b. means i _ _ (subst (λ x. i < per x) row b) (step.here i b);
-      others = step.others;
-    }
-
-module _ (log : Logged) (is : IsRecorded log) (k : ℕ) (e o : ℕ) (low : 5 ≤ e) (e_is : e ≡ (area_at log.copy k).exponent) (o_is : o ≡ (area_at log.copy k).ordinal) (bits : List Bool)
+module _ {log : Logged} (is : IsRecorded log) (k : ℕ) {e o : ℕ} (low : 5 ≤ e) (e_is : e ≡ (area_at log.copy k).exponent) (o_is : o ≡ (area_at log.copy k).ordinal) (bits : List Bool)
     (packs : (i : ℕ) → bit_in bits i ≡ (ltb i (chunks_of log.copy k) && packs_at log k i)) (old new : List Row) where
-  bit_is : (i : ℕ) → i < per e → bit_in bits i ≡ packs_by log.kind log.copy log.found (chunk_number log.copy k i)
-  bit_is i b = packs i ∙ ap (λ x. x && packs_at log k i) (lt-ltb i (chunks_of log.copy k) (let p = ap per e_is in omega arith))
-
   pub area_marked : IsChangedArea old new (e - 5) o (λ i a b. b ≡ marked (bit_in bits i) a) → IsAreaChange log k old new (Marked log)
   area_marked changes =
-      area_as log k old new e o (λ i a b. b ≡ marked (bit_in bits i) a) (Marked log) low e_is o_is
-      (λ i a b l h. h ∙ ap (λ x. marked x a) (bit_is i l ∙ sym (packs_some log is (chunk_number log.copy k i)))) changes
+      area_as log k (λ i a b. b ≡ marked (bit_in bits i) a) (Marked log) low e_is o_is
+      (λ i a b l h. h ∙ ap (λ x. marked x a) (bit_is log k e_is bits packs i l ∙ sym (packs_some log is (chunk_number log.copy k i)))) changes
 
   pub area_fetched : IsChangedArea old new (e - 5) o (λ i a b. b ≡ fetched (packed_at bits (bytes_at log.copy k) i) a) → IsAreaChange log k old new (Fetched log)
   area_fetched changes =
-      area_as log k old new e o (λ i a b. b ≡ fetched (packed_at bits (bytes_at log.copy k) i) a) (Fetched log) low e_is o_is
+      area_as log k (λ i a b. b ≡ fetched (packed_at bits (bytes_at log.copy k) i) a) (Fetched log) low e_is o_is
       (λ i a b l h.
       let q : ℕ = chunk_number log.copy k i in
-      h ∙ ap (λ x. fetched x a) (ap (λ x. cond x (Some (bytes_at log.copy k i)) None) (bit_is i l) ∙ sym (packed_is log is q (packs_by log.kind log.copy log.found q) refl))) changes
+      h ∙ ap (λ x. fetched x a) (ap (λ x. cond x (Some (bytes_at log.copy k i)) None) (bit_is log k e_is bits packs i l) ∙ sym (packed_is is q (packs_by log.kind log.copy log.found q) refl))) changes
 
 -- ---- an area of which nothing is packed
 
@@ -149,10 +127,10 @@ none_packed log is k none i l =
     nothing p (λ j. packed_chunk log.version (bytes_at log.copy k j))
     (λ j h.
     let q : ℕ = chunk_number log.copy k j in
-    let fits = is.sized q (unwrap_or (get log.copy q) []) (some_bytes (get log.copy q) (packs_live log is q h)) in
+    let fits = is.sized q (unwrap_or (get log.copy q) []) (some_bytes (get log.copy q) (packs_live is q h)) in
     no_bytes log.version (exponent_of q) (bytes_at log.copy k j) fits.0 fits.2)
     0 (chunks_of log.copy k - 0) none i (omega arith) (omega arith) in
-    packed_is log is (chunk_number log.copy k i) false clear
+    packed_is is (chunk_number log.copy k i) false clear
 
 pub idle_area : (log : Logged) (k : ℕ) (rows : List Row) (C : ℕ → ChunkMeaning → ChunkMeaning → Type 0) → 5 ≤ (area_at log.copy k).exponent → ((i : ℕ) (a : ChunkMeaning) → i < chunks_of log.copy k → C (chunk_number log.copy k i) a a) → IsAreaChange log k rows rows C
 idle_area log k rows C low each =
@@ -161,15 +139,15 @@ idle_area log k rows C low each =
 
 pub idle_marked : (log : Logged) → IsRecorded log → (k : ℕ) → k < held log.copy → (rows : List Row) → body_from log k 0 ≡ [] → IsAreaChange log k rows rows (Marked log)
 idle_marked log is k l rows none =
-    idle_area log k rows (Marked log) (class_low log is k l) (λ i a b. sym (ap (λ o. marked (is_some o) a) (none_packed log is k none i b) ∙ marked_none a))
+    idle_area log k rows (Marked log) (class_low is k l) (λ i a b. sym (ap (λ o. marked (is_some o) a) (none_packed log is k none i b) ∙ marked_none a))
 
 pub idle_fetched : (log : Logged) → IsRecorded log → (k : ℕ) → k < held log.copy → (rows : List Row) → body_from log k 0 ≡ [] → IsAreaChange log k rows rows (Fetched log)
 idle_fetched log is k l rows none =
-    idle_area log k rows (Fetched log) (class_low log is k l) (λ i a b. sym (ap (λ o. fetched o a) (none_packed log is k none i b) ∙ fetched_none a))
+    idle_area log k rows (Fetched log) (class_low is k l) (λ i a b. sym (ap (λ o. fetched o a) (none_packed log is k none i b) ∙ fetched_none a))
 
 -- ---- use bits
 
-pub reshaped_bit : (log : Logged) (k e : ℕ) → e ≡ (area_at log.copy k).exponent → (i : ℕ) (b : Bool) → b ≡ (ltb i (chunks_of log.copy k) && contains_key log.copy (chunk_number log.copy k i)) → i < per e → (x y : ChunkMeaning) → IsReshaped b x y
+pub reshaped_bit : (log : Logged) (k : ℕ) {e : ℕ} → e ≡ (area_at log.copy k).exponent → (i : ℕ) {b : Bool} → b ≡ (ltb i (chunks_of log.copy k) && contains_key log.copy (chunk_number log.copy k i)) → i < per e → {x y : ChunkMeaning} → IsReshaped b x y
     → IsReshaped (contains_key log.copy (chunk_number log.copy k i)) x y
-reshaped_bit log k e e_is i b b_is l x y is =
+reshaped_bit log k e_is i b_is l {x} {y} is =
     subst (λ u. IsReshaped u x y) (b_is ∙ ap (λ t. t && contains_key log.copy (chunk_number log.copy k i)) (lt-ltb i (chunks_of log.copy k) (let p = ap per e_is in omega arith))) is

@@ -21,8 +21,8 @@ pub record Longer (old new : ShelfMeaning) (e : ℕ) : Type 0 where
   pub others : (d : ℕ) → (d ≡ e - 5 → ⊥) → length (row_at new.rows d).chunks ≡ length (row_at old.rows d).chunks
   pub keeps : Keeps old new
 
-pub longer_is : (old new : ShelfMeaning) (e : ℕ) → IsValidShelf old → 5 ≤ e → e ≤ 16 → new ≡ record (with_row old (e - 5) (longer (per e) (row_at old.rows (e - 5)))) { held_ids = new.held_ids } → Longer old new e
-longer_is old new e valid_shelf low high added =
+pub longer_is : {old new : ShelfMeaning} (e : ℕ) → IsValidShelf old → 5 ≤ e → e ≤ 16 → new ≡ record (with_row old (e - 5) (longer (per e) (row_at old.rows (e - 5)))) { held_ids = new.held_ids } → Longer old new e
+longer_is {old} e valid_shelf low high added =
     let classes = valid_shelf.classes in
     let row : Row = row_at old.rows (e - 5) in
     record {
@@ -70,17 +70,17 @@ longer_rows old new e valid_shelf low high added d i =
           ∙ sym (ap (λ x. row_chunk old.rows x i) same)
     ]
 
-pub keeps_trans : (a b c : ShelfMeaning) → Keeps a b → Keeps b c → Keeps a c
-keeps_trans a b c x y = record { version = y.version ∙ x.version; quota = y.quota ∙ x.quota; origin = y.origin ∙ x.origin }
+pub keeps_trans : {a b c : ShelfMeaning} → Keeps a b → Keeps b c → Keeps a c
+keeps_trans x y = record { version = y.version ∙ x.version; quota = y.quota ∙ x.quota; origin = y.origin ∙ x.origin }
 
-pub keeps_rows : (a b c : ShelfMeaning) (rows : List Row) → Keeps a b → c ≡ record b { rows = rows } → Keeps a c
-keeps_rows a b c rows x same = record {
+pub keeps_rows : {a b c : ShelfMeaning} (rows : List Row) → Keeps a b → c ≡ record b { rows = rows } → Keeps a c
+keeps_rows rows x same = record {
   version = ap (λ (s : ShelfMeaning). s.version) same ∙ x.version;
   quota = ap (λ (s : ShelfMeaning). s.quota) same ∙ x.quota;
   origin = ap (λ (s : ShelfMeaning). s.origin) same ∙ x.origin;
 }
 
-module _ (old new : ShelfMeaning) (counts : List ℕ) (e n x : ℕ) (low : 5 ≤ e) (high : e ≤ 16) (more : Longer old new e) (many : HasAreas old.rows (e - 5) n) (x_is : x ≡ get_or counts (e - 5) 0) (less : n < x) where
+module _ {old new : ShelfMeaning} (counts : List ℕ) (e n : ℕ) {x : ℕ} (low : 5 ≤ e) (high : e ≤ 16) (more : Longer old new e) (many : HasAreas old.rows (e - 5) n) (x_is : x ≡ get_or counts (e - 5) 0) (less : n < x) where
   per_is : per (e - 5 + 5) ≡ per e
   per_is = ap per (let h : e - 5 + 5 ≡ e = omega arith in h)
 
@@ -126,8 +126,8 @@ pub set_below : (i n : ℕ) (b x : Bool) → b ≡ (ltb i n && x) → b ≡ true
 set_below i n b x is h =
     elim (ltb i n) as (λ t. ltb i n ≡ t → (t && x) ≡ true → i < n) [ true ↦ λ t p. ltb-true i n t | false ↦ λ t p. absurd cc ] refl (sym is ∙ h)
 
-pub bitmap_fits : (n : ℕ) (f : ℕ → Bool) (e x : ℕ) (bytes : List ℕ) → bytes ≡ bitmap n f → e ≡ x → n ≡ per x → length bytes ≡ max 1 (per e / 8)
-bitmap_fits n f e x bytes is e_is n_is = ap length is ∙ length-bitmap n f ∙ ap (λ k. max 1 (k / 8)) (n_is ∙ ap per (sym e_is))
+pub bitmap_fits : {n : ℕ} (f : ℕ → Bool) {e x : ℕ} {bytes : List ℕ} → bytes ≡ bitmap n f → e ≡ x → n ≡ per x → length bytes ≡ max 1 (per e / 8)
+bitmap_fits {n} f is e_is n_is = ap length is ∙ length-bitmap n f ∙ ap (λ k. max 1 (k / 8)) (n_is ∙ ap per (sym e_is))
 
 -- an area of the record is an area of the rows
 pub area_there : (copy : Live) (rows : List Row) (k e o : ℕ) → k < held copy → e ≡ (area_at copy k).exponent → o ≡ (area_at copy k).ordinal → ((c : ℕ) → c < 12 → HasAreas rows c (areas copy (c + 5)))

@@ -19,18 +19,18 @@ use Rattle.dym_heap.proofs.Steps.{kept_fits, row_room, short_row, row_here, row_
 -- ---- the fresh index
 
 has_at : (rows : List Row) → Fits rows → (c i : ℕ) → i < 2 ^ 32 → contains_key (live_of rows) (number (c + 5) i) ≡ is_some (chunk_at rows c i)
-has_at rows fits c i l = ap is_some (get-live_of rows fits c i (number (c + 5) i) refl l)
+has_at rows fits c i l = ap is_some (get-live_of rows fits c i refl l)
 
-pub fresh_first : (s : ShelfMeaning) (c i : ℕ) → IsValidShelf s → IsFirstFree s.rows c i → fresh (live_of s.rows) (c + 5) ≡ i
-fresh_first s c i valid_shelf first =
-    let fits = kept_fits s valid_shelf in
+pub fresh_first : {s : ShelfMeaning} {c i : ℕ} → IsValidShelf s → IsFirstFree s.rows c i → fresh (live_of s.rows) (c + 5) ≡ i
+fresh_first {s} {c} {i} valid_shelf first =
+    let fits = kept_fits valid_shelf in
     let short = fits c in
     let within = first.within in
     fresh-is (live_of s.rows) (c + 5) i (has_at s.rows fits c i (omega arith) ∙ ap is_some first.free)
     (λ k l. has_at s.rows fits c k (omega arith) ∙ first.least k l)
 
 row_shorter : (s : ShelfMeaning) (c : ℕ) → IsValidShelf s → c < 12 → length (row_at s.rows c).chunks < 2 ^ 32
-row_shorter s c valid_shelf small = short_row s.version (c + 5) (row_at s.rows c) (valid_shelf.row c small)
+row_shorter s c valid_shelf small = short_row (valid_shelf.row c small)
 
 -- no chunk of row c is free
 abbrev pub IsFull : List Row → ℕ → Type 0
@@ -38,7 +38,7 @@ IsFull rows c = (k : ℕ) → k < length (row_at rows c).chunks → IsSome (chun
 
 pub fresh_full : (s : ShelfMeaning) (c : ℕ) → IsValidShelf s → c < 12 → IsFull s.rows c → fresh (live_of s.rows) (c + 5) ≡ length (row_at s.rows c).chunks
 fresh_full s c valid_shelf small full =
-    let fits = kept_fits s valid_shelf in
+    let fits = kept_fits valid_shelf in
     let n : ℕ = length (row_at s.rows c).chunks in
     let short : n < 2 ^ 32 = row_shorter s c valid_shelf small in
     fresh-is (live_of s.rows) (c + 5) n (has_at s.rows fits c n short ∙ ap is_some (get_or_past (row_at s.rows c).chunks n None (omega arith)))
@@ -50,7 +50,7 @@ set_fits : (rows : List Row) (c : ℕ) (r : Row) → c < length rows → Fits ro
 set_fits rows c r l fits short d =
     elim (cases_eq d c) as (λ _. length (row_at (set rows c r) d).chunks ≤ 2 ^ 32) [
       | inl same ↦ (let is : length (row_at (set rows c r) d).chunks ≡ length r.chunks = ap (λ (q : Row). length q.chunks) (ap (λ n. row_at (set rows c r) n) same ∙ row_here rows c r l) in omega arith)
-      | inr ne ↦ (let is : length (row_at (set rows c r) d).chunks ≡ length (row_at rows d).chunks = ap (λ (q : Row). length q.chunks) (row_other rows c d r ne) in let before = fits d in omega arith)
+      | inr ne ↦ (let is : length (row_at (set rows c r) d).chunks ≡ length (row_at rows d).chunks = ap (λ (q : Row). length q.chunks) (row_other rows r ne) in let before = fits d in omega arith)
     ]
 
 pub set_trimmed : (rows : List Row) (c : ℕ) (r : Row) → c < length rows → IsTrimmed (per (c + 5)) r
@@ -58,7 +58,7 @@ pub set_trimmed : (rows : List Row) (c : ℕ) (r : Row) → c < length rows → 
 set_trimmed rows c r l is before d small =
     elim (cases_eq d c) as (λ _. IsTrimmed (per (d + 5)) (row_at (set rows c r) d)) [
       | inl same ↦ subst (λ n. IsTrimmed (per (n + 5)) (row_at (set rows c r) n)) (sym same) (subst (λ q. IsTrimmed (per (c + 5)) q) (sym (row_here rows c r l)) is)
-      | inr ne ↦ subst (λ q. IsTrimmed (per (d + 5)) q) (sym (row_other rows c d r ne)) (before d small)
+      | inr ne ↦ subst (λ q. IsTrimmed (per (d + 5)) q) (sym (row_other rows r ne)) (before d small)
     ]
 
 -- an empty chunk is added, and row c is then r
@@ -67,9 +67,9 @@ held_added : (s : ShelfMeaning) (c i : ℕ) (r : Row) → IsTidy s → c < 12 �
     → held (insert (live_of s.rows) (number (c + 5) i) []) + length (row_at s.rows c).chunks / per (c + 5) ≡ length s.held_ids + length r.chunks / per (c + 5)
 held_added s c i r tidy small l short is change =
     let n = tidy.valid_shelf.classes in
-    let fits = kept_fits s tidy.valid_shelf in
+    let fits = kept_fits tidy.valid_shelf in
     let fits' : Fits (set s.rows c r) = set_fits s.rows c r (omega arith) fits short in
-    let lives : live_of (set s.rows c r) ≡ insert (live_of s.rows) (number (c + 5) i) [] = live_of-changed s.rows (set s.rows c r) c i (Some []) fits fits' l change in
+    let lives : live_of (set s.rows c r) ≡ insert (live_of s.rows) (number (c + 5) i) [] = live_of-changed i fits fits' l change in
     let holds : held (insert (live_of s.rows) (number (c + 5) i) []) ≡ areas_in 5 (set s.rows c r) =
     sym (ap held lives) ∙ held-is (set s.rows c r) fits' (length-set s.rows c r ∙ n) (set_trimmed s.rows c r (omega arith) is tidy.trimmed) in
     let turned : per (5 + c) ≡ per (c + 5) = ap per (let h : 5 + c ≡ c + 5 = omega arith in h) in
@@ -79,8 +79,8 @@ held_added s c i r tidy small l short is change =
     let before = tidy.valid_shelf.holds in
     omega arith
 
-pub put_trimmed : (n : ℕ) (row : Row) (i : ℕ) (bytes : List ℕ) (b : Bool) → i < length row.chunks → IsTrimmed n row → IsTrimmed n (put row i (Some bytes) b)
-put_trimmed n row i bytes b within is = record {
+pub put_trimmed : {n : ℕ} {row : Row} (i : ℕ) (bytes : List ℕ) (b : Bool) → i < length row.chunks → IsTrimmed n row → IsTrimmed n (put row i (Some bytes) b)
+put_trimmed {n} {row} i bytes b within is = record {
   count = is.count;
   whole = length-set row.chunks i (Some bytes) ∙ is.whole;
   ends = elim is.ends as (λ _. (is.count ≡ 0) ⊎ ((j : ℕ) × (length (set row.chunks i (Some bytes)) ≤ j + n) × IsSome (get_or (set row.chunks i (Some bytes)) j None))) [
@@ -101,13 +101,13 @@ pub held_with_first : (s : ShelfMeaning) (c i : ℕ) → IsTidy s → c < 12 →
 held_with_first s c i tidy small first =
     let n = tidy.valid_shelf.classes in
     let within = first.within in
-    let short = kept_fits s tidy.valid_shelf c in
+    let short = kept_fits tidy.valid_shelf c in
     let r : Row = put (row_at s.rows c) i (Some []) false in
     let same : length r.chunks ≡ length (row_at s.rows c).chunks = length-set (row_at s.rows c).chunks i (Some []) in
     let parts : length r.chunks / per (c + 5) ≡ length (row_at s.rows c).chunks / per (c + 5) = ap (λ n. n / per (c + 5)) same in
-    let added = held_added s c i r tidy small (omega arith) (omega arith) (put_trimmed (per (c + 5)) (row_at s.rows c) i [] false within (tidy.trimmed c small))
+    let added = held_added s c i r tidy small (omega arith) (omega arith) (put_trimmed i [] false within (tidy.trimmed c small))
     (put_chunk s.rows c i (Some []) false (omega arith) within) in
-    ap (λ k. held (insert (live_of s.rows) (number (c + 5) k) [])) (fresh_first s c i tidy.valid_shelf first) ∙ (omega arith)
+    ap (λ k. held (insert (live_of s.rows) (number (c + 5) k) [])) (fresh_first tidy.valid_shelf first) ∙ (omega arith)
 
 free_after : (n j : ℕ) → 0 < j → get_or {A = Option (List ℕ)} (Some [] ∷ replicate n None) j None ≡ None
 free_after n zero l = absurd (omega arith)
@@ -146,7 +146,7 @@ held_with_full s c tidy small full =
     let m : ℕ = per (c + 5) in
     let positive : 0 < m = pow_pos (16 - (c + 5)) in
     let is = tidy.valid_shelf.row c small in
-    let short : length row.chunks + m ≤ 2 ^ 32 = row_room s.version (c + 5) row is in
+    let short : length row.chunks + m ≤ 2 ^ 32 = row_room is in
     let r : Row = grown m row in
     let more : length r.chunks ≡ length row.chunks + m = grown_length m row positive in
     let old_parts : length row.chunks / m ≡ is.areas = ap (λ n. n / m) (is.whole ∙ sym (add-zero (is.areas * m))) ∙ div-mul-add is.areas m 0 positive in
@@ -167,7 +167,7 @@ held_with_full s c tidy small full =
                 ∙ ap (λ (q : Row). get_or q.chunks i None) (row_here s.rows c r (omega arith))
                 ∙ grown_other m row i (apart same)
                 ∙ sym (ap (λ k. chunk_at s.rows k i) same)
-            | inr ne ↦ ap (λ (q : Row). get_or q.chunks i None) (row_other s.rows c d r ne)
+            | inr ne ↦ ap (λ (q : Row). get_or q.chunks i None) (row_other s.rows r ne)
           ];
     }) in
     ap (λ k. held (insert (live_of s.rows) (number (c + 5) k) [])) (fresh_full s c tidy.valid_shelf small full) ∙ (omega arith)

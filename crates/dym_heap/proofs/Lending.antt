@@ -41,12 +41,12 @@ class_of_place starts k (suc n) fits first l =
       }
     ]
 
-module _ (v : Version) (quota : ℕ) (ids : List SegmentId) (origin : Origin) (starts : List ℕ) (sized_areas : List SizedAreaMeaning) (full : List (List Bool)) (room spare spare_room : ℕ)
-    (s : ShelfMeaning) (view : shelf_of v quota ids origin starts sized_areas ≡ s) (is : IsShelf v quota ids starts sized_areas full room spare spare_room) (tidy : IsTidy s) where
+module _ {v : Version} {quota : ℕ} {ids : List SegmentId} {origin : Origin} {starts : List ℕ} {sized_areas : List SizedAreaMeaning} {full : List (List Bool)} {room spare spare_room : ℕ}
+    {s : ShelfMeaning} (view : shelf_of v quota ids origin starts sized_areas ≡ s) (is : IsShelf v quota ids starts sized_areas full room spare spare_room) (tidy : IsTidy s) where
   pub in_places : (k : ℕ) → k < length s.held_ids → k < length sized_areas
-  in_places k l = let ids = sym (ap (λ (t : ShelfMeaning). length t.held_ids) view) ∙ ids_are v quota ids sized_areas room spare spare_room is.supplied in omega arith
+  in_places k l = let ids = sym (ap (λ (t : ShelfMeaning). length t.held_ids) view) ∙ ids_are is.supplied in omega arith
 
-  module _ (k : ℕ) (l : k < length sized_areas) (q : SizedAreaMeaning) (here : q ≡ get_or sized_areas k q) where
+  module _ (k : ℕ) (l : k < length sized_areas) {q : SizedAreaMeaning} (here : q ≡ get_or sized_areas k q) where
     in_k : In starts k
     in_k = class_of_place starts k 12 (omega arith) is.arranged.first (let last = is.arranged.last in omega arith)
 
@@ -61,20 +61,20 @@ module _ (v : Version) (quota : ℕ) (ids : List SegmentId) (origin : Origin) (s
 
     name_is : area_at (live_of s.rows) k ≡ record { exponent = in_k.c + 5; ordinal = in_k.o }
     name_is =
-        name_at v quota ids origin starts sized_areas full room spare spare_room s view is tidy k q l
+        name_at view is tidy k q l
         ∙ ap name_of (sym here) ∙ (λ j. record { exponent = placed.exponent j; ordinal = placed.ordinal j })
 
     number_is : (i : ℕ) → chunk_number (live_of s.rows) k i ≡ number (in_k.c + 5) (in_k.o * per (in_k.c + 5) + i)
     number_is i = ap (λ (a : AreaName). number a.exponent (a.ordinal * per a.exponent + i)) name_is
 
-    few : in_k.o < count_c v starts sized_areas full is.arranged in_k.c in_k.small
-    few = let n = count_is v starts sized_areas full is.arranged in_k.c in_k.small in let w = in_k.within in omega arith
+    few : in_k.o < count_c is.arranged in_k.c in_k.small
+    few = let n = count_is is.arranged in_k.c in_k.small in let w = in_k.within in omega arith
 
     index_small : (i : ℕ) → i < per (in_k.c + 5) → in_k.o * per (in_k.c + 5) + i < 2 ^ 32
     index_small i m =
-        let fits = kept_fits s tidy.valid_shelf in_k.c in
-        let whole = ap (λ (r : Row). length r.chunks) (row_s v quota ids origin starts sized_areas full room spare spare_room s view is in_k.c in_k.small) ∙ whole_row v starts sized_areas full is.arranged in_k.c in_k.small in
-        let least = mul-add-lt in_k.o (per (in_k.c + 5)) i (count_c v starts sized_areas full is.arranged in_k.c in_k.small) few m in
+        let fits = kept_fits tidy.valid_shelf in_k.c in
+        let whole = ap (λ (r : Row). length r.chunks) (row_s view is in_k.c in_k.small) ∙ whole_row is.arranged in_k.c in_k.small in
+        let least = mul-add-lt in_k.o (per (in_k.c + 5)) i (count_c is.arranged in_k.c in_k.small) few m in
         omega arith
 
     pub area_is : IsAreaOf (live_of s.rows) (touched_of s.rows) k q
@@ -84,17 +84,17 @@ module _ (v : Version) (quota : ℕ) (ids : List SegmentId) (origin : Origin) (s
       ordinal = placed.ordinal ∙ sym (ap (λ (a : AreaName). a.ordinal) name_is);
       chunk = λ i m.
           let below : i < per (in_k.c + 5) = let n = long in omega arith in
-          let location : ChunkLocation v quota ids origin starts sized_areas full room spare spare_room s view is in_k.c in_k.o i k = record { small = in_k.small; within = in_k.within; at = in_k.at; below = below } in
+          let location : ChunkLocation view is in_k.c in_k.o i k = record { small = in_k.small; within = in_k.within; at = in_k.at; below = below } in
           ap (λ (p : SizedAreaMeaning). get_or p.chunks i None) here
-          ∙ sym (facts.chunk_s v quota ids origin starts sized_areas full room spare spare_room s view is in_k.c in_k.o i k location q)
-          ∙ sym (get-live_of s.rows (kept_fits s tidy.valid_shelf) in_k.c (in_k.o * per (in_k.c + 5) + i) (chunk_number (live_of s.rows) k i) (number_is i) (index_small i below));
+          ∙ sym (facts.chunk_s view is location q)
+          ∙ sym (get-live_of s.rows (kept_fits tidy.valid_shelf) in_k.c (in_k.o * per (in_k.c + 5) + i) (number_is i) (index_small i below));
       mark = λ i m.
           let below : i < per (in_k.c + 5) = let n = long in omega arith in
           ap (λ (p : SizedAreaMeaning). get_or p.touched i false) here
           ∙ ap (λ x. get_or (get_or sized_areas x q).touched i false) in_k.at
-          ∙ sym (ap (λ (r : Row). get_or r.touched (in_k.o * per (in_k.c + 5) + i) false) (row_s v quota ids origin starts sized_areas full room spare spare_room s view is in_k.c in_k.small)
-          ∙ mark-row v starts sized_areas full is.arranged in_k.c in_k.small in_k.o i q few below)
-          ∙ sym (contains-touched_of s.rows (kept_marks_fit s tidy.valid_shelf) in_k.c (in_k.o * per (in_k.c + 5) + i) (chunk_number (live_of s.rows) k i) (number_is i) (index_small i below));
+          ∙ sym (ap (λ (r : Row). get_or r.touched (in_k.o * per (in_k.c + 5) + i) false) (row_s view is in_k.c in_k.small)
+          ∙ mark-row is.arranged in_k.c in_k.small in_k.o i q few below)
+          ∙ sym (contains-touched_of s.rows (kept_marks_fit tidy.valid_shelf) in_k.c (in_k.o * per (in_k.c + 5) + i) (number_is i) (index_small i below));
     }
 
     pub version_is : q.version ≡ s.version

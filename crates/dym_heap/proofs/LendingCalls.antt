@@ -30,12 +30,12 @@ use Rattle.dym_heap.proofs.PlaceFacts.{chunk_at_p, set_p}
 
 -- ---- the bits and the bytes of a place, from its area
 
-module _ (area : AreaMeaning) (ls : Option (List ℕ)) (p : SizedAreaMeaning) (v : place_of area ls ≡ p) (m : IsMeasured area ls) where
+module _ {area : AreaMeaning} {ls : Option (List ℕ)} {p : SizedAreaMeaning} (v : place_of area ls ≡ p) (m : IsMeasured area ls) where
   pub used_p : (i : ℕ) → bit_in area.used i ≡ is_some (get_or p.chunks i None)
-  used_p i = sym (ap is_some (chunk_at_p area ls p v m i) ∙ some_used area ls i)
+  used_p i = sym (ap is_some (chunk_at_p v m i) ∙ some_used area ls i)
 
   pub touched_p : (i : ℕ) → bit_in area.dirty i ≡ get_or p.touched i false
-  touched_p i = sym (sym (ap (λ (q : SizedAreaMeaning). get_or q.touched i false) v) ∙ mark_of area i m.valid)
+  touched_p i = sym (sym (ap (λ (q : SizedAreaMeaning). get_or q.touched i false) v) ∙ mark_of i m.valid)
 
   len_one : (i : ℕ) → version_by ls ≡ One → len_of area.exponent ls i ≡ size area.exponent
   len_one i one = elim ls as (λ x. version_by x ≡ One → len_of area.exponent x i ≡ size area.exponent) [ None ↦ λ e. refl | Some ns ↦ λ e. cc ] one
@@ -52,7 +52,7 @@ module _ (area : AreaMeaning) (ls : Option (List ℕ)) (p : SizedAreaMeaning) (v
       let first = used from (omega arith) (omega arith) in
       let version : version_by ls ≡ One = ap (λ (q : SizedAreaMeaning). q.version) v ∙ one in
       let here : get_or p.chunks from None ≡ Some (between (from * e) (from * e + e) area.content) =
-      chunk_at_p area ls p v m from ∙ used_chunk area ls from (set_p area ls p v m from first) ∙ ap (λ k. Some (part_of area.content (from * e) k)) (len_one from version) in
+      chunk_at_p v m from ∙ used_chunk area ls from (set_p v m from first) ∙ ap (λ k. Some (part_of area.content (from * e) k)) (len_one from version) in
       let rest = run_p (from + 1) n one (λ i low high. used i (omega arith) (omega arith)) (omega arith) in
       sym (between-join (from * e) (from * e + e) (from * e + suc n * e) area.content (omega arith) (omega arith) (omega arith))
       ∙ ap (λ xs. xs ++ between (from * e + e) (from * e + suc n * e) area.content) (sym (ap (λ o. unwrap_or o []) here))
@@ -66,7 +66,7 @@ length_there : (o : Option (List ℕ)) (n : ℕ) → Some n ≡ option_map lengt
 length_there None n e = absurd cc
 length_there (Some xs) n e = cc
 
-module _ (live : Live) (touched : Touched) (k : ℕ) (p : SizedAreaMeaning) (is : IsAreaOf live touched k p) where
+module _ {live : Live} {touched : Touched} {k : ℕ} {p : SizedAreaMeaning} (is : IsAreaOf live touched k p) where
   pub long_a : length p.chunks ≡ chunks_of live k
   long_a = is.sized_area.whole ∙ ap per is.exponent
 
@@ -123,15 +123,15 @@ module _ (live : Live) (touched : Touched) (k : ℕ) (p : SizedAreaMeaning) (is 
 
 -- ---- the areas of a heap
 
-module _ (s : ShelfMeaning) (applied : ℕ) (h : HeapMeaning) (view : heap_of s applied ≡ h) (tidy : IsTidy s) where
+module _ {s : ShelfMeaning} {applied : ℕ} {h : HeapMeaning} (view : heap_of s applied ≡ h) (tidy : IsTidy s) where
   pub held_h : length s.held_ids ≡ held h.state.live
-  held_h = sym (tidy_held s tidy) ∙ ap (λ (x : HeapMeaning). held x.state.live) view
+  held_h = sym (tidy_held tidy) ∙ ap (λ (x : HeapMeaning). held x.state.live) view
 
   pub within_h : (k : ℕ) → k < held h.state.live → k < length s.held_ids
   within_h k l = let n = held_h in omega arith
 
-  pub area_h : (k : ℕ) (p : SizedAreaMeaning) → IsAreaOf (live_of s.rows) (touched_of s.rows) k p → IsAreaOf h.state.live h.state.touched k p
-  area_h k p is = subst (λ (x : HeapMeaning). IsAreaOf x.state.live x.state.touched k p) view is
+  pub area_h : {k : ℕ} {p : SizedAreaMeaning} → IsAreaOf (live_of s.rows) (touched_of s.rows) k p → IsAreaOf h.state.live h.state.touched k p
+  area_h {k} {p} is = subst (λ (x : HeapMeaning). IsAreaOf x.state.live x.state.touched k p) view is
 
   pub version_h : (p : SizedAreaMeaning) → p.version ≡ s.version → p.version ≡ h.version
   version_h p e = e ∙ ap (λ (x : HeapMeaning). x.version) view

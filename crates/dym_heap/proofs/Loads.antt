@@ -94,8 +94,8 @@ module _ (v : Version) (old : AreaMeaning) (bits wanted : List Bool) (body : Lis
     pub set : (k : ℕ) → start ≤ k → k < end → IsSet bits k
 
   module _ (is : IsBodyOf v old.exponent bits body f) (sub : (i : ℕ) → IsSet wanted i → IsSet bits i) (valid : IsValidArea old) where
-    pub loaded_all : (now : AreaMeaning) (from at : ℕ) → LoadedTo now from at → ((k : ℕ) → from ≤ k → IsClear wanted k) → HoldsLoaded old now wanted f
-    loaded_all now from at done none = record {
+    pub loaded_all : {now : AreaMeaning} {from at : ℕ} → LoadedTo now from at → ((k : ℕ) → from ≤ k → IsClear wanted k) → HoldsLoaded old now wanted f
+    loaded_all {now} {from} done none = record {
       same = done.same;
       loaded = λ i h.
           elim (cases_lt i from) as (λ _. part_of now.content (i * size old.exponent) (length (f i)) ≡ f i) [
@@ -106,8 +106,8 @@ module _ (v : Version) (old : AreaMeaning) (bits wanted : List Bool) (body : Lis
     }
 
     -- the chunks up to i aren't wanted, and the body from place at' on has those from i on
-    pub loaded_on : (now : AreaMeaning) (from at i at' : ℕ) → LoadedTo now from at → from ≤ i → ((k : ℕ) → from ≤ k → k < i → IsClear wanted k) → drop at' body ≡ after i → LoadedTo now i at'
-    loaded_on now from at i at' done low none rest = record {
+    pub loaded_on : {now : AreaMeaning} {from at : ℕ} (i at' : ℕ) → LoadedTo now from at → from ≤ i → ((k : ℕ) → from ≤ k → k < i → IsClear wanted k) → drop at' body ≡ after i → LoadedTo now i at'
+    loaded_on {now} {from} i at' done low none rest = record {
       same = done.same;
       rest = rest;
       done = λ k l h.
@@ -118,7 +118,7 @@ module _ (v : Version) (old : AreaMeaning) (bits wanted : List Bool) (body : Lis
       valid_shelf = λ k n l m out. done.valid_shelf k n l m (elim out as (λ _. (from ≤ k) ⊎ IsClear wanted k) [ inl past ↦ inl (omega arith) | inr clear ↦ inr clear ]);
     }
 
-    module _ (now : AreaMeaning) (from at start end : ℕ) (done : LoadedTo now from at) (run : NextRun from start end) where
+    module _ {now : AreaMeaning} {from at start end : ℕ} (done : LoadedTo now from at) (run : NextRun from start end) where
       pub end_in : end ≤ per old.exponent
       end_in = let some = run.some in let l = is.below (end - 1) (run.set (end - 1) (omega arith) (omega arith)) in omega arith
 
@@ -144,8 +144,8 @@ module _ (v : Version) (old : AreaMeaning) (bits wanted : List Bool) (body : Lis
       exponent_now = ap (λ (a : AreaMeaning). a.exponent) done.same
 
       -- the wanted ones of a run were put
-      pub loaded_more : (now' : AreaMeaning) (at' : ℕ) (g : ℕ → List ℕ) → IsLoadedRange now now' wanted start end g → ((i : ℕ) → start ≤ i → i < end → g i ≡ f i) → drop at' body ≡ after end → LoadedTo now' end at'
-      loaded_more now' at' g range same_bytes rest =
+      pub loaded_more : {now' : AreaMeaning} (at' : ℕ) {g : ℕ → List ℕ} → IsLoadedRange now now' wanted start end g → ((i : ℕ) → start ≤ i → i < end → g i ≡ f i) → drop at' body ≡ after end → LoadedTo now' end at'
+      loaded_more {now'} at' {g} range same_bytes rest =
           let e : ℕ = old.exponent in
           let low = run.low in
           let some = run.some in
@@ -177,8 +177,8 @@ module _ (v : Version) (old : AreaMeaning) (bits wanted : List Bool) (body : Lis
 
 -- ---- version 1: a run by one copy
 
-module _ (old : AreaMeaning) (bits wanted : List Bool) (body : List ℕ) (f : ℕ → List ℕ) (is : IsBodyOf One old.exponent bits body f) (sub : (i : ℕ) → IsSet wanted i → IsSet bits i) (valid : IsValidArea old)
-    (now : AreaMeaning) (from at start end : ℕ) (done : LoadedTo One old bits wanted body f now from at) (run : NextRun One old bits wanted body f from start end) where
+module _ {old : AreaMeaning} {bits wanted : List Bool} {body : List ℕ} {f : ℕ → List ℕ} (is : IsBodyOf One old.exponent bits body f) (sub : (i : ℕ) → IsSet wanted i → IsSet bits i) (valid : IsValidArea old)
+    {now : AreaMeaning} {from at start end : ℕ} (done : LoadedTo One old bits wanted body f now from at) (run : NextRun One old bits wanted body f from start end) where
   abbrev run_bytes : List ℕ
   run_bytes = flat_map f (range_with_len start (end - start))
 
@@ -191,7 +191,7 @@ module _ (old : AreaMeaning) (bits wanted : List Bool) (body : List ℕ) (f : �
   run_len = length-flat f (size old.exponent) (range_with_len start (end - start)) each_whole ∙ ap (λ n. n * size old.exponent) (length-range_with_len start (end - start))
 
   split_one : drop at body ≡ run_bytes ++ after One old bits wanted body f end
-  split_one = split_rest One old bits wanted body f is sub valid now from at start end done run
+  split_one = split_rest One old bits wanted body f is sub valid done run
 
   pub run_fits : (n : ℕ) → n ≡ (end - start) * size old.exponent → at ≤ length body → at + n ≤ length body
   run_fits n many low =
@@ -223,12 +223,12 @@ module _ (old : AreaMeaning) (bits wanted : List Bool) (body : List ℕ) (f : �
       ∙ get_or-flat f n (range_with_len start (end - start)) o k 0 d each_whole (let m = length-range_with_len start (end - start) in omega arith) below
       ∙ ap (λ q. get_or (f q) k d) (get_or-range_with_len start (end - start) o 0 (omega arith) ∙ (let y : start + o ≡ i = omega arith in y)))
 
-  pub more_run : (now' : AreaMeaning) (n : ℕ) (ys : List ℕ) → n ≡ (end - start) * size old.exponent → ys ≡ between at (at + n) body → IsLoadedRange now now' wanted start end (λ i. part_of ys ((i - start) * size now.exponent) (size now.exponent))
+  pub more_run : {now' : AreaMeaning} {n : ℕ} {ys : List ℕ} → n ≡ (end - start) * size old.exponent → ys ≡ between at (at + n) body → IsLoadedRange now now' wanted start end (λ i. part_of ys ((i - start) * size now.exponent) (size now.exponent))
       → LoadedTo One old bits wanted body f now' end (at + n)
-  more_run now' n ys many read range =
+  more_run {now'} {n} {ys} many read range =
       let same : ys ≡ run_bytes = read ∙ taken_run n many in
-      let exponent = exponent_now One old bits wanted body f is sub valid now from at start end done run in
-      loaded_more One old bits wanted body f is sub valid now from at start end done run now' (at + n) (λ i. part_of ys ((i - start) * size now.exponent) (size now.exponent)) range
+      let exponent = exponent_now One old bits wanted body f is sub valid done run in
+      loaded_more One old bits wanted body f is sub valid done run (at + n) range
       (λ i low high. (λ j. part_of ys ((i - start) * size (exponent j)) (size (exponent j))) ∙ run_part ys same i low high) (rest_run n many)
 
 -- ---- version 2: a chunk after its length
@@ -236,8 +236,8 @@ module _ (old : AreaMeaning) (bits wanted : List Bool) (body : List ℕ) (f : �
 small_length : (e n : ℕ) → e ≤ 16 → n ≤ size e → n < 2 ^ 32
 small_length e n high l = let m = size_most e high in omega arith
 
-module _ (old : AreaMeaning) (bits wanted : List Bool) (body : List ℕ) (f : ℕ → List ℕ) (is : IsBodyOf Two old.exponent bits body f) (sub : (i : ℕ) → IsSet wanted i → IsSet bits i) (valid : IsValidArea old)
-    (now : AreaMeaning) (from at i : ℕ) (done : LoadedTo Two old bits wanted body f now from at) (run : NextRun Two old bits wanted body f from i (i + 1)) where
+module _ {old : AreaMeaning} {bits wanted : List Bool} {body : List ℕ} {f : ℕ → List ℕ} (is : IsBodyOf Two old.exponent bits body f) (sub : (i : ℕ) → IsSet wanted i → IsSet bits i) (valid : IsValidArea old)
+    {now : AreaMeaning} {from at i : ℕ} (done : LoadedTo Two old bits wanted body f now from at) (run : NextRun Two old bits wanted body f from i (i + 1)) where
   abbrev head : List ℕ
   head = to_le_bytes w32 (length (f i))
 
@@ -253,7 +253,7 @@ module _ (old : AreaMeaning) (bits wanted : List Bool) (body : List ℕ) (f : �
   split_two : drop at body ≡ head ++ (f i ++ left)
   split_two =
       let one : i + 1 - i ≡ 1 = omega arith in
-      split_rest Two old bits wanted body f is sub valid now from at i (i + 1) done run
+      split_rest Two old bits wanted body f is sub valid done run
       ∙ ap (λ n. flat_map (λ k. packed_chunk Two (f k)) (range_with_len i n) ++ left) one
       ∙ ap (λ xs. xs ++ left) (append-nil (head ++ f i))
       ∙ append_assoc head (f i) left
@@ -275,12 +275,12 @@ module _ (old : AreaMeaning) (bits wanted : List Bool) (body : List ℕ) (f : �
   after_head : drop (at + 4) body ≡ f i ++ left
   after_head = sym (drop-drop 4 at body) ∙ ap (drop 4) split_two ∙ drop_at head (f i ++ left) 4 head_len
 
-  pub more_two : (now' : AreaMeaning) (n : ℕ) (ys : List ℕ) → n ≡ length (f i) → ys ≡ between (at + 4) (at + 4 + n) body → IsLoadedRange now now' wanted i (i + 1) (λ _. ys)
+  pub more_two : {now' : AreaMeaning} {n : ℕ} {ys : List ℕ} → n ≡ length (f i) → ys ≡ between (at + 4) (at + 4 + n) body → IsLoadedRange now now' wanted i (i + 1) (λ _. ys)
       → LoadedTo Two old bits wanted body f now' (i + 1) (at + 4 + n)
-  more_two now' n ys many read range =
+  more_two {now'} {n} {ys} many read range =
       let e : at + 4 + n - (at + 4) ≡ length (f i) = omega arith in
       let same : ys ≡ f i = read ∙ ap (λ k. take k (drop (at + 4) body)) e ∙ ap (take (length (f i))) after_head ∙ take_at (f i) left (length (f i)) refl in
-      loaded_more Two old bits wanted body f is sub valid now from at i (i + 1) done run now' (at + 4 + n) (λ _. ys) range
+      loaded_more Two old bits wanted body f is sub valid done run (at + 4 + n) range
       (λ k low high. let same_k : i ≡ k = omega arith in same ∙ ap f same_k)
       (sym (drop-drop n (at + 4) body) ∙ ap (drop n) after_head ∙ drop_at (f i) left n (sym many))
 
@@ -293,17 +293,17 @@ module _ (old : AreaMeaning) (bits wanted : List Bool) (body : List ℕ) (f : �
 -- ---- what the loops ask for
 
 -- version 1, with the bytes that the body has
-module _ (old : AreaMeaning) (bits wanted : List Bool) (body : List ℕ) (sub : (i : ℕ) → IsSet wanted i → IsSet bits i) (valid : IsValidArea old) (has : IsBody One old.exponent bits body) (now : AreaMeaning) (from at : ℕ)
-    (inv : (f : ℕ → List ℕ) → IsBodyOf One old.exponent bits body f → LoadedTo One old bits wanted body f now from at) (start end : ℕ) (next : IsNextSet bits from start) (more : start < end)
+module _ {old : AreaMeaning} {bits wanted : List Bool} {body : List ℕ} (sub : (i : ℕ) → IsSet wanted i → IsSet bits i) (valid : IsValidArea old) (has : IsBody One old.exponent bits body) {now : AreaMeaning} {from at : ℕ}
+    (inv : (f : ℕ → List ℕ) → IsBodyOf One old.exponent bits body f → LoadedTo One old bits wanted body f now from at) {start : ℕ} (end : ℕ) (next : IsNextSet bits from start) (more : start < end)
     (all : (k : ℕ) → start ≤ k → k < end → IsSet bits k) where
   next_run : (f : ℕ → List ℕ) → NextRun One old bits wanted body f from start end
   next_run f = record { low = next.at_least; some = more; clear = next.least; set = all }
 
   pub one_end : end ≤ per old.exponent
-  one_end = end_in One old bits wanted body has.0 has.1 sub valid now from at start end (inv has.0 has.1) (next_run has.0)
+  one_end = end_in One old bits wanted body has.0 has.1 sub valid (inv has.0 has.1) (next_run has.0)
 
   pub one_exponent : now.exponent ≡ old.exponent
-  one_exponent = exponent_now One old bits wanted body has.0 has.1 sub valid now from at start end (inv has.0 has.1) (next_run has.0)
+  one_exponent = exponent_now One old bits wanted body has.0 has.1 sub valid (inv has.0 has.1) (next_run has.0)
 
   pub one_size : (s : ℕ) → s ≡ size old.exponent → (end - start) * s ≤ 65536
   one_size s is_s =
@@ -313,22 +313,22 @@ module _ (old : AreaMeaning) (bits wanted : List Bool) (body : List ℕ) (sub : 
       let e = ap (λ k. (end - start) * k) is_s in
       omega arith
 
-  pub one_fits : (s : ℕ) → s ≡ size old.exponent → at ≤ length body → at + (end - start) * s ≤ length body
-  one_fits s is_s low =
-      run_fits old bits wanted body has.0 has.1 sub valid now from at start end (inv has.0 has.1) (next_run has.0) ((end - start) * s) (ap (λ k. (end - start) * k) is_s) low
+  pub one_fits : {s : ℕ} → s ≡ size old.exponent → at ≤ length body → at + (end - start) * s ≤ length body
+  one_fits {s} is_s low =
+      run_fits has.1 sub valid (inv has.0 has.1) (next_run has.0) ((end - start) * s) (ap (λ k. (end - start) * k) is_s) low
 
   pub one_more : (s : ℕ) (now' : AreaMeaning) → s ≡ size old.exponent
       → IsLoadedRange now now' wanted start end (λ i. part_of (between at (at + (end - start) * s) body) ((i - start) * size now.exponent) (size now.exponent))
       → (f : ℕ → List ℕ) → IsBodyOf One old.exponent bits body f → LoadedTo One old bits wanted body f now' end (at + (end - start) * s)
   one_more s now' is_s range f is =
-      more_run old bits wanted body f is sub valid now from at start end (inv f is) (next_run f) now' ((end - start) * s) (between at (at + (end - start) * s) body) (ap (λ k. (end - start) * k) is_s) refl range
+      more_run is sub valid (inv f is) (next_run f) (ap (λ k. (end - start) * k) is_s) refl range
 
-pub first_below : (v : Version) (e : ℕ) (bits : List Bool) (body : List ℕ) (i : ℕ) → 5 ≤ e → IsBody v e bits body → IsSet bits i → i < 2048
-first_below v e bits body i low has h = let l = has.1.below i h in let p = per_fits e low in omega arith
+pub first_below : {v : Version} {e : ℕ} {bits : List Bool} {body : List ℕ} (i : ℕ) → 5 ≤ e → IsBody v e bits body → IsSet bits i → i < 2048
+first_below {e} i low has h = let l = has.1.below i h in let p = per_fits e low in omega arith
 
 -- version 2
-module _ (old : AreaMeaning) (bits wanted : List Bool) (body : List ℕ) (sub : (i : ℕ) → IsSet wanted i → IsSet bits i) (valid : IsValidArea old) (has : IsBody Two old.exponent bits body) (now : AreaMeaning) (from at : ℕ)
-    (inv : (f : ℕ → List ℕ) → IsBodyOf Two old.exponent bits body f → LoadedTo Two old bits wanted body f now from at) (i : ℕ) (next : IsNextSet bits from i) where
+module _ {old : AreaMeaning} {bits wanted : List Bool} {body : List ℕ} (sub : (i : ℕ) → IsSet wanted i → IsSet bits i) (valid : IsValidArea old) (has : IsBody Two old.exponent bits body) {now : AreaMeaning} {from at : ℕ}
+    (inv : (f : ℕ → List ℕ) → IsBodyOf Two old.exponent bits body f → LoadedTo Two old bits wanted body f now from at) {i : ℕ} (next : IsNextSet bits from i) where
   next_one : (f : ℕ → List ℕ) → NextRun Two old bits wanted body f from i (i + 1)
   next_one f = record {
     low = next.at_least;
@@ -338,52 +338,52 @@ module _ (old : AreaMeaning) (bits wanted : List Bool) (body : List ℕ) (sub : 
   }
 
   pub two_end : i + 1 ≤ per old.exponent
-  two_end = end_in Two old bits wanted body has.0 has.1 sub valid now from at i (i + 1) (inv has.0 has.1) (next_one has.0)
+  two_end = end_in Two old bits wanted body has.0 has.1 sub valid (inv has.0 has.1) (next_one has.0)
 
   pub two_exponent : now.exponent ≡ old.exponent
-  two_exponent = exponent_now Two old bits wanted body has.0 has.1 sub valid now from at i (i + 1) (inv has.0 has.1) (next_one has.0)
+  two_exponent = exponent_now Two old bits wanted body has.0 has.1 sub valid (inv has.0 has.1) (next_one has.0)
 
   pub two_four : at ≤ length body → at + 4 ≤ length body
-  two_four low = let a = two_fits old bits wanted body has.0 has.1 sub valid now from at i (inv has.0 has.1) (next_one has.0) low in omega arith
+  two_four low = let a = two_fits has.1 sub valid (inv has.0 has.1) (next_one has.0) low in omega arith
 
-  pub two_number : (n : ℕ) → n ≡ from_le_bytes w32 (between at (at + 4) body) → (f : ℕ → List ℕ) → IsBodyOf Two old.exponent bits body f → n ≡ length (f i)
-  two_number n is_n f is = number_is old bits wanted body f is sub valid now from at i (inv f is) (next_one f) (between at (at + 4) body) n refl is_n
+  pub two_number : {n : ℕ} → n ≡ from_le_bytes w32 (between at (at + 4) body) → {f : ℕ → List ℕ} → IsBodyOf Two old.exponent bits body f → n ≡ length (f i)
+  two_number {n} is_n {f} is = number_is is sub valid (inv f is) (next_one f) (between at (at + 4) body) n refl is_n
 
   pub two_whole : (n : ℕ) → n ≡ from_le_bytes w32 (between at (at + 4) body) → at ≤ length body → at + 4 + n ≤ length body
   two_whole n is_n low =
-      let a = two_fits old bits wanted body has.0 has.1 sub valid now from at i (inv has.0 has.1) (next_one has.0) low in
-      let e = two_number n is_n has.0 has.1 in
+      let a = two_fits has.1 sub valid (inv has.0 has.1) (next_one has.0) low in
+      let e = two_number is_n has.1 in
       omega arith
 
   -- the chunk's bytes fit into it, and are as many as their number says
   pub two_bytes : (n : ℕ) → n ≡ from_le_bytes w32 (between at (at + 4) body) → length (between (at + 4) (at + 4 + n) body) ≡ n
   two_bytes n is_n =
-      let e = two_number n is_n has.0 has.1 in
-      ap length (bytes_two old bits wanted body has.0 has.1 sub valid now from at i (inv has.0 has.1) (next_one has.0) n e) ∙ sym e
+      let e = two_number is_n has.1 in
+      ap length (bytes_two has.1 sub valid (inv has.0 has.1) (next_one has.0) n e) ∙ sym e
 
   pub two_room : (n : ℕ) → n ≡ from_le_bytes w32 (between at (at + 4) body) → length (between (at + 4) (at + 4 + n) body) ≤ size now.exponent
   two_room n is_n =
-      let e = two_number n is_n has.0 has.1 in
+      let e = two_number is_n has.1 in
       let b = two_bytes n is_n in
-      let fits = len_i old bits wanted body has.0 has.1 sub valid now from at i (inv has.0 has.1) (next_one has.0) in
+      let fits = len_i has.1 sub valid (inv has.0 has.1) (next_one has.0) in
       let x = ap size two_exponent in
       omega arith
 
   pub two_more : (n : ℕ) (now' : AreaMeaning) → n ≡ from_le_bytes w32 (between at (at + 4) body) → IsLoadedRange now now' wanted i (i + 1) (λ _. between (at + 4) (at + 4 + n) body)
       → (f : ℕ → List ℕ) → IsBodyOf Two old.exponent bits body f → LoadedTo Two old bits wanted body f now' (i + 1) (at + 4 + n)
   two_more n now' is_n range f is =
-      more_two old bits wanted body f is sub valid now from at i (inv f is) (next_one f) now' n (between (at + 4) (at + 4 + n) body) (two_number n is_n f is) refl range
+      more_two is sub valid (inv f is) (next_one f) (two_number is_n is) refl range
 
-  pub two_noted : (n m : ℕ) (ls ls' ls0 : List ℕ) → i < length ls → n ≡ from_le_bytes w32 (between at (at + 4) body) → m ≡ n → ls' ≡ cond (bit_in wanted i) (set ls i m) ls
-      → (f : ℕ → List ℕ) → IsBodyOf Two old.exponent bits body f → NotedTo ls0 ls wanted f from → NotedTo ls0 ls' wanted f (i + 1)
-  two_noted n m ls ls' ls0 l is_n m_is step f is with_length =
+  pub two_noted : {n m : ℕ} (ls : List ℕ) {ls' : List ℕ} (ls0 : List ℕ) → i < length ls → n ≡ from_le_bytes w32 (between at (at + 4) body) → m ≡ n → ls' ≡ cond (bit_in wanted i) (set ls i m) ls
+      → {f : ℕ → List ℕ} → IsBodyOf Two old.exponent bits body f → NotedTo ls0 ls wanted f from → NotedTo ls0 ls' wanted f (i + 1)
+  two_noted {n} {m} ls {ls'} ls0 l is_n m_is step {f} is with_length =
       let low = next.at_least in
       -- another chunk's length stays
       let other : (k : ℕ) → (k ≡ i → ⊥) → get_or ls' k 0 ≡ get_or ls k 0 = λ k ne.
       ap (λ xs. get_or xs k 0) step
       ∙ elim (bit_in wanted i) as (λ b. get_or (cond b (set ls i m) ls) k 0 ≡ get_or ls k 0) [ true ↦ get_or-set_other ls i k m 0 ne | false ↦ refl ] in
       let here : IsSet wanted i → get_or ls' i 0 ≡ length (f i) = λ h.
-      ap (λ xs. get_or xs i 0) (step ∙ ap (λ b. cond b (set ls i m) ls) h) ∙ get_or-set_same ls i m 0 l ∙ m_is ∙ two_number n is_n f is in
+      ap (λ xs. get_or xs i 0) (step ∙ ap (λ b. cond b (set ls i m) ls) h) ∙ get_or-set_same ls i m 0 l ∙ m_is ∙ two_number is_n is in
       let stays : IsClear wanted i → get_or ls' i 0 ≡ get_or ls i 0 = λ h. ap (λ xs. get_or xs i 0) (step ∙ ap (λ b. cond b (set ls i m) ls) h) in (
         λ k below h.
             elim (cases_eq k i) as (λ _. get_or ls' k 0 ≡ length (f k)) [
@@ -452,8 +452,8 @@ module _ (old : AreaMeaning) (wanted : List Bool) (first end : ℕ) (bytes : Lis
     pub range_none : first ≤ end → RangeTo old first
     range_none l = record { same = refl; low = omega arith; high = l; done = λ i a b. absurd (omega arith); valid_shelf = λ i n l m out. refl }
 
-    pub range_all : (now : AreaMeaning) (from : ℕ) → RangeTo now from → ((k : ℕ) → from ≤ k → k < end → IsClear wanted k) → IsLoadedRange old now wanted first end part
-    range_all now from done none = record {
+    pub range_all : {now : AreaMeaning} {from : ℕ} → RangeTo now from → ((k : ℕ) → from ≤ k → k < end → IsClear wanted k) → IsLoadedRange old now wanted first end part
+    range_all {now} {from} done none = record {
       same = done.same;
       loaded = λ i a b h.
           elim (cases_lt i from) as (λ _. part_of now.content (i * size old.exponent) (length (part i)) ≡ part i) [
@@ -463,13 +463,13 @@ module _ (old : AreaMeaning) (wanted : List Bool) (first end : ℕ) (bytes : Lis
       valid_shelf = λ i n l m out. done.valid_shelf i n l m (λ a b h. out a (let top = done.high in omega arith) h);
     }
 
-    module _ (now : AreaMeaning) (from start stop : ℕ) (done : RangeTo now from) (next : IsNextSet wanted from start) (some : start < stop) (top : stop ≤ end) (all : (k : ℕ) → start ≤ k → k < stop → IsSet wanted k) where
+    module _ {now : AreaMeaning} {from start : ℕ} (stop : ℕ) (done : RangeTo now from) (next : IsNextSet wanted from start) (some : start < stop) (top : stop ≤ end) (all : (k : ℕ) → start ≤ k → k < stop → IsSet wanted k) where
       pub range_exponent : now.exponent ≡ old.exponent
       range_exponent = ap (λ (a : AreaMeaning). a.exponent) done.same
 
       -- where the run lies among the bytes, and in the area
-      pub range_sizes : (s : ℕ) → s ≡ size old.exponent → ((start - first) * s + (stop - start) * s ≤ length bytes) × (start * s + (stop - start) * s ≤ 65536)
-      range_sizes s is_s =
+      pub range_sizes : {s : ℕ} → s ≡ size old.exponent → ((start - first) * s + (stop - start) * s ≤ length bytes) × (start * s + (stop - start) * s ≤ 65536)
+      range_sizes {s} is_s =
           let low = done.low in
           let least = next.at_least in
           let a = add-mul (start - first) (stop - start) s in
@@ -481,13 +481,13 @@ module _ (old : AreaMeaning) (wanted : List Bool) (first end : ℕ) (bytes : Lis
           let w = whole_area old.exponent valid.greatest in
           (omega arith, omega arith)
 
-      pub range_more : (s at len : ℕ) (now' : AreaMeaning) (ys : List ℕ) → s ≡ size old.exponent → at ≡ (start - first) * s → len ≡ (stop - start) * s → ys ≡ between at (at + len) bytes → length now.content ≡ 65536 → now' ≡ with_loaded now start ys → RangeTo now' stop
-      range_more s at len now' ys is_s at_is len_is read whole step =
+      pub range_more : {s at len : ℕ} {now' : AreaMeaning} {ys : List ℕ} → s ≡ size old.exponent → at ≡ (start - first) * s → len ≡ (stop - start) * s → ys ≡ between at (at + len) bytes → length now.content ≡ 65536 → now' ≡ with_loaded now start ys → RangeTo now' stop
+      range_more {at} {len} {now'} {ys} is_s at_is len_is read whole step =
           let e : ℕ = old.exponent in
           let n : ℕ = size e in
           let low = done.low in
           let least = next.at_least in
-          let sizes = range_sizes n refl in
+          let sizes = range_sizes refl in
           let at_n : at ≡ (start - first) * n = at_is ∙ ap (λ x. (start - first) * x) is_s in
           let len_n : len ≡ (stop - start) * n = len_is ∙ ap (λ x. (stop - start) * x) is_s in
           let fits = sizes.0 in
@@ -573,6 +573,6 @@ loaded_chunk old now wanted i bytes valid within fits set step =
             | inr ne ↦
                 ap (λ xs. part_of xs (k * n) m) content
                 ∙ part_of-apart old.content (k * n) m (i * n) bytes (omega arith) (omega arith)
-                (elim (chunks_apart e i k ne) as (λ _. (k * n + m ≤ i * n) ⊎ (i * n + length bytes ≤ k * n)) [ inl before ↦ inl (omega arith) | inr past ↦ inr (omega arith) ])
+                (elim (chunks_apart e ne) as (λ _. (k * n + m ≤ i * n) ⊎ (i * n + length bytes ≤ k * n)) [ inl before ↦ inl (omega arith) | inr past ↦ inr (omega arith) ])
           ];
     }

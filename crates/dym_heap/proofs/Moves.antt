@@ -71,12 +71,12 @@ pub record Taken (s m : ShelfMeaning) (a i e j n : ℕ) : Type 0 where
   pub from : chunk_at m.rows (a - 5) i ≡ chunk_at s.rows (a - 5) i
   pub into : chunk_at m.rows (e - 5) j ≡ Some (replicate n 0)
 
-pub taken_chunks : (s m : ShelfMeaning) (a i e j n : ℕ) → IsValidShelf s → IsValidShelf m → 5 ≤ a → 5 ≤ e → (a ≡ e → ⊥) → i < 2 ^ 32 → j < 2 ^ 32 → state_of m.rows ≡ with_chunk (state_of s.rows) (number e j) (replicate n 0) → Taken s m a i e j n
-taken_chunks s m a i e j n valid_shelf valid_shelf' low low' ne small small' after =
+pub taken_chunks : {s m : ShelfMeaning} {a : ℕ} (i : ℕ) {e : ℕ} (j n : ℕ) → IsValidShelf s → IsValidShelf m → 5 ≤ a → 5 ≤ e → (a ≡ e → ⊥) → i < 2 ^ 32 → j < 2 ^ 32 → state_of m.rows ≡ with_chunk (state_of s.rows) (number e j) (replicate n 0) → Taken s m a i e j n
+taken_chunks {s} {m} {a} i {e} j n valid_shelf valid_shelf' low low' ne small small' after =
     let lives : live_of m.rows ≡ insert (live_of s.rows) (number e j) (replicate n 0) = ap (λ (st : HeapState). st.live) after in
     record {
-      from = sym (get_handle m a i valid_shelf' low small) ∙ ap (λ x. get x (number a i)) lives ∙ get_apart (live_of s.rows) (number e j) (number a i) (replicate n 0) (λ same. ne (omega arith)) ∙ get_handle s a i valid_shelf low small;
-      into = sym (get_handle m e j valid_shelf' low' small') ∙ ap (λ x. get x (number e j)) lives ∙ get_here (live_of s.rows) (number e j) (replicate n 0);
+      from = sym (get_handle a i valid_shelf' low small) ∙ ap (λ x. get x (number a i)) lives ∙ get_apart (live_of s.rows) (number e j) (number a i) (replicate n 0) (λ same. ne (omega arith)) ∙ get_handle a i valid_shelf low small;
+      into = sym (get_handle e j valid_shelf' low' small') ∙ ap (λ x. get x (number e j)) lives ∙ get_here (live_of s.rows) (number e j) (replicate n 0);
     }
 
 pub live_fits : (o : Option (List ℕ)) (old n m : ℕ) → MatchOption o ⊥ (λ bytes. length bytes ≡ old) → m ≡ min old n → FitsIn o m
@@ -106,7 +106,7 @@ arrived_at s m t a i e j n zero source tidy valid_shelf' low high ne from into a
       from = ap (λ (x : ShelfMeaning). chunk_at x.rows (a - 5) i) so ∙ from;
     }
 arrived_at s m t a i e j n (suc k) source tidy valid_shelf' low high ne from into after is so =
-    let w = wrote m t e j (splice 0 (take (suc k) source) (replicate n 0)) tidy valid_shelf' so (ap is_some into) low high in
+    let w = wrote e j (splice 0 (take (suc k) source) (replicate n 0)) tidy valid_shelf' so (ap is_some into) low high in
     let mid = midway m t (a - 5) i (e - 5) j source (replicate n 0) (suc k) ne (let c = tidy.valid_shelf.classes in omega arith) from into so in
     record {
       state = w.state ∙ ap (λ st. with_chunk st (number e j) (splice 0 (take (suc k) source) (replicate n 0))) after
@@ -115,12 +115,12 @@ arrived_at s m t a i e j n (suc k) source tidy valid_shelf' low high ne from int
       from = mid.from;
     }
 
-pub arrived : (s m t : ShelfMeaning) (a i e j n k old : ℕ) → IsValidShelf s → IsTidy m → IsValidShelf t → 5 ≤ a → 5 ≤ e → e ≤ 16 → (a ≡ e → ⊥) → i < 2 ^ 32 → j < 2 ^ 32 → MatchOption (chunk_at s.rows (a - 5) i) ⊥ (λ bytes. length bytes ≡ old)
+pub arrived : {s m t : ShelfMeaning} {a : ℕ} (i : ℕ) {e : ℕ} (j n : ℕ) {k : ℕ} (old : ℕ) → IsValidShelf s → IsTidy m → IsValidShelf t → 5 ≤ a → 5 ≤ e → e ≤ 16 → (a ≡ e → ⊥) → i < 2 ^ 32 → j < 2 ^ 32 → MatchOption (chunk_at s.rows (a - 5) i) ⊥ (λ bytes. length bytes ≡ old)
     → state_of m.rows ≡ with_chunk (state_of s.rows) (number e j) (replicate n 0) → k ≡ min old n → Copied m t (a - 5) i (e - 5) j k
     → (source : List ℕ) × (chunk_at s.rows (a - 5) i ≡ Some source) × Arrived s t a i e j n source
-arrived s m t a i e j n k old valid_shelf tidy valid_shelf' low low' high ne small small' live after is so =
+arrived {s} {m} {t} {a} i {e} j n {k} old valid_shelf tidy valid_shelf' low low' high ne small small' live after is so =
     let it = live_some (chunk_at s.rows (a - 5) i) old live in
-    let there = taken_chunks s m a i e j n valid_shelf tidy.valid_shelf low low' ne small small' after in
+    let there = taken_chunks i j n valid_shelf tidy.valid_shelf low low' ne small small' after in
     let from : chunk_at m.rows (a - 5) i ≡ Some it.0 = there.from ∙ it.1 in
     let long = it.2 in
     let so' : copied_to m t (e - 5) j it.0 (replicate n 0) k =
@@ -134,11 +134,11 @@ two_of : (v : Version) → (v ≡ One → ⊥) → v ≡ Two
 two_of One no_one = absurd (no_one refl)
 two_of Two no_one = refl
 
-pub resized : (s t : ShelfMeaning) (h : Handle) (n old : ℕ) → IsTidy s → IsValidShelf t → 5 ≤ h.exp → h.exp ≤ 16 → (s.version ≡ One → ⊥) → (n ≡ old → ⊥) → MatchOption (chunk_at s.rows (h.exp - 5) h.index) ⊥ (λ bytes. length bytes ≡ old)
+pub resized : {s t : ShelfMeaning} (h : Handle) {n old : ℕ} → IsTidy s → IsValidShelf t → 5 ≤ h.exp → h.exp ≤ 16 → (s.version ≡ One → ⊥) → (n ≡ old → ⊥) → MatchOption (chunk_at s.rows (h.exp - 5) h.index) ⊥ (λ bytes. length bytes ≡ old)
     → MatchOption (chunk_at s.rows (h.exp - 5) h.index) ⊥ (λ bytes. t ≡ with_put s (h.exp - 5) h.index (Some (fitted n bytes)) true)
     → (bytes : List ℕ) × (chunk_at s.rows (h.exp - 5) h.index ≡ Some bytes) × (state_of t.rows ≡ resize s.version (state_of s.rows) h n bytes) × IsTidy t
-resized s t h n old tidy valid_shelf' low high no_one ne live gives =
-    let w = wrote_by s t h.exp h.index (fitted n) tidy valid_shelf' gives low high in
+resized {s} {t} h {n} {old} tidy valid_shelf' low high no_one ne live gives =
+    let w = wrote_by h.exp h.index (fitted n) tidy valid_shelf' gives low high in
     let long : length w.0 ≡ old = subst (λ o. MatchOption o ⊥ (λ bytes. length bytes ≡ old)) w.1 live in
     let two = two_of s.version no_one in (
       w.0,

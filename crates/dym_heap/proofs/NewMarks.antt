@@ -24,7 +24,7 @@ pub record MakesMarks (f : List (Option (List ℕ)) → List Bool → List Bool)
   pub both : (chunks more : List (Option (List ℕ))) (marks marks' : List Bool) → f (chunks ++ more) (marks ++ marks') ≡ f chunks marks ++ f more marks'
   pub used : (chunks : List (Option (List ℕ))) (marks : List Bool) (i : ℕ) → get_or (f chunks marks) i false ≡ true → IsSome (get_or chunks i None)
 
-module _ (f : List (Option (List ℕ)) → List Bool → List Bool) (makes : MakesMarks f) where
+module _ {f : List (Option (List ℕ)) → List Bool → List Bool} (makes : MakesMarks f) where
   abbrev pub area : SizedAreaMeaning → SizedAreaMeaning
   area p = record p { touched = f p.chunks p.touched }
 
@@ -81,11 +81,11 @@ module _ (f : List (Option (List ℕ)) → List Bool → List Bool) (makes : Mak
   weights weight (p ∷ ps) =
       sum_by-cons (λ (p : SizedAreaMeaning). weight p.identity) (area p) (map area ps) ∙ ap (λ n. weight p.identity + n) (weights weight ps) ∙ sym (sum_by-cons (λ (p : SizedAreaMeaning). weight p.identity) p ps)
 
-  shelf : (v : Version) (quota : ℕ) (ids : List SegmentId) (starts : List ℕ) (sized_areas : List SizedAreaMeaning) (full : List (List Bool)) (room spare spare_room : ℕ) → IsShelf v quota ids starts sized_areas full room spare spare_room
+  shelf : {v : Version} {quota : ℕ} {ids : List SegmentId} {starts : List ℕ} {sized_areas : List SizedAreaMeaning} {full : List (List Bool)} {room spare spare_room : ℕ} → IsShelf v quota ids starts sized_areas full room spare spare_room
       → IsShelf v quota ids starts (map area sized_areas) full room spare spare_room
-  shelf v quota ids starts sized_areas full room spare spare_room is =
+  shelf {v} {quota} {starts} {sized_areas} {full} {spare} {spare_room} is =
       let arr = is.arranged in
-      let inside : (c o : ℕ) → c < 12 → get_or starts c 0 + o < get_or starts (c + 1) 0 → (get_or starts c 0 + o < length sized_areas) = λ c o l w. let top = class_end v starts sized_areas full c arr l in omega arith in
+      let inside : (c o : ℕ) → c < 12 → get_or starts c 0 + o < get_or starts (c + 1) 0 → (get_or starts c 0 + o < length sized_areas) = λ c o l w. let top = class_end c arr l in omega arith in
       record {
         arranged = record {
           starts_len = arr.starts_len;
@@ -113,16 +113,16 @@ module _ (f : List (Option (List ℕ)) → List Bool → List Bool) (makes : Mak
         };
       }
 
-  pub view_of : (v : Version) (quota : ℕ) (ids : List SegmentId) (origin : Origin) (starts : List ℕ) (sized_areas : List SizedAreaMeaning) (s : ShelfMeaning) → shelf_of v quota ids origin starts sized_areas ≡ s
+  pub view_of : {v : Version} {quota : ℕ} {ids : List SegmentId} {origin : Origin} (starts : List ℕ) (sized_areas : List SizedAreaMeaning) {s : ShelfMeaning} → shelf_of v quota ids origin starts sized_areas ≡ s
       → shelf_of v quota ids origin starts (map area sized_areas) ≡ record s { rows = map row s.rows }
-  view_of v quota ids origin starts sized_areas s view =
+  view_of {v} {quota} {ids} {origin} starts sized_areas view =
       ap (λ rs. record { version = v; quota = quota; held_ids = ids; origin = origin; rows = rs }) (rows_of_areas starts sized_areas) ∙ ap (λ (t : ShelfMeaning). record t { rows = map row t.rows }) view
 
-  pub kept_shelf : (v : Version) (quota : ℕ) (ids : List SegmentId) (starts : List ℕ) (sized_areas sized_areas' : List SizedAreaMeaning) (full : List (List Bool)) (room room' spare spare_room : ℕ) → sized_areas' ≡ map area sized_areas → room' ≡ room
+  pub kept_shelf : {v : Version} {quota : ℕ} {ids : List SegmentId} {starts : List ℕ} {sized_areas sized_areas' : List SizedAreaMeaning} {full : List (List Bool)} {room room' spare spare_room : ℕ} → sized_areas' ≡ map area sized_areas → room' ≡ room
       → IsShelf v quota ids starts sized_areas full room spare spare_room → IsShelf v quota ids starts sized_areas' full room' spare spare_room
-  kept_shelf v quota ids starts sized_areas sized_areas' full room room' spare spare_room items same is =
+  kept_shelf {v} {quota} {ids} {starts} {sized_areas} {full = full} {room' = room'} {spare = spare} {spare_room = spare_room} items same is =
       subst (λ ps. IsShelf v quota ids starts ps full room' spare spare_room) (sym items)
-      (subst (λ r. IsShelf v quota ids starts (map area sized_areas) full r spare spare_room) (sym same) (shelf v quota ids starts sized_areas full room spare spare_room is))
+      (subst (λ r. IsShelf v quota ids starts (map area sized_areas) full r spare spare_room) (sym same) (shelf is))
 
   -- ---- the rows then
 
@@ -136,11 +136,11 @@ module _ (f : List (Option (List ℕ)) → List Bool → List Bool) (makes : Mak
   pub row_is : (s t : ShelfMeaning) → t.rows ≡ map row s.rows → (c : ℕ) → row_at t.rows c ≡ row (row_at s.rows c)
   row_is s t is c = ap (λ rs. row_at rs c) is ∙ row_now s.rows c
 
-  pub lives : (s t : ShelfMeaning) → IsValidShelf s → IsValidShelf t → t.rows ≡ map row s.rows → live_of t.rows ≡ live_of s.rows
-  lives s t valid_shelf valid_shelf' is = live_of-same s.rows t.rows (kept_fits s valid_shelf) (kept_fits t valid_shelf') (λ c i. ap (λ (r : Row). get_or r.chunks i None) (row_is s t is c))
+  pub lives : {s t : ShelfMeaning} → IsValidShelf s → IsValidShelf t → t.rows ≡ map row s.rows → live_of t.rows ≡ live_of s.rows
+  lives {s} {t} valid_shelf valid_shelf' is = live_of-same s.rows t.rows (kept_fits valid_shelf) (kept_fits valid_shelf') (λ c i. ap (λ (r : Row). get_or r.chunks i None) (row_is s t is c))
 
-  pub kept_tidy : (s t : ShelfMeaning) → IsTidy s → IsValidShelf t → t.rows ≡ map row s.rows → IsTidy t
-  kept_tidy s t tidy valid_shelf' is = record {
+  pub kept_tidy : {s t : ShelfMeaning} → IsTidy s → IsValidShelf t → t.rows ≡ map row s.rows → IsTidy t
+  kept_tidy {s} {t} tidy valid_shelf' is = record {
     valid_shelf = valid_shelf';
     trimmed = λ c l.
         let was = tidy.trimmed c l in

@@ -18,11 +18,11 @@ pub none_before : (s : ShelfMeaning) (from e i : ℕ) → IsValidShelf s → fro
 none_before s from e i valid_shelf le cases k a b =
     elim cases as (λ _. contains_key (live_of s.rows) k ≡ false) [
       | inl same ↦ absurd (omega arith)
-      | inr first ↦ outside s k valid_shelf (inl (omega arith))
+      | inr first ↦ outside k valid_shelf (inl (omega arith))
     ]
 
 at_class : (s : ShelfMeaning) (e k : ℕ) → IsValidShelf s → 5 ≤ e → number e 0 ≤ k → k < number (e + 1) 0 → get (live_of s.rows) k ≡ chunk_at s.rows (e - 5) (k - number e 0)
-at_class s e k valid_shelf low a b = (let h : k ≡ number e (k - number e 0) = omega arith in ap (get (live_of s.rows)) h) ∙ get_handle s e (k - number e 0) valid_shelf low (omega arith)
+at_class s e k valid_shelf low a b = (let h : k ≡ number e (k - number e 0) = omega arith in ap (get (live_of s.rows)) h) ∙ get_handle e (k - number e 0) valid_shelf low (omega arith)
 
 pub none_after : (s : ShelfMeaning) (from e i : ℕ) → IsValidShelf s → 5 ≤ e → NoneUpTo s from (number e i) → ((j : ℕ) → i ≤ j → chunk_at s.rows (e - 5) j ≡ None) → NoneUpTo s from (number (e + 1) 0)
 none_after s from e i valid_shelf low none free k a b =
@@ -36,7 +36,7 @@ next_here s from e i j valid_shelf low small start none next =
     let at = next.at_least in
     record {
       at_least = omega arith;
-      is_live = ap is_some (get_handle s e j valid_shelf low small) ∙ next.used;
+      is_live = ap is_some (get_handle e j valid_shelf low small) ∙ next.used;
       least = λ k a b.
           elim (cases_lt k (number e i)) as (λ _. contains_key (live_of s.rows) k ≡ false) [
             | inl before ↦ none k a before
@@ -48,5 +48,5 @@ pub none_left : (s : ShelfMeaning) (from e i k : ℕ) → IsValidShelf s → 16 
 none_left s from e i k valid_shelf past none a =
     elim (cases_lt k (number e i)) as (λ _. contains_key (live_of s.rows) k ≡ false) [
       | inl before ↦ none k a before
-      | inr far ↦ outside s k valid_shelf (inr (omega arith))
+      | inr far ↦ outside k valid_shelf (inr (omega arith))
     ]

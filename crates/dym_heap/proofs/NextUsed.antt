@@ -21,8 +21,8 @@ use Rattle.dym_heap.proofs.ShelfFacts.{ChunkLocation}
 abbrev pub FreeUpTo : List Row → ℕ → ℕ → ℕ → Type 0
 FreeUpTo rows c from to = (i : ℕ) → from ≤ i → i < to → chunk_at rows c i ≡ None
 
-module _ (v : Version) (quota : ℕ) (ids : List SegmentId) (origin : Origin) (starts : List ℕ) (sized_areas : List SizedAreaMeaning) (full : List (List Bool)) (room spare spare_room : ℕ)
-    (s : ShelfMeaning) (view : shelf_of v quota ids origin starts sized_areas ≡ s) (is : IsShelf v quota ids starts sized_areas full room spare spare_room) (e : ℕ) (low : 5 ≤ e) (high : e ≤ 16) where
+module _ {v : Version} {quota : ℕ} {ids : List SegmentId} {origin : Origin} {starts : List ℕ} {sized_areas : List SizedAreaMeaning} {full : List (List Bool)} {room spare spare_room : ℕ}
+    {s : ShelfMeaning} (view : shelf_of v quota ids origin starts sized_areas ≡ s) (is : IsShelf v quota ids starts sized_areas full room spare spare_room) (e : ℕ) (low : 5 ≤ e) (high : e ≤ 16) where
   per_is : per (e - 5 + 5) ≡ per e
   per_is = ap per (let h : e - 5 + 5 ≡ e = omega arith in h)
 
@@ -32,9 +32,9 @@ module _ (v : Version) (quota : ℕ) (ids : List SegmentId) (origin : Origin) (s
   many : ℕ → ℕ
   many k = get_or starts (k + 1) 0 - get_or starts k 0
 
-  pub count_k : (k : ℕ) → k ≡ e - 5 → (get_or starts (k + 1) 0 - get_or starts k 0 ≤ 1024) × (get_or starts k 0 ≤ get_or starts (k + 1) 0) × (get_or starts (k + 1) 0 ≤ length sized_areas)
-  count_k k same =
-      let top = class_end v starts sized_areas full (e - 5) is.arranged class_in in
+  pub count_k : {k : ℕ} → k ≡ e - 5 → (get_or starts (k + 1) 0 - get_or starts k 0 ≤ 1024) × (get_or starts k 0 ≤ get_or starts (k + 1) 0) × (get_or starts (k + 1) 0 ≤ length sized_areas)
+  count_k {k} same =
+      let top = class_end (e - 5) is.arranged class_in in
       let up = is.arranged.rising (e - 5) class_in in
       let fits = is.supplied.within in
       let most = is.supplied.most in
@@ -43,43 +43,43 @@ module _ (v : Version) (quota : ℕ) (ids : List SegmentId) (origin : Origin) (s
       (omega arith, omega arith, omega arith)
 
   pub few_chunks : (k r : ℕ) → k ≡ e - 5 → r ≡ per e → (get_or starts (k + 1) 0 - get_or starts k 0) * r ≤ 2097152
-  few_chunks k r same is_r = let c = (count_k k same).0 in let p = per_fits e low in mul-le (get_or starts (k + 1) 0 - get_or starts k 0) r 1024 2048 c (omega arith)
+  few_chunks k r same is_r = let c = (count_k same).0 in let p = per_fits e low in mul-le (get_or starts (k + 1) 0 - get_or starts k 0) r 1024 2048 c (omega arith)
 
-  pub per_least : (r : ℕ) → r ≡ per e → 0 < r
-  per_least r is_r = let p : 0 < per e = pow_pos (16 - e) in omega arith
+  pub per_least : {r : ℕ} → r ≡ per e → 0 < r
+  per_least is_r = let p : 0 < per e = pow_pos (16 - e) in omega arith
 
   pub per_most : (r : ℕ) → r ≡ per e → r ≤ 2048
   per_most r is_r = let p = per_fits e low in omega arith
 
   -- past the areas of the class
-  pub past_all : (k r i : ℕ) → k ≡ e - 5 → r ≡ per e → (get_or starts (k + 1) 0 - get_or starts k 0) * r ≤ i → chunk_at s.rows (e - 5) i ≡ None
-  past_all k r i same is_r far =
-      let up = (count_k k same).1 in
+  pub past_all : {k r : ℕ} (i : ℕ) → k ≡ e - 5 → r ≡ per e → (get_or starts (k + 1) 0 - get_or starts k 0) * r ≤ i → chunk_at s.rows (e - 5) i ≡ None
+  past_all {k} {r} i same is_r far =
+      let up = (count_k same).1 in
       let a : get_or starts (k + 1) 0 ≡ get_or starts (e - 5 + 1) 0 = ap (λ x. get_or starts (x + 1) 0) same in
       let b : get_or starts k 0 ≡ get_or starts (e - 5) 0 = ap (λ x. get_or starts x 0) same in
       let p : per (e - 5 + 5) ≡ r = per_is ∙ sym is_r in
       let m : (get_or starts (k + 1) 0 - get_or starts k 0) * per (e - 5 + 5) ≡ (get_or starts (k + 1) 0 - get_or starts k 0) * r = ap (λ x. (get_or starts (k + 1) 0 - get_or starts k 0) * x) p in
       let d = le-div (get_or starts (k + 1) 0 - get_or starts k 0) i (per (e - 5 + 5)) (pow_pos (16 - (e - 5 + 5))) (omega arith) in
-      facts.past_s v quota ids origin starts sized_areas full room spare spare_room s view is (e - 5) i class_in (omega arith)
+      facts.past_s view is (e - 5) i class_in (omega arith)
 
-  module _ (k r o : ℕ) (same : k ≡ e - 5) (is_r : r ≡ per e) (l : o < get_or starts (k + 1) 0 - get_or starts k 0) (q : SizedAreaMeaning) (here : q ≡ get_or sized_areas (get_or starts k 0 + o) q) where
-    location : (j : ℕ) → j < r → ChunkLocation v quota ids origin starts sized_areas full room spare spare_room s view is (e - 5) o j (get_or starts k 0 + o)
+  module _ {k r : ℕ} (o : ℕ) (same : k ≡ e - 5) (is_r : r ≡ per e) (l : o < get_or starts (k + 1) 0 - get_or starts k 0) {q : SizedAreaMeaning} (here : q ≡ get_or sized_areas (get_or starts k 0 + o) q) where
+    location : (j : ℕ) → j < r → ChunkLocation view is (e - 5) o j (get_or starts k 0 + o)
     location j below =
         let a : get_or starts (k + 1) 0 ≡ get_or starts (e - 5 + 1) 0 = ap (λ x. get_or starts (x + 1) 0) same in
         let b : get_or starts k 0 ≡ get_or starts (e - 5) 0 = ap (λ x. get_or starts x 0) same in
-        let up = (count_k k same).1 in
+        let up = (count_k same).1 in
         record { small = class_in; within = omega arith; at = omega arith; below = (let p = per_is in omega arith) }
 
     chunk_q : (j : ℕ) → j < r → chunk_at s.rows (e - 5) (o * r + j) ≡ get_or q.chunks j None
     chunk_q j below =
         (let p : r ≡ per (e - 5 + 5) = is_r ∙ sym per_is in ap (λ x. chunk_at s.rows (e - 5) (o * x + j)) p)
-        ∙ facts.chunk_s v quota ids origin starts sized_areas full room spare spare_room s view is (e - 5) o j (get_or starts k 0 + o) (location j below) q
+        ∙ facts.chunk_s view is (location j below) q
         ∙ ap (λ (z : SizedAreaMeaning). get_or z.chunks j None) (sym here)
 
     long_q : length q.chunks ≡ r
     long_q =
-        let sp = location 0 (per_least r is_r) in
-        let p = facts.placed_s v quota ids origin starts sized_areas full room spare spare_room s view is (e - 5) o 0 (get_or starts k 0 + o) sp q in
+        let sp = location 0 (per_least is_r) in
+        let p = facts.placed_s view is sp q in
         ap (λ (z : SizedAreaMeaning). length z.chunks) here ∙ p.sized_area.whole ∙ ap per p.exponent ∙ per_is ∙ sym is_r
 
     inside_q : (j : ℕ) → IsSome (get_or q.chunks j None) → j < r
@@ -90,13 +90,13 @@ module _ (v : Version) (quota : ℕ) (ids : List SegmentId) (origin : Origin) (s
         ]
 
     pub place_n : get_or starts k 0 + o < length sized_areas
-    place_n = let c = count_k k same in let top = c.2 in let up = c.1 in omega arith
+    place_n = let c = count_k same in let top = c.2 in let up = c.1 in omega arith
 
     pub below_n : (j : ℕ) → IsUsedFrom q.chunks 0 j → j < r
     below_n j found = inside_q j found.used
 
-    pub found_n : (from ch f : ℕ) → FreeUpTo s.rows (e - 5) from (o * r + ch) → from ≤ o * r + ch → ch < r → IsUsedFrom q.chunks ch f → (f < r) × IsNextUsed s.rows (e - 5) from (o * r + f)
-    found_n from ch f free start small found =
+    pub found_n : (from : ℕ) {ch f : ℕ} → FreeUpTo s.rows (e - 5) from (o * r + ch) → from ≤ o * r + ch → ch < r → IsUsedFrom q.chunks ch f → (f < r) × IsNextUsed s.rows (e - 5) from (o * r + f)
+    found_n from {ch} {f} free start small found =
         let below : f < r = inside_q f found.used in
         let at = found.at_least in (
           below,
@@ -119,8 +119,8 @@ module _ (v : Version) (quota : ℕ) (ids : List SegmentId) (origin : Origin) (s
           | inr past ↦ (let h : i ≡ o * r + (i - o * r) = omega arith in ap (chunk_at s.rows (e - 5)) h ∙ chunk_q (i - o * r) (omega arith) ∙ none (i - o * r) (omega arith))
         ]
 
-  pub fits_n : (k r o : ℕ) → k ≡ e - 5 → r ≡ per e → o < get_or starts (k + 1) 0 - get_or starts k 0 → o * r ≤ 2097152
-  fits_n k r o same is_r l = let c = (count_k k same).0 in let p = per_fits e low in mul-le o r 1024 2048 (omega arith) (omega arith)
+  pub fits_n : {k r : ℕ} (o : ℕ) → k ≡ e - 5 → r ≡ per e → o < get_or starts (k + 1) 0 - get_or starts k 0 → o * r ≤ 2097152
+  fits_n {k} {r} o same is_r l = let c = (count_k same).0 in let p = per_fits e low in mul-le o r 1024 2048 (omega arith) (omega arith)
 
   pub end_n : (k r o i : ℕ) → k ≡ e - 5 → r ≡ per e → get_or starts (k + 1) 0 - get_or starts k 0 ≤ o → o * r ≤ i → chunk_at s.rows (e - 5) i ≡ None
-  end_n k r o i same is_r past far = past_all k r i same is_r (let m = mul-le (get_or starts (k + 1) 0 - get_or starts k 0) r o r past (omega arith) in omega arith)
+  end_n k r o i same is_r past far = past_all i same is_r (let m = mul-le (get_or starts (k + 1) 0 - get_or starts k 0) r o r past (omega arith) in omega arith)

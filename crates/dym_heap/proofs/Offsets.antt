@@ -61,8 +61,8 @@ pub record Parts (quota offset e i at : ℕ) : Type 0 where
   pub chunk : (offset % 65536) / size e ≡ i % per e
   pub byte : (offset % 65536) % size e ≡ at
 
-pub parts_at : (quota offset e i at : ℕ) → LiesAt quota e i at offset → Parts quota offset e i at
-parts_at quota offset e i at lies =
+pub parts_at : {quota offset e i at : ℕ} → LiesAt quota e i at offset → Parts quota offset e i at
+parts_at {quota} {offset} {e} {i} {at} lies =
     let j = mod_below i (per e) (per_pos e) in
     let fits = chunk_fits e (i % per e) lies.most j in
     let byte = lies.byte in
@@ -82,7 +82,7 @@ pub index_of_parts : (e i : ℕ) → i / per e * per e + i % per e ≡ i
 index_of_parts e i = parts_of i (per e)
 
 -- the same as they are computed: the numbers that they are made of come from calls
-module _ (quota offset a b b' a' p s : ℕ) (a_is : a ≡ 65536) (b_is : b ≡ quota) (b'_is : b' ≡ quota) (a'_is : a' ≡ 65536) (p_is : p ≡ per (5 + offset / a / b)) (s_is : s ≡ size (5 + offset / a / b)) where
+module _ {quota : ℕ} (offset : ℕ) {a b b' a' p s : ℕ} (a_is : a ≡ 65536) (b_is : b ≡ quota) (b'_is : b' ≡ quota) (a'_is : a' ≡ 65536) (p_is : p ≡ per (5 + offset / a / b)) (s_is : s ≡ size (5 + offset / a / b)) where
   abbrev made : ℕ
   made = 5 + offset / a / b
 
@@ -95,7 +95,7 @@ module _ (quota offset a b b' a' p s : ℕ) (a_is : a ≡ 65536) (b_is : b ≡ q
 
   pub only_computed : (e i at : ℕ) → LiesAt quota e i at offset → (5 + offset / a / b ≡ e) × (offset / a % b' * p + offset % a' / s ≡ i) × (offset % a' % s ≡ at)
   only_computed e i at lies =
-      let parts = parts_at quota offset e i at lies in
+      let parts = parts_at lies in
       let low = lies.least in
       let class : made ≡ e = (λ j. 5 + offset / a_is j / b_is j) ∙ ap (λ n. 5 + n) parts.class ∙ omega arith in
       let area : offset / a % b' ≡ i / per e = (λ j. offset / a_is j % b'_is j) ∙ parts.area in
@@ -107,9 +107,9 @@ module _ (quota offset a b b' a' p s : ℕ) (a_is : a ≡ 65536) (b_is : b ≡ q
         (λ j. offset % a'_is j % size_is j) ∙ parts.byte,
       )
 
-pub none_computed : (quota offset a b : ℕ) → a ≡ 65536 → b ≡ quota → 12 ≤ offset / a / b → (e i at : ℕ) → LiesAt quota e i at offset → ⊥
-none_computed quota offset a b a_is b_is far e i at lies =
-    let class : offset / a / b ≡ e - 5 = (λ j. offset / a_is j / b_is j) ∙ (parts_at quota offset e i at lies).class in
+pub none_computed : {quota : ℕ} (offset : ℕ) {a b : ℕ} → a ≡ 65536 → b ≡ quota → 12 ≤ offset / a / b → (e i at : ℕ) → LiesAt quota e i at offset → ⊥
+none_computed {quota} offset {a} {b} a_is b_is far e i at lies =
+    let class : offset / a / b ≡ e - 5 = (λ j. offset / a_is j / b_is j) ∙ (parts_at lies).class in
     let high = lies.most in
     omega arith
 
@@ -153,12 +153,12 @@ pub place_of_live : (s : ShelfMeaning) → IsTidy s → (k : ℕ) (bytes : List 
 place_of_live s tidy k bytes live =
     let e : ℕ = exponent_of k in
     let i : ℕ = index_of k in
-    let sound = sound_of s 0 tidy in
+    let sound = sound_of 0 tidy in
     let low = sound.least_class k (ap is_some live) in
     let high = sound.most_class k (ap is_some live) in
     let five : e - 5 + 5 ≡ e = omega (arith, low) in
     let there : chunk_at s.rows (e - 5) i ≡ Some bytes =
-    sym (get-live_of s.rows (kept_fits s tidy.valid_shelf) (e - 5) i k (sym (number_of k) ∙ ap (λ n. number n i) (sym five)) (mod_below k (2 ^ 32) (omega arith))) ∙ live in
+    sym (get-live_of s.rows (kept_fits tidy.valid_shelf) (e - 5) i (sym (number_of k) ∙ ap (λ n. number n i) (sym five)) (mod_below k (2 ^ 32) (omega arith))) ∙ live in
     record {
       least = low;
       most = high;
@@ -178,9 +178,9 @@ pub has_some : (o : Option (List ℕ)) (P : List ℕ → Type 0) → MatchOption
 has_some None P has = absurd has
 has_some (Some bytes) P has = (bytes, refl, has)
 
-module _ (s : ShelfMeaning) (applied : ℕ) (h : HeapMeaning) (view : heap_of s applied ≡ h) (tidy : IsTidy s) where
-  pub live_byte : (quota k offset : ℕ) → quota ≡ s.quota → HasByteAt h (handle_of k) offset → LiveByte h quota k offset
-  live_byte quota k offset quota_is has =
+module _ {s : ShelfMeaning} {applied : ℕ} {h : HeapMeaning} (view : heap_of s applied ≡ h) (tidy : IsTidy s) where
+  pub live_byte : {quota : ℕ} (k offset : ℕ) → quota ≡ s.quota → HasByteAt h (handle_of k) offset → LiveByte h quota k offset
+  live_byte k offset quota_is has =
       let e : ℕ = exponent_of k in
       let i : ℕ = index_of k in
       let found = has_some (get h.state.live (number e i)) (λ bytes. (chunk_offset h.quota (handle_of k) ≤ offset) × (offset < chunk_offset h.quota (handle_of k) + length bytes)) has in
@@ -210,13 +210,13 @@ pub record Found (h : HeapMeaning) (hd : Handle) (at k : ℕ) : Type 0 where
   pub live : get h.state.live (key hd) ≡ Some bytes
   pub within : at < length bytes
 
-pub found_by : (h : HeapMeaning) (quota k offset : ℕ) (one : LiveByte h quota k offset) (hd : Handle) (at : ℕ) → (hd.exp ≡ exponent_of k) × (hd.index ≡ index_of k) × (at ≡ one.at) → Found h hd at k
-found_by h quota k offset one hd at same =
+pub found_by : {h : HeapMeaning} {quota k offset : ℕ} (one : LiveByte h quota k offset) (hd : Handle) {at : ℕ} → (hd.exp ≡ exponent_of k) × (hd.index ≡ index_of k) × (at ≡ one.at) → Found h hd at k
+found_by {h} {k} one hd same =
     let is : key hd ≡ k = (λ j. number (same.0 j) (same.1 j)) ∙ number_of k in
     record { is = is; bytes = one.bytes; live = ap (get h.state.live) is ∙ one.live; within = subst (λ n. n < length one.bytes) (sym same.2) one.within }
 
 -- no chunk is too short that has the byte
-pub found_len : (s : ShelfMeaning) (applied : ℕ) (h : HeapMeaning) → heap_of s applied ≡ h → (hd : Handle) (at k : ℕ) (o : Option ℕ) → Found h hd at k → o ≡ option_map length (get (live_of s.rows) (key hd)) → MatchOption o ⊥ (λ len. at < len)
-found_len s applied h view hd at k o found is =
+pub found_len : (s : ShelfMeaning) {applied : ℕ} {h : HeapMeaning} → heap_of s applied ≡ h → {hd : Handle} {at k : ℕ} {o : Option ℕ} → Found h hd at k → o ≡ option_map length (get (live_of s.rows) (key hd)) → MatchOption o ⊥ (λ len. at < len)
+found_len s view {hd} {at} {o} found is =
     let e : o ≡ Some (length found.bytes) = is ∙ ap (λ (x : HeapMeaning). option_map length (get x.state.live (key hd))) view ∙ ap (option_map length) found.live in
     subst (λ x. MatchOption x ⊥ (λ len. at < len)) (sym e) found.within

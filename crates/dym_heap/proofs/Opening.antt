@@ -38,15 +38,15 @@ pub record NoStarts (starts : List ℕ) : Type 0 where
   pub long : length starts ≡ 13
   pub zeros : (c : ℕ) → get_or starts c 0 ≡ 0
 
-pub no_starts : (starts : List ℕ) → starts ≡ replicate 13 0 → NoStarts starts
-no_starts starts is = record {
+pub no_starts : {starts : List ℕ} → starts ≡ replicate 13 0 → NoStarts starts
+no_starts is = record {
   long = ap length is ∙ length-replicate {A = ℕ} 13 0;
   zeros = λ c. ap (λ xs. get_or xs c 0) is ∙ nowhere 13 c;
 }
 
-pub no_areas : (v : Version) (quota : ℕ) (ids : List SegmentId) (starts : List ℕ) (sized_areas : List SizedAreaMeaning) (full : List (List Bool)) (room spare spare_room : ℕ) → NoStarts starts → sized_areas ≡ [] → AreClear full → ids ≡ [] → 1 ≤ quota → quota ≤ 1024 → quota ≤ room
+pub no_areas : (v : Version) (quota : ℕ) {ids : List SegmentId} {starts : List ℕ} {sized_areas : List SizedAreaMeaning} {full : List (List Bool)} (room spare spare_room : ℕ) → NoStarts starts → sized_areas ≡ [] → AreClear full → ids ≡ [] → 1 ≤ quota → quota ≤ 1024 → quota ≤ room
     → HasTables v quota 0 spare spare_room → IsShelf v quota ids starts sized_areas full room spare spare_room
-no_areas v quota ids starts sized_areas full room spare spare_room none empty clear held least most fits tables =
+no_areas v quota {ids} {starts} {full} room spare spare_room none empty clear held least most fits tables =
     subst (λ ps. IsShelf v quota ids starts ps full room spare spare_room) (sym empty) (record {
       arranged = record {
         starts_len = none.long;
@@ -89,9 +89,9 @@ no_rows starts none =
     ∙ nothing (get_or starts c 0) (get_or starts (c + 1) 0)
     ∙ sym (get_or-replicate 12 c empty_row empty_row within))
 
-pub opened : (v : Version) (quota : ℕ) (ids : List SegmentId) (origin : Origin) (starts : List ℕ) (sized_areas : List SizedAreaMeaning) → NoStarts starts → sized_areas ≡ [] → ids ≡ []
+pub opened : (v : Version) (quota : ℕ) {ids : List SegmentId} (origin : Origin) {starts : List ℕ} {sized_areas : List SizedAreaMeaning} → NoStarts starts → sized_areas ≡ [] → ids ≡ []
     → shelf_of v quota ids origin starts sized_areas ≡ record { version = v; quota = quota; held_ids = []; origin = origin; rows = empty_rows }
-opened v quota ids origin starts sized_areas none empty held =
+opened v quota origin {starts} {sized_areas} none empty held =
     let rows : rows_upto 12 starts sized_areas ≡ empty_rows = ap (λ ps. rows_upto 12 starts ps) empty ∙ no_rows starts none in
     λ j. record { version = v; quota = quota; held_ids = held j; origin = origin; rows = rows j }
 
@@ -112,13 +112,13 @@ empty_state s valid_shelf is =
     same_map nat_cmp_total nat_cmp-IsAntisymmetric (live_of s.rows) (map_of.empty {X = List ℕ} {R = nat_cmp}) (λ q.
     elim (splits q) as (λ _. get (live_of s.rows) q ≡ get (map_of.empty {X = List ℕ} {R = nat_cmp}) q) [
       | below b ↦ get-live_of_below s.rows q b ∙ sym (get-empty nat_cmp q)
-      | at c j e l ↦ get-live_of s.rows (kept_fits s valid_shelf) c j q e l ∙ ap (λ (r : Row). get_or r.chunks j None) (row c) ∙ sym (get-empty nat_cmp q)
+      | at c j e l ↦ get-live_of s.rows (kept_fits valid_shelf) c j e l ∙ ap (λ (r : Row). get_or r.chunks j None) (row c) ∙ sym (get-empty nat_cmp q)
     ]) in
     let marks : touched_of s.rows ≡ set_of.empty {R = nat_cmp} =
     same_set nat_cmp_total nat_cmp-IsAntisymmetric (touched_of s.rows) (set_of.empty {R = nat_cmp}) (λ q.
     elim (splits q) as (λ _. set_of.contains (touched_of s.rows) q ≡ set_of.contains (set_of.empty {R = nat_cmp}) q) [
       | below b ↦ contains-touched_of_below s.rows q b ∙ sym (contains-empty nat_cmp q)
-      | at c j e l ↦ contains-touched_of s.rows (kept_marks_fit s valid_shelf) c j q e l ∙ ap (λ (r : Row). get_or r.touched j false) (row c) ∙ sym (contains-empty nat_cmp q)
+      | at c j e l ↦ contains-touched_of s.rows (kept_marks_fit valid_shelf) c j e l ∙ ap (λ (r : Row). get_or r.touched j false) (row c) ∙ sym (contains-empty nat_cmp q)
     ]) in
     λ i. record { live = lives i; touched = marks i }
 

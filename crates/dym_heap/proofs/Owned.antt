@@ -41,9 +41,9 @@ held_by_weight x (y ∷ ids) some =
           record { front = y ∷ rest.front; back = rest.back; is = ap (λ zs. y ∷ zs) rest.is }
     ] refl
 
-pub place_held : (v : Version) (quota : ℕ) (ids : List SegmentId) (sized_areas : List SizedAreaMeaning) (room spare spare_room k : ℕ) (d : SizedAreaMeaning) → IsSupplied v quota ids sized_areas room spare spare_room → k < length sized_areas
+pub place_held : {v : Version} {quota : ℕ} {ids : List SegmentId} {sized_areas : List SizedAreaMeaning} {room spare spare_room : ℕ} (k : ℕ) (d : SizedAreaMeaning) → IsSupplied v quota ids sized_areas room spare spare_room → k < length sized_areas
     → IsHeld ids (get_or sized_areas k d).identity
-place_held v quota ids sized_areas room spare spare_room k d is l =
+place_held {ids} {sized_areas} k d is l =
     let x : SegmentId = (get_or sized_areas k d).identity in
     let one : weight_of x x ≡ 1 = ap (λ b. cond b 1 0) (same_id-self x) in
     let le = get_or-le-sum_by (λ (p : SizedAreaMeaning). weight_of x p.identity) sized_areas k d l in
@@ -90,9 +90,9 @@ same_identity ids sized_areas k d p before after l =
 
 -- ---- an area changes, comes or goes
 
-pub supplied-put : (v : Version) (quota : ℕ) (ids : List SegmentId) (sized_areas : List SizedAreaMeaning) (room spare spare_room k : ℕ) (d p : SizedAreaMeaning) → IsSupplied v quota ids sized_areas room spare spare_room → k < length sized_areas
+pub supplied-put : {v : Version} {quota : ℕ} {ids : List SegmentId} {sized_areas : List SizedAreaMeaning} {room spare spare_room : ℕ} (k : ℕ) (d p : SizedAreaMeaning) → IsSupplied v quota ids sized_areas room spare spare_room → k < length sized_areas
     → p.identity ≡ (get_or sized_areas k d).identity → IsSupplied v quota ids (set sized_areas k p) room spare spare_room
-supplied-put v quota ids sized_areas room spare spare_room k d p is l same = record {
+supplied-put {v} {quota} {sized_areas} {spare} {spare_room} k d p is l same = record {
   least = is.least;
   most = is.most;
   within = (let w = is.within in omega (arith, length-set sized_areas k p));
@@ -115,10 +115,10 @@ pub table_there : (v : Version) (quota areas spare room : ℕ) → HasTables v q
 table_there One quota areas spare room has less = inl (refl, has)
 table_there Two quota areas spare room has less = let a = has.0 in inr (refl, omega arith)
 
-pub supplied-insert : (v : Version) (quota : ℕ) (ids ids' : List SegmentId) (sized_areas : List SizedAreaMeaning) (room room' spare spare' spare_room at : ℕ) (p : SizedAreaMeaning)
+pub supplied-insert : {v : Version} {quota : ℕ} {ids ids' : List SegmentId} {sized_areas : List SizedAreaMeaning} {room : ℕ} (room' : ℕ) {spare spare' spare_room : ℕ} (at : ℕ) (p : SizedAreaMeaning)
     → IsSupplied v quota ids sized_areas room spare spare_room → length sized_areas < quota → at ≤ length sized_areas → GivesBack ids' ids p.identity → room ≤ room' → spare' ≡ spare - 1
     → IsSupplied v quota ids' (insert sized_areas at p) room' spare' spare_room
-supplied-insert v quota ids ids' sized_areas room room' spare spare' spare_room at p is less fits more bigger fewer = record {
+supplied-insert {v} {quota} {sized_areas} room' {spare} {spare'} {spare_room} at p is less fits more bigger fewer = record {
   least = is.least;
   most = is.most;
   within = omega (arith, length-insert sized_areas at p fits);
@@ -133,10 +133,10 @@ supplied-insert v quota ids ids' sized_areas room room' spare spare' spare_room 
       omega arith;
 }
 
-pub supplied-remove : (v : Version) (quota : ℕ) (ids ids' : List SegmentId) (sized_areas : List SizedAreaMeaning) (room spare spare' spare_room spare_room' k : ℕ) (d : SizedAreaMeaning)
+pub supplied-remove : {v : Version} {quota : ℕ} {ids ids' : List SegmentId} {sized_areas : List SizedAreaMeaning} {room spare : ℕ} (spare' : ℕ) {spare_room : ℕ} (spare_room' k : ℕ) (d : SizedAreaMeaning)
     → IsSupplied v quota ids sized_areas room spare spare_room → k < length sized_areas → GivesBack ids ids' (get_or sized_areas k d).identity → HasTables v quota (length (remove sized_areas k)) spare' spare_room'
     → IsSupplied v quota ids' (remove sized_areas k) room spare' spare_room'
-supplied-remove v quota ids ids' sized_areas room spare spare' spare_room spare_room' k d is l back tables = record {
+supplied-remove {sized_areas} spare' spare_room' k d is l back tables = record {
   least = is.least;
   most = is.most;
   within = (let w = is.within in omega (arith, length-remove sized_areas k l));

@@ -29,12 +29,12 @@ long_enough e i low l = omega (arith, per_fits e low)
 pub first_free : (area : AreaMeaning) (ls : Option (List ℕ)) (i : ℕ) → IsValidArea area → IsFirstClear area.used (per area.exponent) i → IsFreeIn (chunks_in area ls) i
 first_free area ls i valid first = record {
   within = (let b = first.below in omega (arith, length-chunks_in area ls));
-  free = chunk_of area ls i valid ∙ unused_chunk area ls i first.is_clear;
-  least = λ k l. ap is_some (chunk_of area ls k valid) ∙ some_used area ls k ∙ first.least k l;
+  free = chunk_of ls i valid ∙ unused_chunk area ls i first.is_clear;
+  least = λ k l. ap is_some (chunk_of ls k valid) ∙ some_used area ls k ∙ first.least k l;
 }
 
 pub all_used : (area : AreaMeaning) (ls : Option (List ℕ)) → IsValidArea area → ((k : ℕ) → k < per area.exponent → IsSet area.used k) → (k : ℕ) → k < length (chunks_in area ls) → IsSome (get_or (chunks_in area ls) k None)
-all_used area ls valid used k l = ap is_some (chunk_of area ls k valid) ∙ some_used area ls k ∙ used k (omega (arith, length-chunks_in area ls))
+all_used area ls valid used k l = ap is_some (chunk_of ls k valid) ∙ some_used area ls k ∙ used k (omega (arith, length-chunks_in area ls))
 
 pub taken : (area : AreaMeaning) (ls : Option (List ℕ)) (i n : ℕ) → IsMeasured area ls → i < per area.exponent → IsValidArea (with_taken area i) → Reaches ls i → IsSizeOf (version_by ls) area.exponent n
     → Steps (with_taken area i) (with_length ls i n) (area_with_chunk (place_of area ls) i (Some (replicate n 0)) true)
@@ -50,22 +50,22 @@ taken area ls i n is l valid' reaches sized =
     let bit : bit_in (set area.used i true) i ≡ true = get_or-set_same area.used i true false (omega arith) in
     let content' : List ℕ = with_part area.content (i * size e) (replicate (size e) 0) in
     record {
-      is = sized_area-put area ls (with_length ls i n) (set area.used i true) (set area.dirty i true) content' i (Some (replicate n 0)) true
+      is = sized_area-put ls (with_length ls i n) (set area.used i true) (set area.dirty i true) content' i
           is.valid valid' (noted_version ls i n) l
           (used_chunk (with_taken area i) (with_length ls i n) i bit
           ∙ ap (λ m. Some (part_of content' (i * size e) m)) len
           ∙ ap Some (part_of-filled area.content (i * size e) (size e) n 0 (omega arith) small))
-          (λ k ne. chunk_same area ls (with_length ls i n) (set area.used i true) (set area.dirty i true) content' k (set_bit area.used i k true ne) (noted_other e ls i n k ne)
-          (bytes_same area ls i k 0 (i * size e) (replicate (size e) 0) is l (omega (arith, length-replicate {A = ℕ} (size e) 0)) (omega arith) ne))
+          (λ k ne. chunk_same area ls (with_length ls i n) (set area.used i true) (set area.dirty i true) content' k (set_bit area.used true ne) (noted_other e ls n ne)
+          (bytes_same i 0 (i * size e) (replicate (size e) 0) is l (omega (arith, length-replicate {A = ℕ} (size e) 0)) (omega arith) ne))
           (get_or-set_same area.dirty i true false (omega arith))
-          (λ k ne. set_bit area.dirty i k true ne);
+          (λ k ne. set_bit area.dirty true ne);
       measured = record {
         valid = valid';
         fits = λ k h.
             elim (cases_eq k i) as (λ _. IsSizeOf (version_by (with_length ls i n)) e (len_of e (with_length ls i n) k)) [
               | inl same ↦ subst (λ v. IsSizeOf v e (len_of e (with_length ls i n) k)) (sym (noted_version ls i n)) (subst (IsSizeOf (version_by ls) e) (sym (ap (λ j. len_of e (with_length ls i n) j) same ∙ len)) sized)
               | inr ne ↦ subst (λ v. IsSizeOf v e (len_of e (with_length ls i n) k)) (sym (noted_version ls i n))
-                  (subst (IsSizeOf (version_by ls) e) (sym (noted_other e ls i n k ne)) (is.fits k (sym (set_bit area.used i k true ne) ∙ h)))
+                  (subst (IsSizeOf (version_by ls) e) (sym (noted_other e ls n ne)) (is.fits k (sym (set_bit area.used true ne) ∙ h)))
             ];
       };
     }
@@ -82,17 +82,17 @@ released area ls i is h valid' =
     let in_bits = long_enough e i is.valid.least l in
     let bit : bit_in (set area.used i false) i ≡ false = get_or-set_same area.used i false false (omega arith) in
     record {
-      is = sized_area-put area ls ls (set area.used i false) (set area.dirty i false) area.content i None false is.valid valid' refl l
+      is = sized_area-put ls ls (set area.used i false) (set area.dirty i false) area.content i is.valid valid' refl l
           (unused_chunk (with_released area i) ls i bit)
-          (λ k ne. chunk_same area ls ls (set area.used i false) (set area.dirty i false) area.content k (set_bit area.used i k false ne) refl (λ _. refl))
+          (λ k ne. chunk_same area ls ls (set area.used i false) (set area.dirty i false) area.content k (set_bit area.used false ne) refl (λ _. refl))
           (get_or-set_same area.dirty i false false (omega arith))
-          (λ k ne. set_bit area.dirty i k false ne);
+          (λ k ne. set_bit area.dirty false ne);
       measured = record {
         valid = valid';
         fits = λ k h'.
             elim (cases_eq k i) as (λ _. IsSizeOf (version_by ls) e (len_of e ls k)) [
               | inl same ↦ (let gone = ap (bit_in (set area.used i false)) same ∙ bit in absurd cc)
-              | inr ne ↦ is.fits k (sym (set_bit area.used i k false ne) ∙ h')
+              | inr ne ↦ is.fits k (sym (set_bit area.used false ne) ∙ h')
             ];
       };
     }
@@ -104,11 +104,11 @@ dirty_marked dirty i zero some = absurd (omega arith)
 dirty_marked dirty i (suc n) some = refl
 
 -- the bytes ys were written into chunk i from `at` on, and its length is now n
-pub written_as : (area : AreaMeaning) (ls ls' : Option (List ℕ)) (i at n : ℕ) (ys now : List ℕ) → IsMeasured area ls → IsSet area.used i → 0 < length ys → at + length ys ≤ size area.exponent
+pub written_as : {area : AreaMeaning} {ls ls' : Option (List ℕ)} (i at n : ℕ) (ys : List ℕ) {now : List ℕ} → IsMeasured area ls → IsSet area.used i → 0 < length ys → at + length ys ≤ size area.exponent
     → IsValidArea (with_written area i at ys) → ls' ≡ with_length ls i n → Reaches ls i → IsSizeOf (version_by ls) area.exponent n
     → part_of (with_part area.content (i * size area.exponent + at) ys) (i * size area.exponent) n ≡ now
     → Steps (with_written area i at ys) ls' (area_with_chunk (place_of area ls) i (Some now) true)
-written_as area ls ls' i at n ys now is h some within valid' lengths reaches sized bytes =
+written_as {area} {ls} {ls'} i at n ys {now} is h some within valid' lengths reaches sized bytes =
     let e : ℕ = area.exponent in
     let l = is.valid.used_below i h in
     let long' = is.valid.dirty_len in
@@ -118,13 +118,13 @@ written_as area ls ls' i at n ys now is h some within valid' lengths reaches siz
     let content' : List ℕ = with_part area.content (i * size e + at) ys in
     let len : len_of e ls' i ≡ n = ap (λ x. len_of e x i) lengths ∙ noted_here e ls i n reaches sized in
     let same : version_by ls' ≡ version_by ls = ap version_by lengths ∙ noted_version ls i n in
-    let other : (k : ℕ) → (k ≡ i → ⊥) → len_of e ls' k ≡ len_of e ls k = λ k ne. ap (λ x. len_of e x k) lengths ∙ noted_other e ls i n k ne in
+    let other : (k : ℕ) → (k ≡ i → ⊥) → len_of e ls' k ≡ len_of e ls k = λ k ne. ap (λ x. len_of e x k) lengths ∙ noted_other e ls n ne in
     record {
-      is = sized_area-put area ls ls' area.used dirty' content' i (Some now) true is.valid valid' same l
+      is = sized_area-put ls ls' area.used dirty' content' i is.valid valid' same l
           (used_chunk (with_written area i at ys) ls' i h ∙ ap (λ m. Some (part_of content' (i * size e) m)) len ∙ ap Some bytes)
-          (λ k ne. chunk_same area ls ls' area.used dirty' content' k refl (other k ne) (bytes_same area ls i k at (i * size e + at) ys is l within refl ne))
+          (λ k ne. chunk_same area ls ls' area.used dirty' content' k refl (other k ne) (bytes_same i at (i * size e + at) ys is l within refl ne))
           (ap (λ d. bit_in d i) marked ∙ get_or-set_same area.dirty i true false (omega arith))
-          (λ k ne. ap (λ d. bit_in d k) marked ∙ set_bit area.dirty i k true ne);
+          (λ k ne. ap (λ d. bit_in d k) marked ∙ set_bit area.dirty true ne);
       measured = record {
         valid = valid';
         fits = λ k h'. subst (λ v. IsSizeOf v e (len_of e ls' k)) (sym same)
@@ -145,11 +145,11 @@ written area ls i at ys old is chunk some within valid' reaches =
     let e : ℕ = area.exponent in
     let h : IsSet area.used i = sym (some_used area ls i) ∙ ap is_some chunk in
     let n : ℕ = len_of e ls i in
-    let len : length old ≡ n = length_of_chunk area ls i old is chunk in
+    let len : length old ≡ n = length_of_chunk i old is chunk in
     let bytes : part_of area.content (i * size e) n ≡ old = (let u = used_chunk area ls i h in cc) in
     let fits = size_fits (version_by ls) e n (is.fits i h) in
-    written_as area ls ls i at n ys (splice at ys old) is h some (omega arith) valid' (noted_same e ls i) reaches (is.fits i h)
-    (part_of-inside area.content (i * size e) n at ys (chunk_room area ls i is h) (omega arith) ∙ ap (splice at ys) bytes)
+    written_as i at n ys is h some (omega arith) valid' (noted_same e ls i) reaches (is.fits i h)
+    (part_of-inside area.content (i * size e) n at ys (chunk_room i is h) (omega arith) ∙ ap (splice at ys) bytes)
 
 -- ---- a chunk gets another length
 
@@ -174,7 +174,7 @@ grown area ls i n old is chunk more sized valid' reaches =
     let m : ℕ = length old in
     let h : IsSet area.used i = sym (some_used area ls i) ∙ ap is_some chunk in
     let l = is.valid.used_below i h in
-    let len : m ≡ len_of e ls i = length_of_chunk area ls i old is chunk in
+    let len : m ≡ len_of e ls i = length_of_chunk i old is chunk in
     let bytes : part_of area.content (i * size e) m ≡ old = (let u = used_chunk area ls i h in let v = ap (λ k. part_of area.content (i * size e) k) len in cc) in
     let fits = size_fits (version_by ls) e n sized in
     let lies = chunk_fits e i is.valid.greatest l in
@@ -182,7 +182,7 @@ grown area ls i n old is chunk more sized valid' reaches =
     let zeros : List ℕ = replicate (n - m) 0 in
     let long : length zeros ≡ n - m = length-replicate {A = ℕ} (n - m) 0 in
     let p : List ℕ = part_of area.content (i * size e) n in
-    written_as area ls (with_length ls i n) i m n (replicate (n - m) 0) (fitted n old) is h (omega arith) (omega arith) valid' refl reaches sized
+    written_as i m n (replicate (n - m) 0) is h (omega arith) (omega arith) valid' refl reaches sized
     (part_of-inside area.content (i * size e) n m (replicate (n - m) 0) (omega arith) (omega arith)
     ∙ split_fitted n m p old (front_of area.content (i * size e) m n (omega arith) ∙ bytes) (length-part_of area.content (i * size e) n (omega arith)) (omega arith) refl)
 
@@ -195,13 +195,13 @@ shrunk area ls i n old is chunk less sized valid' reaches =
     let m : ℕ = length old in
     let h : IsSet area.used i = sym (some_used area ls i) ∙ ap is_some chunk in
     let l = is.valid.used_below i h in
-    let len : m ≡ len_of e ls i = length_of_chunk area ls i old is chunk in
+    let len : m ≡ len_of e ls i = length_of_chunk i old is chunk in
     let bytes : part_of area.content (i * size e) m ≡ old = (let u = used_chunk area ls i h in let v = ap (λ k. part_of area.content (i * size e) k) len in cc) in
     let fits = size_fits (version_by ls) e (len_of e ls i) (is.fits i h) in
     let lies = chunk_fits e i is.valid.greatest l in
     let whole = is.valid.content_len in
     let none : n - m ≡ 0 = omega arith in
-    written_as area ls (with_length ls i n) i n n (replicate 1 0) (fitted n old) is h (omega arith) (omega arith) valid' refl reaches sized
+    written_as i n n (replicate 1 0) is h (omega arith) (omega arith) valid' refl reaches sized
     (part_of-apart area.content (i * size e) n (i * size e + n) (replicate 1 0) (omega arith) (omega arith) (inl (omega arith))
     ∙ sym (front_of area.content (i * size e) n m (omega arith)) ∙ ap (take n) bytes
     ∙ sym (ap (λ k. take n old ++ replicate k 0) none ∙ append-nil (take n old)))
@@ -224,7 +224,7 @@ pub cleaned : (area : AreaMeaning) (ls : Option (List ℕ)) → IsMeasured area 
     → Steps (with_clean area) ls (record (place_of area ls) { touched = replicate (length (touched_in area)) false })
 cleaned area ls is valid' =
     let chunks = chunks_clean area (clear_bits MOST_CHUNKS) ls in
-    let touches = touched_clean area MOST_CHUNKS (per_fits area.exponent is.valid.least) (length-touched_in area is.valid) in
+    let touches = touched_clean area MOST_CHUNKS (per_fits area.exponent is.valid.least) (length-touched_in is.valid) in
     record {
       is = λ j. record (place_of area ls) { chunks = chunks j; touched = touches j };
       measured = record { valid = valid'; fits = is.fits };
@@ -235,14 +235,14 @@ cleaned area ls is valid' =
 new_chunks : (area : AreaMeaning) (ls : Option (List ℕ)) → IsValidArea area → ((i : ℕ) → IsClear area.used i) → chunks_in area ls ≡ replicate (per area.exponent) None
 new_chunks area ls valid clear =
     ext_get_or None (chunks_in area ls) (replicate (per area.exponent) None) (length-chunks_in area ls ∙ sym (length-replicate {A = Option (List ℕ)} (per area.exponent) None))
-    (λ k l. chunk_of area ls k valid ∙ unused_chunk area ls k (clear k) ∙ sym (get_or-replicate (per area.exponent) k None None (omega (arith, length-chunks_in area ls))))
+    (λ k l. chunk_of ls k valid ∙ unused_chunk area ls k (clear k) ∙ sym (get_or-replicate (per area.exponent) k None None (omega (arith, length-chunks_in area ls))))
 
 new_marks : (area : AreaMeaning) → IsValidArea area → ((i : ℕ) → IsClear area.used i) → touched_in area ≡ replicate (per area.exponent) false
 new_marks area valid clear =
-    ext_get_or false (touched_in area) (replicate (per area.exponent) false) (length-touched_in area valid ∙ sym (length-replicate {A = Bool} (per area.exponent) false))
-    (λ k l. mark_of area k valid
+    ext_get_or false (touched_in area) (replicate (per area.exponent) false) (length-touched_in valid ∙ sym (length-replicate {A = Bool} (per area.exponent) false))
+    (λ k l. mark_of k valid
     ∙ elim (bit_in area.dirty k) as (λ b. bit_in area.dirty k ≡ b → b ≡ false) [ true ↦ λ h. (let u = valid.dirty_used k h in let c = clear k in absurd cc) | false ↦ λ h. refl ] refl
-    ∙ sym (get_or-replicate (per area.exponent) k false false (omega (arith, length-touched_in area valid))))
+    ∙ sym (get_or-replicate (per area.exponent) k false false (omega (arith, length-touched_in valid))))
 
 -- a place in which no chunk is in use
 abbrev pub empty_place : Version → ℕ → ℕ → SegmentId → SizedAreaMeaning

@@ -23,12 +23,12 @@ pub reaches : (lengths : Option Lengths) (i : ℕ) → i < MOST_CHUNKS → Reach
 reaches None i l = tt
 reaches (Some lengths) i l = let whole = lengths.whole in omega arith
 
-pub match_some : {A : Type 0} (o : Option A) (x : A) (Q : A → Type 0) → o ≡ Some x → Q x → MatchOption o ⊥ Q
-match_some o x Q is q = subst (λ o. MatchOption o ⊥ Q) (sym is) q
+pub match_some : {A : Type 0} {o : Option A} (x : A) (Q : A → Type 0) → o ≡ Some x → Q x → MatchOption o ⊥ Q
+match_some {o} x Q is q = subst (λ o. MatchOption o ⊥ Q) (sym is) q
 
-module _ (area : AreaMeaning) (ls : Option (List ℕ)) (p : SizedAreaMeaning) (v : place_of area ls ≡ p) (m : IsMeasured area ls) where
+module _ {area : AreaMeaning} {ls : Option (List ℕ)} {p : SizedAreaMeaning} (v : place_of area ls ≡ p) (m : IsMeasured area ls) where
   pub chunk_at_p : (i : ℕ) → get_or p.chunks i None ≡ chunk_in area ls i
-  chunk_at_p i = sym (ap (λ (q : SizedAreaMeaning). get_or q.chunks i None) v) ∙ chunk_of area ls i m.valid
+  chunk_at_p i = sym (ap (λ (q : SizedAreaMeaning). get_or q.chunks i None) v) ∙ chunk_of ls i m.valid
 
   pub long_p : length p.chunks ≡ per area.exponent
   long_p = sym (ap (λ (q : SizedAreaMeaning). length q.chunks) v) ∙ length-chunks_in area ls
@@ -72,7 +72,7 @@ module _ (area : AreaMeaning) (ls : Option (List ℕ)) (p : SizedAreaMeaning) (v
   pub len_used_p : (i : ℕ) → IsSet area.used i → Some (len_of area.exponent ls i) ≡ option_map length (get_or p.chunks i None)
   len_used_p i h =
       let at : chunk_in area ls i ≡ Some (part_of area.content (chunk_start area i) (len_of area.exponent ls i)) = used_chunk area ls i h in
-      sym (ap (option_map length) (chunk_at_p i ∙ at) ∙ ap Some (length-part_of area.content (chunk_start area i) (len_of area.exponent ls i) (chunk_room area ls i m h)))
+      sym (ap (option_map length) (chunk_at_p i ∙ at) ∙ ap Some (length-part_of area.content (chunk_start area i) (len_of area.exponent ls i) (chunk_room i m h)))
 
   pub len_free_p : (i : ℕ) → IsClear area.used i → None ≡ option_map (length {A = ℕ}) (get_or p.chunks i None)
   len_free_p i clear = sym (ap (option_map length) (free_p i clear))
@@ -104,7 +104,7 @@ module _ (area : AreaMeaning) (ls : Option (List ℕ)) (p : SizedAreaMeaning) (v
   use_of i n old at fits =
       let chunk : chunk_in area ls i ≡ Some old = sym (chunk_at_p i) ∙ at in
       let h : IsSet area.used i = sym (some_used area ls i) ∙ ap is_some chunk in
-      let len : length old ≡ len_of area.exponent ls i = length_of_chunk area ls i old m chunk in
+      let len : length old ≡ len_of area.exponent ls i = length_of_chunk i old m chunk in
       record {
         old = old;
         chunk = chunk;
@@ -135,36 +135,36 @@ module _ (area : AreaMeaning) (ls : Option (List ℕ)) (p : SizedAreaMeaning) (v
   -- ---- steps
 
   -- the place after a step, as a place with a chunk put
-  put_p : (area' : AreaMeaning) (ls' : Option (List ℕ)) (i : ℕ) (x : Option (List ℕ)) (b : Bool) → Steps area' ls' (area_with_chunk (place_of area ls) i x b) → Steps area' ls' (area_with_chunk p i x b)
-  put_p area' ls' i x b steps = record { is = steps.is ∙ ap (λ q. area_with_chunk q i x b) v; measured = steps.measured }
+  put_p : {area' : AreaMeaning} {ls' : Option (List ℕ)} (i : ℕ) (x : Option (List ℕ)) (b : Bool) → Steps area' ls' (area_with_chunk (place_of area ls) i x b) → Steps area' ls' (area_with_chunk p i x b)
+  put_p i x b steps = record { is = steps.is ∙ ap (λ q. area_with_chunk q i x b) v; measured = steps.measured }
 
-  pub taken_p : (area' : AreaMeaning) (ls' : Option (List ℕ)) (i n : ℕ) → area' ≡ with_taken area i → IsValidArea area' → ls' ≡ with_length ls i n → Reaches ls i → i < per area.exponent → IsSizeOf p.version p.exponent n
+  pub taken_p : {area' : AreaMeaning} {ls' : Option (List ℕ)} (i n : ℕ) → area' ≡ with_taken area i → IsValidArea area' → ls' ≡ with_length ls i n → Reaches ls i → i < per area.exponent → IsSizeOf p.version p.exponent n
       → Steps area' ls' (area_with_chunk p i (Some (replicate n 0)) true)
-  taken_p area' ls' i n after valid' lengths r l sized =
+  taken_p {ls'} i n after valid' lengths r l sized =
       subst (λ a. Steps a ls' (area_with_chunk p i (Some (replicate n 0)) true)) (sym after) (subst (λ x. Steps (with_taken area i) x (area_with_chunk p i (Some (replicate n 0)) true)) (sym lengths)
-      (put_p _ _ i _ true (taken area ls i n m l (subst IsValidArea after valid') r (subst (λ (q : SizedAreaMeaning). IsSizeOf q.version q.exponent n) (sym v) sized))))
+      (put_p i _ true (taken area ls i n m l (subst IsValidArea after valid') r (subst (λ (q : SizedAreaMeaning). IsSizeOf q.version q.exponent n) (sym v) sized))))
 
   pub released_p : (area' : AreaMeaning) (i : ℕ) → area' ≡ with_released area i → IsValidArea area' → IsSet area.used i → Steps area' ls (area_with_chunk p i None false)
   released_p area' i after valid' h =
-      subst (λ a. Steps a ls (area_with_chunk p i None false)) (sym after) (put_p _ _ i None false (released area ls i m h (subst IsValidArea after valid')))
+      subst (λ a. Steps a ls (area_with_chunk p i None false)) (sym after) (put_p i None false (released area ls i m h (subst IsValidArea after valid')))
 
-  pub written_p : (area' : AreaMeaning) (i at : ℕ) (ys : List ℕ) (u : InUse i (at + length ys)) → area' ≡ with_written area i at ys → IsValidArea area' → Reaches ls i → 0 < length ys
+  pub written_p : {area' : AreaMeaning} {i : ℕ} (at : ℕ) (ys : List ℕ) (u : InUse i (at + length ys)) → area' ≡ with_written area i at ys → IsValidArea area' → Reaches ls i → 0 < length ys
       → Steps area' ls (area_with_chunk p i (Some (splice at ys u.old)) true)
-  written_p area' i at ys u after valid' r some =
+  written_p {i} at ys u after valid' r some =
       subst (λ a. Steps a ls (area_with_chunk p i (Some (splice at ys u.old)) true)) (sym after)
-      (put_p _ _ i _ true (written area ls i at ys u.old m u.chunk some u.fits (subst IsValidArea after valid') r))
+      (put_p i _ true (written area ls i at ys u.old m u.chunk some u.fits (subst IsValidArea after valid') r))
 
-  pub grown_p : (area' : AreaMeaning) (ls' : Option (List ℕ)) (i n : ℕ) (u : InUse i 0) → area' ≡ with_written area i (length u.old) (replicate (n - length u.old) 0) → IsValidArea area' → ls' ≡ with_length ls i n → Reaches ls i
+  pub grown_p : {area' : AreaMeaning} {ls' : Option (List ℕ)} {i : ℕ} (n : ℕ) (u : InUse i 0) → area' ≡ with_written area i (length u.old) (replicate (n - length u.old) 0) → IsValidArea area' → ls' ≡ with_length ls i n → Reaches ls i
       → length u.old < n → IsSizeOf (version_by ls) area.exponent n → Steps area' ls' (area_with_chunk p i (Some (fitted n u.old)) true)
-  grown_p area' ls' i n u after valid' lengths r more sized =
+  grown_p {ls'} {i} n u after valid' lengths r more sized =
       subst (λ a. Steps a ls' (area_with_chunk p i (Some (fitted n u.old)) true)) (sym after) (subst (λ x. Steps (with_written area i (length u.old) (replicate (n - length u.old) 0)) x (area_with_chunk p i (Some (fitted n u.old)) true)) (sym lengths)
-      (put_p _ _ i _ true (grown area ls i n u.old m u.chunk more sized (subst IsValidArea after valid') r)))
+      (put_p i _ true (grown area ls i n u.old m u.chunk more sized (subst IsValidArea after valid') r)))
 
-  pub shrunk_p : (area' : AreaMeaning) (ls' : Option (List ℕ)) (i n : ℕ) (u : InUse i 0) → area' ≡ with_written area i n (replicate 1 0) → IsValidArea area' → ls' ≡ with_length ls i n → Reaches ls i
+  pub shrunk_p : {area' : AreaMeaning} {ls' : Option (List ℕ)} {i : ℕ} (n : ℕ) (u : InUse i 0) → area' ≡ with_written area i n (replicate 1 0) → IsValidArea area' → ls' ≡ with_length ls i n → Reaches ls i
       → n < length u.old → IsSizeOf (version_by ls) area.exponent n → Steps area' ls' (area_with_chunk p i (Some (fitted n u.old)) true)
-  shrunk_p area' ls' i n u after valid' lengths r less sized =
+  shrunk_p {ls'} {i} n u after valid' lengths r less sized =
       subst (λ a. Steps a ls' (area_with_chunk p i (Some (fitted n u.old)) true)) (sym after) (subst (λ x. Steps (with_written area i n (replicate 1 0)) x (area_with_chunk p i (Some (fitted n u.old)) true)) (sym lengths)
-      (put_p _ _ i _ true (shrunk area ls i n u.old m u.chunk less sized (subst IsValidArea after valid') r)))
+      (put_p i _ true (shrunk area ls i n u.old m u.chunk less sized (subst IsValidArea after valid') r)))
 
   pub cleaned_p : (area' : AreaMeaning) → area' ≡ with_clean area → IsValidArea area' → Steps area' ls (record p { touched = replicate (length p.touched) false })
   cleaned_p area' after valid' =
@@ -184,17 +184,17 @@ part_of-part xs a n at k fits within =
     ∙ (let e : a + at + j ≡ a + (at + j) = omega arith in ap (λ i. get_or xs i d) e)
     ∙ sym (get_or-take k (drop at (part_of xs a n)) j d below ∙ get_or-drop at (part_of xs a n) j d ∙ get_or-part_of xs a n (at + j) d (omega arith)))
 
-pub read_p : (area : AreaMeaning) (ls : Option (List ℕ)) (p : SizedAreaMeaning) (v : place_of area ls ≡ p) (m : IsMeasured area ls) (i at n : ℕ) (u : InUse area ls p v m i (at + n))
+pub read_p : (area : AreaMeaning) (ls : Option (List ℕ)) (p : SizedAreaMeaning) {v : place_of area ls ≡ p} {m : IsMeasured area ls} {i : ℕ} (at n : ℕ) (u : InUse v m i (at + n))
     → part_of area.content (chunk_start area i + at) n ≡ take n (drop at u.old)
-read_p area ls p v m i at n u =
-    let room = chunk_room area ls i m u.is_set in
+read_p area ls p {m} {i} at n u =
+    let room = chunk_room i m u.is_set in
     let len = u.noted_as in
     let fits = u.fits in
     part_of-part area.content (chunk_start area i) (length u.old) at n (omega arith) fits ∙ sym (ap (λ xs. take n (drop at xs)) u.bytes)
 
 -- the version and the class of a place
-pub version_p : (area : AreaMeaning) (ls : Option (List ℕ)) (p : SizedAreaMeaning) (v : place_of area ls ≡ p) (n : ℕ) → p.version ≡ Two → IsSizeOf Two p.exponent n → IsSizeOf (version_by ls) area.exponent n
-version_p area ls p v n two sized =
+pub version_p : (area : AreaMeaning) (ls : Option (List ℕ)) {p : SizedAreaMeaning} (v : place_of area ls ≡ p) (n : ℕ) → p.version ≡ Two → IsSizeOf Two p.exponent n → IsSizeOf (version_by ls) area.exponent n
+version_p area ls {p} v n two sized =
     subst (λ (q : SizedAreaMeaning). IsSizeOf q.version q.exponent n) (sym v) (subst (λ w. IsSizeOf w p.exponent n) (sym two) sized)
 
 -- ---- another length
@@ -205,31 +205,31 @@ pub record Resized (area : AreaMeaning) (ls : Option (List ℕ)) (p : SizedAreaM
   pub at : get_or p.chunks i None ≡ Some old
   pub steps : Steps area' ls' (area_with_chunk p i (Some (fitted n old)) true)
 
-pub grows_p : (area : AreaMeaning) (lengths : Option Lengths) (p : SizedAreaMeaning) (v : place_of area (numbers_of lengths) ≡ p) (m : IsMeasured area (numbers_of lengths)) (area' : AreaMeaning) (ls' : Option (List ℕ)) (i n k : ℕ)
+pub grows_p : {area : AreaMeaning} (lengths : Option Lengths) {p : SizedAreaMeaning} (v : place_of area (numbers_of lengths) ≡ p) (m : IsMeasured area (numbers_of lengths)) {area' : AreaMeaning} {ls' : Option (List ℕ)} (i n : ℕ) {k : ℕ}
     → MatchOption (get_or p.chunks i None) ⊥ (λ old. length old ≡ n → ⊥) → p.version ≡ Two → IsSizeOf Two p.exponent n → k ≡ len_of area.exponent (numbers_of lengths) i
     → area' ≡ with_written area i k (replicate (n - k) 0) → IsValidArea area' → ls' ≡ with_length (numbers_of lengths) i n → k < n → Resized area (numbers_of lengths) p area' ls' i n
-grows_p area lengths p v m area' ls' i n k another two sized is after valid' noted_as more =
-    let u = another_in_use area (numbers_of lengths) p v m i n another in
+grows_p {area} lengths {p} v m {area'} {ls'} i n {k} another two sized is after valid' noted_as more =
+    let u = another_in_use v m i n another in
     let same : k ≡ length u.0.old = is ∙ sym u.0.noted_as in
     record {
       old = u.0.old;
       at = u.0.at;
-      steps = grown_p area (numbers_of lengths) p v m area' ls' i n u.0 (after ∙ ap (λ x. with_written area i x (replicate (n - x) 0)) same) valid' noted_as
-          (reaches lengths i (few_p area (numbers_of lengths) p v m i u.0.below)) (omega arith) (version_p area (numbers_of lengths) p v n two sized);
+      steps = grown_p v m n u.0 (after ∙ ap (λ x. with_written area i x (replicate (n - x) 0)) same) valid' noted_as
+          (reaches lengths i (few_p v m i u.0.below)) (omega arith) (version_p area (numbers_of lengths) v n two sized);
     }
 
-pub shrinks_p : (area : AreaMeaning) (lengths : Option Lengths) (p : SizedAreaMeaning) (v : place_of area (numbers_of lengths) ≡ p) (m : IsMeasured area (numbers_of lengths)) (area' : AreaMeaning) (ls' : Option (List ℕ)) (i n k : ℕ)
+pub shrinks_p : {area : AreaMeaning} (lengths : Option Lengths) {p : SizedAreaMeaning} (v : place_of area (numbers_of lengths) ≡ p) (m : IsMeasured area (numbers_of lengths)) {area' : AreaMeaning} {ls' : Option (List ℕ)} (i n : ℕ) {k : ℕ}
     → MatchOption (get_or p.chunks i None) ⊥ (λ old. length old ≡ n → ⊥) → p.version ≡ Two → IsSizeOf Two p.exponent n → k ≡ len_of area.exponent (numbers_of lengths) i
     → area' ≡ with_written area i n (replicate 1 0) → IsValidArea area' → ls' ≡ with_length (numbers_of lengths) i n → n ≤ k → Resized area (numbers_of lengths) p area' ls' i n
-shrinks_p area lengths p v m area' ls' i n k another two sized is after valid' noted_as less =
-    let u = another_in_use area (numbers_of lengths) p v m i n another in
+shrinks_p {area} lengths {p} v m {area'} {ls'} i n {k} another two sized is after valid' noted_as less =
+    let u = another_in_use v m i n another in
     let same : k ≡ length u.0.old = is ∙ sym u.0.noted_as in
     let ne = u.1 in
     record {
       old = u.0.old;
       at = u.0.at;
-      steps = shrunk_p area (numbers_of lengths) p v m area' ls' i n u.0 after valid' noted_as
-          (reaches lengths i (few_p area (numbers_of lengths) p v m i u.0.below)) (omega arith) (version_p area (numbers_of lengths) p v n two sized);
+      steps = shrunk_p v m n u.0 after valid' noted_as
+          (reaches lengths i (few_p v m i u.0.below)) (omega arith) (version_p area (numbers_of lengths) v n two sized);
     }
 
 pub flipped : (b x : Bool) → x ≡ not b → not x ≡ b

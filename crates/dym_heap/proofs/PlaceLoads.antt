@@ -18,13 +18,13 @@ pub record LensLoaded (area : AreaMeaning) (ls ls' : Option (List ℕ)) (bits : 
   pub loaded : (i : ℕ) → IsSet bits i → len_of area.exponent ls' i ≡ length (f i)
   pub valid_shelf : (i : ℕ) → IsClear bits i → len_of area.exponent ls' i ≡ len_of area.exponent ls i
 
-pub lens_one : (area : AreaMeaning) (packed bits : List Bool) (body : List ℕ) (f : ℕ → List ℕ) → ((i : ℕ) → IsSet bits i → IsSet packed i) → IsBodyOf One area.exponent packed body f → LensLoaded area None None bits f
-lens_one area packed bits body f sub is = record { version = refl; loaded = λ i h. sym (is.sized i (sub i h)); valid_shelf = λ i h. refl }
+pub lens_one : (area : AreaMeaning) {packed : List Bool} (bits : List Bool) {body : List ℕ} {f : ℕ → List ℕ} → ((i : ℕ) → IsSet bits i → IsSet packed i) → IsBodyOf One area.exponent packed body f → LensLoaded area None None bits f
+lens_one area bits sub is = record { version = refl; loaded = λ i h. sym (is.sized i (sub i h)); valid_shelf = λ i h. refl }
 
-pub lens_two : (area : AreaMeaning) (ns ns' : List ℕ) (bits : List Bool) (f : ℕ → List ℕ) → NotesLoaded ns ns' bits f → LensLoaded area (Some ns) (Some ns') bits f
-lens_two area ns ns' bits f notes = record { version = refl; loaded = notes.with_length; valid_shelf = notes.valid_shelf }
+pub lens_two : (area : AreaMeaning) {ns ns' : List ℕ} {bits : List Bool} {f : ℕ → List ℕ} → NotesLoaded ns ns' bits f → LensLoaded area (Some ns) (Some ns') bits f
+lens_two area notes = record { version = refl; loaded = notes.with_length; valid_shelf = notes.valid_shelf }
 
-module _ (area : AreaMeaning) (ls ls' : Option (List ℕ)) (content : List ℕ) (packed bits : List Bool) (body : List ℕ) (f : ℕ → List ℕ) (m : IsMeasured area ls) (sub : (i : ℕ) → IsSet bits i → IsSet packed i) (is : IsBodyOf (version_by ls) area.exponent packed body f)
+module _ {area : AreaMeaning} {ls ls' : Option (List ℕ)} (content : List ℕ) {packed bits : List Bool} {body : List ℕ} {f : ℕ → List ℕ} (m : IsMeasured area ls) (sub : (i : ℕ) → IsSet bits i → IsSet packed i) (is : IsBodyOf (version_by ls) area.exponent packed body f)
     (holds : HoldsLoaded area (record area { content = content }) bits f) (lens : LensLoaded area ls ls' bits f) (valid' : IsValidArea (record area { content = content })) where
   abbrev new : AreaMeaning
   new = record area { content = content }
@@ -61,7 +61,7 @@ module _ (area : AreaMeaning) (ls ls' : Option (List ℕ)) (content : List ℕ) 
   unfolding touched_in
   loaded_new = record {
     same = λ j. record (place_of new ls') { version = lens.version j };
-    chunk = λ i. chunk_of new ls' i valid' ∙ loaded_chunk i ∙ sym (ap (loaded_over (bit_in bits i) (f i)) (chunk_of area ls i m.valid));
+    chunk = λ i. chunk_of ls' i valid' ∙ loaded_chunk i ∙ sym (ap (loaded_over (bit_in bits i) (f i)) (chunk_of ls i m.valid));
   }
 
 -- the place after the load, and that its lengths still fit
@@ -69,35 +69,35 @@ pub record Loads (area' : AreaMeaning) (ls' : Option (List ℕ)) (p : SizedAreaM
   pub measured : IsMeasured area' ls'
   pub loaded : IsLoadedSizedArea p (place_of area' ls') bits f
 
-pub loads_p : (area : AreaMeaning) (ls : Option (List ℕ)) (p : SizedAreaMeaning) (v : place_of area ls ≡ p) (m : IsMeasured area ls) (area' : AreaMeaning) (ls' : Option (List ℕ)) (packed bits : List Bool) (body : List ℕ) (f : ℕ → List ℕ)
+pub loads_p : {area : AreaMeaning} {ls : Option (List ℕ)} {p : SizedAreaMeaning} (v : place_of area ls ≡ p) (m : IsMeasured area ls) {area' : AreaMeaning} {ls' : Option (List ℕ)} {packed bits : List Bool} {body : List ℕ} {f : ℕ → List ℕ}
     → ((i : ℕ) → IsSet bits i → IsSet packed i) → IsBodyOf (version_by ls) area.exponent packed body f → HoldsLoaded area area' bits f → LensLoaded area ls ls' bits f → IsValidArea area' → Loads area' ls' p bits f
-loads_p area ls p v m area' ls' packed bits body f sub is holds lens valid' =
+loads_p {area} {p} v m {area'} {ls'} {bits} {f} sub is holds lens valid' =
     let holds' : HoldsLoaded area (record area { content = area'.content }) bits f = subst (λ a. HoldsLoaded area a bits f) holds.same holds in
     let valid'' : IsValidArea (record area { content = area'.content }) = subst IsValidArea holds.same valid' in
     subst (λ a. Loads a ls' p bits f) (sym holds.same)
     (record {
-      measured = measured_new area ls ls' area'.content packed bits body f m sub is holds' lens valid'';
-      loaded = subst (λ q. IsLoadedSizedArea q (place_of (record area { content = area'.content }) ls') bits f) v (loaded_new area ls ls' area'.content packed bits body f m sub is holds' lens valid'');
+      measured = measured_new area'.content m sub is holds' lens valid'';
+      loaded = subst (λ q. IsLoadedSizedArea q (place_of (record area { content = area'.content }) ls') bits f) v (loaded_new area'.content m sub is holds' lens valid'');
     })
 
-pub body_p : (area : AreaMeaning) (ls : Option (List ℕ)) (p : SizedAreaMeaning) → place_of area ls ≡ p → (w : Version) → version_by ls ≡ w → (bits : List Bool) (body : List ℕ) (f : ℕ → List ℕ) → IsBodyOf p.version p.exponent bits body f
+pub body_p : (area : AreaMeaning) (ls : Option (List ℕ)) {p : SizedAreaMeaning} → place_of area ls ≡ p → {w : Version} → version_by ls ≡ w → {bits : List Bool} {body : List ℕ} {f : ℕ → List ℕ} → IsBodyOf p.version p.exponent bits body f
     → IsBodyOf w area.exponent bits body f
-body_p area ls p v w is_w bits body f is = subst (λ x. IsBodyOf x area.exponent bits body f) is_w (subst (λ (q : SizedAreaMeaning). IsBodyOf q.version q.exponent bits body f) (sym v) is)
+body_p area ls v is_w {bits} {body} {f} is = subst (λ x. IsBodyOf x area.exponent bits body f) is_w (subst (λ (q : SizedAreaMeaning). IsBodyOf q.version q.exponent bits body f) (sym v) is)
 
-module _ (area : AreaMeaning) (ls : Option (List ℕ)) (p : SizedAreaMeaning) (v : place_of area ls ≡ p) (m : IsMeasured area ls) (area' : AreaMeaning) (packed bits : List Bool) (body : List ℕ) (sub : (i : ℕ) → IsSet bits i → IsSet packed i) (f : ℕ → List ℕ)
+module _ {area : AreaMeaning} {ls : Option (List ℕ)} {p : SizedAreaMeaning} (v : place_of area ls ≡ p) (m : IsMeasured area ls) {area' : AreaMeaning} {packed : List Bool} (bits : List Bool) {body : List ℕ} (sub : (i : ℕ) → IsSet bits i → IsSet packed i) {f : ℕ → List ℕ}
     (is : IsBodyOf p.version p.exponent packed body f) (valid' : IsValidArea area') where
   pub loads_one : ls ≡ None → ((f : ℕ → List ℕ) → IsBodyOf One area.exponent packed body f → HoldsLoaded area area' bits f) → Loads area' ls p bits f
   loads_one e holds =
-      let one : IsBodyOf One area.exponent packed body f = body_p area ls p v One (ap version_by e) packed body f is in
-      loads_p area ls p v m area' ls packed bits body f sub (body_p area ls p v (version_by ls) refl packed body f is) (holds f one)
-      (subst (λ x. LensLoaded area x x bits f) (sym e) (lens_one area packed bits body f sub one)) valid'
+      let one : IsBodyOf One area.exponent packed body f = body_p area ls v (ap version_by e) is in
+      loads_p v m sub (body_p area ls v refl is) (holds f one)
+      (subst (λ x. LensLoaded area x x bits f) (sym e) (lens_one area bits sub one)) valid'
 
   pub loads_two : (ns ns' : List ℕ) → ls ≡ Some ns → ((f : ℕ → List ℕ) → IsBodyOf Two area.exponent packed body f → HoldsLoaded area area' bits f)
       → ((f : ℕ → List ℕ) → IsBodyOf Two area.exponent packed body f → NotesLoaded ns ns' bits f) → Loads area' (Some ns') p bits f
   loads_two ns ns' e holds notes =
-      let two : IsBodyOf Two area.exponent packed body f = body_p area ls p v Two (ap version_by e) packed body f is in
-      loads_p area ls p v m area' (Some ns') packed bits body f sub (body_p area ls p v (version_by ls) refl packed body f is) (holds f two)
-      (subst (λ x. LensLoaded area x (Some ns') bits f) (sym e) (lens_two area ns ns' bits f (notes f two))) valid'
+      let two : IsBodyOf Two area.exponent packed body f = body_p area ls v (ap version_by e) is in
+      loads_p v m sub (body_p area ls v refl is) (holds f two)
+      (subst (λ x. LensLoaded area x (Some ns') bits f) (sym e) (lens_two area (notes f two))) valid'
 
 -- ---- a shelf's area
 

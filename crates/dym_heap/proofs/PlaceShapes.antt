@@ -35,7 +35,7 @@ kept_bit true true h none = refl
 kept_bit true false h none = absurd cc
 kept_bit false b h none = absurd cc
 
-module _ (area : AreaMeaning) (ls : Option (List ℕ)) (p : SizedAreaMeaning) (v : place_of area ls ≡ p) (m : IsMeasured area ls) (mid area' : AreaMeaning) (ls' : Option (List ℕ)) (bytes : List ℕ) (unmodified wanted : List Bool)
+module _ {area : AreaMeaning} {ls : Option (List ℕ)} {p : SizedAreaMeaning} (v : place_of area ls ≡ p) (m : IsMeasured area ls) {mid area' : AreaMeaning} (ls' : Option (List ℕ)) (bytes : List ℕ) (unmodified wanted : List Bool)
     (valid' : IsValidArea area') (first : mid ≡ with_used_bytes area bytes) (bits : (i : ℕ) → bit_in mid.used i ≡ bit_in (bits_of_bytes bytes) i) (second : area' ≡ record mid { dirty = wanted })
     (settled_is : (i : ℕ) → bit_in unmodified i ≡ (bit_in area.used i && not (bit_in area.dirty i))) (wanted_is : (i : ℕ) → bit_in wanted i ≡ (bit_in mid.used i && not (bit_in unmodified i)))
     (same : version_by ls' ≡ version_by ls) (news : (i : ℕ) → i < 2048 → IsSet wanted i → len_of area.exponent ls' i ≡ size area.exponent) (olds : (i : ℕ) → IsClear wanted i → len_of area.exponent ls' i ≡ len_of area.exponent ls i) where
@@ -82,10 +82,10 @@ module _ (area : AreaMeaning) (ls : Option (List ℕ)) (p : SizedAreaMeaning) (v
   }
 
   old_chunk : (i : ℕ) → get_or p.chunks i None ≡ chunk_in area ls i
-  old_chunk i = sym (ap (λ (q : SizedAreaMeaning). get_or q.chunks i None) v) ∙ chunk_of area ls i m.valid
+  old_chunk i = sym (ap (λ (q : SizedAreaMeaning). get_or q.chunks i None) v) ∙ chunk_of ls i m.valid
 
   old_mark : (i : ℕ) → get_or p.touched i false ≡ bit_in area.dirty i
-  old_mark i = sym (ap (λ (q : SizedAreaMeaning). get_or q.touched i false) v) ∙ mark_of area i m.valid
+  old_mark i = sym (ap (λ (q : SizedAreaMeaning). get_or q.touched i false) v) ∙ mark_of i m.valid
 
   -- a chunk that is in use now and not wanted keeps its bytes
   kept_chunk : (i : ℕ) → IsSet area'.used i → IsClear wanted i → chunk_in area' ls' i ≡ chunk_in area ls i
@@ -97,22 +97,22 @@ module _ (area : AreaMeaning) (ls : Option (List ℕ)) (p : SizedAreaMeaning) (v
 
   pub shaped_chunk : (i : ℕ) → IsReshaped (bit_in (bits_of_bytes bytes) i) (area_chunk p i) (area_chunk (place_of area' ls') i)
   shaped_chunk i =
-      let mark : get_or (touched_in area') i false ≡ bit_in wanted i = mark_of area' i valid' ∙ dirty' i in
+      let mark : get_or (touched_in area') i false ≡ bit_in wanted i = mark_of i valid' ∙ dirty' i in
       let now : is_some (chunk_in area' ls' i) ≡ bit_in (bits_of_bytes bytes) i = some_used area' ls' i ∙ used' i in
       let was : bit_in unmodified i ≡ (is_some (get_or p.chunks i None) && not (get_or p.touched i false)) =
       settled_is i ∙ sym (λ j. (ap is_some (old_chunk i) ∙ some_used area ls i) j && not (old_mark i j)) in
       record {
-        used = ap is_some (chunk_of area' ls' i valid') ∙ now;
+        used = ap is_some (chunk_of ls' i valid') ∙ now;
         wanted = mark ∙ wanted_is i ∙ (λ j. bits i j && not (was j));
-        valid_shelf = λ live quiet. chunk_of area' ls' i valid' ∙ kept_chunk i (used' i ∙ live) (sym mark ∙ quiet) ∙ sym (old_chunk i);
+        valid_shelf = λ live quiet. chunk_of ls' i valid' ∙ kept_chunk i (used' i ∙ live) (sym mark ∙ quiet) ∙ sym (old_chunk i);
       }
 
-pub lens_none : (e i : ℕ) (ls : Option (List ℕ)) → ls ≡ None → len_of e ls i ≡ size e
-lens_none e i ls none = ap (λ x. len_of e x i) none
+pub lens_none : (e i : ℕ) {ls : Option (List ℕ)} → ls ≡ None → len_of e ls i ≡ size e
+lens_none e i none = ap (λ x. len_of e x i) none
 
 -- ---- other chunks are touched
 
-module _ (area : AreaMeaning) (ls : Option (List ℕ)) (p : SizedAreaMeaning) (v : place_of area ls ≡ p) (m : IsMeasured area ls) (area' : AreaMeaning) (bits : List Bool) (after : area' ≡ record area { dirty = bits }) (valid' : IsValidArea area') where
+module _ {area : AreaMeaning} {ls : Option (List ℕ)} {p : SizedAreaMeaning} (v : place_of area ls ≡ p) (m : IsMeasured area ls) {area' : AreaMeaning} (bits : List Bool) (after : area' ≡ record area { dirty = bits }) (valid' : IsValidArea area') where
   pub touched_measured : IsMeasured area' ls
   touched_measured = subst (λ a. IsMeasured a ls) (sym after) (record { valid = subst IsValidArea after valid'; fits = m.fits })
 
@@ -127,7 +127,7 @@ module _ (area : AreaMeaning) (ls : Option (List ℕ)) (p : SizedAreaMeaning) (v
   }
 
   pub touched_marks : (i : ℕ) → get_or (touched_in area') i false ≡ bit_in bits i
-  touched_marks i = mark_of area' i valid' ∙ ap (λ (a : AreaMeaning). bit_in a.dirty i) after
+  touched_marks i = mark_of i valid' ∙ ap (λ (a : AreaMeaning). bit_in a.dirty i) after
 
 -- the dirty chunks and some of those in use are in use
 pub dirty_or_used : (area : AreaMeaning) (packed both bits : List Bool) → IsValidArea area → ((i : ℕ) → bit_in both i ≡ (bit_in area.used i && bit_in packed i)) → ((i : ℕ) → bit_in bits i ≡ (bit_in area.dirty i || bit_in both i))
@@ -138,16 +138,16 @@ dirty_or_used area packed both bits valid both_is bits_is i h =
       | false ↦ λ d. both_first (bit_in area.used i) (bit_in packed i) (sym (both_is i) ∙ sym (bits_is i ∙ ap (λ b. b || bit_in both i) d) ∙ h)
     ] refl
 
-module _ (area : AreaMeaning) (ls : Option (List ℕ)) (p : SizedAreaMeaning) (v : place_of area ls ≡ p) (m : IsMeasured area ls) (area' : AreaMeaning) (bits packed both : List Bool) (after : area' ≡ record area { dirty = bits }) (valid' : IsValidArea area')
+module _ {area : AreaMeaning} {ls : Option (List ℕ)} {p : SizedAreaMeaning} (v : place_of area ls ≡ p) (m : IsMeasured area ls) {area' : AreaMeaning} (bits packed both : List Bool) (after : area' ≡ record area { dirty = bits }) (valid' : IsValidArea area')
     (both_is : (i : ℕ) → bit_in both i ≡ (bit_in area.used i && bit_in packed i)) (bits_is : (i : ℕ) → bit_in bits i ≡ (bit_in area.dirty i || bit_in both i)) where
   pub marked_chunk : (i : ℕ) → area_chunk (place_of area' ls) i ≡ marked (bit_in packed i) (area_chunk p i)
   marked_chunk i =
-      let same = touched_same area ls p v m area' bits after valid' in
-      let chunk : get_or p.chunks i None ≡ chunk_in area ls i = sym (ap (λ (q : SizedAreaMeaning). get_or q.chunks i None) v) ∙ chunk_of area ls i m.valid in
+      let same = touched_same v m bits after valid' in
+      let chunk : get_or p.chunks i None ≡ chunk_in area ls i = sym (ap (λ (q : SizedAreaMeaning). get_or q.chunks i None) v) ∙ chunk_of ls i m.valid in
       let used : is_some (get_or p.chunks i None) ≡ bit_in area.used i = ap is_some chunk ∙ some_used area ls i in
-      let mark : get_or p.touched i false ≡ bit_in area.dirty i = sym (ap (λ (q : SizedAreaMeaning). get_or q.touched i false) v) ∙ mark_of area i m.valid in
+      let mark : get_or p.touched i false ≡ bit_in area.dirty i = sym (ap (λ (q : SizedAreaMeaning). get_or q.touched i false) v) ∙ mark_of i m.valid in
       let now : get_or (touched_in area') i false ≡ (get_or p.touched i false || (is_some (get_or p.chunks i None) && bit_in packed i)) =
-      touched_marks area ls p v m area' bits after valid' i ∙ bits_is i ∙ ap (λ b. bit_in area.dirty i || b) (both_is i) ∙ sym (λ j. mark j || (used j && bit_in packed i)) in
+      touched_marks v m bits after valid' i ∙ bits_is i ∙ ap (λ b. bit_in area.dirty i || b) (both_is i) ∙ sym (λ j. mark j || (used j && bit_in packed i)) in
       λ j. record { bytes = get_or (same j).chunks i None; touched = now j }
 
 -- ---- a bitmap of zeros

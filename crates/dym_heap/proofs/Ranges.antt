@@ -25,10 +25,10 @@ use Rattle.dym_heap.proofs.Sizes.{chunk_fits}
 
 -- ---- two chunks never share a byte
 
-pub one_chunk : (quota offset e i at e' i' at' : ℕ) → LiesAt quota e i at offset → LiesAt quota e' i' at' offset → (e ≡ e') × (i ≡ i')
-one_chunk quota offset e i at e' i' at' lies lies' =
-    let parts = parts_at quota offset e i at lies in
-    let parts' = parts_at quota offset e' i' at' lies' in
+pub one_chunk : {quota offset e i at e' i' at' : ℕ} → LiesAt quota e i at offset → LiesAt quota e' i' at' offset → (e ≡ e') × (i ≡ i')
+one_chunk {quota} {offset} {e} {i} {at} {e'} {i'} {at'} lies lies' =
+    let parts = parts_at lies in
+    let parts' = parts_at lies' in
     let low = lies.least in
     let low' = lies'.least in
     let same : e - 5 ≡ e' - 5 = sym parts.class ∙ parts'.class in
@@ -65,8 +65,8 @@ apart quota e i e' i' place place' other =
       | inl near ↦ elim (cases_lt s (s' + size e')) as (λ _. (s + size e ≤ s') ⊎ (s' + size e' ≤ s)) [
         | inr far ↦ inr far
         | inl near' ↦ elim (cases_lt s s') as (λ _. (s + size e ≤ s') ⊎ (s' + size e' ≤ s)) [
-          | inl before ↦ absurd (other (one_chunk quota s' e i (s' - s) e' i' (s' - s') (byte_of quota e i s' place (omega arith) near) (byte_of quota e' i' s' place' (omega arith) (omega (arith, pow_pos e')))))
-          | inr behind ↦ absurd (other (one_chunk quota s e i (s - s) e' i' (s - s') (byte_of quota e i s place (omega arith) (omega (arith, pow_pos e))) (byte_of quota e' i' s place' behind near')))
+          | inl before ↦ absurd (other (one_chunk (byte_of quota e i s' place (omega arith) near) (byte_of quota e' i' s' place' (omega arith) (omega (arith, pow_pos e')))))
+          | inr behind ↦ absurd (other (one_chunk (byte_of quota e i s place (omega arith) (omega (arith, pow_pos e))) (byte_of quota e' i' s place' behind near')))
         ]
       ]
     ]
@@ -89,8 +89,8 @@ pub meets_none : (from at start n : ℕ) → at ≤ start → meets from at star
 meets_none from at start n past = le-ltb (max from start) (min at (start + n)) (omega (arith, past))
 
 -- it has no byte
-pub meets_empty : (from at start n : ℕ) → n ≡ 0 → meets from at start n ≡ false
-meets_empty from at start n none = le-ltb (max from start) (min at (start + n)) (omega (arith, none))
+pub meets_empty : (from at start : ℕ) {n : ℕ} → n ≡ 0 → meets from at start n ≡ false
+meets_empty from at start {n} none = le-ltb (max from start) (min at (start + n)) (omega (arith, none))
 
 pub meets_some : (from at start n : ℕ) → from < at → start < at → from < start + n → 0 < n → meets from at start n ≡ true
 meets_some from at start n a b c d = lt-ltb (max from start) (min at (start + n)) (omega (arith, a, b, c, d))
@@ -148,8 +148,8 @@ pub data IsSeen (quota : ℕ) (live : Live) (k : ℕ) : Type 0 where
   dead : length (bytes_at live k) ≡ 0 → IsSeen quota live k
   there : IsPlace quota (exponent_of k) (index_of k) → length (bytes_at live k) ≤ size (exponent_of k) → IsSeen quota live k
 
-pub seen : (s : ShelfMeaning) → IsTidy s → (k : ℕ) → IsSeen s.quota (live_of s.rows) k
-seen s tidy k =
+pub seen : {s : ShelfMeaning} → IsTidy s → (k : ℕ) → IsSeen s.quota (live_of s.rows) k
+seen {s} tidy k =
     elim (get (live_of s.rows) k) as (λ o. get (live_of s.rows) k ≡ o → IsSeen s.quota (live_of s.rows) k) [
       | None ↦ λ is. dead (ap (λ o. length (unwrap_or o [])) is)
       | Some bytes ↦ λ is.
@@ -158,9 +158,9 @@ seen s tidy k =
     ] refl
 
 -- all has been met that lies before the region's end
-pub met_all : (quota : ℕ) (live : Live) (from at end k : ℕ) → region_end quota ≤ at → at ≤ end → IsSeen quota live k → has_byte_in quota live from end k ≡ has_byte_in quota live from at k
-met_all quota live from at end k past more (dead none) = meets_empty from end _ _ none ∙ sym (meets_empty from at _ _ none)
-met_all quota live from at end k past more (there place fits) =
+pub met_all : {quota : ℕ} {live : Live} (from at end : ℕ) {k : ℕ} → region_end quota ≤ at → at ≤ end → IsSeen quota live k → has_byte_in quota live from end k ≡ has_byte_in quota live from at k
+met_all from at end past more (dead none) = meets_empty from end _ none ∙ sym (meets_empty from at _ none)
+met_all {quota} {live} from at end {k} past more (there place fits) =
     meets_less from at end _ (length (bytes_at live k)) (let e = ends_within quota (exponent_of k) (index_of k) place in omega (arith, e, fits, past)) more
 
 hit_no : (a : Bool) (n at : ℕ) → n ≡ 0 → (a && ltb at n) ≡ false
@@ -171,11 +171,11 @@ shorter : (start n size start' size' : ℕ) → n ≤ size → (start + size ≤
 shorter start n size start' size' fits (inl before) = inl (omega (arith, fits, before))
 shorter start n size start' size' fits (inr behind) = inr behind
 
-pub met_step : (quota : ℕ) (live : Live) (from at next k : ℕ) (hd : Handle) (b : ℕ) → hd.index < 2 ^ 32 → LiesAt quota hd.exp hd.index b at → from ≤ at → at < next → next + b ≤ at + size hd.exp → IsSeen quota live k
+pub met_step : {quota : ℕ} {live : Live} (from : ℕ) {at : ℕ} (next : ℕ) {k : ℕ} (hd : Handle) {b : ℕ} → hd.index < 2 ^ 32 → LiesAt quota hd.exp hd.index b at → from ≤ at → at < next → next + b ≤ at + size hd.exp → IsSeen quota live k
     → has_byte_in quota live from next k ≡ (has_byte_in quota live from at k || is_hit live hd b k)
-met_step quota live from at next k hd b small lies low up within (dead none) =
-    meets_empty from next _ _ none ∙ sym (λ j. meets_empty from at (start_at quota (exponent_of k) (index_of k)) _ none j || hit_no (k == key hd) (length (bytes_at live k)) b none j)
-met_step quota live from at next k hd b small lies low up within (there place fits) =
+met_step {quota} {live} from {at} next {k} hd {b} small lies low up within (dead none) =
+    meets_empty from next _ none ∙ sym (λ j. meets_empty from at (start_at quota (exponent_of k) (index_of k)) none j || hit_no (k == key hd) (length (bytes_at live k)) b none j)
+met_step {quota} {live} from {at} next {k} hd {b} small lies low up within (there place fits) =
     let n : ℕ = length (bytes_at live k) in
     let start : ℕ = start_at quota (exponent_of k) (index_of k) in
     let is : start_at quota hd.exp hd.index + b ≡ at = lies.is in
@@ -214,7 +214,7 @@ pub same_live : (old new : HeapState) (f : ℕ → Bool) → ((k : ℕ) → heap
 same_live old new f each = same_map nat_cmp_total nat_cmp-IsAntisymmetric new.live old.live (λ k. ap (λ (x : ChunkMeaning). x.bytes) (each k))
 
 dead_none : (quota : ℕ) (live : Live) (from end k : ℕ) → is_some (get live k) ≡ false → has_byte_in quota live from end k ≡ false
-dead_none quota live from end k gone = meets_empty from end _ (length (bytes_at live k)) (no_bytes (get live k) gone)
+dead_none quota live from end k gone = meets_empty from end _ (no_bytes (get live k) gone)
 
 contains-met : (quota : ℕ) (live : Live) (from end q : ℕ) → contains (from_list {R = nat_cmp} (filter (has_byte_in quota live from end) (keys live))) q ≡ has_byte_in quota live from end q
 contains-met quota live from end q =
@@ -289,12 +289,12 @@ pub record Touches (s t : ShelfMeaning) (hd : Handle) (at : ℕ) : Type 0 where
   pub same : t ≡ record s { rows = t.rows }
   pub tidy : IsTidy t
 
-pub touches : (s t : ShelfMeaning) (hd : Handle) (at len : ℕ) → IsTidy s → IsValidShelf t → 5 ≤ hd.exp → hd.exp ≤ 16 → get (live_of s.rows) (key hd) ≡ chunk_at s.rows (hd.exp - 5) hd.index → Some len ≡ option_map (length {A = ℕ}) (get (live_of s.rows) (key hd)) → at < len
+pub touches : {s t : ShelfMeaning} (hd : Handle) (at len : ℕ) → IsTidy s → IsValidShelf t → 5 ≤ hd.exp → hd.exp ≤ 16 → get (live_of s.rows) (key hd) ≡ chunk_at s.rows (hd.exp - 5) hd.index → Some len ≡ option_map (length {A = ℕ}) (get (live_of s.rows) (key hd)) → at < len
     → MatchOption (chunk_at s.rows (hd.exp - 5) hd.index) ⊥ (λ bytes. t ≡ with_put s (hd.exp - 5) hd.index (Some bytes) true) → Touches s t hd at
-touches s t hd at len tidy valid' low high live long below put =
+touches {s} {t} hd at len tidy valid' low high live long below put =
     let found = has_some (chunk_at s.rows (hd.exp - 5) hd.index) (λ bytes. t ≡ with_put s (hd.exp - 5) hd.index (Some bytes) true) put in
     let bytes = found.0 in
-    let w = wrote s t hd.exp hd.index bytes tidy valid' found.2 (ap is_some found.1) low high in
+    let w = wrote hd.exp hd.index bytes tidy valid' found.2 (ap is_some found.1) low high in
     let is : get (live_of s.rows) (key hd) ≡ Some bytes = live ∙ found.1 in
     let n : length bytes ≡ len = sym (ap (λ o. length (unwrap_or o [])) is) ∙ len_some (get (live_of s.rows) (key hd)) len long in
     record {
@@ -311,23 +311,23 @@ Met quota old new from at = (k : ℕ) → heap_chunk new k ≡ touched_besides (
 pub met_first : (quota : ℕ) (st : HeapState) (from : ℕ) → Met quota st st from from
 met_first quota st from k = none_touched (has_byte_in quota st.live from from k) (heap_chunk st k) (met_none quota st.live from k)
 
-pub met_next : (quota : ℕ) (old mid new : HeapState) (from at next : ℕ) (hd : Handle) (b : ℕ) → hd.index < 2 ^ 32 → LiesAt quota hd.exp hd.index b at → from ≤ at → at < next → next + b ≤ at + size hd.exp → ((k : ℕ) → IsSeen quota old.live k)
+pub met_next : {quota : ℕ} (old mid new : HeapState) (from : ℕ) {at : ℕ} (next : ℕ) (hd : Handle) {b : ℕ} → hd.index < 2 ^ 32 → LiesAt quota hd.exp hd.index b at → from ≤ at → at < next → next + b ≤ at + size hd.exp → ((k : ℕ) → IsSeen quota old.live k)
     → Met quota old mid from at → ((k : ℕ) → heap_chunk new k ≡ touched_besides (is_hit mid.live hd b k) (heap_chunk mid k)) → Met quota old new from next
-met_next quota old mid new from at next hd b small lies low up within places met step k =
+met_next {quota} old mid new from {at} next hd {b} small lies low up within places met step k =
     let lives : mid.live ≡ old.live = same_live old mid (has_byte_in quota old.live from at) met in
     step k
     ∙ ap (λ l. touched_besides (is_hit l hd b k) (heap_chunk mid k)) lives
     ∙ ap (touched_besides (is_hit old.live hd b k)) (met k)
     ∙ both_touched (has_byte_in quota old.live from at k) (is_hit old.live hd b k) (heap_chunk old k)
-    ∙ ap (λ x. touched_besides x (heap_chunk old k)) (sym (met_step quota old.live from at next k hd b small lies low up within (places k)))
+    ∙ ap (λ x. touched_besides x (heap_chunk old k)) (sym (met_step from next hd small lies low up within (places k)))
 
 pub met_past : (quota : ℕ) (old new : HeapState) (from at end : ℕ) → region_end quota ≤ at → at ≤ end → ((k : ℕ) → IsSeen quota old.live k) → Met quota old new from at → Met quota old new from end
-met_past quota old new from at end past more places met k = met k ∙ ap (λ x. touched_besides x (heap_chunk old k)) (sym (met_all quota old.live from at end k past more (places k)))
+met_past quota old new from at end past more places met k = met k ∙ ap (λ x. touched_besides x (heap_chunk old k)) (sym (met_all from at end past more (places k)))
 
 -- an end past the region is as good as any other
-pub met_far : (quota : ℕ) (live : Live) (from end end' k : ℕ) → (end ≡ end') ⊎ (region_end quota ≤ end) → end ≤ end' → IsSeen quota live k → has_byte_in quota live from end k ≡ has_byte_in quota live from end' k
-met_far quota live from end end' k (inl same) more place = ap (λ n. has_byte_in quota live from n k) same
-met_far quota live from end end' k (inr past) more place = sym (met_all quota live from end end' k past more place)
+pub met_far : {quota : ℕ} {live : Live} (from : ℕ) {end end' k : ℕ} → (end ≡ end') ⊎ (region_end quota ≤ end) → end ≤ end' → IsSeen quota live k → has_byte_in quota live from end k ≡ has_byte_in quota live from end' k
+met_far {quota} {live} from {k} (inl same) more place = ap (λ n. has_byte_in quota live from n k) same
+met_far {quota} {live} from {end} {end'} {k} (inr past) more place = sym (met_all from end end' past more place)
 
 pub cut_end : (quota sum end : ℕ) → quota ≤ 1024 → end ≡ min sum 18446744073709551615 → (end ≡ sum) ⊎ (region_end quota ≤ end)
 cut_end quota sum end most is =

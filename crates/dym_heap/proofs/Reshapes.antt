@@ -27,7 +27,7 @@ abbrev pub Reshaped : Live → ℕ → ChunkMeaning → ChunkMeaning → Type 0
 Reshaped copy q old new = IsReshaped (contains_key copy q) old new
 
 pub reshaped_twice : (copy : Live) (q : ℕ) (a b c : ChunkMeaning) → Reshaped copy q a b → Reshaped copy q b c → Reshaped copy q a c
-reshaped_twice copy q a b c first second = reshaped_again (contains_key copy q) a b c first second
+reshaped_twice copy q a b c first second = reshaped_again first second
 
 some_value : (o : Option (List ℕ)) → is_some o ≡ true → o ≡ Some (unwrap_or o [])
 some_value None h = absurd cc
@@ -39,7 +39,7 @@ class_of v copy sized q h =
     let fits = sized q (unwrap_or (get copy q) []) (some_value (get copy q) h) in
     (fits.0, fits.1)
 
-module _ (v : Version) (copy : Live) (old : HeapState) (s : ShelfMeaning) (sized : IsWellSized v copy) (few : held copy ≤ 1024) (valid_shelf : IsValidShelf s) (are : (c : ℕ) → c < 12 → HasAreas s.rows c (areas copy (c + 5)))
+module _ (v : Version) (copy : Live) (old : HeapState) {s : ShelfMeaning} (sized : IsWellSized v copy) (few : held copy ≤ 1024) (valid_shelf : IsValidShelf s) (are : (c : ℕ) → c < 12 → HasAreas s.rows c (areas copy (c + 5)))
     (upto : (q : ℕ) → UpTo (Reshaped copy) copy old (state_of s.rows) (held copy) q) where
   positive : (d : ℕ) → 0 < per (d + 5)
   positive d = pow_pos (16 - (d + 5))
@@ -70,7 +70,7 @@ module _ (v : Version) (copy : Live) (old : HeapState) (s : ShelfMeaning) (sized
       elim (splits q) as (λ _. heap_chunk (state_of s.rows) q ≡ no_chunk) [
         | below b ↦ chunk_below s q b
         | at d j q_is small ↦
-            chunk_in_row s valid_shelf d j q q_is small
+            chunk_in_row valid_shelf d j q_is small
             ∙ elim (cases_lt d 12) as (λ _. row_chunk s.rows d j ≡ no_chunk) [
               | inr past ↦ no_row d j past
               | inl l ↦
@@ -126,7 +126,7 @@ module _ (v : Version) (copy : Live) (old : HeapState) (s : ShelfMeaning) (sized
                 ends = inr (
                   i,
                   omega arith,
-                  ap (λ (x : ChunkMeaning). is_some x.bytes) (sym (chunk_in_row s valid_shelf d i q q_is small)) ∙ (shaped q).used ∙ reached.1,
+                  ap (λ (x : ChunkMeaning). is_some x.bytes) (sym (chunk_in_row valid_shelf d i q_is small)) ∙ (shaped q).used ∙ reached.1,
                 );
               }
         ];
@@ -153,6 +153,6 @@ shaped_from v copy old mid new sized kept_old kept_mid agree shaped q =
           let m = mul-le (j / per (c + 5) + 1) (per (c + 5)) (areas copy (c + 5)) (per (c + 5)) (omega arith) (omega arith) in
           let s = add-mul (j / per (c + 5)) 1 (per (c + 5)) in
           let same : heap_chunk (state_of mid.rows) q ≡ heap_chunk (state_of old.rows) q =
-          chunk_in_row mid kept_mid c j q q_is small ∙ agree c j l (omega arith) ∙ sym (chunk_in_row old kept_old c j q q_is small) in
+          chunk_in_row kept_mid c j q_is small ∙ agree c j l (omega arith) ∙ sym (chunk_in_row kept_old c j q_is small) in
           subst (λ b. IsReshaped b (heap_chunk (state_of old.rows) q) (heap_chunk new q)) h (subst (λ x. Reshaped copy q x (heap_chunk new q)) same (shaped q))
     ] refl

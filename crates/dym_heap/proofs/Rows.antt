@@ -21,17 +21,17 @@ use Rattle.dym_heap.proofs.Flats.{length-flat, get_or-flat}
 
 -- ---- starts
 
-pub starts_mono : (v : Version) (starts : List ℕ) (sized_areas : List SizedAreaMeaning) (full : List (List Bool)) (c n : ℕ) → IsArranged v starts sized_areas full → c + n ≤ 12 → get_or starts c 0 ≤ get_or starts (c + n) 0
-starts_mono v starts sized_areas full c zero is l = let e : get_or starts c 0 ≡ get_or starts (c + zero) 0 = ap (λ k. get_or starts k 0) (sym (add-zero c)) in omega arith
-starts_mono v starts sized_areas full c (suc n) is l =
-    let before = starts_mono v starts sized_areas full c n is (omega arith) in
+pub starts_mono : {v : Version} {starts : List ℕ} {sized_areas : List SizedAreaMeaning} {full : List (List Bool)} (c n : ℕ) → IsArranged v starts sized_areas full → c + n ≤ 12 → get_or starts c 0 ≤ get_or starts (c + n) 0
+starts_mono {starts} c zero is l = let e : get_or starts c 0 ≡ get_or starts (c + zero) 0 = ap (λ k. get_or starts k 0) (sym (add-zero c)) in omega arith
+starts_mono {v} {starts} {sized_areas} {full} c (suc n) is l =
+    let before = starts_mono c n is (omega arith) in
     let step = is.rising (c + n) (omega arith) in
     let e : get_or starts (c + n + 1) 0 ≡ get_or starts (c + suc n) 0 = ap (λ k. get_or starts k 0) (let h : c + n + 1 ≡ c + suc n = omega arith in h) in
     omega arith
 
-pub class_end : (v : Version) (starts : List ℕ) (sized_areas : List SizedAreaMeaning) (full : List (List Bool)) (c : ℕ) → IsArranged v starts sized_areas full → c < 12 → get_or starts (c + 1) 0 ≤ length sized_areas
-class_end v starts sized_areas full c is l =
-    let up = starts_mono v starts sized_areas full (c + 1) (11 - c) is (omega arith) in
+pub class_end : {v : Version} {starts : List ℕ} {sized_areas : List SizedAreaMeaning} {full : List (List Bool)} (c : ℕ) → IsArranged v starts sized_areas full → c < 12 → get_or starts (c + 1) 0 ≤ length sized_areas
+class_end {v} {starts} {sized_areas} {full} c is l =
+    let up = starts_mono (c + 1) (11 - c) is (omega arith) in
     let e : get_or starts (c + 1 + (11 - c)) 0 ≡ get_or starts 12 0 = ap (λ k. get_or starts k 0) (let h : c + 1 + (11 - c) ≡ 12 = omega arith in h) in
     let last = is.last in
     omega arith
@@ -47,9 +47,9 @@ unfolding rows_upto
 row-rows n starts sized_areas c l = get_or-map-range_with_len (λ c. row_of (class_sized_areas starts sized_areas c)) 0 n c c empty_row l (omega arith)
 
 -- rows that agree with others but for one
-pub rows-set : (n : ℕ) (starts starts' : List ℕ) (sized_areas sized_areas' : List SizedAreaMeaning) (c : ℕ) (r : Row) → c < n → row_of (class_sized_areas starts' sized_areas' c) ≡ r
+pub rows-set : (n : ℕ) (starts starts' : List ℕ) (sized_areas sized_areas' : List SizedAreaMeaning) (c : ℕ) {r : Row} → c < n → row_of (class_sized_areas starts' sized_areas' c) ≡ r
     → ((d : ℕ) → d < n → (d ≡ c → ⊥) → class_sized_areas starts' sized_areas' d ≡ class_sized_areas starts sized_areas d) → rows_upto n starts' sized_areas' ≡ set (rows_upto n starts sized_areas) c r
-rows-set n starts starts' sized_areas sized_areas' c r l here others =
+rows-set n starts starts' sized_areas sized_areas' c {r} l here others =
     ext_get_or empty_row (rows_upto n starts' sized_areas') (set (rows_upto n starts sized_areas) c r)
     (length-rows n starts' sized_areas' ∙ sym (length-set (rows_upto n starts sized_areas) c r ∙ length-rows n starts sized_areas))
     (λ d m.
@@ -65,7 +65,7 @@ rows-set n starts starts' sized_areas sized_areas' c r l here others =
 
 -- ---- the areas of one class
 
-module _ (v : Version) (starts : List ℕ) (sized_areas : List SizedAreaMeaning) (full : List (List Bool)) (is : IsArranged v starts sized_areas full) (c : ℕ) (l : c < 12) where
+module _ {v : Version} {starts : List ℕ} {sized_areas : List SizedAreaMeaning} {full : List (List Bool)} (is : IsArranged v starts sized_areas full) (c : ℕ) (l : c < 12) where
   pub count_c : ℕ
   count_c = get_or starts (c + 1) 0 - get_or starts c 0
 
@@ -78,11 +78,11 @@ module _ (v : Version) (starts : List ℕ) (sized_areas : List SizedAreaMeaning)
 
   pub in_places : (o : ℕ) → o < count_c → get_or starts c 0 + o < length sized_areas
   unfolding count_c
-  in_places o m = let top = class_end v starts sized_areas full c is l in omega arith
+  in_places o m = let top = class_end c is l in omega arith
 
   pub length-row : length (class_sized_areas starts sized_areas c) ≡ count_c
   unfolding count_c
-  length-row = length-between sized_areas (get_or starts c 0) (get_or starts (c + 1) 0) (class_end v starts sized_areas full c is l)
+  length-row = length-between sized_areas (get_or starts c 0) (get_or starts (c + 1) 0) (class_end c is l)
 
   pub sized_area-row : (o : ℕ) (d : SizedAreaMeaning) → o < count_c → get_or (class_sized_areas starts sized_areas c) o d ≡ get_or sized_areas (get_or starts c 0 + o) d
   unfolding count_c
@@ -197,20 +197,20 @@ areas_from f starts e a (suc n) each =
     let e : get_or starts (a + 1 + n) 0 ≡ get_or starts (a + suc n) 0 = ap (λ k. get_or starts k 0) (let h : a + 1 + n ≡ a + suc n = omega arith in h) in
     omega arith
 
-pub areas_all : (v : Version) (starts : List ℕ) (sized_areas : List SizedAreaMeaning) (full : List (List Bool)) → IsArranged v starts sized_areas full → areas_in 5 (rows_upto 12 starts sized_areas) ≡ length sized_areas
+pub areas_all : {v : Version} {starts : List ℕ} {sized_areas : List SizedAreaMeaning} {full : List (List Bool)} → IsArranged v starts sized_areas full → areas_in 5 (rows_upto 12 starts sized_areas) ≡ length sized_areas
 unfolding rows_upto
-areas_all v starts sized_areas full is =
+areas_all {starts} {sized_areas} is =
     let all = areas_from (λ c. row_of (class_sized_areas starts sized_areas c)) starts 5 0 12 (λ i m.
     let positive : 0 < per (i + 5) = pow_pos (16 - (i + 5)) in
-    let n : ℕ = count_c v starts sized_areas full is i m in
+    let n : ℕ = count_c is i m in
     let parts : length (row_of (class_sized_areas starts sized_areas i)).chunks / per (i + 5) ≡ n =
-    ap (λ k. k / per (i + 5)) (whole_row v starts sized_areas full is i m ∙ sym (add-zero (n * per (i + 5)))) ∙ div-mul-add n (per (i + 5)) 0 positive in
+    ap (λ k. k / per (i + 5)) (whole_row is i m ∙ sym (add-zero (n * per (i + 5)))) ∙ div-mul-add n (per (i + 5)) 0 positive in
     let z : 0 + i ≡ i = omega arith in
     let t : 5 + i ≡ i + 5 = omega arith in
     ap (λ (x : ℕ). (length (row_of (class_sized_areas starts sized_areas x)).chunks / per (5 + i)) + get_or starts x 0) z
     ∙ ap (λ x. (length (row_of (class_sized_areas starts sized_areas i)).chunks / per x) + get_or starts i 0) t
     ∙ ap (λ x. x + get_or starts i 0) parts
-    ∙ count_is v starts sized_areas full is i m ∙ ap (λ x. get_or starts (x + 1) 0) (sym z)) in
+    ∙ count_is is i m ∙ ap (λ x. get_or starts (x + 1) 0) (sym z)) in
     let first = is.first in
     let last = is.last in
     omega arith
@@ -221,17 +221,17 @@ sum_ones : {A : Type 0} (xs : List A) → sum_by (λ x. 1) xs ≡ length xs
 sum_ones [] = refl
 sum_ones (x ∷ xs) = sum_by-cons (λ x. 1) x xs ∙ (let rest = sum_ones xs in omega arith)
 
-pub ids_are : (v : Version) (quota : ℕ) (ids : List SegmentId) (sized_areas : List SizedAreaMeaning) (room spare spare_room : ℕ) → IsSupplied v quota ids sized_areas room spare spare_room → length ids ≡ length sized_areas
-ids_are v quota ids sized_areas room spare spare_room is = sym (sum_ones ids) ∙ is.owned (λ x. 1) ∙ sum_ones sized_areas
+pub ids_are : {v : Version} {quota : ℕ} {ids : List SegmentId} {sized_areas : List SizedAreaMeaning} {room spare spare_room : ℕ} → IsSupplied v quota ids sized_areas room spare spare_room → length ids ≡ length sized_areas
+ids_are {ids} {sized_areas} is = sym (sum_ones ids) ∙ is.owned (λ x. 1) ∙ sum_ones sized_areas
 
-pub is_kept : (v : Version) (quota : ℕ) (ids : List SegmentId) (origin : Origin) (starts : List ℕ) (sized_areas : List SizedAreaMeaning) (full : List (List Bool)) (room spare spare_room : ℕ)
+pub is_kept : {v : Version} {quota : ℕ} {ids : List SegmentId} (origin : Origin) {starts : List ℕ} {sized_areas : List SizedAreaMeaning} {full : List (List Bool)} {room spare spare_room : ℕ}
     → IsArranged v starts sized_areas full → IsSupplied v quota ids sized_areas room spare spare_room → IsValidShelf (shelf_of v quota ids origin starts sized_areas)
-is_kept v quota ids origin starts sized_areas full room spare spare_room is supplied = record {
+is_kept {v} {quota} {ids} origin {starts} {sized_areas} {full} {room} {spare} {spare_room} is supplied = record {
   quota_least = supplied.least;
   quota_most = supplied.most;
   classes = length-rows 12 starts sized_areas;
   row = λ c l. subst (IsRow v (c + 5)) (sym (row-rows 12 starts sized_areas c l))
-      (is_row v starts sized_areas full is c l (let n = count_is v starts sized_areas full is c l in let top = class_end v starts sized_areas full c is l in let fits = supplied.within in let most = supplied.most in omega arith));
-  holds = ids_are v quota ids sized_areas room spare spare_room supplied ∙ sym (areas_all v starts sized_areas full is);
-  within = (let n = ids_are v quota ids sized_areas room spare spare_room supplied in let fits = supplied.within in omega arith);
+      (is_row is c l (let n = count_is is c l in let top = class_end c is l in let fits = supplied.within in let most = supplied.most in omega arith));
+  holds = ids_are supplied ∙ sym (areas_all is);
+  within = (let n = ids_are supplied in let fits = supplied.within in omega arith);
 }

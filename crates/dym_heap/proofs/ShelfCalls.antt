@@ -32,15 +32,113 @@ none_there : (cs : List (Option (List ℕ))) (j : ℕ) → j < length cs → get
 none_there cs j l = get_or-set_same cs j None None l
 
 -- the bits of a class, by the default that a read of them has
-pub marks_read : (full : List (List Bool)) (c k : ℕ) (bits : List Bool) → k ≡ c → bits ≡ get_or full k bits → k < length full → bits ≡ marks_of_class full c
-marks_read full c k bits same read l = read ∙ get_or_default full k bits [] l ∙ ap (λ x. get_or full x []) same
+pub marks_read : (full : List (List Bool)) {c k : ℕ} {bits : List Bool} → k ≡ c → bits ≡ get_or full k bits → k < length full → bits ≡ marks_of_class full c
+marks_read full {k} {bits} same read l = read ∙ get_or_default full k bits [] l ∙ ap (λ x. get_or full x []) same
 
-pub marks_written : (full : List (List Bool)) (c k o : ℕ) (bits bits' : List Bool) (b : Bool) → k ≡ c → bits ≡ get_or full k bits → k < length full → bits' ≡ set bits o b → set full k bits' ≡ marks_with full c o b
-marks_written full c k o bits bits' b same read l is =
-    ap (λ x. set full x bits') same ∙ ap (set full c) (is ∙ ap (λ x. set x o b) (marks_read full c k bits same read l))
+pub marks_written : (full : List (List Bool)) {c k : ℕ} (o : ℕ) {bits bits' : List Bool} (b : Bool) → k ≡ c → bits ≡ get_or full k bits → k < length full → bits' ≡ set bits o b → set full k bits' ≡ marks_with full c o b
+marks_written full {c} {k} o {bits} {bits'} b same read l is =
+    ap (λ x. set full x bits') same ∙ ap (set full c) (is ∙ ap (λ x. set x o b) (marks_read full same read l))
 
-module _ (v : Version) (quota : ℕ) (ids : List SegmentId) (origin : Origin) (starts : List ℕ) (sized_areas : List SizedAreaMeaning) (full : List (List Bool)) (room spare spare_room : ℕ)
-    (s : ShelfMeaning) (view : shelf_of v quota ids origin starts sized_areas ≡ s) (is : IsShelf v quota ids starts sized_areas full room spare spare_room) (e : ℕ) (low : 5 ≤ e) (high : e ≤ 16) where
+module _ {v : Version} {quota : ℕ} {ids : List SegmentId} {origin : Origin} {starts : List ℕ} {sized_areas : List SizedAreaMeaning} {full : List (List Bool)} {room spare spare_room : ℕ}
+    {s : ShelfMeaning} (view : shelf_of v quota ids origin starts sized_areas ≡ s) (is : IsShelf v quota ids starts sized_areas full room spare spare_room) where
+  -- area o of the class, whose chunk j is chunk i of the class, stands at place k
+  pub record Spot (e i o j k : ℕ) : Type 0 where
+    pub least : 5 ≤ e
+    pub location : ChunkLocation view is (e - 5) o j k
+    pub index : o * per (e - 5 + 5) + j ≡ i
+
+module _ {v : Version} {quota : ℕ} {ids : List SegmentId} {origin : Origin} {starts : List ℕ} {sized_areas : List SizedAreaMeaning} {full : List (List Bool)} {room spare spare_room : ℕ}
+    {s : ShelfMeaning} {view : shelf_of v quota ids origin starts sized_areas ≡ s} {is : IsShelf v quota ids starts sized_areas full room spare spare_room}
+    {e i o j k : ℕ} (spot : Spot view is e i o j k) {q : SizedAreaMeaning} (here : q ≡ get_or sized_areas k q) where
+  pub in_e : k < length sized_areas
+  in_e = facts.in_s view is spot.location
+
+  -- the ordinal is small
+  pub few_e : o < MOST_CHUNKS
+  few_e =
+      let top = class_end (e - 5) is.arranged spot.location.small in
+      let w = spot.location.within in
+      let fits = is.supplied.within in
+      let most = is.supplied.most in
+      omega arith
+
+  pub placed_e : IsPlaced v (e - 5 + 5) o q
+  placed_e = subst (IsPlaced v (e - 5 + 5) o) (sym here) (facts.placed_s view is spot.location q)
+
+  pub exponent_e : q.exponent ≡ e
+  exponent_e = let p = placed_e.exponent in let low = spot.least in omega arith
+
+  pub version_e : q.version ≡ s.version
+  version_e = placed_e.version ∙ ap (λ (t : ShelfMeaning). t.version) view
+
+  pub inside_e : j < length q.chunks
+  inside_e = subst (λ (p : SizedAreaMeaning). j < length p.chunks) (sym here) (facts.chunk_in_s view is spot.location q)
+
+  pub chunk_e : chunk_at s.rows (e - 5) (o * per (e - 5 + 5) + j) ≡ get_or q.chunks j None
+  chunk_e = facts.chunk_s view is spot.location q ∙ ap (λ (p : SizedAreaMeaning). get_or p.chunks j None) (sym here)
+
+  pub chunk_i : chunk_at s.rows (e - 5) i ≡ get_or q.chunks j None
+  chunk_i = ap (chunk_at s.rows (e - 5)) (sym spot.index) ∙ chunk_e
+
+  -- the shelf after the area became p
+  pub record Now (p : SizedAreaMeaning) (full' : List (List Bool)) (x : Option (List ℕ)) (b : Bool) : Type 0 where
+    pub shelf : IsShelf v quota ids starts (set sized_areas k p) full' room spare spare_room
+    pub gives : shelf_of v quota ids origin starts (set sized_areas k p) ≡ with_put s (e - 5) i x b
+    pub valid_shelf : IsValidShelf (shelf_of v quota ids origin starts (set sized_areas k p))
+
+  now_put : {p : SizedAreaMeaning} {full' : List (List Bool)} (x : Option (List ℕ)) (b : Bool) → p ≡ area_with_chunk q j x b → IsSizedArea p → Remarks full full' (e - 5) o p → Now p full' x b
+  now_put {p} x b step valid marks =
+      let step' : p ≡ area_with_chunk (get_or sized_areas k q) j x b = step ∙ ap (λ z. area_with_chunk z j x b) here in
+      record {
+        shelf = facts.shelf_put view is spot.location q x b step' valid marks;
+        gives = facts.view_put view is spot.location q x b step' valid marks ∙ ap (λ n. with_put s (e - 5) n x b) spot.index;
+        valid_shelf = facts.kept_put view is spot.location q x b step' valid marks;
+      }
+
+  -- ---- bytes of a chunk in use change
+
+  pub record Changed (p : SizedAreaMeaning) (f : List ℕ → List ℕ) : Type 0 where
+    pub shelf : IsShelf v quota ids starts (set sized_areas k p) full room spare spare_room
+    pub gives : MatchOption (chunk_at s.rows (e - 5) i) ⊥ (λ old. shelf_of v quota ids origin starts (set sized_areas k p) ≡ with_put s (e - 5) i (Some (f old)) true)
+    pub valid_shelf : IsValidShelf (shelf_of v quota ids origin starts (set sized_areas k p))
+
+  changed_at : (p : SizedAreaMeaning) (f : List ℕ → List ℕ) (old : List ℕ) → get_or q.chunks j None ≡ Some old → p ≡ area_with_chunk q j (Some (f old)) true → IsSizedArea p → Changed p f
+  changed_at p f old there step valid =
+      let step' : p ≡ area_with_chunk (get_or sized_areas k q) j (Some (f old)) true = step ∙ ap (λ z. area_with_chunk z j (Some (f old)) true) here in
+      let there' : get_or (get_or sized_areas k q).chunks j None ≡ Some old = sym (ap (λ (z : SizedAreaMeaning). get_or z.chunks j None) here) ∙ there in
+      let marks = remarks_kept (e - 5) o j q (f old) true is.arranged spot.location.small spot.location.within spot.location.at step' (ap is_some there')
+      (facts.chunk_in_s view is spot.location q) in
+      let now = now_put (Some (f old)) true step valid marks in
+      record {
+        shelf = now.shelf;
+        gives = subst (λ z. MatchOption z ⊥ (λ old. shelf_of v quota ids origin starts (set sized_areas k p) ≡ with_put s (e - 5) i (Some (f old)) true)) (sym (chunk_i ∙ there)) now.gives;
+        valid_shelf = now.valid_shelf;
+      }
+
+  pub changed : {p : SizedAreaMeaning} (f : List ℕ → List ℕ) → MatchOption (get_or q.chunks j None) ⊥ (λ old. p ≡ area_with_chunk q j (Some (f old)) true) → IsSizedArea p → Changed p f
+  changed {p} f step valid =
+      elim (get_or q.chunks j None) as (λ z. get_or q.chunks j None ≡ z → MatchOption z ⊥ (λ old. p ≡ area_with_chunk q j (Some (f old)) true) → Changed p f) [
+        | None ↦ λ there h. absurd h
+        | Some old ↦ λ there h. changed_at p f old there h valid
+      ] refl step
+
+  -- ---- a chunk is given up
+
+  pub released : {p : SizedAreaMeaning} {full' : List (List Bool)} → p ≡ area_with_chunk q j None false → IsSizedArea p → full' ≡ marks_with full (e - 5) o false → Now p full' None false
+  released {p} {full'} step valid marks =
+      let free : HasFree p = subst HasFree (sym step) (j, (let l = inside_e in omega (arith, length-set q.chunks j None)), none_there q.chunks j inside_e) in
+      now_put None false step valid (subst (λ f. Remarks full f (e - 5) o p) (sym marks) (remarks_released (e - 5) o p is.arranged spot.location.small few_e free))
+
+  -- ---- a chunk is taken
+
+  pub taken : {p : SizedAreaMeaning} {full' : List (List Bool)} (n : ℕ) (b : Bool) → p ≡ area_with_chunk q j (Some (replicate n 0)) true → IsSizedArea p
+      → IsClear (marks_of_class full (e - 5)) o → full' ≡ cond b (marks_with full (e - 5) o true) full → IsTrue b ↔ IsFullArea p → Now p full' (Some (replicate n 0)) true
+  taken {p} {full'} n b step valid clear after filled =
+      now_put (Some (replicate n 0)) true step valid
+      (remarks_taken (e - 5) o p b is.arranged spot.location.small few_e clear after filled (λ h. free_from p (λ all. (let t = filled.1 all in absurd cc))))
+
+module _ {v : Version} {quota : ℕ} {ids : List SegmentId} {origin : Origin} {starts : List ℕ} {sized_areas : List SizedAreaMeaning} {full : List (List Bool)} {room spare spare_room : ℕ}
+    {s : ShelfMeaning} (view : shelf_of v quota ids origin starts sized_areas ≡ s) (is : IsShelf v quota ids starts sized_areas full room spare spare_room) (e : ℕ) (low : 5 ≤ e) (high : e ≤ 16) where
   per_is : per (e - 5 + 5) ≡ per e
   per_is = ap per (let h : e - 5 + 5 ≡ e = omega arith in h)
 
@@ -50,13 +148,13 @@ module _ (v : Version) (quota : ℕ) (ids : List SegmentId) (origin : Origin) (s
   pub rising_e : get_or starts (e - 5) 0 ≤ get_or starts (e - 5 + 1) 0
   rising_e = is.arranged.rising (e - 5) class_in
 
-  pub full_in : (k : ℕ) → k ≡ e - 5 → k < length full
-  full_in k same = let n = is.arranged.full_len in omega arith
+  pub full_in : {k : ℕ} → k ≡ e - 5 → k < length full
+  full_in same = let n = is.arranged.full_len in omega arith
 
   -- no chunk lies past the areas of the class
   pub past_e : (i : ℕ) → get_or starts (e - 5 + 1) 0 ≤ get_or starts (e - 5) 0 + i / per e → chunk_at s.rows (e - 5) i ≡ None
   past_e i past =
-      facts.past_s v quota ids origin starts sized_areas full room spare spare_room s view is (e - 5) i class_in
+      facts.past_s view is (e - 5) i class_in
       (let d : i / per (e - 5 + 5) ≡ i / per e = ap (λ n. i / n) per_is in omega arith)
 
   pub not_past : (i : ℕ) → IsSome (chunk_at s.rows (e - 5) i) → get_or starts (e - 5 + 1) 0 ≤ get_or starts (e - 5) 0 + i / per e → ⊥
@@ -66,132 +164,42 @@ module _ (v : Version) (quota : ℕ) (ids : List SegmentId) (origin : Origin) (s
   abbrev pub Finds : ℕ → ℕ → ℕ → ℕ → Type 0
   Finds i o j k = (o ≡ i / per e) × (j ≡ i % per e) × (k ≡ get_or starts (e - 5) 0 + i / per e) × (get_or starts (e - 5) 0 + i / per e < get_or starts (e - 5 + 1) 0)
 
-  Spot_e : ℕ → ℕ → ℕ → Type 0
-  Spot_e o j k = ChunkLocation v quota ids origin starts sized_areas full room spare spare_room s view is (e - 5) o j k
-
-  pub spot_e : (i o j k : ℕ) → Finds i o j k → ChunkLocation v quota ids origin starts sized_areas full room spare spare_room s view is (e - 5) o j k
-  spot_e i o j k finds =
-      let a = finds.0 in let b = finds.1 in let d = finds.2 in let w = finds.3 in
-      let below = mod_below i (per e) (pow_pos (16 - e)) in
-      record { small = class_in; within = omega arith; at = omega arith; below = (let p = per_is in omega arith) }
-
-  pub in_e_at : (i o j k : ℕ) → Finds i o j k → k < length sized_areas
-  in_e_at i o j k finds = facts.in_s v quota ids origin starts sized_areas full room spare spare_room s view is (e - 5) o j k (spot_e i o j k finds)
-
-  pub index_e : (i o j k : ℕ) → Finds i o j k → o * per (e - 5 + 5) + j ≡ i
-  index_e i o j k finds =
+  pub spot_e : (i : ℕ) {o j k : ℕ} → Finds i o j k → Spot view is e i o j k
+  spot_e i {o} finds =
+      let o_is = finds.0 in
       let parts = div-add-mod' i (per e) in
       let a : o * per (e - 5 + 5) ≡ i / per e * per e = ap (λ x. x * per (e - 5 + 5)) finds.0 ∙ ap (λ x. i / per e * x) per_is in
-      let b = finds.1 in
-      omega arith
+      let b = finds.1 in let d = finds.2 in let w = finds.3 in let p = per_is in
+      let below = mod_below i (per e) (pow_pos (16 - e)) in
+      record {
+        least = low;
+        location = record { small = class_in; within = omega arith; at = omega arith; below = omega arith };
+        index = omega arith;
+      }
 
-  pub chunk_there : (i o j k : ℕ) → Finds i o j k → (d : SizedAreaMeaning) → chunk_at s.rows (e - 5) i ≡ get_or (get_or sized_areas k d).chunks j None
-  chunk_there i o j k finds d =
-      ap (chunk_at s.rows (e - 5)) (sym (index_e i o j k finds)) ∙ facts.chunk_s v quota ids origin starts sized_areas full room spare spare_room s view is (e - 5) o j k (spot_e i o j k finds) d
+  pub in_e_at : (i : ℕ) {o j k : ℕ} → Finds i o j k → k < length sized_areas
+  in_e_at i finds = facts.in_s view is (spot_e i finds).location
 
-  module _ (o j k : ℕ) (location : ChunkLocation v quota ids origin starts sized_areas full room spare spare_room s view is (e - 5) o j k) (q : SizedAreaMeaning) (here : q ≡ get_or sized_areas k q) where
-    pub in_e : k < length sized_areas
-    in_e = facts.in_s v quota ids origin starts sized_areas full room spare spare_room s view is (e - 5) o j k location
+  pub chunk_there : (i : ℕ) {o j k : ℕ} → Finds i o j k → (d : SizedAreaMeaning) → chunk_at s.rows (e - 5) i ≡ get_or (get_or sized_areas k d).chunks j None
+  chunk_there i finds d =
+      let spot = spot_e i finds in
+      ap (chunk_at s.rows (e - 5)) (sym spot.index) ∙ facts.chunk_s view is spot.location d
 
-    -- the ordinal is small
-    pub few_e : o < MOST_CHUNKS
-    few_e =
-        let top = class_end v starts sized_areas full (e - 5) is.arranged class_in in
-        let w = location.within in
-        let fits = is.supplied.within in
-        let most = is.supplied.most in
-        omega arith
-
-    pub placed_e : IsPlaced v (e - 5 + 5) o q
-    placed_e = subst (IsPlaced v (e - 5 + 5) o) (sym here) (facts.placed_s v quota ids origin starts sized_areas full room spare spare_room s view is (e - 5) o j k location q)
-
-    pub exponent_e : q.exponent ≡ e
-    exponent_e = let p = placed_e.exponent in omega arith
-
-    pub version_e : q.version ≡ s.version
-    version_e = placed_e.version ∙ ap (λ (t : ShelfMeaning). t.version) view
-
-    pub inside_e : j < length q.chunks
-    inside_e = subst (λ (p : SizedAreaMeaning). j < length p.chunks) (sym here) (facts.chunk_in_s v quota ids origin starts sized_areas full room spare spare_room s view is (e - 5) o j k location q)
-
-    pub chunk_e : chunk_at s.rows (e - 5) (o * per (e - 5 + 5) + j) ≡ get_or q.chunks j None
-    chunk_e = facts.chunk_s v quota ids origin starts sized_areas full room spare spare_room s view is (e - 5) o j k location q ∙ ap (λ (p : SizedAreaMeaning). get_or p.chunks j None) (sym here)
-
-    pub chunk_i : (i : ℕ) → o * per (e - 5 + 5) + j ≡ i → chunk_at s.rows (e - 5) i ≡ get_or q.chunks j None
-    chunk_i i at = ap (chunk_at s.rows (e - 5)) (sym at) ∙ chunk_e
-
-    -- the shelf after the area became p
-    pub record Now (p : SizedAreaMeaning) (full' : List (List Bool)) (i : ℕ) (x : Option (List ℕ)) (b : Bool) : Type 0 where
-      pub shelf : IsShelf v quota ids starts (set sized_areas k p) full' room spare spare_room
-      pub gives : shelf_of v quota ids origin starts (set sized_areas k p) ≡ with_put s (e - 5) i x b
-      pub valid_shelf : IsValidShelf (shelf_of v quota ids origin starts (set sized_areas k p))
-
-    now_put : (p : SizedAreaMeaning) (full' : List (List Bool)) (i : ℕ) (x : Option (List ℕ)) (b : Bool) → o * per (e - 5 + 5) + j ≡ i → p ≡ area_with_chunk q j x b → IsSizedArea p → Remarks full full' (e - 5) o p → Now p full' i x b
-    now_put p full' i x b at step valid marks =
-        let step' : p ≡ area_with_chunk (get_or sized_areas k q) j x b = step ∙ ap (λ z. area_with_chunk z j x b) here in
-        record {
-          shelf = facts.shelf_put v quota ids origin starts sized_areas full room spare spare_room s view is (e - 5) o j k location q p x b full' step' valid marks;
-          gives = facts.view_put v quota ids origin starts sized_areas full room spare spare_room s view is (e - 5) o j k location q p x b full' step' valid marks ∙ ap (λ n. with_put s (e - 5) n x b) at;
-          valid_shelf = facts.kept_put v quota ids origin starts sized_areas full room spare spare_room s view is (e - 5) o j k location q p x b full' step' valid marks;
-        }
-
-    -- ---- bytes of a chunk in use change
-
-    pub record Changed (p : SizedAreaMeaning) (i : ℕ) (f : List ℕ → List ℕ) : Type 0 where
-      pub shelf : IsShelf v quota ids starts (set sized_areas k p) full room spare spare_room
-      pub gives : MatchOption (chunk_at s.rows (e - 5) i) ⊥ (λ old. shelf_of v quota ids origin starts (set sized_areas k p) ≡ with_put s (e - 5) i (Some (f old)) true)
-      pub valid_shelf : IsValidShelf (shelf_of v quota ids origin starts (set sized_areas k p))
-
-    changed_at : (p : SizedAreaMeaning) (i : ℕ) (f : List ℕ → List ℕ) (old : List ℕ) → o * per (e - 5 + 5) + j ≡ i → get_or q.chunks j None ≡ Some old → p ≡ area_with_chunk q j (Some (f old)) true → IsSizedArea p → Changed p i f
-    changed_at p i f old at there step valid =
-        let step' : p ≡ area_with_chunk (get_or sized_areas k q) j (Some (f old)) true = step ∙ ap (λ z. area_with_chunk z j (Some (f old)) true) here in
-        let there' : get_or (get_or sized_areas k q).chunks j None ≡ Some old = sym (ap (λ (z : SizedAreaMeaning). get_or z.chunks j None) here) ∙ there in
-        let marks = remarks_kept v starts sized_areas full (e - 5) o j k q p (f old) true is.arranged class_in location.within location.at step' (ap is_some there')
-        (facts.chunk_in_s v quota ids origin starts sized_areas full room spare spare_room s view is (e - 5) o j k location q) in
-        let now = now_put p full i (Some (f old)) true at step valid marks in
-        record {
-          shelf = now.shelf;
-          gives = subst (λ z. MatchOption z ⊥ (λ old. shelf_of v quota ids origin starts (set sized_areas k p) ≡ with_put s (e - 5) i (Some (f old)) true)) (sym (chunk_i i at ∙ there)) now.gives;
-          valid_shelf = now.valid_shelf;
-        }
-
-    pub changed : (p : SizedAreaMeaning) (i : ℕ) (f : List ℕ → List ℕ) → o * per (e - 5 + 5) + j ≡ i → MatchOption (get_or q.chunks j None) ⊥ (λ old. p ≡ area_with_chunk q j (Some (f old)) true) → IsSizedArea p → Changed p i f
-    changed p i f at step valid =
-        elim (get_or q.chunks j None) as (λ z. get_or q.chunks j None ≡ z → MatchOption z ⊥ (λ old. p ≡ area_with_chunk q j (Some (f old)) true) → Changed p i f) [
-          | None ↦ λ there h. absurd h
-          | Some old ↦ λ there h. changed_at p i f old at there h valid
-        ] refl step
-
-    -- ---- a chunk is given up
-
-    pub released : (p : SizedAreaMeaning) (full' : List (List Bool)) (i : ℕ) → o * per (e - 5 + 5) + j ≡ i → p ≡ area_with_chunk q j None false → IsSizedArea p → full' ≡ marks_with full (e - 5) o false → Now p full' i None false
-    released p full' i at step valid marks =
-        let free : HasFree p = subst HasFree (sym step) (j, (let l = inside_e in omega (arith, length-set q.chunks j None)), none_there q.chunks j inside_e) in
-        now_put p full' i None false at step valid (subst (λ f. Remarks full f (e - 5) o p) (sym marks) (remarks_released v starts sized_areas full (e - 5) o p is.arranged class_in few_e free))
-
-    -- ---- a chunk is taken
-
-    pub taken : (p : SizedAreaMeaning) (full' : List (List Bool)) (i n : ℕ) (b : Bool) → o * per (e - 5 + 5) + j ≡ i → p ≡ area_with_chunk q j (Some (replicate n 0)) true → IsSizedArea p
-        → IsClear (marks_of_class full (e - 5)) o → full' ≡ cond b (marks_with full (e - 5) o true) full → IsTrue b ↔ IsFullArea p → Now p full' i (Some (replicate n 0)) true
-    taken p full' i n b at step valid clear after filled =
-        now_put p full' i (Some (replicate n 0)) true at step valid
-        (remarks_taken v starts sized_areas full full' (e - 5) o p b is.arranged class_in few_e clear after filled (λ h. free_from p (λ all. (let t = filled.1 all in absurd cc))))
-
-  -- the spot of the first free chunk
-  pub first_spot : (n o j k : ℕ) (q : SizedAreaMeaning) → n + get_or starts (e - 5) 0 ≡ get_or starts (e - 5 + 1) 0 → o < n → k ≡ get_or starts (e - 5) 0 + o → q ≡ get_or sized_areas k q → j < length q.chunks
-      → ChunkLocation v quota ids origin starts sized_areas full room spare spare_room s view is (e - 5) o j k
-  first_spot n o j k q many l at here inside =
+  -- where the first free chunk is
+  pub first_location : (n o j k : ℕ) (q : SizedAreaMeaning) → n + get_or starts (e - 5) 0 ≡ get_or starts (e - 5 + 1) 0 → o < n → k ≡ get_or starts (e - 5) 0 + o → q ≡ get_or sized_areas k q → j < length q.chunks
+      → ChunkLocation view is (e - 5) o j k
+  first_location n o j k q many l at here inside =
       let placed : IsPlaced v (e - 5 + 5) o q = subst (IsPlaced v (e - 5 + 5) o) (sym (here ∙ ap (λ x. get_or sized_areas x q) at)) (is.arranged.placed (e - 5) o q class_in (omega arith)) in
       let long : length q.chunks ≡ per (e - 5 + 5) = placed.sized_area.whole ∙ ap per placed.exponent in
       record { small = class_in; within = omega arith; at = at; below = omega arith }
 
-  pub first_e : (n o j k : ℕ) (q : SizedAreaMeaning) (location : ChunkLocation v quota ids origin starts sized_areas full room spare spare_room s view is (e - 5) o j k) → q ≡ get_or sized_areas k q → IsFirstClear (marks_of_class full (e - 5)) n o → IsFreeIn q.chunks j
+  pub first_e : {n o j k : ℕ} {q : SizedAreaMeaning} (location : ChunkLocation view is (e - 5) o j k) → q ≡ get_or sized_areas k q → IsFirstClear (marks_of_class full (e - 5)) n o → IsFreeIn q.chunks j
       → IsFirstFree s.rows (e - 5) (o * per (e - 5 + 5) + j)
-  first_e n o j k q location here clear free =
-      facts.first_s v quota ids origin starts sized_areas full room spare spare_room s view is (e - 5) n o j k q location clear (subst (λ (p : SizedAreaMeaning). IsFreeIn p.chunks j) here free)
+  first_e {n} {o} {j} {k} {q} location here clear free =
+      facts.first_s view is q location clear (subst (λ (p : SizedAreaMeaning). IsFreeIn p.chunks j) here free)
 
   pub full_e : (n : ℕ) → n + get_or starts (e - 5) 0 ≡ get_or starts (e - 5 + 1) 0 → ((o : ℕ) → o < n → IsSet (marks_of_class full (e - 5)) o) → (i : ℕ) → i < length (row_at s.rows (e - 5)).chunks → IsSome (chunk_at s.rows (e - 5) i)
-  full_e n many marked = facts.all_full v quota ids origin starts sized_areas full room spare spare_room s view is (e - 5) n class_in many marked
+  full_e n many marked = facts.all_full view is (e - 5) n class_in many marked
 
   -- an area without a mark is not full
   pub not_full_e : (o k : ℕ) (q : SizedAreaMeaning) → get_or starts (e - 5) 0 + o < get_or starts (e - 5 + 1) 0 → k ≡ get_or starts (e - 5) 0 + o → q ≡ get_or sized_areas k q → IsClear (marks_of_class full (e - 5)) o → IsFullArea q → ⊥
@@ -202,9 +210,9 @@ module _ (v : Version) (quota : ℕ) (ids : List SegmentId) (origin : Origin) (s
       absurd cc
 
   -- the counts of a class
-  pub count_e : (n : ℕ) → n ≡ get_or starts (e - 5 + 1) 0 - get_or starts (e - 5) 0 → (n + get_or starts (e - 5) 0 ≡ get_or starts (e - 5 + 1) 0) × (n ≤ 1024)
-  count_e n same =
-      let top = class_end v starts sized_areas full (e - 5) is.arranged class_in in
+  pub count_e : {n : ℕ} → n ≡ get_or starts (e - 5 + 1) 0 - get_or starts (e - 5) 0 → (n + get_or starts (e - 5) 0 ≡ get_or starts (e - 5 + 1) 0) × (n ≤ 1024)
+  count_e same =
+      let top = class_end (e - 5) is.arranged class_in in
       let up = rising_e in
       let fits = is.supplied.within in
       let most = is.supplied.most in
@@ -223,15 +231,15 @@ module _ (v : Version) (quota : ℕ) (ids : List SegmentId) (origin : Origin) (s
   many_of k = get_or starts (k + 1) 0 - get_or starts k 0
 
   pub limit_k : (k : ℕ) → k ≡ e - 5 → many_of k ≤ MOST_CHUNKS
-  limit_k k same = let l = (count_e (many_of (e - 5)) refl).1 in let m : many_of k ≡ many_of (e - 5) = ap many_of same in omega arith
+  limit_k k same = let l = (count_e refl).1 in let m : many_of k ≡ many_of (e - 5) = ap many_of same in omega arith
 
   pub full_k : (k : ℕ) (bits : List Bool) → k ≡ e - 5 → bits ≡ get_or full k bits → ((o : ℕ) → o < many_of k → IsSet bits o) → (i : ℕ) → i < length (row_at s.rows (e - 5)).chunks → IsSome (chunk_at s.rows (e - 5) i)
   full_k k bits same read marked =
       let m : many_of k ≡ many_of (e - 5) = ap many_of same in
-      full_e (many_of (e - 5)) (count_e (many_of (e - 5)) refl).0
-      (λ o l. subst (λ bs. IsSet bs o) (marks_read full (e - 5) k bits same read (full_in k same)) (marked o (omega arith)))
+      full_e (many_of (e - 5)) (count_e refl).0
+      (λ o l. subst (λ bs. IsSet bs o) (marks_read full same read (full_in same)) (marked o (omega arith)))
 
-  module _ (k o : ℕ) (bits : List Bool) (same : k ≡ e - 5) (read : bits ≡ get_or full k bits) (clear : IsFirstClear bits (many_of k) o) where
+  module _ {k o : ℕ} {bits : List Bool} (same : k ≡ e - 5) (read : bits ≡ get_or full k bits) (clear : IsFirstClear bits (many_of k) o) where
     many_same : many_of k ≡ many_of (e - 5)
     many_same = ap many_of same
 
@@ -239,21 +247,21 @@ module _ (v : Version) (quota : ℕ) (ids : List SegmentId) (origin : Origin) (s
     start_same = ap (λ x. get_or starts x 0) same
 
     clear_e : IsFirstClear (marks_of_class full (e - 5)) (many_of (e - 5)) o
-    clear_e = subst (λ n. IsFirstClear (marks_of_class full (e - 5)) n o) many_same (subst (λ bs. IsFirstClear bs (many_of k) o) (marks_read full (e - 5) k bits same read (full_in k same)) clear)
+    clear_e = subst (λ n. IsFirstClear (marks_of_class full (e - 5)) n o) many_same (subst (λ bs. IsFirstClear bs (many_of k) o) (marks_read full same read (full_in same)) clear)
 
     pub within_k : get_or starts (e - 5) 0 + o < get_or starts (e - 5 + 1) 0
     within_k = let l = clear_e.below in let up = rising_e in omega arith
 
     pub place_k : get_or starts k 0 + o < length sized_areas
-    place_k = let w = within_k in let top = class_end v starts sized_areas full (e - 5) is.arranged class_in in let a = start_same in omega arith
+    place_k = let w = within_k in let top = class_end (e - 5) is.arranged class_in in let a = start_same in omega arith
 
     pub few_k : o < 1024
-    few_k = let l = clear_e.below in let m = (count_e (many_of (e - 5)) refl).1 in omega arith
+    few_k = let l = clear_e.below in let m = (count_e refl).1 in omega arith
 
     pub small_k : o < MOST_CHUNKS
     small_k = let l = few_k in omega arith
 
-    module _ (q : SizedAreaMeaning) (here : q ≡ get_or sized_areas (get_or starts k 0 + o) q) where
+    module _ {q : SizedAreaMeaning} (here : q ≡ get_or sized_areas (get_or starts k 0 + o) q) where
       pub placed_k : IsPlaced v (e - 5 + 5) o q
       placed_k = subst (IsPlaced v (e - 5 + 5) o) (sym (here ∙ ap (λ x. get_or sized_areas (x + o) q) start_same)) (is.arranged.placed (e - 5) o q class_in within_k)
 
@@ -266,21 +274,24 @@ module _ (v : Version) (quota : ℕ) (ids : List SegmentId) (origin : Origin) (s
       pub not_full_k : ((i : ℕ) → i < length q.chunks → IsSome (get_or q.chunks i None)) → ⊥
       not_full_k filled = not_full_e o (get_or starts k 0 + o) q within_k (ap (λ x. x + o) start_same) here clear_e.is_clear filled
 
-      module _ (j : ℕ) (free : IsFreeIn q.chunks j) where
-        pub spot_k : ChunkLocation v quota ids origin starts sized_areas full room spare spare_room s view is (e - 5) o j (get_or starts k 0 + o)
-        spot_k = first_spot (many_of (e - 5)) o j (get_or starts k 0 + o) q (count_e (many_of (e - 5)) refl).0 clear_e.below (ap (λ x. x + o) start_same) here free.within
+      module _ {j : ℕ} (free : IsFreeIn q.chunks j) where
+        location_k : ChunkLocation view is (e - 5) o j (get_or starts k 0 + o)
+        location_k = first_location (many_of (e - 5)) o j (get_or starts k 0 + o) q (count_e refl).0 clear_e.below (ap (λ x. x + o) start_same) here free.within
 
         pub below_k : j < per e
-        below_k = let b = spot_k.below in let p = per_is in omega arith
+        below_k = let b = location_k.below in let p = per_is in omega arith
 
-        index_k : (r : ℕ) → r ≡ per e → o * per (e - 5 + 5) + j ≡ o * r + j
-        index_k r is_per = ap (λ x. o * x + j) (per_is ∙ sym is_per)
+        index_k : {r : ℕ} → r ≡ per e → o * per (e - 5 + 5) + j ≡ o * r + j
+        index_k {r} is_per = ap (λ x. o * x + j) (per_is ∙ sym is_per)
 
         pub first_k : (r : ℕ) → r ≡ per e → IsFirstFree s.rows (e - 5) (o * r + j)
-        first_k r is_per = subst (IsFirstFree s.rows (e - 5)) (index_k r is_per) (first_e (many_of (e - 5)) o j (get_or starts k 0 + o) q spot_k here clear_e free)
+        first_k r is_per = subst (IsFirstFree s.rows (e - 5)) (index_k is_per) (first_e location_k here clear_e free)
 
-        pub taken_k : (r : ℕ) → r ≡ per e → (p : SizedAreaMeaning) (full' : List (List Bool)) (n : ℕ) (b : Bool) → p ≡ area_with_chunk q j (Some (replicate n 0)) true → IsSizedArea p
-            → full' ≡ cond b (set full k (set (marks_of_class full k) o true)) full → IsTrue b ↔ IsFullArea p → Now o j (get_or starts k 0 + o) spot_k q here p full' (o * r + j) (Some (replicate n 0)) true
-        taken_k r is_per p full' n b step valid after filled =
-            taken o j (get_or starts k 0 + o) spot_k q here p full' (o * r + j) n b (index_k r is_per) step valid clear_e.is_clear
+        pub spot_k : {r : ℕ} → r ≡ per e → Spot view is e (o * r + j) o j (get_or starts k 0 + o)
+        spot_k is_per = record { least = low; location = location_k; index = index_k is_per }
+
+        pub taken_k : {r : ℕ} (is_per : r ≡ per e) {p : SizedAreaMeaning} {full' : List (List Bool)} (n : ℕ) (b : Bool) → p ≡ area_with_chunk q j (Some (replicate n 0)) true → IsSizedArea p
+            → full' ≡ cond b (set full k (set (marks_of_class full k) o true)) full → IsTrue b ↔ IsFullArea p → Now (spot_k is_per) here p full' (Some (replicate n 0)) true
+        taken_k is_per {p} {full'} n b step valid after filled =
+            taken (spot_k is_per) here n b step valid clear_e.is_clear
             (after ∙ ap (λ x. cond b (set full x (set (marks_of_class full x) o true)) full) same) filled

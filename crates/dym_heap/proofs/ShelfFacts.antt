@@ -24,10 +24,10 @@ not_above q o r j n high less small =
       | inr ne ↦ absurd (let m = row_fits o n q n (omega arith) (omega arith) in omega arith)
     ]
 
-module _ (v : Version) (quota : ℕ) (ids : List SegmentId) (origin : Origin) (starts : List ℕ) (sized_areas : List SizedAreaMeaning) (full : List (List Bool)) (room spare spare_room : ℕ)
-    (s : ShelfMeaning) (view : shelf_of v quota ids origin starts sized_areas ≡ s) (is : IsShelf v quota ids starts sized_areas full room spare spare_room) where
+module _ {v : Version} {quota : ℕ} {ids : List SegmentId} {origin : Origin} {starts : List ℕ} {sized_areas : List SizedAreaMeaning} {full : List (List Bool)} {room spare spare_room : ℕ}
+    {s : ShelfMeaning} (view : shelf_of v quota ids origin starts sized_areas ≡ s) (is : IsShelf v quota ids starts sized_areas full room spare spare_room) where
   pub kept_s : IsValidShelf s
-  kept_s = subst IsValidShelf view (is_kept v quota ids origin starts sized_areas full room spare spare_room is.arranged is.supplied)
+  kept_s = subst IsValidShelf view (is_kept origin is.arranged is.supplied)
 
   rows_s : s.rows ≡ rows_upto 12 starts sized_areas
   rows_s = sym (ap (λ (t : ShelfMeaning). t.rows) view)
@@ -42,17 +42,17 @@ module _ (v : Version) (quota : ℕ) (ids : List SegmentId) (origin : Origin) (s
     pub at : k ≡ get_or starts c 0 + o
     pub below : j < per (c + 5)
 
-  module _ (c o j k : ℕ) (location : ChunkLocation c o j k) where
+  module _ {c o j k : ℕ} (location : ChunkLocation c o j k) where
     pub in_s : k < length sized_areas
-    in_s = let top = class_end v starts sized_areas full c is.arranged location.small in let w = location.within in let a = location.at in omega arith
+    in_s = let top = class_end c is.arranged location.small in let w = location.within in let a = location.at in omega arith
 
-    pub few_s : o < count_c v starts sized_areas full is.arranged c location.small
-    few_s = let n = count_is v starts sized_areas full is.arranged c location.small in let w = location.within in omega arith
+    pub few_s : o < count_c is.arranged c location.small
+    few_s = let n = count_is is.arranged c location.small in let w = location.within in omega arith
 
     pub chunk_s : (d : SizedAreaMeaning) → chunk_at s.rows c (o * per (c + 5) + j) ≡ get_or (get_or sized_areas k d).chunks j None
     chunk_s d =
         ap (λ (r : Row). get_or r.chunks (o * per (c + 5) + j) None) (row_s c location.small)
-        ∙ chunk-row v starts sized_areas full is.arranged c location.small o j d few_s location.below
+        ∙ chunk-row is.arranged c location.small o j d few_s location.below
         ∙ ap (λ i. get_or (get_or sized_areas i d).chunks j None) (sym location.at)
 
     pub placed_s : (d : SizedAreaMeaning) → IsPlaced v (c + 5) o (get_or sized_areas k d)
@@ -62,7 +62,7 @@ module _ (v : Version) (quota : ℕ) (ids : List SegmentId) (origin : Origin) (s
     chunk_in_s d = let p = placed_s d in let e : length (get_or sized_areas k d).chunks ≡ per (c + 5) = p.sized_area.whole ∙ ap per p.exponent in let b = location.below in omega arith
 
     -- a step of that area
-    module _ (d p : SizedAreaMeaning) (x : Option (List ℕ)) (b : Bool) (full' : List (List Bool)) (step : p ≡ area_with_chunk (get_or sized_areas k d) j x b) (valid : IsSizedArea p) (marks : Remarks full full' c o p) where
+    module _ (d : SizedAreaMeaning) {p : SizedAreaMeaning} (x : Option (List ℕ)) (b : Bool) {full' : List (List Bool)} (step : p ≡ area_with_chunk (get_or sized_areas k d) j x b) (valid : IsSizedArea p) (marks : Remarks full full' c o p) where
       placed_p : IsPlaced v (c + 5) o p
       placed_p =
           let was = placed_s d in
@@ -75,18 +75,18 @@ module _ (v : Version) (quota : ℕ) (ids : List SegmentId) (origin : Origin) (s
 
       pub shelf_put : IsShelf v quota ids starts (set sized_areas k p) full' room spare spare_room
       shelf_put = record {
-        arranged = arranged-put v starts sized_areas full full' c o k p is.arranged location.small location.within location.at placed_p marks;
-        supplied = supplied-put v quota ids sized_areas room spare spare_room k d p is.supplied in_s (ap (λ (q : SizedAreaMeaning). q.identity) step);
+        arranged = arranged-put is.arranged location.small location.within location.at placed_p marks;
+        supplied = supplied-put k d p is.supplied in_s (ap (λ (q : SizedAreaMeaning). q.identity) step);
       }
 
       pub view_put : shelf_of v quota ids origin starts (set sized_areas k p) ≡ with_put s c (o * per (c + 5) + j) x b
       view_put =
           ap (λ q. shelf_of v quota ids origin starts (set sized_areas k q)) step
-          ∙ ap (λ rs. record { version = v; quota = quota; held_ids = ids; origin = origin; rows = rs }) (rows-put v starts sized_areas full c o j k d x b is.arranged location.small location.within location.at location.below)
+          ∙ ap (λ rs. record { version = v; quota = quota; held_ids = ids; origin = origin; rows = rs }) (rows-put c o j d x b is.arranged location.small location.within location.at location.below)
           ∙ ap (λ t. with_put t c (o * per (c + 5) + j) x b) view
 
       pub kept_put : IsValidShelf (shelf_of v quota ids origin starts (set sized_areas k p))
-      kept_put = is_kept v quota ids origin starts (set sized_areas k p) full' room spare spare_room shelf_put.arranged shelf_put.supplied
+      kept_put = is_kept origin shelf_put.arranged shelf_put.supplied
 
   -- ---- look-ups
 
@@ -102,13 +102,13 @@ module _ (v : Version) (quota : ℕ) (ids : List SegmentId) (origin : Origin) (s
   -- past the areas of a class no chunk is in use
   pub past_s : (c i : ℕ) → c < 12 → get_or starts (c + 1) 0 ≤ get_or starts c 0 + i / per (c + 5) → chunk_at s.rows c i ≡ None
   past_s c i l past =
-      let n = count_is v starts sized_areas full is.arranged c l in
-      let many : count_c v starts sized_areas full is.arranged c l ≤ i / per (c + 5) = omega arith in
+      let n = count_is is.arranged c l in
+      let many : count_c is.arranged c l ≤ i / per (c + 5) = omega arith in
       ap (λ (r : Row). get_or r.chunks i None) (row_s c l)
       ∙ get_or_past (row_of (class_sized_areas starts sized_areas c)).chunks i None
-      (elim (cases_lt i (count_c v starts sized_areas full is.arranged c l * per (c + 5))) as (λ _. length (row_of (class_sized_areas starts sized_areas c)).chunks ≤ i) [
-        | inl low ↦ absurd (let b = div_below i (per (c + 5)) (count_c v starts sized_areas full is.arranged c l) (positive c) low in omega arith)
-        | inr high ↦ omega (arith, whole_row v starts sized_areas full is.arranged c l)
+      (elim (cases_lt i (count_c is.arranged c l * per (c + 5))) as (λ _. length (row_of (class_sized_areas starts sized_areas c)).chunks ≤ i) [
+        | inl low ↦ absurd (let b = div_below i (per (c + 5)) (count_c is.arranged c l) (positive c) low in omega arith)
+        | inr high ↦ omega (arith, whole_row is.arranged c l)
       ])
 
   -- ---- the least free chunk
@@ -120,27 +120,27 @@ module _ (v : Version) (quota : ℕ) (ids : List SegmentId) (origin : Origin) (s
   full_chunk : (c o j : ℕ) (l : c < 12) → get_or starts c 0 + o < get_or starts (c + 1) 0 → j < per (c + 5) → IsFullArea (get_or sized_areas (get_or starts c 0 + o) any) → IsSome (chunk_at s.rows c (o * per (c + 5) + j))
   full_chunk c o j l within below filled =
       let location : ChunkLocation c o j (get_or starts c 0 + o) = record { small = l; within = within; at = refl; below = below } in
-      ap is_some (chunk_s c o j (get_or starts c 0 + o) location any) ∙ filled j (chunk_in_s c o j (get_or starts c 0 + o) location any)
+      ap is_some (chunk_s location any) ∙ filled j (chunk_in_s location any)
 
   -- where all areas are marked as full, no chunk is free
   pub all_full : (c n : ℕ) → c < 12 → n + get_or starts c 0 ≡ get_or starts (c + 1) 0 → ((o : ℕ) → o < n → IsSet (marks_of_class full c) o) → (i : ℕ) → i < length (row_at s.rows c).chunks → IsSome (chunk_at s.rows c i)
   all_full c n l many marked i within =
-      let count = count_is v starts sized_areas full is.arranged c l in
-      let long = ap (λ (r : Row). length r.chunks) (row_s c l) ∙ whole_row v starts sized_areas full is.arranged c l in
-      let a = at_index v starts sized_areas full is.arranged c l i (omega arith) in
+      let count = count_is is.arranged c l in
+      let long = ap (λ (r : Row). length r.chunks) (row_s c l) ∙ whole_row is.arranged c l in
+      let a = at_index is.arranged c l i (omega arith) in
       let w = a.within in
       let o_in : a.o < n = omega arith in
       let m = is.arranged.marked c a.o any l (marked a.o o_in) in
       ap is_some (ap (chunk_at s.rows c) a.is_at) ∙ full_chunk c a.o a.j l m.0 a.below m.1
 
   -- the first area that is not marked, and the first free chunk of it
-  pub first_s : (c n o j k : ℕ) (d : SizedAreaMeaning) (location : ChunkLocation c o j k) → IsFirstClear (marks_of_class full c) n o → IsFreeIn (get_or sized_areas k d).chunks j → IsFirstFree s.rows c (o * per (c + 5) + j)
-  first_s c n o j k d location clear free =
+  pub first_s : {c n o j k : ℕ} (d : SizedAreaMeaning) (location : ChunkLocation c o j k) → IsFirstClear (marks_of_class full c) n o → IsFreeIn (get_or sized_areas k d).chunks j → IsFirstFree s.rows c (o * per (c + 5) + j)
+  first_s {c} {o} {j} {k} d location clear free =
       let l = location.small in
-      let long = ap (λ (r : Row). length r.chunks) (row_s c l) ∙ whole_row v starts sized_areas full is.arranged c l in
+      let long = ap (λ (r : Row). length r.chunks) (row_s c l) ∙ whole_row is.arranged c l in
       record {
-        within = (let few = few_s c o j k location in omega (arith, mul-add-lt o (per (c + 5)) j (count_c v starts sized_areas full is.arranged c l) few location.below));
-        free = chunk_s c o j k location d ∙ free.free;
+        within = (let few = few_s location in omega (arith, mul-add-lt o (per (c + 5)) j (count_c is.arranged c l) few location.below));
+        free = chunk_s location d ∙ free.free;
         least = λ i less.
             let b = mod_below i (per (c + 5)) (positive c) in
             let e = index_s c i in
@@ -153,6 +153,6 @@ module _ (v : Version) (quota : ℕ) (ids : List SegmentId) (origin : Origin) (s
                   let same : q ≡ o = not_above q o r j (per (c + 5)) high (omega arith) location.below in
                   let less' : r < j = (let f : o * per (c + 5) ≡ q * per (c + 5) = ap (λ x. x * per (c + 5)) (sym same) in omega arith) in
                   let location' : ChunkLocation c o r k = record { small = l; within = location.within; at = location.at; below = b } in
-                  ap is_some (ap (chunk_at s.rows c) (sym e ∙ ap (λ x. x * per (c + 5) + r) same) ∙ chunk_s c o r k location' d) ∙ free.least r less'
+                  ap is_some (ap (chunk_at s.rows c) (sym e ∙ ap (λ x. x * per (c + 5) + r) same) ∙ chunk_s location' d) ∙ free.least r less'
             ];
       }

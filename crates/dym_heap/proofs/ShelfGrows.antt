@@ -54,9 +54,9 @@ table_room One quota areas spare room (Some t) has some is h = absurd cc
 table_room One quota areas spare room None has some is h = absurd cc
 table_room Two quota areas spare room o has some is h = let a = has.0 in let b = has.1 in omega arith
 
-pub roomy : (v : Version) (quota : ℕ) (ids : List SegmentId) (starts : List ℕ) (sized_areas : List SizedAreaMeaning) (full : List (List Bool)) (room room' spare spare_room : ℕ) → room' ≡ room
+pub roomy : {v : Version} {quota : ℕ} {ids : List SegmentId} {starts : List ℕ} {sized_areas : List SizedAreaMeaning} {full : List (List Bool)} {room room' spare spare_room : ℕ} → room' ≡ room
     → IsShelf v quota ids starts sized_areas full room spare spare_room → IsShelf v quota ids starts sized_areas full room' spare spare_room
-roomy v quota ids starts sized_areas full room room' spare spare_room same is = subst (λ r. IsShelf v quota ids starts sized_areas full r spare spare_room) (sym same) is
+roomy {v} {quota} {ids} {starts} {sized_areas} {full} {spare} {spare_room} same is = subst (λ r. IsShelf v quota ids starts sized_areas full r spare spare_room) (sym same) is
 
 -- the last of o + 1 areas is empty, or has a chunk in use
 ends_of : (b : Bool) (len n o c : ℕ) (rows : List Row) (cs : List (Option (List ℕ))) → length (row_at rows c).chunks ≡ (o + 1) * n → len ≡ length (row_at rows c).chunks
@@ -105,8 +105,8 @@ cuts_none s c l =
       free = λ i far. get_or_past (row_at s.rows c).chunks i None (omega arith);
     }
 
-pub cuts_more : (old mid new : ShelfMeaning) (c n : ℕ) → c < length old.rows → Cuts old mid c → EndsFree mid.rows c n → new ≡ without_last mid c n new.held_ids → Cuts old new c
-cuts_more old mid new c n l cuts ends dropped =
+pub cuts_more : {old mid new : ShelfMeaning} {c n : ℕ} → c < length old.rows → Cuts old mid c → EndsFree mid.rows c n → new ≡ without_last mid c n new.held_ids → Cuts old new c
+cuts_more {old} {mid} {new} {c} {n} l cuts ends dropped =
     let a : ℕ = cuts.left in
     let row : Row = row_at old.rows c in
     let mid_row : row_at mid.rows c ≡ shorter a row = ap (λ (t : ShelfMeaning). row_at t.rows c) cuts.is ∙ row_cut old c a mid.held_ids l in
@@ -127,8 +127,8 @@ cuts_more old mid new c n l cuts ends dropped =
           ];
     }
 
-module _ (v : Version) (quota : ℕ) (ids : List SegmentId) (origin : Origin) (starts : List ℕ) (sized_areas : List SizedAreaMeaning) (full : List (List Bool)) (room spare spare_room : ℕ)
-    (s : ShelfMeaning) (view : shelf_of v quota ids origin starts sized_areas ≡ s) (is : IsShelf v quota ids starts sized_areas full room spare spare_room) (e : ℕ) (low : 5 ≤ e) (high : e ≤ 16) where
+module _ {v : Version} {quota : ℕ} {ids : List SegmentId} {origin : Origin} {starts : List ℕ} {sized_areas : List SizedAreaMeaning} {full : List (List Bool)} {room spare spare_room : ℕ}
+    {s : ShelfMeaning} (view : shelf_of v quota ids origin starts sized_areas ≡ s) (is : IsShelf v quota ids starts sized_areas full room spare spare_room) (e : ℕ) (low : 5 ≤ e) (high : e ≤ 16) where
   per_is : per (e - 5 + 5) ≡ per e
   per_is = ap per (let h : e - 5 + 5 ≡ e = omega arith in h)
 
@@ -139,7 +139,7 @@ module _ (v : Version) (quota : ℕ) (ids : List SegmentId) (origin : Origin) (s
   per_some = pow_pos (16 - e)
 
   pub ids_s : length s.held_ids ≡ length sized_areas
-  ids_s = sym (ap (λ (t : ShelfMeaning). length t.held_ids) view) ∙ ids_are v quota ids sized_areas room spare spare_room is.supplied
+  ids_s = sym (ap (λ (t : ShelfMeaning). length t.held_ids) view) ∙ ids_are is.supplied
 
   pub quota_s : s.quota ≡ quota
   quota_s = sym (ap (λ (t : ShelfMeaning). t.quota) view)
@@ -147,8 +147,8 @@ module _ (v : Version) (quota : ℕ) (ids : List SegmentId) (origin : Origin) (s
   pub below_quota : length s.held_ids < s.quota → length sized_areas < quota
   below_quota l = let a = ids_s in let b = quota_s in omega arith
 
-  pub end_in : (k : ℕ) → k ≡ e - 5 → get_or starts (k + 1) 0 ≤ length sized_areas
-  end_in k same = let top = class_end v starts sized_areas full (e - 5) is.arranged class_in in let a : get_or starts (k + 1) 0 ≡ get_or starts (e - 5 + 1) 0 = ap (λ x. get_or starts (x + 1) 0) same in omega arith
+  pub end_in : {k : ℕ} → k ≡ e - 5 → get_or starts (k + 1) 0 ≤ length sized_areas
+  end_in {k} same = let top = class_end (e - 5) is.arranged class_in in let a : get_or starts (k + 1) 0 ≡ get_or starts (e - 5 + 1) 0 = ap (λ x. get_or starts (x + 1) 0) same in omega arith
 
   pub rising_k : (k : ℕ) → k ≡ e - 5 → get_or starts k 0 ≤ get_or starts (k + 1) 0
   rising_k k same = subst (λ x. get_or starts x 0 ≤ get_or starts (x + 1) 0) (sym same) (is.arranged.rising (e - 5) class_in)
@@ -159,7 +159,7 @@ module _ (v : Version) (quota : ℕ) (ids : List SegmentId) (origin : Origin) (s
   pub starts_small : (d : ℕ) → get_or starts d 0 ≤ 1024
   starts_small d =
       elim (cases_lt d 13) as (λ _. get_or starts d 0 ≤ 1024) [
-        | inl l ↦ (let up = Rows.starts_mono v starts sized_areas full d (12 - d) is.arranged (omega arith) in
+        | inl l ↦ (let up = Rows.starts_mono d (12 - d) is.arranged (omega arith) in
             let a : get_or starts (d + (12 - d)) 0 ≡ get_or starts 12 0 = ap (λ x. get_or starts x 0) (let h : d + (12 - d) ≡ 12 = omega arith in h) in
             let last = is.arranged.last in let fits = is.supplied.within in let most = is.supplied.most in omega arith)
         | inr past ↦ (let z = get_or_past starts d 0 (let n = is.arranged.starts_len in omega arith) in omega arith)
@@ -172,13 +172,13 @@ module _ (v : Version) (quota : ℕ) (ids : List SegmentId) (origin : Origin) (s
     pub gives : shelf_of v quota' ids' origin' starts' sized_areas' ≡ record (with_row s (e - 5) (longer (per e) (row_at s.rows (e - 5)))) { held_ids = ids' }
     pub valid_shelf : IsValidShelf (shelf_of v quota' ids' origin' starts' sized_areas')
 
-  grown_at : (o : ℕ) (lengths : Option Lengths) (p : SizedAreaMeaning) (id : SegmentId) (ids' : List SegmentId) (starts' : List ℕ) (room' spare' : ℕ)
+  grown_at : {o : ℕ} (lengths : Option Lengths) {p : SizedAreaMeaning} {id : SegmentId} {ids' : List SegmentId} {starts' : List ℕ} (room' : ℕ) {spare' : ℕ}
       → length s.held_ids < s.quota → version_of lengths ≡ v → spare' ≡ spare - 1 → p ≡ empty_place (version_of lengths) e o id → IsSizedArea p → o ≡ get_or starts (e - 5 + 1) 0 - get_or starts (e - 5) 0
       → GivesBack ids' ids id → Shifts starts starts' (e - 5) → room ≤ room' → Grown ids' quota origin starts' (insert sized_areas (get_or starts (e - 5 + 1) 0) p) room' spare' spare_room
-  grown_at o lengths p id ids' starts' room' spare' less version fewer made valid ordinal more shift bigger =
+  grown_at lengths {p} {ids'} {starts'} room' {spare'} less version fewer made valid ordinal more shift bigger =
       let c : ℕ = e - 5 in
       let at : ℕ = get_or starts (c + 1) 0 in
-      let top = class_end v starts sized_areas full c is.arranged class_in in
+      let top = class_end c is.arranged class_in in
       let chunks : p.chunks ≡ replicate (per (c + 5)) None = ap (λ (q : SizedAreaMeaning). q.chunks) made ∙ sym (ap (λ n. replicate n None) per_is) in
       let touched : p.touched ≡ replicate (per (c + 5)) false = ap (λ (q : SizedAreaMeaning). q.touched) made ∙ sym (ap (λ n. replicate n false) per_is) in
       let placed : IsPlaced v (c + 5) (at - get_or starts c 0) p = record {
@@ -189,25 +189,25 @@ module _ (v : Version) (quota : ℕ) (ids : List SegmentId) (origin : Origin) (s
       } in
       let long : length p.chunks ≡ per e = ap length chunks ∙ length-replicate {A = Option (List ℕ)} (per (c + 5)) None ∙ per_is in
       let free : HasFree p = (0, (let z = per_some in omega arith), ap (λ cs. get_or cs 0 None) chunks ∙ get_or-replicate (per (c + 5)) 0 None None (let z = per_some in let y = per_is in omega arith)) in
-      let arranged = arranged-insert v starts starts' sized_areas full c p is.arranged class_in shift placed free in
-      let supplied = supplied-insert v quota ids ids' sized_areas room room' spare spare' spare_room at p is.supplied (below_quota less) top
+      let arranged = arranged-insert is.arranged class_in shift placed free in
+      let supplied = supplied-insert room' at p is.supplied (below_quota less) top
       (subst (GivesBack ids' ids) (sym (ap (λ (q : SizedAreaMeaning). q.identity) made)) more) bigger fewer in
-      let rows = rows-insert v starts starts' sized_areas full c p is.arranged class_in shift chunks touched in
+      let rows = rows-insert p is.arranged class_in shift chunks touched in
       record {
         shelf = record { arranged = arranged; supplied = supplied };
         gives =
             ap (λ rs. record { version = v; quota = quota; held_ids = ids'; origin = origin; rows = rs }) (rows ∙ ap (λ n. set (rows_upto 12 starts sized_areas) c (longer n (row_at (rows_upto 12 starts sized_areas) c))) per_is)
             ∙ ap (λ (t : ShelfMeaning). record (with_row t c (longer (per e) (row_at t.rows c))) { held_ids = ids' }) view;
-        valid_shelf = is_kept v quota ids' origin starts' (insert sized_areas at p) full room' spare' spare_room arranged supplied;
+        valid_shelf = is_kept origin arranged supplied;
       }
 
-  pub grown : (k o : ℕ) (lengths : Option Lengths) (p : SizedAreaMeaning) (id : SegmentId) (ids' : List SegmentId) (quota' : ℕ) (origin' : Origin) (starts' : List ℕ) (room' spare' spare_room' : ℕ)
+  pub grown : {k o : ℕ} (lengths : Option Lengths) {p : SizedAreaMeaning} {id : SegmentId} {ids' : List SegmentId} {quota' : ℕ} {origin' : Origin} {starts' : List ℕ} (room' spare' : ℕ) {spare_room' : ℕ}
       → k ≡ e - 5 → length s.held_ids < s.quota → MatchOption lengths ((spare ≡ 0) × (spare' ≡ 0)) (λ _. spare' + 1 ≡ spare) → p ≡ empty_place (version_of lengths) e o id → IsSizedArea p → o ≡ get_or starts (k + 1) 0 - get_or starts k 0
       → GivesBack ids' ids id → quota' ≡ quota → origin' ≡ origin → Shifts starts starts' k → room ≤ room' → spare_room' ≡ spare_room
-      → (sized_areas' : List SizedAreaMeaning) → sized_areas' ≡ insert sized_areas (get_or starts (k + 1) 0) p → Grown ids' quota' origin' starts' sized_areas' room' spare' spare_room'
-  grown k o lengths p id ids' quota' origin' starts' room' spare' spare_room' same less cases made valid ordinal more quota_is origin_is shift bigger room_is sized_areas' items =
+      → {sized_areas' : List SizedAreaMeaning} → sized_areas' ≡ insert sized_areas (get_or starts (k + 1) 0) p → Grown ids' quota' origin' starts' sized_areas' room' spare' spare_room'
+  grown {o} lengths {p} {id} {ids'} {quota'} {origin'} {starts'} room' spare' {spare_room'} same less cases made valid ordinal more quota_is origin_is shift bigger room_is items =
       let tables = popped v quota (length sized_areas) spare spare' spare_room lengths is.supplied.tables (below_quota less) cases in
-      let at_k = grown_at o lengths p id ids' starts' room' spare' less tables.0 tables.1 made valid (ordinal ∙ ap (λ x. get_or starts (x + 1) 0 - get_or starts x 0) same) more (subst (Shifts starts starts') same shift) bigger in
+      let at_k = grown_at lengths room' less tables.0 tables.1 made valid (ordinal ∙ ap (λ x. get_or starts (x + 1) 0 - get_or starts x 0) same) more (subst (Shifts starts starts') same shift) bigger in
       subst (λ xs. Grown ids' quota' origin' starts' xs room' spare' spare_room') (sym items) (subst (λ x. Grown ids' quota' origin' starts' (insert sized_areas (get_or starts (x + 1) 0) p) room' spare' spare_room') (sym same)
       (subst (λ x. Grown ids' x origin' starts' (insert sized_areas (get_or starts (e - 5 + 1) 0) p) room' spare' spare_room') (sym quota_is)
       (subst (λ x. Grown ids' quota x starts' (insert sized_areas (get_or starts (e - 5 + 1) 0) p) room' spare' spare_room') (sym origin_is)
@@ -216,13 +216,13 @@ module _ (v : Version) (quota : ℕ) (ids : List SegmentId) (origin : Origin) (s
   -- ---- the last area goes
 
   row_e : row_at s.rows (e - 5) ≡ row_of (class_sized_areas starts sized_areas (e - 5))
-  row_e = facts.row_s v quota ids origin starts sized_areas full room spare spare_room s view is (e - 5) class_in
+  row_e = facts.row_s view is (e - 5) class_in
 
   pub long_e : length (row_at s.rows (e - 5)).chunks + get_or starts (e - 5) 0 * per e ≡ get_or starts (e - 5 + 1) 0 * per e
   long_e =
-      let n : ℕ = count_c v starts sized_areas full is.arranged (e - 5) class_in in
-      let whole = ap (λ (r : Row). length r.chunks) row_e ∙ whole_row v starts sized_areas full is.arranged (e - 5) class_in ∙ ap (λ x. n * x) per_is in
-      let count = count_is v starts sized_areas full is.arranged (e - 5) class_in in
+      let n : ℕ = count_c is.arranged (e - 5) class_in in
+      let whole = ap (λ (r : Row). length r.chunks) row_e ∙ whole_row is.arranged (e - 5) class_in ∙ ap (λ x. n * x) per_is in
+      let count = count_is is.arranged (e - 5) class_in in
       let parts = add-mul n (get_or starts (e - 5) 0) (per e) in
       let all : (n + get_or starts (e - 5) 0) * per e ≡ get_or starts (e - 5 + 1) 0 * per e = ap (λ x. x * per e) count in
       omega arith
@@ -237,15 +237,15 @@ module _ (v : Version) (quota : ℕ) (ids : List SegmentId) (origin : Origin) (s
             let l = long_e in let t = ends.there in let p = per_some in omega arith)
       ]
 
-  pub last_in : (k : ℕ) → k ≡ e - 5 → EndsFree s.rows (e - 5) (per e) → (1 ≤ get_or starts (k + 1) 0) × (get_or starts (k + 1) 0 - 1 < length sized_areas)
-  last_in k same ends =
+  pub last_in : {k : ℕ} → k ≡ e - 5 → EndsFree s.rows (e - 5) (per e) → (1 ≤ get_or starts (k + 1) 0) × (get_or starts (k + 1) 0 - 1 < length sized_areas)
+  last_in {k} same ends =
       let l = some_area ends in
       let a : get_or starts (k + 1) 0 ≡ get_or starts (e - 5 + 1) 0 = ap (λ x. get_or starts (x + 1) 0) same in
-      let top = class_end v starts sized_areas full (e - 5) is.arranged class_in in
+      let top = class_end (e - 5) is.arranged class_in in
       (omega arith, omega arith)
 
   pub last_held : (k : ℕ) (d : SizedAreaMeaning) → k ≡ e - 5 → EndsFree s.rows (e - 5) (per e) → IsHeld ids (get_or sized_areas (get_or starts (k + 1) 0 - 1) d).identity
-  last_held k d same ends = place_held v quota ids sized_areas room spare spare_room (get_or starts (k + 1) 0 - 1) d is.supplied (last_in k same ends).1
+  last_held k d same ends = place_held (get_or starts (k + 1) 0 - 1) d is.supplied (last_in same ends).1
 
   pub last_version : (k : ℕ) (d : SizedAreaMeaning) → k ≡ e - 5 → EndsFree s.rows (e - 5) (per e) → (get_or sized_areas (get_or starts (k + 1) 0 - 1) d).version ≡ v
   last_version k d same ends =
@@ -258,12 +258,12 @@ module _ (v : Version) (quota : ℕ) (ids : List SegmentId) (origin : Origin) (s
   pub starts_some : (k : ℕ) → k ≡ e - 5 → EndsFree s.rows (e - 5) (per e) → (d : ℕ) → k < d → d < 13 → 1 ≤ get_or starts d 0
   starts_some k same ends d past small =
       let l = some_area ends in
-      let up = Rows.starts_mono v starts sized_areas full (e - 5 + 1) (d - (e - 5 + 1)) is.arranged (omega arith) in
+      let up = Rows.starts_mono (e - 5 + 1) (d - (e - 5 + 1)) is.arranged (omega arith) in
       let a : get_or starts (e - 5 + 1 + (d - (e - 5 + 1))) 0 ≡ get_or starts d 0 = ap (λ x. get_or starts x 0) (let h : e - 5 + 1 + (d - (e - 5 + 1)) ≡ d = omega arith in h) in
       omega arith
 
   pub some_places : EndsFree s.rows (e - 5) (per e) → 0 < length sized_areas
-  some_places ends = let l = (last_in (e - 5) refl ends).1 in omega arith
+  some_places ends = let l = (last_in refl ends).1 in omega arith
 
   pub record Dropped (ids' : List SegmentId) (quota' : ℕ) (origin' : Origin) (starts' : List ℕ) (sized_areas' : List SizedAreaMeaning) (spare' spare_room' : ℕ) : Type 0 where
     pub shelf : IsShelf v quota' ids' starts' sized_areas' full room spare' spare_room'
@@ -278,7 +278,7 @@ module _ (v : Version) (quota : ℕ) (ids : List SegmentId) (origin : Origin) (s
       let c : ℕ = e - 5 in
       let k : ℕ = get_or starts (c + 1) 0 - 1 in
       let l = some_area ends in
-      let in_k = (last_in c refl ends).1 in
+      let in_k = (last_in refl ends).1 in
       let o : ℕ = k - get_or starts c 0 in
       let long = long_e in
       let at_o : get_or starts c 0 + o ≡ k = omega arith in
@@ -287,33 +287,33 @@ module _ (v : Version) (quota : ℕ) (ids : List SegmentId) (origin : Origin) (s
       let ends_at : get_or starts (c + 1) 0 * per e ≡ (k + 1) * per e = ap (λ x. x * per e) (let h : get_or starts (c + 1) 0 ≡ k + 1 = omega arith in h) in
       let k_parts : k * per e ≡ (o + get_or starts c 0) * per e = ap (λ x. x * per e) (let h : k ≡ o + get_or starts c 0 = omega arith in h) in
       let front : o * per e ≡ length (row_at s.rows c).chunks - per e = omega arith in
-      let location : facts.ChunkLocation v quota ids origin starts sized_areas full room spare spare_room s view is c o 0 k = record { small = class_in; within = omega arith; at = sym at_o; below = (let p = per_some in let q = per_is in omega arith) } in
-      let there : chunk_at s.rows c (o * per (c + 5) + 0) ≡ get_or (get_or sized_areas k d).chunks 0 None = facts.chunk_s v quota ids origin starts sized_areas full room spare spare_room s view is c o 0 k location d in
+      let location : facts.ChunkLocation view is c o 0 k = record { small = class_in; within = omega arith; at = sym at_o; below = (let p = per_some in let q = per_is in omega arith) } in
+      let there : chunk_at s.rows c (o * per (c + 5) + 0) ≡ get_or (get_or sized_areas k d).chunks 0 None = facts.chunk_s view is location d in
       let first_free : chunk_at s.rows c (o * per (c + 5) + 0) ≡ None =
       ends.free (o * per (c + 5) + 0) (let q : o * per (c + 5) ≡ o * per e = ap (λ x. o * x) per_is in let t = ends.there in omega arith) in
-      let free : HasFree (get_or sized_areas k d) = (0, facts.chunk_in_s v quota ids origin starts sized_areas full room spare spare_room s view is c o 0 k location d, sym there ∙ first_free) in
+      let free : HasFree (get_or sized_areas k d) = (0, facts.chunk_in_s view is location d, sym there ∙ first_free) in
       let up : k + 1 ≡ get_or starts (c + 1) 0 = omega arith in
-      let arranged = arranged-remove v starts starts' sized_areas full c k d is.arranged class_in shift up (omega arith) free in
-      let supplied = supplied-remove v quota ids ids' sized_areas room spare spare' spare_room spare_room' k d is.supplied in_k back tables in
-      let rows = rows-remove v starts starts' sized_areas full c k is.arranged class_in shift up (omega arith) in
+      let arranged = arranged-remove k d is.arranged class_in shift up (omega arith) free in
+      let supplied = supplied-remove spare' spare_room' k d is.supplied in_k back tables in
+      let rows = rows-remove k is.arranged class_in shift up (omega arith) in
       record {
         shelf = record { arranged = arranged; supplied = supplied };
         gives =
             ap (λ rs. record { version = v; quota = quota; held_ids = ids'; origin = origin; rows = rs })
             (rows ∙ ap (λ n. set (rows_upto 12 starts sized_areas) c (shorter n (row_at (rows_upto 12 starts sized_areas) c))) (ap (λ x. o * x) per_is ∙ front ∙ ap (λ rs. length (row_at rs c).chunks - per e) (sym (ap (λ (t : ShelfMeaning). t.rows) view))))
             ∙ ap (λ (t : ShelfMeaning). without_last t c (per e) ids') view;
-        fewer = (let a = ids_are v quota ids' (remove sized_areas k) room spare' spare_room' supplied in let b = length-remove sized_areas k in_k in let n = ids_s in omega arith);
-        valid_shelf = is_kept v quota ids' origin starts' (remove sized_areas k) full room spare' spare_room' arranged supplied;
+        fewer = (let a = ids_are supplied in let b = length-remove sized_areas k in_k in let n = ids_s in omega arith);
+        valid_shelf = is_kept origin arranged supplied;
       }
 
-  pub dropped : (k : ℕ) (p : SizedAreaMeaning) (id : SegmentId) (lengths : Option Lengths) (ids' : List SegmentId) (quota' : ℕ) (origin' : Origin) (starts' : List ℕ) (spare' spare_room' : ℕ)
+  pub dropped : {k : ℕ} {p : SizedAreaMeaning} {id : SegmentId} (lengths : Option Lengths) {ids' : List SegmentId} {quota' : ℕ} {origin' : Origin} {starts' : List ℕ} {spare' : ℕ} (spare_room' : ℕ)
       → k ≡ e - 5 → EndsFree s.rows (e - 5) (per e) → p ≡ get_or sized_areas (get_or starts (k + 1) 0 - 1) p → id ≡ p.identity → version_of lengths ≡ p.version → GivesBack ids ids' id → quota' ≡ quota → origin' ≡ origin
       → spare' ≡ cond (is_some lengths) (spare + 1) spare → spare_room ≤ spare_room' → Unshifts starts starts' k
-      → (sized_areas' : List SizedAreaMeaning) → sized_areas' ≡ remove sized_areas (get_or starts (k + 1) 0 - 1) → Dropped ids' quota' origin' starts' sized_areas' spare' spare_room'
-  dropped k p id lengths ids' quota' origin' starts' spare' spare_room' same ends read id_is version_is back quota_is origin_is valid_shelf bigger shift sized_areas' items =
+      → {sized_areas' : List SizedAreaMeaning} → sized_areas' ≡ remove sized_areas (get_or starts (k + 1) 0 - 1) → Dropped ids' quota' origin' starts' sized_areas' spare' spare_room'
+  dropped {k} {p} lengths {ids'} {quota'} {origin'} {starts'} {spare'} spare_room' same ends read id_is version_is back quota_is origin_is valid_shelf bigger shift items =
       let at : ℕ → ℕ = λ x. get_or starts (x + 1) 0 - 1 in
       let at_same : at k ≡ at (e - 5) = ap at same in
-      let in_k = (last_in (e - 5) refl ends).1 in
+      let in_k = (last_in refl ends).1 in
       let read' : p ≡ get_or sized_areas (at (e - 5)) p = read ∙ ap (λ i. get_or sized_areas i p) at_same in
       let tables = returned v quota (length sized_areas) (length (remove sized_areas (at (e - 5)))) spare spare' spare_room spare_room' lengths is.supplied.tables (length-remove sized_areas (at (e - 5)) in_k)
       (version_is ∙ ap (λ (q : SizedAreaMeaning). q.version) read ∙ last_version k p same ends) valid_shelf bigger in
@@ -357,10 +357,10 @@ module _ (v : Version) (quota : ℕ) (ids : List SegmentId) (origin : Origin) (s
       let long = long_e in
       let whole : length (row_at s.rows c).chunks ≡ (o + 1) * per e = omega arith in
       let per_o : o * per (c + 5) ≡ o * per e = ap (λ x. o * x) per_is in
-      let location : (j : ℕ) → j < per e → facts.ChunkLocation v quota ids origin starts sized_areas full room spare spare_room s view is c o j last =
+      let location : (j : ℕ) → j < per e → facts.ChunkLocation view is c o j last =
       λ j l. record { small = class_in; within = omega arith; at = at_o; below = (let p = per_is in omega arith) } in
       let chunk : (j : ℕ) → j < per e → (chunk_at s.rows c (o * per e + j) ≡ get_or q.chunks j None) =
-      λ j l. ap (λ x. chunk_at s.rows c (x + j)) (sym per_o) ∙ facts.chunk_s v quota ids origin starts sized_areas full room spare spare_room s view is c o j last (location j l) q ∙ ap (λ (z : SizedAreaMeaning). get_or z.chunks j None) (sym read') in
+      λ j l. ap (λ x. chunk_at s.rows c (x + j)) (sym per_o) ∙ facts.chunk_s view is (location j l) q ∙ ap (λ (z : SizedAreaMeaning). get_or z.chunks j None) (sym read') in
       ends_of b (length (row_at s.rows c).chunks) (per e) o c s.rows q.chunks whole refl chunk
       (λ i h. (let n : length q.chunks ≡ per e = ap (λ (z : SizedAreaMeaning). length z.chunks) read' ∙ long_place o last (omega arith) at_o q in
       elim (cases_lt i (per e)) as (λ _. i < per e) [ inl l ↦ l | inr past ↦ (let gone : is_some (get_or q.chunks i None) ≡ false = ap is_some (get_or_past q.chunks i None (omega arith)) in absurd cc) ])) empty

@@ -17,8 +17,8 @@ use Rattle.dym_heap.proofs.ShelfFacts.{past_s}
 use Rattle.dym_heap.proofs.PlaceLoads.{loaded_some}
 use Rattle.dym_heap.proofs.Swaps as swaps
 
-module _ (v : Version) (quota : ℕ) (ids : List SegmentId) (origin : Origin) (starts : List ℕ) (sized_areas : List SizedAreaMeaning) (full : List (List Bool)) (room spare spare_room : ℕ)
-    (s : ShelfMeaning) (view : shelf_of v quota ids origin starts sized_areas ≡ s) (is : IsShelf v quota ids starts sized_areas full room spare spare_room) (e : ℕ) (low : 5 ≤ e) (high : e ≤ 16) where
+module _ {v : Version} {quota : ℕ} {ids : List SegmentId} {origin : Origin} {starts : List ℕ} {sized_areas : List SizedAreaMeaning} {full : List (List Bool)} {room spare spare_room : ℕ}
+    {s : ShelfMeaning} (view : shelf_of v quota ids origin starts sized_areas ≡ s) (is : IsShelf v quota ids starts sized_areas full room spare spare_room) (e : ℕ) (low : 5 ≤ e) (high : e ≤ 16) where
   per_is : per (e - 5 + 5) ≡ per e
   per_is = ap per (let h : e - 5 + 5 ≡ e = omega arith in h)
 
@@ -36,14 +36,14 @@ module _ (v : Version) (quota : ℕ) (ids : List SegmentId) (origin : Origin) (s
       let b : get_or starts k 0 ≡ get_or starts (e - 5) 0 = ap (λ x. get_or starts x 0) same in
       let gone : (i : ℕ) → i < per (e - 5 + 5) → (chunk_at s.rows (e - 5) (o * per (e - 5 + 5) + i) ≡ None) = λ i l.
       let q = div-mul-add o (per (e - 5 + 5)) i l in
-      past_s v quota ids origin starts sized_areas full room spare spare_room s view is (e - 5) (o * per (e - 5 + 5) + i) class_in (omega arith) in
+      past_s view is (e - 5) (o * per (e - 5 + 5) + i) class_in (omega arith) in
       record {
         here = λ i l. gone i l ∙ sym (ap (loaded_over (get_or bits i false) (f i)) (gone i l));
         others = λ d i ne. refl;
         marks = λ d i. refl;
       }
 
-  module _ (k o : ℕ) (same : k ≡ e - 5) (l : o < get_or starts (k + 1) 0 - get_or starts k 0) where
+  module _ {k : ℕ} (o : ℕ) (same : k ≡ e - 5) (l : o < get_or starts (k + 1) 0 - get_or starts k 0) where
     within : get_or starts (e - 5) 0 + o < get_or starts (e - 5 + 1) 0
     within =
         let a : get_or starts (k + 1) 0 ≡ get_or starts (e - 5 + 1) 0 = ap (λ x. get_or starts (x + 1) 0) same in
@@ -54,9 +54,9 @@ module _ (v : Version) (quota : ℕ) (ids : List SegmentId) (origin : Origin) (s
     at = ap (λ x. get_or starts x 0 + o) same
 
     pub place_in : get_or starts k 0 + o < length sized_areas
-    place_in = let top = class_end v starts sized_areas full (e - 5) is.arranged class_in in let w = within in let a = at in omega arith
+    place_in = let top = class_end (e - 5) is.arranged class_in in let w = within in let a = at in omega arith
 
-    module _ (q : SizedAreaMeaning) (here : q ≡ get_or sized_areas (get_or starts k 0 + o) q) where
+    module _ {q : SizedAreaMeaning} (here : q ≡ get_or sized_areas (get_or starts k 0 + o) q) where
       placed_q : IsPlaced v (e - 5 + 5) o q
       placed_q = subst (IsPlaced v (e - 5 + 5) o) (sym (here ∙ ap (λ x. get_or sized_areas x q) at)) (is.arranged.placed (e - 5) o q class_in within)
 
@@ -66,13 +66,13 @@ module _ (v : Version) (quota : ℕ) (ids : List SegmentId) (origin : Origin) (s
       pub version_q : q.version ≡ s.version
       version_q = placed_q.version ∙ sym version_s
 
-      pub body_q : (bits : List Bool) (body : List ℕ) (f : ℕ → List ℕ) → IsBodyOf s.version e bits body f → IsBodyOf q.version q.exponent bits body f
-      body_q bits body f b = subst (λ w. IsBodyOf w q.exponent bits body f) (sym version_q) (subst (λ x. IsBodyOf s.version x bits body f) (sym exponent_q) b)
+      pub body_q : {bits : List Bool} {body : List ℕ} {f : ℕ → List ℕ} → IsBodyOf s.version e bits body f → IsBodyOf q.version q.exponent bits body f
+      body_q {bits} {body} {f} b = subst (λ w. IsBodyOf w q.exponent bits body f) (sym version_q) (subst (λ x. IsBodyOf s.version x bits body f) (sym exponent_q) b)
 
-      pub has_q : (bits : List Bool) (body : List ℕ) → IsBody s.version e bits body → IsBody q.version q.exponent bits body
-      has_q bits body has = (has.0, body_q bits body has.0 has.1)
+      pub has_q : {bits : List Bool} {body : List ℕ} → IsBody s.version e bits body → IsBody q.version q.exponent bits body
+      has_q {bits} {body} has = (has.0, body_q has.1)
 
-      module _ (p : SizedAreaMeaning) (valid : IsSizedArea p) (bits : List Bool) (f : ℕ → List ℕ) (loads : IsLoadedSizedArea q p bits f) where
+      module _ {p : SizedAreaMeaning} (valid : IsSizedArea p) {bits : List Bool} {f : ℕ → List ℕ} (loads : IsLoadedSizedArea q p bits f) where
         some_same : (i : ℕ) → is_some (get_or p.chunks i None) ≡ is_some (get_or q.chunks i None)
         some_same i = ap is_some (loads.chunk i) ∙ loaded_some (get_or bits i false) (f i) (get_or q.chunks i None)
 
@@ -107,16 +107,16 @@ module _ (v : Version) (quota : ℕ) (ids : List SegmentId) (origin : Origin) (s
         same_id = ap (λ (x : SizedAreaMeaning). x.identity) loads.same
 
         pub load_shelf : IsShelf v quota ids starts (set sized_areas (get_or starts k 0 + o) p) full room spare spare_room
-        load_shelf = swaps.swap_shelf v quota ids origin starts sized_areas full room spare spare_room s view is (e - 5) o (get_or starts k 0 + o) class_in within at q p here placed_p same_id full marks
+        load_shelf = swaps.swap_shelf view is class_in within at here placed_p same_id marks
 
         pub load_kept : IsValidShelf (shelf_of v quota ids origin starts (set sized_areas (get_or starts k 0 + o) p))
-        load_kept = swaps.swap_kept v quota ids origin starts sized_areas full room spare spare_room s view is (e - 5) o (get_or starts k 0 + o) class_in within at q p here placed_p same_id full marks
+        load_kept = swaps.swap_kept view is class_in within at here placed_p same_id marks
 
         pub load_same : shelf_of v quota ids origin starts (set sized_areas (get_or starts k 0 + o) p) ≡ record s { rows = rows_upto 12 starts (set sized_areas (get_or starts k 0 + o) p) }
-        load_same = swaps.swap_same v quota ids origin starts sized_areas full room spare spare_room s view is (e - 5) o (get_or starts k 0 + o) class_in within at q p here placed_p same_id full marks
+        load_same = swaps.swap_same view is class_in within at here placed_p same_id marks
 
         pub load_long : (d : ℕ) → length (row_at (rows_upto 12 starts (set sized_areas (get_or starts k 0 + o) p)) d).chunks ≡ length (row_at s.rows d).chunks
-        load_long = swaps.swap_long v quota ids origin starts sized_areas full room spare spare_room s view is (e - 5) o (get_or starts k 0 + o) class_in within at q p here placed_p same_id full marks
+        load_long = swaps.swap_long view is class_in within at here placed_p same_id marks
 
         abbrev new : List Row
         new = rows_upto 12 starts (set sized_areas (get_or starts k 0 + o) p)
@@ -124,13 +124,13 @@ module _ (v : Version) (quota : ℕ) (ids : List SegmentId) (origin : Origin) (s
         pub load_area : IsLoadedArea s.rows (rows_upto 12 starts (set sized_areas (get_or starts k 0 + o) p)) (e - 5) o bits f
         load_area = record {
           here = λ i b.
-              swaps.swap_here v quota ids origin starts sized_areas full room spare spare_room s view is (e - 5) o (get_or starts k 0 + o) class_in within at q p here placed_p same_id full marks i b
+              swaps.swap_here view is class_in within at here placed_p same_id marks i b
               ∙ loads.chunk i
-              ∙ sym (ap (loaded_over (get_or bits i false) (f i)) (swaps.swap_was v quota ids origin starts sized_areas full room spare spare_room s view is (e - 5) o (get_or starts k 0 + o) class_in within at q p here placed_p same_id full marks i b));
-          others = swaps.swap_other v quota ids origin starts sized_areas full room spare spare_room s view is (e - 5) o (get_or starts k 0 + o) class_in within at q p here placed_p same_id full marks;
+              ∙ sym (ap (loaded_over (get_or bits i false) (f i)) (swaps.swap_was view is class_in within at here placed_p same_id marks i b));
+          others = swaps.swap_other view is class_in within at here placed_p same_id marks;
           marks = λ d i.
               let n : ℕ = per (e - 5 + 5) in
-              let other = swaps.marks_other v quota ids origin starts sized_areas full room spare spare_room s view is (e - 5) o (get_or starts k 0 + o) class_in within at q p here placed_p same_id full marks in
+              let other = swaps.marks_other view is class_in within at here placed_p same_id marks in
               elim (cases_eq d (e - 5)) as (λ _. touch_at new d i ≡ touch_at s.rows d i) [
                 | inr ne ↦ other d i (λ x y. ne x)
                 | inl one ↦
@@ -140,10 +140,10 @@ module _ (v : Version) (quota : ℕ) (ids : List SegmentId) (origin : Origin) (s
                           let below : i % n < n = mod_below i n (pow_pos (16 - (e - 5 + 5))) in
                           let split : o * n + i % n ≡ i = ap (λ x. x * n + i % n) (sym two) ∙ div-add-mod' i n in
                           ap (λ x. touch_at new x i) one ∙ ap (touch_at new (e - 5)) (sym split)
-                          ∙ swaps.marks_here v quota ids origin starts sized_areas full room spare spare_room s view is (e - 5) o (get_or starts k 0 + o) class_in within at q p here placed_p same_id full marks (i % n) below
+                          ∙ swaps.marks_here view is class_in within at here placed_p same_id marks (i % n) below
                           ∙ ap (λ (x : SizedAreaMeaning). get_or x.touched (i % n) false) loads.same
                           ∙ sym (ap (λ x. touch_at s.rows x i) one ∙ ap (touch_at s.rows (e - 5)) (sym split)
-                          ∙ swaps.marks_was v quota ids origin starts sized_areas full room spare spare_room s view is (e - 5) o (get_or starts k 0 + o) class_in within at q p here placed_p same_id full marks (i % n) below)
+                          ∙ swaps.marks_was view is class_in within at here placed_p same_id marks (i % n) below)
                     ]
               ];
         }

@@ -19,9 +19,9 @@ use Rattle.dym_heap.proofs.Marks.{free_from}
 use Rattle.dym_heap.proofs.Swaps as swaps
 
 -- a mark is set or cleared
-remarks_set : (v : Version) (starts : List ℕ) (sized_areas : List SizedAreaMeaning) (full : List (List Bool)) (c o : ℕ) (p : SizedAreaMeaning) (b : Bool) → IsArranged v starts sized_areas full → c < 12 → o < MOST_CHUNKS
+remarks_set : {v : Version} {starts : List ℕ} {sized_areas : List SizedAreaMeaning} {full : List (List Bool)} (c o : ℕ) (p : SizedAreaMeaning) (b : Bool) → IsArranged v starts sized_areas full → c < 12 → o < MOST_CHUNKS
     → (b ≡ true → IsFullArea p) → (b ≡ false → HasFree p) → Remarks full (set full c (set (marks_of_class full c) o b)) c o p
-remarks_set v starts sized_areas full c o p b is l small filled free =
+remarks_set {full} c o p b is l small filled free =
     let many = is.full_len in
     let long = is.bits_len c l in
     let full' : List (List Bool) = set full c (set (marks_of_class full c) o b) in
@@ -46,8 +46,8 @@ remarks_set v starts sized_areas full c o p b is l small filled free =
       unmarked = λ h. free (sym here ∙ h);
     }
 
-module _ (v : Version) (quota : ℕ) (ids : List SegmentId) (origin : Origin) (starts : List ℕ) (sized_areas : List SizedAreaMeaning) (full : List (List Bool)) (room spare spare_room : ℕ)
-    (s : ShelfMeaning) (view : shelf_of v quota ids origin starts sized_areas ≡ s) (is : IsShelf v quota ids starts sized_areas full room spare spare_room) (e : ℕ) (low : 5 ≤ e) (high : e ≤ 16) where
+module _ {v : Version} {quota : ℕ} {ids : List SegmentId} {origin : Origin} {starts : List ℕ} {sized_areas : List SizedAreaMeaning} {full : List (List Bool)} {room spare spare_room : ℕ}
+    {s : ShelfMeaning} (view : shelf_of v quota ids origin starts sized_areas ≡ s) (is : IsShelf v quota ids starts sized_areas full room spare spare_room) (e : ℕ) (low : 5 ≤ e) (high : e ≤ 16) where
   per_is : per (e - 5 + 5) ≡ per e
   per_is = ap per (let h : e - 5 + 5 ≡ e = omega arith in h)
 
@@ -58,13 +58,13 @@ module _ (v : Version) (quota : ℕ) (ids : List SegmentId) (origin : Origin) (s
   version_s = sym (ap (λ (t : ShelfMeaning). t.version) view)
 
   -- an area of the class
-  pub area_in : (k o : ℕ) → k ≡ e - 5 → o * per e < length (row_at s.rows (e - 5)).chunks → o < get_or starts (k + 1) 0 - get_or starts k 0
-  area_in k o same l =
+  pub area_in : {k : ℕ} (o : ℕ) → k ≡ e - 5 → o * per e < length (row_at s.rows (e - 5)).chunks → o < get_or starts (k + 1) 0 - get_or starts k 0
+  area_in {k} o same l =
       let a : get_or starts (k + 1) 0 ≡ get_or starts (e - 5 + 1) 0 = ap (λ x. get_or starts (x + 1) 0) same in
       let b : get_or starts k 0 ≡ get_or starts (e - 5) 0 = ap (λ x. get_or starts x 0) same in
-      let n = count_is v starts sized_areas full is.arranged (e - 5) class_in in
-      let long = ap (λ (r : Row). length r.chunks) (row_s v quota ids origin starts sized_areas full room spare spare_room s view is (e - 5) class_in) ∙ whole_row v starts sized_areas full is.arranged (e - 5) class_in in
-      let m : ℕ = count_c v starts sized_areas full is.arranged (e - 5) class_in in
+      let n = count_is is.arranged (e - 5) class_in in
+      let long = ap (λ (r : Row). length r.chunks) (row_s view is (e - 5) class_in) ∙ whole_row is.arranged (e - 5) class_in in
+      let m : ℕ = count_c is.arranged (e - 5) class_in in
       let p : m * per (e - 5 + 5) ≡ m * per e = ap (λ x. m * x) per_is in
       elim (cases_lt o m) as (λ _. o < get_or starts (k + 1) 0 - get_or starts k 0) [
         | inl below ↦ omega arith
@@ -76,12 +76,12 @@ module _ (v : Version) (quota : ℕ) (ids : List SegmentId) (origin : Origin) (s
   areas_k k same =
       let a : get_or starts (k + 1) 0 ≡ get_or starts (e - 5 + 1) 0 = ap (λ x. get_or starts (x + 1) 0) same in
       let b : get_or starts k 0 ≡ get_or starts (e - 5) 0 = ap (λ x. get_or starts x 0) same in
-      let n = count_is v starts sized_areas full is.arranged (e - 5) class_in in
-      let long = ap (λ (r : Row). length r.chunks) (row_s v quota ids origin starts sized_areas full room spare spare_room s view is (e - 5) class_in) ∙ whole_row v starts sized_areas full is.arranged (e - 5) class_in in
-      let m : count_c v starts sized_areas full is.arranged (e - 5) class_in ≡ get_or starts (k + 1) 0 - get_or starts k 0 = omega arith in
+      let n = count_is is.arranged (e - 5) class_in in
+      let long = ap (λ (r : Row). length r.chunks) (row_s view is (e - 5) class_in) ∙ whole_row is.arranged (e - 5) class_in in
+      let m : count_c is.arranged (e - 5) class_in ≡ get_or starts (k + 1) 0 - get_or starts k 0 = omega arith in
       long ∙ ap (λ x. x * per (e - 5 + 5)) m
 
-  module _ (k o : ℕ) (same : k ≡ e - 5) (l : o < get_or starts (k + 1) 0 - get_or starts k 0) where
+  module _ {k : ℕ} (o : ℕ) (same : k ≡ e - 5) (l : o < get_or starts (k + 1) 0 - get_or starts k 0) where
     within : get_or starts (e - 5) 0 + o < get_or starts (e - 5 + 1) 0
     within =
         let a : get_or starts (k + 1) 0 ≡ get_or starts (e - 5 + 1) 0 = ap (λ x. get_or starts (x + 1) 0) same in
@@ -92,12 +92,12 @@ module _ (v : Version) (quota : ℕ) (ids : List SegmentId) (origin : Origin) (s
     at = ap (λ x. get_or starts x 0 + o) same
 
     pub place_in : get_or starts k 0 + o < length sized_areas
-    place_in = let top = class_end v starts sized_areas full (e - 5) is.arranged class_in in let w = within in let a = at in omega arith
+    place_in = let top = class_end (e - 5) is.arranged class_in in let w = within in let a = at in omega arith
 
     pub place_small : get_or starts k 0 + o < 1024
     place_small = let l = place_in in let fits = is.supplied.within in let most = is.supplied.most in omega arith
 
-    module _ (q : SizedAreaMeaning) (here : q ≡ get_or sized_areas (get_or starts k 0 + o) q) where
+    module _ {q : SizedAreaMeaning} (here : q ≡ get_or sized_areas (get_or starts k 0 + o) q) where
       placed_q : IsPlaced v (e - 5 + 5) o q
       placed_q = subst (IsPlaced v (e - 5 + 5) o) (sym (here ∙ ap (λ x. get_or sized_areas x q) at)) (is.arranged.placed (e - 5) o q class_in within)
 
@@ -108,7 +108,7 @@ module _ (v : Version) (quota : ℕ) (ids : List SegmentId) (origin : Origin) (s
       version_q = placed_q.version ∙ sym version_s
 
       pub ordinal_small : o < MOST_CHUNKS
-      ordinal_small = let w = within in let top = class_end v starts sized_areas full (e - 5) is.arranged class_in in let fits = is.supplied.within in let most = is.supplied.most in omega arith
+      ordinal_small = let w = within in let top = class_end (e - 5) is.arranged class_in in let fits = is.supplied.within in let most = is.supplied.most in omega arith
 
       pub len_q : (n : ℕ) → n ≡ max 1 (per e / 8) → n ≡ max 1 (per q.exponent / 8)
       len_q n is_n = is_n ∙ ap (λ x. max 1 (per x / 8)) (sym exponent_q)
@@ -116,7 +116,7 @@ module _ (v : Version) (quota : ℕ) (ids : List SegmentId) (origin : Origin) (s
       pub below_q : (i : ℕ) → i < per e → i < per q.exponent
       below_q i b = let x = ap per exponent_q in omega arith
 
-      module _ (p : SizedAreaMeaning) (valid : IsSizedArea p) (is_set : ℕ → Bool) (same_place : p ≡ record q { chunks = p.chunks; touched = p.touched }) (shaped : (i : ℕ) → IsReshaped (is_set i) (area_chunk q i) (area_chunk p i)) (b : Bool) (filled : IsTrue b ↔ IsFullArea p) (full' : List (List Bool))
+      module _ {p : SizedAreaMeaning} (valid : IsSizedArea p) (is_set : ℕ → Bool) (same_place : p ≡ record q { chunks = p.chunks; touched = p.touched }) (shaped : (i : ℕ) → IsReshaped (is_set i) (area_chunk q i) (area_chunk p i)) (b : Bool) (filled : IsTrue b ↔ IsFullArea p) {full' : List (List Bool)}
           (after : full' ≡ set full k (set (marks_of_class full k) o b)) where
         exponent_p : p.exponent ≡ q.exponent
         exponent_p = ap (λ (x : SizedAreaMeaning). x.exponent) same_place
@@ -134,22 +134,22 @@ module _ (v : Version) (quota : ℕ) (ids : List SegmentId) (origin : Origin) (s
 
         marks : Remarks full full' (e - 5) o p
         marks = subst (λ f. Remarks full f (e - 5) o p) (sym (after ∙ ap (λ x. set full x (set (marks_of_class full x) o b)) same))
-            (remarks_set v starts sized_areas full (e - 5) o p b is.arranged class_in ordinal_small (λ h. filled.0 h) (λ h. free_from p (λ all. (let t = filled.1 all in absurd (true≢false (sym t ∙ h))))))
+            (remarks_set (e - 5) o p b is.arranged class_in ordinal_small (λ h. filled.0 h) (λ h. free_from p (λ all. (let t = filled.1 all in absurd (true≢false (sym t ∙ h))))))
 
         same_id : p.identity ≡ q.identity
         same_id = ap (λ (x : SizedAreaMeaning). x.identity) same_place
 
         pub shape_shelf : IsShelf v quota ids starts (set sized_areas (get_or starts k 0 + o) p) full' room spare spare_room
-        shape_shelf = swaps.swap_shelf v quota ids origin starts sized_areas full room spare spare_room s view is (e - 5) o (get_or starts k 0 + o) class_in within at q p here placed_p same_id full' marks
+        shape_shelf = swaps.swap_shelf view is class_in within at here placed_p same_id marks
 
         pub shape_kept : IsValidShelf (shelf_of v quota ids origin starts (set sized_areas (get_or starts k 0 + o) p))
-        shape_kept = swaps.swap_kept v quota ids origin starts sized_areas full room spare spare_room s view is (e - 5) o (get_or starts k 0 + o) class_in within at q p here placed_p same_id full' marks
+        shape_kept = swaps.swap_kept view is class_in within at here placed_p same_id marks
 
         pub shape_same : shelf_of v quota ids origin starts (set sized_areas (get_or starts k 0 + o) p) ≡ record s { rows = rows_upto 12 starts (set sized_areas (get_or starts k 0 + o) p) }
-        shape_same = swaps.swap_same v quota ids origin starts sized_areas full room spare spare_room s view is (e - 5) o (get_or starts k 0 + o) class_in within at q p here placed_p same_id full' marks
+        shape_same = swaps.swap_same view is class_in within at here placed_p same_id marks
 
         pub shape_long : (d : ℕ) → length (row_at (rows_upto 12 starts (set sized_areas (get_or starts k 0 + o) p)) d).chunks ≡ length (row_at s.rows d).chunks
-        shape_long = swaps.swap_long v quota ids origin starts sized_areas full room spare spare_room s view is (e - 5) o (get_or starts k 0 + o) class_in within at q p here placed_p same_id full' marks
+        shape_long = swaps.swap_long view is class_in within at here placed_p same_id marks
 
         pub shape_area : IsChangedArea s.rows (rows_upto 12 starts (set sized_areas (get_or starts k 0 + o) p)) (e - 5) o (λ i old new. IsReshaped (is_set i) old new)
-        shape_area = swaps.swap_changes v quota ids origin starts sized_areas full room spare spare_room s view is (e - 5) o (get_or starts k 0 + o) class_in within at q p here placed_p same_id full' marks (λ i old new. IsReshaped (is_set i) old new) (λ i b. shaped i)
+        shape_area = swaps.swap_changes view is class_in within at here placed_p same_id marks (λ i old new. IsReshaped (is_set i) old new) (λ i b. shaped i)

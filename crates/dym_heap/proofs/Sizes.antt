@@ -54,8 +54,8 @@ whole_area e high = sym (pow-add 2 (16 - e) e) ∙ (let s : 16 - e + e ≡ 16 = 
 pub chunk_fits : (e i : ℕ) → e ≤ 16 → i < per e → i * size e + size e ≤ 65536
 chunk_fits e i high l = omega (arith, row_fits i (size e) (per e) (size e) l (omega arith), whole_area e high)
 
-pub chunks_apart : (e i k : ℕ) → (k ≡ i → ⊥) → (k * size e + size e ≤ i * size e) ⊎ (i * size e + size e ≤ k * size e)
-chunks_apart e i k ne =
+pub chunks_apart : (e : ℕ) {i k : ℕ} → (k ≡ i → ⊥) → (k * size e + size e ≤ i * size e) ⊎ (i * size e + size e ≤ k * size e)
+chunks_apart e {i} {k} ne =
     elim (cases_lt k i) as (λ _. (k * size e + size e ≤ i * size e) ⊎ (i * size e + size e ≤ k * size e)) [
       | inl l ↦ inl (row_fits k (size e) i (size e) l (omega arith))
       | inr past ↦ inr (row_fits i (size e) k (size e) (omega arith) (omega arith))

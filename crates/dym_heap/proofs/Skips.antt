@@ -83,7 +83,7 @@ count_between bits from end low high =
 
 -- ---- one chunk is passed
 
-module _ (body : List ℕ) (at : ℕ) (c : List ℕ) (left : List (List ℕ)) (rest : List ℕ) (low : at ≤ length body) (begins : BeginsWithChunks (drop at body) (c ∷ left) rest) where
+module _ (body : List ℕ) (at : ℕ) {c : List ℕ} {left : List (List ℕ)} {rest : List ℕ} (low : at ≤ length body) (begins : BeginsWithChunks (drop at body) (c ∷ left) rest) where
   abbrev behind : List ℕ
   behind = flat_map (packed_chunk Two) left ++ rest
 
@@ -119,25 +119,25 @@ pub record Left (body : List ℕ) (at : ℕ) (rest : List ℕ) (k : ℕ) : Type 
   pub many : length chunks ≡ k
   pub begins : BeginsWithChunks (drop at body) chunks rest
 
-pub left_four : (body : List ℕ) (at : ℕ) (rest : List ℕ) (k : ℕ) → at ≤ length body → 0 < k → Left body at rest k → at + 4 ≤ length body
-left_four body at rest k low some left =
+pub left_four : {body : List ℕ} {at : ℕ} {rest : List ℕ} (k : ℕ) → at ≤ length body → 0 < k → Left body at rest k → at + 4 ≤ length body
+left_four {body} {at} {rest} k low some left =
     elim left.chunks as (λ cs. length cs ≡ k → BeginsWithChunks (drop at body) cs rest → at + 4 ≤ length body) [
       | [] ↦ λ many begins. absurd (omega arith)
-      | c ∷ cs ↦ λ many begins. (let w = whole body at c cs rest low begins in omega arith)
+      | c ∷ cs ↦ λ many begins. (let w = whole body at low begins in omega arith)
     ] left.many left.begins
 
-pub left_whole : (body : List ℕ) (at : ℕ) (rest : List ℕ) (k n : ℕ) → at ≤ length body → 0 < k → Left body at rest k → n ≡ from_le_bytes w32 (between at (at + 4) body) → at + 4 + n ≤ length body
-left_whole body at rest k n low some left is_n =
+pub left_whole : {body : List ℕ} {at : ℕ} {rest : List ℕ} (k : ℕ) {n : ℕ} → at ≤ length body → 0 < k → Left body at rest k → n ≡ from_le_bytes w32 (between at (at + 4) body) → at + 4 + n ≤ length body
+left_whole {body} {at} {rest} k {n} low some left is_n =
     elim left.chunks as (λ cs. length cs ≡ k → BeginsWithChunks (drop at body) cs rest → at + 4 + n ≤ length body) [
       | [] ↦ λ many begins. absurd (omega arith)
-      | c ∷ cs ↦ λ many begins. (let w = whole body at c cs rest low begins in let e = number_is body at c cs rest low begins n is_n in omega arith)
+      | c ∷ cs ↦ λ many begins. (let w = whole body at low begins in let e = number_is body at low begins n is_n in omega arith)
     ] left.many left.begins
 
-pub left_next : (body : List ℕ) (at : ℕ) (rest : List ℕ) (k n k' : ℕ) → at ≤ length body → k ≡ k' + 1 → Left body at rest k → n ≡ from_le_bytes w32 (between at (at + 4) body) → Left body (at + 4 + n) rest k'
-left_next body at rest k n k' low some left is_n =
+pub left_next : {body : List ℕ} {at : ℕ} {rest : List ℕ} (k : ℕ) {n : ℕ} (k' : ℕ) → at ≤ length body → k ≡ k' + 1 → Left body at rest k → n ≡ from_le_bytes w32 (between at (at + 4) body) → Left body (at + 4 + n) rest k'
+left_next {body} {at} {rest} k {n} k' low some left is_n =
     elim left.chunks as (λ cs. length cs ≡ k → BeginsWithChunks (drop at body) cs rest → Left body (at + 4 + n) rest k') [
       | [] ↦ λ many begins. absurd (omega arith)
-      | c ∷ cs ↦ λ many begins. record { chunks = cs; many = omega arith; begins = next_begins body at c cs rest low begins n (number_is body at c cs rest low begins n is_n) }
+      | c ∷ cs ↦ λ many begins. record { chunks = cs; many = omega arith; begins = next_begins body at low begins n (number_is body at low begins n is_n) }
     ] left.many left.begins
 
 pub left_none : (body : List ℕ) (at : ℕ) (rest : List ℕ) (k : ℕ) → k ≡ 0 → Left body at rest k → drop at body ≡ rest
@@ -169,8 +169,8 @@ small_chunks p f a (suc n) each =
       | false ↦ λ h. rest
     ] refl
 
-module _ (old : AreaMeaning) (bits wanted : List Bool) (body : List ℕ) (sub : (i : ℕ) → IsSet wanted i → IsSet bits i) (valid : IsValidArea old) (now : AreaMeaning) (from at : ℕ)
-    (inv : (f : ℕ → List ℕ) → IsBodyOf Two old.exponent bits body f → LoadedTo Two old bits wanted body f now from at) (i : ℕ) (next : IsNextSet wanted from i) where
+module _ {old : AreaMeaning} {bits wanted : List Bool} {body : List ℕ} (sub : (i : ℕ) → IsSet wanted i → IsSet bits i) (valid : IsValidArea old) {now : AreaMeaning} {from at : ℕ}
+    (inv : (f : ℕ → List ℕ) → IsBodyOf Two old.exponent bits body f → LoadedTo Two old bits wanted body f now from at) {i : ℕ} (next : IsNextSet wanted from i) where
   -- the packed ones before it
   abbrev passed : List ℕ
   passed = filter (bit_in bits) (range_with_len from (i - from))
@@ -198,8 +198,8 @@ module _ (old : AreaMeaning) (bits wanted : List Bool) (body : List ℕ) (sub : 
   pub has_passed : (n : ℕ) → n ≡ length passed → IsBody Two old.exponent bits body → (chunks : List (List ℕ)) × (rest : List ℕ) × (length chunks ≡ n) × BeginsWithChunks (drop at body) chunks rest
   has_passed n many has = (map has.0 passed, after Two old bits wanted body has.0 i, length-map passed has.0 ∙ sym many, passed_begins has.0 has.1)
 
-  pub loaded_before : (n at' : ℕ) → n ≡ length passed → ((chunks : List (List ℕ)) (rest : List ℕ) → length chunks ≡ n → BeginsWithChunks (drop at body) chunks rest → drop at' body ≡ rest)
+  pub loaded_before : {n : ℕ} (at' : ℕ) → n ≡ length passed → ((chunks : List (List ℕ)) (rest : List ℕ) → length chunks ≡ n → BeginsWithChunks (drop at body) chunks rest → drop at' body ≡ rest)
       → (f : ℕ → List ℕ) → IsBodyOf Two old.exponent bits body f → LoadedTo Two old bits wanted body f now i at'
-  loaded_before n at' many passes f is =
-      loaded_on Two old bits wanted body f is sub valid now from at i at' (inv f is) next.at_least next.least
+  loaded_before at' many passes f is =
+      loaded_on Two old bits wanted body f is sub valid i at' (inv f is) next.at_least next.least
       (passes (map f passed) (after Two old bits wanted body f i) (length-map passed f ∙ sym many) (passed_begins f is))

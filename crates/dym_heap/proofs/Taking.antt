@@ -26,24 +26,24 @@ pub tidy-put : (s : ShelfMeaning) (c i : ℕ) (bytes : List ℕ) (b : Bool) → 
     → IsTidy (with_put s c i (Some bytes) b)
 tidy-put s c i bytes b tidy valid_shelf' small within = record {
   valid_shelf = valid_shelf';
-  trimmed = let n = tidy.valid_shelf.classes in set_trimmed s.rows c (put (row_at s.rows c) i (Some bytes) b) (omega arith) (put_trimmed (per (c + 5)) (row_at s.rows c) i bytes b within (tidy.trimmed c small)) tidy.trimmed;
+  trimmed = let n = tidy.valid_shelf.classes in set_trimmed s.rows c (put (row_at s.rows c) i (Some bytes) b) (omega arith) (put_trimmed i bytes b within (tidy.trimmed c small)) tidy.trimmed;
 }
 
-took_in : (s : ShelfMeaning) (c i n : ℕ) → IsTidy s → IsValidShelf (with_put s c i (Some (replicate n 0)) true) → IsFirstFree s.rows c i → c < 12
+took_in : {s : ShelfMeaning} {c i : ℕ} (n : ℕ) → IsTidy s → IsValidShelf (with_put s c i (Some (replicate n 0)) true) → IsFirstFree s.rows c i → c < 12
     → Took s (with_put s c i (Some (replicate n 0)) true) (c + 5) i n
-took_in s c i n tidy valid_shelf' first small = record {
-  index = sym (fresh_first s c i tidy.valid_shelf first);
-  state = state-put s c i (Some (replicate n 0)) true tidy.valid_shelf valid_shelf' small first.within;
+took_in {s} {c} {i} n tidy valid_shelf' first small = record {
+  index = sym (fresh_first tidy.valid_shelf first);
+  state = state-put c i (Some (replicate n 0)) true tidy.valid_shelf valid_shelf' small first.within;
   tidy = tidy-put s c i (replicate n 0) true tidy valid_shelf' small first.within;
 }
 
 class_of_row : (e : ℕ) → 5 ≤ e → e ≡ e - 5 + 5
 class_of_row e low = omega arith
 
-pub took_first : (s t : ShelfMeaning) (e i n : ℕ) → IsTidy s → IsValidShelf t → t ≡ with_put s (e - 5) i (Some (replicate n 0)) true → IsFirstFree s.rows (e - 5) i → 5 ≤ e → e ≤ 16
+pub took_first : {s t : ShelfMeaning} (e : ℕ) {i : ℕ} (n : ℕ) → IsTidy s → IsValidShelf t → t ≡ with_put s (e - 5) i (Some (replicate n 0)) true → IsFirstFree s.rows (e - 5) i → 5 ≤ e → e ≤ 16
     → Took s t e i n
-took_first s t e i n tidy valid_shelf' is first low high =
-    let that : Took s (with_put s (e - 5) i (Some (replicate n 0)) true) (e - 5 + 5) i n = took_in s (e - 5) i n tidy (subst IsValidShelf is valid_shelf') first (omega arith) in
+took_first {s} e {i} n tidy valid_shelf' is first low high =
+    let that : Took s (with_put s (e - 5) i (Some (replicate n 0)) true) (e - 5 + 5) i n = took_in n tidy (subst IsValidShelf is valid_shelf') first (omega arith) in
     subst (λ x. Took s x e i n) (sym is) (subst (λ x. Took s (with_put s (e - 5) i (Some (replicate n 0)) true) x i n) (sym (class_of_row e low)) that)
 
 pub held_first : (s : ShelfMeaning) (e i : ℕ) → IsTidy s → IsFirstFree s.rows (e - 5) i → 5 ≤ e → e ≤ 16 → held_with_fresh (live_of s.rows) e ≡ length s.held_ids
@@ -62,8 +62,8 @@ held_full s e tidy full low high =
 abbrev pub with_area : ShelfMeaning → ℕ → List SegmentId → ShelfMeaning
 with_area s c ids = record (with_row s c (longer (per (c + 5)) (row_at s.rows c))) { held_ids = ids }
 
-first_after : (s : ShelfMeaning) (c i : ℕ) (ids : List SegmentId) → IsValidShelf s → c < 12 → IsFull s.rows c → IsFirstFree (with_area s c ids).rows c i → i ≡ length (row_at s.rows c).chunks
-first_after s c i ids valid_shelf small full first =
+first_after : {s : ShelfMeaning} {c i : ℕ} (ids : List SegmentId) → IsValidShelf s → c < 12 → IsFull s.rows c → IsFirstFree (with_area s c ids).rows c i → i ≡ length (row_at s.rows c).chunks
+first_after {s} {c} {i} ids valid_shelf small full first =
     let n = valid_shelf.classes in
     let row : Row = row_at s.rows c in
     let here : row_at (with_area s c ids).rows c ≡ longer (per (c + 5)) row = row_here s.rows c (longer (per (c + 5)) row) (omega arith) in
@@ -79,15 +79,15 @@ first_after s c i ids valid_shelf small full first =
           ]
     ]
 
-took_after : (s : ShelfMeaning) (c i n : ℕ) (ids : List SegmentId) → IsTidy s → IsValidShelf (with_area s c ids) → IsValidShelf (with_put (with_area s c ids) c i (Some (replicate n 0)) true)
+took_after : {s : ShelfMeaning} {c i : ℕ} (n : ℕ) (ids : List SegmentId) → IsTidy s → IsValidShelf (with_area s c ids) → IsValidShelf (with_put (with_area s c ids) c i (Some (replicate n 0)) true)
     → IsFull s.rows c → IsFirstFree (with_area s c ids).rows c i → c < 12 → Took s (with_put (with_area s c ids) c i (Some (replicate n 0)) true) (c + 5) i n
-took_after s c i n ids tidy valid_shelf' valid_shelf'' full first small =
+took_after {s} {c} {i} n ids tidy valid_shelf' valid_shelf'' full first small =
     let many = tidy.valid_shelf.classes in
     let row : Row = row_at s.rows c in
     let m : ℕ = per (c + 5) in
     let u : ShelfMeaning = with_area s c ids in
     let here : row_at u.rows c ≡ longer m row = row_here s.rows c (longer m row) (omega arith) in
-    let sized_area : i ≡ length row.chunks = first_after s c i ids tidy.valid_shelf small full first in
+    let sized_area : i ≡ length row.chunks = first_after ids tidy.valid_shelf small full first in
     let within : i < length (row_at u.rows c).chunks = first.within in
     let t : ShelfMeaning = with_put u c i (Some (replicate n 0)) true in
     let is = tidy.valid_shelf.row c small in
@@ -96,8 +96,8 @@ took_after s c i n ids tidy valid_shelf' valid_shelf'' full first small =
     record {
       index = sized_area ∙ sym (fresh_full s c tidy.valid_shelf small full);
       state =
-          state-put u c i (Some (replicate n 0)) true valid_shelf' valid_shelf'' small within
-          ∙ ap (λ st. with_chunk st (number (c + 5) i) (replicate n 0)) (state_of-same s u c (longer m row) tidy.valid_shelf valid_shelf' refl small (longer_chunks m row) (longer_marks m row));
+          state-put c i (Some (replicate n 0)) true valid_shelf' valid_shelf'' small within
+          ∙ ap (λ st. with_chunk st (number (c + 5) i) (replicate n 0)) (state_of-same c (longer m row) tidy.valid_shelf valid_shelf' refl small (longer_chunks m row) (longer_marks m row));
       tidy = record {
         valid_shelf = valid_shelf'';
         trimmed = λ d l.
@@ -114,18 +114,18 @@ took_after s c i n ids tidy valid_shelf' valid_shelf'' full first small =
                       ap is_some (get_or-set_same (row_at u.rows c).chunks i (Some (replicate n 0)) None within),
                     );
                   }))
-              | inr ne ↦ subst (λ r. IsTrimmed (per (d + 5)) r) (sym (row_other u.rows c d _ ne ∙ row_other s.rows c d _ ne)) (tidy.trimmed d l)
+              | inr ne ↦ subst (λ r. IsTrimmed (per (d + 5)) r) (sym (row_other u.rows _ ne ∙ row_other s.rows _ ne)) (tidy.trimmed d l)
             ];
       };
     }
 
-pub took_grown : (s u t : ShelfMeaning) (e i n : ℕ) → IsTidy s → IsValidShelf u → IsValidShelf t → u ≡ record (with_row s (e - 5) (longer (per e) (row_at s.rows (e - 5)))) { held_ids = u.held_ids }
+pub took_grown : {s u t : ShelfMeaning} (e : ℕ) {i : ℕ} (n : ℕ) → IsTidy s → IsValidShelf u → IsValidShelf t → u ≡ record (with_row s (e - 5) (longer (per e) (row_at s.rows (e - 5)))) { held_ids = u.held_ids }
     → t ≡ with_put u (e - 5) i (Some (replicate n 0)) true → IsFull s.rows (e - 5) → IsFirstFree u.rows (e - 5) i → 5 ≤ e → e ≤ 16 → Took s t e i n
-took_grown s u t e i n tidy valid_shelf' valid_shelf'' grown is full first low high =
+took_grown {s} {u} {t} e {i} n tidy valid_shelf' valid_shelf'' grown is full first low high =
     let c : ℕ = e - 5 in
     let grown' : u ≡ with_area s c u.held_ids = grown ∙ ap (λ x. record (with_row s c (longer (per x) (row_at s.rows c))) { held_ids = u.held_ids }) (class_of_row e low) in
     let is' : t ≡ with_put (with_area s c u.held_ids) c i (Some (replicate n 0)) true = is ∙ ap (λ x. with_put x c i (Some (replicate n 0)) true) grown' in
-    let that = took_after s c i n u.held_ids tidy (subst IsValidShelf grown' valid_shelf') (subst IsValidShelf is' valid_shelf'') full (subst (λ x. IsFirstFree x.rows c i) grown' first) (omega arith) in
+    let that = took_after n u.held_ids tidy (subst IsValidShelf grown' valid_shelf') (subst IsValidShelf is' valid_shelf'') full (subst (λ x. IsFirstFree x.rows c i) grown' first) (omega arith) in
     subst (λ x. Took s x e i n) (sym is') (subst (λ x. Took s (with_put (with_area s c u.held_ids) c i (Some (replicate n 0)) true) x i n) (sym (class_of_row e low)) that)
 
 -- the area that was added has a free chunk
@@ -145,12 +145,12 @@ grown_free s u e valid_shelf grown low high full =
     absurd cc
 
 -- the same, after a call that left the shelf m as it was, s
-pub took_later : (s m u t : ShelfMeaning) (e i n : ℕ) → IsTidy s → m ≡ s → IsValidShelf u → IsValidShelf t → u ≡ record (with_row m (e - 5) (longer (per e) (row_at m.rows (e - 5)))) { held_ids = u.held_ids }
+pub took_later : {s m u t : ShelfMeaning} (e : ℕ) {i : ℕ} (n : ℕ) → IsTidy s → m ≡ s → IsValidShelf u → IsValidShelf t → u ≡ record (with_row m (e - 5) (longer (per e) (row_at m.rows (e - 5)))) { held_ids = u.held_ids }
     → t ≡ with_put u (e - 5) i (Some (replicate n 0)) true → IsFull s.rows (e - 5) → IsFirstFree u.rows (e - 5) i → 5 ≤ e → e ≤ 16 → Took s t e i n
-took_later s m u t e i n tidy same valid_shelf' valid_shelf'' grown is full first low high =
+took_later {m} {u} {t} e {i} n tidy same valid_shelf' valid_shelf'' grown is full first low high =
     subst (λ x. Took x t e i n) same
-    (took_grown m u t e i n (subst IsTidy (sym same) tidy) valid_shelf' valid_shelf'' grown is (subst (λ (x : ShelfMeaning). IsFull x.rows (e - 5)) (sym same) full) first low high)
+    (took_grown e n (subst IsTidy (sym same) tidy) valid_shelf' valid_shelf'' grown is (subst (λ (x : ShelfMeaning). IsFull x.rows (e - 5)) (sym same) full) first low high)
 
-pub grown_free_later : (s m u : ShelfMeaning) (e : ℕ) → IsTidy s → m ≡ s → u ≡ record (with_row m (e - 5) (longer (per e) (row_at m.rows (e - 5)))) { held_ids = u.held_ids } → 5 ≤ e → e ≤ 16
+pub grown_free_later : {s m u : ShelfMeaning} (e : ℕ) → IsTidy s → m ≡ s → u ≡ record (with_row m (e - 5) (longer (per e) (row_at m.rows (e - 5)))) { held_ids = u.held_ids } → 5 ≤ e → e ≤ 16
     → IsFull u.rows (e - 5) → ⊥
-grown_free_later s m u e tidy same grown low high full = grown_free m u e (subst IsValidShelf (sym same) tidy.valid_shelf) grown low high full
+grown_free_later {m} {u} e tidy same grown low high full = grown_free m u e (subst IsValidShelf (sym same) tidy.valid_shelf) grown low high full

@@ -50,7 +50,7 @@ dirty_too : (dirty used : Bool) → (dirty ≡ true → used ≡ true) → (dirt
 dirty_too true used within = sym (within refl)
 dirty_too false used within = refl
 
-module _ (area : AreaMeaning) (ls : Option (List ℕ)) (p : SizedAreaMeaning) (v : place_of area ls ≡ p) (m : IsMeasured area ls) (bits : List Bool)
+module _ {area : AreaMeaning} {ls : Option (List ℕ)} {p : SizedAreaMeaning} (v : place_of area ls ≡ p) (m : IsMeasured area ls) (bits : List Bool)
     (bits_is : (i : ℕ) → bit_in bits i ≡ (bit_in area.dirty i || bit_in area.used i)) where
   is_used : (i : ℕ) → bit_in bits i ≡ bit_in area.used i
   is_used i = bits_is i ∙ dirty_too (bit_in area.dirty i) (bit_in area.used i) (m.valid.dirty_used i)
@@ -58,36 +58,36 @@ module _ (area : AreaMeaning) (ls : Option (List ℕ)) (p : SizedAreaMeaning) (v
   pub within_used : (i : ℕ) → IsSet bits i → IsSet area.used i
   within_used i h = sym (is_used i) ∙ h
 
-  module _ (area' : AreaMeaning) (after : area' ≡ record area { dirty = bits }) (valid' : IsValidArea area') where
+  module _ {area' : AreaMeaning} (after : area' ≡ record area { dirty = bits }) (valid' : IsValidArea area') where
     measured : IsMeasured area' ls
-    measured = shapes.touched_measured area ls p v m area' bits after valid'
+    measured = shapes.touched_measured v m bits after valid'
 
     mark : (i : ℕ) → get_or (touched_in area') i false ≡ is_some (get_or p.chunks i None)
     mark i =
-        shapes.touched_marks area ls p v m area' bits after valid' i ∙ is_used i
-        ∙ sym (sym (ap (λ (q : SizedAreaMeaning). is_some (get_or q.chunks i None)) v) ∙ ap is_some (chunk_of area ls i m.valid) ∙ some_used area ls i)
+        shapes.touched_marks v m bits after valid' i ∙ is_used i
+        ∙ sym (sym (ap (λ (q : SizedAreaMeaning). is_some (get_or q.chunks i None)) v) ∙ ap is_some (chunk_of ls i m.valid) ∙ some_used area ls i)
 
     same_chunks : (place_of area' ls).chunks ≡ p.chunks
-    same_chunks = ap (λ (q : SizedAreaMeaning). q.chunks) (shapes.touched_same area ls p v m area' bits after valid')
+    same_chunks = ap (λ (q : SizedAreaMeaning). q.chunks) (shapes.touched_same v m bits after valid')
 
     marks_now : touched_in area' ≡ map is_some p.chunks
     marks_now =
         ext_get_or false (touched_in area') (map is_some p.chunks)
-        ((is_place area' ls measured).marks ∙ ap (λ cs. length cs) same_chunks ∙ sym (length-map p.chunks is_some))
+        ((is_place measured).marks ∙ ap (λ cs. length cs) same_chunks ∙ sym (length-map p.chunks is_some))
         (λ i l. mark i ∙ sym (used_mark p.chunks i))
 
     pub used_touched_p : place_of area' ls ≡ used_touched p
-    used_touched_p = shapes.touched_same area ls p v m area' bits after valid' ∙ (λ j. record p { touched = marks_now j })
+    used_touched_p = shapes.touched_same v m bits after valid' ∙ (λ j. record p { touched = marks_now j })
 
 -- ---- the shelf
 
-pub touched_view : (v : Version) (quota : ℕ) (ids : List SegmentId) (origin : Origin) (starts : List ℕ) (sized_areas : List SizedAreaMeaning) (s : ShelfMeaning) → shelf_of v quota ids origin starts sized_areas ≡ s
+pub touched_view : {v : Version} {quota : ℕ} {ids : List SegmentId} {origin : Origin} (starts : List ℕ) (sized_areas : List SizedAreaMeaning) {s : ShelfMeaning} → shelf_of v quota ids origin starts sized_areas ≡ s
     → shelf_of v quota ids origin starts (map used_touched sized_areas) ≡ record s { rows = used_touched_rows s.rows }
-touched_view = marks.view_of used_marks makes_used
+touched_view starts sized_areas view = marks.view_of makes_used starts sized_areas view
 
-pub touched_shelf : (v : Version) (quota : ℕ) (ids : List SegmentId) (starts : List ℕ) (sized_areas sized_areas' : List SizedAreaMeaning) (full : List (List Bool)) (room room' spare spare_room : ℕ) → sized_areas' ≡ map used_touched sized_areas → room' ≡ room
+pub touched_shelf : {v : Version} {quota : ℕ} {ids : List SegmentId} {starts : List ℕ} {sized_areas sized_areas' : List SizedAreaMeaning} {full : List (List Bool)} {room room' spare spare_room : ℕ} → sized_areas' ≡ map used_touched sized_areas → room' ≡ room
     → IsShelf v quota ids starts sized_areas full room spare spare_room → IsShelf v quota ids starts sized_areas' full room' spare spare_room
-touched_shelf = marks.kept_shelf used_marks makes_used
+touched_shelf items same is = marks.kept_shelf makes_used items same is
 
 -- ---- the maps then
 
@@ -97,16 +97,16 @@ contains-keys live q = contains-from_list nat_cmp_total (keys live) q ∙ sym (c
 
 pub touched_state : (s t : ShelfMeaning) → IsValidShelf s → IsValidShelf t → t.rows ≡ used_touched_rows s.rows → state_of t.rows ≡ all_touched (state_of s.rows)
 touched_state s t valid_shelf valid_shelf' is =
-    let lives : live_of t.rows ≡ live_of s.rows = marks.lives used_marks makes_used s t valid_shelf valid_shelf' is in
+    let lives : live_of t.rows ≡ live_of s.rows = marks.lives makes_used valid_shelf valid_shelf' is in
     let touches : touched_of t.rows ≡ from_list (keys (live_of s.rows)) =
     same_set nat_cmp_total nat_cmp-IsAntisymmetric (touched_of t.rows) (from_list (keys (live_of s.rows))) (λ q.
     elim (splits q) as (λ _. contains (touched_of t.rows) q ≡ contains (from_list {R = nat_cmp} (keys (live_of s.rows))) q) [
       | below b ↦ contains-touched_of_below t.rows q b ∙ sym (contains-keys (live_of s.rows) q ∙ ap is_some (get-live_of_below s.rows q b))
       | at c j e l ↦
-          contains-touched_of t.rows (kept_marks_fit t valid_shelf') c j q e l ∙ ap (λ (r : Row). get_or r.touched j false) (marks.row_is used_marks makes_used s t is c) ∙ used_mark (row_at s.rows c).chunks j
-          ∙ sym (contains-keys (live_of s.rows) q ∙ ap is_some (get-live_of s.rows (kept_fits s valid_shelf) c j q e l))
+          contains-touched_of t.rows (kept_marks_fit valid_shelf') c j e l ∙ ap (λ (r : Row). get_or r.touched j false) (marks.row_is makes_used s t is c) ∙ used_mark (row_at s.rows c).chunks j
+          ∙ sym (contains-keys (live_of s.rows) q ∙ ap is_some (get-live_of s.rows (kept_fits valid_shelf) c j e l))
     ]) in
     λ i. record { live = lives i; touched = touches i }
 
-pub touched_tidy : (s t : ShelfMeaning) → IsTidy s → IsValidShelf t → t.rows ≡ used_touched_rows s.rows → IsTidy t
-touched_tidy = marks.kept_tidy used_marks makes_used
+pub touched_tidy : {s t : ShelfMeaning} → IsTidy s → IsValidShelf t → t.rows ≡ used_touched_rows s.rows → IsTidy t
+touched_tidy tidy valid_shelf is = marks.kept_tidy makes_used tidy valid_shelf is

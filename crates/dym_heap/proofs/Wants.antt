@@ -71,8 +71,8 @@ settled_again true true = refl
 settled_again true false = refl
 settled_again false s = refl
 
-pub reshaped_again : (u : Bool) (a b c : ChunkMeaning) → IsReshaped u a b → IsReshaped u b c → IsReshaped u a c
-reshaped_again u a b c first second =
+pub reshaped_again : {u : Bool} {a b c : ChunkMeaning} → IsReshaped u a b → IsReshaped u b c → IsReshaped u a c
+reshaped_again {u} {a} {c} first second =
     let wanted : c.touched ≡ (u && not (is_unmodified a)) = second.wanted ∙ (λ i. u && not (first.used i && not (first.wanted i))) ∙ settled_again u (is_unmodified a) in
     record {
       used = second.used;

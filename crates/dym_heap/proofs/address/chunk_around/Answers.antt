@@ -3,13 +3,13 @@ use Rattle.dym_heap.proofs.Offsets.{lies_computed, only_computed, none_computed}
 use Rattle.dym_heap.proofs.address.chunk_around.Goals as goal
 
 pub returns-then-class-ge-CLASSES-clause-only : goal.returns-then-class-ge-CLASSES-clause-only
-returns-then-class-ge-CLASSES-clause-only c = none_computed c.args.quota c.args.offset c.from.result c.from-2.result c.from.ensures c.from-2.ensures (omega arith)
+returns-then-class-ge-CLASSES-clause-only c = none_computed c.args.offset c.from.ensures c.from-2.ensures (omega arith)
 
 pub returns-clause-lies : goal.returns-clause-lies
 returns-clause-lies c =
-    lies_computed c.args.quota c.args.offset c.from.result c.from-2.result c.from-3.result c.from-4.result c.per_area.result c.size_of_class-size.result c.from.ensures c.from-2.ensures c.from-3.ensures c.from-4.ensures c.per_area.ensures c.size_of_class-size.ensures
+    lies_computed c.args.offset c.from.ensures c.from-2.ensures c.from-3.ensures c.from-4.ensures c.per_area.ensures c.size_of_class-size.ensures
     c.requires.least (omega arith)
 
 pub returns-clause-only : goal.returns-clause-only
 returns-clause-only c =
-    only_computed c.args.quota c.args.offset c.from.result c.from-2.result c.from-3.result c.from-4.result c.per_area.result c.size_of_class-size.result c.from.ensures c.from-2.ensures c.from-3.ensures c.from-4.ensures c.per_area.ensures c.size_of_class-size.ensures
+    only_computed c.args.offset c.from.ensures c.from-2.ensures c.from-3.ensures c.from-4.ensures c.per_area.ensures c.size_of_class-size.ensures

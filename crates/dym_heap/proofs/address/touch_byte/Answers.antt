@@ -16,14 +16,14 @@ touch-requires-clause-some g c = some_bytes _ _ c.in-Some.len c.in-Some.ensures.
 pub returns-clause-touched : goal.returns-clause-touched
 returns-clause-touched g c =
     let at = c.in-Some.ensures.sized_area refl in
-    (touches c.args.shelf.now c.touch.new.self c.args.h c.args.at c.in-Some.len c.requires.tidy c.touch.ensures.valid_shelf at.0 at.1 at.2 c.in-Some.ensures.len (let short = c.if-len-at.false in omega arith) c.touch.ensures.touched).each
+    (touches c.args.h c.args.at c.in-Some.len c.requires.tidy c.touch.ensures.valid_shelf at.0 at.1 at.2 c.in-Some.ensures.len (let short = c.if-len-at.false in omega arith) c.touch.ensures.touched).each
 
 pub returns-clause-same : goal.returns-clause-same
 returns-clause-same g c =
     let at = c.in-Some.ensures.sized_area refl in
-    (touches c.args.shelf.now c.touch.new.self c.args.h c.args.at c.in-Some.len c.requires.tidy c.touch.ensures.valid_shelf at.0 at.1 at.2 c.in-Some.ensures.len (let short = c.if-len-at.false in omega arith) c.touch.ensures.touched).same
+    (touches c.args.h c.args.at c.in-Some.len c.requires.tidy c.touch.ensures.valid_shelf at.0 at.1 at.2 c.in-Some.ensures.len (let short = c.if-len-at.false in omega arith) c.touch.ensures.touched).same
 
 pub returns-clause-tidy : goal.returns-clause-tidy
 returns-clause-tidy g c =
     let at = c.in-Some.ensures.sized_area refl in
-    (touches c.args.shelf.now c.touch.new.self c.args.h c.args.at c.in-Some.len c.requires.tidy c.touch.ensures.valid_shelf at.0 at.1 at.2 c.in-Some.ensures.len (let short = c.if-len-at.false in omega arith) c.touch.ensures.touched).tidy
+    (touches c.args.h c.args.at c.in-Some.len c.requires.tidy c.touch.ensures.valid_shelf at.0 at.1 at.2 c.in-Some.ensures.len (let short = c.if-len-at.false in omega arith) c.touch.ensures.touched).tidy

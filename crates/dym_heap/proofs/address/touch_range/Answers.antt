@@ -19,7 +19,7 @@ loop-at-preserved g c =
     let step = c.from.ensures in
     let size_is = c.size_of_class.ensures in
     record {
-      met = met_next s.quota (state_of s.rows) (state_of c.loop-at.shelf.rows) (state_of c.touch_byte.new.shelf.rows) c.args.from c.loop-at.at c.min-at.result c.in-Some.h c.in-Some.byte (search rules) lies low (omega arith) (omega arith) (seen s c.requires.tidy) c.loop-at.invariant.met c.touch_byte.ensures.touched;
+      met = met_next (state_of s.rows) (state_of c.loop-at.shelf.rows) (state_of c.touch_byte.new.shelf.rows) c.args.from c.min-at.result c.in-Some.h (search rules) lies low (omega arith) (omega arith) (seen c.requires.tidy) c.loop-at.invariant.met c.touch_byte.ensures.touched;
       same = c.touch_byte.ensures.same ∙ ap (λ (x : ShelfMeaning). record x { rows = c.touch_byte.new.shelf.rows }) c.loop-at.invariant.same;
       tidy = c.touch_byte.ensures.tidy;
       low = omega arith;
@@ -30,7 +30,7 @@ pub returns-in_default-clause-touched : goal.returns-in_default-clause-touched
 returns-in_default-clause-touched g c =
     let s = c.args.shelf.now in
     let past = subst (λ q. region_end q ≤ c.loop-at.at) c.quota-quota.ensures (c.in_default.ensures.past refl) in
-    met_past s.quota (state_of s.rows) (state_of c.loop-at.shelf.rows) c.args.from c.loop-at.at c.args.end past c.loop-at.invariant.high (seen s c.requires.tidy) c.loop-at.invariant.met
+    met_past s.quota (state_of s.rows) (state_of c.loop-at.shelf.rows) c.args.from c.loop-at.at c.args.end past c.loop-at.invariant.high (seen c.requires.tidy) c.loop-at.invariant.met
 
 pub returns-clause-touched : goal.returns-clause-touched
 returns-clause-touched g c =

@@ -4,5 +4,5 @@ use Rattle.dym_heap.proofs.area_order.copy_up.Goals as goal
 pub returns : goal.returns
 returns g c =
     let parts = c.split_at_mut-low.ensures in
-    up c.args.sized_areas.now _ _ c.args.source.sized_area c.args.source.chunk c.args.target.sized_area c.args.target.chunk c.args.len c.index-low-source.result c.index-high-0.result c.copy_from.new.self c.requires.before c.requires.within parts.value parts.front_len c.index-low-source.is c.index-high-0.is c.copy_from.ensures.copied
+    up _ _ c.args.source.sized_area c.args.source.chunk c.args.target.chunk c.args.len c.requires.before c.requires.within parts.value parts.front_len c.index-low-source.is c.index-high-0.is c.copy_from.ensures.copied
     c.copy_from.ensures.valid

@@ -11,7 +11,7 @@ use Rattle.dym_heap.proofs.chunk.find_number.Goals as goal
 pub returns-in_default : goal.returns-in_default
 returns-in_default g c =
     let out : (exponent_of c.args.n < 5) ⊎ (16 < exponent_of c.args.n) = search rules in
-    let gone = outside c.args.shelf.now c.args.n c.requires.valid_shelf out in
+    let gone = outside c.args.n c.requires.valid_shelf out in
     let nonzero = ne_eqb c.args.n 0 (λ e. (search rules)) in
     sym (cond-false (c.args.n == 0) Nil (cond (contains_key (live_of c.args.shelf.now.rows) c.args.n) (Chunk (handle_of c.args.n)) (Loose c.args.n)) nonzero
     ∙ cond-false (contains_key (live_of c.args.shelf.now.rows) c.args.n) (Chunk (handle_of c.args.n)) (Loose c.args.n) gone)

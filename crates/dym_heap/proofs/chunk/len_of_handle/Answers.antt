@@ -7,10 +7,10 @@ pub returns-then-h-lt-LEAST_EXPONENT-clause-len : goal.returns-then-h-lt-LEAST_E
 returns-then-h-lt-LEAST_EXPONENT-clause-len g c = sym (ap (option_map length) (get_low c.args.shelf.now c.args.h.exp c.args.h.index (omega arith) (search rules)))
 
 pub returns-then-h-gt-GREATEST_EXPONENT-clause-len : goal.returns-then-h-gt-GREATEST_EXPONENT-clause-len
-returns-then-h-gt-GREATEST_EXPONENT-clause-len g c = sym (ap (option_map length) (get_high c.args.shelf.now c.args.h.exp c.args.h.index c.requires.valid_shelf (omega arith) (search rules)))
+returns-then-h-gt-GREATEST_EXPONENT-clause-len g c = sym (ap (option_map length) (get_high c.args.h.exp c.args.h.index c.requires.valid_shelf (omega arith) (search rules)))
 
 pub returns-clause-len : goal.returns-clause-len
-returns-clause-len g c = c.chunk_len.ensures ∙ sym (ap (option_map length) (get_handle c.args.shelf.now c.args.h.exp c.args.h.index c.requires.valid_shelf (omega arith) (search rules)))
+returns-clause-len g c = c.chunk_len.ensures ∙ sym (ap (option_map length) (get_handle c.args.h.exp c.args.h.index c.requires.valid_shelf (omega arith) (search rules)))
 
 pub returns-clause-sized_area : goal.returns-clause-sized_area
-returns-clause-sized_area g c some = (omega arith, omega arith, get_handle c.args.shelf.now c.args.h.exp c.args.h.index c.requires.valid_shelf (omega arith) (search rules))
+returns-clause-sized_area g c some = (omega arith, omega arith, get_handle c.args.h.exp c.args.h.index c.requires.valid_shelf (omega arith) (search rules))

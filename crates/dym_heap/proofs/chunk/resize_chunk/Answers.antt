@@ -7,10 +7,10 @@ use Rattle.dym_heap.proofs.chunk.resize_chunk.Goals as goal
 pub returns-clause-after : goal.returns-clause-after
 returns-clause-after g c =
     let no_one : c.args.shelf.now.version ≡ One → ⊥ = search rules in
-    let r = resized c.args.shelf.now c.resize.new.self c.args.h c.args.len c.args.old c.requires.tidy c.resize.ensures.valid_shelf c.requires.least c.requires.most no_one c.if-len-old.false c.requires.live c.resize.ensures.resized in
-    by_old _ _ _ r.1 r.2
+    let r = resized c.args.h c.requires.tidy c.resize.ensures.valid_shelf c.requires.least c.requires.most no_one c.if-len-old.false c.requires.live c.resize.ensures.resized in
+    by_old _ _ r.1 r.2
 
 pub returns-clause-tidy : goal.returns-clause-tidy
 returns-clause-tidy g c =
     let no_one : c.args.shelf.now.version ≡ One → ⊥ = search rules in
-    (resized c.args.shelf.now c.resize.new.self c.args.h c.args.len c.args.old c.requires.tidy c.resize.ensures.valid_shelf c.requires.least c.requires.most no_one c.if-len-old.false c.requires.live c.resize.ensures.resized).3
+    (resized c.args.h c.requires.tidy c.resize.ensures.valid_shelf c.requires.least c.requires.most no_one c.if-len-old.false c.requires.live c.resize.ensures.resized).3

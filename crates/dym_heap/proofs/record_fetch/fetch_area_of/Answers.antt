@@ -12,9 +12,9 @@ returns-then-is_empty-clause-fetched g c = λ log is e.
 pub fetch_area-requires-clause-body : goal.fetch_area-requires-clause-body
 fetch_area-requires-clause-body g c =
     let has = c.requires.recorded in
-    (bytes_at has.0.copy c.args.k, (loads.body_k has.0 has.1 c.args.k (c.requires.area has.0 has.1 has.2) c.args.shelf.now.version c.area_exp.result c.packed_bits.result c.body-body.result.now (c.requires.version has.0 has.1 has.2) (c.area_exp.ensures.is has.0 has.1 has.2) (c.packed_bits.ensures has.0 has.1 has.2) (c.body-body.ensures has.0 has.1 has.2)))
+    (bytes_at has.0.copy c.args.k, (loads.body_k has.1 c.args.k (c.requires.area has.0 has.1 has.2) c.packed_bits.result (c.requires.version has.0 has.1 has.2) (c.area_exp.ensures.is has.0 has.1 has.2) (c.packed_bits.ensures has.0 has.1 has.2) (c.body-body.ensures has.0 has.1 has.2)))
 
 pub returns-clause-fetched : goal.returns-clause-fetched
 returns-clause-fetched g c = λ log is e.
-    fetches.area_fetched log is c.args.k c.area_exp.result c.area_ordinal.result c.area_exp.ensures.least (c.area_exp.ensures.is log is e) (c.area_ordinal.ensures log is e) c.packed_bits.result (c.packed_bits.ensures log is e) c.args.shelf.now.rows c.fetch_area.new.self.rows
-    (c.fetch_area.ensures.fetched (bytes_at log.copy c.args.k) (loads.body_k log is c.args.k (c.requires.area log is e) c.args.shelf.now.version c.area_exp.result c.packed_bits.result c.body-body.result.now (c.requires.version log is e) (c.area_exp.ensures.is log is e) (c.packed_bits.ensures log is e) (c.body-body.ensures log is e)))
+    fetches.area_fetched is c.args.k c.area_exp.ensures.least (c.area_exp.ensures.is log is e) (c.area_ordinal.ensures log is e) c.packed_bits.result (c.packed_bits.ensures log is e) c.args.shelf.now.rows c.fetch_area.new.self.rows
+    (c.fetch_area.ensures.fetched (bytes_at log.copy c.args.k) (loads.body_k is c.args.k (c.requires.area log is e) c.packed_bits.result (c.requires.version log is e) (c.area_exp.ensures.is log is e) (c.packed_bits.ensures log is e) (c.body-body.ensures log is e)))

@@ -18,7 +18,7 @@ loop-k-preserved g c =
       same = c.fetch_area_of.ensures.same ∙ ap (λ (s : ShelfMeaning). record s { rows = c.fetch_area_of.new.shelf.rows }) c.loop-k.invariant.same;
       tidy = fetches.tidy_fetched has.0 c.loop-k.k c.loop-k.shelf c.fetch_area_of.new.shelf (fetches.class_k has.0 has.1 c.loop-k.k (let n = c.area_count-k-end.ensures.count has.0 has.1 has.2 in let t = c.loop-k-test.true in omega arith)) c.loop-k.invariant.tidy c.fetch_area_of.ensures.valid_shelf c.fetch_area_of.ensures.long (c.fetch_area_of.ensures.fetched has.0 has.1 has.2);
       upto = λ log is e q.
-          steps.upto_more (fetches.Fetched log) (fetches.fetched_twice log) log.copy is.few c.loop-k.k (let n = c.area_count-k-end.ensures.count log is e in let t = c.loop-k-test.true in omega arith) (state_of c.args.shelf.now.rows) c.loop-k.shelf c.fetch_area_of.new.shelf
+          steps.upto_more (fetches.Fetched log) (fetches.fetched_twice log) log.copy is.few c.loop-k.k (let n = c.area_count-k-end.ensures.count log is e in let t = c.loop-k-test.true in omega arith) (state_of c.args.shelf.now.rows)
           c.loop-k.invariant.tidy.valid_shelf c.fetch_area_of.ensures.valid_shelf (c.fetch_area_of.ensures.fetched log is e) q (c.loop-k.invariant.upto log is e q);
     }
 

@@ -15,21 +15,21 @@ pub class_index-class-requires-clause-least : goal.class_index-class-requires-cl
 class_index-class-requires-clause-least c =
     let has = c.area_count-k-end.ensures.recorded in
     let e = c.area_exp.ensures.is has.0 has.1 has.2 in
-    let low = class_low has.0 has.1 c.loop-k.k (let n = c.area_count-k-end.ensures.count has.0 has.1 has.2 in let t = c.loop-k-test.true in omega arith) in
+    let low = class_low has.1 c.loop-k.k (let n = c.area_count-k-end.ensures.count has.0 has.1 has.2 in let t = c.loop-k-test.true in omega arith) in
     omega arith
 
 pub class_index-class-requires-clause-most : goal.class_index-class-requires-clause-most
 class_index-class-requires-clause-most c =
     let has = c.area_count-k-end.ensures.recorded in
     let e = c.area_exp.ensures.is has.0 has.1 has.2 in
-    let high = class_high has.0 has.1 c.loop-k.k (let n = c.area_count-k-end.ensures.count has.0 has.1 has.2 in let t = c.loop-k-test.true in omega arith) in
+    let high = class_high has.1 c.loop-k.k (let n = c.area_count-k-end.ensures.count has.0 has.1 has.2 in let t = c.loop-k-test.true in omega arith) in
     omega arith
 
 pub bounds-counts-class : goal.bounds-counts-class
 bounds-counts-class c =
     let has = c.area_count-k-end.ensures.recorded in
     let e = c.area_exp.ensures.is has.0 has.1 has.2 in
-    let high = class_high has.0 has.1 c.loop-k.k (let n = c.area_count-k-end.ensures.count has.0 has.1 has.2 in let t = c.loop-k-test.true in omega arith) in
+    let high = class_high has.1 c.loop-k.k (let n = c.area_count-k-end.ensures.count has.0 has.1 has.2 in let t = c.loop-k-test.true in omega arith) in
     let i = c.class_index-class.ensures in
     omega arith
 
@@ -48,18 +48,18 @@ pub bounds-counts-class-in-loop-k : goal.bounds-counts-class-in-loop-k
 bounds-counts-class-in-loop-k c =
     let has = c.area_count-k-end.ensures.recorded in
     let e = c.area_exp.ensures.is has.0 has.1 has.2 in
-    let high = class_high has.0 has.1 c.loop-k.k (let n = c.area_count-k-end.ensures.count has.0 has.1 has.2 in let t = c.loop-k-test.true in omega arith) in
+    let high = class_high has.1 c.loop-k.k (let n = c.area_count-k-end.ensures.count has.0 has.1 has.2 in let t = c.loop-k-test.true in omega arith) in
     let i = c.class_index-class.ensures in
     omega arith
 
 pub loop-k-preserved : goal.loop-k-preserved
 loop-k-preserved c = record {
-  counted = counts.counted_more c.args.rec.now c.loop-k.counts c.loop-k.k c.class_index-class.result c.area_exp.result c.area_ordinal.result c.max.result c.loop-k.invariant.counted c.area_count-k-end.ensures.recorded
+  counted = counts.counted_more c.area_exp.result c.area_ordinal.result c.loop-k.invariant.counted c.area_count-k-end.ensures.recorded
       (λ log is e. (let n = c.area_count-k-end.ensures.count log is e in let t = c.loop-k-test.true in omega arith)) c.area_exp.ensures.is c.area_ordinal.ensures c.class_index-class.ensures (greater _ _ _ c.max.ensures);
 }
 
 pub returns-clause-are : goal.returns-clause-are
-returns-clause-are c = counts.counted_all c.args.rec.now c.loop-k.counts c.loop-k.k c.loop-k.invariant.counted (λ log is e. let n = c.area_count-k-end.ensures.count log is e in let t = c.loop-k-test.false in let m = c.loop-k.auto.k-end in omega arith)
+returns-clause-are c = counts.counted_all c.loop-k.invariant.counted (λ log is e. let n = c.area_count-k-end.ensures.count log is e in let t = c.loop-k-test.false in let m = c.loop-k.auto.k-end in omega arith)
 
 pub returns-clause-total : goal.returns-clause-total
-returns-clause-total c = counts.counted_total c.args.rec.now c.loop-k.counts c.loop-k.k c.loop-k.invariant.counted c.area_count-k-end.ensures.recorded (λ log is e. let n = c.area_count-k-end.ensures.count log is e in let t = c.loop-k-test.false in let m = c.loop-k.auto.k-end in omega arith)
+returns-clause-total c = counts.counted_total c.loop-k.invariant.counted c.area_count-k-end.ensures.recorded (λ log is e. let n = c.area_count-k-end.ensures.count log is e in let t = c.loop-k-test.false in let m = c.loop-k.auto.k-end in omega arith)

@@ -15,7 +15,7 @@ pub use_areas-requires-clause-are : goal.use_areas-requires-clause-are
 use_areas-requires-clause-are g c = λ log is e d l. subst (λ n. HasAreas c.take_areas.new.shelf.rows d n) (c.count_areas-counts.ensures.are log is e d l) (c.take_areas.ensures.are d l)
 
 pub returns-clause-keeps : goal.returns-clause-keeps
-returns-clause-keeps g c = fit.keeps_rows _ _ _ _ (fit.keeps_trans _ _ _ c.give_areas.ensures.keeps c.take_areas.ensures.keeps) c.use_areas.ensures.same
+returns-clause-keeps g c = fit.keeps_rows _ (fit.keeps_trans c.give_areas.ensures.keeps c.take_areas.ensures.keeps) c.use_areas.ensures.same
 
 pub returns-clause-shaped : goal.returns-clause-shaped
 returns-clause-shaped g c = λ log is e.

@@ -2,10 +2,10 @@ use Rattle.std.proofs.Common.{arith, refl, ap}
 use Rattle.std.specs.FinMap.{contains_key}
 use Rattle.dym_base.specs.Numbers.{per}
 use Rattle.dym_bits.specs.Bits.{bit_in, bits_of_bytes}
-use Rattle.dym_pack.specs.Areas.{area_at}
 use Rattle.dym_heap.specs.Fetches.{IsReshaped}
 use Rattle.dym_heap.proofs.Fitting as fit
 use Rattle.dym_heap.proofs.Fetches as fetches
+use Rattle.dym_heap.proofs.RecordLoads.{area_as}
 use Rattle.dym_heap.proofs.record_shape.use_area.Goals as goal
 
 pub shape_area-requires-clause-area : goal.shape_area-requires-clause-area
@@ -16,7 +16,7 @@ shape_area-requires-clause-area g c =
 pub shape_area-requires-clause-len : goal.shape_area-requires-clause-len
 shape_area-requires-clause-len g c =
     let has = c.requires.recorded in
-    fit.bitmap_fits _ _ c.area_exp.result (area_at has.0.copy c.args.k).exponent _ (c.use_bytes.ensures.is has.0 has.1 has.2) (c.area_exp.ensures.is has.0 has.1 has.2) refl
+    fit.bitmap_fits _ (c.use_bytes.ensures.is has.0 has.1 has.2) (c.area_exp.ensures.is has.0 has.1 has.2) refl
 
 pub shape_area-requires-clause-below : goal.shape_area-requires-clause-below
 shape_area-requires-clause-below g c = λ i h.
@@ -27,5 +27,5 @@ shape_area-requires-clause-below g c = λ i h.
 
 pub returns-clause-shaped : goal.returns-clause-shaped
 returns-clause-shaped g c = λ log is e.
-    fetches.area_as log c.args.k c.args.shelf.now.rows c.shape_area.new.self.rows c.area_exp.result c.area_ordinal.result (λ i old new. IsReshaped (bit_in (bits_of_bytes c.use_bytes.result.now) i) old new) (λ q old new. IsReshaped (contains_key log.copy q) old new)
-    c.area_exp.ensures.least (c.area_exp.ensures.is log is e) (c.area_ordinal.ensures log is e) (λ i a b l h. fetches.reshaped_bit log c.args.k c.area_exp.result (c.area_exp.ensures.is log is e) i _ (c.use_bytes.ensures.bits log is e i) l a b h) c.shape_area.ensures.shaped
+    area_as log c.args.k (λ i old new. IsReshaped (bit_in (bits_of_bytes c.use_bytes.result.now) i) old new) (λ q old new. IsReshaped (contains_key log.copy q) old new)
+    c.area_exp.ensures.least (c.area_exp.ensures.is log is e) (c.area_ordinal.ensures log is e) (λ i a b l h. fetches.reshaped_bit log c.args.k (c.area_exp.ensures.is log is e) i (c.use_bytes.ensures.bits log is e i) l h) c.shape_area.ensures.shaped

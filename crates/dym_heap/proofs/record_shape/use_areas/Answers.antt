@@ -24,12 +24,12 @@ loop-k-preserved g c = record {
   are = λ log is e d l. c.use_area.ensures.long d ∙ c.loop-k.invariant.are log is e d l;
   upto = λ log is e q.
       steps.upto_more (reshapes.Reshaped log.copy) (reshapes.reshaped_twice log.copy) log.copy is.few c.loop-k.k (let n = c.area_count-k-end.ensures.count log is e in let t = c.loop-k-test.true in omega arith) (state_of c.args.shelf.now.rows)
-      c.loop-k.shelf c.use_area.new.shelf c.loop-k.invariant.valid_shelf c.use_area.ensures.valid_shelf (c.use_area.ensures.shaped log is e) q (c.loop-k.invariant.upto log is e q);
+      c.loop-k.invariant.valid_shelf c.use_area.ensures.valid_shelf (c.use_area.ensures.shaped log is e) q (c.loop-k.invariant.upto log is e q);
 }
 
 pub returns-clause-shaped : goal.returns-clause-shaped
 returns-clause-shaped g c = λ log is e.
-    reshapes.shaped log.version log.copy (state_of c.args.shelf.now.rows) c.loop-k.shelf is.sized is.few c.loop-k.invariant.valid_shelf (c.loop-k.invariant.are log is e)
+    reshapes.shaped log.version log.copy (state_of c.args.shelf.now.rows) is.sized is.few c.loop-k.invariant.valid_shelf (c.loop-k.invariant.are log is e)
     (λ q. subst (λ (n : ℕ). UpTo (reshapes.Reshaped log.copy) log.copy (state_of c.args.shelf.now.rows) (state_of c.loop-k.shelf.rows) n q) (let n = c.area_count-k-end.ensures.count log is e in let t = c.loop-k-test.false in let m = c.loop-k.auto.k-end in omega arith) (c.loop-k.invariant.upto log is e q))
 
 pub returns-clause-tidy : goal.returns-clause-tidy
@@ -38,5 +38,5 @@ returns-clause-tidy g c =
     let log = has.0 in
     let is = has.1 in
     let e = has.2 in
-    reshapes.tidy log.version log.copy (state_of c.args.shelf.now.rows) c.loop-k.shelf is.sized is.few c.loop-k.invariant.valid_shelf (c.loop-k.invariant.are log is e)
+    reshapes.tidy log.version log.copy (state_of c.args.shelf.now.rows) is.sized is.few c.loop-k.invariant.valid_shelf (c.loop-k.invariant.are log is e)
     (λ q. subst (λ (n : ℕ). UpTo (reshapes.Reshaped log.copy) log.copy (state_of c.args.shelf.now.rows) (state_of c.loop-k.shelf.rows) n q) (let n = c.area_count-k-end.ensures.count log is e in let t = c.loop-k-test.false in let m = c.loop-k.auto.k-end in omega arith) (c.loop-k.invariant.upto log is e q))

@@ -12,7 +12,7 @@ use Rattle.dym_heap.proofs.address.Heap+FixedSupply.address.Goals as goal
 
 pub start-start-requires-clause-used : goal.start-start-requires-clause-used
 start-start-requires-clause-used c =
-    subst (λ o. IsSome o) (ap (λ (x : HeapMeaning). get x.state.live (key c.args.h)) (sym c.self.view_is) ∙ live_at c.self.inside.shelf c.self.inside.applied _ c.self.view_is c.self.invariant c.args.h c.requires.least (search rules)) c.requires.live
+    subst (λ o. IsSome o) (ap (λ (x : HeapMeaning). get x.state.live (key c.args.h)) (sym c.self.view_is) ∙ live_at c.self.view_is c.self.invariant c.args.h c.requires.least (search rules)) c.requires.live
 
 pub overflow_mul-at : goal.overflow_mul-at
 overflow_mul-at c = record { fits = offset_small c.args.h.exp c.args.h.index c.per_area.result c.size_of_class.result c.requires.most c.per_area.ensures c.size_of_class.ensures }

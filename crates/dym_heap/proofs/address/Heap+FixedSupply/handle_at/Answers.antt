@@ -5,23 +5,23 @@ use Rattle.dym_heap.proofs.address.Heap+FixedSupply.handle_at.Goals as goal
 
 pub returns-in_default-clause-only : goal.returns-in_default-clause-only
 returns-in_default-clause-only c k has =
-    let one = live_byte c.self.inside.shelf c.self.inside.applied _ c.self.view_is c.self.invariant c.quota.result k c.args.offset c.quota.ensures has in
+    let one = live_byte c.self.view_is c.self.invariant k c.args.offset c.quota.ensures has in
     absurd (c.in_default.ensures.only (exponent_of k) (index_of k) one.at one.lies)
 
 pub returns-in_default-len_of_handle-clause-only : goal.returns-in_default-len_of_handle-clause-only
 returns-in_default-len_of_handle-clause-only c k has =
-    let one = live_byte c.self.inside.shelf c.self.inside.applied _ c.self.view_is c.self.invariant c.quota.result k c.args.offset c.quota.ensures has in
-    let found = found_by _ c.quota.result k c.args.offset one c.in-Some.h c.in-Some.at (c.in-Some.ensures.only (exponent_of k) (index_of k) one.at one.lies) in
-    absurd (found_len c.self.inside.shelf c.self.inside.applied _ c.self.view_is c.in-Some.h c.in-Some.at k _ found c.in_default-len_of_handle.ensures.len)
+    let one = live_byte c.self.view_is c.self.invariant k c.args.offset c.quota.ensures has in
+    let found = found_by one c.in-Some.h (c.in-Some.ensures.only (exponent_of k) (index_of k) one.at one.lies) in
+    absurd (found_len _ c.self.view_is found c.in_default-len_of_handle.ensures.len)
 
 pub returns-then-at-len-clause-only : goal.returns-then-at-len-clause-only
 returns-then-at-len-clause-only c k has =
-    let one = live_byte c.self.inside.shelf c.self.inside.applied _ c.self.view_is c.self.invariant c.quota.result k c.args.offset c.quota.ensures has in
-    let found = found_by _ c.quota.result k c.args.offset one c.in-Some.h c.in-Some.at (c.in-Some.ensures.only (exponent_of k) (index_of k) one.at one.lies) in
-    let long = found_len c.self.inside.shelf c.self.inside.applied _ c.self.view_is c.in-Some.h c.in-Some.at k _ found c.in-Some-len_of_handle.ensures.len in
+    let one = live_byte c.self.view_is c.self.invariant k c.args.offset c.quota.ensures has in
+    let found = found_by one c.in-Some.h (c.in-Some.ensures.only (exponent_of k) (index_of k) one.at one.lies) in
+    let long = found_len _ c.self.view_is found c.in-Some-len_of_handle.ensures.len in
     absurd (omega arith)
 
 pub returns-clause-only : goal.returns-clause-only
 returns-clause-only c k has =
-    let one = live_byte c.self.inside.shelf c.self.inside.applied _ c.self.view_is c.self.invariant c.quota.result k c.args.offset c.quota.ensures has in
-    ap Some (found_by _ c.quota.result k c.args.offset one c.in-Some.h c.in-Some.at (c.in-Some.ensures.only (exponent_of k) (index_of k) one.at one.lies)).is
+    let one = live_byte c.self.view_is c.self.invariant k c.args.offset c.quota.ensures has in
+    ap Some (found_by one c.in-Some.h (c.in-Some.ensures.only (exponent_of k) (index_of k) one.at one.lies)).is

@@ -16,9 +16,9 @@ returns-clause-touched c =
     let less = c.saturating_add.ensures in
     let state = touched_state s.quota c.args.offset sum (state_of s.rows) (state_of c.touch_range.new.shelf.rows) (λ k.
     c.touch_range.ensures.touched k
-    ∙ ap (λ b. touched_besides b (heap_chunk (state_of s.rows) k)) (met_far s.quota (live_of s.rows) c.args.offset c.saturating_add.result sum k cut (omega (arith, less)) (seen s c.self.invariant k))) in
+    ∙ ap (λ b. touched_besides b (heap_chunk (state_of s.rows) k)) (met_far c.args.offset cut (omega (arith, less)) (seen c.self.invariant k))) in
     (λ j. record { version = (same j).version; quota = (same j).quota; state = state j; held_ids = (same j).held_ids; origin = (same j).origin; applied = c.self.inside.applied })
     ∙ ap (λ (h : HeapMeaning). record h { state = touched_in h.quota c.args.offset (c.args.offset + c.args.len) h.state }) c.self.view_is
 
 pub returns-clause-sound : goal.returns-clause-sound
-returns-clause-sound c = sound_of c.touch_range.new.shelf c.self.inside.applied c.touch_range.ensures.tidy
+returns-clause-sound c = sound_of c.self.inside.applied c.touch_range.ensures.tidy

@@ -4,13 +4,13 @@ use Rattle.dym_heap.proofs.Soundness.{sound_of}
 use Rattle.dym_heap.proofs.heap.Heap.fill.Goals as goal
 
 pub returns-in_default-clause-sound : goal.returns-in_default-clause-sound
-returns-in_default-clause-sound g c = subst IsSound c.self.view_is (sound_of c.self.inside.shelf c.self.inside.applied c.self.invariant)
+returns-in_default-clause-sound g c = subst IsSound c.self.view_is (sound_of c.self.inside.applied c.self.invariant)
 
 pub returns-then-from-clause-sound : goal.returns-then-from-clause-sound
-returns-then-from-clause-sound g c = subst IsSound c.self.view_is (sound_of c.self.inside.shelf c.self.inside.applied c.self.invariant)
+returns-then-from-clause-sound g c = subst IsSound c.self.view_is (sound_of c.self.inside.applied c.self.invariant)
 
 pub returns-then-len-eq0-clause-sound : goal.returns-then-len-eq0-clause-sound
-returns-then-len-eq0-clause-sound g c = subst IsSound c.self.view_is (sound_of c.self.inside.shelf c.self.inside.applied c.self.invariant)
+returns-then-len-eq0-clause-sound g c = subst IsSound c.self.view_is (sound_of c.self.inside.applied c.self.invariant)
 
 pub returns-clause-sound : goal.returns-clause-sound
-returns-clause-sound g c = sound_of c.fill_chunk.new.shelf c.self.inside.applied c.fill_chunk.ensures.tidy
+returns-clause-sound g c = sound_of c.self.inside.applied c.fill_chunk.ensures.tidy

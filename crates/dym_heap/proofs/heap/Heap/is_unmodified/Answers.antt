@@ -7,5 +7,5 @@ use Rattle.dym_heap.proofs.heap.Heap.is_unmodified.Goals as goal
 
 pub returns : goal.returns
 returns g c h =
-    let state = clean_state c.self.inside.shelf c.self.inside.shelf c.self.invariant.valid_shelf c.self.invariant.valid_shelf (ap (λ (s : ShelfMeaning). s.rows) (c.is_unmodified.ensures.unmodified h)) in
+    let state = clean_state c.self.invariant.valid_shelf c.self.invariant.valid_shelf (ap (λ (s : ShelfMeaning). s.rows) (c.is_unmodified.ensures.unmodified h)) in
     sym (ap (λ (x : HeapMeaning). x.state.touched) c.self.view_is) ∙ ap (λ (s : HeapState). s.touched) state

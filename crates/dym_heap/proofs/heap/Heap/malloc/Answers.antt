@@ -4,7 +4,7 @@ use Rattle.dym_heap.proofs.Soundness.{sound_of}
 use Rattle.dym_heap.proofs.heap.Heap.malloc.Goals as goal
 
 pub returns-in_default-clause-sound : goal.returns-in_default-clause-sound
-returns-in_default-clause-sound g c = subst IsSound c.self.view_is (sound_of c.self.inside.shelf c.self.inside.applied c.self.invariant)
+returns-in_default-clause-sound g c = subst IsSound c.self.view_is (sound_of c.self.inside.applied c.self.invariant)
 
 pub returns-clause-sound : goal.returns-clause-sound
-returns-clause-sound g c = sound_of c.take_fresh.new.shelf c.self.inside.applied c.take_fresh.ensures.tidy
+returns-clause-sound g c = sound_of c.self.inside.applied c.take_fresh.ensures.tidy

@@ -14,4 +14,4 @@ returns-in-Ok-clause-opened g c =
     λ j. record { version = (same j).version; quota = (same j).quota; state = empty j; held_ids = (same j).held_ids; origin = (same j).origin; applied = 0 }
 
 pub returns-in-Ok-clause-sound : goal.returns-in-Ok-clause-sound
-returns-in-Ok-clause-sound g c = sound_of c.in-Ok.shelf 0 (empty_tidy c.in-Ok.shelf c.in-Ok.ensures.valid_shelf (ap (λ (s : ShelfMeaning). s.rows) c.in-Ok.ensures.opened))
+returns-in-Ok-clause-sound g c = sound_of 0 (empty_tidy c.in-Ok.shelf c.in-Ok.ensures.valid_shelf (ap (λ (s : ShelfMeaning). s.rows) c.in-Ok.ensures.opened))

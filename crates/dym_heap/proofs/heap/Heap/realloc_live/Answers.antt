@@ -4,13 +4,13 @@ use Rattle.dym_heap.proofs.Soundness.{sound_of}
 use Rattle.dym_heap.proofs.heap.Heap.realloc_live.Goals as goal
 
 pub returns-in_default-clause-sound : goal.returns-in_default-clause-sound
-returns-in_default-clause-sound g c = subst IsSound c.self.view_is (sound_of c.self.inside.shelf c.self.inside.applied c.self.invariant)
+returns-in_default-clause-sound g c = subst IsSound c.self.view_is (sound_of c.self.inside.applied c.self.invariant)
 
 pub returns-in_default-class_of-clause-sound : goal.returns-in_default-class_of-clause-sound
-returns-in_default-class_of-clause-sound g c = subst IsSound c.self.view_is (sound_of c.self.inside.shelf c.self.inside.applied c.self.invariant)
+returns-in_default-class_of-clause-sound g c = subst IsSound c.self.view_is (sound_of c.self.inside.applied c.self.invariant)
 
 pub returns-then-exp-h-clause-sound : goal.returns-then-exp-h-clause-sound
-returns-then-exp-h-clause-sound g c = sound_of c.resize_chunk.new.shelf c.self.inside.applied c.resize_chunk.ensures.tidy
+returns-then-exp-h-clause-sound g c = sound_of c.self.inside.applied c.resize_chunk.ensures.tidy
 
 pub returns-clause-sound : goal.returns-clause-sound
-returns-clause-sound g c = sound_of c.move_chunk.new.shelf c.self.inside.applied c.move_chunk.ensures.tidy
+returns-clause-sound g c = sound_of c.self.inside.applied c.move_chunk.ensures.tidy

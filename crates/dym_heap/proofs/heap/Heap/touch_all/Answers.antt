@@ -15,4 +15,4 @@ returns-clause-touched g c =
 
 pub returns-clause-sound : goal.returns-clause-sound
 returns-clause-sound g c =
-    sound_of c.touch_all.new.self c.self.inside.applied (touched_tidy c.self.inside.shelf c.touch_all.new.self c.self.invariant c.touch_all.ensures.valid_shelf (ap (λ (s : ShelfMeaning). s.rows) c.touch_all.ensures.touched))
+    sound_of c.self.inside.applied (touched_tidy c.self.invariant c.touch_all.ensures.valid_shelf (ap (λ (s : ShelfMeaning). s.rows) c.touch_all.ensures.touched))

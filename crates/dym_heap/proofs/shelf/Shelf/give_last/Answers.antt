@@ -24,5 +24,5 @@ drop_area-requires-clause-free g c =
 
 pub returns-clause-rows : goal.returns-clause-rows
 returns-clause-rows g c =
-    emptied.last_rows c.args.self.now c.shape_area.new.self c.drop_area.new.self c.drop_area.new.self.held_ids c.args.exp c.areas-last.result c.requires.least c.requires.most c.areas-last.ensures c.requires.some _ c.shape_area.ensures.shaped (c.shape_area.ensures.long _)
+    emptied.last_rows c.args.self.now c.drop_area.new.self.held_ids c.args.exp c.areas-last.result c.requires.least c.requires.most c.areas-last.ensures c.requires.some c.shape_area.ensures.shaped (c.shape_area.ensures.long _)
     c.shape_area.ensures.valid_shelf c.drop_area.ensures.dropped (pow_pos _)

@@ -6,12 +6,12 @@ use Rattle.dym_heap.proofs.AreaBindings.{bound_touched}
 use Rattle.dym_heap.proofs.shelf.Shelf.touch_all.Goals as goal
 
 pub invariant_of-self : goal.invariant_of-self
-invariant_of-self g c = (touched_shelf _ _ _ _ _ _ _ _ _ _ _ c.touch_sized_areas.ensures.touched c.touch_sized_areas.ensures.room c.self.invariant.0, bound_touched _ _ _ c.touch_sized_areas.ensures.touched c.self.invariant.1)
+invariant_of-self g c = (touched_shelf c.touch_sized_areas.ensures.touched c.touch_sized_areas.ensures.room c.self.invariant.0, bound_touched _ _ _ c.touch_sized_areas.ensures.touched c.self.invariant.1)
 
 pub returns-clause-touched : goal.returns-clause-touched
-returns-clause-touched g c = ap (shelf_of _ _ _ _ _) c.touch_sized_areas.ensures.touched ∙ touched_view _ _ _ _ _ _ _ c.self.view_is
+returns-clause-touched g c = ap (shelf_of _ _ _ _ _) c.touch_sized_areas.ensures.touched ∙ touched_view _ _ c.self.view_is
 
 pub returns-clause-valid_shelf : goal.returns-clause-valid_shelf
 returns-clause-valid_shelf g c =
-    let shelf = touched_shelf _ _ _ _ _ _ _ _ _ _ _ c.touch_sized_areas.ensures.touched c.touch_sized_areas.ensures.room c.self.invariant.0 in
-    is_kept _ _ _ _ _ _ _ _ _ _ shelf.arranged shelf.supplied
+    let shelf = touched_shelf c.touch_sized_areas.ensures.touched c.touch_sized_areas.ensures.room c.self.invariant.0 in
+    is_kept _ shelf.arranged shelf.supplied

@@ -10,6 +10,6 @@ loop-self-init g c = record {
 
 pub loop-self-preserved : goal.loop-self-preserved
 loop-self-preserved g c = record {
-  cuts = cuts_more _ _ _ _ _ (let n = c.requires.valid_shelf.classes in omega arith) c.loop-self.invariant.cuts c.loop-self-test.ensures c.drop_area.ensures.dropped;
+  cuts = cuts_more (let n = c.requires.valid_shelf.classes in omega arith) c.loop-self.invariant.cuts c.loop-self-test.ensures c.drop_area.ensures.dropped;
   valid_shelf = c.drop_area.ensures.valid_shelf;
 }

@@ -4,4 +4,4 @@ use Rattle.dym_heap.proofs.LendingCalls as calls
 use Rattle.dym_heap.proofs.sized_area.SizedArea.dirty_bits.Goals as goal
 
 pub returns : goal.returns
-returns g c = λ i. ap (λ bits. bit_in bits i) c.dirty.ensures ∙ calls.touched_p _ _ _ c.self.view_is c.self.invariant i
+returns g c = λ i. ap (λ bits. bit_in bits i) c.dirty.ensures ∙ calls.touched_p c.self.view_is c.self.invariant i

@@ -7,4 +7,4 @@ use Rattle.dym_heap.proofs.sized_area.SizedArea.is_unmodified.Goals as goal
 pub returns-in-None : goal.returns-in-None
 returns-in-None g c h =
     settled_place c.args.self.now
-    (λ i. sym (ap (λ bits. bit_in bits i) c.dirty.ensures ∙ calls.touched_p _ _ _ c.self.view_is c.self.invariant i) ∙ c.in-None.ensures i (omega arith))
+    (λ i. sym (ap (λ bits. bit_in bits i) c.dirty.ensures ∙ calls.touched_p c.self.view_is c.self.invariant i) ∙ c.in-None.ensures i (omega arith))

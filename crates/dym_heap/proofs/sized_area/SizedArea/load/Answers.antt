@@ -6,16 +6,16 @@ use Rattle.dym_heap.proofs.sized_area.SizedArea.load.Goals as goal
 
 pub returns-in-None-clause-loaded : goal.returns-in-None-clause-loaded
 returns-in-None-clause-loaded g c = λ f is.
-    (loads.loads_one _ _ _ c.self.view_is c.self.invariant _ c.args.packed.now c.args.wanted.now c.args.body.now c.requires.wanted f is c.load_runs.ensures.valid (ap numbers_of c.in-None.is) c.load_runs.ensures.loaded).loaded
+    (loads.loads_one c.self.view_is c.self.invariant c.args.wanted.now c.requires.wanted is c.load_runs.ensures.valid (ap numbers_of c.in-None.is) c.load_runs.ensures.loaded).loaded
 
 pub returns-in-None-clause-valid : goal.returns-in-None-clause-valid
 returns-in-None-clause-valid g c =
-    is_place _ _ (loads.loads_one _ _ _ c.self.view_is c.self.invariant _ c.args.packed.now c.args.wanted.now c.args.body.now c.requires.wanted c.requires.body.0 c.requires.body.1 c.load_runs.ensures.valid (ap numbers_of c.in-None.is) c.load_runs.ensures.loaded).measured
+    is_place (loads.loads_one c.self.view_is c.self.invariant c.args.wanted.now c.requires.wanted c.requires.body.1 c.load_runs.ensures.valid (ap numbers_of c.in-None.is) c.load_runs.ensures.loaded).measured
 
 pub returns-in-Some-clause-loaded : goal.returns-in-Some-clause-loaded
 returns-in-Some-clause-loaded g c = λ f is.
-    (loads.loads_two _ _ _ c.self.view_is c.self.invariant _ c.args.packed.now c.args.wanted.now c.args.body.now c.requires.wanted f is c.load_sized.ensures.valid _ _ (ap numbers_of c.in-Some.is) c.load_sized.ensures.loaded c.load_sized.ensures.with_length).loaded
+    (loads.loads_two c.self.view_is c.self.invariant c.args.wanted.now c.requires.wanted is c.load_sized.ensures.valid _ _ (ap numbers_of c.in-Some.is) c.load_sized.ensures.loaded c.load_sized.ensures.with_length).loaded
 
 pub returns-in-Some-clause-valid : goal.returns-in-Some-clause-valid
 returns-in-Some-clause-valid g c =
-    is_place _ _ (loads.loads_two _ _ _ c.self.view_is c.self.invariant _ c.args.packed.now c.args.wanted.now c.args.body.now c.requires.wanted c.requires.body.0 c.requires.body.1 c.load_sized.ensures.valid _ _ (ap numbers_of c.in-Some.is) c.load_sized.ensures.loaded c.load_sized.ensures.with_length).measured
+    is_place (loads.loads_two c.self.view_is c.self.invariant c.args.wanted.now c.requires.wanted c.requires.body.1 c.load_sized.ensures.valid _ _ (ap numbers_of c.in-Some.is) c.load_sized.ensures.loaded c.load_sized.ensures.with_length).measured

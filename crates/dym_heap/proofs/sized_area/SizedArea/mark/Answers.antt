@@ -8,13 +8,13 @@ pub set_dirty-requires-clause-used : goal.set_dirty-requires-clause-used
 set_dirty-requires-clause-used g c = shapes.dirty_or_used c.self.inside.area c.args.packed.now c.intersection-packed.result c.union-touched.result c.self.invariant.valid (λ i. c.intersection-packed.ensures.bits i ∙ ap (λ bits. bit_in bits i && bit_in c.args.packed.now i) c.used.ensures) (λ i. c.union-touched.ensures.bits i ∙ ap (λ bits. bit_in bits i || bit_in c.intersection-packed.result i) c.dirty.ensures)
 
 pub invariant_of-self : goal.invariant_of-self
-invariant_of-self g c = shapes.touched_measured _ _ _ c.self.view_is c.self.invariant c.set_dirty.new.self c.union-touched.result c.set_dirty.ensures.after c.set_dirty.ensures.valid
+invariant_of-self g c = shapes.touched_measured c.self.view_is c.self.invariant c.union-touched.result c.set_dirty.ensures.after c.set_dirty.ensures.valid
 
 pub returns-clause-same : goal.returns-clause-same
-returns-clause-same g c = shapes.touched_same _ _ _ c.self.view_is c.self.invariant c.set_dirty.new.self c.union-touched.result c.set_dirty.ensures.after c.set_dirty.ensures.valid
+returns-clause-same g c = shapes.touched_same c.self.view_is c.self.invariant c.union-touched.result c.set_dirty.ensures.after c.set_dirty.ensures.valid
 
 pub returns-clause-marked : goal.returns-clause-marked
-returns-clause-marked g c = shapes.marked_chunk _ _ _ c.self.view_is c.self.invariant c.set_dirty.new.self c.union-touched.result c.args.packed.now c.intersection-packed.result c.set_dirty.ensures.after c.set_dirty.ensures.valid (λ i. c.intersection-packed.ensures.bits i ∙ ap (λ bits. bit_in bits i && bit_in c.args.packed.now i) c.used.ensures) (λ i. c.union-touched.ensures.bits i ∙ ap (λ bits. bit_in bits i || bit_in c.intersection-packed.result i) c.dirty.ensures)
+returns-clause-marked g c = shapes.marked_chunk c.self.view_is c.self.invariant c.union-touched.result c.args.packed.now c.intersection-packed.result c.set_dirty.ensures.after c.set_dirty.ensures.valid (λ i. c.intersection-packed.ensures.bits i ∙ ap (λ bits. bit_in bits i && bit_in c.args.packed.now i) c.used.ensures) (λ i. c.union-touched.ensures.bits i ∙ ap (λ bits. bit_in bits i || bit_in c.intersection-packed.result i) c.dirty.ensures)
 
 pub returns-clause-valid : goal.returns-clause-valid
-returns-clause-valid g c = is_place _ _ (shapes.touched_measured _ _ _ c.self.view_is c.self.invariant c.set_dirty.new.self c.union-touched.result c.set_dirty.ensures.after c.set_dirty.ensures.valid)
+returns-clause-valid g c = is_place (shapes.touched_measured c.self.view_is c.self.invariant c.union-touched.result c.set_dirty.ensures.after c.set_dirty.ensures.valid)

@@ -12,4 +12,4 @@ returns-clause-made g c =
 
 pub returns-clause-valid : goal.returns-clause-valid
 returns-clause-valid g c =
-    is_place c.new.result (numbers_of c.args.lengths) (made c.new.result (numbers_of c.args.lengths) c.new.ensures.valid c.new.ensures.none).measured
+    is_place (made c.new.result (numbers_of c.args.lengths) c.new.ensures.valid c.new.ensures.none).measured

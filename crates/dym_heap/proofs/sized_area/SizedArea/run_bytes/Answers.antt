@@ -6,7 +6,7 @@ use Rattle.dym_heap.proofs.PlaceFacts as facts
 use Rattle.dym_heap.proofs.sized_area.SizedArea.run_bytes.Goals as goal
 
 pub run_bytes-requires : goal.run_bytes-requires
-run_bytes-requires g c i low high = facts.set_p _ _ _ c.self.view_is c.self.invariant i (c.requires.used i low high)
+run_bytes-requires g c i low high = facts.set_p c.self.view_is c.self.invariant i (c.requires.used i low high)
 
 pub returns : goal.returns
 returns g c = λ one.
@@ -15,4 +15,4 @@ returns g c = λ one.
     let long = ap (λ n. c.args.count * n) e in
     let whole = c.self.invariant.valid.content_len in
     let fits = c.requires.within in
-    c.run_bytes.ensures ∙ calls.run_p _ _ _ c.self.view_is c.self.invariant c.args.from c.args.count one c.requires.used (omega arith)
+    c.run_bytes.ensures ∙ calls.run_p c.self.view_is c.self.invariant c.args.from c.args.count one c.requires.used (omega arith)

@@ -5,9 +5,9 @@ use Rattle.dym_heap.proofs.PlaceFacts as facts
 use Rattle.dym_heap.proofs.sized_area.SizedArea.used_len.Goals as goal
 
 pub noted_len-requires-clause-within : goal.noted_len-requires-clause-within
-noted_len-requires-clause-within g c = facts.few_p _ _ _ c.self.view_is c.self.invariant c.args.i (c.self.invariant.valid.used_below c.args.i (facts.set_p _ _ _ c.self.view_is c.self.invariant c.args.i c.requires))
+noted_len-requires-clause-within g c = facts.few_p c.self.view_is c.self.invariant c.args.i (c.self.invariant.valid.used_below c.args.i (facts.set_p c.self.view_is c.self.invariant c.args.i c.requires))
 
 pub returns : goal.returns
 returns g c =
     ap Some (c.noted_len.ensures ∙ (ap (λ e. len_of e (numbers_of c.self.inside.lengths) c.args.i) c.exp.ensures))
-    ∙ facts.len_used_p _ _ _ c.self.view_is c.self.invariant c.args.i (facts.set_p _ _ _ c.self.view_is c.self.invariant c.args.i c.requires)
+    ∙ facts.len_used_p c.self.view_is c.self.invariant c.args.i (facts.set_p c.self.view_is c.self.invariant c.args.i c.requires)
