@@ -135,7 +135,7 @@ next_free (Some f) {v} {quota} {ids} {starts} {sized_areas} {full} c apart is bo
           let within = at.within in
           let rising = is.arranged.rising c small in
           let low : at.o < quota = (let i = found.1 in let e = at.at in omega arith) in
-          let top = class_end c is.arranged small in
+          let top = class_end is.arranged small in
           let one = apart at.c at.o c n low (omega arith) (sym here ∙ found.2 d) in
           let end : get_or starts (at.c + 1) 0 ≡ get_or starts (c + 1) 0 = ap (λ x. get_or starts (x + 1) 0) one.0 in
           let start : get_or starts at.c 0 ≡ get_or starts c 0 = ap (λ x. get_or starts x 0) one.0 in

@@ -168,7 +168,7 @@ pub small_k : {live : Live} {k : ℕ} (i : ℕ) (n : Named live k) → held live
 small_k i n few l below =
     let b = n.below in
     let least = mul-add-lt n.o (per n.e) i 1024 (omega arith) below in
-    let p = per_fits n.e n.least in
+    let p = per_fits n.least in
     omega arith
 
 -- an area of a class stands somewhere in the list

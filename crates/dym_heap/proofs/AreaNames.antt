@@ -64,18 +64,18 @@ module _ {v : Version} {quota : ℕ} {ids : List SegmentId} {origin : Origin} {s
   abbrev names : ℕ → List AreaName
   names e = map (λ o. record { exponent = e; ordinal = o }) (range_with_len 0 (areas (live_of s.rows) e))
 
-  pub areas_c : (c : ℕ) (l : c < 12) → areas (live_of s.rows) (c + 5) ≡ count_c is.arranged c l
+  pub areas_c : (c : ℕ) (l : c < 12) → areas (live_of s.rows) (c + 5) ≡ count_c is.arranged l
   areas_c c l =
-      let n : ℕ = count_c is.arranged c l in
+      let n : ℕ = count_c is.arranged l in
       row_areas s.rows (kept_fits tidy.valid_shelf) c (tidy.trimmed c l)
-      ∙ ap (λ (r : Row). length r.chunks / per (c + 5)) (row_s view is c l)
-      ∙ ap (λ k. k / per (c + 5)) (whole_row is.arranged c l ∙ sym (add-zero (n * per (c + 5)))) ∙ div-mul-add n (per (c + 5)) 0 (pow_pos (16 - (c + 5)))
+      ∙ ap (λ (r : Row). length r.chunks / per (c + 5)) (row_s view is l)
+      ∙ ap (λ k. k / per (c + 5)) (whole_row is.arranged l ∙ sym (add-zero (n * per (c + 5)))) ∙ div-mul-add n (per (c + 5)) 0 (pow_pos (16 - (c + 5)))
 
   names_c : (c : ℕ) → c < 12 → names (c + 5) ≡ map name_of (class_sized_areas starts sized_areas c)
   names_c c l =
-      let n : ℕ = count_c is.arranged c l in
+      let n : ℕ = count_c is.arranged l in
       let many = areas_c c l in
-      let long = length-row is.arranged c l in
+      let long = length-row is.arranged l in
       let name : ℕ → AreaName = λ o. record { exponent = c + 5; ordinal = o } in
       ap (λ k. map name (range_with_len 0 k)) many
       ∙ ext_get_or (name 0) (map name (range_with_len 0 n)) (map name_of (class_sized_areas starts sized_areas c))
@@ -83,10 +83,10 @@ module _ {v : Version} {quota : ℕ} {ids : List SegmentId} {origin : Origin} {s
       (λ o m.
       let within : o < n = omega (arith, length-map-range_with_len name 0 n) in
       let p : SizedAreaMeaning = record { version = v; exponent = 0; ordinal = 0; identity = record { region = 0; number = 0 }; chunks = []; touched = [] } in
-      let placed = placed_c is.arranged c l o p within in
+      let placed = placed_c is.arranged l p within in
       get_or-map-range_with_len name 0 n o o (name 0) within (omega arith)
       ∙ (λ j. record { exponent = sym placed.exponent j; ordinal = sym placed.ordinal j })
-      ∙ ap name_of (sym (sized_area-row is.arranged c l o p within))
+      ∙ ap name_of (sym (sized_area-row is.arranged l p within))
       ∙ sym (get_or-map name_of (class_sized_areas starts sized_areas c) o p (name 0) (omega arith)))
 
   pub names_are : area_list (live_of s.rows) ≡ map name_of sized_areas
@@ -97,7 +97,7 @@ module _ {v : Version} {quota : ℕ} {ids : List SegmentId} {origin : Origin} {s
       let each = joined names starts sized_areas 5 0 12
       (λ i l. let e : 0 + i ≡ i = omega arith in subst (λ x. get_or starts x 0 ≤ length sized_areas) (sym e)
       (elim (cases_lt i 12) as (λ _. get_or starts i 0 ≤ length sized_areas) [
-        | inl m ↦ (let up = is.arranged.rising i m in let top = class_end i is.arranged m in omega arith)
+        | inl m ↦ (let up = is.arranged.rising i m in let top = class_end is.arranged m in omega arith)
         | inr past ↦ (let same : i ≡ 12 = omega arith in let at : get_or starts i 0 ≡ get_or starts 12 0 = ap (λ k. get_or starts k 0) same in omega arith)
       ]))
       (λ i l. let e : 0 + i ≡ i = omega arith in subst (λ x. get_or starts x 0 ≤ get_or starts (x + 1) 0) (sym e) (is.arranged.rising i l))

@@ -16,14 +16,14 @@ use Rattle.dym_heap.proofs.Wants.{no_chunk}
 
 -- ---- chunks by their numbers and by their rows
 
-pub chunk_in_row : {s : ShelfMeaning} → IsValidShelf s → (d j : ℕ) {q : ℕ} → q ≡ number (d + 5) j → j < 2 ^ 32 → heap_chunk (state_of s.rows) q ≡ row_chunk s.rows d j
-chunk_in_row {s} valid_shelf d j {q} is small = λ i. record {
+pub chunk_in_row : {s : ShelfMeaning} → IsValidShelf s → (d : ℕ) {j : ℕ} {q : ℕ} → q ≡ number (d + 5) j → j < 2 ^ 32 → heap_chunk (state_of s.rows) q ≡ row_chunk s.rows d j
+chunk_in_row {s} valid_shelf d {j} {q} is small = λ i. record {
   bytes = get-live_of s.rows (kept_fits valid_shelf) d j is small i;
-  touched = contains-touched_of s.rows (kept_marks_fit valid_shelf) d j is small i;
+  touched = contains-touched_of s.rows (kept_marks_fit valid_shelf) d is small i;
 }
 
 pub chunk_below : (s : ShelfMeaning) (q : ℕ) → q < number 5 0 → heap_chunk (state_of s.rows) q ≡ no_chunk
-chunk_below s q low = λ i. record { bytes = get-live_of_below s.rows q low i; touched = contains-touched_of_below s.rows q low i }
+chunk_below s q low = λ i. record { bytes = get-live_of_below s.rows q low i; touched = contains-touched_of_below s.rows low i }
 
 -- ---- the loop
 
@@ -111,8 +111,8 @@ module _ (R : ℕ → ChunkMeaning → ChunkMeaning → Type 0) (trans : (q : �
       subst (λ x. R x (row_chunk mid.rows (e - 5) j) (row_chunk new.rows (e - 5) j)) (sym q_is)
       (subst (λ x. R (chunk_number copy k i) (row_chunk mid.rows (e - 5) x) (row_chunk new.rows (e - 5) x)) j_is (changes.here i (omega arith))) in
       let step : R q (heap_chunk (state_of mid.rows) q) (heap_chunk (state_of new.rows) q) =
-      subst (λ x. R q x (heap_chunk (state_of new.rows) q)) (sym (chunk_in_row kept_mid (e - 5) j q_row small))
-      (subst (λ x. R q (row_chunk mid.rows (e - 5) j) x) (sym (chunk_in_row valid_shelf (e - 5) j q_row small)) here) in
+      subst (λ x. R q x (heap_chunk (state_of new.rows) q)) (sym (chunk_in_row kept_mid (e - 5) q_row small))
+      (subst (λ x. R q (row_chunk mid.rows (e - 5) j) x) (sym (chunk_in_row valid_shelf (e - 5) q_row small)) here) in
       inl (elim done as (λ _. R q (heap_chunk old q) (heap_chunk (state_of new.rows) q)) [
         | inl was ↦ trans q (heap_chunk old q) (heap_chunk (state_of mid.rows) q) (heap_chunk (state_of new.rows) q) was step
         | inr rest ↦ subst (λ x. R q x (heap_chunk (state_of new.rows) q)) rest.0 step
@@ -126,7 +126,7 @@ module _ (R : ℕ → ChunkMeaning → ChunkMeaning → Type 0) (trans : (q : �
         | below b ↦ outside q (chunk_below new q b ∙ sym (chunk_below mid q b)) (λ i m q_is. let low = e_low in omega arith) done
         | at d j q_is small ↦
             let same : (d ≡ e - 5 → j / n ≡ o → ⊥) → (heap_chunk (state_of new.rows) q ≡ heap_chunk (state_of mid.rows) q) = λ ne.
-            chunk_in_row valid_shelf d j q_is small ∙ changes.others d j ne ∙ sym (chunk_in_row kept_mid d j q_is small) in
+            chunk_in_row valid_shelf d q_is small ∙ changes.others d j ne ∙ sym (chunk_in_row kept_mid d q_is small) in
             elim (cases_eq d (e - 5)) as (λ _. UpTo R copy old (state_of new.rows) (k + 1) q) [
               | inr ne ↦ outside q (same (λ x y. ne x)) (λ i m at_q. let s = small_n i m in let r = row_is in ne (omega arith)) done
               | inl one ↦

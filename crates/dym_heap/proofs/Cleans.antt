@@ -72,9 +72,9 @@ clean_state {s} {t} valid_shelf valid_shelf' is =
     let touches : touched_of t.rows ≡ set_of.empty {R = nat_cmp} =
     same_set nat_cmp_total nat_cmp-IsAntisymmetric (touched_of t.rows) (set_of.empty {R = nat_cmp}) (λ q.
     elim (splits q) as (λ _. set_of.contains (touched_of t.rows) q ≡ set_of.contains (set_of.empty {R = nat_cmp}) q) [
-      | below b ↦ contains-touched_of_below t.rows q b ∙ sym (contains-empty nat_cmp q)
+      | below b ↦ contains-touched_of_below t.rows b ∙ sym (contains-empty nat_cmp q)
       | at c j e l ↦
-          contains-touched_of t.rows (kept_marks_fit valid_shelf') c j e l ∙ ap (λ (r : Row). get_or r.touched j false) (marks.row_is makes_none s t is c) ∙ no_mark (length (row_at s.rows c).touched) j ∙ sym (contains-empty nat_cmp q)
+          contains-touched_of t.rows (kept_marks_fit valid_shelf') c e l ∙ ap (λ (r : Row). get_or r.touched j false) (marks.row_is makes_none s t is c) ∙ no_mark (length (row_at s.rows c).touched) j ∙ sym (contains-empty nat_cmp q)
     ]) in
     λ i. record { live = lives i; touched = touches i }
 

@@ -23,7 +23,7 @@ no_chunk n m i fits = ap (λ xs. bit_in (bits_of_bytes xs) i) (take-replicate n 
 pub none_set : (n m i k : ℕ) → n ≤ m → IsSet (bits_of_bytes (take n (replicate m 0))) i → i < k
 none_set n m i k fits h = absurd (true≢false (sym h ∙ no_chunk n m i fits))
 
-module _ (rows : List Row) (e r : ℕ) (low : 5 ≤ e) (high : e ≤ 16) (many : length (row_at rows (e - 5)).chunks ≡ r * per (e - 5 + 5)) (some : per e ≤ length (row_at rows (e - 5)).chunks) where
+module _ (rows : List Row) {e : ℕ} (r : ℕ) (low : 5 ≤ e) (high : e ≤ 16) (many : length (row_at rows (e - 5)).chunks ≡ r * per (e - 5 + 5)) (some : per e ≤ length (row_at rows (e - 5)).chunks) where
   per_is : per (e - 5 + 5) ≡ per e
   per_is = ap per (let h : e - 5 + 5 ≡ e = omega arith in h)
 
@@ -64,7 +64,7 @@ module _ (rows : List Row) (e r : ℕ) (low : 5 ≤ e) (high : e ≤ 16) (many :
       }
 
 -- the chunks before the last area stay as they are
-module _ (old : ShelfMeaning) {mid new : ShelfMeaning} (ids : List SegmentId) (e r : ℕ) (low : 5 ≤ e) (high : e ≤ 16) (many : length (row_at old.rows (e - 5)).chunks ≡ r * per (e - 5 + 5)) (some : per e ≤ length (row_at old.rows (e - 5)).chunks)
+module _ (old : ShelfMeaning) {mid new : ShelfMeaning} (ids : List SegmentId) {e : ℕ} (r : ℕ) (low : 5 ≤ e) (high : e ≤ 16) (many : length (row_at old.rows (e - 5)).chunks ≡ r * per (e - 5 + 5)) (some : per e ≤ length (row_at old.rows (e - 5)).chunks)
     {Change : ℕ → ChunkMeaning → ChunkMeaning → Type 0} (shaped : IsChangedArea old.rows mid.rows (e - 5) (r - 1) Change) (long : length (row_at mid.rows (e - 5)).chunks ≡ length (row_at old.rows (e - 5)).chunks) (valid_shelf : IsValidShelf mid)
     (dropped : new ≡ without_last mid (e - 5) (per e) ids) (positive : 0 < per e) where
   abbrev left : ℕ
@@ -94,9 +94,9 @@ module _ (old : ShelfMeaning) {mid new : ShelfMeaning} (ids : List SegmentId) (e
             let count = ap (λ x. length (row_at new.rows x).chunks) one ∙ ap (λ (x : Row). length x.chunks) row_there in
             let room = length-take left (row_at mid.rows (e - 5)).chunks in
             let l : i < left = (let h = inside one in omega arith) in
-            let start = last_start old.rows e r low high many some positive in
-            let row : (r - 1) * per (e - 5 + 5) ≡ (r - 1) * per e = ap (λ k. (r - 1) * k) (per_is old.rows e r low high many some) in
-            let full : 0 < per (e - 5 + 5) = (let x = per_is old.rows e r low high many some in omega arith) in
+            let start = last_start old.rows r low high many some positive in
+            let row : (r - 1) * per (e - 5 + 5) ≡ (r - 1) * per e = ap (λ k. (r - 1) * k) (per_is old.rows r low high many some) in
+            let full : 0 < per (e - 5 + 5) = (let x = per_is old.rows r low high many some in omega arith) in
             let area = div_below i (per (e - 5 + 5)) (r - 1) full (omega arith) in
             ap (λ x. row_chunk new.rows x i) one ∙ before i l ∙ shaped.others (e - 5) i (λ x y. omega arith) ∙ sym (ap (λ x. row_chunk old.rows x i) one)
       ]

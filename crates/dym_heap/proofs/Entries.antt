@@ -126,13 +126,13 @@ mark_rows_at q e (suc c) j (r ∷ rows) is l fits =
     (marks_at q (number e 0) ((c + 1) * 2 ^ 32 + j) r.touched (omega arith) ∙ get_or_past r.touched _ false (let f = fits 0 in omega arith))
     ∙ mark_rows_at q (e + 1) c j rows (omega arith) l (λ d. fits (suc d))
 
-pub contains-touched_of : (rows : List Row) → MarksFit rows → (c j : ℕ) {q : ℕ} → q ≡ number (c + 5) j → j < 2 ^ 32 → fset.contains (touched_of rows) q ≡ touch_at rows c j
+pub contains-touched_of : (rows : List Row) → MarksFit rows → (c : ℕ) {j : ℕ} {q : ℕ} → q ≡ number (c + 5) j → j < 2 ^ 32 → fset.contains (touched_of rows) q ≡ touch_at rows c j
 unfolding touched_of
-contains-touched_of rows fits c j {q} is l = contains-from_list_nat (marks_of 5 rows) q ∙ mark_rows_at q 5 c j rows (omega arith) l fits
+contains-touched_of rows fits c {j} {q} is l = contains-from_list_nat (marks_of 5 rows) q ∙ mark_rows_at q 5 c j rows (omega arith) l fits
 
-pub contains-touched_of_below : (rows : List Row) (q : ℕ) → q < number 5 0 → fset.contains (touched_of rows) q ≡ false
+pub contains-touched_of_below : (rows : List Row) {q : ℕ} → q < number 5 0 → fset.contains (touched_of rows) q ≡ false
 unfolding touched_of
-contains-touched_of_below rows q l = contains-from_list_nat (marks_of 5 rows) q ∙ mark_rows_below q 5 rows l
+contains-touched_of_below rows {q} l = contains-from_list_nat (marks_of 5 rows) q ∙ mark_rows_below q 5 rows l
 
 -- ---- a number is below every class, or the number of a handle
 
@@ -214,10 +214,10 @@ touched_of-changed {old} {new} {c} j {b} fits fits' l change =
     same_set nat_cmp_total nat_cmp-IsAntisymmetric (touched_of new) (with_mark (touched_of old) (number (c + 5) j) b) (λ q.
     elim (splits q) as (λ _. fset.contains (touched_of new) q ≡ fset.contains (with_mark (touched_of old) (number (c + 5) j) b) q) [
       | below low ↦
-          contains-touched_of_below new q low
-          ∙ sym (contains-with_mark (touched_of old) (number (c + 5) j) b q ∙ cond-false (q == number (c + 5) j) b _ (ne_eqb q _ (λ e. omega arith)) ∙ contains-touched_of_below old q low)
+          contains-touched_of_below new low
+          ∙ sym (contains-with_mark (touched_of old) (number (c + 5) j) b q ∙ cond-false (q == number (c + 5) j) b _ (ne_eqb q _ (λ e. omega arith)) ∙ contains-touched_of_below old low)
       | at d i is within ↦
-          contains-touched_of new fits' d i is within
+          contains-touched_of new fits' d is within
           ∙ elim (cases_eq q (number (c + 5) j)) as (λ _. touch_at new d i ≡ fset.contains (with_mark (touched_of old) (number (c + 5) j) b) q) [
             | inl e ↦
                 let same_class : d ≡ c = omega arith in
@@ -226,7 +226,7 @@ touched_of-changed {old} {new} {c} j {b} fits fits' l change =
                 ∙ sym (contains-with_mark (touched_of old) (number (c + 5) j) b q ∙ cond-true (q == number (c + 5) j) b _ (eq-eqb q _ e))
             | inr ne ↦
                 change.others d i (λ same_class same_index. ne (omega arith))
-                ∙ sym (contains-with_mark (touched_of old) (number (c + 5) j) b q ∙ cond-false (q == number (c + 5) j) b _ (ne_eqb q _ ne) ∙ contains-touched_of old fits d i is within)
+                ∙ sym (contains-with_mark (touched_of old) (number (c + 5) j) b q ∙ cond-false (q == number (c + 5) j) b _ (ne_eqb q _ ne) ∙ contains-touched_of old fits d is within)
           ]
     ])
 
@@ -234,6 +234,6 @@ pub touched_of-same : (old new : List Row) → MarksFit old → MarksFit new →
 touched_of-same old new fits fits' each =
     same_set nat_cmp_total nat_cmp-IsAntisymmetric (touched_of new) (touched_of old) (λ q.
     elim (splits q) as (λ _. fset.contains (touched_of new) q ≡ fset.contains (touched_of old) q) [
-      | below b ↦ contains-touched_of_below new q b ∙ sym (contains-touched_of_below old q b)
-      | at d i is within ↦ contains-touched_of new fits' d i is within ∙ each d i ∙ sym (contains-touched_of old fits d i is within)
+      | below b ↦ contains-touched_of_below new b ∙ sym (contains-touched_of_below old b)
+      | at d i is within ↦ contains-touched_of new fits' d is within ∙ each d i ∙ sym (contains-touched_of old fits d is within)
     ])

@@ -21,8 +21,8 @@ pub record Longer (old new : ShelfMeaning) (e : ℕ) : Type 0 where
   pub others : (d : ℕ) → (d ≡ e - 5 → ⊥) → length (row_at new.rows d).chunks ≡ length (row_at old.rows d).chunks
   pub keeps : Keeps old new
 
-pub longer_is : {old new : ShelfMeaning} (e : ℕ) → IsValidShelf old → 5 ≤ e → e ≤ 16 → new ≡ record (with_row old (e - 5) (longer (per e) (row_at old.rows (e - 5)))) { held_ids = new.held_ids } → Longer old new e
-longer_is {old} e valid_shelf low high added =
+pub longer_is : {old new : ShelfMeaning} {e : ℕ} → IsValidShelf old → 5 ≤ e → e ≤ 16 → new ≡ record (with_row old (e - 5) (longer (per e) (row_at old.rows (e - 5)))) { held_ids = new.held_ids } → Longer old new e
+longer_is {old} {e} valid_shelf low high added =
     let classes = valid_shelf.classes in
     let row : Row = row_at old.rows (e - 5) in
     record {
@@ -80,7 +80,7 @@ keeps_rows rows x same = record {
   origin = ap (λ (s : ShelfMeaning). s.origin) same ∙ x.origin;
 }
 
-module _ {old new : ShelfMeaning} (counts : List ℕ) (e n : ℕ) {x : ℕ} (low : 5 ≤ e) (high : e ≤ 16) (more : Longer old new e) (many : HasAreas old.rows (e - 5) n) (x_is : x ≡ get_or counts (e - 5) 0) (less : n < x) where
+module _ {old new : ShelfMeaning} (counts : List ℕ) (e : ℕ) {n : ℕ} {x : ℕ} (low : 5 ≤ e) (high : e ≤ 16) (more : Longer old new e) (many : HasAreas old.rows (e - 5) n) (x_is : x ≡ get_or counts (e - 5) 0) (less : n < x) where
   per_is : per (e - 5 + 5) ≡ per e
   per_is = ap per (let h : e - 5 + 5 ≡ e = omega arith in h)
 

@@ -57,9 +57,9 @@ wrote {s} e i bytes tidy valid_shelf' is used low high =
     })
 
 -- the same, where the bytes are told by what they were
-pub wrote_by : {s t : ShelfMeaning} (e i : ℕ) (f : List ℕ → List ℕ) → IsTidy s → IsValidShelf t → MatchOption (chunk_at s.rows (e - 5) i) ⊥ (λ old. t ≡ with_put s (e - 5) i (Some (f old)) true) → 5 ≤ e → e ≤ 16
+pub wrote_by : {s t : ShelfMeaning} {e : ℕ} (i : ℕ) (f : List ℕ → List ℕ) → IsTidy s → IsValidShelf t → MatchOption (chunk_at s.rows (e - 5) i) ⊥ (λ old. t ≡ with_put s (e - 5) i (Some (f old)) true) → 5 ≤ e → e ≤ 16
     → (old : List ℕ) × (chunk_at s.rows (e - 5) i ≡ Some old) × Wrote s t e i (f old)
-wrote_by {s} {t} e i f tidy valid_shelf' gives low high =
+wrote_by {s} {t} {e} i f tidy valid_shelf' gives low high =
     elim (chunk_at s.rows (e - 5) i) as (λ o. chunk_at s.rows (e - 5) i ≡ o → MatchOption o ⊥ (λ old. t ≡ with_put s (e - 5) i (Some (f old)) true) → (old : List ℕ) × (chunk_at s.rows (e - 5) i ≡ Some old) × Wrote s t e i (f old)) [
       | None ↦ λ there h. absurd h
       | Some old ↦ λ there h. (old, there, wrote e i (f old) tidy valid_shelf' h (ap is_some there) low high)
@@ -79,8 +79,8 @@ pub record Freed (s t : ShelfMeaning) (e i : ℕ) : Type 0 where
   pub tidy : IsTidy t
   pub keeps : Keeps s t
 
-pub freed : {s m t : ShelfMeaning} (e i : ℕ) → IsTidy s → IsValidShelf m → IsValidShelf t → m ≡ with_put s (e - 5) i None false → Trims m t (e - 5) → IsSome (chunk_at s.rows (e - 5) i) → 5 ≤ e → e ≤ 16 → Freed s t e i
-freed {s} {m} {t} e i tidy valid_shelf' valid_shelf'' is trims used low high =
+pub freed : {s m t : ShelfMeaning} {e : ℕ} (i : ℕ) → IsTidy s → IsValidShelf m → IsValidShelf t → m ≡ with_put s (e - 5) i None false → Trims m t (e - 5) → IsSome (chunk_at s.rows (e - 5) i) → 5 ≤ e → e ≤ 16 → Freed s t e i
+freed {s} {m} {t} {e} i tidy valid_shelf' valid_shelf'' is trims used low high =
     let c : ℕ = e - 5 in
     let small : c < 12 = omega arith in
     let within = in_row (row_at s.rows c).chunks i used in

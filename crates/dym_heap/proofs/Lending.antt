@@ -46,7 +46,7 @@ module _ {v : Version} {quota : ℕ} {ids : List SegmentId} {origin : Origin} {s
   pub in_places : (k : ℕ) → k < length s.held_ids → k < length sized_areas
   in_places k l = let ids = sym (ap (λ (t : ShelfMeaning). length t.held_ids) view) ∙ ids_are is.supplied in omega arith
 
-  module _ (k : ℕ) (l : k < length sized_areas) {q : SizedAreaMeaning} (here : q ≡ get_or sized_areas k q) where
+  module _ {k : ℕ} (l : k < length sized_areas) {q : SizedAreaMeaning} (here : q ≡ get_or sized_areas k q) where
     in_k : In starts k
     in_k = class_of_place starts k 12 (omega arith) is.arranged.first (let last = is.arranged.last in omega arith)
 
@@ -67,14 +67,14 @@ module _ {v : Version} {quota : ℕ} {ids : List SegmentId} {origin : Origin} {s
     number_is : (i : ℕ) → chunk_number (live_of s.rows) k i ≡ number (in_k.c + 5) (in_k.o * per (in_k.c + 5) + i)
     number_is i = ap (λ (a : AreaName). number a.exponent (a.ordinal * per a.exponent + i)) name_is
 
-    few : in_k.o < count_c is.arranged in_k.c in_k.small
-    few = let n = count_is is.arranged in_k.c in_k.small in let w = in_k.within in omega arith
+    few : in_k.o < count_c is.arranged in_k.small
+    few = let n = count_is is.arranged in_k.small in let w = in_k.within in omega arith
 
     index_small : (i : ℕ) → i < per (in_k.c + 5) → in_k.o * per (in_k.c + 5) + i < 2 ^ 32
     index_small i m =
         let fits = kept_fits tidy.valid_shelf in_k.c in
-        let whole = ap (λ (r : Row). length r.chunks) (row_s view is in_k.c in_k.small) ∙ whole_row is.arranged in_k.c in_k.small in
-        let least = mul-add-lt in_k.o (per (in_k.c + 5)) i (count_c is.arranged in_k.c in_k.small) few m in
+        let whole = ap (λ (r : Row). length r.chunks) (row_s view is in_k.small) ∙ whole_row is.arranged in_k.small in
+        let least = mul-add-lt in_k.o (per (in_k.c + 5)) i (count_c is.arranged in_k.small) few m in
         omega arith
 
     pub area_is : IsAreaOf (live_of s.rows) (touched_of s.rows) k q
@@ -92,9 +92,9 @@ module _ {v : Version} {quota : ℕ} {ids : List SegmentId} {origin : Origin} {s
           let below : i < per (in_k.c + 5) = let n = long in omega arith in
           ap (λ (p : SizedAreaMeaning). get_or p.touched i false) here
           ∙ ap (λ x. get_or (get_or sized_areas x q).touched i false) in_k.at
-          ∙ sym (ap (λ (r : Row). get_or r.touched (in_k.o * per (in_k.c + 5) + i) false) (row_s view is in_k.c in_k.small)
-          ∙ mark-row is.arranged in_k.c in_k.small in_k.o i q few below)
-          ∙ sym (contains-touched_of s.rows (kept_marks_fit tidy.valid_shelf) in_k.c (in_k.o * per (in_k.c + 5) + i) (number_is i) (index_small i below));
+          ∙ sym (ap (λ (r : Row). get_or r.touched (in_k.o * per (in_k.c + 5) + i) false) (row_s view is in_k.small)
+          ∙ mark-row is.arranged in_k.small in_k.o i q few below)
+          ∙ sym (contains-touched_of s.rows (kept_marks_fit tidy.valid_shelf) in_k.c (number_is i) (index_small i below));
     }
 
     pub version_is : q.version ≡ s.version

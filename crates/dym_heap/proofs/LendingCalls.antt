@@ -110,7 +110,7 @@ module _ {live : Live} {touched : Touched} {k : ℕ} {p : SizedAreaMeaning} (is 
       let same : from * size p.exponent ≡ from * size e = ap (λ x. from * size x) is.exponent in
       let long : count * size p.exponent ≡ count * size e = ap (λ x. count * size x) is.exponent in
       let high : e ≤ 16 = let m = is.sized_area.most in let x = is.exponent in omega arith in
-      let whole = whole_area e high in
+      let whole = whole_area high in
       let m = mul-le (from + count) (size e) (per e) (size e) inside (omega arith) in
       let sum = add-mul from count (size e) in
       omega arith
@@ -127,8 +127,8 @@ module _ {s : ShelfMeaning} {applied : ℕ} {h : HeapMeaning} (view : heap_of s 
   pub held_h : length s.held_ids ≡ held h.state.live
   held_h = sym (tidy_held tidy) ∙ ap (λ (x : HeapMeaning). held x.state.live) view
 
-  pub within_h : (k : ℕ) → k < held h.state.live → k < length s.held_ids
-  within_h k l = let n = held_h in omega arith
+  pub within_h : {k : ℕ} → k < held h.state.live → k < length s.held_ids
+  within_h l = let n = held_h in omega arith
 
   pub area_h : {k : ℕ} {p : SizedAreaMeaning} → IsAreaOf (live_of s.rows) (touched_of s.rows) k p → IsAreaOf h.state.live h.state.touched k p
   area_h {k} {p} is = subst (λ (x : HeapMeaning). IsAreaOf x.state.live x.state.touched k p) view is

@@ -294,7 +294,7 @@ module _ {old : AreaMeaning} {bits wanted : List Bool} {body : List ℕ} {f : �
 
 -- version 1, with the bytes that the body has
 module _ {old : AreaMeaning} {bits wanted : List Bool} {body : List ℕ} (sub : (i : ℕ) → IsSet wanted i → IsSet bits i) (valid : IsValidArea old) (has : IsBody One old.exponent bits body) {now : AreaMeaning} {from at : ℕ}
-    (inv : (f : ℕ → List ℕ) → IsBodyOf One old.exponent bits body f → LoadedTo One old bits wanted body f now from at) {start : ℕ} (end : ℕ) (next : IsNextSet bits from start) (more : start < end)
+    (inv : (f : ℕ → List ℕ) → IsBodyOf One old.exponent bits body f → LoadedTo One old bits wanted body f now from at) {start : ℕ} {end : ℕ} (next : IsNextSet bits from start) (more : start < end)
     (all : (k : ℕ) → start ≤ k → k < end → IsSet bits k) where
   next_run : (f : ℕ → List ℕ) → NextRun One old bits wanted body f from start end
   next_run f = record { low = next.at_least; some = more; clear = next.least; set = all }
@@ -309,7 +309,7 @@ module _ {old : AreaMeaning} {bits wanted : List Bool} {body : List ℕ} (sub : 
   one_size s is_s =
       let top = one_end in
       let all = mul-le (end - start) (size old.exponent) (per old.exponent) (size old.exponent) (omega arith) (omega arith) in
-      let whole = whole_area old.exponent valid.greatest in
+      let whole = whole_area valid.greatest in
       let e = ap (λ k. (end - start) * k) is_s in
       omega arith
 
@@ -324,7 +324,7 @@ module _ {old : AreaMeaning} {bits wanted : List Bool} {body : List ℕ} (sub : 
       more_run is sub valid (inv f is) (next_run f) (ap (λ k. (end - start) * k) is_s) refl range
 
 pub first_below : {v : Version} {e : ℕ} {bits : List Bool} {body : List ℕ} (i : ℕ) → 5 ≤ e → IsBody v e bits body → IsSet bits i → i < 2048
-first_below {e} i low has h = let l = has.1.below i h in let p = per_fits e low in omega arith
+first_below {e} i low has h = let l = has.1.below i h in let p = per_fits low in omega arith
 
 -- version 2
 module _ {old : AreaMeaning} {bits wanted : List Bool} {body : List ℕ} (sub : (i : ℕ) → IsSet wanted i → IsSet bits i) (valid : IsValidArea old) (has : IsBody Two old.exponent bits body) {now : AreaMeaning} {from at : ℕ}
@@ -446,7 +446,7 @@ module _ (old : AreaMeaning) (wanted : List Bool) (first end : ℕ) (bytes : Lis
     pub range_room : (s : ℕ) → s ≡ size old.exponent → length bytes ≤ 65536
     range_room s is_s =
         let a = mul-le (end - first) (size old.exponent) (per old.exponent) (size old.exponent) (omega arith) (omega arith) in
-        let w = whole_area old.exponent valid.greatest in
+        let w = whole_area valid.greatest in
         omega arith
 
     pub range_none : first ≤ end → RangeTo old first
@@ -478,7 +478,7 @@ module _ (old : AreaMeaning) (wanted : List Bool) (first end : ℕ) (bytes : Lis
           let d = add-mul start (stop - start) s in
           let f = mul-le (start + (stop - start)) s (per old.exponent) s (omega arith) (omega arith) in
           let g = ap (λ x. per old.exponent * x) is_s in
-          let w = whole_area old.exponent valid.greatest in
+          let w = whole_area valid.greatest in
           (omega arith, omega arith)
 
       pub range_more : {s at len : ℕ} {now' : AreaMeaning} {ys : List ℕ} → s ≡ size old.exponent → at ≡ (start - first) * s → len ≡ (stop - start) * s → ys ≡ between at (at + len) bytes → length now.content ≡ 65536 → now' ≡ with_loaded now start ys → RangeTo now' stop

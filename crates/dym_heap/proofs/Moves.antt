@@ -138,7 +138,7 @@ pub resized : {s t : ShelfMeaning} (h : Handle) {n old : ℕ} → IsTidy s → I
     → MatchOption (chunk_at s.rows (h.exp - 5) h.index) ⊥ (λ bytes. t ≡ with_put s (h.exp - 5) h.index (Some (fitted n bytes)) true)
     → (bytes : List ℕ) × (chunk_at s.rows (h.exp - 5) h.index ≡ Some bytes) × (state_of t.rows ≡ resize s.version (state_of s.rows) h n bytes) × IsTidy t
 resized {s} {t} h {n} {old} tidy valid_shelf' low high no_one ne live gives =
-    let w = wrote_by h.exp h.index (fitted n) tidy valid_shelf' gives low high in
+    let w = wrote_by h.index (fitted n) tidy valid_shelf' gives low high in
     let long : length w.0 ≡ old = subst (λ o. MatchOption o ⊥ (λ bytes. length bytes ≡ old)) w.1 live in
     let two = two_of s.version no_one in (
       w.0,

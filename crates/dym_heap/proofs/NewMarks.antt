@@ -69,9 +69,9 @@ module _ {f : List (Option (List ℕ)) → List Bool → List Bool} (makes : Mak
       (length-rows 12 starts (map area sized_areas) ∙ sym (length-map (rows_upto 12 starts sized_areas) row ∙ length-rows 12 starts sized_areas))
       (λ c l.
       let within : c < 12 = omega (arith, length-rows 12 starts (map area sized_areas)) in
-      row-rows 12 starts (map area sized_areas) c within
+      row-rows starts (map area sized_areas) within
       ∙ ap row_of (class_of_areas starts sized_areas c) ∙ row_of_areas (class_sized_areas starts sized_areas c)
-      ∙ ap row (sym (row-rows 12 starts sized_areas c within))
+      ∙ ap row (sym (row-rows starts sized_areas within))
       ∙ sym (get_or-map row (rows_upto 12 starts sized_areas) c empty_row empty_row (omega (arith, length-rows 12 starts sized_areas))))
 
   -- ---- the shelf
@@ -85,7 +85,7 @@ module _ {f : List (Option (List ℕ)) → List Bool → List Bool} (makes : Mak
       → IsShelf v quota ids starts (map area sized_areas) full room spare spare_room
   shelf {v} {quota} {starts} {sized_areas} {full} {spare} {spare_room} is =
       let arr = is.arranged in
-      let inside : (c o : ℕ) → c < 12 → get_or starts c 0 + o < get_or starts (c + 1) 0 → (get_or starts c 0 + o < length sized_areas) = λ c o l w. let top = class_end c arr l in omega arith in
+      let inside : (c o : ℕ) → c < 12 → get_or starts c 0 + o < get_or starts (c + 1) 0 → (get_or starts c 0 + o < length sized_areas) = λ c o l w. let top = class_end arr l in omega arith in
       record {
         arranged = record {
           starts_len = arr.starts_len;

@@ -22,7 +22,11 @@ abbrev pub FreeUpTo : List Row → ℕ → ℕ → ℕ → Type 0
 FreeUpTo rows c from to = (i : ℕ) → from ≤ i → i < to → chunk_at rows c i ≡ None
 
 module _ {v : Version} {quota : ℕ} {ids : List SegmentId} {origin : Origin} {starts : List ℕ} {sized_areas : List SizedAreaMeaning} {full : List (List Bool)} {room spare spare_room : ℕ}
-    {s : ShelfMeaning} (view : shelf_of v quota ids origin starts sized_areas ≡ s) (is : IsShelf v quota ids starts sized_areas full room spare spare_room) (e : ℕ) (low : 5 ≤ e) (high : e ≤ 16) where
+    {s : ShelfMeaning} (view : shelf_of v quota ids origin starts sized_areas ≡ s) (is : IsShelf v quota ids starts sized_areas full room spare spare_room) {e : ℕ} (low : 5 ≤ e) (high : e ≤ 16) where
+  -- where class c begins
+  abbrev start_of : ℕ → ℕ
+  start_of c = get_or starts c 0
+
   per_is : per (e - 5 + 5) ≡ per e
   per_is = ap per (let h : e - 5 + 5 ≡ e = omega arith in h)
 
@@ -30,43 +34,43 @@ module _ {v : Version} {quota : ℕ} {ids : List SegmentId} {origin : Origin} {s
   class_in = omega arith
 
   many : ℕ → ℕ
-  many k = get_or starts (k + 1) 0 - get_or starts k 0
+  many k = start_of (k + 1) - start_of k
 
-  pub count_k : {k : ℕ} → k ≡ e - 5 → (get_or starts (k + 1) 0 - get_or starts k 0 ≤ 1024) × (get_or starts k 0 ≤ get_or starts (k + 1) 0) × (get_or starts (k + 1) 0 ≤ length sized_areas)
+  pub count_k : {k : ℕ} → k ≡ e - 5 → (start_of (k + 1) - start_of k ≤ 1024) × (start_of k ≤ start_of (k + 1)) × (start_of (k + 1) ≤ length sized_areas)
   count_k {k} same =
-      let top = class_end (e - 5) is.arranged class_in in
+      let top = class_end is.arranged class_in in
       let up = is.arranged.rising (e - 5) class_in in
       let fits = is.supplied.within in
       let most = is.supplied.most in
-      let a : get_or starts (k + 1) 0 ≡ get_or starts (e - 5 + 1) 0 = ap (λ x. get_or starts (x + 1) 0) same in
-      let b : get_or starts k 0 ≡ get_or starts (e - 5) 0 = ap (λ x. get_or starts x 0) same in
+      let a : start_of (k + 1) ≡ start_of (e - 5 + 1) = ap (λ x. start_of (x + 1)) same in
+      let b : start_of k ≡ start_of (e - 5) = ap (λ x. start_of x) same in
       (omega arith, omega arith, omega arith)
 
-  pub few_chunks : (k r : ℕ) → k ≡ e - 5 → r ≡ per e → (get_or starts (k + 1) 0 - get_or starts k 0) * r ≤ 2097152
-  few_chunks k r same is_r = let c = (count_k same).0 in let p = per_fits e low in mul-le (get_or starts (k + 1) 0 - get_or starts k 0) r 1024 2048 c (omega arith)
+  pub few_chunks : (k r : ℕ) → k ≡ e - 5 → r ≡ per e → (start_of (k + 1) - start_of k) * r ≤ 2097152
+  few_chunks k r same is_r = let c = (count_k same).0 in let p = per_fits low in mul-le (start_of (k + 1) - start_of k) r 1024 2048 c (omega arith)
 
   pub per_least : {r : ℕ} → r ≡ per e → 0 < r
   per_least is_r = let p : 0 < per e = pow_pos (16 - e) in omega arith
 
   pub per_most : (r : ℕ) → r ≡ per e → r ≤ 2048
-  per_most r is_r = let p = per_fits e low in omega arith
+  per_most r is_r = let p = per_fits low in omega arith
 
   -- past the areas of the class
-  pub past_all : {k r : ℕ} (i : ℕ) → k ≡ e - 5 → r ≡ per e → (get_or starts (k + 1) 0 - get_or starts k 0) * r ≤ i → chunk_at s.rows (e - 5) i ≡ None
+  pub past_all : {k r : ℕ} (i : ℕ) → k ≡ e - 5 → r ≡ per e → (start_of (k + 1) - start_of k) * r ≤ i → chunk_at s.rows (e - 5) i ≡ None
   past_all {k} {r} i same is_r far =
       let up = (count_k same).1 in
-      let a : get_or starts (k + 1) 0 ≡ get_or starts (e - 5 + 1) 0 = ap (λ x. get_or starts (x + 1) 0) same in
-      let b : get_or starts k 0 ≡ get_or starts (e - 5) 0 = ap (λ x. get_or starts x 0) same in
+      let a : start_of (k + 1) ≡ start_of (e - 5 + 1) = ap (λ x. start_of (x + 1)) same in
+      let b : start_of k ≡ start_of (e - 5) = ap (λ x. start_of x) same in
       let p : per (e - 5 + 5) ≡ r = per_is ∙ sym is_r in
-      let m : (get_or starts (k + 1) 0 - get_or starts k 0) * per (e - 5 + 5) ≡ (get_or starts (k + 1) 0 - get_or starts k 0) * r = ap (λ x. (get_or starts (k + 1) 0 - get_or starts k 0) * x) p in
-      let d = le-div (get_or starts (k + 1) 0 - get_or starts k 0) i (per (e - 5 + 5)) (pow_pos (16 - (e - 5 + 5))) (omega arith) in
-      facts.past_s view is (e - 5) i class_in (omega arith)
+      let m : (start_of (k + 1) - start_of k) * per (e - 5 + 5) ≡ (start_of (k + 1) - start_of k) * r = ap (λ x. (start_of (k + 1) - start_of k) * x) p in
+      let d = le-div (start_of (k + 1) - start_of k) i (per (e - 5 + 5)) (pow_pos (16 - (e - 5 + 5))) (omega arith) in
+      facts.past_s view is i class_in (omega arith)
 
-  module _ {k r : ℕ} (o : ℕ) (same : k ≡ e - 5) (is_r : r ≡ per e) (l : o < get_or starts (k + 1) 0 - get_or starts k 0) {q : SizedAreaMeaning} (here : q ≡ get_or sized_areas (get_or starts k 0 + o) q) where
-    location : (j : ℕ) → j < r → ChunkLocation view is (e - 5) o j (get_or starts k 0 + o)
+  module _ {k r : ℕ} (o : ℕ) (same : k ≡ e - 5) (is_r : r ≡ per e) (l : o < start_of (k + 1) - start_of k) {q : SizedAreaMeaning} (here : q ≡ get_or sized_areas (start_of k + o) q) where
+    location : (j : ℕ) → j < r → ChunkLocation view is (e - 5) o j (start_of k + o)
     location j below =
-        let a : get_or starts (k + 1) 0 ≡ get_or starts (e - 5 + 1) 0 = ap (λ x. get_or starts (x + 1) 0) same in
-        let b : get_or starts k 0 ≡ get_or starts (e - 5) 0 = ap (λ x. get_or starts x 0) same in
+        let a : start_of (k + 1) ≡ start_of (e - 5 + 1) = ap (λ x. start_of (x + 1)) same in
+        let b : start_of k ≡ start_of (e - 5) = ap (λ x. start_of x) same in
         let up = (count_k same).1 in
         record { small = class_in; within = omega arith; at = omega arith; below = (let p = per_is in omega arith) }
 
@@ -89,7 +93,7 @@ module _ {v : Version} {quota : ℕ} {ids : List SegmentId} {origin : Origin} {s
           | inr past ↦ (let gone : is_some (get_or q.chunks j None) ≡ false = ap is_some (get_or_past q.chunks j None (let n = long_q in omega arith)) in absurd cc)
         ]
 
-    pub place_n : get_or starts k 0 + o < length sized_areas
+    pub place_n : start_of k + o < length sized_areas
     place_n = let c = count_k same in let top = c.2 in let up = c.1 in omega arith
 
     pub below_n : (j : ℕ) → IsUsedFrom q.chunks 0 j → j < r
@@ -119,8 +123,8 @@ module _ {v : Version} {quota : ℕ} {ids : List SegmentId} {origin : Origin} {s
           | inr past ↦ (let h : i ≡ o * r + (i - o * r) = omega arith in ap (chunk_at s.rows (e - 5)) h ∙ chunk_q (i - o * r) (omega arith) ∙ none (i - o * r) (omega arith))
         ]
 
-  pub fits_n : {k r : ℕ} (o : ℕ) → k ≡ e - 5 → r ≡ per e → o < get_or starts (k + 1) 0 - get_or starts k 0 → o * r ≤ 2097152
-  fits_n {k} {r} o same is_r l = let c = (count_k same).0 in let p = per_fits e low in mul-le o r 1024 2048 (omega arith) (omega arith)
+  pub fits_n : {k r : ℕ} (o : ℕ) → k ≡ e - 5 → r ≡ per e → o < start_of (k + 1) - start_of k → o * r ≤ 2097152
+  fits_n {k} {r} o same is_r l = let c = (count_k same).0 in let p = per_fits low in mul-le o r 1024 2048 (omega arith) (omega arith)
 
-  pub end_n : (k r o i : ℕ) → k ≡ e - 5 → r ≡ per e → get_or starts (k + 1) 0 - get_or starts k 0 ≤ o → o * r ≤ i → chunk_at s.rows (e - 5) i ≡ None
-  end_n k r o i same is_r past far = past_all i same is_r (let m = mul-le (get_or starts (k + 1) 0 - get_or starts k 0) r o r past (omega arith) in omega arith)
+  pub end_n : (k r o i : ℕ) → k ≡ e - 5 → r ≡ per e → start_of (k + 1) - start_of k ≤ o → o * r ≤ i → chunk_at s.rows (e - 5) i ≡ None
+  end_n k r o i same is_r past far = past_all i same is_r (let m = mul-le (start_of (k + 1) - start_of k) r o r past (omega arith) in omega arith)

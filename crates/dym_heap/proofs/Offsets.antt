@@ -32,7 +32,7 @@ size_pos e = pow_pos e
 
 -- the chunk that a byte of a segment lies in
 pub chunk_below : (e at : ℕ) → e ≤ 16 → at < 65536 → at / size e < per e
-chunk_below e at high small = div_below at (size e) (per e) (size_pos e) (omega (arith, whole_area e high, small))
+chunk_below e at high small = div_below at (size e) (per e) (size_pos e) (omega (arith, whole_area high, small))
 
 -- where the parts of an offset lie
 pub lies_at : (quota offset e o at : ℕ) → 0 < quota → 5 ≤ e → e ≤ 16 → e - 5 ≡ offset / 65536 / quota → o ≡ (offset / 65536) % quota → at ≡ offset % 65536 → LiesAt quota e (o * per e + at / size e) (at % size e) offset

@@ -85,7 +85,7 @@ no_rows starts none =
     ext_get_or empty_row (rows_upto 12 starts []) (replicate 12 empty_row) (length-rows 12 starts [] ∙ sym (length-replicate {A = Row} 12 empty_row))
     (λ c l.
     let within : c < 12 = omega (arith, length-rows 12 starts []) in
-    row-rows 12 starts [] c within
+    row-rows starts [] within
     ∙ nothing (get_or starts c 0) (get_or starts (c + 1) 0)
     ∙ sym (get_or-replicate 12 c empty_row empty_row within))
 
@@ -117,8 +117,8 @@ empty_state s valid_shelf is =
     let marks : touched_of s.rows ≡ set_of.empty {R = nat_cmp} =
     same_set nat_cmp_total nat_cmp-IsAntisymmetric (touched_of s.rows) (set_of.empty {R = nat_cmp}) (λ q.
     elim (splits q) as (λ _. set_of.contains (touched_of s.rows) q ≡ set_of.contains (set_of.empty {R = nat_cmp}) q) [
-      | below b ↦ contains-touched_of_below s.rows q b ∙ sym (contains-empty nat_cmp q)
-      | at c j e l ↦ contains-touched_of s.rows (kept_marks_fit valid_shelf) c j e l ∙ ap (λ (r : Row). get_or r.touched j false) (row c) ∙ sym (contains-empty nat_cmp q)
+      | below b ↦ contains-touched_of_below s.rows b ∙ sym (contains-empty nat_cmp q)
+      | at c j e l ↦ contains-touched_of s.rows (kept_marks_fit valid_shelf) c e l ∙ ap (λ (r : Row). get_or r.touched j false) (row c) ∙ sym (contains-empty nat_cmp q)
     ]) in
     λ i. record { live = lives i; touched = marks i }
 

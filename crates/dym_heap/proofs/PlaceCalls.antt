@@ -21,8 +21,8 @@ pub record Steps (area' : AreaMeaning) (ls' : Option (List ℕ)) (p : SizedAreaM
   pub is : place_of area' ls' ≡ p
   pub measured : IsMeasured area' ls'
 
-long_enough : (e i : ℕ) → 5 ≤ e → i < per e → i < 2048
-long_enough e i low l = omega (arith, per_fits e low)
+long_enough : {e i : ℕ} → 5 ≤ e → i < per e → i < 2048
+long_enough {e} low l = omega (arith, per_fits low)
 
 -- ---- a chunk is taken
 
@@ -43,7 +43,7 @@ taken area ls i n is l valid' reaches sized =
     let whole = is.valid.content_len in
     let long = is.valid.used_len in
     let long' = is.valid.dirty_len in
-    let in_bits = long_enough e i is.valid.least l in
+    let in_bits = long_enough is.valid.least l in
     let len : len_of e (with_length ls i n) i ≡ n = noted_here e ls i n reaches sized in
     let small = size_fits (version_by ls) e n sized in
     let lies = chunk_fits e i is.valid.greatest l in
@@ -79,7 +79,7 @@ released area ls i is h valid' =
     let l = is.valid.used_below i h in
     let long = is.valid.used_len in
     let long' = is.valid.dirty_len in
-    let in_bits = long_enough e i is.valid.least l in
+    let in_bits = long_enough is.valid.least l in
     let bit : bit_in (set area.used i false) i ≡ false = get_or-set_same area.used i false false (omega arith) in
     record {
       is = sized_area-put ls ls (set area.used i false) (set area.dirty i false) area.content i is.valid valid' refl l
@@ -112,7 +112,7 @@ written_as {area} {ls} {ls'} i at n ys {now} is h some within valid' lengths rea
     let e : ℕ = area.exponent in
     let l = is.valid.used_below i h in
     let long' = is.valid.dirty_len in
-    let in_bits = long_enough e i is.valid.least l in
+    let in_bits = long_enough is.valid.least l in
     let dirty' : List Bool = dirty_after area.dirty i (length ys) in
     let marked : dirty' ≡ set area.dirty i true = dirty_marked area.dirty i (length ys) some in
     let content' : List ℕ = with_part area.content (i * size e + at) ys in
@@ -224,7 +224,7 @@ pub cleaned : (area : AreaMeaning) (ls : Option (List ℕ)) → IsMeasured area 
     → Steps (with_clean area) ls (record (place_of area ls) { touched = replicate (length (touched_in area)) false })
 cleaned area ls is valid' =
     let chunks = chunks_clean area (clear_bits MOST_CHUNKS) ls in
-    let touches = touched_clean area MOST_CHUNKS (per_fits area.exponent is.valid.least) (length-touched_in is.valid) in
+    let touches = touched_clean area MOST_CHUNKS (per_fits is.valid.least) (length-touched_in is.valid) in
     record {
       is = λ j. record (place_of area ls) { chunks = chunks j; touched = touches j };
       measured = record { valid = valid'; fits = is.fits };

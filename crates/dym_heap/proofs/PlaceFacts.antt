@@ -19,9 +19,9 @@ use Rattle.dym_heap.proofs.Sizes.{size_fits, per_fits}
 use Rattle.dym_heap.proofs.PlaceSteps.{length-chunks_in, chunk_of, used_chunk, unused_chunk, some_used, chunk_room, length_of_chunk, Reaches}
 use Rattle.dym_heap.proofs.PlaceCalls.{Steps, taken, released, written, grown, shrunk, cleaned, first_free}
 
-pub reaches : (lengths : Option Lengths) (i : ℕ) → i < MOST_CHUNKS → Reaches (numbers_of lengths) i
-reaches None i l = tt
-reaches (Some lengths) i l = let whole = lengths.whole in omega arith
+pub reaches : (lengths : Option Lengths) {i : ℕ} → i < MOST_CHUNKS → Reaches (numbers_of lengths) i
+reaches None l = tt
+reaches (Some lengths) l = let whole = lengths.whole in omega arith
 
 pub match_some : {A : Type 0} {o : Option A} (x : A) (Q : A → Type 0) → o ≡ Some x → Q x → MatchOption o ⊥ Q
 match_some {o} x Q is q = subst (λ o. MatchOption o ⊥ Q) (sym is) q
@@ -33,11 +33,11 @@ module _ {area : AreaMeaning} {ls : Option (List ℕ)} {p : SizedAreaMeaning} (v
   pub long_p : length p.chunks ≡ per area.exponent
   long_p = sym (ap (λ (q : SizedAreaMeaning). length q.chunks) v) ∙ length-chunks_in area ls
 
-  pub below_p : (i : ℕ) → i < length p.chunks → i < per area.exponent
-  below_p i l = let long = long_p in omega arith
+  pub below_p : {i : ℕ} → i < length p.chunks → i < per area.exponent
+  below_p l = let long = long_p in omega arith
 
-  pub few_p : (i : ℕ) → i < per area.exponent → i < MOST_CHUNKS
-  few_p i l = let few = per_fits area.exponent m.valid.least in omega arith
+  pub few_p : {i : ℕ} → i < per area.exponent → i < MOST_CHUNKS
+  few_p l = let few = per_fits m.valid.least in omega arith
 
   pub set_p : (i : ℕ) → IsSome (get_or p.chunks i None) → IsSet area.used i
   set_p i some = sym (some_used area ls i) ∙ sym (ap is_some (chunk_at_p i)) ∙ some
@@ -45,7 +45,7 @@ module _ {area : AreaMeaning} {ls : Option (List ℕ)} {p : SizedAreaMeaning} (v
   -- ---- queries
 
   pub full_p : ((k : ℕ) → k < per area.exponent → IsSet area.used k) → (i : ℕ) → i < length p.chunks → IsSome (get_or p.chunks i None)
-  full_p used i l = ap is_some (chunk_at_p i) ∙ some_used area ls i ∙ used i (below_p i l)
+  full_p used i l = ap is_some (chunk_at_p i) ∙ some_used area ls i ∙ used i (below_p l)
 
   pub not_full_p : ((i : ℕ) → i < length p.chunks → IsSome (get_or p.chunks i None)) → (k : ℕ) → k < per area.exponent → IsSet area.used k
   not_full_p full k l = set_p k (full k (let long = long_p in omega arith))
@@ -215,7 +215,7 @@ grows_p {area} lengths {p} v m {area'} {ls'} i n {k} another two sized is after 
       old = u.0.old;
       at = u.0.at;
       steps = grown_p v m n u.0 (after ∙ ap (λ x. with_written area i x (replicate (n - x) 0)) same) valid' noted_as
-          (reaches lengths i (few_p v m i u.0.below)) (omega arith) (version_p area (numbers_of lengths) v n two sized);
+          (reaches lengths (few_p v m u.0.below)) (omega arith) (version_p area (numbers_of lengths) v n two sized);
     }
 
 pub shrinks_p : {area : AreaMeaning} (lengths : Option Lengths) {p : SizedAreaMeaning} (v : place_of area (numbers_of lengths) ≡ p) (m : IsMeasured area (numbers_of lengths)) {area' : AreaMeaning} {ls' : Option (List ℕ)} (i n : ℕ) {k : ℕ}
@@ -229,7 +229,7 @@ shrinks_p {area} lengths {p} v m {area'} {ls'} i n {k} another two sized is afte
       old = u.0.old;
       at = u.0.at;
       steps = shrunk_p v m n u.0 after valid' noted_as
-          (reaches lengths i (few_p v m i u.0.below)) (omega arith) (version_p area (numbers_of lengths) v n two sized);
+          (reaches lengths (few_p v m u.0.below)) (omega arith) (version_p area (numbers_of lengths) v n two sized);
     }
 
 pub flipped : (b x : Bool) → x ≡ not b → not x ≡ b

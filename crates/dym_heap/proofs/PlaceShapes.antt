@@ -63,7 +63,7 @@ module _ {area : AreaMeaning} {ls : Option (List ℕ)} {p : SizedAreaMeaning} (v
     valid = valid';
     fits = λ i h.
         let l = valid'.used_below i h in
-        let few = per_fits area'.exponent valid'.least in
+        let few = per_fits valid'.least in
         subst (λ e. IsSizeOf (version_by ls') e (len_of e ls' i)) (sym exponent')
         (elim (bit_in wanted i) as (λ b. bit_in wanted i ≡ b → IsSizeOf (version_by ls') area.exponent (len_of area.exponent ls' i)) [
           | true ↦ λ w. subst (IsSizeOf (version_by ls') area.exponent) (sym (news i (omega arith) w)) (size_of_two (version_by ls') area.exponent m.valid.least m.valid.greatest)

@@ -34,7 +34,7 @@ chunk_of {area} ls i valid =
 
 pub length-touched_in : {area : AreaMeaning} → IsValidArea area → length (touched_in area) ≡ per area.exponent
 unfolding touched_in
-length-touched_in {area} valid = let long = valid.dirty_len in omega (arith, length-take (per area.exponent) area.dirty, per_fits area.exponent valid.least)
+length-touched_in {area} valid = let long = valid.dirty_len in omega (arith, length-take (per area.exponent) area.dirty, per_fits valid.least)
 
 pub mark_of : {area : AreaMeaning} (i : ℕ) → IsValidArea area → get_or (touched_in area) i false ≡ bit_in area.dirty i
 unfolding touched_in

@@ -117,9 +117,9 @@ or_true true = refl
 or_true false = refl
 
 -- a step from `at` to `next`, both of them in one chunk or at its end, meets that chunk where it has a byte `b` at `at`, and no other
-pub step_here : (from at next start n b : ℕ) → from ≤ at → at < next → start + b ≡ at → (hit : Bool) → (hit ≡ true → b < n) → (hit ≡ false → n ≤ b) → meets from next start n ≡ (meets from at start n || hit)
-step_here from at next start n b low up is true hits misses = meets_some from next start n (omega (arith, low, up)) (omega (arith, is, up)) (let y = hits refl in omega (arith, low, is, y)) (let y = hits refl in omega (arith, y)) ∙ or_true (meets from at start n)
-step_here from at next start n b low up is false hits misses = meets_less from at next start n (let y = misses refl in omega (arith, is, y)) (omega (arith, up)) ∙ or_false (meets from at start n)
+pub step_here : {from at next : ℕ} (start : ℕ) {n b : ℕ} → from ≤ at → at < next → start + b ≡ at → (hit : Bool) → (hit ≡ true → b < n) → (hit ≡ false → n ≤ b) → meets from next start n ≡ (meets from at start n || hit)
+step_here {from} {at} {next} start {n} low up is true hits misses = meets_some from next start n (omega (arith, low, up)) (omega (arith, is, up)) (let y = hits refl in omega (arith, low, is, y)) (let y = hits refl in omega (arith, y)) ∙ or_true (meets from at start n)
+step_here {from} {at} {next} start {n} low up is false hits misses = meets_less from at next start n (let y = misses refl in omega (arith, is, y)) (omega (arith, up)) ∙ or_false (meets from at start n)
 
 pub step_other : (from at next start n start' n' b : ℕ) → start' + b ≡ at → at < next → next ≤ start' + n' → (start + n ≤ start') ⊎ (start' + n' ≤ start) → meets from next start n ≡ (meets from at start n || false)
 step_other from at next start n start' n' b is up within (inl before) = meets_less from at next start n (omega (arith, is, before)) (omega (arith, up)) ∙ or_false (meets from at start n)
@@ -184,7 +184,7 @@ met_step {quota} {live} from {at} next {k} hd {b} small lies low up within (ther
           let class : exponent_of k ≡ hd.exp = ap exponent_of same ∙ div-mul-add hd.exp (2 ^ 32) hd.index small in
           let index : index_of k ≡ hd.index = ap index_of same ∙ mod-mul-add hd.exp (2 ^ 32) hd.index small in
           let here : start ≡ start_at quota hd.exp hd.index = λ j. start_at quota (class j) (index j) in
-          step_here from at next start n b low up (ap (λ x. x + b) here ∙ is) (ltb b n) (ltb-true b n) (ltb-false b n)
+          step_here start low up (ap (λ x. x + b) here ∙ is) (ltb b n) (ltb-true b n) (ltb-false b n)
           ∙ ap (λ x. meets from at start n || (x && ltb b n)) (sym (eq-eqb k (key hd) same))
       | inr other ↦
           let place' : IsPlace quota hd.exp hd.index = (lies.least, lies.most, lies.area) in

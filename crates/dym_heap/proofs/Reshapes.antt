@@ -70,7 +70,7 @@ module _ (v : Version) (copy : Live) (old : HeapState) {s : ShelfMeaning} (sized
       elim (splits q) as (λ _. heap_chunk (state_of s.rows) q ≡ no_chunk) [
         | below b ↦ chunk_below s q b
         | at d j q_is small ↦
-            chunk_in_row valid_shelf d j q_is small
+            chunk_in_row valid_shelf d q_is small
             ∙ elim (cases_lt d 12) as (λ _. row_chunk s.rows d j ≡ no_chunk) [
               | inr past ↦ no_row d j past
               | inl l ↦
@@ -126,7 +126,7 @@ module _ (v : Version) (copy : Live) (old : HeapState) {s : ShelfMeaning} (sized
                 ends = inr (
                   i,
                   omega arith,
-                  ap (λ (x : ChunkMeaning). is_some x.bytes) (sym (chunk_in_row valid_shelf d i q_is small)) ∙ (shaped q).used ∙ reached.1,
+                  ap (λ (x : ChunkMeaning). is_some x.bytes) (sym (chunk_in_row valid_shelf d q_is small)) ∙ (shaped q).used ∙ reached.1,
                 );
               }
         ];
@@ -153,6 +153,6 @@ shaped_from v copy old mid new sized kept_old kept_mid agree shaped q =
           let m = mul-le (j / per (c + 5) + 1) (per (c + 5)) (areas copy (c + 5)) (per (c + 5)) (omega arith) (omega arith) in
           let s = add-mul (j / per (c + 5)) 1 (per (c + 5)) in
           let same : heap_chunk (state_of mid.rows) q ≡ heap_chunk (state_of old.rows) q =
-          chunk_in_row kept_mid c j q_is small ∙ agree c j l (omega arith) ∙ sym (chunk_in_row kept_old c j q_is small) in
+          chunk_in_row kept_mid c q_is small ∙ agree c j l (omega arith) ∙ sym (chunk_in_row kept_old c q_is small) in
           subst (λ b. IsReshaped b (heap_chunk (state_of old.rows) q) (heap_chunk new q)) h (subst (λ x. Reshaped copy q x (heap_chunk new q)) same (shaped q))
     ] refl

@@ -17,9 +17,9 @@ use Rattle.dym_heap.proofs.Slices.{set-inside, set-outside, insert-before, inser
 use Rattle.dym_heap.proofs.Rows.{starts_mono, class_end, row-rows, rows-set, even_chunks, even_marks}
 
 -- two classes don't share a place
-pub apart : {v : Version} {starts : List ℕ} {sized_areas : List SizedAreaMeaning} {full : List (List Bool)} (c d o q : ℕ) → IsArranged v starts sized_areas full → c < 12 → d < 12
+pub apart : {v : Version} {starts : List ℕ} {sized_areas : List SizedAreaMeaning} {full : List (List Bool)} {c d : ℕ} (o q : ℕ) → IsArranged v starts sized_areas full → c < 12 → d < 12
     → get_or starts c 0 + o < get_or starts (c + 1) 0 → get_or starts d 0 + q < get_or starts (d + 1) 0 → get_or starts c 0 + o ≡ get_or starts d 0 + q → (c ≡ d) × (o ≡ q)
-apart {v} {starts} {sized_areas} {full} c d o q is l m within within' same =
+apart {v} {starts} {sized_areas} {full} {c} {d} o q is l m within within' same =
     elim (cases_eq c d) as (λ _. (c ≡ d) × (o ≡ q)) [
       | inl one ↦ (one, (let e : get_or starts c 0 ≡ get_or starts d 0 = ap (λ k. get_or starts k 0) one in omega arith))
       | inr ne ↦ absurd (elim (cases_lt c d) as (λ _. ⊥) [
@@ -54,7 +54,7 @@ pub record Remarks (full full' : List (List Bool)) (c o : ℕ) (p : SizedAreaMea
 pub arranged-put : {v : Version} {starts : List ℕ} {sized_areas : List SizedAreaMeaning} {full full' : List (List Bool)} {c o k : ℕ} {p : SizedAreaMeaning} → IsArranged v starts sized_areas full → c < 12
     → get_or starts c 0 + o < get_or starts (c + 1) 0 → k ≡ get_or starts c 0 + o → IsPlaced v (c + 5) o p → Remarks full full' c o p → IsArranged v starts (set sized_areas k p) full'
 arranged-put {v} {starts} {sized_areas} {full} {full'} {c} {o} {k} {p} is l within at placed marks =
-    let top = class_end c is l in
+    let top = class_end is l in
     let inside : k < length sized_areas = omega arith in
     record {
       starts_len = is.starts_len;
@@ -64,7 +64,7 @@ arranged-put {v} {starts} {sized_areas} {full} {full'} {c} {o} {k} {p} is l with
       placed = λ d q z m within'.
           elim (cases_eq (get_or starts d 0 + q) k) as (λ _. IsPlaced v (d + 5) q (get_or (set sized_areas k p) (get_or starts d 0 + q) z)) [
             | inl same ↦
-                let both = apart d c q o is m l within' within (same ∙ at) in
+                let both = apart q o is m l within' within (same ∙ at) in
                 subst (IsPlaced v (d + 5) q) (sym (ap (λ i. get_or (set sized_areas k p) i z) same ∙ get_or-set_same sized_areas k p z inside))
                 (subst (λ x. IsPlaced v (x + 5) q p) (sym both.0) (subst (λ x. IsPlaced v (c + 5) x p) (sym both.1) placed))
             | inr ne ↦ subst (IsPlaced v (d + 5) q) (sym (get_or-set_other sized_areas k (get_or starts d 0 + q) p z ne)) (is.placed d q z m within')
@@ -82,15 +82,15 @@ arranged-put {v} {starts} {sized_areas} {full} {full'} {c} {o} {k} {p} is l with
                       let set_it : IsSet (marks_of_class full' c) o = sym (ap (λ x. bit_in (marks_of_class full' x) q) one ∙ ap (λ x. bit_in (marks_of_class full' c) x) two) ∙ h in
                       (omega arith, subst IsFullArea (sym (ap (λ i. get_or (set sized_areas k p) i z) here ∙ get_or-set_same sized_areas k p z inside)) (marks.marked set_it))
                   | inr ne ↦ (let before = is.marked d q z m (sym (marks.others d q (λ x y. ne y)) ∙ h) in
-                      (before.0, subst IsFullArea (sym (get_or-set_other sized_areas k (get_or starts d 0 + q) p z (λ e. ne ((apart d c q o is m l before.0 within (e ∙ at)).1)))) before.1))
+                      (before.0, subst IsFullArea (sym (get_or-set_other sized_areas k (get_or starts d 0 + q) p z (λ e. ne ((apart q o is m l before.0 within (e ∙ at)).1)))) before.1))
                 ]
             | inr ne ↦ (let before = is.marked d q z m (sym (marks.others d q (λ x y. ne x)) ∙ h) in
-                (before.0, subst IsFullArea (sym (get_or-set_other sized_areas k (get_or starts d 0 + q) p z (λ e. ne ((apart d c q o is m l before.0 within (e ∙ at)).0)))) before.1))
+                (before.0, subst IsFullArea (sym (get_or-set_other sized_areas k (get_or starts d 0 + q) p z (λ e. ne ((apart q o is m l before.0 within (e ∙ at)).0)))) before.1))
           ];
       unmarked = λ d q z m within' h.
           elim (cases_eq (get_or starts d 0 + q) k) as (λ _. HasFree (get_or (set sized_areas k p) (get_or starts d 0 + q) z)) [
             | inl same ↦
-                let both = apart d c q o is m l within' within (same ∙ at) in
+                let both = apart q o is m l within' within (same ∙ at) in
                 subst HasFree (sym (ap (λ i. get_or (set sized_areas k p) i z) same ∙ get_or-set_same sized_areas k p z inside))
                 (marks.unmarked (sym (ap (λ x. bit_in (marks_of_class full' x) q) both.0 ∙ ap (λ x. bit_in (marks_of_class full' c) x) both.1) ∙ h))
             | inr ne ↦ subst HasFree (sym (get_or-set_other sized_areas k (get_or starts d 0 + q) p z ne))
@@ -104,7 +104,7 @@ pub rows-put : {v : Version} {starts : List ℕ} {sized_areas : List SizedAreaMe
     → rows_upto 12 starts (set sized_areas k (area_with_chunk (get_or sized_areas k d) j x b)) ≡ set (rows_upto 12 starts sized_areas) c (put (row_at (rows_upto 12 starts sized_areas) c) (o * per (c + 5) + j) x b)
 rows-put {v} {starts} {sized_areas} {full} c o j {k} d x b is l within at small =
     let p : SizedAreaMeaning = area_with_chunk (get_or sized_areas k d) j x b in
-    let top = class_end c is l in
+    let top = class_end is l in
     let from : ℕ = get_or starts c 0 in
     let to : ℕ = get_or starts (c + 1) 0 in
     let row : List SizedAreaMeaning = class_sized_areas starts sized_areas c in
@@ -114,13 +114,13 @@ rows-put {v} {starts} {sized_areas} {full} c o j {k} d x b is l within at small 
     let few : o < length row = omega (arith, length-between sized_areas from to top) in
     let old : get_or row o d ≡ get_or sized_areas k d = get_or-between sized_areas from to o d (omega arith) ∙ ap (λ i. get_or sized_areas i d) (sym at) in
     let chunks : flat_map (λ (q : SizedAreaMeaning). q.chunks) (set row o p) ≡ set (flat_map (λ (q : SizedAreaMeaning). q.chunks) row) (o * per (c + 5) + j) x =
-    flat-set (λ (q : SizedAreaMeaning). q.chunks) (per (c + 5)) row o j d p x (even_chunks is c l) few small (sym (ap (λ (q : SizedAreaMeaning). set q.chunks j x) old)) in
+    flat-set (λ (q : SizedAreaMeaning). q.chunks) (per (c + 5)) row o j d p x (even_chunks is l) few small (sym (ap (λ (q : SizedAreaMeaning). set q.chunks j x) old)) in
     let marks : flat_map (λ (q : SizedAreaMeaning). q.touched) (set row o p) ≡ set (flat_map (λ (q : SizedAreaMeaning). q.touched) row) (o * per (c + 5) + j) b =
-    flat-set (λ (q : SizedAreaMeaning). q.touched) (per (c + 5)) row o j d p b (even_marks is c l) few small (sym (ap (λ (q : SizedAreaMeaning). set q.touched j b) old)) in
+    flat-set (λ (q : SizedAreaMeaning). q.touched) (per (c + 5)) row o j d p b (even_marks is l) few small (sym (ap (λ (q : SizedAreaMeaning). set q.touched j b) old)) in
     let here : row_of (class_sized_areas starts (set sized_areas k p) c) ≡ put (row_of row) (o * per (c + 5) + j) x b = ap row_of inner' ∙ (λ i. record { chunks = chunks i; touched = marks i }) in
-    rows-set 12 starts starts sized_areas (set sized_areas k p) c l
-    (here ∙ ap (λ r. put r (o * per (c + 5) + j) x b) (sym (row-rows 12 starts sized_areas c l)))
-    (λ e m ne. set-outside sized_areas (get_or starts e 0) (get_or starts (e + 1) 0) k p (class_end e is m) (out_of k is l m ne (omega arith) (omega arith)))
+    rows-set starts starts sized_areas (set sized_areas k p) l
+    (here ∙ ap (λ r. put r (o * per (c + 5) + j) x b) (sym (row-rows starts sized_areas l)))
+    (λ e m ne. set-outside sized_areas (get_or starts e 0) (get_or starts (e + 1) 0) k p (class_end is m) (out_of k is l m ne (omega arith) (omega arith)))
 
 -- ---- an area comes at the end of class c
 
@@ -128,7 +128,7 @@ rows-put {v} {starts} {sized_areas} {full} c o j {k} d x b is l within at small 
 shifted : {v : Version} {starts starts' : List ℕ} {sized_areas : List SizedAreaMeaning} {full : List (List Bool)} {c : ℕ} (d q : ℕ) (p z : SizedAreaMeaning) → IsArranged v starts sized_areas full → c < 12 → d < 12 → Shifts starts starts' c
     → get_or starts d 0 + q < get_or starts (d + 1) 0 → get_or (insert sized_areas (get_or starts (c + 1) 0) p) (get_or starts' d 0 + q) z ≡ get_or sized_areas (get_or starts d 0 + q) z
 shifted {v} {starts} {starts'} {sized_areas} {full} {c} d q p z is l m shift within =
-    let top = class_end c is l in
+    let top = class_end is l in
     elim (cases_lt c d) as (λ _. get_or (insert sized_areas (get_or starts (c + 1) 0) p) (get_or starts' d 0 + q) z ≡ get_or sized_areas (get_or starts d 0 + q) z) [
       | inl past ↦
           let s = shift.high d past (omega arith) in
@@ -147,7 +147,7 @@ shifted {v} {starts} {starts'} {sized_areas} {full} {c} d q p z is l m shift wit
 pub arranged-insert : {v : Version} {starts starts' : List ℕ} {sized_areas : List SizedAreaMeaning} {full : List (List Bool)} {c : ℕ} {p : SizedAreaMeaning} → IsArranged v starts sized_areas full → c < 12 → Shifts starts starts' c
     → IsPlaced v (c + 5) (get_or starts (c + 1) 0 - get_or starts c 0) p → HasFree p → IsArranged v starts' (insert sized_areas (get_or starts (c + 1) 0) p) full
 arranged-insert {v} {starts} {starts'} {sized_areas} {full} {c} {p} is l shift placed free =
-    let top = class_end c is l in
+    let top = class_end is l in
     let up = is.rising c l in
     let one_more = length-insert sized_areas (get_or starts (c + 1) 0) p top in
     -- an area of class d after: it stood there before, or is the new one
@@ -218,7 +218,7 @@ pub rows-insert : {v : Version} {starts starts' : List ℕ} {sized_areas : List 
     → p.chunks ≡ replicate (per (c + 5)) None → p.touched ≡ replicate (per (c + 5)) false
     → rows_upto 12 starts' (insert sized_areas (get_or starts (c + 1) 0) p) ≡ set (rows_upto 12 starts sized_areas) c (longer (per (c + 5)) (row_at (rows_upto 12 starts sized_areas) c))
 rows-insert {v} {starts} {starts'} {sized_areas} {full} {c} p is l shift chunks touched =
-    let top = class_end c is l in
+    let top = class_end is l in
     let up = is.rising c l in
     let at : ℕ = get_or starts (c + 1) 0 in
     let row : List SizedAreaMeaning = class_sized_areas starts sized_areas c in
@@ -231,8 +231,8 @@ rows-insert {v} {starts} {starts'} {sized_areas} {full} {c} p is l shift chunks 
     let more_marks : flat_map (λ (q : SizedAreaMeaning). q.touched) (row ++ p ∷ []) ≡ flat_map (λ (q : SizedAreaMeaning). q.touched) row ++ replicate (per (c + 5)) false =
     flat-push (λ (q : SizedAreaMeaning). q.touched) (per (c + 5)) row p ∙ ap (λ xs. flat_map (λ (q : SizedAreaMeaning). q.touched) row ++ xs) touched in
     let here : row_of (class_sized_areas starts' (insert sized_areas at p) c) ≡ longer (per (c + 5)) (row_of row) = ap row_of inner ∙ (λ i. record { chunks = more_chunks i; touched = more_marks i }) in
-    rows-set 12 starts starts' sized_areas (insert sized_areas at p) c l
-    (here ∙ ap (longer (per (c + 5))) (sym (row-rows 12 starts sized_areas c l)))
+    rows-set starts starts' sized_areas (insert sized_areas at p) l
+    (here ∙ ap (longer (per (c + 5))) (sym (row-rows starts sized_areas l)))
     (λ d m ne.
     let rise = is.rising d m in
     elim (cases_lt c d) as (λ _. class_sized_areas starts' (insert sized_areas at p) d ≡ class_sized_areas starts sized_areas d) [
@@ -242,7 +242,7 @@ rows-insert {v} {starts} {starts'} {sized_areas} {full} {c} p is l shift chunks 
           let mono = starts_mono (c + 1) (d - (c + 1)) is (omega arith) in
           let e : get_or starts (c + 1 + (d - (c + 1))) 0 ≡ get_or starts d 0 = ap (λ k. get_or starts k 0) (let h : c + 1 + (d - (c + 1)) ≡ d = omega arith in h) in
           ap (λ x. between x (get_or starts' (d + 1) 0) (insert sized_areas at p)) a ∙ ap (λ x. between (get_or starts d 0 + 1) x (insert sized_areas at p)) b
-          ∙ insert-after sized_areas (get_or starts d 0) (get_or starts (d + 1) 0) at p (omega arith) rise (class_end d is m)
+          ∙ insert-after sized_areas (get_or starts d 0) (get_or starts (d + 1) 0) at p (omega arith) rise (class_end is m)
       | inr upto ↦
           let a = shift.low d upto in
           let b = shift.low (d + 1) (omega arith) in
@@ -254,11 +254,11 @@ rows-insert {v} {starts} {starts'} {sized_areas} {full} {c} p is l shift chunks 
 
 -- ---- the last area of class c goes
 
-unshifted : {v : Version} {starts starts' : List ℕ} {sized_areas : List SizedAreaMeaning} {full : List (List Bool)} {c : ℕ} (d q p : ℕ) (z : SizedAreaMeaning) → IsArranged v starts sized_areas full → c < 12 → d < 12 → Unshifts starts starts' c
+unshifted : {v : Version} {starts starts' : List ℕ} {sized_areas : List SizedAreaMeaning} {full : List (List Bool)} {c : ℕ} {d : ℕ} (q : ℕ) {p : ℕ} (z : SizedAreaMeaning) → IsArranged v starts sized_areas full → c < 12 → d < 12 → Unshifts starts starts' c
     → p + 1 ≡ get_or starts (c + 1) 0 → get_or starts c 0 ≤ p → get_or starts' d 0 + q < get_or starts' (d + 1) 0
     → (get_or starts d 0 + q < get_or starts (d + 1) 0) × (get_or (remove sized_areas p) (get_or starts' d 0 + q) z ≡ get_or sized_areas (get_or starts d 0 + q) z)
-unshifted {v} {starts} {starts'} {sized_areas} {full} {c} d q p z is l m shift last some within =
-    let top = class_end c is l in
+unshifted {v} {starts} {starts'} {sized_areas} {full} {c} {d} q {p} z is l m shift last some within =
+    let top = class_end is l in
     elim (cases_lt c d) as (λ _. (get_or starts d 0 + q < get_or starts (d + 1) 0) × (get_or (remove sized_areas p) (get_or starts' d 0 + q) z ≡ get_or sized_areas (get_or starts d 0 + q) z)) [
       | inl past ↦
           let a = shift.high d past (omega arith) in
@@ -292,7 +292,7 @@ not_both p full free = let used = full free.0 free.1 in let gone = ap is_some fr
 pub arranged-remove : {v : Version} {starts starts' : List ℕ} {sized_areas : List SizedAreaMeaning} {full : List (List Bool)} {c : ℕ} (p : ℕ) (z : SizedAreaMeaning) → IsArranged v starts sized_areas full → c < 12 → Unshifts starts starts' c
     → p + 1 ≡ get_or starts (c + 1) 0 → get_or starts c 0 ≤ p → HasFree (get_or sized_areas p z) → IsArranged v starts' (remove sized_areas p) full
 arranged-remove {v} {starts} {starts'} {sized_areas} {full} {c} p z is l shift last some free =
-    let top = class_end c is l in
+    let top = class_end is l in
     let one_less = length-remove sized_areas p (omega arith) in
     record {
       starts_len = shift.len ∙ is.starts_len;
@@ -309,7 +309,7 @@ arranged-remove {v} {starts} {starts'} {sized_areas} {full} {c} p z is l shift l
           ];
       last = (let a = shift.high 12 l (omega arith) in let b = is.last in omega arith);
       placed = λ d q y m within.
-          let was = unshifted d q p y is l m shift last some within in
+          let was = unshifted q y is l m shift last some within in
           subst (IsPlaced v (d + 5) q) (sym was.1) (is.placed d q y m was.0);
       full_len = is.full_len;
       bits_len = is.bits_len;
@@ -330,9 +330,9 @@ arranged-remove {v} {starts} {starts'} {sized_areas} {full} {c} p z is l shift l
               | inr ne ↦ (let b = shift.low (d + 1) (omega arith) in omega arith)
             ])
           ] in
-          (stays, subst IsFullArea (sym (unshifted d q p y is l m shift last some stays).1) before.1);
+          (stays, subst IsFullArea (sym (unshifted q y is l m shift last some stays).1) before.1);
       unmarked = λ d q y m within h.
-          let was = unshifted d q p y is l m shift last some within in
+          let was = unshifted q y is l m shift last some within in
           subst HasFree (sym was.1) (is.unmarked d q y m was.0 h);
     }
 
@@ -340,7 +340,7 @@ pub rows-remove : {v : Version} {starts starts' : List ℕ} {sized_areas : List 
     → p + 1 ≡ get_or starts (c + 1) 0 → get_or starts c 0 ≤ p
     → rows_upto 12 starts' (remove sized_areas p) ≡ set (rows_upto 12 starts sized_areas) c (shorter ((p - get_or starts c 0) * per (c + 5)) (row_at (rows_upto 12 starts sized_areas) c))
 rows-remove {v} {starts} {starts'} {sized_areas} {full} {c} p is l shift last some =
-    let top = class_end c is l in
+    let top = class_end is l in
     let row : List SizedAreaMeaning = class_sized_areas starts sized_areas c in
     let o : ℕ = p - get_or starts c 0 in
     let low = shift.low c (omega arith) in
@@ -351,15 +351,15 @@ rows-remove {v} {starts} {starts'} {sized_areas} {full} {c} p is l shift last so
     ∙ remove-before sized_areas (get_or starts c 0) p p (omega arith) (omega arith) ∙ between-shorter sized_areas (get_or starts c 0) p some (omega arith)
     ∙ ap (λ b. take o (between (get_or starts c 0) b sized_areas)) last in
     let chunks : flat_map (λ (q : SizedAreaMeaning). q.chunks) (take o row) ≡ take (o * per (c + 5)) (flat_map (λ (q : SizedAreaMeaning). q.chunks) row) =
-    flat-take (λ (q : SizedAreaMeaning). q.chunks) (per (c + 5)) row o (even_chunks is c l) in
+    flat-take (λ (q : SizedAreaMeaning). q.chunks) (per (c + 5)) row o (even_chunks is l) in
     let marks : flat_map (λ (q : SizedAreaMeaning). q.touched) (take o row) ≡ take (o * per (c + 5)) (flat_map (λ (q : SizedAreaMeaning). q.touched) row) =
-    flat-take (λ (q : SizedAreaMeaning). q.touched) (per (c + 5)) row o (even_marks is c l) in
+    flat-take (λ (q : SizedAreaMeaning). q.touched) (per (c + 5)) row o (even_marks is l) in
     let here : row_of (class_sized_areas starts' (remove sized_areas p) c) ≡ shorter (o * per (c + 5)) (row_of row) = ap row_of inner ∙ (λ i. record { chunks = chunks i; touched = marks i }) in
-    rows-set 12 starts starts' sized_areas (remove sized_areas p) c l
-    (here ∙ ap (shorter (o * per (c + 5))) (sym (row-rows 12 starts sized_areas c l)))
+    rows-set starts starts' sized_areas (remove sized_areas p) l
+    (here ∙ ap (shorter (o * per (c + 5))) (sym (row-rows starts sized_areas l)))
     (λ d m ne.
     let rise = is.rising d m in
-    let dtop = class_end d is m in
+    let dtop = class_end is m in
     elim (cases_lt c d) as (λ _. class_sized_areas starts' (remove sized_areas p) d ≡ class_sized_areas starts sized_areas d) [
       | inl past ↦
           let a = shift.high d past (omega arith) in

@@ -56,7 +56,7 @@ module _ {v : Version} {quota : ℕ} {ids : List SegmentId} {origin : Origin} {s
   -- the ordinal is small
   pub few_e : o < MOST_CHUNKS
   few_e =
-      let top = class_end (e - 5) is.arranged spot.location.small in
+      let top = class_end is.arranged spot.location.small in
       let w = spot.location.within in
       let fits = is.supplied.within in
       let most = is.supplied.most in
@@ -138,31 +138,35 @@ module _ {v : Version} {quota : ℕ} {ids : List SegmentId} {origin : Origin} {s
       (remarks_taken (e - 5) o p b is.arranged spot.location.small few_e clear after filled (λ h. free_from p (λ all. (let t = filled.1 all in absurd cc))))
 
 module _ {v : Version} {quota : ℕ} {ids : List SegmentId} {origin : Origin} {starts : List ℕ} {sized_areas : List SizedAreaMeaning} {full : List (List Bool)} {room spare spare_room : ℕ}
-    {s : ShelfMeaning} (view : shelf_of v quota ids origin starts sized_areas ≡ s) (is : IsShelf v quota ids starts sized_areas full room spare spare_room) (e : ℕ) (low : 5 ≤ e) (high : e ≤ 16) where
+    {s : ShelfMeaning} (view : shelf_of v quota ids origin starts sized_areas ≡ s) (is : IsShelf v quota ids starts sized_areas full room spare spare_room) {e : ℕ} (low : 5 ≤ e) (high : e ≤ 16) where
+  -- where class c begins
+  abbrev start_of : ℕ → ℕ
+  start_of c = get_or starts c 0
+
   per_is : per (e - 5 + 5) ≡ per e
   per_is = ap per (let h : e - 5 + 5 ≡ e = omega arith in h)
 
   class_in : e - 5 < 12
   class_in = omega arith
 
-  pub rising_e : get_or starts (e - 5) 0 ≤ get_or starts (e - 5 + 1) 0
+  pub rising_e : start_of (e - 5) ≤ start_of (e - 5 + 1)
   rising_e = is.arranged.rising (e - 5) class_in
 
   pub full_in : {k : ℕ} → k ≡ e - 5 → k < length full
   full_in same = let n = is.arranged.full_len in omega arith
 
   -- no chunk lies past the areas of the class
-  pub past_e : (i : ℕ) → get_or starts (e - 5 + 1) 0 ≤ get_or starts (e - 5) 0 + i / per e → chunk_at s.rows (e - 5) i ≡ None
+  pub past_e : (i : ℕ) → start_of (e - 5 + 1) ≤ start_of (e - 5) + i / per e → chunk_at s.rows (e - 5) i ≡ None
   past_e i past =
-      facts.past_s view is (e - 5) i class_in
+      facts.past_s view is i class_in
       (let d : i / per (e - 5 + 5) ≡ i / per e = ap (λ n. i / n) per_is in omega arith)
 
-  pub not_past : (i : ℕ) → IsSome (chunk_at s.rows (e - 5) i) → get_or starts (e - 5 + 1) 0 ≤ get_or starts (e - 5) 0 + i / per e → ⊥
+  pub not_past : (i : ℕ) → IsSome (chunk_at s.rows (e - 5) i) → start_of (e - 5 + 1) ≤ start_of (e - 5) + i / per e → ⊥
   not_past i some past = let gone = ap is_some (past_e i past) in absurd cc
 
   -- what `find` ensures of a spot
   abbrev pub Finds : ℕ → ℕ → ℕ → ℕ → Type 0
-  Finds i o j k = (o ≡ i / per e) × (j ≡ i % per e) × (k ≡ get_or starts (e - 5) 0 + i / per e) × (get_or starts (e - 5) 0 + i / per e < get_or starts (e - 5 + 1) 0)
+  Finds i o j k = (o ≡ i / per e) × (j ≡ i % per e) × (k ≡ start_of (e - 5) + i / per e) × (start_of (e - 5) + i / per e < start_of (e - 5 + 1))
 
   pub spot_e : (i : ℕ) {o j k : ℕ} → Finds i o j k → Spot view is e i o j k
   spot_e i {o} finds =
@@ -186,9 +190,9 @@ module _ {v : Version} {quota : ℕ} {ids : List SegmentId} {origin : Origin} {s
       ap (chunk_at s.rows (e - 5)) (sym spot.index) ∙ facts.chunk_s view is spot.location d
 
   -- where the first free chunk is
-  pub first_location : (n o j k : ℕ) (q : SizedAreaMeaning) → n + get_or starts (e - 5) 0 ≡ get_or starts (e - 5 + 1) 0 → o < n → k ≡ get_or starts (e - 5) 0 + o → q ≡ get_or sized_areas k q → j < length q.chunks
+  pub first_location : {n o j k : ℕ} {q : SizedAreaMeaning} → n + start_of (e - 5) ≡ start_of (e - 5 + 1) → o < n → k ≡ start_of (e - 5) + o → q ≡ get_or sized_areas k q → j < length q.chunks
       → ChunkLocation view is (e - 5) o j k
-  first_location n o j k q many l at here inside =
+  first_location {o} {q} many l at here inside =
       let placed : IsPlaced v (e - 5 + 5) o q = subst (IsPlaced v (e - 5 + 5) o) (sym (here ∙ ap (λ x. get_or sized_areas x q) at)) (is.arranged.placed (e - 5) o q class_in (omega arith)) in
       let long : length q.chunks ≡ per (e - 5 + 5) = placed.sized_area.whole ∙ ap per placed.exponent in
       record { small = class_in; within = omega arith; at = at; below = omega arith }
@@ -198,11 +202,11 @@ module _ {v : Version} {quota : ℕ} {ids : List SegmentId} {origin : Origin} {s
   first_e {n} {o} {j} {k} {q} location here clear free =
       facts.first_s view is q location clear (subst (λ (p : SizedAreaMeaning). IsFreeIn p.chunks j) here free)
 
-  pub full_e : (n : ℕ) → n + get_or starts (e - 5) 0 ≡ get_or starts (e - 5 + 1) 0 → ((o : ℕ) → o < n → IsSet (marks_of_class full (e - 5)) o) → (i : ℕ) → i < length (row_at s.rows (e - 5)).chunks → IsSome (chunk_at s.rows (e - 5) i)
+  pub full_e : (n : ℕ) → n + start_of (e - 5) ≡ start_of (e - 5 + 1) → ((o : ℕ) → o < n → IsSet (marks_of_class full (e - 5)) o) → (i : ℕ) → i < length (row_at s.rows (e - 5)).chunks → IsSome (chunk_at s.rows (e - 5) i)
   full_e n many marked = facts.all_full view is (e - 5) n class_in many marked
 
   -- an area without a mark is not full
-  pub not_full_e : (o k : ℕ) (q : SizedAreaMeaning) → get_or starts (e - 5) 0 + o < get_or starts (e - 5 + 1) 0 → k ≡ get_or starts (e - 5) 0 + o → q ≡ get_or sized_areas k q → IsClear (marks_of_class full (e - 5)) o → IsFullArea q → ⊥
+  pub not_full_e : (o k : ℕ) (q : SizedAreaMeaning) → start_of (e - 5) + o < start_of (e - 5 + 1) → k ≡ start_of (e - 5) + o → q ≡ get_or sized_areas k q → IsClear (marks_of_class full (e - 5)) o → IsFullArea q → ⊥
   not_full_e o k q within at here clear filled =
       let free : HasFree q = subst HasFree (sym (here ∙ ap (λ x. get_or sized_areas x q) at)) (is.arranged.unmarked (e - 5) o q class_in within clear) in
       let used = filled free.0 free.1 in
@@ -210,9 +214,9 @@ module _ {v : Version} {quota : ℕ} {ids : List SegmentId} {origin : Origin} {s
       absurd cc
 
   -- the counts of a class
-  pub count_e : {n : ℕ} → n ≡ get_or starts (e - 5 + 1) 0 - get_or starts (e - 5) 0 → (n + get_or starts (e - 5) 0 ≡ get_or starts (e - 5 + 1) 0) × (n ≤ 1024)
+  pub count_e : {n : ℕ} → n ≡ start_of (e - 5 + 1) - start_of (e - 5) → (n + start_of (e - 5) ≡ start_of (e - 5 + 1)) × (n ≤ 1024)
   count_e same =
-      let top = class_end (e - 5) is.arranged class_in in
+      let top = class_end is.arranged class_in in
       let up = rising_e in
       let fits = is.supplied.within in
       let most = is.supplied.most in
@@ -220,7 +224,7 @@ module _ {v : Version} {quota : ℕ} {ids : List SegmentId} {origin : Origin} {s
 
   pub place_small : (o j : ℕ) → o < 1024 → j < per e → (o * per e + j < 2 ^ 32) × (o * per e < 2 ^ 32)
   place_small o j few below =
-      let p = per_fits e low in
+      let p = per_fits low in
       let m = mul-le o (per e) 1024 2048 (omega arith) p in
       (omega arith, omega arith)
 
@@ -228,7 +232,7 @@ module _ {v : Version} {quota : ℕ} {ids : List SegmentId} {origin : Origin} {s
 
   -- how many areas class k has
   abbrev pub many_of : ℕ → ℕ
-  many_of k = get_or starts (k + 1) 0 - get_or starts k 0
+  many_of k = start_of (k + 1) - start_of k
 
   pub limit_k : (k : ℕ) → k ≡ e - 5 → many_of k ≤ MOST_CHUNKS
   limit_k k same = let l = (count_e refl).1 in let m : many_of k ≡ many_of (e - 5) = ap many_of same in omega arith
@@ -243,17 +247,17 @@ module _ {v : Version} {quota : ℕ} {ids : List SegmentId} {origin : Origin} {s
     many_same : many_of k ≡ many_of (e - 5)
     many_same = ap many_of same
 
-    start_same : get_or starts k 0 ≡ get_or starts (e - 5) 0
-    start_same = ap (λ x. get_or starts x 0) same
+    start_same : start_of k ≡ start_of (e - 5)
+    start_same = ap (λ x. start_of x) same
 
     clear_e : IsFirstClear (marks_of_class full (e - 5)) (many_of (e - 5)) o
     clear_e = subst (λ n. IsFirstClear (marks_of_class full (e - 5)) n o) many_same (subst (λ bs. IsFirstClear bs (many_of k) o) (marks_read full same read (full_in same)) clear)
 
-    pub within_k : get_or starts (e - 5) 0 + o < get_or starts (e - 5 + 1) 0
+    pub within_k : start_of (e - 5) + o < start_of (e - 5 + 1)
     within_k = let l = clear_e.below in let up = rising_e in omega arith
 
-    pub place_k : get_or starts k 0 + o < length sized_areas
-    place_k = let w = within_k in let top = class_end (e - 5) is.arranged class_in in let a = start_same in omega arith
+    pub place_k : start_of k + o < length sized_areas
+    place_k = let w = within_k in let top = class_end is.arranged class_in in let a = start_same in omega arith
 
     pub few_k : o < 1024
     few_k = let l = clear_e.below in let m = (count_e refl).1 in omega arith
@@ -261,7 +265,7 @@ module _ {v : Version} {quota : ℕ} {ids : List SegmentId} {origin : Origin} {s
     pub small_k : o < MOST_CHUNKS
     small_k = let l = few_k in omega arith
 
-    module _ {q : SizedAreaMeaning} (here : q ≡ get_or sized_areas (get_or starts k 0 + o) q) where
+    module _ {q : SizedAreaMeaning} (here : q ≡ get_or sized_areas (start_of k + o) q) where
       pub placed_k : IsPlaced v (e - 5 + 5) o q
       placed_k = subst (IsPlaced v (e - 5 + 5) o) (sym (here ∙ ap (λ x. get_or sized_areas (x + o) q) start_same)) (is.arranged.placed (e - 5) o q class_in within_k)
 
@@ -272,11 +276,11 @@ module _ {v : Version} {quota : ℕ} {ids : List SegmentId} {origin : Origin} {s
           subst (λ z. IsSizeOf z q.exponent n) (sym w) (subst (λ z. IsSizeOf s.version z n) (sym x) sized)
 
       pub not_full_k : ((i : ℕ) → i < length q.chunks → IsSome (get_or q.chunks i None)) → ⊥
-      not_full_k filled = not_full_e o (get_or starts k 0 + o) q within_k (ap (λ x. x + o) start_same) here clear_e.is_clear filled
+      not_full_k filled = not_full_e o (start_of k + o) q within_k (ap (λ x. x + o) start_same) here clear_e.is_clear filled
 
       module _ {j : ℕ} (free : IsFreeIn q.chunks j) where
-        location_k : ChunkLocation view is (e - 5) o j (get_or starts k 0 + o)
-        location_k = first_location (many_of (e - 5)) o j (get_or starts k 0 + o) q (count_e refl).0 clear_e.below (ap (λ x. x + o) start_same) here free.within
+        location_k : ChunkLocation view is (e - 5) o j (start_of k + o)
+        location_k = first_location (count_e refl).0 clear_e.below (ap (λ x. x + o) start_same) here free.within
 
         pub below_k : j < per e
         below_k = let b = location_k.below in let p = per_is in omega arith
@@ -287,7 +291,7 @@ module _ {v : Version} {quota : ℕ} {ids : List SegmentId} {origin : Origin} {s
         pub first_k : (r : ℕ) → r ≡ per e → IsFirstFree s.rows (e - 5) (o * r + j)
         first_k r is_per = subst (IsFirstFree s.rows (e - 5)) (index_k is_per) (first_e location_k here clear_e free)
 
-        pub spot_k : {r : ℕ} → r ≡ per e → Spot view is e (o * r + j) o j (get_or starts k 0 + o)
+        pub spot_k : {r : ℕ} → r ≡ per e → Spot view is e (o * r + j) o j (start_of k + o)
         spot_k is_per = record { least = low; location = location_k; index = index_k is_per }
 
         pub taken_k : {r : ℕ} (is_per : r ≡ per e) {p : SizedAreaMeaning} {full' : List (List Bool)} (n : ℕ) (b : Bool) → p ≡ area_with_chunk q j (Some (replicate n 0)) true → IsSizedArea p

@@ -29,7 +29,11 @@ pub some_fetched : {q : SizedAreaMeaning} (p : SizedAreaMeaning) (bits : List Bo
 some_fetched {q} p bits f valid each i = ap (λ (x : ChunkMeaning). is_some x.bytes) (each i) ∙ fetched_some (packed_at bits f i) (area_chunk q i) (valid.touched_used i)
 
 module _ {v : Version} {quota : ℕ} {ids : List SegmentId} {origin : Origin} {starts : List ℕ} {sized_areas : List SizedAreaMeaning} {full : List (List Bool)} {room spare spare_room : ℕ}
-    {s : ShelfMeaning} (view : shelf_of v quota ids origin starts sized_areas ≡ s) (is : IsShelf v quota ids starts sized_areas full room spare spare_room) (e : ℕ) (low : 5 ≤ e) (high : e ≤ 16) where
+    {s : ShelfMeaning} (view : shelf_of v quota ids origin starts sized_areas ≡ s) (is : IsShelf v quota ids starts sized_areas full room spare spare_room) {e : ℕ} (low : 5 ≤ e) (high : e ≤ 16) where
+  -- where class c begins
+  abbrev start_of : ℕ → ℕ
+  start_of c = get_or starts c 0
+
   class_in : e - 5 < 12
   class_in = omega arith
 
@@ -42,39 +46,39 @@ module _ {v : Version} {quota : ℕ} {ids : List SegmentId} {origin : Origin} {s
       ] refl
 
   -- the class has no such area
-  pub no_area : (k o : ℕ) (Change : ℕ → ChunkMeaning → ChunkMeaning → Type 0) → k ≡ e - 5 → get_or starts (k + 1) 0 - get_or starts k 0 ≤ o → ((i : ℕ) → Change i no_chunk no_chunk) → IsChangedArea s.rows s.rows (e - 5) o Change
+  pub no_area : (k o : ℕ) (Change : ℕ → ChunkMeaning → ChunkMeaning → Type 0) → k ≡ e - 5 → start_of (k + 1) - start_of k ≤ o → ((i : ℕ) → Change i no_chunk no_chunk) → IsChangedArea s.rows s.rows (e - 5) o Change
   no_area k o Change same past idle =
       let up = is.arranged.rising (e - 5) class_in in
-      let a : get_or starts (k + 1) 0 ≡ get_or starts (e - 5 + 1) 0 = ap (λ x. get_or starts (x + 1) 0) same in
-      let b : get_or starts k 0 ≡ get_or starts (e - 5) 0 = ap (λ x. get_or starts x 0) same in
+      let a : start_of (k + 1) ≡ start_of (e - 5 + 1) = ap (λ x. start_of (x + 1)) same in
+      let b : start_of k ≡ start_of (e - 5) = ap (λ x. start_of x) same in
       record {
         here = λ i l.
             let q = div-mul-add o (per (e - 5 + 5)) i l in
             let j : ℕ = o * per (e - 5 + 5) + i in
-            let none : chunk_at s.rows (e - 5) j ≡ None = past_s view is (e - 5) j class_in (omega arith) in
+            let none : chunk_at s.rows (e - 5) j ≡ None = past_s view is j class_in (omega arith) in
             let quiet = unused (e - 5) j class_in none in
             let gone : no_chunk ≡ row_chunk s.rows (e - 5) j = λ t. record { bytes = sym none t; touched = sym quiet t } in
             subst (λ x. Change i x x) gone (idle i);
         others = λ d i ne. refl;
       }
 
-  module _ {k : ℕ} (o : ℕ) (same : k ≡ e - 5) (l : o < get_or starts (k + 1) 0 - get_or starts k 0) where
-    within : get_or starts (e - 5) 0 + o < get_or starts (e - 5 + 1) 0
+  module _ {k : ℕ} {o : ℕ} (same : k ≡ e - 5) (l : o < start_of (k + 1) - start_of k) where
+    within : start_of (e - 5) + o < start_of (e - 5 + 1)
     within =
-        let a : get_or starts (k + 1) 0 ≡ get_or starts (e - 5 + 1) 0 = ap (λ x. get_or starts (x + 1) 0) same in
-        let b : get_or starts k 0 ≡ get_or starts (e - 5) 0 = ap (λ x. get_or starts x 0) same in
+        let a : start_of (k + 1) ≡ start_of (e - 5 + 1) = ap (λ x. start_of (x + 1)) same in
+        let b : start_of k ≡ start_of (e - 5) = ap (λ x. start_of x) same in
         omega arith
 
-    at : get_or starts k 0 + o ≡ get_or starts (e - 5) 0 + o
-    at = ap (λ x. get_or starts x 0 + o) same
+    at : start_of k + o ≡ start_of (e - 5) + o
+    at = ap (λ x. start_of x + o) same
 
-    pub place_in : get_or starts k 0 + o < length sized_areas
-    place_in = let top = class_end (e - 5) is.arranged class_in in let w = within in let a = at in omega arith
+    pub place_in : start_of k + o < length sized_areas
+    place_in = let top = class_end is.arranged class_in in let w = within in let a = at in omega arith
 
-    pub place_q : {q : SizedAreaMeaning} → q ≡ get_or sized_areas (get_or starts k 0 + o) q → IsSizedArea q
+    pub place_q : {q : SizedAreaMeaning} → q ≡ get_or sized_areas (start_of k + o) q → IsSizedArea q
     place_q {q} here = subst IsSizedArea (sym (here ∙ ap (λ x. get_or sized_areas x q) at)) (is.arranged.placed (e - 5) o q class_in within).sized_area
 
-    module _ {q p : SizedAreaMeaning} (here : q ≡ get_or sized_areas (get_or starts k 0 + o) q) (valid : IsSizedArea p) (same_place : p ≡ record q { chunks = p.chunks; touched = p.touched })
+    module _ {q p : SizedAreaMeaning} (here : q ≡ get_or sized_areas (start_of k + o) q) (valid : IsSizedArea p) (same_place : p ≡ record q { chunks = p.chunks; touched = p.touched })
         (some_same : (i : ℕ) → is_some (get_or p.chunks i None) ≡ is_some (get_or q.chunks i None)) where
       placed_q : IsPlaced v (e - 5 + 5) o q
       placed_q = subst (IsPlaced v (e - 5 + 5) o) (sym (here ∙ ap (λ x. get_or sized_areas x q) at)) (is.arranged.placed (e - 5) o q class_in within)
@@ -109,17 +113,17 @@ module _ {v : Version} {quota : ℕ} {ids : List SegmentId} {origin : Origin} {s
       same_id : p.identity ≡ q.identity
       same_id = ap (λ (x : SizedAreaMeaning). x.identity) same_place
 
-      pub change_shelf : IsShelf v quota ids starts (set sized_areas (get_or starts k 0 + o) p) full room spare spare_room
+      pub change_shelf : IsShelf v quota ids starts (set sized_areas (start_of k + o) p) full room spare spare_room
       change_shelf = swaps.swap_shelf view is class_in within at here placed_p same_id marks
 
-      pub change_kept : IsValidShelf (shelf_of v quota ids origin starts (set sized_areas (get_or starts k 0 + o) p))
+      pub change_kept : IsValidShelf (shelf_of v quota ids origin starts (set sized_areas (start_of k + o) p))
       change_kept = swaps.swap_kept view is class_in within at here placed_p same_id marks
 
-      pub change_same : shelf_of v quota ids origin starts (set sized_areas (get_or starts k 0 + o) p) ≡ record s { rows = rows_upto 12 starts (set sized_areas (get_or starts k 0 + o) p) }
+      pub change_same : shelf_of v quota ids origin starts (set sized_areas (start_of k + o) p) ≡ record s { rows = rows_upto 12 starts (set sized_areas (start_of k + o) p) }
       change_same = swaps.swap_same view is class_in within at here placed_p same_id marks
 
-      pub change_long : (d : ℕ) → length (row_at (rows_upto 12 starts (set sized_areas (get_or starts k 0 + o) p)) d).chunks ≡ length (row_at s.rows d).chunks
+      pub change_long : (d : ℕ) → length (row_at (rows_upto 12 starts (set sized_areas (start_of k + o) p)) d).chunks ≡ length (row_at s.rows d).chunks
       change_long = swaps.swap_long view is class_in within at here placed_p same_id marks
 
-      pub change_area : (Change : ℕ → ChunkMeaning → ChunkMeaning → Type 0) → ((i : ℕ) → Change i (area_chunk q i) (area_chunk p i)) → IsChangedArea s.rows (rows_upto 12 starts (set sized_areas (get_or starts k 0 + o) p)) (e - 5) o Change
+      pub change_area : (Change : ℕ → ChunkMeaning → ChunkMeaning → Type 0) → ((i : ℕ) → Change i (area_chunk q i) (area_chunk p i)) → IsChangedArea s.rows (rows_upto 12 starts (set sized_areas (start_of k + o) p)) (e - 5) o Change
       change_area Change each = swaps.swap_changes view is class_in within at here placed_p same_id marks Change (λ i b. each i)

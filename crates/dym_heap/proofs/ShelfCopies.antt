@@ -18,14 +18,14 @@ fits_some None n h = absurd h
 fits_some (Some x) n h = (x, refl)
 
 module _ {v : Version} {quota : ℕ} {ids : List SegmentId} {origin : Origin} {starts : List ℕ} {sized_areas : List SizedAreaMeaning} {full : List (List Bool)} {room spare spare_room : ℕ}
-    {s : ShelfMeaning} (view : shelf_of v quota ids origin starts sized_areas ≡ s) (is : IsShelf v quota ids starts sized_areas full room spare spare_room) (e : ℕ) (low : 5 ≤ e) (high : e ≤ 16) (f : ℕ) (low' : 5 ≤ f) (high' : f ≤ 16) where
+    {s : ShelfMeaning} (view : shelf_of v quota ids origin starts sized_areas ≡ s) (is : IsShelf v quota ids starts sized_areas full room spare spare_room) {e : ℕ} (low : 5 ≤ e) (high : e ≤ 16) {f : ℕ} (low' : 5 ≤ f) (high' : f ≤ 16) where
   -- the areas are not the same
-  pub other_place : (i : ℕ) {o j k : ℕ} (i' : ℕ) {o' j' k' : ℕ} → (e ≡ f → ⊥) → Finds view is e low high i o j k
-      → Finds view is f low' high' i' o' j' k' → k ≡ k' → ⊥
+  pub other_place : (i : ℕ) {o j k : ℕ} (i' : ℕ) {o' j' k' : ℕ} → (e ≡ f → ⊥) → Finds view is low high i o j k
+      → Finds view is low' high' i' o' j' k' → k ≡ k' → ⊥
   other_place i {o} i' {o'} other finds finds' same =
-      let a = (calls.spot_e view is e low high i finds).location in
-      let b = (calls.spot_e view is f low' high' i' finds').location in
-      let one = (apart (e - 5) (f - 5) o o' is.arranged a.small b.small a.within b.within (sym a.at ∙ same ∙ b.at)).0 in
+      let a = (calls.spot_e view is low high i finds).location in
+      let b = (calls.spot_e view is low' high' i' finds').location in
+      let one = (apart o o' is.arranged a.small b.small a.within b.within (sym a.at ∙ same ∙ b.at)).0 in
       other (omega (arith, one, low, low'))
 
   pub record Now (new : List SizedAreaMeaning) (i i' n : ℕ) : Type 0 where
@@ -33,19 +33,19 @@ module _ {v : Version} {quota : ℕ} {ids : List SegmentId} {origin : Origin} {s
     pub gives : MatchOption (chunk_at s.rows (e - 5) i) ⊥ (λ source. MatchOption (chunk_at s.rows (f - 5) i') ⊥ (λ old. shelf_of v quota ids origin starts new ≡ with_put s (f - 5) i' (Some (splice 0 (take n source) old)) true))
     pub valid_shelf : IsValidShelf (shelf_of v quota ids origin starts new)
 
-  pub copied : {new : List SizedAreaMeaning} (i : ℕ) {o j k : ℕ} (i' : ℕ) {o' j' k' n : ℕ} → Finds view is e low high i o j k
-      → Finds view is f low' high' i' o' j' k' → FitsIn (chunk_at s.rows (e - 5) i) n → IsCopiedOver sized_areas new k j k' j' n → Now new i i' n
+  pub copied : {new : List SizedAreaMeaning} (i : ℕ) {o j k : ℕ} (i' : ℕ) {o' j' k' n : ℕ} → Finds view is low high i o j k
+      → Finds view is low' high' i' o' j' k' → FitsIn (chunk_at s.rows (e - 5) i) n → IsCopiedOver sized_areas new k j k' j' n → Now new i i' n
   copied {new} i {j} {k} i' {j'} {k'} {n} finds finds' fits over =
       let sized_area = over.sized_area in
       let q : SizedAreaMeaning = get_or sized_areas k' sized_area in
-      let here : q ≡ get_or sized_areas k' q = get_or_default sized_areas k' sized_area q (calls.in_e_at view is f low' high' i' finds') in
+      let here : q ≡ get_or sized_areas k' q = get_or_default sized_areas k' sized_area q (calls.in_e_at view is low' high' i' finds') in
       let source = fits_some (chunk_at s.rows (e - 5) i) n fits in
       let bytes : List ℕ = source.0 in
       let there : get_or (get_or sized_areas k sized_area).chunks j None ≡ Some bytes =
-      sym (calls.chunk_there view is e low high i finds sized_area) ∙ source.1 in
+      sym (calls.chunk_there view is low high i finds sized_area) ∙ source.1 in
       let step : MatchOption (get_or q.chunks j' None) ⊥ (λ old. sized_area ≡ area_with_chunk q j' (Some (splice 0 (take n bytes) old)) true) =
       subst (λ z. MatchOption z ⊥ (λ x. MatchOption (get_or q.chunks j' None) ⊥ (λ old. sized_area ≡ area_with_chunk q j' (Some (splice 0 (take n x) old)) true))) there over.chunk in
-      let now = calls.changed (calls.spot_e view is f low' high' i' finds') here (splice 0 (take n bytes)) step over.valid in
+      let now = calls.changed (calls.spot_e view is low' high' i' finds') here (splice 0 (take n bytes)) step over.valid in
       record {
         shelf = subst (λ l. IsShelf v quota ids starts l full room spare spare_room) (sym over.areas) now.shelf;
         gives =

@@ -32,8 +32,8 @@ module _ {v : Version} {quota : ℕ} {ids : List SegmentId} {origin : Origin} {s
   rows_s : s.rows ≡ rows_upto 12 starts sized_areas
   rows_s = sym (ap (λ (t : ShelfMeaning). t.rows) view)
 
-  pub row_s : (c : ℕ) → c < 12 → row_at s.rows c ≡ row_of (class_sized_areas starts sized_areas c)
-  row_s c l = ap (λ rs. row_at rs c) rows_s ∙ row-rows 12 starts sized_areas c l
+  pub row_s : {c : ℕ} → c < 12 → row_at s.rows c ≡ row_of (class_sized_areas starts sized_areas c)
+  row_s {c} l = ap (λ rs. row_at rs c) rows_s ∙ row-rows starts sized_areas l
 
   -- area o of class c at place k, and chunk j of it
   pub record ChunkLocation (c o j k : ℕ) : Type 0 where
@@ -44,15 +44,15 @@ module _ {v : Version} {quota : ℕ} {ids : List SegmentId} {origin : Origin} {s
 
   module _ {c o j k : ℕ} (location : ChunkLocation c o j k) where
     pub in_s : k < length sized_areas
-    in_s = let top = class_end c is.arranged location.small in let w = location.within in let a = location.at in omega arith
+    in_s = let top = class_end is.arranged location.small in let w = location.within in let a = location.at in omega arith
 
-    pub few_s : o < count_c is.arranged c location.small
-    few_s = let n = count_is is.arranged c location.small in let w = location.within in omega arith
+    pub few_s : o < count_c is.arranged location.small
+    few_s = let n = count_is is.arranged location.small in let w = location.within in omega arith
 
     pub chunk_s : (d : SizedAreaMeaning) → chunk_at s.rows c (o * per (c + 5) + j) ≡ get_or (get_or sized_areas k d).chunks j None
     chunk_s d =
-        ap (λ (r : Row). get_or r.chunks (o * per (c + 5) + j) None) (row_s c location.small)
-        ∙ chunk-row is.arranged c location.small o j d few_s location.below
+        ap (λ (r : Row). get_or r.chunks (o * per (c + 5) + j) None) (row_s location.small)
+        ∙ chunk-row is.arranged location.small d few_s location.below
         ∙ ap (λ i. get_or (get_or sized_areas i d).chunks j None) (sym location.at)
 
     pub placed_s : (d : SizedAreaMeaning) → IsPlaced v (c + 5) o (get_or sized_areas k d)
@@ -100,15 +100,15 @@ module _ {v : Version} {quota : ℕ} {ids : List SegmentId} {origin : Origin} {s
   index_s c i = div-add-mod' i (per (c + 5))
 
   -- past the areas of a class no chunk is in use
-  pub past_s : (c i : ℕ) → c < 12 → get_or starts (c + 1) 0 ≤ get_or starts c 0 + i / per (c + 5) → chunk_at s.rows c i ≡ None
-  past_s c i l past =
-      let n = count_is is.arranged c l in
-      let many : count_c is.arranged c l ≤ i / per (c + 5) = omega arith in
-      ap (λ (r : Row). get_or r.chunks i None) (row_s c l)
+  pub past_s : {c : ℕ} (i : ℕ) → c < 12 → get_or starts (c + 1) 0 ≤ get_or starts c 0 + i / per (c + 5) → chunk_at s.rows c i ≡ None
+  past_s {c} i l past =
+      let n = count_is is.arranged l in
+      let many : count_c is.arranged l ≤ i / per (c + 5) = omega arith in
+      ap (λ (r : Row). get_or r.chunks i None) (row_s l)
       ∙ get_or_past (row_of (class_sized_areas starts sized_areas c)).chunks i None
-      (elim (cases_lt i (count_c is.arranged c l * per (c + 5))) as (λ _. length (row_of (class_sized_areas starts sized_areas c)).chunks ≤ i) [
-        | inl low ↦ absurd (let b = div_below i (per (c + 5)) (count_c is.arranged c l) (positive c) low in omega arith)
-        | inr high ↦ omega (arith, whole_row is.arranged c l)
+      (elim (cases_lt i (count_c is.arranged l * per (c + 5))) as (λ _. length (row_of (class_sized_areas starts sized_areas c)).chunks ≤ i) [
+        | inl low ↦ absurd (let b = div_below i (per (c + 5)) (count_c is.arranged l) (positive c) low in omega arith)
+        | inr high ↦ omega (arith, whole_row is.arranged l)
       ])
 
   -- ---- the least free chunk
@@ -125,9 +125,9 @@ module _ {v : Version} {quota : ℕ} {ids : List SegmentId} {origin : Origin} {s
   -- where all areas are marked as full, no chunk is free
   pub all_full : (c n : ℕ) → c < 12 → n + get_or starts c 0 ≡ get_or starts (c + 1) 0 → ((o : ℕ) → o < n → IsSet (marks_of_class full c) o) → (i : ℕ) → i < length (row_at s.rows c).chunks → IsSome (chunk_at s.rows c i)
   all_full c n l many marked i within =
-      let count = count_is is.arranged c l in
-      let long = ap (λ (r : Row). length r.chunks) (row_s c l) ∙ whole_row is.arranged c l in
-      let a = at_index is.arranged c l i (omega arith) in
+      let count = count_is is.arranged l in
+      let long = ap (λ (r : Row). length r.chunks) (row_s l) ∙ whole_row is.arranged l in
+      let a = at_index is.arranged l i (omega arith) in
       let w = a.within in
       let o_in : a.o < n = omega arith in
       let m = is.arranged.marked c a.o any l (marked a.o o_in) in
@@ -137,9 +137,9 @@ module _ {v : Version} {quota : ℕ} {ids : List SegmentId} {origin : Origin} {s
   pub first_s : {c n o j k : ℕ} (d : SizedAreaMeaning) (location : ChunkLocation c o j k) → IsFirstClear (marks_of_class full c) n o → IsFreeIn (get_or sized_areas k d).chunks j → IsFirstFree s.rows c (o * per (c + 5) + j)
   first_s {c} {o} {j} {k} d location clear free =
       let l = location.small in
-      let long = ap (λ (r : Row). length r.chunks) (row_s c l) ∙ whole_row is.arranged c l in
+      let long = ap (λ (r : Row). length r.chunks) (row_s l) ∙ whole_row is.arranged l in
       record {
-        within = (let few = few_s location in omega (arith, mul-add-lt o (per (c + 5)) j (count_c is.arranged c l) few location.below));
+        within = (let few = few_s location in omega (arith, mul-add-lt o (per (c + 5)) j (count_c is.arranged l) few location.below));
         free = chunk_s location d ∙ free.free;
         least = λ i less.
             let b = mod_below i (per (c + 5)) (positive c) in

@@ -128,7 +128,11 @@ cuts_more {old} {mid} {new} {c} {n} l cuts ends dropped =
     }
 
 module _ {v : Version} {quota : ℕ} {ids : List SegmentId} {origin : Origin} {starts : List ℕ} {sized_areas : List SizedAreaMeaning} {full : List (List Bool)} {room spare spare_room : ℕ}
-    {s : ShelfMeaning} (view : shelf_of v quota ids origin starts sized_areas ≡ s) (is : IsShelf v quota ids starts sized_areas full room spare spare_room) (e : ℕ) (low : 5 ≤ e) (high : e ≤ 16) where
+    {s : ShelfMeaning} (view : shelf_of v quota ids origin starts sized_areas ≡ s) (is : IsShelf v quota ids starts sized_areas full room spare spare_room) {e : ℕ} (low : 5 ≤ e) (high : e ≤ 16) where
+  -- where class c begins
+  abbrev start_of : ℕ → ℕ
+  start_of c = get_or starts c 0
+
   per_is : per (e - 5 + 5) ≡ per e
   per_is = ap per (let h : e - 5 + 5 ≡ e = omega arith in h)
 
@@ -147,20 +151,20 @@ module _ {v : Version} {quota : ℕ} {ids : List SegmentId} {origin : Origin} {s
   pub below_quota : length s.held_ids < s.quota → length sized_areas < quota
   below_quota l = let a = ids_s in let b = quota_s in omega arith
 
-  pub end_in : {k : ℕ} → k ≡ e - 5 → get_or starts (k + 1) 0 ≤ length sized_areas
-  end_in {k} same = let top = class_end (e - 5) is.arranged class_in in let a : get_or starts (k + 1) 0 ≡ get_or starts (e - 5 + 1) 0 = ap (λ x. get_or starts (x + 1) 0) same in omega arith
+  pub end_in : {k : ℕ} → k ≡ e - 5 → start_of (k + 1) ≤ length sized_areas
+  end_in {k} same = let top = class_end is.arranged class_in in let a : start_of (k + 1) ≡ start_of (e - 5 + 1) = ap (λ x. start_of (x + 1)) same in omega arith
 
-  pub rising_k : (k : ℕ) → k ≡ e - 5 → get_or starts k 0 ≤ get_or starts (k + 1) 0
-  rising_k k same = subst (λ x. get_or starts x 0 ≤ get_or starts (x + 1) 0) (sym same) (is.arranged.rising (e - 5) class_in)
+  pub rising_k : (k : ℕ) → k ≡ e - 5 → start_of k ≤ start_of (k + 1)
+  rising_k k same = subst (λ x. start_of x ≤ start_of (x + 1)) (sym same) (is.arranged.rising (e - 5) class_in)
 
   pub room_in : length s.held_ids < s.quota → length sized_areas < room
   room_in l = let a = below_quota l in let b = is.supplied.has_room in omega arith
 
-  pub starts_small : (d : ℕ) → get_or starts d 0 ≤ 1024
+  pub starts_small : (d : ℕ) → start_of d ≤ 1024
   starts_small d =
-      elim (cases_lt d 13) as (λ _. get_or starts d 0 ≤ 1024) [
+      elim (cases_lt d 13) as (λ _. start_of d ≤ 1024) [
         | inl l ↦ (let up = Rows.starts_mono d (12 - d) is.arranged (omega arith) in
-            let a : get_or starts (d + (12 - d)) 0 ≡ get_or starts 12 0 = ap (λ x. get_or starts x 0) (let h : d + (12 - d) ≡ 12 = omega arith in h) in
+            let a : start_of (d + (12 - d)) ≡ start_of 12 = ap (λ x. start_of x) (let h : d + (12 - d) ≡ 12 = omega arith in h) in
             let last = is.arranged.last in let fits = is.supplied.within in let most = is.supplied.most in omega arith)
         | inr past ↦ (let z = get_or_past starts d 0 (let n = is.arranged.starts_len in omega arith) in omega arith)
       ]
@@ -173,15 +177,15 @@ module _ {v : Version} {quota : ℕ} {ids : List SegmentId} {origin : Origin} {s
     pub valid_shelf : IsValidShelf (shelf_of v quota' ids' origin' starts' sized_areas')
 
   grown_at : {o : ℕ} (lengths : Option Lengths) {p : SizedAreaMeaning} {id : SegmentId} {ids' : List SegmentId} {starts' : List ℕ} (room' : ℕ) {spare' : ℕ}
-      → length s.held_ids < s.quota → version_of lengths ≡ v → spare' ≡ spare - 1 → p ≡ empty_place (version_of lengths) e o id → IsSizedArea p → o ≡ get_or starts (e - 5 + 1) 0 - get_or starts (e - 5) 0
-      → GivesBack ids' ids id → Shifts starts starts' (e - 5) → room ≤ room' → Grown ids' quota origin starts' (insert sized_areas (get_or starts (e - 5 + 1) 0) p) room' spare' spare_room
+      → length s.held_ids < s.quota → version_of lengths ≡ v → spare' ≡ spare - 1 → p ≡ empty_place (version_of lengths) e o id → IsSizedArea p → o ≡ start_of (e - 5 + 1) - start_of (e - 5)
+      → GivesBack ids' ids id → Shifts starts starts' (e - 5) → room ≤ room' → Grown ids' quota origin starts' (insert sized_areas (start_of (e - 5 + 1)) p) room' spare' spare_room
   grown_at lengths {p} {ids'} {starts'} room' {spare'} less version fewer made valid ordinal more shift bigger =
       let c : ℕ = e - 5 in
-      let at : ℕ = get_or starts (c + 1) 0 in
-      let top = class_end c is.arranged class_in in
+      let at : ℕ = start_of (c + 1) in
+      let top = class_end is.arranged class_in in
       let chunks : p.chunks ≡ replicate (per (c + 5)) None = ap (λ (q : SizedAreaMeaning). q.chunks) made ∙ sym (ap (λ n. replicate n None) per_is) in
       let touched : p.touched ≡ replicate (per (c + 5)) false = ap (λ (q : SizedAreaMeaning). q.touched) made ∙ sym (ap (λ n. replicate n false) per_is) in
-      let placed : IsPlaced v (c + 5) (at - get_or starts c 0) p = record {
+      let placed : IsPlaced v (c + 5) (at - start_of c) p = record {
         sized_area = valid;
         version = ap (λ (q : SizedAreaMeaning). q.version) made ∙ version;
         exponent = ap (λ (q : SizedAreaMeaning). q.exponent) made ∙ (let h : e ≡ e - 5 + 5 = omega arith in h);
@@ -202,64 +206,64 @@ module _ {v : Version} {quota : ℕ} {ids : List SegmentId} {origin : Origin} {s
       }
 
   pub grown : {k o : ℕ} (lengths : Option Lengths) {p : SizedAreaMeaning} {id : SegmentId} {ids' : List SegmentId} {quota' : ℕ} {origin' : Origin} {starts' : List ℕ} (room' spare' : ℕ) {spare_room' : ℕ}
-      → k ≡ e - 5 → length s.held_ids < s.quota → MatchOption lengths ((spare ≡ 0) × (spare' ≡ 0)) (λ _. spare' + 1 ≡ spare) → p ≡ empty_place (version_of lengths) e o id → IsSizedArea p → o ≡ get_or starts (k + 1) 0 - get_or starts k 0
+      → k ≡ e - 5 → length s.held_ids < s.quota → MatchOption lengths ((spare ≡ 0) × (spare' ≡ 0)) (λ _. spare' + 1 ≡ spare) → p ≡ empty_place (version_of lengths) e o id → IsSizedArea p → o ≡ start_of (k + 1) - start_of k
       → GivesBack ids' ids id → quota' ≡ quota → origin' ≡ origin → Shifts starts starts' k → room ≤ room' → spare_room' ≡ spare_room
-      → {sized_areas' : List SizedAreaMeaning} → sized_areas' ≡ insert sized_areas (get_or starts (k + 1) 0) p → Grown ids' quota' origin' starts' sized_areas' room' spare' spare_room'
+      → {sized_areas' : List SizedAreaMeaning} → sized_areas' ≡ insert sized_areas (start_of (k + 1)) p → Grown ids' quota' origin' starts' sized_areas' room' spare' spare_room'
   grown {o} lengths {p} {id} {ids'} {quota'} {origin'} {starts'} room' spare' {spare_room'} same less cases made valid ordinal more quota_is origin_is shift bigger room_is items =
       let tables = popped v quota (length sized_areas) spare spare' spare_room lengths is.supplied.tables (below_quota less) cases in
-      let at_k = grown_at lengths room' less tables.0 tables.1 made valid (ordinal ∙ ap (λ x. get_or starts (x + 1) 0 - get_or starts x 0) same) more (subst (Shifts starts starts') same shift) bigger in
-      subst (λ xs. Grown ids' quota' origin' starts' xs room' spare' spare_room') (sym items) (subst (λ x. Grown ids' quota' origin' starts' (insert sized_areas (get_or starts (x + 1) 0) p) room' spare' spare_room') (sym same)
-      (subst (λ x. Grown ids' x origin' starts' (insert sized_areas (get_or starts (e - 5 + 1) 0) p) room' spare' spare_room') (sym quota_is)
-      (subst (λ x. Grown ids' quota x starts' (insert sized_areas (get_or starts (e - 5 + 1) 0) p) room' spare' spare_room') (sym origin_is)
-      (subst (λ x. Grown ids' quota origin starts' (insert sized_areas (get_or starts (e - 5 + 1) 0) p) room' spare' x) (sym room_is) at_k))))
+      let at_k = grown_at lengths room' less tables.0 tables.1 made valid (ordinal ∙ ap (λ x. start_of (x + 1) - start_of x) same) more (subst (Shifts starts starts') same shift) bigger in
+      subst (λ xs. Grown ids' quota' origin' starts' xs room' spare' spare_room') (sym items) (subst (λ x. Grown ids' quota' origin' starts' (insert sized_areas (start_of (x + 1)) p) room' spare' spare_room') (sym same)
+      (subst (λ x. Grown ids' x origin' starts' (insert sized_areas (start_of (e - 5 + 1)) p) room' spare' spare_room') (sym quota_is)
+      (subst (λ x. Grown ids' quota x starts' (insert sized_areas (start_of (e - 5 + 1)) p) room' spare' spare_room') (sym origin_is)
+      (subst (λ x. Grown ids' quota origin starts' (insert sized_areas (start_of (e - 5 + 1)) p) room' spare' x) (sym room_is) at_k))))
 
   -- ---- the last area goes
 
   row_e : row_at s.rows (e - 5) ≡ row_of (class_sized_areas starts sized_areas (e - 5))
-  row_e = facts.row_s view is (e - 5) class_in
+  row_e = facts.row_s view is class_in
 
-  pub long_e : length (row_at s.rows (e - 5)).chunks + get_or starts (e - 5) 0 * per e ≡ get_or starts (e - 5 + 1) 0 * per e
+  pub long_e : length (row_at s.rows (e - 5)).chunks + start_of (e - 5) * per e ≡ start_of (e - 5 + 1) * per e
   long_e =
-      let n : ℕ = count_c is.arranged (e - 5) class_in in
-      let whole = ap (λ (r : Row). length r.chunks) row_e ∙ whole_row is.arranged (e - 5) class_in ∙ ap (λ x. n * x) per_is in
-      let count = count_is is.arranged (e - 5) class_in in
-      let parts = add-mul n (get_or starts (e - 5) 0) (per e) in
-      let all : (n + get_or starts (e - 5) 0) * per e ≡ get_or starts (e - 5 + 1) 0 * per e = ap (λ x. x * per e) count in
+      let n : ℕ = count_c is.arranged class_in in
+      let whole = ap (λ (r : Row). length r.chunks) row_e ∙ whole_row is.arranged class_in ∙ ap (λ x. n * x) per_is in
+      let count = count_is is.arranged class_in in
+      let parts = add-mul n (start_of (e - 5)) (per e) in
+      let all : (n + start_of (e - 5)) * per e ≡ start_of (e - 5 + 1) * per e = ap (λ x. x * per e) count in
       omega arith
 
   -- a class with a chunk has an area
-  some_area : EndsFree s.rows (e - 5) (per e) → get_or starts (e - 5) 0 < get_or starts (e - 5 + 1) 0
+  some_area : EndsFree s.rows (e - 5) (per e) → start_of (e - 5) < start_of (e - 5 + 1)
   some_area ends =
-      elim (cases_lt (get_or starts (e - 5) 0) (get_or starts (e - 5 + 1) 0)) as (λ _. get_or starts (e - 5) 0 < get_or starts (e - 5 + 1) 0) [
+      elim (cases_lt (start_of (e - 5)) (start_of (e - 5 + 1))) as (λ _. start_of (e - 5) < start_of (e - 5 + 1)) [
         | inl l ↦ l
-        | inr past ↦ absurd (let up = is.arranged.rising (e - 5) class_in in let same : get_or starts (e - 5) 0 ≡ get_or starts (e - 5 + 1) 0 = omega arith in
-            let m : get_or starts (e - 5) 0 * per e ≡ get_or starts (e - 5 + 1) 0 * per e = ap (λ x. x * per e) same in
+        | inr past ↦ absurd (let up = is.arranged.rising (e - 5) class_in in let same : start_of (e - 5) ≡ start_of (e - 5 + 1) = omega arith in
+            let m : start_of (e - 5) * per e ≡ start_of (e - 5 + 1) * per e = ap (λ x. x * per e) same in
             let l = long_e in let t = ends.there in let p = per_some in omega arith)
       ]
 
-  pub last_in : {k : ℕ} → k ≡ e - 5 → EndsFree s.rows (e - 5) (per e) → (1 ≤ get_or starts (k + 1) 0) × (get_or starts (k + 1) 0 - 1 < length sized_areas)
+  pub last_in : {k : ℕ} → k ≡ e - 5 → EndsFree s.rows (e - 5) (per e) → (1 ≤ start_of (k + 1)) × (start_of (k + 1) - 1 < length sized_areas)
   last_in {k} same ends =
       let l = some_area ends in
-      let a : get_or starts (k + 1) 0 ≡ get_or starts (e - 5 + 1) 0 = ap (λ x. get_or starts (x + 1) 0) same in
-      let top = class_end (e - 5) is.arranged class_in in
+      let a : start_of (k + 1) ≡ start_of (e - 5 + 1) = ap (λ x. start_of (x + 1)) same in
+      let top = class_end is.arranged class_in in
       (omega arith, omega arith)
 
-  pub last_held : (k : ℕ) (d : SizedAreaMeaning) → k ≡ e - 5 → EndsFree s.rows (e - 5) (per e) → IsHeld ids (get_or sized_areas (get_or starts (k + 1) 0 - 1) d).identity
-  last_held k d same ends = place_held (get_or starts (k + 1) 0 - 1) d is.supplied (last_in same ends).1
+  pub last_held : (k : ℕ) (d : SizedAreaMeaning) → k ≡ e - 5 → EndsFree s.rows (e - 5) (per e) → IsHeld ids (get_or sized_areas (start_of (k + 1) - 1) d).identity
+  last_held k d same ends = place_held (start_of (k + 1) - 1) d is.supplied (last_in same ends).1
 
-  pub last_version : (k : ℕ) (d : SizedAreaMeaning) → k ≡ e - 5 → EndsFree s.rows (e - 5) (per e) → (get_or sized_areas (get_or starts (k + 1) 0 - 1) d).version ≡ v
+  pub last_version : (k : ℕ) (d : SizedAreaMeaning) → k ≡ e - 5 → EndsFree s.rows (e - 5) (per e) → (get_or sized_areas (start_of (k + 1) - 1) d).version ≡ v
   last_version k d same ends =
       let l = some_area ends in
-      let at : get_or starts (k + 1) 0 - 1 ≡ get_or starts (e - 5) 0 + (get_or starts (e - 5 + 1) 0 - 1 - get_or starts (e - 5) 0) =
-      (let a : get_or starts (k + 1) 0 ≡ get_or starts (e - 5 + 1) 0 = ap (λ x. get_or starts (x + 1) 0) same in omega arith) in
-      let p = is.arranged.placed (e - 5) (get_or starts (e - 5 + 1) 0 - 1 - get_or starts (e - 5) 0) d class_in (omega arith) in
+      let at : start_of (k + 1) - 1 ≡ start_of (e - 5) + (start_of (e - 5 + 1) - 1 - start_of (e - 5)) =
+      (let a : start_of (k + 1) ≡ start_of (e - 5 + 1) = ap (λ x. start_of (x + 1)) same in omega arith) in
+      let p = is.arranged.placed (e - 5) (start_of (e - 5 + 1) - 1 - start_of (e - 5)) d class_in (omega arith) in
       ap (λ i. (get_or sized_areas i d).version) at ∙ p.version
 
-  pub starts_some : (k : ℕ) → k ≡ e - 5 → EndsFree s.rows (e - 5) (per e) → (d : ℕ) → k < d → d < 13 → 1 ≤ get_or starts d 0
+  pub starts_some : (k : ℕ) → k ≡ e - 5 → EndsFree s.rows (e - 5) (per e) → (d : ℕ) → k < d → d < 13 → 1 ≤ start_of d
   starts_some k same ends d past small =
       let l = some_area ends in
       let up = Rows.starts_mono (e - 5 + 1) (d - (e - 5 + 1)) is.arranged (omega arith) in
-      let a : get_or starts (e - 5 + 1 + (d - (e - 5 + 1))) 0 ≡ get_or starts d 0 = ap (λ x. get_or starts x 0) (let h : e - 5 + 1 + (d - (e - 5 + 1)) ≡ d = omega arith in h) in
+      let a : get_or starts (e - 5 + 1 + (d - (e - 5 + 1))) 0 ≡ start_of d = ap (λ x. start_of x) (let h : e - 5 + 1 + (d - (e - 5 + 1)) ≡ d = omega arith in h) in
       omega arith
 
   pub some_places : EndsFree s.rows (e - 5) (per e) → 0 < length sized_areas
@@ -271,28 +275,28 @@ module _ {v : Version} {quota : ℕ} {ids : List SegmentId} {origin : Origin} {s
     pub fewer : length ids' + 1 ≡ length s.held_ids
     pub valid_shelf : IsValidShelf (shelf_of v quota' ids' origin' starts' sized_areas')
 
-  dropped_at : (ids' : List SegmentId) (starts' : List ℕ) (spare' spare_room' : ℕ) (d : SizedAreaMeaning) → EndsFree s.rows (e - 5) (per e) → GivesBack ids ids' (get_or sized_areas (get_or starts (e - 5 + 1) 0 - 1) d).identity
-      → HasTables v quota (length (remove sized_areas (get_or starts (e - 5 + 1) 0 - 1))) spare' spare_room' → Unshifts starts starts' (e - 5)
-      → Dropped ids' quota origin starts' (remove sized_areas (get_or starts (e - 5 + 1) 0 - 1)) spare' spare_room'
+  dropped_at : (ids' : List SegmentId) (starts' : List ℕ) (spare' spare_room' : ℕ) (d : SizedAreaMeaning) → EndsFree s.rows (e - 5) (per e) → GivesBack ids ids' (get_or sized_areas (start_of (e - 5 + 1) - 1) d).identity
+      → HasTables v quota (length (remove sized_areas (start_of (e - 5 + 1) - 1))) spare' spare_room' → Unshifts starts starts' (e - 5)
+      → Dropped ids' quota origin starts' (remove sized_areas (start_of (e - 5 + 1) - 1)) spare' spare_room'
   dropped_at ids' starts' spare' spare_room' d ends back tables shift =
       let c : ℕ = e - 5 in
-      let k : ℕ = get_or starts (c + 1) 0 - 1 in
+      let k : ℕ = start_of (c + 1) - 1 in
       let l = some_area ends in
       let in_k = (last_in refl ends).1 in
-      let o : ℕ = k - get_or starts c 0 in
+      let o : ℕ = k - start_of c in
       let long = long_e in
-      let at_o : get_or starts c 0 + o ≡ k = omega arith in
-      let parts = add-mul o (get_or starts c 0) (per e) in
+      let at_o : start_of c + o ≡ k = omega arith in
+      let parts = add-mul o (start_of c) (per e) in
       let parts' = add-mul k 1 (per e) in
-      let ends_at : get_or starts (c + 1) 0 * per e ≡ (k + 1) * per e = ap (λ x. x * per e) (let h : get_or starts (c + 1) 0 ≡ k + 1 = omega arith in h) in
-      let k_parts : k * per e ≡ (o + get_or starts c 0) * per e = ap (λ x. x * per e) (let h : k ≡ o + get_or starts c 0 = omega arith in h) in
+      let ends_at : start_of (c + 1) * per e ≡ (k + 1) * per e = ap (λ x. x * per e) (let h : start_of (c + 1) ≡ k + 1 = omega arith in h) in
+      let k_parts : k * per e ≡ (o + start_of c) * per e = ap (λ x. x * per e) (let h : k ≡ o + start_of c = omega arith in h) in
       let front : o * per e ≡ length (row_at s.rows c).chunks - per e = omega arith in
       let location : facts.ChunkLocation view is c o 0 k = record { small = class_in; within = omega arith; at = sym at_o; below = (let p = per_some in let q = per_is in omega arith) } in
       let there : chunk_at s.rows c (o * per (c + 5) + 0) ≡ get_or (get_or sized_areas k d).chunks 0 None = facts.chunk_s view is location d in
       let first_free : chunk_at s.rows c (o * per (c + 5) + 0) ≡ None =
       ends.free (o * per (c + 5) + 0) (let q : o * per (c + 5) ≡ o * per e = ap (λ x. o * x) per_is in let t = ends.there in omega arith) in
       let free : HasFree (get_or sized_areas k d) = (0, facts.chunk_in_s view is location d, sym there ∙ first_free) in
-      let up : k + 1 ≡ get_or starts (c + 1) 0 = omega arith in
+      let up : k + 1 ≡ start_of (c + 1) = omega arith in
       let arranged = arranged-remove k d is.arranged class_in shift up (omega arith) free in
       let supplied = supplied-remove spare' spare_room' k d is.supplied in_k back tables in
       let rows = rows-remove k is.arranged class_in shift up (omega arith) in
@@ -307,11 +311,11 @@ module _ {v : Version} {quota : ℕ} {ids : List SegmentId} {origin : Origin} {s
       }
 
   pub dropped : {k : ℕ} {p : SizedAreaMeaning} {id : SegmentId} (lengths : Option Lengths) {ids' : List SegmentId} {quota' : ℕ} {origin' : Origin} {starts' : List ℕ} {spare' : ℕ} (spare_room' : ℕ)
-      → k ≡ e - 5 → EndsFree s.rows (e - 5) (per e) → p ≡ get_or sized_areas (get_or starts (k + 1) 0 - 1) p → id ≡ p.identity → version_of lengths ≡ p.version → GivesBack ids ids' id → quota' ≡ quota → origin' ≡ origin
+      → k ≡ e - 5 → EndsFree s.rows (e - 5) (per e) → p ≡ get_or sized_areas (start_of (k + 1) - 1) p → id ≡ p.identity → version_of lengths ≡ p.version → GivesBack ids ids' id → quota' ≡ quota → origin' ≡ origin
       → spare' ≡ cond (is_some lengths) (spare + 1) spare → spare_room ≤ spare_room' → Unshifts starts starts' k
-      → {sized_areas' : List SizedAreaMeaning} → sized_areas' ≡ remove sized_areas (get_or starts (k + 1) 0 - 1) → Dropped ids' quota' origin' starts' sized_areas' spare' spare_room'
+      → {sized_areas' : List SizedAreaMeaning} → sized_areas' ≡ remove sized_areas (start_of (k + 1) - 1) → Dropped ids' quota' origin' starts' sized_areas' spare' spare_room'
   dropped {k} {p} lengths {ids'} {quota'} {origin'} {starts'} {spare'} spare_room' same ends read id_is version_is back quota_is origin_is valid_shelf bigger shift items =
-      let at : ℕ → ℕ = λ x. get_or starts (x + 1) 0 - 1 in
+      let at : ℕ → ℕ = λ x. start_of (x + 1) - 1 in
       let at_same : at k ≡ at (e - 5) = ap at same in
       let in_k = (last_in refl ends).1 in
       let read' : p ≡ get_or sized_areas (at (e - 5)) p = read ∙ ap (λ i. get_or sized_areas i p) at_same in
@@ -326,34 +330,34 @@ module _ {v : Version} {quota : ℕ} {ids : List SegmentId} {origin : Origin} {s
   -- ---- whether the class ends with an empty area
 
   -- a class with no area is trimmed
-  pub none_trimmed : (k : ℕ) → k ≡ e - 5 → get_or starts (k + 1) 0 ≡ get_or starts k 0 → IsTrimmed (per e) (row_at s.rows (e - 5))
+  pub none_trimmed : (k : ℕ) → k ≡ e - 5 → start_of (k + 1) ≡ start_of k → IsTrimmed (per e) (row_at s.rows (e - 5))
   none_trimmed k same none =
-      let a : get_or starts (k + 1) 0 ≡ get_or starts (e - 5 + 1) 0 = ap (λ x. get_or starts (x + 1) 0) same in
-      let b : get_or starts k 0 ≡ get_or starts (e - 5) 0 = ap (λ x. get_or starts x 0) same in
-      let m : get_or starts (e - 5) 0 * per e ≡ get_or starts (e - 5 + 1) 0 * per e = ap (λ x. x * per e) (let h : get_or starts (e - 5) 0 ≡ get_or starts (e - 5 + 1) 0 = omega arith in h) in
+      let a : start_of (k + 1) ≡ start_of (e - 5 + 1) = ap (λ x. start_of (x + 1)) same in
+      let b : start_of k ≡ start_of (e - 5) = ap (λ x. start_of x) same in
+      let m : start_of (e - 5) * per e ≡ start_of (e - 5 + 1) * per e = ap (λ x. x * per e) (let h : start_of (e - 5) ≡ start_of (e - 5 + 1) = omega arith in h) in
       let long = long_e in
       record { count = 0; whole = (let z : length (row_at s.rows (e - 5)).chunks ≡ 0 = omega arith in z ∙ (let y : 0 ≡ 0 * per e = omega arith in y)); ends = inl refl }
 
-  long_place : (o last : ℕ) → get_or starts (e - 5) 0 + o < get_or starts (e - 5 + 1) 0 → last ≡ get_or starts (e - 5) 0 + o → (d : SizedAreaMeaning) → length (get_or sized_areas last d).chunks ≡ per e
+  long_place : (o last : ℕ) → start_of (e - 5) + o < start_of (e - 5 + 1) → last ≡ start_of (e - 5) + o → (d : SizedAreaMeaning) → length (get_or sized_areas last d).chunks ≡ per e
   long_place o last within at d =
       let p = is.arranged.placed (e - 5) o d class_in within in
       ap (λ i. length (get_or sized_areas i d).chunks) at ∙ p.sized_area.whole ∙ ap per (p.exponent ∙ (let h : e - 5 + 5 ≡ e = omega arith in h))
 
-  pub ends_k : (k : ℕ) (q : SizedAreaMeaning) (b : Bool) → k ≡ e - 5 → (get_or starts (k + 1) 0 ≡ get_or starts k 0 → ⊥) → q ≡ get_or sized_areas (get_or starts (k + 1) 0 - 1) q
+  pub ends_k : (k : ℕ) (q : SizedAreaMeaning) (b : Bool) → k ≡ e - 5 → (start_of (k + 1) ≡ start_of k → ⊥) → q ≡ get_or sized_areas (start_of (k + 1) - 1) q
       → MatchBool b ((i : ℕ) → get_or q.chunks i None ≡ None) ((i : ℕ) × IsSome (get_or q.chunks i None))
       → MatchBool b (EndsFree s.rows (e - 5) (per e)) (IsTrimmed (per e) (row_at s.rows (e - 5)))
   ends_k k q b same some read empty =
       let c : ℕ = e - 5 in
-      let a : get_or starts (k + 1) 0 ≡ get_or starts (c + 1) 0 = ap (λ x. get_or starts (x + 1) 0) same in
-      let f : get_or starts k 0 ≡ get_or starts c 0 = ap (λ x. get_or starts x 0) same in
+      let a : start_of (k + 1) ≡ start_of (c + 1) = ap (λ x. start_of (x + 1)) same in
+      let f : start_of k ≡ start_of c = ap (λ x. start_of x) same in
       let up = is.arranged.rising c class_in in
-      let last : ℕ = get_or starts (c + 1) 0 - 1 in
-      let o : ℕ = last - get_or starts c 0 in
-      let at_o : last ≡ get_or starts c 0 + o = omega arith in
-      let read' : q ≡ get_or sized_areas last q = read ∙ (let h : get_or starts (k + 1) 0 - 1 ≡ last = omega arith in ap (λ i. get_or sized_areas i q) h) in
+      let last : ℕ = start_of (c + 1) - 1 in
+      let o : ℕ = last - start_of c in
+      let at_o : last ≡ start_of c + o = omega arith in
+      let read' : q ≡ get_or sized_areas last q = read ∙ (let h : start_of (k + 1) - 1 ≡ last = omega arith in ap (λ i. get_or sized_areas i q) h) in
       let m = add-mul o 1 (per e) in
-      let m' : get_or starts (c + 1) 0 * per e ≡ (o + 1 + get_or starts c 0) * per e = ap (λ x. x * per e) (let h : get_or starts (c + 1) 0 ≡ o + 1 + get_or starts c 0 = omega arith in h) in
-      let m'' = add-mul (o + 1) (get_or starts c 0) (per e) in
+      let m' : start_of (c + 1) * per e ≡ (o + 1 + start_of c) * per e = ap (λ x. x * per e) (let h : start_of (c + 1) ≡ o + 1 + start_of c = omega arith in h) in
+      let m'' = add-mul (o + 1) (start_of c) (per e) in
       let long = long_e in
       let whole : length (row_at s.rows c).chunks ≡ (o + 1) * per e = omega arith in
       let per_o : o * per (c + 5) ≡ o * per e = ap (λ x. o * x) per_is in

@@ -18,7 +18,11 @@ use Rattle.dym_heap.proofs.PlaceLoads.{loaded_some}
 use Rattle.dym_heap.proofs.Swaps as swaps
 
 module _ {v : Version} {quota : ℕ} {ids : List SegmentId} {origin : Origin} {starts : List ℕ} {sized_areas : List SizedAreaMeaning} {full : List (List Bool)} {room spare spare_room : ℕ}
-    {s : ShelfMeaning} (view : shelf_of v quota ids origin starts sized_areas ≡ s) (is : IsShelf v quota ids starts sized_areas full room spare spare_room) (e : ℕ) (low : 5 ≤ e) (high : e ≤ 16) where
+    {s : ShelfMeaning} (view : shelf_of v quota ids origin starts sized_areas ≡ s) (is : IsShelf v quota ids starts sized_areas full room spare spare_room) {e : ℕ} (low : 5 ≤ e) (high : e ≤ 16) where
+  -- where class c begins
+  abbrev start_of : ℕ → ℕ
+  start_of c = get_or starts c 0
+
   per_is : per (e - 5 + 5) ≡ per e
   per_is = ap per (let h : e - 5 + 5 ≡ e = omega arith in h)
 
@@ -29,34 +33,34 @@ module _ {v : Version} {quota : ℕ} {ids : List SegmentId} {origin : Origin} {s
   version_s = sym (ap (λ (t : ShelfMeaning). t.version) view)
 
   -- the class has no such area
-  pub no_area : (k o : ℕ) (bits : List Bool) (body : List ℕ) → k ≡ e - 5 → get_or starts (k + 1) 0 - get_or starts k 0 ≤ o → (f : ℕ → List ℕ) → IsBodyOf s.version e bits body f → IsLoadedArea s.rows s.rows (e - 5) o bits f
+  pub no_area : (k o : ℕ) (bits : List Bool) (body : List ℕ) → k ≡ e - 5 → start_of (k + 1) - start_of k ≤ o → (f : ℕ → List ℕ) → IsBodyOf s.version e bits body f → IsLoadedArea s.rows s.rows (e - 5) o bits f
   no_area k o bits body same past f body_is =
       let up = is.arranged.rising (e - 5) class_in in
-      let a : get_or starts (k + 1) 0 ≡ get_or starts (e - 5 + 1) 0 = ap (λ x. get_or starts (x + 1) 0) same in
-      let b : get_or starts k 0 ≡ get_or starts (e - 5) 0 = ap (λ x. get_or starts x 0) same in
+      let a : start_of (k + 1) ≡ start_of (e - 5 + 1) = ap (λ x. start_of (x + 1)) same in
+      let b : start_of k ≡ start_of (e - 5) = ap (λ x. start_of x) same in
       let gone : (i : ℕ) → i < per (e - 5 + 5) → (chunk_at s.rows (e - 5) (o * per (e - 5 + 5) + i) ≡ None) = λ i l.
       let q = div-mul-add o (per (e - 5 + 5)) i l in
-      past_s view is (e - 5) (o * per (e - 5 + 5) + i) class_in (omega arith) in
+      past_s view is (o * per (e - 5 + 5) + i) class_in (omega arith) in
       record {
         here = λ i l. gone i l ∙ sym (ap (loaded_over (get_or bits i false) (f i)) (gone i l));
         others = λ d i ne. refl;
         marks = λ d i. refl;
       }
 
-  module _ {k : ℕ} (o : ℕ) (same : k ≡ e - 5) (l : o < get_or starts (k + 1) 0 - get_or starts k 0) where
-    within : get_or starts (e - 5) 0 + o < get_or starts (e - 5 + 1) 0
+  module _ {k : ℕ} {o : ℕ} (same : k ≡ e - 5) (l : o < start_of (k + 1) - start_of k) where
+    within : start_of (e - 5) + o < start_of (e - 5 + 1)
     within =
-        let a : get_or starts (k + 1) 0 ≡ get_or starts (e - 5 + 1) 0 = ap (λ x. get_or starts (x + 1) 0) same in
-        let b : get_or starts k 0 ≡ get_or starts (e - 5) 0 = ap (λ x. get_or starts x 0) same in
+        let a : start_of (k + 1) ≡ start_of (e - 5 + 1) = ap (λ x. start_of (x + 1)) same in
+        let b : start_of k ≡ start_of (e - 5) = ap (λ x. start_of x) same in
         omega arith
 
-    at : get_or starts k 0 + o ≡ get_or starts (e - 5) 0 + o
-    at = ap (λ x. get_or starts x 0 + o) same
+    at : start_of k + o ≡ start_of (e - 5) + o
+    at = ap (λ x. start_of x + o) same
 
-    pub place_in : get_or starts k 0 + o < length sized_areas
-    place_in = let top = class_end (e - 5) is.arranged class_in in let w = within in let a = at in omega arith
+    pub place_in : start_of k + o < length sized_areas
+    place_in = let top = class_end is.arranged class_in in let w = within in let a = at in omega arith
 
-    module _ {q : SizedAreaMeaning} (here : q ≡ get_or sized_areas (get_or starts k 0 + o) q) where
+    module _ {q : SizedAreaMeaning} (here : q ≡ get_or sized_areas (start_of k + o) q) where
       placed_q : IsPlaced v (e - 5 + 5) o q
       placed_q = subst (IsPlaced v (e - 5 + 5) o) (sym (here ∙ ap (λ x. get_or sized_areas x q) at)) (is.arranged.placed (e - 5) o q class_in within)
 
@@ -106,22 +110,22 @@ module _ {v : Version} {quota : ℕ} {ids : List SegmentId} {origin : Origin} {s
         same_id : p.identity ≡ q.identity
         same_id = ap (λ (x : SizedAreaMeaning). x.identity) loads.same
 
-        pub load_shelf : IsShelf v quota ids starts (set sized_areas (get_or starts k 0 + o) p) full room spare spare_room
+        pub load_shelf : IsShelf v quota ids starts (set sized_areas (start_of k + o) p) full room spare spare_room
         load_shelf = swaps.swap_shelf view is class_in within at here placed_p same_id marks
 
-        pub load_kept : IsValidShelf (shelf_of v quota ids origin starts (set sized_areas (get_or starts k 0 + o) p))
+        pub load_kept : IsValidShelf (shelf_of v quota ids origin starts (set sized_areas (start_of k + o) p))
         load_kept = swaps.swap_kept view is class_in within at here placed_p same_id marks
 
-        pub load_same : shelf_of v quota ids origin starts (set sized_areas (get_or starts k 0 + o) p) ≡ record s { rows = rows_upto 12 starts (set sized_areas (get_or starts k 0 + o) p) }
+        pub load_same : shelf_of v quota ids origin starts (set sized_areas (start_of k + o) p) ≡ record s { rows = rows_upto 12 starts (set sized_areas (start_of k + o) p) }
         load_same = swaps.swap_same view is class_in within at here placed_p same_id marks
 
-        pub load_long : (d : ℕ) → length (row_at (rows_upto 12 starts (set sized_areas (get_or starts k 0 + o) p)) d).chunks ≡ length (row_at s.rows d).chunks
+        pub load_long : (d : ℕ) → length (row_at (rows_upto 12 starts (set sized_areas (start_of k + o) p)) d).chunks ≡ length (row_at s.rows d).chunks
         load_long = swaps.swap_long view is class_in within at here placed_p same_id marks
 
         abbrev new : List Row
-        new = rows_upto 12 starts (set sized_areas (get_or starts k 0 + o) p)
+        new = rows_upto 12 starts (set sized_areas (start_of k + o) p)
 
-        pub load_area : IsLoadedArea s.rows (rows_upto 12 starts (set sized_areas (get_or starts k 0 + o) p)) (e - 5) o bits f
+        pub load_area : IsLoadedArea s.rows (rows_upto 12 starts (set sized_areas (start_of k + o) p)) (e - 5) o bits f
         load_area = record {
           here = λ i b.
               swaps.swap_here view is class_in within at here placed_p same_id marks i b

@@ -47,7 +47,11 @@ remarks_set {full} c o p b is l small filled free =
     }
 
 module _ {v : Version} {quota : ℕ} {ids : List SegmentId} {origin : Origin} {starts : List ℕ} {sized_areas : List SizedAreaMeaning} {full : List (List Bool)} {room spare spare_room : ℕ}
-    {s : ShelfMeaning} (view : shelf_of v quota ids origin starts sized_areas ≡ s) (is : IsShelf v quota ids starts sized_areas full room spare spare_room) (e : ℕ) (low : 5 ≤ e) (high : e ≤ 16) where
+    {s : ShelfMeaning} (view : shelf_of v quota ids origin starts sized_areas ≡ s) (is : IsShelf v quota ids starts sized_areas full room spare spare_room) {e : ℕ} (low : 5 ≤ e) (high : e ≤ 16) where
+  -- where class c begins
+  abbrev start_of : ℕ → ℕ
+  start_of c = get_or starts c 0
+
   per_is : per (e - 5 + 5) ≡ per e
   per_is = ap per (let h : e - 5 + 5 ≡ e = omega arith in h)
 
@@ -58,46 +62,46 @@ module _ {v : Version} {quota : ℕ} {ids : List SegmentId} {origin : Origin} {s
   version_s = sym (ap (λ (t : ShelfMeaning). t.version) view)
 
   -- an area of the class
-  pub area_in : {k : ℕ} (o : ℕ) → k ≡ e - 5 → o * per e < length (row_at s.rows (e - 5)).chunks → o < get_or starts (k + 1) 0 - get_or starts k 0
+  pub area_in : {k : ℕ} (o : ℕ) → k ≡ e - 5 → o * per e < length (row_at s.rows (e - 5)).chunks → o < start_of (k + 1) - start_of k
   area_in {k} o same l =
-      let a : get_or starts (k + 1) 0 ≡ get_or starts (e - 5 + 1) 0 = ap (λ x. get_or starts (x + 1) 0) same in
-      let b : get_or starts k 0 ≡ get_or starts (e - 5) 0 = ap (λ x. get_or starts x 0) same in
-      let n = count_is is.arranged (e - 5) class_in in
-      let long = ap (λ (r : Row). length r.chunks) (row_s view is (e - 5) class_in) ∙ whole_row is.arranged (e - 5) class_in in
-      let m : ℕ = count_c is.arranged (e - 5) class_in in
+      let a : start_of (k + 1) ≡ start_of (e - 5 + 1) = ap (λ x. start_of (x + 1)) same in
+      let b : start_of k ≡ start_of (e - 5) = ap (λ x. start_of x) same in
+      let n = count_is is.arranged class_in in
+      let long = ap (λ (r : Row). length r.chunks) (row_s view is class_in) ∙ whole_row is.arranged class_in in
+      let m : ℕ = count_c is.arranged class_in in
       let p : m * per (e - 5 + 5) ≡ m * per e = ap (λ x. m * x) per_is in
-      elim (cases_lt o m) as (λ _. o < get_or starts (k + 1) 0 - get_or starts k 0) [
+      elim (cases_lt o m) as (λ _. o < start_of (k + 1) - start_of k) [
         | inl below ↦ omega arith
         | inr past ↦ absurd (let x = mul-le m (per e) o (per e) past (omega arith) in omega arith)
       ]
 
   -- how many areas the class has
-  pub areas_k : (k : ℕ) → k ≡ e - 5 → length (row_at s.rows (e - 5)).chunks ≡ (get_or starts (k + 1) 0 - get_or starts k 0) * per (e - 5 + 5)
+  pub areas_k : (k : ℕ) → k ≡ e - 5 → length (row_at s.rows (e - 5)).chunks ≡ (start_of (k + 1) - start_of k) * per (e - 5 + 5)
   areas_k k same =
-      let a : get_or starts (k + 1) 0 ≡ get_or starts (e - 5 + 1) 0 = ap (λ x. get_or starts (x + 1) 0) same in
-      let b : get_or starts k 0 ≡ get_or starts (e - 5) 0 = ap (λ x. get_or starts x 0) same in
-      let n = count_is is.arranged (e - 5) class_in in
-      let long = ap (λ (r : Row). length r.chunks) (row_s view is (e - 5) class_in) ∙ whole_row is.arranged (e - 5) class_in in
-      let m : count_c is.arranged (e - 5) class_in ≡ get_or starts (k + 1) 0 - get_or starts k 0 = omega arith in
+      let a : start_of (k + 1) ≡ start_of (e - 5 + 1) = ap (λ x. start_of (x + 1)) same in
+      let b : start_of k ≡ start_of (e - 5) = ap (λ x. start_of x) same in
+      let n = count_is is.arranged class_in in
+      let long = ap (λ (r : Row). length r.chunks) (row_s view is class_in) ∙ whole_row is.arranged class_in in
+      let m : count_c is.arranged class_in ≡ start_of (k + 1) - start_of k = omega arith in
       long ∙ ap (λ x. x * per (e - 5 + 5)) m
 
-  module _ {k : ℕ} (o : ℕ) (same : k ≡ e - 5) (l : o < get_or starts (k + 1) 0 - get_or starts k 0) where
-    within : get_or starts (e - 5) 0 + o < get_or starts (e - 5 + 1) 0
+  module _ {k : ℕ} {o : ℕ} (same : k ≡ e - 5) (l : o < start_of (k + 1) - start_of k) where
+    within : start_of (e - 5) + o < start_of (e - 5 + 1)
     within =
-        let a : get_or starts (k + 1) 0 ≡ get_or starts (e - 5 + 1) 0 = ap (λ x. get_or starts (x + 1) 0) same in
-        let b : get_or starts k 0 ≡ get_or starts (e - 5) 0 = ap (λ x. get_or starts x 0) same in
+        let a : start_of (k + 1) ≡ start_of (e - 5 + 1) = ap (λ x. start_of (x + 1)) same in
+        let b : start_of k ≡ start_of (e - 5) = ap (λ x. start_of x) same in
         omega arith
 
-    at : get_or starts k 0 + o ≡ get_or starts (e - 5) 0 + o
-    at = ap (λ x. get_or starts x 0 + o) same
+    at : start_of k + o ≡ start_of (e - 5) + o
+    at = ap (λ x. start_of x + o) same
 
-    pub place_in : get_or starts k 0 + o < length sized_areas
-    place_in = let top = class_end (e - 5) is.arranged class_in in let w = within in let a = at in omega arith
+    pub place_in : start_of k + o < length sized_areas
+    place_in = let top = class_end is.arranged class_in in let w = within in let a = at in omega arith
 
-    pub place_small : get_or starts k 0 + o < 1024
+    pub place_small : start_of k + o < 1024
     place_small = let l = place_in in let fits = is.supplied.within in let most = is.supplied.most in omega arith
 
-    module _ {q : SizedAreaMeaning} (here : q ≡ get_or sized_areas (get_or starts k 0 + o) q) where
+    module _ {q : SizedAreaMeaning} (here : q ≡ get_or sized_areas (start_of k + o) q) where
       placed_q : IsPlaced v (e - 5 + 5) o q
       placed_q = subst (IsPlaced v (e - 5 + 5) o) (sym (here ∙ ap (λ x. get_or sized_areas x q) at)) (is.arranged.placed (e - 5) o q class_in within)
 
@@ -108,7 +112,7 @@ module _ {v : Version} {quota : ℕ} {ids : List SegmentId} {origin : Origin} {s
       version_q = placed_q.version ∙ sym version_s
 
       pub ordinal_small : o < MOST_CHUNKS
-      ordinal_small = let w = within in let top = class_end (e - 5) is.arranged class_in in let fits = is.supplied.within in let most = is.supplied.most in omega arith
+      ordinal_small = let w = within in let top = class_end is.arranged class_in in let fits = is.supplied.within in let most = is.supplied.most in omega arith
 
       pub len_q : (n : ℕ) → n ≡ max 1 (per e / 8) → n ≡ max 1 (per q.exponent / 8)
       len_q n is_n = is_n ∙ ap (λ x. max 1 (per x / 8)) (sym exponent_q)
@@ -139,17 +143,17 @@ module _ {v : Version} {quota : ℕ} {ids : List SegmentId} {origin : Origin} {s
         same_id : p.identity ≡ q.identity
         same_id = ap (λ (x : SizedAreaMeaning). x.identity) same_place
 
-        pub shape_shelf : IsShelf v quota ids starts (set sized_areas (get_or starts k 0 + o) p) full' room spare spare_room
+        pub shape_shelf : IsShelf v quota ids starts (set sized_areas (start_of k + o) p) full' room spare spare_room
         shape_shelf = swaps.swap_shelf view is class_in within at here placed_p same_id marks
 
-        pub shape_kept : IsValidShelf (shelf_of v quota ids origin starts (set sized_areas (get_or starts k 0 + o) p))
+        pub shape_kept : IsValidShelf (shelf_of v quota ids origin starts (set sized_areas (start_of k + o) p))
         shape_kept = swaps.swap_kept view is class_in within at here placed_p same_id marks
 
-        pub shape_same : shelf_of v quota ids origin starts (set sized_areas (get_or starts k 0 + o) p) ≡ record s { rows = rows_upto 12 starts (set sized_areas (get_or starts k 0 + o) p) }
+        pub shape_same : shelf_of v quota ids origin starts (set sized_areas (start_of k + o) p) ≡ record s { rows = rows_upto 12 starts (set sized_areas (start_of k + o) p) }
         shape_same = swaps.swap_same view is class_in within at here placed_p same_id marks
 
-        pub shape_long : (d : ℕ) → length (row_at (rows_upto 12 starts (set sized_areas (get_or starts k 0 + o) p)) d).chunks ≡ length (row_at s.rows d).chunks
+        pub shape_long : (d : ℕ) → length (row_at (rows_upto 12 starts (set sized_areas (start_of k + o) p)) d).chunks ≡ length (row_at s.rows d).chunks
         shape_long = swaps.swap_long view is class_in within at here placed_p same_id marks
 
-        pub shape_area : IsChangedArea s.rows (rows_upto 12 starts (set sized_areas (get_or starts k 0 + o) p)) (e - 5) o (λ i old new. IsReshaped (is_set i) old new)
+        pub shape_area : IsChangedArea s.rows (rows_upto 12 starts (set sized_areas (start_of k + o) p)) (e - 5) o (λ i old new. IsReshaped (is_set i) old new)
         shape_area = swaps.swap_changes view is class_in within at here placed_p same_id marks (λ i old new. IsReshaped (is_set i) old new) (λ i b. shaped i)

@@ -48,11 +48,11 @@ size_fits Two e n is = (cls_bounds n e is).2
 
 -- ---- chunks in an area
 
-pub whole_area : (e : ℕ) → e ≤ 16 → per e * size e ≡ 65536
-whole_area e high = sym (pow-add 2 (16 - e) e) ∙ (let s : 16 - e + e ≡ 16 = omega arith in ap (λ k. 2 ^ k) s)
+pub whole_area : {e : ℕ} → e ≤ 16 → per e * size e ≡ 65536
+whole_area {e} high = sym (pow-add 2 (16 - e) e) ∙ (let s : 16 - e + e ≡ 16 = omega arith in ap (λ k. 2 ^ k) s)
 
 pub chunk_fits : (e i : ℕ) → e ≤ 16 → i < per e → i * size e + size e ≤ 65536
-chunk_fits e i high l = omega (arith, row_fits i (size e) (per e) (size e) l (omega arith), whole_area e high)
+chunk_fits e i high l = omega (arith, row_fits i (size e) (per e) (size e) l (omega arith), whole_area high)
 
 pub chunks_apart : (e : ℕ) {i k : ℕ} → (k ≡ i → ⊥) → (k * size e + size e ≤ i * size e) ⊎ (i * size e + size e ≤ k * size e)
 chunks_apart e {i} {k} ne =
@@ -61,8 +61,8 @@ chunks_apart e {i} {k} ne =
       | inr past ↦ inr (row_fits i (size e) k (size e) (omega arith) (omega arith))
     ]
 
-pub per_fits : (e : ℕ) → 5 ≤ e → per e ≤ 2048
-per_fits e low = pow-le-pow_right {n = 2} (omega arith) {i = 16 - e} {j = 11} (omega arith)
+pub per_fits : {e : ℕ} → 5 ≤ e → per e ≤ 2048
+per_fits {e} low = pow-le-pow_right {n = 2} (omega arith) {i = 16 - e} {j = 11} (omega arith)
 
 pub size_least : (e : ℕ) → 5 ≤ e → 32 ≤ size e
 size_least e low = pow-le-pow_right {n = 2} (omega arith) {i = 5} {j = e} low

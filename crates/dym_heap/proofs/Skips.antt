@@ -54,8 +54,8 @@ count_most p a (suc n) =
     elim (p a) as (λ b. length (cond b (a ∷ filter p (range_with_len (a + 1) n)) (filter p (range_with_len (a + 1) n))) ≤ suc n) [ true ↦ omega arith | false ↦ omega arith ]
 
 -- the loop that looks at bit i
-pub count_step : (bits : List Bool) (from i : ℕ) (b : Bool) → from ≤ i → b ≡ bit_in bits i → length (filter (bit_in bits) (range_with_len from (i - from))) + cond b 1 0 ≡ length (filter (bit_in bits) (range_with_len from (i + 1 - from)))
-count_step bits from i b low is =
+pub count_step : (bits : List Bool) {from i : ℕ} {b : Bool} → from ≤ i → b ≡ bit_in bits i → length (filter (bit_in bits) (range_with_len from (i - from))) + cond b 1 0 ≡ length (filter (bit_in bits) (range_with_len from (i + 1 - from)))
+count_step bits {from} {i} low is =
     let x : suc (i - from) ≡ i + 1 - from = omega arith in
     let y : from + (i - from) ≡ i = omega arith in
     ap (λ c. length (filter (bit_in bits) (range_with_len from (i - from))) + cond c 1 0) (is ∙ sym (ap (bit_in bits) y))
@@ -83,7 +83,7 @@ count_between bits from end low high =
 
 -- ---- one chunk is passed
 
-module _ (body : List ℕ) (at : ℕ) {c : List ℕ} {left : List (List ℕ)} {rest : List ℕ} (low : at ≤ length body) (begins : BeginsWithChunks (drop at body) (c ∷ left) rest) where
+module _ (body : List ℕ) {at : ℕ} {c : List ℕ} {left : List (List ℕ)} {rest : List ℕ} (low : at ≤ length body) (begins : BeginsWithChunks (drop at body) (c ∷ left) rest) where
   abbrev behind : List ℕ
   behind = flat_map (packed_chunk Two) left ++ rest
 
@@ -123,21 +123,21 @@ pub left_four : {body : List ℕ} {at : ℕ} {rest : List ℕ} (k : ℕ) → at 
 left_four {body} {at} {rest} k low some left =
     elim left.chunks as (λ cs. length cs ≡ k → BeginsWithChunks (drop at body) cs rest → at + 4 ≤ length body) [
       | [] ↦ λ many begins. absurd (omega arith)
-      | c ∷ cs ↦ λ many begins. (let w = whole body at low begins in omega arith)
+      | c ∷ cs ↦ λ many begins. (let w = whole body low begins in omega arith)
     ] left.many left.begins
 
 pub left_whole : {body : List ℕ} {at : ℕ} {rest : List ℕ} (k : ℕ) {n : ℕ} → at ≤ length body → 0 < k → Left body at rest k → n ≡ from_le_bytes w32 (between at (at + 4) body) → at + 4 + n ≤ length body
 left_whole {body} {at} {rest} k {n} low some left is_n =
     elim left.chunks as (λ cs. length cs ≡ k → BeginsWithChunks (drop at body) cs rest → at + 4 + n ≤ length body) [
       | [] ↦ λ many begins. absurd (omega arith)
-      | c ∷ cs ↦ λ many begins. (let w = whole body at low begins in let e = number_is body at low begins n is_n in omega arith)
+      | c ∷ cs ↦ λ many begins. (let w = whole body low begins in let e = number_is body low begins n is_n in omega arith)
     ] left.many left.begins
 
 pub left_next : {body : List ℕ} {at : ℕ} {rest : List ℕ} (k : ℕ) {n : ℕ} (k' : ℕ) → at ≤ length body → k ≡ k' + 1 → Left body at rest k → n ≡ from_le_bytes w32 (between at (at + 4) body) → Left body (at + 4 + n) rest k'
 left_next {body} {at} {rest} k {n} k' low some left is_n =
     elim left.chunks as (λ cs. length cs ≡ k → BeginsWithChunks (drop at body) cs rest → Left body (at + 4 + n) rest k') [
       | [] ↦ λ many begins. absurd (omega arith)
-      | c ∷ cs ↦ λ many begins. record { chunks = cs; many = omega arith; begins = next_begins body at low begins n (number_is body at low begins n is_n) }
+      | c ∷ cs ↦ λ many begins. record { chunks = cs; many = omega arith; begins = next_begins body low begins n (number_is body low begins n is_n) }
     ] left.many left.begins
 
 pub left_none : (body : List ℕ) (at : ℕ) (rest : List ℕ) (k : ℕ) → k ≡ 0 → Left body at rest k → drop at body ≡ rest

@@ -54,9 +54,9 @@ sound_of {s} applied tidy =
           subst (λ n. IsSizeOf s.version n (length bytes)) (sym (class_is l)) ((valid_shelf.row l.class l.small).sized l.index bytes (sym l.chunk ∙ e));
       touched_live = λ k h.
           elim (splits k) as (λ _. contains_key (live_of s.rows) k ≡ true) [
-            | below b ↦ (let gone = contains-touched_of_below s.rows k b in absurd cc)
+            | below b ↦ (let gone = contains-touched_of_below s.rows b in absurd cc)
             | at c j is l ↦
-                let mark : touch_at s.rows c j ≡ true = sym (contains-touched_of s.rows (kept_marks_fit valid_shelf) c j is l) ∙ h in
+                let mark : touch_at s.rows c j ≡ true = sym (contains-touched_of s.rows (kept_marks_fit valid_shelf) c is l) ∙ h in
                 elim (cases_lt c 12) as (λ _. contains_key (live_of s.rows) k ≡ true) [
                   | inl small ↦ ap is_some (get-live_of s.rows (kept_fits valid_shelf) c j is l) ∙ (valid_shelf.row c small).touched_used j mark
                   | inr past ↦

@@ -16,12 +16,16 @@ use Rattle.dym_heap.proofs.Rows.{class_end, length-rows, count_c, count_is, whol
 use Rattle.dym_heap.proofs.RowSteps.{apart, Remarks, arranged-put}
 use Rattle.dym_heap.proofs.Owned.{supplied-put}
 use Rattle.dym_heap.proofs.ShelfFacts as facts
-use Rattle.dym_heap.proofs.ShelfFacts.{ChunkLocation, row_s, past_s, index_s}
+use Rattle.dym_heap.proofs.ShelfFacts.{ChunkLocation, row_s, past_s}
 
 module _ {v : Version} {quota : ℕ} {ids : List SegmentId} {origin : Origin} {starts : List ℕ} {sized_areas : List SizedAreaMeaning} {full : List (List Bool)} {room spare spare_room : ℕ}
     {s : ShelfMeaning} (view : shelf_of v quota ids origin starts sized_areas ≡ s) (is : IsShelf v quota ids starts sized_areas full room spare spare_room)
     {c o k : ℕ} (small : c < 12) (within : get_or starts c 0 + o < get_or starts (c + 1) 0) (at : k ≡ get_or starts c 0 + o) {q p : SizedAreaMeaning} (here : q ≡ get_or sized_areas k q)
     (placed : IsPlaced v (c + 5) o p) (same_id : p.identity ≡ q.identity) {full' : List (List Bool)} (marks : Remarks full full' c o p) where
+  -- where class c begins
+  abbrev start_of : ℕ → ℕ
+  start_of c = get_or starts c 0
+
   abbrev sized_areas' : List SizedAreaMeaning
   sized_areas' = set sized_areas k p
 
@@ -32,7 +36,7 @@ module _ {v : Version} {quota : ℕ} {ids : List SegmentId} {origin : Origin} {s
   now_view = refl
 
   in_k : k < length sized_areas
-  in_k = let top = class_end c is.arranged small in omega arith
+  in_k = let top = class_end is.arranged small in omega arith
 
   pub swap_shelf : IsShelf v quota ids starts (set sized_areas k p) full' room spare spare_room
   swap_shelf = record {
@@ -56,14 +60,14 @@ module _ {v : Version} {quota : ℕ} {ids : List SegmentId} {origin : Origin} {s
       get_or_past now.rows d empty_row (omega (arith, length-rows 12 starts sized_areas'))
       ∙ sym (ap (λ (t : ShelfMeaning). row_at t.rows d) (sym view) ∙ get_or_past (rows_upto 12 starts sized_areas) d empty_row (omega (arith, length-rows 12 starts sized_areas)))
 
-  count_old : (d : ℕ) (l : d < 12) → length (row_at s.rows d).chunks ≡ count_c is.arranged d l * per (d + 5)
-  count_old d l = ap (λ (r : Row). length r.chunks) (row_s view is d l) ∙ whole_row is.arranged d l
+  count_old : (d : ℕ) (l : d < 12) → length (row_at s.rows d).chunks ≡ count_c is.arranged l * per (d + 5)
+  count_old d l = ap (λ (r : Row). length r.chunks) (row_s view is l) ∙ whole_row is.arranged l
 
-  count_new : (d : ℕ) (l : d < 12) → length (row_at now.rows d).chunks ≡ count_c swap_shelf.arranged d l * per (d + 5)
-  count_new d l = ap (λ (r : Row). length r.chunks) (row_s now_view swap_shelf d l) ∙ whole_row swap_shelf.arranged d l
+  count_new : (d : ℕ) (l : d < 12) → length (row_at now.rows d).chunks ≡ count_c swap_shelf.arranged l * per (d + 5)
+  count_new d l = ap (λ (r : Row). length r.chunks) (row_s now_view swap_shelf l) ∙ whole_row swap_shelf.arranged l
 
-  counts : (d : ℕ) (l : d < 12) → count_c swap_shelf.arranged d l ≡ count_c is.arranged d l
-  counts d l = let a = count_is is.arranged d l in let b = count_is swap_shelf.arranged d l in omega arith
+  counts : (d : ℕ) (l : d < 12) → count_c swap_shelf.arranged l ≡ count_c is.arranged l
+  counts d l = let a = count_is is.arranged l in let b = count_is swap_shelf.arranged l in omega arith
 
   pub swap_long : (d : ℕ) → length (row_at (rows_upto 12 starts (set sized_areas k p)) d).chunks ≡ length (row_at s.rows d).chunks
   swap_long d =
@@ -74,13 +78,13 @@ module _ {v : Version} {quota : ℕ} {ids : List SegmentId} {origin : Origin} {s
 
   -- ---- chunks
 
-  spot_old : (d j r : ℕ) → d < 12 → get_or starts d 0 + r < get_or starts (d + 1) 0 → j < per (d + 5) → ChunkLocation view is d r j (get_or starts d 0 + r)
+  spot_old : (d j r : ℕ) → d < 12 → start_of d + r < start_of (d + 1) → j < per (d + 5) → ChunkLocation view is d r j (start_of d + r)
   spot_old d j r l w b = record { small = l; within = w; at = refl; below = b }
 
-  spot_new : (d j r : ℕ) → d < 12 → get_or starts d 0 + r < get_or starts (d + 1) 0 → j < per (d + 5) → ChunkLocation now_view swap_shelf d r j (get_or starts d 0 + r)
+  spot_new : (d j r : ℕ) → d < 12 → start_of d + r < start_of (d + 1) → j < per (d + 5) → ChunkLocation now_view swap_shelf d r j (start_of d + r)
   spot_new d j r l w b = record { small = l; within = w; at = refl; below = b }
 
-  here_now : (x : SizedAreaMeaning) → get_or sized_areas' (get_or starts c 0 + o) x ≡ p
+  here_now : (x : SizedAreaMeaning) → get_or sized_areas' (start_of c + o) x ≡ p
   here_now x = ap (λ i. get_or sized_areas' i x) (sym at) ∙ get_or-set_same sized_areas k p x in_k
 
   pub swap_here : (j : ℕ) → j < per (c + 5) → chunk_at (rows_upto 12 starts (set sized_areas k p)) c (o * per (c + 5) + j) ≡ get_or p.chunks j None
@@ -94,8 +98,8 @@ module _ {v : Version} {quota : ℕ} {ids : List SegmentId} {origin : Origin} {s
       ∙ ap (λ i. get_or (get_or sized_areas i q).chunks j None) (sym at) ∙ ap (λ (x : SizedAreaMeaning). get_or x.chunks j None) (sym here)
 
   -- an area of another place
-  other_place : (d r : ℕ) (x : SizedAreaMeaning) → d < 12 → get_or starts d 0 + r < get_or starts (d + 1) 0 → (d ≡ c → r ≡ o → ⊥) → get_or sized_areas' (get_or starts d 0 + r) x ≡ get_or sized_areas (get_or starts d 0 + r) x
-  other_place d r x l w ne = get_or-set_other sized_areas k (get_or starts d 0 + r) p x (λ e. let both = apart d c r o is.arranged l small w within (e ∙ at) in ne both.0 both.1)
+  other_place : (d r : ℕ) (x : SizedAreaMeaning) → d < 12 → start_of d + r < start_of (d + 1) → (d ≡ c → r ≡ o → ⊥) → get_or sized_areas' (start_of d + r) x ≡ get_or sized_areas (start_of d + r) x
+  other_place d r x l w ne = get_or-set_other sized_areas k (start_of d + r) p x (λ e. let both = apart r o is.arranged l small w within (e ∙ at) in ne both.0 both.1)
 
   pub swap_other : (d i : ℕ) → (d ≡ c → i / per (c + 5) ≡ o → ⊥) → chunk_at (rows_upto 12 starts (set sized_areas k p)) d i ≡ chunk_at s.rows d i
   swap_other d i ne =
@@ -106,29 +110,29 @@ module _ {v : Version} {quota : ℕ} {ids : List SegmentId} {origin : Origin} {s
             let j : ℕ = i % per (d + 5) in
             let split : r * per (d + 5) + j ≡ i = div-add-mod' i (per (d + 5)) in
             let below : j < per (d + 5) = mod_below i (per (d + 5)) (positive d) in
-            elim (cases_lt (get_or starts d 0 + r) (get_or starts (d + 1) 0)) as (λ _. chunk_at now.rows d i ≡ chunk_at s.rows d i) [
+            elim (cases_lt (start_of d + r) (start_of (d + 1))) as (λ _. chunk_at now.rows d i ≡ chunk_at s.rows d i) [
               | inl w ↦
                   ap (chunk_at now.rows d) (sym split)
                   ∙ facts.chunk_s now_view swap_shelf (spot_new d j r l w below) q
                   ∙ ap (λ (x : SizedAreaMeaning). get_or x.chunks j None) (other_place d r q l w (λ a b. ne a (ap (λ e. i / per (e + 5)) (sym a) ∙ b)))
                   ∙ sym (ap (chunk_at s.rows d) (sym split) ∙ facts.chunk_s view is (spot_old d j r l w below) q)
               | inr out ↦
-                  past_s now_view swap_shelf d i l out
-                  ∙ sym (past_s view is d i l out)
+                  past_s now_view swap_shelf i l out
+                  ∙ sym (past_s view is i l out)
             ]
       ]
 
   -- ---- marks
 
-  mark_new : (d r j : ℕ) (l : d < 12) → get_or starts d 0 + r < get_or starts (d + 1) 0 → j < per (d + 5) → touch_at now.rows d (r * per (d + 5) + j) ≡ get_or (get_or sized_areas' (get_or starts d 0 + r) q).touched j false
+  mark_new : (d r j : ℕ) (l : d < 12) → start_of d + r < start_of (d + 1) → j < per (d + 5) → touch_at now.rows d (r * per (d + 5) + j) ≡ get_or (get_or sized_areas' (start_of d + r) q).touched j false
   mark_new d r j l w b =
-      ap (λ (x : Row). get_or x.touched (r * per (d + 5) + j) false) (row_s now_view swap_shelf d l)
-      ∙ mark-row swap_shelf.arranged d l r j q (let n = count_is swap_shelf.arranged d l in omega arith) b
+      ap (λ (x : Row). get_or x.touched (r * per (d + 5) + j) false) (row_s now_view swap_shelf l)
+      ∙ mark-row swap_shelf.arranged l r j q (let n = count_is swap_shelf.arranged l in omega arith) b
 
-  mark_old : (d r j : ℕ) (l : d < 12) → get_or starts d 0 + r < get_or starts (d + 1) 0 → j < per (d + 5) → touch_at s.rows d (r * per (d + 5) + j) ≡ get_or (get_or sized_areas (get_or starts d 0 + r) q).touched j false
+  mark_old : (d r j : ℕ) (l : d < 12) → start_of d + r < start_of (d + 1) → j < per (d + 5) → touch_at s.rows d (r * per (d + 5) + j) ≡ get_or (get_or sized_areas (start_of d + r) q).touched j false
   mark_old d r j l w b =
-      ap (λ (x : Row). get_or x.touched (r * per (d + 5) + j) false) (row_s view is d l)
-      ∙ mark-row is.arranged d l r j q (let n = count_is is.arranged d l in omega arith) b
+      ap (λ (x : Row). get_or x.touched (r * per (d + 5) + j) false) (row_s view is l)
+      ∙ mark-row is.arranged l r j q (let n = count_is is.arranged l in omega arith) b
 
   pub marks_here : (j : ℕ) → j < per (c + 5) → touch_at (rows_upto 12 starts (set sized_areas k p)) c (o * per (c + 5) + j) ≡ get_or p.touched j false
   marks_here j below = mark_new c o j small within below ∙ ap (λ (x : SizedAreaMeaning). get_or x.touched j false) (here_now q)
@@ -150,18 +154,18 @@ module _ {v : Version} {quota : ℕ} {ids : List SegmentId} {origin : Origin} {s
             let j : ℕ = i % per (d + 5) in
             let split : r * per (d + 5) + j ≡ i = div-add-mod' i (per (d + 5)) in
             let below : j < per (d + 5) = mod_below i (per (d + 5)) (positive d) in
-            elim (cases_lt (get_or starts d 0 + r) (get_or starts (d + 1) 0)) as (λ _. touch_at now.rows d i ≡ touch_at s.rows d i) [
+            elim (cases_lt (start_of d + r) (start_of (d + 1))) as (λ _. touch_at now.rows d i ≡ touch_at s.rows d i) [
               | inl w ↦
                   ap (touch_at now.rows d) (sym split) ∙ mark_new d r j l w below
                   ∙ ap (λ (x : SizedAreaMeaning). get_or x.touched j false) (other_place d r q l w (λ a b. ne a (ap (λ e. i / per (e + 5)) (sym a) ∙ b)))
                   ∙ sym (ap (touch_at s.rows d) (sym split) ∙ mark_old d r j l w below)
               | inr out ↦
-                  let a = count_is is.arranged d l in
-                  let b = count_is swap_shelf.arranged d l in
-                  ap (λ (x : Row). get_or x.touched i false) (row_s now_view swap_shelf d l)
-                  ∙ past_marks (row_of (class_sized_areas starts sized_areas' d)).touched (count_c swap_shelf.arranged d l) (per (d + 5)) i (positive d) (whole_marks swap_shelf.arranged d l) (omega arith)
-                  ∙ sym (ap (λ (x : Row). get_or x.touched i false) (row_s view is d l)
-                  ∙ past_marks (row_of (class_sized_areas starts sized_areas d)).touched (count_c is.arranged d l) (per (d + 5)) i (positive d) (whole_marks is.arranged d l) (omega arith))
+                  let a = count_is is.arranged l in
+                  let b = count_is swap_shelf.arranged l in
+                  ap (λ (x : Row). get_or x.touched i false) (row_s now_view swap_shelf l)
+                  ∙ past_marks (row_of (class_sized_areas starts sized_areas' d)).touched (count_c swap_shelf.arranged l) (per (d + 5)) i (positive d) (whole_marks swap_shelf.arranged l) (omega arith)
+                  ∙ sym (ap (λ (x : Row). get_or x.touched i false) (row_s view is l)
+                  ∙ past_marks (row_of (class_sized_areas starts sized_areas d)).touched (count_c is.arranged l) (per (d + 5)) i (positive d) (whole_marks is.arranged l) (omega arith))
             ]
       ]
 

@@ -37,24 +37,24 @@ took_in {s} {c} {i} n tidy valid_shelf' first small = record {
   tidy = tidy-put s c i (replicate n 0) true tidy valid_shelf' small first.within;
 }
 
-class_of_row : (e : ℕ) → 5 ≤ e → e ≡ e - 5 + 5
-class_of_row e low = omega arith
+class_of_row : {e : ℕ} → 5 ≤ e → e ≡ e - 5 + 5
+class_of_row low = omega arith
 
 pub took_first : {s t : ShelfMeaning} (e : ℕ) {i : ℕ} (n : ℕ) → IsTidy s → IsValidShelf t → t ≡ with_put s (e - 5) i (Some (replicate n 0)) true → IsFirstFree s.rows (e - 5) i → 5 ≤ e → e ≤ 16
     → Took s t e i n
 took_first {s} e {i} n tidy valid_shelf' is first low high =
     let that : Took s (with_put s (e - 5) i (Some (replicate n 0)) true) (e - 5 + 5) i n = took_in n tidy (subst IsValidShelf is valid_shelf') first (omega arith) in
-    subst (λ x. Took s x e i n) (sym is) (subst (λ x. Took s (with_put s (e - 5) i (Some (replicate n 0)) true) x i n) (sym (class_of_row e low)) that)
+    subst (λ x. Took s x e i n) (sym is) (subst (λ x. Took s (with_put s (e - 5) i (Some (replicate n 0)) true) x i n) (sym (class_of_row low)) that)
 
 pub held_first : (s : ShelfMeaning) (e i : ℕ) → IsTidy s → IsFirstFree s.rows (e - 5) i → 5 ≤ e → e ≤ 16 → held_with_fresh (live_of s.rows) e ≡ length s.held_ids
 held_first s e i tidy first low high =
     let that = held_with_first s (e - 5) i tidy (omega arith) first in
-    subst (λ x. held_with_fresh (live_of s.rows) x ≡ length s.held_ids) (sym (class_of_row e low)) that
+    subst (λ x. held_with_fresh (live_of s.rows) x ≡ length s.held_ids) (sym (class_of_row low)) that
 
 pub held_full : (s : ShelfMeaning) (e : ℕ) → IsTidy s → IsFull s.rows (e - 5) → 5 ≤ e → e ≤ 16 → held_with_fresh (live_of s.rows) e ≡ length s.held_ids + 1
 held_full s e tidy full low high =
     let that = held_with_full s (e - 5) tidy (omega arith) full in
-    subst (λ x. held_with_fresh (live_of s.rows) x ≡ length s.held_ids + 1) (sym (class_of_row e low)) that
+    subst (λ x. held_with_fresh (live_of s.rows) x ≡ length s.held_ids + 1) (sym (class_of_row low)) that
 
 -- ---- in an area that was just added
 
@@ -123,10 +123,10 @@ pub took_grown : {s u t : ShelfMeaning} (e : ℕ) {i : ℕ} (n : ℕ) → IsTidy
     → t ≡ with_put u (e - 5) i (Some (replicate n 0)) true → IsFull s.rows (e - 5) → IsFirstFree u.rows (e - 5) i → 5 ≤ e → e ≤ 16 → Took s t e i n
 took_grown {s} {u} {t} e {i} n tidy valid_shelf' valid_shelf'' grown is full first low high =
     let c : ℕ = e - 5 in
-    let grown' : u ≡ with_area s c u.held_ids = grown ∙ ap (λ x. record (with_row s c (longer (per x) (row_at s.rows c))) { held_ids = u.held_ids }) (class_of_row e low) in
+    let grown' : u ≡ with_area s c u.held_ids = grown ∙ ap (λ x. record (with_row s c (longer (per x) (row_at s.rows c))) { held_ids = u.held_ids }) (class_of_row low) in
     let is' : t ≡ with_put (with_area s c u.held_ids) c i (Some (replicate n 0)) true = is ∙ ap (λ x. with_put x c i (Some (replicate n 0)) true) grown' in
     let that = took_after n u.held_ids tidy (subst IsValidShelf grown' valid_shelf') (subst IsValidShelf is' valid_shelf'') full (subst (λ x. IsFirstFree x.rows c i) grown' first) (omega arith) in
-    subst (λ x. Took s x e i n) (sym is') (subst (λ x. Took s (with_put (with_area s c u.held_ids) c i (Some (replicate n 0)) true) x i n) (sym (class_of_row e low)) that)
+    subst (λ x. Took s x e i n) (sym is') (subst (λ x. Took s (with_put (with_area s c u.held_ids) c i (Some (replicate n 0)) true) x i n) (sym (class_of_row low)) that)
 
 -- the area that was added has a free chunk
 pub grown_free : (s u : ShelfMeaning) (e : ℕ) → IsValidShelf s → u ≡ record (with_row s (e - 5) (longer (per e) (row_at s.rows (e - 5)))) { held_ids = u.held_ids } → 5 ≤ e → e ≤ 16

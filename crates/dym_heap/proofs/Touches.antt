@@ -101,9 +101,9 @@ touched_state s t valid_shelf valid_shelf' is =
     let touches : touched_of t.rows ≡ from_list (keys (live_of s.rows)) =
     same_set nat_cmp_total nat_cmp-IsAntisymmetric (touched_of t.rows) (from_list (keys (live_of s.rows))) (λ q.
     elim (splits q) as (λ _. contains (touched_of t.rows) q ≡ contains (from_list {R = nat_cmp} (keys (live_of s.rows))) q) [
-      | below b ↦ contains-touched_of_below t.rows q b ∙ sym (contains-keys (live_of s.rows) q ∙ ap is_some (get-live_of_below s.rows q b))
+      | below b ↦ contains-touched_of_below t.rows b ∙ sym (contains-keys (live_of s.rows) q ∙ ap is_some (get-live_of_below s.rows q b))
       | at c j e l ↦
-          contains-touched_of t.rows (kept_marks_fit valid_shelf') c j e l ∙ ap (λ (r : Row). get_or r.touched j false) (marks.row_is makes_used s t is c) ∙ used_mark (row_at s.rows c).chunks j
+          contains-touched_of t.rows (kept_marks_fit valid_shelf') c e l ∙ ap (λ (r : Row). get_or r.touched j false) (marks.row_is makes_used s t is c) ∙ used_mark (row_at s.rows c).chunks j
           ∙ sym (contains-keys (live_of s.rows) q ∙ ap is_some (get-live_of s.rows (kept_fits valid_shelf) c j e l))
     ]) in
     λ i. record { live = lives i; touched = touches i }

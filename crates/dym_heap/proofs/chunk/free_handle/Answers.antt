@@ -15,7 +15,7 @@ pub returns-clause-live : goal.returns-clause-live
 returns-clause-live g c = c.if-not-release.ensures.used ∙ sym (ap is_some (get_handle c.args.h.exp c.args.h.index c.requires.tidy.valid_shelf (omega arith) (search rules)))
 
 pub returns-clause-after : goal.returns-clause-after
-returns-clause-after g c = (freed _ _ c.requires.tidy c.release.ensures.valid_shelf c.trim.ensures.valid_shelf c.if-not-release.ensures.freed c.trim.ensures.trims (sym c.if-not-release.ensures.used) (omega arith) (omega arith)).state
+returns-clause-after g c = (freed _ c.requires.tidy c.release.ensures.valid_shelf c.trim.ensures.valid_shelf c.if-not-release.ensures.freed c.trim.ensures.trims (sym c.if-not-release.ensures.used) (omega arith) (omega arith)).state
 
 pub returns-clause-tidy : goal.returns-clause-tidy
-returns-clause-tidy g c = (freed _ _ c.requires.tidy c.release.ensures.valid_shelf c.trim.ensures.valid_shelf c.if-not-release.ensures.freed c.trim.ensures.trims (sym c.if-not-release.ensures.used) (omega arith) (omega arith)).tidy
+returns-clause-tidy g c = (freed _ c.requires.tidy c.release.ensures.valid_shelf c.trim.ensures.valid_shelf c.if-not-release.ensures.freed c.trim.ensures.trims (sym c.if-not-release.ensures.used) (omega arith) (omega arith)).tidy

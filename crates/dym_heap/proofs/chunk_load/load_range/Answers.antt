@@ -8,7 +8,7 @@ pub next_set-requires : goal.next_set-requires
 next_set-requires g c =
     let top = c.loop-start.invariant.range.high in
     let l = c.requires.within in
-    let few = per_fits _ c.requires.valid.least in
+    let few = per_fits c.requires.valid.least in
     omega arith
 
 pub loop-start-init : goal.loop-start-init
@@ -18,7 +18,7 @@ pub run_end-requires-clause-within : goal.run_end-requires-clause-within
 run_end-requires-clause-within g c =
     let before = c.if-start-end.false in
     let l = c.requires.within in
-    let few = per_fits _ c.requires.valid.least in
+    let few = per_fits c.requires.valid.least in
     omega arith
 
 pub overflow_mul-at : goal.overflow_mul-at

@@ -7,7 +7,7 @@ use Rattle.dym_heap.proofs.Skips as skips
 use Rattle.dym_heap.proofs.chunk_load.load_sized.Goals as goal
 
 pub next_set-requires : goal.next_set-requires
-next_set-requires g c = let small = c.loop-i.invariant.small in let most = per_fits _ c.requires.valid.least in omega arith
+next_set-requires g c = let small = c.loop-i.invariant.small in let most = per_fits c.requires.valid.least in omega arith
 
 pub packed_between-before-requires-clause-order : goal.packed_between-before-requires-clause-order
 packed_between-before-requires-clause-order g c = c.in-Some.ensures.at_least

@@ -1,4 +1,4 @@
-use Rattle.std.proofs.Common.{true, false, ap, sym, ◌∙◌, ◌+◌, ◌-◌, arith}
+use Rattle.std.proofs.Common.{ap, sym, ◌∙◌, ◌+◌, ◌-◌, arith}
 use Rattle.dym_bits.specs.Bits.{bit_in}
 use Rattle.dym_heap.proofs.Skips as skips
 use Rattle.dym_heap.proofs.chunk_load.packed_between.Goals.{then-get, else-get}
@@ -36,9 +36,9 @@ loop-i-preserved c = record {
       elim c.if-get.branch [
         | then-get w ↦
             w.count-is ∙ ap (λ k. k + 1) c.loop-i.invariant.counted
-            ∙ skips.count_step c.args.packed.now c.args.from c.loop-i.i true c.loop-i.auto.i (sym w.if-get.true ∙ c.get.ensures)
+            ∙ skips.count_step c.args.packed.now c.loop-i.auto.i (sym w.if-get.true ∙ c.get.ensures)
         | else-get w ↦
-            let step = skips.count_step c.args.packed.now c.args.from c.loop-i.i false c.loop-i.auto.i (sym w.if-get.false ∙ c.get.ensures) in
+            let step = skips.count_step c.args.packed.now c.loop-i.auto.i (sym w.if-get.false ∙ c.get.ensures) in
             let before = c.loop-i.invariant.counted in
             let same = w.count-is in
             omega arith

@@ -14,17 +14,17 @@ add_area-requires-clause-room g c =
 
 pub loop-count-smaller : goal.loop-count-smaller
 loop-count-smaller g c =
-    let more = fit.longer_fits c.args.counts.now c.loop-exp.exp c.areas.result c.loop-exp.invariant.low (let l = c.loop-exp-test.true in omega arith) (fit.longer_is c.loop-exp.exp c.loop-count.invariant.valid_shelf c.loop-exp.invariant.low (let l = c.loop-exp-test.true in omega arith) c.add_area.ensures.added) c.areas.ensures (ap (λ k. get_or c.args.counts.now k 0) c.class_index.ensures) c.loop-count-test.true in
-    let here = (fit.longer_is c.loop-exp.exp c.loop-count.invariant.valid_shelf c.loop-exp.invariant.low (let l = c.loop-exp-test.true in omega arith) c.add_area.ensures.added).here in
+    let more = fit.longer_fits c.args.counts.now c.loop-exp.exp c.loop-exp.invariant.low (let l = c.loop-exp-test.true in omega arith) (fit.longer_is c.loop-count.invariant.valid_shelf c.loop-exp.invariant.low (let l = c.loop-exp-test.true in omega arith) c.add_area.ensures.added) c.areas.ensures (ap (λ k. get_or c.args.counts.now k 0) c.class_index.ensures) c.loop-count-test.true in
+    let here = (fit.longer_is c.loop-count.invariant.valid_shelf c.loop-exp.invariant.low (let l = c.loop-exp-test.true in omega arith) c.add_area.ensures.added).here in
     let some = pow_pos (16 - c.loop-exp.exp) in
     omega arith
 
 pub loop-count-preserved : goal.loop-count-preserved
 loop-count-preserved g c = record {
-  done = fit.longer_done c.args.counts.now c.loop-exp.exp c.areas.result c.loop-exp.invariant.low (let l = c.loop-exp-test.true in omega arith) (fit.longer_is c.loop-exp.exp c.loop-count.invariant.valid_shelf c.loop-exp.invariant.low (let l = c.loop-exp-test.true in omega arith) c.add_area.ensures.added) c.areas.ensures (ap (λ k. get_or c.args.counts.now k 0) c.class_index.ensures) c.loop-count-test.true c.loop-count.invariant.done;
-  most = fit.longer_most c.args.counts.now c.loop-exp.exp c.areas.result c.loop-exp.invariant.low (let l = c.loop-exp-test.true in omega arith) (fit.longer_is c.loop-exp.exp c.loop-count.invariant.valid_shelf c.loop-exp.invariant.low (let l = c.loop-exp-test.true in omega arith) c.add_area.ensures.added) c.areas.ensures (ap (λ k. get_or c.args.counts.now k 0) c.class_index.ensures) c.loop-count-test.true c.loop-count.invariant.most;
+  done = fit.longer_done c.args.counts.now c.loop-exp.exp c.loop-exp.invariant.low (let l = c.loop-exp-test.true in omega arith) (fit.longer_is c.loop-count.invariant.valid_shelf c.loop-exp.invariant.low (let l = c.loop-exp-test.true in omega arith) c.add_area.ensures.added) c.areas.ensures (ap (λ k. get_or c.args.counts.now k 0) c.class_index.ensures) c.loop-count-test.true c.loop-count.invariant.done;
+  most = fit.longer_most c.args.counts.now c.loop-exp.exp c.loop-exp.invariant.low (let l = c.loop-exp-test.true in omega arith) (fit.longer_is c.loop-count.invariant.valid_shelf c.loop-exp.invariant.low (let l = c.loop-exp-test.true in omega arith) c.add_area.ensures.added) c.areas.ensures (ap (λ k. get_or c.args.counts.now k 0) c.class_index.ensures) c.loop-count-test.true c.loop-count.invariant.most;
   rows = λ d i. fit.longer_rows c.loop-count.shelf c.add_area.new.self c.loop-exp.exp c.loop-count.invariant.valid_shelf c.loop-exp.invariant.low (let l = c.loop-exp-test.true in omega arith) c.add_area.ensures.added d i ∙ c.loop-count.invariant.rows d i;
-  keeps = fit.keeps_trans c.loop-count.invariant.keeps (fit.longer_is c.loop-exp.exp c.loop-count.invariant.valid_shelf c.loop-exp.invariant.low (let l = c.loop-exp-test.true in omega arith) c.add_area.ensures.added).keeps;
+  keeps = fit.keeps_trans c.loop-count.invariant.keeps (fit.longer_is c.loop-count.invariant.valid_shelf c.loop-exp.invariant.low (let l = c.loop-exp-test.true in omega arith) c.add_area.ensures.added).keeps;
   valid_shelf = c.add_area.ensures.valid_shelf;
 }
 

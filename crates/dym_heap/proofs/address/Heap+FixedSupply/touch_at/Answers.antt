@@ -1,7 +1,7 @@
 use Rattle.std.proofs.Common.{arith, ap, ◌+◌, ◌∙◌}
 use Rattle.dym_heap.specs.Fetches.{heap_chunk}
 use Rattle.dym_heap.specs.Meaning.{HeapMeaning}
-use Rattle.dym_heap.specs.Table.{live_of, state_of}
+use Rattle.dym_heap.specs.Table.{state_of}
 use Rattle.dym_heap.specs.Touches.{touched_besides, touched_in}
 use Rattle.dym_heap.proofs.Ranges.{seen, met_far, cut_end, touched_state}
 use Rattle.dym_heap.proofs.Soundness.{sound_of}

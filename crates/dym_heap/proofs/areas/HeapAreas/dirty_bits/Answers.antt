@@ -3,7 +3,7 @@ use Rattle.dym_heap.proofs.LendingCalls as calls
 use Rattle.dym_heap.proofs.areas.HeapAreas.dirty_bits.Goals as goal
 
 pub sized_area-requires-clause-within : goal.sized_area-requires-clause-within
-sized_area-requires-clause-within g c = calls.within_h c.self.view_is c.self.invariant c.args.k c.requires
+sized_area-requires-clause-within g c = calls.within_h c.self.view_is c.self.invariant c.requires
 
 pub returns : goal.returns
 returns g c = λ i. c.dirty_bits.ensures i ∙ calls.touched_a (calls.area_h c.self.view_is c.self.invariant c.sized_area.ensures.area) i

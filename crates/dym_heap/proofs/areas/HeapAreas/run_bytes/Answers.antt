@@ -3,7 +3,7 @@ use Rattle.dym_heap.proofs.LendingCalls as calls
 use Rattle.dym_heap.proofs.areas.HeapAreas.run_bytes.Goals as goal
 
 pub sized_area-requires-clause-within : goal.sized_area-requires-clause-within
-sized_area-requires-clause-within g c = calls.within_h c.self.view_is c.self.invariant c.args.k c.requires.area
+sized_area-requires-clause-within g c = calls.within_h c.self.view_is c.self.invariant c.requires.area
 
 pub run_bytes-requires-clause-within : goal.run_bytes-requires-clause-within
 run_bytes-requires-clause-within g c = calls.run_fits (calls.area_h c.self.view_is c.self.invariant c.sized_area.ensures.area) c.args.from c.args.count c.requires.chunks

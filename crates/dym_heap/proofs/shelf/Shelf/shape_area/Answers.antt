@@ -5,36 +5,36 @@ use Rattle.dym_heap.proofs.AreaBindings.{bound_kept}
 use Rattle.dym_heap.proofs.shelf.Shelf.shape_area.Goals as goal
 
 pub overflow_add-self-inside : goal.overflow_add-self-inside
-overflow_add-self-inside g c = let l = shapes.place_small c.self.view_is c.self.invariant.0 c.args.exp c.requires.least c.requires.most c.args.ordinal c.class_index-class.ensures (shapes.area_in c.self.view_is c.self.invariant.0 c.args.exp c.requires.least c.requires.most c.args.ordinal c.class_index-class.ensures c.requires.area) in omega arith
+overflow_add-self-inside g c = let l = shapes.place_small c.self.view_is c.self.invariant.0 c.requires.least c.requires.most c.class_index-class.ensures (shapes.area_in c.self.view_is c.self.invariant.0 c.requires.least c.requires.most c.args.ordinal c.class_index-class.ensures c.requires.area) in omega arith
 
 pub index_mut-sized_area-requires : goal.index_mut-sized_area-requires
-index_mut-sized_area-requires g c = let l = shapes.place_in c.self.view_is c.self.invariant.0 c.args.exp c.requires.least c.requires.most c.args.ordinal c.class_index-class.ensures (shapes.area_in c.self.view_is c.self.invariant.0 c.args.exp c.requires.least c.requires.most c.args.ordinal c.class_index-class.ensures c.requires.area) in omega arith
+index_mut-sized_area-requires g c = let l = shapes.place_in c.self.view_is c.self.invariant.0 c.requires.least c.requires.most c.class_index-class.ensures (shapes.area_in c.self.view_is c.self.invariant.0 c.requires.least c.requires.most c.args.ordinal c.class_index-class.ensures c.requires.area) in omega arith
 
 pub shape-requires-clause-len : goal.shape-requires-clause-len
-shape-requires-clause-len g c = shapes.len_q c.self.view_is c.self.invariant.0 c.args.exp c.requires.least c.requires.most c.args.ordinal c.class_index-class.ensures (shapes.area_in c.self.view_is c.self.invariant.0 c.args.exp c.requires.least c.requires.most c.args.ordinal c.class_index-class.ensures c.requires.area) c.index_mut-sized_area.ensures.value _ c.requires.len
+shape-requires-clause-len g c = shapes.len_q c.self.view_is c.self.invariant.0 c.requires.least c.requires.most c.class_index-class.ensures (shapes.area_in c.self.view_is c.self.invariant.0 c.requires.least c.requires.most c.args.ordinal c.class_index-class.ensures c.requires.area) c.index_mut-sized_area.ensures.value _ c.requires.len
 
 pub shape-requires-clause-below : goal.shape-requires-clause-below
-shape-requires-clause-below g c = λ i h. shapes.below_q c.self.view_is c.self.invariant.0 c.args.exp c.requires.least c.requires.most c.args.ordinal c.class_index-class.ensures (shapes.area_in c.self.view_is c.self.invariant.0 c.args.exp c.requires.least c.requires.most c.args.ordinal c.class_index-class.ensures c.requires.area) c.index_mut-sized_area.ensures.value i (c.requires.below i h)
+shape-requires-clause-below g c = λ i h. shapes.below_q c.self.view_is c.self.invariant.0 c.requires.least c.requires.most c.class_index-class.ensures (shapes.area_in c.self.view_is c.self.invariant.0 c.requires.least c.requires.most c.args.ordinal c.class_index-class.ensures c.requires.area) c.index_mut-sized_area.ensures.value i (c.requires.below i h)
 
 pub set_mark-requires-clause-class : goal.set_mark-requires-clause-class
-set_mark-requires-clause-class g c = calls.full_in c.self.view_is c.self.invariant.0 c.args.exp c.requires.least c.requires.most c.class_index-class.ensures
+set_mark-requires-clause-class g c = calls.full_in c.self.view_is c.self.invariant.0 c.requires.least c.requires.most c.class_index-class.ensures
 
 pub set_mark-requires-clause-ordinal : goal.set_mark-requires-clause-ordinal
-set_mark-requires-clause-ordinal g c = shapes.ordinal_small c.self.view_is c.self.invariant.0 c.args.exp c.requires.least c.requires.most c.args.ordinal c.class_index-class.ensures (shapes.area_in c.self.view_is c.self.invariant.0 c.args.exp c.requires.least c.requires.most c.args.ordinal c.class_index-class.ensures c.requires.area) c.index_mut-sized_area.ensures.value
+set_mark-requires-clause-ordinal g c = shapes.ordinal_small c.self.view_is c.self.invariant.0 c.requires.least c.requires.most c.class_index-class.ensures (shapes.area_in c.self.view_is c.self.invariant.0 c.requires.least c.requires.most c.args.ordinal c.class_index-class.ensures c.requires.area) c.index_mut-sized_area.ensures.value
 
 pub invariant_of-self : goal.invariant_of-self
 invariant_of-self g c =
-    let shelf = shapes.shape_shelf c.self.view_is c.self.invariant.0 c.args.exp c.requires.least c.requires.most c.args.ordinal c.class_index-class.ensures (shapes.area_in c.self.view_is c.self.invariant.0 c.args.exp c.requires.least c.requires.most c.args.ordinal c.class_index-class.ensures c.requires.area) c.index_mut-sized_area.ensures.value c.shape.ensures.valid _ c.shape.ensures.same c.shape.ensures.shaped c.is_full-is_full.result c.is_full-is_full.ensures c.set_mark.ensures in
+    let shelf = shapes.shape_shelf c.self.view_is c.self.invariant.0 c.requires.least c.requires.most c.class_index-class.ensures (shapes.area_in c.self.view_is c.self.invariant.0 c.requires.least c.requires.most c.args.ordinal c.class_index-class.ensures c.requires.area) c.index_mut-sized_area.ensures.value c.shape.ensures.valid _ c.shape.ensures.same c.shape.ensures.shaped c.is_full-is_full.result c.is_full-is_full.ensures c.set_mark.ensures in
     (shelf, bound_kept _ _ _ c.self.invariant.0 shelf c.self.invariant.1)
 
 pub returns-clause-shaped : goal.returns-clause-shaped
-returns-clause-shaped g c = shapes.shape_area c.self.view_is c.self.invariant.0 c.args.exp c.requires.least c.requires.most c.args.ordinal c.class_index-class.ensures (shapes.area_in c.self.view_is c.self.invariant.0 c.args.exp c.requires.least c.requires.most c.args.ordinal c.class_index-class.ensures c.requires.area) c.index_mut-sized_area.ensures.value c.shape.ensures.valid _ c.shape.ensures.same c.shape.ensures.shaped c.is_full-is_full.result c.is_full-is_full.ensures c.set_mark.ensures
+returns-clause-shaped g c = shapes.shape_area c.self.view_is c.self.invariant.0 c.requires.least c.requires.most c.class_index-class.ensures (shapes.area_in c.self.view_is c.self.invariant.0 c.requires.least c.requires.most c.args.ordinal c.class_index-class.ensures c.requires.area) c.index_mut-sized_area.ensures.value c.shape.ensures.valid _ c.shape.ensures.same c.shape.ensures.shaped c.is_full-is_full.result c.is_full-is_full.ensures c.set_mark.ensures
 
 pub returns-clause-long : goal.returns-clause-long
-returns-clause-long g c = shapes.shape_long c.self.view_is c.self.invariant.0 c.args.exp c.requires.least c.requires.most c.args.ordinal c.class_index-class.ensures (shapes.area_in c.self.view_is c.self.invariant.0 c.args.exp c.requires.least c.requires.most c.args.ordinal c.class_index-class.ensures c.requires.area) c.index_mut-sized_area.ensures.value c.shape.ensures.valid _ c.shape.ensures.same c.shape.ensures.shaped c.is_full-is_full.result c.is_full-is_full.ensures c.set_mark.ensures
+returns-clause-long g c = shapes.shape_long c.self.view_is c.self.invariant.0 c.requires.least c.requires.most c.class_index-class.ensures (shapes.area_in c.self.view_is c.self.invariant.0 c.requires.least c.requires.most c.args.ordinal c.class_index-class.ensures c.requires.area) c.index_mut-sized_area.ensures.value c.shape.ensures.valid _ c.shape.ensures.same c.shape.ensures.shaped c.is_full-is_full.result c.is_full-is_full.ensures c.set_mark.ensures
 
 pub returns-clause-same : goal.returns-clause-same
-returns-clause-same g c = shapes.shape_same c.self.view_is c.self.invariant.0 c.args.exp c.requires.least c.requires.most c.args.ordinal c.class_index-class.ensures (shapes.area_in c.self.view_is c.self.invariant.0 c.args.exp c.requires.least c.requires.most c.args.ordinal c.class_index-class.ensures c.requires.area) c.index_mut-sized_area.ensures.value c.shape.ensures.valid _ c.shape.ensures.same c.shape.ensures.shaped c.is_full-is_full.result c.is_full-is_full.ensures c.set_mark.ensures
+returns-clause-same g c = shapes.shape_same c.self.view_is c.self.invariant.0 c.requires.least c.requires.most c.class_index-class.ensures (shapes.area_in c.self.view_is c.self.invariant.0 c.requires.least c.requires.most c.args.ordinal c.class_index-class.ensures c.requires.area) c.index_mut-sized_area.ensures.value c.shape.ensures.valid _ c.shape.ensures.same c.shape.ensures.shaped c.is_full-is_full.result c.is_full-is_full.ensures c.set_mark.ensures
 
 pub returns-clause-valid_shelf : goal.returns-clause-valid_shelf
-returns-clause-valid_shelf g c = shapes.shape_kept c.self.view_is c.self.invariant.0 c.args.exp c.requires.least c.requires.most c.args.ordinal c.class_index-class.ensures (shapes.area_in c.self.view_is c.self.invariant.0 c.args.exp c.requires.least c.requires.most c.args.ordinal c.class_index-class.ensures c.requires.area) c.index_mut-sized_area.ensures.value c.shape.ensures.valid _ c.shape.ensures.same c.shape.ensures.shaped c.is_full-is_full.result c.is_full-is_full.ensures c.set_mark.ensures
+returns-clause-valid_shelf g c = shapes.shape_kept c.self.view_is c.self.invariant.0 c.requires.least c.requires.most c.class_index-class.ensures (shapes.area_in c.self.view_is c.self.invariant.0 c.requires.least c.requires.most c.args.ordinal c.class_index-class.ensures c.requires.area) c.index_mut-sized_area.ensures.value c.shape.ensures.valid _ c.shape.ensures.same c.shape.ensures.shaped c.is_full-is_full.result c.is_full-is_full.ensures c.set_mark.ensures

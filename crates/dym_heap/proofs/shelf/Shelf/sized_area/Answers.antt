@@ -7,10 +7,10 @@ index-requires g c = let l = lending.in_places c.self.view_is c.self.invariant.0
 
 pub returns-clause-area : goal.returns-clause-area
 returns-clause-area g c =
-    lending.area_is c.self.view_is c.self.invariant.0 c.requires.tidy c.args.k
+    lending.area_is c.self.view_is c.self.invariant.0 c.requires.tidy
     (lending.in_places c.self.view_is c.self.invariant.0 c.requires.tidy c.args.k c.requires.within) c.index.ensures
 
 pub returns-clause-version : goal.returns-clause-version
 returns-clause-version g c =
-    lending.version_is c.self.view_is c.self.invariant.0 c.requires.tidy c.args.k
+    lending.version_is c.self.view_is c.self.invariant.0 c.requires.tidy
     (lending.in_places c.self.view_is c.self.invariant.0 c.requires.tidy c.args.k c.requires.within) c.index.ensures

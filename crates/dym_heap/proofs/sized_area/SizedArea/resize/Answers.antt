@@ -9,12 +9,12 @@ use Rattle.dym_heap.proofs.sized_area.SizedArea.resize.Goals as goal
 pub noted_len-old-requires-clause-within : goal.noted_len-old-requires-clause-within
 noted_len-old-requires-clause-within g c =
     let u = facts.another_in_use c.self.view_is c.self.invariant c.args.i c.args.len c.requires.another in
-    facts.few_p c.self.view_is c.self.invariant c.args.i u.0.below
+    facts.few_p c.self.view_is c.self.invariant u.0.below
 
 pub note-requires : goal.note-requires
 note-requires g c =
     let u = facts.another_in_use c.self.view_is c.self.invariant c.args.i c.args.len c.requires.another in
-    facts.few_p c.self.view_is c.self.invariant c.args.i u.0.below
+    facts.few_p c.self.view_is c.self.invariant u.0.below
 
 pub zero-requires-clause-used : goal.zero-requires-clause-used
 zero-requires-clause-used g c = (facts.another_in_use c.self.view_is c.self.invariant c.args.i c.args.len c.requires.another).0.is_set

@@ -5,7 +5,7 @@ use Rattle.dym_heap.proofs.PlaceFacts as facts
 use Rattle.dym_heap.proofs.sized_area.SizedArea.used_len.Goals as goal
 
 pub noted_len-requires-clause-within : goal.noted_len-requires-clause-within
-noted_len-requires-clause-within g c = facts.few_p c.self.view_is c.self.invariant c.args.i (c.self.invariant.valid.used_below c.args.i (facts.set_p c.self.view_is c.self.invariant c.args.i c.requires))
+noted_len-requires-clause-within g c = facts.few_p c.self.view_is c.self.invariant (c.self.invariant.valid.used_below c.args.i (facts.set_p c.self.view_is c.self.invariant c.args.i c.requires))
 
 pub returns : goal.returns
 returns g c =

@@ -14,10 +14,10 @@ returns-clause-written g c =
     let u = facts.in_use c.self.view_is c.self.invariant c.args.i _ c.requires.within in
     facts.match_some _ _ u.at
     (facts.written_p c.self.view_is c.self.invariant c.args.at c.args.bytes.now u c.write.ensures.after c.write.ensures.valid
-    (facts.reaches c.self.inside.lengths c.args.i (facts.few_p c.self.view_is c.self.invariant c.args.i u.below)) c.requires.some).is
+    (facts.reaches c.self.inside.lengths (facts.few_p c.self.view_is c.self.invariant u.below)) c.requires.some).is
 
 pub returns-clause-valid : goal.returns-clause-valid
 returns-clause-valid g c =
     let u = facts.in_use c.self.view_is c.self.invariant c.args.i _ c.requires.within in
     is_place (facts.written_p c.self.view_is c.self.invariant c.args.at c.args.bytes.now u c.write.ensures.after c.write.ensures.valid
-    (facts.reaches c.self.inside.lengths c.args.i (facts.few_p c.self.view_is c.self.invariant c.args.i u.below)) c.requires.some).measured
+    (facts.reaches c.self.inside.lengths (facts.few_p c.self.view_is c.self.invariant u.below)) c.requires.some).measured
