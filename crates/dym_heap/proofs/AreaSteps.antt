@@ -16,7 +16,7 @@ use Rattle.dym_heap.proofs.Wants.{no_chunk}
 
 -- ---- chunks by their numbers and by their rows
 
-pub chunk_in_row : {s : ShelfMeaning} → IsValidShelf s → (d : ℕ) {j : ℕ} {q : ℕ} → q ≡ number (d + 5) j → j < 2 ^ 32 → heap_chunk (state_of s.rows) q ≡ row_chunk s.rows d j
+pub chunk_in_row : {s : ShelfMeaning} → IsValidShelf s → (d : ℕ) {j q : ℕ} → q ≡ number (d + 5) j → j < 2 ^ 32 → heap_chunk (state_of s.rows) q ≡ row_chunk s.rows d j
 chunk_in_row {s} valid_shelf d {j} {q} is small = λ i. record {
   bytes = get-live_of s.rows (kept_fits valid_shelf) d j is small i;
   touched = contains-touched_of s.rows (kept_marks_fit valid_shelf) d is small i;

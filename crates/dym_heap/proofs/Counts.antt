@@ -81,7 +81,7 @@ room_left s counts c n valid_shelf long each l many less within =
 -- ---- the areas of a record
 
 -- the counts after some areas of the record were seen
-pub record Counted (bytes : List ℕ) (counts : List ℕ) (k : ℕ) : Type 0 where
+pub record Counted (bytes counts : List ℕ) (k : ℕ) : Type 0 where
   pub long : length counts ≡ 12
   pub under : (log : Logged) → IsRecorded log → packed log ≡ bytes → (c : ℕ) → c < 12 → get_or counts c 0 ≤ areas log.copy (c + 5)
   pub over : (log : Logged) → IsRecorded log → packed log ≡ bytes → (m : ℕ) → m < k → (area_at log.copy m).ordinal < get_or counts ((area_at log.copy m).exponent - 5) 0

@@ -126,7 +126,7 @@ mark_rows_at q e (suc c) j (r ∷ rows) is l fits =
     (marks_at q (number e 0) ((c + 1) * 2 ^ 32 + j) r.touched (omega arith) ∙ get_or_past r.touched _ false (let f = fits 0 in omega arith))
     ∙ mark_rows_at q (e + 1) c j rows (omega arith) l (λ d. fits (suc d))
 
-pub contains-touched_of : (rows : List Row) → MarksFit rows → (c : ℕ) {j : ℕ} {q : ℕ} → q ≡ number (c + 5) j → j < 2 ^ 32 → fset.contains (touched_of rows) q ≡ touch_at rows c j
+pub contains-touched_of : (rows : List Row) → MarksFit rows → (c : ℕ) {j q : ℕ} → q ≡ number (c + 5) j → j < 2 ^ 32 → fset.contains (touched_of rows) q ≡ touch_at rows c j
 unfolding touched_of
 contains-touched_of rows fits c {j} {q} is l = contains-from_list_nat (marks_of 5 rows) q ∙ mark_rows_at q 5 c j rows (omega arith) l fits
 

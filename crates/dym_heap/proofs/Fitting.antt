@@ -80,7 +80,7 @@ keeps_rows rows x same = record {
   origin = ap (λ (s : ShelfMeaning). s.origin) same ∙ x.origin;
 }
 
-module _ {old new : ShelfMeaning} (counts : List ℕ) (e : ℕ) {n : ℕ} {x : ℕ} (low : 5 ≤ e) (high : e ≤ 16) (more : Longer old new e) (many : HasAreas old.rows (e - 5) n) (x_is : x ≡ get_or counts (e - 5) 0) (less : n < x) where
+module _ {old new : ShelfMeaning} (counts : List ℕ) (e : ℕ) {n x : ℕ} (low : 5 ≤ e) (high : e ≤ 16) (more : Longer old new e) (many : HasAreas old.rows (e - 5) n) (x_is : x ≡ get_or counts (e - 5) 0) (less : n < x) where
   per_is : per (e - 5 + 5) ≡ per e
   per_is = ap per (let h : e - 5 + 5 ≡ e = omega arith in h)
 

@@ -294,7 +294,7 @@ module _ {old : AreaMeaning} {bits wanted : List Bool} {body : List ℕ} {f : �
 
 -- version 1, with the bytes that the body has
 module _ {old : AreaMeaning} {bits wanted : List Bool} {body : List ℕ} (sub : (i : ℕ) → IsSet wanted i → IsSet bits i) (valid : IsValidArea old) (has : IsBody One old.exponent bits body) {now : AreaMeaning} {from at : ℕ}
-    (inv : (f : ℕ → List ℕ) → IsBodyOf One old.exponent bits body f → LoadedTo One old bits wanted body f now from at) {start : ℕ} {end : ℕ} (next : IsNextSet bits from start) (more : start < end)
+    (inv : (f : ℕ → List ℕ) → IsBodyOf One old.exponent bits body f → LoadedTo One old bits wanted body f now from at) {start end : ℕ} (next : IsNextSet bits from start) (more : start < end)
     (all : (k : ℕ) → start ≤ k → k < end → IsSet bits k) where
   next_run : (f : ℕ → List ℕ) → NextRun One old bits wanted body f from start end
   next_run f = record { low = next.at_least; some = more; clear = next.least; set = all }

@@ -25,7 +25,7 @@ module _ {v : Version} {quota : ℕ} {ids : List SegmentId} {origin : Origin} {s
   other_place i {o} i' {o'} other finds finds' same =
       let a = (calls.spot_e view is low high i finds).location in
       let b = (calls.spot_e view is low' high' i' finds').location in
-      let one = (apart o o' is.arranged a.small b.small a.within b.within (sym a.at ∙ same ∙ b.at)).0 in
+      let one = (apart is.arranged o o' a.small b.small a.within b.within (sym a.at ∙ same ∙ b.at)).0 in
       other (omega (arith, one, low, low'))
 
   pub record Now (new : List SizedAreaMeaning) (i i' n : ℕ) : Type 0 where

@@ -82,7 +82,7 @@ module _ {v : Version} {quota : ℕ} {ids : List SegmentId} {origin : Origin} {s
       pub view_put : shelf_of v quota ids origin starts (set sized_areas k p) ≡ with_put s c (o * per (c + 5) + j) x b
       view_put =
           ap (λ q. shelf_of v quota ids origin starts (set sized_areas k q)) step
-          ∙ ap (λ rs. record { version = v; quota = quota; held_ids = ids; origin = origin; rows = rs }) (rows-put c o j d x b is.arranged location.small location.within location.at location.below)
+          ∙ ap (λ rs. record { version = v; quota = quota; held_ids = ids; origin = origin; rows = rs }) (rows-put is.arranged c o j d x b location.small location.within location.at location.below)
           ∙ ap (λ t. with_put t c (o * per (c + 5) + j) x b) view
 
       pub kept_put : IsValidShelf (shelf_of v quota ids origin starts (set sized_areas k p))

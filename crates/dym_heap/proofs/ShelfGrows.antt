@@ -196,7 +196,7 @@ module _ {v : Version} {quota : ℕ} {ids : List SegmentId} {origin : Origin} {s
       let arranged = arranged-insert is.arranged class_in shift placed free in
       let supplied = supplied-insert room' at p is.supplied (below_quota less) top
       (subst (GivesBack ids' ids) (sym (ap (λ (q : SizedAreaMeaning). q.identity) made)) more) bigger fewer in
-      let rows = rows-insert p is.arranged class_in shift chunks touched in
+      let rows = rows-insert is.arranged p class_in shift chunks touched in
       record {
         shelf = record { arranged = arranged; supplied = supplied };
         gives =
@@ -297,9 +297,9 @@ module _ {v : Version} {quota : ℕ} {ids : List SegmentId} {origin : Origin} {s
       ends.free (o * per (c + 5) + 0) (let q : o * per (c + 5) ≡ o * per e = ap (λ x. o * x) per_is in let t = ends.there in omega arith) in
       let free : HasFree (get_or sized_areas k d) = (0, facts.chunk_in_s view is location d, sym there ∙ first_free) in
       let up : k + 1 ≡ start_of (c + 1) = omega arith in
-      let arranged = arranged-remove k d is.arranged class_in shift up (omega arith) free in
+      let arranged = arranged-remove is.arranged k d class_in shift up (omega arith) free in
       let supplied = supplied-remove spare' spare_room' k d is.supplied in_k back tables in
-      let rows = rows-remove k is.arranged class_in shift up (omega arith) in
+      let rows = rows-remove is.arranged k class_in shift up (omega arith) in
       record {
         shelf = record { arranged = arranged; supplied = supplied };
         gives =

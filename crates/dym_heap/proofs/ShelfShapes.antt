@@ -85,7 +85,7 @@ module _ {v : Version} {quota : ℕ} {ids : List SegmentId} {origin : Origin} {s
       let m : count_c is.arranged class_in ≡ start_of (k + 1) - start_of k = omega arith in
       long ∙ ap (λ x. x * per (e - 5 + 5)) m
 
-  module _ {k : ℕ} {o : ℕ} (same : k ≡ e - 5) (l : o < start_of (k + 1) - start_of k) where
+  module _ {k o : ℕ} (same : k ≡ e - 5) (l : o < start_of (k + 1) - start_of k) where
     within : start_of (e - 5) + o < start_of (e - 5 + 1)
     within =
         let a : start_of (k + 1) ≡ start_of (e - 5 + 1) = ap (λ x. start_of (x + 1)) same in

@@ -99,7 +99,7 @@ module _ {v : Version} {quota : ℕ} {ids : List SegmentId} {origin : Origin} {s
 
   -- an area of another place
   other_place : (d r : ℕ) (x : SizedAreaMeaning) → d < 12 → start_of d + r < start_of (d + 1) → (d ≡ c → r ≡ o → ⊥) → get_or sized_areas' (start_of d + r) x ≡ get_or sized_areas (start_of d + r) x
-  other_place d r x l w ne = get_or-set_other sized_areas k (start_of d + r) p x (λ e. let both = apart r o is.arranged l small w within (e ∙ at) in ne both.0 both.1)
+  other_place d r x l w ne = get_or-set_other sized_areas k (start_of d + r) p x (λ e. let both = apart is.arranged r o l small w within (e ∙ at) in ne both.0 both.1)
 
   pub swap_other : (d i : ℕ) → (d ≡ c → i / per (c + 5) ≡ o → ⊥) → chunk_at (rows_upto 12 starts (set sized_areas k p)) d i ≡ chunk_at s.rows d i
   swap_other d i ne =
