@@ -17,25 +17,25 @@ use Rattle.dym_slots.proofs.Steps.{step_keeps}
 
 -- No step makes a slot Live with a number below the root seen: a slot that is so after it was so before it.
 
+-- the states after a step that wrote the slot s
+wrote : (c d : Core) (s : ℕ) (w : Slot) → s < length c.slots → d.slots ≡ set c.slots s w → (t : ℕ) → ((t ≡ s) × (state_of d t ≡ w)) ⊎ ((t ≢ s) × (state_of d t ≡ state_of c t))
+wrote c d s w inside is t = rw is (written c.slots s t w Free inside)
+
 -- at a slot that was written with another state than Live
 unlive : (c d : Core) (s : ℕ) (w : Slot) → s < length c.slots → d.slots ≡ set c.slots s w → ((m : ℕ) → w ≢ Live m) →
     (t m : ℕ) → state_of d t ≡ Live m → state_of c t ≡ Live m
-unlive c d s w inside is never t m live =
-    let now : get_or (set c.slots s w) t Free ≡ Live m = rw is at live in
-    elim (written c.slots s t w Free inside) [
-      | inl p ↦ absurd (never m (sym p.1 ∙ now))
-      | inr q ↦ sym q.1 ∙ now
-    ]
+unlive c d s w inside is never t m live = elim (wrote c d s w inside is t) [
+  | inl p ↦ absurd (never m (sym p.1 ∙ live))
+  | inr q ↦ sym q.1 ∙ live
+]
 
 -- at a slot that was made Live with a number that isn't below the root seen
 made_live : (c d : Core) (s n : ℕ) → s < length c.slots → d.slots ≡ set c.slots s (Live n) → c.sweeper.root_seen ≤ n →
     (t m : ℕ) → state_of d t ≡ Live m → m < c.sweeper.root_seen → state_of c t ≡ Live m
-made_live c d s n inside is kept t m live past =
-    let now : get_or (set c.slots s (Live n)) t Free ≡ Live m = rw is at live in
-    elim (written c.slots s t (Live n) Free inside) [
-      | inl p ↦ let same : Live n ≡ Live m = sym p.1 ∙ now in let number : n ≡ m = cc in absurd (omega arith)
-      | inr q ↦ sym q.1 ∙ now
-    ]
+made_live c d s n inside is kept t m live past = elim (wrote c d s (Live n) inside is t) [
+  | inl p ↦ let same : Live n ≡ Live m = sym p.1 ∙ live in let number : n ≡ m = cc in absurd (omega arith)
+  | inr q ↦ sym q.1 ∙ live
+]
 
 -- the slots after a step
 slots_of : {c d : Core} → d ≡ c → d.slots ≡ c.slots
@@ -119,17 +119,15 @@ look_stands (OwnerPut s) a b h f l = moved s _ a b (slots_of h.step.after) h.own
 look_stands (OwnerLower s) a b h f l = moved s _ a b (slots_of h.step.after) h.owner l
 look_stands (OwnerFree s) a b h f l = moved s _ a b (slots_of h.step.after) h.owner l
 look_stands (SweeperGrab s) a b h f l =
-    let is : b.core.slots ≡ set a.core.slots s (OutSweeper h.step.number) = slots_of h.step.after in
-    let at : (t : ℕ) → ((t ≡ s) × (state_of b.core t ≡ OutSweeper h.step.number)) ⊎ ((t ≢ s) × (state_of b.core t ≡ state_of a.core t)) = λ t. rw is (written a.core.slots s t (OutSweeper h.step.number) Free (inside_live a.core s h.step.number h.step.live)) in
+    let at = λ (t : ℕ). wrote a.core b.core s (OutSweeper h.step.number) (inside_live a.core s h.step.number h.step.live) (slots_of h.step.after) t in
     let live = h.step.live in
     rw h.owner (record {
       free = λ t e. let was = l.free t e in let x = at t in grind arith;
       live = λ t n e. let was = l.live t n e in let x = at t in grind arith;
     })
 look_stands (SweeperFree s) a b h f l =
-    let is : b.core.slots ≡ set a.core.slots s Free = slots_of h.step.after in
     let out = f.sweeper.out s h.step.holds in
-    let at : (t : ℕ) → ((t ≡ s) × (state_of b.core t ≡ Free)) ⊎ ((t ≢ s) × (state_of b.core t ≡ state_of a.core t)) = λ t. rw is (written a.core.slots s t Free Free (inside_sweeper a.core s out.0 out.1)) in
+    let at = λ (t : ℕ). wrote a.core b.core s Free (inside_sweeper a.core s out.0 out.1) (slots_of h.step.after) t in
     rw h.owner (record {
       free = λ t e. let was = l.free t e in let x = at t in grind arith;
       live = λ t n e. let was = l.live t n e in let x = at t in grind arith;

@@ -88,20 +88,20 @@ put_keeps s c d h f =
     subst Facts (sym h.after) record {
       homes = f.homes ∙ sym (length-set c.slots s (Live c.owner.next));
       list = record {
-        numbers_rise = all_pairs_push (λ a b. a.number < b.number) c.owner.list (new) f.list.numbers_rise (λ k d lt. f.list.below_next (get_or c.owner.list k d).slot (get_or c.owner.list k d).number (Contains-get_or c.owner.list k d lt));
-        slots_differ = all_pairs_push (λ a b. a.slot ≢ b.slot) c.owner.list (new) f.list.slots_differ (λ k d lt. elsewhere (get_or c.owner.list k d).slot (get_or c.owner.list k d).number (Contains-get_or c.owner.list k d lt));
-        from_root = λ t n e. elim (Contains-push_cases c.owner.list (new) (entry t n) e) [
+        numbers_rise = all_pairs_push (λ a b. a.number < b.number) c.owner.list new f.list.numbers_rise (λ k d lt. f.list.below_next _ _ (Contains-get_or c.owner.list k d lt));
+        slots_differ = all_pairs_push (λ a b. a.slot ≢ b.slot) c.owner.list new f.list.slots_differ (λ k d lt. elsewhere _ _ (Contains-get_or c.owner.list k d lt));
+        from_root = λ t n e. elim (Contains-push_cases c.owner.list new (entry t n) e) [
           | inl old ↦ f.list.from_root t n old
           | inr is ↦ let same : c.owner.next ≡ n = ap (λ (x : Entry). x.number) is in let b = f.list.root_below_next in omega arith
         ];
-        below_next = λ t n e. elim (Contains-push_cases c.owner.list (new) (entry t n) e) [
+        below_next = λ t n e. elim (Contains-push_cases c.owner.list new (entry t n) e) [
           | inl old ↦ let b = f.list.below_next t n old in omega arith
           | inr is ↦ let same : c.owner.next ≡ n = ap (λ (x : Entry). x.number) is in omega arith
         ];
         root_below_next = let b = f.list.root_below_next in omega arith;
       };
       seen = f.seen;
-      entries = λ t n e. elim (Contains-push_cases c.owner.list (new) (entry t n) e) [
+      entries = λ t n e. elim (Contains-push_cases c.owner.list new (entry t n) e) [
         | inl old ↦ let a = at t in let other = elsewhere t n old in let had = f.entries t n old in grind arith
         | inr is ↦ let slot : s ≡ t = ap (λ (x : Entry). x.slot) is in let same : c.owner.next ≡ n = ap (λ (x : Entry). x.number) is in let a = at t in inl (grind arith)
       ];
@@ -112,7 +112,7 @@ put_keeps s c d h f =
               let same : Live c.owner.next ≡ Live n = sym p.1 ∙ l in
               let number : c.owner.next ≡ n = cc in
               let e : new ≡ entry t n = rw (p.0, number) refl in
-              inl (subst (λ x. Contains (c.owner.list ++ new ∷ []) x) e (Contains-push c.owner.list (new)))
+              inl (subst (λ x. Contains (c.owner.list ++ new ∷ []) x) e (Contains-push c.owner.list new))
           | inr q ↦ elim (f.live.listed_or_retired t n (sym q.1 ∙ l)) [
             | inl old ↦ inl (Contains-append_left c.owner.list (new ∷ []) (entry t n) old)
             | inr past ↦ inr past

@@ -100,6 +100,9 @@ order_numbered order place n o =
 
 -- Where an entry stands
 
+pub list_size : (list : List Listed) (order : List Entry) (len : ℕ) → map entry_of list ≡ take len order → len ≤ length order → length list ≡ len
+list_size list order len same fits = sym (length-map list entry_of) ∙ ap length same ∙ (let t = length-take len order in omega arith)
+
 -- the entry at a place of the list, with its record
 pub record EntryAt (list : List Listed) (order : List Entry) (place : ℕ) : Type 0 where
   pub found : Listed
@@ -109,17 +112,15 @@ pub record EntryAt (list : List Listed) (order : List Entry) (place : ℕ) : Typ
 
 pub entry_at : (list : List Listed) (order : List Entry) (len place : ℕ) → map entry_of list ≡ take len order → place < len → len ≤ length order → EntryAt list order place
 entry_at list order len place same lt fits =
-    let size : length list ≡ len = sym (length-map list entry_of) ∙ ap length same ∙ (let t = length-take len order in omega arith) in
-    let x = get_or list place (record { entry = no_entry; bytes = [] }) in
+    let size = list_size list order len same fits in
+    let none : Listed = record { entry = no_entry; bytes = [] } in
+    let x = get_or list place none in
     record {
       found = x;
-      there = Contains-get_or list place (record { entry = no_entry; bytes = [] }) (omega arith);
-      is = sym (get_or-map entry_of list place (record { entry = no_entry; bytes = [] }) no_entry (omega arith)) ∙ ap (λ (l : List Entry). get_or l place no_entry) same ∙ get_or-take len order place no_entry lt;
-      shown = sym (get_or-map numbered list place (record { entry = no_entry; bytes = [] }) no_record (omega arith));
+      there = Contains-get_or list place none (omega arith);
+      is = sym (get_or-map entry_of list place none no_entry (omega arith)) ∙ ap (λ (l : List Entry). get_or l place no_entry) same ∙ get_or-take len order place no_entry lt;
+      shown = sym (get_or-map numbered list place none no_record (omega arith));
     }
-
-pub list_size : (list : List Listed) (order : List Entry) (len : ℕ) → map entry_of list ≡ take len order → len ≤ length order → length list ≡ len
-list_size list order len same fits = sym (length-map list entry_of) ∙ ap length same ∙ (let t = length-take len order in omega arith)
 
 -- an entry of the list has the place of its slot
 pub place_of : (list : List Listed) (order : List Entry) (len : ℕ) (x : Listed) → map entry_of list ≡ take len order → len ≤ length order → Contains list x

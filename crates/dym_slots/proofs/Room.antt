@@ -16,9 +16,11 @@ left_base_logs : (taken : ℕ → Bool) (k a n : ℕ) → k < a → left taken a
 unfolding left
 left_base_logs taken k a zero lt = omega arith
 left_base_logs taken k a (suc n) lt =
+    let old = filter (λ (s : ℕ). not (taken s)) (range_with_len (a + 1) n) in
+    let new = filter (λ (s : ℕ). not (nat_eq k s || taken s)) (range_with_len (a + 1) n) in
     let rest = left_base_logs taken k (a + 1) n (omega arith) in
     let other : nat_eq k a ≡ false = grind (arith, nat_tests) in
-    rw other (elim (taken a) as (λ b. length (cond (not b) (a ∷ filter (λ s. not (taken s)) (range_with_len (a + 1) n)) (filter (λ s. not (taken s)) (range_with_len (a + 1) n))) ≤ length (cond (not (false || b)) (a ∷ filter (λ s. not (nat_eq k s || taken s)) (range_with_len (a + 1) n)) (filter (λ s. not (nat_eq k s || taken s)) (range_with_len (a + 1) n)))) [
+    rw other (elim (taken a) as (λ b. length (cond (not b) (a ∷ old) old) ≤ length (cond (not (false || b)) (a ∷ new) new)) [
       | true ↦ rest
       | false ↦ omega (arith, rest)
     ])
@@ -27,22 +29,25 @@ left_base_logs taken k a (suc n) lt =
 left_one : (taken : ℕ → Bool) (k a n : ℕ) → left taken a n ≤ left (λ s. nat_eq k s || taken s) a n + 1
 unfolding left
 left_one taken k a zero = omega arith
-left_one taken k a (suc n) = elim (cases_eq k a) [
-  | inl same ↦
-      let rest = left_base_logs taken k (a + 1) n (omega arith) in
-      let hit : nat_eq k a ≡ true = grind (arith, nat_tests) in
-      rw hit (elim (taken a) as (λ b. length (cond (not b) (a ∷ filter (λ s. not (taken s)) (range_with_len (a + 1) n)) (filter (λ s. not (taken s)) (range_with_len (a + 1) n))) ≤ length (filter (λ s. not (nat_eq k s || taken s)) (range_with_len (a + 1) n)) + 1) [
-        | true ↦ omega (arith, rest)
-        | false ↦ omega (arith, rest)
-      ])
-  | inr other ↦
-      let rest = left_one taken k (a + 1) n in
-      let miss : nat_eq k a ≡ false = grind (arith, nat_tests) in
-      rw miss (elim (taken a) as (λ b. length (cond (not b) (a ∷ filter (λ s. not (taken s)) (range_with_len (a + 1) n)) (filter (λ s. not (taken s)) (range_with_len (a + 1) n))) ≤ length (cond (not (false || b)) (a ∷ filter (λ s. not (nat_eq k s || taken s)) (range_with_len (a + 1) n)) (filter (λ s. not (nat_eq k s || taken s)) (range_with_len (a + 1) n))) + 1) [
-        | true ↦ rest
-        | false ↦ omega (arith, rest)
-      ])
-]
+left_one taken k a (suc n) =
+    let old = filter (λ (s : ℕ). not (taken s)) (range_with_len (a + 1) n) in
+    let new = filter (λ (s : ℕ). not (nat_eq k s || taken s)) (range_with_len (a + 1) n) in
+    elim (cases_eq k a) [
+      | inl same ↦
+          let rest = left_base_logs taken k (a + 1) n (omega arith) in
+          let hit : nat_eq k a ≡ true = grind (arith, nat_tests) in
+          rw hit (elim (taken a) as (λ b. length (cond (not b) (a ∷ old) old) ≤ length new + 1) [
+            | true ↦ omega (arith, rest)
+            | false ↦ omega (arith, rest)
+          ])
+      | inr other ↦
+          let rest = left_one taken k (a + 1) n in
+          let miss : nat_eq k a ≡ false = grind (arith, nat_tests) in
+          rw miss (elim (taken a) as (λ b. length (cond (not b) (a ∷ old) old) ≤ length (cond (not (false || b)) (a ∷ new) new) + 1) [
+            | true ↦ rest
+            | false ↦ omega (arith, rest)
+          ])
+    ]
 
 -- where none is taken, all are left
 left_none : (a n : ℕ) → left (λ s. false) a n ≡ n

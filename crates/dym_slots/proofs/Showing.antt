@@ -18,15 +18,13 @@ use Rattle.dym_slots.specs.TableStates.{Held, home_shown, homes_of}
 abbrev pub by_state : Naming → Slot → M.Option Held
 by_state records Free = some None
 by_state records (Live n) = some (Some (records n))
-by_state records (OutOwner n) = none
-by_state records (OutSweeper n) = none
+by_state records _ = none
 
 shown_at : (records : Naming) (x : Slot) (h : Option ℕ) → (x ≡ Free → h ≡ None) → ((n : ℕ) → x ≡ Live n → h ≡ Some n)
     → home_shown records x h ≡ by_state records x
 shown_at records Free h free live = ap (λ (o : Option ℕ). some (option_map records o)) (free refl)
 shown_at records (Live n) h free live = ap (λ (o : Option ℕ). some (option_map records o)) (live n refl)
-shown_at records (OutOwner n) h free live = refl
-shown_at records (OutSweeper n) h free live = refl
+shown_at records _ h free live = refl
 
 zipped : (records : Naming) (slots : List Slot) (homes : List (Option ℕ)) → length homes ≡ length slots
     → ((s : ℕ) → home_shown records (get_or slots s Free) (get_or homes s None) ≡ by_state records (get_or slots s Free))

@@ -11,7 +11,7 @@ use Rattle.dym_slots.specs.declared.view.Glimpse.{Glimpse}
 use Rattle.dym_slots.specs.declared.view.OwnerSeat.{OwnerSeat}
 use Rattle.dym_slots.specs.declared.view.SweeperSeat.{SweeperSeat}
 use Rattle.dym_slots.specs.declared.view.SeatView.{SeatView}
-use Rattle.dym_slots.specs.declared.view.SeatView.TheVariants.{Alone, Owns, Sweeps, Knows}
+use Rattle.dym_slots.specs.declared.view.SeatView.TheVariants.{Owns, Sweeps, Knows}
 
 -- the bytes of each record, by its number
 abbrev pub Naming : Type 0
@@ -58,22 +58,16 @@ new_sweeper = record { root_seen = 0; least_root = 0; out = None; clean = 0; fou
 
 -- what an owner's seat knows, what a sweeper's does, and the root that a note knows
 abbrev pub owner_of : SeatView → OwnerSeat
-owner_of Alone = new_owner
 owner_of (Owns o) = o
-owner_of (Sweeps w) = new_owner
-owner_of (Knows root) = new_owner
+owner_of _ = new_owner
 
 abbrev pub sweeper_of : SeatView → SweeperSeat
-sweeper_of Alone = new_sweeper
-sweeper_of (Owns o) = new_sweeper
 sweeper_of (Sweeps w) = w
-sweeper_of (Knows root) = new_sweeper
+sweeper_of _ = new_sweeper
 
 abbrev pub known_root : SeatView → ℕ
-known_root Alone = 0
-known_root (Owns o) = 0
-known_root (Sweeps w) = 0
 known_root (Knows root) = root
+known_root _ = 0
 
 abbrev pub IsOwner : SeatView → Type 0
 IsOwner v = v ≡ Owns (owner_of v)

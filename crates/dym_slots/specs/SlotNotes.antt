@@ -2,9 +2,9 @@
 -- every step keeps of them.
 use Rattle.std.specs.Prelude.{◌≡◌, ℕ, ◌+◌, ◌<◌, ◌⊎◌, Bool, List, [], ◌∷◌, Option, Some, None, length, filter, nat_eq, if◌then◌else◌, true, false}
 use Rattle.dym_slots.specs.declared.machine.Slot.{Slot}
-use Rattle.dym_slots.specs.declared.machine.Slot.TheVariants.{Free, Live, OutOwner, OutSweeper}
+use Rattle.dym_slots.specs.declared.machine.Slot.TheVariants.{Free, Live, OutSweeper}
 use Rattle.dym_slots.specs.declared.machine.Event.{Event}
-use Rattle.dym_slots.specs.declared.machine.Event.TheVariants.{OwnerLook, OwnerClaim, OwnerTake, OwnerEmpty, OwnerFill, OwnerPut, OwnerLower, OwnerFree, OwnerRaise, SweeperRoot, SweeperLook, SweeperGrab, SweeperEmpty, SweeperFree}
+use Rattle.dym_slots.specs.declared.machine.Event.TheVariants.{OwnerLook, OwnerClaim, OwnerTake, OwnerEmpty, OwnerFill, OwnerPut, OwnerLower, OwnerFree, SweeperRoot, SweeperLook, SweeperFree}
 use Rattle.dym_slots.specs.Slots.{Core, start, state_of}
 use Rattle.dym_slots.specs.SlotSteps.{Step, is_retired}
 
@@ -39,36 +39,19 @@ owner_note (OwnerFill s n) c was = forget s was
 owner_note (OwnerPut s) c was = forget s was
 owner_note (OwnerLower s) c was = forget s was
 owner_note (OwnerFree s) c was = forget s was
-owner_note (OwnerRaise n) c was = was
-owner_note SweeperRoot c was = was
-owner_note (SweeperLook s) c was = was
-owner_note (SweeperGrab s) c was = was
-owner_note (SweeperEmpty s) c was = was
-owner_note (SweeperFree s) c was = was
+owner_note _ c was = was
 
 -- the number of a Live slot
 abbrev pub live_number : Slot → Option ℕ
-live_number Free = None
 live_number (Live n) = Some n
-live_number (OutOwner n) = None
-live_number (OutSweeper n) = None
+live_number _ = None
 
 -- the sweeper's note after an event at the state c
 abbrev pub sweeper_note : Event → Core → SweeperNote → SweeperNote
-sweeper_note (OwnerLook s) c was = was
-sweeper_note (OwnerClaim s) c was = was
-sweeper_note (OwnerTake s) c was = was
-sweeper_note (OwnerEmpty s) c was = was
-sweeper_note (OwnerFill s n) c was = was
-sweeper_note (OwnerPut s) c was = was
-sweeper_note (OwnerLower s) c was = was
-sweeper_note (OwnerFree s) c was = was
-sweeper_note (OwnerRaise n) c was = was
 sweeper_note SweeperRoot c was = record was { found = None; rounds = was.rounds + 1 }
 sweeper_note (SweeperLook s) c was = record was { found = if is_retired c.sweeper.root_seen (state_of c s) then live_number (state_of c s) else None }
-sweeper_note (SweeperGrab s) c was = was
-sweeper_note (SweeperEmpty s) c was = was
 sweeper_note (SweeperFree s) c was = record was { found = if nat_eq s c.sweeper.clean then None else was.found; taken_back = was.taken_back + 1 }
+sweeper_note _ c was = was
 
 -- the core with both notes
 pub record Noted : Type 0 where

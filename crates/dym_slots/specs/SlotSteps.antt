@@ -16,10 +16,8 @@ use Rattle.dym_slots.specs.Slots.{Core, state_of, home_of, entry, IsListed}
 -- the remembered slots after a look at s: s comes last where the look found it out with the sweeper, and a slot that
 -- is remembered already keeps its place
 abbrev pub remember : Slot → ℕ → List ℕ → List ℕ
-remember Free s slots = slots
-remember (Live n) s slots = slots
-remember (OutOwner n) s slots = slots
 remember (OutSweeper n) s slots = if list_any (λ t. nat_eq t s) slots then slots else (slots ++ s ∷ [])
+remember _ s slots = slots
 
 -- `o look S`
 pub record OwnerLooks (s : ℕ) (c d : Core) : Type 0 where
@@ -112,10 +110,8 @@ pub record OwnerRaises (n : ℕ) (c d : Core) : Type 0 where
 
 -- whether a slot is Live with a number below the root seen
 abbrev pub is_retired : ℕ → Slot → Bool
-is_retired seen Free = false
 is_retired seen (Live n) = nat_lt n seen
-is_retired seen (OutOwner n) = false
-is_retired seen (OutSweeper n) = false
+is_retired seen _ = false
 
 -- `s root`
 pub record SweeperReadsRoot (c d : Core) : Type 0 where

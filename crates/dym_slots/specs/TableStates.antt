@@ -4,7 +4,7 @@ use mathlib.Core.Option as M
 use mathlib.Core.Option.{some, none}
 use Rattle.atomic_table.specs.Table.{State, Me}
 use Rattle.dym_slots.specs.declared.machine.Slot.{Slot}
-use Rattle.dym_slots.specs.declared.machine.Slot.TheVariants.{Free, Live, OutOwner, OutSweeper}
+use Rattle.dym_slots.specs.declared.machine.Slot.TheVariants.{Free, Live}
 use Rattle.dym_slots.specs.declared.machine.TheConstants.{RECORD_NUMBERS}
 use Rattle.dym_slots.specs.declared.machine.Entry.{Entry}
 use Rattle.dym_slots.specs.SlotWords.{slot_word}
@@ -34,8 +34,7 @@ words_of c = c.root ∷ map slot_word c.slots
 abbrev pub home_shown : Naming → Slot → Option ℕ → M.Option Held
 home_shown records Free home = some (option_map records home)
 home_shown records (Live n) home = some (option_map records home)
-home_shown records (OutOwner n) home = none
-home_shown records (OutSweeper n) home = none
+home_shown records _ home = none
 
 abbrev pub homes_of : Naming → Core → List (M.Option Held)
 homes_of records c = map (λ (p : Slot × Option ℕ). home_shown records p.0 p.1) (zip c.slots c.homes)

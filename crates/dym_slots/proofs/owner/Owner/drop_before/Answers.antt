@@ -5,7 +5,7 @@ use Rattle.dym_slots.specs.SeatViews.{owner_of}
 use Rattle.dym_base.specs.Origins.{shared}
 use Rattle.dym_slots.specs.declared.view.SeatView.TheVariants.{Owns}
 use Rattle.dym_slots.specs.SeatViews.{with_raised}
-use Rattle.dym_slots.specs.TableStates.{Knowing}
+use Rattle.dym_slots.specs.TableStates.{Held, Knowing}
 use Rattle.dym_slots.specs.Meanings.{KeepMeaning, from, name_of}
 use Rattle.dym_slots.specs.Orders.{IsOrder, Stands, retired}
 use Rattle.dym_slots.proofs.OwnerSays.{read_here, fits, count_of_records, raise_parts, in_list, kept_is, raised_stands, raised_records, sits_still, out_idle, idle_out, never_inside}
@@ -38,7 +38,7 @@ invariant_of-self c =
     let moved = c.retire.ensures.after ∙ ap (retired _ c.args.place) lent in
     let size : i.order.len ≡ length order = sym c.deref_mut.ensures.len ∙ ap length lent in
     let items = take_at c.retire.new.order _ i.order.len (let n = turned.size in let m = s.order_is.size in omega arith) ∙ moved in
-    let now : c.raise_root.new.seat.me ≡ (Owns (with_raised (a.1 ∷ a.2) (owner_of i.seat.me.0)), []) = a.5 ∙ ap (λ (l : List (ℕ × Rattle.dym_slots.specs.TableStates.Held)). (Owns (with_raised (a.1 ∷ a.2) (owner_of i.seat.me.0)), l)) idle.1 in
+    let now : c.raise_root.new.seat.me ≡ (Owns (with_raised (a.1 ∷ a.2) (owner_of i.seat.me.0)), []) = a.5 ∙ ap (λ (l : List (ℕ × Held)). (Owns (with_raised (a.1 ∷ a.2) (owner_of i.seat.me.0)), l)) idle.1 in
     record {
       seated = sits_still c.raise_root.ensures.table inv.seated;
       stands = subst (λ (l : List Entry). Stands l (i.len - c.args.place) i.next_number c.raise_root.new.seat.me) (sym items)
