@@ -10,6 +10,19 @@ use std::thread::Threads;
 /// More bytes than any answer here has, and more calls than any input has.
 const MOST: usize = 1_000;
 
+/// Which call of the source fails, and how much room the sink has.
+#[derive(Clone, Copy)]
+struct Faults {
+    failing: usize,
+    room: usize,
+}
+
+/// No call fails.
+const NO_FAULTS: Faults = Faults {
+    failing: MOST,
+    room: MOST,
+};
+
 /// The status and the bytes that the words give for an input. It comes byte by byte, where a call of the source fails, and the answer goes
 /// byte by byte into a sink of so much room.
 fn served<R: Threads + Wait + Send + Sync>(
@@ -17,8 +30,7 @@ fn served<R: Threads + Wait + Send + Sync>(
     alloc: Global,
     words: &[&str],
     input: &[u8],
-    failing: usize,
-    room: usize,
+    faults: Faults,
     watch: &Watch,
 ) -> Result<(u8, Vec<u8>), AllocError> {
     let mut list = Vec::new(alloc);
@@ -26,9 +38,9 @@ fn served<R: Threads + Wait + Send + Sync>(
         list.push(String::from_str(alloc, word)?)?;
     }
     let mut fails = Vec::new(alloc);
-    fails.push(failing.min(MOST) as u32)?;
+    fails.push(faults.failing.min(MOST) as u32)?;
     let mut source = MemSource::new(Vec::from_slice(alloc, input)?, 1, fails);
-    let mut sink = MemSink::new(alloc, room, 1, Vec::new(alloc))?;
+    let mut sink = MemSink::new(alloc, faults.room, 1, Vec::new(alloc))?;
     let status = dymelor(rt, alloc, &list, &mut source, &mut sink, watch);
     Ok((status, sink.into_bytes()))
 }
@@ -78,7 +90,11 @@ fn calls_told_otherwise<R: Threads + Wait + Send + Sync>(
     let watch = Watch::new(0, 0);
     let mut otherwise = 0usize;
     for failing in 0..input.len() + 1 {
-        let (status, bytes) = served(rt, alloc, words, input, failing, MOST, &watch)?;
+        let faults = Faults {
+            failing,
+            room: MOST,
+        };
+        let (status, bytes) = served(rt, alloc, words, input, faults, &watch)?;
         if status != 3 || !bytes.is_empty() {
             otherwise = otherwise.saturating_add(1);
         }
@@ -97,7 +113,11 @@ fn rooms_told_otherwise<R: Threads + Wait + Send + Sync>(
     let watch = Watch::new(0, 0);
     let mut otherwise = 0usize;
     for room in 0..answer.len() {
-        let (status, bytes) = served(rt, alloc, words, input, MOST, room, &watch)?;
+        let faults = Faults {
+            failing: MOST,
+            room,
+        };
+        let (status, bytes) = served(rt, alloc, words, input, faults, &watch)?;
         if status != 4 || bytes.as_slice() != &answer[..room] {
             otherwise = otherwise.saturating_add(1);
         }
@@ -112,7 +132,7 @@ fn tells_of_calls_that_fail(rt: HostRuntime) -> Result<(), Fail> {
         let calls = calls_told_otherwise(&rt, rt.alloc(), words, input)?;
         let rooms = rooms_told_otherwise(&rt, rt.alloc(), words, input, answer)?;
         let watch = Watch::new(0, 0);
-        let (status, bytes) = served(&rt, rt.alloc(), words, input, MOST, MOST, &watch)?;
+        let (status, bytes) = served(&rt, rt.alloc(), words, input, NO_FAULTS, &watch)?;
         let is_right = status == wanted && bytes.as_slice() == answer;
         assert!(rt;
             is_right && calls == 0 && rooms == 0,
@@ -148,7 +168,7 @@ fn objects_run_in_waves_side_by_side_and_are_stolen(rt: HostRuntime) -> Result<(
             "--segments",
             segments,
         ];
-        let (status, _) = served(&rt, rt.alloc(), &words, FOUR, MOST, MOST, &watch)?;
+        let (status, _) = served(&rt, rt.alloc(), &words, FOUR, NO_FAULTS, &watch)?;
         assert!(rt;
             status == 0 && watch.seen() == [others, 8, waves],
             "{order}, {segments} segments"
@@ -161,7 +181,11 @@ fn objects_run_in_waves_side_by_side_and_are_stolen(rt: HostRuntime) -> Result<(
 #[test]
 fn reads_nothing_to_make_a_script(rt: HostRuntime) -> Result<(), Fail> {
     let words = ["gen", "7", "1", "4"];
-    let (status, bytes) = served(&rt, rt.alloc(), &words, b"", 0, MOST, &Watch::new(0, 0))?;
+    let faults = Faults {
+        failing: 0,
+        room: MOST,
+    };
+    let (status, bytes) = served(&rt, rt.alloc(), &words, b"", faults, &Watch::new(0, 0))?;
     assert!(rt; status == 0 && bytes.starts_with(b"object o0 1\no0 malloc 40\n"));
     Ok(())
 }

@@ -5,6 +5,7 @@ use Rattle.std.proofs.lemmas.List.{map-append, length-map}
 use Rattle.std.proofs.lemmas.List.Sorted.{length_permutation}
 use Rattle.std.proofs.lemmas.List.Sums.{sum_by-append}
 use Rattle.dym_run.specs.declared.report_options.ReportOptions.{ReportOptions}
+use Rattle.dym_run.specs.declared.wave_options.WaveOptions.{WaveOptions}
 use Rattle.dym_base.specs.declared.limits.TheConstants.{MOST_OBJECTS, MOST_COMMANDS}
 use Rattle.dym_io.specs.Sink.{Output, Appended, AppendedFront, Blames, WritesOr}
 use Rattle.dym_io.specs.Laws.{appended_nothing, appended_both, front_after, front_of_appended, front_within}
@@ -159,31 +160,36 @@ pub writes_or_passed : {T E : Type 0} → (IsSinks : E → Type 0) (a b : Output
 writes_or_passed IsSinks a b t (Ok x) e is front blames = absurd is
 writes_or_passed IsSinks a b t (Err x) e is front blames = (front, subst (λ x. Blames (IsSinks x) a b) (sym is) blames)
 
-module _ (v w : ReportOptions) (same : w ≡ v) (all left rest : List Part) where
-  pub wave_more : (old mid new : Output) → Written v all left old mid
-      → (done : List Part) × (0 < length done) × (left ≡ done ++ rest) × Appended mid new (parts_text w done) → Written v all rest old new
+module _ (v w : WaveOptions) (same : w ≡ v) (all left rest : List Part) where
+  pub wave_more : (old mid new : Output) → Written v.report all left old mid
+      → (done : List Part) × (0 < length done) × (left ≡ done ++ rest) × Appended mid new (parts_text w.report done) → Written v.report all rest old new
   wave_more old mid new written next =
-      written_more v all left old mid new written next.0 rest next.2 (subst (λ v. Appended mid new (parts_text v next.0)) same next.3)
+      written_more v.report all left old mid new written next.0 rest next.2
+      (subst (λ (o : WaveOptions). Appended mid new (parts_text o.report next.0)) same next.3)
 
-  pub wave_cut : (old mid new : Output) → Written v all left old mid → AppendedFront mid new (parts_text w left) → AppendedFront old new (parts_text v all)
-  wave_cut old mid new written front = written_front v all left old mid new written (subst (λ v. AppendedFront mid new (parts_text v left)) same front)
+  pub wave_cut : (old mid new : Output) → Written v.report all left old mid → AppendedFront mid new (parts_text w.report left)
+      → AppendedFront old new (parts_text v.report all)
+  wave_cut old mid new written front =
+      written_front v.report all left old mid new written (subst (λ (o : WaveOptions). AppendedFront mid new (parts_text o.report left)) same front)
 
-  module _ (tally more : Tally) (counted : Counted v all left tally) (next : TalliesFirst w left rest more) where
-    of_next : IsTallyOf more (parts_shown v next.0)
-    of_next = subst (λ v. IsTallyOf more (parts_shown v next.0)) same next.3
+  module _ (tally more : Tally) (counted : Counted v.report all left tally) (next : TalliesFirst w.report left rest more) where
+    of_next : IsTallyOf more (parts_shown v.report next.0)
+    of_next = subst (λ (o : WaveOptions). IsTallyOf more (parts_shown o.report next.0)) same next.3
 
     pub wave_fits : length all ≤ MOST_OBJECTS → commands_in all ≤ MOST_COMMANDS → Fits tally more
-    wave_fits few little = counted_fits v all left tally counted next.0 rest more next.2 of_next few little
+    wave_fits few little = counted_fits v.report all left tally counted next.0 rest more next.2 of_next few little
 
-    pub wave_counted : (both : Tally) → both ≡ both_tallies tally more → Counted v all rest both
-    wave_counted both is = counted_more v all left tally counted next.0 rest more next.2 of_next both is
+    pub wave_counted : (both : Tally) → both ≡ both_tallies tally more → Counted v.report all rest both
+    wave_counted both is = counted_more v.report all left tally counted next.0 rest more next.2 of_next both is
 
 -- what all parts come to, and how many commands they have
-module _ (v w : ReportOptions) (parts all : List Part) (same : w ≡ v) (is : all ≡ parts) where
-  pub all_counted : {E : Type 0} (r : Result Tally E) → IfOk r (λ t. IsTallyOf t (parts_shown w all)) → IfOk r (λ t. t ≡ tally_all v.version (map own_of parts))
-  all_counted (Ok t) h = h.counted ∙ (λ i. tally_shown (parts_shown (same i) (is i))) ∙ tally_of_parts v parts
+module _ (v w : WaveOptions) (parts all : List Part) (same : w ≡ v) (is : all ≡ parts) where
+  pub all_counted : {E : Type 0} (r : Result Tally E) → IfOk r (λ t. IsTallyOf t (parts_shown w.report all))
+      → IfOk r (λ t. t ≡ tally_all v.report.version (map own_of parts))
+  all_counted (Ok t) h = h.counted ∙ (λ i. tally_shown (parts_shown (same i).report (is i))) ∙ tally_of_parts v.report parts
   all_counted (Err e) h = tt
 
-  pub all_replied : {E : Type 0} (r : Result Tally E) → IfOk r (λ t. IsTallyOf t (parts_shown w all)) → IfOk r (λ t. t.ok + t.refused ≡ commands_in parts)
-  all_replied (Ok t) h = h.replies ∙ replies_of_parts w all ∙ ap commands_in is
+  pub all_replied : {E : Type 0} (r : Result Tally E) → IfOk r (λ t. IsTallyOf t (parts_shown w.report all))
+      → IfOk r (λ t. t.ok + t.refused ≡ commands_in parts)
+  all_replied (Ok t) h = h.replies ∙ replies_of_parts w.report all ∙ ap commands_in is
   all_replied (Err e) h = tt

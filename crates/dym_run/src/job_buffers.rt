@@ -32,7 +32,8 @@ impl<R: Wait> JobBuffers<R> {
         requires least { 1 ≤ quantum }
         requires most { quantum ≤ MOST_QUANTUM }
         ensures contexts { IfOk result (λ b. vec_len b.0.contexts ≡ count) }
-        ensures quantum { IfOk result (λ b. All (λ context. context.quantum ≡ quantum) b.0.contexts.items) }
+        ensures quantum { IfOk result (λ b.
+            All (λ context. context.quantum ≡ quantum) b.0.contexts.items) }
         ensures publishers { IfOk result (λ b. ArePublishers views count b.0.publishers.items) }
         ensures viewers { IfOk result (λ b. b.1.items ≡ b.0.publishers.items) }
         ensures jobs { IfOk result (λ b. (b.0.jobs.items ≡ []) × (count ≤ vec_capacity b.0.jobs)) }

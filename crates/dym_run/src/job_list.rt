@@ -27,12 +27,14 @@ pub(crate) fn make_jobs<R: Wait + Send + Sync>(
     requires none { buffers.jobs.items ≡ [] }
     requires room { vec_len berths ≤ vec_capacity buffers.jobs }
     requires few { vec_len berths ≤ MOST_OBJECTS }
-    requires lined { StandInLine parts.old.items (map ⟦<Berth<R> as Supply>⟧.quota_of berths.items) }
+    requires lined { StandInLine parts.old.items
+        (map ⟦<Berth<R> as Supply>⟧.quota_of berths.items) }
     requires can_take { All CanTakeBerth berths.items }
     requires contexts { vec_len buffers.contexts ≡ vec_len berths }
     requires quantum { All (λ context. context.quantum ≡ quantum) buffers.contexts.items }
     requires publishers { ArePublishers options.views (vec_len berths) buffers.publishers.items }
-    ensures made { TakesParts options quantum parts.old.items parts.new.items berths.items (map origin_of result.0.items) }
+    ensures made { TakesParts options quantum
+        parts.old.items parts.new.items berths.items (map origin_of result.0.items) }
     ensures none { result.1.items ≡ [] }
     ensures room { vec_capacity result.1 ≡ vec_capacity berths }
 {

@@ -75,8 +75,10 @@ impl<R: Wait> JobOutput<R> {
     /// Writes it behind the line of a name. The only error is that of the sink.
     pub(crate) fn write<W: Sink>(&self, sink: &mut W, name: &Name) -> Result<(), SinkFault>
         requires ends { CanEnd self.now }
-        ensures { (v : Version) (replies : List Reply) (s : ObjectState) → IsOutputOf v replies s self.now
-            → Writes (W.output sink.old) (W.output sink.new) (end_text v name.now replies s) result }
+        ensures { (v : Version) (replies : List Reply) (s : ObjectState)
+            → IsOutputOf v replies s self.now
+            → Writes (W.output sink.old) (W.output sink.new)
+            (end_text v name.now replies s) result }
     {
         write_heading(sink, name)?;
         match self {

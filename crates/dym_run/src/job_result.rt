@@ -53,10 +53,13 @@ impl<R: Wait> Model for JobResult<R> {
       views = is_some r.view;
     } };
 
-    ghost invariant = { λ r. IsOutputOf r.version (run_replies r.version (output_quota r.job_output) r.commands)
+    ghost invariant = { λ r. IsOutputOf r.version
+        (run_replies r.version (output_quota r.job_output) r.commands)
         (run_end r.version (output_quota r.job_output) r.commands) r.job_output
-        × IsTallyOf r.tally (end_shown [] None r.version (output_quota r.job_output) r.commands ∷ [])
-        × (r.view ≡ shown_view (is_some r.view) (run_end r.version (output_quota r.job_output) r.commands)) };
+        × IsTallyOf r.tally
+        (end_shown [] None r.version (output_quota r.job_output) r.commands ∷ [])
+        × (r.view ≡ shown_view (is_some r.view)
+        (run_end r.version (output_quota r.job_output) r.commands)) };
 }
 
 impl<R: Wait> JobResult<R> {
@@ -139,7 +142,8 @@ impl<R: Wait> JobResult<R> {
 
     /// Writes the part of the object under its name, and its view where that is told. The only error is that of the sink.
     pub(crate) fn write<W: Sink>(&self, sink: &mut W, name: &Name) -> Result<(), SinkFault>
-        ensures { Writes (W.output sink.old) (W.output sink.new) (shown_text (result_shown name.now self.now)) result }
+        ensures { Writes (W.output sink.old) (W.output sink.new)
+            (shown_text (result_shown name.now self.now)) result }
     {
         self.job_output.write(sink, name)?;
         write_view_line(sink, self.view)
@@ -167,7 +171,8 @@ impl<R: Wait> JobResult<R> {
 fn tally_of<S: Supply>(replies: &Replies, heap: &Heap<S>, kept: u32, slots: u32) -> Tally
     requires few { length replies.now.replies ≤ MOST_COMMANDS }
     requires sound { IsSound heap.now }
-    ensures { IsTallyOf result (shown_with [] heap.now.version replies.now.replies heap.now.state kept slots None ∷ []) }
+    ensures { IsTallyOf result
+        (shown_with [] heap.now.version replies.now.replies heap.now.state kept slots None ∷ []) }
 {
     Tally::of(
         replies.len() as u32,

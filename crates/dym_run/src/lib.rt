@@ -35,13 +35,15 @@ mod view_set;
 mod viewed_work;
 mod wave;
 mod wave_job;
+mod wave_options;
 mod wave_report;
 mod wave_tally;
 
-pub use observed_run::{ObservedResults, run_observed};
+pub use observed_run::{ObservedResults, SweptJobs, run_observed};
 pub use report_options::ReportOptions;
 pub use shape::Shape;
 pub use view_set::{end_all, open_views};
 pub use viewed_work::ViewedWork;
+pub use wave_options::WaveOptions;
 pub use wave_report::write_waves;
 pub use wave_tally::tally_waves;

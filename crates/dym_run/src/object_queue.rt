@@ -11,10 +11,9 @@ ghost use Rattle.dym_run.specs.WaveJobs.{job_shown};
 
 use crate::finished_wave::FinishedWave;
 use crate::quotas::{largest_wave, quotas_of};
-use crate::report_options::ReportOptions;
-use crate::shape::Shape;
 use crate::table_pool::LogTables;
 use crate::wave::Wave;
+use crate::wave_options::WaveOptions;
 use dym_base::limits::{MOST_OBJECTS, MOST_SEGMENTS};
 use dym_pool::Gate;
 use dym_quota::waves;
@@ -28,15 +27,14 @@ use std::thread::Threads;
 /// Objects in the order of their declarations, of which the first ones ran. What has yet to run leaves from the front, wave by wave.
 #[derive(Drop)]
 pub(crate) struct ObjectQueue {
-    pub(crate) options: ReportOptions,
-    pub(crate) shape: Shape,
+    pub(crate) options: WaveOptions,
     pub(crate) parts: VecDeque<Part>,
     pub(crate) most: u32,
     tables: LogTables,
     quotas: Vec<u32>,
     from: usize,
     ghost runnable: { All IsRunnable parts.items },
-    ghost shaped: { IsShape shape },
+    ghost shaped: { IsShape options.shape },
     ghost lined: { map quota_of parts.items ≡ drop from quotas.items },
     ghost inside: { from ≤ vec_len quotas },
     ghost fits: { All (λ q. q ≤ most) quotas.items },
@@ -47,29 +45,27 @@ impl ObjectQueue {
     /// All of some objects.
     pub(crate) fn of(
         alloc: Global,
-        options: ReportOptions,
+        options: WaveOptions,
         parts: Vec<Part>,
-        shape: Shape,
         makes_text: bool,
     ) -> Result<ObjectQueue, AllocError>
         requires runnable { All IsRunnable parts.items }
-        requires shape { IsShape shape }
-        requires fits { All (λ part. part.decl.quota ≤ shape.segments) parts.items }
+        requires shape { IsShape options.shape }
+        requires fits { All (λ part. part.decl.quota ≤ options.shape.segments) parts.items }
         requires some { 0 < vec_len parts }
         requires objects { vec_len parts ≤ MOST_OBJECTS }
         ensures options { IfOk result (λ r. r.options ≡ options) }
-        ensures shape { IfOk result (λ r. r.shape ≡ shape) }
         ensures parts { IfOk result (λ r. r.parts.items ≡ parts.items) }
         ensures least { IfOk result (λ r. 1 ≤ r.most) }
-        ensures most { IfOk result (λ r. r.most ≤ shape.segments) }
+        ensures most { IfOk result (λ r. r.most ≤ options.shape.segments) }
         ensures needed { IfOk result (λ r. IsSumOfRun (map quota_of parts.items) r.most) }
     {
+        let shape = options.shape;
         let quotas = quotas_of(alloc, &parts)?;
         let most = largest_wave(&quotas, shape.segments);
         let tables = LogTables::open(alloc, shape.workers.min(parts.len() as u32), makes_text)?;
         Ok(ObjectQueue {
             options,
-            shape,
             parts: VecDeque::from_vec(parts),
             most,
             tables,
@@ -84,8 +80,10 @@ impl ObjectQueue {
         requires most { self.now.most ≤ MOST_SEGMENTS }
         ensures count { IfOk result (λ r. r.0.count ≡ self.now.most) }
         ensures length { IfOk result (λ r. vec_len r.1 ≡ self.now.most) }
-        ensures numbered { IfOk result (λ r. map ⟦<RawSegment as Segment>⟧.id r.1.items ≡ ids_of r.0.id self.now.most) }
-        ensures distinct { IfOk result (λ r. AreDistinct (map ⟦<RawSegment as Segment>⟧.id r.1.items)) }
+        ensures numbered { IfOk result (λ r.
+            map ⟦<RawSegment as Segment>⟧.id r.1.items ≡ ids_of r.0.id self.now.most) }
+        ensures distinct { IfOk result (λ r.
+            AreDistinct (map ⟦<RawSegment as Segment>⟧.id r.1.items)) }
     {
         Region::new(alloc, self.most)
     }
@@ -103,18 +101,23 @@ impl ObjectQueue {
         requires enough { self.old.most ≤ vec_len segments }
         requires distinct { AreDistinct (map ⟦<RawSegment as Segment>⟧.id segments.items) }
         ensures options { self.new.options ≡ self.old.options }
-        ensures shape { self.new.shape ≡ self.old.shape }
         ensures most { self.new.most ≡ self.old.most }
         ensures ran { IfOk result (λ s. (count : ℕ) × (0 < count)
-            × PartsRan self.old.options count self.old.parts.items self.new.parts.items [] (map job_shown s.jobs.items)) }
-        ensures quantum { IfOk result (λ s. All (λ p. p.quantum ≡ self.old.shape.quantum) s.jobs.items) }
+            × PartsRan self.old.options.report count
+            self.old.parts.items self.new.parts.items []
+            (map job_shown s.jobs.items)) }
+        ensures quantum { IfOk result (λ s.
+            All (λ p. p.quantum ≡ self.old.options.shape.quantum) s.jobs.items) }
         ensures tables { SameTables self.old.tables.sweepers.items self.new.tables.sweepers.items }
-        ensures swept { IfOk result (λ _. EachSwept self.old.tables.sweepers.items self.new.tables.sweepers.items) }
+        ensures swept { IfOk result (λ _.
+            EachSwept self.old.tables.sweepers.items self.new.tables.sweepers.items) }
         ensures segments { IfOk result (λ s. s.queue.stocked ++ s.queue.aside
             ≡ map ⟦<RawSegment as Segment>⟧.id segments.items) }
-        ensures back { IfErr result (λ e. IsPermutation (map ⟦<RawSegment as Segment>⟧.id segments.items)
+        ensures back { IfErr result (λ e.
+            IsPermutation (map ⟦<RawSegment as Segment>⟧.id segments.items)
             (map ⟦<RawSegment as Segment>⟧.id e.1.items)) }
-        ensures distinct { IfErr result (λ e. AreDistinct (map ⟦<RawSegment as Segment>⟧.id e.1.items)) }
+        ensures distinct { IfErr result (λ e.
+            AreDistinct (map ⟦<RawSegment as Segment>⟧.id e.1.items)) }
     {
         let end = waves(&self.quotas, self.most, self.from);
         let wave = Wave::open(rt, alloc, segments, &self.quotas[self.from..end])?;
@@ -123,7 +126,6 @@ impl ObjectQueue {
             rt,
             alloc,
             self.options,
-            self.shape,
             &mut self.tables,
             &mut self.parts,
             gate,

@@ -32,7 +32,8 @@ pub(crate) fn open_work<R: Wait>(
     requires start { CanStart job_spec }
     requires least { 1 ≤ quantum }
     requires most { quantum ≤ MOST_QUANTUM }
-    ensures origin { IfOk result (λ w. w.work.origin ≡ record (job_spec_origin job_spec) { keep = keep.origin }) }
+    ensures origin { IfOk result (λ w.
+        w.work.origin ≡ record (job_spec_origin job_spec) { keep = keep.origin }) }
     ensures quantum { IfOk result (λ w. w.work.quantum ≡ quantum) }
     ensures view { IfOk result (λ w. w.view ≡ job_spec.publisher) }
     ensures fresh { IfOk result (λ w. w.work.replies ≡ []) }
@@ -95,8 +96,10 @@ fn open_object<R: Wait>(
     ensures supply { IfOk result (λ o. o.heap.origin ≡ ⟦<Berth<R> as Supply>⟧.origin berth) }
     ensures keep { IfOk result (λ o. o.chain.origin ≡ keep.origin) }
     ensures nothing_held { IfErr result (λ b. ⟦<Berth<R> as Supply>⟧.held_ids b ≡ []) }
-    ensures same_quota { IfErr result (λ b. ⟦<Berth<R> as Supply>⟧.quota_of b ≡ ⟦<Berth<R> as Supply>⟧.quota_of berth) }
-    ensures same_supply { IfErr result (λ b. ⟦<Berth<R> as Supply>⟧.origin b ≡ ⟦<Berth<R> as Supply>⟧.origin berth) }
+    ensures same_quota { IfErr result (λ b.
+        ⟦<Berth<R> as Supply>⟧.quota_of b ≡ ⟦<Berth<R> as Supply>⟧.quota_of berth) }
+    ensures same_supply { IfErr result (λ b.
+        ⟦<Berth<R> as Supply>⟧.origin b ≡ ⟦<Berth<R> as Supply>⟧.origin berth) }
 {
     let heap = match Heap::open_as(alloc, berth, version) {
         Ok(heap) => heap,

@@ -17,10 +17,15 @@ use std::mem;
 use std::sync::Wait;
 use std::thread::{Threads, join_mut};
 
-/// Jobs that were run, their sweepers and the viewers, and whether there was memory to run them.
-pub struct ObservedResults<J> {
+/// Jobs, and the sweepers of the log tables that are swept while they run.
+pub struct SweptJobs<J> {
     pub jobs: Vec<J>,
     pub sweepers: Vec<Sweeper>,
+}
+
+/// Jobs that were run, with their sweepers, and the viewers, and whether there was memory to run them.
+pub struct ObservedResults<J> {
+    pub swept_jobs: SweptJobs<J>,
     pub viewers: Vec<Viewer>,
     pub ran: Result<(), AllocError>,
 }
@@ -33,43 +38,34 @@ pub struct ObservedResults<J> {
 pub fn run_observed<R: Threads + Wait + Send + Sync, J: Job<R>, G: Gate>(
     rt: &R,
     alloc: Global,
-    mut jobs: Vec<J>,
-    mut sweepers: Vec<Sweeper>,
+    mut swept_jobs: SweptJobs<J>,
     mut viewers: Vec<Viewer>,
     workers: u32,
     gate: &G,
 ) -> ObservedResults<J>
-    requires few { vec_len jobs ≤ MOST_OBJECTS }
-    requires numbered { Numbered J.number_of jobs.items }
+    requires few { vec_len swept_jobs.jobs ≤ MOST_OBJECTS }
+    requires numbered { Numbered J.number_of swept_jobs.jobs.items }
     requires some { 1 ≤ workers }
     requires most { workers ≤ MOST_WORKERS }
-    ensures labels { labels J.number_of J.origin_of result.jobs.items ≡ labels J.number_of J.origin_of jobs.items }
-    ensures ended { OnOk result.ran (AllEnded J.left_of result.jobs.items) }
-    ensures tables { SameTables sweepers.items result.sweepers.items }
-    ensures swept { OnOk result.ran (EachSwept sweepers.items result.sweepers.items) }
+    ensures labels { labels J.number_of J.origin_of result.swept_jobs.jobs.items
+        ≡ labels J.number_of J.origin_of swept_jobs.jobs.items }
+    ensures ended { OnOk result.ran (AllEnded J.left_of result.swept_jobs.jobs.items) }
+    ensures tables { SameTables swept_jobs.sweepers.items result.swept_jobs.sweepers.items }
+    ensures swept { OnOk result.ran
+        (EachSwept swept_jobs.sweepers.items result.swept_jobs.sweepers.items) }
     ensures looked { LookedOn viewers.items result.viewers.items }
 {
     if viewers.is_empty() {
-        let ran = run_in_place(rt, alloc, &mut jobs, &mut sweepers, workers, gate, None);
+        let ran = run_in_place(rt, alloc, &mut swept_jobs, workers, gate, None);
         return ObservedResults {
-            jobs,
-            sweepers,
+            swept_jobs,
             viewers,
             ran,
         };
     }
-    let ran = run_beside(
-        rt,
-        alloc,
-        &mut jobs,
-        &mut sweepers,
-        &mut viewers,
-        workers,
-        gate,
-    );
+    let ran = run_beside(rt, alloc, &mut swept_jobs, &mut viewers, workers, gate);
     ObservedResults {
-        jobs,
-        sweepers,
+        swept_jobs,
         viewers,
         ran,
     }
@@ -79,20 +75,21 @@ pub fn run_observed<R: Threads + Wait + Send + Sync, J: Job<R>, G: Gate>(
 fn run_beside<R: Threads + Wait + Send + Sync, J: Job<R>, G: Gate>(
     rt: &R,
     alloc: Global,
-    jobs: &mut Vec<J>,
-    sweepers: &mut Vec<Sweeper>,
+    swept_jobs: &mut SweptJobs<J>,
     viewers: &mut Vec<Viewer>,
     workers: u32,
     gate: &G,
 ) -> Result<(), AllocError>
-    requires few { vec_len jobs.old ≤ MOST_OBJECTS }
-    requires numbered { Numbered J.number_of jobs.old.items }
+    requires few { vec_len swept_jobs.old.jobs ≤ MOST_OBJECTS }
+    requires numbered { Numbered J.number_of swept_jobs.old.jobs.items }
     requires some { 1 ≤ workers }
     requires most { workers ≤ MOST_WORKERS }
-    ensures labels { labels J.number_of J.origin_of jobs.new.items ≡ labels J.number_of J.origin_of jobs.old.items }
-    ensures ended { OnOk result (AllEnded J.left_of jobs.new.items) }
-    ensures tables { SameTables sweepers.old.items sweepers.new.items }
-    ensures swept { OnOk result (EachSwept sweepers.old.items sweepers.new.items) }
+    ensures labels { labels J.number_of J.origin_of swept_jobs.new.jobs.items
+        ≡ labels J.number_of J.origin_of swept_jobs.old.jobs.items }
+    ensures ended { OnOk result (AllEnded J.left_of swept_jobs.new.jobs.items) }
+    ensures tables { SameTables swept_jobs.old.sweepers.items swept_jobs.new.sweepers.items }
+    ensures swept { OnOk result
+        (EachSwept swept_jobs.old.sweepers.items swept_jobs.new.sweepers.items) }
     ensures looked { LookedOn viewers.old.items viewers.new.items }
 {
     let (mut asker, mut ear) = Stop::open(alloc)?;
@@ -105,16 +102,19 @@ fn run_beside<R: Threads + Wait + Send + Sync, J: Job<R>, G: Gate>(
             ear.heard()
         },
         &mut || -> Result<(), AllocError>
-            requires { (vec_len jobs.now ≤ MOST_OBJECTS) × Numbered J.number_of jobs.now.items × (1 ≤ workers)
+            requires { (vec_len swept_jobs.now.jobs ≤ MOST_OBJECTS)
+                × Numbered J.number_of swept_jobs.now.jobs.items × (1 ≤ workers)
                 × (workers ≤ MOST_WORKERS) × (asker.asked ≡ false) }
-            ensures labels { labels J.number_of J.origin_of jobs.exit.now.items
-                ≡ labels J.number_of J.origin_of jobs.entry.now.items }
-            ensures ended { OnOk result (AllEnded J.left_of jobs.exit.now.items) }
-            ensures tables { SameTables sweepers.entry.now.items sweepers.exit.now.items }
-            ensures swept { OnOk result (EachSwept sweepers.entry.now.items sweepers.exit.now.items) }
+            ensures labels { labels J.number_of J.origin_of swept_jobs.exit.now.jobs.items
+                ≡ labels J.number_of J.origin_of swept_jobs.entry.now.jobs.items }
+            ensures ended { OnOk result (AllEnded J.left_of swept_jobs.exit.now.jobs.items) }
+            ensures tables { SameTables swept_jobs.entry.now.sweepers.items
+                swept_jobs.exit.now.sweepers.items }
+            ensures swept { OnOk result (EachSwept swept_jobs.entry.now.sweepers.items
+                swept_jobs.exit.now.sweepers.items) }
             ensures asked { asker.exit.asked ≡ true }
         {
-            let ran = run_in_place(rt, alloc, jobs, sweepers, workers, gate, Some(&asker));
+            let ran = run_in_place(rt, alloc, swept_jobs, workers, gate, Some(&asker));
             asker.ask();
             ran
         },
@@ -126,29 +126,30 @@ fn run_beside<R: Threads + Wait + Send + Sync, J: Job<R>, G: Gate>(
 fn run_in_place<R: Threads + Wait + Send + Sync, J: Job<R>, G: Gate>(
     rt: &R,
     alloc: Global,
-    jobs: &mut Vec<J>,
-    sweepers: &mut Vec<Sweeper>,
+    swept_jobs: &mut SweptJobs<J>,
     workers: u32,
     gate: &G,
     _asker: Option<&Asker>,
 ) -> Result<(), AllocError>
-    requires few { vec_len jobs.old ≤ MOST_OBJECTS }
-    requires numbered { Numbered J.number_of jobs.old.items }
+    requires few { vec_len swept_jobs.old.jobs ≤ MOST_OBJECTS }
+    requires numbered { Numbered J.number_of swept_jobs.old.jobs.items }
     requires some { 1 ≤ workers }
     requires most { workers ≤ MOST_WORKERS }
     requires unasked { IfSome _asker (λ asker. asker.now.asked ≡ false) }
-    ensures labels { labels J.number_of J.origin_of jobs.new.items ≡ labels J.number_of J.origin_of jobs.old.items }
-    ensures ended { OnOk result (AllEnded J.left_of jobs.new.items) }
-    ensures tables { SameTables sweepers.old.items sweepers.new.items }
-    ensures swept { OnOk result (EachSwept sweepers.old.items sweepers.new.items) }
+    ensures labels { labels J.number_of J.origin_of swept_jobs.new.jobs.items
+        ≡ labels J.number_of J.origin_of swept_jobs.old.jobs.items }
+    ensures ended { OnOk result (AllEnded J.left_of swept_jobs.new.jobs.items) }
+    ensures tables { SameTables swept_jobs.old.sweepers.items swept_jobs.new.sweepers.items }
+    ensures swept { OnOk result
+        (EachSwept swept_jobs.old.sweepers.items swept_jobs.new.sweepers.items) }
 {
-    let taken = mem::replace(jobs, Vec::new(alloc));
-    let swept = mem::replace(sweepers, Vec::new(alloc));
-    let (back, swept, ran) = match run_with_sweepers(rt, alloc, taken, swept, workers, gate) {
-        Ok((back, swept, _)) => (back, swept, Ok(())),
-        Err((error, back, swept)) => (back, swept, Err(error)),
+    let jobs = mem::replace(&mut swept_jobs.jobs, Vec::new(alloc));
+    let sweepers = mem::replace(&mut swept_jobs.sweepers, Vec::new(alloc));
+    let (jobs, sweepers, ran) = match run_with_sweepers(rt, alloc, jobs, sweepers, workers, gate) {
+        Ok((jobs, sweepers, _)) => (jobs, sweepers, Ok(())),
+        Err((error, jobs, sweepers)) => (jobs, sweepers, Err(error)),
     };
-    *sweepers = swept;
-    mem::replace(jobs, back).destroy_empty();
+    swept_jobs.sweepers = sweepers;
+    mem::replace(&mut swept_jobs.jobs, jobs).destroy_empty();
     ran
 }

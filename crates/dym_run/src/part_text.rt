@@ -53,7 +53,8 @@ fn add_reply<W: Sink>(
 ) -> Result<(), SinkFault>
     requires { k < length replies.now.replies }
     ensures added { OnOk result (IfSome (slice_get replies.now.replies k)
-        (λ reply. Leaves (W.output sink.old) (W.output sink.new) (page.old ++ reply_line reply) page.new)) }
+        (λ reply. Leaves (W.output sink.old) (W.output sink.new)
+        (page.old ++ reply_line reply) page.new)) }
     ensures stopped { OnErr result (IfSome (slice_get replies.now.replies k)
         (λ reply. Stopped (W.output sink.old) (W.output sink.new) (page.old ++ reply_line reply))) }
 {

@@ -90,7 +90,8 @@ impl TablePool {
         requires least { 1 ≤ quantum }
         requires most { quantum ≤ MOST_QUANTUM }
         ensures count { IfOk result (λ contexts. vec_len contexts ≡ count) }
-        ensures quantum { IfOk result (λ contexts. All (λ context. context.quantum ≡ quantum) contexts.items) }
+        ensures quantum { IfOk result (λ contexts.
+            All (λ context. context.quantum ≡ quantum) contexts.items) }
     {
         let mut contexts = Vec::with_capacity(alloc, count)?;
         for _ in 0..count {

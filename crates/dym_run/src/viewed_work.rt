@@ -38,9 +38,11 @@ impl<R: Wait> Model for ViewedWork<R> {
 
     ghost coded = { Prim.hlevel (codes, live_code, touched_code, book_coded) };
 
-    ghost view = { λ w. record { work = w.work; view = w.publisher; out_of_memory = w.out_of_memory } };
+    ghost view = { λ w.
+        record { work = w.work; view = w.publisher; out_of_memory = w.out_of_memory } };
 
-    ghost invariant = { λ w. IsViewed (record { work = w.work; view = w.publisher; out_of_memory = w.out_of_memory }) };
+    ghost invariant = { λ w. IsViewed
+        (record { work = w.work; view = w.publisher; out_of_memory = w.out_of_memory }) };
 }
 
 impl<R: Wait> ViewedWork<R> {
@@ -48,7 +50,8 @@ impl<R: Wait> ViewedWork<R> {
     pub fn new(alloc: Global, work: Work<R>, publisher: Option<Publisher>) -> ViewedWork<R>
         requires fresh { work.replies ≡ [] }
         requires empty { IfSome publisher (λ p. p.commits ≡ []) }
-        ensures { result ≡ record { work = work; view = publisher; out_of_memory = work.out_of_memory } }
+        ensures { result
+            ≡ record { work = work; view = publisher; out_of_memory = work.out_of_memory } }
     {
         let out_of_memory = work.out_of_memory();
         ViewedWork {
@@ -73,7 +76,8 @@ impl<R: Wait> ViewedWork<R> {
         ensures work { result.0 ≡ self.work }
         ensures long { result.0.out_of_memory ≡ false }
         ensures ended { left_of self ≡ 0 → Works.left_of result.0 ≡ 0 }
-        ensures told { result.1 ≡ option_map (λ _. option_map view_of (oldest self.work.object.chain.logs)) self.view }
+        ensures told { result.1
+            ≡ option_map (λ _. option_map view_of (oldest self.work.object.chain.logs)) self.view }
     {
         let ViewedWork {
             alloc: _,

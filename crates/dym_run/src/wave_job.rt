@@ -51,7 +51,8 @@ impl<R: Wait> Model for WaveJob<R> {
 
     ghost coded = { Prim.hlevel codes };
 
-    ghost view = { λ p. record { name = p.name; quantum = p.context.quantum; state = meant_by p.job_state } };
+    ghost view = { λ p.
+        record { name = p.name; quantum = p.context.quantum; state = meant_by p.job_state } };
 
     ghost invariant = { λ p. IsJobState p.context.quantum p.job_state × IsFinished p.job_state };
 }
@@ -110,7 +111,8 @@ impl<R: Wait> WaveJob<R> {
     /// Writes what is printed of an object that ran all its commands. The only error is that of the sink.
     pub(crate) fn write<W: Sink>(&self, sink: &mut W) -> Result<(), SinkFault>
         requires over { IsOver self.now }
-        ensures { Writes (W.output sink.old) (W.output sink.new) (shown_text (job_shown self.now)) result }
+        ensures { Writes (W.output sink.old) (W.output sink.new)
+            (shown_text (job_shown self.now)) result }
     {
         self.result().write(sink, &self.name)
     }

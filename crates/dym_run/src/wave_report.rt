@@ -10,9 +10,8 @@ ghost use Rattle.dym_run.specs.WaveJobs.{IsOver, job_shown};
 ghost use Rattle.dym_report.specs.declared.write_fail.WriteFail.TheVariants.{Sink as SinkFailed};
 
 use crate::object_queue::ObjectQueue;
-use crate::report_options::ReportOptions;
-use crate::shape::Shape;
 use crate::wave_job::WaveJob;
+use crate::wave_options::WaveOptions;
 use dym_base::limits::MOST_OBJECTS;
 use dym_io::{Sink, SinkFault};
 use dym_pool::Gate;
@@ -33,23 +32,22 @@ use std::thread::Threads;
 pub fn write_waves<R: Threads + Wait + Send + Sync, G: Gate, W: Sink>(
     rt: &R,
     alloc: Global,
-    options: ReportOptions,
+    options: WaveOptions,
     parts: Vec<Part>,
-    shape: Shape,
     gate: &G,
     sink: &mut W,
 ) -> Result<(), WriteFail>
     requires runnable { All IsRunnable parts.items }
-    requires shape { IsShape shape }
-    requires fits { All (λ part. part.decl.quota ≤ shape.segments) parts.items }
+    requires shape { IsShape options.shape }
+    requires fits { All (λ part. part.decl.quota ≤ options.shape.segments) parts.items }
     requires objects { vec_len parts ≤ MOST_OBJECTS }
     ensures { WritesOr (λ fail. fail ≡ SinkFailed) (W.output sink.old) (W.output sink.new)
-        (parts_text options parts.items) result }
+        (parts_text options.report parts.items) result }
 {
     if parts.is_empty() {
         return Ok(());
     }
-    let mut object_queue = ObjectQueue::of(alloc, options, parts, shape, true)?;
+    let mut object_queue = ObjectQueue::of(alloc, options, parts, true)?;
     let (region, mut segments) = object_queue.open_region(alloc)?;
     let written = write_all(rt, alloc, &mut object_queue, &mut segments, gate, sink);
     region.close(segments);
@@ -70,7 +68,7 @@ fn write_all<R: Threads + Wait + Send + Sync, G: Gate, W: Sink>(
     ensures segments { IsPermutation (map ⟦<RawSegment as Segment>⟧.id segments.old.items)
         (map ⟦<RawSegment as Segment>⟧.id segments.new.items) }
     ensures written { WritesOr (λ fail. fail ≡ SinkFailed) (W.output sink.old) (W.output sink.new)
-        (parts_text object_queue.old.options object_queue.old.parts.items) result }
+        (parts_text object_queue.old.options.report object_queue.old.parts.items) result }
 {
     while !object_queue.parts.is_empty() {
         write_wave(rt, alloc, object_queue, segments, gate, sink)?;
@@ -95,7 +93,8 @@ fn write_wave<R: Threads + Wait + Send + Sync, G: Gate, W: Sink>(
     ensures segments { IsPermutation (map ⟦<RawSegment as Segment>⟧.id segments.old.items)
         (map ⟦<RawSegment as Segment>⟧.id segments.new.items) }
     ensures distinct { AreDistinct (map ⟦<RawSegment as Segment>⟧.id segments.new.items) }
-    ensures written { WritesFirst object_queue.old.options object_queue.old.parts.items object_queue.new.parts.items
+    ensures written { WritesFirst object_queue.old.options.report
+        object_queue.old.parts.items object_queue.new.parts.items
         (W.output sink.old) (W.output sink.new) result }
 {
     let taken = mem::replace(segments, Vec::new(alloc));

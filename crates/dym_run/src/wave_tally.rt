@@ -12,6 +12,7 @@ use crate::object_queue::ObjectQueue;
 use crate::report_options::ReportOptions;
 use crate::shape::Shape;
 use crate::wave_job::WaveJob;
+use crate::wave_options::WaveOptions;
 use dym_base::Version;
 use dym_base::limits::{MOST_COMMANDS, MOST_OBJECTS};
 use dym_pool::Gate;
@@ -46,11 +47,12 @@ pub fn tally_waves<R: Threads + Wait + Send + Sync, G: Gate>(
     if parts.is_empty() {
         return Ok(Tally::none());
     }
-    let options = ReportOptions {
+    let report = ReportOptions {
         version,
         views: false,
     };
-    let mut object_queue = ObjectQueue::of(alloc, options, parts, shape, false)?;
+    let options = WaveOptions { report, shape };
+    let mut object_queue = ObjectQueue::of(alloc, options, parts, false)?;
     let (region, mut segments) = object_queue.open_region(alloc)?;
     let tally = tally_all(rt, alloc, &mut object_queue, &mut segments, gate);
     region.close(segments);
@@ -68,11 +70,13 @@ fn tally_all<R: Threads + Wait + Send + Sync, G: Gate>(
     requires enough { object_queue.old.most ≤ vec_len segments.old }
     requires distinct { AreDistinct (map ⟦<RawSegment as Segment>⟧.id segments.old.items) }
     requires objects { length object_queue.old.parts.items ≤ MOST_OBJECTS }
-    requires commands { sum_by (λ part. length part.commands) object_queue.old.parts.items ≤ MOST_COMMANDS }
+    requires commands { sum_by (λ part. length part.commands) object_queue.old.parts.items
+        ≤ MOST_COMMANDS }
     ensures segments { IsPermutation (map ⟦<RawSegment as Segment>⟧.id segments.old.items)
         (map ⟦<RawSegment as Segment>⟧.id segments.new.items) }
     ensures counted { IfOk result (λ tally.
-        IsTallyOf tally (parts_shown object_queue.old.options object_queue.old.parts.items)) }
+        IsTallyOf tally
+        (parts_shown object_queue.old.options.report object_queue.old.parts.items)) }
 {
     let mut tally = Tally::none();
     while !object_queue.parts.is_empty() {
@@ -93,14 +97,16 @@ fn tally_wave<R: Threads + Wait + Send + Sync, G: Gate>(
     requires enough { object_queue.old.most ≤ vec_len segments.old }
     requires distinct { AreDistinct (map ⟦<RawSegment as Segment>⟧.id segments.old.items) }
     requires objects { length object_queue.old.parts.items ≤ MOST_OBJECTS }
-    requires commands { sum_by (λ part. length part.commands) object_queue.old.parts.items ≤ MOST_COMMANDS }
+    requires commands { sum_by (λ part. length part.commands) object_queue.old.parts.items
+        ≤ MOST_COMMANDS }
     ensures options { object_queue.new.options ≡ object_queue.old.options }
     ensures most { object_queue.new.most ≡ object_queue.old.most }
     ensures segments { IsPermutation (map ⟦<RawSegment as Segment>⟧.id segments.old.items)
         (map ⟦<RawSegment as Segment>⟧.id segments.new.items) }
     ensures distinct { AreDistinct (map ⟦<RawSegment as Segment>⟧.id segments.new.items) }
     ensures counted { IfOk result (λ tally.
-        TalliesFirst object_queue.old.options object_queue.old.parts.items object_queue.new.parts.items tally) }
+        TalliesFirst object_queue.old.options.report
+        object_queue.old.parts.items object_queue.new.parts.items tally) }
 {
     let taken = mem::replace(segments, Vec::new(alloc));
     match object_queue.run_next(rt, alloc, taken, gate) {

@@ -68,7 +68,8 @@ fn oldest_of<L: KeptLogs>(logs: &L) -> Option<u64>
 /// An object's oldest kept log as a commit.
 fn commit_by<R: Wait>(turn: Own<R>, alloc: Global) -> (Own<R>, Result<Option<Commit>, AllocError>)
     ensures object { result.0.object ≡ turn.object }
-    ensures commit { IfOk result.1 (λ commit. commit ≡ option_map committed (oldest turn.object.chain.logs)) }
+    ensures commit { IfOk result.1 (λ commit.
+        commit ≡ option_map committed (oldest turn.object.chain.logs)) }
 {
     let Turn {
         alloc: own,

@@ -31,7 +31,8 @@ pub fn run_with_sweepers<R: Threads + Wait + Send + Sync, J: Job<R>, G: Gate>(
     requires numbered { Numbered J.number_of jobs.items }
     requires some { 1 ≤ workers }
     requires most { workers ≤ MOST_WORKERS }
-    ensures back { IfOk result (λ r. EveryJobBack J.number_of J.left_of J.origin_of jobs.items r.0.items) }
+    ensures back { IfOk result (λ r.
+        EveryJobBack J.number_of J.left_of J.origin_of jobs.items r.0.items) }
     ensures swept { IfOk result (λ r. Pruned sweepers.items r.1.items r.2) }
     ensures jobs { IfErr result (λ e. e.1.items ≡ jobs.items) }
     ensures sweepers { IfErr result (λ e. SameTables sweepers.items e.2.items) }
@@ -47,8 +48,10 @@ pub fn run_with_sweepers<R: Threads + Wait + Send + Sync, J: Job<R>, G: Gate>(
             ensures { Pruned sweepers.entry.items sweepers.exit.items result }
         { pruner(rt, &mut sweepers, &mut ear) },
         &mut || -> Result<(), AllocError>
-            requires { Numbered J.number_of jobs.items × (1 ≤ workers) × (workers ≤ MOST_WORKERS) × (asker.asked ≡ false) }
-            ensures back { OnOk result (EveryJobBack J.number_of J.left_of J.origin_of jobs.entry.items jobs.exit.items) }
+            requires { Numbered J.number_of jobs.items × (1 ≤ workers)
+                × (workers ≤ MOST_WORKERS) × (asker.asked ≡ false) }
+            ensures back { OnOk result
+                (EveryJobBack J.number_of J.left_of J.origin_of jobs.entry.items jobs.exit.items) }
             ensures unchanged { OnErr result (jobs.exit.items ≡ jobs.entry.items) }
             ensures asked { asker.exit.asked ≡ true }
         {
@@ -76,7 +79,8 @@ fn run_in_place<R: Threads + Wait + Send + Sync, J: Job<R>, G: Gate>(
     requires some { 1 ≤ workers }
     requires most { workers ≤ MOST_WORKERS }
     requires unasked { _asker.now.asked ≡ false }
-    ensures back { OnOk result (EveryJobBack J.number_of J.left_of J.origin_of jobs.old.items jobs.new.items) }
+    ensures back { OnOk result
+        (EveryJobBack J.number_of J.left_of J.origin_of jobs.old.items jobs.new.items) }
     ensures unchanged { OnErr result (jobs.new.items ≡ jobs.old.items) }
 {
     let taken = mem::replace(jobs, Vec::new(alloc));

@@ -34,7 +34,8 @@ pub fn run_wave<R: Threads + Wait + Send + Sync, G: Gate>(
     requires tables { AreSweptBy works.items sweepers.items }
     requires some { 1 ≤ workers }
     requires most { workers ≤ MOST_WORKERS }
-    ensures wave { IfOk result (λ w. WavePromise works.items w.0.items sweepers.items w.1.items w.2) }
+    ensures wave { IfOk result (λ w.
+        WavePromise works.items w.0.items sweepers.items w.1.items w.2) }
     ensures works { IfErr result (λ e. e.1.items ≡ works.items) }
     ensures sweepers { IfErr result (λ e. SameTables sweepers.items e.2.items) }
 {

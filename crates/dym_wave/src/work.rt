@@ -37,9 +37,11 @@ impl<R: Wait> Model for Work<R> {
 
     ghost coded = { Prim.hlevel (codes, live_code, touched_code) };
 
-    ghost view = { λ w. work_with w.number w.quantum w.commands w.replies.replies w.turn.object w.out_of_memory };
+    ghost view = { λ w.
+        work_with w.number w.quantum w.commands w.replies.replies w.turn.object w.out_of_memory };
 
-    ghost invariant = { λ w. JobMeaning (work_with w.number w.quantum w.commands w.replies.replies w.turn.object w.out_of_memory)
+    ghost invariant = { λ w. JobMeaning
+        (work_with w.number w.quantum w.commands w.replies.replies w.turn.object w.out_of_memory)
         × HasRoom w.commands w.replies };
 }
 

@@ -5,14 +5,9 @@ use Rattle.dym_io.specs.Sink.{Output, Appended, AppendedFront, Stopped, Blames, 
 use Rattle.dym_io.specs.Laws.{appended_both, front_after, front_within, stopped_after, stopped_within, writes_or_stopped}
 use Rattle.dym_report.specs.declared.write_fail.WriteFail.{WriteFail}
 use Rattle.dym_report.specs.declared.write_fail.WriteFail.TheVariants as fail
+use Rattle.dym_run.proofs.Progress.{writes_or_passed}
 use Rattle.dymelor_top.specs.Answers.{Answer}
 use Rattle.dymelor_top.specs.Headline.{WritesAnswer}
-
--- the same error, where it may be the sink's
-pub writes_or_passed : {T E : Type 0} → (IsSinks : E → Type 0) (a b : Output) (t : List ℕ) (r : Result T E) (e : E) → IsErrAnd r (λ x. x ≡ e)
-    → AppendedFront a b t → Blames (IsSinks e) a b → WritesOr IsSinks a b t r
-writes_or_passed IsSinks a b t (Ok x) e is front blames = absurd is
-writes_or_passed IsSinks a b t (Err x) e is front blames = (front, subst (λ x. Blames (IsSinks x) a b) (sym is) blames)
 
 -- the error is the sink's
 abbrev pub IsSinks : WriteFail → Type 0

@@ -18,12 +18,12 @@ mod plain;
 mod plan;
 mod save_order;
 mod segment_store;
-mod sequential;
+mod still_call;
 mod stop;
 mod summary;
-mod threaded;
 mod waves;
+mod whole_call;
 
 pub use laws::one_answer;
-pub use sequential::dymelor_still;
-pub use threaded::dymelor;
+pub use still_call::dymelor_still;
+pub use whole_call::dymelor;

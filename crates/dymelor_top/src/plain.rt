@@ -29,8 +29,8 @@ pub fn write_report<W: Sink>(
 ) -> Result<(), WriteFail>
     requires made { (s : Said) × IsByObjects script.now s }
     ensures { (s : Said) → IsByObjects script.now s
-        → WritesOr (λ fail. fail
-        ≡ SinkFailed) (W.output sink.old) (W.output sink.new) (report_text s) result }
+        → WritesOr (λ fail. fail ≡ SinkFailed) (W.output sink.old) (W.output sink.new)
+        (report_text s) result }
 {
     write_parts(alloc, script.version, &script.kept.parts, sink)?;
     write_end(sink)?;

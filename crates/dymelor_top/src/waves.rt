@@ -14,14 +14,14 @@ ghost use Rattle.dymelor_top.specs.Headline.{Serves, WritesAnswer, Counted};
 ghost use Rattle.dymelor_top.specs.Stops.{StopCauses};
 
 use crate::plan::WaveText;
-use crate::sequential::flush;
+use crate::still_call::flush;
 use crate::stop::Stop;
 use dym_base::BadKind;
 use dym_base::limits::MOST_INPUT_BYTES;
 use dym_io::{Sink, Source, read_whole};
 use dym_pool::Gate;
 use dym_report::{Totals, WriteFail, write_end, write_error, write_summary};
-use dym_run::{ReportOptions, Shape, tally_waves, write_waves};
+use dym_run::{ReportOptions, Shape, WaveOptions, tally_waves, write_waves};
 use dym_script::{Part, PartCollector, ScriptFail, WholeScript, read_parallel};
 use std::alloc::{AllocError, Global};
 use std::sync::Wait;
@@ -32,6 +32,13 @@ use std::thread::Threads;
 pub struct Waves {
     pub shape: Shape,
     pub text: WaveText,
+}
+
+/// How the objects of a script run in waves whose report is written, and whether it has the view of each.
+#[derive(Clone, Copy)]
+struct ReportedWaves {
+    shape: Shape,
+    views: bool,
 }
 
 /// Reads a script, runs its objects in waves, and writes what is asked for of them.
@@ -172,16 +179,26 @@ fn run_fitting<R: Threads + Wait + Send + Sync, W: Sink, G: Gate>(
 ) -> Result<(), WriteFail>
     requires made { (s : Said) × IsByObjects script s }
     requires shape { IsShape waves.shape }
-    requires fits { All (λ part. part.decl.quota ≤ waves.shape.segments) script.kept.parts.items }
+    requires fits { All (λ part. part.decl.quota ≤ waves.shape.segments)
+        script.kept.parts.items }
     ensures { (s : Said) → IsByObjects script s
         → WritesOr (λ fail. fail ≡ SinkFailed) (W.output sink.old) (W.output sink.new)
         (waves_text waves.text s) result }
 {
     let shape = waves.shape;
     match waves.text {
-        WaveText::Report => report_waves(rt, alloc, false, shape, script, sink, gate),
+        WaveText::Report => {
+            let reported = ReportedWaves {
+                shape,
+                views: false,
+            };
+            report_waves(rt, alloc, reported, script, sink, gate)
+        }
         WaveText::Summary => summarize(rt, alloc, shape, script, sink, gate),
-        WaveText::Views => report_waves(rt, alloc, true, shape, script, sink, gate),
+        WaveText::Views => {
+            let reported = ReportedWaves { shape, views: true };
+            report_waves(rt, alloc, reported, script, sink, gate)
+        }
     }
 }
 
@@ -189,22 +206,24 @@ fn run_fitting<R: Threads + Wait + Send + Sync, W: Sink, G: Gate>(
 fn report_waves<R: Threads + Wait + Send + Sync, W: Sink, G: Gate>(
     rt: &R,
     alloc: Global,
-    views: bool,
-    shape: Shape,
+    reported: ReportedWaves,
     script: WholeScript<PartCollector>,
     sink: &mut W,
     gate: &G,
 ) -> Result<(), WriteFail>
     requires made { (s : Said) × IsByObjects script s }
-    requires shape { IsShape shape }
-    requires fits { All (λ part. part.decl.quota ≤ shape.segments) script.kept.parts.items }
+    requires shape { IsShape reported.shape }
+    requires fits { All (λ part. part.decl.quota ≤ reported.shape.segments)
+        script.kept.parts.items }
     ensures { (s : Said) → IsByObjects script s
-        → WritesOr (λ fail. fail
-        ≡ SinkFailed) (W.output sink.old) (W.output sink.new) (outcome_text views s) result }
+        → WritesOr (λ fail. fail ≡ SinkFailed) (W.output sink.old) (W.output sink.new)
+        (outcome_text reported.views s) result }
 {
+    let ReportedWaves { shape, views } = reported;
     let WholeScript { version, kept, .. } = script;
-    let options = ReportOptions { version, views };
-    write_waves(rt, alloc, options, kept.parts, shape, gate, sink)?;
+    let report = ReportOptions { version, views };
+    let options = WaveOptions { report, shape };
+    write_waves(rt, alloc, options, kept.parts, gate, sink)?;
     write_end(sink)?;
     Ok(())
 }

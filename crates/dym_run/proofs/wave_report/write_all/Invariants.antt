@@ -10,7 +10,7 @@ invariant-loop-alloc g l = record {
   enough : l.object_queue.most ≤ vec_len l.segments;
   distinct : AreDistinct (map ghosts.id l.segments.items);
   segments : IsPermutation (map ghosts.id l.initial.segments.items) (map ghosts.id l.segments.items);
-  written : Written l.initial.object_queue.options l.initial.object_queue.parts.items l.object_queue.parts.items
+  written : Written l.initial.object_queue.options.report l.initial.object_queue.parts.items l.object_queue.parts.items
       (g.W.Sink.output l.initial.sink) (g.W.Sink.output l.sink);
 }
 

@@ -10,7 +10,7 @@ invariant-loop-alloc g l = record {
   enough : l.object_queue.most ≤ vec_len l.segments;
   distinct : AreDistinct (map ghosts.id l.segments.items);
   segments : IsPermutation (map ghosts.id l.initial.segments.items) (map ghosts.id l.segments.items);
-  counted : Counted l.initial.object_queue.options l.initial.object_queue.parts.items l.object_queue.parts.items l.tally;
+  counted : Counted l.initial.object_queue.options.report l.initial.object_queue.parts.items l.object_queue.parts.items l.tally;
 }
 
 abbrev pub decreases-loop-alloc : goal.decreases-loop-alloc

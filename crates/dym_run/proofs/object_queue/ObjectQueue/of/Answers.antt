@@ -6,9 +6,9 @@ use Rattle.dym_run.proofs.object_queue.ObjectQueue.of.Goals as goal
 
 pub largest_wave-most-requires : goal.largest_wave-most-requires
 largest_wave-most-requires c =
-    All-same (λ q. q ≤ c.args.shape.segments) c.deref-2.result.now (map quota_of c.args.parts.items)
+    All-same (λ q. q ≤ c.args.options.shape.segments) c.deref-2.result.now (map quota_of c.args.parts.items)
     (c.deref-2.ensures.value ∙ c.in_ok-quotas.ensures ∙ ap (map quota_of) c.deref.ensures.value)
-    (All-map (λ q. q ≤ c.args.shape.segments) quota_of c.args.parts.items c.requires.fits)
+    (All-map (λ q. q ≤ c.args.options.shape.segments) quota_of c.args.parts.items c.requires.fits)
 
 pub returns-clause-least : goal.returns-clause-least
 returns-clause-least c =

@@ -25,7 +25,9 @@ invariant_of-self g c =
     let order = c.waves-end.ensures.some in
     let berths = c.in_ok-wave.wave.berths in
     let left = c.run_all-ran.new.parts.items in
-    let ran = subst (λ r. IfOk r (λ s. PartsRan old.options (vec_len berths) old.parts.items left [] (map job_shown s.jobs.items))) c.in-Ok.is c.run_all-ran.ensures.ran in
+    let ran =
+    subst (λ r. IfOk r (λ s. PartsRan old.options.report (vec_len berths) old.parts.items left [] (map job_shown s.jobs.items)))
+    c.in-Ok.is c.run_all-ran.ensures.ran in
     let count = run_count (λ b. b.quota) berths.items quotas old.from c.waves-end.result
     (omega (arith, order)) (omega (arith, inside, ap length c.deref.ensures.value, ap length same)) c.in_ok-wave.ensures.quotas in
     record {

@@ -2,7 +2,7 @@ use Rattle.std.proofs.Common.{refl}
 use Rattle.dymelor_top.specs.Answers.{made_answer}
 use Rattle.dymelor_top.specs.declared.plan.Plan.TheVariants as plan
 use Rattle.dymelor_top.proofs.Served.{given_cut, given_unflushed, given_whole}
-use Rattle.dymelor_top.proofs.sequential.serve_made.Goals as goal
+use Rattle.dymelor_top.proofs.still_call.serve_made.Goals as goal
 
 pub returns-in_err-gen_script : goal.returns-in_err-gen_script
 returns-in_err-gen_script g c source =

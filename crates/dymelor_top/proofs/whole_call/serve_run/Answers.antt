@@ -7,7 +7,7 @@ use Rattle.dymelor_top.specs.declared.plan.Plan.TheVariants as plan
 use Rattle.dymelor_top.specs.Stops.{status_of}
 use Rattle.dymelor_top.specs.Headline.{Input, PlanHeadline}
 use Rattle.dymelor_top.proofs.Served.{ended, was_read, not_read, unread, wanting, took_nothing, no_source}
-use Rattle.dymelor_top.proofs.threaded.serve_run.Goals as goal
+use Rattle.dymelor_top.proofs.whole_call.serve_run.Goals as goal
 
 pub returns-in-Script : goal.returns-in-Script
 returns-in-Script g c =

@@ -2,7 +2,7 @@ use Rattle.std.proofs.Common.{refl}
 use Rattle.dymelor_top.specs.Answers.{usage_answer}
 use Rattle.dymelor_top.specs.declared.plan.Plan.TheVariants as plan
 use Rattle.dymelor_top.proofs.Served.{given_cut, given_unflushed, given_whole}
-use Rattle.dymelor_top.proofs.sequential.serve_usage.Goals as goal
+use Rattle.dymelor_top.proofs.still_call.serve_usage.Goals as goal
 
 pub returns-in_err-write_usage : goal.returns-in_err-write_usage
 returns-in_err-write_usage g c source =

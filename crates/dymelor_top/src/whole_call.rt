@@ -8,7 +8,7 @@ ghost use Rattle.dymelor_top.specs.declared.plan.Plan.TheVariants as plan;
 
 use crate::generator_text::{GeneratedSource, generated_script};
 use crate::plan::{Plan, Run, plan_for};
-use crate::sequential::{serve_made, serve_read, serve_usage};
+use crate::still_call::{serve_made, serve_read, serve_usage};
 use crate::stop::{Stop, status_of};
 use crate::waves::{Waves, serve_waves};
 use dym_io::{Sink, Source};

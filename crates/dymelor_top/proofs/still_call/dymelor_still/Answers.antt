@@ -1,7 +1,7 @@
 use Rattle.std.proofs.Common.{map, string_bytes, sym, ap, ◌∙◌}
 use Rattle.dymelor_top.specs.Plans.{whole_plan_of, without_threads}
 use Rattle.dymelor_top.proofs.Served.{words_within, planned}
-use Rattle.dymelor_top.proofs.sequential.dymelor_still.Goals as goal
+use Rattle.dymelor_top.proofs.still_call.dymelor_still.Goals as goal
 
 pub serve_read-requires-clause-input : goal.serve_read-requires-clause-input
 serve_read-requires-clause-input g c = words_within (map string_bytes c.args.words.now) _ _ _ c.read_words.ensures c.plan_for.ensures.within c.in-Read.is

@@ -2,7 +2,7 @@ use Rattle.std.proofs.Common.{subst}
 use Rattle.dymelor_top.specs.Answers.{Answer, IsRead}
 use Rattle.dymelor_top.specs.Headline.{WroteFront}
 use Rattle.dymelor_top.proofs.Served.{wrote_all, front_wrote, front_kept, serves_front, one_read}
-use Rattle.dymelor_top.proofs.sequential.serve_source.Goals as goal
+use Rattle.dymelor_top.proofs.still_call.serve_source.Goals as goal
 
 pub returns-in_err-status-clause-served : goal.returns-in_err-status-clause-served
 returns-in_err-status-clause-served g c bytes known =
