@@ -92,7 +92,8 @@ pub extern "C" fn dym_touch_all(object: &mut DymObject) -> u32
 #[unsafe(no_mangle)]
 pub extern "C" fn dym_wrote_at(object: &mut DymObject, offset: u64, len: u64) -> u32
     ensures status { result ≡ open_status object.old.value }
-    ensures after { object.new.value ≡ option_map (with_touched_in offset (offset + len)) object.old.value }
+    ensures after { object.new.value ≡ option_map
+        (with_touched_in offset (offset + len)) object.old.value }
 {
     let Some(inside) = object.inside() else {
         return BAD;

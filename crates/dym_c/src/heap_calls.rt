@@ -17,7 +17,8 @@ use crate::status::{BAD, DONE, done_number, refusal_number};
 pub extern "C" fn dym_malloc(object: &mut DymObject, len: u64, chunk: &mut DymHandle) -> u32
     ensures status { result ≡ status_of object.old.value (Some (Malloc len)) }
     ensures after { IsAfter object.old.value (Some (Malloc len)) object.new.value }
-    ensures out_value { chunk.new ≡ chunk_after (reply_of object.old.value (Some (Malloc len))) chunk.old }
+    ensures out_value { chunk.new ≡ chunk_after
+        (reply_of object.old.value (Some (Malloc len))) chunk.old }
 {
     let inside = match object.ready() {
         Ok(inside) => inside,
@@ -37,7 +38,8 @@ pub extern "C" fn dym_malloc(object: &mut DymObject, len: u64, chunk: &mut DymHa
 pub extern "C" fn dym_calloc(object: &mut DymObject, n: u64, len: u64, chunk: &mut DymHandle) -> u32
     ensures status { result ≡ status_of object.old.value (Some (Calloc n len)) }
     ensures after { IsAfter object.old.value (Some (Calloc n len)) object.new.value }
-    ensures out_value { chunk.new ≡ chunk_after (reply_of object.old.value (Some (Calloc n len))) chunk.old }
+    ensures out_value { chunk.new ≡ chunk_after
+        (reply_of object.old.value (Some (Calloc n len))) chunk.old }
 {
     let inside = match object.ready() {
         Ok(inside) => inside,
@@ -63,7 +65,8 @@ pub extern "C" fn dym_realloc(
 ) -> u32
     ensures status { result ≡ status_of object.old.value (asked_realloc h len) }
     ensures after { IsAfter object.old.value (asked_realloc h len) object.new.value }
-    ensures out_value { chunk.new ≡ chunk_after (reply_of object.old.value (asked_realloc h len)) chunk.old }
+    ensures out_value { chunk.new ≡ chunk_after
+        (reply_of object.old.value (asked_realloc h len)) chunk.old }
 {
     let Some(place) = chunk_or_nil_of_c(h) else {
         return BAD;
@@ -176,7 +179,8 @@ pub extern "C" fn dym_follow(
 ) -> u32
     ensures status { result ≡ status_of object.old.value (asked_follow h at) }
     ensures after { IsAfter object.old.value (asked_follow h at) object.new.value }
-    ensures out_value { found.new ≡ found_after (reply_of object.old.value (asked_follow h at)) found.old }
+    ensures out_value { found.new ≡ found_after
+        (reply_of object.old.value (asked_follow h at)) found.old }
 {
     let Some(chunk) = chunk_of_c(h) else {
         return BAD;
@@ -199,7 +203,8 @@ pub extern "C" fn dym_follow(
 pub extern "C" fn dym_sum(object: &mut DymObject, h: DymHandle, total: &mut u64) -> u32
     ensures status { result ≡ status_of object.old.value (asked_sum h) }
     ensures after { IsAfter object.old.value (asked_sum h) object.new.value }
-    ensures out_value { total.new ≡ total_after (reply_of object.old.value (asked_sum h)) total.old }
+    ensures out_value { total.new ≡ total_after
+        (reply_of object.old.value (asked_sum h)) total.old }
 {
     let Some(chunk) = chunk_of_c(h) else {
         return BAD;

@@ -60,7 +60,8 @@ pub extern "C" fn dym_log(
 pub extern "C" fn dym_restore(object: &mut DymObject, time: u64, at: &mut u64) -> u32
     ensures status { result ≡ status_of object.old.value (Some (Restore time)) }
     ensures after { IsAfter object.old.value (Some (Restore time)) object.new.value }
-    ensures out_value { at.new ≡ time_after (reply_of object.old.value (Some (Restore time))) at.old }
+    ensures out_value { at.new ≡ time_after (reply_of object.old.value
+        (Some (Restore time))) at.old }
 {
     let inside = match object.ready() {
         Ok(inside) => inside,
@@ -78,10 +79,13 @@ pub extern "C" fn dym_restore(object: &mut DymObject, time: u64, at: &mut u64) -
 /// Restores the last log before a time, and tells its time; the later logs leave. No log is before time 0.
 #[unsafe(no_mangle)]
 pub extern "C" fn dym_restore_before(object: &mut DymObject, time: u64, at: &mut u64) -> u32
-    ensures at_zero { time ≡ 0 → IsCounted object.old.value 7 result object.new.value × (at.new ≡ at.old) }
+    ensures at_zero { time ≡ 0 → IsCounted object.old.value 7 result object.new.value
+        × (at.new ≡ at.old) }
     ensures status { 0 < time → result ≡ status_of object.old.value (Some (Restore (time - 1))) }
-    ensures after { 0 < time → IsAfter object.old.value (Some (Restore (time - 1))) object.new.value }
-    ensures out_value { 0 < time → at.new ≡ time_after (reply_of object.old.value (Some (Restore (time - 1)))) at.old }
+    ensures after { 0 < time → IsAfter object.old.value
+        (Some (Restore (time - 1))) object.new.value }
+    ensures out_value { 0 < time → at.new ≡ time_after
+        (reply_of object.old.value (Some (Restore (time - 1)))) at.old }
 {
     let inside = match object.ready() {
         Ok(inside) => inside,
@@ -101,7 +105,8 @@ pub extern "C" fn dym_restore_before(object: &mut DymObject, time: u64, at: &mut
 pub extern "C" fn dym_prune(object: &mut DymObject, bound: u64, dropped: &mut u32) -> u32
     ensures status { result ≡ status_of object.old.value (Some (Prune bound)) }
     ensures after { IsAfter object.old.value (Some (Prune bound)) object.new.value }
-    ensures out_value { dropped.new ≡ dropped_after (reply_of object.old.value (Some (Prune bound))) dropped.old }
+    ensures out_value { dropped.new ≡ dropped_after
+        (reply_of object.old.value (Some (Prune bound))) dropped.old }
 {
     let inside = match object.ready() {
         Ok(inside) => inside,
@@ -117,7 +122,8 @@ pub extern "C" fn dym_prune_before(object: &mut DymObject, bound: u64, dropped: 
     ensures at_zero { bound ≡ 0 → IsCounted object.old.value 0 result object.new.value
         × (dropped.new ≡ none_dropped object.old.value dropped.old) }
     ensures status { 0 < bound → result ≡ status_of object.old.value (Some (Prune (bound - 1))) }
-    ensures after { 0 < bound → IsAfter object.old.value (Some (Prune (bound - 1))) object.new.value }
+    ensures after { 0 < bound → IsAfter object.old.value
+        (Some (Prune (bound - 1))) object.new.value }
     ensures out_value { 0 < bound → dropped.new
         ≡ dropped_after (reply_of object.old.value (Some (Prune (bound - 1)))) dropped.old }
 {

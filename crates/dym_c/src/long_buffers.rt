@@ -41,7 +41,8 @@ pub(crate) fn read_bytes(
     out: &mut [u8],
 ) -> Result<(), Refusal>
     requires { object.old.ran < COUNT_LIMIT }
-    ensures reply { bytes_reply result out.new ≡ (step_by object.old (Read chunk at (length out.old))).reply }
+    ensures reply { bytes_reply result out.new
+        ≡ (step_by object.old (Read chunk at (length out.old))).reply }
     ensures step { IsStep object.old object.new (Read chunk at (length out.old)) }
     ensures refused { OnErr result (object.new ≡ counted object.old) }
     ensures same { OnErr result (out.new ≡ out.old) }

@@ -99,7 +99,8 @@ impl DymObject {
     #[inline(always)]
     pub(crate) fn ready(&mut self) -> Result<&mut ObjectContent, u32>
         ensures* writes_back { sem 𝓛 (lends_ready self.entry result) }
-        ensures inside { IfOk result (λ inside. (self.old.value ≡ Some inside.now) × (inside.now.ran < COUNT_LIMIT)) }
+        ensures inside { IfOk result (λ inside. (self.old.value ≡ Some inside.now)
+            × (inside.now.ran < COUNT_LIMIT)) }
         ensures unready { IfErr result (λ status. status_unready self.old.value ≡ Some status) }
     {
         if self.is_closed() {

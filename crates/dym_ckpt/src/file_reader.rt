@@ -86,7 +86,8 @@ impl FileContent {
         requires quota { S.quota_of supply ≡ self.head.quota }
         requires nothing_held { S.held_ids supply ≡ [] }
         ensures loaded { (bytes : List ℕ) → IsContentOf bytes self → IfOk result
-            (λ loaded. IsLoaded bytes (record { name = loaded.0; heap = loaded.1; chain = loaded.2 })) }
+            (λ loaded. IsLoaded bytes
+            (record { name = loaded.0; heap = loaded.1; chain = loaded.2 })) }
         ensures origin { IfOk result (λ loaded. loaded.1.origin ≡ S.origin supply) }
         ensures back { IfErr result (λ s. S.held_ids s ≡ []) }
     {
@@ -111,7 +112,8 @@ fn restore_newest<S: Supply>(context: &S::Context, chain: &mut Chain<VecKeep>, h
     requires sound { IsSound heap.old }
     requires idle { chain.old.lifted ≡ None }
     ensures state { heap.new.state ≡ heap_at (newest chain.old.logs) }
-    ensures heap { heap.new ≡ record heap.old { state = heap.new.state; held_ids = heap.new.held_ids } }
+    ensures heap { heap.new
+        ≡ record heap.old { state = heap.new.state; held_ids = heap.new.held_ids } }
     ensures chain { chain.new ≡ record chain.old { records = chain.new.records } }
     ensures records { bytes_of chain.new.records ≡ bytes_of chain.old.records }
     ensures belongs { Belongs heap.new.version heap.new.quota heap.new.state chain.new }
@@ -189,7 +191,8 @@ fn read_record<'a>(
     ensures read { IfOk result (λ rest.
         RecordIsRead rule.version rule.quota record_list.old record_list.new bytes.now rest.now) }
     ensures bad { IfErr result (λ why.
-        why ≡ record_fail.Bad → NoRecordIn rule.version rule.quota rule.depth record_list.old bytes.now) }
+        why ≡ record_fail.Bad
+        → NoRecordIn rule.version rule.quota rule.depth record_list.old bytes.now) }
 {
     let Some((record, rest)) = framed_in(bytes) else {
         return Err(RecordFail::Bad);

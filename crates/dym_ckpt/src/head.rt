@@ -27,7 +27,8 @@ pub(crate) struct Head {
 pub(crate) fn head_in(bytes: &[u8]) -> Option<(Head, &[u8])>
     ensures good { IfSome result (λ read. IsFileHead (said read.0)) }
     ensures is { IfSome result (λ read. bytes.now ≡ head_bytes (said read.0) ++ read.1.now) }
-    ensures only { (head : FileHead) (left : List ℕ) → IsFileHead head → bytes.now ≡ head_bytes head ++ left
+    ensures only { (head : FileHead) (left : List ℕ) → IsFileHead head
+        → bytes.now ≡ head_bytes head ++ left
         → IsSomeAnd result (λ r. (said r.0 ≡ head) × (r.1.now ≡ left)) }
 {
     let rest = behind_magic(bytes)?;
@@ -62,7 +63,8 @@ fn behind_magic(bytes: &[u8]) -> Option<&[u8]>
 fn name_in(bytes: &[u8]) -> Option<(Name, &[u8])>
     ensures is { IfSome result (λ read. bytes.now ≡ length read.0 ∷ read.0 ++ read.1.now) }
     ensures good { IfSome result (λ read. IsTrue (is_name read.0)) }
-    ensures only { (name left : List ℕ) → IsTrue (is_name name) → bytes.now ≡ length name ∷ name ++ left
+    ensures only { (name left : List ℕ) → IsTrue (is_name name)
+        → bytes.now ≡ length name ∷ name ++ left
         → IsSomeAnd result (λ r. (r.0 ≡ name) × (r.1.now ≡ left)) }
 {
     let (len, rest) = bytes.split_first()?;

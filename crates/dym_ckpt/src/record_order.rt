@@ -14,7 +14,8 @@ use dym_pack::{AreaHead, Record};
 /// is used in the other.
 pub(crate) fn may_follow(before: &Record, rec: &Record) -> bool
     ensures may { result ≡ true → OfLog before.now (λ b. OfLog rec.now (λ log. MayFollow b log)) }
-    ensures never { result ≡ false → OfLog before.now (λ b. OfLog rec.now (λ log. MayFollow b log → ⊥)) }
+    ensures never { result ≡ false → OfLog before.now
+        (λ b. OfLog rec.now (λ log. MayFollow b log → ⊥)) }
 {
     before.time() < rec.time() && (rec.kind() == Kind::Full || is_based(before, rec))
 }
@@ -22,7 +23,8 @@ pub(crate) fn may_follow(before: &Record, rec: &Record) -> bool
 /// Whether each chunk that a record uses and doesn't pack is used in another.
 fn is_based(before: &Record, rec: &Record) -> bool
     ensures is { result ≡ true → OfLog before.now (λ b. OfLog rec.now (λ log. IsBased b log)) }
-    ensures fails { result ≡ false → OfLog before.now (λ b. OfLog rec.now (λ log. IsBased b log → ⊥)) }
+    ensures fails { result ≡ false → OfLog before.now
+        (λ b. OfLog rec.now (λ log. IsBased b log → ⊥)) }
 {
     let mut from = 0;
     for k in 0..rec.area_count() {
@@ -38,8 +40,10 @@ fn is_based(before: &Record, rec: &Record) -> bool
 /// the next one is to be looked for, as areas rise in both.
 fn area_is_based(before: &Record, rec: &Record, k: u32, from: u32) -> Option<u32>
     requires area { OfLog rec.now (λ log. k < held log.copy) }
-    ensures is { IsSome result → OfLog before.now (λ b. OfLog rec.now (λ log. AreaIsBased b log k)) }
-    ensures fails { result ≡ None → OfLog before.now (λ b. OfLog rec.now (λ log. AreaIsBased b log k → ⊥)) }
+    ensures is { IsSome result → OfLog before.now
+        (λ b. OfLog rec.now (λ log. AreaIsBased b log k)) }
+    ensures fails { result ≡ None → OfLog before.now
+        (λ b. OfLog rec.now (λ log. AreaIsBased b log k → ⊥)) }
 {
     let used = rec.use_bytes(k);
     let packed = rec.packed_bits(k).bytes();
@@ -62,9 +66,11 @@ fn area_is_based(before: &Record, rec: &Record, k: u32, from: u32) -> Option<u32
 /// Where an area stands in a record, looked for from area `from` on and then from the first on.
 fn place_of(rec: &Record, exp: u8, ordinal: u32, from: u32) -> Option<u32>
     ensures is { IfSome result (λ place.
-        OfLog rec.now (λ log. (place < held log.copy) × (area_at log.copy place ≡ named exp ordinal))) }
+        OfLog rec.now (λ log. (place < held log.copy)
+        × (area_at log.copy place ≡ named exp ordinal))) }
     ensures none { result ≡ None → OfLog rec.now
-        (λ log. (place : ℕ) → place < held log.copy → area_at log.copy place ≡ named exp ordinal → ⊥) }
+        (λ log. (place : ℕ) → place < held log.copy → area_at log.copy place ≡ named exp ordinal
+        → ⊥) }
 {
     let count = rec.area_count();
     match place_within(rec, exp, ordinal, from, count) {
@@ -77,9 +83,11 @@ fn place_of(rec: &Record, exp: u8, ordinal: u32, from: u32) -> Option<u32>
 fn place_within(rec: &Record, exp: u8, ordinal: u32, from: u32, to: u32) -> Option<u32>
     requires within { OfLog rec.now (λ log. to ≤ held log.copy) }
     ensures is { IfSome result (λ place.
-        OfLog rec.now (λ log. (place < held log.copy) × (area_at log.copy place ≡ named exp ordinal))) }
+        OfLog rec.now (λ log. (place < held log.copy)
+        × (area_at log.copy place ≡ named exp ordinal))) }
     ensures none { result ≡ None → OfLog rec.now
-        (λ log. (place : ℕ) → from ≤ place → place < to → area_at log.copy place ≡ named exp ordinal → ⊥) }
+        (λ log. (place : ℕ) → from ≤ place → place < to
+        → area_at log.copy place ≡ named exp ordinal → ⊥) }
 {
     for place in from..to {
         let area = rec.area(place);

@@ -35,7 +35,8 @@ pub(crate) struct RecordList {
 impl RecordList {
     /// No record yet.
     pub(crate) fn open(alloc: Global) -> Result<RecordList, AllocError>
-        ensures record_list { IfOk result (λ record_list. (v : Version) (d : ℕ) → IsListed v d record_list) }
+        ensures record_list { IfOk result (λ record_list. (v : Version) (d : ℕ)
+            → IsListed v d record_list) }
         ensures none { IfOk result (λ record_list. record_list.keep.records ≡ []) }
     {
         Ok(RecordList {
@@ -61,7 +62,8 @@ impl RecordList {
             ≡ bytes_of self.old.keep.records ++ bytes.now ∷ []) }
         ensures good { OnOk result (IsRecordOf rule.version rule.quota bytes.now) }
         ensures bad { IfErr result (λ why.
-            why ≡ Bad → CantBeNext rule.version rule.quota rule.depth (bytes_of self.old.keep.records) bytes.now) }
+            why ≡ Bad → CantBeNext rule.version rule.quota rule.depth
+            (bytes_of self.old.keep.records) bytes.now) }
     {
         let rec = Record::of_bytes(alloc, bytes, rule.version, rule.quota)?;
         if !may_be_next(&mut self.keep, rule.depth, self.depth, &rec) {
@@ -88,7 +90,8 @@ fn may_be_next(keep: &mut VecKeep, oldest: u8, depth: u8, rec: &Record) -> bool
     requires { keep.old.lifted ≡ None }
     ensures same { keep.new ≡ keep.old }
     ensures fits { result ≡ true → FitsBehind oldest depth keep.old.records rec.now }
-    ensures follows { result ≡ true → 0 < length keep.old.records → FollowsLast keep.old.records rec.now }
+    ensures follows { result ≡ true → 0 < length keep.old.records
+        → FollowsLast keep.old.records rec.now }
     ensures never { result ≡ false → NeverFits oldest depth keep.old.records rec.now }
 {
     let place = keep.len();

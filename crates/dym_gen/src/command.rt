@@ -16,7 +16,8 @@ pub fn put_command(page: &mut [u8], end: usize, draws: &mut Draws, place: Comman
     ensures state { draws.new.state ≡ command_state
         (fixed_command place.object place.number) draws.old.state }
     ensures text { take result page.new
-        ≡ take end page.old ++ command_text (fixed_command place.object place.number) draws.old.state }
+        ≡ take end page.old ++ command_text
+        (fixed_command place.object place.number) draws.old.state }
     ensures short { result ≤ end + 24 }
 {
     let j = place.number;
@@ -73,7 +74,8 @@ fn put_below(page: &mut [u8], end: usize, draws: &mut Draws, limit: u32) -> usiz
     requires limit { limit ≤ 1000 }
     requires room { end + 4 ≤ length page.old }
     ensures state { draws.new.state ≡ next draws.old.state }
-    ensures text { take result page.new ≡ take end page.old ++ decimal (below limit (next draws.old.state)) }
+    ensures text { take result page.new ≡ take end page.old
+        ++ decimal (below limit (next draws.old.state)) }
     ensures short { result ≤ end + 3 }
 {
     put_short(page, end, draws.below(limit))
@@ -97,7 +99,8 @@ fn put_chunk(page: &mut [u8], end: usize, draws: &mut Draws) -> usize
 fn put_malloc(page: &mut [u8], end: usize, draws: &mut Draws) -> usize
     requires { end + 32 ≤ length page.old }
     ensures state { draws.new.state ≡ state_after draws.old.state (drawn_command 0) }
-    ensures text { take result page.new ≡ take end page.old ++ text_from draws.old.state (drawn_command 0) }
+    ensures text { take result page.new ≡ take end page.old
+        ++ text_from draws.old.state (drawn_command 0) }
     ensures short { result ≤ end + 24 }
 {
     let end = put_text(page, end, b"malloc ");
@@ -108,7 +111,8 @@ fn put_malloc(page: &mut [u8], end: usize, draws: &mut Draws) -> usize
 fn put_calloc(page: &mut [u8], end: usize, draws: &mut Draws) -> usize
     requires { end + 32 ≤ length page.old }
     ensures state { draws.new.state ≡ state_after draws.old.state (drawn_command 1) }
-    ensures text { take result page.new ≡ take end page.old ++ text_from draws.old.state (drawn_command 1) }
+    ensures text { take result page.new ≡ take end page.old
+        ++ text_from draws.old.state (drawn_command 1) }
     ensures short { result ≤ end + 24 }
 {
     let end = put_text(page, end, b"calloc ");
@@ -166,7 +170,8 @@ fn put_numbered(
 fn put_fill(page: &mut [u8], end: usize, draws: &mut Draws) -> usize
     requires { end + 32 ≤ length page.old }
     ensures state { draws.new.state ≡ state_after draws.old.state (drawn_command 4) }
-    ensures text { take result page.new ≡ take end page.old ++ text_from draws.old.state (drawn_command 4) }
+    ensures text { take result page.new ≡ take end page.old
+        ++ text_from draws.old.state (drawn_command 4) }
     ensures short { result ≤ end + 24 }
 {
     let end = put_numbered(page, end, draws, b"fill ", 40, b" ");
@@ -179,7 +184,8 @@ fn put_fill(page: &mut [u8], end: usize, draws: &mut Draws) -> usize
 fn put_link(page: &mut [u8], end: usize, draws: &mut Draws) -> usize
     requires { end + 32 ≤ length page.old }
     ensures state { draws.new.state ≡ state_after draws.old.state (drawn_command 5) }
-    ensures text { take result page.new ≡ take end page.old ++ text_from draws.old.state (drawn_command 5) }
+    ensures text { take result page.new ≡ take end page.old
+        ++ text_from draws.old.state (drawn_command 5) }
     ensures short { result ≤ end + 24 }
 {
     let end = put_numbered(page, end, draws, b"link ", 40, b" ");

@@ -27,7 +27,8 @@ pub fn gen_script<W: Sink>(
     requires some { 0 < objects }
     requires objects { objects ≤ MOST_OBJECTS }
     requires commands { commands ≤ MOST_MADE_COMMANDS }
-    ensures { Writes (W.output sink.old) (W.output sink.new) (generated seed objects commands) result }
+    ensures { Writes (W.output sink.old) (W.output sink.new)
+        (generated seed objects commands) result }
 {
     let mut page = [0; PAGE_ROOM];
     write_objects(sink, &mut page, objects)?;

@@ -20,7 +20,8 @@ impl<K: LogKeep> Object<FixedSupply, K> {
     /// this address as long as the object is open (`laws::commands_move_no_chunk`).
     pub fn address(&self, h: Handle) -> Option<*const u8>
         ensures { MatchOption result (get self.now.heap.state.live (key h) ≡ None) (λ at.
-            IsSome (get self.now.heap.state.live (key h)) × (address_of self.now.heap h ≡ Some at)) }
+            IsSome (get self.now.heap.state.live (key h))
+            × (address_of self.now.heap h ≡ Some at)) }
     {
         if !self.heap.is_live(h) {
             return None;
@@ -38,7 +39,8 @@ impl<K: LogKeep> Object<FixedSupply, K> {
 
     /// The live chunk that has the byte at `offset` of the region, and None where none has it. It takes constant time.
     pub fn handle_at(&self, offset: u64) -> Option<Handle>
-        ensures class { IfSome result (λ h. (LEAST_EXPONENT ≤ h.exp) × (h.exp ≤ GREATEST_EXPONENT)) }
+        ensures class { IfSome result (λ h. (LEAST_EXPONENT ≤ h.exp)
+            × (h.exp ≤ GREATEST_EXPONENT)) }
         ensures found { IfSome result (λ h. HasByteAt self.now.heap h offset) }
         ensures only { (k : ℕ) → HasByteAt self.now.heap (handle_of k) offset
             → option_map key result ≡ Some k }
@@ -49,7 +51,8 @@ impl<K: LogKeep> Object<FixedSupply, K> {
     /// Where the region begins: the byte at offset 0.
     pub fn start(&self) -> *const u8
         ensures region { IsSome (region_of self.now.heap.origin) }
-        ensures start { ForSome (region_of self.now.heap.origin) (λ region. result ≡ block_ptr region 0) }
+        ensures start { ForSome (region_of self.now.heap.origin)
+            (λ region. result ≡ block_ptr region 0) }
     {
         self.heap.start()
     }

@@ -42,9 +42,11 @@ impl<S: Supply, K: LogKeep> Object<S, K> {
         requires least { LEAST_EXPONENT ≤ h.exp }
         requires most { h.exp ≤ GREATEST_EXPONENT }
         requires some { HasByte self.old.heap h }
-        ensures* writes_back { sem 𝓛 (lends_object S.row K.row S.Seg.row S.Context.row S.Seg.Segment S.Supply K.LogKeep self.entry h result) }
+        ensures* writes_back { sem 𝓛
+            (lends_object S.row K.row S.Seg.row S.Context.row S.Seg.Segment S.Supply K.LogKeep self.entry h result) }
         ensures value { get self.old.heap.state.live (key h) ≡ Some result.now }
-        ensures step { (ws : List ℕ) → IsStep self.old (object_lent self.old h ws) (write_all self.old h ws) }
+        ensures step { (ws : List ℕ) → IsStep self.old (object_lent self.old h ws)
+            (write_all self.old h ws) }
         ensures whole { (ws : List ℕ) → IsWhole (object_lent self.old h ws) }
     {
         steps_keep_whole();

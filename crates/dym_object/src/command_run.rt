@@ -32,7 +32,8 @@ impl<S: Supply, K: LogKeep> Object<S, K> {
         ensures base_logs { OnOk result (self.new.chain.base_logs
             ≡ base_logs_step self.old.chain.base_logs (state_of self.old) command.now) }
         ensures ran { OnOk result (self.new.ran ≡ self.old.ran + 1) }
-        ensures memory { IfErr result (λ _. TakesMemory command.now (step_by self.old command.now).reply) }
+        ensures memory { IfErr result (λ _. TakesMemory command.now
+            (step_by self.old command.now).reply) }
         ensures unchanged { OnErr result (self.new ≡ self.old) }
         ensures refused { IfOk result (λ r. OnRefusal r (self.new ≡ counted self.old)) }
         ensures heap { self.new.heap ≡ record self.old.heap {
@@ -63,7 +64,8 @@ impl<S: Supply, K: LogKeep> Object<S, K> {
         ensures base_logs { OnOk result (self.new.chain.base_logs
             ≡ base_logs_step self.old.chain.base_logs (state_of self.old) command.now) }
         ensures ran { OnOk result (self.new.ran ≡ self.old.ran + 1) }
-        ensures memory { IfErr result (λ _. TakesMemory command.now (step_by self.old command.now).reply) }
+        ensures memory { IfErr result (λ _. TakesMemory command.now
+            (step_by self.old command.now).reply) }
         ensures unchanged { OnErr result (self.new ≡ self.old) }
         ensures kept { OnErr result (reply.new ≡ reply.old) }
         ensures refused { OnOk result (OnRefusal reply.new (self.new ≡ counted self.old)) }
@@ -124,7 +126,8 @@ impl<S: Supply, K: LogKeep> Object<S, K> {
     ) -> Result<(), AllocError>
         requires { self.old.ran < COUNT_LIMIT }
         ensures reply { OnOk result (reply.new ≡ (step_by self.old (Read h at len)).reply) }
-        ensures after { OnOk result (state_of self.new ≡ (step_by self.old (Read h at len)).object) }
+        ensures after { OnOk result (state_of self.new
+            ≡ (step_by self.old (Read h at len)).object) }
         ensures base_logs { OnOk result (self.new.chain.base_logs
             ≡ base_logs_step self.old.chain.base_logs (state_of self.old) (Read h at len)) }
         ensures ran { OnOk result (self.new.ran ≡ self.old.ran + 1) }
@@ -167,7 +170,8 @@ impl<S: Supply, K: LogKeep> Object<S, K> {
     ) -> Result<(), AllocError>
         requires { self.old.ran < COUNT_LIMIT }
         ensures reply { OnOk result (reply.new ≡ (step_by self.old (log_command want time)).reply) }
-        ensures after { OnOk result (state_of self.new ≡ (step_by self.old (log_command want time)).object) }
+        ensures after { OnOk result (state_of self.new
+            ≡ (step_by self.old (log_command want time)).object) }
         ensures base_logs { OnOk result (self.new.chain.base_logs
             ≡ base_logs_step self.old.chain.base_logs (state_of self.old) (log_command want time)) }
         ensures ran { OnOk result (self.new.ran ≡ self.old.ran + 1) }

@@ -108,7 +108,8 @@ impl<S: Supply, K: LogKeep> Object<S, K> {
     #[inline(always)]
     pub fn read(&mut self, h: Handle, at: u32, out: &mut [u8]) -> Result<(), Refusal>
         requires { self.old.ran < COUNT_LIMIT }
-        ensures reply { bytes_reply result out.new ≡ (step_by self.old (Read h at (length out.old))).reply }
+        ensures reply { bytes_reply result out.new
+            ≡ (step_by self.old (Read h at (length out.old))).reply }
         ensures step { IsStep self.old self.new (Read h at (length out.old)) }
         ensures refused { OnErr result (self.new ≡ counted self.old) }
         ensures kept { OnErr result (out.new ≡ out.old) }

@@ -85,7 +85,8 @@ impl<S: Supply, K: LogKeep> Object<S, K> {
     pub fn restore_before(&mut self, context: &S::Context, time: u64) -> Result<u64, Refusal>
         requires { self.old.ran < COUNT_LIMIT }
         ensures at_zero { time ≡ 0 → (result ≡ Err NoLog) × (self.new ≡ counted self.old) }
-        ensures reply { 0 < time → restored_reply result ≡ (step_by self.old (Restore (time - 1))).reply }
+        ensures reply { 0 < time → restored_reply result
+            ≡ (step_by self.old (Restore (time - 1))).reply }
         ensures step { 0 < time → IsStep self.old self.new (Restore (time - 1)) }
         ensures refused { OnErr result (self.new ≡ counted self.old) }
         ensures whole { IsWhole self.new }
@@ -115,7 +116,8 @@ impl<S: Supply, K: LogKeep> Object<S, K> {
     pub fn prune_before(&mut self, bound: u64) -> u32
         requires { self.old.ran < COUNT_LIMIT }
         ensures at_zero { bound ≡ 0 → (result ≡ 0) × (self.new ≡ counted self.old) }
-        ensures reply { 0 < bound → reply.Dropped result ≡ (step_by self.old (Prune (bound - 1))).reply }
+        ensures reply { 0 < bound → reply.Dropped result
+            ≡ (step_by self.old (Prune (bound - 1))).reply }
         ensures step { 0 < bound → IsStep self.old self.new (Prune (bound - 1)) }
         ensures heap { self.new.heap ≡ self.old.heap }
         ensures whole { IsWhole self.new }

@@ -87,7 +87,8 @@ type End = Seat<(), StopView>;
 pub struct Asker {
     table: Arc<StopTable, Global>,
     seat: End,
-    ghost seated: { (seat.table_id ≡ table.value.shared.table_id) × (table.value.shared.table_id.words ≡ 1) },
+    ghost seated: { (seat.table_id ≡ table.value.shared.table_id)
+        × (table.value.shared.table_id.words ≡ 1) },
     ghost asks: { seat.me.0.asks ≡ true },
 }
 
@@ -123,7 +124,8 @@ pub struct Ear {
     table: Arc<StopTable, Global>,
     seat: End,
     heard: bool,
-    ghost seated: { (seat.table_id ≡ table.value.shared.table_id) × (table.value.shared.table_id.words ≡ 1) },
+    ghost seated: { (seat.table_id ≡ table.value.shared.table_id)
+        × (table.value.shared.table_id.words ≡ 1) },
     ghost knows: { seat.me.0.heard ≡ heard },
 }
 
@@ -140,7 +142,8 @@ impl Stop {
     /// A stop that nobody has asked for.
     pub fn open(alloc: Global) -> Result<(Asker, Ear), AllocError>
         ensures asker { IfOk result (λ ends. ends.0.asked ≡ false) }
-        ensures ear { IfOk result (λ ends. ends.1 ≡ record { stop = ends.0.stop; heard = false; misses = 0 }) }
+        ensures ear { IfOk result (λ ends. ends.1
+            ≡ record { stop = ends.0.stop; heard = false; misses = 0 }) }
     {
         let (words, mut seat) = StopTable::of_words(alloc, &[0], &())?;
         let table = Arc::new(alloc, words)?;
@@ -191,8 +194,10 @@ impl Ear {
 
     /// Whether the stop was asked for, by one load of the word. Once this end has heard, the answer is always true.
     pub fn asked(&mut self) -> bool
-        ensures found { IsTrue result → self.new ≡ record { stop = self.old.stop; heard = true; misses = self.old.misses } }
-        ensures missed { IsFalse result → self.new ≡ record { stop = self.old.stop; heard = false; misses = self.old.misses + 1 } }
+        ensures found { IsTrue result → self.new
+            ≡ record { stop = self.old.stop; heard = true; misses = self.old.misses } }
+        ensures missed { IsFalse result → self.new
+            ≡ record { stop = self.old.stop; heard = false; misses = self.old.misses + 1 } }
         ensures again { self.old.heard ≡ true → IsTrue result }
     {
         let found = self.table.shared.load::<Listen>(&mut self.seat, 0);
@@ -205,8 +210,10 @@ impl Ear {
 
     /// Sleeps until the stop is asked for, but no longer than this, and answers as `asked` does. It may also end early.
     pub(crate) fn asked_within<R: Wait>(&mut self, rt: &R, longest: Duration) -> bool
-        ensures found { IsTrue result → self.new ≡ record { stop = self.old.stop; heard = true; misses = self.old.misses } }
-        ensures missed { IsFalse result → self.new ≡ record { stop = self.old.stop; heard = false; misses = self.old.misses + 1 } }
+        ensures found { IsTrue result → self.new
+            ≡ record { stop = self.old.stop; heard = true; misses = self.old.misses } }
+        ensures missed { IsFalse result → self.new
+            ≡ record { stop = self.old.stop; heard = false; misses = self.old.misses + 1 } }
     {
         self.table.shared.park_timeout(rt, 0, 0, longest);
         self.asked()

@@ -90,7 +90,9 @@ impl LateReader {
         requires { IsValidLateReader self.old }
         ensures kept { OnOk result (IsValidLateReader self.new) }
         ensures read { GivesLateLine (late_reading_of self.new) result
-            (late_declared (late_reading_of self.old) (declare_words (declaring (late_reading_of self.old).objects) number (words_of words.now))) }
+            (late_declared (late_reading_of self.old)
+            (declare_words (declaring (late_reading_of self.old).objects) number
+            (words_of words.now))) }
     {
         let (name, quota) = two_words(words)?;
         let quota = number_of(quota)?;

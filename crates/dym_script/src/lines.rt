@@ -61,7 +61,8 @@ pub fn two_words(text: &[u8]) -> Result<(&[u8], &[u8]), BadKind>
 
 /// The three words of a line.
 pub fn three_words(text: &[u8]) -> Result<(&[u8], &[u8], &[u8]), BadKind>
-    ensures { MatchResult result (λ words. words_of text.now ≡ words.0.now ∷ words.1.now ∷ words.2.now ∷ [])
+    ensures { MatchResult result (λ words. words_of text.now
+        ≡ words.0.now ∷ words.1.now ∷ words.2.now ∷ [])
         (λ kind. (kind ≡ Command) × (length (words_of text.now) ≢ 3)) }
 {
     let (first, after) = next_word(text).ok_or(BadKind::Command)?;

@@ -65,7 +65,8 @@ impl Pieces<PartCollector> {
         requires taken { (taken : List ℕ) × TookBy KeepsParts self.old taken
             × (length taken + length text.now ≤ MOST_INPUT_BYTES) }
         ensures within { IfOk result (λ left. left ≤ length text.now) }
-        ensures took { TakesPiece (TookBy KeepsParts self.old) (TookBy KeepsParts self.new) text.now result }
+        ensures took { TakesPiece (TookBy KeepsParts self.old)
+            (TookBy KeepsParts self.new) text.now result }
     {
         let (lines, last) = text.split_at(ended_bytes(text));
         self.read_lines(rt, alloc, threads, lines)?;
@@ -107,7 +108,8 @@ impl Pieces<PartCollector> {
         requires ready { MayRead KeepsParts self.old }
         requires room { self.old.number + length text.now ≤ MOST_INPUT_BYTES }
         ensures ready { OnOk result (MayRead KeepsParts self.new) }
-        ensures number { IfOk result (λ rest. self.new.number + length rest.now ≤ self.old.number + length text.now) }
+        ensures number { IfOk result (λ rest. self.new.number + length rest.now
+            ≤ self.old.number + length text.now) }
         ensures read { ReadsRest
             (StandsAt KeepsParts self.old) (StandsAt KeepsParts self.new)
             self.old.number self.new.number text.now result }
@@ -134,15 +136,19 @@ impl Pieces<PartCollector> {
         all: Vec<Result<ReadAhead<'_>, AllocError>>,
     ) -> Result<(), ScriptFail>
         requires ready { MayRead KeepsParts self.old }
-        requires room { self.old.number + sum_by (λ part. length part.now) parts.now.items ≤ MOST_INPUT_BYTES }
+        requires room { self.old.number + sum_by (λ part. length part.now) parts.now.items
+            ≤ MOST_INPUT_BYTES }
         requires len { length all.items ≡ length parts.now.items }
         requires each { (k : ℕ) (d : _) (e : _) → k < length parts.now.items
-            → IfOk (slice_index_or all.items k e) (IsAhead self.old.reader.objects.items (slice_index_or parts.now.items k d).now) }
+            → IfOk (slice_index_or all.items k e)
+            (IsAhead self.old.reader.objects.items (slice_index_or parts.now.items k d).now) }
         ensures ready { OnOk result (MayRead KeepsParts self.new) }
-        ensures number { OnOk result (self.new.number ≤ self.old.number + sum_by (λ part. length part.now) parts.now.items) }
+        ensures number { OnOk result (self.new.number
+            ≤ self.old.number + sum_by (λ part. length part.now) parts.now.items) }
         ensures read { ReadsFront
             (StandsAt KeepsParts self.old) (StandsAt KeepsParts self.new)
-            self.old.number self.new.number (flat_map (λ part. lines_of part.now) parts.now.items) [] result }
+            self.old.number self.new.number
+            (flat_map (λ part. lines_of part.now) parts.now.items) [] result }
     {
         let mut place = 0;
         for ahead in all {
@@ -162,10 +168,12 @@ impl Pieces<PartCollector> {
     ) -> Result<(), ScriptFail>
         requires ready { MayRead KeepsParts self.old }
         requires room { self.old.number + length text.now ≤ MOST_INPUT_BYTES }
-        requires ahead { (objects : List Decl) × GoesOn objects self.old.reader.objects.items × IsAhead objects text.now ahead }
+        requires ahead { (objects : List Decl) × GoesOn objects self.old.reader.objects.items
+            × IsAhead objects text.now ahead }
         ensures ready { OnOk result (MayRead KeepsParts self.new) }
         ensures number { OnOk result (self.new.number ≤ self.old.number + length text.now) }
-        ensures grows { OnOk result (GoesOn self.old.reader.objects.items self.new.reader.objects.items) }
+        ensures grows { OnOk result
+            (GoesOn self.old.reader.objects.items self.new.reader.objects.items) }
         ensures read { ReadsText
             (StandsAt KeepsParts self.old) (StandsAt KeepsParts self.new)
             self.old.number self.new.number text.now result }

@@ -29,7 +29,8 @@ impl PartCollector {
     pub(crate) fn append(&mut self, own: Vec<Commands>) -> Result<(), AllocError>
         requires within { length own.items ≤ length self.old.parts.items }
         requires room { (k : ℕ) (d : _) (e : _) → k < length own.items
-            → length (slice_index_or self.old.parts.items k d).commands + length (slice_index_or own.items k e) ≤ MOST_COMMANDS }
+            → length (slice_index_or self.old.parts.items k d).commands
+            + length (slice_index_or own.items k e) ≤ MOST_COMMANDS }
         ensures { OnOk result (HasOwn own.items self.old.parts.items self.new.parts.items) }
     {
         let mut place = 0;

@@ -64,7 +64,8 @@ impl<K: Keeper + Drop> Pieces<K> {
             × (length taken + length text.now ≤ MOST_INPUT_BYTES) }
         ensures short { IfOk result (λ left. left ≤ MOST_LINE_BYTES) }
         ensures within { IfOk result (λ left. left ≤ length text.now) }
-        ensures took { TakesPiece (TookBy K.keeps self.old) (TookBy K.keeps self.new) text.now result }
+        ensures took { TakesPiece (TookBy K.keeps self.old)
+            (TookBy K.keeps self.new) text.now result }
     {
         let (lines, last) = text.split_at(ended_bytes(text));
         self.read_all(alloc, lines)?;
@@ -110,7 +111,8 @@ impl<K: Keeper + Drop> Pieces<K> {
         requires room { self.old.number + length text.now ≤ MOST_INPUT_BYTES }
         ensures ready { OnOk result (MayRead K.keeps self.new) }
         ensures number { OnOk result (self.new.number ≤ self.old.number + length text.now) }
-        ensures grows { OnOk result (GoesOn self.old.reader.objects.items self.new.reader.objects.items) }
+        ensures grows { OnOk result
+            (GoesOn self.old.reader.objects.items self.new.reader.objects.items) }
         ensures read { ReadsText
             (StandsAt K.keeps self.old) (StandsAt K.keeps self.new)
             self.old.number self.new.number text.now result }
@@ -141,7 +143,8 @@ impl<K: Keeper + Drop> Pieces<K> {
         requires some { 0 < length text.now }
         ensures ready { OnOk result (MayRead K.keeps self.new) }
         ensures shorter { IfOk result (λ rest. length rest.now < length text.now) }
-        ensures grows { OnOk result (GoesOn self.old.reader.objects.items self.new.reader.objects.items) }
+        ensures grows { OnOk result
+            (GoesOn self.old.reader.objects.items self.new.reader.objects.items) }
         ensures read { ReadsNext
             (StandsAt K.keeps self.old) (StandsAt K.keeps self.new)
             number text.now result }
@@ -166,7 +169,8 @@ impl<K: Keeper + Drop> Pieces<K> {
         requires some { 0 < length text.now }
         ensures ready { OnOk result (MayRead K.keeps self.new) }
         ensures shorter { IfOk result (λ rest. length rest.now < length text.now) }
-        ensures grows { OnOk result (GoesOn self.old.reader.objects.items self.new.reader.objects.items) }
+        ensures grows { OnOk result
+            (GoesOn self.old.reader.objects.items self.new.reader.objects.items) }
         ensures read { ReadsNext
             (StandsAt K.keeps self.old) (StandsAt K.keeps self.new)
             number text.now result }
@@ -194,8 +198,12 @@ impl<K: Keeper + Drop> Pieces<K> {
         ensures ready { OnOk result (MayRead K.keeps self.new) }
         ensures rest { IfOk result (λ left. left.now ≡ rest.now) }
         ensures reader { self.new.reader ≡ self.old.reader }
-        ensures holds { HoldsLine (Holds (K.keeps self.old.keeper) self.old.reader self.old.commands) (Holds (K.keeps self.new.keeper) self.new.reader self.new.commands)
-            (reading_of self.new.reader) result (λ lines. reading self.old.reader.begun (ask_at (reading_of self.old.reader lines).said (asks asked.now) (Some object))) }
+        ensures holds { HoldsLine
+            (Holds (K.keeps self.old.keeper) self.old.reader self.old.commands)
+            (Holds (K.keeps self.new.keeper) self.new.reader self.new.commands)
+            (reading_of self.new.reader) result
+            (λ lines. reading self.old.reader.begun
+            (ask_at (reading_of self.old.reader lines).said (asks asked.now) (Some object))) }
     {
         if self.commands as usize == MOST_COMMANDS {
             return Err(LineFail::Bad(BadKind::Many));
@@ -214,7 +222,8 @@ fn declare_object<K: Keeper>(
     before: usize,
 ) -> Result<(), AllocError>
     requires { IsValidReader reader.now }
-    ensures { OnOk result ((objects : List Decl) (lines : List Line) → length objects ≡ before → Grows objects reader.now.objects.items
+    ensures { OnOk result ((objects : List Decl) (lines : List Line) → length objects ≡ before
+        → Grows objects reader.now.objects.items
         → K.keeps keeper.old objects lines → K.keeps keeper.new reader.now.objects.items lines) }
 {
     if reader.objects.len() > before {

@@ -71,7 +71,8 @@ pub(crate) fn read_all_ahead<'a, R: Threads + Sync>(
     requires { IsValidReader reader.now }
     ensures len { IfOk result (λ all. length all.items ≡ length texts.now.items) }
     ensures each { IfOk result (λ all. (k : ℕ) (d : _) (e : _) → k < length texts.now.items
-        → IfOk (slice_index_or all.items k e) (IsAhead reader.now.objects.items (slice_index_or texts.now.items k d).now)) }
+        → IfOk (slice_index_or all.items k e)
+        (IsAhead reader.now.objects.items (slice_index_or texts.now.items k d).now)) }
 {
     thread::map_indices(
         rt,
@@ -93,7 +94,8 @@ pub(crate) fn cut_lines<'a>(
     requires { 0 < count }
     ensures lines { IfOk result (λ parts.
         flat_map (λ part. lines_of part.now) parts.items ≡ lines_of text.now) }
-    ensures short { IfOk result (λ parts. sum_by (λ part. length part.now) parts.items ≡ length text.now) }
+    ensures short { IfOk result (λ parts. sum_by (λ part. length part.now) parts.items
+        ≡ length text.now) }
     ensures few { IfOk result (λ parts. length parts.items ≤ count) }
 {
     let size = text.len() / count + 1;

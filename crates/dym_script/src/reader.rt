@@ -77,7 +77,8 @@ impl Reader {
         ensures grows { OnOk result (Grows self.old.objects.items self.new.objects.items) }
         ensures within { IfOk result (λ next. IsWithin self.new next.ask) }
         ensures shorter { IfOk result (λ next. length next.rest.now < length text.now) }
-        ensures read { GivesNext (reading_of self.old) (reading_of self.new) number text.now result }
+        ensures read { GivesNext (reading_of self.old)
+            (reading_of self.new) number text.now result }
     {
         let Some((line, rest)) = next_line(text) else {
             unreachable!();
@@ -147,7 +148,8 @@ impl Reader {
         ensures grows { OnOk result (Grows self.old.objects.items self.new.objects.items) }
         ensures within { IfOk result (IsWithin self.new) }
         ensures read { GivesReading (reading_of self.new) result
-            (λ lines. read_words (reading_of self.old lines) number (first.now ∷ words_of words.now)) }
+            (λ lines. read_words (reading_of self.old lines) number
+            (first.now ∷ words_of words.now)) }
     {
         if first.first() == Some(&b'#') {
             return Ok(None);
@@ -202,7 +204,8 @@ impl Reader {
         requires { IsValidReader self.old }
         ensures kept { OnOk result (IsValidReader self.new) }
         ensures grows { OnOk result (Grows self.old.objects.items self.new.objects.items) }
-        ensures more { OnOk result (length self.new.objects.items ≡ length self.old.objects.items + 1) }
+        ensures more { OnOk result (length self.new.objects.items
+            ≡ length self.old.objects.items + 1) }
         ensures version { self.new.version ≡ self.old.version }
         ensures read { Declares (λ lines. (reading_of self.new lines).said) result
             (λ lines. declare (reading_of self.old lines).said number name.now (Some quota)) }

@@ -6,7 +6,8 @@ ghost use Rattle.dym_base.specs.Lines.{lines_of};
 /// What stands before the first byte of this value and what stands after it, if there is one.
 pub(crate) fn cut(bytes: &[u8], mark: u8) -> Option<(&[u8], &[u8])>
     ensures { MatchOption result (All (λ b. b ≢ mark) bytes.now)
-        (λ parts. (bytes.now ≡ parts.0.now ++ mark ∷ parts.1.now) × All (λ b. b ≢ mark) parts.0.now) }
+        (λ parts. (bytes.now ≡ parts.0.now ++ mark ∷ parts.1.now)
+        × All (λ b. b ≢ mark) parts.0.now) }
 {
     let place = bytes.iter().position(|byte| *byte == mark)?;
     Some((&bytes[..place], &bytes[place + 1..]))

@@ -125,7 +125,8 @@ impl Machine {
         requires sound { IsSound self.now }
         requires slot { slot < LOG_SLOTS }
         ensures { MatchOption result (self.now.owner_out ≢ Some slot)
-            (λ held. (self.now.owner_out ≡ Some slot) × (state_of (core_of self.now) slot ≡ OutOwner held)) }
+            (λ held. (self.now.owner_out ≡ Some slot)
+            × (state_of (core_of self.now) slot ≡ OutOwner held)) }
     {
         if self.owner_out != Some(slot) {
             return None;
@@ -276,7 +277,8 @@ impl Machine {
     fn retired(&self, slot: u32) -> Option<u64>
         requires sound { IsSound self.now }
         requires slot { slot < LOG_SLOTS }
-        ensures test { is_some result ≡ is_retired self.now.root_seen (state_of (core_of self.now) slot) }
+        ensures test { is_some result ≡ is_retired self.now.root_seen
+            (state_of (core_of self.now) slot) }
         ensures number { IfSome result (λ n. state_of (core_of self.now) slot ≡ Live n) }
     {
         match self.slots[slot as usize] {

@@ -130,7 +130,8 @@ fn read_slot(word: &[u8]) -> Option<u32>
 
 /// The number that the word is, if it is one of 64 bits in decimal without leading zeros.
 fn read_number(word: &[u8]) -> Option<u64>
-    ensures { MatchOption result ((n : ℕ) → n < 2 ^ 64 → word.now ≢ decimal n) (λ n. word.now ≡ decimal n) }
+    ensures { MatchOption result ((n : ℕ) → n < 2 ^ 64 → word.now ≢ decimal n)
+        (λ n. word.now ≡ decimal n) }
 {
     if word.is_empty() || has_leading_zero(word) {
         return None;

@@ -48,7 +48,8 @@ impl ChunkCopies {
         ensures table { OnOk result (IsTable self.new) }
         ensures entries { OnOk result (entries_of self.new
             ≡ entries_of self.old ++ (number, bytes.now) ∷ []) }
-        ensures count { OnOk result (vec_len self.new.chunk_ranges ≡ vec_len self.old.chunk_ranges + 1) }
+        ensures count { OnOk result (vec_len self.new.chunk_ranges
+            ≡ vec_len self.old.chunk_ranges + 1) }
         ensures total { OnOk result (self.new.total ≤ self.old.total + 2 ^ 24) }
     {
         let at = self.bytes.len();
@@ -79,7 +80,8 @@ impl ChunkCopies {
         requires { IsWhole self.now }
         ensures { MatchOption result (get (copy_of self.now) number ≡ None)
             (λ place. (place < vec_len self.now.chunk_ranges)
-            × HoldsAt (λ chunk_range. chunk_range.number ≡ number) self.now.chunk_ranges.items place) }
+            × HoldsAt (λ chunk_range. chunk_range.number ≡ number)
+            self.now.chunk_ranges.items place) }
     {
         match self
             .chunk_ranges
@@ -94,7 +96,8 @@ impl ChunkCopies {
     fn bytes_at(&self, place: usize) -> &[u8]
         requires whole { IsWhole self.now }
         requires place { place < vec_len self.now.chunk_ranges }
-        ensures { (number : ℕ) → HoldsAt (λ chunk_range. chunk_range.number ≡ number) self.now.chunk_ranges.items place
+        ensures { (number : ℕ)
+            → HoldsAt (λ chunk_range. chunk_range.number ≡ number) self.now.chunk_ranges.items place
             → get (copy_of self.now) number ≡ Some result.now }
     {
         let chunk_range = self.chunk_ranges[place];

@@ -58,7 +58,8 @@ impl Commit {
     /// Copies bytes of a chunk from its place `at` on into `out`, and says whether the copy has them. Where it hasn't, `out` stays.
     pub(crate) fn read(&self, h: Handle, at: u32, out: &mut [u8]) -> bool
         ensures { MatchOption (part_in self.now.copy h at (length out.old))
-            ((result ≡ false) × (out.new ≡ out.old)) (λ bytes. (result ≡ true) × (out.new ≡ bytes)) }
+            ((result ≡ false) × (out.new ≡ out.old))
+            (λ bytes. (result ≡ true) × (out.new ≡ bytes)) }
     {
         let Some(bytes) = self.chunk(h) else {
             return false;

@@ -38,7 +38,9 @@ impl Model for Front {
 
     ghost view = { λ f. record { history = f.reached.book; commits = commits_of f.reached.log } };
 
-    ghost invariant = { λ f. (f.number ≡ length (commits_of f.reached.log)) × (option_map arc_value f.last ≡ last_commit (commits_of f.reached.log)) × IsHistory (commits_of f.reached.log) };
+    ghost invariant = { λ f. (f.number ≡ length (commits_of f.reached.log))
+        × (option_map arc_value f.last ≡ last_commit (commits_of f.reached.log))
+        × IsHistory (commits_of f.reached.log) };
 }
 
 impl Front {
@@ -135,7 +137,8 @@ impl Front {
     /// Another beginning of the same history, where it is longer. An `AllocError` comes where it is and its last commit can't be shared.
     pub(crate) fn longer(&self, other: &Front) -> Result<Option<Front>, AllocError>
         requires { other.now.history ≡ self.now.history }
-        ensures { IfOk result (λ longer. MatchOption longer (IsPrefix other.now.commits self.now.commits)
+        ensures { IfOk result (λ longer. MatchOption longer
+            (IsPrefix other.now.commits self.now.commits)
             (λ front. (front ≡ other.now) × IsPrefix self.now.commits front.commits)) }
     {
         if other.number <= self.number {
@@ -176,7 +179,8 @@ impl Front {
         requires room { length self.now.commits < COUNT_LIMIT }
         requires later { MayFollow self.now.commits commit.time }
         ensures one { IfOk result (λ both.
-            both.0 ≡ record { history = self.now.history; commits = self.now.commits ++ commit ∷ [] }) }
+            both.0
+            ≡ record { history = self.now.history; commits = self.now.commits ++ commit ∷ [] }) }
         ensures other { IfOk result (λ both. both.1 ≡ both.0) }
         ensures whole { IfOk result (λ both. head.new ≡ both.0) }
         ensures refused { OnErr result (head.new ≡ head.old) }

@@ -137,7 +137,8 @@ impl Model for Head {
 
     ghost view = { λ h. record { history = h.reached.book; commits = commits_of h.reached.log } };
 
-    ghost invariant = { λ h. (h.length ≡ head_of h.reached.book) × CanAdd h.reached.book h.reached.log h.turn.book h.turn.nib };
+    ghost invariant = { λ h. (h.length ≡ head_of h.reached.book)
+        × CanAdd h.reached.book h.reached.log h.turn.book h.turn.nib };
 }
 
 /// A history with no commit yet. It ends once a book was begun by no one else, as the first one always is.

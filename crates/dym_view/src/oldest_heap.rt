@@ -29,7 +29,8 @@ pub(crate) fn rebuild_oldest<L: KeptLogs>(
     requires idle { (L.meaning logs.old).lifted ≡ None }
     requires some { 0 < length (L.meaning logs.old).logs }
     requires depth { depth ≡ (log_at (L.meaning logs.old).logs 0).depth }
-    ensures copy { IfOk result (λ heap. heap.state.live ≡ (log_at (L.meaning logs.old).logs 0).copy) }
+    ensures copy { IfOk result (λ heap. heap.state.live
+        ≡ (log_at (L.meaning logs.old).logs 0).copy) }
     ensures sound { IfOk result IsSound }
     ensures logs { L.meaning logs.new ≡ L.meaning logs.old }
 {
@@ -64,7 +65,8 @@ fn shape_like(alloc: Global, rec: &Record) -> Result<Scratch, AllocError>
 fn load_first<L: KeptLogs>(logs: &mut L, heap: &mut Scratch, count: u32)
     requires idle { (L.meaning logs.old).lifted ≡ None }
     requires within { count ≤ length (L.meaning logs.old).records }
-    requires version { HaveVersion heap.old.version (take count (bytes_of (L.meaning logs.old).records)) }
+    requires version { HaveVersion heap.old.version
+        (take count (bytes_of (L.meaning logs.old).records)) }
     requires sound { IsSound heap.old }
     ensures loaded { (all : List Logged) → AllByRecursion IsRecorded all
         → map packed all ≡ take count (bytes_of (L.meaning logs.old).records)

@@ -108,11 +108,14 @@ fn append_at_last<R: Wait>(view_writer: &mut Pen, rt: &R, front: Front)
 
 /// Publishes what waits. Where it can't be shared, it is tried again.
 pub(crate) fn publish_at_last<R: Wait>(view_writer: &mut Pen, rt: &R)
-    requires { AreOf view_writer.old.desk.shown.value.history (drop view_writer.old.behind view_writer.old.log.items) }
+    requires { AreOf view_writer.old.desk.shown.value.history
+        (drop view_writer.old.behind view_writer.old.log.items) }
     ensures shown { view_writer.new.desk.shown.value
-        ≡ last_of view_writer.old.desk.shown.value (drop view_writer.old.behind view_writer.old.log.items) }
+        ≡ last_of view_writer.old.desk.shown.value
+        (drop view_writer.old.behind view_writer.old.log.items) }
     ensures waiting { drop view_writer.new.behind view_writer.new.log.items ≡ [] }
-    ensures seen { HasSeen view_writer.old.desk.shown.value.history (view view_writer.new.desk.place) }
+    ensures seen { HasSeen view_writer.old.desk.shown.value.history
+        (view view_writer.new.desk.place) }
 {
     for _ in rt.forever() {
         if replace_with(view_writer, rt, publish_waiting::<R>).is_ok() {
@@ -125,13 +128,17 @@ pub(crate) fn publish_at_last<R: Wait>(view_writer: &mut Pen, rt: &R)
 
 /// Publishes what waits. It waits for an eye that still reads what was published before.
 fn publish_waiting<R: Wait>(view_writer: Pen, rt: &R) -> (Pen, Result<(), AllocError>)
-    requires { AreOf view_writer.desk.shown.value.history (drop view_writer.behind view_writer.log.items) }
+    requires { AreOf view_writer.desk.shown.value.history
+        (drop view_writer.behind view_writer.log.items) }
     ensures shown { MatchResult result.1
-        (λ _. (result.0.desk.shown.value ≡ last_of view_writer.desk.shown.value (drop view_writer.behind view_writer.log.items))
+        (λ _. (result.0.desk.shown.value ≡ last_of view_writer.desk.shown.value
+        (drop view_writer.behind view_writer.log.items))
         × (drop result.0.behind result.0.log.items ≡ []))
         (λ _. (result.0.desk.shown.value ≡ view_writer.desk.shown.value)
-        × (drop result.0.behind result.0.log.items ≡ drop view_writer.behind view_writer.log.items)) }
-    ensures seen { IfOk result.1 (λ _. HasSeen view_writer.desk.shown.value.history (view result.0.desk.place)) }
+        × (drop result.0.behind result.0.log.items
+        ≡ drop view_writer.behind view_writer.log.items)) }
+    ensures seen { IfOk result.1 (λ _. HasSeen view_writer.desk.shown.value.history
+        (view result.0.desk.place)) }
 {
     view_writer.publish_as::<Take, R>(rt)
 }
@@ -144,9 +151,12 @@ pub(crate) struct Unread;
 pub(crate) fn look_through(view_reader: Eye, known: &Front) -> (Eye, Result<Option<Front>, Unread>)
     requires { HasSeen known.now.history (view view_reader.place) }
     ensures view_reader { HasSeen known.now.history (view result.0.place) }
-    ensures history { IfOk result.1 (λ newer. IfSome newer (λ front. front.history ≡ known.now.history)) }
-    ensures begins { IfOk result.1 (λ newer. IfSome newer (λ front. IsPrefix known.now.commits front.commits)) }
-    ensures taken { IfOk result.1 (λ newer. Knows (known_after known.now newer) (view result.0.place)) }
+    ensures history { IfOk result.1 (λ newer. IfSome newer
+        (λ front. front.history ≡ known.now.history)) }
+    ensures begins { IfOk result.1 (λ newer. IfSome newer
+        (λ front. IsPrefix known.now.commits front.commits)) }
+    ensures taken { IfOk result.1 (λ newer. Knows (known_after known.now newer)
+        (view result.0.place)) }
 {
     match view_reader.enter_as::<Take>() {
         Ok(reading) => {

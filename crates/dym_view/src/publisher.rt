@@ -39,7 +39,9 @@ impl Model for Publisher {
 
     ghost view = { λ p. p.front };
 
-    ghost invariant = { λ p. IsHistory p.front.commits × (p.head ≡ p.front) × (p.view_writer.desk.shown.value ≡ p.front) × (drop p.view_writer.behind p.view_writer.log.items ≡ []) };
+    ghost invariant = { λ p. IsHistory p.front.commits × (p.head ≡ p.front)
+        × (p.view_writer.desk.shown.value ≡ p.front)
+        × (drop p.view_writer.behind p.view_writer.log.items ≡ []) };
 }
 
 /// A history with no commit: its publisher, and its viewer, which may go to another thread.

@@ -41,7 +41,8 @@ pub(crate) fn open_both<R: Wait>(
 /// The right to publish.
 fn open_view_writer(alloc: Global, front: &Front) -> Result<Pen, AllocError>
     ensures shown { IfOk result (λ view_writer. view_writer.desk.shown.value ≡ front.now) }
-    ensures waiting { IfOk result (λ view_writer. drop view_writer.behind view_writer.log.items ≡ []) }
+    ensures waiting { IfOk result (λ view_writer. drop view_writer.behind view_writer.log.items
+        ≡ []) }
 {
     let first = front.again()?;
     let second = front.again()?;
@@ -65,8 +66,10 @@ fn make_room(view_writer: &mut Pen, front: &Front) -> Result<(), AllocError>
 fn open_view_reader(view_writer: &mut Pen) -> Result<Eye, AllocError>
     requires { HasSeen view_writer.old.desk.shown.value.history (view view_writer.old.desk.place) }
     ensures shown { view_writer.new.desk.shown ≡ view_writer.old.desk.shown }
-    ensures waiting { drop view_writer.new.behind view_writer.new.log.items ≡ drop view_writer.old.behind view_writer.old.log.items }
-    ensures view_reader { IfOk result (λ view_reader. HasSeen view_writer.old.desk.shown.value.history (view view_reader.place)) }
+    ensures waiting { drop view_writer.new.behind view_writer.new.log.items
+        ≡ drop view_writer.old.behind view_writer.old.log.items }
+    ensures view_reader { IfOk result
+        (λ view_reader. HasSeen view_writer.old.desk.shown.value.history (view view_reader.place)) }
 {
     let mut view_reader = view_writer.factory().reader()?;
     view_reader.learn::<Other>(view_writer.tell::<Twice>());

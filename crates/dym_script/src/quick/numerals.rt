@@ -115,7 +115,8 @@ fn digits_at_front(word: u64) -> usize
 /// The number that eight digits write which have these values, where they are those of digits.
 #[inline(always)]
 fn eight_digits(values: u64) -> Option<u32>
-    ensures digits { IfSome result (λ _. list_all is_ascii_digit (to_le_bytes w64 ((values + ZEROS) % 2 ^ 64))
+    ensures digits { IfSome result (λ _. list_all is_ascii_digit
+        (to_le_bytes w64 ((values + ZEROS) % 2 ^ 64))
         ≡ true) }
     ensures value { IfSome result (λ value.
         value ≡ digits_value 10 (to_le_bytes w64 ((values + ZEROS) % 2 ^ 64))) }
@@ -131,7 +132,8 @@ fn eight_digits(values: u64) -> Option<u32>
 /// Whether each of a word's bytes is a digit's value.
 #[inline(always)]
 fn are_values(values: u64) -> bool
-    ensures digits { result ≡ true → list_all is_ascii_digit (to_le_bytes w64 ((values + ZEROS) % 2 ^ 64))
+    ensures digits { result ≡ true → list_all is_ascii_digit
+        (to_le_bytes w64 ((values + ZEROS) % 2 ^ 64))
         ≡ true }
     ensures few { result ≡ true → values < 2 ^ 60 }
 {
