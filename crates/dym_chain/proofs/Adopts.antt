@@ -10,12 +10,12 @@ use Rattle.dym_base.specs.declared.command.Version.{Version}
 use Rattle.dym_base.proofs.Runs.{all_drop}
 use Rattle.std.proofs.lemmas.List.{drop_at}
 use Rattle.dym_slots.specs.Meanings.{KeepMeaning}
-use Rattle.dym_chain.specs.AdoptedLogs.{AreEntriesOf, AreLawful, entries_of}
+use Rattle.dym_chain.specs.AdoptedLogs.{AreEntriesOf, AreKeptTimes, AreLawful, entries_of}
 use Rattle.dym_chain.specs.Chains.{ChainMeaning, all_logs, EachKeeps, KeepsFromNewest, Belongs}
 use Rattle.dym_chain.specs.Keeps.{bytes_of}
 use Rattle.dym_chain.specs.Lawful.{IsLawful, entry_of}
 use Rattle.dym_chain.specs.Copies.{ChainCopies, AreCopiesOf, copies_of}
-use Rattle.dym_chain.specs.ChainInvariants.{chain_of, IsChain}
+use Rattle.dym_chain.specs.ChainInvariants.{chain_of}
 use Rattle.dym_chain.specs.declared.entry.Entry.{Entry}
 use Rattle.dym_chain.proofs.OneReading.{entries_same}
 use Rattle.dym_chain.proofs.Places.{keeps_drop}
@@ -34,12 +34,8 @@ module _ (keep : KeepMeaning) (first : ℕ) (place : IsPlace first (length keep.
       let same : entries_of by.1 ≡ entries_of logs = entries_same by.1 logs 0 [] [] by.2.recorded is.recorded (by.3 ∙ sym are) (λ q. refl) in
       (ap (λ (t : ChainCopies). t.base_logs) by.4 ∙ ap (take first) same, ap (λ (t : ChainCopies). t.logs) by.4 ∙ ap (drop first) same)
 
-  pub told_chain : (items : List Entry) (capacity : ℕ) → 256 ≤ capacity → ((v : Version) (logs : List Logged) → lawful.IsLawful v first logs → map packed logs ≡ bytes_of keep.records → items ≡ map entry_of (drop first (entries_of logs)))
-      → IsChain items capacity keep copies
-  told_chain items capacity room read = record {
-    shows = record { entries = read by.0 by.1 by.2 by.3 ∙ ap (λ (t : ChainCopies). map entry_of t.logs) (sym by.4); room = room };
-    lawful = told_lawful;
-  }
+  pub told_times : (items : List Entry) → AreKeptTimes first (bytes_of keep.records) items → items ≡ map entry_of copies.logs
+  told_times items read = read by.0 by.1 by.2 by.3 ∙ ap (λ (t : ChainCopies). map entry_of t.logs) (sym by.4)
 
 -- a lawful chain of records of a version within a quota belongs to each heap whose live chunks are its newest copy's where they
 -- weren't touched

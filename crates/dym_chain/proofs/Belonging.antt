@@ -4,7 +4,7 @@ use Rattle.std.specs.Ordering.{nat_cmp, eq_by_cmp}
 use Rattle.std.specs.Cmp.{nat_cmp_total, unsigned_tied}
 use Rattle.std.specs.FinMap.{get}
 use Rattle.std.specs.FinSet as set
-use Rattle.std.proofs.lemmas.Bool.{eq-eqb, ne_eqb, true≢false}
+use Rattle.std.proofs.lemmas.Bool.{eq-eqb, ne_eqb, or_parts, true≢false}
 use Rattle.dym_base.specs.Heaps.{Live, HeapState, fresh}
 use Rattle.dym_base.specs.HeapStep.{key, with_chunk, without_chunk, heap_step}
 use Rattle.dym_base.specs.Numbers.{number}
@@ -15,10 +15,6 @@ use Rattle.dym_base.proofs.Steps.{heap_step_by}
 use Rattle.dym_base.proofs.Maps.{get_insert_apart, get_remove_apart, has_cases, has_removed}
 use Rattle.dym_chain.specs.Chains.{ChainMeaning, KeepsUntouched, KeepsFromNewest, Belongs}
 
-or_false : (a b : Bool) → (a || b) ≡ false → (a ≡ false) × (b ≡ false)
-or_false true b is = absurd (true≢false is)
-or_false false b is = (refl, is)
-
 and_false : (a b : Bool) → a ≡ false → (not a && b) ≡ false → b ≡ false
 and_false true b gone is = absurd (true≢false gone)
 and_false false b gone is = is
@@ -28,7 +24,7 @@ same_key q k gone same = true≢false (sym (unsigned_tied q k ∙ eq-eqb q k sam
 
 with_keeps : (s : HeapState) (k : ℕ) (bytes : List ℕ) (before : Live) → KeepsUntouched s.live s.touched before → KeepsUntouched (with_chunk s k bytes).live (with_chunk s k bytes).touched before
 with_keeps s k bytes before keeps q has untouched =
-    let parts = or_false (eq_by_cmp nat_cmp q k) (set.contains s.touched q) (sym (set.contains-insert nat_cmp_total s.touched k q) ∙ untouched) in
+    let parts = or_parts (eq_by_cmp nat_cmp q k) (set.contains s.touched q) (sym (set.contains-insert nat_cmp_total s.touched k q) ∙ untouched) in
     let apart : q ≡ k → ⊥ = same_key q k parts.0 in
     elim (has_cases s.live k bytes q has) as (λ _. get before q ≡ get (with_chunk s k bytes).live q) [
       | inl here ↦ absurd (apart here)

@@ -22,6 +22,7 @@ use Rattle.dym_chain.specs.Loads.{AreFetched}
 use Rattle.dym_chain.proofs.Lawfuls.{at_place}
 use Rattle.dym_chain.proofs.Places.{depth_within, newest_there}
 use Rattle.dym_chain.proofs.Prunes.{records_count}
+use Rattle.dym_chain.proofs.Stands.{none_of}
 
 -- the newest log, and the records from the last full one up to its own
 pub record Newest (c : ChainMeaning) (k depth count : ℕ) : Type 0 where
@@ -56,10 +57,6 @@ seen None (Some y) b l some (inr is) = is.1
 seen None None b l some (inr is) = absurd (true≢false (sym some ∙ ap is_some (sym is.1)))
 seen (Some x) np b l some (inr is) = absurd (true≢false (ap is_some is.0))
 
-none_is : (o : Option (List ℕ)) → is_some o ≡ false → o ≡ None
-none_is None none = refl
-none_is (Some x) none = absurd (true≢false none)
-
 nothing : (k : ℕ) → is_unmodified (heap_chunk empty_heap k) ≡ false
 nothing k = ap (λ (o : Option (List ℕ)). is_some o && not (contains empty_heap.touched k)) (get-empty nat_cmp k)
 
@@ -88,7 +85,7 @@ brought_back s r f g copy logs now packs shaped fetch more stand keeps k =
                 inr (packs k ∙ cond-false (contains s.touched k) l None is, stand k (ap is_some kept ∙ has) ∙ kept)
           ] refl in
           shown ∙ turned true (wanted ∙ ap (λ b. b && true) has) ∙ seen p np a.bytes l has from
-      | false ↦ λ gone. shown ∙ turned false (wanted ∙ ap (λ b. b && true) gone) ∙ none_is a.bytes ((shaped k).used ∙ gone) ∙ sym (none_is l gone)
+      | false ↦ λ gone. shown ∙ turned false (wanted ∙ ap (λ b. b && true) gone) ∙ none_of a.bytes ((shaped k).used ∙ gone) ∙ sym (none_of l gone)
     ] refl
 
 -- ---- the record of what is touched now

@@ -4,13 +4,13 @@ use Rattle.std.specs.Cmp.{nat_cmp_total}
 use Rattle.std.specs.FinMap.{get, contains_key, same_map, nat_cmp-IsAntisymmetric}
 use Rattle.std.specs.FinSet as set
 use Rattle.std.specs.FinSet.{contains, contains-empty, same_set}
-use Rattle.std.proofs.lemmas.Bool.{cond-true, cond-false}
+use Rattle.std.proofs.lemmas.Bool.{cond-true, cond-false, not-false}
 use Rattle.dym_base.specs.Heaps.{Live, HeapState}
 use Rattle.dym_base.specs.Packed.{Logged}
 use Rattle.dym_base.specs.StandsFor.{packed_by, or_else, newest_packed, LogsStandFor}
 use Rattle.dym_heap.specs.Fetches.{ChunkMeaning, heap_chunk, fetched, is_unmodified, IsReshaped}
 use Rattle.dym_chain.specs.Loads.{AreFetched}
-use Rattle.dym_chain.proofs.Stands.{or_some}
+use Rattle.dym_chain.proofs.Stands.{or_some, none_of}
 
 -- ---- one log more
 
@@ -59,14 +59,6 @@ settled_all s t none (suc n) (l ∷ logs) h =
 
 -- ---- the heap at the end of a restore
 
-none_packs : (o : Option (List ℕ)) → is_some o ≡ false → o ≡ None
-none_packs None h = refl
-none_packs (Some x) h = absurd cc
-
-unwanted : (s : Bool) → not s ≡ false → s ≡ true
-unwanted true h = refl
-unwanted false h = absurd cc
-
 -- a handle of the copy
 chunk_back : (copy : Live) (k : ℕ) (np : Option (List ℕ)) (m r f : ChunkMeaning) → contains_key copy k ≡ true → np ≡ get copy k → IsReshaped true m r → f ≡ fetched np r → (is_unmodified m ≡ true → get copy k ≡ m.bytes)
     → f ≡ record { bytes = get copy k; touched = false }
@@ -78,7 +70,7 @@ chunk_back copy k np m r f has packed shaped fetch unmodified =
           let mark : (r.touched && not (is_some np)) ≡ false = (λ i. t i && not (some i)) in
           fetch ∙ (λ i. record { bytes = bytes i; touched = mark i })
       | false ↦ λ t.
-          let was : is_unmodified m ≡ true = unwanted (is_unmodified m) (sym shaped.wanted ∙ t) in
+          let was : is_unmodified m ≡ true = not-false (is_unmodified m) (sym shaped.wanted ∙ t) in
           let bytes : cond r.touched (or_else np r.bytes) r.bytes ≡ get copy k = cond-false r.touched (or_else np r.bytes) r.bytes t ∙ shaped.valid_shelf refl t ∙ sym (unmodified was) in
           let mark : (r.touched && not (is_some np)) ≡ false = (λ i. t i && not (is_some np)) in
           fetch ∙ (λ i. record { bytes = bytes i; touched = mark i })
@@ -88,7 +80,7 @@ chunk_back copy k np m r f has packed shaped fetch unmodified =
 chunk_gone : (np : Option (List ℕ)) (m r f : ChunkMeaning) → IsReshaped false m r → f ≡ fetched np r → f ≡ record { bytes = None; touched = false }
 chunk_gone np m r f shaped fetch =
     let quiet : r.touched ≡ false = shaped.wanted in
-    let none : r.bytes ≡ None = none_packs r.bytes shaped.used in
+    let none : r.bytes ≡ None = none_of r.bytes shaped.used in
     let bytes : cond r.touched (or_else np r.bytes) r.bytes ≡ None = cond-false r.touched (or_else np r.bytes) r.bytes quiet ∙ none in
     let mark : (r.touched && not (is_some np)) ≡ false = (λ i. quiet i && not (is_some np)) in
     fetch ∙ (λ i. record { bytes = bytes i; touched = mark i })
@@ -103,7 +95,7 @@ restored_state m r f copy logs unmodified shaped stand fetch =
           chunk_back copy k (newest_packed logs k) (heap_chunk m k) (heap_chunk r k) (heap_chunk f k) has (stand.bytes k has) (subst (λ b. IsReshaped b (heap_chunk m k) (heap_chunk r k)) has (shaped k)) (fetch k) (unmodified k)
       | false ↦ λ gone.
           chunk_gone (newest_packed logs k) (heap_chunk m k) (heap_chunk r k) (heap_chunk f k) (subst (λ b. IsReshaped b (heap_chunk m k) (heap_chunk r k)) gone (shaped k)) (fetch k)
-          ∙ (λ i. record { bytes = sym (none_packs (get copy k) gone) i; touched = false })
+          ∙ (λ i. record { bytes = sym (none_of (get copy k) gone) i; touched = false })
     ] refl in
     let live : f.live ≡ copy = same_map nat_cmp_total nat_cmp-IsAntisymmetric f.live copy (λ k. ap (λ (c : ChunkMeaning). c.bytes) (each k)) in
     let touched : f.touched ≡ set.empty {R = nat_cmp} =

@@ -3,7 +3,8 @@ use Rattle.std.proofs.Common.{◌≡◌, ℕ, zero, suc, ◌+◌, ◌-◌, ◌<�
 use Rattle.std.specs.List.{AllByRecursion, slice_get}
 use Rattle.std.specs.List.Sorted.{IsPartitionedBy, IsPartitionPoint}
 use Rattle.std.proofs.lemmas.Bool.{cases_lt, le-leb, leb-true, leb-false, lt-leb, cond-true, cond-false, eq-eqb, ne_eqb}
-use Rattle.std.proofs.lemmas.Option.{same_Some, none-some}
+use Rattle.std.proofs.lemmas.Option.{same_Some}
+use Rattle.std.proofs.lemmas.List.Elements.{All-from_recursion}
 use Rattle.std.proofs.lemmas.List.Sums.{count_by-le-length}
 use Rattle.dym_base.specs.declared.command.Kind.{Kind}
 use Rattle.dym_base.specs.declared.command.Kind.TheVariants.{Full, Inc}
@@ -17,12 +18,6 @@ use Rattle.dym_chain.specs.Chains.{no_entry, log_at}
 use Rattle.dym_chain.specs.Lawful.{entry_of}
 use Rattle.dym_chain.specs.declared.entry.Entry.{Entry}
 use Rattle.dym_chain.proofs.Places.{newest_there, follows_at}
-
-module _ (P : LogEntry → Type 0) where
-  pub all_at : (logs : List LogEntry) (k : ℕ) → AllByRecursion P logs → k < length logs → P (log_at logs k)
-  all_at [] k all within = absurd (omega (arith, within))
-  all_at (e ∷ logs) zero all within = all.0
-  all_at (e ∷ logs) (suc k) all within = all_at logs k all.1 (omega (arith, within))
 
 -- entry k is that of log k
 pub entry_at : (logs : List LogEntry) (entries : List Entry) (k : ℕ) (d : Entry) → entries ≡ map entry_of logs → k < length logs → get_or entries k d ≡ entry_of (log_at logs k)
@@ -50,13 +45,13 @@ reached_is t i logs each within low high =
     let parts = reached_before t logs each in
     elim (cases_lt i r) as (λ _. i ≡ r) [
       | inl less ↦ (
-          let here : (log_at (take r logs) i).time ≤ t = all_at (λ e. e.time ≤ t) (take r logs) i parts.0 (omega (arith, length-take r logs, less, most)) in
+          let here : (log_at (take r logs) i).time ≤ t = All-from_recursion (λ (e : LogEntry). e.time ≤ t) (take r logs) parts.0 i no_entry (omega (arith, length-take r logs, less, most)) in
           let same = ap (λ (e : LogEntry). e.time) (get_or-take r logs i no_entry less) in
           let late = high i (omega arith) (omega (arith, less, most)) in
           absurd (omega (arith, here, same, late)))
       | inr more ↦ (elim (cases_lt r i) as (λ _. i ≡ r) [
         | inl fewer ↦ (
-            let here : t < (log_at (drop r logs) 0).time = all_at (λ e. t < e.time) (drop r logs) 0 parts.1 (omega (arith, length-drop r logs, fewer, within)) in
+            let here : t < (log_at (drop r logs) 0).time = All-from_recursion (λ (e : LogEntry). t < e.time) (drop r logs) parts.1 0 no_entry (omega (arith, length-drop r logs, fewer, within)) in
             let same = ap (λ (e : LogEntry). e.time) (get_or-drop r logs 0 no_entry) in
             let at : r + 0 ≡ r = omega arith in
             let at_r = ap (λ k. (log_at logs k).time) at in
@@ -74,26 +69,6 @@ depth_ends Inc (Some e) entry is deep small =
     let same : entry.depth ≡ e.depth = ap (λ (x : Entry). x.depth) (same_Some entry (entry_of e) is) in
     let low = small e refl in
     sym (cond-true (e.depth == 31) 0 (e.depth + 1) (eq-eqb e.depth 31 (omega (arith, same, deep, low))))
-
-past_by : (t : ℕ) (logs : List LogEntry) (o : Option LogEntry) → ((e : LogEntry) → o ≡ Some e → e.time < t) → refusal_if_full logs ≡ refusal_after t logs o
-past_by t logs None past = refl
-past_by t logs (Some e) past = sym (cond-false (nat_le t e.time) (Some (NotAfter e.time)) (refusal_if_full logs) (lt-leb t e.time (past e refl)))
-
-pub refused_full : (t : ℕ) (logs : List LogEntry) → ((e : LogEntry) → newest logs ≡ Some e → e.time < t) → length logs ≡ 256 → Some LogsFull ≡ log_refusal t logs
-refused_full t logs past full = sym (cond-true (length logs == 256) (Some LogsFull) None (eq-eqb (length logs) 256 full)) ∙ past_by t logs (newest logs) past
-
-pub not_refused : (t : ℕ) (logs : List LogEntry) → ((e : LogEntry) → newest logs ≡ Some e → e.time < t) → (length logs ≡ 256 → ⊥) → None ≡ log_refusal t logs
-not_refused t logs past room = sym (cond-false (length logs == 256) (Some LogsFull) None (ne_eqb (length logs) 256 room)) ∙ past_by t logs (newest logs) past
-
--- the last entry is that of the newest log
-pub last_is : (logs : List LogEntry) (entries : List Entry) (n : ℕ) (d : Entry) → entries ≡ map entry_of logs → length entries ≡ suc n → (newest logs ≡ Some (log_at logs n)) × (get_or entries n d ≡ entry_of (log_at logs n))
-last_is logs entries n d are len =
-    let count = count_same logs entries are in
-    (newest_there logs n (omega (arith, count, len)), entry_at logs entries n d are (omega (arith, count, len)))
-
-pub none_newest : (logs : List LogEntry) (e : LogEntry) → length logs ≡ 0 → newest logs ≡ Some e → ⊥
-none_newest [] e len is = none-some e is
-none_newest (f ∷ logs) e len is = omega (arith, len)
 
 -- what a binary search over the entries finds
 pub partitioned_by : (t : ℕ) (logs : List LogEntry) (entries : List Entry) → entries ≡ map entry_of logs → EachFollows logs → IsPartitionedBy (λ (y : Entry). nat_le y.time t) entries

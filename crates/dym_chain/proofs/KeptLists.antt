@@ -18,7 +18,7 @@ use Rattle.dym_chain.specs.Keeps.{bytes_of}
 use Rattle.dym_chain.specs.Chains.{ChainMeaning, all_logs, log_at, KeepsFromBefore, FirstKeeps, EachKeeps}
 use Rattle.dym_chain.specs.KeptRecords.{AreKeptRecords}
 use Rattle.dym_chain.specs.Lawful.{IsLawful, logged_of}
-use Rattle.dym_chain.proofs.Stands.{kind_full, kind_inc}
+use Rattle.dym_chain.proofs.Stands.{not_inc, kind_full, kind_inc}
 use Rattle.dym_chain.proofs.Lawfuls.{packed_of, logged_all, stands}
 
 -- ---- versions, and the first log
@@ -94,29 +94,26 @@ few_shallow e (f ∷ es) each few =
     ] in
     (omega arith, few_shallow f es each.1 next)
 
-below_shallow : (base_logs : List LogEntry) → EachFollows base_logs → oldest_depth base_logs ≡ 0 → length base_logs ≤ 31 → AllByRecursion (λ (f : LogEntry). f.depth ≤ 31) base_logs
-below_shallow [] each full few = tt
-below_shallow (e ∷ es) each full few = few_shallow e es each (omega (arith, full, few))
+base_shallow : (base_logs : List LogEntry) → EachFollows base_logs → oldest_depth base_logs ≡ 0 → length base_logs ≤ 31 → AllByRecursion (λ (f : LogEntry). f.depth ≤ 31) base_logs
+base_shallow [] each full few = tt
+base_shallow (e ∷ es) each full few = few_shallow e es each (omega (arith, full, few))
 
-oldest_below : (base_logs logs : List LogEntry) → oldest_depth (base_logs ++ logs) ≡ 0 → oldest_depth base_logs ≡ 0
-oldest_below [] logs full = refl
-oldest_below (e ∷ es) logs full = full
+oldest_base : (base_logs logs : List LogEntry) → oldest_depth (base_logs ++ logs) ≡ 0 → oldest_depth base_logs ≡ 0
+oldest_base [] logs full = refl
+oldest_base (e ∷ es) logs full = full
 
-follows_below : (base_logs logs : List LogEntry) → EachFollows (base_logs ++ logs) → EachFollows base_logs
-follows_below base_logs logs each = subst EachFollows (take-append_seam base_logs logs) (follows_take (length base_logs) (base_logs ++ logs) each)
+follows_base : (base_logs logs : List LogEntry) → EachFollows (base_logs ++ logs) → EachFollows base_logs
+follows_base base_logs logs each = subst EachFollows (take-append_seam base_logs logs) (follows_take (length base_logs) (base_logs ++ logs) each)
 
 all_append : (P : LogEntry → Type 0) (xs ys : List LogEntry) → AllByRecursion P xs → AllByRecursion P ys → AllByRecursion P (xs ++ ys)
 all_append P [] ys all others = others
 all_append P (x ∷ xs) ys all others = (all.0, all_append P xs ys all.1 others)
 
-oldest_small : (logs : List LogEntry) → AllByRecursion (λ (e : LogEntry). e.depth ≤ 31) logs → oldest_depth logs ≤ 31
+pub oldest_small : (logs : List LogEntry) → AllByRecursion (λ (e : LogEntry). e.depth ≤ 31) logs → oldest_depth logs ≤ 31
 oldest_small [] all = omega arith
 oldest_small (e ∷ logs) all = all.0
 
 -- ---- each log may stand behind the one before it
-
-not_inc : Full ≡ Inc → ⊥
-not_inc e = cc
 
 may_follow : (v : Version) (e f : LogEntry) → Follows e f → KeepsFromBefore e f → MayFollow (logged_of v e) (logged_of v f)
 may_follow v e f follows keeps = record {
@@ -145,7 +142,7 @@ lawful_logs c law =
     let v = law.version in
     let few : length c.base_logs ≤ 31 = omega (arith, law.base, oldest_small c.logs law.list.1) in
     let small : AllByRecursion (λ (f : LogEntry). f.depth ≤ 31) (all_logs c) =
-    all_append (λ (f : LogEntry). f.depth ≤ 31) c.base_logs c.logs (below_shallow c.base_logs (follows_below c.base_logs c.logs law.follows) (oldest_below c.base_logs c.logs law.full) few) law.list.1 in
+    all_append (λ (f : LogEntry). f.depth ≤ 31) c.base_logs c.logs (base_shallow c.base_logs (follows_base c.base_logs c.logs law.follows) (oldest_base c.base_logs c.logs law.full) few) law.list.1 in
     record {
       recorded = logged_all v (all_logs c) law.recorded;
       version = have_version v (all_logs c);

@@ -1,5 +1,5 @@
 -- What is true of every chain stays true as logs are added, and as those at either end are dropped.
-use Rattle.std.proofs.Common.{◌≡◌, ℕ, ◌+◌, ◌-◌, ◌<◌, List, [], ◌∷◌, length, map, take, drop, refl, sym, ap, subst, ◌∙◌, arith, length-append}
+use Rattle.std.proofs.Common.{◌≡◌, ℕ, ◌+◌, ◌-◌, ◌<◌, ◌≤◌, Option, List, [], ◌∷◌, length, map, take, drop, refl, sym, ap, subst, ◌∙◌, arith, length-append}
 use Rattle.std.specs.List.{AllByRecursion}
 use Rattle.std.proofs.Math.Seq.{get_or-append-add}
 use Rattle.std.proofs.lemmas.List.{take-map, drop-map}
@@ -12,7 +12,12 @@ use Rattle.dym_base.proofs.Runs.{all_take, all_drop}
 use Rattle.dym_chain.specs.Keeps.{bytes_of}
 use Rattle.dym_base.specs.BaseLogs.{oldest_depth}
 use Rattle.dym_chain.specs.Chains.{ChainMeaning, all_logs, no_entry, log_at, StandsForCopies}
-use Rattle.dym_chain.specs.Lawful.{IsLawful, logged_of}
+use Rattle.dym_chain.specs.Copies.{ChainCopies}
+use Rattle.dym_chain.specs.ChainInvariants.{chain_of, IsChainWithDifferences}
+use Rattle.dym_chain.specs.Differences.{AreDifferences}
+use Rattle.dym_chain.specs.Lawful.{IsLawful, logged_of, entry_of}
+use Rattle.dym_chain.specs.declared.entry.Entry.{Entry}
+use Rattle.dym_slots.specs.Meanings.{KeepMeaning}
 use Rattle.dym_chain.proofs.Stands.{stands_at}
 
 -- every lawful chain stands for its copies
@@ -51,3 +56,14 @@ stands c law k within =
           ∙ ap (λ n. take (d + 1) (drop n (bytes_of c.records))) base;
       stand = stand;
     }
+
+-- fields show a lawful chain where they have its logs' times and depths
+pub fields_show : {kept : List Entry} {capacity : ℕ} {differences : List (Option (List ℕ))} {keep : KeepMeaning} {copies : ChainCopies} (c : ChainMeaning) → chain_of copies keep ≡ c → IsLawful c → kept ≡ map entry_of c.logs → 256 ≤ capacity
+    → AreDifferences c.logs differences → IsChainWithDifferences kept capacity differences keep copies
+fields_show {differences = differences} c view law entries room each = record {
+  chain = record {
+    shows = record { entries = entries ∙ ap (λ (x : ChainMeaning). map entry_of x.logs) (sym view); room = room };
+    lawful = subst IsLawful (sym view) law;
+  };
+  differences = subst (λ (x : ChainMeaning). AreDifferences x.logs differences) (sym view) each;
+}

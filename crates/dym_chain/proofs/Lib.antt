@@ -2,7 +2,7 @@ pub mod Slots
 pub mod Places
 pub mod Stands
 pub mod Fetches
-pub mod Besides
+pub mod DifferenceFacts
 pub mod Belonging
 pub mod Records
 pub mod Lawfuls
@@ -13,7 +13,7 @@ pub mod Logs
 pub mod Prunes
 pub mod Takes
 pub mod Restores
-pub mod Belows
+pub mod BaseFacts
 pub mod Opens
 pub mod KeptLists
 pub mod SameBytes

@@ -2,6 +2,7 @@
 use Rattle.std.proofs.Common.{◌≡◌, ℕ, zero, suc, ◌+◌, ◌-◌, ◌<◌, ◌≤◌, List, [], ◌∷◌, length, map, take, drop, get_or, sym, ap, subst, ◌∙◌, arith, drop-cons}
 use Rattle.std.specs.List.{AllByRecursion}
 use Rattle.std.proofs.lemmas.List.{length-take, length-drop, length-map, get_or-take, get_or-drop, get_or-map, drop_all}
+use Rattle.std.proofs.lemmas.List.Elements.{All-from_recursion}
 use Rattle.dym_base.specs.Heaps.{HeapState}
 use Rattle.dym_base.specs.Packed.{Logged, packed}
 use Rattle.dym_base.specs.declared.command.Version.{Version}
@@ -16,12 +17,6 @@ use Rattle.dym_chain.specs.Chains.{no_entry}
 use Rattle.dym_chain.specs.Lawful.{logged_of}
 use Rattle.dym_chain.specs.Loads.{AreFetched, HaveVersion}
 use Rattle.dym_chain.proofs.Fetches.{fetched_cons, fetched_nothing}
-
-module _ {X : Type 0} (P : X → Type 0) where
-  each_at : (xs : List X) (k : ℕ) (d : X) → AllByRecursion P xs → k < length xs → P (get_or xs k d)
-  each_at [] k d all within = absurd (omega (arith, within))
-  each_at (x ∷ xs) zero d all within = all.0
-  each_at (x ∷ xs) (suc k) d all within = each_at xs k d all.1 (omega (arith, within))
 
 -- which record stands at a place of a part
 part_at : (records : List Numbered) (first count place : ℕ) → first ≤ place → place < first + count → first + count ≤ length records → get_or (take count (drop first (bytes_of records))) (place - first) [] ≡ (record_at records place).bytes
@@ -42,7 +37,7 @@ part_len records first count within =
 pub version_at : (v : Version) (records : List Numbered) (first count place : ℕ) (rec : List ℕ) → first ≤ place → place < first + count → first + count ≤ length records → rec ≡ (record_at records place).bytes → HaveVersion v (take count (drop first (bytes_of records))) → OfLog rec (λ log. log.version ≡ v)
 version_at v records first count place rec low high within is all =
     subst (λ (bytes : List ℕ). OfLog bytes (λ log. log.version ≡ v)) (part_at records first count place low high within ∙ sym is)
-    (each_at (λ (bytes : List ℕ). OfLog bytes (λ log. log.version ≡ v)) (take count (drop first (bytes_of records))) (place - first) [] all (omega (arith, part_len records first count within, low, high)))
+    (All-from_recursion (λ (bytes : List ℕ). OfLog bytes (λ log. log.version ≡ v)) (take count (drop first (bytes_of records))) all (place - first) [] (omega (arith, part_len records first count within, low, high)))
 
 some_log : Logged
 some_log = logged_of One no_entry
@@ -60,23 +55,23 @@ logs_len records first count logs within are = sym (length-map logs packed) ∙ 
 pub fetched_step : (records : List Numbered) (last count back : ℕ) (rec : List ℕ) (logs : List Logged) (old mid new : HeapState) → last < length records → count ≤ last + 1 → back < count → rec ≡ (record_at records (last - back)).bytes
     → AllByRecursion IsRecorded logs → map packed logs ≡ take count (drop (last + 1 - count) (bytes_of records)) → AreFetched (drop (count - back) logs) old mid
     → OfLog rec (λ log. (k : ℕ) → heap_chunk new k ≡ fetched (packed_by log k) (heap_chunk mid k)) → AreFetched (drop (count - (back + 1)) logs) old new
-fetched_step records last count back rec logs old mid new inside_last there base_logs is all are before next =
+fetched_step records last count back rec logs old mid new inside_last there less is all are before next =
     let first : ℕ = last + 1 - count in
     let place : ℕ = last - back in
     let n : ℕ = place - first in
     let within : first + count ≤ length records = omega (arith, inside_last, there) in
-    let low : first ≤ place = omega (arith, there, base_logs) in
-    let high : place < first + count = omega (arith, there, base_logs) in
+    let low : first ≤ place = omega (arith, there, less) in
+    let high : place < first + count = omega (arith, there, less) in
     let len = logs_len records first count logs within are in
     let inside : n < length logs = omega (arith, len, low, high) in
     let l : Logged = get_or logs n some_log in
     let bytes : packed l ≡ rec = log_at_part records first count place rec logs low high within is are inside in
-    let at : count - (back + 1) ≡ n = omega (arith, there, base_logs) in
-    let behind : suc n ≡ count - back = omega (arith, there, base_logs) in
+    let at : count - (back + 1) ≡ n = omega (arith, there, less) in
+    let behind : suc n ≡ count - back = omega (arith, there, less) in
     let split : drop n logs ≡ l ∷ drop (suc n) logs = drop-cons logs n some_log inside in
     subst (λ k. AreFetched (drop k logs) old new) (sym at)
     (subst (λ p. AreFetched p old new) (sym split)
-    (fetched_cons (drop (suc n) logs) l old mid new (subst (λ k. AreFetched (drop k logs) old mid) (sym behind) before) (next l (each_at IsRecorded logs n some_log all inside) bytes)))
+    (fetched_cons (drop (suc n) logs) l old mid new (subst (λ k. AreFetched (drop k logs) old mid) (sym behind) before) (next l (All-from_recursion IsRecorded logs all n some_log inside) bytes)))
 
 pub fetched_start : (records : List Numbered) (last count : ℕ) (logs : List Logged) (s : HeapState) → last < length records → count ≤ last + 1 → map packed logs ≡ take count (drop (last + 1 - count) (bytes_of records)) → AreFetched (drop (count - 0) logs) s s
 fetched_start records last count logs s inside there are =

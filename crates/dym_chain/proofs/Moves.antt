@@ -3,7 +3,7 @@ use Rattle.std.proofs.Common.{◌≡◌, ℕ, zero, suc, ◌+◌, ◌-◌, ◌<�
 use Rattle.std.specs.List.{AllByRecursion}
 use Rattle.std.specs.FinSet as set
 use Rattle.std.proofs.Math.Seq.{take-append-add, drop-append-add}
-use Rattle.std.proofs.lemmas.List.{length-take, length-drop, map-append, take-map, drop-map, take-append-drop}
+use Rattle.std.proofs.lemmas.List.{length-take, length-drop, map-append, take-map, drop-map, take-append-drop, drop-drop}
 use Rattle.dym_base.specs.Heaps.{Live, HeapState, held}
 use Rattle.dym_base.specs.Objects.{LogEntry, record_of, newest}
 use Rattle.dym_base.specs.RunLaws.{EachFollows, IsLogList}
@@ -152,15 +152,6 @@ oldest_drop zero (e ∷ logs) within = refl
 oldest_drop (suc n) [] within = absurd (omega (arith, within))
 oldest_drop (suc n) (e ∷ logs) within = oldest_drop n logs (omega (arith, within))
 
-drop_nil : (n : ℕ) → drop {A = LogEntry} n [] ≡ []
-drop_nil zero = refl
-drop_nil (suc n) = refl
-
-drop_twice : (a b : ℕ) (logs : List LogEntry) → drop a (drop b logs) ≡ drop (b + a) logs
-drop_twice a zero logs = (let same : a ≡ 0 + a = omega arith in ap (λ n. drop n logs) same)
-drop_twice a (suc b) [] = drop_nil a ∙ sym (drop_nil (suc b + a))
-drop_twice a (suc b) (e ∷ logs) = drop_twice a b logs ∙ (let same : suc (b + a) ≡ suc b + a = omega arith in ap (λ n. drop n (e ∷ logs)) same)
-
 -- n logs dropped, with the records from the full log of the next one on
 abbrev pub without : ℕ → ChainMeaning → ChainMeaning
 without n c =
@@ -187,7 +178,7 @@ all_drop_is c n within law =
     let gone : ℕ = length c.base_logs + n - d in
     let fits = depth_fits c n within law in
     let sum : gone + d ≡ length c.base_logs + n = omega (arith, fits) in
-    ap (λ l. take d (drop gone (all_logs c)) ++ l) (sym (drop-append-add c.base_logs c.logs n) ∙ ap (λ m. drop m (all_logs c)) (sym sum) ∙ sym (drop_twice d gone (all_logs c)))
+    ap (λ l. take d (drop gone (all_logs c)) ++ l) (sym (drop-append-add c.base_logs c.logs n) ∙ ap (λ m. drop m (all_logs c)) (sym sum) ∙ sym (drop-drop d gone (all_logs c)))
     ∙ take-append-drop d (drop gone (all_logs c))
 
 records_drop : (c : ChainMeaning) (v : Version) (n : ℕ) → n < length c.logs → IsLawful c → bytes_of c.records ≡ map (record_of v) (all_logs c) → bytes_of (without n c).records ≡ map (record_of v) (all_logs (without n c))

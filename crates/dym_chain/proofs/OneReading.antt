@@ -17,17 +17,14 @@ use Rattle.dym_pack.specs.Laws.{SaysTheSame}
 use Rattle.dym_pack.proofs.Tells.{record_tells}
 use Rattle.dym_heap.proofs.AreaLists.{LiesIn, lies_in}
 use Rattle.dym_chain.specs.AdoptedLogs.{run_to, entry_in, entries_from}
+use Rattle.dym_chain.proofs.Records.{heads, tails}
 use Rattle.dym_chain.proofs.Stands.{none_of, packed_push}
-use Rattle.dym_chain.proofs.StoodFor.{stood_same}
-
-some_bytes : (o : Option (List ℕ)) → is_some o ≡ true → o ≡ Some (unwrap_or o [])
-some_bytes None has = absurd (true≢false (sym has))
-some_bytes (Some x) has = refl
+use Rattle.dym_chain.proofs.StoodFor.{unwrapped, stood_same}
 
 -- the place of a live chunk
 place : (log : Logged) → IsRecorded log → (q : ℕ) → contains_key log.copy q ≡ true → LiesIn log.copy q
 place log is q has =
-    let fits = is.sized q (unwrap_or (get log.copy q) []) (some_bytes (get log.copy q) has) in
+    let fits = is.sized q (unwrap_or (get log.copy q) []) (sym (unwrapped (get log.copy q) has)) in
     lies_in log.copy q fits.0 fits.1 has
 
 module _ (a b : Logged) (ok : IsRecorded a) (also : IsRecorded b) (same : packed a ≡ packed b) where
@@ -104,12 +101,6 @@ module _ (a b : Logged) (ok : IsRecorded a) (also : IsRecorded b) (same : packed
       let copy = stood_same (run_to a.kind before a) (run_to b.kind others b) a.copy b.copy (newest_run before others alike) has_same in
       let found : found_by a.kind a.found ≡ found_by b.kind b.found = found_same a.kind refl (sym kind_same) ∙ ap (λ d. found_by d b.found) kind_same in
       λ i. record { time = (record_tells a b ok also same).time i; depth = depth_after n (kind_same i); copy = copy i; found = found i }
-
-heads : (a b : List ℕ) (xs ys : List (List ℕ)) → a ∷ xs ≡ b ∷ ys → a ≡ b
-heads a b xs ys e = cc
-
-tails : (a b : List ℕ) (xs ys : List (List ℕ)) → a ∷ xs ≡ b ∷ ys → xs ≡ ys
-tails a b xs ys e = cc
 
 pub entries_same : (xs ys : List Logged) (n : ℕ) (before others : List Logged) → AllByRecursion IsRecorded xs → AllByRecursion IsRecorded ys → map packed xs ≡ map packed ys → ((q : ℕ) → newest_packed before q ≡ newest_packed others q)
     → entries_from n before xs ≡ entries_from n others ys

@@ -17,12 +17,9 @@ no_logs = record { base_logs = []; logs = [] }
 abbrev pub no_chain : Origin → ChainMeaning
 no_chain origin = record { base_logs = []; logs = []; records = []; next_number = 0; lifted = None; origin = origin }
 
-pub opened : (keep : KeepMeaning) (copies : ChainCopies) → keep.records ≡ [] → keep.next_number ≡ 0 → keep.lifted ≡ None → copies ≡ no_logs → chain_of copies keep ≡ no_chain keep.origin
-opened keep copies records next_number idle told_is =
-    ap (λ (t : ChainCopies). chain_of t keep) told_is
-    ∙ ap (λ (r : List Numbered). record { base_logs = []; logs = []; records = r; next_number = keep.next_number; lifted = keep.lifted; origin = keep.origin }) records
-    ∙ ap (λ m. record { base_logs = []; logs = []; records = []; next_number = m; lifted = keep.lifted; origin = keep.origin }) next_number
-    ∙ ap (λ (l : Option ℕ). record { base_logs = []; logs = []; records = []; next_number = 0; lifted = l; origin = keep.origin }) idle
+pub opened : {keep : KeepMeaning} {copies : ChainCopies} → keep.records ≡ [] → keep.next_number ≡ 0 → keep.lifted ≡ None → copies ≡ no_logs → chain_of copies keep ≡ no_chain keep.origin
+opened {keep = keep} records next_number idle told_is =
+    λ i. record { base_logs = (told_is i).base_logs; logs = (told_is i).logs; records = records i; next_number = next_number i; lifted = idle i; origin = keep.origin }
 
 pub lawful_open : (origin : Origin) → IsLawful (no_chain origin)
 lawful_open origin = record {
@@ -34,12 +31,6 @@ lawful_open origin = record {
   follows = tt;
   keeps = tt;
   base = refl;
-}
-
-pub chain_open : (kept : List Entry) (capacity : ℕ) (keep : KeepMeaning) (copies : ChainCopies) → kept ≡ [] → 256 ≤ capacity → keep.records ≡ [] → keep.next_number ≡ 0 → keep.lifted ≡ None → copies ≡ no_logs → IsChain kept capacity keep copies
-chain_open kept capacity keep copies items room records next_number idle told_is = record {
-  shows = record { entries = items ∙ ap (λ (t : ChainCopies). Rattle.std.proofs.Common.map entry_of t.logs) (sym told_is); room = room };
-  lawful = subst IsLawful (sym (opened keep copies records next_number idle told_is)) (lawful_open keep.origin);
 }
 
 pub belongs_open : (v : Version) (quota : ℕ) (s : HeapState) (origin : Origin) → Belongs v quota s (no_chain origin)

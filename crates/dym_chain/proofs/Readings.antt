@@ -5,6 +5,7 @@ use Rattle.std.specs.FinSet as set
 use Rattle.std.specs.List.{AllByRecursion}
 use Rattle.std.proofs.lemmas.Bool.{cases_lt}
 use Rattle.std.proofs.lemmas.List.{length-drop, length-map, get_or-drop, get_or-map, map_more, take_all}
+use Rattle.std.proofs.lemmas.List.Elements.{All-from_recursion}
 use Rattle.dym_base.specs.LawfulLists as lawful
 use Rattle.dym_base.specs.LawfulLists.{depth_after}
 use Rattle.dym_base.specs.Objects.{LogEntry}
@@ -106,11 +107,6 @@ module _ (v : Version) (first : ℕ) (logs : List Logged) (is : lawful.IsLawful 
   pub as_many : length logs ≡ length records
   as_many = sym (length-map logs packed) ∙ ap length are ∙ length-map records (λ (r : Numbered). r.bytes)
 
-  all_at : (P : Logged → Type 0) (xs : List Logged) (k : ℕ) → AllByRecursion P xs → k < length xs → P (logged_at xs k)
-  all_at P [] k all within = absurd (omega (arith, within))
-  all_at P (x ∷ xs) zero all within = all.0
-  all_at P (x ∷ xs) (suc k) all within = all_at P xs k all.1 (omega (arith, within))
-
   bytes_at : (place : ℕ) → place < length records → packed (logged_at logs place) ≡ (record_at records place).bytes
   bytes_at place within =
       let inside : place < length logs = (let n = as_many in omega (arith, n, within)) in
@@ -121,26 +117,21 @@ module _ (v : Version) (first : ℕ) (logs : List Logged) (is : lawful.IsLawful 
   pub of_record : (place : ℕ) (P : Logged → Type 0) → place < length records → OfLog (record_at records place).bytes P → P (logged_at logs place)
   of_record place P within of =
       let inside : place < length logs = (let n = as_many in omega (arith, n, within)) in
-      of (logged_at logs place) (all_at IsRecorded logs place is.recorded inside) (bytes_at place within)
-
-  shallow_at : (es : List LogEntry) (k : ℕ) → AllByRecursion (λ (e : LogEntry). e.depth ≤ 31) es → k < length es → (log_at es k).depth ≤ 31
-  shallow_at [] k all within = absurd (omega (arith, within))
-  shallow_at (e ∷ es) zero all within = all.0
-  shallow_at (e ∷ es) (suc k) all within = shallow_at es k all.1 (omega (arith, within))
+      of (logged_at logs place) (All-from_recursion IsRecorded logs is.recorded place no_logged inside) (bytes_at place within)
 
   pub depth_small : (place : ℕ) → place < length records → (log_at (entries_of logs) place).depth ≤ 31
   depth_small place within =
-      shallow_at (entries_of logs) place (said_shallow 0 [] logs is.shallow) (let n = as_many in let m = said_count 0 [] logs in omega (arith, n, m, within))
+      All-from_recursion (λ (e : LogEntry). e.depth ≤ 31) (entries_of logs) (said_shallow 0 [] logs is.shallow) place no_entry (let n = as_many in let m = said_count 0 [] logs in omega (arith, n, m, within))
 
   -- the first place is small
   pub first_small : (length records ≡ 0 → first ≡ 0) → (0 < length records → first < length records) → first ≤ 31
   first_small none some =
       elim (cases_lt 0 (length records)) as (λ _. first ≤ 31) [
         | inl more ↦
-            let base_logs : first < length records = some more in
-            let inside : first < length logs = (let n = as_many in omega (arith, n, base_logs)) in
+            let within : first < length records = some more in
+            let inside : first < length logs = (let n = as_many in omega (arith, n, within)) in
             let deep = first_depth logs first inside is.full is.base in
-            let low = depth_small first base_logs in
+            let low = depth_small first within in
             omega (arith, deep, low)
         | inr zero_count ↦ (let start = none (omega (arith, zero_count)) in omega (arith, start))
       ]

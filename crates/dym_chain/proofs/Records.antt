@@ -58,25 +58,16 @@ held_same a b ra rb same =
     let fewb : held b.copy < 2 ^ 32 = omega (arith, rb.few) in
     sym (areas_are a fewa) ∙ ap areas_by same ∙ areas_are b fewb
 
--- logs whose records are those of logs of another version
-first_of : List (List ℕ) → List ℕ
-first_of [] = []
-first_of (r ∷ rs) = r
+-- ---- logs whose records are those of logs of another version
 
-rest_of : List (List ℕ) → List (List ℕ)
-rest_of [] = []
-rest_of (r ∷ rs) = rs
+pub heads : (a b : List ℕ) (xs ys : List (List ℕ)) → a ∷ xs ≡ b ∷ ys → a ≡ b
+heads a b xs ys same = cc
 
-firsts : (a b : List ℕ) (xs ys : List (List ℕ)) → a ∷ xs ≡ b ∷ ys → a ≡ b
-unfolding first_of
-firsts a b xs ys same = ap first_of same
-
-rests : (a b : List ℕ) (xs ys : List (List ℕ)) → a ∷ xs ≡ b ∷ ys → xs ≡ ys
-unfolding rest_of
-rests a b xs ys same = ap rest_of same
+pub tails : (a b : List ℕ) (xs ys : List (List ℕ)) → a ∷ xs ≡ b ∷ ys → xs ≡ ys
+tails a b xs ys same = cc
 
 pub recorded_at : (logs : List LogEntry) (v w : Version) → map (record_of w) logs ≡ map (record_of v) logs → AllByRecursion (λ (e : LogEntry). IsRecorded (logged_of w e)) logs → AllByRecursion (λ (e : LogEntry). IsRecorded (logged_of v e)) logs
 recorded_at [] v w same all = tt
 recorded_at (e ∷ logs) v w same all =
-    let version : w ≡ v = version_same (logged_of w e) (logged_of v e) (firsts (record_of w e) (record_of v e) (map (record_of w) logs) (map (record_of v) logs) same) in
-    (subst (λ x. IsRecorded (logged_of x e)) version all.0, recorded_at logs v w (rests (record_of w e) (record_of v e) (map (record_of w) logs) (map (record_of v) logs) same) all.1)
+    let version : w ≡ v = version_same (logged_of w e) (logged_of v e) (heads (record_of w e) (record_of v e) (map (record_of w) logs) (map (record_of v) logs) same) in
+    (subst (λ x. IsRecorded (logged_of x e)) version all.0, recorded_at logs v w (tails (record_of w e) (record_of v e) (map (record_of w) logs) (map (record_of v) logs) same) all.1)

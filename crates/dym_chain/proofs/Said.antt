@@ -24,7 +24,7 @@ use Rattle.dym_chain.specs.AdoptedLogs.{stood_for, run_to, entry_in, entries_fro
 use Rattle.dym_chain.specs.Chains.{KeepsUntouched, FirstKeeps, EachKeeps}
 use Rattle.dym_chain.specs.Lawful.{logged_of}
 use Rattle.dym_chain.proofs.SameBytes.{same_bytes}
-use Rattle.dym_chain.proofs.Stands.{or_some, some_or, packed_push}
+use Rattle.dym_chain.proofs.Stands.{not_inc, or_some, some_or, packed_push}
 use Rattle.dym_chain.proofs.StoodFor.{stood_has, stood_newest}
 
 -- ---- what one log packs
@@ -90,9 +90,6 @@ run_inc v n run last log is inc recorded version may = record {
 pub run_next : (v : Version) (n : ℕ) (run : List Logged) (last log : Logged) (kind : Kind) → log.kind ≡ kind → IsRun v n run last → IsRecorded log → log.version ≡ v → MayFollow last log → IsRun v (depth_after n kind) (run_to kind run log) log
 run_next v n run last log Full is run_is recorded version may = run_full v log is recorded version
 run_next v n run last log Inc is run_is recorded version may = run_inc v n run last log run_is is recorded version may
-
-not_inc : Full ≡ Inc → ⊥
-not_inc e = cc
 
 pub run_first : (v : Version) (log : Logged) (kind : Kind) → log.kind ≡ kind → log.kind ≡ Full → IsRecorded log → log.version ≡ v → IsRun v (depth_after 0 kind) (run_to kind [] log) log
 run_first v log Full is full recorded version = run_full v log is recorded version

@@ -24,7 +24,7 @@ use Rattle.dym_chain.proofs.KeptLists.{depth_is, lawful_logs}
 use Rattle.dym_chain.proofs.Lawfuls.{packed_of}
 use Rattle.dym_chain.proofs.Places.{keeps_drop}
 use Rattle.dym_chain.proofs.SameBytes.{same_bytes}
-use Rattle.dym_chain.proofs.Stands.{kind_full, kind_inc, stands_push}
+use Rattle.dym_chain.proofs.Stands.{not_inc, kind_full, kind_inc, stands_push}
 use Rattle.dym_chain.proofs.StoodFor.{stood_is}
 
 found_is : (b : Bool) (touched : Touched) → found_by (cond b Full Inc) touched ≡ cond b set.empty touched
@@ -96,11 +96,8 @@ packs_said : (b : Bool) (copy : Live) (found : Touched) (q : ℕ) → packs_by (
 packs_said true copy found q = refl
 packs_said false copy found q = refl
 
-not_full : Full ≡ Inc → ⊥
-not_full e = cc
-
 found_said : (b : Bool) (found : Touched) (q : ℕ) → cond b Full Inc ≡ Inc → set.contains (cond b set.empty found) q ≡ set.contains found q
-found_said true found q inc = absurd (not_full inc)
+found_said true found q inc = absurd (not_inc inc)
 found_said false found q inc = refl
 
 record_said : (v : Version) (e : LogEntry) → record_of v (as_said e) ≡ record_of v e

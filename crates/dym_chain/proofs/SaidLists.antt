@@ -87,7 +87,7 @@ pub record IsPlace (first count : ℕ) : Type 0 where
 pub place_within : (first count : ℕ) → IsPlace first count → first ≤ count
 place_within first count is =
     elim (cases_lt 0 count) as (λ _. first ≤ count) [
-      | inl some ↦ (let base_logs = is.some some in omega (arith, base_logs))
+      | inl some ↦ (let less = is.some some in omega (arith, less))
       | inr none ↦ (let at : count ≡ 0 = omega (arith, none) in let start = is.none at in omega (arith, start))
     ]
 
@@ -114,9 +114,9 @@ module _ (keep : KeepMeaning) (first : ℕ) (v : Version) (logs : List Logged) (
       let long : length (take first all) ≡ first = length-take first all ∙ (let w = within in let least : Rattle.std.specs.Prelude.min first (length all) ≡ first = omega arith in least) in
       elim (cases_lt 0 (length keep.records)) as (λ _. length (take first all) ≡ oldest_depth (drop first all)) [
         | inl some ↦
-            let base_logs : first < length all = (let b = place.some some in let n = count in omega (arith, b, n)) in
-            let there : first < length logs = (let n = said_count 0 [] logs in omega (arith, n, base_logs)) in
-            long ∙ sym (oldest_drop first all base_logs ∙ first_depth logs first there is.full is.base)
+            let more : first < length all = (let b = place.some some in let n = count in omega (arith, b, n)) in
+            let there : first < length logs = (let n = said_count 0 [] logs in omega (arith, n, more)) in
+            long ∙ sym (oldest_drop first all more ∙ first_depth logs first there is.full is.base)
         | inr none ↦
             let at : length keep.records ≡ 0 = omega (arith, none) in
             long ∙ place.none at ∙ sym (drop_none first all (count ∙ at))

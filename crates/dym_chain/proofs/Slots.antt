@@ -143,10 +143,3 @@ kept_drop slots slots' lifted next_number capacity capacity' n same is idle kept
       there = λ i within out. subst Is (sym (get_or-drop n slots i no_slot)) (kept.there (n + i) (omega (arith, len, within)) (λ e. none-some (n + i) (sym idle ∙ e)));
       inside = λ i out. absurd (none-some i (sym idle ∙ out));
     })
-
--- what a slot's reading says, whatever stands past the end
-
-pub at_place : (slots : List Slot) (i : ℕ) (d : Slot) → i < length slots → get_or slots i d ≡ get_or slots i no_slot
-at_place [] i d within = absurd (omega (arith, within))
-at_place (s ∷ slots) zero d within = refl
-at_place (s ∷ slots) (suc i) d within = at_place slots i d (omega (arith, within))

@@ -41,6 +41,9 @@ pub none_of : (o : Option (List ℕ)) → is_some o ≡ false → o ≡ None
 none_of None gone = refl
 none_of (Some x) gone = absurd (true≢false gone)
 
+pub not_inc : Full ≡ Inc → ⊥
+not_inc same = cc
+
 -- one log more
 
 pub packed_push : (logs : List Logged) (l : Logged) (k : ℕ) → newest_packed (logs ++ l ∷ []) k ≡ or_else (packed_by l k) (newest_packed logs k)

@@ -8,6 +8,7 @@ use Rattle.dym_base.specs.Heaps.{Live}
 use Rattle.dym_base.specs.Packed.{Logged}
 use Rattle.dym_base.specs.StandsFor.{newest_packed, LogsStandFor}
 use Rattle.dym_chain.specs.AdoptedLogs.{stood_for}
+use Rattle.dym_chain.proofs.Stands.{none_of}
 
 found_here : (g : ℕ → List ℕ) (q k : ℕ) (b : Bool) (o p : Option (List ℕ)) (bytes : List ℕ) → (b ≡ true → q ≡ k) → o ≡ cond (is_some p) (Some (g q)) None
     → cond b (Some (g k)) o ≡ cond (is_some (cond b (Some bytes) p)) (Some (g q)) None
@@ -35,13 +36,9 @@ some_of false x = refl
 pub stood_has : (logs : List Logged) (last : Live) (q : ℕ) → contains_key (stood_for logs last) q ≡ contains_key last q
 stood_has logs last q = ap is_some (stood_get logs last q) ∙ some_of (contains_key last q) (unwrap_or (newest_packed logs q) [])
 
-unwrapped : (o : Option (List ℕ)) → is_some o ≡ true → Some (unwrap_or o []) ≡ o
+pub unwrapped : (o : Option (List ℕ)) → is_some o ≡ true → Some (unwrap_or o []) ≡ o
 unwrapped None has = absurd (true≢false (sym has))
 unwrapped (Some x) has = refl
-
-none_got : (o : Option (List ℕ)) → is_some o ≡ false → o ≡ None
-none_got None gone = refl
-none_got (Some x) gone = absurd (true≢false gone)
 
 -- a handle of the last log that some log packs
 pub stood_newest : (logs : List Logged) (last : Live) (q : ℕ) → contains_key last q ≡ true → is_some (newest_packed logs q) ≡ true → get (stood_for logs last) q ≡ newest_packed logs q
@@ -65,5 +62,5 @@ stood_is logs copy stand =
     same_map nat_cmp_total nat_cmp-IsAntisymmetric (stood_for logs copy) copy (λ q.
     ⊎_elim
     (λ has. stood_newest logs copy q has (ap is_some (stand.bytes q has) ∙ has) ∙ stand.bytes q has)
-    (λ gone. none_got (get (stood_for logs copy) q) (stood_has logs copy q ∙ gone) ∙ sym (none_got (get copy q) gone))
+    (λ gone. none_of (get (stood_for logs copy) q) (stood_has logs copy q ∙ gone) ∙ sym (none_of (get copy q) gone))
     (cases_Bool (contains_key copy q)))

@@ -15,21 +15,21 @@ pub record TellsChanges (before e : LogEntry) (bytes : List ℕ) : Type 0 where
   pub keeps : (k : ℕ) → contains_key e.copy k ≡ true → packed_by log k ≡ None → get before.copy k ≡ get e.copy k
 
 -- so are those that stand beside a log's record, where any do
-abbrev pub IsBeside : LogEntry → LogEntry → Option (List ℕ) → Type 0
-IsBeside before e None = ⊤
-IsBeside before e (Some bytes) = TellsChanges before e bytes
+abbrev pub IsDifference : LogEntry → LogEntry → Option (List ℕ) → Type 0
+IsDifference before e None = ⊤
+IsDifference before e (Some bytes) = TellsChanges before e bytes
 
 -- what stands beside log k
-abbrev pub beside_at : List (Option (List ℕ)) → ℕ → Option (List ℕ)
-beside_at differences k = slice_index_or differences k None
+abbrev pub difference_at : List (Option (List ℕ)) → ℕ → Option (List ℕ)
+difference_at differences k = slice_index_or differences k None
 
 -- what stands beside the logs, but for the first
 pub record AreDifferences (logs : List LogEntry) (differences : List (Option (List ℕ))) : Type 0 where
   pub few : length differences ≤ length logs
-  pub each : (k : ℕ) → suc k < length logs → IsBeside (log_at logs k) (log_at logs (suc k)) (beside_at differences (suc k))
+  pub each : (k : ℕ) → suc k < length logs → IsDifference (log_at logs k) (log_at logs (suc k)) (difference_at differences (suc k))
 
 -- one more for log n, these bytes or nothing
 pub record HasOneMore (old new : List (Option (List ℕ))) (n : ℕ) (bytes : List ℕ) : Type 0 where
   pub few : length new ≤ suc n
-  pub same : (k : ℕ) → k < n → beside_at new k ≡ beside_at old k
-  pub last : (beside_at new n ≡ None) ⊎ (beside_at new n ≡ Some bytes)
+  pub same : (k : ℕ) → k < n → difference_at new k ≡ difference_at old k
+  pub last : (difference_at new n ≡ None) ⊎ (difference_at new n ≡ Some bytes)

@@ -8,7 +8,7 @@ ghost use Rattle.dym_base.specs.declared.command.Kind.TheVariants.{Inc};
 ghost use Rattle.dym_heap.specs.RecordLoads.{areas_of};
 ghost use Rattle.dym_heap.specs.Meaning.{IsSound};
 ghost use Rattle.dym_pack.specs.Areas.{logged};
-ghost use Rattle.dym_chain.specs.Differences.{beside_at, HasOneMore};
+ghost use Rattle.dym_chain.specs.Differences.{difference_at, HasOneMore};
 
 use dym_base::Kind;
 use dym_heap::Heap;
@@ -30,7 +30,7 @@ pub(crate) fn keep_difference<S: Supply>(
     ensures more { OnOk result (HasOneMore differences.old.items differences.new.items count
         (packed (logged (areas_of heap.now) Inc time))) }
     ensures few { OnErr result (length differences.new.items ≤ count) }
-    ensures same { OnErr result ((k : ℕ) → beside_at differences.new.items k ≡ beside_at differences.old.items k) }
+    ensures same { OnErr result ((k : ℕ) → difference_at differences.new.items k ≡ difference_at differences.old.items k) }
 {
     pad(differences, count)?;
     let found = found_by(alloc, heap, time, depth, count)?;
@@ -41,7 +41,7 @@ pub(crate) fn keep_difference<S: Supply>(
 /// Nothing stands beside logs of which nothing is known, up to log `count`.
 fn pad(differences: &mut Vec<Option<Record>>, count: usize) -> Result<(), AllocError>
     requires { length differences.old.items ≤ count }
-    ensures same { (k : ℕ) → beside_at differences.new.items k ≡ beside_at differences.old.items k }
+    ensures same { (k : ℕ) → difference_at differences.new.items k ≡ difference_at differences.old.items k }
     ensures few { length differences.new.items ≤ count }
     ensures long { OnOk result (length differences.new.items ≡ count) }
 {

@@ -5,7 +5,7 @@ ghost use Rattle.dym_base.specs.Packed.{Logged, packed};
 ghost use Rattle.dym_base.specs.Recorded.{IsRecorded};
 ghost use Rattle.dym_heap.specs.Meaning.{IsSound};
 ghost use Rattle.dym_chain.specs.Keeps.{bytes_of};
-ghost use Rattle.dym_chain.specs.Differences.{beside_at};
+ghost use Rattle.dym_chain.specs.Differences.{difference_at};
 ghost use Rattle.dym_chain.specs.Loads.{AreFetched, HaveVersion, KeepsUnmodified, PacksTouched};
 ghost use Rattle.dym_pack.specs.ParsedAreas.{IsRecord, OfLog};
 ghost use Rattle.dym_slots.specs.Meanings.{record_at};
@@ -29,11 +29,11 @@ pub(crate) fn mark_logs<S: Supply, K: LogKeep>(
     requires within { base + count ≤ length (K.meaning keep.old).records }
     requires few { base + count < 65536 }
     requires recorded { (i : ℕ) → kept ≤ i → i < count
-        → IsRecord (unwrap_or (beside_at differences.now i)
+        → IsRecord (unwrap_or (difference_at differences.now i)
         (record_at (K.meaning keep.old).records (base + i)).bytes) }
     requires sound { IsSound heap.old }
     ensures marked { (i : ℕ) → kept ≤ i → i < count
-        → OfLog (unwrap_or (beside_at differences.now i)
+        → OfLog (unwrap_or (difference_at differences.now i)
         (record_at (K.meaning keep.old).records (base + i)).bytes) (PacksTouched heap.new.state) }
     ensures unmodified { KeepsUnmodified heap.old.state heap.new.state }
     ensures keep { K.meaning keep.new ≡ K.meaning keep.old }
@@ -56,9 +56,9 @@ fn mark_log<S: Supply, K: LogKeep>(
     requires idle { (K.meaning keep.old).lifted ≡ None }
     requires within { base + i < length (K.meaning keep.old).records }
     requires few { base + i < 65536 }
-    requires recorded { IsRecord (unwrap_or (beside_at differences.now i)
+    requires recorded { IsRecord (unwrap_or (difference_at differences.now i)
         (record_at (K.meaning keep.old).records (base + i)).bytes) }
-    ensures marked { OfLog (unwrap_or (beside_at differences.now i)
+    ensures marked { OfLog (unwrap_or (difference_at differences.now i)
         (record_at (K.meaning keep.old).records (base + i)).bytes) (PacksTouched heap.new.state) }
     ensures unmodified { KeepsUnmodified heap.old.state heap.new.state }
     ensures keep { K.meaning keep.new ≡ K.meaning keep.old }
@@ -66,7 +66,7 @@ fn mark_log<S: Supply, K: LogKeep>(
     ensures sound { IsSound heap.new }
 {
     let place = base + i as u32;
-    match side_of(differences, i) {
+    match difference_of(differences, i) {
         Some(rec) => heap.mark(rec),
         None => {
             let rec = keep.lift(place);
@@ -77,9 +77,9 @@ fn mark_log<S: Supply, K: LogKeep>(
 }
 
 /// The record that stands beside that of log `i`.
-fn side_of(differences: &[Option<Record>], i: usize) -> Option<&Record>
-    ensures { MatchOption result (beside_at differences.now i ≡ None)
-        (λ rec. beside_at differences.now i ≡ Some rec.now) }
+fn difference_of(differences: &[Option<Record>], i: usize) -> Option<&Record>
+    ensures { MatchOption result (difference_at differences.now i ≡ None)
+        (λ rec. difference_at differences.now i ≡ Some rec.now) }
 {
     match differences.get(i) {
         Some(Some(rec)) => Some(rec),

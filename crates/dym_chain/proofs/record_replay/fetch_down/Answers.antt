@@ -23,7 +23,7 @@ fetch-requires g c =
     let v : c.args.heap.now.version ≡ c.loop-back.heap.version = sym (ap (λ (h : HeapMeaning). h.version) c.loop-back.invariant.same) in
     let there = c.requires.there in
     let within = c.requires.within in
-    let base_logs = c.loop-back-test.true in
+    let less = c.loop-back-test.true in
     record {
       version = subst (λ (w : Version). OfLog c.lift-rec.result (λ log. log.version ≡ w)) v
           (version_at c.args.heap.now.version m.records (c.args.last + 1 - c.args.count) c.args.count (c.args.last - c.loop-back.back) c.lift-rec.result (omega arith) (omega arith) (omega arith) bytes c.requires.version);

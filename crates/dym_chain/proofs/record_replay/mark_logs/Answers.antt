@@ -3,9 +3,9 @@ use Rattle.std.proofs.lemmas.Bool.{cases_lt}
 use Rattle.dym_pack.specs.ParsedAreas.{IsRecord, OfLog}
 use Rattle.dym_heap.specs.Meaning.{HeapMeaning}
 use Rattle.dym_slots.specs.Meanings.{KeepMeaning, record_at}
-use Rattle.dym_chain.specs.Differences.{beside_at}
+use Rattle.dym_chain.specs.Differences.{difference_at}
 use Rattle.dym_chain.specs.Loads.{PacksTouched}
-use Rattle.dym_chain.proofs.Besides as besides
+use Rattle.dym_chain.proofs.DifferenceFacts as facts
 use Rattle.dym_chain.proofs.record_replay.mark_logs.Goals as goal
 
 pub mark_log-requires-clause-idle : goal.mark_log-requires-clause-idle
@@ -21,7 +21,7 @@ mark_log-requires-clause-few g c = omega (arith, c.loop-i-test.true, c.requires.
 
 pub mark_log-requires-clause-recorded : goal.mark_log-requires-clause-recorded
 mark_log-requires-clause-recorded g c =
-    subst (λ (k : KeepMeaning). IsRecord (unwrap_or (beside_at c.args.differences.now c.loop-i.i) (record_at k.records (c.args.base + c.loop-i.i)).bytes)) (sym c.loop-i.invariant.keep)
+    subst (λ (k : KeepMeaning). IsRecord (unwrap_or (difference_at c.args.differences.now c.loop-i.i) (record_at k.records (c.args.base + c.loop-i.i)).bytes)) (sym c.loop-i.invariant.keep)
     (c.requires.recorded c.loop-i.i c.loop-i.auto.i c.loop-i-test.true)
 
 pub loop-i-init : goal.loop-i-init
@@ -30,7 +30,7 @@ loop-i-init g c = record {
   same = refl;
   sound = c.requires.sound;
   unmodified = λ k was. refl;
-  marked = λ j low base_logs. absurd (omega (arith, low, base_logs));
+  marked = λ j low high. absurd (omega (arith, low, high));
 }
 
 pub loop-i-preserved : goal.loop-i-preserved
@@ -40,16 +40,16 @@ loop-i-preserved g c =
       keep = c.mark_log.ensures.keep ∙ c.loop-i.invariant.keep;
       same = c.mark_log.ensures.same ∙ ap (λ (h : HeapMeaning). record h { state = c.mark_log.new.heap.state }) c.loop-i.invariant.same;
       sound = c.mark_log.ensures.sound;
-      unmodified = besides.settles_on c.args.heap.now.state c.loop-i.heap.state c.mark_log.new.heap.state c.loop-i.invariant.unmodified c.mark_log.ensures.unmodified;
-      marked = λ j low base_logs.
-          elim (cases_lt j c.loop-i.i) as (λ _. OfLog (unwrap_or (beside_at c.args.differences.now j) (record_at m.records (c.args.base + j)).bytes) (PacksTouched c.mark_log.new.heap.state)) [
-            | inl before ↦ λ log recorded is. besides.touches_on c.loop-i.heap.state c.mark_log.new.heap.state log (c.loop-i.invariant.marked j low before log recorded is) c.mark_log.ensures.unmodified
+      unmodified = facts.settles_on c.args.heap.now.state c.loop-i.heap.state c.mark_log.new.heap.state c.loop-i.invariant.unmodified c.mark_log.ensures.unmodified;
+      marked = λ j low high.
+          elim (cases_lt j c.loop-i.i) as (λ _. OfLog (unwrap_or (difference_at c.args.differences.now j) (record_at m.records (c.args.base + j)).bytes) (PacksTouched c.mark_log.new.heap.state)) [
+            | inl before ↦ λ log recorded is. facts.touches_on c.loop-i.heap.state c.mark_log.new.heap.state log (c.loop-i.invariant.marked j low before log recorded is) c.mark_log.ensures.unmodified
             | inr past ↦
-                let at : c.loop-i.i ≡ j = omega (arith, base_logs, past) in
-                subst (λ n. OfLog (unwrap_or (beside_at c.args.differences.now n) (record_at m.records (c.args.base + n)).bytes) (PacksTouched c.mark_log.new.heap.state)) at
-                (subst (λ (k : KeepMeaning). OfLog (unwrap_or (beside_at c.args.differences.now c.loop-i.i) (record_at k.records (c.args.base + c.loop-i.i)).bytes) (PacksTouched c.mark_log.new.heap.state)) c.loop-i.invariant.keep c.mark_log.ensures.marked)
+                let at : c.loop-i.i ≡ j = omega (arith, high, past) in
+                subst (λ n. OfLog (unwrap_or (difference_at c.args.differences.now n) (record_at m.records (c.args.base + n)).bytes) (PacksTouched c.mark_log.new.heap.state)) at
+                (subst (λ (k : KeepMeaning). OfLog (unwrap_or (difference_at c.args.differences.now c.loop-i.i) (record_at k.records (c.args.base + c.loop-i.i)).bytes) (PacksTouched c.mark_log.new.heap.state)) c.loop-i.invariant.keep c.mark_log.ensures.marked)
           ];
     }
 
 pub returns-clause-marked : goal.returns-clause-marked
-returns-clause-marked g c j low base_logs = c.loop-i.invariant.marked j low (omega (arith, base_logs, c.loop-i-test.false))
+returns-clause-marked g c j low high = c.loop-i.invariant.marked j low (omega (arith, high, c.loop-i-test.false))

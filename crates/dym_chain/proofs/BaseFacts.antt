@@ -1,7 +1,7 @@
 -- What stays below the kept logs as the first of them are dropped: those from the last full one on.
 use Rattle.std.proofs.Common.{◌≡◌, ℕ, zero, suc, ◌+◌, ◌-◌, ◌<◌, ◌≤◌, inl, inr, Bool, true, false, ◌||◌, ◌==◌, List, [], ◌∷◌, ◌++◌, length, take, drop, refl, sym, ap, subst, ◌∙◌, arith, length-append}
-use Rattle.std.proofs.lemmas.Bool.{cond-true, cond-false, eq-eqb, ne_eqb}
-use Rattle.std.proofs.lemmas.List.{length-take, get_or-take}
+use Rattle.std.proofs.lemmas.Bool.{cases_lt, cond-true, cond-false, eq-eqb, ne_eqb, or_left, or_right}
+use Rattle.std.proofs.lemmas.List.{length-take, get_or-take, drop-take}
 use Rattle.std.proofs.Math.Seq.{take-append-add}
 use Rattle.dym_base.specs.BaseLogs.{oldest_depth, has_full, from_last_full, left_base_logs, dropped_base_logs}
 use Rattle.dym_base.specs.Objects.{LogEntry}
@@ -24,23 +24,19 @@ none_full (e ∷ es) deep =
     ap (λ b. b || has_full es) (ne_eqb e.depth 0 (λ none. (let no_such : ⊥ = omega (arith, some, none) in no_such)))
     ∙ none_full es (λ i within. deep (suc i) (omega arith))
 
-or_true : (b : Bool) → (b || true) ≡ true
-or_true true = refl
-or_true false = refl
-
 one_full : (logs : List LogEntry) (i : ℕ) → i < length logs → (log_at logs i).depth ≡ 0 → has_full logs ≡ true
 one_full [] i within none = absurd (omega arith)
-one_full (e ∷ es) zero within none = ap (λ b. b || has_full es) (is_full e none)
-one_full (e ∷ es) (suc i) within none = ap (λ b. (e.depth == 0) || b) (one_full es i (omega arith) none) ∙ or_true (e.depth == 0)
+one_full (e ∷ es) zero within none = or_left (e.depth == 0) (has_full es) (is_full e none)
+one_full (e ∷ es) (suc i) within none = or_right (e.depth == 0) (has_full es) (one_full es i (omega arith) none)
 
 -- where log b is full and none after it is, the list from there on
 last_full_at : (logs : List LogEntry) (b : ℕ) → b < length logs → (log_at logs b).depth ≡ 0 → ((i : ℕ) → b < i → i < length logs → 0 < (log_at logs i).depth) → from_last_full logs ≡ drop b logs
 last_full_at [] b within none deep = absurd (omega arith)
 last_full_at (e ∷ es) zero within none deep =
-    cond-false (has_full es) (from_last_full es) (e ∷ es) (none_full es (λ i base_logs. deep (suc i) (omega arith) (omega arith)))
+    cond-false (has_full es) (from_last_full es) (e ∷ es) (none_full es (λ i low. deep (suc i) (omega arith) (omega arith)))
 last_full_at (e ∷ es) (suc b) within none deep =
     cond-true (has_full es) (from_last_full es) (e ∷ es) (one_full es b (omega arith) none)
-    ∙ last_full_at es b (omega arith) none (λ i above base_logs. deep (suc i) (omega arith) (omega arith))
+    ∙ last_full_at es b (omega arith) none (λ i above low. deep (suc i) (omega arith) (omega arith))
 
 -- ---- the logs between a full one and one that stands on it
 
@@ -49,7 +45,7 @@ deep_between logs each zero d j within is low near =
     let at : j ≡ 0 = omega arith in
     subst (λ n. (log_at logs n).depth + 0 ≡ d + n) (sym at) (omega (arith, is))
 deep_between logs each (suc i) d j within is low near =
-    elim (Rattle.std.proofs.lemmas.Bool.cases_lt j (suc i)) as (λ _. (log_at logs j).depth + suc i ≡ d + j) [
+    elim (cases_lt j (suc i)) as (λ _. (log_at logs j).depth + suc i ≡ d + j) [
       | inr here ↦ (let at : j ≡ suc i = omega arith in subst (λ n. (log_at logs n).depth + suc i ≡ d + n) (sym at) (omega (arith, is)))
       | inl before ↦
           elim (follows_at logs i each within).1 as (λ _. (log_at logs j).depth + suc i ≡ d + j) [
@@ -63,17 +59,8 @@ deep_between logs each (suc i) d j within is low near =
 
 -- ---- what is left
 
-take_nil : (n : ℕ) → take {A = LogEntry} n [] ≡ []
-take_nil zero = refl
-take_nil (suc n) = refl
-
-take_drop : (a b : ℕ) (logs : List LogEntry) → drop b (take (b + a) logs) ≡ take a (drop b logs)
-take_drop a zero logs = (let same : 0 + a ≡ a = omega arith in ap (λ n. take n logs) same)
-take_drop a (suc b) [] = ap (drop (suc b)) (take_nil (suc b + a)) ∙ sym (take_nil a)
-take_drop a (suc b) (e ∷ logs) = (let same : suc b + a ≡ suc (b + a) = omega arith in ap (λ n. drop (suc b) (take n (e ∷ logs))) same) ∙ take_drop a b logs
-
-pub below_left : (c : ChainMeaning) (n : ℕ) → 0 < n → n < length c.logs → IsLawful c → (without n c).base_logs ≡ dropped_base_logs c.base_logs c.logs n
-below_left c n some within law =
+pub base_logs_left : (c : ChainMeaning) (n : ℕ) → 0 < n → n < length c.logs → IsLawful c → (without n c).base_logs ≡ dropped_base_logs c.base_logs c.logs n
+base_logs_left c n some within law =
     let d : ℕ = oldest_depth (drop n c.logs) in
     let i : ℕ = length c.base_logs + n in
     let b : ℕ = i - d in
@@ -88,7 +75,7 @@ below_left c n some within law =
     let zero_case : d ≡ 0 → take d (drop b (all_logs c)) ≡ left_base_logs before (drop n c.logs) = λ none.
     ap (λ m. take m (drop b (all_logs c))) none ∙ sym (cond-true (d == 0) [] (from_last_full before) (eq-eqb d 0 none)) in
     let deep_case : 0 < d → take d (drop b (all_logs c)) ≡ left_base_logs before (drop n c.logs) = λ deep.
-    sym (take_drop d b (all_logs c))
+    sym (drop-take b d (all_logs c))
     ∙ ap (λ m. drop b (take m (all_logs c))) sum
     ∙ ap (drop b) (sym is)
     ∙ sym (last_full_at before b (omega (arith, long, fits, deep))
@@ -98,7 +85,7 @@ below_left c n some within law =
     let same : (log_at before j).depth ≡ (log_at (all_logs c) j).depth = ap (λ (e : LogEntry). e.depth) (at j (omega (arith, long))) in
     omega (arith, near, same, above, sum)))
     ∙ sym (cond-false (d == 0) [] (from_last_full before) (ne_eqb d 0 (λ none. (let no_such : ⊥ = omega (arith, deep, none) in no_such)))) in
-    let whole : take d (drop b (all_logs c)) ≡ left_base_logs before (drop n c.logs) = elim (Rattle.std.proofs.lemmas.Bool.cases_lt 0 d) as (λ _. take d (drop b (all_logs c)) ≡ left_base_logs before (drop n c.logs)) [
+    let whole : take d (drop b (all_logs c)) ≡ left_base_logs before (drop n c.logs) = elim (cases_lt 0 d) as (λ _. take d (drop b (all_logs c)) ≡ left_base_logs before (drop n c.logs)) [
       | inl deep ↦ deep_case deep
       | inr none ↦ zero_case (omega (arith, none))
     ] in

@@ -4,8 +4,8 @@ use Rattle.std.specs.Prelude.{slice_index_or}
 use Rattle.std.proofs.Math.Dec.{ltb}
 use Rattle.std.specs.FinMap.{get, contains_key}
 use Rattle.std.specs.FinSet.{contains}
-use Rattle.std.proofs.lemmas.Bool.{cases_lt, cond-true, cond-false, true≢false, ne_eqb, ltb-true, ltb-false}
-use Rattle.std.proofs.lemmas.List.{length-take, length-drop, get_or-take, get_or-drop, get_or_past, get_or_append_left, get_or-append_right}
+use Rattle.std.proofs.lemmas.Bool.{cases_lt, cond-true, cond-false, true≢false, ne_eqb, ltb-true, ltb-false, and_parts}
+use Rattle.std.proofs.lemmas.List.{length-take, length-drop, get_or-take, get_or-drop, get_or_past, get_or_default, get_or_append_left, get_or-append_right, drop_min}
 use Rattle.dym_base.specs.Heaps.{Live, HeapState}
 use Rattle.dym_base.specs.Objects.{LogEntry, newest, kind_of, record_of}
 use Rattle.dym_base.specs.Packed.{Logged, packs_by, packed}
@@ -17,33 +17,28 @@ use Rattle.dym_pack.specs.Areas.{IsPackable}
 use Rattle.dym_pack.specs.ParsedAreas.{IsRecord, OfLog}
 use Rattle.dym_heap.specs.Fetches.{ChunkMeaning, heap_chunk, marked, is_unmodified}
 use Rattle.dym_slots.specs.Meanings.{Numbered, record_at}
-use Rattle.dym_chain.specs.Differences.{TellsChanges, IsBeside, AreDifferences, HasOneMore, beside_at}
+use Rattle.dym_chain.specs.Differences.{TellsChanges, IsDifference, AreDifferences, HasOneMore, difference_at}
 use Rattle.dym_chain.specs.Chains.{EachKeeps, KeepsUntouched, KeepsFromBefore, KeepsFromNewest, no_entry, log_at}
 use Rattle.dym_chain.specs.Lawful.{logged_of}
 use Rattle.dym_chain.specs.Loads.{PacksTouched, KeepsUnmodified}
 use Rattle.dym_chain.proofs.Places.{keeps_at, newest_there}
-use Rattle.dym_chain.proofs.Stands.{kind_full}
+use Rattle.dym_chain.proofs.Stands.{kind_full, none_of}
 
 -- ---- a look at what stands beside
 
-any_default : (differences : List (Option (List ℕ))) (i : ℕ) (a b : Option (List ℕ)) → i < length differences → get_or differences i a ≡ get_or differences i b
-any_default [] i a b h = absurd (omega (arith, h))
-any_default (x ∷ differences) zero a b h = refl
-any_default (x ∷ differences) (suc i) a b h = any_default differences i a b (omega (arith, h))
+pub looked : (differences : List (Option (List ℕ))) (i : ℕ) (o : Option (List ℕ)) → true ≡ ltb i (length differences) → o ≡ slice_index_or differences i o → difference_at differences i ≡ o
+looked differences i o there is = get_or_default differences i None o (ltb-true i (length differences) (sym there)) ∙ sym is
 
-pub looked : (differences : List (Option (List ℕ))) (i : ℕ) (o : Option (List ℕ)) → true ≡ ltb i (length differences) → o ≡ slice_index_or differences i o → beside_at differences i ≡ o
-looked differences i o there is = any_default differences i None o (ltb-true i (length differences) (sym there)) ∙ sym is
-
-pub looked_past : (differences : List (Option (List ℕ))) (i : ℕ) → false ≡ ltb i (length differences) → beside_at differences i ≡ None
+pub looked_past : (differences : List (Option (List ℕ))) (i : ℕ) → false ≡ ltb i (length differences) → difference_at differences i ≡ None
 looked_past differences i past = get_or_past differences i None (ltb-false i (length differences) (sym past))
 
-side_recorded : (v : Version) (before e : LogEntry) (o : Option (List ℕ)) (bytes : List ℕ) → IsBeside before e o → IsRecorded (logged_of v e) → record_of v e ≡ bytes → IsRecord (unwrap_or o bytes)
-side_recorded v before e None bytes side recorded is = (logged_of v e, recorded, is)
-side_recorded v before e (Some x) bytes side recorded is = (side.log, side.recorded, side.are)
+difference_recorded : (v : Version) (before e : LogEntry) (o : Option (List ℕ)) (bytes : List ℕ) → IsDifference before e o → IsRecorded (logged_of v e) → record_of v e ≡ bytes → IsRecord (unwrap_or o bytes)
+difference_recorded v before e None bytes side recorded is = (logged_of v e, recorded, is)
+difference_recorded v before e (Some x) bytes side recorded is = (side.log, side.recorded, side.are)
 
-pub are_recorded : (v : Version) (logs : List LogEntry) (differences : List (Option (List ℕ))) (i : ℕ) (bytes : List ℕ) → AreDifferences logs differences → 0 < i → i < length logs → IsRecorded (logged_of v (log_at logs i)) → bytes ≡ record_of v (log_at logs i) → IsRecord (unwrap_or (beside_at differences i) bytes)
+pub are_recorded : (v : Version) (logs : List LogEntry) (differences : List (Option (List ℕ))) (i : ℕ) (bytes : List ℕ) → AreDifferences logs differences → 0 < i → i < length logs → IsRecorded (logged_of v (log_at logs i)) → bytes ≡ record_of v (log_at logs i) → IsRecord (unwrap_or (difference_at differences i) bytes)
 are_recorded v logs differences zero bytes sides some within recorded is = absurd (omega (arith, some))
-are_recorded v logs differences (suc i) bytes sides some within recorded is = side_recorded v (log_at logs i) (log_at logs (suc i)) (beside_at differences (suc i)) bytes (sides.each i within) recorded (sym is)
+are_recorded v logs differences (suc i) bytes sides some within recorded is = difference_recorded v (log_at logs i) (log_at logs (suc i)) (difference_at differences (suc i)) bytes (sides.each i within) recorded (sym is)
 
 -- ---- one log that is marked
 
@@ -52,10 +47,6 @@ settled_parts t false p h = absurd cc
 settled_parts true true p h = absurd cc
 settled_parts false true true h = absurd cc
 settled_parts false true false h = (refl, refl, refl)
-
-none_packs : (o : Option (List ℕ)) → is_some o ≡ false → o ≡ None
-none_packs None h = refl
-none_packs (Some x) h = absurd cc
 
 unmarked : (t s : Bool) → (t || (s && false)) ≡ t
 unmarked true s = refl
@@ -68,7 +59,7 @@ IsMarked log s m = (k : ℕ) → heap_chunk m k ≡ marked (is_some (packed_by l
 pub mark_touches : (log : Logged) (s m : HeapState) → IsMarked log s m → PacksTouched m log
 mark_touches log s m is k was =
     let parts = settled_parts (contains s.touched k) (is_some (get s.live k)) (is_some (packed_by log k)) (sym (ap is_unmodified (is k)) ∙ was) in
-    none_packs (packed_by log k) parts.2
+    none_of (packed_by log k) parts.2
 
 pub mark_settles : (log : Logged) (s m : HeapState) → IsMarked log s m → KeepsUnmodified s m
 mark_settles log s m is k was =
@@ -85,10 +76,6 @@ and_none : (s t : Bool) → (s && not (t || (s && false))) ≡ (s && not t)
 and_none true true = refl
 and_none true false = refl
 and_none false t = refl
-
-both_first : (a b : Bool) → (a && b) ≡ true → a ≡ true
-both_first true b h = refl
-both_first false b h = h
 
 -- ---- down the logs
 
@@ -109,14 +96,14 @@ own_tells v before e keeps k there none =
           absurd (true≢false (sym there ∙ ap is_some (sym (cond-true (contains_key e.copy k) (get e.copy k) None there) ∙ all)))
     ]
 
-beside_tells : (v : Version) (before e : LogEntry) (o : Option (List ℕ)) (bytes : List ℕ) (m : HeapState) → KeepsFromBefore before e → IsRecorded (logged_of v e) → bytes ≡ record_of v e → IsBeside before e o
+difference_tells : (v : Version) (before e : LogEntry) (o : Option (List ℕ)) (bytes : List ℕ) (m : HeapState) → KeepsFromBefore before e → IsRecorded (logged_of v e) → bytes ≡ record_of v e → IsDifference before e o
     → OfLog (unwrap_or o bytes) (PacksTouched m) → (k : ℕ) → is_unmodified (heap_chunk m k) ≡ true → contains_key e.copy k ≡ true → get before.copy k ≡ get e.copy k
-beside_tells v before e None bytes m keeps recorded is side touched k was there = own_tells v before e keeps k there (touched (logged_of v e) recorded (sym is) k was)
-beside_tells v before e (Some found) bytes m keeps recorded is side touched k was there = side.keeps k there (touched side.log side.recorded side.are k was)
+difference_tells v before e None bytes m keeps recorded is side touched k was there = own_tells v before e keeps k there (touched (logged_of v e) recorded (sym is) k was)
+difference_tells v before e (Some found) bytes m keeps recorded is side touched k was there = side.keeps k there (touched side.log side.recorded side.are k was)
 
 module _ (v : Version) (logs : List LogEntry) (differences : List (Option (List ℕ))) (records : List Numbered) (base n : ℕ) (s m : HeapState) (keeps : EachKeeps logs) (untouched : KeepsFromNewest s (newest logs)) (sides : AreDifferences logs differences)
     (recorded : (i : ℕ) → i < length logs → IsRecorded (logged_of v (log_at logs i))) (bytes : (i : ℕ) → i < length logs → (record_at records (base + i)).bytes ≡ record_of v (log_at logs i))
-    (marks : (i : ℕ) → n ≤ i → i < length logs → OfLog (unwrap_or (beside_at differences i) (record_at records (base + i)).bytes) (PacksTouched m)) (settles : KeepsUnmodified s m) where
+    (marks : (i : ℕ) → n ≤ i → i < length logs → OfLog (unwrap_or (difference_at differences i) (record_at records (base + i)).bytes) (PacksTouched m)) (settles : KeepsUnmodified s m) where
   -- what isn't touched then has in each log from the one before n on the bytes that it has in the heap
   same_down : (k : ℕ) → is_unmodified (heap_chunk m k) ≡ true → (d i : ℕ) → n ≤ suc i → suc (i + d) ≡ length logs → get (log_at logs i).copy k ≡ get m.live k
   same_down k was zero i low here =
@@ -127,8 +114,8 @@ module _ (v : Version) (logs : List LogEntry) (differences : List (Option (List 
   same_down k was (suc d) i low here =
       let within : suc i < length logs = omega arith in
       let above : get (log_at logs (suc i)).copy k ≡ get m.live k = same_down k was d (suc i) (omega arith) (omega arith) in
-      let live : is_some (get m.live k) ≡ true = both_first (is_some (get m.live k)) (not (contains m.touched k)) was in
-      beside_tells v (log_at logs i) (log_at logs (suc i)) (beside_at differences (suc i)) (record_at records (base + suc i)).bytes m (keeps_at logs i keeps within) (recorded (suc i) within) (bytes (suc i) within) (sides.each i within)
+      let live : is_some (get m.live k) ≡ true = (and_parts (is_some (get m.live k)) (not (contains m.touched k)) was).0 in
+      difference_tells v (log_at logs i) (log_at logs (suc i)) (difference_at differences (suc i)) (record_at records (base + suc i)).bytes m (keeps_at logs i keeps within) (recorded (suc i) within) (bytes (suc i) within) (sides.each i within)
       (marks (suc i) low within) k was (ap is_some above ∙ live)
       ∙ above
 
@@ -137,41 +124,41 @@ module _ (v : Version) (logs : List LogEntry) (differences : List (Option (List 
 
 -- ---- what stands beside the logs after a step
 
-pub beside_none : (logs : List LogEntry) → AreDifferences logs []
-beside_none logs = record { few = omega arith; each = λ k l. tt }
+pub no_differences : (logs : List LogEntry) → AreDifferences logs []
+no_differences logs = record { few = omega arith; each = λ k l. tt }
 
-pub beside_take : (n : ℕ) (logs : List LogEntry) (differences : List (Option (List ℕ))) → AreDifferences logs differences → AreDifferences (take n logs) (take n differences)
-beside_take n logs differences is = record {
+pub differences_take : (n : ℕ) (logs : List LogEntry) (differences : List (Option (List ℕ))) → AreDifferences logs differences → AreDifferences (take n logs) (take n differences)
+differences_take n logs differences is = record {
   few = (let a = length-take n logs in let b = length-take n differences in let f = is.few in omega arith);
   each = λ k l.
       let a = length-take n logs in
-      let base_logs : suc k < n = omega arith in
+      let high : suc k < n = omega arith in
       let e : log_at (take n logs) k ≡ log_at logs k = get_or-take n logs k no_entry (omega arith) in
-      let f : log_at (take n logs) (suc k) ≡ log_at logs (suc k) = get_or-take n logs (suc k) no_entry base_logs in
-      let o : beside_at (take n differences) (suc k) ≡ beside_at differences (suc k) = get_or-take n differences (suc k) None base_logs in
-      subst (λ x. IsBeside x (log_at (take n logs) (suc k)) (beside_at (take n differences) (suc k))) (sym e)
-      (subst (λ x. IsBeside (log_at logs k) x (beside_at (take n differences) (suc k))) (sym f)
-      (subst (IsBeside (log_at logs k) (log_at logs (suc k))) (sym o) (is.each k (omega arith))));
+      let f : log_at (take n logs) (suc k) ≡ log_at logs (suc k) = get_or-take n logs (suc k) no_entry high in
+      let o : difference_at (take n differences) (suc k) ≡ difference_at differences (suc k) = get_or-take n differences (suc k) None high in
+      subst (λ x. IsDifference x (log_at (take n logs) (suc k)) (difference_at (take n differences) (suc k))) (sym e)
+      (subst (λ x. IsDifference (log_at logs k) x (difference_at (take n differences) (suc k))) (sym f)
+      (subst (IsDifference (log_at logs k) (log_at logs (suc k))) (sym o) (is.each k (omega arith))));
 }
 
-pub beside_drop : (n : ℕ) (logs : List LogEntry) (differences : List (Option (List ℕ))) → AreDifferences logs differences → AreDifferences (drop n logs) (drop n differences)
-beside_drop n logs differences is = record {
+pub differences_drop : (n : ℕ) (logs : List LogEntry) (differences : List (Option (List ℕ))) → AreDifferences logs differences → AreDifferences (drop n logs) (drop n differences)
+differences_drop n logs differences is = record {
   few = (let a = length-drop n logs in let b = length-drop n differences in let f = is.few in omega arith);
   each = λ k l.
       let a = length-drop n logs in
       let at : n + suc k ≡ suc (n + k) = omega arith in
       let e : log_at (drop n logs) k ≡ log_at logs (n + k) = get_or-drop n logs k no_entry in
       let f : log_at (drop n logs) (suc k) ≡ log_at logs (suc (n + k)) = get_or-drop n logs (suc k) no_entry ∙ ap (log_at logs) at in
-      let o : beside_at (drop n differences) (suc k) ≡ beside_at differences (suc (n + k)) = get_or-drop n differences (suc k) None ∙ ap (beside_at differences) at in
-      subst (λ x. IsBeside x (log_at (drop n logs) (suc k)) (beside_at (drop n differences) (suc k))) (sym e)
-      (subst (λ x. IsBeside (log_at logs (n + k)) x (beside_at (drop n differences) (suc k))) (sym f)
-      (subst (IsBeside (log_at logs (n + k)) (log_at logs (suc (n + k)))) (sym o) (is.each (n + k) (omega arith))));
+      let o : difference_at (drop n differences) (suc k) ≡ difference_at differences (suc (n + k)) = get_or-drop n differences (suc k) None ∙ ap (difference_at differences) at in
+      subst (λ x. IsDifference x (log_at (drop n logs) (suc k)) (difference_at (drop n differences) (suc k))) (sym e)
+      (subst (λ x. IsDifference (log_at logs (n + k)) x (difference_at (drop n differences) (suc k))) (sym f)
+      (subst (IsDifference (log_at logs (n + k)) (log_at logs (suc (n + k)))) (sym o) (is.each (n + k) (omega arith))));
 }
 
-pub beside_same : (logs : List LogEntry) (old new : List (Option (List ℕ))) → AreDifferences logs old → length new ≤ length logs → ((k : ℕ) → beside_at new k ≡ beside_at old k) → AreDifferences logs new
-beside_same logs old new is few same = record {
+pub differences_same : (logs : List LogEntry) (old new : List (Option (List ℕ))) → AreDifferences logs old → length new ≤ length logs → ((k : ℕ) → difference_at new k ≡ difference_at old k) → AreDifferences logs new
+differences_same logs old new is few same = record {
   few = few;
-  each = λ k l. subst (IsBeside (log_at logs k) (log_at logs (suc k))) (sym (same (suc k))) (is.each k l);
+  each = λ k l. subst (IsDifference (log_at logs k) (log_at logs (suc k))) (sym (same (suc k))) (is.each k l);
 }
 
 -- an incremental record of a heap tells what may be other in it than in the newest log
@@ -192,41 +179,33 @@ tells_found v s t before e keeps packable fits is =
     }
 
 -- a log of a heap is taken, and the record of what it found touched may stand beside it
-pub beside_push : (logs : List LogEntry) (old new : List (Option (List ℕ))) (e : LogEntry) (bytes : List ℕ) → AreDifferences logs old → HasOneMore old new (length logs) bytes → ((before : LogEntry) → newest logs ≡ Some before → TellsChanges before e bytes)
+pub differences_push : (logs : List LogEntry) (old new : List (Option (List ℕ))) (e : LogEntry) (bytes : List ℕ) → AreDifferences logs old → HasOneMore old new (length logs) bytes → ((before : LogEntry) → newest logs ≡ Some before → TellsChanges before e bytes)
     → AreDifferences (logs ++ e ∷ []) new
-beside_push logs old new e bytes is more tells = record {
+differences_push logs old new e bytes is more tells = record {
   few = (let f = more.few in let a = length-append logs (e ∷ []) in omega arith);
   each = λ k l.
       let a = length-append logs (e ∷ []) in
       let first : log_at (logs ++ e ∷ []) k ≡ log_at logs k = get_or_append_left logs (e ∷ []) no_entry k (omega arith) in
-      elim (cases_lt (suc k) (length logs)) as (λ _. IsBeside (log_at (logs ++ e ∷ []) k) (log_at (logs ++ e ∷ []) (suc k)) (beside_at new (suc k))) [
-        | inl base_logs ↦
-            let second : log_at (logs ++ e ∷ []) (suc k) ≡ log_at logs (suc k) = get_or_append_left logs (e ∷ []) no_entry (suc k) base_logs in
-            subst (λ x. IsBeside x (log_at (logs ++ e ∷ []) (suc k)) (beside_at new (suc k))) (sym first)
-            (subst (λ x. IsBeside (log_at logs k) x (beside_at new (suc k))) (sym second)
-            (subst (IsBeside (log_at logs k) (log_at logs (suc k))) (sym (more.same (suc k) base_logs)) (is.each k base_logs)))
+      elim (cases_lt (suc k) (length logs)) as (λ _. IsDifference (log_at (logs ++ e ∷ []) k) (log_at (logs ++ e ∷ []) (suc k)) (difference_at new (suc k))) [
+        | inl high ↦
+            let second : log_at (logs ++ e ∷ []) (suc k) ≡ log_at logs (suc k) = get_or_append_left logs (e ∷ []) no_entry (suc k) high in
+            subst (λ x. IsDifference x (log_at (logs ++ e ∷ []) (suc k)) (difference_at new (suc k))) (sym first)
+            (subst (λ x. IsDifference (log_at logs k) x (difference_at new (suc k))) (sym second)
+            (subst (IsDifference (log_at logs k) (log_at logs (suc k))) (sym (more.same (suc k) high)) (is.each k high)))
         | inr past ↦
             let at : suc k ≡ length logs = omega arith in
             let last : newest logs ≡ Some (log_at logs k) = newest_there logs k (sym at) in
             let second : log_at (logs ++ e ∷ []) (suc k) ≡ e = ap (log_at (logs ++ e ∷ [])) at ∙ get_or-append_right logs (e ∷ []) (length logs) (length logs) no_entry refl (omega arith) ∙ (let z : length logs - length logs ≡ 0 = omega arith in ap (λ i. log_at (e ∷ []) i) z) in
-            subst (λ x. IsBeside x (log_at (logs ++ e ∷ []) (suc k)) (beside_at new (suc k))) (sym first)
-            (subst (λ x. IsBeside (log_at logs k) x (beside_at new (suc k))) (sym second)
-            (subst (λ i. IsBeside (log_at logs k) e (beside_at new i)) (sym at)
-            (elim more.last as (λ _. IsBeside (log_at logs k) e (beside_at new (length logs))) [
-              | inl none ↦ subst (IsBeside (log_at logs k) e) (sym none) tt
-              | inr some ↦ subst (IsBeside (log_at logs k) e) (sym some) (tells (log_at logs k) last)
+            subst (λ x. IsDifference x (log_at (logs ++ e ∷ []) (suc k)) (difference_at new (suc k))) (sym first)
+            (subst (λ x. IsDifference (log_at logs k) x (difference_at new (suc k))) (sym second)
+            (subst (λ i. IsDifference (log_at logs k) e (difference_at new i)) (sym at)
+            (elim more.last as (λ _. IsDifference (log_at logs k) e (difference_at new (length logs))) [
+              | inl none ↦ subst (IsDifference (log_at logs k) e) (sym none) tt
+              | inr some ↦ subst (IsDifference (log_at logs k) e) (sym some) (tells (log_at logs k) last)
             ])))
       ];
 }
 
-drop_nil : {A : Type 0} (n : ℕ) → drop {A = A} n [] ≡ []
-drop_nil {A = A} zero = refl
-drop_nil {A = A} (suc n) = refl
-
 -- where the first ones are dropped, as many as there are
 pub drop_least : {A : Type 0} (n m : ℕ) (xs : List A) → m ≡ min n (length xs) → drop m xs ≡ drop n xs
-drop_least {A = A} n m [] is = drop_nil m ∙ sym (drop_nil n)
-drop_least {A = A} zero m (x ∷ xs) is = (let z : m ≡ 0 = omega arith in ap (λ k. drop k (x ∷ xs)) z)
-drop_least {A = A} (suc n) m (x ∷ xs) is =
-    let z : m ≡ suc (min n (length xs)) = omega arith in
-    ap (λ k. drop k (x ∷ xs)) z ∙ drop_least n (min n (length xs)) xs refl
+drop_least n m xs is = ap (λ k. drop k xs) is ∙ drop_min n xs
