@@ -5,7 +5,7 @@ use Rattle.std.proofs.Math.Dec.{ltb}
 use Rattle.std.specs.FinMap.{get, contains_key}
 use Rattle.std.specs.FinSet.{contains}
 use Rattle.std.proofs.lemmas.Bool.{cases_lt, cond-true, cond-false, true≢false, ne_eqb, ltb-true, ltb-false, and_parts}
-use Rattle.std.proofs.lemmas.List.{length-take, length-drop, get_or-take, get_or-drop, get_or_past, get_or_default, get_or_append_left, get_or-append_right, drop_min}
+use Rattle.std.proofs.lemmas.List.{length-take, length-drop, get_or-take, get_or-drop, get_or_past, get_or_default, get_or_append_left, get_or_push, drop_min}
 use Rattle.dym_base.specs.Heaps.{Live, HeapState}
 use Rattle.dym_base.specs.Objects.{LogEntry, newest, kind_of, record_of}
 use Rattle.dym_base.specs.Packed.{Logged, packs_by, packed}
@@ -127,32 +127,26 @@ module _ (v : Version) (logs : List LogEntry) (differences : List (Option (List 
 pub no_differences : (logs : List LogEntry) → AreDifferences logs []
 no_differences logs = record { few = omega arith; each = λ k l. tt }
 
+moved : {a b a' b' : LogEntry} {o o' : Option (List ℕ)} → a' ≡ a → b' ≡ b → o' ≡ o → IsDifference a b o → IsDifference a' b' o'
+moved {a = a} {b = b} {b' = b'} {o' = o'} first second same is =
+    subst (λ x. IsDifference x b' o') (sym first) (subst (λ x. IsDifference a x o') (sym second) (subst (IsDifference a b) (sym same) is))
+
 pub differences_take : (n : ℕ) (logs : List LogEntry) (differences : List (Option (List ℕ))) → AreDifferences logs differences → AreDifferences (take n logs) (take n differences)
 differences_take n logs differences is = record {
-  few = (let a = length-take n logs in let b = length-take n differences in let f = is.few in omega arith);
+  few = omega (arith, length-take n logs, length-take n differences, is.few);
   each = λ k l.
-      let a = length-take n logs in
+      let long = length-take n logs in
       let high : suc k < n = omega arith in
-      let e : log_at (take n logs) k ≡ log_at logs k = get_or-take n logs k no_entry (omega arith) in
-      let f : log_at (take n logs) (suc k) ≡ log_at logs (suc k) = get_or-take n logs (suc k) no_entry high in
-      let o : difference_at (take n differences) (suc k) ≡ difference_at differences (suc k) = get_or-take n differences (suc k) None high in
-      subst (λ x. IsDifference x (log_at (take n logs) (suc k)) (difference_at (take n differences) (suc k))) (sym e)
-      (subst (λ x. IsDifference (log_at logs k) x (difference_at (take n differences) (suc k))) (sym f)
-      (subst (IsDifference (log_at logs k) (log_at logs (suc k))) (sym o) (is.each k (omega arith))));
+      moved (get_or-take n logs k no_entry (omega arith)) (get_or-take n logs (suc k) no_entry high) (get_or-take n differences (suc k) None high) (is.each k (omega arith));
 }
 
 pub differences_drop : (n : ℕ) (logs : List LogEntry) (differences : List (Option (List ℕ))) → AreDifferences logs differences → AreDifferences (drop n logs) (drop n differences)
 differences_drop n logs differences is = record {
-  few = (let a = length-drop n logs in let b = length-drop n differences in let f = is.few in omega arith);
+  few = omega (arith, length-drop n logs, length-drop n differences, is.few);
   each = λ k l.
-      let a = length-drop n logs in
+      let long = length-drop n logs in
       let at : n + suc k ≡ suc (n + k) = omega arith in
-      let e : log_at (drop n logs) k ≡ log_at logs (n + k) = get_or-drop n logs k no_entry in
-      let f : log_at (drop n logs) (suc k) ≡ log_at logs (suc (n + k)) = get_or-drop n logs (suc k) no_entry ∙ ap (log_at logs) at in
-      let o : difference_at (drop n differences) (suc k) ≡ difference_at differences (suc (n + k)) = get_or-drop n differences (suc k) None ∙ ap (difference_at differences) at in
-      subst (λ x. IsDifference x (log_at (drop n logs) (suc k)) (difference_at (drop n differences) (suc k))) (sym e)
-      (subst (λ x. IsDifference (log_at logs (n + k)) x (difference_at (drop n differences) (suc k))) (sym f)
-      (subst (IsDifference (log_at logs (n + k)) (log_at logs (suc (n + k)))) (sym o) (is.each (n + k) (omega arith))));
+      moved (get_or-drop n logs k no_entry) (get_or-drop n logs (suc k) no_entry ∙ ap (log_at logs) at) (get_or-drop n differences (suc k) None ∙ ap (difference_at differences) at) (is.each (n + k) (omega arith));
 }
 
 pub differences_same : (logs : List LogEntry) (old new : List (Option (List ℕ))) → AreDifferences logs old → length new ≤ length logs → ((k : ℕ) → difference_at new k ≡ difference_at old k) → AreDifferences logs new
@@ -182,27 +176,19 @@ tells_found v s t before e keeps packable fits is =
 pub differences_push : (logs : List LogEntry) (old new : List (Option (List ℕ))) (e : LogEntry) (bytes : List ℕ) → AreDifferences logs old → HasOneMore old new (length logs) bytes → ((before : LogEntry) → newest logs ≡ Some before → TellsChanges before e bytes)
     → AreDifferences (logs ++ e ∷ []) new
 differences_push logs old new e bytes is more tells = record {
-  few = (let f = more.few in let a = length-append logs (e ∷ []) in omega arith);
+  few = omega (arith, more.few, length-append logs (e ∷ []));
   each = λ k l.
-      let a = length-append logs (e ∷ []) in
+      let long = length-append logs (e ∷ []) in
       let first : log_at (logs ++ e ∷ []) k ≡ log_at logs k = get_or_append_left logs (e ∷ []) no_entry k (omega arith) in
       elim (cases_lt (suc k) (length logs)) as (λ _. IsDifference (log_at (logs ++ e ∷ []) k) (log_at (logs ++ e ∷ []) (suc k)) (difference_at new (suc k))) [
-        | inl high ↦
-            let second : log_at (logs ++ e ∷ []) (suc k) ≡ log_at logs (suc k) = get_or_append_left logs (e ∷ []) no_entry (suc k) high in
-            subst (λ x. IsDifference x (log_at (logs ++ e ∷ []) (suc k)) (difference_at new (suc k))) (sym first)
-            (subst (λ x. IsDifference (log_at logs k) x (difference_at new (suc k))) (sym second)
-            (subst (IsDifference (log_at logs k) (log_at logs (suc k))) (sym (more.same (suc k) high)) (is.each k high)))
+        | inl high ↦ moved first (get_or_append_left logs (e ∷ []) no_entry (suc k) high) (more.same (suc k) high) (is.each k high)
         | inr past ↦
             let at : suc k ≡ length logs = omega arith in
-            let last : newest logs ≡ Some (log_at logs k) = newest_there logs k (sym at) in
-            let second : log_at (logs ++ e ∷ []) (suc k) ≡ e = ap (log_at (logs ++ e ∷ [])) at ∙ get_or-append_right logs (e ∷ []) (length logs) (length logs) no_entry refl (omega arith) ∙ (let z : length logs - length logs ≡ 0 = omega arith in ap (λ i. log_at (e ∷ []) i) z) in
-            subst (λ x. IsDifference x (log_at (logs ++ e ∷ []) (suc k)) (difference_at new (suc k))) (sym first)
-            (subst (λ x. IsDifference (log_at logs k) x (difference_at new (suc k))) (sym second)
-            (subst (λ i. IsDifference (log_at logs k) e (difference_at new i)) (sym at)
+            moved first (get_or_push logs e no_entry (suc k) (sym at)) (ap (difference_at new) at)
             (elim more.last as (λ _. IsDifference (log_at logs k) e (difference_at new (length logs))) [
               | inl none ↦ subst (IsDifference (log_at logs k) e) (sym none) tt
-              | inr some ↦ subst (IsDifference (log_at logs k) e) (sym some) (tells (log_at logs k) last)
-            ])))
+              | inr some ↦ subst (IsDifference (log_at logs k) e) (sym some) (tells (log_at logs k) (newest_there logs k (sym at)))
+            ])
       ];
 }
 

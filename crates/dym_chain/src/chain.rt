@@ -61,7 +61,8 @@ impl<K: LogKeep> Model for Chain<K> {
 
     ghost view = { λ c. chain_of c.ghost_copies.copies (K.meaning c.keep) };
 
-    ghost invariant = { λ c. IsChainWithDifferences c.entries.items (vec_capacity c.entries) c.differences.items (K.meaning c.keep) c.ghost_copies.copies };
+    ghost invariant = { λ c. IsChainWithDifferences c.entries.items (vec_capacity c.entries)
+        c.differences.items (K.meaning c.keep) c.ghost_copies.copies };
 }
 
 impl<K: LogKeep> Chain<K> {
@@ -78,7 +79,8 @@ impl<K: LogKeep> Chain<K> {
           lifted = None;
           origin = (K.meaning keep).origin;
         }) }
-        ensures belongs { IfOk result (λ c. (v : Version) (quota : ℕ) (s : HeapState) → Belongs v quota s c) }
+        ensures belongs { IfOk result (λ c. (v : Version) (quota : ℕ) (s : HeapState)
+            → Belongs v quota s c) }
         ensures stands { IfOk result StandsForCopies }
         ensures back { IfErr result (λ e. e.1 ≡ keep) }
     {
@@ -100,9 +102,10 @@ impl<K: LogKeep> Chain<K> {
         requires lawful { AreLawful first (bytes_of (K.meaning keep).records) }
         requires kept { length (K.meaning keep).records ≤ first + MOST_KEPT_LOGS }
         requires none { length (K.meaning keep).records ≡ 0 → first ≡ 0 }
-        requires some { 0 < length (K.meaning keep).records → first < length (K.meaning keep).records }
-        ensures adopted { IfOk result (λ c. c ≡ chain_of (record { base_logs = c.base_logs; logs = c.logs })
-            (K.meaning keep)) }
+        requires some { 0 < length (K.meaning keep).records
+            → first < length (K.meaning keep).records }
+        ensures adopted { IfOk result (λ c. c
+            ≡ chain_of (record { base_logs = c.base_logs; logs = c.logs }) (K.meaning keep)) }
         ensures entries { IfOk result (λ c. AreEntriesOf first
             (bytes_of (K.meaning keep).records) c.base_logs c.logs) }
         ensures kept { IfOk result AreKeptRecords }
@@ -189,8 +192,10 @@ impl<K: LogKeep> Chain<K> {
             ≡ (Objects.restore (object_of heap.old.state self.old) time).reply }
         ensures after { object_of heap.new.state self.new
             ≡ (Objects.restore (object_of heap.old.state self.old) time).object }
-        ensures chain { self.new ≡ record self.old { logs = self.new.logs; records = self.new.records } }
-        ensures heap { heap.new ≡ record heap.old { state = heap.new.state; held_ids = heap.new.held_ids } }
+        ensures chain { self.new
+            ≡ record self.old { logs = self.new.logs; records = self.new.records } }
+        ensures heap { heap.new
+            ≡ record heap.old { state = heap.new.state; held_ids = heap.new.held_ids } }
         ensures refused { OnErr result ((self.new ≡ self.old) × (heap.new ≡ heap.old)) }
         ensures belongs { Belongs heap.new.version heap.new.quota heap.new.state self.new }
         ensures stands { StandsForCopies self.new }

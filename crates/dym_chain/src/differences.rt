@@ -30,7 +30,8 @@ pub(crate) fn keep_difference<S: Supply>(
     ensures more { OnOk result (HasOneMore differences.old.items differences.new.items count
         (packed (logged (areas_of heap.now) Inc time))) }
     ensures few { OnErr result (length differences.new.items ≤ count) }
-    ensures same { OnErr result ((k : ℕ) → difference_at differences.new.items k ≡ difference_at differences.old.items k) }
+    ensures same { OnErr result ((k : ℕ)
+        → difference_at differences.new.items k ≡ difference_at differences.old.items k) }
 {
     pad(differences, count)?;
     let found = found_by(alloc, heap, time, depth, count)?;
@@ -41,7 +42,8 @@ pub(crate) fn keep_difference<S: Supply>(
 /// Nothing stands beside logs of which nothing is known, up to log `count`.
 fn pad(differences: &mut Vec<Option<Record>>, count: usize) -> Result<(), AllocError>
     requires { length differences.old.items ≤ count }
-    ensures same { (k : ℕ) → difference_at differences.new.items k ≡ difference_at differences.old.items k }
+    ensures same { (k : ℕ)
+        → difference_at differences.new.items k ≡ difference_at differences.old.items k }
     ensures few { length differences.new.items ≤ count }
     ensures long { OnOk result (length differences.new.items ≡ count) }
 {

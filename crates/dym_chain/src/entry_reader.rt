@@ -16,7 +16,8 @@ pub(crate) fn read_entries<K: LogKeep>(room: Vec<Entry>, keep: &mut K, first: u8
     requires idle { (K.meaning keep.old).lifted ≡ None }
     requires lawful { AreLawful first (bytes_of (K.meaning keep.old).records) }
     requires none { length (K.meaning keep.old).records ≡ 0 → first ≡ 0 }
-    requires some { 0 < length (K.meaning keep.old).records → first < length (K.meaning keep.old).records }
+    requires some { 0 < length (K.meaning keep.old).records
+        → first < length (K.meaning keep.old).records }
     requires empty { room.items ≡ [] }
     requires room { length (K.meaning keep.old).records ≤ first + vec_capacity room }
     ensures keep { K.meaning keep.new ≡ K.meaning keep.old }

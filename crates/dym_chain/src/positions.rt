@@ -39,8 +39,8 @@ pub(crate) fn newest_of(entries: &[Entry]) -> Option<Entry>
 
 /// Why no log is taken at a time.
 pub(crate) fn refusal_of(newest: Option<Entry>, kept: usize, time: u64) -> Option<Refusal>
-    ensures { (logs : List LogEntry) → newest ≡ option_map entry_of (Objects.newest logs) → kept ≡ length logs
-        → result ≡ log_refusal time logs }
+    ensures { (logs : List LogEntry) → newest ≡ option_map entry_of (Objects.newest logs)
+        → kept ≡ length logs → result ≡ log_refusal time logs }
 {
     match newest {
         Some(entry) if time <= entry.time => Some(Refusal::NotAfter { newest: entry.time }),

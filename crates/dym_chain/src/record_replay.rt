@@ -104,7 +104,8 @@ pub(crate) fn fetch_down<S: Supply, K: LogKeep>(
         (take count (drop (last + 1 - count) (bytes_of (K.meaning keep.old).records))) }
     requires sound { IsSound heap.old }
     ensures fetched { (logs : List Logged) → AllByRecursion IsRecorded logs
-        → map packed logs ≡ take count (drop (last + 1 - count) (bytes_of (K.meaning keep.old).records))
+        → map packed logs
+        ≡ take count (drop (last + 1 - count) (bytes_of (K.meaning keep.old).records))
         → AreFetched logs heap.old.state heap.new.state }
     ensures keep { K.meaning keep.new ≡ K.meaning keep.old }
     ensures same { heap.new ≡ record heap.old { state = heap.new.state } }

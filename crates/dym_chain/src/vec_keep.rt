@@ -41,13 +41,15 @@ impl Model for VecKeep {
 
     ghost view = { keep_of };
 
-    ghost invariant = { λ k. IsValidKeep k.slots.items k.lifted k.next_number (vec_capacity k.slots) };
+    ghost invariant = { λ k. IsValidKeep k.slots.items k.lifted k.next_number
+        (vec_capacity k.slots) };
 }
 
 impl VecKeep {
     /// An empty keep. Only memory can be wanting.
     pub fn open(alloc: Global) -> Result<VecKeep, AllocError>
-        ensures { IfOk result (λ k. k ≡ record { records = []; next_number = 0; lifted = None; origin = own }) }
+        ensures { IfOk result (λ k. k
+            ≡ record { records = []; next_number = 0; lifted = None; origin = own }) }
     {
         Ok(VecKeep {
             slots: Vec::with_capacity(alloc, RECORD_ROOM as usize)?,
