@@ -1,8 +1,9 @@
 -- The records of a vector's slots: one more, one out, one back, and those before or after a place gone.
-use Rattle.std.proofs.Common.{◌≡◌, ℕ, zero, suc, ◌+◌, ◌<◌, inl, inr, Option, Some, None, IsSome, List, [], ◌∷◌, ◌++◌, length, map, take, drop, get_or, unwrap_or, refl, sym, ap, subst, ◌∙◌, arith, length-append}
+use Rattle.std.proofs.Common.{◌≡◌, ℕ, zero, suc, ◌+◌, ◌<◌, ◌≤◌, inl, inr, Option, Some, None, IsSome, List, [], ◌∷◌, ◌++◌, length, map, take, drop, get_or, unwrap_or, refl, sym, ap, subst, ◌∙◌, arith, length-append}
 use Rattle.std.proofs.Math.ListN.{set, length-set}
-use Rattle.std.proofs.Math.Seq.{map-set_same, get_or-append_seam}
-use Rattle.std.proofs.Math.ListN.{get_or-append}
+use Rattle.std.proofs.Math.Seq.{map-set_same}
+use Rattle.std.specs.List.{All}
+use Rattle.std.proofs.lemmas.List.Elements.{All-head, All-tail, All-from_get_or, All-push, All-take, All-drop}
 use Rattle.std.proofs.lemmas.Bool.{cases_eq, cases_lt, true≢false}
 use Rattle.std.proofs.lemmas.Option.{same_Some, none-some}
 use Rattle.std.proofs.lemmas.List.{length-take, length-drop, get_or-take, get_or-drop, get_or-set_same, get_or-set_other, map-append, take-map, drop-map}
@@ -37,109 +38,95 @@ rise_drop zero rs next_number rise = rise
 rise_drop (suc n) [] next_number rise = tt
 rise_drop (suc n) (r ∷ rs) next_number rise = rise_drop n rs next_number rise.1
 
--- where each slot has its record, it doesn't matter which one is out
+-- ---- where each slot has its record, it doesn't matter which one is out
+
+abbrev pub IsHeld : Slot → Type 0
+IsHeld s = IsSome s.held
 
 unwrap_there : (o : Option (List ℕ)) (a b : List ℕ) → IsSome o → unwrap_or o a ≡ unwrap_or o b
 unwrap_there None a b is = absurd (true≢false (sym is))
 unwrap_there (Some x) a b is = refl
 
-pub shown_there : (a b : List ℕ) (slots : List Slot) → ((i : ℕ) → i < length slots → IsSome (get_or slots i no_slot).held) → map (shown a) slots ≡ map (shown b) slots
-shown_there a b [] there = refl
-shown_there a b (s ∷ slots) there =
-    let first : IsSome s.held = there 0 (omega arith) in
-    let rest : map (shown a) slots ≡ map (shown b) slots = shown_there a b slots (λ i within. there (suc i) (omega (arith, within))) in
-    ap (λ (bytes : List ℕ). record { number = s.number; bytes = bytes } ∷ map (shown a) slots) (unwrap_there s.held a b first) ∙ ap (λ l. shown b s ∷ l) rest
+shown_there : (a b : List ℕ) (slots : List Slot) → All IsHeld slots → map (shown a) slots ≡ map (shown b) slots
+shown_there a b [] all = refl
+shown_there a b (s ∷ slots) all =
+    ap (λ (bytes : List ℕ). record { number = s.number; bytes = bytes } ∷ map (shown a) slots) (unwrap_there s.held a b (All-head IsHeld s slots all))
+    ∙ ap (λ l. shown b s ∷ l) (shown_there a b slots (All-tail IsHeld s slots all))
 
--- one is taken out
+pub all_held : {slots : List Slot} {lifted : Option Lifted} {next_number capacity : ℕ} → IsValidKeep slots lifted next_number capacity → place_out lifted ≡ None → All IsHeld slots
+all_held {slots = slots} kept idle = All-from_get_or IsHeld slots no_slot (λ i within. kept.there i within (λ e. none-some i (sym idle ∙ e)))
 
-pub shown_lifted : (out b : List ℕ) (slots : List Slot) (i : ℕ) (s : Slot) → ((j : ℕ) → j < length slots → IsSome (get_or slots j no_slot).held) → s ≡ get_or slots i no_slot → s.held ≡ Some out → map (shown out) (set slots i (record { number = s.number; held = None })) ≡ map (shown b) slots
-shown_lifted out b slots i s there is held =
+-- all slots again, once the one that is out is back
+pub all_back : {slots : List Slot} {lifted : Option Lifted} {next_number capacity : ℕ} (i number : ℕ) (rec : List ℕ) → IsValidKeep slots lifted next_number capacity → place_out lifted ≡ Some i → All IsHeld (set slots i (record { number = number; held = Some rec }))
+all_back {slots = slots} i number rec kept out =
+    let S : Slot = record { number = number; held = Some rec } in
+    All-from_get_or IsHeld (set slots i S) no_slot (λ j within.
+    elim (cases_eq j i) as (λ _. IsHeld (get_or (set slots i S) j no_slot)) [
+      | inl same ↦ subst (λ q. IsHeld (get_or (set slots i S) q no_slot)) (sym same) (subst IsHeld (sym (get_or-set_same slots i S no_slot (kept.inside i out))) refl)
+      | inr other ↦ subst IsHeld (sym (get_or-set_other slots i j S no_slot other)) (kept.there j (omega (arith, within, length-set slots i S)) (λ e. other (sym (same_Some i j (sym out ∙ e)))))
+    ])
+
+-- ---- one is taken out, and comes back
+
+pub shown_lifted : (out b : List ℕ) (slots : List Slot) (i : ℕ) (s : Slot) → All IsHeld slots → s ≡ get_or slots i no_slot → s.held ≡ Some out → map (shown out) (set slots i (record { number = s.number; held = None })) ≡ map (shown b) slots
+shown_lifted out b slots i s all is held =
     map-set_same (shown out) slots i (record { number = s.number; held = None }) no_slot (ap (λ (o : Option (List ℕ)). record { number = s.number; bytes = unwrap_or o out }) (sym held) ∙ ap (shown out) is)
-    ∙ shown_there out b slots there
+    ∙ shown_there out b slots all
 
--- one comes back
+pub shown_lowered : (a out rec : List ℕ) (slots : List Slot) (i : ℕ) (s : Slot) → All IsHeld (set slots i (record { number = s.number; held = Some rec })) → s ≡ get_or slots i no_slot → rec ≡ (shown out s).bytes
+    → map (shown a) (set slots i (record { number = s.number; held = Some rec })) ≡ map (shown out) slots
+shown_lowered a out rec slots i s all is bytes =
+    let S : Slot = record { number = s.number; held = Some rec } in
+    shown_there a out (set slots i S) all ∙ map-set_same (shown out) slots i S no_slot (ap (λ (b : List ℕ). record { number = s.number; bytes = b }) bytes ∙ ap (shown out) is)
 
-there_set : (slots : List Slot) (i : ℕ) (n : ℕ) (rec : List ℕ) → i < length slots → ((j : ℕ) → j < length slots → (Some i ≡ Some j → ⊥) → IsSome (get_or slots j no_slot).held) → (j : ℕ) → j < length (set slots i (record { number = n; held = Some rec })) → IsSome (get_or (set slots i (record { number = n; held = Some rec })) j no_slot).held
-there_set slots i n rec inside there j within =
-    let S : Slot = record { number = n; held = Some rec } in
-    let Is : Slot → Type 0 = λ s. IsSome s.held in
-    elim (cases_eq j i) as (λ _. Is (get_or (set slots i S) j no_slot)) [
-      | inl same ↦ subst (λ q. Is (get_or (set slots i S) q no_slot)) (sym same) (subst Is (sym (get_or-set_same slots i S no_slot inside)) refl)
-      | inr other ↦ subst Is (sym (get_or-set_other slots i j S no_slot other)) (there j (omega (arith, within, length-set slots i S)) (λ e. other (sym (same_Some i j e))))
-    ]
+-- ---- what each call keeps
 
-pub shown_lowered : (a out rec : List ℕ) (slots : List Slot) (i : ℕ) (s : Slot) → i < length slots → ((j : ℕ) → j < length slots → (Some i ≡ Some j → ⊥) → IsSome (get_or slots j no_slot).held) → s ≡ get_or slots i no_slot → rec ≡ (shown out s).bytes → map (shown a) (set slots i (record { number = s.number; held = Some rec })) ≡ map (shown out) slots
-shown_lowered a out rec slots i s inside there is bytes =
-    shown_there a out (set slots i (record { number = s.number; held = Some rec })) (there_set slots i s.number rec inside there)
-    ∙ map-set_same (shown out) slots i (record { number = s.number; held = Some rec }) no_slot (ap (λ (b : List ℕ). record { number = s.number; bytes = b }) bytes ∙ ap (shown out) is)
+-- a keep with no record out
+idle_keep : {slots : List Slot} {lifted : Option Lifted} {next_number capacity : ℕ} → 288 ≤ capacity → length slots ≤ 288 → NumbersRise (map (shown (bytes_out lifted)) slots) next_number → place_out lifted ≡ None → All IsHeld slots
+    → IsValidKeep slots lifted next_number capacity
+idle_keep room few rise idle all = record {
+  room = room;
+  few = few;
+  rise = rise;
+  there = λ i within out. all i no_slot within;
+  inside = λ i out. absurd (none-some i (sym idle ∙ out));
+}
 
--- what each call keeps
+pub kept_push : {slots : List Slot} {lifted : Option Lifted} {next_number capacity capacity' : ℕ} (rec : List ℕ) → capacity' ≡ capacity → length slots < 288 → place_out lifted ≡ None → IsValidKeep slots lifted next_number capacity
+    → IsValidKeep (slots ++ record { number = next_number; held = Some rec } ∷ []) lifted (next_number + 1) capacity'
+kept_push {slots = slots} {lifted = lifted} {next_number = number} rec same few idle kept =
+    let S : Slot = record { number = number; held = Some rec } in
+    idle_keep (omega (arith, kept.room, same)) (omega (arith, length-append slots (S ∷ []), few))
+    (rw (map-append (shown (bytes_out lifted)) slots (S ∷ [])) (rise_push (map (shown (bytes_out lifted)) slots) number rec kept.rise)) idle (All-push IsHeld slots S (all_held kept idle) refl)
 
-pub kept_push : (slots : List Slot) (lifted : Option Lifted) (next_number capacity capacity' : ℕ) (rec : List ℕ) → capacity' ≡ capacity → length slots < 288 → IsValidKeep slots lifted next_number capacity → IsValidKeep (slots ++ record { number = next_number; held = Some rec } ∷ []) lifted (next_number + 1) capacity'
-kept_push slots lifted next_number capacity capacity' rec same few kept =
-    let S : Slot = record { number = next_number; held = Some rec } in
-    let Is : Slot → Type 0 = λ s. IsSome s.held in
-    let one_more : length (slots ++ S ∷ []) ≡ length slots + 1 = length-append slots (S ∷ []) in
-    record {
-      room = omega (arith, kept.room, same);
-      few = omega (arith, one_more, few);
-      rise = rw (map-append (shown (bytes_out lifted)) slots (S ∷ [])) (rise_push (map (shown (bytes_out lifted)) slots) next_number rec kept.rise);
-      there = λ i within out. (elim (cases_lt i (length slots)) as (λ _. Is (get_or (slots ++ S ∷ []) i no_slot)) [
-        | inl before ↦ subst Is (sym (get_or-append slots (S ∷ []) no_slot i before)) (kept.there i before out)
-        | inr last ↦ (let at : length slots ≡ i = omega (arith, within, one_more, last) in
-            subst (λ j. Is (get_or (slots ++ S ∷ []) j no_slot)) at (subst Is (sym (get_or-append_seam slots S [] no_slot)) refl))
-      ]);
-      inside = λ i is. (let before = kept.inside i is in omega (arith, one_more, before));
-    }
-
-pub kept_lift : (slots : List Slot) (next_number capacity i : ℕ) (s : Slot) (lifted new : Option Lifted) → IsValidKeep slots lifted next_number capacity → place_out lifted ≡ None → i < length slots → s ≡ get_or slots i no_slot → s.held ≡ Some (bytes_out new) → place_out new ≡ Some i → IsValidKeep (set slots i (record { number = s.number; held = None })) new next_number capacity
-kept_lift slots next_number capacity i s lifted new kept idle inside is held place =
+pub kept_lift : {slots : List Slot} {lifted : Option Lifted} {next_number capacity : ℕ} (i : ℕ) (s : Slot) (new : Option Lifted) → IsValidKeep slots lifted next_number capacity → place_out lifted ≡ None → i < length slots → s ≡ get_or slots i no_slot
+    → s.held ≡ Some (bytes_out new) → place_out new ≡ Some i → IsValidKeep (set slots i (record { number = s.number; held = None })) new next_number capacity
+kept_lift {slots = slots} {lifted = lifted} {next_number = number} i s new kept idle inside is held place =
     let S : Slot = record { number = s.number; held = None } in
-    let Is : Slot → Type 0 = λ s. IsSome s.held in
-    let there : (j : ℕ) → j < length slots → Is (get_or slots j no_slot) = λ j within. kept.there j within (λ e. none-some j (sym idle ∙ e)) in
     let same : length (set slots i S) ≡ length slots = length-set slots i S in
     record {
       room = kept.room;
       few = omega (arith, same, kept.few);
-      rise = subst (λ rs. NumbersRise rs next_number) (sym (shown_lifted (bytes_out new) (bytes_out lifted) slots i s there is held)) kept.rise;
-      there = λ j within other. (let apart : j ≡ i → ⊥ = λ e. other (place ∙ ap Some (sym e)) in
-          subst Is (sym (get_or-set_other slots i j S no_slot apart)) (there j (omega (arith, same, within))));
+      rise = subst (λ rs. NumbersRise rs number) (sym (shown_lifted (bytes_out new) (bytes_out lifted) slots i s (all_held kept idle) is held)) kept.rise;
+      there = λ j within other. subst IsHeld (sym (get_or-set_other slots i j S no_slot (λ e. other (place ∙ ap Some (sym e))))) (all_held kept idle j no_slot (omega (arith, same, within)));
       inside = λ j out. (let e : i ≡ j = same_Some i j (sym place ∙ out) in omega (arith, same, e, inside));
     }
 
-pub kept_lower : (slots : List Slot) (next_number capacity i : ℕ) (s : Slot) (rec : List ℕ) (lifted : Option Lifted) → IsValidKeep slots lifted next_number capacity → place_out lifted ≡ Some i → s ≡ get_or slots i no_slot → rec ≡ (shown (bytes_out lifted) s).bytes → IsValidKeep (set slots i (record { number = s.number; held = Some rec })) None next_number capacity
-kept_lower slots next_number capacity i s rec lifted kept place is bytes =
-    let S : Slot = record { number = s.number; held = Some rec } in
-    let inside : i < length slots = kept.inside i place in
-    let others : (j : ℕ) → j < length slots → (Some i ≡ Some j → ⊥) → IsSome (get_or slots j no_slot).held = λ j within other. kept.there j within (λ e. other (sym place ∙ e)) in
-    record {
-      room = kept.room;
-      few = omega (arith, length-set slots i S, kept.few);
-      rise = subst (λ rs. NumbersRise rs next_number) (sym (shown_lowered [] (bytes_out lifted) rec slots i s inside others is bytes)) kept.rise;
-      there = λ j within other. there_set slots i s.number rec inside others j within;
-      inside = λ j out. absurd (none-some j out);
-    }
+pub kept_lower : {slots : List Slot} {lifted : Option Lifted} {next_number capacity : ℕ} (i : ℕ) (s : Slot) (rec : List ℕ) → IsValidKeep slots lifted next_number capacity → place_out lifted ≡ Some i → s ≡ get_or slots i no_slot
+    → rec ≡ (shown (bytes_out lifted) s).bytes → IsValidKeep (set slots i (record { number = s.number; held = Some rec })) None next_number capacity
+kept_lower {slots = slots} {lifted = lifted} {next_number = number} i s rec kept out is bytes =
+    let all = all_back i s.number rec kept out in
+    idle_keep kept.room (omega (arith, length-set slots i (record { number = s.number; held = Some rec }), kept.few))
+    (subst (λ rs. NumbersRise rs number) (sym (shown_lowered [] (bytes_out lifted) rec slots i s all is bytes)) kept.rise) refl all
 
-pub kept_take : (slots slots' : List Slot) (lifted : Option Lifted) (next_number capacity capacity' n : ℕ) → capacity' ≡ capacity → slots' ≡ take n slots → place_out lifted ≡ None → IsValidKeep slots lifted next_number capacity → IsValidKeep slots' lifted next_number capacity'
-kept_take slots slots' lifted next_number capacity capacity' n same is idle kept =
-    let Is : Slot → Type 0 = λ s. IsSome s.held in
-    let len = length-take n slots in
-    subst (λ l. IsValidKeep l lifted next_number capacity') (sym is) (record {
-      room = omega (arith, kept.room, same);
-      few = omega (arith, len, kept.few);
-      rise = subst (λ rs. NumbersRise rs next_number) (take-map (shown (bytes_out lifted)) n slots) (rise_take n (map (shown (bytes_out lifted)) slots) next_number kept.rise);
-      there = λ i within out. subst Is (sym (get_or-take n slots i no_slot (omega (arith, len, within)))) (kept.there i (omega (arith, len, within)) out);
-      inside = λ i out. absurd (none-some i (sym idle ∙ out));
-    })
+pub kept_take : {slots slots' : List Slot} {lifted : Option Lifted} {next_number capacity capacity' : ℕ} (n : ℕ) → capacity' ≡ capacity → slots' ≡ take n slots → place_out lifted ≡ None → IsValidKeep slots lifted next_number capacity
+    → IsValidKeep slots' lifted next_number capacity'
+kept_take {slots = slots} {lifted = lifted} {next_number = number} {capacity' = capacity'} n same is idle kept =
+    subst (λ l. IsValidKeep l lifted number capacity') (sym is) (idle_keep (omega (arith, kept.room, same)) (omega (arith, length-take n slots, kept.few))
+    (subst (λ rs. NumbersRise rs number) (take-map (shown (bytes_out lifted)) n slots) (rise_take n (map (shown (bytes_out lifted)) slots) number kept.rise)) idle (All-take IsHeld n slots (all_held kept idle)))
 
-pub kept_drop : (slots slots' : List Slot) (lifted : Option Lifted) (next_number capacity capacity' n : ℕ) → capacity' ≡ capacity → slots' ≡ drop n slots → place_out lifted ≡ None → IsValidKeep slots lifted next_number capacity → IsValidKeep slots' lifted next_number capacity'
-kept_drop slots slots' lifted next_number capacity capacity' n same is idle kept =
-    let Is : Slot → Type 0 = λ s. IsSome s.held in
-    let len = length-drop n slots in
-    subst (λ l. IsValidKeep l lifted next_number capacity') (sym is) (record {
-      room = omega (arith, kept.room, same);
-      few = omega (arith, len, kept.few);
-      rise = subst (λ rs. NumbersRise rs next_number) (drop-map (shown (bytes_out lifted)) n slots) (rise_drop n (map (shown (bytes_out lifted)) slots) next_number kept.rise);
-      there = λ i within out. subst Is (sym (get_or-drop n slots i no_slot)) (kept.there (n + i) (omega (arith, len, within)) (λ e. none-some (n + i) (sym idle ∙ e)));
-      inside = λ i out. absurd (none-some i (sym idle ∙ out));
-    })
+pub kept_drop : {slots slots' : List Slot} {lifted : Option Lifted} {next_number capacity capacity' : ℕ} (n : ℕ) → capacity' ≡ capacity → slots' ≡ drop n slots → place_out lifted ≡ None → IsValidKeep slots lifted next_number capacity
+    → IsValidKeep slots' lifted next_number capacity'
+kept_drop {slots = slots} {lifted = lifted} {next_number = number} {capacity' = capacity'} n same is idle kept =
+    subst (λ l. IsValidKeep l lifted number capacity') (sym is) (idle_keep (omega (arith, kept.room, same)) (omega (arith, length-drop n slots, kept.few))
+    (subst (λ rs. NumbersRise rs number) (drop-map (shown (bytes_out lifted)) n slots) (rise_drop n (map (shown (bytes_out lifted)) slots) number kept.rise)) idle (All-drop IsHeld n slots (all_held kept idle)))

@@ -12,7 +12,7 @@ pub invariant_of-self : goal.invariant_of-self
 invariant_of-self c =
     let i = c.self.inside in
     let idle : place_out i.lifted ≡ None = ap (λ (k : KeepMeaning). k.lifted) c.self.view_is ∙ c.requires.idle in
-    kept_take i.slots.items c.truncate.new.self.items i.lifted i.next_number (vec_capacity i.slots) (vec_capacity c.truncate.new.self) (c.args.place + 1) c.truncate.ensures.capacity c.truncate.ensures.items idle c.self.invariant
+    kept_take (c.args.place + 1) c.truncate.ensures.capacity c.truncate.ensures.items idle c.self.invariant
 
 pub returns : goal.returns
 returns c =

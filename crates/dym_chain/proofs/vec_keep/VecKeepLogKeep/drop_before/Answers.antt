@@ -12,8 +12,7 @@ pub invariant_of-self : goal.invariant_of-self
 invariant_of-self c =
     let i = c.self.inside in
     let idle : place_out i.lifted ≡ None = ap (λ (k : KeepMeaning). k.lifted) c.self.view_is ∙ c.requires.idle in
-    let after = c.drop-drain.new.self.0 in
-    kept_drop i.slots.items after.items i.lifted i.next_number (vec_capacity i.slots) (vec_capacity after) c.args.place (c.drop-drain.ensures.capacity ∙ c.drain.ensures.capacity) (c.drop-drain.ensures.items ∙ c.drain.ensures.kept) idle c.self.invariant
+    kept_drop c.args.place (c.drop-drain.ensures.capacity ∙ c.drain.ensures.capacity) (c.drop-drain.ensures.items ∙ c.drain.ensures.kept) idle c.self.invariant
 
 pub returns : goal.returns
 returns c =

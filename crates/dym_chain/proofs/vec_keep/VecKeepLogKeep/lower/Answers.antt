@@ -5,36 +5,44 @@ use Rattle.dym_slots.specs.Meanings.{Numbered, KeepMeaning, no_record}
 use Rattle.dym_chain.specs.VecKeeps.{shown, bytes_out, place_out, no_slot, keep_of}
 use Rattle.dym_chain.specs.declared.vec_keep.Slot.{Slot}
 use Rattle.dym_chain.specs.declared.vec_keep.VecKeep.TheInside.{Inside}
-use Rattle.dym_chain.proofs.Slots.{kept_lower, shown_lowered}
+use Rattle.dym_chain.proofs.Slots.{all_back, kept_lower, shown_lowered}
+use Rattle.dym_chain.proofs.vec_keep.VecKeepLogKeep.lower.Goals.{After-index_mut}
 use Rattle.dym_chain.proofs.vec_keep.VecKeepLogKeep.lower.Goals as goal
 
--- the record that comes back is the one that is out
-same_bytes : (i : Inside) (now : KeepMeaning) (place : ℕ) (slot : Slot) (rec : List ℕ) → keep_of i ≡ now → place < length i.slots.items → slot ≡ get_or i.slots.items place no_slot → rec ≡ (get_or now.records place no_record).bytes → rec ≡ (shown (bytes_out i.lifted) slot).bytes
-same_bytes i now place slot rec view within is bytes =
-    bytes
-    ∙ ap (λ (k : KeepMeaning). (get_or k.records place no_record).bytes) (sym view)
-    ∙ ap (λ (r : Numbered). r.bytes) (get_or-map (shown (bytes_out i.lifted)) i.slots.items place no_slot no_record within ∙ ap (shown (bytes_out i.lifted)) (sym is))
+module _ (c : After-index_mut) where
+  abbrev slots : List Slot
+  slots = c.self.inside.slots.items
+
+  abbrev slot : Slot
+  slot = c.index_mut.result.now
+
+  out : place_out c.self.inside.lifted ≡ Some c.args.place
+  out = ap (λ (k : KeepMeaning). k.lifted) c.self.view_is ∙ c.requires.lifted
+
+  within : c.args.place < length slots
+  within = c.self.invariant.inside c.args.place out
+
+  at : slot ≡ get_or slots c.args.place no_slot
+  at = c.index_mut.ensures.value ∙ get_or_default slots c.args.place slot no_slot within
+
+  -- the record that comes back is the one that is out
+  same_bytes : c.args.rec ≡ (shown (bytes_out c.self.inside.lifted) slot).bytes
+  same_bytes =
+      let show = shown (bytes_out c.self.inside.lifted) in
+      c.requires.bytes ∙ ap (λ (k : KeepMeaning). (get_or k.records c.args.place no_record).bytes) (sym c.self.view_is)
+      ∙ ap (λ (r : Numbered). r.bytes) (get_or-map show slots c.args.place no_slot no_record within ∙ ap show (sym at))
 
 pub invariant_of-self : goal.invariant_of-self
 invariant_of-self c =
-    let i = c.self.inside in
-    let slot : Slot = c.index_mut.result.now in
-    let out : place_out i.lifted ≡ Some c.args.place = ap (λ (k : KeepMeaning). k.lifted) c.self.view_is ∙ c.requires.lifted in
-    let within : c.args.place < length i.slots.items = c.self.invariant.inside c.args.place out in
-    let is : slot ≡ get_or i.slots.items c.args.place no_slot = c.index_mut.ensures.value ∙ get_or_default i.slots.items c.args.place slot no_slot within in
-    kept_lower i.slots.items i.next_number i.slots.cap c.args.place slot c.args.rec i.lifted c.self.invariant out is (same_bytes i c.args.self.now c.args.place slot c.args.rec c.self.view_is within is c.requires.bytes)
+    let o = (goal.at.invariant_of-self c).After-index_mut in
+    kept_lower c.args.place (slot o) c.args.rec c.self.invariant (out o) (at o) (same_bytes o)
 
 pub returns : goal.returns
 returns c =
+    let o = (goal.at.returns c).After-index_mut in
     let i = c.self.inside in
-    let slot : Slot = c.index_mut.result.now in
-    let out : place_out i.lifted ≡ Some c.args.place = ap (λ (k : KeepMeaning). k.lifted) c.self.view_is ∙ c.requires.lifted in
-    let within : c.args.place < length i.slots.items = c.self.invariant.inside c.args.place out in
-    let is : slot ≡ get_or i.slots.items c.args.place no_slot = c.index_mut.ensures.value ∙ get_or_default i.slots.items c.args.place slot no_slot within in
     record {
-      after =
-          ap (λ (records : List Numbered). record { records = records; next_number = i.next_number; lifted = None; origin = own })
-          (shown_lowered [] (bytes_out i.lifted) c.args.rec i.slots.items c.args.place slot within
-          (λ j inside other. c.self.invariant.there j inside (λ e. other (sym out ∙ e))) is (same_bytes i c.args.self.now c.args.place slot c.args.rec c.self.view_is within is c.requires.bytes))
-          ∙ ap (λ (k : KeepMeaning). record { records = k.records; next_number = k.next_number; lifted = None; origin = k.origin }) c.self.view_is;
+      after = ap (λ (records : List Numbered). record { records = records; next_number = i.next_number; lifted = None; origin = own })
+          (shown_lowered [] (bytes_out i.lifted) c.args.rec i.slots.items c.args.place (slot o) (all_back c.args.place (slot o).number c.args.rec c.self.invariant (out o)) (at o) (same_bytes o))
+          ∙ ap (λ (k : KeepMeaning). record k { lifted = None }) c.self.view_is;
     }

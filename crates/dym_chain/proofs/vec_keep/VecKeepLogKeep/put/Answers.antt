@@ -1,4 +1,4 @@
-use Rattle.std.proofs.Common.{arith, ◌+◌, ◌<◌, length, ap, sym, subst}
+use Rattle.std.proofs.Common.{arith, ◌+◌, ◌<◌, length, ap, sym, subst, ◌∙◌}
 use Rattle.std.proofs.lemmas.List.{length-map}
 use Rattle.std.specs.Vec.{vec_capacity}
 use Rattle.dym_slots.specs.Meanings.{KeepMeaning}
@@ -11,4 +11,4 @@ invariant_of-self c =
     let i = c.self.inside in
     let few : length i.slots.items < 288 = omega (arith, length-map i.slots.items (shown (bytes_out i.lifted)), ap (λ (k : KeepMeaning). length k.records) c.self.view_is, c.requires.room) in
     subst (λ l. IsValidKeep l i.lifted (i.next_number + 1) (vec_capacity c.push_reserved.new.self)) (sym c.push_reserved.ensures.items)
-    (kept_push i.slots.items i.lifted i.next_number (vec_capacity i.slots) (vec_capacity c.push_reserved.new.self) c.args.rec c.push_reserved.ensures.capacity few c.self.invariant)
+    (kept_push c.args.rec c.push_reserved.ensures.capacity few (ap (λ (k : KeepMeaning). k.lifted) c.self.view_is ∙ c.requires.idle) c.self.invariant)
