@@ -7,6 +7,3 @@ returns-in-Some-Some c = facts.looked c.args.differences.now c.args.i c.in-Some-
 
 pub returns-in-Some-None : goal.returns-in-Some-None
 returns-in-Some-None c = facts.looked c.args.differences.now c.args.i c.in-Some-None.field-0.now c.in-Some-None.ensures.lookup.0 c.in-Some-None.ensures.lookup.1 ∙ c.in-Some-None.field-0-is
-
-pub returns-in-None : goal.returns-in-None
-returns-in-None c = facts.looked_past c.args.differences.now c.args.i c.in-None.ensures.lookup.0

@@ -8,14 +8,6 @@ use Rattle.dym_chain.proofs.Loading.{version_at, fetched_start, fetched_step}
 use Rattle.dym_chain.specs.Loads.{AreFetched}
 use Rattle.dym_chain.proofs.record_replay.fetch_down.Goals as goal
 
-pub lift-rec-requires-clause-place : goal.lift-rec-requires-clause-place
-lift-rec-requires-clause-place g c =
-    let same = ap (λ (k : KeepMeaning). length k.records) c.loop-back.invariant.keep in
-    omega (arith, c.requires.within, same)
-
-pub lift-rec-requires-clause-idle : goal.lift-rec-requires-clause-idle
-lift-rec-requires-clause-idle g c = ap (λ (k : KeepMeaning). k.lifted) c.loop-back.invariant.keep ∙ c.requires.idle
-
 pub fetch-requires : goal.fetch-requires
 fetch-requires g c =
     let m : KeepMeaning = g.K.LogKeep.meaning c.args.keep.now in

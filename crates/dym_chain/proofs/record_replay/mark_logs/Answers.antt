@@ -8,17 +8,6 @@ use Rattle.dym_chain.specs.Loads.{PacksTouched}
 use Rattle.dym_chain.proofs.DifferenceFacts as facts
 use Rattle.dym_chain.proofs.record_replay.mark_logs.Goals as goal
 
-pub mark_log-requires-clause-idle : goal.mark_log-requires-clause-idle
-mark_log-requires-clause-idle g c = ap (λ (k : KeepMeaning). k.lifted) c.loop-i.invariant.keep ∙ c.requires.idle
-
-pub mark_log-requires-clause-within : goal.mark_log-requires-clause-within
-mark_log-requires-clause-within g c =
-    let same = ap (λ (k : KeepMeaning). length k.records) c.loop-i.invariant.keep in
-    omega (arith, c.loop-i-test.true, c.requires.within, same)
-
-pub mark_log-requires-clause-few : goal.mark_log-requires-clause-few
-mark_log-requires-clause-few g c = omega (arith, c.loop-i-test.true, c.requires.few)
-
 pub mark_log-requires-clause-recorded : goal.mark_log-requires-clause-recorded
 mark_log-requires-clause-recorded g c =
     subst (λ (k : KeepMeaning). IsRecord (unwrap_or (difference_at c.args.differences.now c.loop-i.i) (record_at k.records (c.args.base + c.loop-i.i)).bytes)) (sym c.loop-i.invariant.keep)

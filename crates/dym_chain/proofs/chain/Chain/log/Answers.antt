@@ -99,9 +99,6 @@ invariant_of-self g c =
 pub returns-in_default-keep_difference-clause-answer : goal.returns-in_default-keep_difference-clause-answer
 returns-in_default-keep_difference-clause-answer g c = short g (goal.at.returns-in_default-keep_difference-clause-answer g c).After-depth_of_next-depth
 
-pub pack-requires : goal.pack-requires
-pack-requires g c = record { packable = c.heaps_are_packable.ensures c.args.heap.now c.requires.sound }
-
 pub returns-in_default-pack-clause-answer : goal.returns-in_default-pack-clause-answer
 returns-in_default-pack-clause-answer g c = short g (goal.at.returns-in_default-pack-clause-answer g c).After-depth_of_next-depth
 
@@ -110,9 +107,6 @@ put-requires-clause-room g c =
     let copies = c.self.inside.ghost_copies.copies in
     room_left (chain_of copies (g.K.LogKeep.meaning c.self.inside.keep)) c.self.invariant.chain.lawful
     (has_room c.args.time copies.logs (free g (goal.at.put-requires-clause-room g c).After-depth_of_next-depth))
-
-pub put-requires-clause-next_number : goal.put-requires-clause-next_number
-put-requires-clause-next_number g c = omega (arith, ap (λ (x : ChainMeaning). x.next_number) c.self.view_is, c.requires.next_number)
 
 pub put-requires-clause-idle : goal.put-requires-clause-idle
 put-requires-clause-idle g c = ap (λ (x : ChainMeaning). x.lifted) c.self.view_is ∙ c.requires.idle
@@ -231,6 +225,3 @@ returns-clause-stands g c =
     let at = goal.at.returns-clause-stands g c in
     let o = at.In-Ok in
     subst StandsForCopies (sym (view g at.After-put)) (stands (chains.logged (v g o) (entry g o) (chain g o)) (after_law g o))
-
-pub returns-clause-sound : goal.returns-clause-sound
-returns-clause-sound g c = c.clear_dirty.ensures.sound

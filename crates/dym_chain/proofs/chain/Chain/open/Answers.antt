@@ -9,9 +9,6 @@ use Rattle.dym_chain.proofs.chain.Chain.open.Given as given
 use Rattle.dym_chain.proofs.chain.Chain.open.Goals.{After-open}
 use Rattle.dym_chain.proofs.chain.Chain.open.Goals as goal
 
-pub overflow_cast-with_capacity : goal.overflow_cast-with_capacity
-overflow_cast-with_capacity g c = record { fits = omega arith }
-
 view : (g : given.Over) (c : After-open g) → chain_of c.open.result.copies (g.K.LogKeep.meaning c.args.keep) ≡ no_chain (g.K.LogKeep.meaning c.args.keep).origin
 view g c = opened c.requires.empty c.requires.next_number c.requires.idle c.open.ensures
 
@@ -30,6 +27,3 @@ returns-in-Ok-clause-belongs g c v quota s =
 
 pub returns-in-Ok-clause-stands : goal.returns-in-Ok-clause-stands
 returns-in-Ok-clause-stands g c = subst StandsForCopies (sym (view g (goal.at.returns-in-Ok-clause-stands g c).After-open)) (stands_open (g.K.LogKeep.meaning c.args.keep).origin)
-
-pub returns-in-Err-clause-back : goal.returns-in-Err-clause-back
-returns-in-Err-clause-back g c = refl

@@ -53,12 +53,6 @@ returns-then-dropped-eq0-clause-base_logs g c =
 
 -- ---- where some are
 
-pub index-requires : goal.index-requires
-index-requires g c = omega (arith, c.if-dropped-eq0.false, c.dropped_by-dropped.ensures.within, c.deref.ensures.len)
-
-pub index-requires-2 : goal.index-requires-2
-index-requires-2 g c = omega (arith, c.if-dropped-eq0.false, c.dropped_by-dropped.ensures.within, c.deref.ensures.len)
-
 -- the logs that are dropped
 dropped : (g : given.Over) (c : After-from-depth g)
     → Dropping (g.K.LogKeep.meaning c.self.inside.keep) c.self.inside.ghost_copies.copies c.dropped_by-dropped.result c.from-base.result c.from-depth.result
@@ -90,9 +84,6 @@ drop_before-requires-clause-place g c =
 
 pub drop_before-requires-clause-idle : goal.drop_before-requires-clause-idle
 drop_before-requires-clause-idle g c = ap (λ (x : ChainMeaning). x.lifted) c.self.view_is ∙ c.requires.idle
-
-pub drop_first-requires : goal.drop_first-requires
-drop_first-requires g c = omega (arith, c.if-dropped-eq0.false, c.dropped_by-dropped.ensures.within, c.deref.ensures.len)
 
 pub overflow_cast-depth : goal.overflow_cast-depth
 overflow_cast-depth g c =

@@ -55,18 +55,6 @@ returns-then-kept-eq0-clause-stands g c = subst StandsForCopies c.self.view_is (
 
 -- ---- the log that is restored, and what is left
 
-pub index-requires : goal.index-requires
-index-requires g c = omega (arith, c.if-kept-eq0.false, c.reached-kept.ensures.within, c.deref.ensures.len)
-
-pub overflow_sub-kept : goal.overflow_sub-kept
-overflow_sub-kept g c = omega (arith, c.if-kept-eq0.false)
-
-pub index-target-requires : goal.index-target-requires
-index-target-requires g c = omega (arith, c.if-kept-eq0.false, c.reached-kept.ensures.within, c.deref.ensures.len)
-
-pub overflow_sub-place : goal.overflow_sub-place
-overflow_sub-place g c = omega (arith, c.if-kept-eq0.false)
-
 module _ (g : given.Over) (c : After-from-depth g) where
   abbrev keep : KeepMeaning
   keep = g.K.LogKeep.meaning c.self.inside.keep
@@ -223,9 +211,6 @@ reshape-requires g c =
           (All-from_recursion (λ (x : LogEntry). held x.copy ≤ quota) (whole g a).logs (belongs g a).within (n g a - 1) no_entry (omega (arith, r.some, r.within))) (lifted g at.After-lift-rec));
     }
 
-pub lower-requires-clause-lifted : goal.lower-requires-clause-lifted
-lower-requires-clause-lifted g c = ap (λ (k : KeepMeaning). k.lifted) c.lift-rec.ensures.after
-
 pub lower-requires-clause-bytes : goal.lower-requires-clause-bytes
 lower-requires-clause-bytes g c =
     c.lift-rec.ensures.bytes ∙ ap (λ (k : KeepMeaning). (record_at k.records (c.from-base.result + (c.reached-kept.result - 1))).bytes) (sym (c.lift-rec.ensures.after))
@@ -280,9 +265,6 @@ fetch_down-requires-clause-version g c =
     subst (λ (w : Version). HaveVersion w (take (depth + 1) (drop (place g a + 1 - (depth + 1)) (bytes_of (g.K.LogKeep.meaning c.lower.new.self).records))))
     (sym (ap (λ (h : HeapMeaning). h.version) c.reshape.ensures.same ∙ ap (λ (h : HeapMeaning). h.version) c.mark_logs.ensures.same))
     (subst (HaveVersion (v g a)) (sym (fetched g at.After-lower)) (part_version (first g a) (v g a) (depth + 1) (place g a - depth) (first_belongs g a).records))
-
-pub fetch_down-requires-clause-sound : goal.fetch_down-requires-clause-sound
-fetch_down-requires-clause-sound g c = c.reshape.ensures.sound
 
 -- ---- the end
 
@@ -357,6 +339,3 @@ returns-clause-stands g c =
     let there = (goal.at.returns-clause-stands g c).After-fetch_down in
     let b = a g there in
     subst StandsForCopies (sym (view g there)) (stands (first g b) (lawful_take (whole g b) (n g b) (is g b).some (law g b)))
-
-pub returns-clause-sound : goal.returns-clause-sound
-returns-clause-sound g c = c.fetch_down.ensures.sound

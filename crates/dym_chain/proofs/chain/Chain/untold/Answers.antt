@@ -23,9 +23,6 @@ use Rattle.dym_chain.proofs.chain.Chain.untold.Given as given
 use Rattle.dym_chain.proofs.chain.Chain.untold.Goals.{After-len-last}
 use Rattle.dym_chain.proofs.chain.Chain.untold.Goals as goal
 
-pub pack-requires : goal.pack-requires
-pack-requires g c = record { packable = c.heaps_are_packable.ensures c.args.heap.now c.requires.sound }
-
 pub reshape-requires : goal.reshape-requires
 reshape-requires g c =
     let h : HeapMeaning = c.args.heap.now in
@@ -118,9 +115,6 @@ invariant_of-self g c = record {
       (sym c.fetch_down.ensures.keep) c.self.invariant.chain;
   differences = c.self.invariant.differences;
 }
-
-pub returns-clause-none : goal.returns-clause-none
-returns-clause-none g c = c.first_difference.ensures.none
 
 pub returns-clause-same : goal.returns-clause-same
 returns-clause-same g c = ap (chain_of c.self.inside.ghost_copies.copies) c.fetch_down.ensures.keep ∙ c.self.view_is
