@@ -24,14 +24,6 @@ use Rattle.dym_chain.specs.Loads.{PacksTouched, KeepsUnmodified}
 use Rattle.dym_chain.proofs.Places.{keeps_at, newest_there}
 use Rattle.dym_chain.proofs.Stands.{kind_full, none_of}
 
--- ---- a look at what stands beside
-
-pub looked : (differences : List (Option (List ℕ))) (i : ℕ) (o : Option (List ℕ)) → true ≡ ltb i (length differences) → o ≡ slice_index_or differences i o → difference_at differences i ≡ o
-looked differences i o there is = get_or_default differences i None o (ltb-true i (length differences) (sym there)) ∙ sym is
-
-pub looked_past : (differences : List (Option (List ℕ))) (i : ℕ) → false ≡ ltb i (length differences) → difference_at differences i ≡ None
-looked_past differences i past = get_or_past differences i None (ltb-false i (length differences) (sym past))
-
 difference_recorded : (v : Version) (before e : LogEntry) (o : Option (List ℕ)) (bytes : List ℕ) → IsDifference before e o → IsRecorded (logged_of v e) → record_of v e ≡ bytes → IsRecord (unwrap_or o bytes)
 difference_recorded v before e None bytes side recorded is = (logged_of v e, recorded, is)
 difference_recorded v before e (Some x) bytes side recorded is = (side.log, side.recorded, side.are)
@@ -191,7 +183,3 @@ differences_push logs old new e bytes is more tells = record {
             ])
       ];
 }
-
--- where the first ones are dropped, as many as there are
-pub drop_least : {A : Type 0} (n m : ℕ) (xs : List A) → m ≡ min n (length xs) → drop m xs ≡ drop n xs
-drop_least n m xs is = ap (λ k. drop k xs) is ∙ drop_min n xs

@@ -16,21 +16,7 @@ use Rattle.dym_base.specs.BaseLogs.{oldest_depth}
 use Rattle.dym_chain.specs.Chains.{ChainMeaning, all_logs, log_at, KeepsFromBefore, EachKeeps, KeepsFromNewest, Belongs, logged}
 use Rattle.dym_chain.specs.Lawful.{IsLawful, logged_of}
 use Rattle.dym_chain.proofs.Places.{depth_within, base_is_full, keeps_take, keeps_drop, keeps_push, newest_push, newest_append}
-use Rattle.dym_chain.proofs.Records.{recorded_at}
-use Rattle.dym_chain.proofs.Lawfuls.{at_place}
-
--- a lawful chain whose records are of a version is lawful in that version
-pub in_version : (c : ChainMeaning) (v : Version) → IsLawful c → bytes_of c.records ≡ map (record_of v) (all_logs c) → IsLawful c
-in_version c v law are = record {
-  version = v;
-  records = are;
-  recorded = recorded_at (all_logs c) v law.version (sym law.records ∙ are) law.recorded;
-  list = law.list;
-  full = law.full;
-  follows = law.follows;
-  keeps = law.keeps;
-  base = law.base;
-}
+use Rattle.dym_chain.proofs.Lawfuls.{recorded_at, at_place}
 
 -- the newest of all logs is the newest kept one
 pub newest_all : (base_logs logs : List LogEntry) → length base_logs ≡ oldest_depth logs → newest (base_logs ++ logs) ≡ newest logs
@@ -56,18 +42,21 @@ pub record ComesNext (c : ChainMeaning) (v : Version) (e : LogEntry) : Type 0 wh
   pub keeps : (f : LogEntry) → newest c.logs ≡ Some f → KeepsFromBefore f e
   pub first : newest c.logs ≡ None → e.depth ≡ 0
 
+records_push : (c : ChainMeaning) (v : Version) (e : LogEntry) → bytes_of c.records ≡ map (record_of v) (all_logs c) → bytes_of (logged v e c).records ≡ map (record_of v) (all_logs (logged v e c))
+records_push c v e are =
+    map-append (λ (r : Numbered). r.bytes) c.records (record { number = c.next_number; bytes = record_of v e } ∷ [])
+    ∙ ap (λ l. l ++ record_of v e ∷ []) are
+    ∙ sym (map-append (record_of v) (all_logs c) (e ∷ []))
+    ∙ ap (map (record_of v)) (append_assoc c.base_logs c.logs (e ∷ []))
+
 pub lawful_push : (c : ChainMeaning) (v : Version) (e : LogEntry) → IsLawful c → bytes_of c.records ≡ map (record_of v) (all_logs c) → ComesNext c v e → IsLawful (logged v e c)
 lawful_push c v e law are next =
-    let own : IsLawful c = in_version c v law are in
     let last : newest (all_logs c) ≡ newest c.logs = newest_all c.base_logs c.logs law.base in
     let all : c.base_logs ++ (c.logs ++ e ∷ []) ≡ all_logs c ++ e ∷ [] = sym (append_assoc c.base_logs c.logs (e ∷ [])) in
     let R : LogEntry → Type 0 = λ f. IsRecorded (logged_of v f) in
     record {
       version = v;
-      records = map-append (λ (r : Numbered). r.bytes) c.records (record { number = c.next_number; bytes = record_of v e } ∷ [])
-          ∙ ap (λ l. l ++ record_of v e ∷ []) are
-          ∙ sym (map-append (record_of v) (all_logs c) (e ∷ []))
-          ∙ ap (map (record_of v)) (sym all);
+      records = records_push c v e are;
       recorded = subst (AllByRecursion R) (sym all) (all_push R (all_logs c) e (recorded_at (all_logs c) v law.version (sym law.records ∙ are) law.recorded) next.recorded);
       list = next.list;
       full = ap oldest_depth all ∙ oldest_push (all_logs c) e law.full (λ none. next.first (sym last ∙ none));
@@ -80,10 +69,7 @@ pub belongs_push : (c : ChainMeaning) (v : Version) (quota : ℕ) (s : HeapState
 belongs_push c v quota s e belongs next copy within =
     let Within : LogEntry → Type 0 = λ f. held f.copy ≤ quota in
     record {
-      records = map-append (λ (r : Numbered). r.bytes) c.records (record { number = c.next_number; bytes = record_of v e } ∷ [])
-          ∙ ap (λ l. l ++ record_of v e ∷ []) belongs.records
-          ∙ sym (map-append (record_of v) (all_logs c) (e ∷ []))
-          ∙ ap (map (record_of v)) (append_assoc c.base_logs c.logs (e ∷ []));
+      records = records_push c v e belongs.records;
       untouched = subst (λ o. KeepsFromNewest (record { live = s.live; touched = set.empty }) o) (sym (newest_push c.logs e)) (λ k has untouched. ap (λ (m : Live). Rattle.std.specs.FinMap.get m k) copy);
       keeps = keeps_push c.logs e belongs.keeps next.keeps;
       within = all_push Within c.logs e belongs.within (subst (λ (m : Live). held m ≤ quota) (sym copy) within);

@@ -17,9 +17,8 @@ use Rattle.dym_pack.specs.Laws.{SaysTheSame}
 use Rattle.dym_pack.proofs.Tells.{record_tells}
 use Rattle.dym_heap.proofs.AreaLists.{LiesIn, lies_in}
 use Rattle.dym_chain.specs.AdoptedLogs.{run_to, entry_in, entries_from}
-use Rattle.dym_chain.proofs.Records.{heads, tails}
-use Rattle.dym_chain.proofs.Stands.{none_of, packed_push}
-use Rattle.dym_chain.proofs.StoodFor.{unwrapped, stood_same}
+use Rattle.dym_chain.proofs.Lawfuls.{heads, tails}
+use Rattle.dym_chain.proofs.Stands.{none_of, packed_push, unwrapped, stood_same}
 
 -- the place of a live chunk
 place : (log : Logged) → IsRecorded log → (q : ℕ) → contains_key log.copy q ≡ true → LiesIn log.copy q

@@ -24,8 +24,7 @@ use Rattle.dym_chain.specs.AdoptedLogs.{stood_for, run_to, entry_in, entries_fro
 use Rattle.dym_chain.specs.Chains.{KeepsUntouched, FirstKeeps, EachKeeps}
 use Rattle.dym_chain.specs.Lawful.{logged_of}
 use Rattle.dym_chain.proofs.SameBytes.{same_bytes}
-use Rattle.dym_chain.proofs.Stands.{not_inc, or_some, some_or, packed_push}
-use Rattle.dym_chain.proofs.StoodFor.{stood_has, stood_newest}
+use Rattle.dym_chain.proofs.Stands.{not_inc, or_some, some_or, packed_push, stood_has, stood_newest}
 
 -- ---- what one log packs
 

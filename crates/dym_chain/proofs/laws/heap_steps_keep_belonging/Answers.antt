@@ -2,8 +2,5 @@ use Rattle.std.proofs.Common.{refl}
 use Rattle.dym_chain.proofs.Belonging.{step_belongs}
 use Rattle.dym_chain.proofs.laws.heap_steps_keep_belonging.Goals as goal
 
-pub returns-clause-start : goal.returns-clause-start
-returns-clause-start c v quota s next_number origin = record { records = refl; untouched = tt; keeps = tt; within = tt }
-
 pub returns-clause-step : goal.returns-clause-step
 returns-clause-step c = step_belongs

@@ -1,4 +1,4 @@
-use Rattle.dym_chain.proofs.SaidAgain.{say_their_logs, read_logs_belong}
+use Rattle.dym_chain.proofs.SaidLists.{say_their_logs, read_logs_belong}
 use Rattle.dym_chain.proofs.laws.records_say_their_logs.Goals as goal
 
 pub returns-clause-logs : goal.returns-clause-logs

@@ -1,5 +1,5 @@
 use Rattle.std.proofs.Common.{sym, ◌∙◌}
-use Rattle.dym_chain.proofs.Finds.{depth_ends}
+use Rattle.dym_chain.proofs.Places.{depth_ends}
 use Rattle.dym_chain.proofs.positions.depth_of_next.Goals as goal
 
 pub returns-in_default : goal.returns-in_default

@@ -1,7 +1,7 @@
 use Rattle.std.proofs.Common.{◌-◌, List, length, ap, ◌∙◌}
 use Rattle.std.specs.List.{slice_get}
 use Rattle.dym_chain.specs.declared.entry.Entry.{Entry}
-use Rattle.dym_chain.proofs.Finds.{count_same, got_last}
+use Rattle.dym_chain.proofs.Places.{count_same, got_last}
 use Rattle.dym_chain.proofs.positions.newest_of.Goals as goal
 
 pub returns : goal.returns

@@ -1,7 +1,7 @@
 use Rattle.std.proofs.Common.{rules, nat_le}
 use Rattle.dym_chain.specs.declared.entry.Entry.{Entry}
 use Rattle.std.proofs.lemmas.List.Sorted.{IsPartitionPoint-from_clause}
-use Rattle.dym_chain.proofs.Finds.{partitioned_by, reached_from}
+use Rattle.dym_chain.proofs.Places.{partitioned_by, reached_from}
 use Rattle.dym_chain.proofs.positions.reached.Goals as goal
 
 pub returns-clause-reached : goal.returns-clause-reached

@@ -3,8 +3,7 @@ use Rattle.dym_base.specs.declared.command.Version.{Version}
 use Rattle.dym_pack.specs.ParsedAreas.{OfLog}
 use Rattle.dym_heap.specs.Meaning.{HeapMeaning}
 use Rattle.dym_slots.specs.Meanings.{KeepMeaning, record_at}
-use Rattle.dym_chain.proofs.Fetches.{settled_all}
-use Rattle.dym_chain.proofs.Loading.{version_at, fetched_start, fetched_step}
+use Rattle.dym_chain.proofs.Loading.{settled_all, version_at, fetched_start, fetched_step}
 use Rattle.dym_chain.specs.Loads.{AreFetched}
 use Rattle.dym_chain.proofs.record_replay.fetch_down.Goals as goal
 

@@ -39,6 +39,3 @@ loop-i-preserved g c =
                 (subst (λ (k : KeepMeaning). OfLog (unwrap_or (difference_at c.args.differences.now c.loop-i.i) (record_at k.records (c.args.base + c.loop-i.i)).bytes) (PacksTouched c.mark_log.new.heap.state)) c.loop-i.invariant.keep c.mark_log.ensures.marked)
           ];
     }
-
-pub returns-clause-marked : goal.returns-clause-marked
-returns-clause-marked g c j low high = c.loop-i.invariant.marked j low (omega (arith, high, c.loop-i-test.false))

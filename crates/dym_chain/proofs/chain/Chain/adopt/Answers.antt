@@ -6,7 +6,7 @@ use Rattle.dym_chain.specs.AdoptedLogs.{AreEntriesOf}
 use Rattle.dym_chain.specs.Chains.{ChainMeaning}
 use Rattle.dym_chain.specs.ChainInvariants.{chain_of}
 use Rattle.dym_chain.specs.Lawful.{IsLawful}
-use Rattle.dym_chain.proofs.Adopts.{tells, told_lawful, told_entries, told_times, belongs_lawful}
+use Rattle.dym_chain.proofs.Opens.{tells, told_lawful, told_entries, told_times, belongs_lawful}
 use Rattle.dym_chain.proofs.KeptLists.{are_kept}
 use Rattle.dym_chain.proofs.Lawfuls.{stands, fields_show}
 use Rattle.dym_chain.proofs.SaidLists.{IsPlace}

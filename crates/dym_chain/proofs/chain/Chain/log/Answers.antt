@@ -19,9 +19,8 @@ use Rattle.dym_chain.specs.Copies.{ChainCopies}
 use Rattle.dym_chain.specs.ChainInvariants.{chain_of}
 use Rattle.dym_chain.proofs.Lawfuls.{stands, fields_show}
 use Rattle.dym_chain.proofs.Moves.{ComesNext, lawful_push, belongs_push}
-use Rattle.dym_chain.proofs.Finds.{count_same}
-use Rattle.dym_chain.proofs.Logs.{refused_is, taken_is, has_room, comes_next, record_is, keeps_by}
-use Rattle.dym_chain.proofs.Takes.{log_of, room_left, taken_view, taken_entries, taken_reply, may_be_short}
+use Rattle.dym_chain.proofs.Places.{count_same}
+use Rattle.dym_chain.proofs.Logs.{refused_is, taken_is, has_room, comes_next, record_is, keeps_by, log_of, room_left, taken_view, taken_entries, taken_reply, may_be_short}
 use Rattle.dym_base.specs.declared.command.Kind.TheVariants.{Inc}
 use Rattle.dym_chain.specs.Differences.{AreDifferences, HasOneMore, TellsChanges}
 use Rattle.dym_chain.proofs.DifferenceFacts.{differences_push, differences_same, tells_found}
@@ -107,9 +106,6 @@ put-requires-clause-room g c =
     let copies = c.self.inside.ghost_copies.copies in
     room_left (chain_of copies (g.K.LogKeep.meaning c.self.inside.keep)) c.self.invariant.chain.lawful
     (has_room c.args.time copies.logs (free g (goal.at.put-requires-clause-room g c).After-depth_of_next-depth))
-
-pub put-requires-clause-idle : goal.put-requires-clause-idle
-put-requires-clause-idle g c = ap (λ (x : ChainMeaning). x.lifted) c.self.view_is ∙ c.requires.idle
 
 pub push_reserved-requires : goal.push_reserved-requires
 push_reserved-requires g c =
@@ -206,10 +202,6 @@ pub returns-clause-put : goal.returns-clause-put
 returns-clause-put g c =
     view g (goal.at.returns-clause-put g c).After-put
     ∙ ap (λ (x : ChainMeaning). chains.logged c.args.heap.now.version (new_entry (object_of c.args.heap.now.state x) c.args.time c.args.want) x) c.self.view_is
-
-pub returns-clause-heap : goal.returns-clause-heap
-returns-clause-heap g c =
-    c.clear_dirty.ensures.cleared ∙ ap (λ (x : HeapState). record c.args.heap.now { state = x }) (sym (ap (λ (h : HeapMeaning). h.state) c.clear_dirty.ensures.cleared))
 
 pub returns-clause-belongs : goal.returns-clause-belongs
 returns-clause-belongs g c =

@@ -18,9 +18,6 @@ invariant_of-result g c =
     fields_show (no_chain origin) (view g (goal.at.invariant_of-result g c).After-open) (lawful_open origin) c.in-Ok.ensures.items c.in-Ok.ensures.capacity
     (subst (AreDifferences (no_chain origin).logs) (sym c.new.ensures.items) (no_differences (no_chain origin).logs))
 
-pub returns-in-Ok-clause-opened : goal.returns-in-Ok-clause-opened
-returns-in-Ok-clause-opened g c = view g (goal.at.returns-in-Ok-clause-opened g c).After-open
-
 pub returns-in-Ok-clause-belongs : goal.returns-in-Ok-clause-belongs
 returns-in-Ok-clause-belongs g c v quota s =
     subst (Belongs v quota s) (sym (view g (goal.at.returns-in-Ok-clause-belongs g c).After-open)) (belongs_open v quota s (g.K.LogKeep.meaning c.args.keep).origin)

@@ -9,8 +9,7 @@ use Rattle.dym_chain.specs.ChainInvariants.{chain_of}
 use Rattle.dym_chain.specs.declared.entry.Entry.{Entry}
 use Rattle.dym_chain.proofs.Lawfuls.{stands, fields_show}
 use Rattle.dym_chain.proofs.Moves.{without, belongs_drop, lawful_drop}
-use Rattle.dym_chain.proofs.BaseFacts.{base_logs_left}
-use Rattle.dym_chain.proofs.Prunes.{Dropping, dropping, view_drop, without_none}
+use Rattle.dym_chain.proofs.Prunes.{base_logs_left, Dropping, dropping, view_drop, without_none}
 use Rattle.dym_chain.specs.Differences.{AreDifferences}
 use Rattle.dym_chain.proofs.DifferenceFacts.{differences_drop}
 use Rattle.dym_chain.proofs.chain.Chain.prune.Given as given
@@ -63,37 +62,22 @@ dropped g c =
     (c.from-base.ensures ∙ ap (λ (e : Entry). e.depth) c.index.ensures) (c.from-depth.ensures ∙ ap (λ (e : Entry). e.depth) c.index-2.ensures)
 
 pub overflow_cast-dropped : goal.overflow_cast-dropped
-overflow_cast-dropped g c =
-    let is = dropped g (goal.at.overflow_cast-dropped g c).After-from-depth in
-    record { fits = omega (arith, is.small) }
+overflow_cast-dropped g c = record { fits = omega (arith, (dropped g (goal.at.overflow_cast-dropped g c).After-from-depth).small) }
 
 pub overflow_add-base : goal.overflow_add-base
-overflow_add-base g c =
-    let is = dropped g (goal.at.overflow_add-base g c).After-from-depth in
-    record { fits = omega (arith, is.small) }
+overflow_add-base g c = record { fits = omega (arith, (dropped g (goal.at.overflow_add-base g c).After-from-depth).small) }
 
 pub overflow_sub-base : goal.overflow_sub-base
-overflow_sub-base g c =
-    let is = dropped g (goal.at.overflow_sub-base g c).After-from-depth in
-    is.fits
+overflow_sub-base g c = (dropped g (goal.at.overflow_sub-base g c).After-from-depth).fits
 
 pub drop_before-requires-clause-place : goal.drop_before-requires-clause-place
-drop_before-requires-clause-place g c =
-    let is = dropped g (goal.at.drop_before-requires-clause-place g c).After-from-depth in
-    is.inside
-
-pub drop_before-requires-clause-idle : goal.drop_before-requires-clause-idle
-drop_before-requires-clause-idle g c = ap (λ (x : ChainMeaning). x.lifted) c.self.view_is ∙ c.requires.idle
+drop_before-requires-clause-place g c = (dropped g (goal.at.drop_before-requires-clause-place g c).After-from-depth).inside
 
 pub overflow_cast-depth : goal.overflow_cast-depth
-overflow_cast-depth g c =
-    let is = dropped g (goal.at.overflow_cast-depth g c).After-from-depth in
-    record { fits = omega (arith, is.shallow) }
+overflow_cast-depth g c = record { fits = omega (arith, (dropped g (goal.at.overflow_cast-depth g c).After-from-depth).shallow) }
 
 pub overflow_cast-result : goal.overflow_cast-result
-overflow_cast-result g c =
-    let is = dropped g (goal.at.overflow_cast-result g c).After-from-depth in
-    record { fits = omega (arith, is.small) }
+overflow_cast-result g c = record { fits = omega (arith, (dropped g (goal.at.overflow_cast-result g c).After-from-depth).small) }
 
 module _ (g : given.Over) (c : After-cut g) where
   abbrev first : After-dropped_by-dropped g

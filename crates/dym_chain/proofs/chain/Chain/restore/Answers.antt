@@ -20,7 +20,7 @@ use Rattle.dym_chain.specs.ChainInvariants.{chain_of}
 use Rattle.dym_chain.specs.declared.entry.Entry.{Entry}
 use Rattle.dym_chain.proofs.Lawfuls.{stands, fields_show}
 use Rattle.dym_chain.proofs.Moves.{lawful_take, belongs_take}
-use Rattle.dym_chain.proofs.Finds.{count_same}
+use Rattle.dym_chain.proofs.Places.{count_same}
 use Rattle.dym_chain.proofs.Prunes.{records_count}
 use Rattle.dym_chain.proofs.DifferenceFacts.{are_recorded, differences_take}
 use Rattle.dym_chain.proofs.Restores.{first_logs, none_restored, restored_is, last_of_first, Restoring, restoring, target_record, target_recorded, within_quota, part_version, restored_all, lowered, first_is, keeps_rest, heap_rest, log_record, log_recorded}
@@ -117,9 +117,7 @@ module _ (g : given.Over) (c : After-from-depth g) where
   first_belongs = belongs_take whole v c.args.heap.now.quota n c.args.heap.now.state target belongs (last_of_first whole.logs n is.some is.within)
 
 pub overflow_cast-place : goal.overflow_cast-place
-overflow_cast-place g c =
-    let r = is g (goal.at.overflow_cast-place g c).After-from-depth in
-    record { fits = omega (arith, r.small) }
+overflow_cast-place g c = record { fits = omega (arith, (is g (goal.at.overflow_cast-place g c).After-from-depth).small) }
 
 pub overflow_add-place : goal.overflow_add-place
 overflow_add-place g c =
@@ -127,9 +125,6 @@ overflow_add-place g c =
     record { fits = omega (arith, r.small, r.some) }
 
 -- ---- what the dropped logs changed is touched
-
-pub mark_logs-requires-clause-idle : goal.mark_logs-requires-clause-idle
-mark_logs-requires-clause-idle g c = idle g (goal.at.mark_logs-requires-clause-idle g c).After-from-depth
 
 counted : (g : given.Over) (c : After-len-count g) → c.len-count.result ≡ length c.self.inside.ghost_copies.copies.logs
 counted g c =
@@ -168,10 +163,6 @@ drop_after-requires-clause-place g c =
     let r = is g (goal.at.drop_after-requires-clause-place g c).After-from-depth in
     omega (arith, ap (λ (k : KeepMeaning). length k.records) c.mark_logs.ensures.keep, r.inside)
 
-pub drop_after-requires-clause-idle : goal.drop_after-requires-clause-idle
-drop_after-requires-clause-idle g c =
-    ap (λ (k : KeepMeaning). k.lifted) c.mark_logs.ensures.keep ∙ idle g (goal.at.drop_after-requires-clause-idle g c).After-from-depth
-
 -- the keep without its later records
 dropped : (g : given.Over) (c : After-drop_after g) → g.K.LogKeep.meaning c.drop_after.new.self ≡ up_to (g.K.LogKeep.meaning c.self.inside.keep) (c.from-base.result + (c.reached-kept.result - 1))
 dropped g c = c.drop_after.ensures.after ∙ ap (λ (k : KeepMeaning). up_to k (c.from-base.result + (c.reached-kept.result - 1))) c.mark_logs.ensures.keep
@@ -183,11 +174,6 @@ lift-rec-requires-clause-place g c =
     let r = is g a in
     let len = length-take (place g a + 1) (keep g a).records in
     omega (arith, ap (λ (k : KeepMeaning). length k.records) (dropped g at.After-drop_after), r.inside)
-
-pub lift-rec-requires-clause-idle : goal.lift-rec-requires-clause-idle
-lift-rec-requires-clause-idle g c =
-    let at = goal.at.lift-rec-requires-clause-idle g c in
-    ap (λ (k : KeepMeaning). k.lifted) (dropped g at.After-drop_after) ∙ idle g at.After-from-depth
 
 -- the record that is out is the target's
 lifted : (g : given.Over) (c : After-lift-rec g) → c.lift-rec.result ≡ record_of c.args.heap.now.version (log_at c.self.inside.ghost_copies.copies.logs (c.reached-kept.result - 1))
@@ -211,14 +197,8 @@ reshape-requires g c =
           (All-from_recursion (λ (x : LogEntry). held x.copy ≤ quota) (whole g a).logs (belongs g a).within (n g a - 1) no_entry (omega (arith, r.some, r.within))) (lifted g at.After-lift-rec));
     }
 
-pub lower-requires-clause-bytes : goal.lower-requires-clause-bytes
-lower-requires-clause-bytes g c =
-    c.lift-rec.ensures.bytes ∙ ap (λ (k : KeepMeaning). (record_at k.records (c.from-base.result + (c.reached-kept.result - 1))).bytes) (sym (c.lift-rec.ensures.after))
-
 pub overflow_add-depth : goal.overflow_add-depth
-overflow_add-depth g c =
-    let r = is g (goal.at.overflow_add-depth g c).After-from-depth in
-    record { fits = omega (arith, r.shallow) }
+overflow_add-depth g c = record { fits = omega (arith, (is g (goal.at.overflow_add-depth g c).After-from-depth).shallow) }
 
 -- ---- what is wanted is fetched
 
@@ -239,11 +219,6 @@ fetched g c =
     ∙ ap (λ (k : KeepMeaning). take (depth + 1) (drop (place g a - depth) (bytes_of k.records))) (low g c)
     ∙ ap (λ m. take (depth + 1) (drop (place g a - depth) (bytes_of (take m (keep g a).records)))) (place_is g a)
 
-pub fetch_down-requires-clause-idle : goal.fetch_down-requires-clause-idle
-fetch_down-requires-clause-idle g c =
-    let at = goal.at.fetch_down-requires-clause-idle g c in
-    ap (λ (k : KeepMeaning). k.lifted) (low g at.After-lower) ∙ idle g at.After-from-depth
-
 pub fetch_down-requires-clause-within : goal.fetch_down-requires-clause-within
 fetch_down-requires-clause-within g c =
     let at = goal.at.fetch_down-requires-clause-within g c in
@@ -253,9 +228,7 @@ fetch_down-requires-clause-within g c =
     omega (arith, ap (λ (k : KeepMeaning). length k.records) (low g at.After-lower), r.inside, r.fits)
 
 pub fetch_down-requires-clause-there : goal.fetch_down-requires-clause-there
-fetch_down-requires-clause-there g c =
-    let r = is g (goal.at.fetch_down-requires-clause-there g c).After-from-depth in
-    omega (arith, r.fits)
+fetch_down-requires-clause-there g c = omega (arith, (is g (goal.at.fetch_down-requires-clause-there g c).After-from-depth).fits)
 
 pub fetch_down-requires-clause-version : goal.fetch_down-requires-clause-version
 fetch_down-requires-clause-version g c =

@@ -14,11 +14,9 @@ use Rattle.dym_chain.specs.ChainInvariants.{chain_of, IsChain}
 use Rattle.dym_chain.specs.Loads.{HaveVersion}
 use Rattle.dym_chain.specs.Lawful.{entry_of}
 use Rattle.dym_chain.specs.declared.entry.Entry.{Entry}
-use Rattle.dym_chain.proofs.BroughtBack.{Newest, newest_log, brought_back, touched_log, touched_recorded}
-use Rattle.dym_chain.proofs.Lawfuls.{stands}
+use Rattle.dym_chain.proofs.Restores.{Newest, newest_log, brought_back, touched_log, touched_recorded, part_version}
+use Rattle.dym_chain.proofs.Lawfuls.{stands, version_same, held_same}
 use Rattle.dym_chain.proofs.Prunes.{records_count}
-use Rattle.dym_chain.proofs.Records.{version_same, held_same}
-use Rattle.dym_chain.proofs.Restores.{part_version}
 use Rattle.dym_chain.proofs.chain.Chain.untold.Given as given
 use Rattle.dym_chain.proofs.chain.Chain.untold.Goals.{After-len-last}
 use Rattle.dym_chain.proofs.chain.Chain.untold.Goals as goal
@@ -115,6 +113,3 @@ invariant_of-self g c = record {
       (sym c.fetch_down.ensures.keep) c.self.invariant.chain;
   differences = c.self.invariant.differences;
 }
-
-pub returns-clause-same : goal.returns-clause-same
-returns-clause-same g c = ap (chain_of c.self.inside.ghost_copies.copies) c.fetch_down.ensures.keep ∙ c.self.view_is
