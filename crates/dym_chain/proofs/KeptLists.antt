@@ -12,7 +12,7 @@ use Rattle.dym_base.specs.Packed.{Logged, packs_by}
 use Rattle.dym_base.specs.RunLaws.{Follows, FirstFollows, EachFollows}
 use Rattle.dym_base.specs.declared.command.Version.{Version}
 use Rattle.dym_base.specs.declared.command.Kind.{Kind}
-use Rattle.dym_base.specs.declared.command.Kind.TheVariants.{Full, Inc}
+use Rattle.dym_base.specs.declared.command.Kind.TheVariants.{Inc}
 use Rattle.dym_base.proofs.Runs.{follows_take}
 use Rattle.dym_chain.specs.Keeps.{bytes_of}
 use Rattle.dym_chain.specs.Chains.{ChainMeaning, all_logs, log_at, KeepsFromBefore, FirstKeeps, EachKeeps}

@@ -20,12 +20,11 @@ use Rattle.dym_chain.specs.Chains.{ChainMeaning, KeepsUntouched, KeepsFromNewest
 use Rattle.dym_chain.specs.Chains as chains
 use Rattle.dym_chain.specs.Lawful.{IsLawful, entry_of}
 use Rattle.dym_chain.specs.Answers.{log_refusal, refusal_after, refusal_if_full, IsLogged}
-use Rattle.dym_chain.proofs.Moves.{ComesNext, lawful_push}
+use Rattle.dym_chain.proofs.Moves.{ComesNext}
 use Rattle.std.proofs.lemmas.List.{map-append}
 use Rattle.dym_slots.specs.Meanings.{KeepMeaning, with_record}
-use Rattle.dym_base.specs.BaseLogs.{oldest_depth}
 use Rattle.dym_chain.specs.Copies.{ChainCopies}
-use Rattle.dym_chain.specs.ChainInvariants.{chain_of, IsChain}
+use Rattle.dym_chain.specs.ChainInvariants.{chain_of}
 use Rattle.dym_chain.specs.declared.entry.Entry.{Entry}
 use Rattle.dym_chain.proofs.KeptLists.{oldest_small}
 use Rattle.dym_chain.proofs.Prunes.{records_count}

@@ -1,11 +1,11 @@
 -- What records say doesn't depend on the logs that they are read as.
-use Rattle.std.proofs.Common.{◌≡◌, ℕ, Bool, true, false, cond, is_some, unwrap_or, Option, Some, None, List, [], ◌∷◌, map, ⊎_elim, refl, sym, ap, subst, ◌∙◌}
+use Rattle.std.proofs.Common.{◌≡◌, ℕ, Bool, true, false, cond, is_some, unwrap_or, Option, None, List, [], ◌∷◌, map, ⊎_elim, refl, sym, ap, subst, ◌∙◌}
 use Rattle.std.specs.Cmp.{nat_cmp_total}
 use Rattle.std.specs.List.{AllByRecursion}
 use Rattle.std.specs.FinMap.{get, contains_key, nat_cmp-IsAntisymmetric}
 use Rattle.std.specs.FinSet.{contains}
 use Rattle.std.specs.FinSet as set
-use Rattle.std.proofs.lemmas.Bool.{cases_Bool, cond-true, cond-false, true≢false}
+use Rattle.std.proofs.lemmas.Bool.{cases_Bool, cond-true, cond-false}
 use Rattle.dym_base.specs.LawfulLists.{depth_after}
 use Rattle.dym_base.specs.Packed.{Logged, packs_by, packed}
 use Rattle.dym_base.specs.Recorded.{IsRecorded}

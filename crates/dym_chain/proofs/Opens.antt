@@ -1,20 +1,18 @@
 -- A chain with no log.
-use Rattle.std.proofs.Common.{◌≡◌, ℕ, ◌<◌, ◌≤◌, Option, None, List, [], length, refl, sym, ap, subst, ◌∙◌, arith, map, take, drop}
+use Rattle.std.proofs.Common.{◌≡◌, ℕ, ◌≤◌, None, List, [], length, refl, sym, ap, subst, ◌∙◌, arith, map, take, drop}
 use Rattle.dym_base.specs.Heaps.{HeapState, held}
 use Rattle.dym_base.specs.Origins.{Origin}
 use Rattle.dym_base.specs.declared.command.Version.{Version}
 use Rattle.dym_base.specs.declared.command.Version.TheVariants.{One}
-use Rattle.dym_slots.specs.Meanings.{Numbered, KeepMeaning}
+use Rattle.dym_slots.specs.Meanings.{KeepMeaning}
 use Rattle.dym_chain.specs.Chains.{ChainMeaning, Belongs, StandsForCopies, all_logs, EachKeeps, KeepsFromNewest}
 use Rattle.dym_chain.specs.Lawful.{IsLawful, entry_of}
 use Rattle.dym_chain.specs.Copies.{ChainCopies, AreCopiesOf, copies_of}
-use Rattle.dym_chain.specs.ChainInvariants.{chain_of, IsChain}
+use Rattle.dym_chain.specs.ChainInvariants.{chain_of}
 use Rattle.dym_chain.specs.declared.entry.Entry.{Entry}
 use Rattle.std.specs.List.{AllByRecursion}
-use Rattle.dym_base.specs.LawfulLists as lawful
 use Rattle.dym_base.specs.LawfulLists.{IsRecordOf}
 use Rattle.dym_base.specs.Objects.{LogEntry, newest}
-use Rattle.dym_base.specs.Packed.{Logged, packed}
 use Rattle.dym_base.proofs.Runs.{all_drop}
 use Rattle.std.proofs.lemmas.List.{drop_at}
 use Rattle.dym_chain.specs.AdoptedLogs.{AreEntriesOf, AreKeptTimes, AreLawful, entries_of}

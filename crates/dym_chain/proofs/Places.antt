@@ -6,16 +6,14 @@ use Rattle.dym_base.specs.Objects.{LogEntry, newest, reached, next_depth}
 use Rattle.dym_base.specs.RunLaws.{Follows, EachFollows}
 use Rattle.dym_base.specs.BaseLogs.{oldest_depth}
 use Rattle.dym_chain.specs.Chains.{no_entry, log_at, KeepsFromBefore, FirstKeeps, EachKeeps}
-use Rattle.std.specs.List.{AllByRecursion, slice_get}
+use Rattle.std.specs.List.{slice_get}
 use Rattle.std.specs.List.Sorted.{IsPartitionedBy, IsPartitionPoint}
-use Rattle.std.proofs.lemmas.Bool.{cases_lt, le-leb, leb-true, leb-false, lt-leb, cond-true, cond-false, eq-eqb, ne_eqb}
+use Rattle.std.proofs.lemmas.Bool.{cases_lt, le-leb, leb-true, leb-false, cond-true, eq-eqb}
 use Rattle.std.proofs.lemmas.Option.{same_Some}
 use Rattle.std.proofs.lemmas.List.Elements.{All-from_recursion}
 use Rattle.std.proofs.lemmas.List.Sums.{count_by-le-length}
 use Rattle.dym_base.specs.declared.command.Kind.{Kind}
 use Rattle.dym_base.specs.declared.command.Kind.TheVariants.{Full, Inc}
-use Rattle.dym_base.specs.declared.reply.Refusal.TheVariants.{NotAfter, LogsFull}
-use Rattle.dym_chain.specs.Answers.{log_refusal, refusal_after, refusal_if_full}
 use Rattle.dym_base.proofs.Runs.{reached_before}
 use Rattle.dym_chain.specs.Lawful.{entry_of}
 use Rattle.dym_chain.specs.declared.entry.Entry.{Entry}

@@ -1,5 +1,5 @@
 -- The fields of a chain as logs are dropped.
-use Rattle.std.proofs.Common.{◌≡◌, ℕ, ◌+◌, ◌-◌, ◌<◌, ◌≤◌, List, [], ◌∷◌, ◌++◌, length, map, take, drop, get_or, sym, ap, subst, ◌∙◌, arith, length-append, zero, suc, inl, inr, Bool, true, false, ◌||◌, ◌==◌, refl}
+use Rattle.std.proofs.Common.{◌≡◌, ℕ, ◌+◌, ◌-◌, ◌<◌, ◌≤◌, List, [], ◌∷◌, ◌++◌, length, take, drop, get_or, sym, ap, subst, ◌∙◌, arith, length-append, zero, suc, inl, inr, true, false, ◌||◌, ◌==◌, refl}
 use Rattle.std.proofs.Math.Seq.{take-append_seam, take-append-add}
 use Rattle.std.proofs.lemmas.List.{length-map, length-take, get_or-take, drop-take}
 use Rattle.std.proofs.lemmas.List.Elements.{All-from_recursion}

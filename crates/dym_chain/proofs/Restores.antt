@@ -18,7 +18,7 @@ use Rattle.dym_region.specs.declared.segment.SegmentId.{SegmentId}
 use Rattle.dym_slots.specs.Meanings.{Numbered, KeepMeaning, no_record, record_at, up_to}
 use Rattle.dym_chain.specs.Keeps.{bytes_of}
 use Rattle.dym_chain.specs.Chains.{ChainMeaning, Belongs, all_logs, no_entry, log_at, object_of, records_to, KeepsUntouched}
-use Rattle.dym_chain.specs.Lawful.{IsLawful, entry_of, logged_of}
+use Rattle.dym_chain.specs.Lawful.{IsLawful, logged_of}
 use Rattle.dym_chain.specs.Loads.{AreFetched, HaveVersion, KeepsUnmodified, PacksTouched}
 use Rattle.dym_chain.specs.Differences.{AreDifferences, difference_at}
 use Rattle.dym_chain.specs.Copies.{ChainCopies}

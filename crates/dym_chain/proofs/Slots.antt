@@ -4,9 +4,9 @@ use Rattle.std.proofs.Math.ListN.{set, length-set}
 use Rattle.std.proofs.Math.Seq.{map-set_same}
 use Rattle.std.specs.List.{All}
 use Rattle.std.proofs.lemmas.List.Elements.{All-head, All-tail, All-from_get_or, All-push, All-take, All-drop}
-use Rattle.std.proofs.lemmas.Bool.{cases_eq, cases_lt, true≢false}
+use Rattle.std.proofs.lemmas.Bool.{cases_eq, true≢false}
 use Rattle.std.proofs.lemmas.Option.{same_Some, none-some}
-use Rattle.std.proofs.lemmas.List.{length-take, length-drop, get_or-take, get_or-drop, get_or-set_same, get_or-set_other, map-append, take-map, drop-map}
+use Rattle.std.proofs.lemmas.List.{length-take, length-drop, get_or-set_same, get_or-set_other, map-append, take-map, drop-map}
 use Rattle.dym_slots.specs.Meanings.{Numbered, first_number, NumbersRise}
 use Rattle.dym_chain.specs.VecKeeps.{shown, bytes_out, place_out, no_slot, IsValidKeep}
 use Rattle.dym_chain.specs.declared.vec_keep.Slot.{Slot}

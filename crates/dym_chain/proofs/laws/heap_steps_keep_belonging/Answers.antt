@@ -1,4 +1,3 @@
-use Rattle.std.proofs.Common.{refl}
 use Rattle.dym_chain.proofs.Belonging.{step_belongs}
 use Rattle.dym_chain.proofs.laws.heap_steps_keep_belonging.Goals as goal
 

@@ -1,4 +1,4 @@
-use Rattle.std.proofs.Common.{arith, refl, ◌≡◌, ℕ, ◌+◌, ◌-◌, drop, Option, None, Some, length, sym, ap, subst, ◌∙◌}
+use Rattle.std.proofs.Common.{arith, refl, ◌≡◌, ℕ, ◌+◌, ◌-◌, drop, Option, None, Some, sym, ap, subst, ◌∙◌}
 use Rattle.dym_base.specs.declared.command.Version.{Version}
 use Rattle.dym_pack.specs.ParsedAreas.{OfLog}
 use Rattle.dym_heap.specs.Meaning.{HeapMeaning}

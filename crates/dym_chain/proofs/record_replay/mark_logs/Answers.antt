@@ -1,4 +1,4 @@
-use Rattle.std.proofs.Common.{arith, ◌≡◌, ◌+◌, inl, inr, unwrap_or, length, refl, sym, ap, subst, ◌∙◌}
+use Rattle.std.proofs.Common.{arith, ◌≡◌, ◌+◌, inl, inr, unwrap_or, refl, sym, ap, subst, ◌∙◌}
 use Rattle.std.proofs.lemmas.Bool.{cases_lt}
 use Rattle.dym_pack.specs.ParsedAreas.{IsRecord, OfLog}
 use Rattle.dym_heap.specs.Meaning.{HeapMeaning}

@@ -1,4 +1,4 @@
-use Rattle.std.proofs.Common.{arith, rules, ◌≡◌, ℕ, ◌≤◌, None, Some, List, length, map, option_map, refl, sym, ap, subst, ◌∙◌}
+use Rattle.std.proofs.Common.{arith, ◌≡◌, ℕ, ◌≤◌, None, Some, List, length, map, option_map, refl, sym, ap, subst, ◌∙◌}
 use Rattle.std.specs.FinSet as set
 use Rattle.dym_base.specs.Heaps.{HeapState}
 use Rattle.dym_base.specs.Objects.{LogEntry, ObjectAnswer, newest, next_depth, new_entry, record_of, log}
@@ -10,19 +10,17 @@ use Rattle.dym_heap.specs.RecordLoads.{areas_of}
 use Rattle.dym_heap.specs.Meaning.{HeapMeaning}
 use Rattle.dym_pack.specs.Areas.{IsPackable, logged}
 use Rattle.dym_base.specs.Packed.{packed}
-use Rattle.dym_slots.specs.Meanings.{KeepMeaning}
 use Rattle.dym_chain.specs.Chains.{ChainMeaning, Belongs, StandsForCopies, object_of}
 use Rattle.dym_chain.specs.Chains as chains
 use Rattle.dym_chain.specs.Answers.{log_refusal, IsLogged}
 use Rattle.dym_chain.specs.Lawful.{IsLawful, entry_of}
-use Rattle.dym_chain.specs.Copies.{ChainCopies}
 use Rattle.dym_chain.specs.ChainInvariants.{chain_of}
 use Rattle.dym_chain.proofs.Lawfuls.{stands, fields_show}
 use Rattle.dym_chain.proofs.Moves.{ComesNext, lawful_push, belongs_push}
 use Rattle.dym_chain.proofs.Places.{count_same}
 use Rattle.dym_chain.proofs.Logs.{refused_is, taken_is, has_room, comes_next, record_is, keeps_by, log_of, room_left, taken_view, taken_entries, taken_reply, may_be_short}
 use Rattle.dym_base.specs.declared.command.Kind.TheVariants.{Inc}
-use Rattle.dym_chain.specs.Differences.{AreDifferences, HasOneMore, TellsChanges}
+use Rattle.dym_chain.specs.Differences.{HasOneMore, TellsChanges}
 use Rattle.dym_chain.proofs.DifferenceFacts.{differences_push, differences_same, tells_found}
 use Rattle.dym_chain.proofs.chain.Chain.log.Given as given
 use Rattle.dym_chain.proofs.chain.Chain.log.Goals.{After-refusal_of, After-depth_of_next-depth, In-Ok, After-len-count, After-put}

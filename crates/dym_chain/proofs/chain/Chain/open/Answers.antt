@@ -1,4 +1,4 @@
-use Rattle.std.proofs.Common.{arith, ◌≡◌, refl, sym, subst}
+use Rattle.std.proofs.Common.{◌≡◌, sym, subst}
 use Rattle.dym_chain.specs.Chains.{Belongs, StandsForCopies}
 use Rattle.dym_chain.specs.Differences.{AreDifferences}
 use Rattle.dym_chain.specs.ChainInvariants.{chain_of}

@@ -1,4 +1,4 @@
-use Rattle.std.proofs.Common.{arith, ◌≡◌, ℕ, ◌+◌, ◌-◌, ◌<◌, ◌≤◌, Option, None, Some, unwrap_or, List, [], length, take, drop, refl, sym, ap, subst, ◌∙◌}
+use Rattle.std.proofs.Common.{arith, ◌≡◌, ℕ, ◌+◌, ◌-◌, ◌<◌, ◌≤◌, Option, None, Some, unwrap_or, List, [], length, take, drop, sym, ap, subst, ◌∙◌}
 use Rattle.std.specs.FinSet as set
 use Rattle.std.proofs.lemmas.List.{length-take, take-map}
 use Rattle.std.proofs.lemmas.List.Elements.{All-from_recursion}
@@ -15,7 +15,6 @@ use Rattle.dym_chain.specs.Chains.{ChainMeaning, Belongs, StandsForCopies, no_en
 use Rattle.dym_chain.specs.Lawful.{IsLawful, logged_of, entry_of}
 use Rattle.dym_chain.specs.Loads.{HaveVersion, PacksTouched}
 use Rattle.dym_chain.specs.Differences.{AreDifferences, difference_at}
-use Rattle.dym_chain.specs.Copies.{ChainCopies}
 use Rattle.dym_chain.specs.ChainInvariants.{chain_of}
 use Rattle.dym_chain.specs.declared.entry.Entry.{Entry}
 use Rattle.dym_chain.proofs.Lawfuls.{stands, fields_show}

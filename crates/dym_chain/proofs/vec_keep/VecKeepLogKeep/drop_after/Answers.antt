@@ -1,6 +1,5 @@
 use Rattle.std.proofs.Common.{◌≡◌, ◌+◌, List, None, map, ap, sym, ◌∙◌}
 use Rattle.std.proofs.lemmas.List.{take-map}
-use Rattle.std.specs.Vec.{vec_capacity}
 use Rattle.dym_base.specs.Origins.{own}
 use Rattle.dym_slots.specs.Meanings.{Numbered, KeepMeaning, up_to}
 use Rattle.dym_chain.specs.VecKeeps.{shown, bytes_out, place_out}

@@ -1,7 +1,6 @@
-use Rattle.std.proofs.Common.{arith, ◌≡◌, ℕ, ◌<◌, Option, Some, None, IsSome, List, length, map, get_or, ap, sym, subst, ◌∙◌, refl}
+use Rattle.std.proofs.Common.{arith, ◌≡◌, ℕ, ◌<◌, Option, Some, None, List, length, map, get_or, ap, sym, subst, ◌∙◌, refl}
 use Rattle.std.proofs.Math.ListN.{set}
 use Rattle.std.proofs.lemmas.List.{length-map, get_or_default}
-use Rattle.std.proofs.lemmas.Option.{none-some}
 use Rattle.dym_base.specs.Origins.{own}
 use Rattle.dym_slots.specs.Meanings.{Numbered, KeepMeaning}
 use Rattle.dym_chain.specs.VecKeeps.{shown, bytes_out, place_out, no_slot, IsValidKeep}

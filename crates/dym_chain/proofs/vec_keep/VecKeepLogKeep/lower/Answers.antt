@@ -1,10 +1,9 @@
-use Rattle.std.proofs.Common.{◌≡◌, ℕ, ◌<◌, Some, None, List, [], length, get_or, ap, sym, ◌∙◌}
+use Rattle.std.proofs.Common.{◌≡◌, ◌<◌, Some, None, List, [], length, get_or, ap, sym, ◌∙◌}
 use Rattle.std.proofs.lemmas.List.{get_or-map, get_or_default}
 use Rattle.dym_base.specs.Origins.{own}
 use Rattle.dym_slots.specs.Meanings.{Numbered, KeepMeaning, no_record}
-use Rattle.dym_chain.specs.VecKeeps.{shown, bytes_out, place_out, no_slot, keep_of}
+use Rattle.dym_chain.specs.VecKeeps.{shown, bytes_out, place_out, no_slot}
 use Rattle.dym_chain.specs.declared.vec_keep.Slot.{Slot}
-use Rattle.dym_chain.specs.declared.vec_keep.VecKeep.TheInside.{Inside}
 use Rattle.dym_chain.proofs.Slots.{all_back, kept_lower, shown_lowered}
 use Rattle.dym_chain.proofs.vec_keep.VecKeepLogKeep.lower.Goals.{After-index_mut}
 use Rattle.dym_chain.proofs.vec_keep.VecKeepLogKeep.lower.Goals as goal
