@@ -1,6 +1,6 @@
 use Rattle.std.proofs.Common.{ℕ, ◌+◌, ◌/◌, ◌≤◌, ◌^◌, arith}
 use Rattle.dym_base.specs.HeapStep.{key}
-use Rattle.dym_chain.proofs.untold.first_difference.Goals as goal
+use Rattle.dym_chain.proofs.untold_chunks.first_difference.Goals as goal
 
 small_key : (k : ℕ) → k / 2 ^ 32 ≤ 16 → k + 1 ≤ 2 ^ 37
 small_key k within = omega (arith, within)
