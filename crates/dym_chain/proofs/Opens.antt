@@ -1,4 +1,4 @@
--- A chain with no log.
+-- A chain with no log, and one whose logs are read from its records.
 use Rattle.std.proofs.Common.{◌≡◌, ℕ, ◌≤◌, None, List, [], length, refl, sym, ap, subst, ◌∙◌, arith, map, take, drop}
 use Rattle.dym_base.specs.Heaps.{HeapState, held}
 use Rattle.dym_base.specs.Origins.{Origin}

@@ -1,4 +1,4 @@
--- The fields of a chain as logs are dropped.
+-- The fields of a chain as logs are dropped, and what stays below the kept ones.
 use Rattle.std.proofs.Common.{◌≡◌, ℕ, ◌+◌, ◌-◌, ◌<◌, ◌≤◌, List, [], ◌∷◌, ◌++◌, length, take, drop, get_or, sym, ap, subst, ◌∙◌, arith, length-append, zero, suc, inl, inr, true, false, ◌||◌, ◌==◌, refl}
 use Rattle.std.proofs.Math.Seq.{take-append_seam, take-append-add}
 use Rattle.std.proofs.lemmas.List.{length-map, length-take, get_or-take, drop-take}

@@ -27,7 +27,7 @@ use Rattle.dym_chain.proofs.chain.Chain.log.Goals.{After-refusal_of, After-depth
 use Rattle.dym_chain.proofs.chain.Chain.log.Goals as goal
 
 module _ (g : given.Over) (c : After-refusal_of g) where
-  abbrev pub whole : ChainMeaning
+  abbrev whole : ChainMeaning
   whole = chain_of c.self.inside.ghost_copies.copies (g.K.LogKeep.meaning c.self.inside.keep)
 
   entries : c.deref.result.now ≡ map entry_of whole.logs
