@@ -21,7 +21,7 @@ mod object;
 mod object_content;
 mod out_values;
 mod status;
-mod untold;
+mod untold_chunks;
 
 pub use handle::DymHandle;
 pub use object::DymObject;

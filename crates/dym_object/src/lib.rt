@@ -20,7 +20,7 @@ mod lent_object;
 mod log_calls;
 mod object;
 mod turn;
-mod untold;
+mod untold_chunks;
 
 pub use lent_object::LentObject;
 pub use object::Object;
