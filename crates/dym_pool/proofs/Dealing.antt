@@ -1,5 +1,5 @@
 -- Dealing from the last job to the first: of w places, job j comes to the place j % w.
-use Rattle.std.proofs.Common.{◌≡◌, ◌≢◌, ℕ, zero, suc, ◌+◌, ◌-◌, ◌*◌, ◌/◌, ◌%◌, ◌<◌, ◌≤◌, ⊎_elim, List, length, set, get_or, sym, subst, arith, suc-mul, mod-lt, div-add-mod', mul-le-mul_right, lt_of_mul-lt-mul_right, zero-mul, mul_comm, length-set, get_or-set_same, get_or-set_other}
+use Rattle.std.proofs.Common.{◌≡◌, ◌≢◌, ℕ, zero, suc, ◌+◌, ◌-◌, ◌*◌, ◌/◌, ◌%◌, ◌<◌, ◌≤◌, inl, inr, List, length, set, get_or, sym, subst, arith, suc-mul, mod-lt, div-add-mod', mul-le-mul_right, lt_of_mul-lt-mul_right, zero-mul, mul_comm, length-set, get_or-set_same, get_or-set_other}
 use Rattle.std.proofs.lemmas.Bool.{cases_eq}
 use Rattle.std.proofs.Math.Nat.{lt_of_mul-lt-mul_left}
 
@@ -68,8 +68,8 @@ module _ {X : Type 0} (size capacity : X → ℕ) where
         deals.1,
         rw (length-set xs place y) deals.2,
         λ k e l.
-            ⊎_elim
-            (λ (is : k ≡ place). rw (is, get_or-set_same, length-set xs place y) (omega (arith, here.0, same), subst (λ (n : ℕ). Due w deals.1 job place n) (sym more) one))
-            (λ (no : k ≢ place). let it = deals.3 k e (omega (arith, length-set xs place y)) in rw (get_or-set_other, length-set xs place y) (it.0, (it.1.0, omega (arith, it.1.1), it.1.2)))
-            (cases_eq k place),
+            elim (cases_eq k place) [
+              | inl is ↦ rw (is, get_or-set_same, length-set xs place y) (omega (arith, here.0, same), subst (λ (n : ℕ). Due w deals.1 job place n) (sym more) one)
+              | inr other ↦ let it = deals.3 k e (omega (arith, length-set xs place y)) in rw (get_or-set_other, length-set xs place y) (it.0, (it.1.0, omega (arith, it.1.1), it.1.2))
+            ],
       )

@@ -1,6 +1,6 @@
 -- The jobs of all shares are those of the list that was dealt.
-use Rattle.std.proofs.Common.{◌≡◌, ℕ, zero, suc, ◌+◌, ◌-◌, ◌<◌, ◌≤◌, inl, inr, ⊎_elim, Option, Some, None, List, [], ◌∷◌, ◌++◌, All, map, length, replicate, reverse, get_or, sym, refl, ap, ◌∙◌, subst, arith}
-use Rattle.std.proofs.lemmas.List.{map-append, length-map, length-replicate, reverse-append, reverse-reverse, same_lists}
+use Rattle.std.proofs.Common.{◌≡◌, ℕ, zero, suc, ◌+◌, ◌-◌, ◌<◌, ◌≤◌, inl, inr, Option, Some, None, List, [], ◌∷◌, ◌++◌, All, map, length, replicate, reverse, get_or, sym, refl, ap, ◌∙◌, subst, arith}
+use Rattle.std.proofs.lemmas.List.{get_or-map, map-append, length-map, length-replicate, reverse-append, reverse-reverse, same_lists}
 use Rattle.std.proofs.lemmas.Option.{none-some}
 use Rattle.std.proofs.lemmas.List.Elements.{All-append}
 use Rattle.std.specs.List.{flat_map}
@@ -11,6 +11,7 @@ use Rattle.std.specs.List.{AllZip}
 use Rattle.dym_pool.specs.Deques.{HasAll}
 use Rattle.dym_pool.specs.Holdings.{Holding, IsFinished}
 use Rattle.dym_pool.specs.Shares.{Has, SameElements, placed, standing, NumbersBelow, Gathered, ResultsEnded}
+use Rattle.dym_pool.proofs.Carrying.{map_reverse}
 use Rattle.dym_pool.proofs.Elements.{has-left, has-right, has-split}
 use Rattle.dym_pool.proofs.Places.{placed-append, placed-length, placed-right, placed-there, all-standing, Right}
 
@@ -37,11 +38,6 @@ module _ {A : Type 0} where
   element_at (y ∷ ys) zero l = (y, λ d. refl)
   element_at (y ∷ ys) (suc k) l = element_at ys k (omega arith)
 
-  map_at : {C : Type 0} (h : A → C) (xs : List A) (k : ℕ) (d : C) (e : A) → k < length xs → get_or (map h xs) k d ≡ h (get_or xs k e)
-  map_at h [] k d e l = absurd (omega arith)
-  map_at h (y ∷ ys) zero d e l = refl
-  map_at h (y ∷ ys) (suc k) d e l = map_at h ys k d e (omega arith)
-
 none_there : {B : Type 0} (n k : ℕ) (b : B) → get_or (replicate n None) k None ≡ Some b → ⊥
 none_there zero k b e = absurd (none-some b e)
 none_there (suc n) zero b e = absurd (none-some b e)
@@ -57,38 +53,44 @@ module _ {J O : Type 0} (number left : J → ℕ) (origin : J → O) where
   abbrev label : Box J Global → ℕ × O
   label b = (number b.value, origin b.value)
 
+  abbrev boxed_number : Box J Global → ℕ
+  boxed_number b = number b.value
+
   -- boxes with these labels fit
   pub boxes_fit : (bs : List (Box J Global)) (labels : List (ℕ × O)) (n : ℕ) → boxed_labels number origin bs ≡ labels → All (λ x. x.0 < n) labels → All (λ b. number b.value < n) bs
   boxes_fit bs labels n is all k d l =
       let there = subst (All (λ (x : ℕ × O). x.0 < n)) (sym is) all k (label d) (omega (arith, length-map bs label)) in
-      subst (λ (x : ℕ × O). x.0 < n) (map_at label bs k (label d) d l) there
+      subst (λ (x : ℕ × O). x.0 < n) (get_or-map label bs k d (label d) l) there
 
   -- one share's boxes more
   pub places_more : (labels hand : List (ℕ × O)) (before between after : List (Option (Box J Global))) (bs : List (Box J Global)) → ResultsEnded number left origin labels before between
-      → boxed_labels number origin bs ≡ hand → AllBoxedEnded left bs → after ≡ placed (λ b. number b.value) bs between → ResultsEnded number left origin (labels ++ hand) before after
+      → boxed_labels number origin bs ≡ hand → AllBoxedEnded left bs → after ≡ placed boxed_number bs between → ResultsEnded number left origin (labels ++ hand) before after
   places_more labels hand before between after bs p is ended then = (
     p.0 ++ bs,
     map-append label p.0 bs ∙ ap {B = List (ℕ × O)} (λ l. l ++ boxed_labels number origin bs) p.1 ∙ ap {B = List (ℕ × O)} (λ l. labels ++ l) is,
     All-append (λ b. left b.value ≡ 0) p.0 bs p.2 ended,
-    then ∙ ap (placed (λ (b : Box J Global). number b.value) bs) p.3 ∙ sym (placed-append (λ (b : Box J Global). number b.value) p.0 bs before),
+    then ∙ ap (placed boxed_number bs) p.3 ∙ sym (placed-append boxed_number p.0 bs before),
   )
 
   number_of_label : (bs : List (Box J Global)) (k : ℕ) (o : O) → Has (boxed_labels number origin bs) (k, o) → Has (map (λ b. number b.value) bs) k
   number_of_label [] k o h = h
-  number_of_label (b ∷ bs) k o h = ⊎_elim (λ (e : label b ≡ (k, o)). inl (ap (λ (p : ℕ × O). p.0) e)) (λ (t : Has (boxed_labels number origin bs) (k, o)). inr (number_of_label bs k o t)) h
+  number_of_label (b ∷ bs) k o h = elim h [
+    | inl e ↦ inl (ap (λ (p : ℕ × O). p.0) e)
+    | inr t ↦ inr (number_of_label bs k o t)
+  ]
 
   pub gathered : (bs : List (Box J Global)) (all : List (ℕ × O)) (n : ℕ) → boxed_labels number origin bs ≡ all → NumbersBelow n all → AllBoxedEnded left bs
-      → Gathered number left origin n all (unboxed (standing (placed (λ b. number b.value) bs (replicate n None))))
+      → Gathered number left origin n all (unboxed (standing (placed boxed_number bs (replicate n None))))
   gathered bs all n same names ended =
       let nothing : Option (Box J Global) = None in
       let Fits : Box J Global → Type 0 = λ b. Has all (label b) × (left b.value ≡ 0) in
-      let slots = placed (λ (b : Box J Global). number b.value) bs (replicate n None) in
+      let slots = placed boxed_number bs (replicate n None) in
       let fits : All Fits bs = λ k d l. (subst (λ (ls : List (ℕ × O)). Has ls (label (get_or bs k d))) same (has-at label bs k d l), ended k d l) in
-      let right : Right (λ (b : Box J Global). number b.value) Fits slots = placed-right (λ (b : Box J Global). number b.value) Fits bs (replicate n None) fits (λ k b e. absurd (none_there n k b e)) in
-      let long : length slots ≡ n = placed-length (λ (b : Box J Global). number b.value) bs (replicate n None) ∙ length-replicate n None in
+      let right : Right boxed_number Fits slots = placed-right boxed_number Fits bs (replicate n None) fits (λ k b e. absurd (none_there n k b e)) in
+      let long : length slots ≡ n = placed-length boxed_number bs (replicate n None) ∙ length-replicate n None in
       let there : (k : ℕ) → k < length slots → (b : Box J Global) × (get_or slots k None ≡ Some b) × ((number b.value ≡ k) × Fits b) = λ k l.
       let named = names.1 k (omega (arith, long)) in
-      let t = placed-there (λ (b : Box J Global). number b.value) bs (replicate n None) k (omega (arith, long, length-replicate n nothing)) (inl (number_of_label bs k named.0 (subst (λ (ls : List (ℕ × O)). Has ls (k, named.0)) (sym same) named.1))) in
+      let t = placed-there boxed_number bs (replicate n None) k (omega (arith, long, length-replicate n nothing)) (inl (number_of_label bs k named.0 (subst (λ (ls : List (ℕ × O)). Has ls (k, named.0)) (sym same) named.1))) in
       (t.0, t.1, right k t.0 t.1) in
       let stand = all-standing (λ k b. (number b.value ≡ k) × Fits b) slots there in (
         length-map (standing slots) (λ b. b.value) ∙ stand.0 ∙ long,
@@ -109,11 +111,15 @@ module _ {O : Type 0} where
       let same : y.list ≡ x.list = h.0.list in
       record {
         within = λ z t.
-            ⊎_elim (λ (a : Has y.hand z). has-left x.list lists z (subst (λ (l : List (ℕ × O)). Has l z) same (h.0.all.within z a))) (λ (b : Has hands z). has-right x.list lists z (rest.within z b))
-            (has-split y.hand hands z t);
+            elim (has-split y.hand hands z t) [
+              | inl a ↦ has-left x.list lists z (subst (λ (l : List (ℕ × O)). Has l z) same (h.0.all.within z a))
+              | inr b ↦ has-right x.list lists z (rest.within z b)
+            ];
         each = λ z t.
-            ⊎_elim (λ (a : Has x.list z). let r = h.0.all.each z (subst (λ (l : List (ℕ × O)). Has l z) (sym same) a) in (r.0, has-left y.hand hands (z.0, r.0) r.1)) (λ (b : Has lists z). let r = rest.each z b in (r.0, has-right y.hand hands (z.0, r.0) r.1))
-            (has-split x.list lists z t);
+            elim (has-split x.list lists z t) [
+              | inl a ↦ let r = h.0.all.each z (subst (λ (l : List (ℕ × O)). Has l z) (sym same) a) in (r.0, has-left y.hand hands (z.0, r.0) r.1)
+              | inr b ↦ let r = rest.each z b in (r.0, has-right y.hand hands (z.0, r.0) r.1)
+            ];
       }
 
   pub names_ended : (n : ℕ) (dealt ended : List (ℕ × O)) → HasAll dealt ended → NumbersBelow n dealt → NumbersBelow n ended
@@ -126,8 +132,13 @@ module _ {A : Type 0} where
   has-reversed : (xs : List A) (x : A) → Has (reverse xs) x → Has xs x
   has-reversed [] x h = h
   has-reversed (y ∷ ys) x h =
-      ⊎_elim (λ (t : Has (reverse ys) x). inr (has-reversed ys x t)) (λ (t : Has (y ∷ []) x). ⊎_elim (λ (e : y ≡ x). inl e) (λ (z : ⊥). absurd z) t)
-      (has-split (reverse ys) (y ∷ []) x (subst (λ (zs : List A). Has zs x) (reverse-append (y ∷ []) ys) h))
+      elim (has-split (reverse ys) (y ∷ []) x (subst (λ (zs : List A). Has zs x) (reverse-append (y ∷ []) ys) h)) [
+        | inl t ↦ inr (has-reversed ys x t)
+        | inr t ↦ elim t [
+          | inl e ↦ inl e
+          | inr z ↦ absurd z
+        ]
+      ]
 
   pub has-reverse : (xs : List A) (x : A) → Has xs x → Has (reverse xs) x
   has-reverse xs x h = has-reversed (reverse xs) x (subst (λ (zs : List A). Has zs x) (sym (reverse-reverse xs)) h)
@@ -140,23 +151,18 @@ module _ {J O : Type 0} (number left : J → ℕ) (origin : J → O) where
   placed_label : (jobs : List J) (m : ℕ) → ((k : ℕ) (d : J) → k < length jobs → number (get_or jobs k d) ≡ m + k) → (x : ℕ × O) → Has (map label_of jobs) x → (k : ℕ) × (k < length jobs) × ((d : J) → label_of (get_or jobs k d) ≡ x) × (x.0 ≡ m + k)
   placed_label [] m each x h = absurd h
   placed_label (j ∷ jobs) m each x h =
-      ⊎_elim (λ (e : label_of j ≡ x). (0, omega arith, (λ d. e), sym (ap (λ (p : ℕ × O). p.0) e) ∙ each 0 j (omega arith)))
-      (λ (t : Has (map label_of jobs) x).
-      let r = placed_label jobs (m + 1) (λ k d l. let e = each (suc k) d (omega arith) in omega arith) x t in
-      (suc r.0, omega (arith, r.1), r.2, omega (arith, r.3))) h
+      elim h [
+        | inl e ↦ (0, omega arith, (λ d. e), sym (ap (λ (p : ℕ × O). p.0) e) ∙ each 0 j (omega arith))
+        | inr t ↦ let r = placed_label jobs (m + 1) (λ k d l. let e = each (suc k) d (omega arith) in omega arith) x t in
+            (suc r.0, omega (arith, r.1), r.2, omega (arith, r.3))
+      ]
 
   labels_unboxed : (boxes : List (Box J Global)) → map label_of (unboxed boxes) ≡ boxed_labels number origin boxes
   labels_unboxed [] = refl
   labels_unboxed (b ∷ bs) = ap {B = List (ℕ × O)} (λ l. label_of b.value ∷ l) (labels_unboxed bs)
 
-  labels_reversed : (jobs : List J) → map label_of (reverse jobs) ≡ reverse (map label_of jobs)
-  labels_reversed [] = refl
-  labels_reversed (j ∷ jobs) =
-      ap (map label_of) (reverse-append (j ∷ []) jobs) ∙ map-append label_of (reverse jobs) (j ∷ []) ∙ ap {B = List (ℕ × O)} (λ l. l ++ label_of j ∷ []) (labels_reversed jobs)
-      ∙ sym (reverse-append (label_of j ∷ []) (map label_of jobs))
-
   packed_labels : (jobs : List J) (boxes : List (Box J Global)) → unboxed boxes ≡ reverse jobs → boxed_labels number origin boxes ≡ reverse (map label_of jobs)
-  packed_labels jobs boxes packed = sym (labels_unboxed boxes) ∙ ap (map label_of) packed ∙ labels_reversed jobs
+  packed_labels jobs boxes packed = sym (labels_unboxed boxes) ∙ ap (map label_of) packed ∙ map_reverse label_of jobs
 
   pub numbers_below : (jobs : List J) (boxes : List (Box J Global)) (dealt : List (ℕ × O)) → Numbered number jobs → unboxed boxes ≡ reverse jobs → SameElements dealt (boxed_labels number origin boxes) → NumbersBelow (length jobs) dealt
   numbers_below jobs boxes dealt numbered packed same =
@@ -185,7 +191,7 @@ module _ {J O : Type 0} (number left : J → ℕ) (origin : J → O) where
             let a = get_or after k it.0 in
             let r = placed_label jobs 0 (λ k d l. let e = numbered k d l in omega arith) (label_of a) (has-reversed (map label_of jobs) (label_of a) (subst (λ (l : List (ℕ × O)). Has l (label_of a)) is (same.1 (label_of a) (g.1 k it.0 m).1))) in
             let here : r.0 ≡ k = let n = (g.1 k it.0 m).0 in omega (arith, r.3) in
-            map_at label_of after k d it.0 (omega (arith, g.0)) ∙ sym (r.2 it.0) ∙ ap (λ (n : ℕ). label_of (get_or jobs n it.0)) here ∙ sym (map_at label_of jobs k d it.0 m)),
+            get_or-map label_of after k it.0 d (omega (arith, g.0)) ∙ sym (r.2 it.0) ∙ ap (λ (n : ℕ). label_of (get_or jobs n it.0)) here ∙ sym (get_or-map label_of jobs k it.0 d m)),
         (λ k d l. (g.1 k d (omega (arith, g.0))).2),
       )
 

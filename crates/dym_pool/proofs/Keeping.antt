@@ -5,6 +5,14 @@ use Rattle.dym_pool.specs.Holdings.{Holding, KeepsShare, KeepsWay, IsGuest, IsRe
 use Rattle.dym_pool.proofs.Zips.{Back, zip-refl, zip-set, zip-trans, zip-under, zip-all, zip-at, zip-mid, zip-length}
 
 module _ {O : Type 0} where
+  -- the same list and the same part
+  abbrev SameLoad : Holding O → Holding O → Type 0
+  SameLoad a b = (b.part ≡ a.part) × (b.list ≡ a.list)
+
+  -- all parts of a share are here
+  abbrev HasAllParts : Holding O → Type 0
+  HasAllParts s = s.part ≡ 65
+
   pub keeps_same : (x : Holding O) → KeepsShare x x
   keeps_same x = record { deque = refl; list = refl; part = refl }
 
@@ -66,16 +74,17 @@ module _ {O : Type 0} where
   reach_parts shares row z k d l = let it = zip-at IsReach shares row k d d z (omega (arith, zip-length IsReach shares row z)) in omega (arith, it.part)
 
   -- lent, kept and joined again, a share has its list and all its parts
-  pub crew_whole : (n : ℕ) (first lent kept joined : List (Holding O)) → AllZip (Lends n) first lent → AllZip KeepsShare lent kept → AllZip (Joins n) kept joined → AllZip (λ a b. (b.part ≡ a.part) × (b.list ≡ a.list)) first joined
+  pub crew_whole : (n : ℕ) (first lent kept joined : List (Holding O)) → AllZip (Lends n) first lent → AllZip KeepsShare lent kept → AllZip (Joins n) kept joined → AllZip SameLoad first joined
   crew_whole n first lent kept joined l k j =
-      let half : AllZip (Lends n) first lent → AllZip (λ a b. (b.part + n ≡ a.part) × (b.list ≡ a.list)) first kept = λ z. zip-trans (Lends n) KeepsShare (λ a b. (b.part + n ≡ a.part) × (b.list ≡ a.list)) first lent kept (λ x y w p q. (omega (arith, p.part, q.part), q.list ∙ p.list)) z k in
-      zip-trans (λ a b. (b.part + n ≡ a.part) × (b.list ≡ a.list)) (Joins n) (λ a b. (b.part ≡ a.part) × (b.list ≡ a.list)) first kept joined (λ x y w p q. (omega (arith, p.0, q.part), q.list ∙ p.1)) (half l) j
+      let LessBy : Holding O → Holding O → Type 0 = λ a b. (b.part + n ≡ a.part) × (b.list ≡ a.list) in
+      let half = zip-trans (Lends n) KeepsShare LessBy first lent kept (λ x y w p q. (omega (arith, p.part, q.part), q.list ∙ p.list)) l k in
+      zip-trans LessBy (Joins n) SameLoad first kept joined (λ x y w p q. (omega (arith, p.0, q.part), q.list ∙ p.1)) half j
 
-  pub whole_again : (first joined : List (Holding O)) → AllZip (λ a b. (b.part ≡ a.part) × (b.list ≡ a.list)) first joined → All (λ s. s.part ≡ 65) first → All (λ s. s.part ≡ 65) joined
-  whole_again first joined z = zip-all (λ a b. (b.part ≡ a.part) × (b.list ≡ a.list)) (λ s. s.part ≡ 65) (λ s. s.part ≡ 65) first joined (λ x y p q. p.0 ∙ q) z
+  pub whole_again : (first joined : List (Holding O)) → AllZip SameLoad first joined → All HasAllParts first → All HasAllParts joined
+  whole_again first joined z = zip-all SameLoad HasAllParts HasAllParts first joined (λ x y p q. p.0 ∙ q) z
 
-  pub finished_again : (first joined finished : List (Holding O)) → AllZip (λ a b. (b.part ≡ a.part) × (b.list ≡ a.list)) first joined → AllZip IsFinished joined finished → AllZip IsFinished first finished
-  finished_again first joined finished z f = zip-trans (λ a b. (b.part ≡ a.part) × (b.list ≡ a.list)) IsFinished IsFinished first joined finished (λ x y w p q. record { list = q.list ∙ p.1; all = q.all }) z f
+  pub finished_again : (first joined finished : List (Holding O)) → AllZip SameLoad first joined → AllZip IsFinished joined finished → AllZip IsFinished first finished
+  finished_again first joined finished z f = zip-trans SameLoad IsFinished IsFinished first joined finished (λ x y w p q. record { list = q.list ∙ p.1; all = q.all }) z f
 
   -- after the run the rows are reaches to the shares that come back
   pub rows_after : {V : Type 0} (items : V → List (Holding O)) (n : ℕ) (first lent kept : List (Holding O)) (rows after : List V) → AllZip (Lends n) first lent → AllZip KeepsShare lent kept → AllZip (λ v w. AllZip KeepsShare (items v) (items w)) rows after
@@ -91,5 +100,5 @@ module _ {O : Type 0} where
   guests_after items opened dealt rows ways guests k d l =
       zip-under KeepsWay IsGuest IsGuest opened dealt (items (get_or rows k d)) (λ x y r w h. record { deque = h.deque ∙ sym w.deque; hand = h.hand; room = h.room ∙ sym w.room }) ways (guests k d l)
 
-  pub ways_whole : (opened dealt : List (Holding O)) → AllZip KeepsWay opened dealt → All (λ s. s.part ≡ 65) opened → All (λ s. s.part ≡ 65) dealt
-  ways_whole opened dealt z = zip-all KeepsWay (λ s. s.part ≡ 65) (λ s. s.part ≡ 65) opened dealt (λ x y p q. p.part ∙ q) z
+  pub ways_whole : (opened dealt : List (Holding O)) → AllZip KeepsWay opened dealt → All HasAllParts opened → All HasAllParts dealt
+  ways_whole opened dealt z = zip-all KeepsWay HasAllParts HasAllParts opened dealt (λ x y p q. p.part ∙ q) z

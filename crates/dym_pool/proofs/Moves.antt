@@ -1,5 +1,5 @@
 -- Each kind of step keeps the rule of one deque.
-use Rattle.std.proofs.Common.{◌≡◌, ◌≢◌, ℕ, zero, suc, ◌+◌, ◌-◌, ◌<◌, ◌≤◌, List, [], ◌∷◌, ◌++◌, map, length, set, sum_by, sym, refl, ap, ◌∙◌, subst, inl, inr, ⊎_elim, arith}
+use Rattle.std.proofs.Common.{◌≡◌, ◌≢◌, ℕ, zero, suc, ◌+◌, ◌-◌, ◌<◌, ◌≤◌, List, [], ◌∷◌, ◌++◌, map, length, set, sum_by, sym, refl, ap, ◌∙◌, subst, inl, inr, arith}
 use Rattle.std.proofs.lemmas.List.{map-append}
 use Rattle.std.proofs.lemmas.List.Sums.{sum_by-cons, sum_by-append}
 use mathlib.Core.Option.{some, some-ne-none}
@@ -23,11 +23,11 @@ module _ {O : Type 0} where
   Holds list v = Within list v.hand
 
   known_list : (list : List (ℕ × O)) (v : ShareView O) → Knows list v → 0 < v.part → v.list ≡ list
-  known_list list v k much = ⊎_elim (λ (e : v ≡ spent). let z : v.part ≡ 0 = ap part_of e in absurd (omega arith)) (λ (e : (v.list ≡ list) × (0 < v.part)). e.0) k
+  known_list list v k much = elim k [ inl e ↦ let z : v.part ≡ 0 = ap part_of e in absurd (omega arith) | inr e ↦ e.0 ]
 
   -- what is spent holds nothing
   nothing_held : (list : List (ℕ × O)) (h : ℕ × O → ℕ) (v : ShareView O) → Knows list v → v.part ≡ 0 → weight h v ≡ 0
-  nothing_held list h v k none = ⊎_elim (λ (e : v ≡ spent). ap (weight h) e) (λ (e : (v.list ≡ list) × (0 < v.part)). let p = e.1 in absurd (omega arith)) k
+  nothing_held list h v k none = elim k [ inl e ↦ ap (weight h) e | inr e ↦ let p = e.1 in absurd (omega arith) ]
 
   -- the parts of two are in the whole
   two_parts : (views : List (ShareView O)) (i j : ℕ) (v u : ShareView O) → IsViewAt views i v → IsViewAt views j u → j ≢ i → part_of v + part_of u ≤ sum_by part_of views
@@ -37,7 +37,7 @@ module _ {O : Type 0} where
       omega arith
 
   within_both : (list xs ys : List (ℕ × O)) → Within list xs → Within list ys → Within list (xs ++ ys)
-  within_both list xs ys a b x h = ⊎_elim (λ (l : Has xs x). a x l) (λ (r : Has ys x). b x r) (has-split xs ys x h)
+  within_both list xs ys a b x h = elim (has-split xs ys x h) [ inl l ↦ a x l | inr r ↦ b x r ]
 
   only_first : (j : ℕ) (u : ShareView O) → j ≢ 0 → get_elem? (first_share ∷ []) j ≡ some u → ⊥
   only_first zero u n e = n refl
@@ -68,11 +68,16 @@ module _ {O : Type 0} where
                 omega (arith, sum_by-append h (map label items) (map label xs), sum_by-append h r.list (map label xs));
             held = each-set (Holds list) views pass w (λ x h. has-left r.list (map label xs) x (r.held pass v at x h)) (λ j u n e x h. has-left r.list (map label xs) x (r.held j u e x h));
             queued = λ x h.
-                ⊎_elim (λ (l : Has (map label items) x). has-left r.list (map label xs) x (r.queued x l)) (λ (l : Has (map label xs) x). has-right r.list (map label xs) x l)
-                (has-split (map label items) (map label xs) x (subst (λ (l : List (ℕ × O)). Has l x) (map-append label items xs) h));
+                elim (has-split (map label items) (map label xs) x (subst (λ (l : List (ℕ × O)). Has l x) (map-append label items xs) h)) [
+                  | inl l ↦ has-left r.list (map label xs) x (r.queued x l)
+                  | inr l ↦ has-right r.list (map label xs) x l
+                ];
             whole = let s = sum-set part_of views pass v w at in let c = r.whole in omega arith;
             known = each-set (Knows list) views pass w (inr (ap (λ (l : List (ℕ × O)). l ++ map label xs) same, omega arith))
-                (λ j u n e. ⊎_elim (λ (x : u ≡ spent). inl x) (λ (x : (u.list ≡ r.list) × (0 < u.part)). let o = two_parts views pass j v u at e n in let c = r.whole in let p = x.1 in absurd (omega arith)) (r.known j u e));
+                (λ j u n e. elim (r.known j u e) [
+                  | inl x ↦ inl x
+                  | inr x ↦ let o = two_parts views pass j v u at e n in let c = r.whole in let p = x.1 in absurd (omega arith)
+                ]);
           },
           refl,
         )

@@ -1,14 +1,11 @@
 -- Boxes that are put at the places of their numbers.
-use Rattle.std.proofs.Common.{◌≡◌, ◌≢◌, ℕ, zero, suc, ◌<◌, ◌≤◌, ◌⊎◌, inl, inr, ⊎_elim, Option, Some, None, List, [], ◌∷◌, ◌++◌, map, length, set, get_or, sym, refl, ap, ◌∙◌, subst, arith, append_assoc, append-nil, length-set, get_or-set_same, get_or-set_other}
-use Rattle.std.proofs.lemmas.Bool.{cases_eq, cases_order}
+use Rattle.std.proofs.Common.{◌≡◌, ◌≢◌, ℕ, zero, suc, ◌<◌, ◌≤◌, ◌⊎◌, inl, inr, Option, Some, None, List, [], ◌∷◌, ◌++◌, map, length, set, get_or, sym, refl, ap, ◌∙◌, subst, arith, append_assoc, append-nil, length-set, get_or-set_same, get_or-set_other}
+use Rattle.std.proofs.lemmas.Bool.{cases_eq, cases_lt}
 use Rattle.std.proofs.lemmas.List.{set_past}
 use Rattle.std.proofs.lemmas.Option.{same_Some}
 use Rattle.std.specs.List.{flat_map}
 use Rattle.std.specs.Option.{option_to_list}
 use Rattle.dym_pool.specs.Shares.{Has, placed, standing}
-
-lt_or_le : (a b : ℕ) → (a < b) ⊎ (b ≤ a)
-lt_or_le a b = ⊎_elim (λ (e : a ≡ b). inr (omega arith)) (λ (o : (a < b) ⊎ (b < a)). ⊎_elim (λ (l : a < b). inl l) (λ (l : b < a). inr (omega arith)) o) (cases_order a b)
 
 module _ {X A : Type 0} (f : X → List A) where
   pub flat-push : (xs : List X) (x : X) → flat_map f (xs ++ x ∷ []) ≡ flat_map f xs ++ f x
@@ -34,14 +31,14 @@ module _ {B : Type 0} (number : B → ℕ) where
 
     right_set : (slots : List (Option B)) (b : B) → Fits b → Right slots → Right (set slots (number b) (Some b))
     right_set slots b fits right k c is =
-        ⊎_elim
-        (λ (same : k ≡ number b).
-        ⊎_elim
-        (λ (inside : number b < length slots).
-        let e : Some b ≡ Some c = sym (get_or-set_same slots (number b) (Some b) None inside) ∙ ap (λ (n : ℕ). get_or (set slots (number b) (Some b)) n None) (sym same) ∙ is in
-        let it : b ≡ c = same_Some b c e in (ap number (sym it) ∙ sym same, subst Fits it fits))
-        (λ (out : length slots ≤ number b). right k c (ap (λ (s : List (Option B)). get_or s k None) (sym (set_past slots (number b) (Some b) out)) ∙ is)) (lt_or_le (number b) (length slots)))
-        (λ (other : k ≢ number b). right k c (sym (get_or-set_other slots (number b) k (Some b) None other) ∙ is)) (cases_eq k (number b))
+        elim (cases_eq k (number b)) [
+          | inl same ↦ elim (cases_lt (number b) (length slots)) [
+            | inl inside ↦ let e : Some b ≡ Some c = sym (get_or-set_same slots (number b) (Some b) None inside) ∙ ap (λ (n : ℕ). get_or (set slots (number b) (Some b)) n None) (sym same) ∙ is in
+                let it : b ≡ c = same_Some b c e in (ap number (sym it) ∙ sym same, subst Fits it fits)
+            | inr out ↦ right k c (ap (λ (s : List (Option B)). get_or s k None) (sym (set_past slots (number b) (Some b) out)) ∙ is)
+          ]
+          | inr other ↦ right k c (sym (get_or-set_other slots (number b) k (Some b) None other) ∙ is)
+        ]
 
     pub placed-right : (bs : List B) (slots : List (Option B)) → ((k : ℕ) (d : B) → k < length bs → Fits (get_or bs k d)) → Right slots → Right (placed number bs slots)
     placed-right [] slots fits right = right
@@ -53,19 +50,20 @@ module _ {B : Type 0} (number : B → ℕ) where
 
   there_set : (slots : List (Option B)) (b : B) (k : ℕ) → k < length slots → (number b ≡ k) ⊎ There slots k → There (set slots (number b) (Some b)) k
   there_set slots b k l h =
-      ⊎_elim (λ (same : number b ≡ k). (b, ap (λ (n : ℕ). get_or (set slots (number b) (Some b)) n None) (sym same) ∙ get_or-set_same slots (number b) (Some b) None (omega arith)))
-      (λ (other : number b ≢ k).
-      ⊎_elim (λ (same : number b ≡ k). absurd (other same)) (λ (t : There slots k). (t.0, get_or-set_other slots (number b) k (Some b) None (λ (e : k ≡ number b). other (sym e)) ∙ t.1)) h)
-      (cases_eq (number b) k)
+      elim (cases_eq (number b) k) [
+        | inl same ↦ (b, ap (λ (n : ℕ). get_or (set slots (number b) (Some b)) n None) (sym same) ∙ get_or-set_same slots (number b) (Some b) None (omega arith))
+        | inr other ↦ elim h [
+          | inl same ↦ absurd (other same)
+          | inr t ↦ (t.0, get_or-set_other slots (number b) k (Some b) None (λ (e : k ≡ number b). other (sym e)) ∙ t.1)
+        ]
+      ]
 
   pub placed-there : (bs : List B) (slots : List (Option B)) (k : ℕ) → k < length slots → Has (map number bs) k ⊎ There slots k → There (placed number bs slots) k
-  placed-there [] slots k l h = ⊎_elim (λ (z : ⊥). absurd z) (λ (t : There slots k). t) h
+  placed-there [] slots k l h = elim h [ inl z ↦ absurd z | inr t ↦ t ]
   placed-there (b ∷ bs) slots k l h =
       let there = there_set slots b k l in
       placed-there bs (set slots (number b) (Some b)) k (omega (arith, length-set slots (number b) (Some b)))
-      (⊎_elim
-      (λ (t : (number b ≡ k) ⊎ Has (map number bs) k). ⊎_elim (λ (e : number b ≡ k). inr (there (inl e))) (λ (o : Has (map number bs) k). inl o) t)
-      (λ (t : There slots k). inr (there (inr t))) h)
+      (elim h [ inl t ↦ elim t [ inl e ↦ inr (there (inl e)) | inr o ↦ inl o ] | inr t ↦ inr (there (inr t)) ])
 
 module _ {B : Type 0} where
   at-each : (b : B) (bs : List B) (n : ℕ) (P : ℕ → B → Type 0) → P 0 b → ((k : ℕ) (d : B) → k < n → P (suc k) (get_or bs k d)) → (k : ℕ) (d : B) → k < suc n → P k (get_or (b ∷ bs) k d)

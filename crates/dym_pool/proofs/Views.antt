@@ -1,5 +1,5 @@
 -- Sums over all views of a deque, and what a change of one view does to them.
-use Rattle.std.proofs.Common.{◌≡◌, ◌≢◌, ℕ, zero, suc, ◌+◌, ◌<◌, ◌≤◌, ◌⊎◌, inl, inr, List, [], ◌∷◌, ◌++◌, length, set, sum_by, refl, sym, ap, subst, ⊎_elim, arith, if◌then◌else◌, Bool, true, false}
+use Rattle.std.proofs.Common.{◌≡◌, ◌≢◌, ℕ, zero, suc, ◌+◌, ◌<◌, ◌≤◌, ◌⊎◌, inl, inr, List, [], ◌∷◌, ◌++◌, length, set, sum_by, refl, sym, ap, subst, arith, if◌then◌else◌, Bool, true, false}
 use mathlib.Core.Option.{some, some-injective, some-ne-none}
 use lib.ListN.{get_elem?}
 use Rattle.std.proofs.lemmas.Bool.Decides.{eqb_tells}
@@ -52,12 +52,12 @@ module _ {V : Type 0} where
   -- a fact of each view after one was set
   pub each-set : (F : V → Type 0) (views : List V) (pass : ℕ) (w : V) → F w → ((other : ℕ) (u : V) → other ≢ pass → get_elem? views other ≡ some u → F u) → Each F (set views pass w)
   each-set F views pass w mine others j u e =
-      ⊎_elim (λ (x : (j ≡ pass) × (w ≡ u)). subst F x.1 mine) (λ (x : (j ≢ pass) × (get_elem? views j ≡ some u)). others j u x.0 x.1) (at_set views pass j w u e)
+      elim (at_set views pass j w u e) [ inl x ↦ subst F x.1 mine | inr x ↦ others j u x.0 x.1 ]
 
   -- a fact of each view with one more
   pub each-push : (F : V → Type 0) (views : List V) (w : V) → F w → Each F views → Each F (views ++ w ∷ [])
   each-push F views w mine others j u e =
-      ⊎_elim (λ (x : get_elem? views j ≡ some u). others j u x) (λ (x : w ≡ u). subst F x mine) (at_snoc views w u j e)
+      elim (at_snoc views w u j e) [ inl x ↦ others j u x | inr x ↦ subst F x mine ]
 
   -- the length as a weighing
   pub sum-one : (xs : List V) → sum_by (λ _. 1) xs ≡ length xs
@@ -71,22 +71,29 @@ module _ {O : Type 0} where
 
   number_counts : (k : ℕ) (x : ℕ × O) → ((has_number k x ≡ 1) × (x.0 ≡ k)) ⊎ ((has_number k x ≡ 0) × (x.0 ≢ k))
   number_counts k x =
-      ⊎_elim (λ (e : (eqb x.0 k ≡ true) × (x.0 ≡ k)). inl (ap (λ (b : Bool). if b then 1 else 0) e.0, e.1))
-      (λ (e : (eqb x.0 k ≡ false) × (x.0 ≢ k)). inr (ap (λ (b : Bool). if b then 1 else 0) e.0, e.1)) (eqb_tells x.0 k)
+      elim (eqb_tells x.0 k) [
+        | inl e ↦ inl (ap (λ (b : Bool). if b then 1 else 0) e.0, e.1)
+        | inr e ↦ inr (ap (λ (b : Bool). if b then 1 else 0) e.0, e.1)
+      ]
 
   -- one that is there weighs something
   pub there_weighs : (xs : List (ℕ × O)) (x : ℕ × O) → Has xs x → 0 < sum_by (has_number x.0) xs
   there_weighs [] x h = absurd h
   there_weighs (y ∷ ys) x h =
-      ⊎_elim
-      (λ (e : y ≡ x).
-      let n : y.0 ≡ x.0 = ap (λ (p : ℕ × O). p.0) e in
-      ⊎_elim (λ (c : (has_number x.0 y ≡ 1) × (y.0 ≡ x.0)). omega (arith, sum_by-cons (has_number x.0) y ys, c.0)) (λ (c : (has_number x.0 y ≡ 0) × (y.0 ≢ x.0)). absurd (c.1 n)) (number_counts x.0 y))
-      (λ (t : Has ys x). let r = there_weighs ys x t in omega (arith, sum_by-cons (has_number x.0) y ys)) h
+      elim h [
+        | inl e ↦ let n : y.0 ≡ x.0 = ap (λ (p : ℕ × O). p.0) e in
+            elim (number_counts x.0 y) [
+              | inl c ↦ omega (arith, sum_by-cons (has_number x.0) y ys, c.0)
+              | inr c ↦ absurd (c.1 n)
+            ]
+        | inr t ↦ let r = there_weighs ys x t in omega (arith, sum_by-cons (has_number x.0) y ys)
+      ]
 
   -- where something weighs, there is one of that number
   pub weighs_there : (k : ℕ) (xs : List (ℕ × O)) → 0 < sum_by (has_number k) xs → (o : O) × Has xs (k, o)
   weighs_there k [] l = absurd (omega arith)
   weighs_there k (y ∷ ys) l =
-      ⊎_elim (λ (c : (has_number k y ≡ 1) × (y.0 ≡ k)). (y.1, inl (λ i. (c.1 i, y.1))))
-      (λ (c : (has_number k y ≡ 0) × (y.0 ≢ k)). let r = weighs_there k ys (omega (arith, sum_by-cons (has_number k) y ys, c.0)) in (r.0, inr r.1)) (number_counts k y)
+      elim (number_counts k y) [
+        | inl c ↦ (y.1, inl (λ i. (c.1 i, y.1)))
+        | inr c ↦ let r = weighs_there k ys (omega (arith, sum_by-cons (has_number k) y ys, c.0)) in (r.0, inr r.1)
+      ]

@@ -13,7 +13,8 @@ use crate::own_share::OwnShare;
 pub(crate) fn distribute<R, J: Job<R> + Drop>(shares: &mut Vec<OwnShare<R, J>>, boxes: Vec<Box<J>>)
     requires room { (room : ℕ)
         × (vec_len boxes < vec_len shares.old * room)
-        × All (λ s. (s.list ≡ []) × (s.part ≡ 65) × (s.pushed ≡ 0) × (s.room ≡ room)) shares.old.items }
+        × All (λ s. (s.list ≡ []) × (s.part ≡ 65) × (s.pushed ≡ 0) × (s.room ≡ room))
+        shares.old.items }
     ensures dealt { SameElements (flat_map (λ s. s.list) shares.new.items)
         (boxed_labels J.number_of J.origin_of boxes.items) }
     ensures ways { AllZip KeepsWay shares.old.items shares.new.items }

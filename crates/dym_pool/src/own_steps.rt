@@ -136,15 +136,18 @@ fn turn_once<R, J: Job<R>, G: Gate>(
 ) -> Option<Box<J>>
     requires part { 0 < (worker_view deque.old).part }
     requires held { (rest : List (ℕ × J.Origin))
-        × ((worker_view deque.old).hand ≡ rest ++ (J.number_of boxed.value, J.origin_of boxed.value) ∷ []) }
+        × ((worker_view deque.old).hand ≡ rest
+        ++ (J.number_of boxed.value, J.origin_of boxed.value) ∷ []) }
     ensures same { SameWorker deque.old deque.new }
     ensures list { (worker_view deque.new).list ≡ (worker_view deque.old).list }
     ensures part { (worker_view deque.new).part ≡ (worker_view deque.old).part }
     ensures hand { MatchOption result
-        ((worker_view deque.old).hand ≡ (worker_view deque.new).hand ++ (J.number_of boxed.value, J.origin_of boxed.value) ∷ [])
+        ((worker_view deque.old).hand ≡ (worker_view deque.new).hand
+        ++ (J.number_of boxed.value, J.origin_of boxed.value) ∷ [])
         (λ b. (worker_view deque.new).hand ≡ (worker_view deque.old).hand) }
     ensures ended { MatchOption result ⊤
-        (λ b. (J.number_of b.value ≡ J.number_of boxed.value) × (J.origin_of b.value ≡ J.origin_of boxed.value) × (J.left_of b.value ≡ 0)) }
+        (λ b. (J.number_of b.value ≡ J.number_of boxed.value)
+        × (J.origin_of b.value ≡ J.origin_of boxed.value) × (J.left_of b.value ≡ 0)) }
 {
     if boxed.left() > 0 {
         take_turn(rt, gate, worker, &mut *boxed);
@@ -171,13 +174,15 @@ fn finish_all<R, J: Job<R>, G: Gate>(
 )
     requires last_out { worker_flavor deque.old ≡ 1 }
     requires whole { (worker_view deque.old).part ≡ 65 }
-    requires hand { boxed_labels J.number_of J.origin_of ended.old.items ≡ (worker_view deque.old).hand }
+    requires hand { boxed_labels J.number_of J.origin_of ended.old.items
+        ≡ (worker_view deque.old).hand }
     requires room { length (worker_view deque.old).list ≤ vec_capacity ended.old }
     requires ended { AllBoxedEnded J.left_of ended.old.items }
     ensures same { SameWorker deque.old deque.new }
     ensures list { (worker_view deque.new).list ≡ (worker_view deque.old).list }
     ensures part { (worker_view deque.new).part ≡ 65 }
-    ensures hand { boxed_labels J.number_of J.origin_of ended.new.items ≡ (worker_view deque.new).hand }
+    ensures hand { boxed_labels J.number_of J.origin_of ended.new.items
+        ≡ (worker_view deque.new).hand }
     ensures room { vec_capacity ended.new ≡ vec_capacity ended.old }
     ensures ended { AllBoxedEnded J.left_of ended.new.items }
     ensures all { HasAll (worker_view deque.new).list (worker_view deque.new).hand }

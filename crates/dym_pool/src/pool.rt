@@ -61,7 +61,8 @@ fn run_with<R: Threads + Wait + Send + Sync, J: Job<R> + Drop, G: Gate>(
     requires numbered { Numbered J.number_of jobs.old.items }
     requires some { 0 < workers }
     requires most { workers ≤ 64 }
-    ensures back { OnOk result (EveryJobBack J.number_of J.left_of J.origin_of jobs.old.items jobs.new.items) }
+    ensures back { OnOk result
+        (EveryJobBack J.number_of J.left_of J.origin_of jobs.old.items jobs.new.items) }
     ensures unchanged { OnErr result (jobs.new.items ≡ jobs.old.items) }
 {
     let count = jobs.len();

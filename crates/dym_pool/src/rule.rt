@@ -24,7 +24,8 @@ pub struct ShareRule<R, J> {
 impl<R, J: Job<R>> Protocol<Box<J>, ShareView<J::Origin>> for ShareRule<R, J> {
     ghost use Rattle.dym_pool.specs.Deques.{InOneHand, first_share, spent};
 
-    ghost holds = { λ items views. InOneHand (λ b. (J.number_of b.value, J.origin_of b.value)) items views };
+    ghost holds = { λ items views. InOneHand
+        (λ b. (J.number_of b.value, J.origin_of b.value)) items views };
 
     ghost first = { first_share };
 
@@ -41,7 +42,8 @@ impl<R, J: Job<R>> Outcome<Box<J>, ShareView<J::Origin>> for Loads<R, J> {
     ghost use Rattle.dym_pool.specs.Jobs.{boxed_labels};
     ghost use Rattle.dym_pool.specs.Deques.{share_view};
 
-    ghost then = { λ v bs w. w ≡ share_view (v.list ++ boxed_labels J.number_of J.origin_of bs) v.hand v.part };
+    ghost then = { λ v bs w. w
+        ≡ share_view (v.list ++ boxed_labels J.number_of J.origin_of bs) v.hand v.part };
 }
 
 /// Takes the job that was put last into one's own deque.

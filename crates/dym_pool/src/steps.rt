@@ -41,7 +41,8 @@ pub(crate) fn load<R, J: Job<R> + Drop>(deque: &mut ShareDeque<R, J, J::Origin>,
     ensures same { SameWorker deque.old deque.new }
     ensures index { worker_index deque.new ≡ worker_index deque.old + 1 }
     ensures loaded { worker_view deque.new
-        ≡ share_view ((worker_view deque.old).list ++ (J.number_of boxed.value, J.origin_of boxed.value) ∷ [])
+        ≡ share_view ((worker_view deque.old).list
+        ++ (J.number_of boxed.value, J.origin_of boxed.value) ∷ [])
         (worker_view deque.old).hand (worker_view deque.old).part }
 {
     let Ok(()) = deque.push_as::<Loads<R, J>>(boxed) else {
@@ -56,7 +57,8 @@ pub(crate) fn take_last<R, J: Job<R>>(deque: &mut ShareDeque<R, J, J::Origin>) -
     ensures same { SameWorker deque.old deque.new }
     ensures taken { MatchOption result
         ((worker_view deque.new ≡ worker_view deque.old) × HasAllAtLast (worker_view deque.old))
-        (λ b. IsTaking ((J.number_of b.value, J.origin_of b.value) ∷ []) (worker_view deque.old) (worker_view deque.new)) }
+        (λ b. IsTaking ((J.number_of b.value, J.origin_of b.value) ∷ []) (worker_view deque.old)
+        (worker_view deque.new)) }
 {
     deque.pop_as::<Takes<R, J>>()
 }
@@ -68,10 +70,12 @@ pub(crate) fn hand_back<R, J: Job<R>>(
 ) -> Result<(), Box<J>>
     requires part { 0 < (worker_view deque.old).part }
     requires held { (rest : List (ℕ × J.Origin))
-        × ((worker_view deque.old).hand ≡ rest ++ (J.number_of boxed.value, J.origin_of boxed.value) ∷ []) }
+        × ((worker_view deque.old).hand ≡ rest
+        ++ (J.number_of boxed.value, J.origin_of boxed.value) ∷ []) }
     ensures same { SameWorker deque.old deque.new }
     ensures returned { MatchResult result
-        (λ _. IsReturn ((J.number_of boxed.value, J.origin_of boxed.value) ∷ []) (worker_view deque.old) (worker_view deque.new))
+        (λ _. IsReturn ((J.number_of boxed.value, J.origin_of boxed.value) ∷ [])
+        (worker_view deque.old) (worker_view deque.new))
         (λ b. (b ≡ boxed) × (worker_view deque.new ≡ worker_view deque.old)) }
 {
     deque.push_as::<Returns<R, J>>(boxed)
@@ -85,8 +89,10 @@ pub(crate) fn steal_front<R, J: Job<R>>(
     requires deque { IsPassOf (stealer_deque stealer.now) pass.old }
     requires part { 0 < (view pass.old).part }
     ensures deque { IsPassOf (stealer_deque stealer.now) pass.new }
-    ensures stolen { MatchSteal result (view pass.new ≡ view pass.old) (view pass.new ≡ view pass.old)
-        (λ b. IsTaking ((J.number_of b.value, J.origin_of b.value) ∷ []) (view pass.old) (view pass.new)) }
+    ensures stolen { MatchSteal result (view pass.new ≡ view pass.old)
+        (view pass.new ≡ view pass.old)
+        (λ b. IsTaking ((J.number_of b.value, J.origin_of b.value) ∷ []) (view pass.old)
+        (view pass.new)) }
 {
     stealer.steal_as::<Steals<R, J>>(pass)
 }
@@ -98,7 +104,8 @@ pub(crate) fn lend<R, J: Job<R>>(deque: &mut ShareDeque<R, J, J::Origin>) -> Sha
     ensures index { worker_index deque.new ≡ worker_index deque.old }
     ensures deque { IsPassOf (worker_deque deque.old) result }
     ensures kept { worker_view deque.new
-        ≡ share_view (worker_view deque.old).list (worker_view deque.old).hand ((worker_view deque.old).part - 1) }
+        ≡ share_view (worker_view deque.old).list (worker_view deque.old).hand
+        ((worker_view deque.old).part - 1) }
     ensures lent { view result ≡ share_view (worker_view deque.old).list [] 1 }
 {
     deque.another::<OnePart>()

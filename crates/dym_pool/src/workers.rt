@@ -38,7 +38,8 @@ pub(crate) fn open_rows<R, J: Job<R> + Drop>(
 ) -> Result<Vec<Vec<StealShare<R, J>>>, AllocError>
     requires room { All (λ s. s.room ≡ room) shares.now.items }
     ensures len { IfOk result (λ rows. vec_len rows ≡ vec_len shares.now) }
-    ensures guests { IfOk result (λ rows. All (λ row. AllZip IsGuest shares.now.items row.items) rows.items) }
+    ensures guests { IfOk result
+        (λ rows. All (λ row. AllZip IsGuest shares.now.items row.items) rows.items) }
 {
     let mut rows = Vec::with_capacity(alloc, shares.len())?;
     for _ in 0..shares.len() {
@@ -205,7 +206,8 @@ fn run_workers<R: Threads + Wait + Send + Sync, J: Job<R> + Drop, G: Gate>(
     ensures own { (k : ℕ) (d : _) → k < length workers.old
         → KeepsShare (slice_index_or workers.old k d).own (slice_index_or workers.new k d).own }
     ensures reaches { (k : ℕ) (d : _) → k < length workers.old
-        → AllZip KeepsShare (slice_index_or workers.old k d).reaches.items (slice_index_or workers.new k d).reaches.items }
+        → AllZip KeepsShare (slice_index_or workers.old k d).reaches.items
+        (slice_index_or workers.new k d).reaches.items }
 {
     let count = workers.len();
     thread::for_each_mut(

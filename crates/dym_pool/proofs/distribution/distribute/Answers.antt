@@ -7,7 +7,7 @@ use Rattle.dym_pool.specs.Shares.{SameElements}
 use Rattle.dym_pool.proofs.Dealing.{Deals, deals_none, deals_place, deals_room, deals_one}
 use Rattle.dym_pool.proofs.Elements.{dealt_one, dealt_none}
 use Rattle.dym_pool.proofs.Keeping.{ways_none, ways_set}
-use Rattle.dym_pool.proofs.Zips.{all-set}
+use Rattle.std.proofs.lemmas.List.Elements.{All-set}
 use Rattle.dym_pool.proofs.distribution.distribute.Given as given
 use Rattle.dym_pool.proofs.distribution.distribute.Goals as goal
 
@@ -84,6 +84,7 @@ loop-boxed-preserved g c =
           (subst (λ (h : Holding g.row.J-Origin.Denot). capacity g c.put.new.self ≡ capacity g h) at c.put.ensures.same_room) it.3);
       ways = ways_set c.args.shares.now.items xs place c.put.new.self s it.2 c.loop-boxed.invariant.ways
           (subst (λ (h : Holding g.row.J-Origin.Denot). KeepsWay h c.put.new.self) here (record { deque = c.put.ensures.deque; part = c.put.ensures.part; room = c.put.ensures.same_room }));
-      loads = all-set (Loads g) xs place c.put.new.self c.loop-boxed.invariant.loads
-          (omega (arith, c.put.ensures.pushed, it.0.0, ap length c.put.ensures.list, length-append s.list (label ∷ [])), c.put.ensures.part ∙ it.0.1);
+      loads = All-set (Loads g) xs place c.put.new.self
+          (omega (arith, c.put.ensures.pushed, it.0.0, ap length c.put.ensures.list, length-append s.list (label ∷ [])), c.put.ensures.part ∙ it.0.1)
+          c.loop-boxed.invariant.loads;
     }

@@ -27,42 +27,43 @@ distribute-requires-clause-room g c κs within =
 
 pub run_all-requires-clause-some : goal.run_all-requires-clause-some
 run_all-requires-clause-some g c κs within =
-    omega (arith, c.requires.some, c.in_ok-shares.ensures.len, zip-length KeepsWay c.in_ok-shares.shares.items c.distribute.new.shares.items c.distribute.ensures.ways, c.in_ok-shares.shares.ok.0, c.distribute.new.shares.ok.0)
+    omega (arith, c.requires.some, c.in_ok-shares.ensures.len, zip-length KeepsWay _ _ c.distribute.ensures.ways, c.in_ok-shares.shares.ok.0, c.distribute.new.shares.ok.0)
 
 pub run_all-requires-clause-most : goal.run_all-requires-clause-most
 run_all-requires-clause-most g c κs within =
-    omega (arith, c.requires.most, c.in_ok-shares.ensures.len, zip-length KeepsWay c.in_ok-shares.shares.items c.distribute.new.shares.items c.distribute.ensures.ways, c.in_ok-shares.shares.ok.0, c.distribute.new.shares.ok.0)
+    omega (arith, c.requires.most, c.in_ok-shares.ensures.len, zip-length KeepsWay _ _ c.distribute.ensures.ways, c.in_ok-shares.shares.ok.0, c.distribute.new.shares.ok.0)
 
 pub run_all-requires-clause-whole : goal.run_all-requires-clause-whole
-run_all-requires-clause-whole g c κs within = ways_whole c.in_ok-shares.shares.items c.distribute.new.shares.items c.distribute.ensures.ways (λ k d l. (c.in_ok-shares.ensures.each k d l).1)
+run_all-requires-clause-whole g c κs within = ways_whole _ _ c.distribute.ensures.ways (λ k d l. (c.in_ok-shares.ensures.each k d l).1)
 
 pub run_all-requires-clause-rows : goal.run_all-requires-clause-rows
 run_all-requires-clause-rows g c κs within =
-    omega (arith, c.in_ok-rows.ensures.len, zip-length KeepsWay c.in_ok-shares.shares.items c.distribute.new.shares.items c.distribute.ensures.ways, c.in_ok-shares.shares.ok.0, c.distribute.new.shares.ok.0)
+    omega (arith, c.in_ok-rows.ensures.len, zip-length KeepsWay _ _ c.distribute.ensures.ways, c.in_ok-shares.shares.ok.0, c.distribute.new.shares.ok.0)
 
 pub run_all-requires-clause-guests : goal.run_all-requires-clause-guests
 run_all-requires-clause-guests g c κs within = guests_after (λ row. row.items) c.in_ok-shares.shares.items c.distribute.new.shares.items c.in_ok-rows.rows.items c.distribute.ensures.ways c.in_ok-rows.ensures.guests
 
 pub run_all-requires-clause-room : goal.run_all-requires-clause-room
 run_all-requires-clause-room g c κs within =
-    omega (arith, c.in_ok-staff.ensures.capacity, c.in_ok-shares.ensures.len, zip-length KeepsWay c.in_ok-shares.shares.items c.distribute.new.shares.items c.distribute.ensures.ways, c.in_ok-shares.shares.ok.0, c.distribute.new.shares.ok.0)
+    omega (arith, c.in_ok-staff.ensures.capacity, c.in_ok-shares.ensures.len, zip-length KeepsWay _ _ c.distribute.ensures.ways, c.in_ok-shares.shares.ok.0, c.distribute.new.shares.ok.0)
 
 pub gather-requires-clause-numbers : goal.gather-requires-clause-numbers
 gather-requires-clause-numbers g c κs within =
-    let dealt = flat_map (listed g) c.distribute.new.shares.items in
+    let job = g.J.Job in
+    let n = length c.args.jobs.now.items in
     let hands = flat_map (ended g) c.run_all.new.shares.items in
-    let count : vec_len c.in_ok-slots.slots ≡ length c.args.jobs.now.items = c.in_ok-slots.slots.ok.0 ∙ ap length c.in_ok-slots.ensures ∙ length-replicate c.len-count.result _ ∙ c.len-count.ensures ∙ c.args.jobs.now.ok.0 in
-    let named = numbers_below g.J.Job.number_of g.J.Job.left_of g.J.Job.origin_of c.args.jobs.now.items c.pack.new.boxes.items dealt c.requires.numbered c.in_ok-pack.ensures.packed c.distribute.ensures.dealt in
-    let has = all_finished c.distribute.new.shares.items c.run_all.new.shares.items c.run_all.ensures.finished in
-    numbers_stay (vec_len c.in_ok-slots.slots) (length c.args.jobs.now.items) hands hands count refl (names_ended (length c.args.jobs.now.items) dealt hands has named)
+    let count : vec_len c.in_ok-slots.slots ≡ n = c.in_ok-slots.slots.ok.0 ∙ ap length c.in_ok-slots.ensures ∙ length-replicate c.len-count.result _ ∙ c.len-count.ensures ∙ c.args.jobs.now.ok.0 in
+    let named = numbers_below job.number_of job.left_of job.origin_of c.args.jobs.now.items c.pack.new.boxes.items _ c.requires.numbered c.in_ok-pack.ensures.packed c.distribute.ensures.dealt in
+    numbers_stay (vec_len c.in_ok-slots.slots) n hands hands count refl (names_ended n (flat_map (listed g) c.distribute.new.shares.items) hands (all_finished _ _ c.run_all.ensures.finished) named)
 
 pub returns-clause-back : goal.returns-clause-back
 returns-clause-back g c =
+    let job = g.J.Job in
     let dealt = flat_map (listed g) c.distribute.new.shares.items in
     let hands = flat_map (ended g) c.run_all.new.shares.items in
     let n = length c.args.jobs.now.items in
+    let after = c.gather.new.jobs.items in
     let count : vec_len c.in_ok-slots.slots ≡ n = c.in_ok-slots.slots.ok.0 ∙ ap length c.in_ok-slots.ensures ∙ length-replicate c.len-count.result _ ∙ c.len-count.ensures ∙ c.args.jobs.now.ok.0 in
-    let has = all_finished c.distribute.new.shares.items c.run_all.new.shares.items c.run_all.ensures.finished in
-    let gathered = gathered_stays g.J.Job.number_of g.J.Job.left_of g.J.Job.origin_of (vec_len c.in_ok-slots.slots) n hands hands c.gather.new.jobs.items count refl c.gather.ensures.back in
-    every_job_back g.J.Job.number_of g.J.Job.left_of g.J.Job.origin_of c.args.jobs.now.items c.gather.new.jobs.items c.pack.new.boxes.items dealt c.requires.numbered c.in_ok-pack.ensures.packed c.distribute.ensures.dealt
-    (gathered_dealt g.J.Job.number_of g.J.Job.left_of g.J.Job.origin_of n dealt hands c.gather.new.jobs.items has gathered)
+    let gathered = gathered_stays job.number_of job.left_of job.origin_of (vec_len c.in_ok-slots.slots) n hands hands after count refl c.gather.ensures.back in
+    every_job_back job.number_of job.left_of job.origin_of c.args.jobs.now.items after c.pack.new.boxes.items dealt c.requires.numbered c.in_ok-pack.ensures.packed c.distribute.ensures.dealt
+    (gathered_dealt job.number_of job.left_of job.origin_of n dealt hands after (all_finished _ _ c.run_all.ensures.finished) gathered)

@@ -8,34 +8,30 @@ use Rattle.dym_pool.proofs.workers.run_all.Goals as goal
 pub run_rows-requires-clause-parts : goal.run_rows-requires-clause-parts
 run_rows-requires-clause-parts g c κs within k d l =
     let row = get_or c.lend_all.new.rows.items k d in
-    let S = c.args.shares.now.items in
     let steal_share = c.lend_all.ensures.reaches k d l in
-    (omega (arith, zip-length IsReach S row.items steal_share, zip-length (Lends (vec_len c.args.rows)) S c.lend_all.new.shares.items c.lend_all.ensures.lends, row.ok.0, c.lend_all.new.shares.ok.0), reach_parts S row.items steal_share)
+    (omega (arith, zip-length IsReach _ _ steal_share, zip-length (Lends (vec_len c.args.rows)) _ _ c.lend_all.ensures.lends, row.ok.0, c.lend_all.new.shares.ok.0), reach_parts _ _ steal_share)
 
 pub run_rows-requires-clause-room : goal.run_rows-requires-clause-room
 run_rows-requires-clause-room g c κs within =
-    omega (arith, zip-length (Lends (vec_len c.args.rows)) c.args.shares.now.items c.lend_all.new.shares.items c.lend_all.ensures.lends, c.requires.room, c.args.shares.now.ok.0, c.lend_all.new.shares.ok.0)
+    omega (arith, zip-length (Lends (vec_len c.args.rows)) _ _ c.lend_all.ensures.lends, c.requires.room, c.args.shares.now.ok.0, c.lend_all.new.shares.ok.0)
 
 pub join_all-requires-clause-reaches : goal.join_all-requires-clause-reaches
 join_all-requires-clause-reaches g c κs within =
-    rows_after (λ row. row.items) (vec_len c.args.rows) c.args.shares.now.items c.lend_all.new.shares.items c.run_rows.new.shares.items c.lend_all.new.rows.items c.run_rows.new.rows.items
+    rows_after (λ row. row.items) (vec_len c.args.rows) _ _ _ _ _
     c.lend_all.ensures.lends c.run_rows.ensures.own c.run_rows.ensures.reaches c.lend_all.ensures.reaches
 
 pub finish_all-requires-clause-whole : goal.finish_all-requires-clause-whole
 finish_all-requires-clause-whole g c κs within =
-    let S = c.args.shares.now.items in
     let n = vec_len c.args.rows in
-    let same : vec_len c.run_rows.new.rows ≡ n = omega (arith, zip-length (λ before after. AllZip KeepsShare before.items after.items) c.lend_all.new.rows.items c.run_rows.new.rows.items c.run_rows.ensures.reaches, c.lend_all.ensures.len, c.lend_all.new.rows.ok.0, c.run_rows.new.rows.ok.0) in
+    let same : vec_len c.run_rows.new.rows ≡ n = omega (arith, zip-length (λ before after. AllZip KeepsShare before.items after.items) _ _ c.run_rows.ensures.reaches, c.lend_all.ensures.len, c.lend_all.new.rows.ok.0, c.run_rows.new.rows.ok.0) in
     let joins = subst (λ (k : ℕ). AllZip (Joins k) c.run_rows.new.shares.items c.join_all.new.shares.items) same c.join_all.ensures.joins in
-    whole_again S c.join_all.new.shares.items (crew_whole n S c.lend_all.new.shares.items c.run_rows.new.shares.items c.join_all.new.shares.items c.lend_all.ensures.lends c.run_rows.ensures.own joins) c.requires.whole
+    whole_again _ _ (crew_whole n _ _ _ _ c.lend_all.ensures.lends c.run_rows.ensures.own joins) c.requires.whole
 
 pub returns : goal.returns
 returns g c =
-    let S = c.args.shares.now.items in
     let n = vec_len c.args.rows in
-    let same : vec_len c.run_rows.new.rows ≡ n = omega (arith, zip-length (λ before after. AllZip KeepsShare before.items after.items) c.lend_all.new.rows.items c.run_rows.new.rows.items c.run_rows.ensures.reaches, c.lend_all.ensures.len, c.lend_all.new.rows.ok.0, c.run_rows.new.rows.ok.0) in
+    let same : vec_len c.run_rows.new.rows ≡ n = omega (arith, zip-length (λ before after. AllZip KeepsShare before.items after.items) _ _ c.run_rows.ensures.reaches, c.lend_all.ensures.len, c.lend_all.new.rows.ok.0, c.run_rows.new.rows.ok.0) in
     let joins = subst (λ (k : ℕ). AllZip (Joins k) c.run_rows.new.shares.items c.join_all.new.shares.items) same c.join_all.ensures.joins in
     record {
-      finished = finished_again S c.join_all.new.shares.items c.finish_all.new.shares.items
-          (crew_whole n S c.lend_all.new.shares.items c.run_rows.new.shares.items c.join_all.new.shares.items c.lend_all.ensures.lends c.run_rows.ensures.own joins) c.finish_all.ensures.finished;
+      finished = finished_again _ _ _ (crew_whole n _ _ _ _ c.lend_all.ensures.lends c.run_rows.ensures.own joins) c.finish_all.ensures.finished;
     }
