@@ -1,5 +1,5 @@
 -- Dealing from the last job to the first: of w places, job j comes to the place j % w.
-use Rattle.std.proofs.Common.{◌≡◌, ◌≢◌, ℕ, zero, suc, ◌+◌, ◌-◌, ◌*◌, ◌/◌, ◌%◌, ◌<◌, ◌≤◌, inl, inr, List, length, set, get_or, sym, subst, arith, suc-mul, mod-lt, div-add-mod', mul-le-mul_right, lt_of_mul-lt-mul_right, zero-mul, mul_comm, length-set, get_or-set_same, get_or-set_other}
+use Rattle.std.proofs.Common.{◌≡◌, ℕ, zero, suc, ◌+◌, ◌-◌, ◌*◌, ◌/◌, ◌%◌, ◌<◌, ◌≤◌, inl, inr, List, length, set, get_or, sym, subst, arith, suc-mul, mod-lt, div-add-mod', mul-le-mul_right, lt_of_mul-lt-mul_right, zero-mul, mul_comm, length-set, get_or-set_same, get_or-set_other}
 use Rattle.std.proofs.lemmas.Bool.{cases_eq}
 use Rattle.std.proofs.Math.Nat.{lt_of_mul-lt-mul_left}
 
