@@ -1,4 +1,4 @@
--- A chain, read from its keep and from what clauses know facts.
+-- A chain, read from its keep and from what clauses know besides.
 use Rattle.dym_slots.specs.Meanings.{KeepMeaning}
 use Rattle.dym_chain.specs.Chains.{ChainMeaning}
 use Rattle.dym_chain.specs.Lawful.{IsLawful, Shows}
