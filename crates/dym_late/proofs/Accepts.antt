@@ -74,6 +74,12 @@ module _ (bound : ℕ) (events : List Event) (numbers : List ℕ) (heap : HeapMe
   abbrev late : List LateEvent
   late = late_events events
 
+  abbrev held : ObjectState
+  held = object_of heap.state chain
+
+  abbrev ordered : List LateEvent
+  ordered = LateRun.order late
+
   abbrev n : ℕ
   n = length events
 
@@ -97,7 +103,7 @@ module _ (bound : ℕ) (events : List Event) (numbers : List ℕ) (heap : HeapMe
 
   -- the log that a straggler goes back to is there
   pub log_there : p < n → 0 < reached (log_before p) chain.logs
-  log_there less = (let is = r_is heap.quota (LateRun.order late) b p (object_of heap.state chain) whole.run.logs b_low (b_high less) in let low = b_low in omega (arith, is, low))
+  log_there less = (let is = r_is heap.quota ordered b p held whole.run.logs b_low (b_high less) in let low = b_low in omega (arith, is, low))
 
   same_mark : oldest_mark bound (late ++ late_event e ∷ []) ≡ b
   same_mark =
@@ -105,7 +111,7 @@ module _ (bound : ℕ) (events : List Event) (numbers : List ℕ) (heap : HeapMe
       let none = before_no bound (late_event e) late_enough in
       ap last_mark (omega (arith, pushed, none))
 
-  module _ (after : HeapMeaning) (back : ChainMeaning) (ahead : p < n → object_of after.state back ≡ (restore (object_of heap.state chain) (log_before p)).object)
+  module _ (after : HeapMeaning) (back : ChainMeaning) (ahead : p < n → object_of after.state back ≡ (restore held (log_before p)).object)
       (last : n ≤ p → (after.state ≡ heap.state) × (back.logs ≡ chain.logs)) (heaps : after ≡ record heap { state = after.state; held_ids = after.held_ids })
       (sound : IsSound after) (belongs : Belongs after.version after.quota after.state back) (idle : back.lifted ≡ None) (few : n < 4096) (fits : IsEventCommand e.command) where
     abbrev start : ℕ
@@ -113,6 +119,9 @@ module _ (bound : ℕ) (events : List Event) (numbers : List ℕ) (heap : HeapMe
 
     abbrev more : List LateEvent
     more = late ++ late_event e ∷ []
+
+    abbrev again : List LateEvent
+    again = LateRun.order more
 
     start_back : p < n → start ≡ log_before p
     start_back less = ap (λ c. cond c (log_before p) n) (lt-ltb p n less)
@@ -126,26 +135,26 @@ module _ (bound : ℕ) (events : List Event) (numbers : List ℕ) (heap : HeapMe
       | inr least ↦ (let is = start_last least in omega (arith, is, least))
     ]
 
-    same_take : (k : ℕ) → k ≤ p → take k (LateRun.order more) ≡ take k (LateRun.order late)
+    same_take : (k : ℕ) → k ≤ p → take k again ≡ take k ordered
     same_take k before = take_order k late (late_event e) before
 
-    same_live : (k : ℕ) → k ≤ p → live_after heap.quota (LateRun.order more) k ≡ live_after heap.quota (LateRun.order late) k
+    same_live : (k : ℕ) → k ≤ p → live_after heap.quota again k ≡ live_after heap.quota ordered k
     same_live k before = ap (λ l. (heap_after One heap.quota empty_heap l).live) (same_take k before)
 
-    live : after.state.live ≡ live_after heap.quota (LateRun.order more) start
-    live = elim (cases_lt p n) as (λ _. after.state.live ≡ live_after heap.quota (LateRun.order more) start) [
+    live : after.state.live ≡ live_after heap.quota again start
+    live = elim (cases_lt p n) as (λ _. after.state.live ≡ live_after heap.quota again start) [
       | inl less ↦ (
           let is = start_back less in
           ap (λ (o : ObjectState). o.heap.live) (ahead less)
-          ∙ restored_live heap.quota (LateRun.order late) b p (object_of heap.state chain) whole.run.logs b_low (b_high less)
+          ∙ restored_live heap.quota ordered b p held whole.run.logs b_low (b_high less)
           ∙ sym (same_live (log_before p) (omega arith))
-          ∙ ap (live_after heap.quota (LateRun.order more)) (sym is))
+          ∙ ap (live_after heap.quota again) (sym is))
       | inr least ↦ (
           let is = start_last least in
           ap (λ s. s.live) (last least).0
           ∙ whole.run.live
           ∙ sym (same_live n least)
-          ∙ ap (live_after heap.quota (LateRun.order more)) (sym is))
+          ∙ ap (live_after heap.quota again) (sym is))
     ]
 
     count : length back.logs + b ≡ last_mark start + 1
@@ -153,7 +162,7 @@ module _ (bound : ℕ) (events : List Event) (numbers : List ℕ) (heap : HeapMe
       | inl less ↦ (
           let is = start_back less in
           let same = ap (λ (o : ObjectState). length o.logs) (ahead less) in
-          let kept = restored_count heap.quota (LateRun.order late) b p (object_of heap.state chain) whole.run.logs b_low (b_high less) in
+          let kept = restored_count heap.quota ordered b p held whole.run.logs b_low (b_high less) in
           omega (arith, is, same, kept, less, few))
       | inr least ↦ (
           let is = start_last least in
@@ -162,30 +171,30 @@ module _ (bound : ℕ) (events : List Event) (numbers : List ℕ) (heap : HeapMe
           omega (arith, kept, same, ap last_mark is))
     ]
 
-    marks_late : AreMarks heap.quota (LateRun.order late) b back.logs
-    marks_late = elim (cases_lt p n) as (λ _. AreMarks heap.quota (LateRun.order late) b back.logs) [
-      | inl less ↦ subst (AreMarks heap.quota (LateRun.order late) b) (sym (ap (λ (o : ObjectState). o.logs) (ahead less))) (restored_marks heap.quota (LateRun.order late) b p (object_of heap.state chain) whole.run.logs b_low (b_high less))
-      | inr least ↦ subst (AreMarks heap.quota (LateRun.order late) b) (sym (last least).1) whole.run.logs
+    marks_late : AreMarks heap.quota ordered b back.logs
+    marks_late = elim (cases_lt p n) as (λ _. AreMarks heap.quota ordered b back.logs) [
+      | inl less ↦ subst (AreMarks heap.quota ordered b) (sym (ap (λ (o : ObjectState). o.logs) (ahead less))) (restored_marks heap.quota ordered b p held whole.run.logs b_low (b_high less))
+      | inr least ↦ subst (AreMarks heap.quota ordered b) (sym (last least).1) whole.run.logs
     ]
 
-    marks : AreMarks heap.quota (LateRun.order more) b back.logs
-    marks = marks_moved heap.quota p (LateRun.order late) (LateRun.order more) b back.logs same_take (let kept = count in let most = start_most in omega (arith, kept, most)) marks_late
+    marks : AreMarks heap.quota again b back.logs
+    marks = marks_moved heap.quota p ordered again b back.logs same_take (let kept = count in let most = start_most in omega (arith, kept, most)) marks_late
 
-    same_event : (j : ℕ) → j < p → event_at (LateRun.order more) j ≡ event_at (LateRun.order late) j
+    same_event : (j : ℕ) → j < p → event_at again j ≡ event_at ordered j
     same_event j before =
         ap (λ l. event_at l j) (order_push late (late_event e))
-        ∙ get_or-insert_below (LateRun.order late) p (late_event e) no_event j before (let a = length_order late in let c = to_most e.time late in omega (arith, a, c))
+        ∙ get_or-insert_below ordered p (late_event e) no_event j before (let a = length_order late in let c = to_most e.time late in omega (arith, a, c))
 
-    same_reply : (j : ℕ) → j < p → slice_get (replies_after One heap.quota empty_heap (LateRun.order more)) j ≡ slice_get (replies_after One heap.quota empty_heap (LateRun.order late)) j
+    same_reply : (j : ℕ) → j < p → slice_get (replies_after One heap.quota empty_heap again) j ≡ slice_get (replies_after One heap.quota empty_heap ordered) j
     same_reply j before =
         let all = length_order late in
         let longer = length_order more in
         let grown = length-append late (late_event e ∷ []) in
         let most = to_most e.time late in
-        reply_there One heap.quota empty_heap (LateRun.order more) j (omega (arith, longer, grown, most, before))
-        ∙ ap (λ l. Some (heap_step One heap.quota (heap_after One heap.quota empty_heap l) (event_at (LateRun.order more) j).command).reply) (same_take j (omega (arith, before)))
-        ∙ ap (λ x. Some (heap_step One heap.quota (heap_after One heap.quota empty_heap (take j (LateRun.order late))) x.command).reply) (same_event j before)
-        ∙ sym (reply_there One heap.quota empty_heap (LateRun.order late) j (omega (arith, all, most, before)))
+        reply_there One heap.quota empty_heap again j (omega (arith, longer, grown, most, before))
+        ∙ ap (λ l. Some (heap_step One heap.quota (heap_after One heap.quota empty_heap l) (event_at again j).command).reply) (same_take j (omega (arith, before)))
+        ∙ ap (λ x. Some (heap_step One heap.quota (heap_after One heap.quota empty_heap (take j ordered)) x.command).reply) (same_event j before)
+        ∙ sym (reply_there One heap.quota empty_heap ordered j (omega (arith, all, most, before)))
 
     spot_same : (k : ℕ) → k < n → spot more k < p → spot more k ≡ spot late k
     spot_same k within before =
@@ -203,18 +212,18 @@ module _ (bound : ℕ) (events : List Event) (numbers : List ℕ) (heap : HeapMe
           | inr sooner ↦ (let none = before_no t (late_event e) sooner in omega (arith, moved, none))
         ]
 
-    replies : (k : ℕ) → k < length (events ++ e ∷ []) → spot more k < start → slice_get (replies_after One heap.quota empty_heap (LateRun.order more)) (spot more k) ≡ slice_get (replies_of (events ++ e ∷ [])) k
+    replies : (k : ℕ) → k < length (events ++ e ∷ []) → spot more k < start → slice_get (replies_after One heap.quota empty_heap again) (spot more k) ≡ slice_get (replies_of (events ++ e ∷ [])) k
     replies k within reached_by =
         let longer = length-append events (e ∷ []) in
         let most = start_most in
         let before : spot more k < p = omega (arith, reached_by, most) in
         let many = many_late events in
-        elim (cases_lt k n) as (λ _. slice_get (replies_after One heap.quota empty_heap (LateRun.order more)) (spot more k) ≡ slice_get (replies_of (events ++ e ∷ [])) k) [
+        elim (cases_lt k n) as (λ _. slice_get (replies_after One heap.quota empty_heap again) (spot more k) ≡ slice_get (replies_of (events ++ e ∷ [])) k) [
           | inl less ↦ (
               let same = spot_same k less before in
               let top = p_most in
               same_reply (spot more k) before
-              ∙ ap (slice_get (replies_after One heap.quota empty_heap (LateRun.order late))) same
+              ∙ ap (slice_get (replies_after One heap.quota empty_heap ordered)) same
               ∙ whole.run.replies k less (omega (arith, same, before, top))
               ∙ sym (kept_reply events e k less))
           | inr here ↦ (
@@ -243,6 +252,7 @@ module _ (bound : ℕ) (events : List Event) (numbers : List ℕ) (heap : HeapMe
     begun_at : IsRun start bound (events ++ e ∷ []) (insert numbers p n) after back
     begun_at =
         let grown = sym (grown_late events e) in
+        let both : ◌≡◌ {A = ℕ × List LateEvent} (heap.quota, more) (after.quota, late_events (events ++ e ∷ [])) = λ i. (sym same_quota i, grown i) in
         let many = many_late events in
         let longer = length-append events (e ∷ []) in
         let mark = same_mark in
@@ -255,10 +265,9 @@ module _ (bound : ℕ) (events : List Event) (numbers : List ℕ) (heap : HeapMe
           sound = sound;
           belongs = belongs;
           idle = idle;
-          live = subst (λ w. after.state.live ≡ live_after w (LateRun.order (late_events (events ++ e ∷ []))) start) (sym same_quota) (subst (λ l. after.state.live ≡ live_after heap.quota (LateRun.order l) start) grown live);
-          replies = subst (λ w. Replies w (late_events (events ++ e ∷ []))) (sym same_quota) (subst (Replies heap.quota) grown replies);
-          logs = subst (λ w. AreMarks w (LateRun.order (late_events (events ++ e ∷ []))) (oldest_mark bound (late_events (events ++ e ∷ []))) back.logs) (sym same_quota)
-              (subst (λ l. AreMarks heap.quota (LateRun.order l) (oldest_mark bound l) back.logs) grown (subst (λ c. AreMarks heap.quota (LateRun.order more) c back.logs) (sym mark) marks));
+          live = subst (λ (p : ℕ × List LateEvent). after.state.live ≡ live_after p.0 (LateRun.order p.1) start) both live;
+          replies = subst (λ (p : ℕ × List LateEvent). Replies p.0 p.1) both replies;
+          logs = subst (λ (p : ℕ × List LateEvent). AreMarks p.0 (LateRun.order p.1) (oldest_mark bound p.1) back.logs) both (subst (λ c. AreMarks heap.quota again c back.logs) (sym mark) marks);
           kept = subst (λ l. length back.logs + oldest_mark bound l ≡ last_mark start + 1) grown (omega (arith, mark, kept));
         }
 

@@ -124,6 +124,9 @@ module _ (n q m bound : ℕ) (next : q ≡ suc n) (events : List Event) (numbers
             is.replies j fits (omega (arith, reached, other, next)) ∙ sym (old_reply events k j y apart))
       ]
 
+  both : ◌≡◌ {A = ℕ × List LateEvent} (heap.quota, late) (after.quota, late_events run)
+  both = λ i. (sym same_quota i, sym same_late i)
+
   -- after the next event of the order
   pub event_run : IsRunTo q m bound run numbers after chain
   event_run = record {
@@ -137,12 +140,10 @@ module _ (n q m bound : ℕ) (next : q ≡ suc n) (events : List Event) (numbers
         (subst (λ q. Belongs heap.version q after.state chain) (sym same_quota)
         (subst (λ s. Belongs heap.version heap.quota s chain) (sym state) (law heap.version heap.quota heap.state x.command chain is.belongs)));
     idle = is.idle;
-    live = subst (λ w. after.state.live ≡ live_after w (LateRun.order (late_events run)) q) (sym same_quota) (subst (λ l. after.state.live ≡ live_after heap.quota (LateRun.order l) q) (sym same_late) live);
-    replies = subst (λ w. (j : ℕ) → j < length run → spot (late_events run) j < q → slice_get (replies_after One w empty_heap (LateRun.order (late_events run))) (spot (late_events run) j) ≡ slice_get (replies_of run) j) (sym same_quota)
-        (subst (λ l. (j : ℕ) → j < length run → spot l j < q → slice_get (replies_after One heap.quota empty_heap (LateRun.order l)) (spot l j) ≡ slice_get (replies_of run) j) (sym same_late)
-        (λ j fits reached. (let same = same_count in replies j (omega (arith, same, fits)) reached)));
-    logs = subst (λ q. AreMarks q (LateRun.order (late_events run)) (oldest_mark bound (late_events run)) chain.logs) (sym same_quota)
-        (subst (λ l. AreMarks heap.quota (LateRun.order l) (oldest_mark bound l) chain.logs) (sym same_late) is.logs);
+    live = subst (λ (p : ℕ × List LateEvent). after.state.live ≡ live_after p.0 (LateRun.order p.1) q) both live;
+    replies = subst (λ (p : ℕ × List LateEvent). (j : ℕ) → j < length run → spot p.1 j < q → slice_get (replies_after One p.0 empty_heap (LateRun.order p.1)) (spot p.1 j) ≡ slice_get (replies_of run) j) both
+        (λ j fits reached. (let same = same_count in replies j (omega (arith, same, fits)) reached));
+    logs = subst (λ (p : ℕ × List LateEvent). AreMarks p.0 (LateRun.order p.1) (oldest_mark bound p.1) chain.logs) both is.logs;
     kept = subst (λ l. length chain.logs + oldest_mark bound l ≡ last_mark m + 1) (sym same_late) is.kept;
   }
 
@@ -171,22 +172,25 @@ mark_or_none q =
     ]
 
 module _ (n q bound : ℕ) (next : q ≡ suc n) (events : List Event) (numbers : List ℕ) (heap : HeapMeaning) (chain : ChainMeaning) (is : IsRunTo q n bound events numbers heap chain) where
-  -- where no log is taken
-  pub unlogged_run : n < 4096 → (IsMark q → ⊥) → IsRunTo q q bound events numbers heap chain
-  unlogged_run few none =
-      let same = none_due n q next few none in
+  -- with logs that stand for the order up to here
+  run_with : (after : HeapMeaning) (longer : ChainMeaning) → after ≡ record heap { state = after.state } → after.state.live ≡ heap.state.live
+      → AreMarks heap.quota (LateRun.order (late_events events)) (oldest_mark bound (late_events events)) longer.logs → length longer.logs + oldest_mark bound (late_events events) ≡ last_mark q + 1
+      → IsSound after → Belongs after.version after.quota after.state longer → longer.lifted ≡ None → IsRunTo q q bound events numbers after longer
+  run_with after longer heaps lives logs kept sound belongs idle =
+      let ordered : List LateEvent = LateRun.order (late_events events) in
+      let quota : heap.quota ≡ after.quota = sym (ap (λ (h : HeapMeaning). h.quota) heaps) in
       record {
         order = is.order;
         commands = is.commands;
         few = is.few;
-        version = is.version;
-        sound = is.sound;
-        belongs = is.belongs;
-        idle = is.idle;
-        live = is.live;
-        replies = is.replies;
-        logs = is.logs;
-        kept = (let kept = is.kept in omega (arith, same, kept));
+        version = ap (λ (h : HeapMeaning). h.version) heaps ∙ is.version;
+        sound = sound;
+        belongs = belongs;
+        idle = idle;
+        live = subst (λ w. after.state.live ≡ live_after w ordered q) quota (lives ∙ is.live);
+        replies = subst (λ w. (k : ℕ) → k < length events → spot (late_events events) k < q → slice_get (replies_after One w empty_heap ordered) (spot (late_events events) k) ≡ slice_get (replies_of events) k) quota is.replies;
+        logs = subst (λ w. AreMarks w ordered (oldest_mark bound (late_events events)) longer.logs) quota logs;
+        kept = kept;
       }
 
   -- and it comes after the newest one
@@ -207,8 +211,6 @@ module _ (n q bound : ℕ) (next : q ≡ suc n) (events : List Event) (numbers :
       let ordered : List LateEvent = LateRun.order (late_events events) in
       let b : ℕ = oldest_mark bound (late_events events) in
       let entry : LogEntry = new_entry (object_of heap.state chain) q kind in
-      let quota : after.quota ≡ heap.quota = ap (λ (h : HeapMeaning). h.quota) heaps in
-      let version : after.version ≡ heap.version = ap (λ (h : HeapMeaning). h.version) heaps in
       let due = one_due n q next mark in
       let more_by_one = due.0 in
       let here = due.1 in
@@ -216,19 +218,8 @@ module _ (n q bound : ℕ) (next : q ≡ suc n) (events : List Event) (numbers :
       let time : q ≡ 16 * (b + length chain.logs) = omega (arith, more_by_one, here, kept) in
       let more = length-append chain.logs (entry ∷ []) in
       let count = ap length logs in
-      record {
-        order = is.order;
-        commands = is.commands;
-        few = is.few;
-        version = version ∙ is.version;
-        sound = sound;
-        belongs = belongs;
-        idle = idle;
-        live = subst (λ w. after.state.live ≡ live_after w ordered q) (sym quota) (lives ∙ is.live);
-        replies = subst (λ w. (k : ℕ) → k < length events → spot (late_events events) k < q → slice_get (replies_after One w empty_heap ordered) (spot (late_events events) k) ≡ slice_get (replies_of events) k) (sym quota) is.replies;
-        logs = subst (λ q. AreMarks q ordered b longer.logs) (sym quota) (subst (λ l. AreMarks heap.quota ordered b l) (sym logs) (marks_push heap.quota ordered b chain.logs entry is.logs time is.live));
-        kept = omega (arith, more_by_one, kept, more, count);
-      }
+      run_with after longer heaps lives (subst (λ l. AreMarks heap.quota ordered b l) (sym logs) (marks_push heap.quota ordered b chain.logs entry is.logs time is.live))
+      (omega (arith, more_by_one, kept, more, count)) sound belongs idle
 
   -- after the log that is due, if one is
   pub logged_if_due : n < 4096 → (kind : Kind) (after : HeapMeaning) (longer : ChainMeaning) → after ≡ record heap { state = after.state } → after.state.live ≡ heap.state.live
@@ -239,24 +230,9 @@ module _ (n q bound : ℕ) (next : q ≡ suc n) (events : List Event) (numbers :
       elim (mark_or_none q) as (λ _. IsRunTo q q bound events numbers after longer) [
         | inl mark ↦ logged_run mark kind after longer heaps lives (logs mark) sound belongs idle
         | inr other ↦ (
-            let still = unlogged_run few other in
-            let quota : after.quota ≡ heap.quota = ap (λ (h : HeapMeaning). h.quota) heaps in
-            let version : after.version ≡ heap.version = ap (λ (h : HeapMeaning). h.version) heaps in
-            let ordered : List LateEvent = LateRun.order (late_events events) in
-            let b : ℕ = oldest_mark bound (late_events events) in
+            let same = none_due n q next few other in
             let count = ap length (none other) in
-            let kept = still.kept in
-            record {
-              order = is.order;
-              commands = is.commands;
-              few = is.few;
-              version = version ∙ is.version;
-              sound = sound;
-              belongs = belongs;
-              idle = idle;
-              live = subst (λ w. after.state.live ≡ live_after w ordered q) (sym quota) (lives ∙ is.live);
-              replies = subst (λ w. (k : ℕ) → k < length events → spot (late_events events) k < q → slice_get (replies_after One w empty_heap ordered) (spot (late_events events) k) ≡ slice_get (replies_of events) k) (sym quota) is.replies;
-              logs = subst (λ w. AreMarks w ordered b longer.logs) (sym quota) (subst (λ l. AreMarks heap.quota ordered b l) (sym (none other)) is.logs);
-              kept = omega (arith, kept, count);
-            })
+            let kept = is.kept in
+            run_with after longer heaps lives (subst (λ l. AreMarks heap.quota (LateRun.order (late_events events)) (oldest_mark bound (late_events events)) l) (sym (none other)) is.logs)
+            (omega (arith, same, kept, count)) sound belongs idle)
       ]

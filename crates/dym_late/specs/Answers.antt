@@ -1,7 +1,7 @@
 -- What the answer to an event says.
 use Rattle.std.specs.Prelude.{⊤, ℕ, Result, Ok, Err}
 use Rattle.dym_base.specs.declared.command.Command.{Command}
-use Rattle.dym_late.specs.declared.placed.Placed.{Placed}
+use Rattle.dym_late.specs.declared.placement.Placed.{Placed}
 use Rattle.dym_late.specs.declared.late_error.LateError.{LateError}
 use Rattle.dym_late.specs.declared.late_error.LateError.TheVariants.{Early, Memory}
 

@@ -10,7 +10,7 @@ ghost use Rattle.dym_late.specs.Marks.{last_mark, oldest_mark};
 ghost use Rattle.dym_late.specs.Meaning.{IsLate, fresh_late};
 
 use crate::late_error::LateError;
-use crate::placed::Placed;
+use crate::placement::Placed;
 use crate::timeline::Timeline;
 use dym_base::{Command, Reply};
 use dym_heap::Heap;
@@ -40,9 +40,15 @@ impl<S: Supply> Model for LateHeap<S> {
 
     ghost use Rattle.dym_late.specs.Timelines.{late_events, IsWholeUnless};
 
-    ghost view = { λ l. record { heap = l.timeline.heap; events = late_events l.timeline.events.items; bound = l.timeline.bound; broken = l.broken } };
+    ghost view = { λ l. record {
+      heap = l.timeline.heap;
+      events = late_events l.timeline.events.items;
+      bound = l.timeline.bound;
+      broken = l.broken;
+    } };
 
-    ghost invariant = { λ l. IsWholeUnless l.broken l.timeline.bound l.timeline.events.items l.timeline.order.items l.timeline.heap l.timeline.chain };
+    ghost invariant = { λ l. IsWholeUnless l.broken l.timeline.bound l.timeline.events.items
+        l.timeline.order.items l.timeline.heap l.timeline.chain };
 }
 
 impl<S: Supply> LateHeap<S> {
@@ -93,7 +99,8 @@ impl<S: Supply> LateHeap<S> {
             ≡ self.old.events ++ record { time = time; command = command } ∷ []) }
         ensures placed { IfOk result (λ placed. placed.at ≡ events_to time self.old.events) }
         ensures replayed { IfOk result (λ placed.
-            placed.replayed ≡ replayed_by (length self.old.events) (events_to time self.old.events)) }
+            placed.replayed
+            ≡ replayed_by (length self.old.events) (events_to time self.old.events)) }
         ensures applied { IfOk result (λ placed.
             self.new.heap.applied ≡ self.old.heap.applied + placed.replayed) }
         ensures late { OnOk result (IsLate self.new) }

@@ -11,11 +11,11 @@ mod event;
 mod late_error;
 mod late_heap;
 pub mod laws;
-mod placed;
+mod placement;
 mod positions;
 mod steps;
 mod timeline;
 
 pub use late_error::LateError;
 pub use late_heap::LateHeap;
-pub use placed::Placed;
+pub use placement::Placed;

@@ -37,7 +37,8 @@ fn mark_before(place: usize) -> usize
 pub(crate) fn run_event<S: Supply>(heap: &mut Heap<S>, context: &S::Context, event: &mut Event)
     requires applied { heap.old.applied < COUNT_LIMIT }
     requires command { IsEventCommand event.old.command }
-    ensures event { event.new ≡ record event.old { reply = (step_of heap.old event.old.command).reply } }
+    ensures event { event.new
+        ≡ record event.old { reply = (step_of heap.old event.old.command).reply } }
     ensures after { heap.new ≡ record (stepped
         (counted heap.old) event.old.command) { held_ids = heap.new.held_ids } }
     ensures sound { IsSound heap.new }
@@ -63,7 +64,8 @@ pub(crate) fn take_log<S: Supply>(
     ensures touched { OnOk result (heap.new.state.touched ≡ FinSet.empty) }
     ensures heap { heap.new ≡ record heap.old { state = heap.new.state } }
     ensures logs { OnOk result (chain.new.logs
-        ≡ chain.old.logs ++ Objects.new_entry (object_of heap.old.state chain.old) position kind ∷ []) }
+        ≡ chain.old.logs
+        ++ Objects.new_entry (object_of heap.old.state chain.old) position kind ∷ []) }
     ensures next_number { chain.new.next_number ≤ chain.old.next_number + 1 }
     ensures belongs { Belongs heap.new.version heap.new.quota heap.new.state chain.new }
     ensures idle { chain.new.lifted ≡ None }
@@ -120,8 +122,10 @@ fn rewind<S: Supply>(
     requires reached { 0 < Objects.reached position chain.old.logs }
     ensures after { object_of heap.new.state chain.new
         ≡ (Objects.restore (object_of heap.old.state chain.old) position).object }
-    ensures chain { chain.new ≡ record chain.old { logs = chain.new.logs; records = chain.new.records } }
-    ensures heap { heap.new ≡ record heap.old { state = heap.new.state; held_ids = heap.new.held_ids } }
+    ensures chain { chain.new
+        ≡ record chain.old { logs = chain.new.logs; records = chain.new.records } }
+    ensures heap { heap.new
+        ≡ record heap.old { state = heap.new.state; held_ids = heap.new.held_ids } }
     ensures belongs { Belongs heap.new.version heap.new.quota heap.new.state chain.new }
     ensures idle { chain.new.lifted ≡ None }
     ensures sound { IsSound heap.new }
@@ -147,9 +151,12 @@ pub(crate) fn drop_logs_after<S: Supply>(
     ensures start { result ≡ start_of count place }
     ensures ahead { place < count → object_of heap.new.state chain.new
         ≡ (Objects.restore (object_of heap.old.state chain.old) (log_before place)).object }
-    ensures last { count ≤ place → (heap.new.state ≡ heap.old.state) × (chain.new.logs ≡ chain.old.logs) }
-    ensures chain { chain.new ≡ record chain.old { logs = chain.new.logs; records = chain.new.records } }
-    ensures heap { heap.new ≡ record heap.old { state = heap.new.state; held_ids = heap.new.held_ids } }
+    ensures last { count ≤ place → (heap.new.state ≡ heap.old.state)
+        × (chain.new.logs ≡ chain.old.logs) }
+    ensures chain { chain.new
+        ≡ record chain.old { logs = chain.new.logs; records = chain.new.records } }
+    ensures heap { heap.new
+        ≡ record heap.old { state = heap.new.state; held_ids = heap.new.held_ids } }
     ensures belongs { Belongs heap.new.version heap.new.quota heap.new.state chain.new }
     ensures idle { chain.new.lifted ≡ None }
     ensures sound { IsSound heap.new }

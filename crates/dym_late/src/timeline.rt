@@ -12,7 +12,7 @@ ghost use Rattle.dym_late.specs.Meaning.{fresh_heap};
 ghost use Rattle.dym_late.specs.Timelines.{late_events, IsRun, IsWhole};
 
 use crate::event::Event;
-use crate::placed::Placed;
+use crate::placement::Placed;
 use crate::positions::{count_before, count_to};
 use crate::steps::{drop_logs_after, log_if_due, run_event, take_log};
 use dym_base::{Command, Kind, Reply};
@@ -42,7 +42,8 @@ impl<S: Supply> Timeline<S> {
         requires least { 1 ≤ S.quota_of supply }
         requires most { S.quota_of supply ≤ MOST_QUOTA }
         ensures whole { IfOk result (λ t. IsWhole 0 t.events.items t.order.items t.heap t.chain) }
-        ensures heap { IfOk result (λ t. t.heap ≡ fresh_heap (S.quota_of supply) (S.origin supply)) }
+        ensures heap { IfOk result
+            (λ t. t.heap ≡ fresh_heap (S.quota_of supply) (S.origin supply)) }
         ensures events { IfOk result (λ t. t.events.items ≡ []) }
         ensures bound { IfOk result (λ t. t.bound ≡ 0) }
         ensures nothing_held { IfErr result (λ e. S.held_ids e.1 ≡ []) }
@@ -112,11 +113,13 @@ impl<S: Supply> Timeline<S> {
         time: u64,
         command: Command,
     ) -> Result<Placed, AllocError>
-        requires whole { IsWhole self.old.bound self.old.events.items self.old.order.items self.old.heap self.old.chain }
+        requires whole { IsWhole self.old.bound self.old.events.items self.old.order.items
+            self.old.heap self.old.chain }
         requires room { length self.old.events.items < MOST_LATE_EVENTS }
         requires time { self.old.bound ≤ time }
         requires command { IsEventCommand command }
-        ensures whole { OnOk result (IsWhole self.new.bound self.new.events.items self.new.order.items self.new.heap self.new.chain) }
+        ensures whole { OnOk result (IsWhole self.new.bound self.new.events.items
+            self.new.order.items self.new.heap self.new.chain) }
         ensures events { OnOk result (late_events self.new.events.items
             ≡ late_events self.old.events.items ++ record { time = time; command = command } ∷ []) }
         ensures placed { IfOk result (λ placed.
@@ -150,8 +153,10 @@ impl<S: Supply> Timeline<S> {
     /// Raises the bound to a time, and drops the logs before the last one at or before the number of events with a time before
     /// the bound. The answer is how many.
     pub(crate) fn commit(&mut self, time: u64) -> u32
-        requires whole { IsWhole self.old.bound self.old.events.items self.old.order.items self.old.heap self.old.chain }
-        ensures whole { IsWhole self.new.bound self.new.events.items self.new.order.items self.new.heap self.new.chain }
+        requires whole { IsWhole self.old.bound self.old.events.items self.old.order.items
+            self.old.heap self.old.chain }
+        ensures whole { IsWhole self.new.bound self.new.events.items self.new.order.items
+            self.new.heap self.new.chain }
         ensures bound { self.new.bound ≡ max self.old.bound time }
         ensures heap { self.new.heap ≡ self.old.heap }
         ensures events { self.new.events.items ≡ self.old.events.items }
@@ -170,17 +175,20 @@ impl<S: Supply> Timeline<S> {
         alloc: Global,
         start: usize,
     ) -> Result<(), AllocError>
-        requires run { IsRun start self.old.bound self.old.events.items self.old.order.items self.old.heap self.old.chain }
+        requires run { IsRun start self.old.bound self.old.events.items self.old.order.items
+            self.old.heap self.old.chain }
         requires start { start ≤ length self.old.events.items }
         requires applied { self.old.heap.applied < 2 ^ 30 }
         requires next_number { self.old.chain.next_number < 2 ^ 30 }
-        ensures run { OnOk result (IsRun (length self.new.events.items) self.old.bound self.new.events.items self.old.order.items self.new.heap self.new.chain) }
+        ensures run { OnOk result (IsRun (length self.new.events.items) self.old.bound
+            self.new.events.items self.old.order.items self.new.heap self.new.chain) }
         ensures events { late_events self.new.events.items ≡ late_events self.old.events.items }
         ensures order { self.new.order ≡ self.old.order }
         ensures bound { self.new.bound ≡ self.old.bound }
         ensures applied { OnOk result (self.new.heap.applied + start
             ≡ self.old.heap.applied + length self.old.events.items) }
-        ensures next_number { OnOk result (self.new.chain.next_number + start ≤ self.old.chain.next_number + length self.old.events.items) }
+        ensures next_number { OnOk result (self.new.chain.next_number + start
+            ≤ self.old.chain.next_number + length self.old.events.items) }
         ensures quota { self.new.heap.quota ≡ self.old.heap.quota }
         ensures origin { self.new.heap.origin ≡ self.old.heap.origin }
         ensures idle { self.new.chain.lifted ≡ None }
