@@ -23,10 +23,6 @@ per_small e least =
 pub chunk_fits : (e i : ℕ) → e ≤ 16 → i < per e → i * size e + size e ≤ 65536
 chunk_fits e i greatest within = omega (arith, row_fits i (size e) (per e) (size e) within (le_refl (size e)), per-size e greatest)
 
--- and so does a part of it
-pub place_fits : (e i at n : ℕ) → e ≤ 16 → i < per e → at + n ≤ size e → i * size e + at + n ≤ 65536
-place_fits e i at n greatest within short = omega (arith, chunk_fits e i greatest within)
-
 -- ---- an area that is seen as another record of the same fields
 
 module _ {area seen : AreaMeaning} (is : area ≡ seen) (valid : IsValidArea area) where

@@ -9,14 +9,14 @@ use Rattle.dym_heap.specs.Meaning.{IsSound}
 use Rattle.dym_chain.specs.AdoptedLogs.{AreEntriesOf}
 use Rattle.dym_chain.specs.Chains.{Belongs, StandsForCopies}
 use Rattle.dym_chain.specs.Keeps.{bytes_of}
-use Rattle.dym_ckpt.specs.Heads.{said}
+use Rattle.dym_ckpt.specs.Heads.{header_meaning}
 use Rattle.dym_ckpt.specs.Lists.{IsListed}
 use Rattle.dym_ckpt.specs.declared.file_reader.FileContent.{FileContent}
 use Rattle.dym_ckpt.specs.declared.file_reader.Loaded.{Loaded}
 
 -- the header and the records of a file's bytes
 pub record IsContentOf (bytes : List ℕ) (content : FileContent) : Type 0 where
-  pub file : IsFile bytes (said content.head) (bytes_of content.record_list.keep.records)
+  pub file : IsFile bytes (header_meaning content.head) (bytes_of content.record_list.keep.records)
   pub listed : IsListed content.head.version content.head.depth content.record_list
 
 -- the heap as a log has it, of which nothing is touched, and the empty one where there is no log

@@ -3,11 +3,11 @@ use Rattle.std.specs.Prelude.{◌≡◌, ℕ, ◌+◌, ◌<◌, ◌≤◌, List,
 use Rattle.std.specs.Int.{w32, to_le_bytes}
 use Rattle.dym_base.specs.Files.{FileHead, version_number}
 use Rattle.dym_base.specs.declared.limits.TheConstants.{MOST_QUOTA, MOST_RECORDS, MOST_DEPTH, MOST_KEPT_LOGS}
-use Rattle.dym_ckpt.specs.declared.head.Head.{Head}
+use Rattle.dym_ckpt.specs.declared.header.Header.{Header}
 
 -- what a header says
-abbrev pub said : Head → FileHead
-said h = record { name = h.name; quota = h.quota; version = h.version; count = h.count; depth = h.depth }
+abbrev pub header_meaning : Header → FileHead
+header_meaning h = record { name = h.name; quota = h.quota; version = h.version; count = h.count; depth = h.depth }
 
 -- the numbers of a header are such as a file can have
 pub record AreWithin (quota count depth : ℕ) : Type 0 where

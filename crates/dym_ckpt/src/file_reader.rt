@@ -15,8 +15,8 @@ ghost use Rattle.dym_ckpt.specs.FileReads.{IsContentOf, IsLoaded, heap_at};
 ghost use Rattle.dym_ckpt.specs.FileRecords.{BeginsWell, FailsAs, AreRead, RecordIsRead, NoRecordIn, StopsAs};
 ghost use Rattle.dym_ckpt.specs.declared.file_reader.FileFail.TheVariants as file_fail;
 
-use crate::head::{Head, head_in};
-use crate::records::{RecordList, Rule, framed_in};
+use crate::header::{Header, head_in};
+use crate::records::{RecordLimits, RecordList, framed_in};
 use dym_base::Name;
 use dym_chain::{Chain, VecKeep};
 use dym_heap::Heap;
@@ -43,7 +43,7 @@ pub struct Loaded {
 /// The header and the records of a file, of which a heap and its logs can be made.
 #[derive(Drop)]
 pub struct FileContent {
-    pub(crate) head: Head,
+    pub(crate) head: Header,
     pub(crate) record_list: RecordList,
 }
 
@@ -137,7 +137,7 @@ pub fn read_file(alloc: Global, bytes: &[u8]) -> Result<FileContent, FileFail>
     let Some((head, rest)) = head_in(bytes) else {
         return Err(FileFail::Bad { part: 0 });
     };
-    let rule = Rule {
+    let rule = RecordLimits {
         version: head.version,
         quota: head.quota,
         depth: head.depth,
@@ -154,7 +154,7 @@ pub fn read_file(alloc: Global, bytes: &[u8]) -> Result<FileContent, FileFail>
 /// The records that stand behind a header, and what is behind them.
 fn read_records(
     alloc: Global,
-    rule: Rule,
+    rule: RecordLimits,
     count: u32,
     bytes: &[u8],
 ) -> Result<(RecordList, &[u8]), FileFail>
@@ -181,7 +181,7 @@ fn read_records(
 /// Appends the record that the bytes begin with, and answers what is behind it.
 fn read_record<'a>(
     alloc: Global,
-    rule: Rule,
+    rule: RecordLimits,
     record_list: &mut RecordList,
     bytes: &'a [u8],
 ) -> Result<&'a [u8], RecordFail>

@@ -9,7 +9,7 @@ ghost use Rattle.dym_slots.specs.Meanings.{record_at};
 ghost use Rattle.dym_chain.specs.KeptRecords.{AreKeptRecords};
 ghost use Rattle.dym_ckpt.specs.SavedFiles.{AreOf, file_of_logs, framed_from};
 
-use crate::head::MAGIC;
+use crate::header::MAGIC;
 use dym_base::{Name, Version};
 use dym_chain::KeptLogs;
 use dym_io::{Sink, SinkFault, push_parts};

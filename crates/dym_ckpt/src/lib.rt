@@ -12,7 +12,7 @@ mod bit_cover;
 mod file_in_memory;
 mod file_reader;
 mod file_writer;
-mod head;
+mod header;
 pub mod laws;
 mod record_order;
 mod records;

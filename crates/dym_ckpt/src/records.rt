@@ -9,7 +9,7 @@ ghost use Rattle.dym_pack.specs.declared.record_parser.RecordFail.TheVariants.{B
 ghost use Rattle.dym_chain.specs.Keeps.{bytes_of};
 ghost use Rattle.dym_ckpt.specs.Lists.{FitsPlace, IsListed, FitsBehind, FollowsLast, NeverFollowsLast, NeverFits, CantBeNext};
 
-use crate::head::number_in;
+use crate::header::number_in;
 use crate::record_order::may_follow;
 use dym_base::limits::MOST_DEPTH;
 use dym_base::{Kind, Version};
@@ -19,7 +19,7 @@ use std::alloc::{AllocError, Global};
 
 /// What a file says of its records: their version, the quota that they are within, and the depth of the oldest kept log.
 #[derive(Clone, Copy)]
-pub(crate) struct Rule {
+pub(crate) struct RecordLimits {
     pub(crate) version: Version,
     pub(crate) quota: u32,
     pub(crate) depth: u8,
@@ -54,7 +54,12 @@ impl RecordList {
 
     /// Appends the record of these bytes. Bad exactly where they are none within the quota, or where it may not stand behind those
     /// that were read.
-    pub(crate) fn add(&mut self, alloc: Global, rule: Rule, bytes: &[u8]) -> Result<(), RecordFail>
+    pub(crate) fn add(
+        &mut self,
+        alloc: Global,
+        rule: RecordLimits,
+        bytes: &[u8],
+    ) -> Result<(), RecordFail>
         requires record_list { IsListed rule.version rule.depth self.old }
         requires few { length self.old.keep.records < MOST_RECORDS }
         ensures record_list { OnOk result (IsListed rule.version rule.depth self.new) }

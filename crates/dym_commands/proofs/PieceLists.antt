@@ -9,13 +9,13 @@ use Rattle.std.proofs.lemmas.List.Sums.{sum_by_push, sum_by-append}
 use Rattle.std.proofs.lemmas.Grind.{flat_map-append}
 use Rattle.dym_base.specs.declared.limits.TheConstants.{MOST_COMMANDS}
 use Rattle.dym_base.specs.declared.command.Command.{Command}
-use Rattle.dym_commands.specs.declared.commands.Later.{Later}
+use Rattle.dym_commands.specs.declared.commands.FollowingBlock.{FollowingBlock}
 use Rattle.dym_commands.specs.declared.commands.Commands.TheInside.{Inside}
 use Rattle.dym_commands.specs.Reads.{read_room}
 use Rattle.dym_commands.specs.Pieces.{behind, commands_in, all_of, Follow, IsAt, AreWhole}
 
 -- no piece starts before the first of them
-starts_behind : (n : ℕ) (others : List Later) (i : ℕ) (d : Later) → Follow n others → i < length others → n ≤ (get_or others i d).start
+starts_behind : (n : ℕ) (others : List FollowingBlock) (i : ℕ) (d : FollowingBlock) → Follow n others → i < length others → n ≤ (get_or others i d).start
 starts_behind n [] i d follow within = absurd (omega (arith, within))
 starts_behind n (later ∷ others) zero d follow within = omega (arith, follow.0)
 starts_behind n (later ∷ others) (suc i) d follow within =
@@ -23,7 +23,7 @@ starts_behind n (later ∷ others) (suc i) d follow within =
     omega (arith, later_on)
 
 -- the starts rise
-starts_rise : (n : ℕ) (others : List Later) (i j : ℕ) (d : Later) → Follow n others → i ≤ j → j < length others → (get_or others i d).start ≤ (get_or others j d).start
+starts_rise : (n : ℕ) (others : List FollowingBlock) (i j : ℕ) (d : FollowingBlock) → Follow n others → i ≤ j → j < length others → (get_or others i d).start ≤ (get_or others j d).start
 starts_rise n [] i j d follow before within = absurd (omega (arith, within))
 starts_rise n (later ∷ others) zero zero d follow before within = omega arith
 starts_rise n (later ∷ others) (suc i) zero d follow before within = absurd (omega (arith, before))
@@ -34,7 +34,7 @@ starts_rise n (later ∷ others) (suc i) (suc j) d follow before within =
     starts_rise (n + length later.piece) others i j d follow.1 (omega (arith, before)) (omega (arith, within))
 
 -- so that a binary search finds where they pass a place
-pub starts_parted : (n k : ℕ) (others : List Later) → Follow n others → IsPartitionedBy (λ (later : Later). nat_le later.start k) others
+pub starts_parted : (n k : ℕ) (others : List FollowingBlock) → Follow n others → IsPartitionedBy (λ (later : FollowingBlock). nat_le later.start k) others
 starts_parted n k others follow i j d before within is =
     let rise = starts_rise n others i j d follow before within in
     let low = leb-true (get_or others j d).start k is in
@@ -54,7 +54,7 @@ in_back (x ∷ xs) ys i =
     in_back xs ys i ∙ ap (slice_get (x ∷ xs ++ ys)) same
 
 -- a command that stands in a piece behind
-behind_first : (n k : ℕ) (first : Later) (others : List Later) (later : Later) → n + length first.piece ≤ k
+behind_first : (n k : ℕ) (first : FollowingBlock) (others : List FollowingBlock) (later : FollowingBlock) → n + length first.piece ≤ k
     → IsAt (n + length first.piece) others k later → IsAt n (first ∷ others) k later
 behind_first n k first others later past at = let place : length first.piece + (k - (n + length first.piece)) ≡ k - n = omega (arith, past) in record {
   reached = at.reached;
@@ -66,7 +66,7 @@ behind_first n k first others later past at = let place : length first.piece + (
 }
 
 -- a command that stands in the first of these pieces
-in_first : (n k : ℕ) (first : Later) (others : List Later) → first.start ≡ n → n ≤ k → k < n + length first.piece → IsAt n (first ∷ others) k first
+in_first : (n k : ℕ) (first : FollowingBlock) (others : List FollowingBlock) → first.start ≡ n → n ≤ k → k < n + length first.piece → IsAt n (first ∷ others) k first
 in_first n k first others start low high = record {
   reached = omega (arith, start, low);
   within = omega (arith, start, low, high);
@@ -76,9 +76,9 @@ in_first n k first others start low high = record {
 }
 
 -- the last piece that starts no later than a command's place is where the command stands
-pub stands_at : (n k p : ℕ) (others : List Later) → Follow n others → n ≤ k → k < n + length (commands_in others) → p ≤ length others
-    → ((i : ℕ) (d : Later) → i < p → (get_or others i d).start ≤ k) → ((i : ℕ) (d : Later) → p ≤ i → i < length others → k < (get_or others i d).start)
-    → (q : ℕ) × (p ≡ suc q) × ((d : Later) → IsAt n others k (get_or others q d))
+pub stands_at : (n k p : ℕ) (others : List FollowingBlock) → Follow n others → n ≤ k → k < n + length (commands_in others) → p ≤ length others
+    → ((i : ℕ) (d : FollowingBlock) → i < p → (get_or others i d).start ≤ k) → ((i : ℕ) (d : FollowingBlock) → p ≤ i → i < length others → k < (get_or others i d).start)
+    → (q : ℕ) × (p ≡ suc q) × ((d : FollowingBlock) → IsAt n others k (get_or others q d))
 stands_at n k p [] follow reached within few low high = absurd (omega (arith, reached, within))
 stands_at n k zero (first ∷ others) follow reached within few low high =
     let past = high 0 first (omega arith) (omega arith) in
@@ -97,16 +97,16 @@ stands_at n k (suc (suc p)) (first ∷ second ∷ others) follow reached within 
     (suc rest.0, ap suc rest.1, λ d. behind_first n k first (second ∷ others) (get_or (second ∷ others) rest.0 d) past (rest.2 d))
 
 -- the same, of what a binary search finds
-pub stands_where_parted : (n k p : ℕ) (others : List Later) → Follow n others → n ≤ k → k < n + length (commands_in others) → p ≤ length others
-    → IsPartitionPoint (λ (later : Later). nat_le later.start k ≡ true) (λ (later : Later). nat_le later.start k ≡ false) others p
-    → (q : ℕ) × (p ≡ suc q) × ((d : Later) → IsAt n others k (get_or others q d))
+pub stands_where_parted : (n k p : ℕ) (others : List FollowingBlock) → Follow n others → n ≤ k → k < n + length (commands_in others) → p ≤ length others
+    → IsPartitionPoint (λ (later : FollowingBlock). nat_le later.start k ≡ true) (λ (later : FollowingBlock). nat_le later.start k ≡ false) others p
+    → (q : ℕ) × (p ≡ suc q) × ((d : FollowingBlock) → IsAt n others k (get_or others q d))
 stands_where_parted n k p others follow reached within few point =
     stands_at n k p others follow reached within few
     (λ i d less. leb-true (get_or others i d).start k (point.0 i d (omega arith) less))
     (λ i d more inside. leb-false (get_or others i d).start k (point.1 i d more inside))
 
 -- the last piece has one command more
-pub last_more : (n : ℕ) (others : List Later) (i : ℕ) (later d : Later) (command : Command) → Follow n others → suc i ≡ length others
+pub last_more : (n : ℕ) (others : List FollowingBlock) (i : ℕ) (later d : FollowingBlock) (command : Command) → Follow n others → suc i ≡ length others
     → later.start ≡ (get_or others i d).start → later.piece ≡ (get_or others i d).piece ++ command ∷ []
     → Follow n (set others i later) × (commands_in (set others i later) ≡ commands_in others ++ command ∷ [])
 last_more n [] i later d command follow last start piece = absurd (omega (arith, last))
@@ -147,7 +147,7 @@ pushed_first command old first some is =
     }
 
 -- a push into the last of the others
-pub pushed_last : (command : Command) (old : Inside) (later d : Later) → Follow (length old.first) old.others.items → 0 < vec_len old.others
+pub pushed_last : (command : Command) (old : Inside) (later d : FollowingBlock) → Follow (length old.first) old.others.items → 0 < vec_len old.others
     → later.start ≡ (get_or old.others.items (vec_len old.others - 1) d).start → later.piece ≡ (get_or old.others.items (vec_len old.others - 1) d).piece ++ command ∷ []
     → IsPushed command old (record old { others = with_item old.others (vec_len old.others - 1) later })
 pushed_last command old later d follow some start piece =
@@ -173,7 +173,7 @@ whole_more command old new room whole pushed = record {
 }
 
 -- no piece starts behind the last of the commands
-pub starts_few : (n : ℕ) (others : List Later) (i : ℕ) (d : Later) → Follow n others → i < length others → (get_or others i d).start ≤ n + length (commands_in others)
+pub starts_few : (n : ℕ) (others : List FollowingBlock) (i : ℕ) (d : FollowingBlock) → Follow n others → i < length others → (get_or others i d).start ≤ n + length (commands_in others)
 starts_few n [] i d follow within = absurd (omega (arith, within))
 starts_few n (later ∷ others) zero d follow within = omega (arith, follow.0)
 starts_few n (later ∷ others) (suc i) d follow within =
@@ -181,19 +181,19 @@ starts_few n (later ∷ others) (suc i) d follow within =
     omega (arith, few, length-append later.piece (commands_in others))
 
 -- pieces behind so many commands more have the same commands
-same_behind : (m : ℕ) (others : List Later) → commands_in (map (behind m) others) ≡ commands_in others
+same_behind : (m : ℕ) (others : List FollowingBlock) → commands_in (map (behind m) others) ≡ commands_in others
 same_behind m [] = refl
 same_behind m (later ∷ others) = ap (λ cs. later.piece ++ cs) (same_behind m others)
 
 -- and follow one another as before
-follow_behind : (m n : ℕ) (others : List Later) → Follow n others → Follow (m + n) (map (behind m) others)
+follow_behind : (m n : ℕ) (others : List FollowingBlock) → Follow n others → Follow (m + n) (map (behind m) others)
 follow_behind m n [] follow = tt
 follow_behind m n (later ∷ others) follow =
     let place : m + (n + length later.piece) ≡ m + n + length later.piece = omega arith in
     (ap (λ s. m + s) follow.0, subst (λ s. Follow s (map (behind m) others)) place (follow_behind m (n + length later.piece) others follow.1))
 
 -- pieces behind others
-follow_both : (n : ℕ) (others more : List Later) → Follow n others → Follow (n + length (commands_in others)) more → Follow n (others ++ more)
+follow_both : (n : ℕ) (others more : List FollowingBlock) → Follow n others → Follow (n + length (commands_in others)) more → Follow n (others ++ more)
 follow_both n [] more follow next = let place : n + 0 ≡ n = omega arith in subst (λ s. Follow s more) place next
 follow_both n (later ∷ others) more follow next =
     let place : n + length (later.piece ++ commands_in others) ≡ n + length later.piece + length (commands_in others) =
@@ -201,15 +201,15 @@ follow_both n (later ∷ others) more follow next =
     (follow.0, follow_both (n + length later.piece) others more follow.1 (subst (λ s. Follow s more) place next))
 
 -- the pieces of both, those of the second behind those of the first
-abbrev pub appended : Inside → Inside → List Later
+abbrev pub appended : Inside → Inside → List FollowingBlock
 appended old other = old.others.items ++ record { start = old.len; piece = other.first } ∷ [] ++ map (behind old.len) other.others.items
 
 -- they have the commands of both
 pub appended_is : (old other : Inside) → all_of old.first (appended old other) ≡ all_of old.first old.others.items ++ all_of other.first other.others.items
 appended_is old other =
-    let piece : Later = record { start = old.len; piece = other.first } in
-    let front = flat_map-append (λ (later : Later). later.piece) old.others.items (piece ∷ []) ∙ ap (λ cs. commands_in old.others.items ++ cs) (append-nil other.first) in
-    let both = flat_map-append (λ (later : Later). later.piece) (old.others.items ++ piece ∷ []) (map (behind old.len) other.others.items) in
+    let piece : FollowingBlock = record { start = old.len; piece = other.first } in
+    let front = flat_map-append (λ (later : FollowingBlock). later.piece) old.others.items (piece ∷ []) ∙ ap (λ cs. commands_in old.others.items ++ cs) (append-nil other.first) in
+    let both = flat_map-append (λ (later : FollowingBlock). later.piece) (old.others.items ++ piece ∷ []) (map (behind old.len) other.others.items) in
     ap (λ cs. old.first ++ cs)
     (both ∙ (λ i. front i ++ same_behind old.len other.others.items i) ∙ append_assoc (commands_in old.others.items) other.first (commands_in other.others.items))
     ∙ sym (append_assoc old.first (commands_in old.others.items) (all_of other.first other.others.items))
@@ -218,10 +218,10 @@ appended_is old other =
 appended_follow : (old other : Inside) → AreWhole old.first old.others.items old.len old.read_bytes
     → Follow (length other.first) other.others.items → Follow (length old.first) (appended old other)
 appended_follow old other whole follow =
-    let piece : Later = record { start = old.len; piece = other.first } in
+    let piece : FollowingBlock = record { start = old.len; piece = other.first } in
     let start : old.len ≡ length old.first + length (commands_in old.others.items) = omega (arith, whole.count, length-append old.first (commands_in old.others.items)) in
     let front = ap length
-    (flat_map-append (λ (later : Later). later.piece) old.others.items (piece ∷ []) ∙ ap (λ cs. commands_in old.others.items ++ cs) (append-nil other.first)) in
+    (flat_map-append (λ (later : FollowingBlock). later.piece) old.others.items (piece ∷ []) ∙ ap (λ cs. commands_in old.others.items ++ cs) (append-nil other.first)) in
     let place : old.len + length other.first ≡ length old.first + length (commands_in (old.others.items ++ piece ∷ [])) =
     omega (arith, start, front, length-append (commands_in old.others.items) other.first) in
     follow_both (length old.first) (old.others.items ++ piece ∷ []) (map (behind old.len) other.others.items)

@@ -5,8 +5,8 @@ ghost use Rattle.dym_commands.specs.Requests.{asks};
 ghost use Rattle.dym_commands.specs.Reads.{read_room};
 ghost use Rattle.dym_commands.specs.Pieces.{behind, commands_in, Follow, IsAt};
 
+use crate::command_block::CommandBlock;
 use crate::hex_bytes::HexBytes;
-use crate::piece::Piece;
 use crate::request::Request;
 use crate::runner::Runner;
 use std::alloc::{AllocError, Global};
@@ -16,18 +16,18 @@ use std::marker::Model;
 /// came in, so that no command is copied. Nothing is borrowed or shared, so that they move to a worker whole.
 #[derive(Drop)]
 pub struct Commands {
-    first: Piece,
+    first: CommandBlock,
     /// The pieces behind the first.
-    others: Vec<Later>,
+    others: Vec<FollowingBlock>,
     len: usize,
     read_bytes: usize,
 }
 
 /// A piece behind others, and how many commands stand before it.
 #[derive(Drop)]
-pub(crate) struct Later {
+pub(crate) struct FollowingBlock {
     pub start: usize,
-    pub piece: Piece,
+    pub piece: CommandBlock,
 }
 
 impl Model for Commands {
@@ -48,7 +48,7 @@ impl Commands {
         ensures { result ≡ [] }
     {
         Commands {
-            first: Piece::new(alloc),
+            first: CommandBlock::new(alloc),
             others: Vec::new(alloc),
             len: 0,
             read_bytes: 0,
@@ -116,7 +116,7 @@ impl Commands {
             len,
             read_bytes,
         } = other;
-        self.others.push_reserved(Later {
+        self.others.push_reserved(FollowingBlock {
             start: self.len,
             piece: first,
         });
@@ -149,14 +149,14 @@ impl Commands {
 }
 
 /// Appends pieces, behind so many commands more. There is room for them.
-fn append_behind(list: &mut Vec<Later>, before: usize, pieces: Vec<Later>)
+fn append_behind(list: &mut Vec<FollowingBlock>, before: usize, pieces: Vec<FollowingBlock>)
     requires room { vec_len list.old + vec_len pieces ≤ vec_capacity list.old }
     requires before { before ≤ MOST_COMMANDS }
     requires starts { All (λ later. later.start ≤ MOST_COMMANDS) pieces.items }
     ensures { list.new.items ≡ list.old.items ++ map (behind before) pieces.items }
 {
     for later in pieces {
-        list.push_reserved(Later {
+        list.push_reserved(FollowingBlock {
             start: before + later.start,
             piece: later.piece,
         });
@@ -164,7 +164,7 @@ fn append_behind(list: &mut Vec<Later>, before: usize, pieces: Vec<Later>)
 }
 
 /// The piece in which a command stands.
-fn later_at(others: &[Later], k: usize) -> &Later
+fn later_at(others: &[FollowingBlock], k: usize) -> &FollowingBlock
     requires { (n : ℕ) × Follow n others.now × (n ≤ k) × (k < n + length (commands_in others.now)) }
     ensures { (n : ℕ) → Follow n others.now → n ≤ k → k < n + length (commands_in others.now) → IsAt n others.now k result.now }
 {

@@ -7,11 +7,11 @@
 //! more have room, which is taken before the run. Nothing above sees how either is kept.
 #![tactic(auto)]
 
+mod command_block;
 mod commands;
 mod digits;
 mod hex_bytes;
 mod packed_handle;
-mod piece;
 mod replies;
 mod request;
 mod runner;

@@ -11,7 +11,7 @@ use Rattle.dym_base.specs.declared.limits.TheConstants.{MOST_INPUT_BYTES, MOST_O
 use Rattle.dym_script.specs.declared.script.Decl.{Decl}
 use Rattle.dym_script.specs.declared.script.Line.{Line}
 use Rattle.dym_base.specs.Lines.{lines_of}
-use Rattle.dym_script.specs.Scripts.{Said, Reading, Fault, object_of, start, go_on, read_line, read_lines, script_of}
+use Rattle.dym_script.specs.Scripts.{ScriptMeaning, Reading, Fault, object_of, start, go_on, read_line, read_lines, script_of}
 use Rattle.dym_script.proofs.Index.{with_last, object_of_push}
 use Rattle.dym_gen.specs.Commands.{fixed_command, command_text}
 use Rattle.dym_gen.specs.Scripts.{object_line, command_line, line_state, command_lines, object_lines, generated}
@@ -155,8 +155,8 @@ command_read short objects k x number r after some few within is count =
     }
 
 -- what the lines of all commands make of a reading
-record AsksAll (objects n k : ℕ) (r : Reading) (read : Result Said Fault) : Type 0 where
-  said : Said
+record AsksAll (objects n k : ℕ) (r : Reading) (read : Result ScriptMeaning Fault) : Type 0 where
+  said : ScriptMeaning
   is : read ≡ Ok said
   same : said.objects ≡ r.said.objects
   count : length said.lines ≡ k + n
@@ -179,7 +179,7 @@ commands_read short objects (suc n) k x number r some few within is count =
 -- The whole
 
 -- a text that isn't too long says what its lines do
-script_read : (bytes : List ℕ) (said : Said) → length bytes ≤ MOST_INPUT_BYTES → read_lines start 1 (lines_of bytes) ≡ Ok said → script_of bytes ≡ Ok said
+script_read : (bytes : List ℕ) (said : ScriptMeaning) → length bytes ≤ MOST_INPUT_BYTES → read_lines start 1 (lines_of bytes) ≡ Ok said → script_of bytes ≡ Ok said
 unfolding script_of
 script_read bytes said short read =
     let fits : nat_lt MOST_INPUT_BYTES (length bytes) ≡ false = grind (arith, nat_tests) in

@@ -1,12 +1,12 @@
 -- What the grammar gives for a made script.
 use Rattle.std.specs.Prelude.{◌≡◌, ℕ, ◌<◌, ◌≤◌, List, length, Ok}
 use Rattle.dym_base.specs.declared.limits.TheConstants.{MOST_OBJECTS, MOST_MADE_COMMANDS}
-use Rattle.dym_script.specs.Scripts.{Said, script_of}
+use Rattle.dym_script.specs.Scripts.{ScriptMeaning, script_of}
 use Rattle.dym_gen.specs.Scripts.{generated}
 
 -- the text is a good script, with so many objects and commands
 pub record IsScriptWith (text : List ℕ) (object_count command_count : ℕ) : Type 0 where
-  pub said : Said
+  pub said : ScriptMeaning
   pub good : script_of text ≡ Ok said
   pub objects : length said.objects ≡ object_count
   pub commands : length said.lines ≡ command_count

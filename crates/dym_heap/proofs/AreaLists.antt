@@ -161,9 +161,6 @@ lies_in live q low high h =
 pub number_k : {live : Live} {k : ℕ} (i : ℕ) (n : Named live k) → chunk_number live k i ≡ number n.e (n.o * per n.e + i)
 number_k i n = ap (λ (a : AreaName). number a.exponent (a.ordinal * per a.exponent + i)) n.is
 
-pub per_k : (live : Live) (k : ℕ) (n : Named live k) → chunks_of live k ≡ per n.e
-per_k live k n = ap (λ (a : AreaName). per a.exponent) n.is
-
 pub small_k : {live : Live} {k : ℕ} (i : ℕ) (n : Named live k) → held live ≤ 1024 → k < held live → i < per n.e → n.o * per n.e + i < 2 ^ 32
 small_k i n few l below =
     let b = n.below in

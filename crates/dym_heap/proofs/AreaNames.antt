@@ -28,8 +28,7 @@ abbrev pub name_of : SizedAreaMeaning → AreaName
 name_of p = record { exponent = p.exponent; ordinal = p.ordinal }
 
 -- lists of classes that are the names of ranges
-joined : (f : ℕ → List AreaName) (starts : List ℕ) (sized_areas : List SizedAreaMeaning) (e a n : ℕ)
-    → ((i : ℕ) → i ≤ n → get_or starts (a + i) 0 ≤ length sized_areas)
+joined : (f : ℕ → List AreaName) (starts : List ℕ) (sized_areas : List SizedAreaMeaning) (e a n : ℕ) → ((i : ℕ) → i ≤ n → get_or starts (a + i) 0 ≤ length sized_areas)
     → ((i : ℕ) → i < n → get_or starts (a + i) 0 ≤ get_or starts (a + i + 1) 0)
     → ((i : ℕ) → i < n → f (e + i) ≡ map name_of (between (get_or starts (a + i) 0) (get_or starts (a + i + 1) 0) sized_areas))
     → (get_or starts a 0 ≤ get_or starts (a + n) 0) × (flat_map f (range_with_len e n) ≡ map name_of (between (get_or starts a 0) (get_or starts (a + n) 0) sized_areas))

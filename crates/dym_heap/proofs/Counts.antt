@@ -86,13 +86,6 @@ pub record Counted (bytes counts : List ℕ) (k : ℕ) : Type 0 where
   pub under : (log : Logged) → IsRecorded log → packed log ≡ bytes → (c : ℕ) → c < 12 → get_or counts c 0 ≤ areas log.copy (c + 5)
   pub over : (log : Logged) → IsRecorded log → packed log ≡ bytes → (m : ℕ) → m < k → (area_at log.copy m).ordinal < get_or counts ((area_at log.copy m).exponent - 5) 0
 
-pub counted_none : (bytes counts : List ℕ) → length counts ≡ 12 → ((c : ℕ) → get_or counts c 0 ≡ 0) → Counted bytes counts 0
-counted_none bytes counts long zeros = record {
-  long = long;
-  under = λ log is e c l. let z = zeros c in omega arith;
-  over = λ log is e m l. absurd (omega arith);
-}
-
 pub counted_more : {bytes counts : List ℕ} {k c : ℕ} (e o : ℕ) {x : ℕ} → Counted bytes counts k → IsRecord bytes → OfLog bytes (λ log. k < held log.copy) → OfLog bytes (λ log. e ≡ (area_at log.copy k).exponent) → OfLog bytes (λ log. o ≡ (area_at log.copy k).ordinal)
     → c ≡ e - 5 → x ≡ max (get_or counts c 0) (o + 1) → Counted bytes (set counts c x) (k + 1)
 counted_more {counts} {k} {c} e o {x} was has inside exp ord c_is x_is =

@@ -320,8 +320,7 @@ module _ {old : AreaMeaning} {bits wanted : List Bool} {body : List ℕ} (sub : 
   pub one_more : (s : ℕ) (now' : AreaMeaning) → s ≡ size old.exponent
       → IsLoadedRange now now' wanted start end (λ i. part_of (between at (at + (end - start) * s) body) ((i - start) * size now.exponent) (size now.exponent))
       → (f : ℕ → List ℕ) → IsBodyOf One old.exponent bits body f → LoadedTo One old bits wanted body f now' end (at + (end - start) * s)
-  one_more s now' is_s range f is =
-      more_run is sub valid (inv f is) (next_run f) (ap (λ k. (end - start) * k) is_s) refl range
+  one_more s now' is_s range f is = more_run is sub valid (inv f is) (next_run f) (ap (λ k. (end - start) * k) is_s) refl range
 
 pub first_below : {v : Version} {e : ℕ} {bits : List Bool} {body : List ℕ} (i : ℕ) → 5 ≤ e → IsBody v e bits body → IsSet bits i → i < 2048
 first_below {e} i low has h = let l = has.1.below i h in let p = per_fits low in omega arith
@@ -371,8 +370,7 @@ module _ {old : AreaMeaning} {bits wanted : List Bool} {body : List ℕ} (sub : 
 
   pub two_more : (n : ℕ) (now' : AreaMeaning) → n ≡ from_le_bytes w32 (between at (at + 4) body) → IsLoadedRange now now' wanted i (i + 1) (λ _. between (at + 4) (at + 4 + n) body)
       → (f : ℕ → List ℕ) → IsBodyOf Two old.exponent bits body f → LoadedTo Two old bits wanted body f now' (i + 1) (at + 4 + n)
-  two_more n now' is_n range f is =
-      more_two is sub valid (inv f is) (next_one f) (two_number is_n is) refl range
+  two_more n now' is_n range f is = more_two is sub valid (inv f is) (next_one f) (two_number is_n is) refl range
 
   pub two_noted : {n m : ℕ} (ls : List ℕ) {ls' : List ℕ} (ls0 : List ℕ) → i < length ls → n ≡ from_le_bytes w32 (between at (at + 4) body) → m ≡ n → ls' ≡ cond (bit_in wanted i) (set ls i m) ls
       → {f : ℕ → List ℕ} → IsBodyOf Two old.exponent bits body f → NotedTo ls0 ls wanted f from → NotedTo ls0 ls' wanted f (i + 1)

@@ -93,12 +93,6 @@ module _ {v : Version} {quota : ℕ} {ids : List SegmentId} {origin : Origin} {s
           | inr past ↦ (let gone : is_some (get_or q.chunks j None) ≡ false = ap is_some (get_or_past q.chunks j None (let n = long_q in omega arith)) in absurd cc)
         ]
 
-    pub place_n : start_of k + o < length sized_areas
-    place_n = let c = count_k same in let top = c.2 in let up = c.1 in omega arith
-
-    pub below_n : (j : ℕ) → IsUsedFrom q.chunks 0 j → j < r
-    below_n j found = inside_q j found.used
-
     pub found_n : (from : ℕ) {ch f : ℕ} → FreeUpTo s.rows (e - 5) from (o * r + ch) → from ≤ o * r + ch → ch < r → IsUsedFrom q.chunks ch f → (f < r) × IsNextUsed s.rows (e - 5) from (o * r + f)
     found_n from {ch} {f} free start small found =
         let below : f < r = inside_q f found.used in

@@ -44,8 +44,7 @@ module _ {v : Version} {starts : List ℕ} {sized_areas : List SizedAreaMeaning}
       ]
 
   -- the ranges of other classes don't hold place k of class c
-  out_of : {c d : ℕ} (k : ℕ) → c < 12 → d < 12 → (d ≡ c → ⊥)
-      → start_of c ≤ k → k < start_of (c + 1) → (k < start_of d) ⊎ (start_of (d + 1) ≤ k)
+  out_of : {c d : ℕ} (k : ℕ) → c < 12 → d < 12 → (d ≡ c → ⊥) → start_of c ≤ k → k < start_of (c + 1) → (k < start_of d) ⊎ (start_of (d + 1) ≤ k)
   out_of {c} {d} k l m ne low high =
       elim (cases_lt d c) as (λ _. (k < start_of d) ⊎ (start_of (d + 1) ≤ k)) [
         | inl below ↦ (let up = starts_mono (d + 1) (c - (d + 1)) is (omega arith) in
@@ -341,8 +340,7 @@ module _ {v : Version} {starts : List ℕ} {sized_areas : List SizedAreaMeaning}
             subst HasFree (sym was.1) (is.unmarked d q y m was.0 h);
       }
 
-  pub rows-remove : {starts' : List ℕ} {c : ℕ} (p : ℕ) → c < 12 → Unshifts starts starts' c
-      → p + 1 ≡ start_of (c + 1) → start_of c ≤ p
+  pub rows-remove : {starts' : List ℕ} {c : ℕ} (p : ℕ) → c < 12 → Unshifts starts starts' c → p + 1 ≡ start_of (c + 1) → start_of c ≤ p
       → rows_upto 12 starts' (remove sized_areas p) ≡ set (rows_upto 12 starts sized_areas) c (shorter ((p - start_of c) * per (c + 5)) (row_at (rows_upto 12 starts sized_areas) c))
   rows-remove {starts'} {c} p l shift last some =
       let top = class_end is l in

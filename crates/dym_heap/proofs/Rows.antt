@@ -69,9 +69,6 @@ module _ {v : Version} {starts : List ℕ} {sized_areas : List SizedAreaMeaning}
   pub count_c : ℕ
   count_c = get_or starts (c + 1) 0 - get_or starts c 0
 
-  row_c : List SizedAreaMeaning
-  row_c = class_sized_areas starts sized_areas c
-
   pub count_is : count_c + get_or starts c 0 ≡ get_or starts (c + 1) 0
   unfolding count_c
   count_is = let up = is.rising c l in omega arith

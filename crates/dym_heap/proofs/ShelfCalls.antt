@@ -106,7 +106,7 @@ module _ {v : Version} {quota : ℕ} {ids : List SegmentId} {origin : Origin} {s
   changed_at p f old there step valid =
       let step' : p ≡ area_with_chunk (get_or sized_areas k q) j (Some (f old)) true = step ∙ ap (λ z. area_with_chunk z j (Some (f old)) true) here in
       let there' : get_or (get_or sized_areas k q).chunks j None ≡ Some old = sym (ap (λ (z : SizedAreaMeaning). get_or z.chunks j None) here) ∙ there in
-      let marks = remarks_kept (e - 5) o j q (f old) true is.arranged spot.location.small spot.location.within spot.location.at step' (ap is_some there')
+      let marks = remarks_kept is.arranged (e - 5) o j q (f old) true spot.location.small spot.location.within spot.location.at step' (ap is_some there')
       (facts.chunk_in_s view is spot.location q) in
       let now = now_put (Some (f old)) true step valid marks in
       record {
@@ -127,7 +127,7 @@ module _ {v : Version} {quota : ℕ} {ids : List SegmentId} {origin : Origin} {s
   pub released : {p : SizedAreaMeaning} {full' : List (List Bool)} → p ≡ area_with_chunk q j None false → IsSizedArea p → full' ≡ marks_with full (e - 5) o false → Now p full' None false
   released {p} {full'} step valid marks =
       let free : HasFree p = subst HasFree (sym step) (j, (let l = inside_e in omega (arith, length-set q.chunks j None)), none_there q.chunks j inside_e) in
-      now_put None false step valid (subst (λ f. Remarks full f (e - 5) o p) (sym marks) (remarks_released (e - 5) o p is.arranged spot.location.small few_e free))
+      now_put None false step valid (subst (λ f. Remarks full f (e - 5) o p) (sym marks) (remarks_released is.arranged (e - 5) o p spot.location.small few_e free))
 
   -- ---- a chunk is taken
 
@@ -135,7 +135,7 @@ module _ {v : Version} {quota : ℕ} {ids : List SegmentId} {origin : Origin} {s
       → IsClear (marks_of_class full (e - 5)) o → full' ≡ cond b (marks_with full (e - 5) o true) full → IsTrue b ↔ IsFullArea p → Now p full' (Some (replicate n 0)) true
   taken {p} {full'} n b step valid clear after filled =
       now_put (Some (replicate n 0)) true step valid
-      (remarks_taken (e - 5) o p b is.arranged spot.location.small few_e clear after filled (λ h. free_from p (λ all. (let t = filled.1 all in absurd cc))))
+      (remarks_taken is.arranged (e - 5) o p b spot.location.small few_e clear after filled (λ h. free_from p (λ all. (let t = filled.1 all in absurd cc))))
 
 module _ {v : Version} {quota : ℕ} {ids : List SegmentId} {origin : Origin} {starts : List ℕ} {sized_areas : List SizedAreaMeaning} {full : List (List Bool)} {room spare spare_room : ℕ}
     {s : ShelfMeaning} (view : shelf_of v quota ids origin starts sized_areas ≡ s) (is : IsShelf v quota ids starts sized_areas full room spare spare_room) {e : ℕ} (low : 5 ≤ e) (high : e ≤ 16) where

@@ -20,8 +20,7 @@ fits_some (Some x) n h = (x, refl)
 module _ {v : Version} {quota : ℕ} {ids : List SegmentId} {origin : Origin} {starts : List ℕ} {sized_areas : List SizedAreaMeaning} {full : List (List Bool)} {room spare spare_room : ℕ}
     {s : ShelfMeaning} (view : shelf_of v quota ids origin starts sized_areas ≡ s) (is : IsShelf v quota ids starts sized_areas full room spare spare_room) {e : ℕ} (low : 5 ≤ e) (high : e ≤ 16) {f : ℕ} (low' : 5 ≤ f) (high' : f ≤ 16) where
   -- the areas are not the same
-  pub other_place : (i : ℕ) {o j k : ℕ} (i' : ℕ) {o' j' k' : ℕ} → (e ≡ f → ⊥) → Finds view is low high i o j k
-      → Finds view is low' high' i' o' j' k' → k ≡ k' → ⊥
+  pub other_place : (i : ℕ) {o j k : ℕ} (i' : ℕ) {o' j' k' : ℕ} → (e ≡ f → ⊥) → Finds view is low high i o j k → Finds view is low' high' i' o' j' k' → k ≡ k' → ⊥
   other_place i {o} i' {o'} other finds finds' same =
       let a = (calls.spot_e view is low high i finds).location in
       let b = (calls.spot_e view is low' high' i' finds').location in

@@ -93,9 +93,6 @@ module _ {v : Version} {quota : ℕ} {ids : List SegmentId} {origin : Origin} {s
   positive : (c : ℕ) → 0 < per (c + 5)
   positive c = pow_pos (16 - (c + 5))
 
-  pub spot_of : (c i k : ℕ) → c < 12 → get_or starts c 0 + i / per (c + 5) < get_or starts (c + 1) 0 → k ≡ get_or starts c 0 + i / per (c + 5) → ChunkLocation c (i / per (c + 5)) (i % per (c + 5)) k
-  spot_of c i k l within at = record { small = l; within = within; at = at; below = mod_below i (per (c + 5)) (positive c) }
-
   pub index_s : (c i : ℕ) → i / per (c + 5) * per (c + 5) + i % per (c + 5) ≡ i
   index_s c i = div-add-mod' i (per (c + 5))
 

@@ -119,8 +119,7 @@ get_or_cut xs n i d gone =
 
 -- a change of one row that keeps each of its chunks and marks keeps the state
 pub state_of-same : {s t : ShelfMeaning} (c : ℕ) (r : Row) → IsValidShelf s → IsValidShelf t → t.rows ≡ set s.rows c r → c < 12
-    → ((i : ℕ) → get_or r.chunks i None ≡ chunk_at s.rows c i) → ((i : ℕ) → get_or r.touched i false ≡ touch_at s.rows c i)
-    → state_of t.rows ≡ state_of s.rows
+    → ((i : ℕ) → get_or r.chunks i None ≡ chunk_at s.rows c i) → ((i : ℕ) → get_or r.touched i false ≡ touch_at s.rows c i) → state_of t.rows ≡ state_of s.rows
 state_of-same {s} {t} c r valid_shelf valid_shelf' is l chunks marks =
     let n = valid_shelf.classes in
     let at : (d : ℕ) → (row_at t.rows d ≡ row_at (set s.rows c r) d) = λ d. ap (λ rs. row_at rs d) is in

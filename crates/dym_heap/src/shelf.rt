@@ -67,7 +67,7 @@ impl<S: Supply> Model for Shelf<S> {
     ghost invariant = { λ s. IsShelf s.version (S.quota_of s.supply) (S.held_ids s.supply)
         s.starts s.sized_areas.items s.full.items
         (vec_capacity s.sized_areas) (vec_len s.spare) (vec_capacity s.spare)
-        × AreBound (S.bound (S.origin s.supply) (S.quota_of s.supply)) s.sized_areas.items };
+        × AreBound (S.binding (S.origin s.supply) (S.quota_of s.supply)) s.sized_areas.items };
 }
 
 impl<S: Supply> Shelf<S> {

@@ -6,7 +6,7 @@ use Rattle.std.proofs.lemmas.Grind.{flat_map-append}
 use Rattle.std.specs.Io.KnownBytes.{Appends, Keeps}
 use Rattle.std.proofs.KnownBytes.{Appends-nil, Appends-trans}
 use Rattle.dym_io.specs.Faults.{Rose, RoseOnce}
-use Rattle.dym_io.specs.Sink.{Output, Appended, AppendedFront, Stopped, Writes, Blames, WritesOr, Leaves}
+use Rattle.dym_io.specs.Sink.{Output, Appended, AppendedFront, Stopped, Writes, FaultsTellCause, WritesOr, Leaves}
 
 -- ---- a fault in the last part of a call
 
@@ -79,8 +79,8 @@ writes_after a b c t u (Ok x) p q = appended_both a b c t u p q
 writes_after a b c t u (Err e) p q = stopped_after a b c t u p q
 
 -- what the count tells of a cause it tells behind a text that was written, too
-pub blames_later : (is_sinks : Type 0) (a b c : Output) (t : List ℕ) → Appended a b t → Blames is_sinks b c → Blames is_sinks a c
-blames_later is_sinks a b c t p q = (λ is. rose_later a.faults b.faults c.faults p.faults (q.0 is), λ other. q.1 other ∙ p.faults)
+pub cause_told_later : (is_sinks : Type 0) (a b c : Output) (t : List ℕ) → Appended a b t → FaultsTellCause is_sinks b c → FaultsTellCause is_sinks a c
+cause_told_later is_sinks a b c t p q = (λ is. rose_later a.faults b.faults c.faults p.faults (q.0 is), λ other. q.1 other ∙ p.faults)
 
 -- ---- at an error that `?` passes on
 

@@ -50,13 +50,13 @@ abbrev pub Writes : {T E : Type 0} → Output → Output → List ℕ → Result
 Writes old new text result = MatchResult result (λ _. Appended old new text) (λ _. Stopped old new text)
 
 -- What the count of faults tells of an error's cause: one call failed where the sink is the cause, and none where it isn't.
-abbrev pub Blames : Type 0 → Output → Output → Type 0
-Blames is_sinks old new = (is_sinks → RoseOnce old.faults new.faults) × (¬ is_sinks → new.faults ≡ old.faults)
+abbrev pub FaultsTellCause : Type 0 → Output → Output → Type 0
+FaultsTellCause is_sinks old new = (is_sinks → RoseOnce old.faults new.faults) × (¬ is_sinks → new.faults ≡ old.faults)
 
 -- The same where an error may have another cause than the sink.
 abbrev pub WritesOr : {T E : Type 0} → (E → Type 0) → Output → Output → List ℕ → Result T E → Type 0
 WritesOr IsSinks old new text result =
-    MatchResult result (λ _. Appended old new text) (λ e. AppendedFront old new text × Blames (IsSinks e) old new)
+    MatchResult result (λ _. Appended old new text) (λ e. AppendedFront old new text × FaultsTellCause (IsSinks e) old new)
 
 -- Of a text all but this rest was written.
 pub record Leaves (old new : Output) (text rest : List ℕ) : Type 0 where

@@ -13,11 +13,11 @@ use Rattle.dym_base.specs.declared.command.Version.TheVariants.{One}
 use Rattle.dym_heap.specs.Meaning.{HeapMeaning, IsSound}
 use Rattle.dym_chain.specs.Chains.{ChainMeaning, Belongs, object_of}
 use Rattle.dym_late.specs.declared.event.Event.{Event}
-use Rattle.dym_late.specs.Marks.{last_mark, oldest_mark, live_after, AreMarks, start_of}
-use Rattle.dym_late.specs.Orders.{no_event, event_at, spot, IsOrder}
+use Rattle.dym_late.specs.Marks.{last_log_point, oldest_log_point, live_after, AreMarks, start_of}
+use Rattle.dym_late.specs.Orders.{no_event, event_at, rank, IsOrder}
 use Rattle.dym_late.specs.Timelines.{late_event, late_events, replies_of, IsRun, IsWhole}
 use Rattle.dym_late.proofs.Counts.{before_push, before_no, before_rises, before_most, to_most, length_order, order_push, take_order}
-use Rattle.dym_late.proofs.Places.{order_grows, old_event, new_event, old_spot, new_spot}
+use Rattle.dym_late.proofs.Places.{order_grows, old_event, new_event, old_rank, new_rank}
 use Rattle.dym_late.proofs.Folds.{reply_there, replayed_push}
 use Rattle.dym_late.proofs.Marked.{marks_take, marks_newest, marks_reached, marks_moved, newest_some}
 use Rattle.dym_late.proofs.Searches.{many_late}
@@ -87,7 +87,7 @@ module _ (bound : ℕ) (events : List Event) (numbers : List ℕ) (heap : HeapMe
   p = events_to e.time late
 
   abbrev b : ℕ
-  b = oldest_mark bound late
+  b = oldest_log_point bound late
 
   p_most : p ≤ n
   p_most = (let most = to_most e.time late in let many = many_late events in omega (arith, most, many))
@@ -105,11 +105,11 @@ module _ (bound : ℕ) (events : List Event) (numbers : List ℕ) (heap : HeapMe
   pub log_there : p < n → 0 < reached (log_before p) chain.logs
   log_there less = (let is = r_is heap.quota ordered b p held whole.run.logs b_low (b_high less) in let low = b_low in omega (arith, is, low))
 
-  same_mark : oldest_mark bound (late ++ late_event e ∷ []) ≡ b
+  same_mark : oldest_log_point bound (late ++ late_event e ∷ []) ≡ b
   same_mark =
       let pushed = before_push bound late (late_event e) in
       let none = before_no bound (late_event e) late_enough in
-      ap last_mark (omega (arith, pushed, none))
+      ap last_log_point (omega (arith, pushed, none))
 
   module _ (after : HeapMeaning) (back : ChainMeaning) (ahead : p < n → object_of after.state back ≡ (restore held (log_before p)).object)
       (last : n ≤ p → (after.state ≡ heap.state) × (back.logs ≡ chain.logs)) (heaps : after ≡ record heap { state = after.state; held_ids = after.held_ids })
@@ -157,8 +157,8 @@ module _ (bound : ℕ) (events : List Event) (numbers : List ℕ) (heap : HeapMe
           ∙ ap (live_after heap.quota again) (sym is))
     ]
 
-    count : length back.logs + b ≡ last_mark start + 1
-    count = elim (cases_lt p n) as (λ _. length back.logs + b ≡ last_mark start + 1) [
+    count : length back.logs + b ≡ last_log_point start + 1
+    count = elim (cases_lt p n) as (λ _. length back.logs + b ≡ last_log_point start + 1) [
       | inl less ↦ (
           let is = start_back less in
           let same = ap (λ (o : ObjectState). length o.logs) (ahead less) in
@@ -168,7 +168,7 @@ module _ (bound : ℕ) (events : List Event) (numbers : List ℕ) (heap : HeapMe
           let is = start_last least in
           let same = ap length (last least).1 in
           let kept = whole.run.kept in
-          omega (arith, kept, same, ap last_mark is))
+          omega (arith, kept, same, ap last_log_point is))
     ]
 
     marks_late : AreMarks heap.quota ordered b back.logs
@@ -196,39 +196,39 @@ module _ (bound : ℕ) (events : List Event) (numbers : List ℕ) (heap : HeapMe
         ∙ ap (λ x. Some (heap_step One heap.quota (heap_after One heap.quota empty_heap (take j ordered)) x.command).reply) (same_event j before)
         ∙ sym (reply_there One heap.quota empty_heap ordered j (omega (arith, all, most, before)))
 
-    spot_same : (k : ℕ) → k < n → spot more k < p → spot more k ≡ spot late k
-    spot_same k within before =
+    rank_same : (k : ℕ) → k < n → rank more k < p → rank more k ≡ rank late k
+    rank_same k within before =
         let many = many_late events in
         let in_late : k < length late = omega (arith, many, within) in
-        let moved = old_spot late (late_event e) k in_late in
+        let moved = old_rank late (late_event e) k in_late in
         let t : ℕ = (event_at late k).time in
-        elim (cases_lt e.time t) as (λ _. spot more k ≡ spot late k) [
+        elim (cases_lt e.time t) as (λ _. rank more k ≡ rank late k) [
           | inl later ↦ (
-              let there = ap (λ i. (event_at late i).time) (whole.run.order.at_spot k in_late) in
-              elim (cases_lt (spot late k) p) as (λ _. spot more k ≡ spot late k) [
-                | inl less ↦ (let early = whole.run.order.early (spot late k) e.time less in absurd (omega (arith, early, there, later)))
+              let there = ap (λ i. (event_at late i).time) (whole.run.order.at_rank k in_late) in
+              elim (cases_lt (rank late k) p) as (λ _. rank more k ≡ rank late k) [
+                | inl less ↦ (let early = whole.run.order.early (rank late k) e.time less in absurd (omega (arith, early, there, later)))
                 | inr least ↦ absurd (omega (arith, moved, least, before))
               ])
           | inr sooner ↦ (let none = before_no t (late_event e) sooner in omega (arith, moved, none))
         ]
 
-    replies : (k : ℕ) → k < length (events ++ e ∷ []) → spot more k < start → slice_get (replies_after One heap.quota empty_heap again) (spot more k) ≡ slice_get (replies_of (events ++ e ∷ [])) k
+    replies : (k : ℕ) → k < length (events ++ e ∷ []) → rank more k < start → slice_get (replies_after One heap.quota empty_heap again) (rank more k) ≡ slice_get (replies_of (events ++ e ∷ [])) k
     replies k within reached_by =
         let longer = length-append events (e ∷ []) in
         let most = start_most in
-        let before : spot more k < p = omega (arith, reached_by, most) in
+        let before : rank more k < p = omega (arith, reached_by, most) in
         let many = many_late events in
-        elim (cases_lt k n) as (λ _. slice_get (replies_after One heap.quota empty_heap again) (spot more k) ≡ slice_get (replies_of (events ++ e ∷ [])) k) [
+        elim (cases_lt k n) as (λ _. slice_get (replies_after One heap.quota empty_heap again) (rank more k) ≡ slice_get (replies_of (events ++ e ∷ [])) k) [
           | inl less ↦ (
-              let same = spot_same k less before in
+              let same = rank_same k less before in
               let top = p_most in
-              same_reply (spot more k) before
+              same_reply (rank more k) before
               ∙ ap (slice_get (replies_after One heap.quota empty_heap ordered)) same
               ∙ whole.run.replies k less (omega (arith, same, before, top))
               ∙ sym (kept_reply events e k less))
           | inr here ↦ (
               let is : k ≡ length late = omega (arith, here, within, longer, many) in
-              let put = ap (spot more) is ∙ new_spot late (late_event e) in
+              let put = ap (rank more) is ∙ new_rank late (late_event e) in
               absurd (omega (arith, put, before)))
         ]
 
@@ -247,7 +247,7 @@ module _ (bound : ℕ) (events : List Event) (numbers : List ℕ) (heap : HeapMe
     same_quota = ap (λ (h : HeapMeaning). h.quota) heaps
 
     abbrev Replies : ℕ → List LateEvent → Type 0
-    Replies w l = (k : ℕ) → k < length (events ++ e ∷ []) → spot l k < start → slice_get (replies_after One w empty_heap (LateRun.order l)) (spot l k) ≡ slice_get (replies_of (events ++ e ∷ [])) k
+    Replies w l = (k : ℕ) → k < length (events ++ e ∷ []) → rank l k < start → slice_get (replies_after One w empty_heap (LateRun.order l)) (rank l k) ≡ slice_get (replies_of (events ++ e ∷ [])) k
 
     begun_at : IsRun start bound (events ++ e ∷ []) (insert numbers p n) after back
     begun_at =
@@ -267,8 +267,8 @@ module _ (bound : ℕ) (events : List Event) (numbers : List ℕ) (heap : HeapMe
           idle = idle;
           live = subst (λ (p : ℕ × List LateEvent). after.state.live ≡ live_after p.0 (LateRun.order p.1) start) both live;
           replies = subst (λ (p : ℕ × List LateEvent). Replies p.0 p.1) both replies;
-          logs = subst (λ (p : ℕ × List LateEvent). AreMarks p.0 (LateRun.order p.1) (oldest_mark bound p.1) back.logs) both (subst (λ c. AreMarks heap.quota again c back.logs) (sym mark) marks);
-          kept = subst (λ l. length back.logs + oldest_mark bound l ≡ last_mark start + 1) grown (omega (arith, mark, kept));
+          logs = subst (λ (p : ℕ × List LateEvent). AreMarks p.0 (LateRun.order p.1) (oldest_log_point bound p.1) back.logs) both (subst (λ c. AreMarks heap.quota again c back.logs) (sym mark) marks);
+          kept = subst (λ l. length back.logs + oldest_log_point bound l ≡ last_log_point start + 1) grown (omega (arith, mark, kept));
         }
 
     -- the heap and its logs stand where the events from the start on can run
@@ -343,9 +343,9 @@ no_order = record {
   count = refl;
   number = λ j within. absurd (omega (arith, within));
   event = λ j within. absurd (omega (arith, within));
-  spot_of = λ j within. absurd (omega (arith, within));
+  rank_of = λ j within. absurd (omega (arith, within));
   within = λ k within. absurd (omega (arith, within));
-  at_spot = λ k within. absurd (omega (arith, within));
+  at_rank = λ k within. absurd (omega (arith, within));
   early = λ j t before. absurd (omega (arith, before));
   late = λ j t after within. absurd (omega (arith, within));
 }

@@ -6,15 +6,15 @@ use Rattle.std.proofs.lemmas.Option.{same_Some, none-some, slice_get-get_or}
 use Rattle.std.proofs.Math.ListN.{drop_of_length-le}
 use Rattle.dym_base.specs.LateRun.{LateEvent, Arrival, event, commit, bound_after, accepted_after, order, events_to, place_of, place_of_first}
 use Rattle.dym_late.specs.Laws.{ComesBefore, StandInOrder, AddUp}
-use Rattle.dym_late.specs.Orders.{no_event, event_at, spot, IsOrder}
+use Rattle.dym_late.specs.Orders.{no_event, event_at, rank, IsOrder}
 use Rattle.dym_late.proofs.Counts.{before_yes, before_no, length_order}
-use Rattle.dym_late.proofs.Places.{order_grows, old_event, new_event, old_spot, new_spot, place_is}
+use Rattle.dym_late.proofs.Places.{order_grows, old_event, new_event, old_rank, new_rank, place_is}
 use Rattle.dym_late.proofs.Accepts.{no_order}
 
 -- spots follow the order
 
 abbrev Follow : List LateEvent → Type 0
-Follow events = (i j : ℕ) → i < length events → j < length events → ComesBefore events i j → spot events i < spot events j
+Follow events = (i j : ℕ) → i < length events → j < length events → ComesBefore events i j → rank events i < rank events j
 
 -- the numbers of events in order, which name places as they should
 record Ordered (events : List LateEvent) : Type 0 where
@@ -38,17 +38,17 @@ module _ (events : List LateEvent) (e : LateEvent) (is : Ordered events) where
   last_time : (event_at more n).time ≡ e.time
   last_time = ap (λ (x : LateEvent). x.time) (new_event events e)
 
-  at_spot : (k : ℕ) → k < n → (event_at events (get_or is.numbers (spot events k) 0)).time ≡ time k
-  at_spot k within = ap time (is.order.at_spot k within)
+  at_rank : (k : ℕ) → k < n → (event_at events (get_or is.numbers (rank events k) 0)).time ≡ time k
+  at_rank k within = ap time (is.order.at_rank k within)
 
   abbrev Goal : ℕ → ℕ → Type 0
-  Goal i j = spot more i < spot more j
+  Goal i j = rank more i < rank more j
 
   both_old : (i j : ℕ) → i < n → j < n → ComesBefore events i j → Goal i j
   both_old i j in_i in_j first =
       let before = is.follow i j in_i in_j first in
-      let a = old_spot events e i in_i in
-      let b = old_spot events e j in_j in
+      let a = old_rank events e i in_i in
+      let b = old_rank events e j in_j in
       let low : time i ≤ time j = elim first as (λ _. time i ≤ time j) [ inl less ↦ omega (arith, less) | inr same ↦ omega (arith, same.0) ] in
       elim (cases_lt e.time (time i)) as (λ _. Goal i j) [
         | inl sooner ↦ (let c = before_yes (time i) e sooner in let d = before_yes (time j) e (omega (arith, sooner, low)) in omega (arith, a, b, c, d, before))
@@ -57,23 +57,23 @@ module _ (events : List LateEvent) (e : LateEvent) (is : Ordered events) where
 
   new_last : (i : ℕ) → i < n → time i ≤ e.time → Goal i n
   new_last i in_i low =
-      let a = old_spot events e i in_i in
+      let a = old_rank events e i in_i in
       let c = before_no (time i) e low in
-      let b = new_spot events e in
-      let there = at_spot i in_i in
-      elim (cases_lt (spot events i) (events_to e.time events)) as (λ _. Goal i n) [
+      let b = new_rank events e in
+      let there = at_rank i in_i in
+      elim (cases_lt (rank events i) (events_to e.time events)) as (λ _. Goal i n) [
         | inl less ↦ omega (arith, a, b, c, less)
-        | inr past ↦ (let late = is.order.late (spot events i) e.time past (is.order.within i in_i) in absurd (omega (arith, late, there, low)))
+        | inr past ↦ (let late = is.order.late (rank events i) e.time past (is.order.within i in_i) in absurd (omega (arith, late, there, low)))
       ]
 
   new_first : (j : ℕ) → j < n → e.time < time j → Goal n j
   new_first j in_j high =
-      let a = old_spot events e j in_j in
+      let a = old_rank events e j in_j in
       let c = before_yes (time j) e high in
-      let b = new_spot events e in
-      let there = at_spot j in_j in
-      elim (cases_lt (spot events j) (events_to e.time events)) as (λ _. Goal n j) [
-        | inl less ↦ (let early = is.order.early (spot events j) e.time less in absurd (omega (arith, early, there, high)))
+      let b = new_rank events e in
+      let there = at_rank j in_j in
+      elim (cases_lt (rank events j) (events_to e.time events)) as (λ _. Goal n j) [
+        | inl less ↦ (let early = is.order.early (rank events j) e.time less in absurd (omega (arith, early, there, high)))
         | inr past ↦ omega (arith, a, b, c, past)
       ]
 
@@ -121,10 +121,10 @@ ordered_onto before (e ∷ es) is = subst Ordered (append_assoc before (e ∷ []
 ordered : (events : List LateEvent) → Ordered events
 ordered events = ordered_onto [] events (record { numbers = []; order = no_order; follow = λ i j within _ _. absurd (omega (arith, within)) })
 
--- a place that an event has is its spot
-at_place : (events : List LateEvent) (k p : ℕ) → place_of events k ≡ Some p → (k < length events) × (spot events k ≡ p)
-at_place events k p is = elim (cases_lt k (length events)) as (λ _. (k < length events) × (spot events k ≡ p)) [
-  | inl within ↦ (within, same_Some (spot events k) p (sym (place_is events k within) ∙ is))
+-- a place that an event has is its rank
+at_place : (events : List LateEvent) (k p : ℕ) → place_of events k ≡ Some p → (k < length events) × (rank events k ≡ p)
+at_place events k p is = elim (cases_lt k (length events)) as (λ _. (k < length events) × (rank events k ≡ p)) [
+  | inl within ↦ (within, same_Some (rank events k) p (sym (place_is events k within) ∙ is))
   | inr past ↦ (
       let none : place_of events k ≡ None = ap (place_of_first (take k events)) (drop_of_length-le events {i = k} past) in
       absurd (none-some p (sym none ∙ is)))
@@ -141,7 +141,7 @@ stand_in_order events =
           let count = length_order events in
           let fits = all.order.within k at.0 in
           let same = at.1 in
-          let event = ap (event_at (order events)) (sym same) ∙ all.order.event (spot events k) fits ∙ ap (event_at events) (all.order.at_spot k at.0) in
+          let event = ap (event_at (order events)) (sym same) ∙ all.order.event (rank events k) fits ∙ ap (event_at events) (all.order.at_rank k at.0) in
           slice_get-get_or (order events) p no_event (omega (arith, same, fits, count)) ∙ ap Some event ∙ sym (slice_get-get_or events k no_event at.0));
       before = λ i j p q is_p is_q first. (
           let at_i = at_place events i p is_p in

@@ -8,7 +8,7 @@ use Rattle.std.proofs.Math.Seq.{take-append_seam, get_or-append_seam}
 use Rattle.std.proofs.Math.ListN.{drop_of_length-le}
 use Rattle.dym_base.specs.LateRun as LateRun
 use Rattle.dym_base.specs.LateRun.{LateEvent, events_to, place_between, place_of_first, place_of}
-use Rattle.dym_late.specs.Orders.{no_event, event_at, spot, IsOrder}
+use Rattle.dym_late.specs.Orders.{no_event, event_at, rank, IsOrder}
 use Rattle.dym_late.proofs.Counts.{one_to, one_before, one_yes, one_no, before_yes, before_no, to_push, before_push, to_most, to_rises, order_push, length_order}
 
 one_more : (xs : List LateEvent) (e : LateEvent) → length (xs ++ e ∷ []) ≡ length xs + 1
@@ -21,11 +21,11 @@ pub new_event : (events : List LateEvent) (e : LateEvent) → event_at (events +
 new_event events e = get_or-append_seam events e [] no_event
 
 -- the place of an event in the order, as the definition of its reply has it
-pub place_is : (events : List LateEvent) (k : ℕ) → k < length events → place_of events k ≡ Some (spot events k)
+pub place_is : (events : List LateEvent) (k : ℕ) → k < length events → place_of events k ≡ Some (rank events k)
 place_is events k within = ap (place_of_first (take k events)) (drop-cons events k no_event within)
 
-pub old_spot : (events : List LateEvent) (e : LateEvent) (k : ℕ) → k < length events → spot (events ++ e ∷ []) k ≡ spot events k + one_before (event_at events k).time e
-old_spot events e k within =
+pub old_rank : (events : List LateEvent) (e : LateEvent) (k : ℕ) → k < length events → rank (events ++ e ∷ []) k ≡ rank events k + one_before (event_at events k).time e
+old_rank events e k within =
     let t : ℕ = (event_at events k).time in
     let before = ap (λ l. place_between l (event_at (events ++ e ∷ []) k) (drop (suc k) (events ++ e ∷ []))) (take-append-le k events (e ∷ []) (omega (arith, within))) in
     let after = ap (λ l. place_between (take k events) (event_at (events ++ e ∷ []) k) l) (drop-append-le (suc k) events (e ∷ []) (omega (arith, within))) in
@@ -33,8 +33,8 @@ old_spot events e k within =
     let pushed = before_push t (drop (suc k) events) e in
     before ∙ after ∙ at ∙ omega (arith, pushed)
 
-pub new_spot : (events : List LateEvent) (e : LateEvent) → spot (events ++ e ∷ []) (length events) ≡ events_to e.time events
-new_spot events e =
+pub new_rank : (events : List LateEvent) (e : LateEvent) → rank (events ++ e ∷ []) (length events) ≡ events_to e.time events
+new_rank events e =
     let n : ℕ = length events in
     let more = one_more events e in
     let before = ap (λ l. place_between l (event_at (events ++ e ∷ []) n) (drop (suc n) (events ++ e ∷ []))) (take-append_seam events (e ∷ [])) in
@@ -121,46 +121,46 @@ module _ (events : List LateEvent) (e : LateEvent) (order : List ℕ) (is : IsOr
       (ordered p ∙ get_or-insert_at (LateRun.order events) p e no_event p_there ∙ sym here_event)
       (λ i least within. (ordered (i + 1) ∙ get_or-insert_above (LateRun.order events) p e no_event i least p_there ∙ is.event i within ∙ sym (high_event i least within)))
 
-  stays : (k : ℕ) → k < n → (event_at events k).time ≤ e.time → spot more k ≡ spot events k
-  stays k within early = (let a = old_spot events e k within in let b = before_no (event_at events k).time e early in omega (arith, a, b))
+  stays : (k : ℕ) → k < n → (event_at events k).time ≤ e.time → rank more k ≡ rank events k
+  stays k within early = (let a = old_rank events e k within in let b = before_no (event_at events k).time e early in omega (arith, a, b))
 
-  moves : (k : ℕ) → k < n → e.time < (event_at events k).time → spot more k ≡ spot events k + 1
-  moves k within late = (let a = old_spot events e k within in let b = before_yes (event_at events k).time e late in omega (arith, a, b))
+  moves : (k : ℕ) → k < n → e.time < (event_at events k).time → rank more k ≡ rank events k + 1
+  moves k within late = (let a = old_rank events e k within in let b = before_yes (event_at events k).time e late in omega (arith, a, b))
 
-  spot_of : (j : ℕ) → j < n + 1 → spot more (get_or longer j 0) ≡ j
-  spot_of = by_place (λ j. spot more (get_or longer j 0) ≡ j) p n
+  rank_of : (j : ℕ) → j < n + 1 → rank more (get_or longer j 0) ≡ j
+  rank_of = by_place (λ j. rank more (get_or longer j 0) ≡ j) p n
       (λ j less. (let fits : j < n = (let most = p_in in omega (arith, most, less)) in
-      ap (spot more) (low j less) ∙ stays (get_or order j 0) (is.number j fits) (is.early j e.time less) ∙ is.spot_of j fits))
-      (ap (spot more) here ∙ new_spot events e)
-      (λ i least within. (ap (spot more) (high i least) ∙ moves (get_or order i 0) (is.number i within) (is.late i e.time least within) ∙ ap (λ q. q + 1) (is.spot_of i within)))
+      ap (rank more) (low j less) ∙ stays (get_or order j 0) (is.number j fits) (is.early j e.time less) ∙ is.rank_of j fits))
+      (ap (rank more) here ∙ new_rank events e)
+      (λ i least within. (ap (rank more) (high i least) ∙ moves (get_or order i 0) (is.number i within) (is.late i e.time least within) ∙ ap (λ q. q + 1) (is.rank_of i within)))
 
-  abbrev AtSpot : ℕ → Type 0
-  AtSpot k = (spot more k < n + 1) × (get_or longer (spot more k) 0 ≡ k)
+  abbrev AtRank : ℕ → Type 0
+  AtRank k = (rank more k < n + 1) × (get_or longer (rank more k) 0 ≡ k)
 
-  old_at : (k : ℕ) → k < n → AtSpot k
+  old_at : (k : ℕ) → k < n → AtRank k
   old_at k within =
-      let q : ℕ = spot events k in
+      let q : ℕ = rank events k in
       let fits : q < n = is.within k within in
-      let there = ap (λ i. (event_at events i).time) (is.at_spot k within) in
-      elim (cases_lt q p) as (λ _. AtSpot k) [
+      let there = ap (λ i. (event_at events i).time) (is.at_rank k within) in
+      elim (cases_lt q p) as (λ _. AtRank k) [
         | inl less ↦ (
             let early = is.early q e.time less in
             let same = stays k within (omega (arith, there, early)) in
-            (omega (arith, same, fits), ap (λ i. get_or longer i 0) same ∙ low q less ∙ is.at_spot k within))
+            (omega (arith, same, fits), ap (λ i. get_or longer i 0) same ∙ low q less ∙ is.at_rank k within))
         | inr least ↦ (
             let late = is.late q e.time least fits in
             let next = moves k within (omega (arith, there, late)) in
-            (omega (arith, next, fits), ap (λ i. get_or longer i 0) next ∙ high q least ∙ is.at_spot k within))
+            (omega (arith, next, fits), ap (λ i. get_or longer i 0) next ∙ high q least ∙ is.at_rank k within))
       ]
 
-  at : (k : ℕ) → k < n + 1 → AtSpot k
+  at : (k : ℕ) → k < n + 1 → AtRank k
   at k within =
-      elim (cases_lt k n) as (λ _. AtSpot k) [
+      elim (cases_lt k n) as (λ _. AtRank k) [
         | inl less ↦ old_at k less
         | inr last ↦ (
             let same : k ≡ n = omega (arith, last, within) in
-            subst AtSpot (sym same) (
-            let put = new_spot events e in
+            subst AtRank (sym same) (
+            let put = new_rank events e in
             let most = p_in in
             (omega (arith, put, most), ap (λ i. get_or longer i 0) put ∙ here)))
       ]
@@ -224,9 +224,9 @@ module _ (events : List LateEvent) (e : LateEvent) (order : List ℕ) (is : IsOr
     count = count;
     number = λ j within. (let fits = number j (few j within) in many (get_or longer j 0) fits);
     event = λ j within. event j (few j within);
-    spot_of = λ j within. spot_of j (few j within);
-    within = λ k within. many (spot more k) (at k (few k within)).0;
-    at_spot = λ k within. (at k (few k within)).1;
+    rank_of = λ j within. rank_of j (few j within);
+    within = λ k within. many (rank more k) (at k (few k within)).0;
+    at_rank = λ k within. (at k (few k within)).1;
     early = λ j t fits. (let c = counted t in let most = to_most t more in early t j (few j (omega (arith, fits, most))) (omega (arith, c, fits)));
     late = λ j t fits within. (let c = counted t in late t j (few j within) (omega (arith, c, fits)));
   }

@@ -14,8 +14,8 @@ use Rattle.dym_heap.specs.Replies.{step_of, stepped, counted}
 use Rattle.dym_chain.specs.Chains.{ChainMeaning, Belongs, object_of}
 use Rattle.dym_chain.specs.ChainLaws.{HeapStepsKeepBelonging}
 use Rattle.dym_late.specs.declared.event.Event.{Event}
-use Rattle.dym_late.specs.Marks.{last_mark, oldest_mark, live_after, AreMarks, IsMark}
-use Rattle.dym_late.specs.Orders.{event_at, spot, IsOrder}
+use Rattle.dym_late.specs.Marks.{last_log_point, oldest_log_point, live_after, AreMarks, IsLogPoint}
+use Rattle.dym_late.specs.Orders.{event_at, rank, IsOrder}
 use Rattle.dym_late.specs.Timelines.{late_event, late_events, replies_of, IsRunTo}
 use Rattle.dym_late.proofs.Lives.{steps_alike}
 use Rattle.dym_late.proofs.Counts.{length_order}
@@ -111,16 +111,16 @@ module _ (n q m bound : ℕ) (next : q ≡ suc n) (events : List Event) (numbers
       ∙ ap (λ a. Some a.reply) (sym in_one)
       ∙ ap (λ (e : Event). Some e.reply) (sym event)
 
-  replies : (j : ℕ) → j < length events → spot late j < q → slice_get (replies_after One heap.quota empty_heap ordered) (spot late j) ≡ slice_get (replies_of run) j
+  replies : (j : ℕ) → j < length events → rank late j < q → slice_get (replies_after One heap.quota empty_heap ordered) (rank late j) ≡ slice_get (replies_of run) j
   replies j fits reached =
       let same = many in
       let in_late_j : j < length late = omega (arith, same, fits) in
-      elim (cases_eq (spot late j) n) as (λ _. slice_get (replies_after One heap.quota empty_heap ordered) (spot late j) ≡ slice_get (replies_of run) j) [
+      elim (cases_eq (rank late j) n) as (λ _. slice_get (replies_after One heap.quota empty_heap ordered) (rank late j) ≡ slice_get (replies_of run) j) [
         | inl here ↦ (
-            let mine : k ≡ j = names ∙ ap (λ i. get_or numbers i 0) (sym here) ∙ is.order.at_spot j in_late_j in
+            let mine : k ≡ j = names ∙ ap (λ i. get_or numbers i 0) (sym here) ∙ is.order.at_rank j in_late_j in
             ap (slice_get (replies_after One heap.quota empty_heap ordered)) here ∙ reply ∙ sym (new_reply events k y k_in) ∙ ap (slice_get (replies_of run)) mine)
         | inr other ↦ (
-            let apart : j ≡ k → ⊥ = λ e. other (ap (spot late) (e ∙ names) ∙ is.order.spot_of n in_late) in
+            let apart : j ≡ k → ⊥ = λ e. other (ap (rank late) (e ∙ names) ∙ is.order.rank_of n in_late) in
             is.replies j fits (omega (arith, reached, other, next)) ∙ sym (old_reply events k j y apart))
       ]
 
@@ -141,14 +141,14 @@ module _ (n q m bound : ℕ) (next : q ≡ suc n) (events : List Event) (numbers
         (subst (λ s. Belongs heap.version heap.quota s chain) (sym state) (law heap.version heap.quota heap.state x.command chain is.belongs)));
     idle = is.idle;
     live = subst (λ (p : ℕ × List LateEvent). after.state.live ≡ live_after p.0 (LateRun.order p.1) q) both live;
-    replies = subst (λ (p : ℕ × List LateEvent). (j : ℕ) → j < length run → spot p.1 j < q → slice_get (replies_after One p.0 empty_heap (LateRun.order p.1)) (spot p.1 j) ≡ slice_get (replies_of run) j) both
+    replies = subst (λ (p : ℕ × List LateEvent). (j : ℕ) → j < length run → rank p.1 j < q → slice_get (replies_after One p.0 empty_heap (LateRun.order p.1)) (rank p.1 j) ≡ slice_get (replies_of run) j) both
         (λ j fits reached. (let same = same_count in replies j (omega (arith, same, fits)) reached));
-    logs = subst (λ (p : ℕ × List LateEvent). AreMarks p.0 (LateRun.order p.1) (oldest_mark bound p.1) chain.logs) both is.logs;
-    kept = subst (λ l. length chain.logs + oldest_mark bound l ≡ last_mark m + 1) (sym same_late) is.kept;
+    logs = subst (λ (p : ℕ × List LateEvent). AreMarks p.0 (LateRun.order p.1) (oldest_log_point bound p.1) chain.logs) both is.logs;
+    kept = subst (λ l. length chain.logs + oldest_log_point bound l ≡ last_log_point m + 1) (sym same_late) is.kept;
   }
 
 -- the logs that are there are those at or before n + 1 events, where no log is taken there
-pub none_due : (n q : ℕ) → q ≡ suc n → n < 4096 → (IsMark q → ⊥) → last_mark q ≡ last_mark n
+pub none_due : (n q : ℕ) → q ≡ suc n → n < 4096 → (IsLogPoint q → ⊥) → last_log_point q ≡ last_log_point n
 none_due n q next few none =
     elim (cases_eq (q % 16) 0) as (λ _. min 255 (q / 16) ≡ min 255 (n / 16)) [
       | inl here ↦ (elim (cases_lt q 4096) as (λ _. min 255 (q / 16) ≡ min 255 (n / 16)) [
@@ -158,13 +158,13 @@ none_due n q next few none =
       | inr other ↦ omega (arith, other)
     ]
 
-pub one_due : (n q : ℕ) → q ≡ suc n → IsMark q → (last_mark q ≡ last_mark n + 1) × (16 * last_mark q ≡ q) × (last_mark n < 255)
+pub one_due : (n q : ℕ) → q ≡ suc n → IsLogPoint q → (last_log_point q ≡ last_log_point n + 1) × (16 * last_log_point q ≡ q) × (last_log_point n < 255)
 one_due n q next mark = (omega (arith, next, mark.0, mark.1), omega (arith, next, mark.0, mark.1), omega (arith, next, mark.0, mark.1))
 
-pub mark_or_none : (q : ℕ) → IsMark q ⊎ (IsMark q → ⊥)
+pub mark_or_none : (q : ℕ) → IsLogPoint q ⊎ (IsLogPoint q → ⊥)
 mark_or_none q =
-    elim (cases_eq (q % 16) 0) as (λ _. IsMark q ⊎ (IsMark q → ⊥)) [
-      | inl here ↦ (elim (cases_lt q 4096) as (λ _. IsMark q ⊎ (IsMark q → ⊥)) [
+    elim (cases_eq (q % 16) 0) as (λ _. IsLogPoint q ⊎ (IsLogPoint q → ⊥)) [
+      | inl here ↦ (elim (cases_lt q 4096) as (λ _. IsLogPoint q ⊎ (IsLogPoint q → ⊥)) [
         | inl less ↦ inl (here, less)
         | inr last ↦ inr (λ mark. omega (arith, mark.1, last))
       ])
@@ -174,7 +174,7 @@ mark_or_none q =
 module _ (n q bound : ℕ) (next : q ≡ suc n) (events : List Event) (numbers : List ℕ) (heap : HeapMeaning) (chain : ChainMeaning) (is : IsRunTo q n bound events numbers heap chain) where
   -- with logs that stand for the order up to here
   run_with : (after : HeapMeaning) (longer : ChainMeaning) → after ≡ record heap { state = after.state } → after.state.live ≡ heap.state.live
-      → AreMarks heap.quota (LateRun.order (late_events events)) (oldest_mark bound (late_events events)) longer.logs → length longer.logs + oldest_mark bound (late_events events) ≡ last_mark q + 1
+      → AreMarks heap.quota (LateRun.order (late_events events)) (oldest_log_point bound (late_events events)) longer.logs → length longer.logs + oldest_log_point bound (late_events events) ≡ last_log_point q + 1
       → IsSound after → Belongs after.version after.quota after.state longer → longer.lifted ≡ None → IsRunTo q q bound events numbers after longer
   run_with after longer heaps lives logs kept sound belongs idle =
       let ordered : List LateEvent = LateRun.order (late_events events) in
@@ -188,15 +188,15 @@ module _ (n q bound : ℕ) (next : q ≡ suc n) (events : List Event) (numbers :
         belongs = belongs;
         idle = idle;
         live = subst (λ w. after.state.live ≡ live_after w ordered q) quota (lives ∙ is.live);
-        replies = subst (λ w. (k : ℕ) → k < length events → spot (late_events events) k < q → slice_get (replies_after One w empty_heap ordered) (spot (late_events events) k) ≡ slice_get (replies_of events) k) quota is.replies;
-        logs = subst (λ w. AreMarks w ordered (oldest_mark bound (late_events events)) longer.logs) quota logs;
+        replies = subst (λ w. (k : ℕ) → k < length events → rank (late_events events) k < q → slice_get (replies_after One w empty_heap ordered) (rank (late_events events) k) ≡ slice_get (replies_of events) k) quota is.replies;
+        logs = subst (λ w. AreMarks w ordered (oldest_log_point bound (late_events events)) longer.logs) quota logs;
         kept = kept;
       }
 
   -- and it comes after the newest one
-  pub log_later : IsMark q → (log : LogEntry) → newest chain.logs ≡ Some log → log.time < q
+  pub log_later : IsLogPoint q → (log : LogEntry) → newest chain.logs ≡ Some log → log.time < q
   log_later mark log last =
-      let time = (marks_newest heap.quota (LateRun.order (late_events events)) (oldest_mark bound (late_events events)) chain.logs log is.logs last).0 in
+      let time = (marks_newest heap.quota (LateRun.order (late_events events)) (oldest_log_point bound (late_events events)) chain.logs log is.logs last).0 in
       let due = one_due n q next mark in
       let more_by_one = due.0 in
       let here = due.1 in
@@ -204,12 +204,12 @@ module _ (n q bound : ℕ) (next : q ≡ suc n) (events : List Event) (numbers :
       omega (arith, time, more_by_one, here, kept)
 
   -- after it
-  pub logged_run : IsMark q → (kind : Kind) (after : HeapMeaning) (longer : ChainMeaning) → after ≡ record heap { state = after.state } → after.state.live ≡ heap.state.live
+  pub logged_run : IsLogPoint q → (kind : Kind) (after : HeapMeaning) (longer : ChainMeaning) → after ≡ record heap { state = after.state } → after.state.live ≡ heap.state.live
       → longer.logs ≡ chain.logs ++ new_entry (object_of heap.state chain) q kind ∷ [] → IsSound after → Belongs after.version after.quota after.state longer → longer.lifted ≡ None
       → IsRunTo q q bound events numbers after longer
   logged_run mark kind after longer heaps lives logs sound belongs idle =
       let ordered : List LateEvent = LateRun.order (late_events events) in
-      let b : ℕ = oldest_mark bound (late_events events) in
+      let b : ℕ = oldest_log_point bound (late_events events) in
       let entry : LogEntry = new_entry (object_of heap.state chain) q kind in
       let due = one_due n q next mark in
       let more_by_one = due.0 in
@@ -223,7 +223,7 @@ module _ (n q bound : ℕ) (next : q ≡ suc n) (events : List Event) (numbers :
 
   -- after the log that is due, if one is
   pub logged_if_due : n < 4096 → (kind : Kind) (after : HeapMeaning) (longer : ChainMeaning) → after ≡ record heap { state = after.state } → after.state.live ≡ heap.state.live
-      → (IsMark q → longer.logs ≡ chain.logs ++ new_entry (object_of heap.state chain) q kind ∷ []) → ((IsMark q → ⊥) → longer.logs ≡ chain.logs)
+      → (IsLogPoint q → longer.logs ≡ chain.logs ++ new_entry (object_of heap.state chain) q kind ∷ []) → ((IsLogPoint q → ⊥) → longer.logs ≡ chain.logs)
       → IsSound after → Belongs after.version after.quota after.state longer → longer.lifted ≡ None
       → IsRunTo q q bound events numbers after longer
   logged_if_due few kind after longer heaps lives logs none sound belongs idle =
@@ -233,6 +233,6 @@ module _ (n q bound : ℕ) (next : q ≡ suc n) (events : List Event) (numbers :
             let same = none_due n q next few other in
             let count = ap length (none other) in
             let kept = is.kept in
-            run_with after longer heaps lives (subst (λ l. AreMarks heap.quota (LateRun.order (late_events events)) (oldest_mark bound (late_events events)) l) (sym (none other)) is.logs)
+            run_with after longer heaps lives (subst (λ l. AreMarks heap.quota (LateRun.order (late_events events)) (oldest_log_point bound (late_events events)) l) (sym (none other)) is.logs)
             (omega (arith, same, kept, count)) sound belongs idle)
       ]

@@ -10,7 +10,7 @@ use Rattle.dym_base.specs.declared.command.Version.TheVariants.{One}
 use Rattle.dym_heap.specs.Meaning.{HeapMeaning}
 use Rattle.dym_chain.specs.Chains.{ChainMeaning, Belongs}
 use Rattle.dym_late.specs.declared.event.Event.{Event}
-use Rattle.dym_late.specs.Marks.{oldest_mark, AreMarks}
+use Rattle.dym_late.specs.Marks.{oldest_log_point, AreMarks}
 use Rattle.dym_late.specs.Meaning.{LateMeaning, IsLate}
 use Rattle.dym_late.specs.Timelines.{late_events, IsWhole}
 use Rattle.dym_late.proofs.Counts.{length_order, before_rises, before_most, to_most}
@@ -61,11 +61,11 @@ module _ (bound : ℕ) (events : List Event) (numbers : List ℕ) (heap : HeapMe
     dropped = reached position chain.logs - 1
 
     -- how many logs a commit drops
-    pub drops : dropped + oldest_mark bound late ≡ oldest_mark raised late
+    pub drops : dropped + oldest_log_point bound late ≡ oldest_log_point raised late
     drops =
         let kept = whole.run.kept in
         let few = whole.run.few in
-        let count = marks_reached heap.quota (LateRun.order late) position (oldest_mark bound late) chain.logs whole.run.logs in
+        let count = marks_reached heap.quota (LateRun.order late) position (oldest_log_point bound late) chain.logs whole.run.logs in
         let rises = before_rises bound raised late up in
         let most = before_most raised late in
         let top = to_most raised late in
@@ -75,7 +75,7 @@ module _ (bound : ℕ) (events : List Event) (numbers : List ℕ) (heap : HeapMe
     fits : dropped ≤ length chain.logs
     fits =
         let kept = whole.run.kept in
-        let count = marks_reached heap.quota (LateRun.order late) position (oldest_mark bound late) chain.logs whole.run.logs in
+        let count = marks_reached heap.quota (LateRun.order late) position (oldest_log_point bound late) chain.logs whole.run.logs in
         omega (arith, kept, count)
 
     pub committed : (back : ChainMeaning) → back.logs ≡ drop dropped chain.logs → back.next_number ≡ chain.next_number → Belongs heap.version heap.quota heap.state back → back.lifted ≡ None → IsWhole raised events numbers heap back
@@ -97,8 +97,8 @@ module _ (bound : ℕ) (events : List Event) (numbers : List ℕ) (heap : HeapMe
             idle = idle;
             live = whole.run.live;
             replies = whole.run.replies;
-            logs = subst (AreMarks heap.quota (LateRun.order late) (oldest_mark raised late)) (sym logs)
-                (marks_from heap.quota (LateRun.order late) (oldest_mark bound late + dropped) (oldest_mark raised late) (drop dropped chain.logs) (omega (arith, gone)) (marks_drop heap.quota (LateRun.order late) (oldest_mark bound late) dropped chain.logs most whole.run.logs));
+            logs = subst (AreMarks heap.quota (LateRun.order late) (oldest_log_point raised late)) (sym logs)
+                (marks_from heap.quota (LateRun.order late) (oldest_log_point bound late + dropped) (oldest_log_point raised late) (drop dropped chain.logs) (omega (arith, gone)) (marks_drop heap.quota (LateRun.order late) (oldest_log_point bound late) dropped chain.logs most whole.run.logs));
             kept = omega (arith, kept, gone, most, left, count);
           };
           applied = whole.applied;

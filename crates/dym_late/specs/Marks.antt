@@ -8,12 +8,12 @@ use Rattle.dym_base.specs.declared.command.Version.TheVariants.{One}
 use Rattle.dym_base.specs.declared.limits.TheConstants.{MOST_LATE_EVENTS}
 
 -- the last log that is taken at or before n events
-abbrev pub last_mark : ℕ → ℕ
-last_mark n = min (MOST_LATE_EVENTS / events_a_log - 1) (n / events_a_log)
+abbrev pub last_log_point : ℕ → ℕ
+last_log_point n = min (MOST_LATE_EVENTS / events_a_log - 1) (n / events_a_log)
 
 -- the oldest log that is kept: the last one at or before the number of events with a time before the bound
-abbrev pub oldest_mark : ℕ → List LateEvent → ℕ
-oldest_mark bound events = last_mark (events_before bound events)
+abbrev pub oldest_log_point : ℕ → List LateEvent → ℕ
+oldest_log_point bound events = last_log_point (events_before bound events)
 
 -- the chunks that the first n of these ordered events make
 abbrev pub live_after : ℕ → List LateEvent → ℕ → Live
@@ -26,8 +26,8 @@ AreMarks quota ordered b (log ∷ logs) =
     (log.time ≡ events_a_log * b) × (log.copy ≡ live_after quota ordered log.time) × AreMarks quota ordered (b + 1) logs
 
 -- a log is taken where this many events are in the heap
-abbrev pub IsMark : ℕ → Type 0
-IsMark n = (n % events_a_log ≡ 0) × (n < MOST_LATE_EVENTS)
+abbrev pub IsLogPoint : ℕ → Type 0
+IsLogPoint n = (n % events_a_log ≡ 0) × (n < MOST_LATE_EVENTS)
 
 -- from which of n events on commands are run where an event is put behind p of them
 abbrev pub start_of : ℕ → ℕ → ℕ

@@ -7,8 +7,8 @@ use Rattle.dym_base.specs.declared.command.Version.TheVariants.{One}
 use Rattle.dym_base.specs.declared.reply.Reply.{Reply}
 use Rattle.dym_heap.specs.Meaning.{HeapMeaning, IsSound}
 use Rattle.dym_chain.specs.Chains.{ChainMeaning, Belongs}
-use Rattle.dym_late.specs.Marks.{last_mark, oldest_mark, live_after, AreMarks}
-use Rattle.dym_late.specs.Orders.{event_at, spot, IsOrder}
+use Rattle.dym_late.specs.Marks.{last_log_point, oldest_log_point, live_after, AreMarks}
+use Rattle.dym_late.specs.Orders.{event_at, rank, IsOrder}
 use Rattle.dym_base.specs.declared.limits.TheConstants.{MOST_LATE_EVENTS}
 use Rattle.dym_late.specs.declared.event.Event.{Event}
 
@@ -33,10 +33,10 @@ pub record IsRunTo (n m bound : ℕ) (events : List Event) (numbers : List ℕ) 
   pub belongs : Belongs heap.version heap.quota heap.state chain
   pub idle : chain.lifted ≡ None
   pub live : heap.state.live ≡ live_after heap.quota (LateRun.order (late_events events)) n
-  pub replies : (k : ℕ) → k < length events → spot (late_events events) k < n
-      → slice_get (replies_after One heap.quota empty_heap (LateRun.order (late_events events))) (spot (late_events events) k) ≡ slice_get (replies_of events) k
-  pub logs : AreMarks heap.quota (LateRun.order (late_events events)) (oldest_mark bound (late_events events)) chain.logs
-  pub kept : length chain.logs + oldest_mark bound (late_events events) ≡ last_mark m + 1
+  pub replies : (k : ℕ) → k < length events → rank (late_events events) k < n
+      → slice_get (replies_after One heap.quota empty_heap (LateRun.order (late_events events))) (rank (late_events events) k) ≡ slice_get (replies_of events) k
+  pub logs : AreMarks heap.quota (LateRun.order (late_events events)) (oldest_log_point bound (late_events events)) chain.logs
+  pub kept : length chain.logs + oldest_log_point bound (late_events events) ≡ last_log_point m + 1
 
 -- the first n events of the order are run and logged
 abbrev pub IsRun : ℕ → ℕ → List Event → List ℕ → HeapMeaning → ChainMeaning → Type 0

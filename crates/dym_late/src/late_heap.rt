@@ -6,7 +6,7 @@ ghost use Rattle.dym_base.specs.declared.command.Version.TheVariants.{One};
 ghost use Rattle.dym_base.specs.declared.limits.TheConstants.{MOST_QUOTA};
 ghost use Rattle.dym_base.specs.declared.limits.TheConstants.{MOST_LATE_EVENTS};
 ghost use Rattle.dym_late.specs.Answers.{IsEarly, IfEarly, IsMemory};
-ghost use Rattle.dym_late.specs.Marks.{last_mark, oldest_mark};
+ghost use Rattle.dym_late.specs.Marks.{last_log_point, oldest_log_point};
 ghost use Rattle.dym_late.specs.Meaning.{IsLate, fresh_late};
 
 use crate::late_error::LateError;
@@ -126,8 +126,8 @@ impl<S: Supply> LateHeap<S> {
     pub fn commit(&mut self, time: u64) -> u32
         requires { self.old.broken ≡ false }
         ensures after { self.new ≡ record self.old { bound = max self.old.bound time } }
-        ensures dropped { result + oldest_mark self.old.bound self.old.events
-            ≡ oldest_mark self.new.bound self.old.events }
+        ensures dropped { result + oldest_log_point self.old.bound self.old.events
+            ≡ oldest_log_point self.new.bound self.old.events }
         ensures late { IsLate self.new }
     {
         self.timeline.commit(time)
@@ -145,8 +145,8 @@ impl<S: Supply> LateHeap<S> {
     /// How many logs are kept: one at every 16 events of the order, from the newest one on that no event to come can stand before.
     pub fn logs(&self) -> u32
         requires { self.now.broken ≡ false }
-        ensures kept { result + oldest_mark self.now.bound self.now.events
-            ≡ last_mark (length self.now.events) + 1 }
+        ensures kept { result + oldest_log_point self.now.bound self.now.events
+            ≡ last_log_point (length self.now.events) + 1 }
     {
         self.timeline.chain.kept()
     }

@@ -9,7 +9,7 @@ ghost use Rattle.dym_base.specs.declared.limits.TheConstants.{COUNT_LIMIT};
 ghost use Rattle.dym_heap.specs.Meaning.{IsSound};
 ghost use Rattle.dym_heap.specs.Replies.{step_of, stepped, counted};
 ghost use Rattle.dym_chain.specs.Chains.{Belongs, object_of};
-ghost use Rattle.dym_late.specs.Marks.{IsMark, start_of};
+ghost use Rattle.dym_late.specs.Marks.{IsLogPoint, start_of};
 
 use crate::event::Event;
 use dym_base::Kind;
@@ -21,7 +21,7 @@ use std::alloc::{AllocError, Global};
 
 /// Whether a log is taken where this many events are in the heap.
 pub(crate) fn is_mark(position: usize) -> bool
-    ensures { IsTrue result ↔ IsMark position }
+    ensures { IsTrue result ↔ IsLogPoint position }
 {
     position % EVENTS_PER_LATE_LOG == 0 && position < MOST_LATE_EVENTS as usize
 }
@@ -89,15 +89,15 @@ pub(crate) fn log_if_due<S: Supply>(
     requires sound { IsSound heap.old }
     requires next_number { chain.old.next_number < COUNT_LIMIT }
     requires idle { chain.old.lifted ≡ None }
-    requires room { IsMark position → length chain.old.logs < 256 }
-    requires later { IsMark position → (log : LogEntry) → newest chain.old.logs ≡ Some log
+    requires room { IsLogPoint position → length chain.old.logs < 256 }
+    requires later { IsLogPoint position → (log : LogEntry) → newest chain.old.logs ≡ Some log
         → log.time < position }
     ensures live { heap.new.state.live ≡ heap.old.state.live }
     ensures heap { heap.new ≡ record heap.old { state = heap.new.state } }
-    ensures logs { OnOk result (IsMark position
+    ensures logs { OnOk result (IsLogPoint position
         → chain.new.logs ≡ chain.old.logs
         ++ Objects.new_entry (object_of heap.old.state chain.old) position Inc ∷ []) }
-    ensures none { (IsMark position → ⊥) → chain.new.logs ≡ chain.old.logs }
+    ensures none { (IsLogPoint position → ⊥) → chain.new.logs ≡ chain.old.logs }
     ensures next_number { chain.new.next_number ≤ chain.old.next_number + 1 }
     ensures belongs { Belongs heap.new.version heap.new.quota heap.new.state chain.new }
     ensures idle { chain.new.lifted ≡ None }

@@ -7,7 +7,7 @@ ghost use Rattle.dym_base.specs.declared.limits.TheConstants.{MOST_QUOTA};
 ghost use Rattle.dym_heap.specs.Meaning.{IsSound};
 ghost use Rattle.dym_chain.specs.Chains.{Belongs};
 ghost use Rattle.dym_base.specs.declared.limits.TheConstants.{MOST_LATE_EVENTS};
-ghost use Rattle.dym_late.specs.Marks.{oldest_mark};
+ghost use Rattle.dym_late.specs.Marks.{oldest_log_point};
 ghost use Rattle.dym_late.specs.Meaning.{fresh_heap};
 ghost use Rattle.dym_late.specs.Timelines.{late_events, IsRun, IsWhole};
 
@@ -160,8 +160,8 @@ impl<S: Supply> Timeline<S> {
         ensures bound { self.new.bound ≡ max self.old.bound time }
         ensures heap { self.new.heap ≡ self.old.heap }
         ensures events { self.new.events.items ≡ self.old.events.items }
-        ensures dropped { result + oldest_mark self.old.bound (late_events self.old.events.items)
-            ≡ oldest_mark self.new.bound (late_events self.old.events.items) }
+        ensures dropped { result + oldest_log_point self.old.bound (late_events self.old.events.items)
+            ≡ oldest_log_point self.new.bound (late_events self.old.events.items) }
     {
         self.bound = self.bound.max(time);
         let position = count_before(&self.events, &self.order, self.bound);

@@ -1,7 +1,7 @@
 -- Holdings that are kept, lent and joined.
 use Rattle.std.proofs.Common.{◌≡◌, ℕ, ◌+◌, ◌<◌, List, [], ◌∷◌, ◌++◌, append_assoc, All, length, set, get_or, sym, refl, ap, ◌∙◌, subst, arith}
 use Rattle.std.specs.List.{AllZip}
-use Rattle.dym_pool.specs.Holdings.{Holding, KeepsShare, KeepsWay, IsGuest, IsReach, Lends, Joins, IsFinished}
+use Rattle.dym_pool.specs.Holdings.{Holding, KeepsShare, KeepsDeque, IsNewStealShare, IsStealShareOf, Lends, Joins, IsFinished}
 use Rattle.dym_pool.proofs.Zips.{Back, zip-refl, zip-set, zip-trans, zip-under, zip-all, zip-at, zip-mid, zip-length}
 
 module _ {O : Type 0} where
@@ -43,39 +43,39 @@ module _ {O : Type 0} where
   pub joins_more : (n m k : ℕ) → n + m ≡ k → (x y z : Holding O) → Joins n x y → Joins m y z → Joins k x z
   joins_more n m k e x y z a b = record { deque = b.deque ∙ a.deque; list = b.list ∙ a.list; part = omega (arith, a.part, b.part) }
 
-  pub guest_stays : (n : ℕ) (x y r : Holding O) → Lends n x y → IsGuest x r → IsGuest y r
+  pub guest_stays : (n : ℕ) (x y r : Holding O) → Lends n x y → IsNewStealShare x r → IsNewStealShare y r
   guest_stays n x y r l h = record { deque = h.deque ∙ sym l.deque; hand = h.hand; room = h.room ∙ sym l.room }
 
-  pub reach_before : (n : ℕ) (x y r : Holding O) → Lends n x y → IsReach y r → IsReach x r
+  pub reach_before : (n : ℕ) (x y r : Holding O) → Lends n x y → IsStealShareOf y r → IsStealShareOf x r
   reach_before n x y r l h = record { deque = h.deque ∙ l.deque; part = h.part }
 
-  pub reach_after : (n : ℕ) (x y r : Holding O) → Joins n x y → IsReach x r → IsReach y r
+  pub reach_after : (n : ℕ) (x y r : Holding O) → Joins n x y → IsStealShareOf x r → IsStealShareOf y r
   reach_after n x y r l h = record { deque = h.deque ∙ sym l.deque; part = h.part }
 
   -- the last reach of what is left of a row is one to the share at its place, which hasn't changed yet
-  pub last_reach : (shares now row left front tail : List (Holding O)) (steal_share share : Holding O) (n place : ℕ) → AllZip IsReach shares row → left ++ tail ≡ row → left ≡ front ++ steal_share ∷ [] → Back (Joins 1) n shares now
+  pub last_reach : (shares now row left front tail : List (Holding O)) (steal_share share : Holding O) (n place : ℕ) → AllZip IsStealShareOf shares row → left ++ tail ≡ row → left ≡ front ++ steal_share ∷ [] → Back (Joins 1) n shares now
       → n ≡ length front + 1 → place ≡ length front → share ≡ get_or now place share
-      → (front ++ steal_share ∷ tail ≡ row) × (length front < length shares) × Back (Joins 1) (length front + 1) shares now × (share ≡ get_or shares (length front) share) × IsReach share steal_share
+      → (front ++ steal_share ∷ tail ≡ row) × (length front < length shares) × Back (Joins 1) (length front + 1) shares now × (share ≡ get_or shares (length front) share) × IsStealShareOf share steal_share
   last_reach shares now row left front tail steal_share share n place all whole is back one at here =
       let other : front ++ steal_share ∷ tail ≡ row = sym (append_assoc front (steal_share ∷ []) tail) ∙ ap {B = List (Holding O)} (λ l. l ++ tail) (sym is) ∙ whole in
-      let mid = zip-mid IsReach shares front steal_share tail (subst (λ (l : List (Holding O)). AllZip IsReach shares l) (sym other) all) in
+      let mid = zip-mid IsStealShareOf shares front steal_share tail (subst (λ (l : List (Holding O)). AllZip IsStealShareOf shares l) (sym other) all) in
       let same : share ≡ get_or shares (length front) share = here ∙ ap (λ (k : ℕ). get_or now k share) at ∙ back.rest (length front) share (omega arith) in
-      (other, mid.0, subst (λ (k : ℕ). Back (Joins 1) k shares now) one back, same, subst (λ (h : Holding O). IsReach h steal_share) (sym same) (mid.1 share))
+      (other, mid.0, subst (λ (k : ℕ). Back (Joins 1) k shares now) one back, same, subst (λ (h : Holding O). IsStealShareOf h steal_share) (sym same) (mid.1 share))
 
-  pub ways_none : (xs : List (Holding O)) → AllZip KeepsWay xs xs
-  ways_none xs = zip-refl KeepsWay (λ x. record { deque = refl; part = refl; room = refl }) xs
+  pub ways_none : (xs : List (Holding O)) → AllZip KeepsDeque xs xs
+  ways_none xs = zip-refl KeepsDeque (λ x. record { deque = refl; part = refl; room = refl }) xs
 
-  pub ways_set : (xs ys : List (Holding O)) (i : ℕ) (y d : Holding O) → i < length ys → AllZip KeepsWay xs ys → KeepsWay (get_or ys i d) y → AllZip KeepsWay xs (set ys i y)
+  pub ways_set : (xs ys : List (Holding O)) (i : ℕ) (y d : Holding O) → i < length ys → AllZip KeepsDeque xs ys → KeepsDeque (get_or ys i d) y → AllZip KeepsDeque xs (set ys i y)
   ways_set xs ys i y d l h k =
-      let old = zip-at KeepsWay xs ys i d d h (omega (arith, zip-length KeepsWay xs ys h)) in
-      zip-set KeepsWay xs ys i y d h (record { deque = k.deque ∙ old.deque; part = k.part ∙ old.part; room = k.room ∙ old.room })
+      let old = zip-at KeepsDeque xs ys i d d h (omega (arith, zip-length KeepsDeque xs ys h)) in
+      zip-set KeepsDeque xs ys i y d h (record { deque = k.deque ∙ old.deque; part = k.part ∙ old.part; room = k.room ∙ old.room })
 
-  pub reach_parts : (shares row : List (Holding O)) → AllZip IsReach shares row → All (λ r. 0 < r.part) row
-  reach_parts shares row z k d l = let it = zip-at IsReach shares row k d d z (omega (arith, zip-length IsReach shares row z)) in omega (arith, it.part)
+  pub reach_parts : (shares row : List (Holding O)) → AllZip IsStealShareOf shares row → All (λ r. 0 < r.part) row
+  reach_parts shares row z k d l = let it = zip-at IsStealShareOf shares row k d d z (omega (arith, zip-length IsStealShareOf shares row z)) in omega (arith, it.part)
 
   -- lent, kept and joined again, a share has its list and all its parts
-  pub crew_whole : (n : ℕ) (first lent kept joined : List (Holding O)) → AllZip (Lends n) first lent → AllZip KeepsShare lent kept → AllZip (Joins n) kept joined → AllZip SameLoad first joined
-  crew_whole n first lent kept joined l k j =
+  pub workers_whole : (n : ℕ) (first lent kept joined : List (Holding O)) → AllZip (Lends n) first lent → AllZip KeepsShare lent kept → AllZip (Joins n) kept joined → AllZip SameLoad first joined
+  workers_whole n first lent kept joined l k j =
       let LessBy : Holding O → Holding O → Type 0 = λ a b. (b.part + n ≡ a.part) × (b.list ≡ a.list) in
       let half = zip-trans (Lends n) KeepsShare LessBy first lent kept (λ x y w p q. (omega (arith, p.part, q.part), q.list ∙ p.list)) l k in
       zip-trans LessBy (Joins n) SameLoad first kept joined (λ x y w p q. (omega (arith, p.0, q.part), q.list ∙ p.1)) half j
@@ -88,17 +88,17 @@ module _ {O : Type 0} where
 
   -- after the run the rows are reaches to the shares that come back
   pub rows_after : {V : Type 0} (items : V → List (Holding O)) (n : ℕ) (first lent kept : List (Holding O)) (rows after : List V) → AllZip (Lends n) first lent → AllZip KeepsShare lent kept → AllZip (λ v w. AllZip KeepsShare (items v) (items w)) rows after
-      → All (λ row. AllZip IsReach first (items row)) rows → All (λ row. AllZip IsReach kept (items row)) after
+      → All (λ row. AllZip IsStealShareOf first (items row)) rows → All (λ row. AllZip IsStealShareOf kept (items row)) after
   rows_after items n first lent kept rows after l k each reaches =
       let same = zip-trans (Lends n) KeepsShare (λ a b. b.deque ≡ a.deque) first lent kept (λ x y w p q. q.deque ∙ p.deque) l k in
-      zip-all (λ v w. AllZip KeepsShare (items v) (items w)) (λ row. AllZip IsReach first (items row)) (λ row. AllZip IsReach kept (items row)) rows after
-      (λ v w keeps steal_share. zip-under (λ a b. b.deque ≡ a.deque) IsReach IsReach first kept (items w) (λ x y r d h. record { deque = h.deque ∙ sym d; part = h.part }) same
-      (zip-trans IsReach KeepsShare IsReach first (items v) (items w) (λ x y r h q. record { deque = q.deque ∙ h.deque; part = q.part ∙ h.part }) steal_share keeps)) each reaches
+      zip-all (λ v w. AllZip KeepsShare (items v) (items w)) (λ row. AllZip IsStealShareOf first (items row)) (λ row. AllZip IsStealShareOf kept (items row)) rows after
+      (λ v w keeps steal_share. zip-under (λ a b. b.deque ≡ a.deque) IsStealShareOf IsStealShareOf first kept (items w) (λ x y r d h. record { deque = h.deque ∙ sym d; part = h.part }) same
+      (zip-trans IsStealShareOf KeepsShare IsStealShareOf first (items v) (items w) (λ x y r h q. record { deque = q.deque ∙ h.deque; part = q.part ∙ h.part }) steal_share keeps)) each reaches
 
   -- after the dealing they are guests of the same shares
-  pub guests_after : {V : Type 0} (items : V → List (Holding O)) (opened dealt : List (Holding O)) (rows : List V) → AllZip KeepsWay opened dealt → All (λ row. AllZip IsGuest opened (items row)) rows → All (λ row. AllZip IsGuest dealt (items row)) rows
+  pub guests_after : {V : Type 0} (items : V → List (Holding O)) (opened dealt : List (Holding O)) (rows : List V) → AllZip KeepsDeque opened dealt → All (λ row. AllZip IsNewStealShare opened (items row)) rows → All (λ row. AllZip IsNewStealShare dealt (items row)) rows
   guests_after items opened dealt rows ways guests k d l =
-      zip-under KeepsWay IsGuest IsGuest opened dealt (items (get_or rows k d)) (λ x y r w h. record { deque = h.deque ∙ sym w.deque; hand = h.hand; room = h.room ∙ sym w.room }) ways (guests k d l)
+      zip-under KeepsDeque IsNewStealShare IsNewStealShare opened dealt (items (get_or rows k d)) (λ x y r w h. record { deque = h.deque ∙ sym w.deque; hand = h.hand; room = h.room ∙ sym w.room }) ways (guests k d l)
 
-  pub ways_whole : (opened dealt : List (Holding O)) → AllZip KeepsWay opened dealt → All HasAllParts opened → All HasAllParts dealt
-  ways_whole opened dealt z = zip-all KeepsWay HasAllParts HasAllParts opened dealt (λ x y p q. p.part ∙ q) z
+  pub ways_whole : (opened dealt : List (Holding O)) → AllZip KeepsDeque opened dealt → All HasAllParts opened → All HasAllParts dealt
+  ways_whole opened dealt z = zip-all KeepsDeque HasAllParts HasAllParts opened dealt (λ x y p q. p.part ∙ q) z

@@ -27,19 +27,19 @@ module _ {O : Type 0} where
     pub part : after.part ≡ before.part
 
   -- the same deque with the same room, while its jobs come
-  pub record KeepsWay (before after : Holding O) : Type 0 where
+  pub record KeepsDeque (before after : Holding O) : Type 0 where
     pub deque : after.deque ≡ before.deque
     pub part : after.part ≡ before.part
     pub room : after.room ≡ before.room
 
-  -- a way to a share that nothing was taken by yet
-  pub record IsGuest (share steal_share : Holding O) : Type 0 where
+  -- a steal share that nothing was taken by yet
+  pub record IsNewStealShare (share steal_share : Holding O) : Type 0 where
     pub deque : steal_share.deque ≡ share.deque
     pub hand : steal_share.hand ≡ []
     pub room : steal_share.room ≡ share.room
 
-  -- a way to a share with a part of one
-  pub record IsReach (share steal_share : Holding O) : Type 0 where
+  -- a steal share with a part of one
+  pub record IsStealShareOf (share steal_share : Holding O) : Type 0 where
     pub deque : steal_share.deque ≡ share.deque
     pub part : steal_share.part ≡ 1
 

@@ -1,7 +1,7 @@
 //! How jobs come to the shares.
 ghost use Rattle.std.specs.Prelude.{◌≡◌, ℕ, ◌*◌, ◌<◌, [], All, vec_len};
 ghost use Rattle.std.specs.List.{AllZip, flat_map};
-ghost use Rattle.dym_pool.specs.Holdings.{KeepsWay};
+ghost use Rattle.dym_pool.specs.Holdings.{KeepsDeque};
 ghost use Rattle.dym_pool.specs.Jobs.{boxed_labels};
 ghost use Rattle.dym_pool.specs.Shares.{SameElements};
 
@@ -17,7 +17,7 @@ pub(crate) fn distribute<R, J: Job<R> + Drop>(shares: &mut Vec<OwnShare<R, J>>, 
         shares.old.items }
     ensures dealt { SameElements (flat_map (λ s. s.list) shares.new.items)
         (boxed_labels J.number_of J.origin_of boxes.items) }
-    ensures ways { AllZip KeepsWay shares.old.items shares.new.items }
+    ensures ways { AllZip KeepsDeque shares.old.items shares.new.items }
 {
     let mut left = boxes.len();
     for boxed in boxes {

@@ -71,10 +71,10 @@ fn run_with<R: Threads + Wait + Send + Sync, J: Job<R> + Drop, G: Gate>(
     let slots = open_slots(alloc, count)?;
     let mut shares = open_shares(alloc, workers, room)?;
     let rows = open_rows(alloc, &shares, room)?;
-    let staff = Vec::with_capacity(alloc, workers as usize)?;
+    let worker_list = Vec::with_capacity(alloc, workers as usize)?;
     pack(alloc, jobs, &mut boxes)?;
     distribute(&mut shares, boxes);
-    run_all(rt, gate, &mut shares, rows, staff, caller);
+    run_all(rt, gate, &mut shares, rows, worker_list, caller);
     gather(jobs, slots, shares);
     Ok(())
 }

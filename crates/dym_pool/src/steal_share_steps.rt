@@ -1,6 +1,6 @@
 //! What a worker does with the share of any worker.
 ghost use Rattle.std.specs.Prelude.{◌≡◌, ◌<◌, IfOk};
-ghost use Rattle.dym_pool.specs.Holdings.{IsGuest, IsReach, KeepsShare, Lends};
+ghost use Rattle.dym_pool.specs.Holdings.{IsNewStealShare, IsStealShareOf, KeepsShare, Lends};
 
 use crate::gate::Gate;
 use crate::job::Job;
@@ -19,7 +19,7 @@ impl<R, J: Job<R> + Drop> StealShare<R, J> {
         room: usize,
     ) -> Result<Self, AllocError>
         requires room { share.now.room ≡ room }
-        ensures guest { IfOk result (λ steal_share. IsGuest share.now steal_share) }
+        ensures guest { IfOk result (λ steal_share. IsNewStealShare share.now steal_share) }
     {
         let stealer = share.deque.stealer()?;
         let ended = Vec::with_capacity(alloc, room)?;
@@ -33,9 +33,9 @@ impl<R, J: Job<R> + Drop> StealShare<R, J> {
 
     /// A part of the share, while it has nothing of it.
     pub(crate) fn borrow(&mut self, share: &mut OwnShare<R, J>)
-        requires guest { IsGuest share.old self.old }
+        requires guest { IsNewStealShare share.old self.old }
         requires parts { 1 < share.old.part }
-        ensures steal_share { IsReach share.old self.new }
+        ensures steal_share { IsStealShareOf share.old self.new }
         ensures lends { Lends 1 share.old share.new }
     {
         self.pass = share.lend();

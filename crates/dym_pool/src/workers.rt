@@ -1,7 +1,7 @@
 //! All workers: what they have before the first turn, and what is left after the last.
 ghost use Rattle.std.specs.Prelude.{◌≡◌, ◌+◌, ◌<◌, ◌≤◌, [], All, IfOk, length, map, reverse, slice_index_or, vec_len, vec_capacity, ℕ};
 ghost use Rattle.std.specs.List.{AllZip};
-ghost use Rattle.dym_pool.specs.Holdings.{IsGuest, IsReach, IsFinished, Joins, KeepsShare, Lends};
+ghost use Rattle.dym_pool.specs.Holdings.{IsNewStealShare, IsStealShareOf, IsFinished, Joins, KeepsShare, Lends};
 
 use crate::gate::Gate;
 use crate::job::Job;
@@ -39,7 +39,7 @@ pub(crate) fn open_rows<R, J: Job<R> + Drop>(
     requires room { All (λ s. s.room ≡ room) shares.now.items }
     ensures len { IfOk result (λ rows. vec_len rows ≡ vec_len shares.now) }
     ensures guests { IfOk result
-        (λ rows. All (λ row. AllZip IsGuest shares.now.items row.items) rows.items) }
+        (λ rows. All (λ row. AllZip IsNewStealShare shares.now.items row.items) rows.items) }
 {
     let mut rows = Vec::with_capacity(alloc, shares.len())?;
     for _ in 0..shares.len() {
@@ -55,7 +55,7 @@ fn open_row<R, J: Job<R> + Drop>(
     room: usize,
 ) -> Result<Vec<StealShare<R, J>>, AllocError>
     requires room { All (λ s. s.room ≡ room) shares.now.items }
-    ensures guests { IfOk result (λ row. AllZip IsGuest shares.now.items row.items) }
+    ensures guests { IfOk result (λ row. AllZip IsNewStealShare shares.now.items row.items) }
 {
     let mut row = Vec::with_capacity(alloc, shares.len())?;
     for share in shares.iter() {
@@ -67,26 +67,26 @@ fn open_row<R, J: Job<R> + Drop>(
 /// Runs the jobs of all shares to their ends: each worker its own and what it steals, and the caller what is left, by the
 /// number that is given for it.
 ///
-/// The rows are those of the shares, and the staff is empty, with room for a worker for each share.
+/// The rows are those of the shares, and the worker_list is empty, with room for a worker for each share.
 pub(crate) fn run_all<R: Threads + Wait + Send + Sync, J: Job<R> + Drop, G: Gate>(
     rt: &R,
     gate: &G,
     shares: &mut Vec<OwnShare<R, J>>,
     mut rows: Vec<Vec<StealShare<R, J>>>,
-    mut staff: Vec<Worker<R, J>>,
+    mut worker_list: Vec<Worker<R, J>>,
     caller: u32,
 )
     requires some { 0 < vec_len shares.old }
     requires most { vec_len shares.old ≤ 64 }
     requires whole { All (λ s. s.part ≡ 65) shares.old.items }
     requires rows { vec_len rows ≡ vec_len shares.old }
-    requires guests { All (λ row. AllZip IsGuest shares.old.items row.items) rows.items }
-    requires empty { staff.items ≡ [] }
-    requires room { vec_len shares.old ≤ vec_capacity staff }
+    requires guests { All (λ row. AllZip IsNewStealShare shares.old.items row.items) rows.items }
+    requires empty { worker_list.items ≡ [] }
+    requires room { vec_len shares.old ≤ vec_capacity worker_list }
     ensures finished { AllZip IsFinished shares.old.items shares.new.items }
 {
     lend_all(shares, &mut rows);
-    run_rows(rt, gate, shares, &mut rows, &mut staff);
+    run_rows(rt, gate, shares, &mut rows, &mut worker_list);
     join_all(shares, rows);
     finish_all(rt, gate, caller, shares);
 }
@@ -97,22 +97,22 @@ fn run_rows<R: Threads + Wait + Send + Sync, J: Job<R> + Drop, G: Gate>(
     gate: &G,
     shares: &mut Vec<OwnShare<R, J>>,
     rows: &mut Vec<Vec<StealShare<R, J>>>,
-    staff: &mut Vec<Worker<R, J>>,
+    worker_list: &mut Vec<Worker<R, J>>,
 )
     requires some { 0 < vec_len shares.old }
     requires most { vec_len shares.old ≤ 64 }
     requires len { vec_len rows.old ≡ vec_len shares.old }
     requires parts { All (λ row. (vec_len row ≡ vec_len shares.old)
         × All (λ r. 0 < r.part) row.items) rows.old.items }
-    requires empty { staff.old.items ≡ [] }
-    requires room { vec_len shares.old ≤ vec_capacity staff.old }
+    requires empty { worker_list.old.items ≡ [] }
+    requires room { vec_len shares.old ≤ vec_capacity worker_list.old }
     ensures own { AllZip KeepsShare shares.old.items shares.new.items }
     ensures reaches { AllZip (λ before after.
         AllZip KeepsShare before.items after.items) rows.old.items rows.new.items }
 {
-    gather_workers(shares, rows, staff);
-    run_workers(rt, gate, staff);
-    part_workers(staff, shares, rows);
+    gather_workers(shares, rows, worker_list);
+    run_workers(rt, gate, worker_list);
+    part_workers(worker_list, shares, rows);
 }
 
 /// Gives each row a part of each share.
@@ -120,11 +120,11 @@ fn lend_all<R, J: Job<R> + Drop>(
     shares: &mut Vec<OwnShare<R, J>>,
     rows: &mut Vec<Vec<StealShare<R, J>>>,
 )
-    requires guests { All (λ row. AllZip IsGuest shares.old.items row.items) rows.old.items }
+    requires guests { All (λ row. AllZip IsNewStealShare shares.old.items row.items) rows.old.items }
     requires parts { All (λ s. vec_len rows.old < s.part) shares.old.items }
     ensures len { vec_len rows.new ≡ vec_len rows.old }
     ensures lends { AllZip (Lends (vec_len rows.old)) shares.old.items shares.new.items }
-    ensures reaches { All (λ row. AllZip IsReach shares.old.items row.items) rows.new.items }
+    ensures reaches { All (λ row. AllZip IsStealShareOf shares.old.items row.items) rows.new.items }
 {
     for place in 0..rows.len() {
         lend_row(shares, &mut rows[place]);
@@ -133,10 +133,10 @@ fn lend_all<R, J: Job<R> + Drop>(
 
 /// Gives the reaches of one row a part of their shares.
 fn lend_row<R, J: Job<R> + Drop>(shares: &mut Vec<OwnShare<R, J>>, row: &mut Vec<StealShare<R, J>>)
-    requires guests { AllZip IsGuest shares.old.items row.old.items }
+    requires guests { AllZip IsNewStealShare shares.old.items row.old.items }
     requires parts { All (λ s. 1 < s.part) shares.old.items }
     ensures lends { AllZip (Lends 1) shares.old.items shares.new.items }
-    ensures reaches { AllZip IsReach shares.old.items row.new.items }
+    ensures reaches { AllZip IsStealShareOf shares.old.items row.new.items }
 {
     for place in 0..shares.len() {
         row[place].borrow(&mut shares[place]);
@@ -226,7 +226,7 @@ fn join_all<R, J: Job<R> + Drop>(
     shares: &mut Vec<OwnShare<R, J>>,
     mut rows: Vec<Vec<StealShare<R, J>>>,
 )
-    requires reaches { All (λ row. AllZip IsReach shares.old.items row.items) rows.items }
+    requires reaches { All (λ row. AllZip IsStealShareOf shares.old.items row.items) rows.items }
     ensures joins { AllZip (Joins (vec_len rows)) shares.old.items shares.new.items }
 {
     while let Some(row) = rows.pop() {
@@ -236,7 +236,7 @@ fn join_all<R, J: Job<R> + Drop>(
 
 /// Gives the parts of one row back to the shares, and the jobs that ended there with them.
 fn join_row<R, J: Job<R> + Drop>(shares: &mut Vec<OwnShare<R, J>>, mut row: Vec<StealShare<R, J>>)
-    requires reaches { AllZip IsReach shares.old.items row.items }
+    requires reaches { AllZip IsStealShareOf shares.old.items row.items }
     ensures joins { AllZip (Joins 1) shares.old.items shares.new.items }
 {
     while let Some(steal_share) = row.pop() {

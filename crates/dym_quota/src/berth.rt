@@ -45,9 +45,9 @@ impl<R: Wait> Supply for Berth<R> {
 
     ghost origin = { λ b. shared (queue_name b.pass) };
 
-    ghost bound = { λ _ _. None };
+    ghost binding = { λ _ _. None };
 
-    ghost bound_apart = { λ _ _. tt };
+    ghost binding_apart = { λ _ _. tt };
 
     fn quota(&self) -> u32 {
         self.quota

@@ -120,9 +120,9 @@ impl Supply for FixedSupply {
 
     ghost origin = { λ s. region_origin s.region.id };
 
-    ghost bound = { bound_by };
+    ghost binding = { bound_by };
 
-    ghost bound_apart = { bound_by_apart };
+    ghost binding_apart = { bound_by_apart };
 
     fn quota(&self) -> u32 {
         self.quota

@@ -168,9 +168,9 @@ impl Supply for OwnSupply {
 
     ghost origin = { λ _. own };
 
-    ghost bound = { λ _ _. None };
+    ghost binding = { λ _ _. None };
 
-    ghost bound_apart = { λ _ _. tt };
+    ghost binding_apart = { λ _ _. tt };
 
     fn quota(&self) -> u32 {
         self.quota
@@ -180,11 +180,11 @@ impl Supply for OwnSupply {
         self.quota - self.spare.len() as u32
     }
 
-    fn take(&mut self, _way: &(), _class: u32, _ordinal: u32) -> VecSegment {
+    fn take(&mut self, _context: &(), _class: u32, _ordinal: u32) -> VecSegment {
         self.spare.take_last()
     }
 
-    fn give(&mut self, _way: &(), segment: VecSegment) {
+    fn give(&mut self, _context: &(), segment: VecSegment) {
         self.spare.push_reserved(segment);
     }
 }

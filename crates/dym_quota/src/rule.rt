@@ -8,15 +8,15 @@ use dym_region::{RawSegment, Segment};
 use std::marker::{Brand, PhantomData};
 
 /// A queue of segments under the segment rule.
-pub type SegmentLine = RuledArrayQueue<RawSegment, PassView, ByRule>;
+pub type SegmentLine = RuledArrayQueue<RawSegment, PassView, SegmentQueueRule>;
 
 /// The right to take steps on one queue, and what its holder knows. It has no bytes.
 pub type SegmentPass = Pass<RawSegment, PassView>;
 
 /// The segment rule.
-pub struct ByRule;
+pub struct SegmentQueueRule;
 
-impl Protocol<RawSegment, PassView> for ByRule {
+impl Protocol<RawSegment, PassView> for SegmentQueueRule {
     ghost use Rattle.std.specs.Prelude.{map};
     ghost use Rattle.dym_quota.specs.SegmentRule.{SegmentRule, first_pass};
 
@@ -90,11 +90,11 @@ impl Amount for Brand {
 }
 
 /// Gives a part of a quota to a new pass.
-pub struct Cut<N> {
+pub struct SplitQuota<N> {
     marker: PhantomData<N>,
 }
 
-impl<N: Amount> Split<PassView> for Cut<N> {
+impl<N: Amount> Split<PassView> for SplitQuota<N> {
     ghost use Rattle.std.specs.Prelude.{false, [], ◌-◌};
 
     ghost left = { λ v. record {
@@ -108,9 +108,9 @@ impl<N: Amount> Split<PassView> for Cut<N> {
 }
 
 /// Puts two passes together.
-pub struct Together;
+pub struct JoinedPasses;
 
-impl Join<PassView> for Together {
+impl Join<PassView> for JoinedPasses {
     ghost use Rattle.std.specs.Prelude.{false, ◌++◌, ◌+◌};
     ghost use Rattle.dym_quota.specs.SegmentRule.{spent};
 

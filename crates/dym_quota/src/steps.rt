@@ -5,7 +5,7 @@ ghost use Rattle.dym_quota.specs.HeldIds.{IsHeld};
 ghost use Rattle.dym_quota.specs.SegmentSteps.{IsStocking, IsPop, IsPush, IsSplit, IsJoin};
 
 use crate::rule::{
-    Amount, Cut, Gives, HoldsAll, SegmentLine, SegmentPass, Stocks, Takes, Together,
+    Amount, Gives, HoldsAll, JoinedPasses, SegmentLine, SegmentPass, SplitQuota, Stocks, Takes,
 };
 use dym_region::{RawSegment, Segment};
 use std::marker::Brand;
@@ -103,7 +103,7 @@ fn part_by<N: Amount>(line: &SegmentLine, pass: &mut SegmentPass, quota: u32) ->
       opens = false;
     } }
 {
-    line.another::<Cut<N>>(pass)
+    line.another::<SplitQuota<N>>(pass)
 }
 
 /// Puts another pass into this one.
@@ -120,7 +120,7 @@ pub(crate) fn join(line: &SegmentLine, pass: &mut SegmentPass, other: SegmentPas
       opens = false;
     } }
 {
-    line.absorb::<Together>(pass, other);
+    line.absorb::<JoinedPasses>(pass, other);
 }
 
 /// A pass that has the whole quota and holds as many segments as were stocked holds each of them.

@@ -25,9 +25,9 @@ pub trait Supply {
     ghost origin: { Self → Origin };
 
     // Which segment an area gets, by its class from 0 on and its ordinal, where a supply of this origin and quota binds them.
-    ghost bound: { Origin → ℕ → Option (ℕ → ℕ → SegmentId) };
+    ghost binding: { Origin → ℕ → Option (ℕ → ℕ → SegmentId) };
 
-    ghost bound_apart: { (origin : Origin) (quota : ℕ) → AreApart (bound origin quota) quota };
+    ghost binding_apart: { (origin : Origin) (quota : ℕ) → AreApart (binding origin quota) quota };
 
     /// The most segments that may be out at a time.
     fn quota(&self) -> u32
@@ -42,10 +42,10 @@ pub trait Supply {
         requires room { length (held_ids self.old) < quota_of self.old }
         requires class { class < 12 }
         requires ordinal { ordinal < quota_of self.old }
-        requires free { IsFreeFor (bound (origin self.old) (quota_of self.old)) (held_ids self.old)
+        requires free { IsFreeFor (binding (origin self.old) (quota_of self.old)) (held_ids self.old)
             class ordinal }
         ensures taken { GivesBack (held_ids self.new) (held_ids self.old) (Self.Seg.id result) }
-        ensures is_bound { IsBoundTo (bound (origin self.old) (quota_of self.old)) class ordinal
+        ensures is_bound { IsBoundTo (binding (origin self.old) (quota_of self.old)) class ordinal
             (Self.Seg.id result) }
         ensures quota { quota_of self.new ≡ quota_of self.old }
         ensures origin { origin self.new ≡ origin self.old };

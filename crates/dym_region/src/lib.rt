@@ -8,11 +8,11 @@
 #![tactic(auto)]
 
 mod block;
-mod front;
 mod raw_segment;
 mod region;
 mod runs;
 mod segment;
+mod used_bytes;
 mod vec_segment;
 
 pub use raw_segment::RawSegment;

@@ -6,9 +6,9 @@ ghost use Rattle.dym_region.specs.Content.{zeros_behind, length-zeros_behind};
 ghost use Rattle.dym_region.specs.Identity.{start_of};
 ghost use Rattle.dym_region.specs.Lending.{vec_with_lent};
 
-use crate::front::{bytes_at, fill_to, read_at, write_at, zero_at};
 use crate::runs::run;
 use crate::segment::Segment;
+use crate::used_bytes::{bytes_at, fill_to, read_at, write_at, zero_at};
 use dym_base::limits::SEGMENT_BYTES;
 use std_alloc::vec::Lodged;
 

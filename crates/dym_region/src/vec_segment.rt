@@ -5,9 +5,9 @@ ghost use Rattle.dym_region.specs.Content.{zeros_behind, length-zeros_behind};
 ghost use Rattle.dym_region.specs.Lending.{vec_with_lent};
 ghost use Rattle.dym_region.specs.Identity.{lone_id};
 
-use crate::front::{bytes_at, fill_to, read_at, write_at, zero_at};
 use crate::runs::run;
 use crate::segment::Segment;
+use crate::used_bytes::{bytes_at, fill_to, read_at, write_at, zero_at};
 use dym_base::limits::SEGMENT_BYTES;
 use std::alloc::{AllocError, Global};
 

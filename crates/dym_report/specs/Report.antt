@@ -7,7 +7,7 @@ use Rattle.dym_base.specs.declared.reply.Reply.{Reply}
 use Rattle.dym_base.specs.declared.limits.TheConstants.{MOST_QUOTA, MOST_COMMANDS}
 use Rattle.dym_script.specs.declared.script.Decl.{Decl}
 use Rattle.dym_script.specs.declared.parts.Part.{Part}
-use Rattle.dym_script.specs.Scripts.{Said, own}
+use Rattle.dym_script.specs.Scripts.{ScriptMeaning, own}
 use Rattle.dym_report.specs.Objects.{object_text}
 use Rattle.dym_report.specs.Orders.{end_text}
 
@@ -27,12 +27,12 @@ pub record IsRunnable (part : Part) : Type 0 where
   pub quota_most : part.decl.quota ≤ MOST_QUOTA
 
 -- the objects of a script from the k-th on, which these declarations declare
-abbrev pub own_from : Said → ℕ → List Decl → List Own
+abbrev pub own_from : ScriptMeaning → ℕ → List Decl → List Own
 own_from said k [] = []
 own_from said k (d ∷ ds) = record { decl = d; commands = own said k } ∷ own_from said (k + 1) ds
 
 -- the objects of a script in the order of their declarations
-unfoldable pub objects_of : Said → List Own
+unfoldable pub objects_of : ScriptMeaning → List Own
 objects_of said = own_from said 0 said.objects
 
 -- what an object's own commands give, from an empty heap within its quota
@@ -49,5 +49,5 @@ part_text version o =
     object_text version o.decl.name (replies_of version o) s.heap.live (length s.logs) (slots s.logs)
 
 -- the parts of all objects, and the last line
-unfoldable pub report_text : Said → List ℕ
+unfoldable pub report_text : ScriptMeaning → List ℕ
 report_text said = flat_map (part_text said.version) (objects_of said) ++ end_text

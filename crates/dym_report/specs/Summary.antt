@@ -6,7 +6,7 @@ use Rattle.dym_base.specs.Objects.{slots}
 use Rattle.dym_base.specs.declared.command.Version.{Version}
 use Rattle.dym_base.specs.declared.reply.Reply.{Reply}
 pub use Rattle.dym_commands.specs.Replies.{is_refusal}
-use Rattle.dym_script.specs.Scripts.{Said}
+use Rattle.dym_script.specs.Scripts.{ScriptMeaning}
 use Rattle.dym_report.specs.declared.totals.Totals.{Totals}
 use Rattle.dym_report.specs.Orders.{summary_text}
 use Rattle.dym_report.specs.declared.tally.Tally.{Tally}
@@ -62,7 +62,7 @@ totals_with objects tally = record {
 }
 
 -- the eight numbers of a summary
-abbrev pub totals_of : Said → Totals
+abbrev pub totals_of : ScriptMeaning → Totals
 totals_of said =
     let all = tally_all said.version (objects_of said) in
     record {
@@ -77,5 +77,5 @@ totals_of said =
     }
 
 -- the line of a summary
-abbrev pub summary_of : Said → List ℕ
+abbrev pub summary_of : ScriptMeaning → List ℕ
 summary_of said = summary_text (totals_of said)

@@ -7,7 +7,7 @@ use Rattle.std.proofs.lemmas.List.Sums.{sum_by-append}
 use Rattle.dym_run.specs.declared.report_options.ReportOptions.{ReportOptions}
 use Rattle.dym_run.specs.declared.wave_options.WaveOptions.{WaveOptions}
 use Rattle.dym_base.specs.declared.limits.TheConstants.{MOST_OBJECTS, MOST_COMMANDS}
-use Rattle.dym_io.specs.Sink.{Output, Appended, AppendedFront, Blames, WritesOr}
+use Rattle.dym_io.specs.Sink.{Output, Appended, AppendedFront, FaultsTellCause, WritesOr}
 use Rattle.dym_io.specs.Laws.{appended_nothing, appended_both, front_after, front_of_appended, front_within}
 use Rattle.dym_script.specs.declared.parts.Part.{Part}
 use Rattle.std.specs.Prelude.{⊤}
@@ -156,9 +156,9 @@ still_enough id before after n m most rest many long same is enough =
 
 -- the same error, where it may be the sink's
 pub writes_or_passed : {T E : Type 0} → (IsSinks : E → Type 0) (a b : Output) (t : List ℕ) (r : Result T E) (e : E) → IsErrAnd r (λ x. x ≡ e)
-    → AppendedFront a b t → Blames (IsSinks e) a b → WritesOr IsSinks a b t r
+    → AppendedFront a b t → FaultsTellCause (IsSinks e) a b → WritesOr IsSinks a b t r
 writes_or_passed IsSinks a b t (Ok x) e is front blames = absurd is
-writes_or_passed IsSinks a b t (Err x) e is front blames = (front, subst (λ x. Blames (IsSinks x) a b) (sym is) blames)
+writes_or_passed IsSinks a b t (Err x) e is front blames = (front, subst (λ x. FaultsTellCause (IsSinks x) a b) (sym is) blames)
 
 module _ (v w : WaveOptions) (same : w ≡ v) (all left rest : List Part) where
   pub wave_more : (old mid new : Output) → Written v.report all left old mid

@@ -6,7 +6,7 @@ use Rattle.dym_base.specs.Origins.{own}
 use Rattle.dym_base.specs.declared.command.Version.{Version}
 use Rattle.dym_base.specs.declared.command.Command.{Command}
 use Rattle.dym_base.specs.declared.reply.Reply.{Reply}
-use Rattle.dym_io.specs.Sink.{Output, Appended, AppendedFront, Blames}
+use Rattle.dym_io.specs.Sink.{Output, Appended, AppendedFront, FaultsTellCause}
 use Rattle.dym_report.specs.Objects.{object_text}
 use Rattle.dym_script.specs.declared.parts.Part.{Part}
 use Rattle.dym_wave.specs.Works.{OriginMeaning}
@@ -91,7 +91,7 @@ abbrev pub WritesFirst : ReportOptions → List Part → List Part → Output �
 WritesFirst options before after old new result =
     MatchResult result
     (λ _. (done : List Part) × (0 < length done) × (before ≡ done ++ after) × Appended old new (parts_text options done))
-    (λ fail. AppendedFront old new (parts_text options before) × Blames (fail ≡ SinkFailed) old new)
+    (λ fail. AppendedFront old new (parts_text options before) × FaultsTellCause (fail ≡ SinkFailed) old new)
 
 -- what objects come to together
 abbrev pub tally_shown : List Shown → Tally

@@ -2,7 +2,7 @@
 use Rattle.std.specs.Prelude.{ℕ, Bool, true, false, List, [], ◌++◌, flat_map, Option, None, Some}
 use Rattle.dym_base.specs.Objects.{ObjectState}
 use Rattle.dym_base.specs.declared.command.Version.{Version}
-use Rattle.dym_script.specs.Scripts.{Said}
+use Rattle.dym_script.specs.Scripts.{ScriptMeaning}
 use Rattle.dym_report.specs.Late.{view_line}
 use Rattle.dym_report.specs.Orders.{end_text}
 use Rattle.dym_report.specs.declared.late.ViewLine.{ViewLine}
@@ -29,5 +29,5 @@ abbrev pub viewed_part : Version → Own → List ℕ
 viewed_part version o = part_text version o ++ view_line (oldest_view (end_of version o))
 
 -- the report of a script with the line of each object's view, and the last line
-unfoldable pub views_text : Said → List ℕ
+unfoldable pub views_text : ScriptMeaning → List ℕ
 views_text said = flat_map (viewed_part said.version) (objects_of said) ++ end_text

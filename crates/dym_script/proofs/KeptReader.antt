@@ -9,7 +9,7 @@ use Rattle.dym_base.specs.Names.{is_name}
 use Rattle.dym_base.specs.declared.limits.TheConstants.{MOST_OBJECTS, MOST_QUOTA}
 use Rattle.dym_script.specs.declared.script.Decl.{Decl}
 use Rattle.dym_script.specs.declared.reader.Reader.{Reader}
-use Rattle.dym_script.specs.Scripts.{Said, object_of}
+use Rattle.dym_script.specs.Scripts.{ScriptMeaning, object_of}
 use Rattle.dym_script.specs.Answers.{IsLawful}
 use Rattle.dym_script.specs.Readers.{IsValidReader}
 use Rattle.dym_script.proofs.Index.{with_last, with_last_no, object_of_none, object_of_push, other_bytes}
@@ -29,7 +29,7 @@ kept_start r names objects = record {
 }
 
 -- one declaration more is lawful
-pub lawful_declare : (s : Said) (d : Decl) → IsLawful s → length s.objects < MOST_OBJECTS → IsTrue (is_name d.name) → 1 ≤ d.quota
+pub lawful_declare : (s : ScriptMeaning) (d : Decl) → IsLawful s → length s.objects < MOST_OBJECTS → IsTrue (is_name d.name) → 1 ≤ d.quota
     → d.quota ≤ MOST_QUOTA → IsLawful (record s { objects = s.objects ++ d ∷ [] })
 lawful_declare s d valid room name low high = record {
   objects = omega (arith, length-append s.objects (d ∷ []));

@@ -7,7 +7,7 @@ use Rattle.dym_script.specs.declared.late.LateReader.{LateReader}
 use Rattle.dym_script.specs.declared.line_fail.LineFail.{LineFail}
 use Rattle.dym_script.specs.declared.line_fail.LineFail.TheVariants as fail
 use Rattle.dym_base.specs.Lines.{lines_of}
-use Rattle.dym_script.specs.Late.{LateSaid, late_line, late_lines, late_on, late_of, late_start}
+use Rattle.dym_script.specs.Late.{LateScriptMeaning, late_line, late_lines, late_on, late_of, late_start}
 use Rattle.dym_script.specs.LateArrivals.{IsLawfulLate}
 use Rattle.dym_script.specs.LateAnswers.{GivesLateLine, IsValidLateReader, late_reading_of}
 
@@ -19,17 +19,17 @@ late_says bytes short =
     rw test refl
 
 -- the lines so far were read, and this is what stands behind them
-abbrev pub ReadTo : List ℕ → LateSaid → ℕ → List ℕ → Type 0
+abbrev pub ReadTo : List ℕ → LateScriptMeaning → ℕ → List ℕ → Type 0
 ReadTo bytes s number rest = late_lines late_start 1 (lines_of bytes) ≡ late_lines s (number + 1) (lines_of rest)
 
 -- the next line is good
-pub read_more : (bytes : List ℕ) (s t : LateSaid) (number : ℕ) (rest line after : List ℕ) → ReadTo bytes s number rest
+pub read_more : (bytes : List ℕ) (s t : LateScriptMeaning) (number : ℕ) (rest line after : List ℕ) → ReadTo bytes s number rest
     → lines_of rest ≡ line ∷ lines_of after → late_line s (number + 1) line ≡ Ok t → ReadTo bytes t (number + 1) after
 read_more bytes s t number rest line after so cut good =
     so ∙ ap (late_lines s (number + 1)) cut ∙ ap (λ r. late_on (number + 1) r (λ next. late_lines next (number + 1 + 1) (lines_of after))) good
 
 -- the next line is bad
-pub read_bad : (bytes : List ℕ) (s t : LateSaid) (number : ℕ) (rest line after : List ℕ) (failed : LineFail) (kind told : BadKind)
+pub read_bad : (bytes : List ℕ) (s t : LateScriptMeaning) (number : ℕ) (rest line after : List ℕ) (failed : LineFail) (kind told : BadKind)
     → length bytes ≤ MOST_INPUT_BYTES → ReadTo bytes s number rest → lines_of rest ≡ line ∷ lines_of after
     → failed ≡ fail.Bad kind → told ≡ kind → GivesLateLine t (Err failed) (late_line s (number + 1) line)
     → late_of bytes ≡ Err (record { line = number + 1; kind = told })
@@ -39,7 +39,7 @@ read_bad bytes s t number rest line after failed kind told short so cut is same 
     ∙ ap (λ r. late_on (number + 1) r (λ next. late_lines next (number + 1 + 1) (lines_of after))) (bad ∙ ap (λ k. Err k) (sym same))
 
 -- no line is left
-pub read_end : (bytes : List ℕ) (s : LateSaid) (number : ℕ) (rest : List ℕ) → length bytes ≤ MOST_INPUT_BYTES → ReadTo bytes s number rest
+pub read_end : (bytes : List ℕ) (s : LateScriptMeaning) (number : ℕ) (rest : List ℕ) → length bytes ≤ MOST_INPUT_BYTES → ReadTo bytes s number rest
     → lines_of rest ≡ [] → late_of bytes ≡ Ok s
 read_end bytes s number rest short so none = late_says bytes short ∙ so ∙ ap (late_lines s (number + 1)) none
 

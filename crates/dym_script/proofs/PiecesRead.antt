@@ -12,7 +12,7 @@ use Rattle.dym_script.specs.declared.script.ScriptFail.TheVariants as fail
 use Rattle.dym_script.specs.Answers.{FailsSo, GivesBy}
 use Rattle.dym_base.specs.Lines.{lines_of}
 use Rattle.dym_script.proofs.WordCuts.{take_rest}
-use Rattle.dym_script.specs.Scripts.{Said, Reading, Fault, read_line, read_lines, go_on, start, script_of}
+use Rattle.dym_script.specs.Scripts.{ScriptMeaning, Reading, Fault, read_line, read_lines, go_on, start, script_of}
 use Rattle.dym_script.specs.Pieces.{says, IsEnded, IsOpen, Took, TakesPiece, ReadsFront, ReadsText}
 
 -- the first line is read, and then the rest and other lines
@@ -189,14 +189,14 @@ took_all Fit Stands NewStands n m taken text reads took =
     (end, stands, says_behind Fit Stands n taken text took ∙ ap (read_lines took.now (n + 1)) (sym (append-nil (lines_of text))) ∙ read [])
 
 -- what is made of them is that of what the whole script says
-pub made_all : {M : Type 0} → (tells : M → Said → Type 0) (Fit : Type 0) (Stands NewStands : Reading → Type 0) (n m : ℕ) (taken text : List ℕ)
+pub made_all : {M : Type 0} → (tells : M → ScriptMeaning → Type 0) (Fit : Type 0) (Stands NewStands : Reading → Type 0) (n m : ℕ) (taken text : List ℕ)
     (made : M) → ReadsText Stands NewStands n m text (Ok tt) → Took Fit Stands n taken
     → ((reading : Reading) → NewStands reading → tells made reading.said) → GivesBy tells (Ok made) (says (taken ++ text))
 made_all tells Fit Stands NewStands n m taken text made reads took told =
     let (end, stands, is) = took_all Fit Stands NewStands n m taken text reads took in (end.said, is, told end stands)
 
 -- one of them is bad, or memory ran out
-pub all_failed : {M : Type 0} → (tells : M → Said → Type 0) (Fit : Type 0) (Stands NewStands : Reading → Type 0) (n m : ℕ) (taken text : List ℕ)
+pub all_failed : {M : Type 0} → (tells : M → ScriptMeaning → Type 0) (Fit : Type 0) (Stands NewStands : Reading → Type 0) (n m : ℕ) (taken text : List ℕ)
     (result : Result M ScriptFail) (failed : ScriptFail) → ReadsText Stands NewStands n m text (Err failed) → Took Fit Stands n taken
     → IsErr result → IsErrAnd result (λ e. e ≡ failed) → GivesBy tells result (says (taken ++ text))
 all_failed tells Fit Stands NewStands n m taken text (Ok made) failed reads took is is_that = cc
@@ -211,7 +211,7 @@ pub last_part : (n : ℕ) (bytes : List ℕ) → take n bytes ++ take (length by
 last_part n bytes = ap (λ t. take n bytes ++ t) (take_rest n bytes) ∙ take-append-drop n bytes
 
 -- a piece that is the whole input has a bad line, or memory ran out
-pub piece_is_bad : {M : Type 0} → (tells : M → Said → Type 0) (Before After : List ℕ → Type 0) (text : List ℕ) (result : Result M ScriptFail)
+pub piece_is_bad : {M : Type 0} → (tells : M → ScriptMeaning → Type 0) (Before After : List ℕ → Type 0) (text : List ℕ) (result : Result M ScriptFail)
     (failed : ScriptFail) → TakesPiece Before After text (Err failed) → Before []
     → IsErr result → IsErrAnd result (λ e. e ≡ failed) → GivesBy tells result (says text)
 piece_is_bad tells Before After text (Ok made) failed takes start is is_that = cc

@@ -13,7 +13,7 @@ use Rattle.dym_script.specs.declared.reader.Ask.{Ask}
 use Rattle.dym_script.specs.declared.reader.Reader.{Reader}
 use Rattle.dym_base.specs.Lines.{lines_of}
 use Rattle.dym_script.specs.Lines.{words_of, is_printable}
-use Rattle.dym_script.specs.Scripts.{Said, Reading, object_of, ask_at, is_version, begin, read_line}
+use Rattle.dym_script.specs.Scripts.{ScriptMeaning, Reading, object_of, ask_at, is_version, begin, read_line}
 use Rattle.dym_commands.specs.Requests.{asks}
 use Rattle.dym_script.specs.Table.{verb_of, command_of}
 use Rattle.dym_script.specs.Readers.{reading, IsNext}
@@ -62,7 +62,7 @@ name_no_hash : (name : List ℕ) → is_name name ≡ true → (get_or name 0 0 
 name_no_hash [] good = absurd (cc)
 name_no_hash (c ∷ cs) good = no_hash c (both_true (is_name_byte c) (list_all is_name_byte cs) (name_parts (c ∷ cs) good).1).0
 
-begin_reading : (o : Result Said BadKind) → begin o ≡ reading true o
+begin_reading : (o : Result ScriptMeaning BadKind) → begin o ≡ reading true o
 begin_reading (Ok s) = refl
 begin_reading (Err kind) = refl
 

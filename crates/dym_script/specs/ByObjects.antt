@@ -4,19 +4,19 @@ use Rattle.dym_script.specs.declared.counter.Counter.{Counter}
 use Rattle.dym_script.specs.declared.parts.PartCollector.{PartCollector}
 use Rattle.dym_script.specs.declared.pieces.WholeScript.{WholeScript}
 use Rattle.dym_script.specs.declared.script.ScriptFail.{ScriptFail}
-use Rattle.dym_script.specs.Scripts.{Said, Fault}
+use Rattle.dym_script.specs.Scripts.{ScriptMeaning, Fault}
 use Rattle.dym_script.specs.Answers.{GivesBy}
 use Rattle.dym_script.specs.Keepers.{IsWhole}
 use Rattle.dym_script.specs.Parts.{KeepsParts}
 
 -- what was read is what a script says, by its objects
-abbrev pub IsByObjects : WholeScript PartCollector → Said → Type 0
+abbrev pub IsByObjects : WholeScript PartCollector → ScriptMeaning → Type 0
 IsByObjects whole s = IsWhole (KeepsParts whole.kept) whole.version whole.objects.items whole.commands s
 
 -- the answer of the reader of parts is what the grammar gives, unless memory ran out
-abbrev pub GivesParts : Result (WholeScript PartCollector) ScriptFail → Result Said Fault → Type 0
+abbrev pub GivesParts : Result (WholeScript PartCollector) ScriptFail → Result ScriptMeaning Fault → Type 0
 GivesParts result read = GivesBy IsByObjects result read
 
 -- the same of the reader that keeps nothing
-abbrev pub GivesCounts : Result (WholeScript Counter) ScriptFail → Result Said Fault → Type 0
+abbrev pub GivesCounts : Result (WholeScript Counter) ScriptFail → Result ScriptMeaning Fault → Type 0
 GivesCounts result read = GivesBy (λ whole. IsWhole (λ objects lines. Unit {0}) whole.version whole.objects.items whole.commands) result read

@@ -10,7 +10,7 @@ use Rattle.dym_script.specs.declared.line_fail.LineFail.TheVariants as line
 use Rattle.dym_script.specs.declared.reader.Reader.{Reader}
 use Rattle.dym_script.specs.declared.script.Decl.{Decl}
 use Rattle.dym_script.specs.declared.script.Line.{Line}
-use Rattle.dym_script.specs.Scripts.{Said, Reading}
+use Rattle.dym_script.specs.Scripts.{ScriptMeaning, Reading}
 use Rattle.dym_script.specs.Answers.{IsLawful}
 use Rattle.dym_script.specs.Readers.{IsValidReader, reading_of}
 
@@ -56,7 +56,7 @@ HoldsLine before after reading_of (Err (line.Bad kind)) read = (lines : List Lin
 HoldsLine before after reading_of (Err line.Memory) read = Unit {0}
 
 -- what was read of a script is what it says, and is kept
-pub record IsWhole (Keeps : List Decl → List Line → Type 0) (v : Version) (decls : List Decl) (n : ℕ) (s : Said) : Type 0 where
+pub record IsWhole (Keeps : List Decl → List Line → Type 0) (v : Version) (decls : List Decl) (n : ℕ) (s : ScriptMeaning) : Type 0 where
   pub version : s.version ≡ v
   pub objects : s.objects ≡ decls
   pub commands : length s.lines ≡ n

@@ -21,19 +21,19 @@ use Rattle.dym_base.specs.Lines.{lines_of}
 use Rattle.dym_script.specs.Lines.{words_of, is_printable}
 use Rattle.dym_script.specs.Words.{number_to}
 use Rattle.dym_script.specs.Table.{verb_of, command_of}
-use Rattle.dym_script.specs.Scripts.{Said, Fault, object_of, declare_words}
+use Rattle.dym_script.specs.Scripts.{ScriptMeaning, Fault, object_of, declare_words}
 
 -- what a script of late events says: the lists of its declarations and of its other lines
-pub record LateSaid : Type 0 where
+pub record LateScriptMeaning : Type 0 where
   pub objects : List Decl
   pub lines : List LateLine
 
 -- a script, seen so
-abbrev pub late_said : LateScript → LateSaid
+abbrev pub late_said : LateScript → LateScriptMeaning
 late_said s = record { objects = s.objects.items; lines = s.lines.items }
 
 -- nothing is read yet
-abbrev pub late_start : LateSaid
+abbrev pub late_start : LateScriptMeaning
 late_start = record { objects = []; lines = [] }
 
 -- the verbs that an event may have
@@ -104,7 +104,7 @@ act_of (word ∷ words) =
     else Err bad.Command
 
 -- the line says this of the object in this place
-abbrev pub act_on : LateSaid → LateAct → Option ℕ → Result LateSaid BadKind
+abbrev pub act_on : LateScriptMeaning → LateAct → Option ℕ → Result LateScriptMeaning BadKind
 act_on s act None = Err bad.Undeclared
 act_on s act (Some object) =
     if length s.lines == MOST_LATE_LINES then Err bad.Many
@@ -112,21 +112,21 @@ act_on s act (Some object) =
     else Ok (record s { lines = s.lines ++ record { object = object; act = act } ∷ [] })
 
 -- the line says something of an object
-abbrev pub act_of_name : LateSaid → List ℕ → Result LateAct BadKind → Result LateSaid BadKind
+abbrev pub act_of_name : LateScriptMeaning → List ℕ → Result LateAct BadKind → Result LateScriptMeaning BadKind
 act_of_name s name (Err kind) = Err kind
 act_of_name s name (Ok act) = if not (is_name name) then Err bad.Name else act_on s act (object_of s.objects name)
 
 -- a script of these declarations alone
-abbrev pub declaring : List Decl → Said
+abbrev pub declaring : List Decl → ScriptMeaning
 declaring objects = record { version = One; objects = objects; lines = [] }
 
 -- the line declares an object, as in a script
-abbrev pub late_declared : LateSaid → Result Said BadKind → Result LateSaid BadKind
+abbrev pub late_declared : LateScriptMeaning → Result ScriptMeaning BadKind → Result LateScriptMeaning BadKind
 late_declared s (Err kind) = Err kind
 late_declared s (Ok t) = Ok (record s { objects = t.objects })
 
 -- a line of these words is skipped where it has none, and where the first begins with #
-abbrev pub late_words : LateSaid → ℕ → List (List ℕ) → Result LateSaid BadKind
+abbrev pub late_words : LateScriptMeaning → ℕ → List (List ℕ) → Result LateScriptMeaning BadKind
 late_words s number [] = Ok s
 late_words s number (first ∷ words) =
     if slice_index first 0 == 35 then Ok s
@@ -134,24 +134,24 @@ late_words s number (first ∷ words) =
     else act_of_name s first (act_of words)
 
 -- what is said with one line more
-unfoldable pub late_line : LateSaid → ℕ → List ℕ → Result LateSaid BadKind
+unfoldable pub late_line : LateScriptMeaning → ℕ → List ℕ → Result LateScriptMeaning BadKind
 late_line s number line =
     if nat_lt MOST_LINE_BYTES (length line) then Err bad.LongLine
     else if not (list_all is_printable line) then Err bad.Bytes
     else late_words s number (words_of line)
 
 -- the rest is read only after a good line
-abbrev pub late_on : ℕ → Result LateSaid BadKind → (LateSaid → Result LateSaid Fault) → Result LateSaid Fault
+abbrev pub late_on : ℕ → Result LateScriptMeaning BadKind → (LateScriptMeaning → Result LateScriptMeaning Fault) → Result LateScriptMeaning Fault
 late_on number (Err kind) rest = Err (record { line = number; kind = kind })
 late_on number (Ok s) rest = rest s
 
 -- what is said with these lines more, the first of which has this number
-abbrev pub late_lines : LateSaid → ℕ → List (List ℕ) → Result LateSaid Fault
+abbrev pub late_lines : LateScriptMeaning → ℕ → List (List ℕ) → Result LateScriptMeaning Fault
 late_lines s number [] = Ok s
 late_lines s number (line ∷ lines) = late_on number (late_line s number line) (λ next. late_lines next (number + 1) lines)
 
 -- what an input says, or its first fault
-unfoldable pub late_of : List ℕ → Result LateSaid Fault
+unfoldable pub late_of : List ℕ → Result LateScriptMeaning Fault
 late_of bytes =
     if nat_lt MOST_INPUT_BYTES (length bytes) then Err (record { line = 0; kind = bad.TooLong })
     else late_lines late_start 1 (lines_of bytes)

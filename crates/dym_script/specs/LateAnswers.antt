@@ -11,12 +11,12 @@ use Rattle.dym_script.specs.declared.line_fail.LineFail.TheVariants as line
 use Rattle.dym_script.specs.declared.script.ScriptFail.{ScriptFail}
 use Rattle.dym_script.specs.declared.script.ScriptFail.TheVariants as fail
 use Rattle.dym_script.specs.Scripts.{Fault}
-use Rattle.dym_script.specs.Late.{LateSaid, late_said, events_of}
+use Rattle.dym_script.specs.Late.{LateScriptMeaning, late_said, events_of}
 use Rattle.dym_script.specs.LateArrivals.{MayAct}
 use Rattle.dym_script.specs.Readers.{IsValidReader}
 
 -- what was read so far
-abbrev pub late_reading_of : LateReader → LateSaid
+abbrev pub late_reading_of : LateReader → LateScriptMeaning
 late_reading_of r = record { objects = r.declared.objects.items; lines = r.lines.items }
 
 -- each count is that of the events of the object in its place
@@ -35,13 +35,13 @@ pub record IsValidLateReader (r : LateReader) : Type 0 where
   pub events : (object : ℕ) → events_of r.lines.items object ≤ MOST_LATE_EVENTS
 
 -- what a line leaves is what the grammar gives, unless memory ran out
-abbrev pub GivesLateLine : LateSaid → Result Unit LineFail → Result LateSaid BadKind → Type 0
+abbrev pub GivesLateLine : LateScriptMeaning → Result Unit LineFail → Result LateScriptMeaning BadKind → Type 0
 GivesLateLine after (Ok _) read = read ≡ Ok after
 GivesLateLine after (Err (line.Bad kind)) read = read ≡ Err kind
 GivesLateLine after (Err line.Memory) read = Unit {0}
 
 -- the answer of the reader of scripts of late events is what the grammar gives, unless memory ran out
-abbrev pub GivesLate : Result LateScript ScriptFail → Result LateSaid Fault → Type 0
+abbrev pub GivesLate : Result LateScript ScriptFail → Result LateScriptMeaning Fault → Type 0
 GivesLate (Ok script) read = read ≡ Ok (late_said script)
 GivesLate (Err (fail.Bad line kind)) read = read ≡ Err (record { line = line; kind = kind })
 GivesLate (Err fail.Memory) read = Unit {0}

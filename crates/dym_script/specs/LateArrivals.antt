@@ -7,7 +7,7 @@ use Rattle.dym_base.specs.declared.limits.TheConstants.{MOST_LATE_LINES, MOST_LA
 use Rattle.dym_script.specs.declared.late_script.LateAct.{LateAct}
 use Rattle.dym_script.specs.declared.late_script.LateAct.TheVariants.{At, Commit}
 use Rattle.dym_script.specs.declared.late_script.LateLine.{LateLine}
-use Rattle.dym_script.specs.Late.{LateSaid, events_of}
+use Rattle.dym_script.specs.Late.{LateScriptMeaning, events_of}
 
 -- what comes for the object of a line
 abbrev pub arrival : LateAct → Arrival
@@ -24,7 +24,7 @@ MayAct (At time command) = IsEventCommand command
 MayAct (Commit time) = Unit {0}
 
 -- what holds of each script of late events that is read
-pub record IsLawfulLate (s : LateSaid) : Type 0 where
+pub record IsLawfulLate (s : LateScriptMeaning) : Type 0 where
   pub objects : length s.objects ≤ MOST_OBJECTS
   pub lines : length s.lines ≤ MOST_LATE_LINES
   pub names : All (λ d. IsTrue (is_name d.name)) s.objects

@@ -6,10 +6,10 @@ use Rattle.dym_script.specs.declared.line_fail.LineFail.TheVariants as line
 use Rattle.dym_script.specs.declared.script.ScriptFail.{ScriptFail}
 use Rattle.dym_script.specs.declared.script.ScriptFail.TheVariants as fail
 use Rattle.dym_base.specs.Lines.{lines_of}
-use Rattle.dym_script.specs.Scripts.{Said, Reading, Fault, start, read_lines}
+use Rattle.dym_script.specs.Scripts.{ScriptMeaning, Reading, Fault, start, read_lines}
 
 -- what the lines of an input say, however long it is
-abbrev pub says : List ℕ → Result Said Fault
+abbrev pub says : List ℕ → Result ScriptMeaning Fault
 says text = read_lines start 1 (lines_of text)
 
 -- whatever stands behind the text begins a new line

@@ -12,7 +12,7 @@ use Rattle.dym_script.specs.declared.reader.Ask.{Ask}
 use Rattle.dym_script.specs.declared.reader.Next.{Next}
 use Rattle.dym_script.specs.declared.reader.Reader.{Reader}
 use Rattle.dym_base.specs.Lines.{lines_of}
-use Rattle.dym_script.specs.Scripts.{Said, Reading, object_of, ask_at, name_fault, read_line}
+use Rattle.dym_script.specs.Scripts.{ScriptMeaning, Reading, object_of, ask_at, name_fault, read_line}
 use Rattle.dym_commands.specs.Requests.{asks}
 use Rattle.dym_script.specs.Answers.{IsLawful}
 
@@ -40,17 +40,17 @@ IsWithin r None = Unit {0}
 IsWithin r (Some ask) = ask.object < length r.objects.items
 
 -- what is said with what a line asks
-abbrev pub with_ask : Said → Option Ask → Result Said BadKind
+abbrev pub with_ask : ScriptMeaning → Option Ask → Result ScriptMeaning BadKind
 with_ask s None = Ok s
 with_ask s (Some ask) = ask_at s (asks ask.asked) (Some ask.object)
 
 -- what is read then
-abbrev pub reading : Bool → Result Said BadKind → Result Reading BadKind
+abbrev pub reading : Bool → Result ScriptMeaning BadKind → Result Reading BadKind
 reading begun (Err kind) = Err kind
 reading begun (Ok s) = Ok (record { begun = begun; said = s })
 
 -- whatever was asked before, the grammar says the same of the line, unless memory ran out
-abbrev pub GivesSaid : (List Line → Said) → Result (Option Ask) LineFail → (List Line → Result Said BadKind) → Type 0
+abbrev pub GivesSaid : (List Line → ScriptMeaning) → Result (Option Ask) LineFail → (List Line → Result ScriptMeaning BadKind) → Type 0
 GivesSaid after (Ok ask) read = (lines : List Line) → read lines ≡ with_ask (after lines) ask
 GivesSaid after (Err (line.Bad kind)) read = (lines : List Line) → read lines ≡ Err kind
 GivesSaid after (Err line.Memory) read = Unit {0}
@@ -62,7 +62,7 @@ GivesReading after (Err (line.Bad kind)) read = (lines : List Line) → read lin
 GivesReading after (Err line.Memory) read = Unit {0}
 
 -- the same of a declaration, which asks nothing
-abbrev pub Declares : (List Line → Said) → Result Unit LineFail → (List Line → Result Said BadKind) → Type 0
+abbrev pub Declares : (List Line → ScriptMeaning) → Result Unit LineFail → (List Line → Result ScriptMeaning BadKind) → Type 0
 Declares after (Ok _) read = (lines : List Line) → read lines ≡ Ok (after lines)
 Declares after (Err (line.Bad kind)) read = (lines : List Line) → read lines ≡ Err kind
 Declares after (Err line.Memory) read = Unit {0}

@@ -20,19 +20,19 @@ use Rattle.dym_script.specs.Words.{number_to}
 use Rattle.dym_script.specs.Table.{verb_of, command_of}
 
 -- what a script says: its version, and the lists of its declarations and of its other lines
-pub record Said : Type 0 where
+pub record ScriptMeaning : Type 0 where
   pub version : Version
   pub objects : List Decl
   pub lines : List Line
 
 -- a script, seen so
-abbrev pub said : Script → Said
+abbrev pub said : Script → ScriptMeaning
 said s = record { version = s.version; objects = s.objects.items; lines = s.lines.items }
 
 -- what the lines so far say, and whether one of them wasn't skipped
 pub record Reading : Type 0 where
   pub begun : Bool
-  pub said : Said
+  pub said : ScriptMeaning
 
 -- nothing is read yet, and the version is 1 unless a line says otherwise
 abbrev pub start : Reading
@@ -43,7 +43,7 @@ unfoldable pub object_of : List Decl → List ℕ → Option ℕ
 object_of objects name = position_from (λ d. bytes_eq d.name name) 0 objects
 
 -- the line declares an object: what is wrong with it, in order, or what is said with it
-abbrev pub declare : Said → ℕ → List ℕ → Option ℕ → Result Said BadKind
+abbrev pub declare : ScriptMeaning → ℕ → List ℕ → Option ℕ → Result ScriptMeaning BadKind
 declare s number name None = Err bad.Number
 declare s number name (Some quota) =
     if not (is_name name) then Err bad.Name
@@ -53,7 +53,7 @@ declare s number name (Some quota) =
     else Ok (record s { objects = s.objects ++ record { name = name; quota = quota; line = number } ∷ [] })
 
 -- the line asks something of the object in this place
-abbrev pub ask_at : Said → Command → Option ℕ → Result Said BadKind
+abbrev pub ask_at : ScriptMeaning → Command → Option ℕ → Result ScriptMeaning BadKind
 ask_at s command None = Err bad.Undeclared
 ask_at s command (Some object) =
     if length s.lines == MOST_COMMANDS then Err bad.Many
@@ -64,27 +64,27 @@ abbrev pub name_fault : List ℕ → BadKind
 name_fault name = if is_name name then bad.Undeclared else bad.Name
 
 -- the line asks something of an object
-abbrev pub ask : Said → List ℕ → Result Command BadKind → Result Said BadKind
+abbrev pub ask : ScriptMeaning → List ℕ → Result Command BadKind → Result ScriptMeaning BadKind
 ask s name (Err kind) = Err kind
 ask s name (Ok command) = if not (is_name name) then Err bad.Name else ask_at s command (object_of s.objects name)
 
 -- the words after the word `object`
-abbrev pub declare_words : Said → ℕ → List (List ℕ) → Result Said BadKind
+abbrev pub declare_words : ScriptMeaning → ℕ → List (List ℕ) → Result ScriptMeaning BadKind
 declare_words s number (name ∷ quota ∷ []) = declare s number name (number_to (2 ^ 64 - 1) quota)
 declare_words s number words = Err bad.Command
 
 -- the words after a verb, where the second word is one
-abbrev pub ask_verb : Said → List ℕ → Option Verb → List (List ℕ) → Result Said BadKind
+abbrev pub ask_verb : ScriptMeaning → List ℕ → Option Verb → List (List ℕ) → Result ScriptMeaning BadKind
 ask_verb s name None words = Err bad.Command
 ask_verb s name (Some v) words = ask s name (command_of v words)
 
 -- the words after a name
-abbrev pub ask_words : Said → List ℕ → List (List ℕ) → Result Said BadKind
+abbrev pub ask_words : ScriptMeaning → List ℕ → List (List ℕ) → Result ScriptMeaning BadKind
 ask_words s name [] = Err bad.Command
 ask_words s name (word ∷ words) = ask_verb s name (verb_of word) words
 
 -- a line of these words, that isn't skipped and isn't the version line
-abbrev pub say : Said → ℕ → List ℕ → List (List ℕ) → Result Said BadKind
+abbrev pub say : ScriptMeaning → ℕ → List ℕ → List (List ℕ) → Result ScriptMeaning BadKind
 say s number first words =
     if bytes_eq first (codes "object") then declare_words s number words else ask_words s first words
 
@@ -94,7 +94,7 @@ is_version first (second ∷ []) = bytes_eq first (codes "version") && bytes_eq 
 is_version first words = false
 
 -- a line that isn't skipped was read
-abbrev pub begin : Result Said BadKind → Result Reading BadKind
+abbrev pub begin : Result ScriptMeaning BadKind → Result Reading BadKind
 begin (Err kind) = Err kind
 begin (Ok s) = Ok (record { begun = true; said = s })
 
@@ -119,21 +119,21 @@ pub record Fault : Type 0 where
   pub kind : BadKind
 
 -- the rest is read only after a good line
-abbrev pub go_on : ℕ → Result Reading BadKind → (Reading → Result Said Fault) → Result Said Fault
+abbrev pub go_on : ℕ → Result Reading BadKind → (Reading → Result ScriptMeaning Fault) → Result ScriptMeaning Fault
 go_on number (Err kind) rest = Err (record { line = number; kind = kind })
 go_on number (Ok r) rest = rest r
 
 -- what is said with these lines more, the first of which has this number
-abbrev pub read_lines : Reading → ℕ → List (List ℕ) → Result Said Fault
+abbrev pub read_lines : Reading → ℕ → List (List ℕ) → Result ScriptMeaning Fault
 read_lines r number [] = Ok r.said
 read_lines r number (line ∷ lines) = go_on number (read_line r number line) (λ next. read_lines next (number + 1) lines)
 
 -- what an input says, or its first fault
-unfoldable pub script_of : List ℕ → Result Said Fault
+unfoldable pub script_of : List ℕ → Result ScriptMeaning Fault
 script_of bytes =
     if nat_lt MOST_INPUT_BYTES (length bytes) then Err (record { line = 0; kind = bad.TooLong })
     else read_lines start 1 (lines_of bytes)
 
 -- the commands of the lines of one object, in the script's order
-unfoldable pub own : Said → ℕ → List Command
+unfoldable pub own : ScriptMeaning → ℕ → List Command
 own s object = map (λ line. line.command) (filter (λ line. line.object == object) s.lines)

@@ -10,9 +10,9 @@
 mod chunk_copies;
 mod commit;
 mod commit_copy;
-mod front;
 mod glance;
-mod law;
+mod history_rule;
+mod known_history;
 mod oldest_heap;
 mod publication;
 mod publisher;

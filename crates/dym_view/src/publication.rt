@@ -4,7 +4,7 @@ ghost use mathlib.Core.List.{IsPrefix};
 ghost use Rattle.left_right.specs.Sides.{view};
 ghost use Rattle.dym_view.specs.Rules.{HasSeen, Knows, known_after, AreOf, last_of};
 
-use crate::front::Front;
+use crate::known_history::KnownHistory;
 use atomic_table::{Join, Split};
 use core::mem::replace_with;
 use crossbeam_utils::rule::{Outcome, Protocol};
@@ -16,14 +16,18 @@ use std::sync::Wait;
 use std::thread;
 
 /// An operation is a beginning of the history, which replaces what stood before.
-impl Absorb<Front> for Front {
-    type State = Front;
+impl Absorb<KnownHistory> for KnownHistory {
+    type State = KnownHistory;
 
     ghost state = { λ front. front };
 
     ghost applied = { λ before front. front };
 
-    fn absorb_first(&mut self, operation: &Front, _other: &Front) -> Result<(), AllocError> {
+    fn absorb_first(
+        &mut self,
+        operation: &KnownHistory,
+        _other: &KnownHistory,
+    ) -> Result<(), AllocError> {
         *self = operation.again()?;
         Ok(())
     }
@@ -32,7 +36,7 @@ impl Absorb<Front> for Front {
 /// The rule: what seats have seen is of the history that is published.
 pub(crate) struct OneHistory;
 
-impl Protocol<Front, Option<Front>> for OneHistory {
+impl Protocol<KnownHistory, Option<KnownHistory>> for OneHistory {
     ghost use Rattle.std.specs.Prelude.{None};
     ghost use Rattle.dym_view.specs.Rules.{AreOfPublished};
 
@@ -44,7 +48,7 @@ impl Protocol<Front, Option<Front>> for OneHistory {
 /// A seat takes what is published.
 pub(crate) struct Take;
 
-impl Outcome<Front, Option<Front>> for Take {
+impl Outcome<KnownHistory, Option<KnownHistory>> for Take {
     ghost use Rattle.dym_view.specs.Rules.{Takes};
 
     ghost then = { Takes };
@@ -53,7 +57,7 @@ impl Outcome<Front, Option<Front>> for Take {
 /// Two seats have seen what one had.
 pub(crate) struct Twice;
 
-impl Split<Option<Front>> for Twice {
+impl Split<Option<KnownHistory>> for Twice {
     ghost left = { λ seen. seen };
 
     ghost right = { λ seen. seen };
@@ -62,7 +66,7 @@ impl Split<Option<Front>> for Twice {
 /// A seat has seen what another had.
 pub(crate) struct Other;
 
-impl Join<Option<Front>> for Other {
+impl Join<Option<KnownHistory>> for Other {
     ghost use Rattle.std.specs.Prelude.{None};
 
     ghost both = { λ seen other. other };
@@ -71,15 +75,15 @@ impl Join<Option<Front>> for Other {
 }
 
 /// The right to publish.
-pub(crate) type Pen = Writer<Front, Front, Option<Front>, OneHistory>;
+pub(crate) type ViewWriter = Writer<KnownHistory, KnownHistory, Option<KnownHistory>, OneHistory>;
 
 /// The right to read what is published.
-pub(crate) type Eye = Reader<Front, Option<Front>, OneHistory>;
+pub(crate) type ViewReader = Reader<KnownHistory, Option<KnownHistory>, OneHistory>;
 
 /// Shows a beginning of the history in the place of what was shown. It ends once that is shown: nothing is left to be wanting then.
 ///
 /// Room for the operation was made when the pen was opened, so that it takes no memory.
-pub(crate) fn show<R: Wait>(view_writer: &mut Pen, rt: &R, front: Front)
+pub(crate) fn show<R: Wait>(view_writer: &mut ViewWriter, rt: &R, front: KnownHistory)
     requires history { front.history ≡ view_writer.old.desk.shown.value.history }
     requires waiting { drop view_writer.old.behind view_writer.old.log.items ≡ [] }
     ensures shown { view_writer.new.desk.shown.value ≡ front }
@@ -90,7 +94,7 @@ pub(crate) fn show<R: Wait>(view_writer: &mut Pen, rt: &R, front: Front)
 }
 
 /// Lets a beginning of the history wait to be published. Where there is no room for it, it is tried again.
-fn append_at_last<R: Wait>(view_writer: &mut Pen, rt: &R, front: Front)
+fn append_at_last<R: Wait>(view_writer: &mut ViewWriter, rt: &R, front: KnownHistory)
     ensures desk { view_writer.new.desk ≡ view_writer.old.desk }
     ensures waiting { drop view_writer.new.behind view_writer.new.log.items
         ≡ drop view_writer.old.behind view_writer.old.log.items ++ front ∷ [] }
@@ -107,7 +111,7 @@ fn append_at_last<R: Wait>(view_writer: &mut Pen, rt: &R, front: Front)
 }
 
 /// Publishes what waits. Where it can't be shared, it is tried again.
-pub(crate) fn publish_at_last<R: Wait>(view_writer: &mut Pen, rt: &R)
+pub(crate) fn publish_at_last<R: Wait>(view_writer: &mut ViewWriter, rt: &R)
     requires { AreOf view_writer.old.desk.shown.value.history
         (drop view_writer.old.behind view_writer.old.log.items) }
     ensures shown { view_writer.new.desk.shown.value
@@ -127,7 +131,7 @@ pub(crate) fn publish_at_last<R: Wait>(view_writer: &mut Pen, rt: &R)
 }
 
 /// Publishes what waits. It waits for an eye that still reads what was published before.
-fn publish_waiting<R: Wait>(view_writer: Pen, rt: &R) -> (Pen, Result<(), AllocError>)
+fn publish_waiting<R: Wait>(view_writer: ViewWriter, rt: &R) -> (ViewWriter, Result<(), AllocError>)
     requires { AreOf view_writer.desk.shown.value.history
         (drop view_writer.behind view_writer.log.items) }
     ensures shown { MatchResult result.1
@@ -148,7 +152,10 @@ fn publish_waiting<R: Wait>(view_writer: Pen, rt: &R) -> (Pen, Result<(), AllocE
 pub(crate) struct Unread;
 
 /// What is published, where it goes further than what is known.
-pub(crate) fn look_through(view_reader: Eye, known: &Front) -> (Eye, Result<Option<Front>, Unread>)
+pub(crate) fn look_through(
+    view_reader: ViewReader,
+    known: &KnownHistory,
+) -> (ViewReader, Result<Option<KnownHistory>, Unread>)
     requires { HasSeen known.now.history (view view_reader.place) }
     ensures view_reader { HasSeen known.now.history (view result.0.place) }
     ensures history { IfOk result.1 (λ newer. IfSome newer

@@ -5,9 +5,9 @@ ghost use Rattle.dym_view.specs.Answers.{glance_of};
 ghost use Rattle.dym_view.specs.Histories.{IsHistory, last_time, MayFollow};
 
 use crate::commit::Commit;
-use crate::front::Front;
 use crate::glance::Glance;
-use crate::law::{Head, open_history};
+use crate::history_rule::{Head, open_history};
+use crate::known_history::KnownHistory;
 use crate::publication::{Pen, show};
 use crate::told::Told;
 use crate::view_setup::open_both;
@@ -22,7 +22,7 @@ use std::sync::Wait;
 /// nothing waits to be shown. The history has no commits but those: no one else adds to it. A publisher can't be let go: `end` gives it up.
 pub struct Publisher {
     head: Head,
-    front: Front,
+    front: KnownHistory,
     view_writer: Pen,
 }
 
@@ -50,7 +50,7 @@ pub fn open_view<R: Wait>(rt: &R, alloc: Global) -> Result<(Publisher, Viewer), 
     ensures viewer { IfOk result (λ both. both.1 ≡ both.0) }
 {
     let head = open_history(rt);
-    let front = Front::start(head.reached());
+    let front = KnownHistory::start(head.reached());
     let known = front.again()?;
     let (view_writer, view_reader) = open_both(rt, alloc, &front)?;
     Ok((

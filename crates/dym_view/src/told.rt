@@ -2,13 +2,13 @@
 ghost use Rattle.std.specs.Prelude.{◌≡◌, length};
 ghost use Rattle.dym_view.specs.Histories.{IsHistory};
 
-use crate::front::Front;
+use crate::known_history::KnownHistory;
 use std::marker::Model;
 
 /// The whole history of a publisher at the moment when it told it. It keeps the last commit.
 #[derive(Drop)]
 pub struct Told {
-    pub(crate) front: Front,
+    pub(crate) front: KnownHistory,
 }
 
 impl Model for Told {

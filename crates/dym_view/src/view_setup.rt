@@ -3,8 +3,8 @@ ghost use Rattle.std.specs.Prelude.{◌≡◌, [], drop, IfOk};
 ghost use Rattle.left_right.specs.Sides.{view};
 ghost use Rattle.dym_view.specs.Rules.{HasSeen, AreThis};
 
-use crate::front::Front;
-use crate::publication::{Eye, Other, Pen, Twice, publish_at_last};
+use crate::known_history::KnownHistory;
+use crate::publication::{Other, Twice, ViewReader, ViewWriter, publish_at_last};
 use left_right::writer::Writer;
 use std::alloc::{AllocError, Global};
 use std::sync::Wait;
@@ -18,8 +18,8 @@ const WAITING: u32 = 4;
 pub(crate) fn open_both<R: Wait>(
     rt: &R,
     alloc: Global,
-    front: &Front,
-) -> Result<(Pen, Eye), AllocError>
+    front: &KnownHistory,
+) -> Result<(ViewWriter, ViewReader), AllocError>
     ensures shown { IfOk result (λ both. both.0.desk.shown.value ≡ front.now) }
     ensures waiting { IfOk result (λ both. drop both.0.behind both.0.log.items ≡ []) }
     ensures view_reader { IfOk result (λ both. HasSeen front.now.history (view both.1.place)) }
@@ -39,7 +39,7 @@ pub(crate) fn open_both<R: Wait>(
 }
 
 /// The right to publish.
-fn open_view_writer(alloc: Global, front: &Front) -> Result<Pen, AllocError>
+fn open_view_writer(alloc: Global, front: &KnownHistory) -> Result<ViewWriter, AllocError>
     ensures shown { IfOk result (λ view_writer. view_writer.desk.shown.value ≡ front.now) }
     ensures waiting { IfOk result (λ view_writer. drop view_writer.behind view_writer.log.items
         ≡ []) }
@@ -50,7 +50,7 @@ fn open_view_writer(alloc: Global, front: &Front) -> Result<Pen, AllocError>
 }
 
 /// Makes room for operations, by some that change nothing.
-fn make_room(view_writer: &mut Pen, front: &Front) -> Result<(), AllocError>
+fn make_room(view_writer: &mut ViewWriter, front: &KnownHistory) -> Result<(), AllocError>
     requires { AreThis front.now (drop view_writer.old.behind view_writer.old.log.items) }
     ensures desk { view_writer.new.desk ≡ view_writer.old.desk }
     ensures waiting { AreThis front.now (drop view_writer.new.behind view_writer.new.log.items) }
@@ -63,7 +63,7 @@ fn make_room(view_writer: &mut Pen, front: &Front) -> Result<(), AllocError>
 }
 
 /// The right to read. It has seen what the pen has.
-fn open_view_reader(view_writer: &mut Pen) -> Result<Eye, AllocError>
+fn open_view_reader(view_writer: &mut ViewWriter) -> Result<ViewReader, AllocError>
     requires { HasSeen view_writer.old.desk.shown.value.history (view view_writer.old.desk.place) }
     ensures shown { view_writer.new.desk.shown ≡ view_writer.old.desk.shown }
     ensures waiting { drop view_writer.new.behind view_writer.new.log.items

@@ -6,9 +6,9 @@ ghost use Rattle.dym_view.specs.Answers.{glance_of, seen_of, read_of};
 ghost use Rattle.dym_view.specs.Histories.{IsHistory};
 ghost use Rattle.dym_view.specs.Rules.{HasSeen, Knows};
 
-use crate::front::Front;
 use crate::glance::{Glance, Seen};
-use crate::publication::{Eye, Unread, look_through};
+use crate::known_history::KnownHistory;
+use crate::publication::{Unread, ViewReader, look_through};
 use crate::told::Told;
 use core::mem::replace_with;
 use dym_base::Handle;
@@ -21,8 +21,8 @@ use std::marker::Model;
 /// waits.
 #[derive(Drop)]
 pub struct Viewer {
-    pub(crate) view_reader: Eye,
-    pub(crate) front: Front,
+    pub(crate) view_reader: ViewReader,
+    pub(crate) front: KnownHistory,
 }
 
 impl Model for Viewer {
@@ -87,7 +87,7 @@ impl Viewer {
 }
 
 /// Makes known what is published, where it can be read and shared.
-fn refresh(view_reader: &mut Eye, front: &mut Front) -> Result<(), Unread>
+fn refresh(view_reader: &mut ViewReader, front: &mut KnownHistory) -> Result<(), Unread>
     requires { HasSeen front.old.history (view_of view_reader.old.place) }
     ensures view_reader { HasSeen front.new.history (view_of view_reader.new.place) }
     ensures name { front.new.history ≡ front.old.history }

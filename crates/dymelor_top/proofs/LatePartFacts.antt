@@ -10,7 +10,7 @@ use Rattle.std.proofs.lemmas.List.Elements.{All-nil, All-cons, All-head, All-tai
 use Rattle.dym_report.specs.Orders.{end_text}
 use Rattle.dym_script.specs.declared.late_script.LateLine.{LateLine}
 use Rattle.dym_script.specs.declared.script.Decl.{Decl}
-use Rattle.dym_script.specs.Late.{LateSaid, is_event, events_of}
+use Rattle.dym_script.specs.Late.{LateScriptMeaning, is_event, events_of}
 use Rattle.dym_script.specs.LateArrivals.{arrival, arrivals_of, MayAct, IsLawfulLate}
 use Rattle.dymelor_top.specs.declared.late_parts.LatePart.{LatePart}
 use Rattle.dymelor_top.specs.LateReport.{late_part, late_parts_from, late_text}
@@ -92,7 +92,7 @@ decl_at : (parts : List LatePart) (k : ℕ) (d : LatePart) → get_or (map (λ (
 decl_at parts k d = get_or-map (λ (p : LatePart). p.decl) parts k d
 
 -- each part of a lawful script can be run
-pub parts_run : (parts : List LatePart) (s : LateSaid) → AreLateParts parts s.objects s.lines → IsLawfulLate s → All IsLatePart parts
+pub parts_run : (parts : List LatePart) (s : LateScriptMeaning) → AreLateParts parts s.objects s.lines → IsLawfulLate s → All IsLatePart parts
 parts_run parts s are lawful k d within =
     let at : get_or s.objects k d.decl ≡ (get_or parts k d).decl = ap (λ ds. get_or ds k d.decl) (sym are.decls) ∙ decl_at parts k d in
     let reach : k < length s.objects = omega (arith, within, many_parts parts s.objects s.lines are) in
@@ -130,7 +130,7 @@ texts_from lines k (p ∷ ps) has =
     λ i. late_part p.decl.name p.decl.quota (comes i) ++ texts_from lines (k + 1) ps (has_later lines k p ps has) i
 
 -- the parts make the report
-pub report_of_late : (parts : List LatePart) (s : LateSaid) → AreLateParts parts s.objects s.lines → late_text s ≡ flat_map late_part_text parts ++ end_text
+pub report_of_late : (parts : List LatePart) (s : LateScriptMeaning) → AreLateParts parts s.objects s.lines → late_text s ≡ flat_map late_part_text parts ++ end_text
 unfolding late_text
 report_of_late parts s are =
     ap (λ l. l ++ end_text) (sym (texts_from s.lines 0 parts (has_all s.lines parts are.acts) ∙ ap (late_parts_from s.lines 0) are.decls))

@@ -8,7 +8,7 @@ use Rattle.dym_script.specs.declared.parts.PartCollector.{PartCollector}
 use Rattle.dym_script.specs.declared.parts.Part.{Part}
 use Rattle.dym_script.specs.declared.pieces.WholeScript.{WholeScript}
 use Rattle.dym_script.specs.ByObjects.{IsByObjects}
-use Rattle.dym_script.specs.Scripts.{Said, own}
+use Rattle.dym_script.specs.Scripts.{ScriptMeaning, own}
 use Rattle.dym_script.specs.Answers.{IsLawful}
 use Rattle.dym_script.specs.Parts.{EachHas}
 use Rattle.dym_run.specs.Results.{parts_text}
@@ -18,34 +18,34 @@ use Rattle.dym_run.specs.Views.{viewed_part, views_text}
 use Rattle.dymelor_top.specs.Answers.{outcome_text}
 
 -- the commands of the parts from the k-th object on
-abbrev pub OwnsFrom : Said → ℕ → List Part → Type 0
+abbrev pub OwnsFrom : ScriptMeaning → ℕ → List Part → Type 0
 OwnsFrom s k parts = (j : ℕ) (d : Part) → j < length parts → (get_or parts j d).commands ≡ own s (k + j)
 
 -- what is kept of the others
-pub owns_later : (s : Said) (k : ℕ) (p : Part) (ps : List Part) → OwnsFrom s k (p ∷ ps) → OwnsFrom s (k + 1) ps
+pub owns_later : (s : ScriptMeaning) (k : ℕ) (p : Part) (ps : List Part) → OwnsFrom s k (p ∷ ps) → OwnsFrom s (k + 1) ps
 owns_later s k p ps owns j d within = owns (suc j) d (omega arith) ∙ ap (own s) shifted
   where
     shifted : k + suc j ≡ (k + 1) + j
     shifted = omega arith
 
 -- and of the first
-pub owns_first : (s : Said) (k : ℕ) (p : Part) (ps : List Part) → OwnsFrom s k (p ∷ ps) → p.commands ≡ own s k
+pub owns_first : (s : ScriptMeaning) (k : ℕ) (p : Part) (ps : List Part) → OwnsFrom s k (p ∷ ps) → p.commands ≡ own s k
 owns_first s k p ps owns = owns 0 p (omega arith) ∙ ap (own s) (add-zero k)
 
-pub owns_all : (s : Said) (parts : List Part) → EachHas parts s.lines → OwnsFrom s 0 parts
+pub owns_all : (s : ScriptMeaning) (parts : List Part) → EachHas parts s.lines → OwnsFrom s 0 parts
 unfolding own
 owns_all s parts has j d within = has j d within ∙ ap (own s) zero_first
   where
     zero_first : j ≡ 0 + j
     zero_first = omega arith
 
-own_from_parts : (s : Said) (k : ℕ) (parts : List Part) → OwnsFrom s k parts → map own_of parts ≡ own_from s k (map (λ p. p.decl) parts)
+own_from_parts : (s : ScriptMeaning) (k : ℕ) (parts : List Part) → OwnsFrom s k parts → map own_of parts ≡ own_from s k (map (λ p. p.decl) parts)
 own_from_parts s k [] owns = refl
 own_from_parts s k (p ∷ ps) owns =
     let first : p.commands ≡ own s k = owns_first s k p ps owns in
     λ i. record { decl = p.decl; commands = first i } ∷ own_from_parts s (k + 1) ps (owns_later s k p ps owns) i
 
-pub parts_are_objects : (s : Said) (parts : List Part) → map (λ p. p.decl) parts ≡ s.objects → EachHas parts s.lines → map own_of parts ≡ objects_of s
+pub parts_are_objects : (s : ScriptMeaning) (parts : List Part) → map (λ p. p.decl) parts ≡ s.objects → EachHas parts s.lines → map own_of parts ≡ objects_of s
 unfolding objects_of
 parts_are_objects s parts decls owns = own_from_parts s 0 parts (owns_all s parts owns) ∙ ap (own_from s 0) decls
 
@@ -71,7 +71,7 @@ pub length_decls : (parts : List Part) → length (map (λ (p : Part). p.decl) p
 length_decls [] = refl
 length_decls (p ∷ ps) = ap suc (length_decls ps)
 
-pub parts_run : (s : Said) (parts : List Part) → map (λ p. p.decl) parts ≡ s.objects → EachHas parts s.lines → IsLawful s → All IsRunnable parts
+pub parts_run : (s : ScriptMeaning) (parts : List Part) → map (λ p. p.decl) parts ≡ s.objects → EachHas parts s.lines → IsLawful s → All IsRunnable parts
 unfolding own
 parts_run s parts decls owns lawful k d within =
     let stand = owns k d within in
@@ -85,7 +85,7 @@ parts_run s parts decls owns lawful k d within =
     }
 
 -- the report of a script that was read into its parts
-pub report_of_parts : (script : WholeScript PartCollector) (s : Said) (parts : List Part) → IsByObjects script s → parts ≡ script.kept.parts.items
+pub report_of_parts : (script : WholeScript PartCollector) (s : ScriptMeaning) (parts : List Part) → IsByObjects script s → parts ≡ script.kept.parts.items
     → report_text s ≡ flat_map (λ part. part_text script.version (own_of part)) parts ++ end_text
 unfolding report_text
 report_of_parts script s parts are all =
@@ -98,7 +98,7 @@ viewed_of_parts : (v : Version) (parts : List Part) → flat_map (λ part. viewe
 viewed_of_parts v [] = refl
 viewed_of_parts v (p ∷ ps) = ap (λ l. viewed_part v (own_of p) ++ l) (viewed_of_parts v ps)
 
-pub views_of_parts : (script : WholeScript PartCollector) (s : Said) → IsByObjects script s
+pub views_of_parts : (script : WholeScript PartCollector) (s : ScriptMeaning) → IsByObjects script s
     → views_text s ≡ flat_map (λ part. viewed_part script.version (own_of part)) script.kept.parts.items ++ end_text
 unfolding views_text
 views_of_parts script s are =
@@ -112,7 +112,7 @@ plain_texts v [] = refl
 plain_texts v (p ∷ parts) = λ i. append-nil (part_text v (own_of p)) i ++ plain_texts v parts i
 
 -- the report, with views or without
-pub told_of_parts : (views : Bool) (script : WholeScript PartCollector) (s : Said) → IsByObjects script s
+pub told_of_parts : (views : Bool) (script : WholeScript PartCollector) (s : ScriptMeaning) → IsByObjects script s
     → outcome_text views s ≡ parts_text (record { version = script.version; views = views }) script.kept.parts.items ++ end_text
 told_of_parts true script s are = views_of_parts script s are
 told_of_parts false script s are =

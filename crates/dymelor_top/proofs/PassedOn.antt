@@ -1,7 +1,7 @@
 -- An error that is passed on, of whatever cause.
 use Rattle.std.proofs.Common.{◌≡◌, ℕ, suc, ◌+◌, ◌<◌, List, ◌∷◌, ◌++◌, length, take, drop, get_or, flat_map, Result, Ok, Err, IsErrAnd, refl, sym, ap, subst, ◌∙◌, add-one, drop-cons, take-append-drop}
 use Rattle.std.proofs.lemmas.Grind.{flat_map-append}
-use Rattle.dym_io.specs.Sink.{Output, Appended, AppendedFront, Stopped, Blames, WritesOr}
+use Rattle.dym_io.specs.Sink.{Output, Appended, AppendedFront, Stopped, FaultsTellCause, WritesOr}
 use Rattle.dym_io.specs.Laws.{appended_both, front_after, front_within, stopped_after, stopped_within, writes_or_stopped}
 use Rattle.dym_report.specs.declared.write_fail.WriteFail.{WriteFail}
 use Rattle.dym_report.specs.declared.write_fail.WriteFail.TheVariants as fail
@@ -18,7 +18,7 @@ module _ (a : Output) (text t u : List ℕ) (whole : text ≡ t ++ u) where
   pub first_stopped : {T : Type 0} → (b : Output) (r : Result T WriteFail) → IsErrAnd r IsSinks → Stopped a b t → WritesOr IsSinks a b text r
   first_stopped b r is p = writes_or_stopped IsSinks a b text r is (subst (Stopped a b) (sym whole) (stopped_within a b t u p))
 
-  pub first_passed : {T : Type 0} → (b : Output) (r : Result T WriteFail) (e : WriteFail) → IsErrAnd r (λ x. x ≡ e) → AppendedFront a b t → Blames (IsSinks e) a b
+  pub first_passed : {T : Type 0} → (b : Output) (r : Result T WriteFail) (e : WriteFail) → IsErrAnd r (λ x. x ≡ e) → AppendedFront a b t → FaultsTellCause (IsSinks e) a b
       → WritesOr IsSinks a b text r
   first_passed b r e is p q = writes_or_passed IsSinks a b text r e is (subst (AppendedFront a b) (sym whole) (front_within a b t u p)) q
 
@@ -40,9 +40,9 @@ each_front_item f items i x a b c within is p q =
 
 -- the same of an answer that is given
 pub answer_passed : (defined : Answer) (a b : Output) (r : Result ℕ WriteFail) (e : WriteFail) → IsErrAnd r (λ x. x ≡ e)
-    → AppendedFront a b defined.text → Blames (e ≡ fail.Sink) a b → WritesAnswer defined a b r
+    → AppendedFront a b defined.text → FaultsTellCause (e ≡ fail.Sink) a b → WritesAnswer defined a b r
 answer_passed defined a b (Ok x) e is front blames = absurd is
-answer_passed defined a b (Err x) e is front blames = (front, subst (λ x. Blames (x ≡ fail.Sink) a b) (sym is) blames)
+answer_passed defined a b (Err x) e is front blames = (front, subst (λ x. FaultsTellCause (x ≡ fail.Sink) a b) (sym is) blames)
 
 -- where the sink stopped the call
 pub answer_stopped : (defined : Answer) (a b : Output) (r : Result ℕ WriteFail) → IsErrAnd r (λ e. e ≡ fail.Sink) → Stopped a b defined.text

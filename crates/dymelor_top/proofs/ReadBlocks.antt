@@ -12,7 +12,7 @@ use Rattle.dym_base.specs.declared.bad_kind.BadKind.TheVariants as bad
 use Rattle.dym_io.specs.Source.{IsEmptyAtEnd, TookAtMost}
 use Rattle.dym_script.specs.declared.script.ScriptFail.{ScriptFail}
 use Rattle.dym_script.specs.declared.script.ScriptFail.TheVariants as fail
-use Rattle.dym_script.specs.Scripts.{Said, Fault, script_of}
+use Rattle.dym_script.specs.Scripts.{ScriptMeaning, Fault, script_of}
 use Rattle.dym_script.specs.Answers.{FailsSo}
 use Rattle.dym_script.specs.Pieces.{says, TakesPiece}
 use Rattle.dym_script.proofs.PiecesRead.{script_says}
@@ -71,7 +71,7 @@ took_both most n more a b c got taken len few then = record {
   few = omega (arith, len, few, then.few, length-append got then.got);
 }
 
-pub told_few : (old new : Option (List ℕ)) (Gives : Result Said Fault → Type 0) → TakesBytes [] old new Gives → TookAtMost (MOST_INPUT_BYTES + 1) old new
+pub told_few : (old new : Option (List ℕ)) (Gives : Result ScriptMeaning Fault → Type 0) → TakesBytes [] old new Gives → TookAtMost (MOST_INPUT_BYTES + 1) old new
 told_few old new Gives tells = record { got = tells.got; taken = tells.taken; few = tells.within }
 
 -- ---- what the bytes that were read say
@@ -79,7 +79,7 @@ told_few old new Gives tells = record { got = tells.got; taken = tells.taken; fe
 gives_long : (bytes : List ℕ) → MOST_INPUT_BYTES < length bytes → FailsSo (fail.Bad 0 bad.TooLong) (script_of bytes)
 gives_long bytes long = too_long bytes long
 
-gives_says : (Gives : Result Said Fault → Type 0) (bytes : List ℕ) → length bytes ≤ MOST_INPUT_BYTES → Gives (says bytes) → Gives (script_of bytes)
+gives_says : (Gives : Result ScriptMeaning Fault → Type 0) (bytes : List ℕ) → length bytes ≤ MOST_INPUT_BYTES → Gives (says bytes) → Gives (script_of bytes)
 gives_says Gives bytes short gives = subst Gives (sym (script_says bytes short)) gives
 
 -- behind a bad line the source was read out, and the bytes aren't too many
@@ -120,7 +120,7 @@ pub record ReadSoFar (old new : Option (List ℕ)) (faults_old faults_new : ℕ)
   pub faults : faults_new ≡ faults_old
 
 -- the source has no more: what is left is the last piece
-pub read_end : (a b c : Option (List ℕ)) (f g n pulled : ℕ) (Takes : List ℕ → Type 0) (left out : List ℕ) (Gives : Result Said Fault → Type 0)
+pub read_end : (a b c : Option (List ℕ)) (f g n pulled : ℕ) (Takes : List ℕ → Type 0) (left out : List ℕ) (Gives : Result ScriptMeaning Fault → Type 0)
     (so : ReadSoFar a b f g Takes left pulled)
     → IsEmptyAtEnd b n → n ≡ 0 → Consumes b c (take n out)
     → ((taken : List ℕ) → Takes taken → Gives (says (taken ++ left))) → TakesBytes [] a c Gives
@@ -209,12 +209,12 @@ read_bad a b c Takes TakesNow text pulled line kind failed so takes outcome =
 -- ---- the input
 
 -- two inputs that are too long say the same
-same_gives : (Gives : Result Said Fault → Type 0) (read all : List ℕ) → SameVerdict read all → Gives (script_of read) → Gives (script_of all)
+same_gives : (Gives : Result ScriptMeaning Fault → Type 0) (read all : List ℕ) → SameVerdict read all → Gives (script_of read) → Gives (script_of all)
 same_gives Gives read all (inl same) gives = subst (λ l. Gives (script_of l)) same gives
 same_gives Gives read all (inr long) gives = subst Gives (too_long read long.0 ∙ sym (too_long all long.1)) gives
 
 -- the input was read as far as must be, and what it says is known
-pub told_input : (n : ℕ) (old new : Option (List ℕ)) (Gives : Result Said Fault → Type 0) (all : List ℕ) → n ≡ MOST_INPUT_BYTES + 1 → old ≡ Some all
+pub told_input : (n : ℕ) (old new : Option (List ℕ)) (Gives : Result ScriptMeaning Fault → Type 0) (all : List ℕ) → n ≡ MOST_INPUT_BYTES + 1 → old ≡ Some all
     → TakesBytes [] old new Gives → (new ≡ Some (drop n all)) × Gives (script_of all)
 told_input n old new Gives all limit known tells =
     outcome new (subst (λ l. Consumes l new tells.got) known tells.taken) (subst (λ l. IsReadOut l new (length tells.got)) known tells.out)
@@ -241,18 +241,18 @@ kept_end block end rest within inside =
 
 -- ---- the whole call
 
-pub result_some : {M E : Type 0} → (old new : Option (List ℕ)) (Gives : M → Result Said Fault → Type 0) (result : Result M E)
+pub result_some : {M E : Type 0} → (old new : Option (List ℕ)) (Gives : M → Result ScriptMeaning Fault → Type 0) (result : Result M E)
     → IfOk result (λ made. TakesBytes [] old new (Gives made)) → IfOk result (λ made. (bytes : List ℕ) × Gives made (script_of bytes))
 result_some old new Gives (Ok made) tells = (tells.got, tells.gives)
 result_some old new Gives (Err e) tells = tt
 
-pub result_gives : {M E : Type 0} → (n : ℕ) (old new : Option (List ℕ)) (Gives : M → Result Said Fault → Type 0) (result : Result M E) (all : List ℕ)
+pub result_gives : {M E : Type 0} → (n : ℕ) (old new : Option (List ℕ)) (Gives : M → Result ScriptMeaning Fault → Type 0) (result : Result M E) (all : List ℕ)
     → n ≡ MOST_INPUT_BYTES + 1 → old ≡ Some all → IfOk result (λ made. TakesBytes [] old new (Gives made))
     → IfOk result (λ made. Gives made (script_of all))
 result_gives n old new Gives (Ok made) all limit known tells = (told_input n old new (Gives made) all limit known tells).1
 result_gives n old new Gives (Err e) all limit known tells = tt
 
-pub result_read : {M E : Type 0} → (n : ℕ) (old new : Option (List ℕ)) (Gives : M → Result Said Fault → Type 0) (result : Result M E) (all : List ℕ)
+pub result_read : {M E : Type 0} → (n : ℕ) (old new : Option (List ℕ)) (Gives : M → Result ScriptMeaning Fault → Type 0) (result : Result M E) (all : List ℕ)
     → n ≡ MOST_INPUT_BYTES + 1 → old ≡ Some all → IfOk result (λ made. TakesBytes [] old new (Gives made))
     → OnOk result (new ≡ Some (drop n all))
 result_read n old new Gives (Ok made) all limit known tells = (told_input n old new (Gives made) all limit known tells).0

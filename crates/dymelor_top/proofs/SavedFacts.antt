@@ -19,7 +19,7 @@ use Rattle.dym_heap.specs.Meaning.{HeapMeaning}
 use Rattle.dym_object.specs.Meaning.{ObjectMeaning, HasRun}
 use Rattle.dym_script.specs.Answers.{IsLawful}
 use Rattle.dym_script.specs.ByObjects.{IsByObjects}
-use Rattle.dym_script.specs.Scripts.{Said}
+use Rattle.dym_script.specs.Scripts.{ScriptMeaning}
 use Rattle.dym_script.specs.declared.parts.PartCollector.{PartCollector}
 use Rattle.dym_script.specs.declared.parts.Part.{Part}
 use Rattle.dym_script.specs.declared.pieces.WholeScript.{WholeScript}
@@ -57,14 +57,14 @@ module _ (name : List ℕ) where
       ]
 
 -- the parts of a script have names
-pub parts_named : (s : Said) (parts : List Part) → map (λ (p : Part). p.decl) parts ≡ s.objects → IsLawful s → All (λ (p : Part). IsTrue (is_name p.decl.name)) parts
+pub parts_named : (s : ScriptMeaning) (parts : List Part) → map (λ (p : Part). p.decl) parts ≡ s.objects → IsLawful s → All (λ (p : Part). IsTrue (is_name p.decl.name)) parts
 parts_named s parts decls lawful k d within =
     let at : get_or s.objects k d.decl ≡ (get_or parts k d).decl = ap (λ ds. get_or ds k d.decl) (sym decls) ∙ decl_at parts k d in
     let reach : k < length s.objects = omega (arith, length_decls parts, ap length decls, within) in
     subst (λ (x : Decl). IsTrue (is_name x.name)) at (lawful.names k d.decl reach)
 
 -- the first of that name was looked for among these parts
-module _ (script : WholeScript PartCollector) (s : Said) (name : List ℕ) (parts : List Part) (looked found : Option Part) (are : IsByObjects script s)
+module _ (script : WholeScript PartCollector) (s : ScriptMeaning) (name : List ℕ) (parts : List Part) (looked found : Option Part) (are : IsByObjects script s)
     (same : parts ≡ script.kept.parts.items) (by_name : looked ≡ find (has_name name) parts) (is : looked ≡ found) where
   found_is : find (has_name name) script.kept.parts.items ≡ found
   found_is = ap (find (has_name name)) (sym same) ∙ sym by_name ∙ is

@@ -16,7 +16,7 @@ use Rattle.dym_io.specs.Sink.{Output, Appended, AppendedFront, Stopped, AllFlush
 use Rattle.dym_io.specs.Laws.{appends_kept, appended_nothing, front_of_appended, once_rose, rose_later}
 use Rattle.dym_base.specs.Lines.{lines_of}
 use Rattle.dym_script.specs.Late.{late_of, late_lines, late_start}
-use Rattle.dym_script.specs.Scripts.{Said, Fault, script_of, read_lines, start}
+use Rattle.dym_script.specs.Scripts.{ScriptMeaning, Fault, script_of, read_lines, start}
 use Rattle.dym_trace.proofs.Once.{one_verdict}
 use Rattle.dym_words.proofs.Within.{orders_are_within}
 use Rattle.dym_words.specs.Laws.{IsWithin}
@@ -131,7 +131,7 @@ module _ (old new : Option (List ℕ)) (read all : List ℕ) (known : old ≡ So
   input_same = (read_whole_input (MOST_INPUT_BYTES + 1) old new read all refl known taken within end).1
 
 -- so both have the same answers
-same_script : (f : Result Said Fault → Answer) (read all : List ℕ) (answer : Answer) → SameVerdict read all → answer ≡ f (script_of read) → answer ≡ f (script_of all)
+same_script : (f : Result ScriptMeaning Fault → Answer) (read all : List ℕ) (answer : Answer) → SameVerdict read all → answer ≡ f (script_of read) → answer ≡ f (script_of all)
 same_script f read all answer (inl same) is = is ∙ ap (λ l. f (script_of l)) same
 same_script f read all answer (inr long) is = is ∙ ap f (too_long read long.0 ∙ sym (too_long all long.1))
 

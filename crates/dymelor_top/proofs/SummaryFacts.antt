@@ -18,7 +18,7 @@ use Rattle.dym_script.specs.declared.parts.PartCollector.{PartCollector}
 use Rattle.dym_script.specs.declared.parts.Part.{Part}
 use Rattle.dym_script.specs.declared.pieces.WholeScript.{WholeScript}
 use Rattle.dym_script.specs.ByObjects.{IsByObjects}
-use Rattle.dym_script.specs.Scripts.{Said, own}
+use Rattle.dym_script.specs.Scripts.{ScriptMeaning, own}
 use Rattle.dym_script.specs.Parts.{EachHas}
 use Rattle.dym_report.specs.declared.tally.Tally.{Tally}
 use Rattle.dym_report.specs.Report.{own_of, objects_of}
@@ -74,7 +74,7 @@ split_reach k (x ∷ xs) =
       sum_by-cons (λ (line : Line). cond (nat_le k line.object) 1 0) x xs,
     )
 
-own_length : (s : Said) (k : ℕ) → length (own s k) ≡ count_by (λ line. line.object == k) s.lines
+own_length : (s : ScriptMeaning) (k : ℕ) → length (own s k) ≡ count_by (λ line. line.object == k) s.lines
 unfolding own
 own_length s k = length-map (filter (λ line. line.object == k) s.lines) (λ (line : Line). line.command) ∙ length-filter (λ (line : Line). line.object == k) s.lines
 
@@ -99,7 +99,7 @@ reach_all (x ∷ xs) =
       reach_all xs,
     )
 
-commands_from : (s : Said) (k : ℕ) (parts : List Part) → OwnsFrom s k parts → All (λ line. line.object < k + length parts) s.lines
+commands_from : (s : ScriptMeaning) (k : ℕ) (parts : List Part) → OwnsFrom s k parts → All (λ line. line.object < k + length parts) s.lines
     → sum_by (λ part. length part.commands) parts ≡ reach k s.lines
 commands_from s k [] owns all =
     sym (reach_none k s.lines (All-weaker (λ line. line.object < k + 0) (λ line. line.object < k) (λ line base_logs. omega (arith, base_logs)) s.lines all))
@@ -116,17 +116,17 @@ commands_from s k (p ∷ ps) owns all =
     )
 
 -- together the parts have as many commands as the script has lines
-pub commands_all : (s : Said) (parts : List Part) → EachHas parts s.lines → length parts ≡ length s.objects → All (λ line. line.object < length s.objects) s.lines
+pub commands_all : (s : ScriptMeaning) (parts : List Part) → EachHas parts s.lines → length parts ≡ length s.objects → All (λ line. line.object < length s.objects) s.lines
     → sum_by (λ part. length part.commands) parts ≡ length s.lines
 commands_all s parts owns same declared =
     let all : All (λ line. line.object < 0 + length parts) s.lines =
     All-weaker (λ line. line.object < length s.objects) (λ line. line.object < 0 + length parts) (λ line base_logs. omega (arith, base_logs, same)) s.lines declared in
     commands_from s 0 parts (owns_all s parts owns) all ∙ reach_all s.lines
 
-pub objects_of_parts : (script : WholeScript PartCollector) (s : Said) → IsByObjects script s → length script.kept.parts.items ≡ length s.objects
+pub objects_of_parts : (script : WholeScript PartCollector) (s : ScriptMeaning) → IsByObjects script s → length script.kept.parts.items ≡ length s.objects
 objects_of_parts script s are = sym (length-map script.kept.parts.items (λ (p : Part). p.decl)) ∙ ap length are.keeps.decls
 
-pub commands_of_parts : (script : WholeScript PartCollector) (s : Said) → IsByObjects script s
+pub commands_of_parts : (script : WholeScript PartCollector) (s : ScriptMeaning) → IsByObjects script s
     → sum_by (λ part. length part.commands) script.kept.parts.items ≡ length s.lines
 commands_of_parts script s are = commands_all s script.kept.parts.items are.keeps.commands (objects_of_parts script s are) are.valid.declared
 
@@ -137,7 +137,7 @@ abbrev pub Counted : Version → List Part → ℕ → Tally → Type 0
 Counted v parts i tally = both_tallies tally (tally_all v (map own_of (drop i parts))) ≡ tally_all v (map own_of parts)
 
 -- the totals of a script's parts
-pub total_is : (script : WholeScript PartCollector) (s : Said) (tally : Tally) (objects : ℕ) → IsByObjects script s
+pub total_is : (script : WholeScript PartCollector) (s : ScriptMeaning) (tally : Tally) (objects : ℕ) → IsByObjects script s
     → tally ≡ tally_all script.version (map own_of script.kept.parts.items)
     → tally.ok + tally.refused ≡ sum_by (λ part. length part.commands) script.kept.parts.items → objects ≡ length script.kept.parts.items
     → totals_with objects tally ≡ totals_of s

@@ -5,7 +5,7 @@ use Rattle.std.proofs.lemmas.Bool.Decides.{nat_tests}
 use Rattle.std.proofs.lemmas.List.Elements.{All-nil, All-cons}
 use Rattle.dym_base.specs.declared.bad_kind.BadKind.TheVariants as bad
 use Rattle.dym_script.specs.ByObjects.{IsByObjects}
-use Rattle.dym_script.specs.Scripts.{Said}
+use Rattle.dym_script.specs.Scripts.{ScriptMeaning}
 use Rattle.dym_script.specs.declared.parts.PartCollector.{PartCollector}
 use Rattle.dym_script.specs.declared.parts.Part.{Part}
 use Rattle.dym_script.specs.declared.pieces.WholeScript.{WholeScript}
@@ -51,7 +51,7 @@ told_line text (Some p) line is =
     ap (λ n. fault_answer n bad.QuotaRange) same
 
 -- the line of the first such object was looked for among these parts
-module _ (segments : ℕ) (script : WholeScript PartCollector) (s : Said) (parts : List Part) (line : Option ℕ) (are : IsByObjects script s)
+module _ (segments : ℕ) (script : WholeScript PartCollector) (s : ScriptMeaning) (parts : List Part) (line : Option ℕ) (are : IsByObjects script s)
     (same : parts ≡ script.kept.parts.items) (found : line ≡ option_map (λ (p : Part). p.decl.line) (find (is_above segments) parts)) where
   above_of_parts : (text : List ℕ)
       → unless_above text (first_above segments s.objects) ≡ unless_above text (option_map (λ (p : Part). p.decl) (find (is_above segments) parts))

@@ -7,8 +7,8 @@ use Rattle.dym_base.specs.declared.bad_kind.BadKind.TheVariants as bad
 use Rattle.dym_base.specs.Files.{FileHead, FailsAt}
 use Rattle.dym_base.specs.Objects.{LogEntry}
 use Rattle.dym_base.specs.declared.command.Version.{Version}
-use Rattle.dym_script.specs.Late.{LateSaid, late_of}
-use Rattle.dym_script.specs.Scripts.{Said, Fault, script_of}
+use Rattle.dym_script.specs.Late.{LateScriptMeaning, late_of}
+use Rattle.dym_script.specs.Scripts.{ScriptMeaning, Fault, script_of}
 use Rattle.dym_script.specs.declared.script.Decl.{Decl}
 use Rattle.dym_trace.specs.declared.answer.TraceAnswer.{TraceAnswer}
 use Rattle.dym_trace.specs.declared.answer.TraceAnswer.TheVariants.{Good, Bad}
@@ -38,17 +38,17 @@ abbrev pub fault_answer : ℕ → BadKind → Answer
 fault_answer line kind = record { status = 2; text = error_text line kind }
 
 -- a text of what a script says, or the line of its first fault
-abbrev pub of_script : (Said → List ℕ) → Result Said Fault → Answer
+abbrev pub of_script : (ScriptMeaning → List ℕ) → Result ScriptMeaning Fault → Answer
 of_script text (Ok said) = record { status = 0; text = text said }
 of_script text (Err fault) = fault_answer fault.line fault.kind
 
 -- the report of a script, with the view of each object where views are told
-abbrev pub outcome_text : Bool → Said → List ℕ
+abbrev pub outcome_text : Bool → ScriptMeaning → List ℕ
 outcome_text true said = views_text said
 outcome_text false said = report_text said
 
 -- the report of a script, or its summary, or its report with the view of each object
-abbrev pub waves_text : WaveText → Said → List ℕ
+abbrev pub waves_text : WaveText → ScriptMeaning → List ℕ
 waves_text wave.Report said = report_text said
 waves_text wave.Summary said = summary_of said
 waves_text wave.Views said = views_text said
@@ -64,12 +64,12 @@ unless_above text (Some d) = fault_answer d.line bad.QuotaRange
 
 -- a text of what a script says whose objects run in waves over so many segments. That an object may hold more is a fault of the whole
 -- script, which comes after all faults of its lines
-abbrev pub of_waves : ℕ → (Said → List ℕ) → Result Said Fault → Answer
+abbrev pub of_waves : ℕ → (ScriptMeaning → List ℕ) → Result ScriptMeaning Fault → Answer
 of_waves segments text (Ok said) = unless_above (text said) (first_above segments said.objects)
 of_waves segments text (Err fault) = fault_answer fault.line fault.kind
 
 -- how many objects and commands a script has
-abbrev pub counts_of : Said → List ℕ
+abbrev pub counts_of : ScriptMeaning → List ℕ
 counts_of said = counts_text (length said.objects) (length said.lines)
 
 -- how many events a good trace has, or the line of the first that is no step
@@ -97,7 +97,7 @@ named_answer version None = fault_answer 0 bad.Undeclared
 named_answer version (Some o) = file_answer (own_file version o)
 
 -- the file of a script's object of this name, or the line of the script's first fault
-abbrev pub saved_answer : List ℕ → Result Said Fault → Answer
+abbrev pub saved_answer : List ℕ → Result ScriptMeaning Fault → Answer
 saved_answer name (Ok said) = named_answer said.version (own_named name said)
 saved_answer name (Err fault) = fault_answer fault.line fault.kind
 
@@ -120,7 +120,7 @@ IsLoadAnswer time bytes answer =
     MatchBool (nat_lt MOST_INPUT_BYTES (length bytes)) (answer ≡ fault_answer 0 bad.TooLong) (IsLoadedText time bytes answer ⊎ IsPartFault bytes answer)
 
 -- the report of a script of late events, or the line of its first fault
-abbrev pub of_late : Result LateSaid Fault → Answer
+abbrev pub of_late : Result LateScriptMeaning Fault → Answer
 of_late (Ok said) = record { status = 0; text = late_text said }
 of_late (Err fault) = fault_answer fault.line fault.kind
 

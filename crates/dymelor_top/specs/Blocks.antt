@@ -3,7 +3,7 @@ use Rattle.std.specs.Prelude.{◌≡◌, ◌+◌, ◌≤◌, ◌⊎◌, ℕ, Lis
 use Rattle.std.specs.Io.KnownBytes.{Consumes}
 use Rattle.dym_base.specs.declared.limits.TheConstants.{MOST_INPUT_BYTES}
 use Rattle.dym_base.specs.declared.bad_kind.BadKind.{BadKind}
-use Rattle.dym_script.specs.Scripts.{Said, Fault, script_of}
+use Rattle.dym_script.specs.Scripts.{ScriptMeaning, Fault, script_of}
 use Rattle.dym_script.specs.Pieces.{says}
 
 -- the bytes so far have a bad line, whatever comes behind them
@@ -15,7 +15,7 @@ abbrev pub IsReadOut : Option (List ℕ) → Option (List ℕ) → ℕ → Type 
 IsReadOut old new n = OnSome old (IfSome new (λ more. (more ≡ []) ⊎ (n ≡ MOST_INPUT_BYTES + 1)))
 
 -- behind these bytes others were taken from the source, until it was read out, and this holds of what all of them say
-pub record TakesBytes (front : List ℕ) (old new : Option (List ℕ)) (Gives : Result Said Fault → Type 0) : Type 0 where
+pub record TakesBytes (front : List ℕ) (old new : Option (List ℕ)) (Gives : Result ScriptMeaning Fault → Type 0) : Type 0 where
   pub got : List ℕ
   pub taken : Consumes old new got
   pub within : length (front ++ got) ≤ MOST_INPUT_BYTES + 1

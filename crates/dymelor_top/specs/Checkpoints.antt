@@ -11,11 +11,11 @@ use Rattle.dym_chain.specs.AdoptedLogs.{AreEntriesOf}
 use Rattle.dym_ckpt.specs.FileReads.{heap_at}
 use Rattle.dym_report.specs.Objects.{object_text}
 use Rattle.dym_report.specs.Orders.{end_text}
-use Rattle.dym_script.specs.Scripts.{Said}
+use Rattle.dym_script.specs.Scripts.{ScriptMeaning}
 use Rattle.dym_report.specs.Report.{Own, objects_of}
 
 -- the declared object of a name, with its own commands
-abbrev pub own_named : List ℕ → Said → Option Own
+abbrev pub own_named : List ℕ → ScriptMeaning → Option Own
 own_named name said = find (λ o. bytes_eq o.decl.name name) (objects_of said)
 
 -- the file of what an object's own commands leave

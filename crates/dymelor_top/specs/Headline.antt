@@ -6,7 +6,7 @@ use Rattle.std.specs.Io.KnownBytes.{Appends, Keeps}
 use Rattle.dym_base.specs.declared.limits.TheConstants.{MOST_INPUT_BYTES}
 use Rattle.dym_io.specs.Faults.{Rose, RoseOnce}
 use Rattle.dym_io.specs.Source.{TookAtMost}
-use Rattle.dym_io.specs.Sink.{Output, AllFlushed, Appended, AppendedFront, Blames}
+use Rattle.dym_io.specs.Sink.{Output, AllFlushed, Appended, AppendedFront, FaultsTellCause}
 use Rattle.dym_words.specs.declared.order.Order.{Order}
 use Rattle.dym_words.specs.declared.order.Usage.{Usage}
 use Rattle.dym_report.specs.declared.write_fail.WriteFail.{WriteFail}
@@ -92,7 +92,7 @@ Serves Is old new result =
 abbrev pub Writes : (Answer → Type 0) → Output → Output → Result ℕ WriteFail → Type 0
 Writes Is old new result =
     MatchResult result (λ status. (answer : Answer) × Is answer × (status ≡ answer.status) × Appended old new answer.text)
-    (λ failed. ((answer : Answer) → Is answer → AppendedFront old new answer.text) × Blames (failed ≡ fail.Sink) old new)
+    (λ failed. ((answer : Answer) → Is answer → AppendedFront old new answer.text) × FaultsTellCause (failed ≡ fail.Sink) old new)
 
 -- the same whatever stops the call
 abbrev pub WritesSo : {E : Type 0} → (Answer → Type 0) → Output → Output → Result ℕ E → Type 0
@@ -104,8 +104,8 @@ WritesSo Is old new result =
 abbrev pub WritesAnswer : Answer → Output → Output → Result ℕ WriteFail → Type 0
 WritesAnswer defined old new result =
     MatchResult result (λ status. (status ≡ defined.status) × Appended old new defined.text)
-    (λ failed. AppendedFront old new defined.text × Blames (failed ≡ fail.Sink) old new)
+    (λ failed. AppendedFront old new defined.text × FaultsTellCause (failed ≡ fail.Sink) old new)
 
 -- what the sink's count tells of such a call: no call on the sink failed, or one did and is the cause
 abbrev pub Counted : {T : Type 0} → Output → Output → Result T WriteFail → Type 0
-Counted old new result = MatchResult result (λ _. new.faults ≡ old.faults) (λ failed. Blames (failed ≡ fail.Sink) old new)
+Counted old new result = MatchResult result (λ _. new.faults ≡ old.faults) (λ failed. FaultsTellCause (failed ≡ fail.Sink) old new)

@@ -6,7 +6,7 @@ use Rattle.dym_base.specs.declared.command.Version.TheVariants.{One}
 use Rattle.dym_base.specs.declared.reply.Reply.{Reply}
 use Rattle.dym_script.specs.declared.late_script.LateLine.{LateLine}
 use Rattle.dym_script.specs.declared.script.Decl.{Decl}
-use Rattle.dym_script.specs.Late.{LateSaid}
+use Rattle.dym_script.specs.Late.{LateScriptMeaning}
 use Rattle.dym_script.specs.LateArrivals.{arrivals_of}
 use Rattle.dym_report.specs.declared.late.LateOut.TheVariants as out
 use Rattle.dym_report.specs.Late.{late_line, late_end}
@@ -57,5 +57,5 @@ late_parts_from lines k [] = []
 late_parts_from lines k (d ∷ ds) = late_part d.name d.quota (arrivals_of lines k) ++ late_parts_from lines (k + 1) ds
 
 -- the parts of all objects in the order of their declarations, and the last line
-unfoldable pub late_text : LateSaid → List ℕ
+unfoldable pub late_text : LateScriptMeaning → List ℕ
 late_text said = late_parts_from said.lines 0 said.objects ++ end_text

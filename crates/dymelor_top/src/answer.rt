@@ -2,7 +2,7 @@
 ghost use Rattle.std.specs.Prelude.{◌≡◌, ◌⊎◌, ◌+◌, ℕ, List, Some, drop, Result, IfOk, OnOk};
 ghost use Rattle.dym_base.specs.declared.limits.TheConstants.{MOST_INPUT_BYTES};
 ghost use Rattle.dym_io.specs.Source.{TookAtMost};
-ghost use Rattle.dym_script.specs.Scripts.{Said, Fault};
+ghost use Rattle.dym_script.specs.Scripts.{ScriptMeaning, Fault};
 ghost use Rattle.dym_script.specs.ByObjects.{GivesParts, GivesCounts};
 ghost use Rattle.dym_report.specs.Report.{report_text};
 ghost use Rattle.dym_report.specs.Summary.{summary_of};
@@ -82,8 +82,8 @@ fn answer_report<W: Sink>(
     script: Result<WholeScript<PartCollector>, ScriptFail>,
     sink: &mut W,
 ) -> Result<u8, WriteFail>
-    requires made { (read : Result Said Fault) × GivesParts script read }
-    ensures answered { (read : Result Said Fault) → GivesParts script read
+    requires made { (read : Result ScriptMeaning Fault) × GivesParts script read }
+    ensures answered { (read : Result ScriptMeaning Fault) → GivesParts script read
         → WritesAnswer (of_script report_text read) (W.output sink.old) (W.output sink.new) result }
     ensures status { IfOk result (λ status. (status ≡ 0) ⊎ (status ≡ 2)) }
     ensures counted { Counted (W.output sink.old) (W.output sink.new) result }
@@ -107,8 +107,8 @@ fn answer_summary<W: Sink>(
     script: Result<WholeScript<PartCollector>, ScriptFail>,
     sink: &mut W,
 ) -> Result<u8, WriteFail>
-    requires made { (read : Result Said Fault) × GivesParts script read }
-    ensures answered { (read : Result Said Fault) → GivesParts script read
+    requires made { (read : Result ScriptMeaning Fault) × GivesParts script read }
+    ensures answered { (read : Result ScriptMeaning Fault) → GivesParts script read
         → WritesAnswer (of_script summary_of read) (W.output sink.old) (W.output sink.new) result }
     ensures status { IfOk result (λ status. (status ≡ 0) ⊎ (status ≡ 2)) }
     ensures counted { Counted (W.output sink.old) (W.output sink.new) result }
@@ -132,8 +132,8 @@ fn answer_counted<W: Sink>(
     counted: Result<WholeScript<Counter>, ScriptFail>,
     sink: &mut W,
 ) -> Result<u8, WriteFail>
-    requires made { (read : Result Said Fault) × GivesCounts counted read }
-    ensures answered { (read : Result Said Fault) → GivesCounts counted read
+    requires made { (read : Result ScriptMeaning Fault) × GivesCounts counted read }
+    ensures answered { (read : Result ScriptMeaning Fault) → GivesCounts counted read
         → WritesAnswer (of_script counts_of read) (W.output sink.old) (W.output sink.new) result }
     ensures status { IfOk result (λ status. (status ≡ 0) ⊎ (status ≡ 2)) }
     ensures counted { Counted (W.output sink.old) (W.output sink.new) result }

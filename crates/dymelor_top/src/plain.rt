@@ -5,7 +5,7 @@ ghost use Rattle.dym_base.specs.declared.limits.TheConstants.{MOST_QUOTA, MOST_C
 ghost use Rattle.dym_io.specs.Sink.{WritesOr};
 ghost use Rattle.dym_object.specs.Meaning.{state_of};
 ghost use Rattle.dym_report.specs.Replies.{reply_line};
-ghost use Rattle.dym_script.specs.Scripts.{Said};
+ghost use Rattle.dym_script.specs.Scripts.{ScriptMeaning};
 ghost use Rattle.dym_script.specs.ByObjects.{IsByObjects};
 ghost use Rattle.dym_report.specs.Report.{IsRunnable, own_of, part_text, report_text};
 ghost use Rattle.dym_report.specs.declared.write_fail.WriteFail.TheVariants.{Sink as SinkFailed};
@@ -27,8 +27,8 @@ pub fn write_report<W: Sink>(
     script: &WholeScript<PartCollector>,
     sink: &mut W,
 ) -> Result<(), WriteFail>
-    requires made { (s : Said) × IsByObjects script.now s }
-    ensures { (s : Said) → IsByObjects script.now s
+    requires made { (s : ScriptMeaning) × IsByObjects script.now s }
+    ensures { (s : ScriptMeaning) → IsByObjects script.now s
         → WritesOr (λ fail. fail ≡ SinkFailed) (W.output sink.old) (W.output sink.new)
         (report_text s) result }
 {

@@ -6,7 +6,7 @@ ghost use Rattle.dym_base.specs.Names.{is_name};
 ghost use Rattle.dym_base.specs.Objects.{object_start};
 ghost use Rattle.dym_base.specs.declared.limits.TheConstants.{MOST_COMMANDS};
 ghost use Rattle.dym_object.specs.Meaning.{HasRun, IsWhole, state_of};
-ghost use Rattle.dym_script.specs.Scripts.{Said, Fault};
+ghost use Rattle.dym_script.specs.Scripts.{ScriptMeaning, Fault};
 ghost use Rattle.dym_script.specs.ByObjects.{GivesParts, IsByObjects};
 ghost use Rattle.dymelor_top.specs.Checkpoints.{own_file, own_named};
 ghost use Rattle.dym_report.specs.Report.{IsRunnable, own_of};
@@ -34,8 +34,8 @@ pub fn answer_saved<W: Sink>(
     script: Result<WholeScript<PartCollector>, ScriptFail>,
     sink: &mut W,
 ) -> Result<u8, WriteFail>
-    requires made { (read : Result Said Fault) × GivesParts script read }
-    ensures answered { (read : Result Said Fault) → GivesParts script read
+    requires made { (read : Result ScriptMeaning Fault) × GivesParts script read }
+    ensures answered { (read : Result ScriptMeaning Fault) → GivesParts script read
         → WritesAnswer (saved_answer name.now read) (W.output sink.old) (W.output sink.new) result }
     ensures status { IfOk result (λ status. (status ≡ 0) ⊎ (status ≡ 2)) }
     ensures counted { Counted (W.output sink.old) (W.output sink.new) result }
@@ -57,8 +57,8 @@ fn save_named<W: Sink>(
     script: &WholeScript<PartCollector>,
     sink: &mut W,
 ) -> Result<u8, WriteFail>
-    requires made { (s : Said) × IsByObjects script.now s }
-    ensures answered { (s : Said) → IsByObjects script.now s
+    requires made { (s : ScriptMeaning) × IsByObjects script.now s }
+    ensures answered { (s : ScriptMeaning) → IsByObjects script.now s
         → WritesAnswer (named_answer s.version
         (own_named name.now s)) (W.output sink.old) (W.output sink.new) result }
     ensures status { IfOk result (λ status. (status ≡ 0) ⊎ (status ≡ 2)) }

@@ -3,7 +3,7 @@ ghost use Rattle.std.specs.Prelude.{◌≡◌, ◌+◌, ◌≤◌, ◌^◌, leng
 ghost use Rattle.dym_base.specs.Objects.{object_start, replies_from, object_after};
 ghost use Rattle.dym_base.specs.declared.limits.TheConstants.{MOST_OBJECTS, MOST_COMMANDS, MOST_QUOTA};
 ghost use Rattle.dym_object.specs.Meaning.{state_of};
-ghost use Rattle.dym_script.specs.Scripts.{Said};
+ghost use Rattle.dym_script.specs.Scripts.{ScriptMeaning};
 ghost use Rattle.dym_script.specs.ByObjects.{IsByObjects};
 ghost use Rattle.dym_report.specs.Report.{IsRunnable, own_of};
 ghost use Rattle.dym_report.specs.Summary.{is_refusal, tally_of, tally_all, totals_of};
@@ -21,8 +21,8 @@ use std::alloc::{AllocError, Global};
 
 /// What the objects of a script come to.
 pub fn total(alloc: Global, script: &WholeScript<PartCollector>) -> Result<Totals, AllocError>
-    requires made { (s : Said) × IsByObjects script.now s }
-    ensures { IfOk result (λ totals. (s : Said) → IsByObjects script.now s → totals ≡ totals_of s) }
+    requires made { (s : ScriptMeaning) × IsByObjects script.now s }
+    ensures { IfOk result (λ totals. (s : ScriptMeaning) → IsByObjects script.now s → totals ≡ totals_of s) }
 {
     let tally = tally_parts(alloc, script.version, &script.kept.parts)?;
     Ok(tally.totals(script.kept.parts.len() as u32))

@@ -7,7 +7,7 @@ ghost use Rattle.dym_io.specs.Source.{TookAtMost};
 ghost use Rattle.dym_run.specs.Parts.{IsShape};
 ghost use Rattle.dym_report.specs.Summary.{summary_of, totals_of};
 ghost use Rattle.dym_report.specs.declared.write_fail.WriteFail.TheVariants.{Sink as SinkFailed};
-ghost use Rattle.dym_script.specs.Scripts.{Said, Fault, script_of};
+ghost use Rattle.dym_script.specs.Scripts.{ScriptMeaning, Fault, script_of};
 ghost use Rattle.dym_script.specs.ByObjects.{GivesParts, IsByObjects};
 ghost use Rattle.dymelor_top.specs.Answers.{first_above, of_waves, outcome_text, unless_above, waves_text, IsInWaves};
 ghost use Rattle.dymelor_top.specs.Headline.{Serves, WritesAnswer, Counted};
@@ -109,9 +109,9 @@ fn answer_waves<R: Threads + Wait + Send + Sync, W: Sink, G: Gate>(
     sink: &mut W,
     gate: &G,
 ) -> Result<u8, WriteFail>
-    requires made { (read : Result Said Fault) × GivesParts script read }
+    requires made { (read : Result ScriptMeaning Fault) × GivesParts script read }
     requires shape { IsShape waves.shape }
-    ensures answered { (read : Result Said Fault) → GivesParts script read
+    ensures answered { (read : Result ScriptMeaning Fault) → GivesParts script read
         → WritesAnswer (of_waves waves.shape.segments (waves_text waves.text) read)
         (W.output sink.old) (W.output sink.new) result }
     ensures status { IfOk result (λ status. (status ≡ 0) ⊎ (status ≡ 2)) }
@@ -136,9 +136,9 @@ fn run_script<R: Threads + Wait + Send + Sync, W: Sink, G: Gate>(
     sink: &mut W,
     gate: &G,
 ) -> Result<u8, WriteFail>
-    requires made { (s : Said) × IsByObjects script s }
+    requires made { (s : ScriptMeaning) × IsByObjects script s }
     requires shape { IsShape waves.shape }
-    ensures answered { (s : Said) → IsByObjects script s
+    ensures answered { (s : ScriptMeaning) → IsByObjects script s
         → WritesAnswer
         (unless_above (waves_text waves.text s) (first_above waves.shape.segments s.objects))
         (W.output sink.old) (W.output sink.new) result }
@@ -177,11 +177,11 @@ fn run_fitting<R: Threads + Wait + Send + Sync, W: Sink, G: Gate>(
     sink: &mut W,
     gate: &G,
 ) -> Result<(), WriteFail>
-    requires made { (s : Said) × IsByObjects script s }
+    requires made { (s : ScriptMeaning) × IsByObjects script s }
     requires shape { IsShape waves.shape }
     requires fits { All (λ part. part.decl.quota ≤ waves.shape.segments)
         script.kept.parts.items }
-    ensures { (s : Said) → IsByObjects script s
+    ensures { (s : ScriptMeaning) → IsByObjects script s
         → WritesOr (λ fail. fail ≡ SinkFailed) (W.output sink.old) (W.output sink.new)
         (waves_text waves.text s) result }
 {
@@ -211,11 +211,11 @@ fn report_waves<R: Threads + Wait + Send + Sync, W: Sink, G: Gate>(
     sink: &mut W,
     gate: &G,
 ) -> Result<(), WriteFail>
-    requires made { (s : Said) × IsByObjects script s }
+    requires made { (s : ScriptMeaning) × IsByObjects script s }
     requires shape { IsShape reported.shape }
     requires fits { All (λ part. part.decl.quota ≤ reported.shape.segments)
         script.kept.parts.items }
-    ensures { (s : Said) → IsByObjects script s
+    ensures { (s : ScriptMeaning) → IsByObjects script s
         → WritesOr (λ fail. fail ≡ SinkFailed) (W.output sink.old) (W.output sink.new)
         (outcome_text reported.views s) result }
 {
@@ -237,10 +237,10 @@ fn summarize<R: Threads + Wait + Send + Sync, W: Sink, G: Gate>(
     sink: &mut W,
     gate: &G,
 ) -> Result<(), WriteFail>
-    requires made { (s : Said) × IsByObjects script s }
+    requires made { (s : ScriptMeaning) × IsByObjects script s }
     requires shape { IsShape shape }
     requires fits { All (λ part. part.decl.quota ≤ shape.segments) script.kept.parts.items }
-    ensures { (s : Said) → IsByObjects script s
+    ensures { (s : ScriptMeaning) → IsByObjects script s
         → WritesOr (λ fail. fail ≡ SinkFailed) (W.output sink.old) (W.output sink.new)
         (summary_of s) result }
 {
@@ -257,10 +257,10 @@ fn total<R: Threads + Wait + Send + Sync, G: Gate>(
     script: WholeScript<PartCollector>,
     gate: &G,
 ) -> Result<Totals, AllocError>
-    requires made { (s : Said) × IsByObjects script s }
+    requires made { (s : ScriptMeaning) × IsByObjects script s }
     requires shape { IsShape shape }
     requires fits { All (λ part. part.decl.quota ≤ shape.segments) script.kept.parts.items }
-    ensures { IfOk result (λ totals. (s : Said) → IsByObjects script s → totals ≡ totals_of s) }
+    ensures { IfOk result (λ totals. (s : ScriptMeaning) → IsByObjects script s → totals ≡ totals_of s) }
 {
     let WholeScript { version, kept, .. } = script;
     let objects = kept.parts.len() as u32;

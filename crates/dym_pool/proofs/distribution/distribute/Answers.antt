@@ -1,7 +1,7 @@
 use Rattle.std.proofs.Common.{arith, ◌≡◌, ◌<◌, ◌++◌, ◌∷◌, [], All, List, ℕ, length, suc, get_or, subst, sym, ap, ◌∙◌, ◌*◌, ◌+◌, ◌-◌, ◌%◌, length-append, slice_set, vec_len}
 use Rattle.std.proofs.lemmas.List.{map-append}
 use Rattle.std.specs.List.{flat_map}
-use Rattle.dym_pool.specs.Holdings.{Holding, KeepsWay}
+use Rattle.dym_pool.specs.Holdings.{Holding, KeepsDeque}
 use Rattle.dym_pool.specs.Jobs.{boxed_labels}
 use Rattle.dym_pool.specs.Shares.{SameElements}
 use Rattle.dym_pool.proofs.Dealing.{Deals, deals_none, deals_place, deals_room, deals_one}
@@ -83,7 +83,7 @@ loop-boxed-preserved g c =
           (subst (λ (h : Holding g.row.J-Origin.Denot). size g c.put.new.self ≡ size g h + 1) at c.put.ensures.pushed)
           (subst (λ (h : Holding g.row.J-Origin.Denot). capacity g c.put.new.self ≡ capacity g h) at c.put.ensures.same_room) it.3);
       ways = ways_set c.args.shares.now.items xs place c.put.new.self s it.2 c.loop-boxed.invariant.ways
-          (subst (λ (h : Holding g.row.J-Origin.Denot). KeepsWay h c.put.new.self) here (record { deque = c.put.ensures.deque; part = c.put.ensures.part; room = c.put.ensures.same_room }));
+          (subst (λ (h : Holding g.row.J-Origin.Denot). KeepsDeque h c.put.new.self) here (record { deque = c.put.ensures.deque; part = c.put.ensures.part; room = c.put.ensures.same_room }));
       loads = All-set (Loads g) xs place c.put.new.self
           (omega (arith, c.put.ensures.pushed, it.0.0, ap length c.put.ensures.list, length-append s.list (label ∷ [])), c.put.ensures.part ∙ it.0.1)
           c.loop-boxed.invariant.loads;

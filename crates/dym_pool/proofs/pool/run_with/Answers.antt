@@ -2,7 +2,7 @@ use Rattle.std.proofs.Common.{arith, ◌≡◌, ◌+◌, ◌*◌, ◌<◌, ◌/�
 use Rattle.std.proofs.Math.Nat.{lt-mul-div-succ}
 use Rattle.std.proofs.lemmas.List.{length-replicate}
 use Rattle.std.specs.List.{flat_map}
-use Rattle.dym_pool.specs.Holdings.{Holding, KeepsWay}
+use Rattle.dym_pool.specs.Holdings.{Holding, KeepsDeque}
 use Rattle.dym_pool.proofs.Gathering.{all_finished, every_job_back, gathered_dealt, gathered_stays, names_ended, numbers_below, numbers_stay}
 use Rattle.dym_pool.proofs.Keeping.{guests_after, ways_whole}
 use Rattle.dym_pool.proofs.Zips.{zip-length}
@@ -27,25 +27,25 @@ distribute-requires-clause-room g c κs within =
 
 pub run_all-requires-clause-some : goal.run_all-requires-clause-some
 run_all-requires-clause-some g c κs within =
-    omega (arith, c.requires.some, c.in_ok-shares.ensures.len, zip-length KeepsWay _ _ c.distribute.ensures.ways, c.in_ok-shares.shares.ok.0, c.distribute.new.shares.ok.0)
+    omega (arith, c.requires.some, c.in_ok-shares.ensures.len, zip-length KeepsDeque _ _ c.distribute.ensures.ways, c.in_ok-shares.shares.ok.0, c.distribute.new.shares.ok.0)
 
 pub run_all-requires-clause-most : goal.run_all-requires-clause-most
 run_all-requires-clause-most g c κs within =
-    omega (arith, c.requires.most, c.in_ok-shares.ensures.len, zip-length KeepsWay _ _ c.distribute.ensures.ways, c.in_ok-shares.shares.ok.0, c.distribute.new.shares.ok.0)
+    omega (arith, c.requires.most, c.in_ok-shares.ensures.len, zip-length KeepsDeque _ _ c.distribute.ensures.ways, c.in_ok-shares.shares.ok.0, c.distribute.new.shares.ok.0)
 
 pub run_all-requires-clause-whole : goal.run_all-requires-clause-whole
 run_all-requires-clause-whole g c κs within = ways_whole _ _ c.distribute.ensures.ways (λ k d l. (c.in_ok-shares.ensures.each k d l).1)
 
 pub run_all-requires-clause-rows : goal.run_all-requires-clause-rows
 run_all-requires-clause-rows g c κs within =
-    omega (arith, c.in_ok-rows.ensures.len, zip-length KeepsWay _ _ c.distribute.ensures.ways, c.in_ok-shares.shares.ok.0, c.distribute.new.shares.ok.0)
+    omega (arith, c.in_ok-rows.ensures.len, zip-length KeepsDeque _ _ c.distribute.ensures.ways, c.in_ok-shares.shares.ok.0, c.distribute.new.shares.ok.0)
 
 pub run_all-requires-clause-guests : goal.run_all-requires-clause-guests
 run_all-requires-clause-guests g c κs within = guests_after (λ row. row.items) c.in_ok-shares.shares.items c.distribute.new.shares.items c.in_ok-rows.rows.items c.distribute.ensures.ways c.in_ok-rows.ensures.guests
 
 pub run_all-requires-clause-room : goal.run_all-requires-clause-room
 run_all-requires-clause-room g c κs within =
-    omega (arith, c.in_ok-staff.ensures.capacity, c.in_ok-shares.ensures.len, zip-length KeepsWay _ _ c.distribute.ensures.ways, c.in_ok-shares.shares.ok.0, c.distribute.new.shares.ok.0)
+    omega (arith, c.in_ok-worker_list.ensures.capacity, c.in_ok-shares.ensures.len, zip-length KeepsDeque _ _ c.distribute.ensures.ways, c.in_ok-shares.shares.ok.0, c.distribute.new.shares.ok.0)
 
 pub gather-requires-clause-numbers : goal.gather-requires-clause-numbers
 gather-requires-clause-numbers g c κs within =

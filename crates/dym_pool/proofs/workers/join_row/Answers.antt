@@ -1,12 +1,12 @@
 use Rattle.std.proofs.Common.{arith, ◌≡◌, ◌∷◌, [], ℕ, length, vec_len, set, subst, sym, append-nil}
-use Rattle.dym_pool.specs.Holdings.{Holding, IsReach, Joins}
+use Rattle.dym_pool.specs.Holdings.{Holding, IsStealShareOf, Joins}
 use Rattle.dym_pool.proofs.Keeping.{last_reach}
 use Rattle.dym_pool.proofs.Zips.{Back, back_none, back_more, back_all, zip-length}
 use Rattle.dym_pool.proofs.workers.join_row.Goals as goal
 
 pub loop-steal_share-init : goal.loop-steal_share-init
 loop-steal_share-init g c =
-    let same = zip-length IsReach c.args.shares.now.items c.args.row.items c.requires.reaches in
+    let same = zip-length IsStealShareOf c.args.shares.now.items c.args.row.items c.requires.reaches in
     record { joined = back_none (Joins 1) (vec_len c.args.row) c.args.shares.now.items (omega (arith, same, c.args.row.ok.0)); left = ([], append-nil c.args.row.items); few = omega arith }
 
 pub join-requires-clause-deque : goal.join-requires-clause-deque

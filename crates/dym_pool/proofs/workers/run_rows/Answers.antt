@@ -22,17 +22,17 @@ run_workers-requires-clause-ready g c κs within k d l =
 
 pub returns-clause-own : goal.returns-clause-own
 returns-clause-own g c =
-    let crew = c.run_workers.new.workers in
+    let ran_workers = c.run_workers.new.workers in
     let own = λ (w : Member g). w.own in
-    let ran = take_at crew (drop (length crew) c.gather_workers.new.workers.items) (vec_len c.gather_workers.new.workers) (c.run_workers.auto.workers ∙ c.deref_mut.ensures.len) in
-    kept_round own KeepsShare c.deref_mut.result.now crew c.args.shares.now.items c.part_workers.new.shares.items (ap (map own) c.deref_mut.ensures.value ∙ c.gather_workers.ensures.own)
+    let ran = take_at ran_workers (drop (length ran_workers) c.gather_workers.new.workers.items) (vec_len c.gather_workers.new.workers) (c.run_workers.auto.workers ∙ c.deref_mut.ensures.len) in
+    kept_round own KeepsShare c.deref_mut.result.now ran_workers c.args.shares.now.items c.part_workers.new.shares.items (ap (map own) c.deref_mut.ensures.value ∙ c.gather_workers.ensures.own)
     (c.part_workers.ensures.shares ∙ ap (λ (ws : List (Member g)). reverse (map own ws)) ran) c.run_workers.auto.workers c.run_workers.ensures.own
 
 pub returns-clause-reaches : goal.returns-clause-reaches
 returns-clause-reaches g c =
-    let crew = c.run_workers.new.workers in
+    let ran_workers = c.run_workers.new.workers in
     let reaches = λ (w : Member g). w.reaches in
-    let ran = take_at crew (drop (length crew) c.gather_workers.new.workers.items) (vec_len c.gather_workers.new.workers) (c.run_workers.auto.workers ∙ c.deref_mut.ensures.len) in
-    kept_round reaches (λ before after. AllZip KeepsShare before.items after.items) c.deref_mut.result.now crew c.args.rows.now.items c.part_workers.new.rows.items
+    let ran = take_at ran_workers (drop (length ran_workers) c.gather_workers.new.workers.items) (vec_len c.gather_workers.new.workers) (c.run_workers.auto.workers ∙ c.deref_mut.ensures.len) in
+    kept_round reaches (λ before after. AllZip KeepsShare before.items after.items) c.deref_mut.result.now ran_workers c.args.rows.now.items c.part_workers.new.rows.items
     (ap (map reaches) c.deref_mut.ensures.value ∙ c.gather_workers.ensures.reaches)
     (c.part_workers.ensures.rows ∙ ap (λ (ws : List (Member g)). reverse (map reaches ws)) ran) c.run_workers.auto.workers c.run_workers.ensures.reaches

@@ -1,6 +1,6 @@
 use Rattle.std.proofs.Common.{◌≡◌, [], map, ◌∙◌}
 use Rattle.std.proofs.lemmas.List.Sorted.{IsPermutation-trans}
-use Rattle.dym_io.specs.Laws.{blames_later}
+use Rattle.dym_io.specs.Laws.{cause_told_later}
 use Rattle.dym_report.specs.declared.write_fail.WriteFail.TheVariants.{Sink as SinkFailed}
 use Rattle.dym_region.specs.contracts.raw_segment.RawSegmentSegment.TheImpl.{ghosts}
 use Rattle.dym_run.proofs.Progress.{still_enough, wave_more, wave_cut, writes_or_passed}
@@ -39,4 +39,4 @@ returns-in_err-write_wave-clause-written g c =
     let it = c.in_err-write_wave.ensures.written in
     writes_or_passed (λ fail. fail ≡ SinkFailed) start end _ _ c.in_err-write_wave.field-0.0 c.from_residual.ensures.1
     (wave_cut all.options left.options inv.options all.parts.items left.parts.items [] start mid end inv.written it.0)
-    (blames_later _ start mid end _ inv.written.written it.1)
+    (cause_told_later _ start mid end _ inv.written.written it.1)

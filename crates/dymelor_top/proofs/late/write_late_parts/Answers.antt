@@ -1,6 +1,6 @@
 use Rattle.std.proofs.Common.{◌≡◌, All, subst}
 use Rattle.std.proofs.lemmas.List.Elements.{All-tail}
-use Rattle.dym_io.specs.Laws.{blames_later}
+use Rattle.dym_io.specs.Laws.{cause_told_later}
 use Rattle.dym_report.specs.declared.write_fail.WriteFail.TheVariants as fail
 use Rattle.dymelor_top.specs.LateParts.{IsLatePart, late_part_text}
 use Rattle.dym_run.proofs.Progress.{writes_or_passed}
@@ -29,4 +29,4 @@ returns-in_err-write_late_part g c =
     let front = text_front late_part_text c.args.parts.items c.loop-part.yielded _ c.next.new.self.rest.items c.in-Some.part start before after
     c.loop-part.invariant.parts c.in-Some.ensures.steps.0 c.loop-part.invariant.written c.in_err-write_late_part.ensures.0 in
     writes_or_passed (λ failed. failed ≡ fail.Sink) start after _ _ c.in_err-write_late_part.field-0.0 c.from_residual.ensures.1 front
-    (blames_later _ start before after _ c.loop-part.invariant.written c.in_err-write_late_part.ensures.1)
+    (cause_told_later _ start before after _ c.loop-part.invariant.written c.in_err-write_late_part.ensures.1)

@@ -1,5 +1,5 @@
 use Rattle.std.proofs.Common.{◌≡◌, ℕ, List}
-use Rattle.dym_io.specs.Laws.{blames_later}
+use Rattle.dym_io.specs.Laws.{cause_told_later}
 use Rattle.dym_script.specs.declared.parts.Part.{Part}
 use Rattle.dym_report.specs.declared.write_fail.WriteFail.TheVariants as fail
 use Rattle.dym_report.specs.Report.{own_of, part_text}
@@ -16,4 +16,4 @@ returns-in_err-write_part g c =
     writes_or_passed (λ failed. failed ≡ fail.Sink) start after _ _ c.in_err-write_part.field-0.0 c.from_residual.ensures.1
     (each_front_item text c.args.parts.now c.loop-part.part-index c.part-item.result start before after c.loop-part-test.true c.part-item.is c.loop-part.invariant
     c.in_err-write_part.ensures.0)
-    (blames_later _ start before after _ c.loop-part.invariant c.in_err-write_part.ensures.1)
+    (cause_told_later _ start before after _ c.loop-part.invariant c.in_err-write_part.ensures.1)

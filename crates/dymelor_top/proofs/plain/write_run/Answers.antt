@@ -1,5 +1,5 @@
 use Rattle.std.proofs.Common.{refl}
-use Rattle.dym_io.specs.Laws.{appended_both, blames_later, front_after}
+use Rattle.dym_io.specs.Laws.{appended_both, cause_told_later, front_after}
 use Rattle.dymelor_top.proofs.PassedOn.{first_passed, first_stopped, second_stopped, second_done}
 use Rattle.dymelor_top.proofs.ObjectText.{part_pieces, part_shown, part_written}
 use Rattle.dymelor_top.proofs.plain.write_run.Goals as goal
@@ -18,7 +18,7 @@ returns-in_err-run_and_write g c =
     let done = c.in_ok-write_heading.ensures in
     let written = c.in_err-run_and_write.ensures.replies in
     first_passed _ _ _ _ whole _ _ c.in_err-run_and_write.field-0.0 c.from_residual-in_err-run_and_write.ensures.1
-    (front_after before middle after _ _ done written.0) (blames_later _ before middle after _ done written.1)
+    (front_after before middle after _ _ done written.0) (cause_told_later _ before middle after _ done written.1)
 
 pub returns-in_err-write_state : goal.returns-in_err-write_state
 returns-in_err-write_state g c =

@@ -3,7 +3,7 @@ use Rattle.dym_heap.specs.Meaning.{HeapMeaning}
 use Rattle.dym_chain.specs.Chains.{ChainMeaning}
 use Rattle.dym_chain.specs.Keeps.{bytes_of}
 use Rattle.dym_slots.specs.Meanings.{KeepMeaning}
-use Rattle.dym_ckpt.specs.Heads.{said}
+use Rattle.dym_ckpt.specs.Heads.{header_meaning}
 use Rattle.dym_ckpt.proofs.Restored.{first_belongs, loaded_chain, loaded_heap, entries_again}
 use Rattle.dym_ckpt.proofs.file_reader.FileContent.load.Goals as goal
 
@@ -17,7 +17,7 @@ restore_newest-requires-clause-belongs g c =
 
 pub returns-clause-loaded : goal.returns-clause-loaded
 returns-clause-loaded g c bytes content =
-    let head = said c.args.self.head in
+    let head = header_meaning c.args.self.head in
     let record_list = c.args.self.record_list in
     let records = bytes_of record_list.keep.records in
     let adopted = c.in-Ok-adopt.ensures.adopted in

@@ -1,7 +1,7 @@
 use Rattle.std.proofs.Common.{◌≡◌, ◌+◌, ◌<◌, ◌++◌, ◌∷◌, [], ◌∙◌, refl, sym, ap, subst, length, arith}
 use Rattle.dym_base.specs.declared.limits.TheConstants.{MOST_COMMANDS}
 use Rattle.dym_commands.specs.declared.commands.Commands.TheInside.{Inside}
-use Rattle.dym_commands.specs.declared.commands.Later.{Later}
+use Rattle.dym_commands.specs.declared.commands.FollowingBlock.{FollowingBlock}
 use Rattle.dym_commands.specs.Requests.{asks}
 use Rattle.dym_commands.specs.Pieces.{all_of, AreWhole}
 use Rattle.dym_commands.proofs.KeptLists.{read_bytes_few}
@@ -27,8 +27,8 @@ pushed c =
           let last = w.in-Some.last.now in
           subst (IsPushed command c.self.inside) (sym w.self-inside-is)
           (pushed_last command c.self.inside (record last { piece = w.push.new.self }) last c.self.invariant.follow
-          (w.in-Some.ensures.variant.0 refl) (ap (λ (l : Later). l.start) w.in-Some.ensures.value)
-          (w.in_ok-push-in-Some.ensures.pushed ∙ ap (λ (l : Later). l.piece ++ command ∷ []) w.in-Some.ensures.value)))
+          (w.in-Some.ensures.variant.0 refl) (ap (λ (l : FollowingBlock). l.start) w.in-Some.ensures.value)
+          (w.in_ok-push-in-Some.ensures.pushed ∙ ap (λ (l : FollowingBlock). l.piece ++ command ∷ []) w.in-Some.ensures.value)))
       | in-None+in_ok-push-in-None w ↦
           subst (IsPushed command c.self.inside) (sym w.self-inside-is)
           (pushed_first command c.self.inside w.push-in-None.new.self w.in-None.ensures.variant.1 w.in_ok-push-in-None.ensures.pushed)

@@ -13,7 +13,7 @@ take-segment-requires-clause-ordinal g c =
 pub take-segment-requires-clause-free : goal.take-segment-requires-clause-free
 take-segment-requires-clause-free g c =
     let less = grows.below_quota c.self.view_is c.self.invariant.0 c.requires.least c.requires.most c.requires.room in
-    next_free _ c.class_index-class.result (g.S.Supply.bound_apart _ _) c.self.invariant.0 c.self.invariant.1 (let k = c.class_index-class.ensures in let high = c.requires.most in omega arith) less
+    next_free _ c.class_index-class.result (g.S.Supply.binding_apart _ _) c.self.invariant.0 c.self.invariant.1 (let k = c.class_index-class.ensures in let high = c.requires.most in omega arith) less
 
 pub put_in-requires-clause-within : goal.put_in-requires-clause-within
 put_in-requires-clause-within g c = let l = grows.end_in c.self.view_is c.self.invariant.0 c.requires.least c.requires.most c.class_index-class.ensures in omega arith
@@ -32,7 +32,7 @@ invariant_of-self g c =
     let l = grows.end_in c.self.view_is c.self.invariant.0 c.requires.least c.requires.most c.class_index-class.ensures in
     let made = c.new-sized_area.ensures.made in
     let new = bound_made _ c.new-sized_area.result c.class_index-class.ensures (ap (λ (p : SizedAreaMeaning). p.exponent) made) (ap (λ (p : SizedAreaMeaning). p.ordinal) made) (ap (λ (p : SizedAreaMeaning). p.identity) made) c.take-segment.ensures.is_bound in
-    (shelf, bound_inserted _ _ _ c.put_in.ensures.items l new (λ j. g.S.Supply.bound (c.take-segment.ensures.origin j) (c.take-segment.ensures.quota j)) c.self.invariant.1)
+    (shelf, bound_inserted _ _ _ c.put_in.ensures.items l new (λ j. g.S.Supply.binding (c.take-segment.ensures.origin j) (c.take-segment.ensures.quota j)) c.self.invariant.1)
 
 pub returns-clause-added : goal.returns-clause-added
 returns-clause-added g c =

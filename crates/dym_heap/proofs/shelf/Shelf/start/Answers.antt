@@ -21,6 +21,6 @@ returns g c =
     let inside = calls.in_e_at c.self.view_is c.self.invariant.0 c.requires.least c.requires.most c.args.index finds in
     let placed = calls.placed_e spot c.index.ensures in
     let bound = subst (BoundArea _) (sym read) (c.self.invariant.1 c.in-Some.location.sized_area q inside) in
-    let same = ap (λ (s : ShelfMeaning). g.S.Supply.bound s.origin s.quota) (sym c.self.view_is) in
-    subst (λ o. ForSome (g.S.Supply.bound c.args.self.now.origin c.args.self.now.quota) (λ f. ForSome (g.S.Seg.Segment.place_of (f (c.args.exp - 5) o)) (λ place. c.start.result ≡ place))) finds.0
+    let same = ap (λ (s : ShelfMeaning). g.S.Supply.binding s.origin s.quota) (sym c.self.view_is) in
+    subst (λ o. ForSome (g.S.Supply.binding c.args.self.now.origin c.args.self.now.quota) (λ f. ForSome (g.S.Seg.Segment.place_of (f (c.args.exp - 5) o)) (λ place. c.start.result ≡ place))) finds.0
     (start_of_area g.S.Seg.Segment.place_of _ _ c.start.result same placed bound c.start.ensures)

@@ -11,5 +11,4 @@ returns-clause-made g c =
     ∙ ap (λ (a : AreaMeaning). empty_place (version_of c.args.lengths) a.exponent a.ordinal a.identity) c.new.ensures.made
 
 pub returns-clause-valid : goal.returns-clause-valid
-returns-clause-valid g c =
-    is_place (made c.new.result (numbers_of c.args.lengths) c.new.ensures.valid c.new.ensures.none).measured
+returns-clause-valid g c = is_place (made c.new.result (numbers_of c.args.lengths) c.new.ensures.valid c.new.ensures.none).measured

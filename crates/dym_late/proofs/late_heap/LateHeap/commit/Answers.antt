@@ -1,12 +1,12 @@
 use Rattle.std.proofs.Common.{◌≡◌, ◌+◌, refl, subst}
-use Rattle.dym_late.specs.Marks.{oldest_mark}
+use Rattle.dym_late.specs.Marks.{oldest_log_point}
 use Rattle.dym_late.specs.Meaning.{LateMeaning}
 use Rattle.dym_late.proofs.Wholes.{is_late}
 use Rattle.dym_late.proofs.late_heap.LateHeap.commit.Goals as goal
 
 pub returns-clause-dropped : goal.returns-clause-dropped
 returns-clause-dropped g c =
-    subst (λ (m : LateMeaning). c.commit.result + oldest_mark m.bound m.events ≡ oldest_mark c.commit.new.self.bound m.events) c.self.view_is c.commit.ensures.dropped
+    subst (λ (m : LateMeaning). c.commit.result + oldest_log_point m.bound m.events ≡ oldest_log_point c.commit.new.self.bound m.events) c.self.view_is c.commit.ensures.dropped
 
 pub returns-clause-late : goal.returns-clause-late
 returns-clause-late g c =
