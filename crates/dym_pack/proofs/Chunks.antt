@@ -17,7 +17,7 @@ use Rattle.dym_base.specs.declared.command.Kind.TheVariants.{Full, Inc}
 use Rattle.dym_base.proofs.Classes.{cls_class}
 use Rattle.dym_base.specs.Recorded.{IsRecorded}
 use Rattle.dym_pack.specs.Areas.{AreasMeaning, IsPackable, area_at, chunks_of, chunk_number, is_used_at, bytes_at}
-use Rattle.dym_pack.specs.ParsedAreas.{packs_at, packed_from, body_from, IsNth}
+use Rattle.dym_pack.specs.ParsedAreas.{packs_at, IsPackedBits, packed_from, body_from, IsNth}
 use Rattle.dym_pack.proofs.Ranges.{all_picked, passing, passing_from, passing_one, passing_none, passing_run, length_each, length_most, filter_none, filter_same, filter_split, count_is_filter}
 use Rattle.dym_pack.proofs.Bitmaps.{clear_past}
 use Rattle.dym_bits.specs.Bits.{IsNextSet}
@@ -111,15 +111,15 @@ module _ (log : Logged) where
 
   -- ---- a body from its first chunk on
 
-  -- bits that tell what is packed
-  abbrev pub Tells : ℕ → List Bool → Type 0
-  Tells k bits = (i : ℕ) → get_or bits i false ≡ (nat_lt i (count k) && packs_at log k i)
-
-  module _ (k : ℕ) (bits : List Bool) (told : Tells k bits) where
+  module _ (k : ℕ) (bits : List Bool) (told : IsPackedBits log k bits) where
     told_packs : (i : ℕ) → get_or bits i false ≡ true → (i < count k) × (packs_at log k i ≡ true)
     told_packs i set =
         let both = and_parts (nat_lt i (count k)) (packs_at log k i) (sym (told i) ∙ set) in
         (ltb-true i (count k) both.0, both.1)
+
+    -- no bit is set from the count of chunks on
+    pub limit_clear : (n : ℕ) → n ≡ count k → (i : ℕ) → n ≤ i → get_or bits i false ≡ false
+    limit_clear n all i past = clear_past (count k) bits (packs_at log k) told i (omega arith)
 
     told_below : (i : ℕ) → i < count k → get_or bits i false ≡ packs_at log k i
     told_below i below = told i ∙ ap (λ t. t && packs_at log k i) (lt-ltb i (count k) below)

@@ -1,9 +1,10 @@
 -- What the readers of a record answer. A record is seen as its bytes; whatever log has these bytes, a reader tells of it.
-use Rattle.std.specs.Prelude.{◌≡◌, ℕ, ◌-◌, ◌<◌, ◌^◌, Bool, List, ◌++◌, length}
+use Rattle.std.specs.Prelude.{◌≡◌, ℕ, ◌-◌, ◌<◌, ◌^◌, Bool, ◌&&◌, nat_lt, List, ◌++◌, length}
 use Rattle.std.specs.List.{flat_map, filter, range_with_len, AllByRecursion}
 use Rattle.dym_base.specs.Packed.{Logged, packed, packs_by, packed_chunk}
 use Rattle.dym_base.specs.Recorded.{IsRecorded}
 use Rattle.dym_base.specs.declared.command.Version.TheVariants.{Two}
+use Rattle.dym_bits.specs.Bits.{bit_in}
 use Rattle.dym_pack.specs.Areas.{chunks_of, chunk_number, bytes_at}
 
 -- what is true of each log that has these bytes
@@ -17,6 +18,10 @@ IsRecord bytes = (log : Logged) × IsRecorded log × (packed log ≡ bytes)
 -- whether a log packs chunk i of area k
 abbrev pub packs_at : Logged → ℕ → ℕ → Bool
 packs_at log k i = packs_by log.kind log.copy log.found (chunk_number log.copy k i)
+
+-- bits that say which chunks of area k a log packs
+abbrev pub IsPackedBits : Logged → ℕ → List Bool → Type 0
+IsPackedBits log k bits = (i : ℕ) → bit_in bits i ≡ (nat_lt i (chunks_of log.copy k) && packs_at log k i)
 
 -- the chunks of area k from `from` on that a log packs
 abbrev pub packed_from : Logged → ℕ → ℕ → List ℕ

@@ -7,7 +7,7 @@ ghost use Rattle.dym_base.specs.declared.command.Version.TheVariants.{One, Two};
 ghost use Rattle.dym_base.specs.declared.limits.TheConstants.{SEGMENT_BYTES};
 ghost use Rattle.dym_bits.specs.Bits.{bit_in};
 ghost use Rattle.dym_pack.specs.Areas.{IsPackable, area_at, chunks_of, logged};
-ghost use Rattle.dym_pack.specs.ParsedAreas.{packs_at, body_from};
+ghost use Rattle.dym_pack.specs.ParsedAreas.{IsPackedBits, body_from};
 ghost use Rattle.dym_pack.specs.Offsets.{area_bytes, area_head};
 
 use crate::areas::Areas;
@@ -20,9 +20,7 @@ use std::alloc::AllocError;
 /// Which chunks of an area a log of this kind packs.
 fn bits_to_pack<A: Areas>(areas: &A, kind: Kind, k: u32) -> &Bits
     requires { k < held (A.meaning areas.now).live }
-    ensures { (i : ℕ) → bit_in result.now i
-        ≡ (nat_lt i (chunks_of (A.meaning areas.now).live k) && packs_at
-        (logged (A.meaning areas.now) kind 0) k i) }
+    ensures { IsPackedBits (logged (A.meaning areas.now) kind 0) k result.now }
 {
     match kind {
         Kind::Full => areas.used_bits(k),
@@ -84,9 +82,7 @@ fn chunks_len<A: Areas>(areas: &A, kind: Kind, k: u32, bits: &Bits) -> u32
     requires packable { IsPackable (A.meaning areas.now) }
     requires area { k < held (A.meaning areas.now).live }
     requires version { (A.meaning areas.now).version ≡ Two }
-    requires bits { (i : ℕ) → bit_in bits.now i
-        ≡ (nat_lt i (chunks_of (A.meaning areas.now).live k) && packs_at
-        (logged (A.meaning areas.now) kind 0) k i) }
+    requires bits { IsPackedBits (logged (A.meaning areas.now) kind 0) k bits.now }
     ensures { result ≡ length (body_from (logged (A.meaning areas.now) kind 0) k 0) }
 {
     let chunks = chunk_count(areas, k);
@@ -167,9 +163,7 @@ fn put_runs<A: Areas>(
     requires packable { IsPackable (A.meaning areas.now) }
     requires area { k < held (A.meaning areas.now).live }
     requires version { (A.meaning areas.now).version ≡ One }
-    requires bits { (i : ℕ) → bit_in bits.now i
-        ≡ (nat_lt i (chunks_of (A.meaning areas.now).live k) && packs_at
-        (logged (A.meaning areas.now) kind 0) k i) }
+    requires bits { IsPackedBits (logged (A.meaning areas.now) kind 0) k bits.now }
     ensures { OnOk result (out.new.items
         ≡ out.old.items ++ body_from (logged (A.meaning areas.now) kind 0) k 0) }
 {
@@ -194,9 +188,7 @@ fn put_chunks<A: Areas>(
     requires packable { IsPackable (A.meaning areas.now) }
     requires area { k < held (A.meaning areas.now).live }
     requires version { (A.meaning areas.now).version ≡ Two }
-    requires bits { (i : ℕ) → bit_in bits.now i
-        ≡ (nat_lt i (chunks_of (A.meaning areas.now).live k) && packs_at
-        (logged (A.meaning areas.now) kind 0) k i) }
+    requires bits { IsPackedBits (logged (A.meaning areas.now) kind 0) k bits.now }
     ensures { OnOk result (out.new.items
         ≡ out.old.items ++ body_from (logged (A.meaning areas.now) kind 0) k 0) }
 {

@@ -1,11 +1,10 @@
 use Rattle.std.proofs.Common.{◌+◌, ◌++◌, length, ap, sym, ◌∙◌, arith}
 use Rattle.dym_base.specs.Packed.{packed_chunk}
 use Rattle.dym_base.specs.declared.command.Version.TheVariants.{Two}
-use Rattle.dym_pack.specs.Areas.{chunks_of, logged}
-use Rattle.dym_pack.specs.ParsedAreas.{packs_at, body_from}
-use Rattle.dym_pack.proofs.Bitmaps.{clear_past}
+use Rattle.dym_pack.specs.Areas.{logged}
+use Rattle.dym_pack.specs.ParsedAreas.{body_from}
 use Rattle.dym_pack.proofs.Named.{few_chunks}
-use Rattle.dym_pack.proofs.Chunks.{next_packed, none_packed, next_smaller, packed_len_most, chunk_bytes, chunk_bytes_two}
+use Rattle.dym_pack.proofs.Chunks.{limit_clear, next_packed, none_packed, next_smaller, packed_len_most, chunk_bytes, chunk_bytes_two}
 use Rattle.dym_pack.proofs.Logs.{lent}
 use Rattle.dym_pack.proofs.Written.{put_more, put_all}
 use Rattle.dym_pack.proofs.area_bytes.put_chunks.Goals as goal
@@ -19,9 +18,8 @@ next_set_within-requires-clause-limit g c =
     omega (arith, c.chunk_count-chunks.ensures)
 
 pub next_set_within-requires-clause-clear : goal.next_set_within-requires-clause-clear
-next_set_within-requires-clause-clear g c j past =
-    let m = g.A.Areas.meaning c.args.areas.now in
-    clear_past (chunks_of m.live c.args.k) c.args.bits.now (packs_at (logged m c.args.kind 0) c.args.k) c.requires.bits j (omega (arith, c.chunk_count-chunks.ensures))
+next_set_within-requires-clause-clear g c =
+    limit_clear (logged (g.A.Areas.meaning c.args.areas.now) c.args.kind 0) c.args.k c.args.bits.now c.requires.bits c.chunk_count-chunks.result c.chunk_count-chunks.ensures
 
 pub put_chunk-requires : goal.put_chunk-requires
 put_chunk-requires g c =
