@@ -39,6 +39,7 @@ pub mod Loads
 pub mod Skips
 pub mod PlaceLoads
 pub mod Swaps
+pub mod ShelfAreas
 pub mod ShelfLoads
 mod AreaBindings
 pub mod AreaLists

@@ -7,16 +7,16 @@ use Rattle.dym_base.specs.Origins.{Origin}
 use Rattle.dym_base.specs.declared.command.Version.{Version}
 use Rattle.dym_region.specs.declared.segment.SegmentId.{SegmentId}
 use Rattle.dym_heap.specs.Table.{Row, row_at}
-use Rattle.dym_heap.specs.Shelves.{ShelfMeaning, IsValidShelf}
+use Rattle.dym_heap.specs.Shelves.{ShelfMeaning}
 use Rattle.dym_heap.specs.SizedAreas.{SizedAreaMeaning, IsSizedArea}
-use Rattle.dym_heap.specs.Arrangement.{IsPlaced, IsFullArea, HasFree, IsArranged, IsShelf, shelf_of, rows_upto, marks_of_class}
+use Rattle.dym_heap.specs.Arrangement.{IsFullArea, HasFree, IsArranged, IsShelf, shelf_of, marks_of_class}
 use Rattle.dym_base.specs.declared.limits.TheConstants.{MOST_CHUNKS}
-use Rattle.dym_heap.specs.Fetches.{area_chunk, IsReshaped, IsChangedArea}
+use Rattle.dym_heap.specs.Fetches.{area_chunk, IsReshaped}
 use Rattle.dym_heap.proofs.Rows.{class_end, count_c, count_is, whole_row}
 use Rattle.dym_heap.proofs.RowSteps.{Remarks}
 use Rattle.dym_heap.proofs.ShelfFacts.{row_s}
 use Rattle.dym_heap.proofs.Marks.{free_from}
-use Rattle.dym_heap.proofs.Swaps as swaps
+use Rattle.dym_heap.proofs.ShelfAreas as areas
 
 -- a mark is set or cleared
 remarks_set : {v : Version} {starts : List ℕ} {sized_areas : List SizedAreaMeaning} {full : List (List Bool)} (c o : ℕ) (p : SizedAreaMeaning) (b : Bool) → IsArranged v starts sized_areas full → c < 12 → o < MOST_CHUNKS
@@ -58,9 +58,6 @@ module _ {v : Version} {quota : ℕ} {ids : List SegmentId} {origin : Origin} {s
   class_in : e - 5 < 12
   class_in = omega arith
 
-  version_s : s.version ≡ v
-  version_s = sym (ap (λ (t : ShelfMeaning). t.version) view)
-
   -- an area of the class
   pub area_in : {k : ℕ} (o : ℕ) → k ≡ e - 5 → o * per e < length (row_at s.rows (e - 5)).chunks → o < start_of (k + 1) - start_of k
   area_in {k} o same l =
@@ -86,74 +83,24 @@ module _ {v : Version} {quota : ℕ} {ids : List SegmentId} {origin : Origin} {s
       long ∙ ap (λ x. x * per (e - 5 + 5)) m
 
   module _ {k o : ℕ} (same : k ≡ e - 5) (l : o < start_of (k + 1) - start_of k) where
-    within : start_of (e - 5) + o < start_of (e - 5 + 1)
-    within =
-        let a : start_of (k + 1) ≡ start_of (e - 5 + 1) = ap (λ x. start_of (x + 1)) same in
-        let b : start_of k ≡ start_of (e - 5) = ap (λ x. start_of x) same in
-        omega arith
-
-    at : start_of k + o ≡ start_of (e - 5) + o
-    at = ap (λ x. start_of x + o) same
-
-    pub place_in : start_of k + o < length sized_areas
-    place_in = let top = class_end is.arranged class_in in let w = within in let a = at in omega arith
-
     pub place_small : start_of k + o < 1024
-    place_small = let l = place_in in let fits = is.supplied.within in let most = is.supplied.most in omega arith
+    place_small = let p = areas.place_in view is low high same l in let fits = is.supplied.within in let most = is.supplied.most in omega arith
 
     module _ {q : SizedAreaMeaning} (here : q ≡ get_or sized_areas (start_of k + o) q) where
-      placed_q : IsPlaced v (e - 5 + 5) o q
-      placed_q = subst (IsPlaced v (e - 5 + 5) o) (sym (here ∙ ap (λ x. get_or sized_areas x q) at)) (is.arranged.placed (e - 5) o q class_in within)
-
-      pub exponent_q : q.exponent ≡ e
-      exponent_q = let p = placed_q.exponent in omega arith
-
-      pub version_q : q.version ≡ s.version
-      version_q = placed_q.version ∙ sym version_s
-
       pub ordinal_small : o < MOST_CHUNKS
-      ordinal_small = let w = within in let top = class_end is.arranged class_in in let fits = is.supplied.within in let most = is.supplied.most in omega arith
+      ordinal_small = let w = areas.within view is low high same l in let top = class_end is.arranged class_in in let fits = is.supplied.within in let most = is.supplied.most in omega arith
 
       pub len_q : (n : ℕ) → n ≡ max 1 (per e / 8) → n ≡ max 1 (per q.exponent / 8)
-      len_q n is_n = is_n ∙ ap (λ x. max 1 (per x / 8)) (sym exponent_q)
+      len_q n is_n = is_n ∙ ap (λ x. max 1 (per x / 8)) (sym (areas.exponent_q view is low high same l here))
 
       pub below_q : (i : ℕ) → i < per e → i < per q.exponent
-      below_q i b = let x = ap per exponent_q in omega arith
+      below_q i b = let x = ap per (areas.exponent_q view is low high same l here) in omega arith
 
-      module _ {p : SizedAreaMeaning} (valid : IsSizedArea p) (is_set : ℕ → Bool) (same_place : p ≡ record q { chunks = p.chunks; touched = p.touched }) (shaped : (i : ℕ) → IsReshaped (is_set i) (area_chunk q i) (area_chunk p i)) (b : Bool) (filled : IsTrue b ↔ IsFullArea p) {full' : List (List Bool)}
-          (after : full' ≡ set full k (set (marks_of_class full k) o b)) where
-        exponent_p : p.exponent ≡ q.exponent
-        exponent_p = ap (λ (x : SizedAreaMeaning). x.exponent) same_place
-
-        long_p : length p.chunks ≡ length q.chunks
-        long_p = valid.whole ∙ ap per exponent_p ∙ sym placed_q.sized_area.whole
-
-        placed_p : IsPlaced v (e - 5 + 5) o p
-        placed_p = record {
-          sized_area = valid;
-          version = ap (λ (x : SizedAreaMeaning). x.version) same_place ∙ placed_q.version;
-          exponent = exponent_p ∙ placed_q.exponent;
-          ordinal = ap (λ (x : SizedAreaMeaning). x.ordinal) same_place ∙ placed_q.ordinal;
-        }
-
-        marks : Remarks full full' (e - 5) o p
-        marks = subst (λ f. Remarks full f (e - 5) o p) (sym (after ∙ ap (λ x. set full x (set (marks_of_class full x) o b)) same))
-            (remarks_set (e - 5) o p b is.arranged class_in ordinal_small (λ h. filled.0 h) (λ h. free_from p (λ all. (let t = filled.1 all in absurd (true≢false (sym t ∙ h))))))
-
-        same_id : p.identity ≡ q.identity
-        same_id = ap (λ (x : SizedAreaMeaning). x.identity) same_place
-
-        pub shape_shelf : IsShelf v quota ids starts (set sized_areas (start_of k + o) p) full' room spare spare_room
-        shape_shelf = swaps.swap_shelf view is class_in within at here placed_p same_id marks
-
-        pub shape_kept : IsValidShelf (shelf_of v quota ids origin starts (set sized_areas (start_of k + o) p))
-        shape_kept = swaps.swap_kept view is class_in within at here placed_p same_id marks
-
-        pub shape_same : shelf_of v quota ids origin starts (set sized_areas (start_of k + o) p) ≡ record s { rows = rows_upto 12 starts (set sized_areas (start_of k + o) p) }
-        shape_same = swaps.swap_same view is class_in within at here placed_p same_id marks
-
-        pub shape_long : (d : ℕ) → length (row_at (rows_upto 12 starts (set sized_areas (start_of k + o) p)) d).chunks ≡ length (row_at s.rows d).chunks
-        shape_long = swaps.swap_long view is class_in within at here placed_p same_id marks
-
-        pub shape_area : IsChangedArea s.rows (rows_upto 12 starts (set sized_areas (start_of k + o) p)) (e - 5) o (λ i old new. IsReshaped (is_set i) old new)
-        shape_area = swaps.swap_changes view is class_in within at here placed_p same_id marks (λ i old new. IsReshaped (is_set i) old new) (λ i b. shaped i)
+      -- the shelf after the area got these use bits, and its mark with them
+      pub shaped : {p : SizedAreaMeaning} → IsSizedArea p → (is_set : ℕ → Bool) → p ≡ record q { chunks = p.chunks; touched = p.touched } → ((i : ℕ) → IsReshaped (is_set i) (area_chunk q i) (area_chunk p i)) → (b : Bool) → (IsTrue b ↔ IsFullArea p)
+          → {full' : List (List Bool)} → full' ≡ set full k (set (marks_of_class full k) o b) → areas.IsChangedShelf view is low high o (set sized_areas (start_of k + o) p) full' (λ i old new. IsReshaped (is_set i) old new)
+      shaped {p} valid is_set same_place each b filled after =
+          areas.put view is low high same l here valid same_place
+          (subst (λ f. Remarks full f (e - 5) o p) (sym (after ∙ ap (λ x. set full x (set (marks_of_class full x) o b)) same))
+          (remarks_set (e - 5) o p b is.arranged class_in ordinal_small (λ h. filled.0 h) (λ h. free_from p (λ all. (let t = filled.1 all in absurd (true≢false (sym t ∙ h)))))))
+          (λ i old new. IsReshaped (is_set i) old new) each

@@ -296,7 +296,7 @@ impl<S: Supply> Shelf<S> {
         requires least { LEAST_EXPONENT ≤ exp }
         requires most { exp ≤ GREATEST_EXPONENT }
         requires used { IsSome (chunk_at self.now.rows (row_index exp) index) }
-        ensures { ForSome (S.bound self.now.origin self.now.quota) (λ f.
+        ensures { ForSome (S.binding self.now.origin self.now.quota) (λ f.
             ForSome (S.Seg.place_of (f (row_index exp) (index / per exp)))
             (λ place. result ≡ place)) }
     {

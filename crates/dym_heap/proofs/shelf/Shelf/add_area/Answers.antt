@@ -34,14 +34,10 @@ invariant_of-self g c =
     let new = bound_made _ c.new-sized_area.result c.class_index-class.ensures (ap (λ (p : SizedAreaMeaning). p.exponent) made) (ap (λ (p : SizedAreaMeaning). p.ordinal) made) (ap (λ (p : SizedAreaMeaning). p.identity) made) c.take-segment.ensures.is_bound in
     (shelf, bound_inserted _ _ _ c.put_in.ensures.items l new (λ j. g.S.Supply.binding (c.take-segment.ensures.origin j) (c.take-segment.ensures.quota j)) c.self.invariant.1)
 
-pub returns-clause-added : goal.returns-clause-added
-returns-clause-added g c =
-    (grows.grown c.self.view_is c.self.invariant.0 c.requires.least c.requires.most c.take_table-lengths.result _ _ c.class_index-class.ensures c.requires.room c.take_table-lengths.ensures.len c.new-sized_area.ensures.made c.new-sized_area.ensures.valid refl
+pub returns : goal.returns
+returns g c =
+    let now =
+    grows.grown c.self.view_is c.self.invariant.0 c.requires.least c.requires.most c.take_table-lengths.result _ _ c.class_index-class.ensures c.requires.room c.take_table-lengths.ensures.len c.new-sized_area.ensures.made c.new-sized_area.ensures.valid refl
     c.take-segment.ensures.taken c.take-segment.ensures.quota c.take-segment.ensures.origin c.shift_up.ensures c.put_in.ensures.capacity c.take_table-lengths.ensures.room
-    c.put_in.ensures.items).gives
-
-pub returns-clause-valid_shelf : goal.returns-clause-valid_shelf
-returns-clause-valid_shelf g c =
-    (grows.grown c.self.view_is c.self.invariant.0 c.requires.least c.requires.most c.take_table-lengths.result _ _ c.class_index-class.ensures c.requires.room c.take_table-lengths.ensures.len c.new-sized_area.ensures.made c.new-sized_area.ensures.valid refl
-    c.take-segment.ensures.taken c.take-segment.ensures.quota c.take-segment.ensures.origin c.shift_up.ensures c.put_in.ensures.capacity c.take_table-lengths.ensures.room
-    c.put_in.ensures.items).valid_shelf
+    c.put_in.ensures.items in
+    record { added = now.gives; valid_shelf = now.valid_shelf }

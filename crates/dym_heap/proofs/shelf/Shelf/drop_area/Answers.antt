@@ -27,11 +27,7 @@ invariant_of-self g c =
     let l = (grows.last_in c.self.view_is c.self.invariant.0 c.requires.least c.requires.most c.class_index-class.ensures c.requires.free).1 in
     (shelf, bound_removed _ _ c.take_out-sized_area.ensures.items l (λ j. g.S.Supply.binding (c.give.ensures.origin j) (c.give.ensures.quota j)) c.self.invariant.1)
 
-pub returns-clause-dropped : goal.returns-clause-dropped
-returns-clause-dropped g c = (grows.dropped c.self.view_is c.self.invariant.0 c.requires.least c.requires.most c.into_parts-segment.result.1 _ c.class_index-class.ensures c.requires.free c.take_out-sized_area.ensures.value c.into_parts-segment.ensures.same c.into_parts-segment.ensures.version c.give.ensures.given c.give.ensures.quota c.give.ensures.origin c.keep_table.ensures.len c.keep_table.ensures.room c.shift_down.ensures c.take_out-sized_area.ensures.items).gives
-
-pub returns-clause-fewer : goal.returns-clause-fewer
-returns-clause-fewer g c = (grows.dropped c.self.view_is c.self.invariant.0 c.requires.least c.requires.most c.into_parts-segment.result.1 _ c.class_index-class.ensures c.requires.free c.take_out-sized_area.ensures.value c.into_parts-segment.ensures.same c.into_parts-segment.ensures.version c.give.ensures.given c.give.ensures.quota c.give.ensures.origin c.keep_table.ensures.len c.keep_table.ensures.room c.shift_down.ensures c.take_out-sized_area.ensures.items).fewer
-
-pub returns-clause-valid_shelf : goal.returns-clause-valid_shelf
-returns-clause-valid_shelf g c = (grows.dropped c.self.view_is c.self.invariant.0 c.requires.least c.requires.most c.into_parts-segment.result.1 _ c.class_index-class.ensures c.requires.free c.take_out-sized_area.ensures.value c.into_parts-segment.ensures.same c.into_parts-segment.ensures.version c.give.ensures.given c.give.ensures.quota c.give.ensures.origin c.keep_table.ensures.len c.keep_table.ensures.room c.shift_down.ensures c.take_out-sized_area.ensures.items).valid_shelf
+pub returns : goal.returns
+returns g c =
+    let now = grows.dropped c.self.view_is c.self.invariant.0 c.requires.least c.requires.most c.into_parts-segment.result.1 _ c.class_index-class.ensures c.requires.free c.take_out-sized_area.ensures.value c.into_parts-segment.ensures.same c.into_parts-segment.ensures.version c.give.ensures.given c.give.ensures.quota c.give.ensures.origin c.keep_table.ensures.len c.keep_table.ensures.room c.shift_down.ensures c.take_out-sized_area.ensures.items in
+    record { dropped = now.gives; fewer = now.fewer; valid_shelf = now.valid_shelf }

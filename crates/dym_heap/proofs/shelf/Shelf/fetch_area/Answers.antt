@@ -2,6 +2,7 @@ use Rattle.std.proofs.Common.{refl, ◌≡◌, arith}
 use Rattle.dym_heap.specs.Fetches.{fetched, packed_at}
 use Rattle.dym_heap.proofs.ShelfFacts.{kept_s}
 use Rattle.dym_heap.proofs.ShelfLoads as loads
+use Rattle.dym_heap.proofs.ShelfAreas as areas
 use Rattle.dym_heap.proofs.ShelfChanges as changes
 use Rattle.dym_heap.proofs.AreaBindings.{bound_kept}
 use Rattle.dym_heap.proofs.shelf.Shelf.fetch_area.Goals as goal
@@ -15,24 +16,18 @@ pub returns-then-ordinal-self-clause-valid_shelf : goal.returns-then-ordinal-sel
 returns-then-ordinal-self-clause-valid_shelf g c = kept_s c.self.view_is c.self.invariant.0
 
 pub index_mut-sized_area-requires : goal.index_mut-sized_area-requires
-index_mut-sized_area-requires g c = let l = changes.place_in c.self.view_is c.self.invariant.0 c.requires.least c.requires.most c.class_index-class.ensures c.if-ordinal-self.false in omega arith
+index_mut-sized_area-requires g c = let l = areas.place_in c.self.view_is c.self.invariant.0 c.requires.least c.requires.most c.class_index-class.ensures c.if-ordinal-self.false in omega arith
 
 pub fetch-requires : goal.fetch-requires
 fetch-requires g c = record { body = loads.has_q c.self.view_is c.self.invariant.0 c.requires.least c.requires.most c.class_index-class.ensures c.if-ordinal-self.false c.index_mut-sized_area.ensures.value c.requires.body }
 
 pub invariant_of-self : goal.invariant_of-self
 invariant_of-self g c =
-    let shelf = changes.change_shelf c.self.view_is c.self.invariant.0 c.requires.least c.requires.most c.class_index-class.ensures c.if-ordinal-self.false c.index_mut-sized_area.ensures.value c.fetch.ensures.valid c.fetch.ensures.same (changes.some_fetched c.fetch.new.self c.args.packed.now c.requires.body.0 (changes.place_q c.self.view_is c.self.invariant.0 c.requires.least c.requires.most c.class_index-class.ensures c.if-ordinal-self.false c.index_mut-sized_area.ensures.value) (c.fetch.ensures.fetched c.requires.body.0 (loads.body_q c.self.view_is c.self.invariant.0 c.requires.least c.requires.most c.class_index-class.ensures c.if-ordinal-self.false c.index_mut-sized_area.ensures.value c.requires.body.1))) in
+    let shelf = (loads.fetched_shelf c.self.view_is c.self.invariant.0 c.requires.least c.requires.most c.class_index-class.ensures c.if-ordinal-self.false c.index_mut-sized_area.ensures.value c.fetch.ensures.valid c.fetch.ensures.same c.requires.body c.fetch.ensures.fetched c.requires.body.0 c.requires.body.1).shelf in
     (shelf, bound_kept _ _ _ c.self.invariant.0 shelf c.self.invariant.1)
 
-pub returns-clause-fetched : goal.returns-clause-fetched
-returns-clause-fetched g c = λ f is. changes.change_area c.self.view_is c.self.invariant.0 c.requires.least c.requires.most c.class_index-class.ensures c.if-ordinal-self.false c.index_mut-sized_area.ensures.value c.fetch.ensures.valid c.fetch.ensures.same (changes.some_fetched c.fetch.new.self c.args.packed.now c.requires.body.0 (changes.place_q c.self.view_is c.self.invariant.0 c.requires.least c.requires.most c.class_index-class.ensures c.if-ordinal-self.false c.index_mut-sized_area.ensures.value) (c.fetch.ensures.fetched c.requires.body.0 (loads.body_q c.self.view_is c.self.invariant.0 c.requires.least c.requires.most c.class_index-class.ensures c.if-ordinal-self.false c.index_mut-sized_area.ensures.value c.requires.body.1))) (λ i old new. new ≡ fetched (packed_at c.args.packed.now f i) old) (c.fetch.ensures.fetched f (loads.body_q c.self.view_is c.self.invariant.0 c.requires.least c.requires.most c.class_index-class.ensures c.if-ordinal-self.false c.index_mut-sized_area.ensures.value is))
-
-pub returns-clause-long : goal.returns-clause-long
-returns-clause-long g c = changes.change_long c.self.view_is c.self.invariant.0 c.requires.least c.requires.most c.class_index-class.ensures c.if-ordinal-self.false c.index_mut-sized_area.ensures.value c.fetch.ensures.valid c.fetch.ensures.same (changes.some_fetched c.fetch.new.self c.args.packed.now c.requires.body.0 (changes.place_q c.self.view_is c.self.invariant.0 c.requires.least c.requires.most c.class_index-class.ensures c.if-ordinal-self.false c.index_mut-sized_area.ensures.value) (c.fetch.ensures.fetched c.requires.body.0 (loads.body_q c.self.view_is c.self.invariant.0 c.requires.least c.requires.most c.class_index-class.ensures c.if-ordinal-self.false c.index_mut-sized_area.ensures.value c.requires.body.1)))
-
-pub returns-clause-same : goal.returns-clause-same
-returns-clause-same g c = changes.change_same c.self.view_is c.self.invariant.0 c.requires.least c.requires.most c.class_index-class.ensures c.if-ordinal-self.false c.index_mut-sized_area.ensures.value c.fetch.ensures.valid c.fetch.ensures.same (changes.some_fetched c.fetch.new.self c.args.packed.now c.requires.body.0 (changes.place_q c.self.view_is c.self.invariant.0 c.requires.least c.requires.most c.class_index-class.ensures c.if-ordinal-self.false c.index_mut-sized_area.ensures.value) (c.fetch.ensures.fetched c.requires.body.0 (loads.body_q c.self.view_is c.self.invariant.0 c.requires.least c.requires.most c.class_index-class.ensures c.if-ordinal-self.false c.index_mut-sized_area.ensures.value c.requires.body.1)))
-
-pub returns-clause-valid_shelf : goal.returns-clause-valid_shelf
-returns-clause-valid_shelf g c = changes.change_kept c.self.view_is c.self.invariant.0 c.requires.least c.requires.most c.class_index-class.ensures c.if-ordinal-self.false c.index_mut-sized_area.ensures.value c.fetch.ensures.valid c.fetch.ensures.same (changes.some_fetched c.fetch.new.self c.args.packed.now c.requires.body.0 (changes.place_q c.self.view_is c.self.invariant.0 c.requires.least c.requires.most c.class_index-class.ensures c.if-ordinal-self.false c.index_mut-sized_area.ensures.value) (c.fetch.ensures.fetched c.requires.body.0 (loads.body_q c.self.view_is c.self.invariant.0 c.requires.least c.requires.most c.class_index-class.ensures c.if-ordinal-self.false c.index_mut-sized_area.ensures.value c.requires.body.1)))
+pub returns : goal.returns
+returns g c =
+    let now = loads.fetched_shelf c.self.view_is c.self.invariant.0 c.requires.least c.requires.most c.class_index-class.ensures c.if-ordinal-self.false c.index_mut-sized_area.ensures.value c.fetch.ensures.valid c.fetch.ensures.same c.requires.body c.fetch.ensures.fetched in
+    let one = now c.requires.body.0 c.requires.body.1 in
+    record { fetched = λ f is. (now f is).area; long = one.long; same = one.same; valid_shelf = one.kept }

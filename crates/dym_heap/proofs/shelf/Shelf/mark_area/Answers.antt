@@ -1,8 +1,8 @@
-use Rattle.std.proofs.Common.{refl, sym, ap, ◌∙◌, ◌≡◌, arith}
+use Rattle.std.proofs.Common.{refl, ◌≡◌, arith}
 use Rattle.dym_bits.specs.Bits.{bit_in}
 use Rattle.dym_heap.specs.Fetches.{marked}
-use Rattle.dym_heap.specs.SizedAreas.{SizedAreaMeaning}
 use Rattle.dym_heap.proofs.ShelfFacts.{kept_s}
+use Rattle.dym_heap.proofs.ShelfAreas as areas
 use Rattle.dym_heap.proofs.ShelfChanges as changes
 use Rattle.dym_heap.proofs.AreaBindings.{bound_kept}
 use Rattle.dym_heap.proofs.shelf.Shelf.mark_area.Goals as goal
@@ -15,21 +15,14 @@ pub returns-then-ordinal-self-clause-valid_shelf : goal.returns-then-ordinal-sel
 returns-then-ordinal-self-clause-valid_shelf g c = kept_s c.self.view_is c.self.invariant.0
 
 pub index_mut-sized_area-requires : goal.index_mut-sized_area-requires
-index_mut-sized_area-requires g c = let l = changes.place_in c.self.view_is c.self.invariant.0 c.requires.least c.requires.most c.class_index-class.ensures c.if-ordinal-self.false in omega arith
+index_mut-sized_area-requires g c = let l = areas.place_in c.self.view_is c.self.invariant.0 c.requires.least c.requires.most c.class_index-class.ensures c.if-ordinal-self.false in omega arith
 
 pub invariant_of-self : goal.invariant_of-self
 invariant_of-self g c =
-    let shelf = changes.change_shelf c.self.view_is c.self.invariant.0 c.requires.least c.requires.most c.class_index-class.ensures c.if-ordinal-self.false c.index_mut-sized_area.ensures.value c.mark.ensures.valid (c.mark.ensures.same ∙ (λ j. record c.index_mut-sized_area.result.now { chunks = sym (ap (λ (x : SizedAreaMeaning). x.chunks) c.mark.ensures.same) j; touched = c.mark.new.self.touched })) (changes.some_marked c.index_mut-sized_area.result.now c.mark.new.self c.args.packed.now c.mark.ensures.marked) in
+    let shelf = (changes.marked_shelf c.self.view_is c.self.invariant.0 c.requires.least c.requires.most c.class_index-class.ensures c.if-ordinal-self.false c.index_mut-sized_area.ensures.value c.mark.ensures.valid c.mark.ensures.same c.args.packed.now c.mark.ensures.marked).shelf in
     (shelf, bound_kept _ _ _ c.self.invariant.0 shelf c.self.invariant.1)
 
-pub returns-clause-marked : goal.returns-clause-marked
-returns-clause-marked g c = changes.change_area c.self.view_is c.self.invariant.0 c.requires.least c.requires.most c.class_index-class.ensures c.if-ordinal-self.false c.index_mut-sized_area.ensures.value c.mark.ensures.valid (c.mark.ensures.same ∙ (λ j. record c.index_mut-sized_area.result.now { chunks = sym (ap (λ (x : SizedAreaMeaning). x.chunks) c.mark.ensures.same) j; touched = c.mark.new.self.touched })) (changes.some_marked c.index_mut-sized_area.result.now c.mark.new.self c.args.packed.now c.mark.ensures.marked) (λ i old new. new ≡ marked (bit_in c.args.packed.now i) old) c.mark.ensures.marked
-
-pub returns-clause-long : goal.returns-clause-long
-returns-clause-long g c = changes.change_long c.self.view_is c.self.invariant.0 c.requires.least c.requires.most c.class_index-class.ensures c.if-ordinal-self.false c.index_mut-sized_area.ensures.value c.mark.ensures.valid (c.mark.ensures.same ∙ (λ j. record c.index_mut-sized_area.result.now { chunks = sym (ap (λ (x : SizedAreaMeaning). x.chunks) c.mark.ensures.same) j; touched = c.mark.new.self.touched })) (changes.some_marked c.index_mut-sized_area.result.now c.mark.new.self c.args.packed.now c.mark.ensures.marked)
-
-pub returns-clause-same : goal.returns-clause-same
-returns-clause-same g c = changes.change_same c.self.view_is c.self.invariant.0 c.requires.least c.requires.most c.class_index-class.ensures c.if-ordinal-self.false c.index_mut-sized_area.ensures.value c.mark.ensures.valid (c.mark.ensures.same ∙ (λ j. record c.index_mut-sized_area.result.now { chunks = sym (ap (λ (x : SizedAreaMeaning). x.chunks) c.mark.ensures.same) j; touched = c.mark.new.self.touched })) (changes.some_marked c.index_mut-sized_area.result.now c.mark.new.self c.args.packed.now c.mark.ensures.marked)
-
-pub returns-clause-valid_shelf : goal.returns-clause-valid_shelf
-returns-clause-valid_shelf g c = changes.change_kept c.self.view_is c.self.invariant.0 c.requires.least c.requires.most c.class_index-class.ensures c.if-ordinal-self.false c.index_mut-sized_area.ensures.value c.mark.ensures.valid (c.mark.ensures.same ∙ (λ j. record c.index_mut-sized_area.result.now { chunks = sym (ap (λ (x : SizedAreaMeaning). x.chunks) c.mark.ensures.same) j; touched = c.mark.new.self.touched })) (changes.some_marked c.index_mut-sized_area.result.now c.mark.new.self c.args.packed.now c.mark.ensures.marked)
+pub returns : goal.returns
+returns g c =
+    let now = changes.marked_shelf c.self.view_is c.self.invariant.0 c.requires.least c.requires.most c.class_index-class.ensures c.if-ordinal-self.false c.index_mut-sized_area.ensures.value c.mark.ensures.valid c.mark.ensures.same c.args.packed.now c.mark.ensures.marked in
+    record { marked = now.area; long = now.long; same = now.same; valid_shelf = now.kept }

@@ -23,9 +23,6 @@ returns-then-not-is_used-clause-used g c = c.if-not-is_used.ensures ∙ sym (ap 
 pub returns-then-not-is_used-clause-valid_shelf : goal.returns-then-not-is_used-clause-valid_shelf
 returns-then-not-is_used-clause-valid_shelf g c = facts.kept_s c.self.view_is c.self.invariant.0
 
-pub returns-clause-used : goal.returns-clause-used
-returns-clause-used g c = c.if-not-is_used.ensures ∙ sym (ap is_some (calls.chunk_i (calls.spot_e c.self.view_is c.self.invariant.0 c.requires.least c.requires.most c.args.index c.in-Some.ensures) c.index.ensures))
-
 pub index_mut-sized_area-requires : goal.index_mut-sized_area-requires
 index_mut-sized_area-requires g c =
     let l = calls.in_e_at c.self.view_is c.self.invariant.0 c.requires.least c.requires.most c.args.index c.in-Some.ensures in omega arith
@@ -42,12 +39,8 @@ invariant_of-self g c =
     (calls.marks_written _ c.in-Some.location.ordinal false c.class_index.ensures c.index_mut-marks.ensures.value (calls.full_in c.self.view_is c.self.invariant.0 c.requires.least c.requires.most c.class_index.ensures) c.clear.ensures.after)).shelf in
     (shelf, bound_kept _ _ _ c.self.invariant.0 shelf c.self.invariant.1)
 
-pub returns-clause-freed : goal.returns-clause-freed
-returns-clause-freed g c =
-    (calls.released (calls.spot_e c.self.view_is c.self.invariant.0 c.requires.least c.requires.most c.args.index c.in-Some.ensures) c.index_mut-sized_area.ensures.value c.release.ensures.freed c.release.ensures.valid
-    (calls.marks_written _ c.in-Some.location.ordinal false c.class_index.ensures c.index_mut-marks.ensures.value (calls.full_in c.self.view_is c.self.invariant.0 c.requires.least c.requires.most c.class_index.ensures) c.clear.ensures.after)).gives
-
-pub returns-clause-valid_shelf : goal.returns-clause-valid_shelf
-returns-clause-valid_shelf g c =
-    (calls.released (calls.spot_e c.self.view_is c.self.invariant.0 c.requires.least c.requires.most c.args.index c.in-Some.ensures) c.index_mut-sized_area.ensures.value c.release.ensures.freed c.release.ensures.valid
-    (calls.marks_written _ c.in-Some.location.ordinal false c.class_index.ensures c.index_mut-marks.ensures.value (calls.full_in c.self.view_is c.self.invariant.0 c.requires.least c.requires.most c.class_index.ensures) c.clear.ensures.after)).valid_shelf
+pub returns : goal.returns
+returns g c =
+    let now = calls.released (calls.spot_e c.self.view_is c.self.invariant.0 c.requires.least c.requires.most c.args.index c.in-Some.ensures) c.index_mut-sized_area.ensures.value c.release.ensures.freed c.release.ensures.valid
+    (calls.marks_written _ c.in-Some.location.ordinal false c.class_index.ensures c.index_mut-marks.ensures.value (calls.full_in c.self.view_is c.self.invariant.0 c.requires.least c.requires.most c.class_index.ensures) c.clear.ensures.after) in
+    record { used = c.if-not-is_used.ensures ∙ sym (ap is_some (calls.chunk_i (calls.spot_e c.self.view_is c.self.invariant.0 c.requires.least c.requires.most c.args.index c.in-Some.ensures) c.index.ensures)); freed = now.gives; valid_shelf = now.valid_shelf }

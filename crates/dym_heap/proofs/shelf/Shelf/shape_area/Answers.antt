@@ -1,4 +1,5 @@
 use Rattle.std.proofs.Common.{arith}
+use Rattle.dym_heap.proofs.ShelfAreas as areas
 use Rattle.dym_heap.proofs.ShelfShapes as shapes
 use Rattle.dym_heap.proofs.ShelfCalls as calls
 use Rattle.dym_heap.proofs.AreaBindings.{bound_kept}
@@ -8,7 +9,7 @@ pub overflow_add-self-inside : goal.overflow_add-self-inside
 overflow_add-self-inside g c = let l = shapes.place_small c.self.view_is c.self.invariant.0 c.requires.least c.requires.most c.class_index-class.ensures (shapes.area_in c.self.view_is c.self.invariant.0 c.requires.least c.requires.most c.args.ordinal c.class_index-class.ensures c.requires.area) in omega arith
 
 pub index_mut-sized_area-requires : goal.index_mut-sized_area-requires
-index_mut-sized_area-requires g c = let l = shapes.place_in c.self.view_is c.self.invariant.0 c.requires.least c.requires.most c.class_index-class.ensures (shapes.area_in c.self.view_is c.self.invariant.0 c.requires.least c.requires.most c.args.ordinal c.class_index-class.ensures c.requires.area) in omega arith
+index_mut-sized_area-requires g c = let l = areas.place_in c.self.view_is c.self.invariant.0 c.requires.least c.requires.most c.class_index-class.ensures (shapes.area_in c.self.view_is c.self.invariant.0 c.requires.least c.requires.most c.args.ordinal c.class_index-class.ensures c.requires.area) in omega arith
 
 pub shape-requires-clause-len : goal.shape-requires-clause-len
 shape-requires-clause-len g c = shapes.len_q c.self.view_is c.self.invariant.0 c.requires.least c.requires.most c.class_index-class.ensures (shapes.area_in c.self.view_is c.self.invariant.0 c.requires.least c.requires.most c.args.ordinal c.class_index-class.ensures c.requires.area) c.index_mut-sized_area.ensures.value _ c.requires.len
@@ -24,17 +25,10 @@ set_mark-requires-clause-ordinal g c = shapes.ordinal_small c.self.view_is c.sel
 
 pub invariant_of-self : goal.invariant_of-self
 invariant_of-self g c =
-    let shelf = shapes.shape_shelf c.self.view_is c.self.invariant.0 c.requires.least c.requires.most c.class_index-class.ensures (shapes.area_in c.self.view_is c.self.invariant.0 c.requires.least c.requires.most c.args.ordinal c.class_index-class.ensures c.requires.area) c.index_mut-sized_area.ensures.value c.shape.ensures.valid _ c.shape.ensures.same c.shape.ensures.shaped c.is_full-is_full.result c.is_full-is_full.ensures c.set_mark.ensures in
+    let shelf = (shapes.shaped c.self.view_is c.self.invariant.0 c.requires.least c.requires.most c.class_index-class.ensures (shapes.area_in c.self.view_is c.self.invariant.0 c.requires.least c.requires.most c.args.ordinal c.class_index-class.ensures c.requires.area) c.index_mut-sized_area.ensures.value c.shape.ensures.valid _ c.shape.ensures.same c.shape.ensures.shaped c.is_full-is_full.result c.is_full-is_full.ensures c.set_mark.ensures).shelf in
     (shelf, bound_kept _ _ _ c.self.invariant.0 shelf c.self.invariant.1)
 
-pub returns-clause-shaped : goal.returns-clause-shaped
-returns-clause-shaped g c = shapes.shape_area c.self.view_is c.self.invariant.0 c.requires.least c.requires.most c.class_index-class.ensures (shapes.area_in c.self.view_is c.self.invariant.0 c.requires.least c.requires.most c.args.ordinal c.class_index-class.ensures c.requires.area) c.index_mut-sized_area.ensures.value c.shape.ensures.valid _ c.shape.ensures.same c.shape.ensures.shaped c.is_full-is_full.result c.is_full-is_full.ensures c.set_mark.ensures
-
-pub returns-clause-long : goal.returns-clause-long
-returns-clause-long g c = shapes.shape_long c.self.view_is c.self.invariant.0 c.requires.least c.requires.most c.class_index-class.ensures (shapes.area_in c.self.view_is c.self.invariant.0 c.requires.least c.requires.most c.args.ordinal c.class_index-class.ensures c.requires.area) c.index_mut-sized_area.ensures.value c.shape.ensures.valid _ c.shape.ensures.same c.shape.ensures.shaped c.is_full-is_full.result c.is_full-is_full.ensures c.set_mark.ensures
-
-pub returns-clause-same : goal.returns-clause-same
-returns-clause-same g c = shapes.shape_same c.self.view_is c.self.invariant.0 c.requires.least c.requires.most c.class_index-class.ensures (shapes.area_in c.self.view_is c.self.invariant.0 c.requires.least c.requires.most c.args.ordinal c.class_index-class.ensures c.requires.area) c.index_mut-sized_area.ensures.value c.shape.ensures.valid _ c.shape.ensures.same c.shape.ensures.shaped c.is_full-is_full.result c.is_full-is_full.ensures c.set_mark.ensures
-
-pub returns-clause-valid_shelf : goal.returns-clause-valid_shelf
-returns-clause-valid_shelf g c = shapes.shape_kept c.self.view_is c.self.invariant.0 c.requires.least c.requires.most c.class_index-class.ensures (shapes.area_in c.self.view_is c.self.invariant.0 c.requires.least c.requires.most c.args.ordinal c.class_index-class.ensures c.requires.area) c.index_mut-sized_area.ensures.value c.shape.ensures.valid _ c.shape.ensures.same c.shape.ensures.shaped c.is_full-is_full.result c.is_full-is_full.ensures c.set_mark.ensures
+pub returns : goal.returns
+returns g c =
+    let now = shapes.shaped c.self.view_is c.self.invariant.0 c.requires.least c.requires.most c.class_index-class.ensures (shapes.area_in c.self.view_is c.self.invariant.0 c.requires.least c.requires.most c.args.ordinal c.class_index-class.ensures c.requires.area) c.index_mut-sized_area.ensures.value c.shape.ensures.valid _ c.shape.ensures.same c.shape.ensures.shaped c.is_full-is_full.result c.is_full-is_full.ensures c.set_mark.ensures in
+    record { shaped = now.area; long = now.long; same = now.same; valid_shelf = now.kept }

@@ -48,11 +48,7 @@ invariant_of-self g c =
     let shelf = (calls.taken_k c.self.view_is c.self.invariant.0 c.requires.least c.requires.most c.class_index-class.ensures c.index.ensures c.in-Some.ensures c.index_mut-sized_area.ensures.value c.in-Some-take_chunk.ensures.free c.per_area.ensures c.args.len _ c.in-Some-take_chunk.ensures.taken c.take_chunk.ensures.valid c.mark_full.ensures c.is_full-is_full.ensures).shelf in
     (shelf, bound_kept _ _ _ c.self.invariant.0 shelf c.self.invariant.1)
 
-pub returns-clause-taken : goal.returns-clause-taken
-returns-clause-taken g c = (calls.taken_k c.self.view_is c.self.invariant.0 c.requires.least c.requires.most c.class_index-class.ensures c.index.ensures c.in-Some.ensures c.index_mut-sized_area.ensures.value c.in-Some-take_chunk.ensures.free c.per_area.ensures c.args.len _ c.in-Some-take_chunk.ensures.taken c.take_chunk.ensures.valid c.mark_full.ensures c.is_full-is_full.ensures).gives
-
-pub returns-clause-sized_area : goal.returns-clause-sized_area
-returns-clause-sized_area g c = calls.first_k c.self.view_is c.self.invariant.0 c.requires.least c.requires.most c.class_index-class.ensures c.index.ensures c.in-Some.ensures c.index_mut-sized_area.ensures.value c.in-Some-take_chunk.ensures.free c.per_area.result c.per_area.ensures
-
-pub returns-clause-valid_shelf : goal.returns-clause-valid_shelf
-returns-clause-valid_shelf g c = (calls.taken_k c.self.view_is c.self.invariant.0 c.requires.least c.requires.most c.class_index-class.ensures c.index.ensures c.in-Some.ensures c.index_mut-sized_area.ensures.value c.in-Some-take_chunk.ensures.free c.per_area.ensures c.args.len _ c.in-Some-take_chunk.ensures.taken c.take_chunk.ensures.valid c.mark_full.ensures c.is_full-is_full.ensures).valid_shelf
+pub returns : goal.returns
+returns g c =
+    let now = calls.taken_k c.self.view_is c.self.invariant.0 c.requires.least c.requires.most c.class_index-class.ensures c.index.ensures c.in-Some.ensures c.index_mut-sized_area.ensures.value c.in-Some-take_chunk.ensures.free c.per_area.ensures c.args.len _ c.in-Some-take_chunk.ensures.taken c.take_chunk.ensures.valid c.mark_full.ensures c.is_full-is_full.ensures in
+    record { taken = now.gives; sized_area = calls.first_k c.self.view_is c.self.invariant.0 c.requires.least c.requires.most c.class_index-class.ensures c.index.ensures c.in-Some.ensures c.index_mut-sized_area.ensures.value c.in-Some-take_chunk.ensures.free c.per_area.result c.per_area.ensures; valid_shelf = now.valid_shelf }
