@@ -71,7 +71,7 @@ module _ {area : AreaMeaning} {ls : Option (List ℕ)} {p : SizedAreaMeaning} (v
         ] refl);
   }
 
-  pub shaped_same : place_of area' ls' ≡ record p { chunks = (place_of area' ls').chunks; touched = (place_of area' ls').touched }
+  shaped_same : place_of area' ls' ≡ record p { chunks = (place_of area' ls').chunks; touched = (place_of area' ls').touched }
   shaped_same = λ j. record {
     version = (same ∙ ap (λ (q : SizedAreaMeaning). q.version) v) j;
     exponent = (exponent' ∙ ap (λ (q : SizedAreaMeaning). q.exponent) v) j;
@@ -95,7 +95,7 @@ module _ {area : AreaMeaning} {ls : Option (List ℕ)} {p : SizedAreaMeaning} (v
       ∙ ap (λ n. Some (part_of area.content (i * size area.exponent) n)) (olds i clear)
       ∙ sym (used_chunk area ls i (was_used i h clear))
 
-  pub shaped_chunk : (i : ℕ) → IsReshaped (bit_in (bits_of_bytes bytes) i) (area_chunk p i) (area_chunk (place_of area' ls') i)
+  shaped_chunk : (i : ℕ) → IsReshaped (bit_in (bits_of_bytes bytes) i) (area_chunk p i) (area_chunk (place_of area' ls') i)
   shaped_chunk i =
       let mark : get_or (touched_in area') i false ≡ bit_in wanted i = mark_of i valid' ∙ dirty' i in
       let now : is_some (chunk_in area' ls' i) ≡ bit_in (bits_of_bytes bytes) i = some_used area' ls' i ∙ used' i in
@@ -106,6 +106,10 @@ module _ {area : AreaMeaning} {ls : Option (List ℕ)} {p : SizedAreaMeaning} (v
         wanted = mark ∙ wanted_is i ∙ (λ j. bits i j && not (was j));
         valid_shelf = λ live quiet. chunk_of ls' i valid' ∙ kept_chunk i (used' i ∙ live) (sym mark ∙ quiet) ∙ sym (old_chunk i);
       }
+
+  pub shaped : IsMeasured area' ls' × (place_of area' ls' ≡ record p { chunks = (place_of area' ls').chunks; touched = (place_of area' ls').touched })
+      × ((i : ℕ) → IsReshaped (bit_in (bits_of_bytes bytes) i) (area_chunk p i) (area_chunk (place_of area' ls') i))
+  shaped = (shaped_measured, shaped_same, shaped_chunk)
 
 pub lens_none : (e i : ℕ) {ls : Option (List ℕ)} → ls ≡ None → len_of e ls i ≡ size e
 lens_none e i none = ap (λ x. len_of e x i) none
