@@ -56,13 +56,8 @@ returns-then-old-len-clause-valid g c =
     is_place (facts.grows_p _ c.self.view_is c.self.invariant c.args.i c.args.len c.requires.another c.requires.version c.requires.sized
     (c.noted_len-old.ensures ∙ ap (λ e. len_of e (numbers_of c.self.inside.lengths) c.args.i) c.exp.ensures) c.zero.ensures.after c.zero.ensures.valid c.note.ensures c.if-old-len.true).steps.measured
 
-pub returns-else-old-len-clause-resized : goal.returns-else-old-len-clause-resized
-returns-else-old-len-clause-resized g c =
+pub returns-else-old-len : goal.returns-else-old-len
+returns-else-old-len g c =
     let r = (facts.shrinks_p _ c.self.view_is c.self.invariant c.args.i c.args.len c.requires.another c.requires.version c.requires.sized
     (c.noted_len-old.ensures ∙ ap (λ e. len_of e (numbers_of c.self.inside.lengths) c.args.i) c.exp.ensures) c.zero-else-old-len.ensures.after c.zero-else-old-len.ensures.valid c.note.ensures c.if-old-len.false) in
-    facts.match_some _ _ r.at r.steps.is
-
-pub returns-else-old-len-clause-valid : goal.returns-else-old-len-clause-valid
-returns-else-old-len-clause-valid g c =
-    is_place (facts.shrinks_p _ c.self.view_is c.self.invariant c.args.i c.args.len c.requires.another c.requires.version c.requires.sized
-    (c.noted_len-old.ensures ∙ ap (λ e. len_of e (numbers_of c.self.inside.lengths) c.args.i) c.exp.ensures) c.zero-else-old-len.ensures.after c.zero-else-old-len.ensures.valid c.note.ensures c.if-old-len.false).steps.measured
+    record { resized = facts.match_some _ _ r.at r.steps.is; valid = is_place r.steps.measured }
