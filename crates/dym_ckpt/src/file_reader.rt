@@ -15,7 +15,7 @@ ghost use Rattle.dym_ckpt.specs.FileReads.{IsContentOf, IsLoaded, heap_at};
 ghost use Rattle.dym_ckpt.specs.FileRecords.{BeginsWell, FailsAs, AreRead, RecordIsRead, NoRecordIn, StopsAs};
 ghost use Rattle.dym_ckpt.specs.declared.file_reader.FileFail.TheVariants as file_fail;
 
-use crate::header::{Header, head_in};
+use crate::header::{Header, header_in};
 use crate::records::{RecordLimits, RecordList, framed_in};
 use dym_base::Name;
 use dym_chain::{Chain, VecKeep};
@@ -134,15 +134,15 @@ pub fn read_file(alloc: Global, bytes: &[u8]) -> Result<FileContent, FileFail>
     ensures begins { IfOk result (λ _. BeginsWell bytes.now) }
     ensures fails { IfErr result (FailsAs bytes.now) }
 {
-    let Some((head, rest)) = head_in(bytes) else {
+    let Some((head, rest)) = header_in(bytes) else {
         return Err(FileFail::Bad { part: 0 });
     };
-    let rule = RecordLimits {
+    let limits = RecordLimits {
         version: head.version,
         quota: head.quota,
         depth: head.depth,
     };
-    let (record_list, rest) = read_records(alloc, rule, head.count, rest)?;
+    let (record_list, rest) = read_records(alloc, limits, head.count, rest)?;
     if !rest.is_empty() {
         return Err(FileFail::Bad {
             part: head.count + 1,
@@ -154,22 +154,22 @@ pub fn read_file(alloc: Global, bytes: &[u8]) -> Result<FileContent, FileFail>
 /// The records that stand behind a header, and what is behind them.
 fn read_records(
     alloc: Global,
-    rule: RecordLimits,
+    limits: RecordLimits,
     count: u32,
     bytes: &[u8],
 ) -> Result<(RecordList, &[u8]), FileFail>
     requires few { count ≤ MOST_RECORDS }
-    requires quota { rule.quota ≤ MOST_QUOTA }
+    requires quota { limits.quota ≤ MOST_QUOTA }
     ensures read { IfOk result (λ read.
-        AreRead rule.version rule.quota rule.depth bytes.now read.0 count read.1.now) }
-    ensures stops { IfErr result (StopsAs rule.version rule.quota rule.depth count bytes.now) }
+        AreRead limits.version limits.quota limits.depth bytes.now read.0 count read.1.now) }
+    ensures stops { IfErr result (StopsAs limits.version limits.quota limits.depth count bytes.now) }
 {
     let Ok(mut record_list) = RecordList::open(alloc) else {
         return Err(FileFail::Memory);
     };
     let mut rest = bytes;
     for place in 0..count {
-        rest = match read_record(alloc, rule, &mut record_list, rest) {
+        rest = match read_record(alloc, limits, &mut record_list, rest) {
             Ok(behind) => behind,
             Err(RecordFail::Bad) => return Err(FileFail::Bad { part: place + 1 }),
             Err(RecordFail::Memory) => return Err(FileFail::Memory),
@@ -181,23 +181,23 @@ fn read_records(
 /// Appends the record that the bytes begin with, and answers what is behind it.
 fn read_record<'a>(
     alloc: Global,
-    rule: RecordLimits,
+    limits: RecordLimits,
     record_list: &mut RecordList,
     bytes: &'a [u8],
 ) -> Result<&'a [u8], RecordFail>
-    requires record_list { IsListed rule.version rule.depth record_list.old }
+    requires record_list { IsListed limits.version limits.depth record_list.old }
     requires few { length record_list.old.keep.records < MOST_RECORDS }
-    ensures record_list { OnOk result (IsListed rule.version rule.depth record_list.new) }
+    ensures record_list { OnOk result (IsListed limits.version limits.depth record_list.new) }
     ensures read { IfOk result (λ rest.
-        RecordIsRead rule.version rule.quota record_list.old record_list.new bytes.now rest.now) }
+        RecordIsRead limits.version limits.quota record_list.old record_list.new bytes.now rest.now) }
     ensures bad { IfErr result (λ why.
         why ≡ record_fail.Bad
-        → NoRecordIn rule.version rule.quota rule.depth record_list.old bytes.now) }
+        → NoRecordIn limits.version limits.quota limits.depth record_list.old bytes.now) }
 {
     let Some((record, rest)) = framed_in(bytes) else {
         return Err(RecordFail::Bad);
     };
-    match record_list.add(alloc, rule, record) {
+    match record_list.add(alloc, limits, record) {
         Ok(()) => Ok(rest),
         Err(why) => Err(why),
     }

@@ -24,7 +24,7 @@ pub(crate) struct Header {
 }
 
 /// The header that the bytes begin with and what is behind it, and None where they begin with no good one.
-pub(crate) fn head_in(bytes: &[u8]) -> Option<(Header, &[u8])>
+pub(crate) fn header_in(bytes: &[u8]) -> Option<(Header, &[u8])>
     ensures good { IfSome result (λ read. IsFileHead (header_meaning read.0)) }
     ensures is { IfSome result (λ read. bytes.now ≡ head_bytes (header_meaning read.0) ++ read.1.now) }
     ensures only { (head : FileHead) (left : List ℕ) → IsFileHead head

@@ -57,21 +57,21 @@ impl RecordList {
     pub(crate) fn add(
         &mut self,
         alloc: Global,
-        rule: RecordLimits,
+        limits: RecordLimits,
         bytes: &[u8],
     ) -> Result<(), RecordFail>
-        requires record_list { IsListed rule.version rule.depth self.old }
+        requires record_list { IsListed limits.version limits.depth self.old }
         requires few { length self.old.keep.records < MOST_RECORDS }
-        ensures record_list { OnOk result (IsListed rule.version rule.depth self.new) }
+        ensures record_list { OnOk result (IsListed limits.version limits.depth self.new) }
         ensures added { OnOk result (bytes_of self.new.keep.records
             ≡ bytes_of self.old.keep.records ++ bytes.now ∷ []) }
-        ensures good { OnOk result (IsRecordOf rule.version rule.quota bytes.now) }
+        ensures good { OnOk result (IsRecordOf limits.version limits.quota bytes.now) }
         ensures bad { IfErr result (λ why.
-            why ≡ Bad → CantBeNext rule.version rule.quota rule.depth
+            why ≡ Bad → CantBeNext limits.version limits.quota limits.depth
             (bytes_of self.old.keep.records) bytes.now) }
     {
-        let rec = Record::of_bytes(alloc, bytes, rule.version, rule.quota)?;
-        if !may_be_next(&mut self.keep, rule.depth, self.depth, &rec) {
+        let rec = Record::of_bytes(alloc, bytes, limits.version, limits.quota)?;
+        if !may_be_next(&mut self.keep, limits.depth, self.depth, &rec) {
             return Err(RecordFail::Bad);
         }
         self.depth = depth_after(self.depth, rec.kind());

@@ -51,7 +51,7 @@ merges seat v other w x views h at apart there j seen e =
 -- what is published in the end is of the history of what stood and of all that waited
 pub published_of : (name : HistoryName) (shown : Beginning) (waiting : List Beginning) → shown.history ≡ name → AreOf name waiting → (last_of shown waiting).history ≡ name
 published_of name shown [] is all = is
-published_of name shown (front ∷ waiting) is all = published_of name front waiting all.0 all.1
+published_of name shown (known ∷ waiting) is all = published_of name known waiting all.0 all.1
 
 -- what stands after a publication, and what then waits
 module _ {E : Type 0} (shown shown' : Beginning) (waiting waiting' : List Beginning) where
@@ -68,16 +68,16 @@ module _ {E : Type 0} (shown shown' : Beginning) (waiting waiting' : List Beginn
   seen_after (Err e) v v' all is rule = tt
 
 -- where all that waits is what stands, nothing changes
-pub last_of_these : (front shown : Beginning) (waiting : List Beginning) → shown ≡ front → AreThis front waiting → last_of shown waiting ≡ front
-last_of_these front shown [] is all = is
-last_of_these front shown (b ∷ waiting) is all = last_of_these front b waiting all.0 all.1
+pub last_of_these : (known shown : Beginning) (waiting : List Beginning) → shown ≡ known → AreThis known waiting → last_of shown waiting ≡ known
+last_of_these known shown [] is all = is
+last_of_these known shown (b ∷ waiting) is all = last_of_these known b waiting all.0 all.1
 
 -- what stands after two publications where all that waits is what stands
-pub shown_after : (front first second third : Beginning) (waiting then : List Beginning) → first ≡ front → AreThis front waiting → second ≡ last_of first waiting
-    → then ≡ [] → third ≡ last_of second then → third ≡ front
-shown_after front first second third waiting then is all once none twice =
-    let stands : second ≡ front = once ∙ last_of_these front first waiting is all in
-    twice ∙ last_of_these front second then stands (subst (AreThis front) (sym none) tt)
+pub shown_after : (known first second third : Beginning) (waiting then : List Beginning) → first ≡ known → AreThis known waiting → second ≡ last_of first waiting
+    → then ≡ [] → third ≡ last_of second then → third ≡ known
+shown_after known first second third waiting then is all once none twice =
+    let stands : second ≡ known = once ∙ last_of_these known first waiting is all in
+    twice ∙ last_of_these known second then stands (subst (AreThis known) (sym none) tt)
 
 -- what is true of the second where both went well
 pub both_went : {T U E : Type 0} (P : U → Type 0) (r : Result T E) (s : Result U E) (u : U) → result_and r s ≡ Ok u → IfOk s P → P u

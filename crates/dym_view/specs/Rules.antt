@@ -92,11 +92,11 @@ known_after known (Some newer) = newer
 
 -- what stands once all that waits was published
 abbrev pub last_of : Beginning → List Beginning → Beginning
-last_of shown waiting = fold (λ (before front : Beginning). front) shown waiting
+last_of shown waiting = fold (λ (before newer : Beginning). newer) shown waiting
 
 -- all that waits is this beginning
 abbrev pub AreThis : Beginning → List Beginning → Type 0
-AreThis front waiting = AllByRecursion (λ (b : Beginning). b ≡ front) waiting
+AreThis this waiting = AllByRecursion (λ (b : Beginning). b ≡ this) waiting
 
 -- what is not yet published is of this history
 abbrev pub AreOf : HistoryName → List Beginning → Type 0

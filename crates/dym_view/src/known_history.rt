@@ -103,7 +103,7 @@ impl KnownHistory {
 
     /// The same beginning once more. An `AllocError` comes where the last commit can't be shared.
     pub(crate) fn again(&self) -> Result<KnownHistory, AllocError>
-        ensures { IfOk result (λ front. front ≡ self.now) }
+        ensures { IfOk result (λ known. known ≡ self.now) }
     {
         let last = match &self.last {
             Some(commit) => Some(Arc::try_clone(commit)?),
@@ -139,7 +139,7 @@ impl KnownHistory {
         requires { other.now.history ≡ self.now.history }
         ensures { IfOk result (λ longer. MatchOption longer
             (IsPrefix other.now.commits self.now.commits)
-            (λ front. (front ≡ other.now) × IsPrefix self.now.commits front.commits)) }
+            (λ known. (known ≡ other.now) × IsPrefix self.now.commits known.commits)) }
     {
         if other.number <= self.number {
             other.begins(self);
@@ -189,9 +189,9 @@ impl KnownHistory {
         let commit = Arc::new(alloc, commit)?;
         let again = Arc::try_clone(&commit)?;
         let commit = head.add(self.number, commit);
-        let front = KnownHistory::of_head(head, self.number + 1, commit);
-        let shown = front.sharing(Some(again));
-        Ok((front, shown))
+        let known = KnownHistory::of_head(head, self.number + 1, commit);
+        let shown = known.sharing(Some(again));
+        Ok((known, shown))
     }
 
     /// The whole history, which has so many commits, of which this is the last.

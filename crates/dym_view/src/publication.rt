@@ -19,9 +19,9 @@ use std::thread;
 impl Absorb<KnownHistory> for KnownHistory {
     type State = KnownHistory;
 
-    ghost state = { λ front. front };
+    ghost state = { λ known. known };
 
-    ghost applied = { λ before front. front };
+    ghost applied = { λ before newer. newer };
 
     fn absorb_first(
         &mut self,
@@ -83,23 +83,23 @@ pub(crate) type ViewReader = Reader<KnownHistory, Option<KnownHistory>, OneHisto
 /// Shows a beginning of the history in the place of what was shown. It ends once that is shown: nothing is left to be wanting then.
 ///
 /// Room for the operation was made when the pen was opened, so that it takes no memory.
-pub(crate) fn show<R: Wait>(view_writer: &mut ViewWriter, rt: &R, front: KnownHistory)
-    requires history { front.history ≡ view_writer.old.desk.shown.value.history }
+pub(crate) fn show<R: Wait>(view_writer: &mut ViewWriter, rt: &R, known: KnownHistory)
+    requires history { known.history ≡ view_writer.old.desk.shown.value.history }
     requires waiting { drop view_writer.old.behind view_writer.old.log.items ≡ [] }
-    ensures shown { view_writer.new.desk.shown.value ≡ front }
+    ensures shown { view_writer.new.desk.shown.value ≡ known }
     ensures waiting { drop view_writer.new.behind view_writer.new.log.items ≡ [] }
 {
-    append_at_last(view_writer, rt, front);
+    append_at_last(view_writer, rt, known);
     publish_at_last(view_writer, rt);
 }
 
 /// Lets a beginning of the history wait to be published. Where there is no room for it, it is tried again.
-fn append_at_last<R: Wait>(view_writer: &mut ViewWriter, rt: &R, front: KnownHistory)
+fn append_at_last<R: Wait>(view_writer: &mut ViewWriter, rt: &R, known: KnownHistory)
     ensures desk { view_writer.new.desk ≡ view_writer.old.desk }
     ensures waiting { drop view_writer.new.behind view_writer.new.log.items
-        ≡ drop view_writer.old.behind view_writer.old.log.items ++ front ∷ [] }
+        ≡ drop view_writer.old.behind view_writer.old.log.items ++ known ∷ [] }
 {
-    let mut left = front;
+    let mut left = known;
     for _ in rt.forever() {
         match view_writer.append(left) {
             Ok(()) => return,
@@ -159,9 +159,9 @@ pub(crate) fn look_through(
     requires { HasSeen known.now.history (view view_reader.place) }
     ensures view_reader { HasSeen known.now.history (view result.0.place) }
     ensures history { IfOk result.1 (λ newer. IfSome newer
-        (λ front. front.history ≡ known.now.history)) }
+        (λ newer. newer.history ≡ known.now.history)) }
     ensures begins { IfOk result.1 (λ newer. IfSome newer
-        (λ front. IsPrefix known.now.commits front.commits)) }
+        (λ newer. IsPrefix known.now.commits newer.commits)) }
     ensures taken { IfOk result.1 (λ newer. Knows (known_after known.now newer)
         (view result.0.place)) }
 {

@@ -22,7 +22,7 @@ use std::sync::Wait;
 /// nothing waits to be shown. The history has no commits but those: no one else adds to it. A publisher can't be let go: `end` gives it up.
 pub struct Publisher {
     head: Head,
-    front: KnownHistory,
+    known: KnownHistory,
     view_writer: Pen,
 }
 
@@ -37,10 +37,10 @@ impl Model for Publisher {
 
     ghost coded = { Prim.hlevel (codes, live_code, book_coded) };
 
-    ghost view = { λ p. p.front };
+    ghost view = { λ p. p.known };
 
-    ghost invariant = { λ p. IsHistory p.front.commits × (p.head ≡ p.front)
-        × (p.view_writer.desk.shown.value ≡ p.front)
+    ghost invariant = { λ p. IsHistory p.known.commits × (p.head ≡ p.known)
+        × (p.view_writer.desk.shown.value ≡ p.known)
         × (drop p.view_writer.behind p.view_writer.log.items ≡ []) };
 }
 
@@ -50,18 +50,18 @@ pub fn open_view<R: Wait>(rt: &R, alloc: Global) -> Result<(Publisher, Viewer), 
     ensures viewer { IfOk result (λ both. both.1 ≡ both.0) }
 {
     let head = open_history(rt);
-    let front = KnownHistory::start(head.reached());
-    let known = front.again()?;
-    let (view_writer, view_reader) = open_both(rt, alloc, &front)?;
+    let known = KnownHistory::start(head.reached());
+    let same = known.again()?;
+    let (view_writer, view_reader) = open_both(rt, alloc, &known)?;
     Ok((
         Publisher {
             head,
-            front,
+            known,
             view_writer,
         },
         Viewer {
             view_reader,
-            front: known,
+            known: same,
         },
     ))
 }
@@ -71,14 +71,14 @@ impl Publisher {
     pub fn last_time(&self) -> Option<u64>
         ensures time { result ≡ last_time self.now.commits }
     {
-        self.front.last_time()
+        self.known.last_time()
     }
 
     /// The last commit at a glance, as a viewer sees it that knows all of the history.
     pub fn last(&self) -> Option<Glance>
         ensures glance { result ≡ glance_of self.now.commits }
     {
-        self.front.glance()
+        self.known.glance()
     }
 
     /// Appends a commit to the history and shows it to the viewer. It waits for a viewer that still reads what was shown before.
@@ -97,9 +97,9 @@ impl Publisher {
         ensures refused { OnErr result (self.new ≡ self.old) }
         ensures history { IsHistory self.new.commits }
     {
-        let (front, shown) = self.front.follow(&mut self.head, alloc, commit)?;
+        let (known, shown) = self.known.follow(&mut self.head, alloc, commit)?;
         show(&mut self.view_writer, rt, shown);
-        self.front = front;
+        self.known = known;
         Ok(())
     }
 
@@ -109,7 +109,7 @@ impl Publisher {
         ensures same { self.new ≡ self.old }
     {
         Ok(Told {
-            front: self.front.again()?,
+            known: self.known.again()?,
         })
     }
 
@@ -117,7 +117,7 @@ impl Publisher {
     pub fn end<R: Wait>(self, rt: &R) {
         let Publisher {
             head: _,
-            front: _,
+            known: _,
             view_writer,
         } = self;
         drop(view_writer.take(rt));

@@ -8,7 +8,7 @@ use std::marker::Model;
 /// The whole history of a publisher at the moment when it told it. It keeps the last commit.
 #[derive(Drop)]
 pub struct Told {
-    pub(crate) front: KnownHistory,
+    pub(crate) known: KnownHistory,
 }
 
 impl Model for Told {
@@ -21,7 +21,7 @@ impl Model for Told {
 
     ghost coded = { Prim.hlevel (codes, live_code, book_coded) };
 
-    ghost view = { λ told. told.front };
+    ghost view = { λ told. told.known };
 }
 
 impl Told {
@@ -30,6 +30,6 @@ impl Told {
         ensures count { result ≡ length self.now.commits }
         ensures history { IsHistory self.now.commits }
     {
-        self.front.number()
+        self.known.number()
     }
 }

@@ -18,14 +18,14 @@ const WAITING: u32 = 4;
 pub(crate) fn open_both<R: Wait>(
     rt: &R,
     alloc: Global,
-    front: &KnownHistory,
+    known: &KnownHistory,
 ) -> Result<(ViewWriter, ViewReader), AllocError>
-    ensures shown { IfOk result (λ both. both.0.desk.shown.value ≡ front.now) }
+    ensures shown { IfOk result (λ both. both.0.desk.shown.value ≡ known.now) }
     ensures waiting { IfOk result (λ both. drop both.0.behind both.0.log.items ≡ []) }
-    ensures view_reader { IfOk result (λ both. HasSeen front.now.history (view both.1.place)) }
+    ensures view_reader { IfOk result (λ both. HasSeen known.now.history (view both.1.place)) }
 {
-    let mut view_writer = open_view_writer(alloc, front)?;
-    let room = make_room(&mut view_writer, front);
+    let mut view_writer = open_view_writer(alloc, known)?;
+    let room = make_room(&mut view_writer, known);
     publish_at_last(&mut view_writer, rt);
     publish_at_last(&mut view_writer, rt);
     let view_reader = open_view_reader(&mut view_writer);
@@ -39,24 +39,24 @@ pub(crate) fn open_both<R: Wait>(
 }
 
 /// The right to publish.
-fn open_view_writer(alloc: Global, front: &KnownHistory) -> Result<ViewWriter, AllocError>
-    ensures shown { IfOk result (λ view_writer. view_writer.desk.shown.value ≡ front.now) }
+fn open_view_writer(alloc: Global, known: &KnownHistory) -> Result<ViewWriter, AllocError>
+    ensures shown { IfOk result (λ view_writer. view_writer.desk.shown.value ≡ known.now) }
     ensures waiting { IfOk result (λ view_writer. drop view_writer.behind view_writer.log.items
         ≡ []) }
 {
-    let first = front.again()?;
-    let second = front.again()?;
+    let first = known.again()?;
+    let second = known.again()?;
     Writer::new(alloc, first, second, 1)
 }
 
 /// Makes room for operations, by some that change nothing.
-fn make_room(view_writer: &mut ViewWriter, front: &KnownHistory) -> Result<(), AllocError>
-    requires { AreThis front.now (drop view_writer.old.behind view_writer.old.log.items) }
+fn make_room(view_writer: &mut ViewWriter, known: &KnownHistory) -> Result<(), AllocError>
+    requires { AreThis known.now (drop view_writer.old.behind view_writer.old.log.items) }
     ensures desk { view_writer.new.desk ≡ view_writer.old.desk }
-    ensures waiting { AreThis front.now (drop view_writer.new.behind view_writer.new.log.items) }
+    ensures waiting { AreThis known.now (drop view_writer.new.behind view_writer.new.log.items) }
 {
     for _ in 0..WAITING {
-        let same = front.again()?;
+        let same = known.again()?;
         view_writer.append(same).map_err(|_| AllocError)?;
     }
     Ok(())

@@ -22,7 +22,7 @@ use std::marker::Model;
 #[derive(Drop)]
 pub struct Viewer {
     pub(crate) view_reader: ViewReader,
-    pub(crate) front: KnownHistory,
+    pub(crate) known: KnownHistory,
 }
 
 impl Model for Viewer {
@@ -37,9 +37,9 @@ impl Model for Viewer {
 
     ghost coded = { Prim.hlevel (codes, live_code, book_coded) };
 
-    ghost view = { λ v. v.front };
+    ghost view = { λ v. v.known };
 
-    ghost invariant = { λ v. HasSeen v.front.history (view_of v.view_reader.place) };
+    ghost invariant = { λ v. HasSeen v.known.history (view_of v.view_reader.place) };
 }
 
 impl Viewer {
@@ -52,8 +52,8 @@ impl Viewer {
         ensures told { IsPrefix told.commits self.new.commits }
         ensures history { IsHistory self.new.commits }
     {
-        let Told { front } = told;
-        self.front.learn(front);
+        let Told { known } = told;
+        self.known.learn(known);
     }
 
     /// The last commit that is known, after a look at what is published.
@@ -63,8 +63,8 @@ impl Viewer {
         ensures history { IsHistory self.new.commits }
         ensures glance { result ≡ glance_of self.new.commits }
     {
-        let _ = refresh(&mut self.view_reader, &mut self.front);
-        self.front.glance()
+        let _ = refresh(&mut self.view_reader, &mut self.known);
+        self.known.glance()
     }
 
     /// Copies the bytes of a chunk of the last commit that is known, from its place `at` on, after a look at what is published. Where the
@@ -76,9 +76,9 @@ impl Viewer {
         ensures seen { result ≡ seen_of self.new.commits h at (length out.old) }
         ensures out { out.new ≡ read_of self.new.commits h at out.old }
     {
-        let _ = refresh(&mut self.view_reader, &mut self.front);
-        let number = self.front.number();
-        match self.front.last() {
+        let _ = refresh(&mut self.view_reader, &mut self.known);
+        let number = self.known.number();
+        match self.known.last() {
             Some(commit) if commit.read(h, at, out) => Seen::Bytes { number },
             Some(_) => Seen::Missing { number },
             None => Seen::Nothing,
@@ -87,15 +87,15 @@ impl Viewer {
 }
 
 /// Makes known what is published, where it can be read and shared.
-fn refresh(view_reader: &mut ViewReader, front: &mut KnownHistory) -> Result<(), Unread>
-    requires { HasSeen front.old.history (view_of view_reader.old.place) }
-    ensures view_reader { HasSeen front.new.history (view_of view_reader.new.place) }
-    ensures name { front.new.history ≡ front.old.history }
-    ensures known { IsPrefix front.old.commits front.new.commits }
-    ensures taken { OnOk result (Knows front.new (view_of view_reader.new.place)) }
+fn refresh(view_reader: &mut ViewReader, known: &mut KnownHistory) -> Result<(), Unread>
+    requires { HasSeen known.old.history (view_of view_reader.old.place) }
+    ensures view_reader { HasSeen known.new.history (view_of view_reader.new.place) }
+    ensures name { known.new.history ≡ known.old.history }
+    ensures grows { IsPrefix known.old.commits known.new.commits }
+    ensures taken { OnOk result (Knows known.new (view_of view_reader.new.place)) }
 {
-    if let Some(newer) = replace_with(view_reader, &*front, look_through)? {
-        *front = newer;
+    if let Some(newer) = replace_with(view_reader, &*known, look_through)? {
+        *known = newer;
     }
     Ok(())
 }

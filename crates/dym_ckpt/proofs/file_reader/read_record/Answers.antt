@@ -6,12 +6,12 @@ use Rattle.dym_ckpt.proofs.file_reader.read_record.Goals as goal
 
 pub returns-in_default-clause-bad : goal.returns-in_default-clause-bad
 returns-in_default-clause-bad c _ more rest of lawful are =
-    c.in_default.ensures.only more rest (record_short c.args.rule.version c.args.rule.quota more of) are
+    c.in_default.ensures.only more rest (record_short c.args.limits.version c.args.limits.quota more of) are
 
 pub returns-in-Err-clause-bad : goal.returns-in-Err-clause-bad
 returns-in-Err-clause-bad c bad more rest of lawful are =
-    let same = c.in-Some.ensures.only more rest (record_short c.args.rule.version c.args.rule.quota more of) are in
+    let same = c.in-Some.ensures.only more rest (record_short c.args.limits.version c.args.limits.quota more of) are in
     let old = bytes_of c.args.record_list.now.keep.records in
     c.in-Err.ensures.bad bad
-    (subst (λ (x : List ℕ). IsRecordOf c.args.rule.version c.args.rule.quota x) (sym same.0) of)
-    (subst (λ (x : List ℕ). IsLawfulList c.args.rule.version c.args.rule.depth (old ++ x ∷ [])) (sym same.0) lawful)
+    (subst (λ (x : List ℕ). IsRecordOf c.args.limits.version c.args.limits.quota x) (sym same.0) of)
+    (subst (λ (x : List ℕ). IsLawfulList c.args.limits.version c.args.limits.depth (old ++ x ∷ [])) (sym same.0) lawful)

@@ -14,7 +14,7 @@ returns-in-Ok g c =
     let start = room.new.view_writer in
     let once = first.new.view_writer in
     let twice = second.new.view_writer in
-    let shown = shown_after c.args.front.now start.desk.shown.value once.desk.shown.value twice.desk.shown.value
+    let shown = shown_after c.args.known.now start.desk.shown.value once.desk.shown.value twice.desk.shown.value
     (drop start.behind start.log.items) (drop once.behind once.log.items)
     (ap (λ d. d.shown.value) room.ensures.desk ∙ c.in_ok-view_writer.ensures.shown) room.ensures.waiting first.ensures.shown first.ensures.waiting second.ensures.shown in
     let seen = both_went (λ r. HasSeen twice.desk.shown.value.history (view r.place)) room.result reader.result c.in-Ok.view_reader

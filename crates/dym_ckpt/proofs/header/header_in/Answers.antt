@@ -1,7 +1,7 @@
 use Rattle.std.proofs.Common.{rules, sym, ap, ◌∙◌, length, arith}
 use Rattle.dym_ckpt.specs.Heads.{header_meaning, from_name, from_quota, from_version, from_count, from_depth}
 use Rattle.dym_ckpt.proofs.Headers.{head_parts, head_read, first_same, within_said, said_is}
-use Rattle.dym_ckpt.proofs.header.head_in.Goals as goal
+use Rattle.dym_ckpt.proofs.header.header_in.Goals as goal
 
 pub returns-in_err-rest-clause-only : goal.returns-in_err-rest-clause-only
 returns-in_err-rest-clause-only c head left good are =
