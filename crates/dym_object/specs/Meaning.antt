@@ -1,8 +1,10 @@
 -- What an object stands for, as its callers see it.
-use Rattle.std.specs.Prelude.{◌≡◌, ℕ, ◌+◌, ◌≤◌, List, None}
+use Rattle.std.specs.Prelude.{◌≡◌, ℕ, ◌+◌, ◌≤◌, List, [], None}
 use Rattle.dym_base.specs.BaseLogs.{base_logs_step, run_base_logs}
-use Rattle.dym_base.specs.Objects.{ObjectState, ObjectAnswer, object_step, run_end}
+use Rattle.dym_base.specs.Objects.{ObjectState, ObjectAnswer, empty_heap, object_step, run_end}
+use Rattle.dym_base.specs.Origins.{Origin}
 use Rattle.dym_base.specs.declared.command.Command.{Command}
+use Rattle.dym_base.specs.declared.command.Version.{Version}
 use Rattle.dym_heap.specs.Meaning.{HeapMeaning, IsSound}
 use Rattle.dym_chain.specs.Chains.{ChainMeaning, Belongs, StandsForCopies, object_of}
 
@@ -11,6 +13,15 @@ pub record ObjectMeaning : Type 0 where
   pub heap : HeapMeaning
   pub chain : ChainMeaning
   pub ran : ℕ
+
+-- an object that was opened: of a version and a quota, with an empty heap, no log and no command run. Its segments are of the one
+-- origin, its records of the other
+abbrev pub opened_object : Version → ℕ → Origin → Origin → ObjectMeaning
+opened_object version quota segments records = record {
+  heap = record { version = version; quota = quota; state = empty_heap; held_ids = []; origin = segments; applied = 0 };
+  chain = record { base_logs = []; logs = []; records = []; next_number = 0; lifted = None; origin = records };
+  ran = 0;
+}
 
 -- the object as the definition of a step has it: the heap's chunks and the kept logs
 abbrev pub state_of : ObjectMeaning → ObjectState

@@ -1,11 +1,10 @@
 //! A simulation object.
 ghost use Rattle.std.specs.Prelude.{◌≡◌, ℕ, ◌≤◌, None, [], length, IfOk, IfErr};
 ghost use Rattle.dym_base.specs.Objects as Objects;
-ghost use Rattle.dym_base.specs.Objects.{empty_heap};
 ghost use Rattle.dym_base.specs.declared.command.Version.TheVariants.{One};
 ghost use Rattle.dym_base.specs.declared.limits.TheConstants.{MOST_QUOTA};
 ghost use Rattle.dym_heap.specs.Meaning.{IsSound};
-ghost use Rattle.dym_object.specs.Meaning.{ObjectMeaning, IsWhole};
+ghost use Rattle.dym_object.specs.Meaning.{ObjectMeaning, IsWhole, opened_object};
 
 use crate::lent_object::LentObject;
 use dym_base::Version;
@@ -48,25 +47,8 @@ impl<S: Supply, K: LogKeep> Object<S, K> {
         requires empty { (K.meaning keep).records ≡ [] }
         requires next_number { (K.meaning keep).next_number ≡ 0 }
         requires idle { (K.meaning keep).lifted ≡ None }
-        ensures opened { IfOk result (λ o. o ≡ record {
-          heap = record {
-            version = One;
-            quota = S.quota_of supply;
-            state = empty_heap;
-            held_ids = [];
-            origin = S.origin supply;
-            applied = 0;
-          };
-          chain = record {
-            base_logs = [];
-            logs = [];
-            records = [];
-            next_number = 0;
-            lifted = None;
-            origin = (K.meaning keep).origin;
-          };
-          ran = 0;
-        }) }
+        ensures opened { IfOk result (λ o. o ≡ opened_object One (S.quota_of supply)
+            (S.origin supply) (K.meaning keep).origin) }
         ensures whole { IfOk result IsWhole }
         ensures supply { IfErr result (λ e. e.1 ≡ supply) }
         ensures keep { IfErr result (λ e. K.meaning e.2 ≡ K.meaning keep) }
@@ -87,25 +69,8 @@ impl<S: Supply, K: LogKeep> Object<S, K> {
         requires empty { (K.meaning keep).records ≡ [] }
         requires next_number { (K.meaning keep).next_number ≡ 0 }
         requires idle { (K.meaning keep).lifted ≡ None }
-        ensures opened { IfOk result (λ o. o ≡ record {
-          heap = record {
-            version = version;
-            quota = S.quota_of supply;
-            state = empty_heap;
-            held_ids = [];
-            origin = S.origin supply;
-            applied = 0;
-          };
-          chain = record {
-            base_logs = [];
-            logs = [];
-            records = [];
-            next_number = 0;
-            lifted = None;
-            origin = (K.meaning keep).origin;
-          };
-          ran = 0;
-        }) }
+        ensures opened { IfOk result (λ o. o ≡ opened_object version (S.quota_of supply)
+            (S.origin supply) (K.meaning keep).origin) }
         ensures whole { IfOk result IsWhole }
         ensures supply { IfErr result (λ e. e.1 ≡ supply) }
         ensures keep { IfErr result (λ e. K.meaning e.2 ≡ K.meaning keep) }
