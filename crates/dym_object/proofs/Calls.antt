@@ -12,10 +12,11 @@ use Rattle.dym_base.specs.declared.reply.Refusal.TheVariants.{Range}
 use Rattle.dym_base.specs.declared.reply.Reply.{Reply}
 use Rattle.dym_base.specs.declared.reply.Reply.TheVariants.{Bytes, Refused}
 use Rattle.dym_heap.specs.Meaning.{HeapMeaning, IsSound}
-use Rattle.dym_heap.specs.Replies.{stepped, OnRefusal}
-use Rattle.dym_chain.specs.Chains.{ChainMeaning, Belongs, StandsForCopies}
-use Rattle.dym_object.specs.Meaning.{ObjectMeaning, IsStep, IsWhole, counted}
+use Rattle.dym_heap.specs.Replies.{step_of, stepped, OnRefusal}
+use Rattle.dym_chain.specs.Chains.{ChainMeaning, Belongs, StandsForCopies, object_of}
+use Rattle.dym_object.specs.Meaning.{ObjectMeaning, IsStep, IsWhole, counted, step_by}
 use Rattle.dym_object.specs.Laws.{StepsKeepWhole}
+use Rattle.dym_object.proofs.Steps.{reply_is}
 
 -- a call that leaves the segments as they are
 pub same_ids : (h new : HeapMeaning) (c : Command) → new ≡ stepped h c → new ≡ record (stepped h c) { held_ids = new.held_ids }
@@ -61,7 +62,7 @@ module _ (law : StepsKeepWhole) (heap new : HeapMeaning) (chain : ChainMeaning) 
   whole_here = (law (record { heap = heap; chain = chain; ran = ran }) new c is after sound whole).1
 
 -- a refusal
-pub refused_here : {T : Type 0} (r : Result T Refusal) (heap new : HeapMeaning) (chain : ChainMeaning) (ran : ℕ) (old : ObjectMeaning) → record { heap = heap; chain = chain; ran = ran } ≡ old → OnErr r (new ≡ heap) → OnErr r (record { heap = new; chain = chain; ran = ran + 1 } ≡ counted old)
+refused_here : {T : Type 0} (r : Result T Refusal) (heap new : HeapMeaning) (chain : ChainMeaning) (ran : ℕ) (old : ObjectMeaning) → record { heap = heap; chain = chain; ran = ran } ≡ old → OnErr r (new ≡ heap) → OnErr r (record { heap = new; chain = chain; ran = ran + 1 } ≡ counted old)
 refused_here (Ok x) heap new chain ran old view kept = tt
 refused_here (Err why) heap new chain ran old view kept =
     ap (λ (h : HeapMeaning). record { heap = h; chain = chain; ran = ran + 1 }) kept ∙ ap counted view
@@ -72,10 +73,39 @@ replied_here (Refused why) heap new chain ran old view kept =
     ap (λ (h : HeapMeaning). record { heap = h; chain = chain; ran = ran + 1 }) kept ∙ ap counted view
 replied_here r heap new chain ran old view kept = tt
 
--- nothing but the count
-pub counted_here : {T : Type 0} (r : Result T Refusal) (heap : HeapMeaning) (chain : ChainMeaning) (ran : ℕ) (old : ObjectMeaning) → record { heap = heap; chain = chain; ran = ran } ≡ old → OnErr r (record { heap = heap; chain = chain; ran = ran + 1 } ≡ counted old)
-counted_here (Ok x) heap chain ran old view = tt
-counted_here (Err why) heap chain ran old view = ap counted view
+-- nothing changed
+unchanged_here : {T : Type 0} (r : Result T Refusal) (heap : HeapMeaning) → OnErr r (heap ≡ heap)
+unchanged_here (Ok x) heap = tt
+unchanged_here (Err why) heap = refl
+
+-- what a call ensures that runs a command to the heap of an object
+pub record IsCalled {T : Type 0} (answer : Result T Refusal) (said : Reply) (old new : ObjectMeaning) (c : Command) : Type 0 where
+  pub reply : said ≡ (step_by old c).reply
+  pub step : IsStep old new c
+  pub refused : OnErr answer (new ≡ counted old)
+  pub whole : IsWhole new
+
+-- a call of an object of these parts
+module _ (law : StepsKeepWhole) (heap : HeapMeaning) (chain : ChainMeaning) (ran : ℕ) (old : ObjectMeaning) (view : record { heap = heap; chain = chain; ran = ran } ≡ old)
+    (whole : IsWhole (record { heap = heap; chain = chain; ran = ran })) where
+  pub called : {T : Type 0} → (answer : Result T Refusal) (said : Reply) (new : HeapMeaning) (c : Command) → IsHeapCommand c → new ≡ record (stepped heap c) { held_ids = new.held_ids } → IsSound new
+      → said ≡ (step_of heap c).reply → OnErr answer (new ≡ heap) → IsCalled answer said old (record { heap = new; chain = chain; ran = ran + 1 }) c
+  called answer said new c is after sound reply kept = record {
+    reply = subst (λ (o : ObjectMeaning). said ≡ (step_by o c).reply) view (reply ∙ reply_is heap.version heap.quota (object_of heap.state chain) c is);
+    step = step_here law heap new chain ran c is after sound whole old view;
+    refused = refused_here answer heap new chain ran old view kept;
+    whole = whole_here law heap new chain ran c is after sound whole;
+  }
+
+  -- one that leaves the segments as they are
+  pub called_in_place : {T : Type 0} → (answer : Result T Refusal) (said : Reply) (new : HeapMeaning) (c : Command) → IsHeapCommand c → new ≡ stepped heap c → IsSound new
+      → said ≡ (step_of heap c).reply → OnErr answer (new ≡ heap) → IsCalled answer said old (record { heap = new; chain = chain; ran = ran + 1 }) c
+  called_in_place answer said new c is after sound reply kept = called answer said new c is (same_ids heap new c after) sound reply kept
+
+  -- one that only looks
+  pub looked : {T : Type 0} → (answer : Result T Refusal) (said : Reply) (c : Command) → IsHeapCommand c → heap ≡ record (stepped heap c) { held_ids = heap.held_ids }
+      → said ≡ (step_of heap c).reply → IsCalled answer said old (record { heap = heap; chain = chain; ran = ran + 1 }) c
+  looked answer said c is stays reply = called answer said heap c is stays whole.sound reply (unchanged_here answer heap)
 
 -- a chain that lost logs, and made no record
 pub pruned_here : (heap : HeapMeaning) (chain new : ChainMeaning) (ran : ℕ) → IsWhole (record { heap = heap; chain = chain; ran = ran }) → new.next_number ≡ chain.next_number → new.lifted ≡ None → Belongs heap.version heap.quota heap.state new → StandsForCopies new

@@ -10,8 +10,8 @@ returns-clause-touched g c =
     ap (λ (heap : HeapMeaning). record { heap = heap; chain = c.self.inside.chain; ran = c.self.inside.ran }) c.touch_at.ensures.touched
     ∙ ap (λ (o : ObjectMeaning). record o { heap = record o.heap { state = touched_in o.heap.quota c.args.offset (c.args.offset + c.args.len) o.heap.state } }) c.self.view_is
 
-pub returns-clause-whole : goal.returns-clause-whole
-returns-clause-whole g c = in_whole c.self.inside.heap c.touch_at.new.self c.self.inside.chain c.self.inside.ran c.args.offset (c.args.offset + c.args.len) c.self.invariant c.touch_at.ensures.touched c.touch_at.ensures.sound
-
 pub invariant_of-self : goal.invariant_of-self
 invariant_of-self g c = in_whole c.self.inside.heap c.touch_at.new.self c.self.inside.chain c.self.inside.ran c.args.offset (c.args.offset + c.args.len) c.self.invariant c.touch_at.ensures.touched c.touch_at.ensures.sound
+
+pub returns-clause-whole : goal.returns-clause-whole
+returns-clause-whole g c = invariant_of-self g c

@@ -1,31 +1,14 @@
-use Rattle.std.proofs.Common.{◌≡◌, subst}
 use Rattle.dym_base.specs.declared.command.Command.TheVariants.{Follow}
-use Rattle.dym_heap.specs.Meaning.{HeapMeaning}
 use Rattle.dym_heap.specs.Replies.{found_reply}
-use Rattle.dym_object.specs.Meaning.{ObjectMeaning, step_by}
-use Rattle.dym_object.proofs.Calls.{follow_stays, step_here, whole_here, counted_here}
+use Rattle.dym_object.proofs.Calls.{follow_stays, looked}
 use Rattle.dym_object.proofs.object.Object.follow.Goals as goal
 
-pub returns-clause-reply : goal.returns-clause-reply
-returns-clause-reply g c =
-    subst (λ (o : ObjectMeaning). found_reply c.follow.result ≡ (step_by o (Follow c.args.h c.args.at)).reply) c.self.view_is c.follow.ensures
-
-pub returns-clause-step : goal.returns-clause-step
-returns-clause-step g c =
-    let h : HeapMeaning = c.self.inside.heap in
-    step_here c.steps_keep_whole.ensures h h c.self.inside.chain c.self.inside.ran (Follow c.args.h c.args.at) tt (follow_stays h c.args.h c.args.at) c.self.invariant.sound c.self.invariant c.args.self.now c.self.view_is
-
-pub returns-clause-refused : goal.returns-clause-refused
-returns-clause-refused g c =
-    let h : HeapMeaning = c.self.inside.heap in
-    counted_here c.follow.result h c.self.inside.chain c.self.inside.ran c.args.self.now c.self.view_is
-
-pub returns-clause-whole : goal.returns-clause-whole
-returns-clause-whole g c =
-    let h : HeapMeaning = c.self.inside.heap in
-    whole_here c.steps_keep_whole.ensures h h c.self.inside.chain c.self.inside.ran (Follow c.args.h c.args.at) tt (follow_stays h c.args.h c.args.at) c.self.invariant.sound c.self.invariant
+pub returns : goal.returns
+returns g c =
+    let o = c.self.inside in
+    let t = looked c.steps_keep_whole.ensures o.heap o.chain o.ran c.args.self.now c.self.view_is c.self.invariant
+    c.follow.result (found_reply c.follow.result) (Follow c.args.h c.args.at) tt (follow_stays o.heap c.args.h c.args.at) c.follow.ensures in
+    record { reply = t.reply; step = t.step; refused = t.refused; whole = t.whole }
 
 pub invariant_of-self : goal.invariant_of-self
-invariant_of-self g c =
-    let h : HeapMeaning = c.self.inside.heap in
-    whole_here c.steps_keep_whole.ensures h h c.self.inside.chain c.self.inside.ran (Follow c.args.h c.args.at) tt (follow_stays h c.args.h c.args.at) c.self.invariant.sound c.self.invariant
+invariant_of-self g c = (returns g c).whole

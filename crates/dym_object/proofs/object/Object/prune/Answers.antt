@@ -11,12 +11,10 @@ pub returns-clause-reply : goal.returns-clause-reply
 returns-clause-reply g c =
     subst (λ (o : ObjectMeaning). reply.Dropped c.prune.result ≡ (step_by o (Prune c.args.bound)).reply) c.self.view_is (c.prune.ensures.answer c.self.inside.heap.state)
 
-pub returns-clause-whole : goal.returns-clause-whole
-returns-clause-whole g c =
-    let h : HeapMeaning = c.self.inside.heap in
-    pruned_here h c.self.inside.chain c.prune.new.self c.self.inside.ran c.self.invariant (ap (λ (m : ChainMeaning). m.next_number) c.prune.ensures.after) c.prune.ensures.idle (c.prune.ensures.belongs h.version h.quota h.state c.self.invariant.belongs) c.prune.ensures.stands
-
 pub invariant_of-self : goal.invariant_of-self
 invariant_of-self g c =
     let h : HeapMeaning = c.self.inside.heap in
     pruned_here h c.self.inside.chain c.prune.new.self c.self.inside.ran c.self.invariant (ap (λ (m : ChainMeaning). m.next_number) c.prune.ensures.after) c.prune.ensures.idle (c.prune.ensures.belongs h.version h.quota h.state c.self.invariant.belongs) c.prune.ensures.stands
+
+pub returns-clause-whole : goal.returns-clause-whole
+returns-clause-whole g c = invariant_of-self g c

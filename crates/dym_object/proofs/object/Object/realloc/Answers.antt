@@ -1,31 +1,15 @@
-use Rattle.std.proofs.Common.{◌≡◌, subst}
 use Rattle.dym_base.specs.declared.command.Command.TheVariants.{Realloc}
-use Rattle.dym_heap.specs.Meaning.{HeapMeaning}
 use Rattle.dym_heap.specs.Replies.{moved_reply}
-use Rattle.dym_object.specs.Meaning.{ObjectMeaning, step_by}
-use Rattle.dym_object.proofs.Calls.{step_here, whole_here, refused_here}
+use Rattle.dym_object.proofs.Calls.{called}
 use Rattle.dym_object.proofs.object.Object.realloc.Goals as goal
 
-pub returns-clause-reply : goal.returns-clause-reply
-returns-clause-reply g c =
-    subst (λ (o : ObjectMeaning). moved_reply c.realloc.result ≡ (step_by o (Realloc c.args.h c.args.len)).reply) c.self.view_is c.realloc.ensures.reply
-
-pub returns-clause-step : goal.returns-clause-step
-returns-clause-step g c =
-    let h : HeapMeaning = c.self.inside.heap in
-    step_here c.steps_keep_whole.ensures h c.realloc.new.self c.self.inside.chain c.self.inside.ran (Realloc c.args.h c.args.len) tt c.realloc.ensures.after c.realloc.ensures.sound c.self.invariant c.args.self.now c.self.view_is
-
-pub returns-clause-refused : goal.returns-clause-refused
-returns-clause-refused g c =
-    let h : HeapMeaning = c.self.inside.heap in
-    refused_here c.realloc.result h c.realloc.new.self c.self.inside.chain c.self.inside.ran c.args.self.now c.self.view_is c.realloc.ensures.refused
-
-pub returns-clause-whole : goal.returns-clause-whole
-returns-clause-whole g c =
-    let h : HeapMeaning = c.self.inside.heap in
-    whole_here c.steps_keep_whole.ensures h c.realloc.new.self c.self.inside.chain c.self.inside.ran (Realloc c.args.h c.args.len) tt c.realloc.ensures.after c.realloc.ensures.sound c.self.invariant
+pub returns : goal.returns
+returns g c =
+    let o = c.self.inside in
+    let e = c.realloc.ensures in
+    let t = called c.steps_keep_whole.ensures o.heap o.chain o.ran c.args.self.now c.self.view_is c.self.invariant
+    c.realloc.result (moved_reply c.realloc.result) c.realloc.new.self (Realloc c.args.h c.args.len) tt e.after e.sound e.reply e.refused in
+    record { reply = t.reply; step = t.step; refused = t.refused; whole = t.whole }
 
 pub invariant_of-self : goal.invariant_of-self
-invariant_of-self g c =
-    let h : HeapMeaning = c.self.inside.heap in
-    whole_here c.steps_keep_whole.ensures h c.realloc.new.self c.self.inside.chain c.self.inside.ran (Realloc c.args.h c.args.len) tt c.realloc.ensures.after c.realloc.ensures.sound c.self.invariant
+invariant_of-self g c = (returns g c).whole

@@ -1,12 +1,10 @@
-use Rattle.std.proofs.Common.{◌≡◌, OnOk, IfErr, refl, sym, subst}
-use Rattle.dym_base.specs.BaseLogs.{base_logs_step}
-use Rattle.dym_base.specs.declared.command.Command.{Command}
+use Rattle.std.proofs.Common.{◌≡◌, refl, sym, subst}
 use Rattle.dym_base.specs.declared.command.Command.TheVariants.{Restore, Prune, Logs}
 use Rattle.dym_base.specs.declared.reply.Reply.TheVariants as reply
 use Rattle.dym_chain.specs.Answers.{restored_reply}
-use Rattle.dym_object.specs.Commands.{TakesMemory, slots_reply}
-use Rattle.dym_object.specs.Meaning.{ObjectMeaning, state_of, step_by, counted}
-use Rattle.dym_object.proofs.Runs.{ran_by, at_restored}
+use Rattle.dym_object.specs.Commands.{slots_reply}
+use Rattle.dym_object.specs.Meaning.{ObjectMeaning, counted}
+use Rattle.dym_object.proofs.Runs.{RanOf, ran_by, at_restored}
 use Rattle.dym_object.proofs.object.Object.run_into.Goals as goal
 
 pub returns-in-Restore : goal.returns-in-Restore
@@ -35,60 +33,24 @@ returns-in-Logs g c =
 
 pub returns-in-Read : goal.returns-in-Read
 returns-in-Read g c =
-    let old : ObjectMeaning = c.args.self.now in
-    let k = c.in-Read in
     let e = c.read_into.ensures in
-    record {
-      reply = subst (λ (x : Command). OnOk c.read_into.result (c.read_into.new.reply ≡ (step_by old x).reply)) (sym k.is) e.reply;
-      after = subst (λ (x : Command). OnOk c.read_into.result (state_of c.read_into.new.self ≡ (step_by old x).object)) (sym k.is) e.after;
-      base_logs = subst (λ (x : Command). OnOk c.read_into.result (c.read_into.new.self.chain.base_logs ≡ base_logs_step old.chain.base_logs (state_of old) x)) (sym k.is) e.base_logs;
-      ran = e.ran;
-      memory = subst (λ (x : Command). IfErr c.read_into.result (λ _. TakesMemory x (step_by old x).reply)) (sym k.is) e.memory;
-      unchanged = e.unchanged;
-      kept = e.kept;
-      refused = e.refused;
-      heap = e.heap;
-      origin = e.origin;
-      whole = e.whole;
-    }
+    let t = subst (RanOf c.read_into.result c.args.self.now c.read_into.new.self c.read_into.new.reply) (sym c.in-Read.is)
+    (record { reply = e.reply; after = e.after; base_logs = e.base_logs; memory = e.memory }) in
+    record { reply = t.reply; after = t.after; base_logs = t.base_logs; ran = e.ran; memory = t.memory; unchanged = e.unchanged; kept = e.kept; refused = e.refused; heap = e.heap; origin = e.origin; whole = e.whole }
 
 pub returns-in-Log : goal.returns-in-Log
 returns-in-Log g c =
-    let old : ObjectMeaning = c.args.self.now in
-    let k = c.in-Log in
     let e = c.log_into.ensures in
-    record {
-      reply = subst (λ (x : Command). OnOk c.log_into.result (c.log_into.new.reply ≡ (step_by old x).reply)) (sym k.is) e.reply;
-      after = subst (λ (x : Command). OnOk c.log_into.result (state_of c.log_into.new.self ≡ (step_by old x).object)) (sym k.is) e.after;
-      base_logs = subst (λ (x : Command). OnOk c.log_into.result (c.log_into.new.self.chain.base_logs ≡ base_logs_step old.chain.base_logs (state_of old) x)) (sym k.is) e.base_logs;
-      ran = e.ran;
-      memory = subst (λ (x : Command). IfErr c.log_into.result (λ _. TakesMemory x (step_by old x).reply)) (sym k.is) e.memory;
-      unchanged = e.unchanged;
-      kept = e.kept;
-      refused = e.refused;
-      heap = e.heap;
-      origin = e.origin;
-      whole = e.whole;
-    }
+    let t = subst (RanOf c.log_into.result c.args.self.now c.log_into.new.self c.log_into.new.reply) (sym c.in-Log.is)
+    (record { reply = e.reply; after = e.after; base_logs = e.base_logs; memory = e.memory }) in
+    record { reply = t.reply; after = t.after; base_logs = t.base_logs; ran = e.ran; memory = t.memory; unchanged = e.unchanged; kept = e.kept; refused = e.refused; heap = e.heap; origin = e.origin; whole = e.whole }
 
 pub returns-in-Ilog : goal.returns-in-Ilog
 returns-in-Ilog g c =
-    let old : ObjectMeaning = c.args.self.now in
-    let k = c.in-Ilog in
     let e = c.log_into-in-Ilog.ensures in
-    record {
-      reply = subst (λ (x : Command). OnOk c.log_into-in-Ilog.result (c.log_into-in-Ilog.new.reply ≡ (step_by old x).reply)) (sym k.is) e.reply;
-      after = subst (λ (x : Command). OnOk c.log_into-in-Ilog.result (state_of c.log_into-in-Ilog.new.self ≡ (step_by old x).object)) (sym k.is) e.after;
-      base_logs = subst (λ (x : Command). OnOk c.log_into-in-Ilog.result (c.log_into-in-Ilog.new.self.chain.base_logs ≡ base_logs_step old.chain.base_logs (state_of old) x)) (sym k.is) e.base_logs;
-      ran = e.ran;
-      memory = subst (λ (x : Command). IfErr c.log_into-in-Ilog.result (λ _. TakesMemory x (step_by old x).reply)) (sym k.is) e.memory;
-      unchanged = e.unchanged;
-      kept = e.kept;
-      refused = e.refused;
-      heap = e.heap;
-      origin = e.origin;
-      whole = e.whole;
-    }
+    let t = subst (RanOf c.log_into-in-Ilog.result c.args.self.now c.log_into-in-Ilog.new.self c.log_into-in-Ilog.new.reply) (sym c.in-Ilog.is)
+    (record { reply = e.reply; after = e.after; base_logs = e.base_logs; memory = e.memory }) in
+    record { reply = t.reply; after = t.after; base_logs = t.base_logs; ran = e.ran; memory = t.memory; unchanged = e.unchanged; kept = e.kept; refused = e.refused; heap = e.heap; origin = e.origin; whole = e.whole }
 
 pub returns-in_default : goal.returns-in_default
 returns-in_default g c =

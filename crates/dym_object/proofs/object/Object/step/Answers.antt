@@ -22,12 +22,10 @@ returns-clause-refused g c =
     let h : HeapMeaning = c.self.inside.heap in
     replied_here c.step.result h c.step.new.self c.self.inside.chain c.self.inside.ran c.args.self.now c.self.view_is c.step.ensures.refused
 
-pub returns-clause-whole : goal.returns-clause-whole
-returns-clause-whole g c =
-    let h : HeapMeaning = c.self.inside.heap in
-    whole_here c.steps_keep_whole.ensures h c.step.new.self c.self.inside.chain c.self.inside.ran c.args.command.now (to_heap c.args.command.now c.requires.command) c.step.ensures.after c.step.ensures.sound c.self.invariant
-
 pub invariant_of-self : goal.invariant_of-self
 invariant_of-self g c =
     let h : HeapMeaning = c.self.inside.heap in
     whole_here c.steps_keep_whole.ensures h c.step.new.self c.self.inside.chain c.self.inside.ran c.args.command.now (to_heap c.args.command.now c.requires.command) c.step.ensures.after c.step.ensures.sound c.self.invariant
+
+pub returns-clause-whole : goal.returns-clause-whole
+returns-clause-whole g c = invariant_of-self g c

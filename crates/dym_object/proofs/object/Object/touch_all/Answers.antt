@@ -10,8 +10,8 @@ returns-clause-touched g c =
     ap (λ (heap : HeapMeaning). record { heap = heap; chain = c.self.inside.chain; ran = c.self.inside.ran }) c.touch_all.ensures.touched
     ∙ ap (λ (o : ObjectMeaning). record o { heap = record o.heap { state = all_touched o.heap.state } }) c.self.view_is
 
-pub returns-clause-whole : goal.returns-clause-whole
-returns-clause-whole g c = all_whole c.self.inside.heap c.touch_all.new.self c.self.inside.chain c.self.inside.ran c.self.invariant c.touch_all.ensures.touched c.touch_all.ensures.sound
-
 pub invariant_of-self : goal.invariant_of-self
 invariant_of-self g c = all_whole c.self.inside.heap c.touch_all.new.self c.self.inside.chain c.self.inside.ran c.self.invariant c.touch_all.ensures.touched c.touch_all.ensures.sound
+
+pub returns-clause-whole : goal.returns-clause-whole
+returns-clause-whole g c = invariant_of-self g c
