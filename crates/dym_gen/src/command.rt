@@ -54,7 +54,7 @@ fn put_drawn(page: &mut [u8], end: usize, draws: &mut Draws) -> usize
     ensures short { result ≤ end + 24 }
 {
     match draws.below(10) {
-        0 => put_malloc(page, end, draws),
+        0 => put_below(page, end, draws, b"malloc ", 200),
         1 => put_calloc(page, end, draws),
         2 => put_plain(page, end, draws, b"free ", b""),
         3 => put_numbered(page, end, draws, b"write ", 40, b" 01ff"),
@@ -67,17 +67,18 @@ fn put_drawn(page: &mut [u8], end: usize, draws: &mut Draws) -> usize
     }
 }
 
-/// Puts a number that is drawn.
+/// Puts a text and a number that is drawn.
 #[inline(always)]
-fn put_below(page: &mut [u8], end: usize, draws: &mut Draws, limit: u32) -> usize
+fn put_below(page: &mut [u8], end: usize, draws: &mut Draws, text: &[u8], limit: u32) -> usize
     requires some { 0 < limit }
     requires limit { limit ≤ 1000 }
-    requires room { end + 4 ≤ length page.old }
+    requires room { end + length text.now + 4 ≤ length page.old }
     ensures state { draws.new.state ≡ next draws.old.state }
     ensures text { take result page.new ≡ take end page.old
-        ++ decimal (below limit (next draws.old.state)) }
-    ensures short { result ≤ end + 3 }
+        ++ (text.now ++ decimal (below limit (next draws.old.state))) }
+    ensures short { result ≤ end + length text.now + 3 }
 {
+    let end = put_text(page, end, text);
     put_short(page, end, draws.below(limit))
 }
 
@@ -92,19 +93,7 @@ fn put_chunk(page: &mut [u8], end: usize, draws: &mut Draws) -> usize
     ensures short { result ≤ end + 7 }
 {
     let end = put_word(page, end, size(draws.below(4)));
-    put_below(page, end, draws, 4)
-}
-
-#[inline(always)]
-fn put_malloc(page: &mut [u8], end: usize, draws: &mut Draws) -> usize
-    requires { end + 32 ≤ length page.old }
-    ensures state { draws.new.state ≡ state_after draws.old.state (drawn_command 0) }
-    ensures text { take result page.new ≡ take end page.old
-        ++ text_from draws.old.state (drawn_command 0) }
-    ensures short { result ≤ end + 24 }
-{
-    let end = put_text(page, end, b"malloc ");
-    put_below(page, end, draws, 200)
+    put_short(page, end, draws.below(4))
 }
 
 #[inline(always)]
@@ -115,10 +104,8 @@ fn put_calloc(page: &mut [u8], end: usize, draws: &mut Draws) -> usize
         ++ text_from draws.old.state (drawn_command 1) }
     ensures short { result ≤ end + 24 }
 {
-    let end = put_text(page, end, b"calloc ");
-    let end = put_below(page, end, draws, 4);
-    let end = put_text(page, end, b" ");
-    put_below(page, end, draws, 100)
+    let end = put_below(page, end, draws, b"calloc ", 4);
+    put_below(page, end, draws, b" ", 100)
 }
 
 /// A command of a chunk: a name, the chunk and a tail.
@@ -161,8 +148,7 @@ fn put_numbered(
 {
     let end = put_text(page, end, name);
     let end = put_chunk(page, end, draws);
-    let end = put_text(page, end, b" ");
-    let end = put_below(page, end, draws, limit);
+    let end = put_below(page, end, draws, b" ", limit);
     put_text(page, end, tail)
 }
 
@@ -174,10 +160,9 @@ fn put_fill(page: &mut [u8], end: usize, draws: &mut Draws) -> usize
         ++ text_from draws.old.state (drawn_command 4) }
     ensures short { result ≤ end + 24 }
 {
-    let end = put_numbered(page, end, draws, b"fill ", 40, b" ");
-    let end = put_below(page, end, draws, 20);
-    let end = put_text(page, end, b" ");
-    put_below(page, end, draws, 256)
+    let end = put_numbered(page, end, draws, b"fill ", 40, b"");
+    let end = put_below(page, end, draws, b" ", 20);
+    put_below(page, end, draws, b" ", 256)
 }
 
 #[inline(always)]
