@@ -22,8 +22,8 @@ use std::marker::Model;
 /// (time, arrival).
 ///
 /// Contracts see the heap, the accepted events in the order of arrival, the greatest time that was committed, and whether the
-/// heap is broken. Only `open` and `put` take memory. A heap of late events that is broken, as it is where memory was wanting for an
-/// event, can only be ended.
+/// heap is broken. Only `open` and `put` take memory. A heap of late events is broken once memory was wanting for an event: of one
+/// that is, only `bound`, `broken` and `end` may be called.
 pub struct LateHeap<S: Supply> {
     timeline: Timeline<S>,
     broken: bool,
