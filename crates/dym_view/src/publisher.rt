@@ -8,7 +8,7 @@ use crate::commit::Commit;
 use crate::glance::Glance;
 use crate::history_rule::{Head, open_history};
 use crate::known_history::KnownHistory;
-use crate::publication::{Pen, show};
+use crate::publication::{ViewWriter, show};
 use crate::told::Told;
 use crate::view_setup::open_both;
 use crate::viewer::Viewer;
@@ -23,7 +23,7 @@ use std::sync::Wait;
 pub struct Publisher {
     head: Head,
     known: KnownHistory,
-    view_writer: Pen,
+    view_writer: ViewWriter,
 }
 
 impl Model for Publisher {
