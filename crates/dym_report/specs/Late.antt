@@ -3,9 +3,9 @@ use Rattle.std.specs.Prelude.{ℕ, List, ◌++◌, codes, decimal, Option, None,
 use Rattle.std.specs.FinMap.{len}
 use Rattle.dym_base.specs.Heaps.{Live, held}
 use Rattle.dym_base.specs.declared.command.Version.{Version}
-use Rattle.dym_report.specs.declared.late.ViewLine.{ViewLine}
-use Rattle.dym_report.specs.declared.late.LateOut.{LateOut}
-use Rattle.dym_report.specs.declared.late.LateOut.TheVariants.{Reply, Early, Committed}
+use Rattle.dym_report.specs.declared.late_lines.ViewLine.{ViewLine}
+use Rattle.dym_report.specs.declared.late_lines.LateOut.{LateOut}
+use Rattle.dym_report.specs.declared.late_lines.LateOut.TheVariants.{Reply, Early, Committed}
 use Rattle.dym_report.specs.Objects.{heap_line, images_text}
 use Rattle.dym_report.specs.Replies.{reply_line}
 

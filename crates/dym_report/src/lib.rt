@@ -7,22 +7,22 @@
 //! objects print (`report_text`) and come to (`totals_of`) is defined here, for every order.
 #![tactic(auto)]
 
-pub mod compose;
 pub mod hex_text;
-pub mod late;
-pub mod live;
+pub mod late_lines;
 pub mod object;
+pub mod object_report;
 pub mod order;
 pub mod page;
 pub mod reply;
+pub mod reply_text;
 pub mod tally;
 pub mod totals;
 pub mod write_fail;
 
 pub use hex_text::write_hex_line;
-pub use late::{LateOut, ViewLine, write_late_end, write_late_line, write_view};
-pub use live::{live_chunks, write_object, write_state};
+pub use late_lines::{LateOut, ViewLine, write_late_end, write_late_line, write_view};
 pub use object::{write_heading, write_heap_line, write_image, write_logs};
+pub use object_report::{live_chunks, write_object, write_state};
 pub use order::{write_counts, write_end, write_error, write_events, write_usage};
 pub use page::Page;
 pub use reply::{write_replies, write_reply};

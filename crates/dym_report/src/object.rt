@@ -1,13 +1,13 @@
 //! The parts of the report of one object.
 ghost use Rattle.std.specs.Prelude.{◌≡◌, ◌≤◌, ◌++◌, length, take};
 ghost use Rattle.dym_io.specs.Sink.{Writes};
-ghost use Rattle.dym_report.specs.declared.compose.TheConstants.{LINE_ROOM};
+ghost use Rattle.dym_report.specs.declared.reply_text.TheConstants.{LINE_ROOM};
 ghost use Rattle.dym_report.specs.Handles.{handle_text};
 ghost use Rattle.dym_report.specs.Objects.{heading, heap_line, length_text, image_line, logs_line};
 
-use crate::compose::{LINE_ROOM, put_handle};
 use crate::hex_text::{trimmed, write_hex_line};
 use crate::reply::write_numbers;
+use crate::reply_text::{LINE_ROOM, put_handle};
 use dym_base::{Handle, Name, Version};
 use dym_io::{Sink, SinkFault, push_parts, put_named, put_text};
 

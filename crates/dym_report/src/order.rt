@@ -2,8 +2,8 @@
 ghost use Rattle.dym_io.specs.Sink.{Writes};
 ghost use Rattle.dym_report.specs.Orders.{end_text, counts_text, events_text, error_text, usage_text};
 
-use crate::compose::LINE_ROOM;
 use crate::reply::{write_number, write_numbers};
+use crate::reply_text::LINE_ROOM;
 use dym_base::BadKind;
 use dym_io::{Sink, SinkFault, push_all, push_parts, put_named, put_text};
 

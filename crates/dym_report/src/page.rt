@@ -5,9 +5,9 @@ ghost use Rattle.dym_io.specs.Sink.{Writes, Leaves, Stopped};
 ghost use Rattle.dym_report.specs.Replies.{reply_line};
 ghost use Rattle.dym_report.specs.declared.page.TheConstants.{PAGE_ROOM};
 
-use crate::compose::{has_bytes_room, has_room, put_bytes_line, put_line};
 use crate::hex_text::write_hex_line;
 use crate::reply::write_reply;
+use crate::reply_text::{has_bytes_room, has_room, put_bytes_line, put_line};
 use dym_base::Reply;
 use dym_io::{Sink, SinkFault, push_all};
 use std::marker::Model;

@@ -3,9 +3,9 @@ ghost use Rattle.std.specs.Prelude.{◌≡◌, ◌≤◌, ◌++◌, length, drop
 ghost use Rattle.dym_io.specs.Sink.{Writes};
 ghost use Rattle.dym_report.specs.Replies.{reply_line};
 
-use crate::compose::{LINE_ROOM, put_line, put_numbers};
 use crate::hex_text::write_hex_line;
 use crate::page::Page;
+use crate::reply_text::{LINE_ROOM, put_line, put_numbers};
 use dym_base::Reply;
 use dym_io::{Sink, SinkFault, push_all, put_named, put_text};
 

@@ -5,7 +5,7 @@ ghost use Rattle.dym_base.specs.declared.reply.Reply.{Reply};
 ghost use Rattle.dym_heap.specs.Meaning.{IsSound};
 ghost use Rattle.dym_report.specs.Summary.{is_refusal, tally_with, no_tally, both_tallies, totals_with};
 
-use crate::live::live_chunks;
+use crate::object_report::live_chunks;
 use crate::totals::Totals;
 use dym_heap::Heap;
 use dym_quota::Supply;

@@ -2,7 +2,7 @@
 use Rattle.std.proofs.Common.{◌≡◌, List, Option, None, Some, option_map, refl, sym, ap, subst}
 use Rattle.std.specs.Prelude.{is_some}
 use Rattle.dym_base.specs.Objects.{LogEntry, ObjectState}
-use Rattle.dym_report.specs.declared.late.ViewLine.{ViewLine}
+use Rattle.dym_report.specs.declared.late_lines.ViewLine.{ViewLine}
 use Rattle.dym_view.specs.Commits.{oldest}
 use Rattle.dym_view.specs.Histories.{Beginning}
 use Rattle.dym_run.specs.Lines.{view_of}

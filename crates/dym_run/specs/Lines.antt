@@ -2,7 +2,7 @@
 use Rattle.std.specs.Prelude.{Option, option_map}
 use Rattle.std.specs.FinMap.{len}
 use Rattle.dym_base.specs.Objects.{LogEntry, ObjectState}
-use Rattle.dym_report.specs.declared.late.ViewLine.{ViewLine}
+use Rattle.dym_report.specs.declared.late_lines.ViewLine.{ViewLine}
 use Rattle.dym_view.specs.Commits.{CommitMeaning, oldest, total_of}
 use Rattle.dym_view.specs.declared.glance.Glance.{Glance}
 

@@ -10,7 +10,7 @@ use Rattle.dym_io.specs.Sink.{Output, Appended, AppendedFront, FaultsTellCause}
 use Rattle.dym_report.specs.Objects.{object_text}
 use Rattle.dym_script.specs.declared.parts.Part.{Part}
 use Rattle.dym_wave.specs.Works.{OriginMeaning}
-use Rattle.dym_report.specs.declared.late.ViewLine.{ViewLine}
+use Rattle.dym_report.specs.declared.late_lines.ViewLine.{ViewLine}
 use Rattle.dym_run.specs.ViewedWorkMeanings.{ViewedWorkMeaning, lacks_memory, left_of}
 use Rattle.dym_run.specs.JobOrigins.{JobSource}
 use Rattle.dym_run.specs.declared.report_options.ReportOptions.{ReportOptions}

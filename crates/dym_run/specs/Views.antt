@@ -5,7 +5,7 @@ use Rattle.dym_base.specs.declared.command.Version.{Version}
 use Rattle.dym_script.specs.Scripts.{ScriptMeaning}
 use Rattle.dym_report.specs.Late.{view_line}
 use Rattle.dym_report.specs.Orders.{end_text}
-use Rattle.dym_report.specs.declared.late.ViewLine.{ViewLine}
+use Rattle.dym_report.specs.declared.late_lines.ViewLine.{ViewLine}
 use Rattle.dym_run.specs.Lines.{oldest_view}
 use Rattle.dym_run.specs.declared.report_options.ReportOptions.{ReportOptions}
 use Rattle.dym_report.specs.Report.{Own, objects_of, part_text, end_of}

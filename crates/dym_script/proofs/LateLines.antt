@@ -7,7 +7,7 @@ use Rattle.std.proofs.lemmas.Grind.{get_or-set_at}
 use Rattle.std.proofs.lemmas.List.Sums.{sum_by-append, sum_by-cons}
 use Rattle.std.proofs.lemmas.List.Elements.{All-head, All-tail, All-push, All-weaker}
 use Rattle.dym_base.specs.LateRun.{Arrival, accepted_after}
-use Rattle.dym_script.specs.declared.late.LateReader.{LateReader}
+use Rattle.dym_script.specs.declared.late_reader.LateReader.{LateReader}
 use Rattle.dym_base.specs.declared.limits.TheConstants.{MOST_LATE_LINES, MOST_LATE_EVENTS}
 use Rattle.dym_script.specs.declared.late_script.LateAct.{LateAct}
 use Rattle.dym_script.specs.declared.late_script.LateAct.TheVariants.{At, Commit}

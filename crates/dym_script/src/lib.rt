@@ -18,7 +18,7 @@
 
 mod counter;
 mod keeper;
-mod late;
+mod late_reader;
 pub mod late_script;
 mod late_words;
 mod laws;
@@ -40,7 +40,7 @@ mod verb;
 
 pub use counter::Counter;
 pub use keeper::Keeper;
-pub use late::read_late;
+pub use late_reader::read_late;
 pub use late_script::{LateAct, LateLine, LateScript};
 pub use laws::{first_fault, no_more_are_accepted};
 pub use line_list::read_script;

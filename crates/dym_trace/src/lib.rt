@@ -7,9 +7,9 @@
 
 mod answer;
 mod cut;
+mod event_reader;
 mod list;
 mod machine;
-mod read;
 mod verdict;
 
 pub use answer::TraceAnswer;

@@ -6,8 +6,8 @@ ghost use Rattle.dym_trace.specs.Verdict.{LineStep, OneReading, OneVerdict, IsVe
 
 use crate::answer::TraceAnswer;
 use crate::cut::first_line;
+use crate::event_reader::read_event;
 use crate::machine::Machine;
-use crate::read::read_event;
 use dym_base::limits::MOST_INPUT_BYTES;
 use dym_slots::each_step_keeps_facts;
 use std::alloc::{AllocError, Global};

@@ -10,8 +10,8 @@ mod laws;
 mod number;
 mod options;
 pub mod order;
-mod read;
+mod order_words;
 
 pub use laws::made_orders_are_within;
 pub use order::{Input, Order, Usage};
-pub use read::read_words;
+pub use order_words::read_words;

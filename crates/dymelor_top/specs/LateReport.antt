@@ -8,7 +8,7 @@ use Rattle.dym_script.specs.declared.late_script.LateLine.{LateLine}
 use Rattle.dym_script.specs.declared.script.Decl.{Decl}
 use Rattle.dym_script.specs.Late.{LateScriptMeaning}
 use Rattle.dym_script.specs.LateArrivals.{arrivals_of}
-use Rattle.dym_report.specs.declared.late.LateOut.TheVariants as out
+use Rattle.dym_report.specs.declared.late_lines.LateOut.TheVariants as out
 use Rattle.dym_report.specs.Late.{late_line, late_end}
 use Rattle.dym_report.specs.Objects.{heading}
 use Rattle.dym_report.specs.Orders.{end_text}

@@ -1,5 +1,5 @@
 use Rattle.std.proofs.Common.{◌≡◌, ◌<◌, ◌+◌, ℕ, [], ◌∷◌, ◌++◌, ◌∙◌, length, set, sym, ap, subst, rules, length-set}
-use Rattle.dym_script.specs.declared.late.LateReader.{LateReader}
+use Rattle.dym_script.specs.declared.late_reader.LateReader.{LateReader}
 use Rattle.dym_script.specs.declared.late_script.LateLine.{LateLine}
 use Rattle.dym_script.proofs.LateLines.{Counts, counts_event, counts_commit, late_room, kept_line}
 use Rattle.dym_script.proofs.late.LateReader.keep.Goals.{then-is_event+else-count-eq-MOST_LATE_EVENTS, else-is_event}

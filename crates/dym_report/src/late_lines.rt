@@ -2,12 +2,12 @@
 ghost use Rattle.std.specs.Prelude.{Some};
 ghost use Rattle.dym_heap.specs.Meaning.{IsSound};
 ghost use Rattle.dym_io.specs.Sink.{Writes};
-ghost use Rattle.dym_report.specs.declared.late.ViewLine.{ViewLine};
+ghost use Rattle.dym_report.specs.declared.late_lines.ViewLine.{ViewLine};
 ghost use Rattle.dym_report.specs.Late.{view_line, late_line, late_end};
 
-use crate::compose::{LINE_ROOM, put_numbers};
-use crate::live::{write_heap, write_images};
+use crate::object_report::{write_heap, write_images};
 use crate::reply::{write_number, write_reply};
+use crate::reply_text::{LINE_ROOM, put_numbers};
 use dym_base::Reply;
 use dym_heap::Heap;
 use dym_io::{Sink, SinkFault, push_all, put_named, put_text};
