@@ -4,7 +4,7 @@ use Rattle.dym_io.specs.Laws.{writes_stopped}
 use Rattle.dym_report.specs.Late.{replayed_line}
 use Rattle.dym_report.specs.Objects.{heap_line, images_text}
 use Rattle.dym_report.proofs.ObjectParts.{cut_first, cut_second, third_ends}
-use Rattle.dym_report.proofs.late.write_late_end.Goals as goal
+use Rattle.dym_report.proofs.late_lines.write_late_end.Goals as goal
 
 pub returns-in_err-write_heap : goal.returns-in_err-write_heap
 returns-in_err-write_heap g c =

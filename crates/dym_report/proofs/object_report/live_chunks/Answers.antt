@@ -5,7 +5,7 @@ use Rattle.dym_base.specs.HeapStep.{key}
 use Rattle.dym_heap.specs.Replies.{after_key, IsNextLive}
 use Rattle.dym_report.proofs.EntriesInOrder.{entries_from_start}
 use Rattle.dym_report.proofs.LiveWalk.{left_after, walk_ends, walk_shortens, walk_falls}
-use Rattle.dym_report.proofs.live.live_chunks.Goals as goal
+use Rattle.dym_report.proofs.object_report.live_chunks.Goals as goal
 
 small_key : (k : ℕ) → k / 2 ^ 32 ≤ 16 → k + 1 ≤ 2 ^ 37
 small_key k within = omega (arith, within)

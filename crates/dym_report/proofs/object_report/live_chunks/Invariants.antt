@@ -2,7 +2,7 @@ use Rattle.std.proofs.Common.{◌≡◌, ◌+◌, ◌≤◌, ◌^◌, length}
 use Rattle.std.specs.FinMap.{len}
 use Rattle.dym_heap.specs.Replies.{after_key}
 use Rattle.dym_report.proofs.LiveWalk.{left_after}
-use Rattle.dym_report.proofs.live.live_chunks.Given as goal
+use Rattle.dym_report.proofs.object_report.live_chunks.Given as goal
 
 abbrev pub invariant-loop-handle : goal.invariant-loop-handle
 invariant-loop-handle g l = record {

@@ -7,7 +7,7 @@ use Rattle.dym_io.specs.Laws.{leaves_all, leaves_same, leaves_more, leaves_cut, 
 use Rattle.dym_report.specs.Objects.{image_line, images_text}
 use Rattle.dym_report.proofs.EntriesInOrder.{entries_from_start}
 use Rattle.dym_report.proofs.LiveWalk.{bytes_of, walk_ends, walk_goes, walk_falls}
-use Rattle.dym_report.proofs.live.write_images.Goals as goal
+use Rattle.dym_report.proofs.object_report.write_images.Goals as goal
 
 pub loop-handle-init : goal.loop-handle-init
 loop-handle-init g c =

@@ -3,7 +3,7 @@ use Rattle.dym_base.specs.HeapStep.{handle_of}
 use Rattle.dym_io.specs.Sink.{Leaves}
 use Rattle.dym_report.specs.Objects.{image_line, images_text}
 use Rattle.dym_report.proofs.LiveWalk.{left_after}
-use Rattle.dym_report.proofs.live.write_images.Given as goal
+use Rattle.dym_report.proofs.object_report.write_images.Given as goal
 
 abbrev pub invariant-loop-handle : goal.invariant-loop-handle
 invariant-loop-handle g l = Leaves (g.W.Sink.output l.initial.sink) (g.W.Sink.output l.sink) (images_text l.heap.version l.heap.state.live)

@@ -5,7 +5,7 @@ use Rattle.dym_base.specs.Numbers.{number}
 use Rattle.dym_io.specs.Sink.{Writes}
 use Rattle.dym_report.specs.Objects.{image_line}
 use Rattle.dym_report.proofs.LiveChunks.{named, each_some, one_some}
-use Rattle.dym_report.proofs.live.write_live.Goals as goal
+use Rattle.dym_report.proofs.object_report.write_live.Goals as goal
 
 pub returns : goal.returns
 returns g c =

@@ -4,7 +4,7 @@ use Rattle.dym_io.specs.Laws.{writes_stopped}
 use Rattle.dym_report.specs.Objects.{heading, state_text}
 use Rattle.dym_report.specs.Replies.{reply_line}
 use Rattle.dym_report.proofs.ObjectParts.{object_is, cut_first, cut_second, third_ends_as}
-use Rattle.dym_report.proofs.live.write_object.Goals as goal
+use Rattle.dym_report.proofs.object_report.write_object.Goals as goal
 
 pub returns-in_err-write_heading : goal.returns-in_err-write_heading
 returns-in_err-write_heading g c =

@@ -3,7 +3,7 @@ use Rattle.dym_base.specs.Heaps.{held}
 use Rattle.dym_io.specs.Laws.{writes_stopped}
 use Rattle.dym_report.specs.Objects.{heap_line, images_text, logs_line}
 use Rattle.dym_report.proofs.ObjectParts.{cut_first, cut_second, third_ends}
-use Rattle.dym_report.proofs.live.write_state.Goals as goal
+use Rattle.dym_report.proofs.object_report.write_state.Goals as goal
 
 pub returns-in_err-write_heap : goal.returns-in_err-write_heap
 returns-in_err-write_heap g c =

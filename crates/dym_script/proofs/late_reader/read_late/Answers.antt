@@ -3,7 +3,7 @@ use Rattle.dym_base.specs.Lines.{lines_of}
 use Rattle.dym_script.specs.Late.{late_lines}
 use Rattle.dym_script.specs.LateAnswers.{late_reading_of}
 use Rattle.dym_script.proofs.LateRead.{read_more, read_bad, read_end, kept_is_lawful}
-use Rattle.dym_script.proofs.late.read_late.Goals as goal
+use Rattle.dym_script.proofs.late_reader.read_late.Goals as goal
 
 pub loop-line-init : goal.loop-line-init
 loop-line-init c = record {

@@ -1,7 +1,7 @@
 use Rattle.std.proofs.Common.{◌+◌, ◌≤◌, length}
 use Rattle.dym_script.specs.LateAnswers.{IsValidLateReader, late_reading_of}
 use Rattle.dym_script.proofs.LateRead.{ReadTo}
-use Rattle.dym_script.proofs.late.read_late.Given as goal
+use Rattle.dym_script.proofs.late_reader.read_late.Given as goal
 
 abbrev pub invariant-loop-line : goal.invariant-loop-line
 invariant-loop-line l = record {

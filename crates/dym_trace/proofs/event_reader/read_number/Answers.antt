@@ -4,8 +4,8 @@ use Rattle.std.proofs.lemmas.Bool.Decides.{nat_tests}
 use Rattle.std.proofs.lemmas.Fmt.{decimal_nonempty}
 use Rattle.std.proofs.lemmas.List.{take_all}
 use Rattle.dym_trace.proofs.Digits.{no_leading_zero, text_of_value, one_more, too_large}
-use Rattle.dym_trace.proofs.read.read_number.Goals as goal
-use Rattle.dym_trace.proofs.read.read_number.Goals.{then-is_empty-via-then-is_empty, then-is_empty-via-else-is_empty+then-has_leading_zero}
+use Rattle.dym_trace.proofs.event_reader.read_number.Goals as goal
+use Rattle.dym_trace.proofs.event_reader.read_number.Goals.{then-is_empty-via-then-is_empty, then-is_empty-via-else-is_empty+then-has_leading_zero}
 
 pub returns-then-is_empty : goal.returns-then-is_empty
 returns-then-is_empty c n small e =

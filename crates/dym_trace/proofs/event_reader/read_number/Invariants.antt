@@ -1,6 +1,6 @@
 use Rattle.std.proofs.Common.{◌≡◌, ◌<◌, ◌^◌, take}
 use Rattle.std.specs.Str.Parse.{AllDigits, digits_value}
-use Rattle.dym_trace.proofs.read.read_number.Given as goal
+use Rattle.dym_trace.proofs.event_reader.read_number.Given as goal
 
 -- the digits so far, and their value
 abbrev pub invariant-loop-byte : goal.invariant-loop-byte

@@ -1,6 +1,6 @@
 use Rattle.std.proofs.Common.{rules, ◌≡◌, ◌<◌, ◌^◌, sym, ◌∙◌, arith}
 use Rattle.std.proofs.lemmas.Fmt.{decimal_injective}
-use Rattle.dym_trace.proofs.read.read_slot.Goals as goal
+use Rattle.dym_trace.proofs.event_reader.read_slot.Goals as goal
 
 pub returns-else-slot-from : goal.returns-else-slot-from
 returns-else-slot-from c s low e =

@@ -2,7 +2,7 @@ use Rattle.std.proofs.Common.{◌≡◌, inl, inr}
 use Rattle.std.proofs.lemmas.Bool.Decides.{Decides-eqb}
 use Rattle.std.proofs.lemmas.Slice.Eq.{slice_eq-Decides}
 use Rattle.dym_trace.proofs.Reading.{no_space, swap_parts}
-use Rattle.dym_trace.proofs.read.read_swap.Goals as goal
+use Rattle.dym_trace.proofs.event_reader.read_swap.Goals as goal
 
 pub returns-in_err-slot : goal.returns-in_err-slot
 returns-in_err-slot c = rw c.from_residual.ensures (no_space c.args.words.now c.in_err-slot.ensures)

@@ -2,8 +2,8 @@ use Rattle.std.proofs.Common.{◌≡◌, ◌<◌, ◌+◌, ℕ, [], ◌∷◌, �
 use Rattle.dym_script.specs.declared.late_reader.LateReader.{LateReader}
 use Rattle.dym_script.specs.declared.late_script.LateLine.{LateLine}
 use Rattle.dym_script.proofs.LateLines.{Counts, counts_event, counts_commit, late_room, kept_line}
-use Rattle.dym_script.proofs.late.LateReader.keep.Goals.{then-is_event+else-count-eq-MOST_LATE_EVENTS, else-is_event}
-use Rattle.dym_script.proofs.late.LateReader.keep.Goals as goal
+use Rattle.dym_script.proofs.late_reader.LateReader.keep.Goals.{then-is_event+else-count-eq-MOST_LATE_EVENTS, else-is_event}
+use Rattle.dym_script.proofs.late_reader.LateReader.keep.Goals as goal
 
 pub returns-clause-kept : goal.returns-clause-kept
 returns-clause-kept c =
