@@ -11,9 +11,9 @@ ghost use Rattle.dymelor_top.specs.Headline.{Writes, WritesSo, WritesAnswer, Cou
 ghost use Rattle.dymelor_top.specs.Stops.{StopCauses};
 
 use crate::blocks::read_source;
-use crate::late::answer_late;
+use crate::late_order::answer_late;
 use crate::load_order::answer_loaded;
-use crate::plain::write_report;
+use crate::plain_order::write_report;
 use crate::plan::Reading;
 use crate::save_order::answer_saved;
 use crate::stop::Stop;

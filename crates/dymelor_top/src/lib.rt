@@ -8,13 +8,13 @@
 mod answer;
 mod blocks;
 mod generator_text;
-mod late;
+mod late_order;
 mod late_outcome;
 mod late_parts;
 mod late_run;
 mod laws;
 mod load_order;
-mod plain;
+mod plain_order;
 mod plan;
 mod save_order;
 mod segment_store;

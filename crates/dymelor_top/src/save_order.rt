@@ -13,7 +13,7 @@ ghost use Rattle.dym_report.specs.Report.{IsRunnable, own_of};
 ghost use Rattle.dymelor_top.specs.Answers.{file_answer, named_answer, saved_answer};
 ghost use Rattle.dymelor_top.specs.Headline.{WritesAnswer, Counted};
 
-use crate::plain::open_object;
+use crate::plain_order::open_object;
 use crate::segment_store::SegmentStore;
 use dym_base::limits::MOST_INPUT_BYTES;
 use dym_base::{BadKind, Name, Version};

@@ -8,7 +8,7 @@ ghost use Rattle.dym_script.specs.ByObjects.{IsByObjects};
 ghost use Rattle.dym_report.specs.Report.{IsRunnable, own_of};
 ghost use Rattle.dym_report.specs.Summary.{is_refusal, tally_of, tally_all, totals_of};
 
-use crate::plain::open_object;
+use crate::plain_order::open_object;
 use crate::segment_store::SegmentStore;
 use dym_base::{Reply, Version, laws};
 use dym_chain::VecKeep;

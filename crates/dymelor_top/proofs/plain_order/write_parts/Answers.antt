@@ -5,7 +5,7 @@ use Rattle.dym_report.specs.declared.write_fail.WriteFail.TheVariants as fail
 use Rattle.dym_report.specs.Report.{own_of, part_text}
 use Rattle.dym_run.proofs.Progress.{writes_or_passed}
 use Rattle.dymelor_top.proofs.PassedOn.{each_front_item}
-use Rattle.dymelor_top.proofs.plain.write_parts.Goals as goal
+use Rattle.dymelor_top.proofs.plain_order.write_parts.Goals as goal
 
 pub returns-in_err-write_part : goal.returns-in_err-write_part
 returns-in_err-write_part g c =

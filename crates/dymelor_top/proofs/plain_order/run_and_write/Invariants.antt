@@ -1,6 +1,6 @@
 use Rattle.std.proofs.Common.{◌≡◌, drop}
 use Rattle.dymelor_top.proofs.WrittenReplies.{Written}
-use Rattle.dymelor_top.proofs.plain.run_and_write.Given as goal
+use Rattle.dymelor_top.proofs.plain_order.run_and_write.Given as goal
 
 abbrev pub invariant-loop-k : goal.invariant-loop-k
 invariant-loop-k g l = record {

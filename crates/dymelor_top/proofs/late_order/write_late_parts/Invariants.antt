@@ -1,7 +1,7 @@
 use Rattle.std.proofs.Common.{◌≡◌, ◌++◌, All, flat_map}
 use Rattle.dym_io.specs.Sink.{Appended}
 use Rattle.dymelor_top.specs.LateParts.{IsLatePart, late_part_text}
-use Rattle.dymelor_top.proofs.late.write_late_parts.Given as goal
+use Rattle.dymelor_top.proofs.late_order.write_late_parts.Given as goal
 
 abbrev pub invariant-loop-part : goal.invariant-loop-part
 invariant-loop-part g l = record {

@@ -1,7 +1,7 @@
 use Rattle.std.proofs.Common.{take, flat_map}
 use Rattle.dym_io.specs.Sink.{Appended}
 use Rattle.dym_report.specs.Report.{own_of, part_text}
-use Rattle.dymelor_top.proofs.plain.write_parts.Given as goal
+use Rattle.dymelor_top.proofs.plain_order.write_parts.Given as goal
 
 abbrev pub invariant-loop-part : goal.invariant-loop-part
 invariant-loop-part g l =

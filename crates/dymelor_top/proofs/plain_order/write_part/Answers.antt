@@ -3,7 +3,7 @@ use Rattle.dym_object.specs.Meaning.{ObjectMeaning}
 use Rattle.dym_io.specs.Sink.{WritesOr}
 use Rattle.dym_report.specs.declared.write_fail.WriteFail.TheVariants as fail
 use Rattle.dym_report.specs.Report.{own_of, part_text}
-use Rattle.dymelor_top.proofs.plain.write_part.Goals as goal
+use Rattle.dymelor_top.proofs.plain_order.write_part.Goals as goal
 
 pub returns : goal.returns
 returns g c =

@@ -2,7 +2,7 @@ use Rattle.std.proofs.Common.{refl}
 use Rattle.dym_io.specs.Laws.{appended_both, cause_told_later, front_after}
 use Rattle.dymelor_top.proofs.PassedOn.{first_passed, first_stopped, second_stopped, second_done}
 use Rattle.dymelor_top.proofs.ObjectText.{part_pieces, part_shown, part_written}
-use Rattle.dymelor_top.proofs.plain.write_run.Goals as goal
+use Rattle.dymelor_top.proofs.plain_order.write_run.Goals as goal
 
 pub returns-in_err-write_heading : goal.returns-in_err-write_heading
 returns-in_err-write_heading g c =

@@ -5,7 +5,7 @@ use Rattle.dym_report.specs.declared.write_fail.WriteFail.TheVariants as fail
 use Rattle.dymelor_top.specs.LateParts.{IsLatePart, late_part_text}
 use Rattle.dym_run.proofs.Progress.{writes_or_passed}
 use Rattle.dymelor_top.proofs.Yielded.{one_more, text_more, text_front}
-use Rattle.dymelor_top.proofs.late.write_late_parts.Goals as goal
+use Rattle.dymelor_top.proofs.late_order.write_late_parts.Goals as goal
 
 pub loop-part-preserved : goal.loop-part-preserved
 loop-part-preserved g c =

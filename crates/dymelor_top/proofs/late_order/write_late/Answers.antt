@@ -1,7 +1,7 @@
 use Rattle.dym_script.specs.Late.{late_said}
 use Rattle.dymelor_top.proofs.PassedOn.{first_passed, second_stopped, second_done}
 use Rattle.dymelor_top.proofs.LatePartFacts.{parts_run, report_of_late}
-use Rattle.dymelor_top.proofs.late.write_late.Goals as goal
+use Rattle.dymelor_top.proofs.late_order.write_late.Goals as goal
 
 pub write_late_parts-requires : goal.write_late_parts-requires
 write_late_parts-requires g c = parts_run c.in_ok-parts.parts.items (late_said c.args.script) c.in_ok-parts.ensures c.requires

@@ -4,7 +4,7 @@ use Rattle.dym_io.specs.Laws.{writes_or_stopped}
 use Rattle.dym_report.specs.declared.write_fail.WriteFail.TheVariants as fail
 use Rattle.dymelor_top.proofs.CommandFacts.{none_behind, ran_counted}
 use Rattle.dymelor_top.proofs.WrittenReplies.{ran_more, ran_cut, written_all, written_last_cut, ended}
-use Rattle.dymelor_top.proofs.plain.run_and_write.Goals as goal
+use Rattle.dymelor_top.proofs.plain_order.run_and_write.Goals as goal
 
 pub returns-in_err-add-clause-replies : goal.returns-in_err-add-clause-replies
 returns-in_err-add-clause-replies g c =
