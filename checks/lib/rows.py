@@ -16,6 +16,9 @@ import re
 import shlex
 
 FOLDER = pathlib.Path(__file__).with_name("rows")
+EXAMPLES = pathlib.Path(__file__).resolve().parents[2] / "examples"
+# The order that runs an example script, by the ending of its name.
+ORDERS = {".dym": "plain", ".late": "late"}
 BYTE = re.compile(rb"\\x([0-9a-f]{2})")
 
 
@@ -53,3 +56,11 @@ def every():
             if lines:
                 yield row_of(f"{file.name}, the row at line {first}", lines)
             lines, first = [], number + 1
+
+
+def examples():
+    """The example scripts, each as a row: its output stands in the file beside it."""
+    for file in sorted(EXAMPLES.iterdir()):
+        if file.suffix in ORDERS:
+            output = file.with_suffix(".out").read_bytes()
+            yield Row(f"examples/{file.name}", [ORDERS[file.suffix]], file.read_bytes(), output, 0)
