@@ -8,3 +8,4 @@ pub mod Sizes
 pub mod Quota
 pub mod Runs
 pub mod Standing
+pub mod Restoring

@@ -69,13 +69,13 @@ follows_drop (suc n) (e ∷ logs) each = follows_drop n logs each.1
 
 -- the logs at or before a time
 
-later_too : (t : ℕ) (e : LogEntry) (logs : List LogEntry) → t < e.time → FirstFollows e logs → EachFollows logs → AllByRecursion (λ f. t < f.time) logs
+pub later_too : (t : ℕ) (e : LogEntry) (logs : List LogEntry) → t < e.time → FirstFollows e logs → EachFollows logs → AllByRecursion (λ f. t < f.time) logs
 later_too t e [] later first each = tt
 later_too t e (f ∷ logs) later first each =
     let next : t < f.time = omega (arith, first.0) in
     (next, later_too t f logs next each.0 each.1)
 
-reached_cons : (t : ℕ) (e : LogEntry) (logs : List LogEntry) → reached t (e ∷ logs) ≡ cond (nat_le e.time t) 1 0 + reached t logs
+pub reached_cons : (t : ℕ) (e : LogEntry) (logs : List LogEntry) → reached t (e ∷ logs) ≡ cond (nat_le e.time t) 1 0 + reached t logs
 reached_cons t e logs = sum_by-cons (λ f. cond (nat_le f.time t) 1 0) e logs
 
 none_reached : (t : ℕ) (logs : List LogEntry) → AllByRecursion (λ f. t < f.time) logs → reached t logs ≡ 0

@@ -17,3 +17,4 @@ pub mod Laws
 pub mod RunLaws
 pub mod LateRun
 pub mod StandingLaws
+pub mod RestoreLaws

@@ -3,6 +3,7 @@ ghost use Rattle.dym_base.specs.Laws.{FreshIsFree, FreshIsLeast, NumberKeepsHand
 ghost use Rattle.dym_base.specs.StandingLaws.{FullStandsAlone, LogsStandForOne};
 ghost use Rattle.dym_base.specs.Limits.{LimitsAreThese};
 ghost use Rattle.dym_base.specs.RunLaws.{RunsKeepQuota, RunsKeepSizes, RunsTouchLive, RunsKeepLogs, ReachedAreBefore};
+ghost use Rattle.dym_base.specs.RestoreLaws.{RestoresBringBack};
 
 /// The index of a new chunk is the least of its class that isn't live.
 pub fn fresh_is_least()
@@ -72,6 +73,12 @@ pub fn runs_keep_logs()
 /// A restore and a prune find the last log at or before a time by counting the logs at or before it.
 pub fn reached_are_before()
     ensures { ReachedAreBefore }
+{}
+
+/// A restore brings back what was logged: after a log at `t` and any commands, none of which restores to a time before `t`, a restore
+/// to `t` that finds that log makes live exactly what was live when it was made.
+pub fn restores_bring_back()
+    ensures { RestoresBringBack }
 {}
 
 /// A full log alone stands for its copy, and no logs stand for two maps.
