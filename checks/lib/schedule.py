@@ -19,7 +19,7 @@ class Schedule:
 
     def __init__(self, seconds, processors, memory):
         """seconds: by the name of each crate, how long one job takes."""
-        self.seconds, self.processors, self.memory = seconds, processors, memory
+        self.seconds, self.processors, self.memory = dict(seconds), processors, memory
         self.left, self.running, self.done = list(seconds), {}, set()
         self.chain = dict(seconds)
         for name in reversed(self.left):
@@ -47,6 +47,11 @@ class Schedule:
         del self.running[name]
         self.done.add(name)
 
+    def slow_down(self, factor):
+        """This machine takes so many times longer than was told."""
+        self.seconds = {name: it * factor for name, it in self.seconds.items()}
+        self.chain = {name: it * factor for name, it in self.chain.items()}
+
     def next(self, now):
         """The crate to start now, with its jobs; or None, where none can be or it is better to wait for one that ends."""
         name, most = self.first_ready()
@@ -70,7 +75,8 @@ def share_of(schedule, name, most):
 def expected(schedule, now, waits=False):
     """The seconds that the rest of a schedule takes, where each crate gets a share of the processors. waits: begins with the next end."""
     at, rest = now, schedule.copy()
-    ends = {name: max(began + rest.seconds[name] / FASTER_BY[jobs], now + 1) for name, (jobs, began) in rest.running.items()}
+    # A job that has taken longer than was told goes on for a quarter of what it took.
+    ends = {name: max(began + rest.seconds[name] / FASTER_BY[jobs], now + (now - began) / 4) for name, (jobs, began) in rest.running.items()}
     while rest.left or ends:
         name, most = (None, 0) if waits else rest.first_ready()
         if name and most:
