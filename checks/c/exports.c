@@ -67,12 +67,13 @@ static void closed_object(dym_object *object)
     ANSWERS(dym_address(object, h, &place), DYM_BAD);
     ANSWERS(dym_touch(object, h, &address), DYM_BAD);
     ANSWERS(dym_touch_all(object), DYM_BAD);
-    ANSWERS(dym_wrote_at(object, 0, 8), DYM_BAD);
+    ANSWERS(dym_wrote_offset(object, 0, 8), DYM_BAD);
     ANSWERS(dym_untold(object, &h), DYM_BAD);
     ANSWERS(dym_wrote(object, bytes, 4), DYM_BAD);
     ANSWERS(dym_start(object, &place), DYM_BAD);
-    ANSWERS(dym_handle_at(object, 0, &h), DYM_BAD);
+    ANSWERS(dym_handle_offset(object, 0, &h), DYM_BAD);
     ANSWERS(dym_at(object, bytes, &h), DYM_BAD);
+    ANSWERS(dym_hash(object, &number), DYM_BAD);
     ANSWERS(dym_malloc_at(object, 8, &h, &address), DYM_BAD);
     ANSWERS(dym_calloc_at(object, 1, 8, &h, &address), DYM_BAD);
     ANSWERS(dym_realloc_at(object, dym_nil, 8, &h, &address), DYM_BAD);
@@ -156,11 +157,11 @@ static void chunks(dym_object *object)
     ANSWERS(dym_free(object, c), DYM_DEAD);
     ANSWERS(dym_free(object, dym_nil), DYM_DONE);
 
-    ANSWERS(dym_write(object, a, 62, (const uint8_t *)"xy", 2), DYM_DONE);
-    ANSWERS(dym_write(object, a, 63, (const uint8_t *)"xy", 2), DYM_RANGE);
-    ANSWERS(dym_write(object, a, UINT32_MAX, (const uint8_t *)"xy", 2), DYM_RANGE);
-    ANSWERS(dym_write(object, a, 64, (const uint8_t *)"", 0), DYM_DONE);
-    ANSWERS(dym_write(object, c, 0, (const uint8_t *)"xy", 2), DYM_DEAD);
+    ANSWERS(dym_write(object, a, 62, "xy", 2), DYM_DONE);
+    ANSWERS(dym_write(object, a, 63, "xy", 2), DYM_RANGE);
+    ANSWERS(dym_write(object, a, UINT32_MAX, "xy", 2), DYM_RANGE);
+    ANSWERS(dym_write(object, a, 64, "", 0), DYM_DONE);
+    ANSWERS(dym_write(object, c, 0, "xy", 2), DYM_DEAD);
     ANSWERS(dym_fill(object, a, 0, 3, 7), DYM_DONE);
     ANSWERS(dym_fill(object, a, 1, 64, 7), DYM_RANGE);
     ANSWERS(dym_fill(object, c, 0, 1, 7), DYM_DEAD);
@@ -241,7 +242,7 @@ static void chunks_in_place(dym_object *object)
     ANSWERS(dym_at(object, start, &h), DYM_DEAD);
     ANSWERS(dym_at(object, &h, &h), DYM_DEAD);
     ANSWERS(dym_at(object, NULL, &h), DYM_DEAD);
-    ANSWERS(dym_handle_at(object, UINT64_MAX, &h), DYM_DEAD);
+    ANSWERS(dym_handle_offset(object, UINT64_MAX, &h), DYM_DEAD);
     EXPECT(dym_same(h, a));
 
     ANSWERS(dym_realloc_at(object, a, 40, &a, &moved), DYM_DONE);
@@ -301,7 +302,7 @@ static void touches(void)
     EXPECT(again == second);
     ANSWERS(dym_wrote(&object, &object, 1), DYM_DONE);
     ANSWERS(dym_wrote(&object, (const void *)0, SIZE_MAX), DYM_DONE);
-    ANSWERS(dym_wrote_at(&object, UINT64_MAX, UINT64_MAX), DYM_DONE);
+    ANSWERS(dym_wrote_offset(&object, UINT64_MAX, UINT64_MAX), DYM_DONE);
     ANSWERS(dym_close(&object), DYM_DONE);
 }
 
@@ -474,7 +475,7 @@ static void logs(dym_object *object)
     EXPECT(time == 14);
 }
 
-#define NAME(text) (const uint8_t *)(text), strlen(text)
+#define NAME(text) (text), strlen(text)
 
 /* An object with one log of a chunk of three bytes, and a second log where a byte of it is another. */
 static void files(void)
@@ -547,6 +548,77 @@ static void exact_lengths(void)
     EXPECT(object.inside == NULL);
 }
 
+/* The header is the library's. */
+static void version(void)
+{
+    EXPECT(dym_version() == DYM_VERSION_NUMBER);
+    EXPECT(DYM_VERSION_NUMBER == DYM_VERSION_MAJOR * 10000 + DYM_VERSION_MINOR * 100 + DYM_VERSION_PATCH);
+}
+
+/* Results that nobody reads may be null. */
+static void unread_results(void)
+{
+    dym_object object = {0}, other = {0};
+    dym_handle a;
+    uint8_t file[2000], byte = 0;
+    uint64_t length = 0;
+    void *address = NULL, *again = NULL;
+    ANSWERS(dym_open(&object, 3, 2), DYM_DONE);
+    ANSWERS(dym_malloc_at(&object, 3, NULL, &address), DYM_DONE);
+    ANSWERS(dym_calloc_at(&object, 3, 1, NULL, &again), DYM_DONE);
+    EXPECT(address != NULL && (uint8_t *)again == (uint8_t *)address + 32);
+    ANSWERS(dym_malloc_at(&object, 65537, NULL, &again), DYM_TOO_LARGE);
+    EXPECT((uint8_t *)again == (uint8_t *)address + 32);
+    ANSWERS(dym_at(&object, address, &a), DYM_DONE);
+    ANSWERS(dym_log(&object, DYM_FULL, 10, NULL), DYM_DONE);
+    ANSWERS(dym_log(&object, DYM_FULL, 10, NULL), DYM_NOT_AFTER);
+    ANSWERS(dym_touch(&object, a, NULL), DYM_DONE);
+    *(uint8_t *)address = 7;
+    ANSWERS(dym_log(&object, DYM_INCREMENTAL, 20, NULL), DYM_DONE);
+    ANSWERS(dym_save(&object, NAME("lp"), file, sizeof file, &length), DYM_DONE);
+    ANSWERS(dym_load(&other, file, 20, NULL), DYM_BAD);
+    ANSWERS(dym_load(&other, file, (size_t)length, NULL), DYM_DONE);
+    ANSWERS(dym_restore_before(&other, 20, NULL), DYM_DONE);
+    ANSWERS(dym_read(&other, a, 0, &byte, 1), DYM_DONE);
+    EXPECT(byte == 0);
+    ANSWERS(dym_restore(&object, 20, NULL), DYM_DONE);
+    ANSWERS(dym_read(&object, a, 0, &byte, 1), DYM_DONE);
+    EXPECT(byte == 7);
+    ANSWERS(dym_prune_before(&object, 11, NULL), DYM_DONE);
+    ANSWERS(dym_prune(&object, 20, NULL), DYM_DONE);
+    ANSWERS(dym_restore(&object, 19, NULL), DYM_NO_LOG);
+    ANSWERS(dym_close(&object), DYM_DONE);
+    ANSWERS(dym_close(&other), DYM_DONE);
+}
+
+/* FNV-1a, told beforehand: of nothing, of the bytes 1 2 3 in 5:0, and of that with 40 zeros in 6:0. */
+static void hashes(void)
+{
+    dym_object object = {0};
+    dym_handle a, b;
+    uint64_t hash = 77;
+    ANSWERS(dym_hash(&object, &hash), DYM_BAD);
+    EXPECT(hash == 77);
+    ANSWERS(dym_open(&object, 3, 2), DYM_DONE);
+    ANSWERS(dym_hash(&object, &hash), DYM_DONE);
+    EXPECT(hash == UINT64_C(0xcbf29ce484222325));
+    ANSWERS(dym_malloc(&object, 3, &a), DYM_DONE);
+    ANSWERS(dym_write(&object, a, 0, "\1\2\3", 3), DYM_DONE);
+    ANSWERS(dym_hash(&object, &hash), DYM_DONE);
+    EXPECT(hash == UINT64_C(0x8258e1ab0eec73fd));
+    ANSWERS(dym_log(&object, DYM_FULL, 10, NULL), DYM_DONE);
+    ANSWERS(dym_malloc(&object, 40, &b), DYM_DONE);
+    ANSWERS(dym_hash(&object, &hash), DYM_DONE);
+    EXPECT(hash == UINT64_C(0x19dc4933457aaee3));
+    ANSWERS(dym_fill(&object, b, 39, 1, 1), DYM_DONE);
+    ANSWERS(dym_hash(&object, &hash), DYM_DONE);
+    EXPECT(hash != UINT64_C(0x19dc4933457aaee3));
+    ANSWERS(dym_restore(&object, 10, NULL), DYM_DONE);
+    ANSWERS(dym_hash(&object, &hash), DYM_DONE);
+    EXPECT(hash == UINT64_C(0x8258e1ab0eec73fd));
+    ANSWERS(dym_close(&object), DYM_DONE);
+}
+
 int main(void)
 {
     dym_object object = {0};
@@ -564,6 +636,9 @@ int main(void)
     untold_writes();
     strictly_before();
     inline_functions();
+    version();
+    unread_results();
+    hashes();
     ANSWERS(dym_close(&object), DYM_DONE);
     closed_object(&object);
     return differences > 0;

@@ -90,7 +90,7 @@ pub extern "C" fn dym_touch_all(object: &mut DymObject) -> u32
 
 /// Makes each live chunk count as written of which a byte lies in the `len` bytes from `offset` on of the object's region.
 #[unsafe(no_mangle)]
-pub extern "C" fn dym_wrote_at(object: &mut DymObject, offset: u64, len: u64) -> u32
+pub extern "C" fn dym_wrote_offset(object: &mut DymObject, offset: u64, len: u64) -> u32
     ensures status { result ≡ open_status object.old.value }
     ensures after { object.new.value ≡ option_map
         (with_touched_in offset (offset + len)) object.old.value }
@@ -118,7 +118,11 @@ pub extern "C" fn dym_start(object: &mut DymObject, start: &mut *const u8) -> u3
 
 /// The live chunk that has the byte at `offset` of the object's region.
 #[unsafe(no_mangle)]
-pub extern "C" fn dym_handle_at(object: &mut DymObject, offset: u64, chunk: &mut DymHandle) -> u32
+pub extern "C" fn dym_handle_offset(
+    object: &mut DymObject,
+    offset: u64,
+    chunk: &mut DymHandle,
+) -> u32
     ensures told { IsHandleAt object.old.value offset result chunk.old chunk.new }
     ensures same { object.new.value ≡ object.old.value }
 {
