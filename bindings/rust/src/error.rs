@@ -1,7 +1,7 @@
 use std::fmt;
 
 /// Why a call did not do what it says. Each variant is the status of that name in the header, but [`File`](Error::File), which stands for
-/// the `DYM_BAD` of `dym_load`.
+/// the `DYM_BAD` of `dym_load`, and [`Twice`](Error::Twice), which is this crate's own. A later version may have more.
 ///
 /// The variants up to [`NoLog`](Error::NoLog) are refusals. A refused call changes nothing of the object but the count of its
 /// commands, on which only [`Spent`](Error::Spent) depends. A call that returns another variant changes nothing of it at all.
@@ -10,6 +10,7 @@ use std::fmt;
 /// in which the call names them; [`Memory`](Error::Memory) comes only if none of these does, but for
 /// [`Object::save`](crate::Object::save). [`Object::chunk_mut`](crate::Object::chunk_mut) says [`Dead`](Error::Dead) before `Spent`.
 #[derive(Clone, Copy, Debug, PartialEq, Eq, Hash)]
+#[non_exhaustive]
 pub enum Error {
     /// No class has chunks of that length; the greatest is 65,536 bytes.
     TooLarge,
@@ -32,6 +33,8 @@ pub enum Error {
     Bad,
     /// The object has run 2^60 commands, the most that it may.
     Spent,
+    /// A chunk was named twice where several are lent at once.
+    Twice,
     /// The bytes are no checkpoint file.
     File {
         /// The first part that fails: 0 for the header, k for record k, and one more than there are records for what follows them.
@@ -75,6 +78,7 @@ impl fmt::Display for Error {
             Error::Memory => "memory ran out",
             Error::Bad => "the quota or the name is bad",
             Error::Spent => "the object has run 2^60 commands, the most that it may",
+            Error::Twice => "a chunk was named twice",
             Error::File { part } => {
                 return write!(f, "the bytes are no checkpoint file: part {part} fails")
             }
