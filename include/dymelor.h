@@ -52,7 +52,7 @@
  * simulation time is a number of whatever unit the simulator has, of which only the order matters.
  *
  * What the text beside a call says of a parameter that it writes, as *chunk, holds at DYM_DONE. At any other status the parameter stays as
- * it was, but for *length of dym_save at DYM_RANGE, *part of dym_load at DYM_BAD, and *moved of dym_realloc_at at DYM_SPENT.
+ * it was, but for *length of dym_save at DYM_RANGE, *part of dym_load at DYM_FILE, and *moved of dym_realloc_at at DYM_SPENT.
  *
  * Names: what ends with _at takes or tells an address, what ends with _offset counts bytes from where the object's block begins, and what
  * ends with _before means what is strictly before a time.
@@ -102,8 +102,9 @@ DYM_API uint32_t dym_version(void);
 
 /*
  * What a call answers. A refused command changes nothing of the object but the count of its commands, on which only DYM_SPENT depends; a
- * status from 8 on changes nothing of it at all. If more than one would be right, DYM_BAD comes first, then DYM_SPENT, then the
- * refusals as they stand beside the call; DYM_MEMORY comes only if none of these does, but for dym_save and dym_load.
+ * status from 8 on changes nothing of it at all. If more than one would be right, DYM_BAD comes first, then DYM_STATE, then DYM_SPENT, then
+ * the refusals as they stand beside the call; DYM_MEMORY comes only if none of these does, but for dym_save and dym_load. Each call answers
+ * DYM_STATE for a closed object, and dym_open and dym_load for an open one, which isn't said again beside them.
  */
 typedef uint32_t dym_status;
 
@@ -117,8 +118,10 @@ enum {
     DYM_LOGS_FULL = 6, /* refused: 256 logs are kept, the most that an object keeps */
     DYM_NO_LOG = 7,    /* refused: no kept log is at or before the time, before it (dym_restore_before), or at the place (dym_log_time) */
     DYM_MEMORY = 8,    /* memory ran out */
-    DYM_BAD = 9,       /* an argument was bad, or the object closed (for dym_open and dym_load: open) */
-    DYM_SPENT = 10     /* the object has run 2^60 commands, the most that it may */
+    DYM_BAD = 9,       /* an argument was bad */
+    DYM_SPENT = 10,    /* the object has run 2^60 commands, the most that it may */
+    DYM_STATE = 11,    /* the object is closed; for dym_open and dym_load: it is open */
+    DYM_FILE = 12      /* the bytes are no checkpoint file */
 };
 
 /* An object: closed when it is zero. */
@@ -195,8 +198,10 @@ static inline const char *dym_status_text(dym_status status)
         "256 logs are kept, the most that an object keeps",
         "no log has such a time",
         "memory was wanting",
-        "an argument was bad, or the object closed or open",
+        "an argument was bad",
         "the object has run 2^60 commands",
+        "the object is closed, or open where it is to be opened",
+        "the bytes are no checkpoint file",
     };
     return status < sizeof texts / sizeof texts[0] ? texts[status] : "no status";
 }
@@ -244,20 +249,20 @@ typedef struct dym_heap {
 /*
  * Opens a closed object with an empty heap and no log. The quota is the most segments of 64 KiB that it may hold, 1 to 1,024. In version 1
  * a chunk is as long as its class, in version 2 as long as was asked.
- * DYM_BAD: the object is open, the quota is 0 or above 1,024, or the version is neither 1 nor 2. DYM_MEMORY: it stays closed.
+ * DYM_BAD: the quota is 0 or above 1,024, or the version is neither 1 nor 2. DYM_MEMORY: it stays closed.
  */
 DYM_NODISCARD DYM_API dym_status dym_open(dym_object *object, uint32_t quota, uint32_t version);
 
 /* Closes an open object, and frees all its memory. It can be opened again then. No compiler warns where this status is dropped, since a
- * program that opened the object knows it. DYM_BAD: it was closed. */
+ * program that opened the object knows it. DYM_STATE: it was closed. */
 DYM_API dym_status dym_close(dym_object *object);
 
-/* *heap is the version, the quota and the held segments of an object. This is no command. DYM_BAD: it is closed. */
+/* *heap is the version, the quota and the held segments of an object. This is no command. */
 DYM_NODISCARD DYM_API dym_status dym_inspect(const dym_object *object, dym_heap *heap);
 
 /* ---- chunks
- * Each of these answers DYM_BAD if the object is closed or a handle's exponent is that of no class (nil is allowed where it is said),
- * and, but for the last two, DYM_SPENT. */
+ * Each of these answers DYM_BAD if a handle's exponent is that of no class (nil is allowed where it is said), and, but for the last two,
+ * DYM_SPENT. */
 
 /* A fresh chunk of zero bytes: the free one with the least index in the class of the length, which may be 0. *chunk is its handle.
  * DYM_TOO_LARGE, DYM_QUOTA. */
@@ -304,8 +309,8 @@ DYM_NODISCARD DYM_API dym_status dym_size(const dym_object *object, dym_handle c
 DYM_NODISCARD DYM_API dym_status dym_next(const dym_object *object, dym_handle after, dym_handle *next);
 
 /* ---- chunks in place
- * Each of these answers DYM_BAD if the object is closed or a handle's exponent is that of no class. What a pointer is good for, and
- * until when, stands at the head of this file. */
+ * Each of these answers DYM_BAD if a handle's exponent is that of no class. What a pointer is good for, and until when, is told at the
+ * beginning. */
 
 /* *address is where a chunk lies, to be read there. This is no command. DYM_DEAD. */
 DYM_NODISCARD DYM_API dym_status dym_address(const dym_object *object, dym_handle chunk, const void **address);
@@ -444,7 +449,7 @@ DYM_NODISCARD static inline dym_status dym_hash(const dym_object *object, uint64
 }
 
 /* ---- logs
- * Each of these answers DYM_BAD if the object is closed, and, but for dym_log_time, DYM_SPENT. */
+ * Each of these answers DYM_SPENT, but for dym_log_time. */
 
 /*
  * Logs the heap at a simulation time, which is any number above that of the newest log. A log is full, whatever kind is asked, if there
@@ -483,7 +488,7 @@ DYM_NODISCARD DYM_API dym_status dym_log_time(const dym_object *object, uint32_t
 
 /*
  * Writes the file to where `bytes` begins. *length is how many bytes it has. This is no command.
- * DYM_BAD: the object is closed, or the name is none. DYM_RANGE: the file is longer than `room`; *length is its length then too, and the
+ * DYM_BAD: the name is none. DYM_RANGE: the file is longer than `room`; *length is its length then too, and the
  * bytes stay as they were, so that a room of 0 asks for the length (`bytes` isn't null then either). DYM_MEMORY: the library first makes the
  * file in memory of its own, whatever the room.
  */
@@ -493,9 +498,9 @@ DYM_NODISCARD DYM_API dym_status dym_save(const dym_object *object, const char *
 /*
  * Opens a closed object as the newest log of a file has it, with all its logs, and empty if the file has none. Its quota and version
  * are the file's. Any bytes may be handed in: they make an object exactly if they are a file. The name that the file has isn't returned.
- * DYM_BAD: the object is open, and *part stays as it was; or the bytes are no file, and *part is the first part that fails: 0 for the
- * header, k for record k, and one more than there are records for what follows them; `part` may be null. DYM_MEMORY: it stays closed; this
- * may come of any bytes that begin with a good header, also where the rest is no file.
+ * DYM_FILE: the bytes are no file, and *part is the first part that fails: 0 for the header, k for record k, and one more than there are
+ * records for what follows them; `part` may be null. DYM_MEMORY: it stays closed; this may come of any bytes that begin with a good header,
+ * also where the rest is no file.
  */
 DYM_NODISCARD DYM_API dym_status dym_load(dym_object *object, const void *bytes, size_t length, uint32_t *part);
 

@@ -310,7 +310,7 @@ public:
         return dym_save(&c_, name.data() != nullptr ? name.data() : none, name.size(), bytes, room, told != nullptr ? told : &unread);
     }
 
-    /* Opens a closed object by a file. Where the bytes are no file, the first part that fails is told. */
+    /* Opens a closed object by a file. DYM_FILE: the bytes are no file, and the first part that fails is told. DYM_MEMORY. */
     DYM_NODISCARD dym_status try_load(const void *bytes, std::size_t length, wrote where, std::uint32_t *told = nullptr) noexcept
     {
         return begun(where, dym_load(&c_, bytes, length, told));

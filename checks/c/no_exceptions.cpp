@@ -88,7 +88,7 @@ void logs(dymelor::object &o)
 int main()
 {
     dymelor::object o;
-    ANSWERS(o.try_make<int>(nullptr), DYM_BAD);
+    ANSWERS(o.try_make<int>(nullptr), DYM_STATE);
     ANSWERS(o.try_open(2), DYM_DONE);
     values(o);
     logs(o);

@@ -59,10 +59,10 @@ void opening()
     EXPECT(refuses(DYM_BAD, [] { dymelor::object none(0); }));
     EXPECT(refuses(DYM_BAD, [] { dymelor::object none(4, 3); }));
     dymelor::object closed;
-    EXPECT(!closed.is_open() && closed.try_log(1, dymelor::wrote::touched) == DYM_BAD);
-    EXPECT(closed.try_log(1, dymelor::wrote::anywhere) == DYM_BAD);
-    EXPECT(refuses(DYM_BAD, [&] { closed.make<int>(3); }));
-    EXPECT(closed.try_open(2) == DYM_DONE && closed.try_open(2) == DYM_BAD && closed.is_open());
+    EXPECT(!closed.is_open() && closed.try_log(1, dymelor::wrote::touched) == DYM_STATE);
+    EXPECT(closed.try_log(1, dymelor::wrote::anywhere) == DYM_STATE);
+    EXPECT(refuses(DYM_STATE, [&] { closed.make<int>(3); }));
+    EXPECT(closed.try_open(2) == DYM_DONE && closed.try_open(2) == DYM_STATE && closed.is_open());
     closed.close();
     closed.close();
     EXPECT(!closed.is_open());
@@ -133,8 +133,8 @@ void files()
     EXPECT(refuses(DYM_BAD, [&] { o.save("no name"); }));
     auto file = o.save("lp");
     std::uint32_t part = 9;
-    EXPECT(other.try_load(file.data(), 3, dymelor::wrote::touched, &part) == DYM_BAD && part == 0);
-    EXPECT(refuses(DYM_BAD, [&] { o.load(file.data(), file.size(), dymelor::wrote::touched); }));
+    EXPECT(other.try_load(file.data(), 3, dymelor::wrote::touched, &part) == DYM_FILE && part == 0);
+    EXPECT(refuses(DYM_STATE, [&] { o.load(file.data(), file.size(), dymelor::wrote::touched); }));
     other.load(file.data(), file.size(), dymelor::wrote::touched);
     EXPECT(other.at<point>(value.chunk).y == 2 && &other.at<point>(value.chunk) != value.at && other.save("lp") == file);
 }
@@ -166,7 +166,7 @@ void seen()
     EXPECT(std::equal(met.begin(), met.end(), wanted.begin(), wanted.end(), [](auto a, auto b) { return dym_same(a, b) != 0; }));
     EXPECT(o.size(far.chunk) == 100 && refuses(DYM_DEAD, [&] { o.size(handle_of(5, 9)); }));
     EXPECT(o.inspect().version == 2 && o.inspect().quota == 3 && o.inspect().held == 2);
-    EXPECT(refuses(DYM_BAD, [&] { closed.inspect(); }) && refuses(DYM_BAD, [&] { closed.hash(); }));
+    EXPECT(refuses(DYM_STATE, [&] { closed.inspect(); }) && refuses(DYM_STATE, [&] { closed.hash(); }));
     const std::uint64_t before = o.hash();
     EXPECT(dym_same(o.untold(), dym_nil));
     o.log(10, dymelor::wrote::touched);

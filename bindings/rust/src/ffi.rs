@@ -7,7 +7,7 @@
 //!   overlap, since they are exclusive wherever C writes.
 //! - "one call at a time on an object": the type isn't `Sync`, so that only one thread at a time calls, and no call calls back.
 
-use crate::error::{done, Error, Status, BAD};
+use crate::error::{done, Error, Status, FILE};
 use crate::pod::{Fits, Pod};
 use std::array;
 use std::cell::UnsafeCell;
@@ -174,7 +174,7 @@ impl OpenObject {
             )
         };
         match status {
-            BAD => Err(Error::File { part }),
+            FILE => Err(Error::File { part }),
             _ => done(status).map(|()| object),
         }
     }
@@ -423,7 +423,7 @@ impl OpenObject {
 impl Drop for OpenObject {
     /// Closes the object. One that is dropped because it couldn't be opened is closed already, and the call then does nothing.
     fn drop(&mut self) {
-        // SAFETY: "a pointer to an object is that of such a dym_object", closed or open: "DYM_BAD: it was closed".
+        // SAFETY: "a pointer to an object is that of such a dym_object", closed or open: "DYM_STATE: it was closed".
         unsafe { dym_close(self.object.get()) };
     }
 }
