@@ -15,7 +15,7 @@
 //!     process.log(LogKind::Incremental, Time(10))?;
 //!     process.chunk_mut(state)?[0] = 20; // the event of time 20, in place
 //!     process.log(LogKind::Incremental, Time(20))?;
-//!     process.restore(Time(15 - 1))?; // a straggler of time 15: back to the log of time 10
+//!     process.restore_before(Time(15))?; // a straggler of time 15: back to the log of time 10
 //!     let mut byte = [0];
 //!     process.read(state, 0, &mut byte)?;
 //!     Ok(byte[0])
