@@ -2,8 +2,9 @@
  * dymelor.hpp: the calls of dymelor.h for C++17, header only.
  *
  * dymelor::object is a dym_object that is moved, not copied, and that its destructor closes. A call that isn't done throws
- * dymelor::refused, which has the status and its words; the same call with try_ before its name answers the status. Calls that stand in
- * dymelor.h alone take object.c().
+ * dymelor::refused, which has the status and its words; the same call with try_ before its name answers the status, and tells its result by
+ * a last parameter, which may be null. Where the compiler has no exceptions (-fno-exceptions) the calls that throw aren't there. Calls that
+ * stand in dymelor.h alone take object.c().
  *
  * A value of any type can lie in a chunk: object.make<T>(..) constructs one. It stays at one address as long as it lives, through logs,
  * restores and prunes, and a restore brings back its bytes as they were. So pointers from chunk to chunk, and containers whose nodes are
@@ -23,13 +24,22 @@
 
 #include <cstddef>
 #include <cstdint>
+#include <cstdlib>
 #include <exception>
+#include <iterator>
 #include <memory_resource>
 #include <new>
 #include <string_view>
 #include <type_traits>
 #include <utility>
 #include <vector>
+
+/* Whether a call may throw. */
+#if defined(__cpp_exceptions) || defined(__EXCEPTIONS) || defined(_CPPUNWIND)
+#define DYM_THROWS 1
+#else
+#define DYM_THROWS 0
+#endif
 
 namespace dymelor {
 
@@ -50,11 +60,13 @@ private:
     dym_status status_;
 };
 
+#if DYM_THROWS
 /* Throws what the status refuses. */
 inline void done(dym_status status)
 {
     if (status != DYM_DONE) throw refused(status);
 }
+#endif
 
 /* Where the program writes between one log or restore and the next: into any live chunk, or into those alone that it, or the compiler,
  * touched. */
@@ -68,13 +80,58 @@ template <class T> struct placed {
     T &operator*() const noexcept { return *at; }
 };
 
+/* The live chunks of an object, in the order of exponents and then of indices; none of a closed one. A chunk that is freed or taken while
+ * one walks may be met or not. */
+class chunks {
+public:
+    class iterator {
+    public:
+        using iterator_category = std::forward_iterator_tag;
+        using value_type = handle;
+        using difference_type = std::ptrdiff_t;
+        using pointer = const handle *;
+        using reference = const handle &;
+
+        iterator() noexcept = default;
+        reference operator*() const noexcept { return chunk_; }
+        pointer operator->() const noexcept { return &chunk_; }
+        bool operator==(const iterator &other) const noexcept { return dym_same(chunk_, other.chunk_) != 0; }
+        bool operator!=(const iterator &other) const noexcept { return !(*this == other); }
+
+        iterator &operator++() noexcept
+        {
+            handle next = dym_nil;
+            chunk_ = dym_next(object_, chunk_, &next) == DYM_DONE ? next : dym_nil;
+            return *this;
+        }
+
+        iterator operator++(int) noexcept
+        {
+            iterator before = *this;
+            ++*this;
+            return before;
+        }
+
+    private:
+        friend class chunks;
+        explicit iterator(const dym_object *object) noexcept : object_(object) { ++*this; }
+
+        const dym_object *object_ = nullptr;
+        handle chunk_ = {0, 0};
+    };
+
+    explicit chunks(const dym_object *object) noexcept : object_(object) {}
+    iterator begin() const noexcept { return iterator(object_); }
+    iterator end() const noexcept { return {}; }
+
+private:
+    const dym_object *object_;
+};
+
 class object {
 public:
     /* A closed object. */
     object() noexcept = default;
-
-    /* An open one: dym_open. In version 2 a chunk is as long as was asked. */
-    explicit object(std::uint32_t quota, std::uint32_t version = 2) { done(try_open(quota, version)); }
 
     object(object &&other) noexcept : c_(std::exchange(other.c_, dym_object{})) {}
 
@@ -95,7 +152,8 @@ public:
 
     bool is_open() const noexcept { return c_.inside != nullptr; }
 
-    dym_status try_open(std::uint32_t quota, std::uint32_t version = 2) noexcept { return dym_open(&c_, quota, version); }
+    /* Opens a closed object: dym_open. In version 2 a chunk is as long as was asked. */
+    DYM_NODISCARD dym_status try_open(std::uint32_t quota, std::uint32_t version = 2) noexcept { return dym_open(&c_, quota, version); }
 
     /* Frees all memory of the object. No destructor of what lies in it runs. A closed object stays closed. */
     void close() noexcept
@@ -105,65 +163,235 @@ public:
 
     /* ---- values in chunks */
 
-    /* Constructs a T in a fresh chunk. DYM_QUOTA. */
-    template <class T, class... Arguments> placed<T> make(Arguments &&...arguments)
+    /* Constructs a T in a fresh chunk. DYM_QUOTA. What its constructor throws leaves no chunk behind. */
+    template <class T, class... Arguments> DYM_NODISCARD dym_status try_make(placed<T> *told, Arguments &&...arguments)
     {
         fits<T>();
         placed<T> made{};
         void *place = nullptr;
-        done(dym_malloc_at(&c_, sizeof(T), &made.chunk, &place));
-        try {
-            made.at = construct<T>(place, std::forward<Arguments>(arguments)...);
-        } catch (...) {
-            dym_free(&c_, made.chunk);
-            throw;
-        }
-        return made;
+        const dym_status status = dym_malloc_at(&c_, sizeof(T), &made.chunk, &place);
+        if (status != DYM_DONE) return status;
+        unmade rest{&c_, made.chunk};
+        made.at = construct<T>(place, std::forward<Arguments>(arguments)...);
+        rest.object = nullptr;
+        if (told != nullptr) *told = made;
+        return status;
     }
 
     /* Destroys a value that was made, and frees its chunk. DYM_DEAD: it lies in none of this object. */
-    template <class T> void destroy(T *value)
+    template <class T> DYM_NODISCARD dym_status try_destroy(T *value)
     {
-        const handle chunk = chunk_of(value);
+        handle chunk = dym_nil;
+        const dym_status status = try_chunk_of(value, &chunk);
+        if (status != DYM_DONE) return status;
         value->~T();
-        done(dym_free(&c_, chunk));
+        return dym_free(&c_, chunk);
     }
 
     /* The value in a chunk, to be read. DYM_DEAD; DYM_RANGE: the chunk is shorter than a T. */
-    template <class T> const T &at(handle chunk) const
+    template <class T> DYM_NODISCARD dym_status try_at(handle chunk, const T **told) const noexcept
     {
         const void *place = nullptr;
-        has<T>(chunk);
-        done(dym_address(&c_, chunk, &place));
-        return *static_cast<const T *>(place);
+        dym_status status = has<T>(chunk);
+        if (status == DYM_DONE) status = dym_address(&c_, chunk, &place);
+        if (status == DYM_DONE && told != nullptr) *told = static_cast<const T *>(place);
+        return status;
     }
 
-    /* The same, to be read and written up to the next log, restore or load: the chunk is touched. */
-    template <class T> T &touch(handle chunk)
+    /* The same, to be read and written up to the next log, restore or load: the chunk is touched, before it is written. */
+    template <class T> DYM_NODISCARD dym_status try_touch(handle chunk, T **told) noexcept
     {
         void *place = nullptr;
-        has<T>(chunk);
-        done(dym_touch(&c_, chunk, &place));
-        return *static_cast<T *>(place);
+        dym_status status = has<T>(chunk);
+        if (status == DYM_DONE) status = dym_touch(&c_, chunk, &place);
+        if (status == DYM_DONE && told != nullptr) *told = static_cast<T *>(place);
+        return status;
     }
 
     /* The live chunk in which an address lies. DYM_DEAD: it lies in none. */
-    handle chunk_of(const void *address) const
+    DYM_NODISCARD dym_status try_chunk_of(const void *address, handle *told) const noexcept
     {
         handle chunk = dym_nil;
-        done(dym_at(&c_, address, &chunk));
-        return chunk;
+        const dym_status status = dym_at(&c_, address, &chunk);
+        if (status == DYM_DONE && told != nullptr) *told = chunk;
+        return status;
+    }
+
+    /* ---- what can be seen */
+
+    /* A chunk's length in bytes. DYM_DEAD. */
+    DYM_NODISCARD dym_status try_size(handle chunk, std::uint32_t *told) const noexcept
+    {
+        std::uint32_t unread = 0;
+        return dym_size(&c_, chunk, told != nullptr ? told : &unread);
+    }
+
+    /* The live chunks: for (dymelor::handle chunk : object.live()). */
+    chunks live() const noexcept { return chunks(&c_); }
+
+    /* The version, the quota, and how many segments are held. */
+    DYM_NODISCARD dym_status try_inspect(dym_heap *told) const noexcept
+    {
+        dym_heap unread{};
+        return dym_inspect(&c_, told != nullptr ? told : &unread);
+    }
+
+    /* The first chunk that was written and not touched; nil where there is none: dym_untold. DYM_MEMORY. */
+    DYM_NODISCARD dym_status try_untold(handle *told) const noexcept
+    {
+        handle unread = dym_nil;
+        return dym_untold(&c_, told != nullptr ? told : &unread);
+    }
+
+    /* A number of the live heap: dym_hash. */
+    DYM_NODISCARD dym_status try_hash(std::uint64_t *told) const noexcept
+    {
+        std::uint64_t unread = 0;
+        return dym_hash(&c_, told != nullptr ? told : &unread);
+    }
+
+    /* How many logs are kept, and how many records they take. */
+    DYM_NODISCARD dym_status try_logs(dym_slots *told) const noexcept
+    {
+        dym_slots unread{};
+        return dym_logs(&c_, told != nullptr ? told : &unread);
+    }
+
+    /* The time of a kept log, of which the oldest has place 0. DYM_NO_LOG. */
+    DYM_NODISCARD dym_status try_log_time(std::uint32_t place, std::uint64_t *told) const noexcept
+    {
+        std::uint64_t unread = 0;
+        return dym_log_time(&c_, place, told != nullptr ? told : &unread);
     }
 
     /* ---- logs */
 
-    /* Logs the heap at a time above that of the newest log. What is told may be null. DYM_NOT_AFTER, DYM_LOGS_FULL, DYM_MEMORY. */
-    dym_status try_log(std::uint64_t time, wrote where, dym_logged *told = nullptr, std::uint32_t kind = DYM_INCREMENTAL) noexcept
+    /* Logs the heap at a time above that of the newest log. DYM_NOT_AFTER, DYM_LOGS_FULL, DYM_MEMORY. */
+    DYM_NODISCARD dym_status try_log(std::uint64_t time, wrote where, dym_logged *told = nullptr,
+                                     std::uint32_t kind = DYM_INCREMENTAL) noexcept
     {
-        dym_logged unread{};
         dym_status status = tell(where);
-        if (status == DYM_DONE) status = dym_log(&c_, kind, time, told != nullptr ? told : &unread);
+        if (status == DYM_DONE) status = dym_log(&c_, kind, time, told);
         return begun(where, status);
+    }
+
+    /* Brings the heap back to the newest log at or before a time, and drops those after it; the time of that log is told. DYM_NO_LOG. */
+    DYM_NODISCARD dym_status try_restore(std::uint64_t time, wrote where, std::uint64_t *told = nullptr) noexcept
+    {
+        dym_status status = tell(where);
+        if (status == DYM_DONE) status = dym_restore(&c_, time, told);
+        return begun(where, status);
+    }
+
+    /* The same with the newest log before a time. */
+    DYM_NODISCARD dym_status try_restore_before(std::uint64_t time, wrote where, std::uint64_t *told = nullptr) noexcept
+    {
+        dym_status status = tell(where);
+        if (status == DYM_DONE) status = dym_restore_before(&c_, time, told);
+        return begun(where, status);
+    }
+
+    /* Drops the logs before the newest one at or before a bound, or before a bound; how many is told. */
+    DYM_NODISCARD dym_status try_prune(std::uint64_t bound, std::uint32_t *told = nullptr) noexcept { return dym_prune(&c_, bound, told); }
+
+    DYM_NODISCARD dym_status try_prune_before(std::uint64_t bound, std::uint32_t *told = nullptr) noexcept
+    {
+        return dym_prune_before(&c_, bound, told);
+    }
+
+    /* ---- checkpoint files, of states without pointers: an object that is loaded has other addresses */
+
+    /* Writes the file to where bytes begin; its length is told, also where it is longer than the room, which is DYM_RANGE: so a room of 0
+     * asks for it, at a pointer that isn't null. DYM_BAD: the name is none. DYM_MEMORY. */
+    DYM_NODISCARD dym_status try_save(std::string_view name, void *bytes, std::size_t room, std::uint64_t *told) const noexcept
+    {
+        std::uint64_t unread = 0;
+        static const char none[] = "";
+        return dym_save(&c_, name.data() != nullptr ? name.data() : none, name.size(), bytes, room, told != nullptr ? told : &unread);
+    }
+
+    /* Opens a closed object by a file. DYM_FILE: the bytes are no file, and the first part that fails is told. DYM_MEMORY. */
+    DYM_NODISCARD dym_status try_load(const void *bytes, std::size_t length, wrote where, std::uint32_t *told = nullptr) noexcept
+    {
+        return begun(where, dym_load(&c_, bytes, length, told));
+    }
+
+#if DYM_THROWS
+    /* ---- the same calls, which throw what is refused */
+
+    /* An open one: dym_open. */
+    explicit object(std::uint32_t quota, std::uint32_t version = 2) { done(try_open(quota, version)); }
+
+    template <class T, class... Arguments> placed<T> make(Arguments &&...arguments)
+    {
+        placed<T> made{};
+        done(try_make<T>(&made, std::forward<Arguments>(arguments)...));
+        return made;
+    }
+
+    template <class T> void destroy(T *value) { done(try_destroy(value)); }
+
+    template <class T> const T &at(handle chunk) const
+    {
+        const T *value = nullptr;
+        done(try_at<T>(chunk, &value));
+        return *value;
+    }
+
+    template <class T> T &touch(handle chunk)
+    {
+        T *value = nullptr;
+        done(try_touch<T>(chunk, &value));
+        return *value;
+    }
+
+    handle chunk_of(const void *address) const
+    {
+        handle chunk = dym_nil;
+        done(try_chunk_of(address, &chunk));
+        return chunk;
+    }
+
+    std::uint32_t size(handle chunk) const
+    {
+        std::uint32_t length = 0;
+        done(try_size(chunk, &length));
+        return length;
+    }
+
+    dym_heap inspect() const
+    {
+        dym_heap heap{};
+        done(try_inspect(&heap));
+        return heap;
+    }
+
+    handle untold() const
+    {
+        handle chunk = dym_nil;
+        done(try_untold(&chunk));
+        return chunk;
+    }
+
+    std::uint64_t hash() const
+    {
+        std::uint64_t hash = 0;
+        done(try_hash(&hash));
+        return hash;
+    }
+
+    dym_slots logs() const
+    {
+        dym_slots slots{};
+        done(try_logs(&slots));
+        return slots;
+    }
+
+    std::uint64_t log_time(std::uint32_t place) const
+    {
+        std::uint64_t time = 0;
+        done(try_log_time(place, &time));
+        return time;
     }
 
     dym_logged log(std::uint64_t time, wrote where, std::uint32_t kind = DYM_INCREMENTAL)
@@ -173,29 +401,11 @@ public:
         return logged;
     }
 
-    /* Brings the heap back to the newest log at or before a time, and drops those after it; the time of that log is told. DYM_NO_LOG. */
-    dym_status try_restore(std::uint64_t time, wrote where, std::uint64_t *told = nullptr) noexcept
-    {
-        std::uint64_t unread = 0;
-        dym_status status = tell(where);
-        if (status == DYM_DONE) status = dym_restore(&c_, time, told != nullptr ? told : &unread);
-        return begun(where, status);
-    }
-
     std::uint64_t restore(std::uint64_t time, wrote where)
     {
         std::uint64_t restored = 0;
         done(try_restore(time, where, &restored));
         return restored;
-    }
-
-    /* The same with the newest log before a time. */
-    dym_status try_restore_before(std::uint64_t time, wrote where, std::uint64_t *told = nullptr) noexcept
-    {
-        std::uint64_t unread = 0;
-        dym_status status = tell(where);
-        if (status == DYM_DONE) status = dym_restore_before(&c_, time, told != nullptr ? told : &unread);
-        return begun(where, status);
     }
 
     std::uint64_t restore_before(std::uint64_t time, wrote where)
@@ -205,24 +415,11 @@ public:
         return restored;
     }
 
-    /* Drops the logs before the newest one at or before a bound, or before a bound; how many is told. */
-    dym_status try_prune(std::uint64_t bound, std::uint32_t *told = nullptr) noexcept
-    {
-        std::uint32_t unread = 0;
-        return dym_prune(&c_, bound, told != nullptr ? told : &unread);
-    }
-
     std::uint32_t prune(std::uint64_t bound)
     {
         std::uint32_t dropped = 0;
         done(try_prune(bound, &dropped));
         return dropped;
-    }
-
-    dym_status try_prune_before(std::uint64_t bound, std::uint32_t *told = nullptr) noexcept
-    {
-        std::uint32_t unread = 0;
-        return dym_prune_before(&c_, bound, told != nullptr ? told : &unread);
     }
 
     std::uint32_t prune_before(std::uint64_t bound)
@@ -232,32 +429,33 @@ public:
         return dropped;
     }
 
-    /* ---- checkpoint files, of states without pointers: an object that is loaded has other addresses */
-
-    std::vector<std::uint8_t> save(std::string_view name)
+    std::vector<std::uint8_t> save(std::string_view name) const
     {
         std::vector<std::uint8_t> file(1);
         std::uint64_t length = 0;
-        const auto *text = reinterpret_cast<const std::uint8_t *>(name.data());
-        dym_status status = dym_save(&c_, text, name.size(), file.data(), 0, &length);
+        dym_status status = try_save(name, file.data(), 0, &length);
         if (status == DYM_RANGE) {
             file.resize(static_cast<std::size_t>(length));
-            status = dym_save(&c_, text, name.size(), file.data(), file.size(), &length);
+            status = try_save(name, file.data(), file.size(), &length);
         }
         done(status);
         return file;
     }
 
-    /* Opens a closed object by a file. DYM_BAD tells the first part that fails, where one does. */
-    dym_status try_load(const std::uint8_t *bytes, std::size_t length, std::uint32_t *told = nullptr) noexcept
-    {
-        std::uint32_t unread = 0;
-        return dym_load(&c_, bytes, length, told != nullptr ? told : &unread);
-    }
-
-    void load(const std::uint8_t *bytes, std::size_t length) { done(try_load(bytes, length)); }
+    void load(const void *bytes, std::size_t length, wrote where) { done(try_load(bytes, length, where)); }
+#endif
 
 private:
+    /* A chunk in which no value was constructed yet: it is freed where a constructor throws. */
+    struct unmade {
+        dym_object *object;
+        handle chunk;
+        ~unmade()
+        {
+            if (object != nullptr) static_cast<void>(dym_free(object, chunk));
+        }
+    };
+
     template <class T> static constexpr void fits()
     {
         static_assert(sizeof(T) <= most_bytes, "a chunk has at most 65,536 bytes");
@@ -274,13 +472,14 @@ private:
     }
 
     /* Whether a chunk is long enough. Only bytes are known of it: a type that is more than its bytes comes from make. */
-    template <class T> void has(handle chunk) const
+    template <class T> dym_status has(handle chunk) const noexcept
     {
         std::uint32_t length = 0;
         fits<T>();
         static_assert(std::is_trivially_copyable_v<T>, "the value in a chunk that is named by a handle is its bytes");
-        done(dym_size(&c_, chunk, &length));
-        if (length < sizeof(T)) throw refused(DYM_RANGE);
+        const dym_status status = dym_size(&c_, chunk, &length);
+        if (status != DYM_DONE) return status;
+        return length < sizeof(T) ? DYM_RANGE : DYM_DONE;
     }
 
     dym_status tell(wrote where) noexcept
@@ -289,12 +488,8 @@ private:
         return DYM_DONE;
     }
 
-    /* What a log or a restore answered; what is written from it on is told, too. */
-    dym_status begun(wrote where, dym_status status) noexcept
-    {
-        if (status == DYM_DONE) tell(where);
-        return status;
-    }
+    /* What a log, a restore or a load answered. What the program writes from there on is touched before, where it writes anywhere. */
+    dym_status begun(wrote where, dym_status status) noexcept { return status == DYM_DONE ? tell(where) : status; }
 
     dym_object c_ = {nullptr};
 };
@@ -303,8 +498,9 @@ private:
  * The chunks of an object as the memory of containers: std::pmr::list, map, string, vector, deque and what else takes a memory_resource. Each
  * node is a chunk, and the container itself lies in one too (object.make), so that both roll back.
  *
- * What is asked above 65,536 bytes, or beyond the quota, or with more than 16 bytes of alignment, is std::bad_alloc. A vector or a string
- * grows into a new block beside the old one, and at most to 65,536 bytes: reserve what it needs, or take a deque, whose blocks are small.
+ * What is asked above 65,536 bytes, or beyond the quota, or with more than 16 bytes of alignment, is std::bad_alloc; where the compiler has
+ * no exceptions the program ends by std::abort, as containers know no other answer. A vector or a string grows into a new block beside the
+ * old one, and at most to 65,536 bytes: reserve what it needs, or take a deque, whose blocks are small.
  *
  * Containers keep the address of the resource, and the resource that of the object: both stay where they are as long as these are used.
  */
@@ -315,19 +511,27 @@ public:
 private:
     void *do_allocate(std::size_t bytes, std::size_t aligned_to) override
     {
-        handle chunk = dym_nil;
         void *place = nullptr;
         /* A chunk without a byte has no address. */
         const std::size_t length = bytes > 0 ? bytes : 1;
-        if (aligned_to > alignment || dym_malloc_at(object_->c(), length, &chunk, &place) != DYM_DONE) throw std::bad_alloc();
+        if (aligned_to > alignment || dym_malloc_at(object_->c(), length, nullptr, &place) != DYM_DONE) wanting();
         return place;
+    }
+
+    [[noreturn]] static void wanting()
+    {
+#if DYM_THROWS
+        throw std::bad_alloc();
+#else
+        std::abort();
+#endif
     }
 
     /* It may not fail, and doesn't for what was allocated here. */
     void do_deallocate(void *place, std::size_t, std::size_t) override
     {
         handle chunk = dym_nil;
-        if (dym_at(object_->c(), place, &chunk) == DYM_DONE) dym_free(object_->c(), chunk);
+        if (dym_at(object_->c(), place, &chunk) == DYM_DONE) static_cast<void>(dym_free(object_->c(), chunk));
     }
 
     bool do_is_equal(const std::pmr::memory_resource &other) const noexcept override { return this == &other; }
@@ -336,5 +540,7 @@ private:
 };
 
 } // namespace dymelor
+
+#undef DYM_THROWS
 
 #endif

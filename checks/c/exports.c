@@ -41,41 +41,47 @@ static void closed_object(dym_object *object)
     dym_heap heap = {9, 9, 9};
     const void *place = bytes;
     void *address = bytes;
-    ANSWERS(dym_close(object), DYM_BAD);
-    ANSWERS(dym_malloc(object, 8, &h), DYM_BAD);
-    ANSWERS(dym_calloc(object, 1, 8, &h), DYM_BAD);
-    ANSWERS(dym_realloc(object, dym_nil, 8, &h), DYM_BAD);
-    ANSWERS(dym_free(object, dym_nil), DYM_BAD);
-    ANSWERS(dym_write(object, h, 0, bytes, 4), DYM_BAD);
-    ANSWERS(dym_fill(object, h, 0, 4, 1), DYM_BAD);
-    ANSWERS(dym_read(object, h, 0, bytes, 4), DYM_BAD);
-    ANSWERS(dym_link(object, h, 0, dym_nil), DYM_BAD);
-    ANSWERS(dym_follow(object, h, 0, &found), DYM_BAD);
-    ANSWERS(dym_sum(object, h, &number), DYM_BAD);
-    ANSWERS(dym_size(object, h, &small), DYM_BAD);
-    ANSWERS(dym_next(object, dym_nil, &h), DYM_BAD);
-    ANSWERS(dym_log(object, DYM_FULL, 1, &logged), DYM_BAD);
-    ANSWERS(dym_restore(object, 1, &number), DYM_BAD);
-    ANSWERS(dym_prune(object, 1, &small), DYM_BAD);
-    ANSWERS(dym_logs(object, &slots), DYM_BAD);
-    ANSWERS(dym_restore_before(object, 0, &number), DYM_BAD);
-    ANSWERS(dym_restore_before(object, 1, &number), DYM_BAD);
-    ANSWERS(dym_prune_before(object, 0, &small), DYM_BAD);
-    ANSWERS(dym_prune_before(object, 1, &small), DYM_BAD);
-    ANSWERS(dym_log_time(object, 0, &number), DYM_BAD);
-    ANSWERS(dym_inspect(object, &heap), DYM_BAD);
-    ANSWERS(dym_address(object, h, &place), DYM_BAD);
-    ANSWERS(dym_touch(object, h, &address), DYM_BAD);
-    ANSWERS(dym_touch_all(object), DYM_BAD);
-    ANSWERS(dym_wrote_at(object, 0, 8), DYM_BAD);
-    ANSWERS(dym_untold(object, &h), DYM_BAD);
-    ANSWERS(dym_wrote(object, bytes, 4), DYM_BAD);
-    ANSWERS(dym_start(object, &place), DYM_BAD);
-    ANSWERS(dym_handle_at(object, 0, &h), DYM_BAD);
-    ANSWERS(dym_at(object, bytes, &h), DYM_BAD);
-    ANSWERS(dym_malloc_at(object, 8, &h, &address), DYM_BAD);
-    ANSWERS(dym_calloc_at(object, 1, 8, &h, &address), DYM_BAD);
-    ANSWERS(dym_realloc_at(object, dym_nil, 8, &h, &address), DYM_BAD);
+    ANSWERS(dym_close(object), DYM_STATE);
+    ANSWERS(dym_malloc(object, 8, &h), DYM_STATE);
+    ANSWERS(dym_calloc(object, 1, 8, &h), DYM_STATE);
+    ANSWERS(dym_realloc(object, dym_nil, 8, &h), DYM_STATE);
+    ANSWERS(dym_free(object, dym_nil), DYM_STATE);
+    ANSWERS(dym_write(object, h, 0, bytes, 4), DYM_STATE);
+    ANSWERS(dym_fill(object, h, 0, 4, 1), DYM_STATE);
+    ANSWERS(dym_read(object, h, 0, bytes, 4), DYM_STATE);
+    ANSWERS(dym_link(object, h, 0, dym_nil), DYM_STATE);
+    ANSWERS(dym_follow(object, h, 0, &found), DYM_STATE);
+    ANSWERS(dym_sum(object, h, &number), DYM_STATE);
+    ANSWERS(dym_size(object, h, &small), DYM_STATE);
+    ANSWERS(dym_next(object, dym_nil, &h), DYM_STATE);
+    ANSWERS(dym_log(object, DYM_FULL, 1, &logged), DYM_STATE);
+    ANSWERS(dym_restore(object, 1, &number), DYM_STATE);
+    ANSWERS(dym_prune(object, 1, &small), DYM_STATE);
+    ANSWERS(dym_logs(object, &slots), DYM_STATE);
+    ANSWERS(dym_restore_before(object, 0, &number), DYM_STATE);
+    ANSWERS(dym_restore_before(object, 1, &number), DYM_STATE);
+    ANSWERS(dym_prune_before(object, 0, &small), DYM_STATE);
+    ANSWERS(dym_prune_before(object, 1, &small), DYM_STATE);
+    ANSWERS(dym_log_time(object, 0, &number), DYM_STATE);
+    ANSWERS(dym_inspect(object, &heap), DYM_STATE);
+    ANSWERS(dym_address(object, h, &place), DYM_STATE);
+    ANSWERS(dym_touch(object, h, &address), DYM_STATE);
+    ANSWERS(dym_touch_all(object), DYM_STATE);
+    ANSWERS(dym_wrote_offset(object, 0, 8), DYM_STATE);
+    ANSWERS(dym_untold(object, &h), DYM_STATE);
+    ANSWERS(dym_wrote(object, bytes, 4), DYM_STATE);
+    ANSWERS(dym_start(object, &place), DYM_STATE);
+    ANSWERS(dym_handle_offset(object, 0, &h), DYM_STATE);
+    ANSWERS(dym_at(object, bytes, &h), DYM_STATE);
+    ANSWERS(dym_hash(object, &number), DYM_STATE);
+    ANSWERS(dym_malloc_at(object, 8, &h, &address), DYM_STATE);
+    ANSWERS(dym_calloc_at(object, 1, 8, &h, &address), DYM_STATE);
+    ANSWERS(dym_realloc_at(object, dym_nil, 8, &h, &address), DYM_STATE);
+    ANSWERS(dym_touch(object, handle(4, 0), &address), DYM_BAD);
+    ANSWERS(dym_read(object, handle(4, 0), 0, bytes, 4), DYM_BAD);
+    ANSWERS(dym_next(object, handle(4, 0), &h), DYM_BAD);
+    ANSWERS(dym_size(object, dym_nil, &small), DYM_BAD);
+    ANSWERS(dym_log(object, 2, 1, &logged), DYM_BAD);
     EXPECT(place == bytes && address == bytes && heap.version == 9 && heap.quota == 9 && heap.held == 9);
     EXPECT(dym_same(h, handle(5, 7)) && number == 77 && small == 78);
     EXPECT(bytes[0] == 1 && bytes[3] == 4 && found.kind == 9 && logged.length == 9 && slots.kept == 9);
@@ -93,7 +99,8 @@ static void opening(dym_object *object)
     ANSWERS(dym_open(object, 1024, 2), DYM_DONE);
     ANSWERS(dym_close(object), DYM_DONE);
     ANSWERS(dym_open(object, 2, 1), DYM_DONE);
-    ANSWERS(dym_open(object, 4, 1), DYM_BAD);
+    ANSWERS(dym_open(object, 4, 1), DYM_STATE);
+    ANSWERS(dym_open(object, 0, 1), DYM_BAD);
     EXPECT(object->inside != NULL);
 }
 
@@ -156,11 +163,11 @@ static void chunks(dym_object *object)
     ANSWERS(dym_free(object, c), DYM_DEAD);
     ANSWERS(dym_free(object, dym_nil), DYM_DONE);
 
-    ANSWERS(dym_write(object, a, 62, (const uint8_t *)"xy", 2), DYM_DONE);
-    ANSWERS(dym_write(object, a, 63, (const uint8_t *)"xy", 2), DYM_RANGE);
-    ANSWERS(dym_write(object, a, UINT32_MAX, (const uint8_t *)"xy", 2), DYM_RANGE);
-    ANSWERS(dym_write(object, a, 64, (const uint8_t *)"", 0), DYM_DONE);
-    ANSWERS(dym_write(object, c, 0, (const uint8_t *)"xy", 2), DYM_DEAD);
+    ANSWERS(dym_write(object, a, 62, "xy", 2), DYM_DONE);
+    ANSWERS(dym_write(object, a, 63, "xy", 2), DYM_RANGE);
+    ANSWERS(dym_write(object, a, UINT32_MAX, "xy", 2), DYM_RANGE);
+    ANSWERS(dym_write(object, a, 64, "", 0), DYM_DONE);
+    ANSWERS(dym_write(object, c, 0, "xy", 2), DYM_DEAD);
     ANSWERS(dym_fill(object, a, 0, 3, 7), DYM_DONE);
     ANSWERS(dym_fill(object, a, 1, 64, 7), DYM_RANGE);
     ANSWERS(dym_fill(object, c, 0, 1, 7), DYM_DEAD);
@@ -241,7 +248,7 @@ static void chunks_in_place(dym_object *object)
     ANSWERS(dym_at(object, start, &h), DYM_DEAD);
     ANSWERS(dym_at(object, &h, &h), DYM_DEAD);
     ANSWERS(dym_at(object, NULL, &h), DYM_DEAD);
-    ANSWERS(dym_handle_at(object, UINT64_MAX, &h), DYM_DEAD);
+    ANSWERS(dym_handle_offset(object, UINT64_MAX, &h), DYM_DEAD);
     EXPECT(dym_same(h, a));
 
     ANSWERS(dym_realloc_at(object, a, 40, &a, &moved), DYM_DONE);
@@ -301,7 +308,7 @@ static void touches(void)
     EXPECT(again == second);
     ANSWERS(dym_wrote(&object, &object, 1), DYM_DONE);
     ANSWERS(dym_wrote(&object, (const void *)0, SIZE_MAX), DYM_DONE);
-    ANSWERS(dym_wrote_at(&object, UINT64_MAX, UINT64_MAX), DYM_DONE);
+    ANSWERS(dym_wrote_offset(&object, UINT64_MAX, UINT64_MAX), DYM_DONE);
     ANSWERS(dym_close(&object), DYM_DONE);
 }
 
@@ -386,8 +393,8 @@ static void inline_functions(void)
     EXPECT(dym_number(handle(5, 1)) == (((uint64_t)5 << 32) | 1) && dym_number(dym_nil) == 0);
     EXPECT(dym_same(dym_numbered(dym_number(handle(16, UINT32_MAX))), handle(16, UINT32_MAX)));
     EXPECT(dym_same(dym_numbered(0), dym_nil) && dym_numbered(UINT64_MAX).exponent == 255);
-    EXPECT(strcmp(dym_status_text(DYM_DONE), "done") == 0 && strcmp(dym_status_text(11), "no status") == 0);
-    for (k = 0; k <= DYM_SPENT; k++) EXPECT(dym_status_text((dym_status)k)[0] != 0);
+    EXPECT(strcmp(dym_status_text(DYM_DONE), "done") == 0 && strcmp(dym_status_text(13), "no status") == 0);
+    for (k = 0; k <= DYM_FILE; k++) EXPECT(dym_status_text((dym_status)k)[0] != 0);
 }
 
 static void links(dym_object *object)
@@ -474,7 +481,7 @@ static void logs(dym_object *object)
     EXPECT(time == 14);
 }
 
-#define NAME(text) (const uint8_t *)(text), strlen(text)
+#define NAME(text) (text), strlen(text)
 
 /* An object with one log of a chunk of three bytes, and a second log where a byte of it is another. */
 static void files(void)
@@ -487,7 +494,8 @@ static void files(void)
     uint64_t length = 99, other_length = 0, time = 0;
     uint32_t part = 99;
     size_t k;
-    ANSWERS(dym_save(&object, NAME("lp"), file, sizeof file, &length), DYM_BAD);
+    ANSWERS(dym_save(&object, NAME("lp"), file, sizeof file, &length), DYM_STATE);
+    ANSWERS(dym_save(&object, NAME(""), file, sizeof file, &length), DYM_BAD);
     ANSWERS(dym_open(&object, 3, 2), DYM_DONE);
     ANSWERS(dym_malloc(&object, 3, &h), DYM_DONE);
     ANSWERS(dym_log(&object, DYM_FULL, 10, &logged), DYM_DONE);
@@ -510,13 +518,14 @@ static void files(void)
     ANSWERS(dym_read(&object, h, 1, &byte, 1), DYM_DONE);
     EXPECT(byte == 43);
 
-    ANSWERS(dym_load(&object, file, (size_t)length, &part), DYM_BAD);
+    ANSWERS(dym_load(&object, file, (size_t)length, &part), DYM_STATE);
+    ANSWERS(dym_load(&object, file, 3, &part), DYM_STATE);
     EXPECT(part == 99);
-    ANSWERS(dym_load(&other, file, 20, &part), DYM_BAD);
+    ANSWERS(dym_load(&other, file, 20, &part), DYM_FILE);
     EXPECT(part == 0 && other.inside == NULL);
-    ANSWERS(dym_load(&other, file, (size_t)length - 1, &part), DYM_BAD);
+    ANSWERS(dym_load(&other, file, (size_t)length - 1, &part), DYM_FILE);
     EXPECT(part == 2);
-    ANSWERS(dym_load(&other, file, (size_t)length + 1, &part), DYM_BAD);
+    ANSWERS(dym_load(&other, file, (size_t)length + 1, &part), DYM_FILE);
     EXPECT(part == 3 && other.inside == NULL);
     ANSWERS(dym_load(&other, file, (size_t)length, &part), DYM_DONE);
     ANSWERS(dym_save(&other, NAME("lp"), again, sizeof again, &other_length), DYM_DONE);
@@ -547,6 +556,77 @@ static void exact_lengths(void)
     EXPECT(object.inside == NULL);
 }
 
+/* The header is the library's. */
+static void version(void)
+{
+    EXPECT(dym_version() == DYM_VERSION_NUMBER);
+    EXPECT(DYM_VERSION_NUMBER == DYM_VERSION_MAJOR * 10000 + DYM_VERSION_MINOR * 100 + DYM_VERSION_PATCH);
+}
+
+/* Results that nobody reads may be null. */
+static void unread_results(void)
+{
+    dym_object object = {0}, other = {0};
+    dym_handle a;
+    uint8_t file[2000], byte = 0;
+    uint64_t length = 0;
+    void *address = NULL, *again = NULL;
+    ANSWERS(dym_open(&object, 3, 2), DYM_DONE);
+    ANSWERS(dym_malloc_at(&object, 3, NULL, &address), DYM_DONE);
+    ANSWERS(dym_calloc_at(&object, 3, 1, NULL, &again), DYM_DONE);
+    EXPECT(address != NULL && (uint8_t *)again == (uint8_t *)address + 32);
+    ANSWERS(dym_malloc_at(&object, 65537, NULL, &again), DYM_TOO_LARGE);
+    EXPECT((uint8_t *)again == (uint8_t *)address + 32);
+    ANSWERS(dym_at(&object, address, &a), DYM_DONE);
+    ANSWERS(dym_log(&object, DYM_FULL, 10, NULL), DYM_DONE);
+    ANSWERS(dym_log(&object, DYM_FULL, 10, NULL), DYM_NOT_AFTER);
+    ANSWERS(dym_touch(&object, a, NULL), DYM_DONE);
+    *(uint8_t *)address = 7;
+    ANSWERS(dym_log(&object, DYM_INCREMENTAL, 20, NULL), DYM_DONE);
+    ANSWERS(dym_save(&object, NAME("lp"), file, sizeof file, &length), DYM_DONE);
+    ANSWERS(dym_load(&other, file, 20, NULL), DYM_FILE);
+    ANSWERS(dym_load(&other, file, (size_t)length, NULL), DYM_DONE);
+    ANSWERS(dym_restore_before(&other, 20, NULL), DYM_DONE);
+    ANSWERS(dym_read(&other, a, 0, &byte, 1), DYM_DONE);
+    EXPECT(byte == 0);
+    ANSWERS(dym_restore(&object, 20, NULL), DYM_DONE);
+    ANSWERS(dym_read(&object, a, 0, &byte, 1), DYM_DONE);
+    EXPECT(byte == 7);
+    ANSWERS(dym_prune_before(&object, 11, NULL), DYM_DONE);
+    ANSWERS(dym_prune(&object, 20, NULL), DYM_DONE);
+    ANSWERS(dym_restore(&object, 19, NULL), DYM_NO_LOG);
+    ANSWERS(dym_close(&object), DYM_DONE);
+    ANSWERS(dym_close(&other), DYM_DONE);
+}
+
+/* FNV-1a, told beforehand: of nothing, of the bytes 1 2 3 in 5:0, and of that with 40 zeros in 6:0. */
+static void hashes(void)
+{
+    dym_object object = {0};
+    dym_handle a, b;
+    uint64_t hash = 77;
+    ANSWERS(dym_hash(&object, &hash), DYM_STATE);
+    EXPECT(hash == 77);
+    ANSWERS(dym_open(&object, 3, 2), DYM_DONE);
+    ANSWERS(dym_hash(&object, &hash), DYM_DONE);
+    EXPECT(hash == UINT64_C(0xcbf29ce484222325));
+    ANSWERS(dym_malloc(&object, 3, &a), DYM_DONE);
+    ANSWERS(dym_write(&object, a, 0, "\1\2\3", 3), DYM_DONE);
+    ANSWERS(dym_hash(&object, &hash), DYM_DONE);
+    EXPECT(hash == UINT64_C(0x8258e1ab0eec73fd));
+    ANSWERS(dym_log(&object, DYM_FULL, 10, NULL), DYM_DONE);
+    ANSWERS(dym_malloc(&object, 40, &b), DYM_DONE);
+    ANSWERS(dym_hash(&object, &hash), DYM_DONE);
+    EXPECT(hash == UINT64_C(0x19dc4933457aaee3));
+    ANSWERS(dym_fill(&object, b, 39, 1, 1), DYM_DONE);
+    ANSWERS(dym_hash(&object, &hash), DYM_DONE);
+    EXPECT(hash != UINT64_C(0x19dc4933457aaee3));
+    ANSWERS(dym_restore(&object, 10, NULL), DYM_DONE);
+    ANSWERS(dym_hash(&object, &hash), DYM_DONE);
+    EXPECT(hash == UINT64_C(0x8258e1ab0eec73fd));
+    ANSWERS(dym_close(&object), DYM_DONE);
+}
+
 int main(void)
 {
     dym_object object = {0};
@@ -564,6 +644,9 @@ int main(void)
     untold_writes();
     strictly_before();
     inline_functions();
+    version();
+    unread_results();
+    hashes();
     ANSWERS(dym_close(&object), DYM_DONE);
     closed_object(&object);
     return differences > 0;

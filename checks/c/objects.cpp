@@ -2,6 +2,7 @@
 // after a line for each difference.
 #include "dymelor.hpp"
 
+#include <algorithm>
 #include <array>
 #include <cstdio>
 #include <cstring>
@@ -31,6 +32,13 @@ template <class Call> bool refuses(dym_status status, Call call)
     return false;
 }
 
+using handle_list = std::vector<dymelor::handle>;
+
+dymelor::handle handle_of(std::uint8_t exponent, std::uint32_t index)
+{
+    return {exponent, index};
+}
+
 struct point {
     double x, y;
 };
@@ -51,10 +59,10 @@ void opening()
     EXPECT(refuses(DYM_BAD, [] { dymelor::object none(0); }));
     EXPECT(refuses(DYM_BAD, [] { dymelor::object none(4, 3); }));
     dymelor::object closed;
-    EXPECT(!closed.is_open() && closed.try_log(1, dymelor::wrote::touched) == DYM_BAD);
-    EXPECT(closed.try_log(1, dymelor::wrote::anywhere) == DYM_BAD);
-    EXPECT(refuses(DYM_BAD, [&] { closed.make<int>(3); }));
-    EXPECT(closed.try_open(2) == DYM_DONE && closed.try_open(2) == DYM_BAD && closed.is_open());
+    EXPECT(!closed.is_open() && closed.try_log(1, dymelor::wrote::touched) == DYM_STATE);
+    EXPECT(closed.try_log(1, dymelor::wrote::anywhere) == DYM_STATE);
+    EXPECT(refuses(DYM_STATE, [&] { closed.make<int>(3); }));
+    EXPECT(closed.try_open(2) == DYM_DONE && closed.try_open(2) == DYM_STATE && closed.is_open());
     closed.close();
     closed.close();
     EXPECT(!closed.is_open());
@@ -125,10 +133,48 @@ void files()
     EXPECT(refuses(DYM_BAD, [&] { o.save("no name"); }));
     auto file = o.save("lp");
     std::uint32_t part = 9;
-    EXPECT(other.try_load(file.data(), 3, &part) == DYM_BAD && part == 0);
-    EXPECT(refuses(DYM_BAD, [&] { o.load(file.data(), file.size()); }));
-    other.load(file.data(), file.size());
+    EXPECT(other.try_load(file.data(), 3, dymelor::wrote::touched, &part) == DYM_FILE && part == 0);
+    EXPECT(refuses(DYM_STATE, [&] { o.load(file.data(), file.size(), dymelor::wrote::touched); }));
+    other.load(file.data(), file.size(), dymelor::wrote::touched);
     EXPECT(other.at<point>(value.chunk).y == 2 && &other.at<point>(value.chunk) != value.at && other.save("lp") == file);
+}
+
+// After a load, a program that writes anywhere is one whose chunks are all touched.
+void written_after_a_load()
+{
+    dymelor::object o(3), other;
+    auto value = o.make<int>(1);
+    o.log(10, dymelor::wrote::touched);
+    auto file = o.save("lp");
+    other.load(file.data(), file.size(), dymelor::wrote::anywhere);
+    const_cast<int &>(other.at<int>(value.chunk)) = 2;
+    EXPECT(dym_same(other.untold(), dym_nil));
+    EXPECT(other.log(20, dymelor::wrote::touched).kind == DYM_INCREMENTAL);
+    EXPECT(other.restore(10, dymelor::wrote::touched) == 10 && other.at<int>(value.chunk) == 1);
+}
+
+void seen()
+{
+    dymelor::object o(3), closed;
+    EXPECT(o.live().begin() == o.live().end() && closed.live().begin() == closed.live().end());
+    auto far = o.make<std::array<char, 100>>();
+    auto near = o.make<int>(1);
+    auto small = o.make<int>(2);
+    const handle_list wanted = {near.chunk, small.chunk, far.chunk};
+    handle_list met;
+    for (dymelor::handle chunk : o.live()) met.push_back(chunk);
+    EXPECT(std::equal(met.begin(), met.end(), wanted.begin(), wanted.end(), [](auto a, auto b) { return dym_same(a, b) != 0; }));
+    EXPECT(o.size(far.chunk) == 100 && refuses(DYM_DEAD, [&] { o.size(handle_of(5, 9)); }));
+    EXPECT(o.inspect().version == 2 && o.inspect().quota == 3 && o.inspect().held == 2);
+    EXPECT(refuses(DYM_STATE, [&] { closed.inspect(); }) && refuses(DYM_STATE, [&] { closed.hash(); }));
+    const std::uint64_t before = o.hash();
+    EXPECT(dym_same(o.untold(), dym_nil));
+    o.log(10, dymelor::wrote::touched);
+    o.log(20, dymelor::wrote::touched);
+    EXPECT(o.logs().kept == 2 && o.log_time(1) == 20 && refuses(DYM_NO_LOG, [&] { o.log_time(2); }));
+    EXPECT(o.hash() == before);
+    *small = 3;
+    EXPECT(dym_same(o.untold(), small.chunk) && o.hash() != before);
 }
 
 bool wants_memory(std::pmr::memory_resource &memory, std::size_t bytes, std::size_t aligned_to)
@@ -165,6 +211,8 @@ int main()
     values();
     logs();
     files();
+    written_after_a_load();
+    seen();
     resources();
     return differences > 0;
 }

@@ -362,7 +362,7 @@ static void odd_addresses(void)
     EXPECT(finds_none(&object, at_b));
     for (k = 0; k < 32; k++) EXPECT(finds_none(&object, number((uintptr_t)start + k)));
     ANSWERS(dym_close(&object), DYM_DONE);
-    ANSWERS(dym_at(&object, at_a, &a), DYM_BAD);
+    ANSWERS(dym_at(&object, at_a, &a), DYM_STATE);
     ANSWERS(dym_close(&other), DYM_DONE);
 }
 

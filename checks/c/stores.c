@@ -423,7 +423,7 @@ static void loaded_while_named(void)
 {
     process *p = &processes[0];
     static uint8_t bytes[1 << 22];
-    static const uint8_t name[] = {'p'};
+    static const char name[] = {'p'};
     const void *address;
     uint64_t length;
     uint32_t part;

@@ -79,10 +79,10 @@ static void copies(dym_object *object)
     uint8_t file[4000];
     uint64_t length = 0;
     uint32_t part = 99;
-    dym_status status = dym_save(object, (const uint8_t *)"lp", 2, file, sizeof file, &length);
+    dym_status status = dym_save(object, "lp", 2, file, sizeof file, &length);
     if (status == DYM_MEMORY) {
         EXPECT(has_failed && length == 0);
-        status = dym_save(object, (const uint8_t *)"lp", 2, file, sizeof file, &length);
+        status = dym_save(object, "lp", 2, file, sizeof file, &length);
     }
     EXPECT(status == DYM_DONE && length > 21);
     status = dym_load(&other, file, (size_t)length, &part);

@@ -9,6 +9,17 @@ pub enum Version {
     Two,
 }
 
+/// What an object is, and how much of its quota it has.
+#[derive(Clone, Copy, Debug, PartialEq, Eq, Hash)]
+pub struct Heap {
+    /// Its version.
+    pub version: Version,
+    /// The most segments of 64 KiB that it may hold.
+    pub quota: u32,
+    /// How many it holds.
+    pub held: u32,
+}
+
 /// The kind of a log.
 #[derive(Clone, Copy, Debug, PartialEq, Eq, Hash)]
 pub enum LogKind {

@@ -1,7 +1,8 @@
 use std::fmt;
 
 /// Why a call did not do what it says. Each variant is the status of that name in the header, but [`File`](Error::File), which stands for
-/// the `DYM_BAD` of `dym_load`.
+/// the `DYM_FILE` of `dym_load`, and [`Twice`](Error::Twice), which is this crate's own. A later version may have more. `DYM_STATE` is of none:
+/// an [`Object`](crate::Object) is open.
 ///
 /// The variants up to [`NoLog`](Error::NoLog) are refusals. A refused call changes nothing of the object but the count of its
 /// commands, on which only [`Spent`](Error::Spent) depends. A call that returns another variant changes nothing of it at all.
@@ -10,6 +11,7 @@ use std::fmt;
 /// in which the call names them; [`Memory`](Error::Memory) comes only if none of these does, but for
 /// [`Object::save`](crate::Object::save). [`Object::chunk_mut`](crate::Object::chunk_mut) says [`Dead`](Error::Dead) before `Spent`.
 #[derive(Clone, Copy, Debug, PartialEq, Eq, Hash)]
+#[non_exhaustive]
 pub enum Error {
     /// No class has chunks of that length; the greatest is 65,536 bytes.
     TooLarge,
@@ -32,6 +34,8 @@ pub enum Error {
     Bad,
     /// The object has run 2^60 commands, the most that it may.
     Spent,
+    /// A chunk was named twice where several are lent at once.
+    Twice,
     /// The bytes are no checkpoint file.
     File {
         /// The first part that fails: 0 for the header, k for record k, and one more than there are records for what follows them.
@@ -42,7 +46,7 @@ pub enum Error {
 /// `dym_status`.
 pub(crate) type Status = u32;
 
-pub(crate) const BAD: Status = 9;
+pub(crate) const FILE: Status = 12;
 
 /// What a status says.
 pub(crate) fn done(status: Status) -> Result<(), Error> {
@@ -56,9 +60,9 @@ pub(crate) fn done(status: Status) -> Result<(), Error> {
         6 => Error::LogsFull,
         7 => Error::NoLog,
         8 => Error::Memory,
-        BAD => Error::Bad,
+        9 => Error::Bad,
         10 => Error::Spent,
-        _ => unreachable!("dymelor.h has no status {status}"),
+        _ => unreachable!("no call on an open object answers the status {status}"),
     })
 }
 
@@ -75,6 +79,7 @@ impl fmt::Display for Error {
             Error::Memory => "memory ran out",
             Error::Bad => "the quota or the name is bad",
             Error::Spent => "the object has run 2^60 commands, the most that it may",
+            Error::Twice => "a chunk was named twice",
             Error::File { part } => {
                 return write!(f, "the bytes are no checkpoint file: part {part} fails")
             }
@@ -86,7 +91,7 @@ impl std::error::Error for Error {}
 
 #[cfg(test)]
 mod tests {
-    use super::done;
+    use super::{done, FILE};
     use std::fs;
 
     /// The name and the number of the status that a line declares.
@@ -118,13 +123,14 @@ mod tests {
             .take_while(|line| *line != "};")
             .filter_map(status_of)
             .collect();
-        assert_eq!(statuses.len(), 11);
+        assert_eq!(statuses.len(), 13);
         assert_eq!(done(statuses[0].1), Ok(()));
-        for (name, status) in &statuses[1..] {
+        for (name, status) in &statuses[1..11] {
             assert_eq!(
                 format!("{:?}", done(*status)),
                 format!("Err({})", spelled(name))
             );
         }
+        assert_eq!(statuses[11..], [("STATE", 11), ("FILE", FILE)]);
     }
 }

@@ -7,9 +7,12 @@
 //!   overlap, since they are exclusive wherever C writes.
 //! - "one call at a time on an object": the type isn't `Sync`, so that only one thread at a time calls, and no call calls back.
 
-use crate::error::{done, Error, Status, BAD};
+use crate::error::{done, Error, Status, FILE};
+use crate::pod::{Fits, Pod};
+use std::array;
 use std::cell::UnsafeCell;
 use std::ffi::c_void;
+use std::os::raw::c_char;
 use std::ptr::{self, NonNull};
 use std::slice;
 
@@ -63,7 +66,17 @@ pub(crate) struct Slots {
     pub slots: u32,
 }
 
+/// `dym_heap`.
+#[repr(C)]
+#[derive(Default)]
+pub(crate) struct Heap {
+    pub version: u32,
+    pub quota: u32,
+    pub held: u32,
+}
+
 extern "C" {
+    fn dym_version() -> u32;
     fn dym_open(object: *mut Object, quota: u32, version: u32) -> Status;
     fn dym_close(object: *mut Object) -> Status;
     fn dym_malloc(object: *mut Object, length: u64, chunk: *mut Handle) -> Status;
@@ -74,37 +87,42 @@ extern "C" {
         object: *mut Object,
         chunk: Handle,
         at: u32,
-        bytes: *const u8,
+        bytes: *const c_void,
         length: usize,
     ) -> Status;
     fn dym_fill(object: *mut Object, chunk: Handle, at: u32, length: u32, byte: u8) -> Status;
     fn dym_read(
-        object: *mut Object,
+        object: *const Object,
         chunk: Handle,
         at: u32,
-        bytes: *mut u8,
+        bytes: *mut c_void,
         length: usize,
     ) -> Status;
     fn dym_link(object: *mut Object, chunk: Handle, at: u32, to: Handle) -> Status;
-    fn dym_follow(object: *mut Object, chunk: Handle, at: u32, found: *mut Found) -> Status;
-    fn dym_sum(object: *mut Object, chunk: Handle, total: *mut u64) -> Status;
+    fn dym_follow(object: *const Object, chunk: Handle, at: u32, found: *mut Found) -> Status;
+    fn dym_sum(object: *const Object, chunk: Handle, total: *mut u64) -> Status;
     fn dym_size(object: *const Object, chunk: Handle, length: *mut u32) -> Status;
     fn dym_next(object: *const Object, after: Handle, next: *mut Handle) -> Status;
     fn dym_address(object: *const Object, chunk: Handle, address: *mut *const c_void) -> Status;
     fn dym_touch(object: *mut Object, chunk: Handle, address: *mut *mut c_void) -> Status;
     fn dym_log(object: *mut Object, kind: u32, time: u64, logged: *mut Logged) -> Status;
     fn dym_restore(object: *mut Object, time: u64, restored: *mut u64) -> Status;
+    fn dym_restore_before(object: *mut Object, time: u64, restored: *mut u64) -> Status;
     fn dym_prune(object: *mut Object, bound: u64, dropped: *mut u32) -> Status;
-    fn dym_logs(object: *mut Object, slots: *mut Slots) -> Status;
+    fn dym_prune_before(object: *mut Object, bound: u64, dropped: *mut u32) -> Status;
+    fn dym_log_time(object: *const Object, place: u32, time: *mut u64) -> Status;
+    fn dym_inspect(object: *const Object, heap: *mut Heap) -> Status;
+    fn dym_logs(object: *const Object, slots: *mut Slots) -> Status;
     fn dym_save(
-        object: *mut Object,
-        name: *const u8,
+        object: *const Object,
+        name: *const c_char,
         name_length: usize,
-        bytes: *mut u8,
+        bytes: *mut c_void,
         room: usize,
         length: *mut u64,
     ) -> Status;
-    fn dym_load(object: *mut Object, bytes: *const u8, length: usize, part: *mut u32) -> Status;
+    fn dym_load(object: *mut Object, bytes: *const c_void, length: usize, part: *mut u32)
+        -> Status;
 }
 
 /// A `dym_object` that is open from when it is made until it is dropped.
@@ -119,6 +137,12 @@ pub(crate) struct OpenObject {
 // join, or an atomic that is stored with release and loaded with acquire then stands between the two." Whatever safe Rust moves a value to
 // another thread by is one of these.
 unsafe impl Send for OpenObject {}
+
+/// `dym_version`.
+pub(crate) fn version() -> u32 {
+    // SAFETY: it takes nothing, and answers a number.
+    unsafe { dym_version() }
+}
 
 impl OpenObject {
     fn closed() -> OpenObject {
@@ -141,9 +165,16 @@ impl OpenObject {
         let object = OpenObject::closed();
         let mut part = 0;
         // SAFETY: "a dym_object is zeroed before its first use", and "Any bytes may be handed in".
-        let status = unsafe { dym_load(object.object.get(), file.as_ptr(), file.len(), &mut part) };
+        let status = unsafe {
+            dym_load(
+                object.object.get(),
+                file.as_ptr().cast(),
+                file.len(),
+                &mut part,
+            )
+        };
         match status {
-            BAD => Err(Error::File { part }),
+            FILE => Err(Error::File { part }),
             _ => done(status).map(|()| object),
         }
     }
@@ -173,7 +204,15 @@ impl OpenObject {
 
     pub fn write(&mut self, chunk: Handle, at: u32, bytes: &[u8]) -> Result<(), Error> {
         // SAFETY: "bytes that are handed in or out are at a pointer that isn't null, also where there are none": no slice's is.
-        done(unsafe { dym_write(self.object.get(), chunk, at, bytes.as_ptr(), bytes.len()) })
+        done(unsafe {
+            dym_write(
+                self.object.get(),
+                chunk,
+                at,
+                bytes.as_ptr().cast(),
+                bytes.len(),
+            )
+        })
     }
 
     pub fn fill(&mut self, chunk: Handle, at: u32, length: u32, byte: u8) -> Result<(), Error> {
@@ -188,7 +227,7 @@ impl OpenObject {
                 self.object.get(),
                 chunk,
                 at,
-                bytes.as_mut_ptr(),
+                bytes.as_mut_ptr().cast(),
                 bytes.len(),
             )
         })
@@ -248,6 +287,74 @@ impl OpenObject {
         Ok(unsafe { slice::from_raw_parts_mut(address.cast(), length as usize) })
     }
 
+    /// The bytes of several chunks, to be changed at once. No two of the handles may name one chunk.
+    pub fn chunks_mut<const N: usize>(
+        &mut self,
+        chunks: [Handle; N],
+    ) -> Result<[&mut [u8]; N], Error> {
+        let mut found = [(NonNull::<c_void>::dangling().as_ptr(), 0); N];
+        for (k, chunk) in chunks.iter().enumerate() {
+            if chunks[..k]
+                .iter()
+                .any(|it| it.exponent == chunk.exponent && it.index == chunk.index)
+            {
+                return Err(Error::Twice);
+            }
+            found[k].1 = self.size(*chunk)? as usize;
+        }
+        for (k, chunk) in chunks.iter().enumerate() {
+            // SAFETY: "each other pointer is that of a whole value of its type, which the caller may write".
+            done(unsafe { dym_touch(self.object.get(), *chunk, &mut found[k].0) })?;
+        }
+        // SAFETY: as in `chunk_mut`; different chunks have no byte in common, and the object is borrowed as long as all of them.
+        Ok(array::from_fn(|k| unsafe {
+            slice::from_raw_parts_mut(found[k].0.cast(), found[k].1)
+        }))
+    }
+
+    /// A value in a chunk that is long enough.
+    pub fn value<T: Pod>(&self, chunk: Handle) -> Result<&T, Error> {
+        let () = Fits::<T>::IN_A_CHUNK;
+        let bytes = self.chunk(chunk)?;
+        if bytes.len() < std::mem::size_of::<T>() {
+            return Err(Error::Range);
+        }
+        // SAFETY: the bytes are enough, and aligned for it: "Each chunk is aligned to 16 bytes", more than which `Fits` refuses. Any bytes are
+        // a value of a type that is `Pod`.
+        Ok(unsafe { &*bytes.as_ptr().cast::<T>() })
+    }
+
+    /// The values in chunks that are long enough, to be changed at once.
+    pub fn values_mut<T: Pod, const N: usize>(
+        &mut self,
+        chunks: [Handle; N],
+    ) -> Result<[&mut T; N], Error> {
+        for chunk in chunks {
+            self.value::<T>(chunk)?;
+        }
+        let bytes = self.chunks_mut(chunks)?.map(|it| it.as_mut_ptr());
+        // SAFETY: as in `value` and `chunks_mut`.
+        Ok(array::from_fn(|k| unsafe { &mut *bytes[k].cast::<T>() }))
+    }
+
+    /// The values of two types in two chunks, to be changed at once.
+    pub fn pair_mut<T: Pod, U: Pod>(
+        &mut self,
+        first: Handle,
+        second: Handle,
+    ) -> Result<(&mut T, &mut U), Error> {
+        self.value::<T>(first)?;
+        self.value::<U>(second)?;
+        let [first, second] = self.chunks_mut([first, second])?;
+        // SAFETY: as in `value` and `chunks_mut`.
+        Ok(unsafe {
+            (
+                &mut *first.as_mut_ptr().cast::<T>(),
+                &mut *second.as_mut_ptr().cast::<U>(),
+            )
+        })
+    }
+
     pub fn log(&mut self, kind: u32, time: u64) -> Result<Logged, Error> {
         let mut logged = Logged::default();
         // SAFETY: "each other pointer is that of a whole value of its type, which the caller may write".
@@ -258,6 +365,31 @@ impl OpenObject {
         let mut restored = 0;
         // SAFETY: "each other pointer is that of a whole value of its type, which the caller may write".
         done(unsafe { dym_restore(self.object.get(), time, &mut restored) }).map(|()| restored)
+    }
+
+    pub fn restore_before(&mut self, time: u64) -> Result<u64, Error> {
+        let mut restored = 0;
+        // SAFETY: "each other pointer is that of a whole value of its type, which the caller may write".
+        done(unsafe { dym_restore_before(self.object.get(), time, &mut restored) })
+            .map(|()| restored)
+    }
+
+    pub fn prune_before(&mut self, bound: u64) -> Result<u32, Error> {
+        let mut dropped = 0;
+        // SAFETY: "each other pointer is that of a whole value of its type, which the caller may write".
+        done(unsafe { dym_prune_before(self.object.get(), bound, &mut dropped) }).map(|()| dropped)
+    }
+
+    pub fn log_time(&self, place: u32) -> Result<u64, Error> {
+        let mut time = 0;
+        // SAFETY: "each other pointer is that of a whole value of its type, which the caller may write".
+        done(unsafe { dym_log_time(self.object.get(), place, &mut time) }).map(|()| time)
+    }
+
+    pub fn inspect(&self) -> Result<Heap, Error> {
+        let mut heap = Heap::default();
+        // SAFETY: "each other pointer is that of a whole value of its type, which the caller may write".
+        done(unsafe { dym_inspect(self.object.get(), &mut heap) }).map(|()| heap)
     }
 
     pub fn prune(&mut self, bound: u64) -> Result<u32, Error> {
@@ -278,9 +410,9 @@ impl OpenObject {
         done(unsafe {
             dym_save(
                 self.object.get(),
-                name.as_ptr(),
+                name.as_ptr().cast(),
                 name.len(),
-                bytes.as_mut_ptr(),
+                bytes.as_mut_ptr().cast(),
                 bytes.len(),
                 length,
             )
@@ -291,7 +423,7 @@ impl OpenObject {
 impl Drop for OpenObject {
     /// Closes the object. One that is dropped because it couldn't be opened is closed already, and the call then does nothing.
     fn drop(&mut self) {
-        // SAFETY: "a pointer to an object is that of such a dym_object", closed or open: "DYM_BAD: it was closed".
+        // SAFETY: "a pointer to an object is that of such a dym_object", closed or open: "DYM_STATE: it was closed".
         unsafe { dym_close(self.object.get()) };
     }
 }

@@ -15,7 +15,7 @@
 //!     process.log(LogKind::Incremental, Time(10))?;
 //!     process.chunk_mut(state)?[0] = 20; // the event of time 20, in place
 //!     process.log(LogKind::Incremental, Time(20))?;
-//!     process.restore(Time(15 - 1))?; // a straggler of time 15: back to the log of time 10
+//!     process.restore_before(Time(15))?; // a straggler of time 15: back to the log of time 10
 //!     let mut byte = [0];
 //!     process.read(state, 0, &mut byte)?;
 //!     Ok(byte[0])
@@ -26,12 +26,13 @@
 //!
 //! # What it stands on
 //!
-//! The crate calls the C library `libdymelor.a`, each export of which is proved to do what its header `dymelor.h` says. What Rust adds is
-//! only tested: this crate, which takes over what the header asks of a caller, so that none of it is left to the program. It depends only
+//! The crate calls the exports of the C library `libdymelor`, each of which is proved to do what its header `dymelor.h` says, and none of the
+//! inline calls of that header. What Rust adds is only tested: this crate, which takes over what the header asks of a caller, so that none of it is left to the program. It depends only
 //! on `std`.
 //!
 //! `build.rs` asks `pkg-config` for the library `dymelor`, of this crate's version or a later one with the same second number. If the
-//! environment variable `DYMELOR_DIR` names a prefix, it takes the library in its folder `lib` instead, whatever its version.
+//! environment variable `DYMELOR_DIR` names a prefix, it takes the library in its folder `lib` instead, where the header in its folder
+//! `include` has such a version. The archive is linked, and with `DYMELOR_LINK=shared` the shared library.
 //!
 //! What the header asks of a whole program holds of one in safe Rust: no call comes from a signal handler, nor from the forked child of a
 //! process that has threads, as both are reached by `unsafe` alone; and `malloc`, `realloc` and `free` are those of the C library that the
@@ -39,18 +40,39 @@
 #![deny(unsafe_code)]
 #![warn(missing_docs)]
 
+/// The example of README is compiled and run.
+#[cfg(doctest)]
+#[doc = include_str!("../README.md")]
+struct Readme;
+
 mod answers;
+mod chunk;
 mod chunks;
 mod error;
 #[allow(unsafe_code)]
 mod ffi;
 mod handle;
 mod object;
+#[allow(unsafe_code)]
+mod pod;
 mod time;
 
-pub use answers::{Found, LogKind, Logged, Logs, Version};
+pub use answers::{Found, Heap, LogKind, Logged, Logs, Version};
+pub use chunk::Chunk;
 pub use chunks::Chunks;
 pub use error::Error;
 pub use handle::Handle;
 pub use object::Object;
+pub use pod::Pod;
 pub use time::Time;
+
+#[doc(hidden)]
+pub mod private {
+    pub use crate::pod::same;
+}
+
+/// The version of the library that the program runs with: its three numbers.
+pub fn library_version() -> (u32, u32, u32) {
+    let number = ffi::version();
+    (number / 10_000, number / 100 % 100, number % 100)
+}

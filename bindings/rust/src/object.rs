@@ -1,8 +1,10 @@
-use crate::answers::{Found, LogKind, Logged, Logs, Version};
+use crate::answers::{Found, Heap, LogKind, Logged, Logs, Version};
+use crate::chunk::Chunk;
 use crate::chunks::Chunks;
 use crate::error::Error;
 use crate::ffi::{self, OpenObject};
 use crate::handle::Handle;
+use crate::pod::Pod;
 use crate::time::Time;
 use std::fmt;
 
@@ -10,8 +12,8 @@ use std::fmt;
 ///
 /// What changes the heap or the logs takes the object by `&mut self`; what only looks takes it by `&self`. Commands of both kinds are
 /// counted: each method can return [`Error::Spent`], which isn't named again below, but [`open`](Object::open), [`load`](Object::load),
-/// [`save`](Object::save), [`size`](Object::size), [`chunk`](Object::chunk), [`next_chunk`](Object::next_chunk) and
-/// [`chunks`](Object::chunks).
+/// [`save`](Object::save), [`inspect`](Object::inspect), [`size`](Object::size), [`chunk`](Object::chunk), [`get`](Object::get),
+/// [`log_time`](Object::log_time), [`next_chunk`](Object::next_chunk) and [`chunks`](Object::chunks).
 ///
 /// An object may move to another thread. Threads can't share it, since the library allows one call at a time on an object:
 ///
@@ -60,6 +62,21 @@ impl Object {
         Ok(Object { inside })
     }
 
+    /// The object's version, its quota, and how many segments it holds. This is no command.
+    pub fn inspect(&self) -> Heap {
+        match self.inside.inspect() {
+            Ok(heap) => Heap {
+                version: match heap.version {
+                    1 => Version::One,
+                    _ => Version::Two,
+                },
+                quota: heap.quota,
+                held: heap.held,
+            },
+            Err(why) => unreachable!("an open object tells its quota: {why}"),
+        }
+    }
+
     /// The file of the object's kept logs, under a name of 1 to 32 characters `A-Z a-z 0-9 _` that isn't the word `object`.
     ///
     /// The library makes the file twice, once to tell its length.
@@ -83,6 +100,101 @@ impl Object {
             Ok(()) | Err(Error::Range) => usize::try_from(length).map_err(|_| Error::Memory),
             Err(why) => Err(why),
         }
+    }
+}
+
+/// Values in chunks of their own.
+///
+/// A [`Chunk`] is a handle that knows the type of what lies in its chunk, which is [`Pod`]: any bytes of its length are a value of it. So a
+/// handle that got old, whose chunk was freed and taken for something else, may show another value, and never a broken one.
+///
+/// ```
+/// # fn main() -> Result<(), dymelor::Error> {
+/// use dymelor::{pod, LogKind, Object, Time, Version};
+///
+/// pod! {
+///     /// One player.
+///     #[derive(Debug, PartialEq)]
+///     pub struct Player {
+///         pub x: f32,
+///         pub y: f32,
+///         pub score: u64,
+///     }
+/// }
+///
+/// let mut object = Object::open(4, Version::Two)?;
+/// let (ann, bob) = (Player { x: 1.0, y: 2.0, score: 0 }, Player { x: 5.0, y: 2.0, score: 0 });
+/// let (ann, bob) = (object.make(ann)?, object.make(bob)?);
+/// object.log(LogKind::Full, Time(0))?;
+/// let [a, b] = object.get_many_mut([ann, bob])?; // both at once
+/// a.score += 1;
+/// b.x = a.x;
+/// object.restore_before(Time(1))?;
+/// assert_eq!(object.get(bob)?, &Player { x: 5.0, y: 2.0, score: 0 });
+/// # Ok(())
+/// # }
+/// ```
+impl Object {
+    /// A fresh chunk with a value in it.
+    ///
+    /// # Errors
+    ///
+    /// [`Error::Quota`].
+    pub fn make<T: Pod>(&mut self, value: T) -> Result<Chunk<T>, Error> {
+        let chunk = Chunk::of(self.malloc(std::mem::size_of::<T>() as u64)?);
+        match self.get_mut(chunk) {
+            Ok(place) => *place = value,
+            Err(why) => {
+                let _ = self.free(Some(chunk.handle()));
+                return Err(why);
+            }
+        }
+        Ok(chunk)
+    }
+
+    /// A value where it lies. This is no command, and isn't counted.
+    ///
+    /// # Errors
+    ///
+    /// [`Error::Dead`], and [`Error::Range`] if the chunk is shorter than the value.
+    pub fn get<T: Pod>(&self, chunk: Chunk<T>) -> Result<&T, Error> {
+        self.inside.value(sent(chunk.handle()))
+    }
+
+    /// A value where it lies, to be changed: its chunk is touched, as by [`chunk_mut`](Object::chunk_mut).
+    ///
+    /// # Errors
+    ///
+    /// [`Error::Dead`], and [`Error::Range`] if the chunk is shorter than the value.
+    pub fn get_mut<T: Pod>(&mut self, chunk: Chunk<T>) -> Result<&mut T, Error> {
+        let [value] = self.get_many_mut([chunk])?;
+        Ok(value)
+    }
+
+    /// Several values of one type, to be changed at once.
+    ///
+    /// # Errors
+    ///
+    /// [`Error::Dead`], [`Error::Range`] if a chunk is shorter than the value, and [`Error::Twice`] if a chunk is named twice.
+    pub fn get_many_mut<T: Pod, const N: usize>(
+        &mut self,
+        chunks: [Chunk<T>; N],
+    ) -> Result<[&mut T; N], Error> {
+        self.inside.values_mut(chunks.map(|it| sent(it.handle())))
+    }
+
+    /// Two values of any types, to be changed at once.
+    ///
+    /// # Errors
+    ///
+    /// [`Error::Dead`], [`Error::Range`] if a chunk is shorter than the value, and [`Error::Twice`] if both are one chunk.
+    pub fn pair_mut<T: Pod, U: Pod>(
+        &mut self,
+        first: Chunk<T>,
+        second: Chunk<U>,
+    ) -> Result<(&mut T, &mut U), Error> {
+        self.inside
+            .pair_mut(sent(first.handle()), sent(second.handle()))
     }
 }
 
@@ -174,6 +286,19 @@ impl Object {
         self.inside.chunk_mut(sent(chunk))
     }
 
+    /// The bytes of several chunks at once, to be changed. Each counts as by [`chunk_mut`](Object::chunk_mut); where the call fails, none was
+    /// changed, but some may be touched.
+    ///
+    /// # Errors
+    ///
+    /// [`Error::Dead`], and [`Error::Twice`] if a chunk is named twice.
+    pub fn chunks_mut<const N: usize>(
+        &mut self,
+        chunks: [Handle; N],
+    ) -> Result<[&mut [u8]; N], Error> {
+        self.inside.chunks_mut(chunks.map(sent))
+    }
+
     /// Writes the number of a handle, which needn't be live, or that of nil into eight bytes of a chunk from its place `at` on.
     ///
     /// # Errors
@@ -261,13 +386,42 @@ impl Object {
         self.inside.restore(time.0).map(Time)
     }
 
+    /// The same with the newest log before a time, of which there is none at time 0.
+    ///
+    /// # Errors
+    ///
+    /// [`Error::NoLog`].
+    pub fn restore_before(&mut self, time: Time) -> Result<Time, Error> {
+        self.inside.restore_before(time.0).map(Time)
+    }
+
     /// Drops the logs before the newest one at or before a bound, so that this one can still be restored. The answer is how many; it may be 0.
+    /// For a bound at which an event may still come, as GVT, [`prune_before`](Object::prune_before) is the call.
     ///
     /// # Errors
     ///
     /// Only [`Error::Spent`].
     pub fn prune(&mut self, bound: Time) -> Result<u32, Error> {
         self.inside.prune(bound.0)
+    }
+
+    /// Drops the logs before the newest one before a bound, so that [`restore_before`](Object::restore_before) with that bound or a later time
+    /// still finds it. At bound 0 it drops none.
+    ///
+    /// # Errors
+    ///
+    /// Only [`Error::Spent`].
+    pub fn prune_before(&mut self, bound: Time) -> Result<u32, Error> {
+        self.inside.prune_before(bound.0)
+    }
+
+    /// The time of a kept log, of which the oldest has place 0. This is no command.
+    ///
+    /// # Errors
+    ///
+    /// [`Error::NoLog`] if no log is kept at this place.
+    pub fn log_time(&self, place: u32) -> Result<Time, Error> {
+        self.inside.log_time(place).map(Time)
     }
 
     /// How many logs are kept, and how many records they take.
@@ -286,7 +440,13 @@ impl Object {
 
 impl fmt::Debug for Object {
     fn fmt(&self, f: &mut fmt::Formatter<'_>) -> fmt::Result {
-        f.debug_struct("Object").finish_non_exhaustive()
+        let heap = self.inspect();
+        f.debug_struct("Object")
+            .field("version", &heap.version)
+            .field("quota", &heap.quota)
+            .field("held", &heap.held)
+            .field("chunks", &self.chunks().count())
+            .finish_non_exhaustive()
     }
 }
 

@@ -29,7 +29,7 @@ abbrev pub write_of_all : ObjectMeaning → Handle → Command
 write_of_all o chunk = Write chunk 0 (all_of (bytes_at o chunk))
 
 abbrev pub asked_touch : Option ObjectMeaning → DymHandle → Option Command
-asked_touch None h = None
+asked_touch None h = option_map (λ chunk. Write chunk 0 []) (chunk_of h)
 asked_touch (Some o) h = option_map (λ chunk. write_of_all o chunk) (chunk_of h)
 
 abbrev pub asked_fill : DymHandle → ℕ → ℕ → ℕ → Option Command

@@ -14,14 +14,16 @@ use Rattle.dym_c.specs.Statuses.{reply_status}
 abbrev pub has_left : ObjectMeaning → Bool
 has_left o = nat_lt o.ran COUNT_LIMIT
 
--- the status where no command can be run: 9 for a closed object, 10 for one that ran as many as it may
+-- the status where no command can be run: 11 for a closed object, 10 for one that ran as many as it may
 abbrev pub status_unready : Option ObjectMeaning → Option ℕ
-status_unready None = Some 9
+status_unready None = Some 11
 status_unready (Some o) = if has_left o then None else Some 10
 
+-- 9 where the command can't be asked, whatever the object is
 abbrev pub status_of : Option ObjectMeaning → Option Command → ℕ
 status_of (Some o) (Some command) = if has_left o then reply_status (step_by o command).reply else 10
-status_of _ _ = 9
+status_of None (Some command) = 11
+status_of _ None = 9
 
 -- the reply of a command that was run
 abbrev pub reply_of : Option ObjectMeaning → Option Command → Option Reply
@@ -41,7 +43,7 @@ IsAfter old _ new = new ≡ old
 
 -- a command that is none of the definition's was counted, and has done nothing else: it answers a status, where one could be run
 abbrev pub IsCounted : Option ObjectMeaning → ℕ → ℕ → Option ObjectMeaning → Type 0
-IsCounted None want status new = (status ≡ 9) × (new ≡ None)
+IsCounted None want status new = (status ≡ 11) × (new ≡ None)
 IsCounted (Some o) want status new = MatchBool (has_left o) ((status ≡ want) × (new ≡ Some (counted o))) ((status ≡ 10) × (new ≡ Some o))
 
 -- a call that takes memory: what holds where memory was wanting, and what holds else

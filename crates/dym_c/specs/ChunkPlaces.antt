@@ -46,7 +46,7 @@ start_after (Some o) before = region_start (region_of o.heap.origin) before
 
 -- the live chunk that has the byte so far into the object's region: 3 where there is none
 abbrev pub IsHandleAt : Option ObjectMeaning → ℕ → ℕ → DymHandle → DymHandle → Type 0
-IsHandleAt None offset status before new = (status ≡ 9) × (new ≡ before)
+IsHandleAt None offset status before new = (status ≡ 11) × (new ≡ before)
 IsHandleAt (Some o) offset status before new =
     ((h : Handle) × HasByteAt o.heap h offset × (status ≡ 0) × (new ≡ c_handle h))
     ⊎ (((k : ℕ) → HasByteAt o.heap (handle_of k) offset → ⊥) × (status ≡ 3) × (new ≡ before))

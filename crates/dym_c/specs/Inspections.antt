@@ -16,7 +16,7 @@ use Rattle.dym_c.specs.declared.out_values.DymHeap.{DymHeap}
 
 -- the status of a call that any open object grants
 abbrev pub open_status : Option ObjectMeaning → ℕ
-open_status None = 9
+open_status None = 11
 open_status (Some o) = 0
 
 -- an object's version, its quota, and the segments that it holds
@@ -26,7 +26,7 @@ heap_after (Some o) before = record { version = version_number o.heap.version; q
 
 -- the time of the kept log at a place, the oldest at place 0: 7 where as many aren't kept
 abbrev pub IsLogTime : Option ObjectMeaning → ℕ → ℕ → ℕ → ℕ → Type 0
-IsLogTime None place status before new = (status ≡ 9) × (new ≡ before)
+IsLogTime None place status before new = (status ≡ 11) × (new ≡ before)
 IsLogTime (Some o) place status before new =
     MatchBool (nat_lt place (length o.chain.logs)) ((status ≡ 0) × (new ≡ (log_at o.chain.logs place).time)) ((status ≡ 7) × (new ≡ before))
 
@@ -45,7 +45,8 @@ value_after (Some bytes) before = length bytes
 -- a chunk's length: 3 where it isn't live
 abbrev pub size_status : Option ObjectMeaning → Option Handle → ℕ
 size_status (Some o) (Some h) = status_by (bytes_at o h)
-size_status _ _ = 9
+size_status None (Some h) = 11
+size_status _ None = 9
 
 abbrev pub size_after : Option ObjectMeaning → Option Handle → ℕ → ℕ
 size_after (Some o) (Some h) before = value_after (bytes_at o h) before
@@ -57,9 +58,10 @@ IsLeast live from next = ((next ≡ nil) × ((k : ℕ) → from ≤ k → contai
 
 abbrev pub IsNext : Option ObjectMeaning → Option (Option Handle) → ℕ → DymHandle → DymHandle → Type 0
 IsNext (Some o) (Some place) status before next = (status ≡ 0) × IsLeast o.heap.state.live (after_key place) next
-IsNext _ _ status before next = (status ≡ 9) × (next ≡ before)
+IsNext None (Some place) status before next = (status ≡ 11) × (next ≡ before)
+IsNext _ None status before next = (status ≡ 9) × (next ≡ before)
 
 -- no chunk was changed without a call, unless memory was wanting to see it
 abbrev pub IsUntold : Option ObjectMeaning → ℕ → DymHandle → DymHandle → Type 0
-IsUntold None status before first = (status ≡ 9) × (first ≡ before)
+IsUntold None status before first = (status ≡ 11) × (first ≡ before)
 IsUntold (Some o) status before first = Wanting status (first ≡ before) ((status ≡ 0) × (first ≡ nil))

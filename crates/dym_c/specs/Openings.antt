@@ -29,15 +29,20 @@ abbrev IsOpened : Version → ℕ → ℕ → Option ObjectMeaning → Type 0
 IsOpened version quota status None = status ≡ 8
 IsOpened version quota status (Some new) = (status ≡ 0) × IsFirst version quota new
 
--- only a closed object is opened, in version 1 or 2, with a quota of 1 to 1,024 segments; else nothing is done
+-- only a closed object is opened
+abbrev IsOpeningRightly : Option ObjectMeaning → Version → ℕ → ℕ → Option ObjectMeaning → Type 0
+IsOpeningRightly None version quota status new = IsOpened version quota status new
+IsOpeningRightly (Some o) version quota status new = (status ≡ 11) × (new ≡ Some o)
+
+-- it is opened in version 1 or 2, with a quota of 1 to 1,024 segments; else nothing is done
 abbrev pub IsOpening : Option ObjectMeaning → ℕ → Option Version → ℕ → Option ObjectMeaning → Type 0
-IsOpening None quota (Some version) status new =
+IsOpening old quota (Some version) status new =
     MatchBool (nat_le 1 quota && nat_le quota MOST_QUOTA)
-    (IsOpened version quota status new)
-    ((status ≡ 9) × (new ≡ None))
-IsOpening old quota _ status new = (status ≡ 9) × (new ≡ old)
+    (IsOpeningRightly old version quota status new)
+    ((status ≡ 9) × (new ≡ old))
+IsOpening old quota None status new = (status ≡ 9) × (new ≡ old)
 
 -- whatever was open is closed
 abbrev pub IsClosing : Option ObjectMeaning → ℕ → Option ObjectMeaning → Type 0
-IsClosing None status new = (status ≡ 9) × (new ≡ None)
+IsClosing None status new = (status ≡ 11) × (new ≡ None)
 IsClosing (Some o) status new = (status ≡ 0) × (new ≡ None)

@@ -23,12 +23,16 @@ pub record IsCopied (file : List ℕ) (status : ℕ) (bytes new : List ℕ) (out
 abbrev pub IsUnchangedOut : List ℕ → List ℕ → ℕ → ℕ → Type 0
 IsUnchangedOut bytes new before out_value = (new ≡ bytes) × (out_value ≡ before)
 
--- an open object is written under a name, unless memory was wanting
+-- an open object is written, unless memory was wanting
+abbrev IsSavingRightly : Option ObjectMeaning → List ℕ → ℕ → List ℕ → List ℕ → ℕ → ℕ → Type 0
+IsSavingRightly None name status bytes new before out_value = (status ≡ 11) × IsUnchangedOut bytes new before out_value
+IsSavingRightly (Some o) name status bytes new before out_value =
+    IsCopied (file_of_object name o) status bytes new out_value ⊎ ((status ≡ 8) × IsUnchangedOut bytes new before out_value)
+
+-- it is written under a name
 abbrev pub IsSaving : Option ObjectMeaning → List ℕ → ℕ → List ℕ → List ℕ → ℕ → ℕ → Type 0
-IsSaving None name status bytes new before out_value = (status ≡ 9) × IsUnchangedOut bytes new before out_value
-IsSaving (Some o) name status bytes new before out_value =
-    MatchBool (is_name name) (IsCopied (file_of_object name o) status bytes new out_value ⊎ ((status ≡ 8) × IsUnchangedOut bytes new before out_value))
-    ((status ≡ 9) × IsUnchangedOut bytes new before out_value)
+IsSaving old name status bytes new before out_value =
+    MatchBool (is_name name) (IsSavingRightly old name status bytes new before out_value) ((status ≡ 9) × IsUnchangedOut bytes new before out_value)
 
 -- the object that was made of a file
 abbrev pub object_of : Loaded → ObjectMeaning
@@ -42,9 +46,9 @@ IsLoadedObject bytes o = (loaded : Loaded) × IsLoaded bytes loaded × (o ≡ ob
 -- part that fails
 abbrev pub IsFilled : List ℕ → ℕ → Option ObjectMeaning → ℕ → ℕ → Type 0
 IsFilled bytes status (Some o) before part = (status ≡ 0) × (part ≡ before) × IsLoadedObject bytes o
-IsFilled bytes status None before part = ((status ≡ 8) × (part ≡ before) × BeginsWell bytes) ⊎ ((status ≡ 9) × FailsAt bytes part)
+IsFilled bytes status None before part = ((status ≡ 8) × (part ≡ before) × BeginsWell bytes) ⊎ ((status ≡ 12) × FailsAt bytes part)
 
 -- only a closed object is opened by a file
 abbrev pub IsLoading : Option ObjectMeaning → List ℕ → ℕ → Option ObjectMeaning → ℕ → ℕ → Type 0
 IsLoading None bytes status new before part = IsFilled bytes status new before part
-IsLoading (Some o) bytes status new before part = (status ≡ 9) × (new ≡ Some o) × (part ≡ before)
+IsLoading (Some o) bytes status new before part = (status ≡ 11) × (new ≡ Some o) × (part ≡ before)

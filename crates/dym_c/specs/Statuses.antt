@@ -1,4 +1,5 @@
--- The numbers that exports answer: 0 done, 1 to 7 refused, 8 memory was wanting, 9 a bad argument or the wrong object, 10 spent.
+-- The numbers that exports answer: 0 done, 1 to 7 refused, 8 memory was wanting, 9 a bad argument, 10 spent, 11 the object is closed, or open where
+-- it is to be opened, 12 the bytes are no file.
 use Rattle.std.specs.Prelude.{ℕ}
 use Rattle.dym_base.specs.declared.reply.Refusal.{Refusal}
 use Rattle.dym_base.specs.declared.reply.Refusal.TheVariants.{TooLarge, Quota, Dead, Range, NotAfter, LogsFull, NoLog}

@@ -12,7 +12,7 @@ ghost use Rattle.dym_c.specs.Inspections.{size_status, open_status};
 use crate::handle::{DymHandle, c_chunk, chunk_of_c};
 use crate::object::DymObject;
 use crate::object_content::Process;
-use crate::status::{BAD, DONE, done_number, refusal_number};
+use crate::status::{BAD, DONE, STATE, done_number, refusal_number};
 use dym_base::{Handle, Refusal};
 
 /// Where a chunk lies, to be read there.
@@ -26,7 +26,7 @@ pub extern "C" fn dym_address(object: &mut DymObject, h: DymHandle, address: &mu
         return BAD;
     };
     let Some(inside) = object.inside() else {
-        return BAD;
+        return STATE;
     };
     match inside.object.address(chunk) {
         Some(place) => {
@@ -82,7 +82,7 @@ pub extern "C" fn dym_touch_all(object: &mut DymObject) -> u32
     ensures after { object.new.value ≡ option_map with_all_touched object.old.value }
 {
     let Some(inside) = object.inside() else {
-        return BAD;
+        return STATE;
     };
     inside.object.touch_all();
     DONE
@@ -90,13 +90,13 @@ pub extern "C" fn dym_touch_all(object: &mut DymObject) -> u32
 
 /// Makes each live chunk count as written of which a byte lies in the `len` bytes from `offset` on of the object's region.
 #[unsafe(no_mangle)]
-pub extern "C" fn dym_wrote_at(object: &mut DymObject, offset: u64, len: u64) -> u32
+pub extern "C" fn dym_wrote_offset(object: &mut DymObject, offset: u64, len: u64) -> u32
     ensures status { result ≡ open_status object.old.value }
     ensures after { object.new.value ≡ option_map
         (with_touched_in offset (offset + len)) object.old.value }
 {
     let Some(inside) = object.inside() else {
-        return BAD;
+        return STATE;
     };
     inside.object.touch_at(offset, len);
     DONE
@@ -110,7 +110,7 @@ pub extern "C" fn dym_start(object: &mut DymObject, start: &mut *const u8) -> u3
     ensures same { object.new.value ≡ object.old.value }
 {
     let Some(inside) = object.inside() else {
-        return BAD;
+        return STATE;
     };
     *start = inside.object.start();
     DONE
@@ -118,12 +118,16 @@ pub extern "C" fn dym_start(object: &mut DymObject, start: &mut *const u8) -> u3
 
 /// The live chunk that has the byte at `offset` of the object's region.
 #[unsafe(no_mangle)]
-pub extern "C" fn dym_handle_at(object: &mut DymObject, offset: u64, chunk: &mut DymHandle) -> u32
+pub extern "C" fn dym_handle_offset(
+    object: &mut DymObject,
+    offset: u64,
+    chunk: &mut DymHandle,
+) -> u32
     ensures told { IsHandleAt object.old.value offset result chunk.old chunk.new }
     ensures same { object.new.value ≡ object.old.value }
 {
     let Some(inside) = object.inside() else {
-        return BAD;
+        return STATE;
     };
     let found = inside.object.handle_at(offset);
     match found {

@@ -7,7 +7,7 @@ ghost use Rattle.dym_c.specs.SavedFiles.{IsSaving, IsLoading, IsCopied, IsLoaded
 
 use crate::object::DymObject;
 use crate::object_content::{ObjectContent, Process};
-use crate::status::{BAD, DONE, MEMORY, refusal_number};
+use crate::status::{BAD, DONE, FILE, MEMORY, STATE, refusal_number};
 use core::mem::replace_with;
 use dym_base::{Name, Refusal};
 use dym_ckpt::{FileFail, file_bytes, read_file};
@@ -32,7 +32,7 @@ pub extern "C" fn dym_save(
         return BAD;
     };
     let Some(inside) = object.inside() else {
-        return BAD;
+        return STATE;
     };
     let file = file_of_process(alloc, &mut inside.object, &name);
     match file {
@@ -89,7 +89,7 @@ pub extern "C" fn dym_load(
     ensures { IsLoading object.old.value bytes.now result object.new.value part.old part.new }
 {
     if !object.is_closed() {
-        return BAD;
+        return STATE;
     }
     match loaded(alloc, bytes) {
         Ok(inside) => {
@@ -98,7 +98,7 @@ pub extern "C" fn dym_load(
         }
         Err(FileFail::Bad { part: failing }) => {
             *part = failing;
-            BAD
+            FILE
         }
         Err(FileFail::Memory) => MEMORY,
     }

@@ -9,7 +9,7 @@ use crate::handle::{DymHandle, c_chunk, chunk_of_c, chunk_or_nil_of_c};
 use crate::object::DymObject;
 use crate::object_content::Process;
 use crate::out_values::DymHeap;
-use crate::status::{BAD, DONE, refusal_number};
+use crate::status::{BAD, DONE, STATE, refusal_number};
 use core::mem::replace_with;
 use dym_base::{Refusal, Version};
 use dym_chain::KeptLogs;
@@ -22,7 +22,7 @@ pub extern "C" fn dym_inspect(object: &mut DymObject, heap: &mut DymHeap) -> u32
     ensures same { object.new.value ≡ object.old.value }
 {
     let Some(inside) = object.inside() else {
-        return BAD;
+        return STATE;
     };
     let seen = inside.object.heap();
     *heap = DymHeap {
@@ -50,7 +50,7 @@ pub extern "C" fn dym_log_time(object: &mut DymObject, place: u32, time: &mut u6
     ensures same { object.new.value ≡ object.old.value }
 {
     let Some(inside) = object.inside() else {
-        return BAD;
+        return STATE;
     };
     if inside.object.kept() <= place {
         return refusal_number(Refusal::NoLog);
@@ -92,7 +92,7 @@ pub extern "C" fn dym_size(object: &mut DymObject, h: DymHandle, len: &mut u32) 
         return BAD;
     };
     let Some(inside) = object.inside() else {
-        return BAD;
+        return STATE;
     };
     let size = inside.object.heap().size_of(chunk);
     match size {
@@ -114,7 +114,7 @@ pub extern "C" fn dym_next(object: &mut DymObject, after: DymHandle, next: &mut 
         return BAD;
     };
     let Some(inside) = object.inside() else {
-        return BAD;
+        return STATE;
     };
     let found = inside.object.heap().next_live(place);
     *next = match found {

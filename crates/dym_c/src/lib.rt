@@ -22,6 +22,7 @@ mod object_content;
 mod out_values;
 mod status;
 mod untold_chunks;
+mod version;
 
 pub use handle::DymHandle;
 pub use object::DymObject;

@@ -6,7 +6,7 @@ ghost use Rattle.std.specs.Prelude.{◌≤◌};
 
 use crate::object::DymObject;
 use crate::object_content::{ObjectContent, Process};
-use crate::status::{BAD, DONE, MEMORY};
+use crate::status::{BAD, DONE, MEMORY, STATE};
 use dym_base::Version;
 use dym_base::limits::MOST_QUOTA;
 use dym_chain::VecKeep;
@@ -19,14 +19,14 @@ use std::alloc::{AllocError, Global};
 pub extern "C" fn dym_open(alloc: Global, object: &mut DymObject, quota: u32, version: u32) -> u32
     ensures { IsOpening object.old.value quota (version_of version) result object.new.value }
 {
-    if !object.is_closed() {
-        return BAD;
-    }
     let Some(version) = version_of_c(version) else {
         return BAD;
     };
     if quota == 0 || MOST_QUOTA < quota {
         return BAD;
+    }
+    if !object.is_closed() {
+        return STATE;
     }
     let Ok(inside) = boxed(alloc, quota, version) else {
         return MEMORY;
@@ -41,7 +41,7 @@ pub extern "C" fn dym_close(alloc: Global, object: &mut DymObject) -> u32
     ensures { IsClosing object.old.value result object.new.value }
 {
     if object.is_closed() {
-        return BAD;
+        return STATE;
     }
     object.close(alloc);
     DONE

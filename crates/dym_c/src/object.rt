@@ -11,7 +11,7 @@ ghost use Rattle.dym_c.specs.contracts.object_content.ObjectContent.{the_row};
 
 use crate::box_pointer::Held;
 use crate::object_content::ObjectContent;
-use crate::status::{BAD, SPENT};
+use crate::status::{SPENT, STATE};
 use dym_base::limits::COUNT_LIMIT;
 use std::alloc::Global;
 use std::marker::{Model, Send};
@@ -104,7 +104,7 @@ impl DymObject {
         ensures unready { IfErr result (λ status. status_unready self.old.value ≡ Some status) }
     {
         if self.is_closed() {
-            return Err(BAD);
+            return Err(STATE);
         }
         if self.content().object.ran() >= COUNT_LIMIT {
             return Err(SPENT);

@@ -11,11 +11,17 @@ pub const DONE: u32 = 0;
 /// Memory was wanting, and nothing was done.
 pub const MEMORY: u32 = 8;
 
-/// An argument was bad, or the object was closed, or open where it was to be opened. Nothing was done.
+/// An argument was bad. Nothing was done.
 pub const BAD: u32 = 9;
 
 /// The object has run as many commands as it may. Nothing was done.
 pub const SPENT: u32 = 10;
+
+/// The object was closed, or open where it was to be opened. Nothing was done.
+pub const STATE: u32 = 11;
+
+/// The bytes were no checkpoint file. Nothing was done.
+pub const FILE: u32 = 12;
 
 /// The status of a refusal.
 pub(crate) fn refusal_number(why: Refusal) -> u32

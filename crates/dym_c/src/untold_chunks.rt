@@ -5,7 +5,7 @@ ghost use Rattle.dym_c.specs.Inspections.{IsUntold};
 use crate::handle::{DymHandle, c_chunk};
 use crate::object::DymObject;
 use crate::object_content::Process;
-use crate::status::{BAD, DONE, MEMORY};
+use crate::status::{DONE, MEMORY, STATE};
 use dym_base::Handle;
 use dym_heap::Heap;
 use dym_quota::FixedSupply;
@@ -19,7 +19,7 @@ pub extern "C" fn dym_untold(alloc: Global, object: &mut DymObject, chunk: &mut 
     ensures same { object.new.value ≡ object.old.value }
 {
     let Some(inside) = object.inside() else {
-        return BAD;
+        return STATE;
     };
     match first_untold(alloc, &mut inside.object) {
         Ok(first) => {
