@@ -35,7 +35,7 @@ typedef struct kernel {
 
 static void must(fault f)
 {
-    if (f != FAULT_NONE) transport_fault(f);
+    if (f != FAULT_NONE) fault_end(f);
 }
 
 static int is_own(const kernel *k, uint32_t process)
@@ -50,9 +50,9 @@ static void take(kernel *k, const message *m)
 {
     uint32_t receiver = m->event.receiver;
     process *p = &k->processes[receiver];
-    uint64_t rollbacks = process_counts(p)->rollbacks, from = process_reached(p);
+    uint64_t rollbacks = process_counts(p)->rollbacks, from = process_reached(p), time = m->event.time;
     must(process_take(p, m, &k->out));
-    if (process_counts(p)->rollbacks > rollbacks) trace_note_back(&k->trace, receiver, m->event.time, from);
+    if (process_counts(p)->rollbacks > rollbacks) trace_note_back(&k->trace, receiver, time, from);
     schedule_set(&k->schedule, receiver, process_next(p));
 }
 
@@ -68,11 +68,11 @@ static void deliver(kernel *k)
 {
     size_t j;
     for (j = 0; j < k->out.count; j++) {
-        message m = k->out.items[j];
-        if (is_own(k, m.event.receiver))
-            take(k, &m);
+        message *m = &k->out.items[j];
+        if (is_own(k, m->event.receiver))
+            take(k, m);
         else
-            send(k, &m);
+            send(k, m);
     }
     k->out.count = 0;
 }

@@ -1,7 +1,7 @@
 /*
  * Parts of the kernel by themselves: the logging period and the window as their rules say, the schedule against a plain search, and a packed
  * process that is unpacked whole and cut short at each place.
- *     parts [copies|calls|place]
+ *     parts [copies|place|undo]
  */
 #include <stdio.h>
 #include <stdlib.h>
