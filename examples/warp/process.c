@@ -61,11 +61,12 @@ static void execute(process *p, const event *e, messages *out)
 
 static fault take_log(process *p)
 {
-    uint64_t bytes = 0, start = p->period.is_chosen ? clock_now() : 0;
+    int is_timed = p->logged.count > 0 && period_times_log(&p->period); /* the first log takes fresh memory, as no other does */
+    uint64_t bytes = 0, start = is_timed ? clock_now() : 0;
     fault f = list_grow(&p->logged.items, &p->logged.room, p->logged.count, sizeof *p->logged.items);
     if (f == FAULT_NONE) f = memory_log(&p->memory, position(p), &bytes);
     if (f != FAULT_NONE) return f;
-    if (p->period.is_chosen) period_note_log(&p->period, clock_now() - start);
+    if (is_timed) period_note_log(&p->period, clock_now() - start);
     p->logged.items[p->logged.count++] = position(p);
     p->since_log = 0;
     p->counts.logs++;
