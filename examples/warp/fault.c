@@ -12,6 +12,7 @@ const char *fault_text(fault f)
     case FAULT_MODEL: return "the model got an event that is none of its own, or sent one to no process or to no later time";
     case FAULT_MOVE: return "a moved process that is no process";
     case FAULT_FILE: return "the trace can't be written (--trace)";
+    case FAULT_ENDED: return "ended from outside, as where another rank is lost";
     }
     return "an unknown fault";
 }

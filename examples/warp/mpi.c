@@ -9,9 +9,11 @@
 
 #include <limits.h>
 #include <sched.h>
+#include <signal.h>
 #include <stdio.h>
 #include <stdlib.h>
 #include <string.h>
+#include <unistd.h>
 
 #include "pack.h"
 
@@ -41,6 +43,27 @@ struct transport {
 
 static int rank, ranks;
 
+/* What this rank says where it is ended from outside: mpirun sends SIGTERM to the others when one is lost. Made before, since a handler of
+ * signals may make few calls. */
+static char last_words[128];
+static size_t last_length;
+
+static void end_from_outside(int number)
+{
+    (void)number;
+    if (write(STDERR_FILENO, last_words, last_length) < 0) _exit((int)FAULT_ENDED);
+    _exit((int)FAULT_ENDED);
+}
+
+static void name_the_end(void)
+{
+    struct sigaction action;
+    last_length = (size_t)snprintf(last_words, sizeof last_words, "warp: rank %d: %s\n", rank, fault_text(FAULT_ENDED));
+    memset(&action, 0, sizeof action);
+    action.sa_handler = end_from_outside;
+    sigaction(SIGTERM, &action, NULL);
+}
+
 /* Open MPI's ranks spin while they wait, unless they know that they are too many for the processors. They don't know of other programs:
  * so they are told to yield, unless the environment says otherwise. */
 void transport_begin(int *count, char ***words)
@@ -49,6 +72,7 @@ void transport_begin(int *count, char ***words)
     MPI_Init(count, words);
     MPI_Comm_rank(MPI_COMM_WORLD, &rank);
     MPI_Comm_size(MPI_COMM_WORLD, &ranks);
+    name_the_end();
 }
 
 void transport_end(void)
