@@ -35,7 +35,7 @@ typedef struct kernel {
 
 static void must(fault f)
 {
-    if (f != FAULT_NONE) transport_fault(f);
+    if (f != FAULT_NONE) fault_end(f);
 }
 
 static int is_own(const kernel *k, uint32_t process)
@@ -50,9 +50,9 @@ static void take(kernel *k, const message *m)
 {
     uint32_t receiver = m->event.receiver;
     process *p = &k->processes[receiver];
-    uint64_t rollbacks = process_counts(p)->rollbacks, from = process_reached(p);
+    uint64_t rollbacks = process_counts(p)->rollbacks, from = process_reached(p), time = m->event.time;
     must(process_take(p, m, &k->out));
-    if (process_counts(p)->rollbacks > rollbacks) trace_note_back(&k->trace, receiver, m->event.time, from);
+    if (process_counts(p)->rollbacks > rollbacks) trace_note_back(&k->trace, receiver, time, from);
     schedule_set(&k->schedule, receiver, process_next(p));
 }
 
@@ -68,11 +68,11 @@ static void deliver(kernel *k)
 {
     size_t j;
     for (j = 0; j < k->out.count; j++) {
-        message m = k->out.items[j];
-        if (is_own(k, m.event.receiver))
-            take(k, &m);
+        message *m = &k->out.items[j];
+        if (is_own(k, m->event.receiver))
+            take(k, m);
         else
-            send(k, &m);
+            send(k, m);
     }
     k->out.count = 0;
 }
@@ -101,13 +101,13 @@ static void add_up(const kernel *k, counts *sums)
 {
     uint32_t j;
     memset(sums, 0, sizeof *sums);
-    for (j = 0; j < k->schedule.count; j++) counts_add(sums, process_counts(&k->processes[k->schedule.heap[j]]));
+    for (j = 0; j < k->schedule.count; j++) counts_add(sums, process_counts(&k->processes[k->schedule.own[j]]));
 }
 
 static void commit(kernel *k)
 {
     uint32_t j;
-    for (j = 0; j < k->schedule.count; j++) must(process_commit(&k->processes[k->schedule.heap[j]], k->bound));
+    for (j = 0; j < k->schedule.count; j++) must(process_commit(&k->processes[k->schedule.own[j]], k->bound));
 }
 
 /* Moves the next process in turn to the next worker, at every so many bounds. */
@@ -165,9 +165,9 @@ static int take_turn(kernel *k)
         must(process_run(p, &k->out));
         trace_note(&k->trace, "run", which, time);
         if (process_counts(p)->logs > logs) trace_note(&k->trace, "log", which, time);
-        schedule_set(&k->schedule, which, process_next(p));
-        deliver(k);
+        deliver(k); /* most of what a process sends goes to itself: its next event is known after that */
         time = process_next(p);
+        schedule_set(&k->schedule, which, time);
     }
     k->since_bound += ran;
     if (process_wants_bound(p) || k->since_bound >= k->settings->bound_every) transport_want_bound(k->transport);
@@ -211,13 +211,13 @@ static void finish(kernel *k, outcome *out)
     add_up(k, &own);
     own.memory = transport_speaks(k->transport) ? resources_peak() : 0;
     for (j = 0; j < k->schedule.count; j++) {
-        must(process_checksum(&k->processes[k->schedule.heap[j]], &sum));
-        own.checksum += model_mixed(sum + k->schedule.heap[j]);
+        must(process_checksum(&k->processes[k->schedule.own[j]], &sum));
+        own.checksum += model_mixed(sum + k->schedule.own[j]);
     }
     transport_reduce(k->transport, &none, &own);
     out->counts = own;
     out->bounds = k->bounds;
-    for (j = 0; j < k->schedule.count; j++) process_close(&k->processes[k->schedule.heap[j]]);
+    for (j = 0; j < k->schedule.count; j++) process_close(&k->processes[k->schedule.own[j]]);
     must(trace_close(&k->trace));
     schedule_close(&k->schedule);
     free(k->owner);

@@ -40,7 +40,7 @@ static fault run_optimistic(const settings *s)
     process *processes;
     if (s->processes < transport_workers(s)) return FAULT_OPTION;
     processes = calloc(s->processes, sizeof *processes);
-    if (processes == NULL) transport_fault(FAULT_MEMORY); /* of this rank alone, perhaps */
+    if (processes == NULL) fault_end(FAULT_MEMORY); /* of this rank alone, perhaps */
     transport_run(s, processes, work);
     free(processes);
     return FAULT_NONE;

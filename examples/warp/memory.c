@@ -3,7 +3,7 @@
 #include <string.h>
 
 const memory_way *const memory_ways[] = {
-    &memory_copies, &memory_calls, &memory_place,
+    &memory_copies, &memory_place, &memory_undo,
 #ifdef WARP_TOLD
     &memory_told,
 #endif
@@ -21,8 +21,6 @@ fault memory_open(memory *m, const memory_way *way, uint32_t quota)
 {
     m->way = way;
     m->inside = NULL;
-    m->fault = FAULT_NONE;
-    m->edited_at = NULL;
     return way->open(m, quota);
 }
 
@@ -30,33 +28,6 @@ void memory_close(memory *m)
 {
     if (m->way != NULL && m->inside != NULL) m->way->close(m);
     m->inside = NULL;
-}
-
-chunk chunk_alloc(memory *m, uint32_t length)
-{
-    return m->fault == FAULT_NONE ? m->way->alloc(m, length) : 0;
-}
-
-void chunk_free(memory *m, chunk c)
-{
-    if (m->fault == FAULT_NONE) m->way->free(m, c);
-}
-
-const void *chunk_see(memory *m, chunk c, uint32_t at, uint32_t length, void *room)
-{
-    if (m->fault == FAULT_NONE) return m->way->see(m, c, at, length, room);
-    return memset(room, 0, length);
-}
-
-void *chunk_edit(memory *m, chunk c, uint32_t at, uint32_t length, void *room)
-{
-    if (m->fault == FAULT_NONE) return m->way->edit(m, c, at, length, room);
-    return memset(room, 0, length);
-}
-
-void chunk_put(memory *m, chunk c, uint32_t at, uint32_t length, const void *bytes)
-{
-    if (m->fault == FAULT_NONE) m->way->put(m, c, at, length, bytes);
 }
 
 void memory_begin(memory *m)
@@ -89,11 +60,9 @@ fault memory_save(memory *m, uint8_t **bytes, uint64_t *length)
     return m->way->save(m, bytes, length);
 }
 
-fault memory_load(memory *m, const memory_way *way, const uint8_t *bytes, uint64_t length)
+fault memory_load(memory *m, const memory_way *way, const uint8_t *bytes, uint64_t length, uintptr_t *distance)
 {
     m->way = way;
     m->inside = NULL;
-    m->fault = FAULT_NONE;
-    m->edited_at = NULL;
-    return way->load(m, bytes, length);
+    return way->load(m, bytes, length, distance);
 }

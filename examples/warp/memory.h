@@ -8,28 +8,35 @@
 #define MEMORY_H
 
 #include <stddef.h>
+#include <stdint.h>
 
-#include "chunk.h"
 #include "fault.h"
 
 /* The most logs that a process keeps; the library has the same limit. */
 enum { MEMORY_LOGS = 256 };
 
+typedef struct memory memory;
+
+/*
+ * What a model calls (alloc, free, write) ends the run where it can't be done. `write` comes before each change of what an event didn't
+ * allocate itself.
+ *
+ * A state moves when it stands at the only log that it has. `save` makes its bytes, and `load` opens a state of them; *distance is how far
+ * its chunks lie from where they lay. When its pointers were made right it is logged again, at the same time.
+ */
 typedef struct memory_way {
     const char *name;
     const char *says;
     fault (*open)(memory *m, uint32_t quota);
     void (*close)(memory *m);
-    chunk (*alloc)(memory *m, uint32_t length);
-    void (*free)(memory *m, chunk c);
-    const void *(*see)(memory *m, chunk c, uint32_t at, uint32_t length, void *room);
-    void *(*edit)(memory *m, chunk c, uint32_t at, uint32_t length, void *room);
-    void (*put)(memory *m, chunk c, uint32_t at, uint32_t length, const void *bytes);
+    void *(*alloc)(memory *m, size_t length);
+    void (*free)(memory *m, void *chunk, size_t length);
+    void (*write)(memory *m, void *at, size_t length); /* null where nothing is to be done */
     fault (*log)(memory *m, uint64_t time, uint64_t *bytes);
     fault (*restore)(memory *m, uint64_t time, uint64_t *restored);
     fault (*prune)(memory *m, uint64_t bound);
     fault (*save)(memory *m, uint8_t **bytes, uint64_t *length);
-    fault (*load)(memory *m, const uint8_t *bytes, uint64_t length);
+    fault (*load)(memory *m, const uint8_t *bytes, uint64_t length, uintptr_t *distance);
     void (*begin)(memory *m); /* before and after an event; null where nothing is to be done */
     void (*end)(memory *m);
 } memory_way;
@@ -37,13 +44,10 @@ typedef struct memory_way {
 struct memory {
     const memory_way *way;
     void *inside; /* the way's own; null while it is closed */
-    fault fault;  /* the first fault of a chunk's call */
-    chunk edited; /* the chunk of the last edit in place, and where its bytes are: a put of them has nothing to do */
-    const void *edited_at;
 };
 
 extern const memory_way memory_copies;
-extern const memory_way memory_calls;
+extern const memory_way memory_undo;
 extern const memory_way memory_place;
 extern const memory_way memory_told; /* of a program whose models dymelor-cc compiled, with WARP_TOLD defined */
 
@@ -68,8 +72,8 @@ fault memory_restore(memory *m, uint64_t time, uint64_t *restored);
 /* Drops the logs before the newest one at or before a bound. */
 fault memory_prune(memory *m, uint64_t bound);
 
-/* The kept logs as bytes, which the caller frees; and a state opened from such bytes, as it was at the newest log. */
+/* A state at its only log as bytes, which the caller frees; and a state opened from such bytes, whose first log is still to be taken. */
 fault memory_save(memory *m, uint8_t **bytes, uint64_t *length);
-fault memory_load(memory *m, const memory_way *way, const uint8_t *bytes, uint64_t length);
+fault memory_load(memory *m, const memory_way *way, const uint8_t *bytes, uint64_t length, uintptr_t *distance);
 
 #endif

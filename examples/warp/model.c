@@ -1,20 +1,20 @@
 #include "model.h"
 
-#include <string.h>
+#include "memory.h"
+
+void *model_alloc(context *c, size_t length)
+{
+    return c->memory->way->alloc(c->memory, length);
+}
+
+void model_free(context *c, void *chunk, size_t length)
+{
+    c->memory->way->free(c->memory, chunk, length);
+}
 
 void model_send(context *c, uint32_t receiver, uint64_t delay, uint64_t kind, uint64_t data0, uint64_t data1)
 {
-    event e;
-    if (receiver >= c->processes || delay == 0 || delay > UINT64_MAX - 1 - c->now) {
-        c->fault = FAULT_MODEL;
-        return;
-    }
-    memset(&e, 0, sizeof e);
-    e.time = c->now + delay;
-    e.sender = c->self;
-    e.receiver = receiver;
-    e.kind = kind;
-    e.data[0] = data0;
-    e.data[1] = data1;
+    event e = {.time = c->now + delay, .sender = c->self, .receiver = receiver, .kind = kind, .data = {data0, data1}};
+    if (receiver >= c->processes || delay == 0 || delay > UINT64_MAX - 1 - c->now) fault_end(FAULT_MODEL);
     c->deliver(c, &e);
 }

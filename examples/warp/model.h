@@ -2,18 +2,30 @@
  * A model: what processes have for a state, and what an event does to it. This header is all that a model sees. A model is one file in
  * models/ with a `model` in it, and a line in models/models.c.
  *
- * What an event does may depend on nothing but the event, the state in chunks, and the numbers of the context: the kernel undoes events and
- * runs them again, and each time they must do the same. Random numbers are drawn from a number in the state.
+ * The state of a process is a struct of the model's own, and further chunks that it points to. Chunks stay at their addresses while the
+ * run lasts, over rollbacks too: they are read by plain loads, point to each other by plain pointers, and after a rollback each pointer is
+ * what it was. Before an event changes bytes it says so:
+ *
+ *     struct cell *cell = c->state;
+ *     model_write(c, cell, sizeof *cell);
+ *     cell->busy++;
+ *
+ * A chunk that the same event allocated is written without. What isn't said is a fault that nothing finds: it may stay after a rollback.
+ *
+ * What an event does may depend on nothing but the event, the state and the numbers of the context: the kernel undoes events and runs them
+ * again, and each time they must do the same. Random numbers are drawn from a number in the state.
  */
 #ifndef MODEL_H
 #define MODEL_H
 
-#include "chunk.h"
+#include <stddef.h>
+#include <stdint.h>
+
 #include "event.h"
 #include "fault.h"
 
-/* The most options that a model has. */
-enum { MODEL_OPTIONS = 12 };
+/* The most options that a model has, and the most bytes of a chunk. */
+enum { MODEL_OPTIONS = 12, MODEL_CHUNK_MOST = 65536 };
 
 /* A number that the command line can set (--name N). */
 typedef struct model_option {
@@ -22,19 +34,22 @@ typedef struct model_option {
     const char *says;
 } model_option;
 
+struct memory;
+
 /* What a model has of the process that an event is run for. */
 typedef struct context {
+    void *state;             /* the chunk that the state begins in; `start` sets it, and nothing else */
     uint32_t self;           /* this process: 0 to processes - 1 */
     uint32_t processes;
     uint64_t seed;
     uint64_t now;            /* the time of the event; 0 at the start */
     const uint64_t *options; /* the values, in the order of the model's options */
-    memory *memory;
-    chunk root;              /* the chunk that the state begins in; `start` sets it, and nothing else */
-    /* the kernel's, for model_send */
-    fault fault;
+    /* the kernel's, for the calls below */
+    struct memory *memory;
+    void (*write)(struct memory *m, void *at, size_t length); /* null where nothing is to be done before a write */
     void (*deliver)(struct context *c, event *e);
     void *owner;
+    uintptr_t distance;
 } context;
 
 typedef struct model {
@@ -45,13 +60,32 @@ typedef struct model {
     void (*start)(context *c);
     /* Runs an event. */
     void (*run)(context *c, const event *e);
-    /* A checksum of the state, without names of chunks. */
+    /* A checksum of the state, in which no pointer counts. */
     uint64_t (*checksum)(context *c);
+    /* The process came to another rank, where its chunks lie elsewhere, each by the same distance: gives each pointer of the state but
+     * c->state, which is right, through model_moved. It needn't say what it writes. Null where the state has no pointers. */
+    void (*moved)(context *c);
 } model;
 
 /* All models, null after the last; and the model of a name, or null. */
 extern const model *const models[];
 const model *model_named(const char *name);
+
+/* A chunk of zero bytes, aligned to 16, and its end with the length that it was given. Where there is no room the run ends with a fault. */
+void *model_alloc(context *c, size_t length);
+void model_free(context *c, void *chunk, size_t length);
+
+/* Says that this event is about to change bytes of a chunk. */
+static inline void model_write(context *c, void *at, size_t length)
+{
+    if (c->write != NULL) c->write(c->memory, at, length);
+}
+
+/* Where a chunk lies to which the state of a process that moved points; null stays null. */
+static inline void *model_moved(const context *c, void *pointer)
+{
+    return pointer != NULL ? (void *)((uintptr_t)pointer + c->distance) : NULL;
+}
 
 /* Sends an event: `delay`, at least 1, after the one that is run. */
 void model_send(context *c, uint32_t receiver, uint64_t delay, uint64_t kind, uint64_t data0, uint64_t data1);

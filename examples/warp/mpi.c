@@ -9,9 +9,11 @@
 
 #include <limits.h>
 #include <sched.h>
+#include <signal.h>
 #include <stdio.h>
 #include <stdlib.h>
 #include <string.h>
+#include <unistd.h>
 
 #include "pack.h"
 
@@ -41,6 +43,27 @@ struct transport {
 
 static int rank, ranks;
 
+/* What this rank says where it is ended from outside: mpirun sends SIGTERM to the others when one is lost. Made before, since a handler of
+ * signals may make few calls. */
+static char last_words[128];
+static size_t last_length;
+
+static void end_from_outside(int number)
+{
+    (void)number;
+    if (write(STDERR_FILENO, last_words, last_length) < 0) _exit((int)FAULT_ENDED);
+    _exit((int)FAULT_ENDED);
+}
+
+static void name_the_end(void)
+{
+    struct sigaction action;
+    last_length = (size_t)snprintf(last_words, sizeof last_words, "warp: rank %d: %s\n", rank, fault_text(FAULT_ENDED));
+    memset(&action, 0, sizeof action);
+    action.sa_handler = end_from_outside;
+    sigaction(SIGTERM, &action, NULL);
+}
+
 /* Open MPI's ranks spin while they wait, unless they know that they are too many for the processors. They don't know of other programs:
  * so they are told to yield, unless the environment says otherwise. */
 void transport_begin(int *count, char ***words)
@@ -49,6 +72,7 @@ void transport_begin(int *count, char ***words)
     MPI_Init(count, words);
     MPI_Comm_rank(MPI_COMM_WORLD, &rank);
     MPI_Comm_size(MPI_COMM_WORLD, &ranks);
+    name_the_end();
 }
 
 void transport_end(void)
@@ -83,7 +107,7 @@ int transport_speaks(const transport *t)
     return 1;
 }
 
-_Noreturn void transport_fault(fault f)
+_Noreturn void fault_end(fault f)
 {
     fprintf(stderr, "warp: rank %d: %s\n", rank, fault_text(f));
     fflush(NULL);
@@ -118,7 +142,7 @@ static batch *new_batch(transport *t)
         t->free = b->next;
     else
         b = malloc(sizeof *b);
-    if (b == NULL) transport_fault(FAULT_MEMORY);
+    if (b == NULL) fault_end(FAULT_MEMORY);
     b->count = 0;
     return b;
 }
@@ -176,7 +200,7 @@ static void take_in(transport *t, const MPI_Status *status, int length)
     message room[BATCH];
     uint64_t wanted;
     int k, count = length / (int)sizeof *room;
-    if (length < 0 || length > (int)sizeof room) transport_fault(FAULT_MESSAGE);
+    if (length < 0 || length > (int)sizeof room) fault_end(FAULT_MESSAGE);
     MPI_Recv(room, length, MPI_BYTE, status->MPI_SOURCE, status->MPI_TAG, MPI_COMM_WORLD, MPI_STATUS_IGNORE);
     if (status->MPI_TAG == TAG_WANT && length == (int)sizeof wanted) {
         memcpy(&wanted, room, sizeof wanted);
@@ -184,10 +208,10 @@ static void take_in(transport *t, const MPI_Status *status, int length)
         t->received++;
     } else if (status->MPI_TAG == TAG_MESSAGES && length % (int)sizeof *room == 0) {
         for (k = 0; k < count; k++)
-            if (messages_push(&t->came, &room[k]) != FAULT_NONE) transport_fault(FAULT_MEMORY);
+            if (messages_push(&t->came, &room[k]) != FAULT_NONE) fault_end(FAULT_MEMORY);
         t->received += (uint64_t)count;
     } else {
-        transport_fault(FAULT_MESSAGE);
+        fault_end(FAULT_MESSAGE);
     }
 }
 
@@ -238,7 +262,7 @@ void transport_settle(transport *t, messages *incoming)
         MPI_Allreduce(&own, &all, 1, MPI_UINT64_T, MPI_SUM, MPI_COMM_WORLD);
     } while (all != 0);
     for (; t->next < t->came.count; t->next++)
-        if (messages_push(incoming, &t->came.items[t->next]) != FAULT_NONE) transport_fault(FAULT_MEMORY);
+        if (messages_push(incoming, &t->came.items[t->next]) != FAULT_NONE) fault_end(FAULT_MEMORY);
     t->next = t->came.count = 0;
     t->round++;
 }
@@ -259,7 +283,7 @@ static void send_process(uint32_t to, process *p)
     uint64_t length = 0;
     fault f = process_pack(p, &bytes, &length);
     if (f == FAULT_NONE && length > INT_MAX) f = FAULT_MOVE;
-    if (f != FAULT_NONE) transport_fault(f);
+    if (f != FAULT_NONE) fault_end(f);
     MPI_Send(bytes, (int)length, MPI_BYTE, (int)to, TAG_MOVE, MPI_COMM_WORLD);
     free(bytes);
 }
@@ -273,11 +297,11 @@ static void receive_process(uint32_t from, const settings *s, uint32_t k, proces
     MPI_Probe((int)from, TAG_MOVE, MPI_COMM_WORLD, &status);
     MPI_Get_count(&status, MPI_BYTE, &length);
     bytes = malloc((size_t)length + 1);
-    if (bytes == NULL) transport_fault(FAULT_MEMORY);
+    if (bytes == NULL) fault_end(FAULT_MEMORY);
     MPI_Recv(bytes, length, MPI_BYTE, (int)from, TAG_MOVE, MPI_COMM_WORLD, MPI_STATUS_IGNORE);
     f = process_unpack(p, s, k, bytes, (uint64_t)length);
     free(bytes);
-    if (f != FAULT_NONE) transport_fault(f);
+    if (f != FAULT_NONE) fault_end(f);
 }
 
 void transport_move(transport *t, uint32_t from, uint32_t to, const settings *s, uint32_t k, process *p)
@@ -304,7 +328,7 @@ void transport_run(const settings *s, process *processes, void (*work)(transport
     t.self = (uint32_t)rank;
     t.workers = (uint32_t)ranks;
     t.filling = calloc(t.workers, sizeof(batch *));
-    if (t.filling == NULL) transport_fault(FAULT_MEMORY);
+    if (t.filling == NULL) fault_end(FAULT_MEMORY);
     work(&t, s, processes);
     while (t.flying != NULL) reap(&t);
     free_batches(t.free);

@@ -6,7 +6,7 @@
 /* What stands first: the numbers of a process, and how many items each list after it has. */
 typedef struct head {
     uint64_t process, root, dropped, sent_from, serial, bound;
-    uint64_t logs, pending, done, sent, early, state;
+    uint64_t logged, pending, done, sent, early, state;
     period period;
     counts counts;
 } head;
@@ -23,12 +23,12 @@ static head head_of(const process *p, uint64_t state)
     head h;
     memset(&h, 0, sizeof h);
     h.process = p->context.self;
-    h.root = p->context.root;
+    h.root = (uintptr_t)p->context.state;
     h.dropped = p->dropped;
     h.sent_from = p->sent_from;
     h.serial = p->serial;
     h.bound = p->bound;
-    h.logs = p->logs;
+    h.logged = p->logged.items[0];
     h.pending = p->pending.count;
     h.done = p->done.count;
     h.sent = p->sent.count;
@@ -41,7 +41,7 @@ static head head_of(const process *p, uint64_t state)
 
 static uint64_t length_of(const head *h)
 {
-    return sizeof *h + h->logs * sizeof(uint64_t) + (h->pending + h->sent + h->early) * sizeof(event) + h->done * sizeof(done) + h->state;
+    return sizeof *h + (h->pending + h->sent + h->early) * sizeof(event) + h->done * sizeof(done) + h->state;
 }
 
 static void append(cursor *c, const void *bytes, uint64_t length)
@@ -56,16 +56,18 @@ fault process_pack(process *p, uint8_t **bytes, uint64_t *length)
     uint8_t *state = NULL;
     uint64_t state_length = 0;
     cursor c = {NULL, NULL, 0};
-    fault f = memory_save(&p->memory, &state, &state_length);
-    head h = head_of(p, state_length);
-    *length = length_of(&h);
+    uint64_t oldest;
+    head h;
+    fault f = memory_restore(&p->memory, p->logged.items[0], &oldest);
+    if (f == FAULT_NONE) f = memory_save(&p->memory, &state, &state_length);
     if (f == FAULT_NONE) {
+        h = head_of(p, state_length);
+        *length = length_of(&h);
         c.write = *bytes = malloc(*length);
         if (c.write == NULL) f = FAULT_MEMORY;
     }
     if (f == FAULT_NONE) {
         append(&c, &h, sizeof h);
-        append(&c, p->logged, h.logs * sizeof *p->logged);
         append(&c, p->pending.items, h.pending * sizeof(event));
         append(&c, p->done.items, h.done * sizeof(done));
         append(&c, p->sent.items, h.sent * sizeof(event));
@@ -108,16 +110,30 @@ static fault take_events(cursor *c, events *list, uint64_t count)
 
 static void take_head(process *p, const head *h)
 {
-    p->context.root = h->root;
     p->dropped = h->dropped;
     p->sent_from = h->sent_from;
     p->serial = h->serial;
     p->bound = h->bound;
-    p->logs = (uint32_t)h->logs;
     p->period = h->period;
     p->counts = h->counts;
-    /* the state is that of the newest log: the events after it are run again before the next one */
+    /* the state is that of its log: the events after it are run again before the next one */
     p->is_stale = 1;
+}
+
+/* Opens the state, makes its pointers right, and logs it. */
+static fault take_state(process *p, const head *h, const uint8_t *bytes, uint64_t length)
+{
+    const settings *s = p->settings;
+    uint64_t logged;
+    fault f = memory_load(&p->memory, s->way, bytes, length, &p->context.distance);
+    if (f != FAULT_NONE) return f;
+    p->context.state = model_moved(&p->context, (void *)(uintptr_t)h->root);
+    if (s->model->moved != NULL) s->model->moved(&p->context);
+    f = memory_log(&p->memory, h->logged, &logged);
+    if (f == FAULT_NONE) f = memory_prune(&p->memory, h->logged);
+    if (f == FAULT_NONE) f = list_grow(&p->logged.items, &p->logged.room, 0, sizeof *p->logged.items);
+    if (f == FAULT_NONE) p->logged.items[p->logged.count++] = h->logged;
+    return f;
 }
 
 fault process_unpack(process *p, const settings *s, uint32_t k, const uint8_t *bytes, uint64_t length)
@@ -127,13 +143,12 @@ fault process_unpack(process *p, const settings *s, uint32_t k, const uint8_t *b
     fault f;
     memset(p, 0, sizeof *p);
     process_context(p, s, k);
-    if (!take(&c, &h, sizeof h) || h.process != k || h.logs == 0 || h.logs > MEMORY_LOGS) return FAULT_MOVE;
+    if (!take(&c, &h, sizeof h) || h.process != k) return FAULT_MOVE;
     take_head(p, &h);
-    if (!take(&c, p->logged, h.logs * sizeof *p->logged)) return FAULT_MOVE;
     f = take_events(&c, &p->pending, h.pending);
     if (f == FAULT_NONE) f = take_list(&c, &p->done.items, &p->done.room, &p->done.count, h.done, sizeof(done));
     if (f == FAULT_NONE) f = take_events(&c, &p->sent, h.sent);
     if (f == FAULT_NONE) f = take_events(&c, &p->early, h.early);
-    if (f == FAULT_NONE) f = c.left == h.state ? memory_load(&p->memory, s->way, c.read, c.left) : FAULT_MOVE;
+    if (f == FAULT_NONE) f = c.left == h.state ? take_state(p, &h, c.read, c.left) : FAULT_MOVE;
     return f;
 }

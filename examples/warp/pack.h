@@ -1,6 +1,7 @@
 /*
- * A process as bytes, to go to another rank: its lists, its logs as they are saved (over the library a checkpoint file), and its counts. The
- * ranks of a run are one program on machines of one kind, so that numbers go as they lie in memory.
+ * A process as bytes, to go to another rank: its lists, its state at its oldest log (over the library a checkpoint file), and its counts.
+ * The events that it ran after that log are run once more there. The ranks of a run are one program on machines of one kind, so that
+ * numbers go as they lie in memory.
  */
 #ifndef PACK_H
 #define PACK_H

@@ -32,9 +32,9 @@ fault pending_put(events *pending, const event *e)
     return FAULT_NONE;
 }
 
-event pending_take(events *pending)
+void pending_take(events *pending, event *e)
 {
-    return pending->items[--pending->count];
+    *e = pending->items[--pending->count];
 }
 
 int pending_remove(events *pending, const event *e)

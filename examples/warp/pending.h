@@ -11,7 +11,7 @@
 const event *pending_first(const events *pending);
 
 fault pending_put(events *pending, const event *e);
-event pending_take(events *pending);
+void pending_take(events *pending, event *e);
 
 /* Takes out this very event (one with its key), and answers whether it was there. */
 int pending_remove(events *pending, const event *e);

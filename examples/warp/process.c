@@ -20,11 +20,14 @@ static uint64_t count_sent(const process *p)
 
 static fault post(messages *out, const event *e, uint32_t is_anti)
 {
-    message m;
-    m.event = *e;
-    m.is_anti = is_anti;
-    m.mark = MESSAGE_MARK;
-    return messages_push(out, &m);
+    message *m;
+    fault f = list_grow(&out->items, &out->room, out->count, sizeof *out->items);
+    if (f != FAULT_NONE) return f;
+    m = &out->items[out->count++];
+    m->event = *e;
+    m->is_anti = is_anti;
+    m->mark = MESSAGE_MARK;
+    return FAULT_NONE;
 }
 
 /* What the model sends. While events are run again it was sent before. */
@@ -36,16 +39,11 @@ static void deliver(context *c, event *e)
     e->serial = p->serial++;
     f = events_push(&p->sent, e);
     if (f == FAULT_NONE) f = post(p->out, e, 0);
-    if (f != FAULT_NONE) c->fault = f;
-}
-
-static fault fault_of(const process *p)
-{
-    return p->context.fault != FAULT_NONE ? p->context.fault : p->memory.fault;
+    if (f != FAULT_NONE) fault_end(f);
 }
 
 /* Runs the model for an event. */
-static fault execute(process *p, const event *e, messages *out)
+static void execute(process *p, const event *e, messages *out)
 {
     uint64_t start = 0;
     int is_timed = period_times_event(&p->period);
@@ -57,19 +55,19 @@ static fault execute(process *p, const event *e, messages *out)
     memory_end(&p->memory);
     if (is_timed) period_note_event(&p->period, clock_now() - start);
     p->out = NULL;
-    return fault_of(p);
 }
 
 /* ---- logs */
 
 static fault take_log(process *p)
 {
-    uint64_t bytes = 0, start = p->period.is_chosen ? clock_now() : 0;
-    fault f;
-    f = memory_log(&p->memory, position(p), &bytes);
+    int is_timed = p->logged.count > 0 && period_times_log(&p->period); /* the first log takes fresh memory, as no other does */
+    uint64_t bytes = 0, start = is_timed ? clock_now() : 0;
+    fault f = list_grow(&p->logged.items, &p->logged.room, p->logged.count, sizeof *p->logged.items);
+    if (f == FAULT_NONE) f = memory_log(&p->memory, position(p), &bytes);
     if (f != FAULT_NONE) return f;
-    if (p->period.is_chosen) period_note_log(&p->period, clock_now() - start);
-    p->logged[p->logs++] = position(p);
+    if (is_timed) period_note_log(&p->period, clock_now() - start);
+    p->logged.items[p->logged.count++] = position(p);
     p->since_log = 0;
     p->counts.logs++;
     p->counts.log_bytes += bytes;
@@ -80,7 +78,7 @@ static fault take_log(process *p)
 static fault log_if_due(process *p)
 {
     if (p->since_log < p->period.events) return FAULT_NONE;
-    if (p->logs < MEMORY_LOGS) return take_log(p);
+    if (p->logged.count < MEMORY_LOGS) return take_log(p);
     p->wants_bound = 1;
     return FAULT_NONE;
 }
@@ -94,11 +92,8 @@ static fault settle(process *p)
     if (!p->is_stale) return FAULT_NONE;
     f = memory_restore(&p->memory, position(p), &at);
     if (f != FAULT_NONE) return f;
-    while (p->logs > 0 && p->logged[p->logs - 1] > at) p->logs--;
-    for (k = (size_t)(at - p->dropped); k < p->done.count; k++) {
-        f = execute(p, &p->done.items[k].event, NULL);
-        if (f != FAULT_NONE) return f;
-    }
+    while (p->logged.count > 0 && p->logged.items[p->logged.count - 1] > at) p->logged.count--;
+    for (k = (size_t)(at - p->dropped); k < p->done.count; k++) execute(p, &p->done.items[k].event, NULL);
     p->since_log = position(p) - at;
     p->counts.replayed += p->since_log;
     p->is_stale = 0;
@@ -138,31 +133,31 @@ static fault roll_back(process *p, size_t keep, messages *out)
     return f;
 }
 
-/* Calls an event back: it is pending, or was run, or comes later. */
+/* Calls an event back: it is pending, or was run, or comes later. It may lie in `out`. */
 static fault annihilate(process *p, const event *e, messages *out)
 {
+    event own;
     size_t keep;
     fault f;
     if (pending_remove(&p->pending, e)) return FAULT_NONE;
     keep = count_before(p, e);
     if (keep == p->done.count || event_order(&p->done.items[keep].event, e) != 0) return pending_put(&p->early, e);
+    own = *e;
     f = roll_back(p, keep, out);
-    if (f == FAULT_NONE) pending_remove(&p->pending, e);
+    if (f == FAULT_NONE) pending_remove(&p->pending, &own);
     return f;
 }
 
 fault process_take(process *p, const message *m, messages *out)
 {
     size_t keep;
+    fault f;
     if (m->event.time < p->bound) return FAULT_MESSAGE;
     if (m->is_anti) return annihilate(p, &m->event, out);
-    if (pending_remove(&p->early, &m->event)) return FAULT_NONE;
+    if (p->early.count > 0 && pending_remove(&p->early, &m->event)) return FAULT_NONE;
     keep = count_before(p, &m->event);
-    if (keep < p->done.count) {
-        fault f = roll_back(p, keep, out);
-        if (f != FAULT_NONE) return f;
-    }
-    return pending_put(&p->pending, &m->event);
+    f = pending_put(&p->pending, &m->event);
+    return f == FAULT_NONE && keep < p->done.count ? roll_back(p, keep, out) : f;
 }
 
 /* ---- the way forward */
@@ -175,6 +170,7 @@ void process_context(process *p, const settings *s, uint32_t k)
     p->context.seed = s->seed;
     p->context.options = s->options;
     p->context.memory = &p->memory;
+    p->context.write = s->way->write;
     p->context.deliver = deliver;
     p->context.owner = p;
 }
@@ -193,7 +189,7 @@ fault process_open(process *p, const settings *s, uint32_t k, messages *out)
     /* what was sent at the start is never called back */
     p->sent_from = p->sent.count;
     p->sent.count = 0;
-    return fault_of(p) != FAULT_NONE ? fault_of(p) : take_log(p);
+    return take_log(p);
 }
 
 void process_close(process *p)
@@ -203,6 +199,7 @@ void process_close(process *p)
     free(p->done.items);
     free(p->sent.items);
     free(p->early.items);
+    free(p->logged.items);
     memset(p, 0, sizeof *p);
 }
 
@@ -214,17 +211,18 @@ uint64_t process_next(const process *p)
 
 fault process_run(process *p, messages *out)
 {
-    done d;
-    fault f = settle(p);
-    if (f == FAULT_NONE) f = list_grow(&p->done.items, &p->done.room, p->done.count, sizeof d);
+    done *d;
+    fault f = p->is_stale ? settle(p) : FAULT_NONE;
+    if (f == FAULT_NONE) f = list_grow(&p->done.items, &p->done.room, p->done.count, sizeof *d);
     if (f != FAULT_NONE) return f;
-    d.event = pending_take(&p->pending);
-    d.sent = count_sent(p);
-    f = execute(p, &d.event, out);
-    p->done.items[p->done.count++] = d;
+    d = &p->done.items[p->done.count];
+    pending_take(&p->pending, &d->event);
+    d->sent = count_sent(p);
+    execute(p, &d->event, out);
+    p->done.count++;
     p->period.ran += 1;
     p->since_log++;
-    return f != FAULT_NONE ? f : log_if_due(p);
+    return log_if_due(p);
 }
 
 uint64_t process_reached(const process *p)
@@ -245,12 +243,11 @@ int process_wants_bound(const process *p)
 /* ---- commit */
 
 /* Drops the first logs, and the events up to the oldest that is left. */
-static void drop(process *p, uint32_t logs)
+static void drop(process *p, size_t logs)
 {
     size_t gone, unsent;
-    p->logs -= logs;
-    memmove(p->logged, p->logged + logs, p->logs * sizeof *p->logged);
-    gone = (size_t)(p->logged[0] - p->dropped);
+    list_drop_first(p->logged.items, &p->logged.count, logs, sizeof *p->logged.items);
+    gone = (size_t)(p->logged.items[0] - p->dropped);
     unsent = (size_t)((gone < p->done.count ? p->done.items[gone].sent : count_sent(p)) - p->sent_from);
     list_drop_first(p->done.items, &p->done.count, gone, sizeof *p->done.items);
     list_drop_first(p->sent.items, &p->sent.count, unsent, sizeof *p->sent.items);
@@ -270,9 +267,9 @@ static size_t count_below(const process *p, uint64_t bound)
 fault process_commit(process *p, uint64_t bound)
 {
     uint64_t committed = p->dropped + count_below(p, bound);
-    uint32_t useless = 0;
+    size_t useless = 0;
     fault f = FAULT_NONE;
-    while (useless + 1 < p->logs && p->logged[useless + 1] <= committed) useless++;
+    while (useless + 1 < p->logged.count && p->logged.items[useless + 1] <= committed) useless++;
     if (useless > 0) {
         f = memory_prune(&p->memory, committed);
         drop(p, useless);
@@ -288,5 +285,5 @@ fault process_checksum(process *p, uint64_t *sum)
 {
     fault f = settle(p);
     if (f == FAULT_NONE) *sum = p->settings->model->checksum(&p->context);
-    return f != FAULT_NONE ? f : fault_of(p);
+    return f;
 }

@@ -33,6 +33,13 @@ typedef struct dones {
     size_t room;
 } dones;
 
+/* How many events had been run at each kept log, oldest first. */
+typedef struct positions {
+    uint64_t *items;
+    size_t count;
+    size_t room;
+} positions;
+
 typedef struct process {
     const settings *settings;
     context context;
@@ -44,8 +51,7 @@ typedef struct process {
     uint64_t sent_from;   /* how many were sent before these */
     uint64_t serial;      /* events that were ever sent */
     events early;         /* anti-messages whose events haven't come yet */
-    uint64_t logged[MEMORY_LOGS]; /* how many events had been run at each kept log, oldest first */
-    uint32_t logs;
+    positions logged;
     uint64_t since_log;   /* events that the state has seen since the newest log */
     int is_stale;         /* the state has seen events that were undone */
     int wants_bound;      /* its logs are full */
@@ -59,7 +65,7 @@ typedef struct process {
 fault process_open(process *p, const settings *s, uint32_t k, messages *out);
 void process_close(process *p);
 
-/* Takes an event, or calls one back. FAULT_MESSAGE: it comes before the bound. */
+/* Takes an event, or calls one back; the message may lie in `out`. FAULT_MESSAGE: it comes before the bound. */
 fault process_take(process *p, const message *m, messages *out);
 
 /* The time of the next event, or UINT64_MAX where there is none. */

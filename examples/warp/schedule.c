@@ -6,65 +6,67 @@ fault schedule_open(schedule *s, uint32_t processes)
 {
     uint32_t k;
     s->count = 0;
-    s->times = calloc(processes, sizeof *s->times);
+    for (s->leaves = 2; s->leaves < processes; s->leaves *= 2) continue;
+    s->nodes = calloc(2 * (size_t)s->leaves, sizeof *s->nodes);
+    s->own = calloc(processes, sizeof *s->own);
     s->places = calloc(processes, sizeof *s->places);
-    s->heap = calloc(processes, sizeof *s->heap);
-    if (s->times == NULL || s->places == NULL || s->heap == NULL) return FAULT_MEMORY;
+    if (s->nodes == NULL || s->own == NULL || s->places == NULL) return FAULT_MEMORY;
+    for (k = 0; k < 2 * s->leaves; k++) s->nodes[k].time = UINT64_MAX;
     for (k = 0; k < processes; k++) s->places[k] = UINT32_MAX;
     return FAULT_NONE;
 }
 
 void schedule_close(schedule *s)
 {
-    free(s->times);
+    free(s->nodes);
+    free(s->own);
     free(s->places);
-    free(s->heap);
 }
 
-static void place(schedule *s, uint32_t process, uint32_t at)
+/* The earlier one of two, by masks: a conditional expression would become a branch. */
+static entry earlier(entry a, entry b)
 {
-    s->heap[at] = process;
-    s->places[process] = at;
+    uint64_t takes_b = 0 - (uint64_t)(b.time < a.time);
+    entry first = {a.time ^ ((a.time ^ b.time) & takes_b), a.process ^ ((a.process ^ b.process) & takes_b)};
+    return first;
 }
 
-/* Moves a process up or down from a free place to where its time belongs. */
-static void settle(schedule *s, uint32_t process, uint32_t at)
+/* Gives a process's leaf a time, and plays what is above it anew. */
+static void play(schedule *s, uint32_t process, uint64_t time)
 {
-    uint64_t time = s->times[process];
-    uint32_t child;
-    while (at > 0 && time < s->times[s->heap[(at - 1) / 2]]) {
-        place(s, s->heap[(at - 1) / 2], at);
-        at = (at - 1) / 2;
+    uint32_t at = s->leaves + process;
+    entry first = {time, process};
+    s->nodes[at] = first;
+    for (; at > 1; at /= 2) {
+        first = earlier(first, s->nodes[at ^ 1]);
+        s->nodes[at / 2] = first;
     }
-    while ((child = 2 * at + 1) < s->count) {
-        if (child + 1 < s->count && s->times[s->heap[child + 1]] < s->times[s->heap[child]]) child++;
-        if (s->times[s->heap[child]] >= time) break;
-        place(s, s->heap[child], at);
-        at = child;
-    }
-    place(s, process, at);
 }
 
 void schedule_set(schedule *s, uint32_t process, uint64_t time)
 {
-    int is_new = s->places[process] == UINT32_MAX;
-    if (!is_new && s->times[process] == time) return;
-    s->times[process] = time;
-    settle(s, process, is_new ? s->count++ : s->places[process]);
+    if (s->places[process] == UINT32_MAX) {
+        s->places[process] = s->count;
+        s->own[s->count++] = process;
+    } else if (s->nodes[s->leaves + process].time == time) {
+        return;
+    }
+    play(s, process, time);
 }
 
 void schedule_remove(schedule *s, uint32_t process)
 {
     uint32_t at = s->places[process], last;
     if (at == UINT32_MAX) return;
+    last = s->own[--s->count];
+    s->own[at] = last;
+    s->places[last] = at;
     s->places[process] = UINT32_MAX;
-    last = s->heap[--s->count];
-    if (last != process) settle(s, last, at);
+    play(s, process, UINT64_MAX);
 }
 
 uint64_t schedule_first(const schedule *s, uint32_t *process)
 {
-    if (s->count == 0) return UINT64_MAX;
-    *process = s->heap[0];
-    return s->times[s->heap[0]];
+    if (s->nodes[1].time != UINT64_MAX) *process = (uint32_t)s->nodes[1].process;
+    return s->nodes[1].time;
 }

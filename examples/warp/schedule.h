@@ -1,4 +1,8 @@
-/* The processes of a worker by the times of their next events: a binary heap that knows where each process stands. */
+/*
+ * The processes of a worker by the times of their next events: a tournament tree. Each process has a leaf, and each node above has the
+ * earlier one of the two below; who wins is chosen without a branch, since a processor would guess it wrong half of the time. The leaves of
+ * processes of other workers have no event.
+ */
 #ifndef SCHEDULE_H
 #define SCHEDULE_H
 
@@ -6,10 +10,17 @@
 
 #include "fault.h"
 
+/* A process, and the time of its next event, or UINT64_MAX. */
+typedef struct entry {
+    uint64_t time;
+    uint64_t process;
+} entry;
+
 typedef struct schedule {
-    uint64_t *times;  /* of process k; UINT64_MAX where it has no event */
-    uint32_t *places; /* of process k in the heap; UINT32_MAX where it isn't this worker's */
-    uint32_t *heap;   /* processes, the one with the least time first */
+    entry *nodes;     /* the first of all is node 1; those below node k are 2 k and 2 k + 1; the leaves begin at node `leaves` */
+    uint32_t leaves;  /* a power of two */
+    uint32_t *own;    /* the worker's processes, in no order */
+    uint32_t *places; /* of process k among these; UINT32_MAX where it isn't this worker's */
     uint32_t count;
 } schedule;
 

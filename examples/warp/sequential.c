@@ -28,8 +28,8 @@ static void put(context *c, event *e)
     fault f;
     e->serial = q->serial++;
     f = events_push(heap, e);
-    if (f != FAULT_NONE) c->fault = f;
-    while (f == FAULT_NONE && k > 0 && event_order(&heap->items[k], &heap->items[(k - 1) / 2]) < 0) {
+    if (f != FAULT_NONE) fault_end(f);
+    while (k > 0 && event_order(&heap->items[k], &heap->items[(k - 1) / 2]) < 0) {
         swap(&heap->items[k], &heap->items[(k - 1) / 2]);
         k = (k - 1) / 2;
     }
@@ -47,11 +47,6 @@ static event take(events *heap)
         if (least == k) return first;
         swap(&heap->items[k], &heap->items[least]);
     }
-}
-
-static fault fault_of(const context *c)
-{
-    return c->fault != FAULT_NONE ? c->fault : c->memory->fault;
 }
 
 /* Opens the processes. Their states are never logged, so that all ways are the same; flat ones are used. */
@@ -74,12 +69,11 @@ static fault start(queue *q, const settings *s)
         f = memory_open(c->memory, &memory_copies, s->quota);
         if (f != FAULT_NONE) return f;
         s->model->start(c);
-        if (fault_of(c) != FAULT_NONE) return fault_of(c);
     }
     return FAULT_NONE;
 }
 
-static fault run(queue *q, const settings *s, outcome *out)
+static void run(queue *q, const settings *s, outcome *out)
 {
     uint64_t begin = clock_now();
     uint32_t k;
@@ -88,12 +82,10 @@ static fault run(queue *q, const settings *s, outcome *out)
         context *c = &q->contexts[e.receiver];
         c->now = e.time;
         s->model->run(c, &e);
-        if (fault_of(c) != FAULT_NONE) return fault_of(c);
         out->counts.committed++;
     }
     out->time = clock_now() - begin;
     for (k = 0; k < s->processes; k++) out->counts.checksum += model_mixed(s->model->checksum(&q->contexts[k]) + k);
-    return FAULT_NONE;
 }
 
 fault run_sequentially(const settings *s, outcome *out)
@@ -101,7 +93,7 @@ fault run_sequentially(const settings *s, outcome *out)
     queue q = {{NULL, 0, 0}, 0, NULL, NULL};
     uint32_t k;
     fault f = start(&q, s);
-    if (f == FAULT_NONE) f = run(&q, s, out);
+    if (f == FAULT_NONE) run(&q, s, out);
     for (k = 0; q.states != NULL && k < s->processes; k++) memory_close(&q.states[k]);
     free(q.states);
     free(q.contexts);

@@ -13,24 +13,25 @@ typedef struct option {
     int is_wide; /* 64 bits, else 32 */
     uint64_t value, least, most;
     const char *says;
+    const char *zero; /* a word for 0, or null */
 } option;
 
 #define WIDE(field) offsetof(settings, field), 1
 #define NARROW(field) offsetof(settings, field), 0
 
 static const option options[] = {
-    {"processes", NARROW(processes), 16, 1, 65536, "logical processes"},
-    {"threads", NARROW(threads), 2, 1, 64, "workers, in the version over threads"},
-    {"end", WIDE(end), 2000, 1, UINT64_C(1000000000000), "events after this time aren't run"},
-    {"seed", WIDE(seed), 1, 0, UINT64_MAX, "where random numbers begin"},
-    {"batch", NARROW(batch), 1, 1, 65536, "events that a process runs ahead at its turn"},
-    {"log-every", NARROW(log_every), 4, 1, 65536, "events between two logs of a process; auto follows costs and rollbacks"},
-    {"window", WIDE(window), 0, 1, UINT64_MAX, "how far ahead of the bound events are run; auto follows the rollbacks"},
-    {"bound-every", WIDE(bound_every), 1024, 1, UINT64_MAX, "events that a worker runs between two bounds"},
-    {"move", WIDE(move_every), 0, 0, UINT64_MAX, "bounds between two moves of a process to the next worker; 0 for none"},
-    {"quota", NARROW(quota), 4, 1, 1024, "segments of 64 KiB that a process's state may have"},
-    {"memory", WIDE(memory), 0, 0, 1048576, "MiB that a program may take; 0 for no limit"},
-    {"spoil", WIDE(spoil), 0, 0, UINT64_MAX, "spoils this message of each worker, to try the fault; 0 for none"},
+    {"processes", NARROW(processes), 16, 1, 65536, "logical processes", NULL},
+    {"threads", NARROW(threads), 2, 1, 64, "workers, in the version over threads", NULL},
+    {"end", WIDE(end), 2000, 1, UINT64_C(1000000000000), "events after this time aren't run", NULL},
+    {"seed", WIDE(seed), 1, 0, UINT64_MAX, "where random numbers begin", NULL},
+    {"batch", NARROW(batch), 1, 1, 65536, "events that a process runs ahead at its turn", NULL},
+    {"log-every", NARROW(log_every), 4, 0, 65536, "events between two logs of a process; auto follows costs and rollbacks", "auto"},
+    {"window", WIDE(window), 0, 0, UINT64_MAX, "how far ahead of the bound events are run; auto follows the rollbacks", "auto"},
+    {"bound-every", WIDE(bound_every), 1024, 1, UINT64_MAX, "events that a worker runs between two bounds", NULL},
+    {"move", WIDE(move_every), 0, 0, UINT64_MAX, "bounds between two moves of a process to the next worker; 0 for none", NULL},
+    {"quota", NARROW(quota), 4, 1, 1024, "segments of 64 KiB that a process's state may have", NULL},
+    {"memory", WIDE(memory), 0, 0, 1048576, "MiB that a program may take; 0 for no limit", NULL},
+    {"spoil", WIDE(spoil), 0, 0, UINT64_MAX, "spoils this message of each worker, to try the fault; 0 for none", NULL},
 };
 
 enum { OPTIONS = sizeof options / sizeof *options };
@@ -64,9 +65,13 @@ static int read_option(settings *s, const char *name, const char *word)
     uint64_t value;
     unsigned k;
     for (k = 0; k < OPTIONS; k++) {
-        if (strcmp(options[k].name, name) != 0) continue;
-        if (!read_number(word, options[k].least, options[k].most, &value)) return 0;
-        set(s, &options[k], value);
+        const option *o = &options[k];
+        if (strcmp(o->name, name) != 0) continue;
+        if (o->zero != NULL && strcmp(word, o->zero) == 0)
+            value = 0;
+        else if (!read_number(word, o->least, o->most, &value))
+            return 0;
+        set(s, o, value);
         return 1;
     }
     for (k = 0; k < MODEL_OPTIONS && own[k].name != NULL; k++)
@@ -80,14 +85,6 @@ static int read_word(settings *s, const char *name, const char *word)
     if (strcmp(name, "save") == 0) {
         s->way = memory_way_named(word);
         return s->way != NULL;
-    }
-    if (strcmp(name, "log-every") == 0 && strcmp(word, "auto") == 0) {
-        s->log_every = 0;
-        return 1;
-    }
-    if (strcmp(name, "window") == 0 && strcmp(word, "auto") == 0) {
-        s->window = 0;
-        return 1;
     }
     if (strcmp(name, "trace") == 0) {
         s->trace = word;
@@ -146,7 +143,12 @@ void settings_usage(const char *program)
     unsigned k;
     printf("usage: %s [MODEL] [--sequential] [--progress] [--save WAY] [--trace FILE] [--OPTION NUMBER]..\n", program);
     for (way = memory_ways; *way != NULL; way++) printf("  --save %-8s %s\n", (*way)->name, (*way)->says);
-    for (k = 0; k < OPTIONS; k++) say(options[k].name, options[k].value, options[k].says);
+    for (k = 0; k < OPTIONS; k++) {
+        if (options[k].zero != NULL && options[k].value == 0)
+            printf("  --%-12s %8s  %s\n", options[k].name, options[k].zero, options[k].says);
+        else
+            say(options[k].name, options[k].value, options[k].says);
+    }
     for (m = models; *m != NULL; m++) {
         const model_option *own = (*m)->options;
         printf("%s: %s\n", (*m)->name, (*m)->says);

@@ -106,7 +106,7 @@ int transport_speaks(const transport *t)
 }
 
 /* The first thread with a fault ends the program, and with it the others. */
-_Noreturn void transport_fault(fault f)
+_Noreturn void fault_end(fault f)
 {
     while (atomic_flag_test_and_set(&has_fault)) sched_yield();
     fprintf(stderr, "warp: worker %u: %s\n", (unsigned)this_worker, fault_text(f));
@@ -135,7 +135,7 @@ static void more_nodes(transport *t)
 {
     block *b = malloc(sizeof *b);
     size_t k;
-    if (b == NULL) transport_fault(FAULT_MEMORY);
+    if (b == NULL) fault_end(FAULT_MEMORY);
     b->next = t->blocks;
     t->blocks = b;
     for (k = 0; k < NODES; k++) {
@@ -239,7 +239,7 @@ void transport_settle(transport *t, messages *incoming)
     barrier(t->team);
     if (t->self == 0) atomic_store_explicit(&t->team->wanted, 0, memory_order_relaxed);
     while (transport_receive(t, &m))
-        if (messages_push(incoming, &m) != FAULT_NONE) transport_fault(FAULT_MEMORY);
+        if (messages_push(incoming, &m) != FAULT_NONE) fault_end(FAULT_MEMORY);
 }
 
 /* Two reductions take turns with two places, so that one barrier is enough: who writes a place again has met, in between, all that read it. */
@@ -296,7 +296,7 @@ void transport_run(const settings *s, process *processes, void (*work)(transport
     uint32_t k;
     all.workers = s->threads;
     all.shared = aligned_alloc(LINE, s->threads * sizeof *all.shared);
-    if (jobs == NULL || all.shared == NULL) transport_fault(FAULT_MEMORY);
+    if (jobs == NULL || all.shared == NULL) fault_end(FAULT_MEMORY);
     memset(all.shared, 0, s->threads * sizeof *all.shared);
     for (k = 0; k < s->threads; k++) {
         jobs[k].transport = first;
@@ -304,7 +304,7 @@ void transport_run(const settings *s, process *processes, void (*work)(transport
         jobs[k].settings = s;
         jobs[k].processes = processes;
         jobs[k].work = work;
-        if (k > 0 && pthread_create(&jobs[k].thread, NULL, run_job, &jobs[k]) != 0) transport_fault(FAULT_MEMORY);
+        if (k > 0 && pthread_create(&jobs[k].thread, NULL, run_job, &jobs[k]) != 0) fault_end(FAULT_MEMORY);
     }
     run_job(&jobs[0]);
     for (k = 1; k < s->threads; k++) pthread_join(jobs[k].thread, NULL);

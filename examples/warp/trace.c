@@ -17,7 +17,10 @@ fault trace_open(trace *t, const char *name, uint32_t worker)
     room = strlen(name) + DIGITS;
     own = malloc(room);
     if (own == NULL) return FAULT_MEMORY;
-    snprintf(own, room, "%s.%" PRIu32, name, worker);
+    if (worker > 0)
+        snprintf(own, room, "%s.%" PRIu32, name, worker);
+    else
+        strcpy(own, name);
     t->file = fopen(own, "w");
     free(own);
     return t->file != NULL ? FAULT_NONE : FAULT_FILE;

@@ -1,5 +1,6 @@
 /*
- * What each process did when, for the picture of a run (draw): a file FILE.N for each worker N, with a line for each thing done:
+ * What each process did when, for the picture of a run (draw): FILE for worker 0 and FILE.N for each other worker N, with a line for each
+ * thing done:
  *     run WALL PROCESS TIME        it ran an event of this time
  *     log WALL PROCESS TIME        it took a log after that event
  *     back WALL PROCESS TIME FROM  it went back from FROM to before an event of this time

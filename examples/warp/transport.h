@@ -57,7 +57,4 @@ void transport_reduce(transport *t, uint64_t *least, counts *sums);
 /* All workers call it at a bound, where nothing is on its way: process k, which lies at `p`, goes from one worker to another. */
 void transport_move(transport *t, uint32_t from, uint32_t to, const settings *s, uint32_t k, process *p);
 
-/* Ends the run on all workers, with a fault's name on standard error and its number as the status. Doesn't return. */
-_Noreturn void transport_fault(fault f);
-
 #endif

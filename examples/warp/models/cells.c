@@ -5,11 +5,16 @@
  */
 #include "../model.h"
 
-#include <string.h>
-
 enum { CHANNELS, INTERVAL, DURATION, STAY };
 
 enum { ARRIVAL, END, LEAVE, ENTER };
+
+typedef struct call {
+    struct call *next;
+    uint64_t number;
+    uint64_t power;
+    uint64_t left; /* how long it lasts after it leaves this cell; 0 where it ends here */
+} call;
 
 typedef struct cell {
     uint64_t random;
@@ -19,27 +24,8 @@ typedef struct cell {
     uint64_t dropped;
     uint64_t handed;
     uint64_t noise; /* of what was over, mixed */
-    chunk first;    /* the newest call in progress */
+    call *first;    /* the newest call in progress */
 } cell;
-
-typedef struct call {
-    chunk next;
-    uint64_t number;
-    uint64_t power;
-    uint64_t left; /* how long it lasts after it leaves this cell; 0 where it ends here */
-} call;
-
-static cell cell_of(context *c)
-{
-    cell room;
-    return *(const cell *)chunk_see(c->memory, c->root, 0, sizeof room, &room);
-}
-
-static call call_of(context *c, chunk at)
-{
-    call room;
-    return *(const call *)chunk_see(c->memory, at, 0, sizeof room, &room);
-}
 
 /* A neighbour of a cell: the cells stand in rows on a torus. */
 static uint32_t neighbour(const context *c, uint64_t which)
@@ -56,117 +42,112 @@ static uint32_t neighbour(const context *c, uint64_t which)
 
 static void start(context *c)
 {
-    cell n;
-    memset(&n, 0, sizeof n);
-    n.random = model_seed(c);
-    c->root = chunk_alloc(c->memory, sizeof n);
-    model_send(c, c->self, 1 + model_random(&n.random, 2 * c->options[INTERVAL]), ARRIVAL, 0, 0);
-    chunk_put(c->memory, c->root, 0, sizeof n, &n);
+    cell *own = c->state = model_alloc(c, sizeof *own);
+    own->random = model_seed(c);
+    model_send(c, c->self, 1 + model_random(&own->random, 2 * c->options[INTERVAL]), ARRIVAL, 0, 0);
 }
 
 /* The power of a new call: above the mean of the calls in progress. */
-static uint64_t power(context *c, cell *n)
+static uint64_t power(cell *own)
 {
     uint64_t sum = 0;
-    chunk at;
-    for (at = n->first; at != 0;) {
-        call other = call_of(c, at);
-        sum += other.power;
-        at = other.next;
-    }
-    return 1 + model_random(&n->random, 100) + sum / (n->busy + 1);
+    const call *other;
+    for (other = own->first; other != NULL; other = other->next) sum += other->power;
+    return 1 + model_random(&own->random, 100) + sum / (own->busy + 1);
 }
 
 /* Takes a channel for a call that lasts so long, and says when it goes from here. */
-static void begin(context *c, cell *n, uint64_t duration)
+static void begin(context *c, cell *own, uint64_t duration)
 {
-    uint64_t stay = 1 + model_random(&n->random, 2 * c->options[STAY]);
-    call fresh;
-    chunk made = chunk_alloc(c->memory, sizeof fresh);
-    fresh.next = n->first;
-    fresh.number = n->calls++;
-    fresh.power = power(c, n);
-    fresh.left = duration > stay ? duration - stay : 0;
-    chunk_put(c->memory, made, 0, sizeof fresh, &fresh);
-    n->first = made;
-    n->busy++;
-    if (fresh.left > 0)
-        model_send(c, c->self, stay, LEAVE, fresh.number, 0);
+    uint64_t stay = 1 + model_random(&own->random, 2 * c->options[STAY]);
+    call *fresh = model_alloc(c, sizeof *fresh);
+    fresh->next = own->first;
+    fresh->number = own->calls++;
+    fresh->power = power(own);
+    fresh->left = duration > stay ? duration - stay : 0;
+    own->first = fresh;
+    own->busy++;
+    if (fresh->left > 0)
+        model_send(c, c->self, stay, LEAVE, fresh->number, 0);
     else
-        model_send(c, c->self, duration, END, fresh.number, 0);
+        model_send(c, c->self, duration, END, fresh->number, 0);
 }
 
 /* Takes a call out of the list, and answers how long it still lasts. */
-static uint64_t end(context *c, cell *n, uint64_t number)
+static uint64_t end(context *c, cell *own, uint64_t number)
 {
-    chunk before = 0, at = n->first;
-    call found, room, *previous;
-    for (found = call_of(c, at); found.number != number && found.next != 0; found = call_of(c, at)) {
-        before = at;
-        at = found.next;
+    call *before = NULL, *found = own->first;
+    uint64_t left;
+    while (found != NULL && found->number != number) {
+        before = found;
+        found = found->next;
     }
-    if (before == 0) {
-        n->first = found.next;
+    if (found == NULL) fault_end(FAULT_MODEL);
+    left = found->left;
+    if (before != NULL) {
+        model_write(c, before, sizeof *before);
+        before->next = found->next;
     } else {
-        previous = chunk_edit(c->memory, before, 0, sizeof room, &room);
-        previous->next = found.next;
-        chunk_put(c->memory, before, 0, sizeof room, previous);
+        own->first = found->next;
     }
-    chunk_free(c->memory, at);
-    n->noise = model_mixed(n->noise ^ found.number) + found.power;
-    n->busy--;
-    return found.left;
+    own->noise = model_mixed(own->noise ^ found->number) + found->power;
+    own->busy--;
+    model_free(c, found, sizeof *found);
+    return left;
 }
 
-static void leave(context *c, cell *n, uint64_t number)
+static void leave(context *c, cell *own, uint64_t number)
 {
-    uint64_t left = end(c, n, number);
-    uint32_t to = neighbour(c, model_random(&n->random, 4));
-    n->handed++;
+    uint64_t left = end(c, own, number);
+    uint32_t to = neighbour(c, model_random(&own->random, 4));
+    own->handed++;
     model_send(c, to, 1, ENTER, left, 0);
 }
 
-static void arrive(context *c, cell *n)
+static void arrive(context *c, cell *own)
 {
-    uint64_t duration = 1 + model_random(&n->random, 2 * c->options[DURATION]);
-    if (n->busy == c->options[CHANNELS])
-        n->blocked++;
+    uint64_t duration = 1 + model_random(&own->random, 2 * c->options[DURATION]);
+    if (own->busy == c->options[CHANNELS])
+        own->blocked++;
     else
-        begin(c, n, duration);
-    model_send(c, c->self, 1 + model_random(&n->random, 2 * c->options[INTERVAL]), ARRIVAL, 0, 0);
+        begin(c, own, duration);
+    model_send(c, c->self, 1 + model_random(&own->random, 2 * c->options[INTERVAL]), ARRIVAL, 0, 0);
 }
 
 static void run(context *c, const event *e)
 {
-    cell n = cell_of(c);
+    cell *own = c->state;
+    model_write(c, own, sizeof *own);
     switch (e->kind) {
-    case ARRIVAL: arrive(c, &n); break;
-    case END: end(c, &n, e->data[0]); break;
-    case LEAVE: leave(c, &n, e->data[0]); break;
+    case ARRIVAL: arrive(c, own); break;
+    case END: end(c, own, e->data[0]); break;
+    case LEAVE: leave(c, own, e->data[0]); break;
     case ENTER:
-        if (n.busy == c->options[CHANNELS])
-            n.dropped++;
+        if (own->busy == c->options[CHANNELS])
+            own->dropped++;
         else
-            begin(c, &n, e->data[0]);
+            begin(c, own, e->data[0]);
         break;
-    default: c->fault = FAULT_MODEL;
+    default: fault_end(FAULT_MODEL);
     }
-    chunk_put(c->memory, c->root, 0, sizeof n, &n);
 }
 
 static uint64_t checksum(context *c)
 {
-    cell n = cell_of(c);
-    uint64_t sum = model_mixed(model_mixed(n.random) + n.calls);
-    chunk at;
-    sum = model_mixed(sum ^ n.blocked) + n.dropped;
-    sum = model_mixed(sum ^ n.handed) + n.noise;
-    for (at = n.first; at != 0;) {
-        call one = call_of(c, at);
-        sum = model_mixed(model_mixed(sum ^ one.number) + one.power) ^ one.left;
-        at = one.next;
-    }
+    const cell *own = c->state;
+    const call *one;
+    uint64_t sum = model_mixed(model_mixed(own->random) + own->calls);
+    sum = model_mixed(sum ^ own->blocked) + own->dropped;
+    sum = model_mixed(sum ^ own->handed) + own->noise;
+    for (one = own->first; one != NULL; one = one->next) sum = model_mixed(model_mixed(sum ^ one->number) + one->power) ^ one->left;
     return sum;
+}
+
+static void moved(context *c)
+{
+    cell *own = c->state;
+    call **link;
+    for (link = &own->first; *link != NULL; link = &(*link)->next) *link = model_moved(c, *link);
 }
 
 const model cells = {
@@ -182,4 +163,5 @@ const model cells = {
     start,
     run,
     checksum,
+    moved,
 };

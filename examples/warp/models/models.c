@@ -6,8 +6,9 @@
 
 extern const model phold;
 extern const model cells;
+extern const model queue;
 
-const model *const models[] = {&phold, &cells, NULL};
+const model *const models[] = {&phold, &cells, &queue, NULL};
 
 const model *model_named(const char *name)
 {

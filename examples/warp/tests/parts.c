@@ -1,7 +1,7 @@
 /*
  * Parts of the kernel by themselves: the logging period and the window as their rules say, the schedule against a plain search, and a packed
  * process that is unpacked whole and cut short at each place.
- *     parts [copies|calls|place]
+ *     parts [copies|place|undo]
  */
 #include <stdio.h>
 #include <stdlib.h>
@@ -23,11 +23,11 @@ static void check(int holds, const char *what)
 
 /* ---- the logging period */
 
-/* Notes logs of 1000 ns, events of 100 ns and so many rollbacks in a hundred events, and chooses. */
+/* Notes logs of 1000 ns, events of 100 ns and so many rollbacks in a hundred thousand events, and chooses. */
 static uint32_t choose(period *p, double rollbacks)
 {
     unsigned k;
-    p->ran = 100;
+    p->ran = 100000;
     p->rollbacks = rollbacks;
     for (k = 0; k < 10; k++) {
         period_note_log(p, 1000);
@@ -39,18 +39,28 @@ static uint32_t choose(period *p, double rollbacks)
 
 static void try_period(void)
 {
-    static const uint32_t rising[] = {2, 4, 8, 16, 20, 20};
+    static const uint32_t rising[] = {16, 20, 20};
     period p;
-    unsigned k;
+    unsigned k, timed;
     period_open(&p, 7);
-    check(choose(&p, 5) == 7, "a fixed period changes");
+    check(choose(&p, 5000) == 7, "a fixed period changes");
+    check(!period_times_log(&p) && !period_times_event(&p), "a fixed period looks at the clock");
+    period_open(&p, 0);
+    for (k = timed = 0; k < 8 + 32 * 10; k++) {
+        if (!period_times_log(&p)) continue;
+        period_note_log(&p, 1000);
+        timed++;
+    }
+    check(timed == 8 + 10, "of logs eight are timed, and then one in 32");
     period_open(&p, 0);
     for (k = 0; k < sizeof rising / sizeof *rising; k++)
-        check(choose(&p, 5) == rising[k], "the period doesn't rise to sqrt(2 * 1000 / (0.05 * 100)) = 20");
-    check(choose(&p, 20) == 10, "with four times as many rollbacks the period isn't half as long");
-    check(choose(&p, 2000) == 1, "with twenty rollbacks an event the period isn't 1");
-    for (k = 0; k < 20; k++) choose(&p, 0);
-    check(p.events == 256, "without rollbacks the period doesn't rise to the longest");
+        check(choose(&p, 5000) == rising[k], "the period doesn't rise to sqrt(2 * 1000 / (0.05 * 100)) = 20");
+    check(choose(&p, 20000) == 10, "with four times as many rollbacks the period isn't half as long");
+    check(choose(&p, 2000000) == 1, "with twenty rollbacks an event the period isn't 1");
+    for (k = 0; k < 4; k++) choose(&p, 0);
+    check(p.events == PERIOD_LONGEST, "without rollbacks the period doesn't rise to the longest");
+    period_note_log(&p, UINT64_C(1000000000));
+    check(choose(&p, 5000) < 40, "a time that is an outlier counts in full");
 }
 
 /* ---- the window */

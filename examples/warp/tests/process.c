@@ -2,7 +2,7 @@
  * A process by itself: sets of up to six messages, events and anti-messages, in every order, with some events run and a bound committed
  * after each. At the end the process must stand as if the events that weren't called back had been run in order, and what it sent, less
  * what it called back, must be what these events send.
- *     process [copies|calls|place]     says how many orders were tried
+ *     process [copies|place|undo]      says how many orders were tried
  */
 #include "../process.h"
 
@@ -21,38 +21,46 @@ enum { NO_EVENT, ONE_EVENT, ALL_EVENTS };
 
 /* ---- a model whose state and sent events depend on all events that were run, and on their order */
 
+enum { LAST = 100 };
+
 typedef struct root {
     uint64_t hash;
-    chunk last;
+    uint64_t *last; /* a chunk of LAST bytes, or null */
 } root;
 
 static void start(context *c)
 {
-    c->root = chunk_alloc(c->memory, sizeof(root));
+    c->state = model_alloc(c, sizeof(root));
 }
 
 static void run(context *c, const event *e)
 {
-    root room, *r = chunk_edit(c->memory, c->root, 0, sizeof room, &room);
-    chunk old = r->last;
-    uint64_t hash = r->hash = model_mixed(r->hash ^ e->data[0]) + e->time;
-    r->last = hash % 3 == 0 ? 0 : chunk_alloc(c->memory, 100);
-    if (r->last != 0) chunk_put(c->memory, r->last, 0, sizeof hash, &hash);
-    chunk_put(c->memory, c->root, 0, sizeof room, r);
-    if (old != 0) chunk_free(c->memory, old);
+    root *r = c->state;
+    uint64_t *old = r->last, hash = model_mixed(r->hash ^ e->data[0]) + e->time;
+    model_write(c, r, sizeof *r);
+    r->hash = hash;
+    if (hash % 3 == 0) {
+        r->last = NULL;
+    } else if (hash % 3 == 1 || old == NULL) {
+        r->last = model_alloc(c, LAST);
+        *r->last = hash;
+    } else { /* the same chunk, changed at its end */
+        model_write(c, old + 4, sizeof *old);
+        old[4] += hash;
+        old = NULL;
+    }
+    if (old != NULL) model_free(c, old, LAST);
     if (hash % 4 != 0) model_send(c, 1, 1 + hash % 5, 0, hash, 0);
     if (hash % 4 == 1) model_send(c, 1, 2, 0, hash, 1);
 }
 
 static uint64_t checksum(context *c)
 {
-    root room, r = *(const root *)chunk_see(c->memory, c->root, 0, sizeof room, &room);
-    uint64_t number, seen = 0;
-    if (r.last != 0) seen = *(const uint64_t *)chunk_see(c->memory, r.last, 0, sizeof number, &number);
-    return model_mixed(r.hash) + seen;
+    const root *r = c->state;
+    return model_mixed(r->hash) + (r->last != NULL ? r->last[0] + model_mixed(r->last[4]) : 0);
 }
 
-static const model hashing = {"hashing", "for the test", {{0}}, start, run, checksum};
+static const model hashing = {"hashing", "for the test", {{0}}, start, run, checksum, NULL};
 
 /* ---- sets of messages */
 
@@ -244,8 +252,8 @@ static void try_many_rollbacks(void)
         m.is_anti = 1;
         must(process_take(&p, &m, &out), "an anti-message");
     }
-    if (p.wants_bound || p.logs > 3) {
-        fprintf(stderr, "process: %u logs are kept of one event\n", (unsigned)p.logs);
+    if (p.wants_bound || p.logged.count > 3) {
+        fprintf(stderr, "process: %zu logs are kept of one event\n", p.logged.count);
         exit(1);
     }
     free(out.items);
