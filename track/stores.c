@@ -9,6 +9,7 @@
 
 #include <stdarg.h>
 #include <stdio.h>
+#include <stdlib.h>
 #include <string.h>
 
 /* A store into a chunk of the object, if it is live, that isn't remembered: it is touched by the library where it isn't known to be. */
@@ -150,6 +151,16 @@ char *dym_told_strsep(char **text, const char *ends)
     tell(text);
     if (*text != NULL) tell(*text);
     return strsep(text, ends);
+}
+
+/* ---- functions whose arguments point to pointers to what they write */
+
+int dym_told_random_r(struct random_data *data, int32_t *number)
+{
+    tell(data);
+    tell(data->state);
+    tell(number);
+    return random_r(data, number);
 }
 
 /* ---- functions that read values by a format */
