@@ -1,5 +1,5 @@
 # find_package(dymelor) of CMake: the target dymelor::dymelor, and dymelor::track for a simulator whose model's stores are told, from where this
-# file lies, so that the prefix may be moved. The model itself is compiled with CMAKE_C_COMPILER=dymelor-cc, or by a target of its own.
+# file lies, so that the prefix may be moved. The model itself is compiled by dymelor-cc.
 get_filename_component(dymelor_prefix "${CMAKE_CURRENT_LIST_DIR}/../../.." ABSOLUTE)
 if(NOT TARGET dymelor::dymelor)
   add_library(dymelor::dymelor STATIC IMPORTED)
