@@ -335,16 +335,18 @@ static uint32_t sum_of_two(void *chunk, ...)
     va_list values, *copy = chunk;
     uint32_t sum;
     va_start(values, chunk);
-    va_copy(*copy, values); /* untold by GCC */
+    va_copy(*copy, values); /* untold */
     va_end(values);
     sum = va_arg(*copy, uint32_t) + va_arg(*copy, uint32_t);
     va_end(*copy);
     return sum;
 }
 
+static uint32_t (*volatile summer)(void *, ...) = sum_of_two;
+
 static void copy_of_a_list(void *chunk, uint32_t draw)
 {
-    ((uint32_t *)chunk)[10] = sum_of_two(chunk, draw, 1);
+    ((uint32_t *)chunk)[10] = summer(chunk, draw, 1);
 }
 
 /* ---- the C library's functions */
