@@ -323,11 +323,11 @@ DYM_NODISCARD DYM_API dym_status dym_address(const dym_object *object, dym_handl
 DYM_NODISCARD DYM_API dym_status dym_touch(dym_object *object, dym_handle chunk, void **address);
 
 /* Touches every live chunk: for code that writes wherever it likes, as an interpreter that runs inside an object. Such code needs it after
- * each log, restore and load. This is no command. */
+ * each log, restore and load, before it writes. This is no command. */
 DYM_NODISCARD DYM_API dym_status dym_touch_all(dym_object *object);
 
-/* Touches, before they are written, each live chunk of which a byte lies in the object's block in the `length` bytes from `offset` on; what else lies there, and a
- * length of 0, is passed over. This is no command. */
+/* Touches, before it is written, each live chunk of which a byte lies in the object's block in the `length` bytes from `offset` on; what else
+ * lies there, and a length of 0, is passed over. This is no command. */
 DYM_NODISCARD DYM_API dym_status dym_wrote_offset(dym_object *object, uint64_t offset, uint64_t length);
 
 /*

@@ -498,9 +498,12 @@ private:
  * The chunks of an object as the memory of containers: std::pmr::list, map, string, vector, deque and what else takes a memory_resource. Each
  * node is a chunk, and the container itself lies in one too (object.make), so that both roll back.
  *
- * What is asked above 65,536 bytes, or beyond the quota, or with more than 16 bytes of alignment, is std::bad_alloc; where the compiler has
- * no exceptions the program ends by std::abort, as containers know no other answer. A vector or a string grows into a new block beside the
- * old one, and at most to 65,536 bytes: reserve what it needs, or take a deque, whose blocks are small.
+ * What is asked above 65,536 bytes, or beyond the quota, is std::bad_alloc; where the compiler has no exceptions the program ends by std::abort,
+ * as containers know no other answer. Of an alignment above 16 the bytes up to it count too. A vector or a string grows into a new block beside
+ * the old one, and at most to 65,536 bytes: reserve what it needs, or take a deque, whose blocks are small. A
+ * std::pmr::unsynchronized_pool_resource over it lies in a chunk itself, and is made with std::pmr::pool_options that keep its blocks
+ * below that length, as {32, 1024}: without, it asks for ever longer ones, up to a std::bad_alloc. The library writes into its blocks where no
+ * compiler tells it, so that it goes with wrote::anywhere.
  *
  * Containers keep the address of the resource, and the resource that of the object: both stay where they are as long as these are used.
  */
@@ -512,10 +515,14 @@ private:
     void *do_allocate(std::size_t bytes, std::size_t aligned_to) override
     {
         void *place = nullptr;
+        /* A chunk is aligned to 16, and stays where it is: an address in it that is aligned to more stays so. */
+        const std::size_t more = aligned_to > alignment ? aligned_to - alignment : 0;
+        if (bytes > most_bytes || more > most_bytes) wanting();
         /* A chunk without a byte has no address. */
-        const std::size_t length = bytes > 0 ? bytes : 1;
-        if (aligned_to > alignment || dym_malloc_at(object_->c(), length, nullptr, &place) != DYM_DONE) wanting();
-        return place;
+        const std::size_t length = (bytes > 0 ? bytes : 1) + more;
+        if (dym_malloc_at(object_->c(), length, nullptr, &place) != DYM_DONE) wanting();
+        const auto at = reinterpret_cast<std::uintptr_t>(place);
+        return static_cast<char *>(place) + ((at + aligned_to - 1) / aligned_to * aligned_to - at);
     }
 
     [[noreturn]] static void wanting()

@@ -13,15 +13,26 @@
  * and end a touch (dym_open, dym_load, dym_close, dym_log, dym_restore, dym_restore_before) pass through libdymelor-track.a, which keeps a
  * table of the touched chunks beside each object. Without that the linker names __real_dym_log as undefined.
  *
- * Told are: assignments of all kinds, struct copies, bit fields, the atomics of C11 and C++, results that a function leaves in place; and
- * memcpy, memmove, memset, mempcpy, memccpy, bcopy, bzero, strcpy, stpcpy, strncpy, stpncpy, strcat, strncat, sprintf, snprintf, vsprintf,
- * vsnprintf, qsort, fread, fgets, read, rand_r, erand48, nrand48, jrand48, frexp, modf and sincos where the model names them. A complex number is told by
- * Clang; where dymelor-cc calls GCC, it refuses a file that has one.
+ * Told are all stores of the model's own code, before the bytes change: those that the compiler tells, and every other one, as by assembler or
+ * by intrinsics, by a call that dymelor-cc adds to what the compiler made. `dymelor-cc --untold-stores` lists these with their lines, and
+ * -Werror=untold refuses them. A store to many places by one instruction (scatter) is refused, unless a comment on its line, or on the one before,
+ * says that it needs no telling, since a dym_touch comes before it: dymelor: untold. The same comment, or DYM_UNTOLD before a function, leaves
+ * any other such store as it is.
  *
- * Not told, so that a dym_touch or dym_touch_all has to come before: what other functions write that dymelor-cc didn't compile, those of
- * libraries, and of the C++ library's own list, map and set; assembler, and the intrinsics that store past the caches or by a mask; a
- * function that the attribute no_sanitize exempts. dym_untold finds what they wrote. What a call of dymelor.h writes to by a parameter,
- * as *chunk, may not lie in a chunk at all.
+ * Told before the call are, where a model names them, what these functions write:
+ *
+ *     memcpy memmove memset mempcpy memccpy bcopy bzero random_r strcpy stpcpy strncpy stpncpy strcat strncat strtok strtok_r
+ *     strsep sscanf fscanf vsscanf vfscanf explicit_bzero wmemcpy wmemmove wmemset wmempcpy wcscpy wcpcpy wcsncpy wcpncpy wcscat
+ *     wcsncat sprintf snprintf vsprintf vsnprintf swprintf vswprintf strftime strxfrm qsort qsort_r fread fgets mbstowcs wcstombs
+ *     mbtowc wctomb getcwd time timespec_get gettimeofday read pread recv gmtime_r localtime_r asctime_r ctime_r clock_gettime
+ *     nanosleep realpath readlink stat fstat lstat strtol strtoul strtoll strtoull strtoimax strtoumax strtod strtof strtold
+ *     strptime inet_ntop getline getdelim mbsrtowcs wcsrtombs mbrtowc initstate_r wcrtomb rand_r erand48 nrand48 jrand48 getrandom
+ *     getentropy drand48_r lrand48_r mrand48_r frexp frexpf frexpl modf modff modfl remquo remquof remquol lgamma_r sincos sincosf
+ *     sincosl setjmp to_chars from_chars
+ *
+ * Not told, so that a dym_touch, dym_wrote or dym_touch_all has to come before: what other functions write that dymelor-cc didn't compile, those
+ * of libraries, and of the C++ library's own list, map and set. dym_untold finds what they wrote. What a call of dymelor.h writes to by a
+ * parameter, as *chunk, may not lie in a chunk at all.
  *
  * What C owes beside what dymelor.h says, and nothing checks: a store into an object is like a call on it, so that one thread at a time
  * makes them; an object that moved is named again; no thread stores into the chunks of a closed object. A thread that named an object which
@@ -42,6 +53,9 @@ extern "C" {
  * DYM_BAD: the object is closed; the stores are told to none.
  */
 dym_status dym_track(dym_object *object);
+
+/* Before a function: stores that the compiler doesn't tell need no telling in it. */
+#define DYM_UNTOLD __attribute__((noinline, section(".text.dymelor_untold")))
 
 #ifdef __cplusplus
 }

@@ -1,19 +1,16 @@
 /*
- * What a model calls that dymelor-cc compiled: before a store, and in place of the C library's functions that write. The names are those of
- * symbols.h.
+ * What a model calls that dymelor-cc compiled: before a store, and in place of the C library's functions that write. All tell before they
+ * store.
  */
 #define _GNU_SOURCE
 
 #include "current.h"
 #include "stores.h"
 
-#include <limits.h>
-#include <math.h>
 #include <stdarg.h>
 #include <stdio.h>
 #include <stdlib.h>
 #include <string.h>
-#include <unistd.h>
 
 /* A store into a chunk of the object, if it is live, that isn't remembered: it is touched by the library where it isn't known to be. */
 static void tell_chunk(table *t, size_t offset)
@@ -57,7 +54,7 @@ void dym_told_nothing(void)
 {
 }
 
-/* ---- the C library's functions, and those of libm and libatomic in libraries.c */
+/* ---- the C library's functions of the table `functions` that have no more than their arguments told, by their lengths */
 
 void *dym_told_memcpy(void *to, const void *from, size_t length)
 {
@@ -134,108 +131,105 @@ char *dym_told_strncat(char *to, const char *from, size_t most)
     return strncat(to, from, most);
 }
 
-/* Tells what a text of at most `room` bytes will take. It is made once to know its length, and once more to be stored. */
-static void tell_text(const char *to, size_t room, const char *format, va_list values)
+/* ---- functions that keep a place in a text, which they cut into words */
+
+char *dym_told_strtok_r(char *text, const char *ends, char **rest)
+{
+    tell(rest);
+    tell(text != NULL ? text : *rest);
+    return strtok_r(text, ends, rest);
+}
+
+char *dym_told_strtok(char *text, const char *ends)
+{
+    static _Thread_local char *rest;
+    return dym_told_strtok_r(text, ends, &rest);
+}
+
+char *dym_told_strsep(char **text, const char *ends)
+{
+    tell(text);
+    if (*text != NULL) tell(*text);
+    return strsep(text, ends);
+}
+
+/* ---- functions whose arguments point to pointers to what they write */
+
+int dym_told_random_r(struct random_data *data, int32_t *number)
+{
+    tell(data);
+    tell(data->state);
+    tell(number);
+    return random_r(data, number);
+}
+
+/* ---- functions that read values by a format */
+
+/* Where the conversion ends that begins behind a %; `is_stored` says whether it takes a pointer. */
+static const char *end_of_conversion(const char *format, int *is_stored)
+{
+    *is_stored = *format != '*' && *format != '%';
+    format += strspn(format, "*'0123456789$mIhljztLq");
+    if (*format == '\0' || *format != '[') return *format == '\0' ? format : format + 1;
+    format += format[1] == '^' ? 2 : 1;
+    if (*format == ']') format++;
+    format += strcspn(format, "]");
+    return *format == '\0' ? format : format + 1;
+}
+
+/* Tells what the pointers point to that a format of scanf stores by. */
+static void tell_scanned(const char *format, va_list pointers)
 {
     va_list again;
-    int length;
-    va_copy(again, values);
-    length = vsnprintf(NULL, 0, format, again);
-    va_end(again);
-    if (length >= 0) dym_told_range(to, (size_t)length < room ? (size_t)length + 1 : room);
-}
-
-int dym_told_vsnprintf(char *to, size_t room, const char *format, va_list values)
-{
-    tell_text(to, room, format, values);
-    return vsnprintf(to, room, format, values);
-}
-
-int dym_told_vsprintf(char *to, const char *format, va_list values)
-{
-    tell_text(to, INT_MAX, format, values);
-    return vsprintf(to, format, values);
-}
-
-int dym_told_snprintf(char *to, size_t room, const char *format, ...)
-{
-    va_list values;
-    int length;
-    va_start(values, format);
-    length = dym_told_vsnprintf(to, room, format, values);
-    va_end(values);
-    return length;
-}
-
-int dym_told_sprintf(char *to, const char *format, ...)
-{
-    va_list values;
-    int length;
-    va_start(values, format);
-    length = dym_told_vsprintf(to, format, values);
-    va_end(values);
-    return length;
-}
-
-void dym_told_qsort(void *base, size_t count, size_t size, int (*compare)(const void *, const void *))
-{
-    dym_told_range(base, count * size);
-    qsort(base, count, size, compare);
-}
-
-size_t dym_told_fread(void *to, size_t size, size_t count, FILE *file)
-{
-    dym_told_range(to, size * count);
-    return fread(to, size, count, file);
-}
-
-char *dym_told_fgets(char *to, int room, FILE *file)
-{
-    dym_told_range(to, room > 0 ? (size_t)room : 0);
-    return fgets(to, room, file);
-}
-
-ssize_t dym_told_read(int file, void *to, size_t room)
-{
-    dym_told_range(to, room);
-    return read(file, to, room);
-}
-
-int dym_told_rand_r(unsigned *seed)
-{
-    tell(seed);
-    return rand_r(seed);
-}
-
-double dym_told_erand48(unsigned short seed[3])
-{
-    tell(seed);
-    return erand48(seed);
-}
-
-long dym_told_nrand48(unsigned short seed[3])
-{
-    tell(seed);
-    return nrand48(seed);
-}
-
-long dym_told_jrand48(unsigned short seed[3])
-{
-    tell(seed);
-    return jrand48(seed);
-}
-
-#define PARTS(suffix, type) \
-    type dym_told_frexp##suffix(type number, int *exponent) \
-    { \
-        tell(exponent); \
-        return frexp##suffix(number, exponent); \
-    } \
-    type dym_told_modf##suffix(type number, type *whole) \
-    { \
-        tell(whole); \
-        return modf##suffix(number, whole); \
+    va_copy(again, pointers);
+    while (*format != '\0') {
+        int is_stored = 0;
+        if (*format++ != '%') continue;
+        format = end_of_conversion(format, &is_stored);
+        if (is_stored) tell(va_arg(again, void *));
     }
-PARTS(, double)
-PARTS(f, float)
-PARTS(l, long double)
+    va_end(again);
+}
+
+int dym_told_vsscanf(const char *from, const char *format, va_list pointers)
+{
+    tell_scanned(format, pointers);
+    return vsscanf(from, format, pointers);
+}
+
+int dym_told_vfscanf(FILE *file, const char *format, va_list pointers)
+{
+    tell_scanned(format, pointers);
+    return vfscanf(file, format, pointers);
+}
+
+int dym_told_sscanf(const char *from, const char *format, ...)
+{
+    va_list pointers;
+    int count;
+    va_start(pointers, format);
+    count = dym_told_vsscanf(from, format, pointers);
+    va_end(pointers);
+    return count;
+}
+
+int dym_told_fscanf(FILE *file, const char *format, ...)
+{
+    va_list pointers;
+    int count;
+    va_start(pointers, format);
+    count = dym_told_vfscanf(file, format, pointers);
+    va_end(pointers);
+    return count;
+}
+
+/* The names that the header of a C library gives them. */
+#define SAME_AS(name) __attribute__((alias("dym_told_" name)))
+int dym_told___isoc99_vsscanf(const char *from, const char *format, va_list pointers) SAME_AS("vsscanf");
+int dym_told___isoc99_vfscanf(FILE *file, const char *format, va_list pointers) SAME_AS("vfscanf");
+int dym_told___isoc99_sscanf(const char *from, const char *format, ...) SAME_AS("sscanf");
+int dym_told___isoc99_fscanf(FILE *file, const char *format, ...) SAME_AS("fscanf");
+int dym_told___isoc23_vsscanf(const char *from, const char *format, va_list pointers) SAME_AS("vsscanf");
+int dym_told___isoc23_vfscanf(FILE *file, const char *format, va_list pointers) SAME_AS("vfscanf");
+int dym_told___isoc23_sscanf(const char *from, const char *format, ...) SAME_AS("sscanf");
+int dym_told___isoc23_fscanf(FILE *file, const char *format, ...) SAME_AS("fscanf");

@@ -3,6 +3,8 @@
 #include "dymelor.hpp"
 
 #include <algorithm>
+#include <memory_resource>
+#include <list>
 #include <array>
 #include <cstdio>
 #include <cstring>
@@ -193,13 +195,38 @@ void resources()
     dymelor::resource memory(o), same(o);
     EXPECT(memory == memory && memory != same);
     EXPECT(!wants_memory(memory, 0, 1) && !wants_memory(memory, 65536, 16));
-    EXPECT(wants_memory(memory, 65537, 8) && wants_memory(memory, 64, 32));
+    EXPECT(wants_memory(memory, 65537, 8) && wants_memory(memory, 65536, 32) && !wants_memory(memory, 65520, 32));
+    for (std::size_t aligned_to = 1; aligned_to <= 32768; aligned_to *= 2) {
+        void *place = memory.allocate(100, aligned_to);
+        EXPECT(reinterpret_cast<std::uintptr_t>(place) % aligned_to == 0);
+        std::memset(place, 1, 100);
+        memory.deallocate(place, 100, aligned_to);
+    }
     void *a = memory.allocate(65536), *b = memory.allocate(0);
     EXPECT(wants_memory(memory, 65536, 16));
     memory.deallocate(a, 65536);
     memory.deallocate(b, 0);
     dym_handle first = dym_nil;
     EXPECT(dym_next(o.c(), dym_nil, &first) == DYM_DONE && dym_same(first, dym_nil));
+}
+
+// A pool in a chunk, whose blocks are chunks: it rolls back with what it gave.
+void pools()
+{
+    dymelor::object o(16);
+    dymelor::resource memory(o);
+    auto pool = o.make<std::pmr::unsynchronized_pool_resource>(std::pmr::pool_options{32, 1024}, &memory);
+    auto list = o.make<std::pmr::list<std::pmr::string>>(pool.at);
+    for (int k = 0; k < 500; k++) list->push_back("a text that is too long for the string itself");
+    o.log(1, dymelor::wrote::anywhere);
+    for (int round = 0; round < 50; round++) {
+        for (int k = 0; k < 300; k++) list->pop_front();
+        for (int k = 0; k < 200; k++) list->emplace_back("another text, of another length");
+        o.restore(1, dymelor::wrote::anywhere);
+        EXPECT(list->size() == 500 && list->back() == "a text that is too long for the string itself");
+    }
+    o.destroy(list.at);
+    o.destroy(pool.at);
 }
 
 } // namespace
@@ -214,5 +241,6 @@ int main()
     written_after_a_load();
     seen();
     resources();
+    pools();
     return differences > 0;
 }

@@ -2,6 +2,8 @@
  * A model whose stores are told, rolled back at random beside whole copies. Linked with the model compiled by dymelor-cc:
  *   stores rollbacks SEED    an object rolled back 1,000 times; and four at once, which change their threads, as often together
  *   stores table             the table of touched chunks after each call that ends a touch, and closed objects
+ *   stores before            each chunk is told while its bytes are those of the log before
+ *   stores names             prints the names of the library's calls that are made
  * Linked with the model compiled by any compiler, which tells nothing:
  *   stores found             of some touches one is left out, 100 times for each way to store: dym_untold finds the chunk
  */
@@ -15,7 +17,7 @@
 #include <stdlib.h>
 #include <string.h>
 
-enum { WAYS = 128, QUOTA = 24, PROCESSES = 4, ROLLBACKS = 1000, PARTS = 10, LOGS = 64, TRIALS = 100, BLOCK = 12 * QUOTA * 65536 };
+enum { WAYS = 256, QUOTA = 24, PROCESSES = 4, ROLLBACKS = 1000, PARTS = 10, LOGS = 64, TRIALS = 100, BLOCK = 12 * QUOTA * 65536 };
 
 static void fail(const char *what, const char *more)
 {
@@ -52,7 +54,10 @@ static size_t way_count;
 
 static void gather(const way *some)
 {
-    for (; some->name != NULL && way_count < WAYS; some++) ways[way_count++] = some;
+    for (; some->name != NULL; some++) {
+        if (way_count == WAYS) fail("there are more ways than the model has room for", some->name);
+        ways[way_count++] = some;
+    }
 }
 
 static uint32_t draw(process *p)
@@ -231,6 +236,55 @@ static void rollbacks(uint32_t seed)
         if (pthread_create(&threads[k], NULL, run_thread, &processes[k]) != 0) fail("no thread", "");
     for (size_t k = 0; k < PROCESSES; k++) pthread_join(threads[k], NULL);
     for (size_t k = 0; k < PROCESSES; k++) close_process(&processes[k]);
+}
+
+/* ---- what is told before its bytes change */
+
+/* Of an object that is looked at: which chunk, its bytes at the newest log, and how often it was told since. */
+static const process *watched;
+static size_t watched_way, tellings;
+static uint8_t *watched_bytes;
+
+dym_status __real_dym_wrote_at(dym_object *object, uint64_t offset, uint64_t length);
+dym_status __wrap_dym_wrote_at(dym_object *object, uint64_t offset, uint64_t length);
+
+/* In place of dym_wrote_at, by the linker: here all goes by that is told. */
+dym_status __wrap_dym_wrote_at(dym_object *object, uint64_t offset, uint64_t length)
+{
+    const void *start = NULL;
+    if (watched != NULL && object == &watched->object && dym_start(object, &start) == DYM_DONE) {
+        uintptr_t chunk = (uintptr_t)watched->at[watched_way] - (uintptr_t)start;
+        size_t size = ways[watched_way]->size;
+        if (offset + length > chunk && offset < chunk + size && tellings++ == 0 && memcmp(watched->at[watched_way], watched_bytes, size) != 0)
+            fail("it was written before it was told", ways[watched_way]->name);
+    }
+    return __real_dym_wrote_at(object, offset, length);
+}
+
+static void before(void)
+{
+    process *p = &processes[0];
+    dym_logged logged;
+    uint32_t dropped;
+    open_process(p, 11);
+    for (size_t k = 0; k < TRIALS * way_count; k++) {
+        watched_way = k % way_count;
+        watched_bytes = realloc(watched_bytes, ways[watched_way]->size);
+        if (watched_bytes == NULL) fail("memory", "");
+        must(dym_log(&p->object, DYM_FULL, ++p->now, &logged), "dym_log");
+        must(dym_prune(&p->object, p->now, &dropped), "dym_prune");
+        memcpy(watched_bytes, p->at[watched_way], ways[watched_way]->size);
+        watched = p;
+        tellings = 0;
+        must(dym_track(&p->object), "dym_track");
+        ways[watched_way]->change(p->at[watched_way], draw(p));
+        must(dym_track(NULL), "dym_track");
+        watched = NULL;
+        if (tellings == 0 && memcmp(watched_bytes, p->at[watched_way], ways[watched_way]->size) != 0)
+            fail("it was written and not told", ways[watched_way]->name);
+    }
+    free(watched_bytes);
+    close_process(p);
 }
 
 /* ---- touches left out */
@@ -447,6 +501,12 @@ int main(int count, char **words)
 {
     gather(plain_ways);
     gather(class_ways);
+    if (count < 2 || strcmp(words[1], "found") != 0) gather(call_ways);
+    if (count == 2 && strcmp(words[1], "names") == 0) {
+        for (const way *call = call_ways; call->name != NULL; call++) puts(call->name);
+        puts("to_chars\nfrom_chars");
+        return 0;
+    }
     if (count == 3 && strcmp(words[1], "rollbacks") == 0) {
         rollbacks((uint32_t)strtoul(words[2], NULL, 10));
     } else if (count == 2 && strcmp(words[1], "found") == 0) {
@@ -456,10 +516,12 @@ int main(int count, char **words)
         logged_elsewhere();
         loaded_while_named();
         closed_while_named();
+    } else if (count == 2 && strcmp(words[1], "before") == 0) {
+        before();
     } else if (count == 2 && strcmp(words[1], "closed") == 0) {
         closed_while_named();
     } else {
-        fail("usage: stores rollbacks SEED | table | closed | found", "");
+        fail("usage: stores rollbacks SEED | table | before | names | closed | found", "");
     }
     return 0;
 }

@@ -18,8 +18,9 @@ typedef struct way {
 extern "C" {
 #endif
 
-/* The ways in C and those in C++, each up to one without a name. */
+/* The ways in C and those in C++, and the calls of libraries by their names, each up to one without a name. */
 extern const way plain_ways[];
+extern const way call_ways[];
 extern const way class_ways[];
 
 /* A sorted list and a tree in one object. Each step adds a node or takes one away. The root is a chunk of ROOT_BYTES bytes. */

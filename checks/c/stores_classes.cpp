@@ -4,6 +4,7 @@
 #include <algorithm>
 #include <array>
 #include <atomic>
+#include <charconv>
 #include <cmath>
 #include <cstring>
 #include <memory_resource>
@@ -170,6 +171,26 @@ void stored_by_a_lambda(void *chunk, uint32_t draw)
     add(draw);
 }
 
+// What was expected becomes what is there.
+void atomic_exchange_that_fails(void *chunk, uint32_t draw)
+{
+    std::atomic<uint32_t> shared(draw | 1);
+    shared.compare_exchange_strong(in<uint32_t>(chunk), 9); // untold by GCC
+}
+
+// A call of the C++ library alone.
+void characters_of_a_number(void *chunk, uint32_t draw)
+{
+    auto *to = static_cast<char *>(chunk);
+    std::to_chars(to, to + 60, draw * 0.25);
+}
+
+void number_of_characters(void *chunk, uint32_t draw)
+{
+    const std::string text = std::to_string(draw) + ".25";
+    std::from_chars(text.data(), text.data() + text.size(), in<double>(chunk));
+}
+
 } // namespace
 
 extern "C" const way class_ways[] = {
@@ -188,5 +209,8 @@ extern "C" const way class_ways[] = {
     {"short string", 64, short_string},
     {"by a handler of exceptions", 64, stored_by_a_handler},
     {"by a lambda", 64, stored_by_a_lambda},
+    {"atomic exchange that fails", 64, atomic_exchange_that_fails},
+    {"to_chars", 64, characters_of_a_number},
+    {"from_chars", 64, number_of_characters},
     {nullptr, 0, nullptr},
 };

@@ -3,9 +3,7 @@
 
 #include "stores.h"
 
-#ifdef __clang__
 #include <complex.h>
-#endif
 #include <math.h>
 #include <stdarg.h>
 #include <stdatomic.h>
@@ -14,6 +12,7 @@
 #include <string.h>
 #include <strings.h>
 #include <unistd.h>
+#include <x86intrin.h>
 
 /* Numbers that the compiler doesn't know, and that are never what a fresh chunk has. */
 static uint32_t mixed(uint32_t x)
@@ -51,14 +50,11 @@ ASSIGN(e, float)
 ASSIGN(f, double)
 ASSIGN(g, long double)
 
-/* GCC tells no such store, and dymelor-cc refuses the file. */
-#ifdef __clang__
 static void complex_number(void *chunk, uint32_t draw)
 {
     double complex *s = chunk;
-    s[draw % 4] += draw + 1.0 * I;
+    s[draw % 4] += draw + 1.0 * I; /* untold by GCC */
 }
-#endif
 
 static void assign_pointer(void *chunk, uint32_t draw)
 {
@@ -266,7 +262,91 @@ static void atomic_flag_flip(void *chunk, uint32_t draw)
 {
     atomic_flag *s = chunk;
     (void)draw;
-    if (atomic_flag_test_and_set(s)) atomic_flag_clear(s);
+    if (atomic_flag_test_and_set(s)) atomic_flag_clear(s); /* untold by GCC */
+}
+
+/* Where the exchange fails, what was expected becomes what is there. */
+#define COMPARE_THAT_FAILS(type) \
+    static void compare_that_fails_##type(void *chunk, uint32_t draw) \
+    { \
+        type shared = (type)(draw | 1); \
+        __atomic_compare_exchange_n(&shared, (type *)chunk + draw % 7, 9, 0, __ATOMIC_SEQ_CST, __ATOMIC_SEQ_CST); \
+    }
+COMPARE_THAT_FAILS(uint8_t)  /* untold by GCC */
+COMPARE_THAT_FAILS(uint32_t) /* untold by GCC */
+COMPARE_THAT_FAILS(uint64_t) /* untold by GCC */
+
+typedef struct three {
+    uint32_t a, b, c;
+} three;
+
+#ifdef __clang__
+#pragma clang diagnostic ignored "-Watomic-alignment"
+#endif
+static void atomic_load_of_12(void *chunk, uint32_t draw)
+{
+    three from = {draw, draw + 1, 3};
+    __atomic_load(&from, (three *)chunk, __ATOMIC_SEQ_CST);
+}
+
+/* ---- stores that no compiler tells, or GCC doesn't */
+
+static void by_assembler(void *chunk, uint32_t draw)
+{
+    uint32_t *s = chunk, x = draw;
+    switch (draw % 4) {
+    case 0: __asm__ volatile("addl %1, (%0)" ::"r"(s), "r"(draw) : "memory", "cc"); break;             /* untold */
+    case 1: __asm__ volatile("xchgl %0, 4(%1)" : "+r"(x) : "r"(s) : "memory"); break;                   /* untold */
+    case 2: __asm__ volatile("lock; xaddl %0, (%1,%2,8)" : "+r"(x) : "r"(s), "r"(1L) : "memory", "cc"); break; /* untold */
+    default: x = draw % 3 * 2 + 1; __asm__ volatile("1: notl (%0)\n\tdecl %1\n\tjnz 1b" : "+r"(s), "+r"(x)::"memory", "cc"); break; /* untold */
+    }
+}
+
+static void by_intrinsics(void *chunk, uint32_t draw)
+{
+    char *s = chunk;
+    __m128 four = _mm_set_ps((float)draw, 2, (float)draw, 4);
+    switch (draw % 5) {
+    case 0: _mm_storeh_pi((__m64 *)s, four); break;                        /* untold by GCC */
+    case 1: _mm_storel_pi((__m64 *)(s + 8), four); break;                  /* untold by GCC */
+    case 2: _addcarry_u64(1, draw, 3, (unsigned long long *)(s + 16)); break; /* untold by GCC */
+    case 3: __rdtscp((unsigned *)(s + 24)); s[24] ^= (char)(draw | 1); break; /* untold by GCC */
+    default: _mm_stream_si32((int *)(s + 32), (int)(draw | 1)); break;     /* untold by GCC */
+    }
+}
+
+static void state_of_the_processor(void *chunk, uint32_t draw)
+{
+    _fxsave(chunk); /* untold */
+    *(uint8_t *)chunk ^= (uint8_t)(draw | 1);
+}
+
+/* GCC takes the first byte of what memcpy has read for told. */
+static void after_what_was_read(void *chunk, uint32_t draw)
+{
+    static uint8_t other[40];
+    uint8_t *s = chunk;
+    memcpy(other, s, sizeof other);
+    *s = (uint8_t)(draw | 1); /* untold by GCC */
+}
+
+static uint32_t sum_of_two(void *chunk, ...)
+{
+    va_list values, *copy = chunk;
+    uint32_t sum;
+    va_start(values, chunk);
+    va_copy(*copy, values); /* untold */
+    va_end(values);
+    sum = va_arg(*copy, uint32_t) + va_arg(*copy, uint32_t);
+    va_end(*copy);
+    return sum;
+}
+
+static uint32_t (*volatile summer)(void *, ...) = sum_of_two;
+
+static void copy_of_a_list(void *chunk, uint32_t draw)
+{
+    ((uint32_t *)chunk)[10] = summer(chunk, draw, 1);
 }
 
 /* ---- the C library's functions */
@@ -292,7 +372,7 @@ static void move_by_one(void *chunk, uint32_t draw)
     uint32_t *s = chunk;
     uint32_t first = s[0] + mixed(draw) % 9 + 1;
     memmove(s + 1, s, 100 * sizeof *s);
-    memcpy(s, &first, sizeof first);
+    memcpy(s, &first, sizeof first); /* untold by GCC */
 }
 
 static void set_bytes(void *chunk, uint32_t draw)
@@ -445,9 +525,7 @@ const way plain_ways[] = {
     {"float", sizeof(numbers), assign_e},
     {"double", sizeof(numbers), assign_f},
     {"long double", sizeof(numbers), assign_g},
-#ifdef __clang__
     {"complex number", 64, complex_number},
-#endif
     {"pointer", sizeof(numbers), assign_pointer},
     {"by a pointer to a pointer", 72, assign_by_pointer_to_pointer},
     {"bit field", sizeof(fields), bit_field},
@@ -486,6 +564,15 @@ const way plain_ways[] = {
     {"atomic store, exchange", 64, atomic_store_exchange},
     {"atomic compare and exchange", 64, atomic_compare},
     {"atomic flag", 64, atomic_flag_flip},
+    {"compare and exchange of 1 that fails", 64, compare_that_fails_uint8_t},
+    {"compare and exchange of 4 that fails", 64, compare_that_fails_uint32_t},
+    {"compare and exchange of 8 that fails", 64, compare_that_fails_uint64_t},
+    {"atomic load of 12", 64, atomic_load_of_12},
+    {"inline assembler", 64, by_assembler},
+    {"intrinsics", 64, by_intrinsics},
+    {"state of the processor", 512, state_of_the_processor},
+    {"after what memcpy read", 64, after_what_was_read},
+    {"copy of a va_list", 64, copy_of_a_list},
     {"memcpy of 24 bytes", 64, copy_24},
     {"memcpy of so many", 512, copy_so_many},
     {"memmove", 512, move_by_one},

@@ -1,6 +1,7 @@
 """The repository as its checks see it: its folder, its program, and its crates as crates.txt lists them."""
 import dataclasses
 import functools
+import hashlib
 import os
 import pathlib
 import re
@@ -87,8 +88,34 @@ def newest_source(name):
     return max([own, *(newest_source(it) for it in crates()[name].stands_on)])
 
 
+@functools.lru_cache(maxsize=None)
+def contents(name):
+    """A digest of what the crate is made of: its sources, its line of crates.txt, and those that it stands on."""
+    crate = crates()[name]
+    found = hashlib.sha256(crate.line.encode())
+    for it in sorted(it for it in crate.sources() if it.is_file()):
+        found.update(f"\n{it.relative_to(crate.folder)} {it.stat().st_size}\n".encode() + it.read_bytes())
+    for it in crate.stands_on:
+        found.update(contents(it).encode())
+    return found.hexdigest()
+
+
+def record(name):
+    """What says of which contents the crate was built, beside what was made: the two digests. A copy of the repository keeps it."""
+    made = crates()[name].made
+    return f"{contents(name)} {hashlib.sha256(made.read_bytes()).hexdigest()}\n" if made.is_file() else None
+
+
+def note_built(names):
+    for it in names:
+        (crates()[it].folder / "out/contents").write_text(record(it))
+
+
 def is_built(name):
-    """Whether what a build makes of the crate is there, and newer than all that it was made of."""
+    """Whether what a build makes of the crate is there, and newer than all that it was made of, or made of the same contents."""
     made = crates()[name].made
     made_at = made.stat().st_mtime_ns if made.is_file() else 0
-    return made_at > max(newest_source(name), (TOP / "crates.txt").stat().st_mtime_ns)
+    if made_at > max(newest_source(name), (TOP / "crates.txt").stat().st_mtime_ns):
+        return True
+    noted = crates()[name].folder / "out/contents"
+    return noted.is_file() and noted.read_text() == record(name)
