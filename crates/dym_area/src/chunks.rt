@@ -150,12 +150,12 @@ impl<G: Segment> Area<G> {
         ensures valid { IsValidArea self.new }
     {
         let size = size_of_class(self.exp);
-        let start = i * size;
+        let front = i * size;
         self.used.set(i);
         self.dirty.clear(i);
         self.room = after_take(self.room, &self.used, self.exp, i);
-        self.segment.write(start, bytes);
-        self.segment.fill(start + size);
+        self.segment.write(front, bytes);
+        self.segment.fill(front + size);
     }
 
     /// Writes the bytes into a used chunk, from its place `at` on, and marks it dirty. An empty write changes nothing.

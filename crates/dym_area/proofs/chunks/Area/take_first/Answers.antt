@@ -1,10 +1,10 @@
-use Rattle.std.proofs.Common.{◌≡◌, ℕ, ◌+◌, ◌*◌, ◌<◌, ◌≤◌, length, ap, sym, subst, rules, arith}
+use Rattle.std.proofs.Common.{◌≡◌, ◌+◌, ◌*◌, ◌<◌, ◌≤◌, length, ap, sym, subst, rules, arith}
 use Rattle.dym_base.specs.Numbers.{size, per}
-use Rattle.dym_area.specs.Area.{AreaMeaning, AreFilled}
+use Rattle.dym_area.specs.Area.{AreFilled}
 use Rattle.dym_bits.specs.Bits.{IsSet}
 use Rattle.dym_area.proofs.Classes.{index_seen, bit_seen, chunk_seen}
 use Rattle.dym_area.proofs.Reach.{filled_taken}
-use Rattle.dym_area.proofs.Taken.{set_below, used_below_taken, dirty_used_taken}
+use Rattle.dym_area.proofs.Taken.{used_below_taken, dirty_used_taken}
 use Rattle.dym_area.proofs.chunks.Area.take_first.Goals as goal
 
 pub set-requires : goal.set-requires
