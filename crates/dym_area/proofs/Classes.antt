@@ -36,6 +36,10 @@ module _ {area seen : AreaMeaning} (is : area ≡ seen) (valid : IsValidArea are
   pub chunk_seen : (i : ℕ) {n : ℕ} → n ≡ size area.exponent → i < per seen.exponent → i * n + n ≤ 65536
   chunk_seen i same below = omega (arith, ap (λ n. i * n) same, chunk_fits area.exponent i valid.greatest (index_seen i below))
 
+  -- and its first bytes
+  pub front_seen : (i len : ℕ) {n : ℕ} → n ≡ size area.exponent → i < per seen.exponent → len ≤ size seen.exponent → i * n + len ≤ 65536
+  front_seen i len same below fits = omega (arith, same, ap (λ (a : AreaMeaning). size a.exponent) is, chunk_seen i same below)
+
   -- and a part of it, as far as the used chunks reach
   pub place_real : (far i at len : ℕ) {n : ℕ} → n ≡ size area.exponent → IsSet seen.used i → at + len ≤ size seen.exponent → AreFilled area.used area.exponent far → i * n + at + len ≤ far
   place_real far i at len same used within filled =

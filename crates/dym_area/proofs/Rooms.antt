@@ -1,5 +1,5 @@
 -- The summary of the use bits: where a chunk is found, and what a chunk taken or given up changes.
-use Rattle.std.proofs.Common.{◌≡◌, ℕ, ◌+◌, ◌-◌, ◌*◌, ◌/◌, ◌%◌, ◌^◌, ◌<◌, ◌≤◌, Bool, true, false, List, length, inl, inr, refl, sym, ◌∙◌, ap, arith, min, bit_and, w32}
+use Rattle.std.proofs.Common.{◌≡◌, ℕ, ◌+◌, ◌-◌, ◌*◌, ◌/◌, ◌%◌, ◌^◌, ◌<◌, ◌≤◌, Bool, true, false, List, length, inl, inr, refl, sym, subst, ◌∙◌, ap, arith, min, bit_and, w32}
 use Rattle.std.specs.Prelude.{Option, None, Some, MatchOption, slice_set}
 use Rattle.std.specs.Int.{bit_at, bit_not, trailing_zeros}
 use Rattle.std.proofs.Math.Nat.{pos_of_ne-zero}
@@ -112,9 +112,24 @@ module _ (used : List Bool) (count : ℕ) where
 
   -- ---- a chunk taken
 
-  pub summary_closed : (room i : ℕ) → i < 2048 → count ≤ 2048 → ((k : ℕ) → k ≤ i → IsSet used k) → ((k : ℕ) → i ≤ k → k < count → k / 64 ≡ i / 64 → IsSet used k) → ((q : ℕ) → bit_at room q ≡ 1 → (q ≡ i / 64 → ⊥) → HasRoom used count q) → ((k : ℕ) → k < count → IsClear used k → bit_at room (k / 64) ≡ 1)
+  -- where its word starts
+  word_start : (i : ℕ) → i / 64 * 64 / 64 ≡ i / 64
+  word_start i = omega arith
+
+  -- the summary stays where the chunk's word has an unused one still
+  pub summary_open : (room i : ℕ) → HasRoom used count (i / 64 * 64 / 64) → ((q : ℕ) → bit_at room q ≡ 1 → (q ≡ i / 64 → ⊥) → HasRoom used count q) → ((k : ℕ) → k < count → IsClear used k → bit_at room (k / 64) ≡ 1) → IsSummary used count room
+  summary_open room i here elsewhere marked = record {
+    found = λ q one.
+        elim (cases_eq q (i / 64)) [
+          | inl same ↦ subst (HasRoom used count) (word_start i ∙ sym same) here
+          | inr other ↦ elsewhere q one other
+        ];
+    marked = marked;
+  }
+
+  pub summary_closed : (room i : ℕ) → i < 2048 → count ≤ 2048 → ((k : ℕ) → i / 64 * 64 ≤ k → k < count → k / 64 ≡ i / 64 * 64 / 64 → IsSet used k) → ((q : ℕ) → bit_at room q ≡ 1 → (q ≡ i / 64 → ⊥) → HasRoom used count q) → ((k : ℕ) → k < count → IsClear used k → bit_at room (k / 64) ≡ 1)
       → IsSummary used count (bit_and room (bit_not w32 (1 * 2 ^ (i / 64) % 2 ^ 32)))
-  summary_closed room i within few below here elsewhere marked =
+  summary_closed room i within few here elsewhere marked =
       let mask = bit_not w32 (1 * 2 ^ (i / 64) % 2 ^ 32) in
       record {
         found = λ q one.
@@ -124,7 +139,7 @@ module _ (used : List Bool) (count : ℕ) where
             ];
         marked = λ k under unused.
             elim (cases_eq (k / 64) (i / 64)) [
-              | inl same ↦ absurd (not_both k (elim (cases_lt k i) [ inl before ↦ below k (omega arith) | inr after ↦ here k after under same ]) unused)
+              | inl same ↦ absurd (not_both k (here k (omega (arith, same)) under (same ∙ sym (word_start i))) unused)
               | inr other ↦ bit_at_clear_other w32 room (i / 64) (omega arith) (k / 64) (omega arith) other ∙ marked k under unused
             ];
       }

@@ -73,6 +73,15 @@ with_taken area i =
 abbrev pub with_released : AreaMeaning → ℕ → AreaMeaning
 with_released area i = record area { used = slice_set area.used i false; dirty = slice_set area.dirty i false }
 
+-- the area after chunk i became used and clean, with these bytes at its front
+abbrev pub with_put_back : AreaMeaning → ℕ → List ℕ → AreaMeaning
+with_put_back area i bytes =
+    record area {
+      used = slice_set area.used i true;
+      dirty = slice_set area.dirty i false;
+      content = with_part area.content (chunk_start area i) bytes;
+    }
+
 -- the area after the bytes were written into chunk i from place `at` of the chunk on
 abbrev pub with_written : AreaMeaning → ℕ → ℕ → List ℕ → AreaMeaning
 with_written area i at bytes =
@@ -92,6 +101,10 @@ with_loaded area from bytes = record area { content = with_part area.content (ch
 -- the area with no chunk dirty
 abbrev pub with_clean : AreaMeaning → AreaMeaning
 with_clean area = record area { dirty = clear_bits MOST_CHUNKS }
+
+-- the area where chunk i isn't dirty, and each other one is as it was
+abbrev pub with_clean_at : AreaMeaning → ℕ → AreaMeaning
+with_clean_at area i = record area { dirty = slice_set area.dirty i false }
 
 -- the area whose use bits are those of the bytes, with no chunk dirty
 abbrev pub with_used_bytes : AreaMeaning → List ℕ → AreaMeaning

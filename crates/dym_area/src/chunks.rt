@@ -7,7 +7,7 @@ ghost use Rattle.std.specs.Option.{ForSome};
 ghost use Rattle.std.specs.Borrow.{sem};
 ghost use Rattle.dym_bits.specs.Bits.{bit_in, bits_of_bytes, clear_bits, IsSet, IsClear, IsFirstClear, IsNextSet, IsTopSet};
 ghost use Rattle.dym_region.specs.Content.{part_of};
-ghost use Rattle.dym_area.specs.Area.{IsValidArea, chunk_start, with_taken, with_released, dirty_after, with_written, with_chunk_lent, with_loaded, with_clean, with_used_bytes};
+ghost use Rattle.dym_area.specs.Area.{IsValidArea, chunk_start, with_taken, with_released, with_put_back, dirty_after, with_written, with_chunk_lent, with_loaded, with_clean, with_clean_at, with_used_bytes};
 
 use crate::ends::end_of;
 use crate::summary::{WORD_CHUNKS, after_take, all_words, summary_of, with_room};
@@ -140,6 +140,22 @@ impl<G: Segment> Area<G> {
         self.used.clear(i);
         self.dirty.clear(i);
         self.room = with_room(self.room, i);
+    }
+
+    /// Makes chunk `i`, used or not, a used one that isn't dirty, with these bytes at its front.
+    pub fn put_back(&mut self, i: u32, bytes: &[u8])
+        requires within { i < per self.old.exponent }
+        requires fits { length bytes.now ≤ size self.old.exponent }
+        ensures after { self.new ≡ with_put_back self.old i bytes.now }
+        ensures valid { IsValidArea self.new }
+    {
+        let size = size_of_class(self.exp);
+        let front = i * size;
+        self.used.set(i);
+        self.dirty.clear(i);
+        self.room = after_take(self.room, &self.used, self.exp, i);
+        self.segment.write(front, bytes);
+        self.segment.fill(front + size);
     }
 
     /// Writes the bytes into a used chunk, from its place `at` on, and marks it dirty. An empty write changes nothing.
@@ -297,6 +313,15 @@ impl<G: Segment> Area<G> {
         ensures valid { IsValidArea self.new }
     {
         self.dirty.clear_all();
+    }
+
+    /// Marks chunk `i` as one that isn't dirty.
+    pub fn clear_dirty_at(&mut self, i: u32)
+        requires { i < per self.old.exponent }
+        ensures after { self.new ≡ with_clean_at self.old i }
+        ensures valid { IsValidArea self.new }
+    {
+        self.dirty.clear(i);
     }
 
     /// Makes these used chunks the dirty ones.

@@ -50,18 +50,17 @@ fn words_of(exp: u8) -> u32
     per_area(exp).div_ceil(WORD_CHUNKS)
 }
 
-/// The summary after chunk `i`, which was the least unused one, was taken.
+/// The summary after chunk `i` became used.
 pub(crate) fn after_take(room: u32, used: &Bits, exp: u8, i: u32) -> u32
     requires least { LEAST_EXPONENT ≤ exp }
     requires greatest { exp ≤ GREATEST_EXPONENT }
     requires within { i < MOST_CHUNKS }
-    requires below { (k : ℕ) → k ≤ i → IsSet used.now k }
     requires elsewhere { (q : ℕ) → bit_at room q ≡ 1 → (q ≡ i / 64 → ⊥)
         → HasRoom used.now (per exp) q }
     requires marked { (k : ℕ) → k < per exp → IsClear used.now k → bit_at room (k / 64) ≡ 1 }
     ensures { IsSummary used.now (per exp) result }
 {
-    if has_room(used, exp, i) {
+    if has_room(used, exp, i / WORD_CHUNKS * WORD_CHUNKS) {
         room
     } else {
         room & !(1 << (i / WORD_CHUNKS))

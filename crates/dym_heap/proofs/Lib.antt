@@ -8,6 +8,7 @@ pub mod Sizes
 pub mod PlaceSteps
 pub mod PlaceCalls
 pub mod PlaceFacts
+pub mod PlaceUndo
 pub mod Flats
 pub mod Slices
 pub mod Rows
@@ -18,6 +19,7 @@ pub mod Pairs
 pub mod ShelfFacts
 pub mod Marks
 pub mod ShelfCalls
+pub mod ShelfUndo
 pub mod ShelfCopies
 pub mod ShelfGrows
 pub mod HandleSteps
@@ -54,6 +56,8 @@ pub mod AreaSteps
 pub mod Reshapes
 pub mod Fetches
 pub mod Fitting
+pub mod AreaReach
+pub mod HeapUndo
 pub mod Sums
 mod ChunkLent
 mod ShelfStarts

@@ -49,7 +49,7 @@ filter_run p a (suc n) (suc m) all l =
 
 -- ---- parts of what was written
 
-written_whole : (xs : List ℕ) (a : ℕ) (ys : List ℕ) → a + length ys ≤ length xs → part_of (with_part xs a ys) a (length ys) ≡ ys
+pub written_whole : (xs : List ℕ) (a : ℕ) (ys : List ℕ) → a + length ys ≤ length xs → part_of (with_part xs a ys) a (length ys) ≡ ys
 written_whole xs a ys fits =
     let z : a + 0 ≡ a = omega arith in
     let gone : drop (0 + length ys) (part_of xs a (length ys)) ≡ [] = drop_all (0 + length ys) (part_of xs a (length ys)) (omega (arith, length-part_of xs a (length ys) fits)) in

@@ -41,7 +41,8 @@ module _ {v : Version} {starts : List ℕ} {sized_areas : List SizedAreaMeaning}
         subst HasFree (sym step) (i, (let m = before.1 in omega (arith, length-set (get_or sized_areas k d).chunks j (Some bytes))), get_or-set_other (get_or sized_areas k d).chunks j i (Some bytes) None ne ∙ before.2);
   }
 
-  remarks_with : (c o : ℕ) (p : SizedAreaMeaning) (b : Bool) → c < 12 → o < MOST_CHUNKS
+  -- a mark is set or cleared
+  pub remarks_with : (c o : ℕ) (p : SizedAreaMeaning) (b : Bool) → c < 12 → o < MOST_CHUNKS
       → (b ≡ true → IsFullArea p) → (b ≡ false → HasFree p) → Remarks full (marks_with full c o b) c o p
   remarks_with c o p b l small filled free =
       let many = is.full_len in

@@ -86,7 +86,7 @@ module _ {v : Version} {quota : ℕ} {ids : List SegmentId} {origin : Origin} {s
     pub gives : shelf_of v quota ids origin starts (set sized_areas k p) ≡ with_put s (e - 5) i x b
     pub valid_shelf : IsValidShelf (shelf_of v quota ids origin starts (set sized_areas k p))
 
-  now_put : {p : SizedAreaMeaning} {full' : List (List Bool)} (x : Option (List ℕ)) (b : Bool) → p ≡ area_with_chunk q j x b → IsSizedArea p → Remarks full full' (e - 5) o p → Now p full' x b
+  pub now_put : {p : SizedAreaMeaning} {full' : List (List Bool)} (x : Option (List ℕ)) (b : Bool) → p ≡ area_with_chunk q j x b → IsSizedArea p → Remarks full full' (e - 5) o p → Now p full' x b
   now_put {p} x b step valid marks =
       let step' : p ≡ area_with_chunk (get_or sized_areas k q) j x b = step ∙ ap (λ z. area_with_chunk z j x b) here in
       record {

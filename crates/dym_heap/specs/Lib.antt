@@ -17,3 +17,4 @@ pub mod SizedAreaLends
 pub mod SizedAreas
 pub mod Table
 pub mod Touches
+pub mod Undo

@@ -1,8 +1,8 @@
 //! The heap.
 ghost use Rattle.std.specs.Prelude.{◌≡◌, ℕ, ◌+◌, ◌-◌, ◌^◌, false, ◌≤◌, ◌<◌, true, false, None, Some, [], List, length, replicate, IsSome, IsTrue, MatchOption, OnErr, IfOk, IfErr, is_some, option_map};
-ghost use Rattle.std.specs.FinMap.{get, contains_key};
+ghost use Rattle.std.specs.FinMap.{get, contains_key, insert};
 ghost use Rattle.std.specs.FinSet as FinSet;
-ghost use Rattle.dym_base.specs.HeapStep.{key};
+ghost use Rattle.dym_base.specs.HeapStep.{key, without_chunk};
 ghost use Rattle.dym_base.specs.Objects.{empty_heap};
 ghost use Rattle.dym_base.specs.declared.command.Version.TheVariants.{One};
 ghost use Rattle.dym_base.specs.declared.command.Command.TheVariants.{Malloc, Calloc, Realloc, Free, Write, Fill, Read, Link, Follow, Sum};
@@ -13,9 +13,10 @@ ghost use Rattle.dym_pack.specs.ParsedAreas.{OfLog};
 ghost use Rattle.dym_heap.specs.RecordLoads.{HaveOneSetOfHandles, IsLoaded};
 ghost use Rattle.std.specs.Borrow.{sem};
 ghost use Rattle.dym_heap.specs.ChunkLends.{heap_lent, HasByte, check_answer};
-ghost use Rattle.dym_heap.specs.Meaning.{HeapMeaning, IsSound};
+ghost use Rattle.dym_heap.specs.Meaning.{HeapMeaning, IsSizeOf, IsSound};
 ghost use Rattle.dym_heap.specs.Fetches.{heap_chunk, marked, fetched, IsReshaped};
 ghost use Rattle.dym_heap.specs.Touches.{all_touched};
+ghost use Rattle.dym_heap.specs.Undo.{with_chunk_back, without_touch};
 ghost use Rattle.dym_heap.specs.Replies.{step_of, stepped, done_reply, chunk_reply, moved_reply, bytes_reply, found_reply, total_reply, after_key, IsNextLive};
 
 use crate::byte_sum::sum_bytes;
@@ -23,6 +24,7 @@ use crate::chunk::{
     bytes_of_handle, check_chunk, fill_chunk, find_number, free_handle, len_of_handle, move_chunk,
     resize_chunk, write_chunk,
 };
+use crate::chunk_undo::{forget_chunk, put_chunk_back, take_chunk_away};
 use crate::found::Found;
 use crate::fresh_chunk::take_fresh;
 use crate::live_walk::next_from;
@@ -486,6 +488,42 @@ impl<S: Supply> Heap<S> {
         ensures sound { IsSound self.new }
     {
         fetch_record(&mut self.shelf, rec);
+    }
+
+    /// The chunk is dead, whether it was live or not. Areas that are then empty at the end of its
+    /// class are given back.
+    pub fn take_away(&mut self, context: &S::Context, h: Handle)
+        ensures after { self.new ≡ record self.old {
+          state = without_chunk self.old.state (key h);
+          held_ids = self.new.held_ids;
+        } }
+        ensures sound { IsSound self.new }
+    {
+        take_chunk_away(&mut self.shelf, context, h);
+    }
+
+    /// The chunk is live with these bytes, and not touched, whether it was live or not.
+    pub fn put_back(&mut self, context: &S::Context, h: Handle, bytes: &[u8])
+        requires least { LEAST_EXPONENT ≤ h.exp }
+        requires most { h.exp ≤ GREATEST_EXPONENT }
+        requires sized { IsSizeOf self.old.version h.exp (length bytes.now) }
+        requires within { held (insert self.old.state.live (key h) bytes.now) ≤ self.old.quota }
+        ensures after { self.new ≡ record self.old {
+          state = with_chunk_back self.old.state (key h) bytes.now;
+          held_ids = self.new.held_ids;
+        } }
+        ensures sound { IsSound self.new }
+    {
+        put_chunk_back(&mut self.shelf, context, h, bytes);
+    }
+
+    /// The chunk isn't touched any more.
+    pub fn forget(&mut self, h: Handle)
+        ensures after { self.new
+            ≡ record self.old { state = without_touch self.old.state (key h) } }
+        ensures sound { IsSound self.new }
+    {
+        forget_chunk(&mut self.shelf, h);
     }
 
     /// Whether nothing is touched. Where the answer is no, no clause tells that something is.

@@ -15,6 +15,7 @@ mod byte_sum;
 mod chunk;
 mod chunk_load;
 mod chunk_location;
+mod chunk_undo;
 mod command_run;
 mod found;
 mod fresh_chunk;

@@ -370,6 +370,41 @@ impl<S: Supply> Shelf<S> {
         true
     }
 
+    /// A chunk of an area that is there, in use or free, is in use with these bytes, and isn't
+    /// touched.
+    pub(crate) fn put_back(&mut self, exp: u8, index: u32, bytes: &[u8])
+        requires least { LEAST_EXPONENT ≤ exp }
+        requires most { exp ≤ GREATEST_EXPONENT }
+        requires there { index < length (row_at self.old.rows (row_index exp)).chunks }
+        requires sized { IsSizeOf self.old.version exp (length bytes.now) }
+        ensures back { self.new
+            ≡ with_put self.old (row_index exp) index (Some bytes.now) false }
+        ensures valid_shelf { IsValidShelf self.new }
+    {
+        let Some(location) = find(&self.starts, exp, index) else {
+            unreachable!();
+        };
+        let sized_area = &mut self.sized_areas[location.sized_area];
+        sized_area.put_back(location.chunk, bytes);
+        let is_full = sized_area.is_full();
+        set_mark(&mut self.full, class_index(exp), location.ordinal, is_full);
+    }
+
+    /// The chunk isn't touched any more.
+    pub(crate) fn forget(&mut self, exp: u8, index: u32)
+        requires least { LEAST_EXPONENT ≤ exp }
+        requires most { exp ≤ GREATEST_EXPONENT }
+        ensures forgotten { self.new ≡ with_put self.old (row_index exp) index
+            (chunk_at self.old.rows (row_index exp) index) false }
+        ensures valid_shelf { IsValidShelf self.new }
+    {
+        let Some(location) = find(&self.starts, exp, index) else {
+            return;
+        };
+        let sized_area = &mut self.sized_areas[location.sized_area];
+        sized_area.forget(location.chunk);
+    }
+
     /// Copies the chunk's bytes from place `at` on into `out`.
     pub(crate) fn read(&self, exp: u8, index: u32, at: u32, out: &mut [u8])
         requires least { LEAST_EXPONENT ≤ exp }

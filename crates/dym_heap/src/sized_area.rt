@@ -238,6 +238,17 @@ impl<G: Segment> SizedArea<G> {
         self.area.release(i);
     }
 
+    /// Chunk `i`, which was in use or free, is in use with these bytes, and isn't touched.
+    pub(crate) fn put_back(&mut self, i: u32, bytes: &[u8])
+        requires within { i < length self.old.chunks }
+        requires sized { IsSizeOf self.old.version self.old.exponent (length bytes.now) }
+        ensures back { self.new ≡ area_with_chunk self.old i (Some bytes.now) false }
+        ensures valid { IsSizedArea self.new }
+    {
+        self.area.put_back(i, bytes);
+        note(&mut self.lengths, i, bytes.len() as u32);
+    }
+
     /// Copies the bytes of chunk `i` from its place `at` on into `out`.
     pub(crate) fn read(&self, i: u32, at: u32, out: &mut [u8])
         requires { FitsIn (slice_index_or self.now.chunks i None) (at + length out.old) }
@@ -344,6 +355,16 @@ impl<G: Segment> SizedArea<G> {
         ensures valid { IsSizedArea self.new }
     {
         self.area.clear_dirty();
+    }
+
+    /// Chunk `i` isn't touched any more.
+    pub(crate) fn forget(&mut self, i: u32)
+        requires { i < length self.old.chunks }
+        ensures forgotten { self.new
+            ≡ area_with_chunk self.old i (slice_index_or self.old.chunks i None) false }
+        ensures valid { IsSizedArea self.new }
+    {
+        self.area.clear_dirty_at(i);
     }
 
     /// Each chunk in use is touched.

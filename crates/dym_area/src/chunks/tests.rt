@@ -42,6 +42,38 @@ fn give(area: &mut Area<VecSegment>, i: u32)
     }
 }
 
+// Puts a chunk back, and answers its first bytes and whether it is dirty.
+fn restore(area: &mut Area<VecSegment>, i: u32, bytes: [u8; 4]) -> Option<([u8; 4], bool)>
+    requires { IsValidArea area.old }
+    ensures { IsValidArea area.new }
+{
+    let mut front = [9; 4];
+    if i < per_area(area.exp()) && size_of_class(area.exp()) >= 4 {
+        area.put_back(i, &bytes);
+    }
+    if i < per_area(area.exp()) && area.is_used(i) && size_of_class(area.exp()) >= 4 {
+        area.read(i, 0, &mut front);
+        return Some((front, area.is_dirty(i)));
+    }
+    None
+}
+
+// Whether a chunk is dirty before and after it is marked as clean.
+fn clean(area: &mut Area<VecSegment>, i: u32) -> Option<(bool, bool)>
+    requires { IsValidArea area.old }
+    ensures { IsValidArea area.new }
+{
+    if i >= per_area(area.exp()) {
+        return None;
+    }
+    let before = area.is_dirty(i);
+    area.clear_dirty_at(i);
+    if i >= per_area(area.exp()) {
+        return None;
+    }
+    Some((before, area.is_dirty(i)))
+}
+
 fn walk(rt: &impl Abort, exp: u8, seg: VecSegment)
     requires least { 5 ≤ exp }
     requires greatest { exp ≤ 16 }
@@ -62,6 +94,15 @@ fn walk(rt: &impl Abort, exp: u8, seg: VecSegment)
     assert_eq!(rt; area.take_first(), Some(middle));
     assert_eq!(rt; last_bytes(&area, middle), Some([0; 4]));
     assert_eq!(rt; (area.take_first(), area.top()), (None, Some(last)));
+    give(&mut area, middle);
+    assert_eq!(rt;
+        restore(&mut area, middle, [7, 6, 5, 4]),
+        Some(([7, 6, 5, 4], false))
+    );
+    assert_eq!(rt; restore(&mut area, last, [3; 4]), Some(([3; 4], false)));
+    assert_eq!(rt; area.take_first(), None);
+    put(&mut area, last, [1, 2, 3, 4]);
+    assert_eq!(rt; clean(&mut area, last), Some((true, false)));
     let _segment = area.into_segment();
 }
 

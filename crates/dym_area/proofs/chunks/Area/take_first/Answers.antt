@@ -1,10 +1,10 @@
-use Rattle.std.proofs.Common.{◌≡◌, ℕ, ◌+◌, ◌*◌, ◌<◌, ◌≤◌, length, ap, sym, subst, rules, arith}
+use Rattle.std.proofs.Common.{◌≡◌, ◌+◌, ◌*◌, ◌<◌, ◌≤◌, length, ap, sym, subst, rules, arith}
 use Rattle.dym_base.specs.Numbers.{size, per}
-use Rattle.dym_area.specs.Area.{AreaMeaning, AreFilled}
+use Rattle.dym_area.specs.Area.{AreFilled}
 use Rattle.dym_bits.specs.Bits.{IsSet}
 use Rattle.dym_area.proofs.Classes.{index_seen, bit_seen, chunk_seen}
 use Rattle.dym_area.proofs.Reach.{filled_taken}
-use Rattle.dym_area.proofs.Taken.{set_below, used_below_taken, dirty_used_taken}
+use Rattle.dym_area.proofs.Taken.{used_below_taken, dirty_used_taken}
 use Rattle.dym_area.proofs.chunks.Area.take_first.Goals as goal
 
 pub set-requires : goal.set-requires
@@ -21,12 +21,6 @@ zero-requires g c = chunk_seen c.self.view_is c.self.invariant.valid c.in_ok-i.i
 
 pub after_take-self-inside-requires-clause-within : goal.after_take-self-inside-requires-clause-within
 after_take-self-inside-requires-clause-within g c = bit_seen c.self.view_is c.self.invariant.valid c.in_ok-i.i c.in_ok-i.ensures.below
-
-pub after_take-self-inside-requires-clause-below : goal.after_take-self-inside-requires-clause-below
-after_take-self-inside-requires-clause-below g c k most =
-    let below : (k : ℕ) → k < c.in_ok-i.i → IsSet c.self.inside.used k = λ k lt. subst (λ (a : AreaMeaning). IsSet a.used k) (sym c.self.view_is) (c.in_ok-i.ensures.least k lt) in
-    let within : c.in_ok-i.i < length c.self.inside.used = omega (arith, bit_seen c.self.view_is c.self.invariant.valid c.in_ok-i.i c.in_ok-i.ensures.below, c.self.invariant.valid.used_len) in
-    subst (λ bits. IsSet bits k) (sym c.set.ensures.after) (set_below c.self.inside.used c.in_ok-i.i within below k (omega (arith, most)))
 
 pub invariant_of-self : goal.invariant_of-self
 invariant_of-self g c =
