@@ -1,2 +1,4 @@
 pub mod InOrder
 pub mod Outgoing
+pub mod Runs
+pub mod Steps

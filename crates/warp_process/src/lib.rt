@@ -4,7 +4,9 @@
 mod places;
 mod posts;
 mod process;
+mod run;
 mod saver;
 
-pub use process::Process;
+pub use process::{Process, TakeError};
+pub use run::RunError;
 pub use saver::StateSaver;
