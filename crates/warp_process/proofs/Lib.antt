@@ -2,3 +2,5 @@ pub mod InOrder
 pub mod Outgoing
 pub mod Runs
 pub mod Steps
+pub mod Taking
+pub mod Catching

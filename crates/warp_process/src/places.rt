@@ -1,5 +1,5 @@
 //! Places in lists of events.
-ghost use Rattle.std.specs.Prelude.{◌≡◌, ◌≤◌, false, Some, IfSome, IfNone, slice_get, length, take, drop};
+ghost use Rattle.std.specs.Prelude.{◌≡◌, ◌≤◌, ◌↔◌, IsTrue, false, Some, IfSome, IfNone, slice_get, length, take, drop};
 ghost use Rattle.warp_base.specs.Events.{Each, precedes, copies, IsBefore, IsInOrder};
 
 use warp_base::{Event, Payload};
@@ -25,4 +25,14 @@ pub(crate) fn find_copy<P: Payload>(events: &[Event<P>], event: &Event<P>) -> Op
         }
     }
     None
+}
+
+/// Whether this very event stands at a place.
+pub(crate) fn is_at<P: Payload>(events: &[Event<P>], place: usize, event: &Event<P>) -> bool
+    ensures { IsTrue result ↔ (slice_get events.now place ≡ Some event.now) }
+{
+    match events.get(place) {
+        Some(other) => other.is_same(event),
+        None => false,
+    }
 }

@@ -1,11 +1,12 @@
 //! A logical process.
-ghost use Rattle.std.specs.Prelude.{◌≡◌, ℕ, ◌+◌, ◌^◌, ◌<◌, ◌≤◌, ◌↔◌, List, [], length, drop, IsTrue, OnOk, OnErr, IfOk, IfSome, Some, slice_get};
+ghost use Rattle.std.specs.Prelude.{◌≡◌, ℕ, ◌+◌, ◌^◌, ◌<◌, ◌≤◌, ◌↔◌, List, [], length, drop, IsTrue, OnOk, OnErr, Err, IfOk, IfSome, Some, slice_get};
 ghost use Rattle.warp_base.specs.Events.{AreFrom};
 ghost use Rattle.warp_base.specs.Messages.{event_of};
 ghost use Rattle.warp_base.specs.Histories.{Behaviour};
+ghost use Rattle.warp_process.specs.declared.process.TakeError.TheVariants.{Committed};
 ghost use Rattle.warp_process.specs.Processes.{face, bound_of, IsProcess, IsSomeProcess, Stays, HasPosted, HasTaken, HasTakenBack, HasTakenMessage};
 
-use crate::places::{find_copy, find_place};
+use crate::places::{find_copy, find_place, is_at};
 use crate::posts::{drop_first, post, take_back};
 use crate::saver::StateSaver;
 use std::alloc::{AllocError, Global};
@@ -88,5 +89,84 @@ impl<P: Payload, K: StateSaver> Process<P, K> {
             .forget(self.first_date + self.fossils.len() as u64 + keep as u64);
         self.is_stale = true;
         Ok(())
+    }
+
+    /// Takes an event: it is put in its place, and what was run from there on is undone; or, where
+    /// its anti-message came first, both are gone.
+    fn take_event(&mut self, event: Event<P>, out: &mut Vec<Message<P>>) -> Result<(), AllocError>
+        requires process { IsSomeProcess P.words (face K.state K.copies self.old) }
+        requires own { event.receiver ≡ self.old.number }
+        requires late { bound_of self.old.last ≤ event.time }
+        ensures kept { Stays P.words (face K.state K.copies self.old) (face K.state K.copies self.new) }
+        ensures taken { OnOk result (HasTaken P.words event (face K.state K.copies self.old) (face K.state K.copies self.new)) }
+        ensures posted { OnOk result (HasPosted P.words event.time self.old.sent.items self.new.sent.items out.old.items out.new.items) }
+        ensures unposted { OnErr result (out.new.items ≡ out.old.items) }
+        ensures unchanged { OnErr result (face K.state K.copies self.new ≡ face K.state K.copies self.old) }
+        ensures last { self.new.last ≡ self.old.last }
+        ensures number { self.new.number ≡ self.old.number }
+    {
+        if let Some(place) = find_copy(&self.early, &event) {
+            self.early.remove(place);
+            return Ok(());
+        }
+        let place = find_place(&self.events, &event);
+        self.events.reserve(1)?;
+        self.roll_back(place, out)?;
+        match self.events.insert(place, event) {
+            Ok(()) => Ok(()),
+            Err(_) => unreachable!(),
+        }
+    }
+
+    /// Takes an anti-message: its event is gone, and what was run from its place on is undone; or,
+    /// where the event hasn't come, the anti-message waits for it.
+    fn take_anti(&mut self, event: Event<P>, out: &mut Vec<Message<P>>) -> Result<(), AllocError>
+        requires process { IsSomeProcess P.words (face K.state K.copies self.old) }
+        requires late { bound_of self.old.last ≤ event.time }
+        ensures kept { Stays P.words (face K.state K.copies self.old) (face K.state K.copies self.new) }
+        ensures taken { OnOk result (HasTakenBack P.words event (face K.state K.copies self.old) (face K.state K.copies self.new)) }
+        ensures posted { OnOk result (HasPosted P.words event.time self.old.sent.items self.new.sent.items out.old.items out.new.items) }
+        ensures unposted { OnErr result (out.new.items ≡ out.old.items) }
+        ensures unchanged { OnErr result (face K.state K.copies self.new ≡ face K.state K.copies self.old) }
+        ensures last { self.new.last ≡ self.old.last }
+        ensures number { self.new.number ≡ self.old.number }
+    {
+        let place = find_place(&self.events, &event);
+        if !is_at(&self.events, place, &event) {
+            self.early.push(event)?;
+            return Ok(());
+        }
+        self.roll_back(place, out)?;
+        self.events.remove(place);
+        Ok(())
+    }
+
+    /// Takes a message. An event goes to its place, and what was run from there on is undone; an
+    /// anti-message takes its event away again, whichever of the two comes first.
+    ///
+    /// An error leaves the process as it was, and puts nothing out.
+    pub fn take(&mut self, message: Message<P>, out: &mut Vec<Message<P>>) -> Result<(), TakeError>
+        requires process { IsSomeProcess P.words (face K.state K.copies self.old) }
+        requires own { (event_of message).receiver ≡ self.old.number }
+        ensures kept { Stays P.words (face K.state K.copies self.old) (face K.state K.copies self.new) }
+        ensures taken { OnOk result (HasTakenMessage P.words message (face K.state K.copies self.old) (face K.state K.copies self.new)) }
+        ensures posted { OnOk result (HasPosted P.words (event_of message).time self.old.sent.items self.new.sent.items out.old.items out.new.items) }
+        ensures committed { (result ≡ Err Committed) ↔ ((event_of message).time < bound_of self.old.last) }
+        ensures unposted { OnErr result (out.new.items ≡ out.old.items) }
+        ensures unchanged { OnErr result (face K.state K.copies self.new ≡ face K.state K.copies self.old) }
+        ensures last { self.new.last ≡ self.old.last }
+        ensures number { self.new.number ≡ self.old.number }
+    {
+        if self.is_committed(message.event().time) {
+            return Err(TakeError::Committed);
+        }
+        let taken = match message {
+            Message::Event(event) => self.take_event(event, out),
+            Message::Anti(event) => self.take_anti(event, out),
+        };
+        match taken {
+            Ok(()) => Ok(()),
+            Err(AllocError) => Err(TakeError::Memory),
+        }
     }
 }

@@ -1,8 +1,8 @@
 //! Running events.
 ghost use Rattle.std.specs.Prelude.{◌≡◌, ℕ, ◌+◌, ◌^◌, ◌<◌, ◌≤◌, ◌↔◌, ◌++◌, List, length, take, false, OnOk, OnErr, IfOk, IfErr, Some, slice_get, drop};
 ghost use Rattle.warp_base.specs.declared.event.Event.{Event};
-ghost use Rattle.warp_base.specs.Histories.{Behaviour, LooksAhead, state_after, stamped};
-ghost use Rattle.warp_process.specs.Processes.{face, done_of, IsProcess, HasPosted};
+ghost use Rattle.warp_base.specs.Histories.{Behaviour, state_from};
+ghost use Rattle.warp_process.specs.Processes.{face, IsProcess};
 
 use crate::posts::post;
 use crate::process::Process;
@@ -19,20 +19,49 @@ pub enum RunError {
     Counts,
 }
 
+/// Runs events on a saver's state, without sending anything (coast forward).
+fn replay<P: Payload, K: StateSaver, M: Simulation<Payload = P, State = K::State>>(
+    alloc: Global,
+    model: &M,
+    number: u32,
+    events: &[Event<P>],
+    saver: &mut K,
+) -> Result<(), AllocError>
+    ensures state { OnOk result (K.state saver.new
+        ≡ state_from (M.behaviour model.now) number (K.state saver.old) events.now) }
+    ensures copies { K.copies saver.new ≡ K.copies saver.old }
+{
+    for event in events {
+        let mut unsent = Vec::new(alloc);
+        saver.run(alloc, model, number, event, &mut unsent)?;
+    }
+    Ok(())
+}
+
 impl<P: Payload, K: StateSaver> Process<P, K> {
-    /// The event of a date, of those that a replay may need.
-    fn event_at(&self, date: u64) -> &Event<P>
-        requires kept { self.now.first_date ≤ date }
-        requires within { date < self.now.first_date + length self.now.fossils.items + length self.now.events.items }
-        ensures { (past : List (Event P)) → self.now.first_date + length self.now.fossils.items ≡ length past
-            → self.now.fossils.items ≡ drop self.now.first_date past
-            → slice_get (past ++ self.now.events.items) date ≡ Some result.now }
+    /// Brings a stale state forward: returns to the newest copy, and runs the events from there on
+    /// once more.
+    fn catch_up<M: Simulation<Payload = P, State = K::State>>(
+        &mut self,
+        alloc: Global,
+        model: &M,
+    ) -> Result<(), AllocError>
+        requires process { (past : List (Event P)) × IsProcess P.words (M.behaviour model.now) past (face K.state K.copies self.old) }
+        ensures kept { (past : List (Event P)) → IsProcess P.words (M.behaviour model.now) past (face K.state K.copies self.old)
+            → IsProcess P.words (M.behaviour model.now) past (face K.state K.copies self.new) }
+        ensures fresh { OnOk result (self.new.is_stale ≡ false) }
+        ensures rest { self.new ≡ record self.old { saver = self.new.saver; is_stale = self.new.is_stale } }
     {
-        let place = (date - self.first_date) as usize;
-        if place < self.fossils.len() {
-            &self.fossils[place]
-        } else {
-            &self.events[place - self.fossils.len()]
+        if !self.is_stale {
+            return Ok(());
         }
+        let newest = self.saver.restore(alloc)?;
+        let skipped = (newest - self.first_date) as usize;
+        let committed = skipped.min(self.fossils.len());
+        replay(alloc, model, self.number, &self.fossils[committed..], &mut self.saver)?;
+        let since = &self.events[skipped - committed..self.marks.len()];
+        replay(alloc, model, self.number, since, &mut self.saver)?;
+        self.is_stale = false;
+        Ok(())
     }
 }
