@@ -1,6 +1,6 @@
 -- A stale state is brought forward: from the newest copy on, the events are run once more.
-use Rattle.std.proofs.Common.{◌≡◌, ℕ, zero, suc, ◌+◌, ◌-◌, ◌^◌, ◌<◌, ◌≤◌, ◌⊎◌, inl, inr, Bool, false, List, [], ◌∷◌, ◌++◌, length, take, drop, refl, ap, sym, subst, ◌∙◌, arith, append_assoc, length-append}
-use Rattle.std.proofs.lemmas.List.{take-append-drop, length-drop, length-take-le}
+use Rattle.std.proofs.Common.{◌≡◌, ℕ, zero, suc, ◌+◌, ◌-◌, ◌^◌, ◌<◌, ◌≤◌, ◌⊎◌, inl, inr, min, Bool, false, List, [], ◌∷◌, ◌++◌, length, take, drop, refl, ap, sym, subst, ◌∙◌, arith, append_assoc, length-append}
+use Rattle.std.proofs.lemmas.List.{take-append-drop, take_all, length-drop, drop-take, length-take-le}
 use Rattle.std.proofs.lemmas.Bool.{cases_lt}
 use Rattle.warp_base.specs.declared.event.Event.{Event}
 use Rattle.warp_base.specs.Events.{Each}
@@ -25,10 +25,11 @@ drop_more (suc m) (suc j) [] = ap (λ n. drop n []) (let e : suc (m + suc j) ≡
 drop_more (suc m) j (x ∷ xs) = drop_more m j xs ∙ ap (λ n. drop n (x ∷ xs)) (let e : suc (m + j) ≡ suc m + j = omega arith in e)
 
 newest_late : {S : Type 0} (cs older later : List (ℕ × S)) (first newest : ℕ) (s t : S) → AreAscending cs → cs ≡ (first, t) ∷ later → cs ≡ older ++ (newest, s) ∷ [] → first ≤ newest
-newest_late cs [] later first newest s t h begin end =
+newest_late {S} cs [] later first newest s t h begin end =
     let heads : (first, t) ∷ later ≡ (newest, s) ∷ [] = sym begin ∙ end in
-    let same : first ≡ newest = cc in
-    omega (arith, same)
+    let same : (first, t) ≡ (newest, s) = cc in
+    let dates = ap (λ (d : ℕ × S). d.0) same in
+    omega (arith, dates)
 newest_late {S} cs (c ∷ older) later first newest s t h begin end =
     let up = subst AreAscending end h in
     let less = Each-back (λ (d : ℕ × S). c.0 < d.0) older ((newest, s) ∷ []) up.0 in
@@ -79,8 +80,8 @@ module _ {P S : Type 0} (words : P → List ℕ) (b : Behaviour P S) (past : Lis
       ap (λ t. state_from b p (state_from b p t (drop committed f.fossils)) (drop rest ran)) copy.1 ∙ sym (state_from-append b p (state_after b p (take newest done)) (drop committed f.fossils) (drop rest ran)) ∙ ap (state_from b p (state_after b p (take newest done))) (sym split) ∙ sym (state_after-append b p (take newest done) (drop newest done)) ∙ ap (state_after b p) (take-append-drop newest done)
 
   -- another state, which is stale or the right one
-  pub with_state : (new_state : S) (stale : Bool) → (stale ≡ false → new_state ≡ state_after b f.number (done_of past f)) → IsProcess words b past (record f { state = new_state; is_stale = stale })
-  with_state new_state stale is = record {
+  pub with_state : (new_state : S) (stale : Bool) (new_copies : List (ℕ × S)) → new_copies ≡ f.copies → (stale ≡ false → new_state ≡ state_after b f.number (done_of past f)) → IsProcess words b past (record f { state = new_state; is_stale = stale; copies = new_copies })
+  with_state new_state stale new_copies same is = record {
     in_order = h.in_order;
     own = h.own;
     committed = h.committed;
@@ -92,8 +93,22 @@ module _ {P S : Type 0} (words : P → List ℕ) (b : Behaviour P S) (past : Lis
     fossils = h.fossils;
     dates = h.dates;
     counted = h.counted;
-    ascending = h.ascending;
-    kept = h.kept;
-    oldest = h.oldest;
+    ascending = subst AreAscending (sym same) h.ascending;
+    kept = subst (Each (IsCopy b f.number (done_of past f))) (sym same) h.kept;
+    oldest = (h.oldest.0, h.oldest.1, same ∙ h.oldest.2);
     state = is;
   }
+
+-- the events behind the first ones, of those that are run
+pub ran_behind : {X : Type 0} (rest ran : ℕ) (xs : List X) → rest ≤ ran → take (ran - rest) (drop rest xs) ≡ drop rest (take ran xs)
+ran_behind rest ran xs few = sym (drop-take rest (ran - rest) xs) ∙ ap (λ n. drop rest (take n xs)) (let e : rest + (ran - rest) ≡ ran = omega (arith, few) in e)
+
+pub least_is : (m k n : ℕ) → m ≡ min k n → (m ≤ k) × (m ≤ n) × ((m ≡ k) ⊎ (m ≡ n))
+least_is m k n is =
+    elim (cases_lt k n) as (λ _. (m ≤ k) × (m ≤ n) × ((m ≡ k) ⊎ (m ≡ n))) [
+      | inl less ↦ (omega (arith, is), omega (arith, is), inl (omega (arith, is, less)))
+      | inr more ↦ (omega (arith, is), omega (arith, is), inr (omega (arith, is, more)))
+    ]
+
+pub rest_all : {X : Type 0} (k : ℕ) (xs : List X) → take (length xs - k) (drop k xs) ≡ drop k xs
+rest_all k xs = take_all (length xs - k) (drop k xs) (let few = length-drop k xs in omega (arith, few))
