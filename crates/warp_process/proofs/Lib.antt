@@ -1,0 +1,6 @@
+pub mod InOrder
+pub mod Outgoing
+pub mod Runs
+pub mod Steps
+pub mod Taking
+pub mod Catching

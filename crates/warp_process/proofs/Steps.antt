@@ -1,0 +1,121 @@
+-- Each step keeps that a process is one.
+use Rattle.std.proofs.Common.{◌≡◌, ℕ, zero, suc, ◌+◌, ◌-◌, ◌^◌, ◌<◌, ◌≤◌, inl, inr, Bool, true, false, nat_le, List, [], ◌∷◌, ◌++◌, length, take, drop, get_or, Some, None, slice_get, map, refl, ap, sym, subst, ◌∙◌, arith, append_assoc, length-append}
+use Rattle.std.proofs.lemmas.List.{take-append-drop, take-append-le, length-take-le, append_cancel_left}
+use Rattle.std.proofs.lemmas.Bool.{cases_Bool, le-leb, leb-true}
+use Rattle.std.specs.List.{filter, insert, remove}
+use Rattle.std.proofs.Math.Seq.{take_at}
+use Rattle.warp_base.specs.declared.event.Event.{Event}
+use Rattle.warp_base.specs.declared.event.Message.{Message}
+use Rattle.warp_base.specs.declared.event.Message.TheVariants as Variants
+use Rattle.warp_base.specs.Events.{Each, copies, IsInOrder, AreFor, AreFrom}
+use Rattle.warp_base.specs.Histories.{Behaviour, LooksAhead, state_from, state_after, sent_from, all_sent}
+use Rattle.warp_base.proofs.Lists.{filter_yes, filter_no, Each-filter}
+use Rattle.warp_process.specs.Savers.{until, AreAscending}
+use Rattle.warp_process.specs.Processes.{ProcessFace, IsProcess, IsRun, IsCopy, done_of, HasPosted}
+use Rattle.warp_process.proofs.Runs.{take_less, Each-drop_take, sent_from_later, back_of, run_back}
+use Rattle.warp_process.proofs.Outgoing.{taken_back}
+
+module _ {S : Type 0} where
+  until_ascending : (date : ℕ) (cs : List (ℕ × S)) → AreAscending cs → AreAscending (until date cs)
+  until_ascending date [] h = tt
+  until_ascending date (c ∷ cs) h =
+      elim (cases_Bool (nat_le c.0 date)) as (λ _. AreAscending (until date (c ∷ cs))) [
+        | inl holds ↦ rw (filter_yes (λ (d : ℕ × S). nat_le d.0 date) c cs holds) (Each-filter (λ (d : ℕ × S). nat_le d.0 date) (λ (d : ℕ × S). c.0 < d.0) cs h.0, until_ascending date cs h.1)
+        | inr fails ↦ rw (filter_no (λ (d : ℕ × S). nat_le d.0 date) c cs fails) (until_ascending date cs h.1)
+      ]
+
+  Each-until : (Q R : ℕ × S → Type 0) (date : ℕ) (cs : List (ℕ × S)) → ((c : ℕ × S) → c.0 ≤ date → Q c → R c) → Each Q cs → Each R (until date cs)
+  Each-until Q R date [] tells h = tt
+  Each-until Q R date (c ∷ cs) tells h =
+      elim (cases_Bool (nat_le c.0 date)) as (λ _. Each R (until date (c ∷ cs))) [
+        | inl holds ↦ rw (filter_yes (λ (d : ℕ × S). nat_le d.0 date) c cs holds) (tells c (leb-true c.0 date holds) h.0, Each-until Q R date cs tells h.1)
+        | inr fails ↦ rw (filter_no (λ (d : ℕ × S). nat_le d.0 date) c cs fails) (Each-until Q R date cs tells h.1)
+      ]
+
+module _ {P S : Type 0} (words : P → List ℕ) (b : Behaviour P S) (past : List (Event P)) (f : ProcessFace P S) (h : IsProcess words b past f) where
+  pub length-done : length (done_of past f) ≡ length past + length f.marks
+  length-done =
+      let all = length-append past (take (length f.marks) f.events) in
+      let few = length-take-le (length f.marks) f.events h.ran_within in
+      omega (arith, all, few)
+
+  -- what a rollback reckons with stays in bounds
+  pub record BackBounds (keep m : ℕ) : Type 0 where
+    pub few : m ≤ f.serial
+    pub many : f.serial ≤ m + length f.sent
+    pub date : f.first_date + length f.fossils + keep < 2 ^ 64
+
+  pub back_bounds : (keep m : ℕ) → keep < length f.marks → slice_get f.marks keep ≡ Some m → BackBounds keep m
+  back_bounds keep m less there =
+      let back = back_of b f.number (length (all_sent b f.number past)) (state_after b f.number past) f.events f.marks f.sent f.serial h.run keep m less there in
+      let whole = ap length back.whole ∙ length-append back.front back.back in
+      let mark_is = back.mark_is in
+      let total = h.run.total in
+      let counted = h.counted in
+      let done = length-done in
+      let dates = h.dates in
+      record {
+        few = omega (arith, whole, mark_is, total);
+        many = omega (arith, whole, mark_is, total);
+        date = omega (arith, counted, done, dates, less);
+      }
+
+  pub back_to : (keep first m date : ℕ) (new_state : S) (new_marks : List ℕ) (new_sent : List (Event P)) (new_copies : List (ℕ × S)) → keep < length f.marks → slice_get f.marks keep ≡ Some m → first + f.serial ≡ length f.sent + m → date ≡ f.first_date + length f.fossils + keep → new_marks ≡ take keep f.marks → new_sent ≡ take first f.sent → new_copies ≡ until date f.copies → IsProcess words b past (record f { marks = new_marks; sent = new_sent; serial = m; copies = new_copies; is_stale = true; state = new_state })
+  back_to keep first m date new_state new_marks new_sent new_copies less there split date_is marks_are sent_is copies_are =
+      let n = length (all_sent b f.number past) in
+      let s = state_after b f.number past in
+      let back = back_of b f.number n s f.events f.marks f.sent f.serial h.run keep m less there in
+      let whole = ap length back.whole ∙ length-append back.front back.back in
+      let mark_is = back.mark_is in
+      let total = h.run.total in
+      let first_is : first ≡ length back.front = omega (arith, whole, mark_is, total, split) in
+      let front_is : new_sent ≡ back.front = sent_is ∙ ap (take first) back.whole ∙ take_at back.front back.back first (sym first_is) in
+      let run = run_back b f.number n s f.events f.marks f.sent f.serial h.run keep m new_sent less there (front_is ∙ back.is_front) in
+      let count : length new_marks ≡ keep = ap length marks_are ∙ length-take-le keep f.marks (omega (arith, less)) in
+      let ran = take (length f.marks) f.events in
+      let done' = past ++ take keep f.events in
+      let few = take_less keep (length f.marks) f.events (omega (arith, less)) in
+      let done_is : done_of past f ≡ done' ++ drop keep ran = ap (λ l. past ++ l) (sym (take-append-drop keep ran)) ∙ sym (append_assoc past (take keep ran) (drop keep ran)) ∙ ap (λ l. (past ++ l) ++ drop keep ran) few in
+      let now_is : done' ≡ past ++ take (length new_marks) f.events = ap (λ j. past ++ take j f.events) (sym count) in
+      let within = h.ran_within in
+      let dates = h.dates in
+      let long : length done' ≡ length past + keep = (let all = length-append past (take keep f.events) in let part = length-take-le keep f.events (omega (arith, less, within)) in omega (arith, all, part)) in
+      let counted = h.counted in
+      let all_long = ap length done_is ∙ length-append done' (drop keep ran) in
+      let at_most : (c : ℕ × S) → c.0 ≤ date → IsCopy b f.number (done_of past f) c → IsCopy b f.number done' c = λ c soon is. (omega (arith, soon, date_is, dates, long), is.1 ∙ ap (λ l. state_after b f.number (take c.0 l)) done_is ∙ ap (state_after b f.number) (take-append-le c.0 done' (drop keep ran) (omega (arith, soon, date_is, dates, long)))) in
+      record {
+        in_order = h.in_order;
+        own = h.own;
+        committed = h.committed;
+        pending = h.pending;
+        early_from = h.early_from;
+        apart = h.apart;
+        ran_within = omega (arith, count, less, within);
+        run = rw marks_are run;
+        fossils = h.fossils;
+        dates = h.dates;
+        counted = subst (λ (l : List (Event P)). length l < 2 ^ 64) now_is (omega (arith, counted, all_long));
+        ascending = rw copies_are (until_ascending date f.copies h.ascending);
+        kept = rw copies_are (subst (λ l. Each (IsCopy b f.number l) (until date f.copies)) now_is (Each-until (IsCopy b f.number (done_of past f)) (IsCopy b f.number done') date f.copies at_most h.kept));
+        oldest = (h.oldest.0, until date h.oldest.1, copies_are ∙ ap (until date) h.oldest.2 ∙ filter_yes (λ (d : ℕ × S). nat_le d.0 date) (f.first_date, h.oldest.0) h.oldest.1 (le-leb f.first_date date (omega (arith, date_is))));
+        state = λ fresh. absurd (both fresh);
+      }
+   where
+    both : true ≡ false → ⊥
+    both against = cc
+
+  -- and what that puts out is about later events than those that are undone
+  pub posted_back : LooksAhead b → (keep first m t : ℕ) (new_sent : List (Event P)) (out new_out : List (Message P)) → keep < length f.marks → slice_get f.marks keep ≡ Some m → first + f.serial ≡ length f.sent + m → AreFrom t (drop keep f.events) → new_sent ≡ take first f.sent → new_out ≡ out ++ map Variants.Anti (drop first f.sent) → HasPosted words t f.sent new_sent out new_out
+  posted_back ahead keep first m t new_sent out new_out less there split from sent_is out_is =
+      let n = length (all_sent b f.number past) in
+      let s = state_after b f.number past in
+      let back = back_of b f.number n s f.events f.marks f.sent f.serial h.run keep m less there in
+      let whole = ap length back.whole ∙ length-append back.front back.back in
+      let mark_is = back.mark_is in
+      let total = h.run.total in
+      let first_is : first ≡ length back.front = omega (arith, whole, mark_is, total, split) in
+      let front_is : take first f.sent ≡ back.front = ap (take first) back.whole ∙ take_at back.front back.back first (sym first_is) in
+      let back_is : drop first f.sent ≡ back.back = append_cancel_left back.front (drop first f.sent) back.back (ap (λ l. l ++ drop first f.sent) (sym front_is) ∙ take-append-drop first f.sent ∙ back.whole) in
+      let ran = take (length f.marks) f.events in
+      let later = sent_from_later b f.number ahead t (n + length (sent_from b f.number n s (take keep ran))) (state_from b f.number s (take keep ran)) (drop keep ran) (Each-drop_take (λ (e : Event P). t ≤ e.time) keep (length f.marks) f.events from) in
+      taken_back words t f.sent new_sent (drop first f.sent) out new_out (sym (take-append-drop first f.sent) ∙ ap (λ l. l ++ drop first f.sent) (sym sent_is)) (subst (Each (λ (e : Event P). t < e.time)) (sym (back_is ∙ back.is_back)) later) out_is

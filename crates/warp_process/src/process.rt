@@ -1,0 +1,172 @@
+//! A logical process.
+ghost use Rattle.std.specs.Prelude.{◌≡◌, ℕ, ◌+◌, ◌^◌, ◌<◌, ◌≤◌, ◌↔◌, List, [], length, drop, IsTrue, OnOk, OnErr, Err, IfOk, IfSome, Some, slice_get};
+ghost use Rattle.warp_base.specs.Events.{AreFrom};
+ghost use Rattle.warp_base.specs.Messages.{event_of};
+ghost use Rattle.warp_base.specs.Histories.{Behaviour};
+ghost use Rattle.warp_process.specs.declared.process.TakeError.TheVariants.{Committed};
+ghost use Rattle.warp_process.specs.Processes.{face, bound_of, IsProcess, IsSomeProcess, Stays, HasPosted, HasTaken, HasTakenBack, HasTakenMessage};
+
+use crate::places::{find_copy, find_place, is_at};
+use crate::posts::{drop_first, post, take_back};
+use crate::saver::StateSaver;
+use std::alloc::{AllocError, Global};
+use warp_base::{Draft, Event, Message, Payload};
+
+/// A logical process: the events that it has taken, in order, of which the first are run, and what
+/// these sent.
+#[derive(Drop)]
+pub struct Process<P, K> {
+    pub(crate) number: u32,
+    /// Copies of the state are this many events apart, or more.
+    pub(crate) period: u64,
+    /// The last committed time.
+    pub(crate) last: Option<u64>,
+    /// Since the committed past.
+    pub(crate) events: Vec<Event<P>>,
+    /// For each event that is run, how many had been sent before it.
+    pub(crate) marks: Vec<u64>,
+    /// What the events that are run sent.
+    pub(crate) sent: Vec<Event<P>>,
+    /// How many events were sent, from the start on.
+    pub(crate) serial: u64,
+    /// Anti-messages whose event hasn't come.
+    pub(crate) early: Vec<Event<P>>,
+    /// How many events were run before the first of `fossils`.
+    pub(crate) first_date: u64,
+    /// The last committed events, which a replay from the oldest copy runs again.
+    pub(crate) fossils: Vec<Event<P>>,
+    /// Whether `saver` has another state than that after the events that are run.
+    pub(crate) is_stale: bool,
+    pub(crate) saver: K,
+}
+
+/// Why a message isn't taken. Nothing is changed then.
+#[derive(Clone, Copy, Debug, PartialEq, Eq, Drop)]
+pub enum TakeError {
+    /// Want of memory.
+    Memory,
+    /// The message's event is at or before the last committed time.
+    Committed,
+}
+
+impl<P: Payload, K: StateSaver> Process<P, K> {
+    /// Whether a time is committed.
+    fn is_committed(&self, time: u64) -> bool
+        ensures { IsTrue result ↔ (time < bound_of self.now.last) }
+    {
+        match self.last {
+            Some(last) => time <= last,
+            None => false,
+        }
+    }
+
+    /// Undoes all events that are run but the first `keep`: they are to be run again, and what
+    /// they sent is taken back (aggressive cancellation).
+    fn roll_back(&mut self, keep: usize, out: &mut Vec<Message<P>>) -> Result<(), AllocError>
+        requires process { IsSomeProcess P.words (face K.state K.copies self.old) }
+        ensures kept { Stays P.words (face K.state K.copies self.old) (face K.state K.copies self.new) }
+        ensures posted { OnOk result ((time : ℕ) → AreFrom time (drop keep self.old.events.items)
+            → HasPosted P.words time self.old.sent.items self.new.sent.items out.old.items out.new.items) }
+        ensures unposted { OnErr result (out.new.items ≡ out.old.items) }
+        ensures undone { OnOk result (length self.new.marks.items ≤ keep) }
+        ensures unchanged { OnErr result (face K.state K.copies self.new ≡ face K.state K.copies self.old) }
+        ensures events { self.new.events ≡ self.old.events }
+        ensures early { self.new.early ≡ self.old.early }
+        ensures last { self.new.last ≡ self.old.last }
+        ensures number { self.new.number ≡ self.old.number }
+    {
+        if self.marks.len() <= keep {
+            return Ok(());
+        }
+        let serial = self.marks[keep];
+        let undone = (self.serial - serial) as usize;
+        out.reserve(undone)?;
+        let first = self.sent.len() - undone;
+        take_back(&mut self.sent, first, out);
+        self.serial = serial;
+        self.marks.truncate(keep);
+        self.saver
+            .forget(self.first_date + self.fossils.len() as u64 + keep as u64);
+        self.is_stale = true;
+        Ok(())
+    }
+
+    /// Takes an event: it is put in its place, and what was run from there on is undone; or, where
+    /// its anti-message came first, both are gone.
+    fn take_event(&mut self, event: Event<P>, out: &mut Vec<Message<P>>) -> Result<(), AllocError>
+        requires process { IsSomeProcess P.words (face K.state K.copies self.old) }
+        requires own { event.receiver ≡ self.old.number }
+        requires late { bound_of self.old.last ≤ event.time }
+        ensures kept { Stays P.words (face K.state K.copies self.old) (face K.state K.copies self.new) }
+        ensures taken { OnOk result (HasTaken P.words event (face K.state K.copies self.old) (face K.state K.copies self.new)) }
+        ensures posted { OnOk result (HasPosted P.words event.time self.old.sent.items self.new.sent.items out.old.items out.new.items) }
+        ensures unposted { OnErr result (out.new.items ≡ out.old.items) }
+        ensures unchanged { OnErr result (face K.state K.copies self.new ≡ face K.state K.copies self.old) }
+        ensures last { self.new.last ≡ self.old.last }
+        ensures number { self.new.number ≡ self.old.number }
+    {
+        if let Some(place) = find_copy(&self.early, &event) {
+            self.early.remove(place);
+            return Ok(());
+        }
+        let place = find_place(&self.events, &event);
+        self.events.reserve(1)?;
+        self.roll_back(place, out)?;
+        match self.events.insert(place, event) {
+            Ok(()) => Ok(()),
+            Err(_) => unreachable!(),
+        }
+    }
+
+    /// Takes an anti-message: its event is gone, and what was run from its place on is undone; or,
+    /// where the event hasn't come, the anti-message waits for it.
+    fn take_anti(&mut self, event: Event<P>, out: &mut Vec<Message<P>>) -> Result<(), AllocError>
+        requires process { IsSomeProcess P.words (face K.state K.copies self.old) }
+        requires late { bound_of self.old.last ≤ event.time }
+        ensures kept { Stays P.words (face K.state K.copies self.old) (face K.state K.copies self.new) }
+        ensures taken { OnOk result (HasTakenBack P.words event (face K.state K.copies self.old) (face K.state K.copies self.new)) }
+        ensures posted { OnOk result (HasPosted P.words event.time self.old.sent.items self.new.sent.items out.old.items out.new.items) }
+        ensures unposted { OnErr result (out.new.items ≡ out.old.items) }
+        ensures unchanged { OnErr result (face K.state K.copies self.new ≡ face K.state K.copies self.old) }
+        ensures last { self.new.last ≡ self.old.last }
+        ensures number { self.new.number ≡ self.old.number }
+    {
+        let place = find_place(&self.events, &event);
+        if !is_at(&self.events, place, &event) {
+            self.early.push(event)?;
+            return Ok(());
+        }
+        self.roll_back(place, out)?;
+        self.events.remove(place);
+        Ok(())
+    }
+
+    /// Takes a message. An event goes to its place, and what was run from there on is undone; an
+    /// anti-message takes its event away again, whichever of the two comes first.
+    ///
+    /// An error leaves the process as it was, and puts nothing out.
+    pub fn take(&mut self, message: Message<P>, out: &mut Vec<Message<P>>) -> Result<(), TakeError>
+        requires process { IsSomeProcess P.words (face K.state K.copies self.old) }
+        requires own { (event_of message).receiver ≡ self.old.number }
+        ensures kept { Stays P.words (face K.state K.copies self.old) (face K.state K.copies self.new) }
+        ensures taken { OnOk result (HasTakenMessage P.words message (face K.state K.copies self.old) (face K.state K.copies self.new)) }
+        ensures posted { OnOk result (HasPosted P.words (event_of message).time self.old.sent.items self.new.sent.items out.old.items out.new.items) }
+        ensures committed { (result ≡ Err Committed) ↔ ((event_of message).time < bound_of self.old.last) }
+        ensures unposted { OnErr result (out.new.items ≡ out.old.items) }
+        ensures unchanged { OnErr result (face K.state K.copies self.new ≡ face K.state K.copies self.old) }
+        ensures last { self.new.last ≡ self.old.last }
+        ensures number { self.new.number ≡ self.old.number }
+    {
+        if self.is_committed(message.event().time) {
+            return Err(TakeError::Committed);
+        }
+        let taken = match message {
+            Message::Event(event) => self.take_event(event, out),
+            Message::Anti(event) => self.take_anti(event, out),
+        };
+        match taken {
+            Ok(()) => Ok(()),
+            Err(AllocError) => Err(TakeError::Memory),
+        }
+    }
+}
