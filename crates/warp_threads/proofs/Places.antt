@@ -107,11 +107,11 @@ module _ {O L : Type 0} (orders : List O) (lenders0 : List (List (O × L))) (lan
         lent = lane ∷ so_far.lent;
         split = lent_split;
         with_threads =
-          let tail : List (List (O × L)) = one_each (zip (drop count orders) so_far.lent) in
-          let put : set lenders next value ≡ take next lenders0 ++ value ∷ tail = ap (λ (l : List (List (O × L))). set l next value) here ∙ set_taken lenders0 tail next value there in
-          let rest : drop fewer orders ≡ order ∷ drop count orders = drop-cons orders fewer order few ∙ ap (λ (z : O). z ∷ drop (suc fewer) orders) (sym is) ∙ ap (λ (m : ℕ). order ∷ drop m orders) (sym falls') in
-          let all : one_each (zip (drop fewer orders) (lane ∷ so_far.lent)) ≡ ((order, lane) ∷ []) ∷ tail = ap {B = List (List (O × L))} (λ (l : List O). one_each (zip l (lane ∷ so_far.lent))) rest in
-          put ∙ ap {B = List (List (O × L))} (λ (z : List (O × L)). take next lenders0 ++ z ∷ tail) given ∙ sym (ap {B = List (List (O × L))} (λ l. take next lenders0 ++ l) all);
+            let tail : List (List (O × L)) = one_each (zip (drop count orders) so_far.lent) in
+            let put : set lenders next value ≡ take next lenders0 ++ value ∷ tail = ap (λ (l : List (List (O × L))). set l next value) here ∙ set_taken lenders0 tail next value there in
+            let rest : drop fewer orders ≡ order ∷ drop count orders = drop-cons orders fewer order few ∙ ap (λ (z : O). z ∷ drop (suc fewer) orders) (sym is) ∙ ap (λ (m : ℕ). order ∷ drop m orders) (sym falls') in
+            let all : one_each (zip (drop fewer orders) (lane ∷ so_far.lent)) ≡ ((order, lane) ∷ []) ∷ tail = ap {B = List (List (O × L))} (λ (l : List O). one_each (zip l (lane ∷ so_far.lent))) rest in
+            put ∙ ap {B = List (List (O × L))} (λ (z : List (O × L)). take next lenders0 ++ z ∷ tail) given ∙ sym (ap {B = List (List (O × L))} (λ l. take next lenders0 ++ l) all);
       }
 
 -- lanes of which those up to a place are advanced
@@ -170,15 +170,15 @@ module _ {O L : Type 0} (advances : O → L → L → Type 0) (orders : List O) 
       rest = next.1;
       was_is = was_split ∙ sym (append_assoc so_far.before (lane ∷ []) next.1);
       now_is =
-        ap (λ (l : List L). set l place new) (so_far.now_is ∙ ap (λ (l : List L). so_far.after ++ l) rest_is) ∙ ap (λ (m : ℕ). set (so_far.after ++ lane ∷ next.1) m new) (sym so_far.after_len)
+          ap (λ (l : List L). set l place new) (so_far.now_is ∙ ap (λ (l : List L). so_far.after ++ l) rest_is) ∙ ap (λ (m : ℕ). set (so_far.after ++ lane ∷ next.1) m new) (sym so_far.after_len)
           ∙ set_mid so_far.after next.1 lane new ∙ sym (append_assoc so_far.after (new ∷ []) next.1);
       before_len = omega (arith, length-append so_far.before (lane ∷ []), so_far.before_len);
       after_len = omega (arith, length-append so_far.after (new ∷ []), so_far.after_len);
       advanced =
-        let short : length so_far.before < length orders = omega (arith, so_far.before_len) in
-        let at : get_or orders (length so_far.before) order ≡ order = ap (λ (m : ℕ). get_or orders m order) so_far.before_len ∙ sym order_is in
-        subst (λ (l : List (O × L)). AllZip (λ x b. advances x.0 x.1 b) l (so_far.after ++ new ∷ [])) (sym (zip_snoc orders so_far.before order lane short at))
-            (all_zip_append (λ x b. advances x.0 x.1 b) (zip orders so_far.before) ((order, lane) ∷ []) so_far.after (new ∷ []) so_far.advanced (it, tt));
+          let short : length so_far.before < length orders = omega (arith, so_far.before_len) in
+          let at : get_or orders (length so_far.before) order ≡ order = ap (λ (m : ℕ). get_or orders m order) so_far.before_len ∙ sym order_is in
+          subst (λ (l : List (O × L)). AllZip (λ x b. advances x.0 x.1 b) l (so_far.after ++ new ∷ [])) (sym (zip_snoc orders so_far.before order lane short at))
+          (all_zip_append (λ x b. advances x.0 x.1 b) (zip orders so_far.before) ((order, lane) ∷ []) so_far.after (new ∷ []) so_far.advanced (it, tt));
     }
 
 -- lanes of which those up to a place are back
@@ -250,11 +250,11 @@ module _ {O L : Type 0} (advances : O → L → L → Type 0) (lent : List (O ×
       back_more p lane after now given it none pushed =
           let same : first_left.0 ≡ p = cc (back_one, given) in
           let threads : set lenders place after ≡ map (λ _. []) (so_far.done ++ first_left.0 ∷ []) ++ one_each first_left.1 =
-            ap (λ (l : List (List (O × L))). set l place after) lenders_are ∙ ap (λ (m : ℕ). set (map (λ _. []) so_far.done ++ (first_left.0 ∷ []) ∷ one_each first_left.1) m after) (sym at)
-            ∙ set_mid (map (λ _. []) so_far.done) (one_each first_left.1) (first_left.0 ∷ []) after
-            ∙ ap (λ (z : List (O × L)). map (λ _. []) so_far.done ++ z ∷ one_each first_left.1) none
-            ∙ sym (append_assoc (map (λ _. []) so_far.done) ([] ∷ []) (one_each first_left.1))
-            ∙ ap (λ (l : List (List (O × L))). l ++ one_each first_left.1) (sym (nones-snoc so_far.done first_left.0)) in
+          ap (λ (l : List (List (O × L))). set l place after) lenders_are ∙ ap (λ (m : ℕ). set (map (λ _. []) so_far.done ++ (first_left.0 ∷ []) ∷ one_each first_left.1) m after) (sym at)
+          ∙ set_mid (map (λ _. []) so_far.done) (one_each first_left.1) (first_left.0 ∷ []) after
+          ∙ ap (λ (z : List (O × L)). map (λ _. []) so_far.done ++ z ∷ one_each first_left.1) none
+          ∙ sym (append_assoc (map (λ _. []) so_far.done) ([] ∷ []) (one_each first_left.1))
+          ∙ ap (λ (l : List (List (O × L))). l ++ one_each first_left.1) (sym (nones-snoc so_far.done first_left.0)) in
           record {
             done = so_far.done ++ first_left.0 ∷ [];
             rest = first_left.1;
@@ -280,5 +280,5 @@ round_of {O} {L} advances orders old kept lent kept' back new n at split few her
     let R : O × L → L → Type 0 = λ x lane. advances x.0 x.1 lane in
     let behind : AllZip R (zip (drop (length kept) orders) lent) back = subst (λ (m : ℕ). AllZip R (zip (drop m orders) lent) back) at there in
     let all : AllZip R (zip orders (kept ++ lent)) (kept' ++ back) =
-      subst (λ (l : List (O × L)). AllZip R l (kept' ++ back)) (sym (zip_append orders kept lent few)) (all_zip_append R (zip orders kept) (zip (drop (length kept) orders) lent) kept' back here behind) in
+    subst (λ (l : List (O × L)). AllZip R l (kept' ++ back)) (sym (zip_append orders kept lent few)) (all_zip_append R (zip orders kept) (zip (drop (length kept) orders) lent) kept' back here behind) in
     subst (λ (l : List L). AllAdvanced advances orders l new) (sym split) (subst (λ (l : List L). AllAdvanced advances orders (kept ++ lent) l) (sym joined) all)

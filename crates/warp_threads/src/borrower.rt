@@ -98,10 +98,7 @@ fn pop<P: Drop, R: Wait>(rt: &R, queue: &LoanQueue<P>, pass: &mut LoanPass<P>) -
 }
 
 /// Advances each lane that is lent and gives it back, until nothing more will come.
-pub(crate) fn work<O: Drop, L: Lane<O> + Drop, R: Wait>(
-    rt: &R,
-    mut end: Borrower<Packet<O, L>>,
-)
+pub(crate) fn work<O: Drop, L: Lane<O> + Drop, R: Wait>(rt: &R, mut end: Borrower<Packet<O, L>>)
     requires { end ≡ [] }
 {
     for _ in rt.forever() {

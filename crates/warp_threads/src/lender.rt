@@ -35,9 +35,7 @@ impl<P> Model for Lender<P> {
 }
 
 /// The two ends of an exchange, with nothing lent.
-pub(crate) fn open_exchange<P: Drop>(
-    alloc: Global,
-) -> Result<(Lender<P>, Borrower<P>), AllocError>
+pub(crate) fn open_exchange<P: Drop>(alloc: Global) -> Result<(Lender<P>, Borrower<P>), AllocError>
     ensures lent { IfOk result (λ r. r.0 ≡ []) }
     ensures held { IfOk result (λ r. r.1 ≡ []) }
 {
@@ -74,8 +72,7 @@ impl<P: Drop> Lender<P> {
     }
 
     /// Tells the thread that nothing more will come.
-    pub(crate) fn stop(&self)
-    {
+    pub(crate) fn stop(&self) {
         self.exchange.signal(OVER);
     }
 }

@@ -1,4 +1,4 @@
-use Rattle.std.proofs.Common.{◌≡◌, [], List, Some, All, arith, sym, subst}
+use Rattle.std.proofs.Common.{◌≡◌, [], ◌∷◌, ◌++◌, List, Some, All, arith, sym, subst}
 use Rattle.std.proofs.lemmas.List.Elements.{All-pop, All-push}
 use Rattle.warp_threads.proofs.run.start_all.Goals as goal
 
@@ -16,7 +16,7 @@ loop-lender-preserved-else-is_err g c =
     let P = g.row.O.Denot × g.row.L.Denot in
     record {
       idle = popped.0;
-      nothing_lent = subst (All (λ (x : List P). x ≡ [])) (sym c.push_reserved.ensures.items) (All-push (λ (x : List P). x ≡ []) c.loop-lender.lenders.items c.in-Some.lender c.loop-lender.invariant.nothing_lent popped.1.0);
+      nothing_lent = subst (All (λ (x : List P). x ≡ [])) (sym {A = List (List P)} {a = c.push_reserved.new.self.items} {b = c.loop-lender.lenders.items ++ c.in-Some.lender ∷ []} c.push_reserved.ensures.items) (All-push (λ (x : List P). x ≡ []) c.loop-lender.lenders.items c.in-Some.lender c.loop-lender.invariant.nothing_lent popped.1.0);
       few = omega (arith, c.push_reserved.ensures.len, c.in-Some.ensures.len);
       room = omega (arith, c.push_reserved.ensures.capacity, c.loop-lender.invariant.room);
     }

@@ -1,4 +1,4 @@
-use Rattle.std.proofs.Common.{◌<◌, length, arith}
+use Rattle.std.proofs.Common.{arith}
 use Rattle.warp_threads.proofs.Places.{advanced_none, advanced_may, advanced_more, advanced_all}
 use Rattle.warp_threads.proofs.workers.advance_all.Goals as goal
 
@@ -13,8 +13,8 @@ advance-requires g c =
 pub loop-place-preserved : goal.loop-place-preserved
 loop-place-preserved g c = record {
   done =
-    advanced_more g.L.Lane.advances c.args.orders.now c.args.lanes.now.items c.loop-place.place c.loop-place.lanes.items c.loop-place.invariant.done (omega (arith, c.args.lanes.now.ok.0)) (omega (arith, c.args.lanes.now.ok.0))
-    c.index-orders-place.result c.index_mut.result.now c.index-orders-place.is c.index_mut.ensures.value c.advance.new.self c.advance.ensures;
+      advanced_more g.L.Lane.advances c.args.orders.now c.args.lanes.now.items c.loop-place.place c.loop-place.lanes.items c.loop-place.invariant.done (omega (arith, c.args.lanes.now.ok.0)) (omega (arith, c.args.lanes.now.ok.0))
+      c.index-orders-place.result c.index_mut.result.now c.index-orders-place.is c.index_mut.ensures.value c.advance.new.self c.advance.ensures;
   len = c.loop-place.invariant.len;
   room = c.loop-place.invariant.room;
 }

@@ -1,4 +1,4 @@
-use Rattle.std.proofs.Common.{◌<◌, length, arith, ◌∙◌}
+use Rattle.std.proofs.Common.{arith, ◌∙◌}
 use Rattle.warp_threads.proofs.Places.{back_none, back_lent, back_more, back_all, back_idle}
 use Rattle.warp_threads.proofs.workers.collect_all.Goals as goal
 
@@ -13,8 +13,8 @@ collect-requires g c =
 pub loop-place-preserved : goal.loop-place-preserved
 loop-place-preserved g c = record {
   back = λ lent e.
-    back_more g.L.Lane.advances lent c.args.lanes.now.items c.loop-place.place c.loop-place.lenders.items c.loop-place.lanes.items (c.loop-place.invariant.back lent e) (omega (arith, c.loop-place.lenders.ok.0)) c.index_mut.result.now
-    c.index_mut.ensures.value c.collect.result c.into_lane.result c.collect.new.self c.push_reserved.new.self.items c.collect.ensures.value c.into_lane.ensures c.collect.ensures.nothing_lent c.push_reserved.ensures.items;
+      back_more g.L.Lane.advances lent c.args.lanes.now.items c.loop-place.place c.loop-place.lenders.items c.loop-place.lanes.items (c.loop-place.invariant.back lent e) (omega (arith, c.loop-place.lenders.ok.0)) c.index_mut.result.now
+      c.index_mut.ensures.value c.collect.result c.into_lane.result c.collect.new.self c.push_reserved.new.self.items c.collect.ensures.value c.into_lane.ensures c.collect.ensures.nothing_lent c.push_reserved.ensures.items;
   len = omega (arith, c.push_reserved.ensures.len);
   threads = c.loop-place.invariant.threads;
   room = c.push_reserved.ensures.capacity ∙ c.loop-place.invariant.room;

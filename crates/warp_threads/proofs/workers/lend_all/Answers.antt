@@ -15,7 +15,7 @@ pub new-requires : goal.new-requires
 new-requires g c =
     let so_far = c.loop-place.invariant.lent in
     let split = lent_split c.args.orders.now c.args.lenders.now.items c.args.lanes.now.items c.loop-place.place (c.loop-place.place - 1) (omega arith) c.loop-place.lenders.items (vec_len c.loop-place.lanes) c.loop-place.lanes.items so_far
-      (omega (arith, c.args.lenders.now.ok.0)) c.take_last-lane.new.self.items c.take_last-lane.result c.len.result c.index-orders-len.result c.take_last-lane.ensures.items (omega arith) (omega arith) c.index-orders-len.is in
+    (omega (arith, c.args.lenders.now.ok.0)) c.take_last-lane.new.self.items c.take_last-lane.result c.len.result c.index-orders-len.result c.take_last-lane.ensures.items (omega arith) (omega arith) c.index-orders-len.is in
     may_at g.L.Lane.can_advance c.args.orders.now c.args.lanes.now.items c.take_last-lane.new.self.items so_far.lent c.take_last-lane.result c.index-orders-len.result c.len.result split (omega (arith, c.take_last-lane.new.self.ok.0)) (omega arith)
     c.index-orders-len.is c.requires.ready
 
@@ -27,9 +27,9 @@ lend-requires g c =
 pub loop-place-preserved : goal.loop-place-preserved
 loop-place-preserved g c = record {
   lent =
-    lent_more c.args.orders.now c.args.lenders.now.items c.args.lanes.now.items c.loop-place.place (c.loop-place.place - 1) (omega arith) c.loop-place.lenders.items (vec_len c.loop-place.lanes) c.loop-place.lanes.items c.loop-place.invariant.lent
-    (omega (arith, c.args.lenders.now.ok.0)) c.take_last-lane.new.self.items c.take_last-lane.result (vec_len c.take_last-lane.new.self) c.index-orders-len.result c.take_last-lane.ensures.items (omega arith) (omega arith)
-    (c.index-orders-len.is ∙ ap (λ n. get_or c.args.orders.now n c.index-orders-len.result) c.len.ensures) c.lend.new.self (c.lend.ensures ∙ ap (λ x. x ∷ []) c.new.ensures);
+      lent_more c.args.orders.now c.args.lenders.now.items c.args.lanes.now.items c.loop-place.place (c.loop-place.place - 1) (omega arith) c.loop-place.lenders.items (vec_len c.loop-place.lanes) c.loop-place.lanes.items c.loop-place.invariant.lent
+      (omega (arith, c.args.lenders.now.ok.0)) c.take_last-lane.new.self.items c.take_last-lane.result (vec_len c.take_last-lane.new.self) c.index-orders-len.result c.take_last-lane.ensures.items (omega arith) (omega arith)
+      (c.index-orders-len.is ∙ ap (λ n. get_or c.args.orders.now n c.index-orders-len.result) c.len.ensures) c.lend.new.self (c.lend.ensures ∙ ap (λ x. x ∷ []) c.new.ensures);
   left = omega arith;
   place = omega arith;
   threads = omega arith;
