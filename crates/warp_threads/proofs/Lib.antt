@@ -1,0 +1,2 @@
+pub mod KeepsRule
+pub mod Places

@@ -1,0 +1,183 @@
+ghost use Rattle.std.specs.Prelude.{◌≤◌};
+
+use super::{Driver, Lane, Workers, with_workers};
+use std::alloc::{AllocError, Global};
+use std::sync::Wait;
+use std::test::Fail;
+use std::thread::Threads;
+
+const ROUNDS: u64 = 1_000;
+
+/// The sum of its orders, and a number that tells in which order they came.
+#[derive(Debug, PartialEq, Eq, Drop)]
+struct Total {
+    sum: u64,
+    mixed: u64,
+}
+
+fn total_of(start: u64) -> Total {
+    Total {
+        sum: start,
+        mixed: start,
+    }
+}
+
+impl Lane<u64> for Total {
+    ghost use Rattle.std.specs.Prelude.{◌≡◌, ◌+◌, ◌%◌, ◌^◌};
+
+    ghost can_advance = { λ order lane. Unit {0} };
+
+    ghost advances = { λ order old new. new.sum ≡ (old.sum + order) % 2 ^ 64 };
+
+    fn advance(&mut self, order: &u64) {
+        self.sum = self.sum.wrapping_add(*order);
+        self.mixed = self.mixed.wrapping_mul(31).wrapping_add(*order);
+    }
+}
+
+/// Rounds in which lane i has the order r + i in round r.
+#[derive(Drop)]
+struct CountingRounds;
+
+impl Driver<u64, Total> for CountingRounds {
+    type Outcome = ();
+
+    ghost use Rattle.std.specs.Prelude.{◌≡◌, ◌≤◌, length};
+
+    ghost can_drive = { λ driver lanes. length lanes ≤ 4 };
+
+    ghost drives = { λ driver old outcome new. length new ≡ length old };
+
+    fn drive<R: Wait>(self, rt: &R, workers: &mut Workers<u64, Total>) {
+        for round in 0..ROUNDS {
+            let orders = [round, round + 1, round + 2, round + 3];
+            let count = workers.len();
+            workers.round(rt, &orders[..count]);
+        }
+    }
+}
+
+/// What one thread makes of the same orders.
+fn in_order(lane: u64) -> Total {
+    let mut total = total_of(lane);
+    for round in 0..ROUNDS {
+        total.advance(&round.wrapping_add(lane));
+    }
+    total
+}
+
+/// The lanes after all rounds: lane i begins with the sum i.
+fn counted<R: Threads + Wait + Sync>(
+    rt: &R,
+    alloc: Global,
+    count: u64,
+) -> Result<Vec<Total>, AllocError>
+    requires { count ≤ 4 }
+{
+    let mut lanes = Vec::new(alloc);
+    for lane in 0..count {
+        lanes.push(total_of(lane))?;
+    }
+    let ran = with_workers(rt, alloc, lanes, CountingRounds).map_err(|_| AllocError)?;
+    Ok(ran.lanes)
+}
+
+#[test]
+fn no_lane(rt: HostRuntime) -> Result<(), Fail> {
+    let lanes = counted(&rt, rt.alloc(), 0)?;
+    assert_eq!(rt; lanes.len(), 0);
+    Ok(())
+}
+
+#[test]
+fn one_lane_runs_on_the_caller(rt: HostRuntime) -> Result<(), Fail> {
+    let lanes = counted(&rt, rt.alloc(), 1)?;
+    assert_eq!(rt; lanes.as_slice(), [in_order(0)].as_slice());
+    assert_eq!(rt; in_order(0).sum, 499_500);
+    Ok(())
+}
+
+#[test]
+fn two_lanes(rt: HostRuntime) -> Result<(), Fail> {
+    let lanes = counted(&rt, rt.alloc(), 2)?;
+    assert_eq!(rt; lanes.as_slice(), [in_order(0), in_order(1)].as_slice());
+    Ok(())
+}
+
+#[test]
+fn four_lanes(rt: HostRuntime) -> Result<(), Fail> {
+    let lanes = counted(&rt, rt.alloc(), 4)?;
+    let expected = [in_order(0), in_order(1), in_order(2), in_order(3)];
+    assert_eq!(rt; lanes.as_slice(), expected.as_slice());
+    assert_eq!(rt; expected[3].sum, 3 + 499_500 + 3_000);
+    Ok(())
+}
+
+/// An order that refers to what all lanes read.
+#[derive(Clone, Copy)]
+struct Weights<'a> {
+    by_digit: &'a [u64; 10],
+    number: u64,
+}
+
+impl<'a> Lane<Weights<'a>> for Total {
+    ghost use Rattle.std.specs.Prelude.{◌≡◌, ◌+◌, ◌%◌, ◌^◌, slice_index};
+
+    ghost can_advance = { λ order lane. Unit {0} };
+
+    ghost advances = { λ order old new.
+        new.sum ≡ (old.sum + slice_index order.by_digit.now (order.number % 10)) % 2 ^ 64 };
+
+    fn advance(&mut self, order: &Weights<'a>) {
+        let digit = (order.number % 10) as usize;
+        self.sum = self.sum.wrapping_add(order.by_digit[digit]);
+        self.mixed = self.mixed.wrapping_mul(31).wrapping_add(order.number);
+    }
+}
+
+/// One round in which lane i has the order i.
+#[derive(Drop)]
+struct WeighedRound<'a> {
+    by_digit: &'a [u64; 10],
+}
+
+impl<'a> Driver<Weights<'a>, Total> for WeighedRound<'a> {
+    type Outcome = ();
+
+    ghost use Rattle.std.specs.Prelude.{◌≡◌, length};
+
+    ghost can_drive = { λ driver lanes. length lanes ≡ 2 };
+
+    ghost drives = { λ driver old outcome new. length new ≡ length old };
+
+    fn drive<R: Wait>(self, rt: &R, workers: &mut Workers<Weights<'a>, Total>) {
+        let by_digit = self.by_digit;
+        let orders = [
+            Weights {
+                by_digit,
+                number: 0,
+            },
+            Weights {
+                by_digit,
+                number: 1,
+            },
+        ];
+        workers.round(rt, &orders);
+    }
+}
+
+#[test]
+fn orders_may_refer_to_what_all_lanes_read(rt: HostRuntime) -> Result<(), Fail> {
+    let by_digit = [10, 11, 12, 13, 14, 15, 16, 17, 18, 19];
+    let mut lanes = Vec::new(rt.alloc());
+    lanes.push(total_of(0))?;
+    lanes.push(total_of(100))?;
+    let driver = WeighedRound {
+        by_digit: &by_digit,
+    };
+    let ran = with_workers(&rt, rt.alloc(), lanes, driver).map_err(|_| AllocError)?;
+    assert_eq!(rt; ran.lanes.len(), 2);
+    assert_eq!(rt; ran.lanes[0].sum, 10);
+    assert_eq!(rt; ran.lanes[1].sum, 111);
+    Ok(())
+}
