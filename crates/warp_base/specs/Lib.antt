@@ -4,3 +4,4 @@ pub mod Messages
 pub mod Histories
 pub mod Sequential
 pub mod Settled
+pub mod Laws

@@ -1,0 +1,9 @@
+pub mod Words
+pub mod Lists
+pub mod Orders
+pub mod Folds
+pub mod Histories
+pub mod Queues
+pub mod Sequential
+pub mod Ends
+pub mod Settled

@@ -1,0 +1,90 @@
+-- Places in lists of events in order.
+use Rattle.std.proofs.Common.{◌≡◌, ◌≢◌, ℕ, zero, suc, ◌+◌, ◌<◌, ◌≤◌, inl, inr, Bool, true, false, not, List, [], ◌∷◌, ◌++◌, length, take, drop, get_or, refl, ap, sym, ◌∙◌, arith}
+use Rattle.std.proofs.lemmas.Bool.{cases_Bool}
+use Rattle.std.proofs.lemmas.List.{take_more, take-append-drop}
+use Rattle.std.specs.List.{insert, remove, AllWithin}
+use Rattle.std.specs.List.Sorted.{IsPartitionedBy}
+use Rattle.warp_base.specs.declared.event.Event.{Event}
+use Rattle.warp_base.specs.Events.{Each, precedes, hit, copies, IsBefore, IsInOrder}
+use Rattle.warp_base.proofs.Lists.{Each-weaker}
+use Rattle.warp_base.proofs.Orders.{TellsApart, precedes_self, precedes_total, precedes_trans, hit_cases, copies-append, before_trans}
+
+module _ {X : Type 0} (Q : X → Type 0) where
+  pub Each-at : (xs : List X) (k : ℕ) (d : X) → Each Q xs → k < length xs → Q (get_or xs k d)
+  Each-at [] k d h within = absurd (omega (arith, within))
+  Each-at (x ∷ xs) zero d h within = h.0
+  Each-at (x ∷ xs) (suc k) d h within = Each-at xs k d h.1 (omega (arith, within))
+
+  -- from facts of places
+  pub Each-take_from : (xs : List X) (n : ℕ) → ((k : ℕ) (d : X) → k < n → k < length xs → Q (get_or xs k d)) → Each Q (take n xs)
+  Each-take_from xs zero h = tt
+  Each-take_from [] (suc n) h = tt
+  Each-take_from (x ∷ xs) (suc n) h = (h 0 x (omega arith) (omega arith), Each-take_from xs n (λ k d few within. h (suc k) d (omega (arith, few)) (omega (arith, within))))
+
+  pub Each-drop_from : (xs : List X) (n : ℕ) → ((k : ℕ) (d : X) → n ≤ k → k < length xs → Q (get_or xs k d)) → Each Q (drop n xs)
+  Each-drop_from [] zero h = tt
+  Each-drop_from [] (suc n) h = tt
+  Each-drop_from (x ∷ xs) zero h = (h 0 x (omega arith) (omega arith), Each-drop_from xs zero (λ k d more within. h (suc k) d (omega arith) (omega (arith, within))))
+  Each-drop_from (x ∷ xs) (suc n) h = Each-drop_from xs n (λ k d more within. h (suc k) d (omega (arith, more)) (omega (arith, within)))
+
+module _ {P : Type 0} (words : P → List ℕ) where
+  pub in_order_at : (xs : List (Event P)) (i j : ℕ) (d : Event P) → IsInOrder words xs → i ≤ j → j < length xs → precedes words (get_or xs i d) (get_or xs j d) ≡ true
+  in_order_at [] i j d h few within = absurd (omega (arith, within))
+  in_order_at (x ∷ xs) zero zero d h few within = precedes_self words x
+  in_order_at (x ∷ xs) zero (suc j) d h few within = Each-at (λ y. precedes words x y ≡ true) xs j d h.0 (omega (arith, within))
+  in_order_at (x ∷ xs) (suc i) zero d h few within = absurd (omega (arith, few))
+  in_order_at (x ∷ xs) (suc i) (suc j) d h few within = in_order_at xs i j d h.1 (omega (arith, few)) (omega (arith, within))
+
+  pub partitioned : (e : Event P) (xs : List (Event P)) → IsInOrder words xs → IsPartitionedBy (λ x. not (precedes words e x)) xs
+  partitioned e xs h i j d few within passes =
+      elim (cases_Bool (precedes words e (get_or xs i d))) as (λ _. not (precedes words e (get_or xs i d)) ≡ true) [
+        | inr fails ↦ ap not fails
+        | inl holds ↦ (let there = ap not (precedes_trans words e (get_or xs i d) (get_or xs j d) holds (in_order_at xs i j d h few within)) in cc)
+      ]
+
+  -- a list in order with an event at its place
+  pub in_order_middle : (xs : List (Event P)) (e : Event P) (ys : List (Event P)) → IsInOrder words (xs ++ ys) → Each (λ x. precedes words e x ≡ false) xs → IsBefore words e ys → IsInOrder words (xs ++ e ∷ ys)
+  in_order_middle [] e ys h before behind = (behind, h)
+  in_order_middle (x ∷ xs) e ys h before behind = (middle xs h.0, in_order_middle xs e ys h.1 before.1 behind)
+   where
+    middle : (zs : List (Event P)) → IsBefore words x (zs ++ ys) → IsBefore words x (zs ++ e ∷ ys)
+    middle [] first = (precedes_total words e x before.0, first)
+    middle (z ∷ zs) first = (first.0, middle zs first.1)
+
+  -- and without one
+  pub in_order_without : (xs : List (Event P)) (n : ℕ) → IsInOrder words xs → IsInOrder words (remove xs n)
+  in_order_without [] zero h = tt
+  in_order_without [] (suc n) h = tt
+  in_order_without (x ∷ xs) zero h = h.1
+  in_order_without (x ∷ xs) (suc n) h = (Each-without (λ y. precedes words x y ≡ true) xs n h.0, in_order_without xs n h.1)
+   where
+    Each-without : (Q : Event P → Type 0) (ys : List (Event P)) (n : ℕ) → Each Q ys → Each Q (remove ys n)
+    Each-without Q [] zero g = tt
+    Each-without Q [] (suc n) g = tt
+    Each-without Q (y ∷ ys) zero g = g.1
+    Each-without Q (y ∷ ys) (suc n) g = (g.0, Each-without Q ys n g.1)
+
+  module _ (tells : TellsApart words) where
+    pub none_yet : (e : Event P) (xs : List (Event P)) (i : ℕ) (d : Event P) → i < length xs → (get_or xs i d ≡ e → ⊥) → copies words e (take i xs) ≡ 0 → copies words e (take (i + 1) xs) ≡ 0
+    none_yet e xs i d within other h =
+        let all = ap (copies words e) (take_more xs i d within) ∙ copies-append words e (take i xs) (get_or xs i d ∷ []) in
+        elim (hit_cases words tells e (get_or xs i d)) as (λ _. copies words e (take (i + 1) xs) ≡ 0) [
+          | inl same ↦ absurd (other (sym same))
+          | inr none ↦ omega (arith, all, h, none)
+        ]
+
+    pub after_point : (e : Event P) (xs : List (Event P)) (i : ℕ) → AllWithin (λ x. not (precedes words e x) ≡ true) xs 0 i → Each (λ x. precedes words e x ≡ false) (take i xs)
+    after_point e xs i h =
+        Each-take_from (λ x. precedes words e x ≡ false) xs i (λ k d few within. is_not (precedes words e (get_or xs k d)) (h k d (omega arith) few))
+     where
+      is_not : (b : Bool) → not b ≡ true → b ≡ false
+      is_not true h = cc
+      is_not false h = refl
+
+    pub from_point : (e : Event P) (xs : List (Event P)) (i : ℕ) → AllWithin (λ x. not (precedes words e x) ≡ false) xs i (length xs) → IsBefore words e (drop i xs)
+    from_point e xs i h =
+        Each-drop_from (λ x. precedes words e x ≡ true) xs i (λ k d more within. is_so (precedes words e (get_or xs k d)) (h k d more within))
+     where
+      is_so : (b : Bool) → not b ≡ false → b ≡ true
+      is_so true h = refl
+      is_so false h = cc
