@@ -1,0 +1,4 @@
+pub mod Random
+pub mod Sends
+pub mod Queues
+pub mod QueueLaws

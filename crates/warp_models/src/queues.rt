@@ -1,0 +1,269 @@
+//! M/M/1 queues in a ring.
+ghost use Rattle.std.specs.Prelude.{◌≡◌, ◌<◌, ◌+◌, ◌++◌, OnOk};
+ghost use Rattle.warp_base.specs.declared.event.Draft.{Draft};
+ghost use Rattle.warp_models.specs.Sends.{in_time};
+
+use crate::random::{memoryless, mixed, next, seeded};
+use std::alloc::{AllocError, Global};
+use warp_base::{Draft, Event, Simulation};
+
+/// A job comes to a station.
+const ARRIVAL: u64 = 0;
+
+/// A station has served a job.
+const DEPARTURE: u64 = 1;
+
+/// Stations in a ring, each with one server and a queue before it.
+#[derive(Clone, Copy, Debug)]
+pub struct Ring {
+    /// How many stations there are.
+    pub stations: u32,
+    /// How many jobs each station has at the start.
+    pub jobs: u64,
+    /// The half-life of a service, in ticks: so many are longer than it as are shorter.
+    pub half_life: u32,
+    /// How many ticks a job travels to the next station, beside the one that each takes.
+    pub travel: u32,
+    /// How many jobs a station has room for; more are a fault of the model's own.
+    pub room: u64,
+    /// What random numbers begin with.
+    pub seed: u64,
+    ghost some: { 0 < stations },
+}
+
+/// A station.
+#[derive(Clone, Copy, Debug)]
+pub struct Station {
+    /// The generator of its random numbers.
+    pub random: u64,
+    /// How many jobs are here, of which one is being served.
+    pub waiting: u64,
+    /// How many jobs were served.
+    pub served: u64,
+}
+
+/// Sends a draft, unless 64 bits don't hold its time.
+fn send(
+    out: &mut Vec<Draft<()>>,
+    now: u64,
+    delay: u64,
+    receiver: u32,
+    kind: u64,
+) -> Result<(), AllocError>
+    ensures { OnOk result (out.new.items ≡ out.old.items ++ in_time (record {
+      time = now + delay;
+      priority = 0;
+      receiver = receiver;
+      kind = kind;
+      payload = tt;
+    })) }
+{
+    if let Some(time) = now.checked_add(delay) {
+        out.push(Draft {
+            time,
+            priority: 0,
+            receiver,
+            kind,
+            payload: (),
+        })?;
+    }
+    Ok(())
+}
+
+impl Ring {
+    ghost use Rattle.warp_models.specs.Queues.{arrival, departure};
+
+    /// A station begins to serve a job, which takes a time drawn from this number.
+    fn begin_service(
+        &self,
+        out: &mut Vec<Draft<()>>,
+        process: u32,
+        random: u64,
+        now: u64,
+    ) -> Result<(), AllocError>
+        ensures { OnOk result (out.new.items ≡ out.old.items
+            ++ in_time (departure self.now.stations self.now.half_life process random now)) }
+    {
+        let delay = 1 + memoryless(self.half_life, mixed(random));
+        send(out, now, delay, process % self.stations, DEPARTURE)
+    }
+
+    /// A job goes from a station to the next one.
+    fn go_on(&self, out: &mut Vec<Draft<()>>, process: u32, now: u64) -> Result<(), AllocError>
+        ensures { OnOk result (out.new.items ≡ out.old.items
+            ++ in_time (arrival self.now.stations self.now.travel process now)) }
+    {
+        let next = (process % self.stations + 1) % self.stations;
+        send(out, now, 1 + u64::from(self.travel), next, ARRIVAL)
+    }
+}
+
+impl Simulation for Ring {
+    ghost use Rattle.warp_models.specs.Queues.{ring};
+    ghost use Rattle.warp_models.specs.QueueLaws.{ring-looks_ahead, ring-starts_within, ring-sends_within};
+
+    type Payload = ();
+
+    type State = Station;
+
+    ghost behaviour = { λ m. ring (record {
+      stations = m.stations;
+      jobs = m.jobs;
+      half_life = m.half_life;
+      travel = m.travel;
+      room = m.room;
+      seed = m.seed;
+    }) };
+
+    ghost processes = { λ m. m.stations };
+
+    fn processes(&self) -> u32 {
+        self.stations
+    }
+
+    fn start(
+        &self,
+        _alloc: Global,
+        process: u32,
+        out: &mut Vec<Draft<()>>,
+    ) -> Result<Station, AllocError> {
+        let random = next(seeded(self.seed, process));
+        if process < self.stations && self.jobs > 0 {
+            self.begin_service(out, process, random, 0)?;
+        }
+        Ok(Station {
+            random,
+            waiting: self.jobs,
+            served: 0,
+        })
+    }
+
+    fn run(
+        &self,
+        _alloc: Global,
+        process: u32,
+        state: &mut Station,
+        event: &Event<()>,
+        out: &mut Vec<Draft<()>>,
+    ) -> Result<(), AllocError> {
+        let random = next(state.random);
+        state.random = random;
+        if event.kind == ARRIVAL {
+            if state.waiting == 0 {
+                self.begin_service(out, process, random, event.time)?;
+            }
+            state.waiting = state.waiting.wrapping_add(1);
+        } else {
+            self.go_on(out, process, event.time)?;
+            if state.waiting > 1 {
+                self.begin_service(out, process, random, event.time)?;
+            }
+            state.waiting = state.waiting.saturating_sub(1);
+            state.served = state.served.wrapping_add(1);
+        }
+        Ok(())
+    }
+
+    fn is_faulty(&self, state: &Station) -> bool {
+        self.room < state.waiting
+    }
+
+    ghost looks_ahead = { λ m. ring-looks_ahead (record {
+      stations = m.stations;
+      jobs = m.jobs;
+      half_life = m.half_life;
+      travel = m.travel;
+      room = m.room;
+      seed = m.seed;
+    }) };
+
+    ghost starts_within = { λ m. ring-starts_within (record {
+      stations = m.stations;
+      jobs = m.jobs;
+      half_life = m.half_life;
+      travel = m.travel;
+      room = m.room;
+      seed = m.seed;
+    }) };
+
+    ghost sends_within = { λ m. ring-sends_within (record {
+      stations = m.stations;
+      jobs = m.jobs;
+      half_life = m.half_life;
+      travel = m.travel;
+      room = m.room;
+      seed = m.seed;
+    }) m.some };
+}
+
+#[cfg(test)]
+mod tests {
+    use super::*;
+    use std::test::Fail;
+
+    /// Services and ways of one tick.
+    const RING: Ring = Ring {
+        stations: 3,
+        jobs: 2,
+        half_life: 0,
+        travel: 0,
+        room: 4,
+        seed: 1,
+    };
+
+    #[test]
+    fn a_job_that_was_served_goes_on(rt: HostRuntime) -> Result<(), Fail> {
+        let alloc = rt.alloc();
+        let mut out = Vec::new(alloc);
+        let mut station = RING.start(alloc, 2, &mut out)?;
+        assert_eq!(rt; out.len(), 1);
+        assert_eq!(rt;
+            (out[0].time, out[0].receiver, out[0].kind),
+            (1, 2, DEPARTURE)
+        );
+        let event = out[0].stamp(2, 0);
+        out.clear();
+        RING.run(alloc, 2, &mut station, &event, &mut out)?;
+        assert_eq!(rt; out.len(), 2);
+        assert_eq!(rt;
+            (out[0].time, out[0].receiver, out[0].kind),
+            (2, 0, ARRIVAL)
+        );
+        assert_eq!(rt;
+            (out[1].time, out[1].receiver, out[1].kind),
+            (2, 2, DEPARTURE)
+        );
+        assert_eq!(rt; (station.waiting, station.served), (1, 1));
+        Ok(())
+    }
+
+    #[test]
+    fn an_idle_station_begins_with_the_job_that_comes(rt: HostRuntime) -> Result<(), Fail> {
+        let alloc = rt.alloc();
+        let mut out = Vec::new(alloc);
+        let mut station = Station {
+            random: 0,
+            waiting: 0,
+            served: 7,
+        };
+        let draft = Draft {
+            time: 5,
+            priority: 0,
+            receiver: 1,
+            kind: ARRIVAL,
+            payload: (),
+        };
+        RING.run(alloc, 1, &mut station, &draft.stamp(0, 0), &mut out)?;
+        assert_eq!(rt; out.len(), 1);
+        assert_eq!(rt;
+            (out[0].time, out[0].receiver, out[0].kind),
+            (6, 1, DEPARTURE)
+        );
+        assert_eq!(rt; (station.waiting, station.served), (1, 7));
+        out.clear();
+        RING.run(alloc, 1, &mut station, &draft.stamp(0, 1), &mut out)?;
+        assert_eq!(rt; (out.len(), station.waiting), (0, 2));
+        assert!(rt; !RING.is_faulty(&station));
+        Ok(())
+    }
+}

@@ -1,0 +1,5 @@
+pub mod Urgency
+pub mod Queues
+pub mod Ends
+pub mod Standing
+pub mod Failures
