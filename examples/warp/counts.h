@@ -14,6 +14,7 @@ typedef struct counts {
     uint64_t log_bytes;
     uint64_t checksum;  /* of the final states */
     uint64_t memory;    /* KiB that the program took at its peak */
+    uint64_t processor; /* nanoseconds that a worker had a processor */
 } counts;
 
 enum { COUNTS = sizeof(counts) / sizeof(uint64_t) };
@@ -29,6 +30,7 @@ static inline void counts_add(counts *to, const counts *from)
     to->log_bytes += from->log_bytes;
     to->checksum += from->checksum;
     to->memory += from->memory;
+    to->processor += from->processor;
 }
 
 #endif

@@ -203,13 +203,14 @@ static void start(kernel *k)
     deliver(k);
 }
 
-static void finish(kernel *k, outcome *out)
+static void finish(kernel *k, uint64_t processor, outcome *out)
 {
     uint64_t none = 0, sum;
     uint32_t j;
     counts own;
     add_up(k, &own);
     own.memory = transport_speaks(k->transport) ? resources_peak() : 0;
+    own.processor = processor;
     for (j = 0; j < k->schedule.count; j++) {
         must(process_checksum(&k->processes[k->schedule.own[j]], &sum));
         own.checksum += model_mixed(sum + k->schedule.own[j]);
@@ -228,7 +229,7 @@ static void finish(kernel *k, outcome *out)
 void kernel_run(transport *t, const settings *s, process *processes, outcome *out)
 {
     kernel k;
-    uint64_t begin;
+    uint64_t begin, processor;
     memset(&k, 0, sizeof k);
     k.transport = t;
     k.settings = s;
@@ -240,6 +241,7 @@ void kernel_run(transport *t, const settings *s, process *processes, outcome *ou
     window_open(&k.window, s->window);
     take_bound(&k);
     begin = clock_now();
+    processor = clock_processor();
     while (k.bound <= s->end) {
         receive(&k);
         if (take_turn(&k))
@@ -249,5 +251,5 @@ void kernel_run(transport *t, const settings *s, process *processes, outcome *ou
         if (transport_bound_wanted(t)) take_bound(&k);
     }
     out->time = clock_now() - begin;
-    finish(&k, out);
+    finish(&k, clock_processor() - processor, out);
 }

@@ -16,7 +16,8 @@ static void print_outcome(const outcome *out, const settings *s)
     uint64_t ran = c->committed + c->undone;
     double seconds = (double)out->time / 1e9;
     printf("committed %" PRIu64 "\n", c->committed);
-    printf("%.3f s, %.0f events a second\n", seconds, seconds > 0 ? (double)c->committed / seconds : 0);
+    printf("%.6f s, %.0f events a second; %.6f s of processors\n", seconds, seconds > 0 ? (double)c->committed / seconds : 0,
+           (double)c->processor / 1e9);
     printf("peak memory %" PRIu64 " KiB\n", c->memory);
     if (!s->sequential) {
         printf("workers %" PRIu32 " (%s), save %s, bounds %" PRIu64 "\n", transport_workers(s), transport_name(), s->way->name, out->bounds);

@@ -16,14 +16,27 @@
 /* The name that a state has in a checkpoint file. */
 static const uint8_t file_name[] = {'p', 'r', 'o', 'c', 'e', 's', 's'};
 
+/* A write that was said, and the interval between two logs in which it was. */
+typedef struct said {
+    const void *at;
+    size_t length;
+    uint64_t interval;
+} said;
+
+/* How many writes are remembered: by their addresses, the last one of those that meet in a place. */
+enum { REMEMBERED = 8, LEAST_CHUNK = 32 };
+
 /*
  * Chunks of a state that moved lie elsewhere, so that it is logged once more with its new pointers, after the log that it came with: the
- * library's time of a log is the number of events before it, and of moves.
+ * library's time of a log is the number of events before it, and of moves. Most events write to the same few chunks, as the one that the
+ * state begins in: a write that was said since the last log or restore isn't said to the library again.
  */
 typedef struct object {
     dym_object heap;
     uintptr_t start; /* where its block begins */
     uint64_t moves;
+    uint64_t interval; /* counted by logs and restores, from 1 on */
+    said said[REMEMBERED];
 } object;
 
 /* What an answer of the library means for a run. */
@@ -43,25 +56,29 @@ static void must(dym_status status)
     if (status != DYM_DONE) fault_end(fault_of(status));
 }
 
-/* Notes where the chunks of an object lie that was just opened, or not. */
-static fault take_object(memory *m, object *own, dym_status status)
+/* Notes where the chunks of an object lie that was just opened. */
+static dym_status find_start(object *own)
 {
     const void *start = NULL;
-    if (status == DYM_DONE) status = dym_start(&own->heap, &start);
-    if (status == DYM_DONE) {
-        own->start = (uintptr_t)start;
-        m->inside = own;
-    } else {
-        free(own);
-    }
-    return fault_of(status);
+    dym_status status = dym_start(&own->heap, &start);
+    own->start = (uintptr_t)start;
+    own->interval = 1;
+    return status;
 }
 
 /* In version 2 a chunk is as long as was asked. */
 static fault object_open(memory *m, uint32_t quota)
 {
     object *own = calloc(1, sizeof *own);
-    return own != NULL ? take_object(m, own, dym_open(&own->heap, quota, 2)) : FAULT_MEMORY;
+    dym_status status;
+    if (own == NULL) return FAULT_MEMORY;
+    status = dym_open(&own->heap, quota, 2);
+    if (status == DYM_DONE) status = find_start(own);
+    if (status == DYM_DONE)
+        m->inside = own;
+    else
+        free(own);
+    return fault_of(status);
 }
 
 static void object_close(memory *m)
@@ -92,7 +109,12 @@ static void object_free(memory *m, void *chunk, size_t length)
 static void place_write(memory *m, void *at, size_t length)
 {
     object *own = m->inside;
+    said *before = &own->said[(uintptr_t)at / LEAST_CHUNK % REMEMBERED];
+    if (before->at == at && before->length >= length && before->interval == own->interval) return;
     must(dym_wrote_at(&own->heap, (uintptr_t)at - own->start, length));
+    before->at = at;
+    before->length = length;
+    before->interval = own->interval;
 }
 
 static fault object_log(memory *m, uint64_t time, uint64_t *bytes)
@@ -100,6 +122,7 @@ static fault object_log(memory *m, uint64_t time, uint64_t *bytes)
     object *own = m->inside;
     dym_logged logged = {0, 0};
     dym_status status = dym_log(&own->heap, DYM_INCREMENTAL, time + own->moves, &logged);
+    own->interval++;
     *bytes = logged.length;
     return fault_of(status);
 }
@@ -108,6 +131,7 @@ static fault object_restore(memory *m, uint64_t time, uint64_t *restored)
 {
     object *own = m->inside;
     dym_status status = dym_restore(&own->heap, time + own->moves, restored);
+    own->interval++;
     *restored -= own->moves;
     return fault_of(status);
 }
@@ -137,19 +161,22 @@ static fault object_save(memory *m, uint8_t **bytes, uint64_t *length)
 
 static fault object_load(memory *m, const uint8_t *bytes, uint64_t length, uintptr_t *distance)
 {
-    object *own = calloc(1, sizeof *own);
-    uint64_t head[2] = {0, 0};
+    object *own;
+    uint64_t head[2];
     uint32_t part;
-    dym_status status = DYM_BAD;
-    fault f;
+    dym_status status;
+    if (length < sizeof head) return FAULT_MOVE;
+    memcpy(head, bytes, sizeof head);
+    own = calloc(1, sizeof *own);
     if (own == NULL) return FAULT_MEMORY;
-    if (length >= sizeof head) {
-        memcpy(head, bytes, sizeof head);
-        status = dym_load(&own->heap, bytes + sizeof head, length - sizeof head, &part);
+    status = dym_load(&own->heap, bytes + sizeof head, length - sizeof head, &part);
+    if (status == DYM_DONE) status = find_start(own);
+    if (status != DYM_DONE) {
+        free(own);
+        return status == DYM_BAD ? FAULT_MOVE : fault_of(status);
     }
     own->moves = head[1] + 1;
-    f = take_object(m, own, status);
-    if (f != FAULT_NONE) return status == DYM_BAD ? FAULT_MOVE : f;
+    m->inside = own;
     *distance = own->start - (uintptr_t)head[0];
     return fault_of(dym_touch_all(&own->heap));
 }

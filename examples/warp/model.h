@@ -10,7 +10,7 @@
  *     model_write(c, cell, sizeof *cell);
  *     cell->busy++;
  *
- * A chunk that the same event allocated is written without. What isn't said is a fault that nothing finds: it may stay after a rollback.
+ * A chunk that the same event allocated is written without. What was written and not said may stay after a rollback, and nothing notices.
  *
  * What an event does may depend on nothing but the event, the state and the numbers of the context: the kernel undoes events and runs them
  * again, and each time they must do the same. Random numbers are drawn from a number in the state.

@@ -75,7 +75,7 @@ static fault start(queue *q, const settings *s)
 
 static void run(queue *q, const settings *s, outcome *out)
 {
-    uint64_t begin = clock_now();
+    uint64_t begin = clock_now(), processor = clock_processor();
     uint32_t k;
     while (q->heap.count > 0 && q->heap.items[0].time <= s->end) {
         event e = take(&q->heap);
@@ -85,6 +85,7 @@ static void run(queue *q, const settings *s, outcome *out)
         out->counts.committed++;
     }
     out->time = clock_now() - begin;
+    out->counts.processor = clock_processor() - processor;
     for (k = 0; k < s->processes; k++) out->counts.checksum += model_mixed(s->model->checksum(&q->contexts[k]) + k);
 }
 
