@@ -174,7 +174,7 @@ void stored_by_a_lambda(void *chunk, uint32_t draw)
 // What was expected becomes what is there.
 void atomic_exchange_that_fails(void *chunk, uint32_t draw)
 {
-    std::atomic<uint32_t> shared(draw | 1);
+    std::atomic<uint32_t> shared(in<uint32_t>(chunk) + draw % 99 + 1);
     shared.compare_exchange_strong(in<uint32_t>(chunk), 9); // untold by GCC
 }
 

@@ -269,8 +269,8 @@ static void atomic_flag_flip(void *chunk, uint32_t draw)
 #define COMPARE_THAT_FAILS(type) \
     static void compare_that_fails_##type(void *chunk, uint32_t draw) \
     { \
-        type shared = (type)(draw | 1); \
-        __atomic_compare_exchange_n(&shared, (type *)chunk + draw % 7, 9, 0, __ATOMIC_SEQ_CST, __ATOMIC_SEQ_CST); \
+        type *expected = (type *)chunk + draw % 7, shared = (type)(*expected + draw % 99 + 1); \
+        __atomic_compare_exchange_n(&shared, expected, 9, 0, __ATOMIC_SEQ_CST, __ATOMIC_SEQ_CST); \
     }
 COMPARE_THAT_FAILS(uint8_t)  /* untold by GCC */
 COMPARE_THAT_FAILS(uint32_t) /* untold by GCC */
@@ -335,10 +335,11 @@ static uint32_t sum_of_two(void *chunk, ...)
     va_list values, *copy = chunk;
     uint32_t sum;
     va_start(values, chunk);
+    sum = va_arg(values, uint32_t);
     va_copy(*copy, values); /* untold */
-    va_end(values);
-    sum = va_arg(*copy, uint32_t) + va_arg(*copy, uint32_t);
+    sum += va_arg(*copy, uint32_t);
     va_end(*copy);
+    va_end(values);
     return sum;
 }
 
