@@ -628,7 +628,7 @@ static void step(dym_object *object, root *r, node **place, uint32_t key, node *
     if (n != NULL && n->key == key) {
         *place = rest;
         r->count--;
-        dym_free(object, n->own);
+        if (dym_free(object, n->own) != DYM_DONE) abort();
         return;
     }
     n = fresh_node(object, key);
