@@ -1,10 +1,12 @@
 //! Tests of what several crates do together, and of what no clause says of one: that memory is there, that a source and a sink that fail
-//! are told of, that an object is as it was where an allocation failed, and that parts work side by side in threads.
+//! are told of, that chunks of a heap come back, that an object is as it was where an allocation failed, and that parts work side by side in threads.
 //!
 //! It stands on all of these and nothing stands on it: a crate with tests of its own is proved twice. What the built program shows by
 //! rows (`checks/lib/rows`), or a program in C (`checks/c`), is not shown here again.
 #![tactic(auto)]
 
+#[cfg(test)]
+mod heap_tests;
 #[cfg(test)]
 mod io_tests;
 #[cfg(test)]

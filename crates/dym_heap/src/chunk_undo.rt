@@ -1,13 +1,12 @@
 //! Chunks of a shelf as they were before a change.
-ghost use Rattle.std.specs.Prelude.{◌≡◌, ℕ, ◌+◌, ◌*◌, ◌/◌, ◌≤◌, ◌<◌, max, length};
+ghost use Rattle.std.specs.Prelude.{◌≡◌, ◌≤◌, length};
 ghost use Rattle.std.specs.FinMap.{insert};
-ghost use Rattle.dym_base.specs.Numbers.{per};
 ghost use Rattle.dym_base.specs.Heaps.{held};
 ghost use Rattle.dym_base.specs.HeapStep.{key, without_chunk};
 ghost use Rattle.dym_base.specs.declared.limits.TheConstants.{LEAST_EXPONENT, GREATEST_EXPONENT};
 ghost use Rattle.dym_heap.specs.Meaning.{IsSizeOf};
 ghost use Rattle.dym_heap.specs.Undo.{with_chunk_back, without_touch};
-ghost use Rattle.dym_heap.specs.Table.{row_index, live_of, state_of};
+ghost use Rattle.dym_heap.specs.Table.{live_of, state_of};
 ghost use Rattle.dym_heap.specs.Shelves.{IsTidy, IsValidShelf, Keeps};
 ghost use Rattle.dym_heap.specs.ShapeSteps.{HasRoomFor, ReachesArea};
 
