@@ -102,9 +102,9 @@ module _ {P S : Type 0} (words : P → List ℕ) (b : Behaviour P S) (past : Lis
         oldest = (h.oldest.0, until date h.oldest.1, copies_are ∙ ap (until date) h.oldest.2 ∙ filter_yes (λ (d : ℕ × S). nat_le d.0 date) (f.first_date, h.oldest.0) h.oldest.1 (le-leb f.first_date date (omega (arith, date_is))));
         state = λ fresh. absurd (both fresh);
       }
-   where
-    both : true ≡ false → ⊥
-    both against = cc
+    where
+      both : true ≡ false → ⊥
+      both against = cc
 
   -- and what that puts out is about later events than those that are undone
   pub posted_back : LooksAhead b → (keep first m t : ℕ) (new_sent : List (Event P)) (out new_out : List (Message P)) → keep < length f.marks → slice_get f.marks keep ≡ Some m → first + f.serial ≡ length f.sent + m → AreFrom t (drop keep f.events) → new_sent ≡ take first f.sent → new_out ≡ out ++ map Variants.Anti (drop first f.sent) → HasPosted words t f.sent new_sent out new_out

@@ -65,7 +65,13 @@ impl<P: Payload, K: StateSaver> Process<P, K> {
         let newest = self.saver.restore(alloc)?;
         let skipped = (newest - self.first_date) as usize;
         let committed = skipped.min(self.fossils.len());
-        replay(alloc, model, self.number, &self.fossils[committed..], &mut self.saver)?;
+        replay(
+            alloc,
+            model,
+            self.number,
+            &self.fossils[committed..],
+            &mut self.saver,
+        )?;
         let since = &self.events[skipped - committed..self.marks.len()];
         replay(alloc, model, self.number, since, &mut self.saver)?;
         self.is_stale = false;
