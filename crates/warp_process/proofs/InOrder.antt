@@ -46,10 +46,10 @@ module _ {P : Type 0} (words : P → List ℕ) where
   pub in_order_middle : (xs : List (Event P)) (e : Event P) (ys : List (Event P)) → IsInOrder words (xs ++ ys) → Each (λ x. precedes words e x ≡ false) xs → IsBefore words e ys → IsInOrder words (xs ++ e ∷ ys)
   in_order_middle [] e ys h before behind = (behind, h)
   in_order_middle (x ∷ xs) e ys h before behind = (middle xs h.0, in_order_middle xs e ys h.1 before.1 behind)
-   where
-    middle : (zs : List (Event P)) → IsBefore words x (zs ++ ys) → IsBefore words x (zs ++ e ∷ ys)
-    middle [] first = (precedes_total words e x before.0, first)
-    middle (z ∷ zs) first = (first.0, middle zs first.1)
+    where
+      middle : (zs : List (Event P)) → IsBefore words x (zs ++ ys) → IsBefore words x (zs ++ e ∷ ys)
+      middle [] first = (precedes_total words e x before.0, first)
+      middle (z ∷ zs) first = (first.0, middle zs first.1)
 
   -- and without one
   pub in_order_without : (xs : List (Event P)) (n : ℕ) → IsInOrder words xs → IsInOrder words (remove xs n)
@@ -57,12 +57,12 @@ module _ {P : Type 0} (words : P → List ℕ) where
   in_order_without [] (suc n) h = tt
   in_order_without (x ∷ xs) zero h = h.1
   in_order_without (x ∷ xs) (suc n) h = (Each-without (λ y. precedes words x y ≡ true) xs n h.0, in_order_without xs n h.1)
-   where
-    Each-without : (Q : Event P → Type 0) (ys : List (Event P)) (n : ℕ) → Each Q ys → Each Q (remove ys n)
-    Each-without Q [] zero g = tt
-    Each-without Q [] (suc n) g = tt
-    Each-without Q (y ∷ ys) zero g = g.1
-    Each-without Q (y ∷ ys) (suc n) g = (g.0, Each-without Q ys n g.1)
+    where
+      Each-without : (Q : Event P → Type 0) (ys : List (Event P)) (n : ℕ) → Each Q ys → Each Q (remove ys n)
+      Each-without Q [] zero g = tt
+      Each-without Q [] (suc n) g = tt
+      Each-without Q (y ∷ ys) zero g = g.1
+      Each-without Q (y ∷ ys) (suc n) g = (g.0, Each-without Q ys n g.1)
 
   module _ (tells : TellsApart words) where
     pub none_yet : (e : Event P) (xs : List (Event P)) (i : ℕ) (d : Event P) → i < length xs → (get_or xs i d ≡ e → ⊥) → copies words e (take i xs) ≡ 0 → copies words e (take (i + 1) xs) ≡ 0
@@ -76,15 +76,15 @@ module _ {P : Type 0} (words : P → List ℕ) where
     pub after_point : (e : Event P) (xs : List (Event P)) (i : ℕ) → AllWithin (λ x. not (precedes words e x) ≡ true) xs 0 i → Each (λ x. precedes words e x ≡ false) (take i xs)
     after_point e xs i h =
         Each-take_from (λ x. precedes words e x ≡ false) xs i (λ k d few within. is_not (precedes words e (get_or xs k d)) (h k d (omega arith) few))
-     where
-      is_not : (b : Bool) → not b ≡ true → b ≡ false
-      is_not true h = cc
-      is_not false h = refl
+      where
+        is_not : (b : Bool) → not b ≡ true → b ≡ false
+        is_not true h = cc
+        is_not false h = refl
 
     pub from_point : (e : Event P) (xs : List (Event P)) (i : ℕ) → AllWithin (λ x. not (precedes words e x) ≡ false) xs i (length xs) → IsBefore words e (drop i xs)
     from_point e xs i h =
         Each-drop_from (λ x. precedes words e x ≡ true) xs i (λ k d more within. is_so (precedes words e (get_or xs k d)) (h k d more within))
-     where
-      is_so : (b : Bool) → not b ≡ false → b ≡ true
-      is_so true h = refl
-      is_so false h = cc
+      where
+        is_so : (b : Bool) → not b ≡ false → b ≡ true
+        is_so true h = refl
+        is_so false h = cc

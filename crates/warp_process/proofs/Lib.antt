@@ -4,3 +4,4 @@ pub mod Runs
 pub mod Steps
 pub mod Taking
 pub mod Catching
+pub mod Opening

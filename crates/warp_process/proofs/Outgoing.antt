@@ -69,10 +69,10 @@ module _ {P : Type 0} (words : P → List ℕ) where
     more = map Variants.Anti back;
     appended = add;
     balance = λ e.
-      let all = ap (copies words e) whole ∙ copies-append words e front back in
-      let neg = antis-negatives e back in
-      let pos = antis-positives e back in
-      omega (arith, all, neg, pos);
+        let all = ap (copies words e) whole ∙ copies-append words e front back in
+        let neg = antis-negatives e back in
+        let pos = antis-positives e back in
+        omega (arith, all, neg, pos);
     later = Each-map Variants.Anti (λ m. t < (event_of m).time) back later;
     own = Each-map Variants.Anti (λ m. 0 < copies words (event_of m) sent + copies words (event_of m) front) back (Each-both (λ x. 0 < copies words x back) (λ x. 0 < copies words x sent + copies words x front) back (each_there back) (λ x some. let all = ap (copies words x) whole ∙ copies-append words x front back in omega (arith, all, some)));
   }
@@ -83,10 +83,10 @@ module _ {P : Type 0} (words : P → List ℕ) where
     more = map Variants.Event more;
     appended = add;
     balance = λ e.
-      let all = ap (copies words e) whole ∙ copies-append words e sent more in
-      let neg = events-negatives e more in
-      let pos = events-positives e more in
-      omega (arith, all, neg, pos);
+        let all = ap (copies words e) whole ∙ copies-append words e sent more in
+        let neg = events-negatives e more in
+        let pos = events-positives e more in
+        omega (arith, all, neg, pos);
     later = Each-map Variants.Event (λ m. t < (event_of m).time) more later;
     own = Each-map Variants.Event (λ m. 0 < copies words (event_of m) sent + copies words (event_of m) new_sent) more (Each-both (λ x. 0 < copies words x more) (λ x. 0 < copies words x sent + copies words x new_sent) more (each_there more) (λ x some. let all = ap (copies words x) whole ∙ copies-append words x sent more in omega (arith, all, some)));
   }

@@ -1,6 +1,6 @@
 -- Each step keeps that a process is one.
 use Rattle.std.proofs.Common.{◌≡◌, ℕ, zero, suc, ◌+◌, ◌-◌, ◌^◌, ◌<◌, ◌≤◌, inl, inr, Bool, true, false, nat_le, List, [], ◌∷◌, ◌++◌, length, take, drop, get_or, Some, None, slice_get, map, refl, ap, sym, subst, ◌∙◌, arith, append_assoc, length-append}
-use Rattle.std.proofs.lemmas.List.{take-append-drop, take-append-le, length-take-le, append_cancel_left}
+use Rattle.std.proofs.lemmas.List.{take-append-drop, take-append-le, length-take-le, append_cancel_left, take_more}
 use Rattle.std.proofs.lemmas.Bool.{cases_Bool, le-leb, leb-true}
 use Rattle.std.specs.List.{filter, insert, remove}
 use Rattle.std.proofs.Math.Seq.{take_at}
@@ -8,12 +8,14 @@ use Rattle.warp_base.specs.declared.event.Event.{Event}
 use Rattle.warp_base.specs.declared.event.Message.{Message}
 use Rattle.warp_base.specs.declared.event.Message.TheVariants as Variants
 use Rattle.warp_base.specs.Events.{Each, copies, IsInOrder, AreFor, AreFrom}
-use Rattle.warp_base.specs.Histories.{Behaviour, LooksAhead, state_from, state_after, sent_from, all_sent}
-use Rattle.warp_base.proofs.Lists.{filter_yes, filter_no, Each-filter}
+use Rattle.warp_base.specs.Histories.{Behaviour, LooksAhead, stamped, state_from, state_after, sent_from, all_sent}
+use Rattle.warp_base.proofs.Lists.{filter_yes, filter_no, Each-filter, Each-weaker}
+use Rattle.warp_base.specs.declared.event.Draft.{Draft}
+use Rattle.warp_base.proofs.Folds.{Each-stamped, state_after-append, state_after-push}
 use Rattle.warp_process.specs.Savers.{until, AreAscending}
 use Rattle.warp_process.specs.Processes.{ProcessFace, IsProcess, IsRun, IsCopy, done_of, HasPosted}
-use Rattle.warp_process.proofs.Runs.{take_less, Each-drop_take, sent_from_later, back_of, run_back}
-use Rattle.warp_process.proofs.Outgoing.{taken_back}
+use Rattle.warp_process.proofs.Runs.{take_less, Each-drop_take, sent_from_later, back_of, run_back, run_on}
+use Rattle.warp_process.proofs.Outgoing.{taken_back, newly_sent}
 
 module _ {S : Type 0} where
   until_ascending : (date : ℕ) (cs : List (ℕ × S)) → AreAscending cs → AreAscending (until date cs)
@@ -100,9 +102,9 @@ module _ {P S : Type 0} (words : P → List ℕ) (b : Behaviour P S) (past : Lis
         oldest = (h.oldest.0, until date h.oldest.1, copies_are ∙ ap (until date) h.oldest.2 ∙ filter_yes (λ (d : ℕ × S). nat_le d.0 date) (f.first_date, h.oldest.0) h.oldest.1 (le-leb f.first_date date (omega (arith, date_is))));
         state = λ fresh. absurd (both fresh);
       }
-   where
-    both : true ≡ false → ⊥
-    both against = cc
+    where
+      both : true ≡ false → ⊥
+      both against = cc
 
   -- and what that puts out is about later events than those that are undone
   pub posted_back : LooksAhead b → (keep first m t : ℕ) (new_sent : List (Event P)) (out new_out : List (Message P)) → keep < length f.marks → slice_get f.marks keep ≡ Some m → first + f.serial ≡ length f.sent + m → AreFrom t (drop keep f.events) → new_sent ≡ take first f.sent → new_out ≡ out ++ map Variants.Anti (drop first f.sent) → HasPosted words t f.sent new_sent out new_out
@@ -119,3 +121,43 @@ module _ {P S : Type 0} (words : P → List ℕ) (b : Behaviour P S) (past : Lis
       let ran = take (length f.marks) f.events in
       let later = sent_from_later b f.number ahead t (n + length (sent_from b f.number n s (take keep ran))) (state_from b f.number s (take keep ran)) (drop keep ran) (Each-drop_take (λ (e : Event P). t ≤ e.time) keep (length f.marks) f.events from) in
       taken_back words t f.sent new_sent (drop first f.sent) out new_out (sym (take-append-drop first f.sent) ∙ ap (λ l. l ++ drop first f.sent) (sym sent_is)) (subst (Each (λ (e : Event P). t < e.time)) (sym (back_is ∙ back.is_back)) later) out_is
+
+  -- the next event is run
+  pub ran_next : (e d : Event P) (ds : List (Draft P)) (new_state : S) (new_marks : List ℕ) (new_sent : List (Event P)) (new_serial : ℕ) → length f.marks < length f.events → e ≡ get_or f.events (length f.marks) d → new_state ≡ b.after f.number (state_after b f.number (done_of past f)) e → ds ≡ b.drafts f.number (state_after b f.number (done_of past f)) e → new_marks ≡ f.marks ++ f.serial ∷ [] → new_sent ≡ f.sent ++ stamped f.number f.serial ds → new_serial ≡ f.serial + length ds → f.first_date + length f.fossils + length f.marks + 1 < 2 ^ 64 → IsProcess words b past (record f { marks = new_marks; sent = new_sent; serial = new_serial; state = new_state; is_stale = false })
+  ran_next e d ds new_state new_marks new_sent new_serial more is_e state_is ds_are marks_are sent_is serial_is few =
+      let p = f.number in
+      let n = length (all_sent b p past) in
+      let s = state_after b p past in
+      let ran = take (length f.marks) f.events in
+      let here : state_after b p (done_of past f) ≡ state_from b p s ran = state_after-append b p past ran in
+      let drafts_are : ds ≡ b.drafts p (state_from b p s ran) e = ds_are ∙ ap (λ t. b.drafts p t e) here in
+      let on = run_on b p n s f.events f.marks f.sent f.serial h.run e d more is_e in
+      let count : length new_marks ≡ length f.marks + 1 = ap length marks_are ∙ length-append f.marks (f.serial ∷ []) in
+      let now : take (length new_marks) f.events ≡ ran ++ e ∷ [] = ap (λ j. take j f.events) count ∙ take_more f.events (length f.marks) d more ∙ ap (λ x. ran ++ x ∷ []) (sym is_e) in
+      let done_is : past ++ take (length new_marks) f.events ≡ done_of past f ++ e ∷ [] = ap (λ l. past ++ l) now ∙ sym (append_assoc past ran (e ∷ [])) in
+      let dates = h.dates in
+      let done_long = length-done in
+      let long = length-append (done_of past f) (e ∷ []) in
+      let still : (c : ℕ × S) → IsCopy b p (done_of past f) c → IsCopy b p (done_of past f ++ e ∷ []) c = λ c old. (let within = old.0 in omega (arith, within, long), old.1 ∙ ap (state_after b p) (sym (take-append-le c.0 (done_of past f) (e ∷ []) old.0))) in
+      record {
+        in_order = h.in_order;
+        own = h.own;
+        committed = h.committed;
+        pending = h.pending;
+        early_from = h.early_from;
+        apart = h.apart;
+        ran_within = omega (arith, count, more);
+        run = rw (marks_are, sent_is, serial_is, drafts_are) on;
+        fossils = h.fossils;
+        dates = h.dates;
+        counted = subst (λ (l : List (Event P)). length l < 2 ^ 64) (sym done_is) (omega (arith, long, done_long, dates, few));
+        ascending = h.ascending;
+        kept = subst (λ l. Each (IsCopy b p l) f.copies) (sym done_is) (Each-weaker (IsCopy b p (done_of past f)) (IsCopy b p (done_of past f ++ e ∷ [])) still f.copies h.kept);
+        oldest = h.oldest;
+        state = λ fresh. state_is ∙ sym (state_after-push b p (done_of past f) e) ∙ ap (state_after b p) (sym done_is);
+      }
+
+  -- and what it sends is later than itself
+  pub posted_next : LooksAhead b → (e : Event P) (ds : List (Draft P)) (s : S) (new_sent : List (Event P)) (out new_out : List (Message P)) → ds ≡ b.drafts f.number s e → new_sent ≡ f.sent ++ stamped f.number f.serial ds → new_out ≡ out ++ map Variants.Event (stamped f.number f.serial ds) → HasPosted words e.time f.sent new_sent out new_out
+  posted_next ahead e ds s new_sent out new_out ds_are sent_is out_is =
+      newly_sent words e.time f.sent (stamped f.number f.serial ds) new_sent out new_out sent_is (Each-stamped (λ (x : Event P). e.time < x.time) (λ (d : Draft P). e.time < d.time) f.number f.serial (λ d m later. later) ds (subst (Each (λ (d : Draft P). e.time < d.time)) (sym ds_are) (ahead f.number s e))) out_is

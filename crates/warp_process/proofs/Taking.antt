@@ -57,20 +57,21 @@ module _ {P : Type 0} (words : P → List ℕ) where
       let back = rest (drop n xs) refl (in_order_back words (take n xs) (drop n xs) (subst (IsInOrder words) (sym (take-append-drop n xs)) h)) behind in
       let all = ap (copies words e) (sym (take-append-drop n xs)) ∙ copies-append words e (take n xs) (drop n xs) in
       omega (arith, front, back, all)
-   where
-    conflict : (t : Bool) → t ≡ true → t ≡ false → ⊥
-    conflict t one other = let both : true ≡ false = sym one ∙ other in cc
-    rest : (ys : List (Event P)) → drop n xs ≡ ys → IsInOrder words ys → IsBefore words e ys → copies words e ys ≡ 0
-    rest [] is order first = refl
-    rest (y ∷ ys) is order first =
-        let not_first : e ≡ y → ⊥ = λ same. away (get_drop n xs ys y is ∙ ap Some (sym same)) in
-        elim (hit_cases words tells e y) as (λ _. copies words e (y ∷ ys) ≡ 0) [
-          | inl same ↦ absurd (not_first same)
-          | inr none ↦ elim (cases_lt 0 (copies words e ys)) as (λ _. copies words e (y ∷ ys) ≡ 0) [
-            | inl some ↦ absurd (not_first (precedes_one words tells e y first.0 (Each-copy words tells (λ x. precedes words y x ≡ true) e ys order.0 some)))
-            | inr few ↦ omega (arith, none, few)
+    where
+      conflict : (t : Bool) → t ≡ true → t ≡ false → ⊥
+      conflict t one other = let both : true ≡ false = sym one ∙ other in cc
+
+      rest : (ys : List (Event P)) → drop n xs ≡ ys → IsInOrder words ys → IsBefore words e ys → copies words e ys ≡ 0
+      rest [] is order first = refl
+      rest (y ∷ ys) is order first =
+          let not_first : e ≡ y → ⊥ = λ same. away (get_drop n xs ys y is ∙ ap Some (sym same)) in
+          elim (hit_cases words tells e y) as (λ _. copies words e (y ∷ ys) ≡ 0) [
+            | inl same ↦ absurd (not_first same)
+            | inr none ↦ elim (cases_lt 0 (copies words e ys)) as (λ _. copies words e (y ∷ ys) ≡ 0) [
+              | inl some ↦ absurd (not_first (precedes_one words tells e y first.0 (Each-copy words tells (λ x. precedes words y x ≡ true) e ys order.0 some)))
+              | inr few ↦ omega (arith, none, few)
+            ]
           ]
-        ]
 
 module _ {P S : Type 0} (words : P → List ℕ) (tells : TellsApart words) (b : Behaviour P S) (past : List (Event P)) (f : ProcessFace P S) (h : IsProcess words b past f) where
   with_lists : (new_events new_early : List (Event P)) → ((k : ℕ) → k ≤ length f.marks → take k new_events ≡ take k f.events) → IsInOrder words (past ++ new_events) → AreFor f.number (past ++ new_events) → AreFrom (bound_of f.last) new_events → AreFrom (bound_of f.last) new_early → ((e : Event P) → 0 < copies words e new_early → copies words e new_events ≡ 0) → length f.marks ≤ length new_events → IsProcess words b past (record f { events = new_events; early = new_early })
@@ -118,16 +119,16 @@ module _ {P S : Type 0} (words : P → List ℕ) (tells : TellsApart words) (b :
       let own_events = Each-back (λ (x : Event P). x.receiver ≡ f.number) past f.events h.own in
       let long = length-insert f.events place e within in
       let all : IsProcess words b past (record f { events = insert f.events place e }) = with_lists (insert f.events place e) f.early
-        (λ k few. front_stays k place f.events (e ∷ back) (omega (arith, few, undone)) within)
-        order
-        (Each-append (λ (x : Event P). x.receiver ≡ f.number) past (front ++ e ∷ back) (Each-front (λ (x : Event P). x.receiver ≡ f.number) past f.events h.own) (Each-append (λ (x : Event P). x.receiver ≡ f.number) front (e ∷ back) (Each-take (λ (x : Event P). x.receiver ≡ f.number) place f.events own_events) (is, Each-drop (λ (x : Event P). x.receiver ≡ f.number) place f.events own_events)))
-        (Each-append (λ (x : Event P). bound_of f.last ≤ x.time) front (e ∷ back) (Each-take (λ (x : Event P). bound_of f.last ≤ x.time) place f.events h.pending) (late, Each-drop (λ (x : Event P). bound_of f.last ≤ x.time) place f.events h.pending))
-        h.early_from
-        (λ k there. let apart = h.apart k there in let count = copies-insert words k e f.events place in elim (hit_cases words tells k e) as (λ _. copies words k (insert f.events place e) ≡ 0) [
-          | inl same ↦ (let against = ap (λ x. copies words x f.early) same in absurd (omega (arith, against, none, there)))
-          | inr miss ↦ omega (arith, apart, count, miss)
-        ])
-        (omega (arith, long, undone, within)) in
+      (λ k few. front_stays k place f.events (e ∷ back) (omega (arith, few, undone)) within)
+      order
+      (Each-append (λ (x : Event P). x.receiver ≡ f.number) past (front ++ e ∷ back) (Each-front (λ (x : Event P). x.receiver ≡ f.number) past f.events h.own) (Each-append (λ (x : Event P). x.receiver ≡ f.number) front (e ∷ back) (Each-take (λ (x : Event P). x.receiver ≡ f.number) place f.events own_events) (is, Each-drop (λ (x : Event P). x.receiver ≡ f.number) place f.events own_events)))
+      (Each-append (λ (x : Event P). bound_of f.last ≤ x.time) front (e ∷ back) (Each-take (λ (x : Event P). bound_of f.last ≤ x.time) place f.events h.pending) (late, Each-drop (λ (x : Event P). bound_of f.last ≤ x.time) place f.events h.pending))
+      h.early_from
+      (λ k there. let apart = h.apart k there in let count = copies-insert words k e f.events place in elim (hit_cases words tells k e) as (λ _. copies words k (insert f.events place e) ≡ 0) [
+        | inl same ↦ (let against = ap (λ x. copies words x f.early) same in absurd (omega (arith, against, none, there)))
+        | inr miss ↦ omega (arith, apart, count, miss)
+      ])
+      (omega (arith, long, undone, within)) in
       subst (λ l. IsProcess words b past (record f { events = l })) (sym is_new) all
 
   pub taken_out : (e : Event P) (place : ℕ) (new_events : List (Event P)) → slice_get f.events place ≡ Some e → length f.marks ≤ place → new_events ≡ remove f.events place → IsProcess words b past (record f { events = new_events })
@@ -136,18 +137,18 @@ module _ {P S : Type 0} (words : P → List ℕ) (tells : TellsApart words) (b :
       let long = length-remove f.events place within in
       let own_events = Each-back (λ (x : Event P). x.receiver ≡ f.number) past f.events h.own in
       let all : IsProcess words b past (record f { events = remove f.events place }) = with_lists (remove f.events place) f.early
-        (λ k few. front_stays k place f.events (drop (suc place) f.events) (omega (arith, few, undone)) (omega (arith, within)))
-        (less_in_order past place h.in_order)
-        (Each-append (λ (x : Event P). x.receiver ≡ f.number) past (remove f.events place) (Each-front (λ (x : Event P). x.receiver ≡ f.number) past f.events h.own) (Each-without (λ (x : Event P). x.receiver ≡ f.number) f.events place own_events))
-        (Each-without (λ (x : Event P). bound_of f.last ≤ x.time) f.events place h.pending)
-        h.early_from
-        (λ k some. let apart = h.apart k some in let count = copies-remove words k e f.events place there in omega (arith, apart, count))
-        (omega (arith, long, undone, within)) in
+      (λ k few. front_stays k place f.events (drop (suc place) f.events) (omega (arith, few, undone)) (omega (arith, within)))
+      (less_in_order past place h.in_order)
+      (Each-append (λ (x : Event P). x.receiver ≡ f.number) past (remove f.events place) (Each-front (λ (x : Event P). x.receiver ≡ f.number) past f.events h.own) (Each-without (λ (x : Event P). x.receiver ≡ f.number) f.events place own_events))
+      (Each-without (λ (x : Event P). bound_of f.last ≤ x.time) f.events place h.pending)
+      h.early_from
+      (λ k some. let apart = h.apart k some in let count = copies-remove words k e f.events place there in omega (arith, apart, count))
+      (omega (arith, long, undone, within)) in
       subst (λ l. IsProcess words b past (record f { events = l })) (sym is_new) all
-   where
-    less_in_order : (xs : List (Event P)) (n : ℕ) → IsInOrder words (xs ++ f.events) → IsInOrder words (xs ++ remove f.events n)
-    less_in_order [] n order = in_order_without words f.events n order
-    less_in_order (x ∷ xs) n order = (Each-append (λ y. precedes words x y ≡ true) xs (remove f.events n) (Each-front (λ y. precedes words x y ≡ true) xs f.events order.0) (Each-without (λ y. precedes words x y ≡ true) f.events n (Each-back (λ y. precedes words x y ≡ true) xs f.events order.0)), less_in_order xs n order.1)
+    where
+      less_in_order : (xs : List (Event P)) (n : ℕ) → IsInOrder words (xs ++ f.events) → IsInOrder words (xs ++ remove f.events n)
+      less_in_order [] n order = in_order_without words f.events n order
+      less_in_order (x ∷ xs) n order = (Each-append (λ y. precedes words x y ≡ true) xs (remove f.events n) (Each-front (λ y. precedes words x y ≡ true) xs f.events order.0) (Each-without (λ y. precedes words x y ≡ true) f.events n (Each-back (λ y. precedes words x y ≡ true) xs f.events order.0)), less_in_order xs n order.1)
 
   pub early_more : (e : Event P) (new_early : List (Event P)) → bound_of f.last ≤ e.time → copies words e f.events ≡ 0 → new_early ≡ f.early ++ e ∷ [] → IsProcess words b past (record f { early = new_early })
   early_more e new_early late none is_new =

@@ -30,11 +30,7 @@ pub(crate) fn post<P: Copy>(
 
 /// Takes back all but the first events that were sent: the anti-message of each goes out, for which
 /// there is room.
-pub(crate) fn take_back<P: Copy>(
-    sent: &mut Vec<Event<P>>,
-    first: usize,
-    out: &mut Vec<Message<P>>,
-)
+pub(crate) fn take_back<P: Copy>(sent: &mut Vec<Event<P>>, first: usize, out: &mut Vec<Message<P>>)
     requires within { first ≤ vec_len sent.old }
     requires room { vec_len out.old + (vec_len sent.old - first) ≤ vec_capacity out.old }
     ensures sent { sent.new.items ≡ take first sent.old.items }
@@ -52,12 +48,4 @@ fn announce<P: Copy>(events: &[Event<P>], out: &mut Vec<Message<P>>)
     for event in events {
         out.push_reserved(Message::Anti(*event));
     }
-}
-
-/// Drops the first elements.
-pub(crate) fn drop_first<T: Drop>(items: &mut Vec<T>, count: usize)
-    requires { count ≤ vec_len items.old }
-    ensures { items.new.items ≡ drop count items.old.items }
-{
-    items.drain(..count);
 }

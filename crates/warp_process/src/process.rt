@@ -1,13 +1,14 @@
 //! A logical process.
-ghost use Rattle.std.specs.Prelude.{◌≡◌, ℕ, ◌+◌, ◌^◌, ◌<◌, ◌≤◌, ◌↔◌, List, [], length, drop, IsTrue, OnOk, OnErr, Err, IfOk, IfSome, Some, slice_get};
+ghost use Rattle.std.specs.Prelude.{◌≡◌, ℕ, ◌+◌, ◌^◌, ◌<◌, ◌≤◌, ◌↔◌, ◌++◌, List, [], length, map, drop, IsTrue, OnOk, OnErr, Err, IfOk, IfSome, Some, slice_get};
 ghost use Rattle.warp_base.specs.Events.{AreFrom};
 ghost use Rattle.warp_base.specs.Messages.{event_of};
-ghost use Rattle.warp_base.specs.Histories.{Behaviour};
+ghost use Rattle.warp_base.specs.Histories.{Behaviour, stamped};
+ghost use Rattle.warp_base.specs.declared.event.Message.TheVariants as Variants;
 ghost use Rattle.warp_process.specs.declared.process.TakeError.TheVariants.{Committed};
 ghost use Rattle.warp_process.specs.Processes.{face, bound_of, IsProcess, IsSomeProcess, Stays, HasPosted, HasTaken, HasTakenBack, HasTakenMessage};
 
 use crate::places::{find_copy, find_place, is_at};
-use crate::posts::{drop_first, post, take_back};
+use crate::posts::{post, take_back};
 use crate::saver::StateSaver;
 use std::alloc::{AllocError, Global};
 use warp_base::{Draft, Event, Message, Payload};
@@ -17,8 +18,6 @@ use warp_base::{Draft, Event, Message, Payload};
 #[derive(Drop)]
 pub struct Process<P, K> {
     pub(crate) number: u32,
-    /// Copies of the state are this many events apart, or more.
-    pub(crate) period: u64,
     /// The last committed time.
     pub(crate) last: Option<u64>,
     /// Since the committed past.
@@ -50,6 +49,48 @@ pub enum TakeError {
 }
 
 impl<P: Payload, K: StateSaver> Process<P, K> {
+    /// A process that has run nothing, over the state in which its model starts it. The events of
+    /// these drafts, which the model sends at the start, go out: they are never taken back.
+    ///
+    /// At an error nothing goes out.
+    pub fn open(
+        alloc: Global,
+        number: u32,
+        saver: K,
+        drafts: &[Draft<P>],
+        out: &mut Vec<Message<P>>,
+    ) -> Result<Process<P, K>, AllocError>
+        requires { K.copies saver ≡ [] }
+        ensures process { IfOk result (λ p. (b : Behaviour P K.State) → K.state saver ≡ b.start number
+            → drafts.now ≡ b.firsts number → IsProcess P.words b [] (face K.state K.copies p)) }
+        ensures number { IfOk result (λ p. p.number ≡ number) }
+        ensures events { IfOk result (λ p. p.events.items ≡ []) }
+        ensures early { IfOk result (λ p. p.early.items ≡ []) }
+        ensures out { OnOk result (out.new.items
+            ≡ out.old.items ++ map Variants.Event (stamped number 0 drafts.now)) }
+        ensures unposted { OnErr result (out.new.items ≡ out.old.items) }
+    {
+        let mut saver = saver;
+        saver.save(alloc, 0)?;
+        let mut firsts = Vec::new(alloc);
+        firsts.reserve(drafts.len())?;
+        out.reserve(drafts.len())?;
+        post(number, 0, drafts, &mut firsts, out);
+        Ok(Process {
+            number,
+            last: None,
+            events: Vec::new(alloc),
+            marks: Vec::new(alloc),
+            sent: Vec::new(alloc),
+            serial: drafts.len() as u64,
+            early: Vec::new(alloc),
+            first_date: 0,
+            fossils: Vec::new(alloc),
+            is_stale: false,
+            saver,
+        })
+    }
+
     /// Whether a time is committed.
     fn is_committed(&self, time: u64) -> bool
         ensures { IsTrue result ↔ (time < bound_of self.now.last) }

@@ -1,8 +1,9 @@
 //! Running events.
-ghost use Rattle.std.specs.Prelude.{◌≡◌, ℕ, ◌+◌, ◌^◌, ◌<◌, ◌≤◌, ◌↔◌, ◌++◌, List, length, take, false, OnOk, OnErr, IfOk, IfErr, Some, slice_get, drop};
+ghost use Rattle.std.specs.Prelude.{◌≡◌, ℕ, ◌+◌, ◌^◌, ◌<◌, ◌≤◌, ◌↔◌, ◌++◌, ◌∷◌, [], List, length, map, IsSome, take, false, OnOk, OnErr, IfOk, IfErr, Some, slice_get, drop};
 ghost use Rattle.warp_base.specs.declared.event.Event.{Event};
-ghost use Rattle.warp_base.specs.Histories.{Behaviour, state_from};
-ghost use Rattle.warp_process.specs.Processes.{face, IsProcess};
+ghost use Rattle.warp_base.specs.Histories.{Behaviour, stamped, state_from};
+ghost use Rattle.warp_base.specs.declared.event.Message.TheVariants as Variants;
+ghost use Rattle.warp_process.specs.Processes.{face, IsProcess, HasPosted};
 
 use crate::posts::post;
 use crate::process::Process;
@@ -38,6 +39,12 @@ fn replay<P: Payload, K: StateSaver, M: Simulation<Payload = P, State = K::State
     Ok(())
 }
 
+impl From<AllocError> for RunError {
+    fn from(_: AllocError) -> RunError {
+        RunError::Memory
+    }
+}
+
 impl<P: Payload, K: StateSaver> Process<P, K> {
     /// Brings a stale state forward: returns to the newest copy, and runs the events from there on
     /// once more.
@@ -58,9 +65,91 @@ impl<P: Payload, K: StateSaver> Process<P, K> {
         let newest = self.saver.restore(alloc)?;
         let skipped = (newest - self.first_date) as usize;
         let committed = skipped.min(self.fossils.len());
-        replay(alloc, model, self.number, &self.fossils[committed..], &mut self.saver)?;
+        replay(
+            alloc,
+            model,
+            self.number,
+            &self.fossils[committed..],
+            &mut self.saver,
+        )?;
         let since = &self.events[skipped - committed..self.marks.len()];
         replay(alloc, model, self.number, since, &mut self.saver)?;
+        self.is_stale = false;
+        Ok(())
+    }
+
+    /// Counts an event as run, which sent these drafts: they go out as events. An error changes
+    /// nothing.
+    fn finish(&mut self, drafts: &[Draft<P>], out: &mut Vec<Message<P>>) -> Result<(), RunError>
+        ensures marks { OnOk result (self.new.marks.items ≡ self.old.marks.items ++ self.old.serial ∷ []) }
+        ensures sent { OnOk result (self.new.sent.items
+            ≡ self.old.sent.items ++ stamped self.old.number self.old.serial drafts.now) }
+        ensures serial { OnOk result (self.new.serial ≡ self.old.serial + length drafts.now) }
+        ensures counted { OnOk result (self.old.first_date + length self.old.fossils.items
+            + length self.old.marks.items + 1 < 2 ^ 64) }
+        ensures out { OnOk result (out.new.items
+            ≡ out.old.items ++ map Variants.Event (stamped self.old.number self.old.serial drafts.now)) }
+        ensures rest { self.new ≡ record self.old { marks = self.new.marks; sent = self.new.sent; serial = self.new.serial } }
+        ensures unposted { OnErr result (out.new.items ≡ out.old.items) }
+        ensures unchanged { OnErr result (face K.state K.copies self.new ≡ face K.state K.copies self.old) }
+    {
+        let count = drafts.len();
+        let Some(serial) = self.serial.checked_add(count as u64) else {
+            return Err(RunError::Counts);
+        };
+        if self.date_after(self.marks.len()).is_none() {
+            return Err(RunError::Counts);
+        }
+        self.marks.reserve(1)?;
+        self.sent.reserve(count)?;
+        out.reserve(count)?;
+        self.marks.push_reserved(self.serial);
+        post(self.number, self.serial, drafts, &mut self.sent, out);
+        self.serial = serial;
+        Ok(())
+    }
+
+    /// The date after this many events of those since the committed past, and one more, where it is
+    /// below 2^64.
+    fn date_after(&self, events: usize) -> Option<u64>
+        ensures { IsSome result
+            → self.now.first_date + length self.now.fossils.items + events + 1 < 2 ^ 64 }
+    {
+        let committed = self.first_date.checked_add(self.fossils.len() as u64)?;
+        committed.checked_add(events as u64)?.checked_add(1)
+    }
+
+    /// Runs the next event; what it sends goes out. A stale state is brought forward before.
+    ///
+    /// An error leaves the process as it was but for its state, which may be stale, and puts nothing
+    /// out.
+    pub fn run_next<M: Simulation<Payload = P, State = K::State>>(
+        &mut self,
+        alloc: Global,
+        model: &M,
+        out: &mut Vec<Message<P>>,
+    ) -> Result<(), RunError>
+        requires more { length self.old.marks.items < length self.old.events.items }
+        requires process { (past : List (Event P)) × IsProcess P.words (M.behaviour model.now) past (face K.state K.copies self.old) }
+        ensures kept { (past : List (Event P)) → IsProcess P.words (M.behaviour model.now) past (face K.state K.copies self.old)
+            → IsProcess P.words (M.behaviour model.now) past (face K.state K.copies self.new) }
+        ensures ran { OnOk result (length self.new.marks.items ≡ length self.old.marks.items + 1) }
+        ensures not_ran { OnErr result (self.new.marks.items ≡ self.old.marks.items) }
+        ensures posted { OnOk result ((event : Event P) → slice_get self.old.events.items (length self.old.marks.items) ≡ Some event
+            → HasPosted P.words event.time self.old.sent.items self.new.sent.items out.old.items out.new.items) }
+        ensures unposted { OnErr result (out.new.items ≡ out.old.items) }
+        ensures events { self.new.events ≡ self.old.events }
+        ensures early { self.new.early ≡ self.old.early }
+        ensures last { self.new.last ≡ self.old.last }
+        ensures number { self.new.number ≡ self.old.number }
+    {
+        self.catch_up(alloc, model)?;
+        let event = self.events[self.marks.len()];
+        let mut drafts = Vec::new(alloc);
+        self.is_stale = true;
+        self.saver
+            .run(alloc, model, self.number, &event, &mut drafts)?;
+        self.finish(&drafts, out)?;
         self.is_stale = false;
         Ok(())
     }
