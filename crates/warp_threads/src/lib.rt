@@ -1,5 +1,5 @@
-//! Threads that stay for a whole run, and do their work in rounds: in each round the caller lends
-//! every thread a lane with an order for it, works on lanes of its own, and gets all of them back.
+//! Threads that stay for a whole run and work in rounds: in each round the caller lends every
+//! thread a lane with an order for it, works on the other lanes, and gets all of them back.
 //!
 //! Below stand crates of the toolchain alone; above stands the simulator, whose workers are lanes.
 //! Its one contract: after a round each lane is the lane that it was, advanced by its order
@@ -17,5 +17,5 @@ mod tests;
 mod workers;
 
 pub use lane::Lane;
-pub use run::{Driver, NoMemory, Ran, with_workers};
+pub use run::{Driver, with_workers};
 pub use workers::Workers;

@@ -1,70 +1,57 @@
 //! A run of rounds, from the start of the threads to their end.
-ghost use Rattle.std.specs.Prelude.{◌≡◌, ◌≤◌, List, [], All, IfOk, IfErr, vec_len};
+ghost use Rattle.std.specs.Prelude.{◌≡◌, [], All, IfOk, IfErr};
 
 use crate::borrower::{Borrower, work};
 use crate::lane::Lane;
 use crate::lender::{Lender, open_exchange};
 use crate::packet::Packet;
 use crate::workers::Workers;
-use std::alloc::{AllocError, Global};
+use std::alloc::{AllocError, AllocFailed, Global};
 use std::marker::Model;
 use std::sync::Wait;
 use std::thread;
 use std::thread::{Scope, Threads};
 
-/// What is done over threads that stay: some number of rounds.
+/// What is done over threads that stay: some number of rounds, and whatever goes on between them.
 ///
-/// Contracts see what it needs of the lanes, and how its outcome and the lanes after it follow
-/// from the lanes before it.
+/// Contracts see what it needs, and how its outcome follows from it.
 pub trait Driver<O, L: Lane<O>> {
     type Outcome;
 
-    ghost can_drive: { Self → List L → Type 0 };
+    ghost can_drive: { Self → Type 0 };
 
-    ghost drives: { Self → List L → Self.Outcome → List L → Type 0 };
+    ghost drives: { Self → Self.Outcome → Type 0 };
 
     /// Runs to its end.
     fn drive<R: Wait>(self, rt: &R, workers: &mut Workers<O, L>) -> Self::Outcome
-        requires { can_drive self workers.old }
-        ensures { drives self workers.old result workers.new };
+        requires { can_drive self }
+        ensures { drives self result };
 }
 
-/// The lanes after a run, with its outcome.
-#[derive(Drop)]
-pub struct Ran<L, T> {
-    pub lanes: Vec<L>,
-    pub outcome: T,
-}
-
-/// What was given, where there was no memory for the threads.
-#[derive(Drop)]
-pub struct NoMemory<L, D> {
-    pub lanes: Vec<L>,
-    pub driver: D,
-}
-
-/// Runs the driver over these lanes, with a thread for each lane but one, which stays from the
-/// first round to the last. The caller works on the lanes for which no thread can be made. When
+/// Runs the driver over so many threads, which stay from its first round to its last. There are
+/// fewer, or none, where no more can be made: the driver's rounds then do more on the caller. When
 /// this returns, every thread has ended.
+///
+/// AllocFailed has the driver, which was not run; the driver's own wants are part of its outcome.
 pub fn with_workers<O, L, D, R>(
     rt: &R,
     alloc: Global,
-    lanes: Vec<L>,
+    threads: usize,
     driver: D,
-) -> Result<Ran<L, D::Outcome>, NoMemory<L, D>>
+) -> Result<D::Outcome, AllocFailed<D>>
 where
     O: Copy + Send,
     L: Lane<O> + Drop + Send,
     D: Driver<O, L> + Drop,
     R: Threads + Wait + Sync,
-    requires { D.can_drive driver lanes.items }
-    ensures ran { IfOk result (λ r. D.drives driver lanes.items r.outcome r.lanes.items) }
-    ensures handed_back { IfErr result (λ e. (e.lanes ≡ lanes) × (e.driver ≡ driver)) }
+    requires { D.can_drive driver }
+    ensures ran { IfOk result (D.drives driver) }
+    ensures handed_back { IfErr result (λ e. e.value ≡ driver) }
 {
-    let Ok(exchanges) = Exchanges::open(alloc, lanes.len().saturating_sub(1)) else {
-        return Err(NoMemory { lanes, driver });
-    };
-    Ok(run(rt, lanes, exchanges, driver))
+    match Exchanges::open(alloc, threads) {
+        Ok(exchanges) => Ok(run(rt, exchanges, driver)),
+        Err(AllocError) => Err(AllocFailed { value: driver }),
+    }
 }
 
 /// Exchanges whose threads are to be made: both ends of each, with nothing lent, and room for the
@@ -104,54 +91,43 @@ impl<P: Drop> Exchanges<P> {
 }
 
 /// Makes the threads in a scope, runs the driver there, and ends them.
-fn run<O, L, D, R>(
-    rt: &R,
-    lanes: Vec<L>,
-    exchanges: Exchanges<Packet<O, L>>,
-    driver: D,
-) -> Ran<L, D::Outcome>
+fn run<O, L, D, R>(rt: &R, exchanges: Exchanges<Packet<O, L>>, driver: D) -> D::Outcome
 where
     O: Copy + Send,
     L: Lane<O> + Drop + Send,
     D: Driver<O, L> + Drop,
     R: Threads + Wait + Sync,
-    requires drive { D.can_drive driver lanes.items }
-    requires few { exchanges ≤ vec_len lanes }
-    ensures { D.drives driver lanes.items result.outcome result.lanes.items }
+    requires { D.can_drive driver }
+    ensures { D.drives driver result }
 {
     thread::scope(
         thread::scope_env(),
         rt,
-        move |scope| -> Ran<L, D::Outcome>
-            requires { (D.can_drive driver lanes.items) × (exchanges ≤ vec_len lanes) }
-            ensures { D.drives driver lanes.items result.outcome result.lanes.items }
-        { run_in(scope, rt, lanes, exchanges, driver) },
+        move |scope| -> D::Outcome
+            requires { D.can_drive driver }
+            ensures { D.drives driver result }
+        { run_in(scope, rt, exchanges, driver) },
     )
 }
 
 fn run_in<'s, 'e, O, L, D, R>(
     scope: &'s Scope<'s, &'e ()>,
     rt: &'e R,
-    lanes: Vec<L>,
     exchanges: Exchanges<Packet<O, L>>,
     driver: D,
-) -> Ran<L, D::Outcome>
+) -> D::Outcome
 where
     O: Copy + Send + 'e,
     L: Lane<O> + Drop + Send + 'e,
     D: Driver<O, L> + Drop,
     R: Threads + Wait + Sync,
-    requires drive { D.can_drive driver lanes.items }
-    requires few { exchanges ≤ vec_len lanes }
-    ensures { D.drives driver lanes.items result.outcome result.lanes.items }
+    requires { D.can_drive driver }
+    ensures { D.drives driver result }
 {
-    let lenders = start_all(scope, rt, exchanges);
-    let mut workers = Workers::new(lanes, lenders);
+    let mut workers = Workers::new(start_all(scope, rt, exchanges));
     let outcome = driver.drive(rt, &mut workers);
-    Ran {
-        lanes: workers.into_lanes(),
-        outcome,
-    }
+    workers.stop();
+    outcome
 }
 
 /// Makes a thread for each exchange, as long as threads can be made.
@@ -164,8 +140,7 @@ where
     O: Copy + Send + 'e,
     L: Lane<O> + Drop + Send + 'e,
     R: Threads + Wait + Sync,
-    ensures few { vec_len result ≤ exchanges }
-    ensures nothing_lent { All (λ x. x ≡ []) result.items }
+    ensures { All (λ x. x ≡ []) result.items }
 {
     let Exchanges {
         mut ends,

@@ -37,23 +37,27 @@ impl Lane<u64> for Total {
 
 /// Rounds in which lane i has the order r + i in round r.
 #[derive(Drop)]
-struct CountingRounds;
+struct CountingRounds {
+    lanes: Vec<Total>,
+}
 
 impl Driver<u64, Total> for CountingRounds {
-    type Outcome = ();
+    type Outcome = Vec<Total>;
 
-    ghost use Rattle.std.specs.Prelude.{◌≡◌, ◌≤◌, length};
+    ghost use Rattle.std.specs.Prelude.{◌≡◌, ◌≤◌, vec_len};
 
-    ghost can_drive = { λ driver lanes. length lanes ≤ 4 };
+    ghost can_drive = { λ driver. vec_len driver.lanes ≤ 4 };
 
-    ghost drives = { λ driver old outcome new. length new ≡ length old };
+    ghost drives = { λ driver outcome. vec_len outcome ≡ vec_len driver.lanes };
 
-    fn drive<R: Wait>(self, rt: &R, workers: &mut Workers<u64, Total>) {
+    fn drive<R: Wait>(self, rt: &R, workers: &mut Workers<u64, Total>) -> Vec<Total> {
+        let mut lanes = self.lanes;
         for round in 0..ROUNDS {
             let orders = [round, round + 1, round + 2, round + 3];
-            let count = workers.len();
-            workers.round(rt, &orders[..count]);
+            let count = lanes.len();
+            workers.round(rt, &mut lanes, &orders[..count]);
         }
+        lanes
     }
 }
 
@@ -66,11 +70,12 @@ fn in_order(lane: u64) -> Total {
     total
 }
 
-/// The lanes after all rounds: lane i begins with the sum i.
+/// So many lanes after all rounds, over so many threads: lane i begins with the sum i.
 fn counted<R: Threads + Wait + Sync>(
     rt: &R,
     alloc: Global,
     count: u64,
+    threads: usize,
 ) -> Result<Vec<Total>, AllocError>
     requires { count ≤ 4 }
 {
@@ -78,20 +83,18 @@ fn counted<R: Threads + Wait + Sync>(
     for lane in 0..count {
         lanes.push(total_of(lane))?;
     }
-    let ran = with_workers(rt, alloc, lanes, CountingRounds).map_err(|_| AllocError)?;
-    Ok(ran.lanes)
+    Ok(with_workers(rt, alloc, threads, CountingRounds { lanes })?)
 }
 
 #[test]
 fn no_lane(rt: HostRuntime) -> Result<(), Fail> {
-    let lanes = counted(&rt, rt.alloc(), 0)?;
-    assert_eq!(rt; lanes.len(), 0);
+    assert_eq!(rt; counted(&rt, rt.alloc(), 0, 1)?.len(), 0);
     Ok(())
 }
 
 #[test]
-fn one_lane_runs_on_the_caller(rt: HostRuntime) -> Result<(), Fail> {
-    let lanes = counted(&rt, rt.alloc(), 1)?;
+fn one_lane_without_a_thread(rt: HostRuntime) -> Result<(), Fail> {
+    let lanes = counted(&rt, rt.alloc(), 1, 0)?;
     assert_eq!(rt; lanes.as_slice(), [in_order(0)].as_slice());
     assert_eq!(rt; in_order(0).sum, 499_500);
     Ok(())
@@ -99,17 +102,24 @@ fn one_lane_runs_on_the_caller(rt: HostRuntime) -> Result<(), Fail> {
 
 #[test]
 fn two_lanes(rt: HostRuntime) -> Result<(), Fail> {
-    let lanes = counted(&rt, rt.alloc(), 2)?;
+    let lanes = counted(&rt, rt.alloc(), 2, 1)?;
     assert_eq!(rt; lanes.as_slice(), [in_order(0), in_order(1)].as_slice());
     Ok(())
 }
 
 #[test]
 fn four_lanes(rt: HostRuntime) -> Result<(), Fail> {
-    let lanes = counted(&rt, rt.alloc(), 4)?;
+    let lanes = counted(&rt, rt.alloc(), 4, 3)?;
     let expected = [in_order(0), in_order(1), in_order(2), in_order(3)];
     assert_eq!(rt; lanes.as_slice(), expected.as_slice());
     assert_eq!(rt; expected[3].sum, 3 + 499_500 + 3_000);
+    Ok(())
+}
+
+#[test]
+fn fewer_lanes_than_threads(rt: HostRuntime) -> Result<(), Fail> {
+    let lanes = counted(&rt, rt.alloc(), 2, 3)?;
+    assert_eq!(rt; lanes.as_slice(), [in_order(0), in_order(1)].as_slice());
     Ok(())
 }
 
@@ -139,19 +149,23 @@ impl<'a> Lane<Weights<'a>> for Total {
 #[derive(Drop)]
 struct WeighedRound<'a> {
     by_digit: &'a [u64; 10],
+    lanes: Vec<Total>,
 }
 
 impl<'a> Driver<Weights<'a>, Total> for WeighedRound<'a> {
-    type Outcome = ();
+    type Outcome = Vec<Total>;
 
-    ghost use Rattle.std.specs.Prelude.{◌≡◌, length};
+    ghost use Rattle.std.specs.Prelude.{◌≡◌, vec_len};
 
-    ghost can_drive = { λ driver lanes. length lanes ≡ 2 };
+    ghost can_drive = { λ driver. vec_len driver.lanes ≡ 2 };
 
-    ghost drives = { λ driver old outcome new. length new ≡ length old };
+    ghost drives = { λ driver outcome. vec_len outcome ≡ 2 };
 
-    fn drive<R: Wait>(self, rt: &R, workers: &mut Workers<Weights<'a>, Total>) {
-        let by_digit = self.by_digit;
+    fn drive<R: Wait>(self, rt: &R, workers: &mut Workers<Weights<'a>, Total>) -> Vec<Total> {
+        let WeighedRound {
+            by_digit,
+            mut lanes,
+        } = self;
         let orders = [
             Weights {
                 by_digit,
@@ -162,7 +176,8 @@ impl<'a> Driver<Weights<'a>, Total> for WeighedRound<'a> {
                 number: 1,
             },
         ];
-        workers.round(rt, &orders);
+        workers.round(rt, &mut lanes, &orders);
+        lanes
     }
 }
 
@@ -174,10 +189,11 @@ fn orders_may_refer_to_what_all_lanes_read(rt: HostRuntime) -> Result<(), Fail> 
     lanes.push(total_of(100))?;
     let driver = WeighedRound {
         by_digit: &by_digit,
+        lanes,
     };
-    let ran = with_workers(&rt, rt.alloc(), lanes, driver).map_err(|_| AllocError)?;
-    assert_eq!(rt; ran.lanes.len(), 2);
-    assert_eq!(rt; ran.lanes[0].sum, 10);
-    assert_eq!(rt; ran.lanes[1].sum, 111);
+    let lanes = with_workers(&rt, rt.alloc(), 1, driver)?;
+    assert_eq!(rt; lanes.len(), 2);
+    assert_eq!(rt; lanes[0].sum, 10);
+    assert_eq!(rt; lanes[1].sum, 111);
     Ok(())
 }

@@ -1,4 +1,4 @@
-//! Lanes, and the threads that stay for them.
+//! Threads that stay, and rounds of lanes over them.
 ghost use Rattle.std.specs.Prelude.{◌≡◌, ◌+◌, ◌≤◌, List, [], ◌++◌, All, length, drop, vec_len, vec_capacity};
 ghost use Rattle.std.specs.List.{AllZip, zip};
 ghost use Rattle.warp_threads.specs.Rounds.{AllMayAdvance, AllAdvanced, one_each};
@@ -9,64 +9,83 @@ use crate::packet::Packet;
 use std::marker::Model;
 use std::sync::Wait;
 
-/// Lanes between rounds, and the threads that work on them in rounds. Contracts see the lanes.
+/// Threads that stay, each of which works on a lane in a round. Contracts see their number.
 pub struct Workers<O, L: Lane<O>> {
-    lanes: Vec<L>,
     lenders: Vec<Lender<Packet<O, L>>>,
 }
 
 impl<O, L: Lane<O>> Model for Workers<O, L> {
-    ghost use Rattle.std.specs.Prelude.{◌≡◌, ◌≤◌, List, [], All, vec_len};
+    ghost use Rattle.std.specs.Prelude.{◌≡◌, ℕ, [], All, vec_len};
 
-    ghost Value = { List L };
+    ghost Value = { ℕ };
 
-    ghost view = { λ w. w.lanes.items };
+    ghost view = { λ w. vec_len w.lenders };
 
-    ghost invariant = { λ w. record {
-      few : vec_len w.lenders ≤ vec_len w.lanes;
-      nothing_lent : All (λ x. x ≡ []) w.lenders.items;
-    } };
+    ghost invariant = { λ w. All (λ x. x ≡ []) w.lenders.items };
 }
 
 impl<O: Copy, L: Lane<O> + Drop> Workers<O, L> {
-    pub(crate) fn new(lanes: Vec<L>, lenders: Vec<Lender<Packet<O, L>>>) -> Self
-        requires few { vec_len lenders ≤ vec_len lanes }
-        requires nothing_lent { All (λ x. x ≡ []) lenders.items }
-        ensures { result ≡ lanes.items }
+    pub(crate) fn new(lenders: Vec<Lender<Packet<O, L>>>) -> Self
+        requires { All (λ x. x ≡ []) lenders.items }
+        ensures { result ≡ vec_len lenders }
     {
-        Workers { lanes, lenders }
+        Workers { lenders }
     }
 
-    /// Lets every thread end, and gives the lanes back.
-    pub(crate) fn into_lanes(self) -> Vec<L>
-        ensures { result.items ≡ self }
-    {
-        let Workers { lanes, lenders } = self;
+    /// Lets every thread end.
+    pub(crate) fn stop(self) {
+        let Workers { lenders } = self;
         for lender in &lenders {
             lender.stop();
         }
-        lanes
     }
 
-    /// The number of lanes.
-    pub fn len(&self) -> usize
-        ensures { result ≡ length self.now }
+    /// The number of threads besides the caller's.
+    pub fn threads(&self) -> usize
+        ensures { result ≡ self.now }
     {
-        self.lanes.len()
+        self.lenders.len()
     }
 
-    /// One round: every lane is advanced by its order, the last ones in the threads and the others
-    /// here, and all are back when it returns.
-    pub fn round<R: Wait>(&mut self, rt: &R, orders: &[O])
-        requires len { length orders.now ≡ length self.old }
-        requires ready { AllMayAdvance L.can_advance orders.now self.old }
-        ensures advanced { AllAdvanced L.advances orders.now self.old self.new }
-        ensures len { length self.new ≡ length self.old }
+    /// One round: each lane is advanced by the order for its place. The threads have the last
+    /// lanes, and the caller works on the others; where there are fewer lanes than threads, it
+    /// works on all of them. Takes no memory.
+    pub fn round<R: Wait>(&mut self, rt: &R, lanes: &mut Vec<L>, orders: &[O])
+        requires len { length orders.now ≡ vec_len lanes.old }
+        requires ready { AllMayAdvance L.can_advance orders.now lanes.old.items }
+        ensures advanced { AllAdvanced L.advances orders.now lanes.old.items lanes.new.items }
+        ensures len { vec_len lanes.new ≡ vec_len lanes.old }
+        ensures room { vec_capacity lanes.new ≡ vec_capacity lanes.old }
+        ensures threads { self.new ≡ self.old }
     {
-        lend_all(rt, &mut self.lanes, &mut self.lenders, orders);
-        advance_all(&mut self.lanes, orders);
-        collect_all(rt, &mut self.lanes, &mut self.lenders);
+        if self.lenders.len() <= lanes.len() {
+            advance_in_threads(rt, lanes, &mut self.lenders, orders);
+        } else {
+            advance_all(lanes, orders);
+        }
     }
+}
+
+/// Advances each lane by the order for its place, the last ones in the threads.
+fn advance_in_threads<O: Copy, L: Lane<O> + Drop, R: Wait>(
+    rt: &R,
+    lanes: &mut Vec<L>,
+    lenders: &mut Vec<Lender<Packet<O, L>>>,
+    orders: &[O],
+)
+    requires few { vec_len lenders.old ≤ vec_len lanes.old }
+    requires len { length orders.now ≡ vec_len lanes.old }
+    requires nothing_lent { All (λ x. x ≡ []) lenders.old.items }
+    requires ready { AllMayAdvance L.can_advance orders.now lanes.old.items }
+    ensures advanced { AllAdvanced L.advances orders.now lanes.old.items lanes.new.items }
+    ensures nothing_lent { All (λ x. x ≡ []) lenders.new.items }
+    ensures len { vec_len lanes.new ≡ vec_len lanes.old }
+    ensures room { vec_capacity lanes.new ≡ vec_capacity lanes.old }
+    ensures threads { vec_len lenders.new ≡ vec_len lenders.old }
+{
+    lend_all(rt, lanes, lenders, orders);
+    advance_all(lanes, orders);
+    collect_all(rt, lanes, lenders);
 }
 
 /// Lends each thread a lane, the last ones.
@@ -84,6 +103,7 @@ fn lend_all<O: Copy, L: Lane<O> + Drop, R: Wait>(
         × (lenders.new.items ≡ one_each (zip (drop (vec_len lanes.new) orders.now) lent)) }
     ensures len { vec_len lanes.new + vec_len lenders.new ≡ vec_len lanes.old }
     ensures room { vec_capacity lanes.new ≡ vec_capacity lanes.old }
+    ensures threads { vec_len lenders.new ≡ vec_len lenders.old }
 {
     let mut place = lenders.len();
     while place > 0 {
@@ -120,6 +140,7 @@ fn collect_all<O: Drop, L: Lane<O> + Drop, R: Wait>(
         × AllZip (λ x lane. L.advances x.0 x.1 lane) lent back }
     ensures nothing_lent { All (λ x. x ≡ []) lenders.new.items }
     ensures len { vec_len lanes.new ≡ vec_len lanes.old + vec_len lenders.old }
+    ensures room { vec_capacity lanes.new ≡ vec_capacity lanes.old }
     ensures threads { vec_len lenders.new ≡ vec_len lenders.old }
 {
     for place in 0..lenders.len() {
