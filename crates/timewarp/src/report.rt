@@ -7,8 +7,8 @@ ghost use Rattle.warp_run.specs.Failures.{MatchFailure};
 
 use crate::words::Order;
 use std::alloc::Global;
-use warp_base::Simulation;
-use warp_models::Station;
+use warp_base::{Payload, Simulation};
+use warp_models::{Ring, Station};
 use warp_run::{Failure, run_in_order};
 
 /// What the program tells of a run.
@@ -67,7 +67,16 @@ fn simulate_model<M: Simulation<State = Station>>(
 }
 
 /// Simulates what the words ask for.
-pub fn simulate(alloc: Global, order: &Order) -> Result<Report, Failure> {
+pub fn simulate(alloc: Global, order: &Order) -> Result<Report, Failure>
+    ensures ok { IfOk result (λ r. TellsEnd ⟦<() as Payload>⟧.words
+        (⟦<Ring as Simulation>⟧.behaviour order.now.ring) order.now.ring.stations order.now.end
+        r.committed r.checksum) }
+    ensures failure { IfErr result (MatchFailure
+        (FaultsFirstAt ⟦<() as Payload>⟧.words (⟦<Ring as Simulation>⟧.behaviour order.now.ring)
+        order.now.ring.stations order.now.end)
+        (IsTooLong ⟦<() as Payload>⟧.words (⟦<Ring as Simulation>⟧.behaviour order.now.ring)
+        order.now.ring.stations order.now.end)) }
+{
     simulate_model(alloc, &order.ring, order.end)
 }
 
@@ -75,7 +84,6 @@ pub fn simulate(alloc: Global, order: &Order) -> Result<Report, Failure> {
 mod tests {
     use super::*;
     use std::test::Fail;
-    use warp_models::Ring;
 
     /// Services and ways of one tick: each station serves a job each tick, from 1 on, and each
     /// that was served comes to the next station a tick later.
