@@ -1,5 +1,5 @@
 -- Lists that hold what a run in order holds: where a process starts, and where an event is run.
-use Rattle.std.proofs.Common.{◌≡◌, ◌≢◌, ℕ, zero, suc, ◌+◌, ◌<◌, ◌≤◌, Bool, true, false, cond, ◌==◌, List, [], ◌∷◌, ◌++◌, length, take, get_or, Some, refl, ap, sym, subst, ◌∙◌, arith, inl, inr, length-append, add-one}
+use Rattle.std.proofs.Common.{◌≡◌, ◌≢◌, ℕ, zero, suc, ◌+◌, ◌<◌, cond, ◌==◌, List, [], ◌∷◌, ◌++◌, length, take, get_or, Some, refl, ap, sym, subst, ◌∙◌, arith, inl, inr, length-append}
 use Rattle.std.specs.List.{slice_get}
 use Rattle.std.proofs.Math.ListN.{set}
 use Rattle.std.proofs.lemmas.Bool.{cases_eq, eq-eqb, ne_eqb}
@@ -8,7 +8,7 @@ use Rattle.std.proofs.lemmas.Option.{slice_get-get_or, get_or_from_slice_get, sl
 use Rattle.warp_base.specs.declared.event.Event.{Event}
 use Rattle.warp_base.specs.declared.event.Draft.{Draft}
 use Rattle.warp_base.specs.Histories.{Behaviour, stamp, stamped}
-use Rattle.warp_base.specs.Sequential.{Run, queued, all_queued, first_queue, first_run, after_event}
+use Rattle.warp_base.specs.Sequential.{Run, queued, all_queued, first_run, after_event}
 use Rattle.warp_base.proofs.Folds.{stamped-push}
 use Rattle.warp_run.specs.Standing.{StandsAt}
 

@@ -1,11 +1,11 @@
 -- The run in order, step by step: what it comes to where an event is run, and where a fault is met.
-use Rattle.std.proofs.Common.{◌≡◌, ◌≢◌, ℕ, zero, suc, ◌+◌, ◌<◌, ◌≤◌, ◌⊎◌, Bool, true, false, cond, nat_le, ◌==◌, List, [], ◌∷◌, ◌++◌, length, refl, ap, sym, subst, ◌∙◌, arith, inl, inr, length-append, Some}
-use Rattle.std.proofs.lemmas.Bool.{cases_Bool, cases_eq, cases_lt, eq-eqb, ne_eqb, le-leb}
+use Rattle.std.proofs.Common.{◌≡◌, ◌≢◌, ℕ, zero, suc, ◌+◌, ◌<◌, ◌≤◌, true, false, cond, nat_le, List, [], ◌∷◌, length, refl, ap, sym, subst, ◌∙◌, arith, inl, inr, length-append}
+use Rattle.std.proofs.lemmas.Bool.{cases_Bool, cases_eq, eq-eqb, ne_eqb, le-leb}
 use Rattle.warp_base.specs.declared.event.Event.{Event}
 use Rattle.warp_base.specs.declared.event.Draft.{Draft}
 use Rattle.warp_base.specs.Events.{Each}
 use Rattle.warp_base.specs.Histories.{Behaviour, stamped, SendsWithin}
-use Rattle.warp_base.specs.Sequential.{Run, all_queued, first_queue, after_event, step_with, sequential}
+use Rattle.warp_base.specs.Sequential.{Run, first_queue, after_event, step_with, sequential}
 use Rattle.warp_base.proofs.Folds.{Each-stamped}
 use Rattle.warp_run.specs.declared.finished.Failure.{Failure}
 use Rattle.warp_run.specs.declared.finished.Failure.TheVariants.{OutOfMemory, Fault, TooManyEvents}

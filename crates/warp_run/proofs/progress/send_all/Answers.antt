@@ -1,5 +1,5 @@
 -- One draft more is stamped and queued.
-use Rattle.std.proofs.Common.{◌∙◌, ◌+◌, ap, sym}
+use Rattle.std.proofs.Common.{◌∙◌, ◌+◌, ap}
 use Rattle.warp_base.specs.Sequential.{queued}
 use Rattle.warp_base.specs.Histories.{stamp}
 use Rattle.warp_run.proofs.Standing.{queued_more}

@@ -1,5 +1,5 @@
 -- One process more has started; a fault is that of the first process that starts with one.
-use Rattle.std.proofs.Common.{◌≡◌, ◌<◌, ◌≤◌, ◌+◌, false, true, below_more, ap, sym, subst, ◌∙◌, arith}
+use Rattle.std.proofs.Common.{◌≡◌, ◌<◌, ◌≤◌, below_more, sym, subst, arith}
 use Rattle.std.proofs.lemmas.Result.{err_from_is_err_and}
 use Rattle.warp_base.specs.Sequential.{first_run}
 use Rattle.warp_run.specs.Ends.{FaultsFirstAt}

@@ -1,5 +1,5 @@
 -- The event that the heap gives is before all that it keeps, and it is the one that stood at its front.
-use Rattle.std.proofs.Common.{◌∙◌, ◌+◌, ◌<◌, ◌≤◌, length, List, ◌∷◌, sym, subst, ap, refl, arith}
+use Rattle.std.proofs.Common.{◌∙◌, ◌<◌, length, ◌∷◌, sym, subst, ap, refl, arith}
 use Rattle.std.proofs.lemmas.List.Sorted.{length_permutation}
 use Rattle.std.specs.BinaryHeap.{heap_items}
 use Rattle.warp_base.specs.Events.{Each}
