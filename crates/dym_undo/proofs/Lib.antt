@@ -1,0 +1,9 @@
+mod Lists
+mod Places
+mod Stamping
+mod Patches
+mod Walks
+mod Decoding
+mod Restoring
+mod Pendings
+mod Keeping
