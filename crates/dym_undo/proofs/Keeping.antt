@@ -132,9 +132,10 @@ copies-push live low [] cs k (e ∷ es) placed copies = copies
 copies-push live low (p ∷ ps) cs k [] placed copies = copies
 copies-push live low (p ∷ ps) cs k (e ∷ es) placed copies =
     let within : p ≤ length cs = placed_within p (length cs) ps placed.1 in
-    let c : Change = record { key = k; before = get live k } in
-    (copies.0 ∙ sym (ap (λ (l : List Change). patched l live) (drop-append-le p cs (c ∷ []) within) ∙ patched-append (drop p cs) (c ∷ []) live ∙ ap (patched (drop p cs)) (put_at-itself live k)),
-    copies-push live p ps cs k es placed.1 copies.1)
+    let c : Change = record { key = k; before = get live k } in (
+      copies.0 ∙ sym (ap (λ (l : List Change). patched l live) (drop-append-le p cs (c ∷ []) within) ∙ patched-append (drop p cs) (c ∷ []) live ∙ ap (patched (drop p cs)) (put_at-itself live k)),
+      copies-push live p ps cs k es placed.1 copies.1,
+    )
 
 -- a chunk that is noted behind the newest log is noted behind each
 noted_each : (low p : ℕ) (ps : List ℕ) (cs : List Change) (k : ℕ) → ArePlaced low (length cs) (p ∷ ps) → is_noted k (since (p ∷ ps) cs) ≡ true → is_noted k (drop p cs) ≡ true
@@ -154,9 +155,10 @@ pub copies-change : (a b : Live) (low : ℕ) (ps : List ℕ) (cs : List Change) 
 copies-change a b low [] cs k [] placed noted alike copies = tt
 copies-change a b low [] cs k (e ∷ es) placed noted alike copies = copies
 copies-change a b low (p ∷ ps) cs k [] placed noted alike copies = copies
-copies-change a b low (p ∷ ps) cs k (e ∷ es) placed noted alike copies =
-    (copies.0 ∙ patched-noted (drop p cs) k a b (noted_each low p ps cs k placed (noted (omega arith))) (λ q apart. sym (alike q apart)),
-    copies-change a b p ps cs k es placed.1 (rest ps noted) alike copies.1)
+copies-change a b low (p ∷ ps) cs k (e ∷ es) placed noted alike copies = (
+  copies.0 ∙ patched-noted (drop p cs) k a b (noted_each low p ps cs k placed (noted (omega arith))) (λ q apart. sym (alike q apart)),
+  copies-change a b p ps cs k es placed.1 (rest ps noted) alike copies.1,
+)
   where
     rest : (ps : List ℕ) → (0 < length (p ∷ ps) → is_noted k (since (p ∷ ps) cs) ≡ true) → 0 < length ps → is_noted k (since ps cs) ≡ true
     rest [] noted some = absurd (omega arith)

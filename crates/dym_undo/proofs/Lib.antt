@@ -7,3 +7,5 @@ mod Decoding
 mod Restoring
 mod Pendings
 mod Keeping
+mod Logging
+mod Rolling

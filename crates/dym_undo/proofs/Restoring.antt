@@ -111,10 +111,14 @@ put_within quota limit c cs w keys le stamped now end among = by c.before refl
     by (Some bytes) e =
         let got : get (put_live (c ∷ cs) w).live c.key ≡ Some bytes
         = put_live-stamped limit (c ∷ cs) w c.key keys keys.0 le stamped (λ none. absurd (true≢false (ap is_some (sym (first bytes e) ∙ none)))) ∙ first bytes e in
-        omega (arith, end, held_grows (insert w.live c.key bytes) (put_live (c ∷ cs) w).live (λ q has. elim (has_cases w.live c.key bytes q has) [
-          | inl same ↦ ap (λ k. contains_key (put_live (c ∷ cs) w).live k) same ∙ ap is_some got
-          | inr old ↦ among q old
-        ]))
+        omega (
+          arith,
+          end,
+          held_grows (insert w.live c.key bytes) (put_live (c ∷ cs) w).live (λ q has. elim (has_cases w.live c.key bytes q has) [
+            | inl same ↦ ap (λ k. contains_key (put_live (c ∷ cs) w).live k) same ∙ ap is_some got
+            | inr old ↦ among q old
+          ]),
+        )
 
 -- what was live, or is put back, is live at the end
 pub among_next : (limit : ℕ) (c : Change) (cs : List Change) (w : Way) → AreKeys limit (c ∷ cs) → limit * 64 ≤ length w.words

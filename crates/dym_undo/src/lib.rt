@@ -15,10 +15,10 @@ mod positions;
 mod rooms;
 mod stamps;
 mod undo_heap;
-
+mod undo_log;
 
 pub use entry::Entry;
 pub use head::Head;
 pub use log_error::LogError;
 pub use undo_heap::UndoHeap;
-
+pub use undo_log::UndoLog;

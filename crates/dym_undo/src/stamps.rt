@@ -9,6 +9,7 @@ use dym_base::{Handle, per_area};
 
 /// The bits of one area of each class, and of one word.
 pub(crate) const AREA_BITS: usize = 4_096;
+
 const WORD_BITS: usize = 64;
 
 /// The words that hold the bits of one area of each class.

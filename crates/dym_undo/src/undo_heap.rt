@@ -6,6 +6,7 @@ ghost use Rattle.dym_base.specs.HeapStep.{key, without_chunk};
 ghost use Rattle.dym_base.specs.Heaps.{HeapState, held};
 ghost use Rattle.dym_base.specs.Laws.{FitsClass};
 ghost use Rattle.dym_base.specs.declared.command.Version.{Version};
+ghost use Rattle.dym_undo.specs.Rooms.{all_bytes};
 ghost use Rattle.dym_undo.specs.Heaps.{IsWithin, put_back, forgotten, all_forgotten};
 
 use dym_base::Handle;
@@ -30,10 +31,10 @@ pub trait UndoHeap {
     fn chunk(&self, handle: Handle) -> Option<&[u8]>
         ensures { option_copied result ≡ map.get (state self.now).live (key handle) };
 
-    /// How many segments the heap holds.
-    fn held(&self) -> u32
+    /// At most how many bytes the live chunks have.
+    fn most_bytes(&self) -> usize
         requires { is_sound self.now }
-        ensures { result ≡ held (state self.now).live };
+        ensures { all_bytes (state self.now).live (quota_of self.now) ≤ result };
 
     /// Takes a live chunk away.
     fn take_away(&mut self, context: &Self::Context, handle: Handle)

@@ -50,9 +50,11 @@ drop_first-requires-2 c =
     omega (arith, ap bytes_in (c.split_at.ensures.front ∙ ap (take c.in-Some.place) c.deref-2.ensures.value), bytes_split c.in-Some.place c.args.heads.now.items, c.requires.whole, c.count_bytes-gone.ensures)
 
 pub move_places-requires : goal.move_places-requires
-move_places-requires c =
-    (length c.args.heads.now.items, subst (ArePlaced c.in-Some.place (length c.args.heads.now.items)) (sym c.deref_mut.ensures.value)
-    (first_placed 0 (length c.args.heads.now.items) c.in-Some.place c.args.places.now.items (sym (c.in-Some.ensures ∙ c.first.ensures.value ∙ ap (λ (ps : List ℕ). slice_get ps 0) c.deref.ensures.value)) c.requires.placed))
+move_places-requires c = (
+  length c.args.heads.now.items,
+  subst (ArePlaced c.in-Some.place (length c.args.heads.now.items)) (sym c.deref_mut.ensures.value)
+      (first_placed 0 (length c.args.heads.now.items) c.in-Some.place c.args.places.now.items (sym (c.in-Some.ensures ∙ c.first.ensures.value ∙ ap (λ (ps : List ℕ). slice_get ps 0) c.deref.ensures.value)) c.requires.placed),
+)
 
 whole : (n : ℕ) (xs ys : List ℕ) → length xs ≡ length ys → n ≡ length ys → take n (xs ++ drop (length xs) ys) ≡ xs
 whole n xs ys same is =
