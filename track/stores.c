@@ -18,7 +18,7 @@ static void tell_chunk(table *t, size_t offset)
     area *a = area_at(t, offset);
     size_t chunk = area_chunk(a, offset);
     if (!area_knows(t, a, chunk)) {
-        if (!table_is_open(t) || dym_wrote_at(dym_current.object, offset, 1) != DYM_DONE) return;
+        if (!table_is_open(t) || dym_wrote_offset(dym_current.object, offset, 1) != DYM_DONE) return;
         area_note(t, a, chunk);
     }
     table_remember(t, a, offset);

@@ -245,11 +245,11 @@ static const process *watched;
 static size_t watched_way, tellings;
 static uint8_t *watched_bytes;
 
-dym_status __real_dym_wrote_at(dym_object *object, uint64_t offset, uint64_t length);
-dym_status __wrap_dym_wrote_at(dym_object *object, uint64_t offset, uint64_t length);
+dym_status __real_dym_wrote_offset(dym_object *object, uint64_t offset, uint64_t length);
+dym_status __wrap_dym_wrote_offset(dym_object *object, uint64_t offset, uint64_t length);
 
-/* In place of dym_wrote_at, by the linker: here all goes by that is told. */
-dym_status __wrap_dym_wrote_at(dym_object *object, uint64_t offset, uint64_t length)
+/* In place of dym_wrote_offset, by the linker: here all goes by that is told. */
+dym_status __wrap_dym_wrote_offset(dym_object *object, uint64_t offset, uint64_t length)
 {
     const void *start = NULL;
     if (watched != NULL && object == &watched->object && dym_start(object, &start) == DYM_DONE) {
@@ -258,7 +258,7 @@ dym_status __wrap_dym_wrote_at(dym_object *object, uint64_t offset, uint64_t len
         if (offset + length > chunk && offset < chunk + size && tellings++ == 0 && memcmp(watched->at[watched_way], watched_bytes, size) != 0)
             fail("it was written before it was told", ways[watched_way]->name);
     }
-    return __real_dym_wrote_at(object, offset, length);
+    return __real_dym_wrote_offset(object, offset, length);
 }
 
 static void before(void)

@@ -1,6 +1,6 @@
 /*
  * --save place and --save told: the state is an object of the library, whose chunks lie at addresses that stay. In place, a write is said by
- * dym_wrote_at, which touches the chunk; where stores are told nothing is said: dymelor-cc compiled the models, and the object is named
+ * dym_wrote_offset, which touches the chunk; where stores are told nothing is said: dymelor-cc compiled the models, and the object is named
  * while an event runs.
  */
 #include "memory.h"
@@ -102,7 +102,7 @@ static void object_free(memory *m, void *chunk, size_t length)
     object *own = m->inside;
     dym_handle handle;
     (void)length;
-    must(dym_handle_at(&own->heap, (uintptr_t)chunk - own->start, &handle));
+    must(dym_handle_offset(&own->heap, (uintptr_t)chunk - own->start, &handle));
     must(dym_free(&own->heap, handle));
 }
 
@@ -111,7 +111,7 @@ static void place_write(memory *m, void *at, size_t length)
     object *own = m->inside;
     said *before = &own->said[(uintptr_t)at / LEAST_CHUNK % REMEMBERED];
     if (before->at == at && before->length >= length && before->interval == own->interval) return;
-    must(dym_wrote_at(&own->heap, (uintptr_t)at - own->start, length));
+    must(dym_wrote_offset(&own->heap, (uintptr_t)at - own->start, length));
     before->at = at;
     before->length = length;
     before->interval = own->interval;
