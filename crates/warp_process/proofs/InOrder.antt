@@ -1,13 +1,12 @@
 -- Places in lists of events in order.
-use Rattle.std.proofs.Common.{◌≡◌, ◌≢◌, ℕ, zero, suc, ◌+◌, ◌<◌, ◌≤◌, inl, inr, Bool, true, false, not, List, [], ◌∷◌, ◌++◌, length, take, drop, get_or, refl, ap, sym, ◌∙◌, arith}
+use Rattle.std.proofs.Common.{◌≡◌, ℕ, zero, suc, ◌+◌, ◌<◌, ◌≤◌, inl, inr, Bool, true, false, not, List, [], ◌∷◌, ◌++◌, length, take, drop, get_or, refl, ap, sym, ◌∙◌, arith}
 use Rattle.std.proofs.lemmas.Bool.{cases_Bool}
-use Rattle.std.proofs.lemmas.List.{take_more, take-append-drop}
-use Rattle.std.specs.List.{insert, remove, AllWithin}
+use Rattle.std.proofs.lemmas.List.{take_more}
+use Rattle.std.specs.List.{remove, AllWithin}
 use Rattle.std.specs.List.Sorted.{IsPartitionedBy}
 use Rattle.warp_base.specs.declared.event.Event.{Event}
-use Rattle.warp_base.specs.Events.{Each, precedes, hit, copies, IsBefore, IsInOrder}
-use Rattle.warp_base.proofs.Lists.{Each-weaker}
-use Rattle.warp_base.proofs.Orders.{TellsApart, precedes_self, precedes_total, precedes_trans, hit_cases, copies-append, before_trans}
+use Rattle.warp_base.specs.Events.{Each, precedes, copies, IsBefore, IsInOrder}
+use Rattle.warp_base.proofs.Orders.{TellsApart, precedes_self, precedes_total, precedes_trans, hit_cases, copies-append}
 
 module _ {X : Type 0} (Q : X → Type 0) where
   pub Each-at : (xs : List X) (k : ℕ) (d : X) → Each Q xs → k < length xs → Q (get_or xs k d)

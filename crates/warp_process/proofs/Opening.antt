@@ -1,12 +1,12 @@
 -- A process that has run nothing.
-use Rattle.std.proofs.Common.{◌≡◌, ℕ, ◌+◌, ◌<◌, false, None, List, [], ◌∷◌, ◌++◌, length, refl, ap, sym, subst, ◌∙◌, arith, lit<}
+use Rattle.std.proofs.Common.{◌≡◌, ℕ, false, None, List, [], ◌∷◌, length, refl, ap, sym, subst, arith, lit<}
 use Rattle.std.proofs.lemmas.List.{append-nil}
 use Rattle.warp_base.specs.declared.event.Draft.{Draft}
 use Rattle.warp_base.specs.Events.{Each}
 use Rattle.warp_base.specs.Histories.{Behaviour, stamped}
 use Rattle.warp_base.proofs.Folds.{length-stamped}
 use Rattle.warp_process.specs.Savers.{AreAscending}
-use Rattle.warp_process.specs.Processes.{ProcessFace, IsProcess, IsCopy}
+use Rattle.warp_process.specs.Processes.{IsProcess, IsCopy}
 
 pub opened : {P S : Type 0} (words : P → List ℕ) (b : Behaviour P S) (number serial : ℕ) (s : S) (copies : List (ℕ × S)) (drafts : List (Draft P)) → s ≡ b.start number → drafts ≡ b.firsts number → serial ≡ length drafts → copies ≡ (0, s) ∷ [] → IsProcess words b [] (record { number = number; last = None; events = []; marks = []; sent = []; serial = serial; early = []; first_date = 0; fossils = []; is_stale = false; state = s; copies = copies })
 opened {P} {S} words b number serial s copies drafts is_start are_firsts serial_is copies_are = record {

@@ -1,13 +1,13 @@
 -- What was sent, where only the first events stay run, or one more is run.
-use Rattle.std.proofs.Common.{◌≡◌, ℕ, zero, suc, ◌+◌, ◌<◌, ◌≤◌, inl, inr, List, [], ◌∷◌, ◌++◌, length, take, drop, get_or, Some, None, slice_get, refl, ap, sym, subst, ◌∙◌, arith, append_assoc, length-append}
-use Rattle.std.proofs.lemmas.List.{take-append-drop, take-append-le, take_all, take_more, length-take-le, append-nil}
+use Rattle.std.proofs.Common.{◌≡◌, ℕ, zero, suc, ◌+◌, ◌<◌, ◌≤◌, inl, inr, List, [], ◌∷◌, ◌++◌, length, take, drop, get_or, Some, slice_get, refl, ap, sym, ◌∙◌, arith, length-append}
+use Rattle.std.proofs.lemmas.List.{take-append-drop, take_more, length-take-le}
 use Rattle.std.proofs.lemmas.Bool.{cases_lt}
 use Rattle.warp_base.specs.declared.event.Event.{Event}
 use Rattle.warp_base.specs.declared.event.Draft.{Draft}
 use Rattle.warp_base.specs.Events.{Each, AreFrom}
 use Rattle.warp_base.specs.Histories.{Behaviour, LooksAhead, stamped, state_from, sent_from}
-use Rattle.warp_base.proofs.Lists.{Each-append, Each-weaker}
-use Rattle.warp_base.proofs.Folds.{length-stamped, Each-stamped, sent_from-append, sent_from-push, sent_from-take}
+use Rattle.warp_base.proofs.Lists.{Each-append}
+use Rattle.warp_base.proofs.Folds.{length-stamped, Each-stamped, sent_from-append, sent_from-push}
 use Rattle.warp_process.specs.Processes.{IsRun}
 
 pub take_less : {X : Type 0} (k n : ℕ) (xs : List X) → k ≤ n → take k (take n xs) ≡ take k xs

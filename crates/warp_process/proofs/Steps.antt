@@ -1,19 +1,18 @@
 -- Each step keeps that a process is one.
-use Rattle.std.proofs.Common.{◌≡◌, ℕ, zero, suc, ◌+◌, ◌-◌, ◌^◌, ◌<◌, ◌≤◌, inl, inr, Bool, true, false, nat_le, List, [], ◌∷◌, ◌++◌, length, take, drop, get_or, Some, None, slice_get, map, refl, ap, sym, subst, ◌∙◌, arith, append_assoc, length-append}
+use Rattle.std.proofs.Common.{◌≡◌, ℕ, ◌+◌, ◌^◌, ◌<◌, ◌≤◌, inl, inr, true, false, nat_le, List, [], ◌∷◌, ◌++◌, length, take, drop, get_or, Some, slice_get, map, ap, sym, subst, ◌∙◌, arith, append_assoc, length-append}
 use Rattle.std.proofs.lemmas.List.{take-append-drop, take-append-le, length-take-le, append_cancel_left, take_more}
 use Rattle.std.proofs.lemmas.Bool.{cases_Bool, le-leb, leb-true}
-use Rattle.std.specs.List.{filter, insert, remove}
 use Rattle.std.proofs.Math.Seq.{take_at}
 use Rattle.warp_base.specs.declared.event.Event.{Event}
 use Rattle.warp_base.specs.declared.event.Message.{Message}
 use Rattle.warp_base.specs.declared.event.Message.TheVariants as Variants
-use Rattle.warp_base.specs.Events.{Each, copies, IsInOrder, AreFor, AreFrom}
+use Rattle.warp_base.specs.Events.{Each, AreFrom}
 use Rattle.warp_base.specs.Histories.{Behaviour, LooksAhead, stamped, state_from, state_after, sent_from, all_sent}
 use Rattle.warp_base.proofs.Lists.{filter_yes, filter_no, Each-filter, Each-weaker}
 use Rattle.warp_base.specs.declared.event.Draft.{Draft}
 use Rattle.warp_base.proofs.Folds.{Each-stamped, state_after-append, state_after-push}
 use Rattle.warp_process.specs.Savers.{until, AreAscending}
-use Rattle.warp_process.specs.Processes.{ProcessFace, IsProcess, IsRun, IsCopy, done_of, HasPosted}
+use Rattle.warp_process.specs.Processes.{ProcessFace, IsProcess, IsCopy, done_of, HasPosted}
 use Rattle.warp_process.proofs.Runs.{take_less, Each-drop_take, sent_from_later, back_of, run_back, run_on}
 use Rattle.warp_process.proofs.Outgoing.{taken_back, newly_sent}
 

@@ -1,5 +1,5 @@
 -- A process with an event more or less behind all that it has run, or with another list of early anti-messages.
-use Rattle.std.proofs.Common.{◌≡◌, ℕ, zero, suc, ◌+◌, ◌^◌, ◌<◌, ◌≤◌, inl, inr, Bool, true, false, List, [], ◌∷◌, ◌++◌, length, take, drop, Some, None, slice_get, refl, ap, sym, subst, ◌∙◌, arith, append_assoc, length-append}
+use Rattle.std.proofs.Common.{◌≡◌, ℕ, zero, suc, ◌+◌, ◌^◌, ◌<◌, ◌≤◌, inl, inr, Bool, true, false, List, [], ◌∷◌, ◌++◌, length, take, drop, Some, slice_get, refl, ap, sym, subst, ◌∙◌, arith, append_assoc}
 use Rattle.std.proofs.lemmas.List.{take-append-drop}
 use Rattle.std.proofs.lemmas.List.Edits.{length-insert, length-remove}
 use Rattle.std.proofs.lemmas.Option.{slice_get_within}
@@ -11,9 +11,8 @@ use Rattle.warp_base.specs.Histories.{Behaviour, state_after, sent_from, all_sen
 use Rattle.warp_base.proofs.Lists.{Each-append, Each-front, Each-back, Each-take, Each-drop, Each-weaker}
 use Rattle.warp_base.proofs.Orders.{TellsApart, precedes_self, precedes_time, precedes_one, hit_cases, copies-append, Each-copy, none_of, in_order_back}
 use Rattle.warp_base.proofs.Histories.{from_behind}
-use Rattle.warp_process.specs.Processes.{ProcessFace, IsProcess, IsRun, IsCopy, done_of, bound_of}
+use Rattle.warp_process.specs.Processes.{ProcessFace, IsProcess, IsCopy, done_of, bound_of}
 use Rattle.warp_process.proofs.InOrder.{in_order_middle, in_order_without}
-use Rattle.warp_process.proofs.Runs.{take_less}
 
 pub front_stays : {X : Type 0} (k n : ℕ) (xs ys : List X) → k ≤ n → n ≤ length xs → take k (take n xs ++ ys) ≡ take k xs
 front_stays zero n xs ys few within = refl

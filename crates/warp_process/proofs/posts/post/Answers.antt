@@ -1,4 +1,4 @@
-use Rattle.std.proofs.Common.{◌+◌, ◌≤◌, take, ap, sym, ◌∙◌, ◌++◌, ◌∷◌, [], arith, length}
+use Rattle.std.proofs.Common.{◌+◌, take, ap, sym, ◌∙◌, ◌++◌, ◌∷◌, [], arith}
 use Rattle.warp_base.specs.Histories.{stamped}
 use Rattle.warp_process.proofs.Outgoing.{stamped_more, one_sent, one_out}
 use Rattle.warp_process.proofs.posts.post.Goals as goal

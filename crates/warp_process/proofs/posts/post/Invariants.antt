@@ -1,4 +1,4 @@
-use Rattle.std.proofs.Common.{◌≡◌, ◌+◌, ◌-◌, ◌≤◌, ◌++◌, length, take, map, vec_len, vec_capacity}
+use Rattle.std.proofs.Common.{◌≡◌, ◌+◌, ◌≤◌, ◌++◌, length, take, map, vec_len, vec_capacity}
 use Rattle.warp_base.specs.declared.event.Message.TheVariants as Variants
 use Rattle.warp_base.specs.Histories.{stamped}
 use Rattle.warp_process.proofs.posts.post.Given as goal

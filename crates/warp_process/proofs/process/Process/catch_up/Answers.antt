@@ -1,4 +1,4 @@
-use Rattle.std.proofs.Common.{◌≡◌, ◌+◌, ◌-◌, ◌≤◌, ◌⊎◌, inl, inr, false, length, take, drop, ap, sym, ◌∙◌, arith}
+use Rattle.std.proofs.Common.{◌≡◌, ◌+◌, ◌-◌, ◌≤◌, ◌⊎◌, inl, inr, false, length, take, drop, ap, ◌∙◌, arith}
 use Rattle.warp_base.specs.Histories.{state_from}
 use Rattle.warp_process.specs.Processes.{face}
 use Rattle.warp_process.proofs.Catching.{copy_bounds, caught_up, with_state, ran_behind, least_is, rest_all}

@@ -1,8 +1,7 @@
-use Rattle.std.proofs.Common.{◌≡◌, ℕ, ◌+◌, ◌-◌, ◌<◌, ◌≤◌, Some, slice_get, length, drop, map, ◌++◌, refl, ap, sym, ◌∙◌, arith}
+use Rattle.std.proofs.Common.{◌≡◌, ◌+◌, ◌-◌, ◌<◌, length, drop, map, ◌++◌, refl, ap, ◌∙◌, arith}
 use Rattle.warp_base.specs.declared.event.Message.TheVariants as Variants
 use Rattle.std.proofs.lemmas.Option.{slice_get_read}
 use Rattle.warp_process.specs.Processes.{face}
-use Rattle.warp_process.proofs.Outgoing.{nothing_sent}
 use Rattle.warp_process.proofs.Steps.{back_bounds, back_to, posted_back}
 use Rattle.warp_process.proofs.process.Process.roll_back.Goals as goal
 

@@ -1,8 +1,7 @@
-use Rattle.std.proofs.Common.{◌≡◌, ◌+◌, ◌<◌, ◌++◌, true, false, Some, slice_get, length, get_or, refl, ap, sym, subst, ◌∙◌, arith}
+use Rattle.std.proofs.Common.{◌≡◌, ◌<◌, ◌++◌, true, false, Some, slice_get, length, get_or, refl, ap, sym, subst, ◌∙◌, arith}
 use Rattle.std.proofs.lemmas.Option.{slice_get_read}
 use Rattle.warp_base.specs.declared.event.Event.{Event}
-use Rattle.warp_process.specs.declared.process.Process.{Process}
-use Rattle.warp_process.specs.Processes.{face, IsProcess, HasPosted, done_of}
+use Rattle.warp_process.specs.Processes.{face, IsProcess, HasPosted}
 use Rattle.warp_process.proofs.Steps.{ran_next, posted_next}
 use Rattle.warp_process.proofs.Catching.{with_state}
 use Rattle.warp_process.proofs.process.Process.run_next.Goals as goal

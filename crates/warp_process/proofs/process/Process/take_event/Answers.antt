@@ -1,5 +1,4 @@
-use Rattle.std.proofs.Common.{◌≡◌, ◌≤◌, ◌<◌, ◌∷◌, [], ◌++◌, List, false, Some, slice_get, length, take, drop, insert, ap, sym, subst, ◌∙◌, arith}
-use Rattle.warp_base.specs.declared.event.Event.{Event}
+use Rattle.std.proofs.Common.{◌≡◌, ◌≤◌, false, Some, slice_get, length, take, drop, ap, sym, subst, ◌∙◌, arith}
 use Rattle.warp_base.specs.Events.{Each, precedes, copies, IsBefore, IsInOrder}
 use Rattle.warp_process.specs.Processes.{face, bound_of}
 use Rattle.warp_process.proofs.Outgoing.{nothing_sent}
