@@ -50,7 +50,7 @@ extern "C" {
 /*
  * From now on the stores of this thread are told to an object, which stays where it is until the thread names another, or to none where
  * `object` is null. It takes no memory. A thread names none before it ends.
- * DYM_BAD: the object is closed; the stores are told to none.
+ * DYM_STATE: the object is closed; the stores are told to none.
  */
 dym_status dym_track(dym_object *object);
 

@@ -41,7 +41,7 @@ dym_status dym_track(dym_object *object)
         t = dym_table_hold((uintptr_t)start);
     }
     name(t, object);
-    return t != NULL || object == NULL ? DYM_DONE : DYM_BAD;
+    return t != NULL || object == NULL ? DYM_DONE : DYM_STATE;
 }
 
 /* No chunk of an object counts as touched, if it is open. */

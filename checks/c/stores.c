@@ -467,7 +467,7 @@ static void closed_while_named(void)
     pthread_barrier_wait(&barrier);
     pthread_join(thread, NULL);
     store_in_block();
-    if (dym_track(&closed) != DYM_BAD) fail("a closed object was named", "");
+    if (dym_track(&closed) != DYM_STATE) fail("a closed object was named", "");
     store_in_block();
     free(block);
 }

@@ -14,7 +14,7 @@
 #endif
 
 /* The name that a state has in a checkpoint file. */
-static const uint8_t file_name[] = {'p', 'r', 'o', 'c', 'e', 's', 's'};
+static const char file_name[] = {'p', 'r', 'o', 'c', 'e', 's', 's'};
 
 /* A write that was said, and the interval between two logs in which it was. */
 typedef struct said {
@@ -173,7 +173,7 @@ static fault object_load(memory *m, const uint8_t *bytes, uint64_t length, uintp
     if (status == DYM_DONE) status = find_start(own);
     if (status != DYM_DONE) {
         free(own);
-        return status == DYM_BAD ? FAULT_MOVE : fault_of(status);
+        return status == DYM_FILE ? FAULT_MOVE : fault_of(status);
     }
     own->moves = head[1] + 1;
     m->inside = own;

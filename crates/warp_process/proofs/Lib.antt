@@ -1,7 +1,0 @@
-pub mod InOrder
-pub mod Outgoing
-pub mod Runs
-pub mod Steps
-pub mod Taking
-pub mod Catching
-pub mod Opening
