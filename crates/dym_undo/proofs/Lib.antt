@@ -1,0 +1,13 @@
+mod Lists
+mod Places
+mod Stamping
+mod Patches
+mod Walks
+mod Decoding
+mod Restoring
+mod Pendings
+mod Keeping
+mod Logging
+mod Rolling
+mod Pruning
+mod HeldBytes

@@ -1,0 +1,25 @@
+//! Logs of one object that cost what changed: what a chunk was is kept at its first change after a log, and a restore puts
+//! that back.
+//!
+//! Below stands `dym_base` alone: the heap is given by a trait. Its one contract: an undo log and
+//! its heap are an object, and a log, a restore and a prune are the steps of that object that
+//! `Objects` defines.
+#![tactic(auto)]
+
+mod entry;
+mod ghost_logs;
+mod head;
+mod kept_changes;
+mod log_error;
+mod passes;
+mod positions;
+mod rooms;
+mod stamps;
+mod undo_heap;
+mod undo_log;
+
+pub use entry::Entry;
+pub use head::Head;
+pub use log_error::LogError;
+pub use undo_heap::UndoHeap;
+pub use undo_log::UndoLog;

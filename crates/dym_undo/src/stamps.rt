@@ -1,0 +1,62 @@
+//! Stamps: a bit for each handle that can be live within a quota.
+ghost use Rattle.std.specs.Prelude.{◌≡◌, true, ℕ, ◌+◌, ◌*◌, ◌/◌, ◌%◌, ◌<◌, ◌≤◌, length};
+ghost use Rattle.dym_base.specs.HeapStep.{key};
+ghost use Rattle.dym_base.specs.declared.limits.TheConstants.{LEAST_EXPONENT, GREATEST_EXPONENT, MOST_QUOTA};
+ghost use Rattle.dym_undo.specs.Keys.{IsKey, stamp_bit, is_stamped, with_stamp, without_stamp};
+
+use dym_base::limits::{GREATEST_EXPONENT, LEAST_EXPONENT};
+use dym_base::{Handle, per_area};
+
+/// The bits of one area of each class, and of one word.
+pub(crate) const AREA_BITS: usize = 4_096;
+
+const WORD_BITS: usize = 64;
+
+/// The words that hold the bits of one area of each class.
+pub(crate) const AREA_WORDS: usize = 64;
+
+/// Whether a handle can be live within a quota.
+pub(crate) fn is_key(handle: Handle, quota: u32) -> bool
+    ensures { result ≡ true → IsKey quota (key handle) }
+{
+    (LEAST_EXPONENT..=GREATEST_EXPONENT).contains(&handle.exp)
+        && handle.index / per_area(handle.exp) < quota
+}
+
+/// The bit of a handle.
+fn stamp_bit(handle: Handle) -> usize
+    requires least { LEAST_EXPONENT ≤ handle.exp }
+    requires greatest { handle.exp ≤ GREATEST_EXPONENT }
+    ensures { result ≡ stamp_bit (key handle) }
+{
+    let per = per_area(handle.exp);
+    let area = (handle.index / per) as usize;
+    area * AREA_BITS + (per + handle.index % per) as usize
+}
+
+/// Whether a handle is stamped.
+pub(crate) fn is_stamped(words: &[u64], handle: Handle) -> bool
+    requires { IsKey (length words.now / 64) (key handle) }
+    ensures { result ≡ is_stamped words.now (key handle) }
+{
+    let bit = stamp_bit(handle);
+    (words[bit / WORD_BITS] >> (bit % WORD_BITS)) & 1 == 1
+}
+
+/// Stamps a handle.
+pub(crate) fn stamp(words: &mut [u64], handle: Handle)
+    requires { IsKey (length words.old / 64) (key handle) }
+    ensures { words.new ≡ with_stamp words.old (key handle) }
+{
+    let bit = stamp_bit(handle);
+    words[bit / WORD_BITS] |= 1 << (bit % WORD_BITS);
+}
+
+/// Takes a handle's stamp away.
+pub(crate) fn unstamp(words: &mut [u64], handle: Handle)
+    requires { IsKey (length words.old / 64) (key handle) }
+    ensures { words.new ≡ without_stamp words.old (key handle) }
+{
+    let bit = stamp_bit(handle);
+    words[bit / WORD_BITS] &= !(1 << (bit % WORD_BITS));
+}
