@@ -2,85 +2,152 @@
 
 #include <string.h>
 
-/* The first period of those that are chosen, and how many times as long one gets at most at once. */
-enum { FIRST = 4, RISE = 4 };
+#include "clock.h"
 
-/* How many timings are enough, and how many logs and events then pass by from one to the next. A time counts as at most OUTLIER times the
- * mean, since a thread that loses the processor meanwhile measures the other's time. */
-enum { ENOUGH = 8, PASSED = 31, OUTLIER = 4 };
+/* The first period of those that are chosen, and how often the clock is looked at to see what that takes. */
+enum { FIRST = 4, LOOKS = 16 };
 
-/* How many events are remembered. What is expected of a process that wasn't yet seen is one rollback in so many events. */
-enum { MEMORY = 2048, EXPECTED = 32 };
+/* How many short logs, and how many events, pass from one that is timed to the next: with it 37, so that nothing which comes round by powers of
+ * two is always met. A log that takes LONG nanoseconds is always timed. A time counts as at most OUTLIER times the mean, since a thread that
+ * loses the processor meanwhile measures the other's time. */
+enum { PASSED = 36, LONG = 1600, OUTLIER = 4 };
+
+/* How many events a process remembers, and its worker. What the worker measured counts as much as PRIOR of a process's own times, and its
+ * rollbacks as those of PRIOR_EVENTS events. */
+enum { MEMORY = 2048, WORKER_MEMORY = 16384, PRIOR = 2, PRIOR_EVENTS = 64 };
+
+/* What all processes of this worker measured. Before the first rollback one in so many events is expected. */
+static _Thread_local costs worker = {{0, 0}, {0, 0}, {1, 32}};
+
+/* The least time from one look at the clock to the next that this worker saw. */
+static _Thread_local uint64_t clock_cost = UINT64_MAX;
+
+static void measure_clock(void)
+{
+    unsigned k;
+    for (k = 0; k < LOOKS; k++) {
+        uint64_t start = clock_now(), time = clock_now() - start;
+        if (time < clock_cost) clock_cost = time;
+    }
+}
 
 void period_open(period *p, uint32_t events)
 {
     memset(p, 0, sizeof *p);
     p->events = events > 0 ? events : FIRST;
     p->is_chosen = events == 0;
+    if (p->is_chosen && clock_cost == UINT64_MAX) measure_clock();
 }
 
-static int times_next(timing *t)
+static double value_of(const mean *m)
 {
-    if (t->pass > 0) {
-        t->pass--;
+    return m->count > 0 ? m->sum / m->count : 0;
+}
+
+/* What is expected of a process: its own mean, with the worker's for so many more. */
+static double expected(const mean *own, const mean *all, double prior)
+{
+    return (own->sum + prior * value_of(all)) / (own->count + prior);
+}
+
+static int times_next(uint32_t *pass)
+{
+    if (*pass > 0) {
+        --*pass;
         return 0;
     }
-    t->pass = t->count < ENOUGH ? 0 : PASSED;
+    *pass = PASSED;
     return 1;
 }
 
 int period_times_log(period *p)
 {
-    return p->is_chosen && times_next(&p->log);
+    return p->is_chosen && (expected(&p->own.log, &worker.log, PRIOR) >= LONG || times_next(&p->log_pass));
 }
 
 int period_times_event(period *p)
 {
-    return p->is_chosen && times_next(&p->event);
+    return p->is_chosen && times_next(&p->event_pass);
 }
 
-static void note(timing *t, double time)
+static void add(mean *m, double sum, double count)
 {
-    double most = t->count >= 1 ? OUTLIER * (t->sum + 1) / t->count : time;
-    t->sum += time < most ? time : most;
-    t->count += 1;
+    m->sum += sum;
+    m->count += count;
 }
 
-void period_note_event(period *p, uint64_t nanoseconds)
+uint64_t period_since(uint64_t start)
 {
-    note(&p->event, (double)nanoseconds);
+    uint64_t time = clock_now() - start;
+    return time > clock_cost ? time - clock_cost : 0;
+}
+
+/* Notes what so many took. */
+static void note(mean *own, mean *all, uint64_t nanoseconds, double count)
+{
+    double time = (double)nanoseconds, most = OUTLIER * (expected(own, all, PRIOR) + 1) * count;
+    if (all->count > 0 && time > most) time = most;
+    add(own, time, count);
+    add(all, time, count);
+}
+
+void period_note_events(period *p, uint64_t nanoseconds, uint64_t count)
+{
+    note(&p->own.event, &worker.event, nanoseconds, (double)count);
 }
 
 void period_note_log(period *p, uint64_t nanoseconds)
 {
-    note(&p->log, (double)nanoseconds);
+    note(&p->own.log, &worker.log, nanoseconds, 1);
 }
 
-/* The least period, up to a greatest one, whose square is at least a number. */
-static uint32_t root_of(double square, uint32_t most)
+void period_note_run(period *p)
 {
-    uint32_t k = 1;
-    while (k < most && (double)k * k < square) k++;
-    return k;
+    p->own.rollbacks.count += 1;
+    worker.rollbacks.count += 1;
 }
 
-static void forget(period *p)
+void period_note_rollback(period *p)
 {
-    p->log.sum /= 2;
-    p->log.count /= 2;
-    p->event.sum /= 2;
-    p->event.count /= 2;
-    p->ran /= 2;
-    p->rollbacks /= 2;
+    p->own.rollbacks.sum += 1;
+    worker.rollbacks.sum += 1;
+}
+
+static void halve(mean *m)
+{
+    m->sum /= 2;
+    m->count /= 2;
+}
+
+static void forget(costs *c)
+{
+    halve(&c->log);
+    halve(&c->event);
+    halve(&c->rollbacks);
+}
+
+/* The least period whose square is at least a number. */
+static uint32_t root_of(double square)
+{
+    uint32_t low = 1, high = PERIOD_LONGEST;
+    while (low < high) {
+        uint32_t middle = (low + high) / 2;
+        if ((double)middle * middle < square)
+            low = middle + 1;
+        else
+            high = middle;
+    }
+    return low;
 }
 
 void period_adapt(period *p)
 {
-    uint32_t most = RISE * p->events < PERIOD_LONGEST ? RISE * p->events : PERIOD_LONGEST;
-    double events_a_rollback = (p->ran + EXPECTED) / (p->rollbacks + 1), log, event;
-    if (!p->is_chosen || p->log.count < 1 || p->event.count < 1) return;
-    log = p->log.sum / p->log.count;
-    event = (p->event.sum + 1) / p->event.count;
-    p->events = root_of(2 * log * events_a_rollback / event, most);
-    if (p->ran >= MEMORY) forget(p);
+    double log, event, rollbacks;
+    if (!p->is_chosen || worker.log.count == 0 || worker.event.count == 0) return;
+    log = expected(&p->own.log, &worker.log, PRIOR);
+    event = expected(&p->own.event, &worker.event, PRIOR) + 1; /* more than nothing, whatever the clock says */
+    rollbacks = expected(&p->own.rollbacks, &worker.rollbacks, PRIOR_EVENTS);
+    p->events = root_of(2 * log / (event * rollbacks));
+    if (p->own.rollbacks.count >= MEMORY) forget(&p->own);
+    if (worker.rollbacks.count >= WORKER_MEMORY) forget(&worker);
 }

@@ -5,8 +5,9 @@
  *
  * This is the square-root rule for checkpoints (Young, "A first order approximation to the optimum checkpoint interval", CACM 17(9), 1974),
  * in the cost model that Rönngren and Ayani use for Time Warp ("Adaptive checkpointing in Time Warp", PADS 1994). Each process measures its
- * own s, e and r, and forgets by halves, each time that it ran MEMORY events. To look at the clock takes about as long as a small log: so
- * all is timed only until enough of it was, and then one log and one event in many.
+ * own s, e and r. Of a process that has run little, what its worker's processes measured is expected: so the period is right from the first
+ * logs on, and not only when each process has taken some. What is old is forgotten by halves. To look at the clock takes about as long as a
+ * small log, so that such logs, and events, are timed now and then.
  */
 #ifndef PERIOD_H
 #define PERIOD_H
@@ -16,30 +17,42 @@
 /* The longest period: a process that was never rolled back still keeps logs, so that its events can go. */
 enum { PERIOD_LONGEST = 256 };
 
-/* A time that is measured now and then: the nanoseconds that so many took, and how many more pass until the next is timed. */
-typedef struct timing {
+/* What was measured in all, and how often. */
+typedef struct mean {
     double sum;
     double count;
-    uint32_t pass;
-} timing;
+} mean;
+
+/* The nanoseconds of a log and of an event, and the rollbacks for each event. */
+typedef struct costs {
+    mean log;
+    mean event;
+    mean rollbacks;
+} costs;
 
 typedef struct period {
-    uint32_t events;  /* the period */
-    int is_chosen;    /* by the rule; else it stays */
-    timing log;
-    timing event;
-    double ran;       /* events that were run */
-    double rollbacks;
+    uint32_t events; /* the period */
+    int is_chosen;   /* by the rule; else it stays */
+    costs own;
+    uint32_t log_pass, event_pass; /* how many more pass until one is timed */
 } period;
 
 /* A period of so many events, or, for 0, one that the rule chooses. */
 void period_open(period *p, uint32_t events);
 
-/* Whether the next log or event is to be timed, and what it took then. */
+/* The nanoseconds since a moment, less those that the clock takes. */
+uint64_t period_since(uint64_t start);
+
+/* Whether the next log is to be timed, and what it took; the same of an event. Events that are run again are always timed, together: they are
+ * what a longer period costs, and they may take a quarter of the time that they took at first, since what they need is near. */
 int period_times_log(period *p);
 int period_times_event(period *p);
 void period_note_log(period *p, uint64_t nanoseconds);
-void period_note_event(period *p, uint64_t nanoseconds);
+void period_note_events(period *p, uint64_t nanoseconds, uint64_t count);
+
+/* An event was run, or some were undone. */
+void period_note_run(period *p);
+void period_note_rollback(period *p);
 
 /* Chooses the period anew. */
 void period_adapt(period *p);

@@ -45,15 +45,11 @@ static void deliver(context *c, event *e)
 /* Runs the model for an event. */
 static void execute(process *p, const event *e, messages *out)
 {
-    uint64_t start = 0;
-    int is_timed = period_times_event(&p->period);
     p->context.now = e->time;
     p->out = out;
-    if (is_timed) start = clock_now();
     memory_begin(&p->memory);
     p->settings->model->run(&p->context, e);
     memory_end(&p->memory);
-    if (is_timed) period_note_event(&p->period, clock_now() - start);
     p->out = NULL;
 }
 
@@ -66,11 +62,12 @@ static fault take_log(process *p)
     fault f = list_grow(&p->logged.items, &p->logged.room, p->logged.count, sizeof *p->logged.items);
     if (f == FAULT_NONE) f = memory_log(&p->memory, position(p), &bytes);
     if (f != FAULT_NONE) return f;
-    if (is_timed) period_note_log(&p->period, clock_now() - start);
+    if (is_timed) period_note_log(&p->period, period_since(start));
     p->logged.items[p->logged.count++] = position(p);
     p->since_log = 0;
     p->counts.logs++;
     p->counts.log_bytes += bytes;
+    period_adapt(&p->period);
     return FAULT_NONE;
 }
 
@@ -83,19 +80,27 @@ static fault log_if_due(process *p)
     return FAULT_NONE;
 }
 
+/* Runs the events from number k on again. */
+static void run_again(process *p, uint64_t k)
+{
+    uint64_t from = k - p->dropped, start = p->period.is_chosen ? clock_now() : 0;
+    size_t j;
+    for (j = (size_t)from; j < p->done.count; j++) execute(p, &p->done.items[j].event, NULL);
+    p->since_log = p->done.count - from;
+    p->counts.replayed += p->since_log;
+    if (p->period.is_chosen && p->since_log > 0) period_note_events(&p->period, period_since(start), p->since_log);
+}
+
 /* Brings the state up to the events that were run, and drops the logs of those that were undone. */
 static fault settle(process *p)
 {
     uint64_t at;
-    size_t k;
     fault f;
     if (!p->is_stale) return FAULT_NONE;
     f = memory_restore(&p->memory, position(p), &at);
     if (f != FAULT_NONE) return f;
     while (p->logged.count > 0 && p->logged.items[p->logged.count - 1] > at) p->logged.count--;
-    for (k = (size_t)(at - p->dropped); k < p->done.count; k++) execute(p, &p->done.items[k].event, NULL);
-    p->since_log = position(p) - at;
-    p->counts.replayed += p->since_log;
+    run_again(p, at);
     p->is_stale = 0;
     return FAULT_NONE;
 }
@@ -126,7 +131,7 @@ static fault roll_back(process *p, size_t keep, messages *out)
     for (k = stay; k < p->sent.count && f == FAULT_NONE; k++) f = post(out, &p->sent.items[k], 1);
     p->counts.rollbacks++;
     p->counts.undone += p->done.count - keep;
-    p->period.rollbacks += 1;
+    period_note_rollback(&p->period);
     p->done.count = keep;
     p->sent.count = stay;
     p->is_stale = 1;
@@ -212,15 +217,20 @@ uint64_t process_next(const process *p)
 fault process_run(process *p, messages *out)
 {
     done *d;
+    int is_timed;
+    uint64_t start;
     fault f = p->is_stale ? settle(p) : FAULT_NONE;
     if (f == FAULT_NONE) f = list_grow(&p->done.items, &p->done.room, p->done.count, sizeof *d);
     if (f != FAULT_NONE) return f;
     d = &p->done.items[p->done.count];
     pending_take(&p->pending, &d->event);
     d->sent = count_sent(p);
+    is_timed = period_times_event(&p->period);
+    start = is_timed ? clock_now() : 0;
     execute(p, &d->event, out);
+    if (is_timed) period_note_events(&p->period, period_since(start), 1);
     p->done.count++;
-    p->period.ran += 1;
+    period_note_run(&p->period);
     p->since_log++;
     return log_if_due(p);
 }

@@ -27,40 +27,53 @@ static void check(int holds, const char *what)
 static uint32_t choose(period *p, double rollbacks)
 {
     unsigned k;
-    p->ran = 100000;
-    p->rollbacks = rollbacks;
+    p->own.rollbacks.count = 100000;
+    p->own.rollbacks.sum = rollbacks;
     for (k = 0; k < 10; k++) {
         period_note_log(p, 1000);
-        period_note_event(p, 100);
+        period_note_events(p, 200, 2);
     }
     period_adapt(p);
     return p->events;
 }
 
+/* How many of so many logs are timed, if each takes some nanoseconds. */
+static unsigned count_timed(unsigned logs, uint64_t nanoseconds)
+{
+    period p;
+    unsigned k, timed = 0;
+    period_open(&p, 0);
+    for (k = 0; k < logs; k++) {
+        if (!period_times_log(&p)) continue;
+        period_note_log(&p, nanoseconds);
+        timed++;
+    }
+    return timed;
+}
+
 static void try_period(void)
 {
-    static const uint32_t rising[] = {16, 20, 20};
-    period p;
-    unsigned k, timed;
+    period p, fresh;
+    unsigned k;
     period_open(&p, 7);
     check(choose(&p, 5000) == 7, "a fixed period changes");
     check(!period_times_log(&p) && !period_times_event(&p), "a fixed period looks at the clock");
+    check(count_timed(370, 1000) == 10, "of short logs one in 37 is timed");
     period_open(&p, 0);
-    for (k = timed = 0; k < 8 + 32 * 10; k++) {
-        if (!period_times_log(&p)) continue;
-        period_note_log(&p, 1000);
-        timed++;
-    }
-    check(timed == 8 + 10, "of logs eight are timed, and then one in 32");
-    period_open(&p, 0);
-    for (k = 0; k < sizeof rising / sizeof *rising; k++)
-        check(choose(&p, 5000) == rising[k], "the period doesn't rise to sqrt(2 * 1000 / (0.05 * 100)) = 20");
-    check(choose(&p, 20000) == 10, "with four times as many rollbacks the period isn't half as long");
+    check(choose(&p, 5100) == 20, "the period isn't sqrt(2 * 1000 / (0.051 * 101)) = 19.7");
+    check(choose(&p, 20400) == 10, "with four times as many rollbacks the period isn't half as long");
     check(choose(&p, 2000000) == 1, "with twenty rollbacks an event the period isn't 1");
-    for (k = 0; k < 4; k++) choose(&p, 0);
-    check(p.events == PERIOD_LONGEST, "without rollbacks the period doesn't rise to the longest");
+    check(choose(&p, 0) == PERIOD_LONGEST, "without rollbacks the period isn't the longest");
     period_note_log(&p, UINT64_C(1000000000));
     check(choose(&p, 5000) < 40, "a time that is an outlier counts in full");
+    for (k = 0; k < 2000; k++) {
+        period_note_run(&p);
+        if (k % 20 == 0) period_note_rollback(&p);
+    }
+    period_open(&fresh, 0);
+    period_adapt(&fresh);
+    check(fresh.events > 15 && fresh.events < 25, "the period of a process that ran nothing isn't as its worker's processes have it");
+    check(count_timed(320, 100000) > 300, "long logs are all timed");
 }
 
 /* ---- the window */
