@@ -1,4 +1,4 @@
-//! The example of the module's page is README's.
+//! The example of the module's page is that of docs/rust.md.
 
 use std::fs;
 
@@ -14,14 +14,14 @@ fn example(lines: impl Iterator<Item = String>) -> Vec<String> {
 }
 
 #[test]
-fn the_example_of_the_page_is_that_of_readme() {
-    let readme = concat!(env!("CARGO_MANIFEST_DIR"), "/../../README.md");
-    let readme = match fs::read_to_string(readme) {
-        Ok(readme) => readme,
-        Err(why) => return println!("README.md: {why}; nothing was compared"),
+fn the_example_of_the_page_is_that_of_docs() {
+    let docs = concat!(env!("CARGO_MANIFEST_DIR"), "/../../docs/rust.md");
+    let docs = match fs::read_to_string(docs) {
+        Ok(docs) => docs,
+        Err(why) => return println!("docs/rust.md: {why}; nothing was compared"),
     };
     let page = PAGE.lines().filter_map(|line| line.strip_prefix("//!"));
     let page = example(page.map(|line| line.strip_prefix(' ').unwrap_or(line).to_string()));
     assert!(page.len() > 10);
-    assert_eq!(example(readme.lines().map(str::to_string)), page);
+    assert_eq!(example(docs.lines().map(str::to_string)), page);
 }
