@@ -67,13 +67,15 @@ static fault take_log(process *p)
     p->since_log = 0;
     p->counts.logs++;
     p->counts.log_bytes += bytes;
-    period_adapt(&p->period);
     return FAULT_NONE;
 }
 
-/* Takes a log where one is due. Where the logs are full the process goes on without, and asks for a bound. */
+/* Takes a log where one is due, also by the period that is chosen by now. Where the logs are full the process goes on without, and asks for a
+ * bound. */
 static fault log_if_due(process *p)
 {
+    if (p->since_log < p->period.events) return FAULT_NONE;
+    period_adapt(&p->period);
     if (p->since_log < p->period.events) return FAULT_NONE;
     if (p->logged.count < MEMORY_LOGS) return take_log(p);
     p->wants_bound = 1;
