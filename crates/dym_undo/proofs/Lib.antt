@@ -11,3 +11,4 @@ mod Logging
 mod Rolling
 mod Pruning
 mod HeldBytes
+mod Frees

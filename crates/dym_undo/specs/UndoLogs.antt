@@ -44,6 +44,10 @@ last_place (p ∷ q ∷ ps) = last_place (q ∷ ps)
 abbrev pub since : List ℕ → List Change → List Change
 since places cs = drop (last_place places) cs
 
+-- once there is a log, the chunk of number k is among the changes since the newest
+abbrev pub IsKept : UndoMeaning → ℕ → Type 0
+IsKept u k = 0 < length u.places → is_noted k (since u.places u.changes) ≡ true
+
 -- the copy of each log is the heap now, before what was changed since
 abbrev pub AreCopies : Live → List Change → List ℕ → List LogEntry → Type 0
 AreCopies live cs [] [] = ⊤

@@ -9,7 +9,7 @@ ghost use Rattle.dym_base.specs.declared.command.Version.{Version};
 ghost use Rattle.dym_base.specs.declared.reply.Reply.TheVariants as reply;
 ghost use Rattle.dym_base.specs.declared.limits.TheConstants.{MOST_QUOTA};
 ghost use Rattle.dym_undo.specs.Answers.{IsLogAnswer, restored_reply};
-ghost use Rattle.dym_undo.specs.UndoLogs.{UndoMeaning, Belongs, DiffersAt, object_of, log_at, entry_of};
+ghost use Rattle.dym_undo.specs.UndoLogs.{UndoMeaning, Belongs, DiffersAt, IsKept, object_of, log_at, entry_of};
 
 use crate::entry::Entry;
 use crate::ghost_logs::GhostLogs;
@@ -100,6 +100,9 @@ impl UndoLog {
         ensures kept { contains_key (H.state heap.now).live (key handle) ≡ true → (t : HeapState)
             → DiffersAt (key handle) (H.state heap.now) t
             → Belongs (H.version_of heap.now) (H.quota_of heap.now) t self.new }
+        ensures noted { contains_key (H.state heap.now).live (key handle) ≡ true
+            → IsKept self.new (key handle) }
+        ensures before { (k : ℕ) → IsKept self.old k → IsKept self.new k }
     {
         if self.entries.is_empty() {
             return;
@@ -249,6 +252,16 @@ impl UndoLog {
         ensures { result ≡ length self.now.logs }
     {
         self.entries.len() as u32
+    }
+
+    /// How many records a chain of these logs would have.
+    pub fn slots(&self) -> u32
+        ensures { result ≡ Objects.slots self.now.logs }
+    {
+        match self.entries.first() {
+            None => 0,
+            Some(oldest) => self.entries.len() as u32 + u32::from(oldest.depth),
+        }
     }
 
     /// The time of the newest log.

@@ -11,11 +11,11 @@ use Rattle.dym_undo.specs.Heads.{changes_of, bytes_in}
 use Rattle.dym_undo.specs.Keys.{IsKey, is_stamped}
 use Rattle.dym_undo.specs.Passes.{Fits}
 use Rattle.dym_undo.specs.Rooms.{length_at}
-use Rattle.dym_undo.specs.UndoLogs.{UndoMeaning, Belongs, ArePlaced, since, IsUndoLog}
+use Rattle.dym_undo.specs.UndoLogs.{UndoMeaning, Belongs, ArePlaced, since, IsKept, IsUndoLog}
 use Rattle.dym_undo.specs.declared.head.Head.{Head}
 use Rattle.std.proofs.Math.Seq.{take-length}
 use Rattle.dym_undo.proofs.Decoding.{length-changes_of, changes_of-push, noted_bytes-changes_of}
-use Rattle.dym_undo.proofs.Keeping.{belongs-keep, kept_noted, belongs-change, weight_is, undo_log-push, head_fits, bytes_fit, some_places, no_places, fits_short, whole_slice, newest_some, placed_more}
+use Rattle.dym_undo.proofs.Keeping.{belongs-keep, kept_noted, still_noted, belongs-change, weight_is, undo_log-push, head_fits, bytes_fit, some_places, no_places, fits_short, whole_slice, newest_some, placed_more}
 use Rattle.std.proofs.Common.{Bor, ◌==◌, length-append}
 use Rattle.std.specs.Option.{option_copied}
 use Rattle.std.specs.Vec.{vec_capacity}
@@ -60,11 +60,20 @@ returns-then-is_empty-clause-kept g c has t differ =
     (belongs-change (v g a) (q g a) (k g a) (s g a) t (u g a) (placed g a)
     (λ some. absurd (no_places c.self.inside.entries.items c.self.inside.ghost_logs.logs (places g a) c.self.invariant.entries_are c.self.invariant.each_placed (let same : vec_len c.self.inside.entries ≡ length c.self.inside.entries.items = omega arith in ap (λ n. n == 0) (sym same) ∙ sym c.if-is_empty.ensures) some)) differ (belongs g a))
 
+pub returns-then-is_empty-clause-noted : goal.returns-then-is_empty-clause-noted
+returns-then-is_empty-clause-noted g c has =
+    let a = (goal.at.returns-then-is_empty-clause-noted g c).After-is_empty in
+    subst (λ (x : UndoMeaning). IsKept x (k g a)) c.self.view_is
+    (λ some. absurd (no_places c.self.inside.entries.items c.self.inside.ghost_logs.logs (places g a) c.self.invariant.entries_are c.self.invariant.each_placed (let same : vec_len c.self.inside.entries ≡ length c.self.inside.entries.items = omega arith in ap (λ n. n == 0) (sym same) ∙ sym c.if-is_empty.ensures) some))
+
 not_live : (o : Option (List ℕ)) (r : Option (Bor (List ℕ))) → option_copied r ≡ o → is_some o ≡ true → r ≡ None → ⊥
 not_live o r e has none = true≢false (sym has ∙ ap is_some (sym e) ∙ ap (λ (x : Option (Bor (List ℕ))). is_some (option_copied x)) none)
 
 pub returns-in_default-clause-kept : goal.returns-in_default-clause-kept
 returns-in_default-clause-kept g c has t differ = absurd (not_live _ c.chunk.result c.chunk.ensures has c.in_default.is)
+
+pub returns-in_default-clause-noted : goal.returns-in_default-clause-noted
+returns-in_default-clause-noted g c has = absurd (not_live _ c.chunk.result c.chunk.ensures has c.in_default.is)
 
 module _ (g : given.Over) (c : After-live_is_key g) where
   abbrev a : After-is_empty g
@@ -106,6 +115,13 @@ returns-then-is_stamped-clause-kept g c has t differ =
     subst (Belongs (v g a) (q g a) t) c.self.view_is
     (belongs-change (v g a) (q g a) (k g a) (s g a) t (u g a) (placed g a)
     (λ some. sym (c.self.invariant.stamps (k g a) (is g b)) ∙ ap (λ (w : List ℕ). is_stamped w (k g a)) (sym c.deref.ensures.value) ∙ sym c.if-is_stamped.ensures) differ (belongs g a))
+
+pub returns-then-is_stamped-clause-noted : goal.returns-then-is_stamped-clause-noted
+returns-then-is_stamped-clause-noted g c has =
+    let b = (goal.at.returns-then-is_stamped-clause-noted g c).After-live_is_key in
+    let a = a g b in
+    subst (λ (x : UndoMeaning). IsKept x (k g a)) c.self.view_is
+    (λ some. sym (c.self.invariant.stamps (k g a) (is g b)) ∙ ap (λ (w : List ℕ). is_stamped w (k g a)) (sym c.deref.ensures.value) ∙ sym c.if-is_stamped.ensures)
 
 pub push_live-requires-clause-short : goal.push_live-requires-clause-short
 push_live-requires-clause-short g c =
@@ -183,3 +199,24 @@ returns-clause-kept g c has t differ =
     (placed_more 0 (length (cs g o)) (length (cs g o ++ change ∷ [])) (places g o) (omega (arith, length-append (cs g o) (change ∷ []))) (placed g o))
     (λ _. kept_noted (places g o) (cs g o) change (placed g o)) differ
     (belongs-keep (v g o) (q g o) (k g o) (s g o) c.self.inside.ghost_logs.logs (places g o) (cs g o) c.self.inside.quota (placed g o) (fits g b) (belongs g o)))
+
+pub returns-clause-noted : goal.returns-clause-noted
+returns-clause-noted g c has =
+    let b = (goal.at.returns-clause-noted g c).After-live_is_key in
+    let o = a g b in
+    let more : List ℕ = c.in-Some.bytes.now in
+    let change : Change = record { key = k g o; before = get (s g o).live (k g o) } in
+    let push = pushed c.self.inside.heads.items c.push_live.new.heads.items c.self.inside.bytes.items c.push_live.new.bytes.items more c.args.handle (get (s g o).live (k g o)) c.self.invariant.whole c.push_live.ensures.heads c.push_live.ensures.bytes (got g b) in
+    subst (λ (l : List Change). IsKept (record { logs = c.self.inside.ghost_logs.logs; places = places g o; changes = l; quota = c.self.inside.quota }) (k g o)) (sym push)
+    (λ _. kept_noted (places g o) (cs g o) change (placed g o))
+
+pub returns-clause-before : goal.returns-clause-before
+returns-clause-before g c j kept =
+    let b = (goal.at.returns-clause-before g c).After-live_is_key in
+    let o = a g b in
+    let more : List ℕ = c.in-Some.bytes.now in
+    let change : Change = record { key = k g o; before = get (s g o).live (k g o) } in
+    let push = pushed c.self.inside.heads.items c.push_live.new.heads.items c.self.inside.bytes.items c.push_live.new.bytes.items more c.args.handle (get (s g o).live (k g o)) c.self.invariant.whole c.push_live.ensures.heads c.push_live.ensures.bytes (got g b) in
+    let was : IsKept (u g o) j = subst (λ (x : UndoMeaning). IsKept x j) (sym c.self.view_is) kept in
+    subst (λ (l : List Change). IsKept (record { logs = c.self.inside.ghost_logs.logs; places = places g o; changes = l; quota = c.self.inside.quota }) j) (sym push)
+    (λ some. still_noted (places g o) (cs g o) change j (placed g o) (was some))

@@ -1,0 +1,6 @@
+pub mod Addresses
+pub mod ChunkLends
+pub mod Commands
+pub mod Meaning
+pub mod ObjectLends
+pub mod Places
