@@ -12,3 +12,4 @@ mod Rolling
 mod Pruning
 mod HeldBytes
 mod Frees
+mod Telling

@@ -84,6 +84,10 @@ log_at logs k = slice_index_or logs k no_entry
 abbrev pub entry_of : LogEntry → Entry
 entry_of e = record { time = e.time; depth = e.depth }
 
+-- a log but for what it found touched
+abbrev pub unfound : LogEntry → LogEntry
+unfound e = record { time = e.time; depth = e.depth; copy = e.copy; found = set.empty }
+
 -- places rise, from one number to another
 abbrev pub ArePlaced : ℕ → ℕ → List ℕ → Type 0
 ArePlaced low high [] = low ≤ high

@@ -82,6 +82,9 @@ module _ (g : given.Over) (c : After-live_is_key g) where
   is : IsKey c.self.inside.quota (k g a)
   is = subst (λ n. IsKey n (k g a)) (sym (belongs g a).quota_same) c.live_is_key.ensures
 
+  unstamped : is_stamped c.self.inside.words.items (k g a) ≡ false
+  unstamped = ap (λ (w : List ℕ). is_stamped w (k g a)) (sym c.deref.ensures.value) ∙ c.is_stamped_key.ensures.unstamped c.if-is_stamped_key.false is
+
   words_quota : length c.self.inside.words.items / 64 ≡ c.self.inside.quota
   words_quota = omega (arith, c.self.invariant.word_count)
 
@@ -103,25 +106,23 @@ module _ (g : given.Over) (c : After-live_is_key g) where
       = ap bytes_of (weight_is (s g a) (cs g a) (places g a) c.self.inside.ghost_logs.logs e (k g a) (belongs g a).copies last new ∙ got) in
       omega (arith, same)
 
-pub is_stamped-requires : goal.is_stamped-requires
-is_stamped-requires g c =
-    let b = (goal.at.is_stamped-requires g c).After-live_is_key in
-    subst (λ n. IsKey n (key c.args.handle)) (sym (ap (λ (w : List ℕ). length w / 64) c.deref.ensures.value ∙ words_quota g b)) (is g b)
+pub is_stamped_key-requires : goal.is_stamped_key-requires
+is_stamped_key-requires g c = omega (arith, ap length c.deref.ensures.value, c.self.invariant.word_count)
 
-pub returns-then-is_stamped-clause-kept : goal.returns-then-is_stamped-clause-kept
-returns-then-is_stamped-clause-kept g c has t differ =
-    let b = (goal.at.returns-then-is_stamped-clause-kept g c).After-live_is_key in
-    let a = a g b in
+pub returns-then-is_stamped_key-clause-kept : goal.returns-then-is_stamped_key-clause-kept
+returns-then-is_stamped_key-clause-kept g c has t differ =
+    let a = (goal.at.returns-then-is_stamped_key-clause-kept g c).After-is_empty in
+    let stamped = c.is_stamped_key.ensures.stamped c.if-is_stamped_key.true in
     subst (Belongs (v g a) (q g a) t) c.self.view_is
     (belongs-change (v g a) (q g a) (k g a) (s g a) t (u g a) (placed g a)
-    (λ some. sym (c.self.invariant.stamps (k g a) (is g b)) ∙ ap (λ (w : List ℕ). is_stamped w (k g a)) (sym c.deref.ensures.value) ∙ sym c.if-is_stamped.ensures) differ (belongs g a))
+    (λ some. sym (c.self.invariant.stamps (k g a) stamped.0) ∙ ap (λ (w : List ℕ). is_stamped w (k g a)) (sym c.deref.ensures.value) ∙ stamped.1) differ (belongs g a))
 
-pub returns-then-is_stamped-clause-noted : goal.returns-then-is_stamped-clause-noted
-returns-then-is_stamped-clause-noted g c has =
-    let b = (goal.at.returns-then-is_stamped-clause-noted g c).After-live_is_key in
-    let a = a g b in
+pub returns-then-is_stamped_key-clause-noted : goal.returns-then-is_stamped_key-clause-noted
+returns-then-is_stamped_key-clause-noted g c has =
+    let a = (goal.at.returns-then-is_stamped_key-clause-noted g c).After-is_empty in
+    let stamped = c.is_stamped_key.ensures.stamped c.if-is_stamped_key.true in
     subst (λ (x : UndoMeaning). IsKept x (k g a)) c.self.view_is
-    (λ some. sym (c.self.invariant.stamps (k g a) (is g b)) ∙ ap (λ (w : List ℕ). is_stamped w (k g a)) (sym c.deref.ensures.value) ∙ sym c.if-is_stamped.ensures)
+    (λ some. sym (c.self.invariant.stamps (k g a) stamped.0) ∙ ap (λ (w : List ℕ). is_stamped w (k g a)) (sym c.deref.ensures.value) ∙ stamped.1)
 
 pub push_live-requires-clause-short : goal.push_live-requires-clause-short
 push_live-requires-clause-short g c =
@@ -138,14 +139,14 @@ pub push_live-requires-clause-heads : goal.push_live-requires-clause-heads
 push_live-requires-clause-heads g c =
     let b = (goal.at.push_live-requires-clause-heads g c).After-live_is_key in
     let o = a g b in
-    let new : is_noted (k g o) (since (places g o) (cs g o)) ≡ false = sym (c.self.invariant.stamps (k g o) (is g b)) ∙ ap (λ (w : List ℕ). is_stamped w (k g o)) (sym c.deref.ensures.value) ∙ sym c.if-is_stamped.ensures in
+    let new : is_noted (k g o) (since (places g o) (cs g o)) ≡ false = sym (c.self.invariant.stamps (k g o) (is g b)) ∙ unstamped g b in
     omega (arith, head_fits c.self.inside.quota _ _ (places g o) (cs g o) c.self.inside.ghost_logs.logs (record { key = k g o; before = Some c.in-Some.bytes.now }) c.self.invariant.room (some g b) (is g b) new (placed g o), length-changes_of c.self.inside.heads.items c.self.inside.bytes.items)
 
 pub push_live-requires-clause-bytes : goal.push_live-requires-clause-bytes
 push_live-requires-clause-bytes g c =
     let b = (goal.at.push_live-requires-clause-bytes g c).After-live_is_key in
     let o = a g b in
-    let new : is_noted (k g o) (since (places g o) (cs g o)) ≡ false = sym (c.self.invariant.stamps (k g o) (is g b)) ∙ ap (λ (w : List ℕ). is_stamped w (k g o)) (sym c.deref.ensures.value) ∙ sym c.if-is_stamped.ensures in
+    let new : is_noted (k g o) (since (places g o) (cs g o)) ≡ false = sym (c.self.invariant.stamps (k g o) (is g b)) ∙ unstamped g b in
     let last = newest_some c.self.inside.ghost_logs.logs (omega (arith, some g b, c.self.invariant.each_placed)) in
     omega (
       arith,
@@ -163,7 +164,7 @@ pub invariant_of-self : goal.invariant_of-self
 invariant_of-self g c =
     let b = (goal.at.invariant_of-self g c).After-live_is_key in
     let o = a g b in
-    let new : is_stamped c.self.inside.words.items (k g o) ≡ false = ap (λ (w : List ℕ). is_stamped w (k g o)) (sym c.deref.ensures.value) ∙ sym c.if-is_stamped.ensures in
+    let new : is_stamped c.self.inside.words.items (k g o) ≡ false = unstamped g b in
     let unnoted : is_noted (k g o) (since (places g o) (cs g o)) ≡ false = sym (c.self.invariant.stamps (k g o) (is g b)) ∙ new in
     let more : List ℕ = c.in-Some.bytes.now in
     let x : Head = record { handle = c.args.handle; len = Some (length more) } in
