@@ -67,7 +67,12 @@ impl UndoObject<FixedSupply> {
         } }
         ensures whole { IsWhole self.new }
     {
-        keep_in(&mut self.undo, &self.heap, offset, offset.saturating_add(len));
+        keep_in(
+            &mut self.undo,
+            &self.heap,
+            offset,
+            offset.saturating_add(len),
+        );
         self.heap.touch_at(offset, len);
     }
 }

@@ -5,6 +5,7 @@ ghost use Rattle.dym_base.specs.declared.limits.TheConstants.{COUNT_LIMIT};
 ghost use Rattle.dym_heap.specs.Replies.{chunk_reply, moved_reply, done_reply, bytes_reply, found_reply, total_reply};
 ghost use Rattle.dym_undo_object.specs.Meaning.{IsStep, IsWhole, counted, step_by};
 
+use crate::keeps::{keep_made, keep_named};
 use crate::undo_object::UndoObject;
 use dym_base::{Handle, Refusal};
 use dym_heap::Found;
@@ -24,9 +25,7 @@ impl<S: Supply> UndoObject<S> {
     {
         self.ran += 1;
         let answer = self.heap.malloc(context, len);
-        if let Ok(h) = answer {
-            self.undo.keep_fresh(&self.heap, h);
-        }
+        keep_made(&mut self.undo, &self.heap, answer.ok());
         answer
     }
 
@@ -41,9 +40,7 @@ impl<S: Supply> UndoObject<S> {
     {
         self.ran += 1;
         let answer = self.heap.calloc(context, n, len);
-        if let Ok(h) = answer {
-            self.undo.keep_fresh(&self.heap, h);
-        }
+        keep_made(&mut self.undo, &self.heap, answer.ok());
         answer
     }
 
@@ -63,15 +60,9 @@ impl<S: Supply> UndoObject<S> {
         ensures whole { IsWhole self.new }
     {
         self.ran += 1;
-        if let Some(old) = h {
-            self.undo.keep(&self.heap, old);
-        }
+        keep_named(&mut self.undo, &self.heap, h);
         let answer = self.heap.realloc(context, h, len);
-        if let Ok(Some(moved)) = answer
-            && h != answer.unwrap_or(None)
-        {
-            self.undo.keep_fresh(&self.heap, moved);
-        }
+        keep_made(&mut self.undo, &self.heap, answer.unwrap_or(None));
         answer
     }
 
@@ -85,9 +76,7 @@ impl<S: Supply> UndoObject<S> {
         ensures whole { IsWhole self.new }
     {
         self.ran += 1;
-        if let Some(freed) = h {
-            self.undo.keep(&self.heap, freed);
-        }
+        keep_named(&mut self.undo, &self.heap, h);
         self.heap.free(context, h)
     }
 

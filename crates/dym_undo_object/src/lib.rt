@@ -11,9 +11,12 @@
 mod addresses;
 mod chunks;
 mod heap_calls;
+mod keeps;
 pub mod laws;
 mod log_calls;
 mod touches;
 mod undo_object;
+#[cfg(test)]
+mod undo_object_tests;
 
 pub use undo_object::UndoObject;
