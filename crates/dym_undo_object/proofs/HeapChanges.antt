@@ -1,21 +1,19 @@
 -- What a command changes of a heap: the one chunk that it names or makes.
 use Rattle.std.proofs.Common.{◌≡◌, ℕ, Bool, true, false, cond, ◌&&◌, ◌||◌, ◌==◌, nat_lt, ◌+◌, List, [], ◌∷◌, length, replicate, Option, None, Some, is_some, Result, Ok, Err, OnErr, refl, sym, ap, subst, ◌∙◌, true≢false}
 use Rattle.std.specs.Result.{result_ok}
-use Rattle.std.specs.FinMap as map
 use Rattle.std.specs.FinMap.{get, contains_key}
 use Rattle.std.specs.FinSet as set
 use Rattle.std.specs.FinSet.{contains, contains-insert, contains-remove}
 use Rattle.std.specs.Cmp.{nat_cmp_total, unsigned_tied}
-use Rattle.std.specs.Int.{w64, to_le_bytes}
 use Rattle.dym_base.specs.Numbers.{number, cls}
 use Rattle.dym_base.specs.Heaps.{Live, Touched, HeapState, fresh}
-use Rattle.dym_base.specs.HeapStep.{HeapAnswer, key, refused, with_chunk, without_chunk, held_with_fresh, add_fresh, new_len, malloc_in, malloc, free_live, free, splice, written, write_live, write, link_number}
+use Rattle.dym_base.specs.HeapStep.{HeapAnswer, key, refused, with_chunk, without_chunk, held_with_fresh, new_len, malloc_in, malloc, free_live, free, splice, written, write_live, write}
 use Rattle.dym_base.specs.declared.handle.Handle.{Handle}
 use Rattle.dym_base.specs.declared.command.Version.{Version}
 use Rattle.dym_base.specs.declared.reply.Reply.{Reply}
 use Rattle.dym_base.specs.declared.reply.Reply.TheVariants.{Done, Chunk, Refused}
 use Rattle.dym_base.specs.declared.reply.Refusal.{Refusal}
-use Rattle.dym_base.specs.declared.reply.Refusal.TheVariants.{TooLarge, Quota, Dead, Range}
+use Rattle.dym_base.specs.declared.reply.Refusal.TheVariants.{TooLarge, Quota, Range}
 use Rattle.dym_base.proofs.Maps.{get_insert, get_remove}
 use Rattle.dym_base.proofs.Heaps.{fresh_free}
 use Rattle.dym_heap.specs.Replies.{chunk_reply}

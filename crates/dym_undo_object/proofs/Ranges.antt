@@ -1,15 +1,14 @@
 -- From chunk to chunk of a region: where the next one begins, and which live chunks have a byte on the way.
-use Rattle.std.proofs.Common.{◌≡◌, ℕ, ◌+◌, ◌-◌, ◌*◌, ◌/◌, ◌%◌, ◌^◌, max, min, ◌<◌, ◌≤◌, inl, inr, Bool, true, false, ltb, Option, None, Some, is_some, List, [], length, MatchOption, refl, sym, ap, subst, ◌∙◌, arith, true≢false}
+use Rattle.std.proofs.Common.{◌≡◌, ℕ, ◌+◌, ◌-◌, ◌*◌, ◌/◌, ◌%◌, ◌^◌, max, min, ◌<◌, ◌≤◌, inl, inr, true, ltb, Option, None, Some, is_some, List, [], length, MatchOption, refl, sym, ap, subst, ◌∙◌, arith, true≢false}
 use Rattle.std.specs.FinMap.{get}
 use Rattle.std.specs.Prelude.{unwrap_or}
 use Rattle.std.proofs.Math.Nat.{mod-eq-sub-div-mul, div-mul-le_self}
 use Rattle.std.proofs.lemmas.Bool.{cases_lt, ltb-true, lt-ltb}
 use Rattle.std.proofs.lemmas.Nat.{pow_pos, pow-add, mod_below, div_below, div-mul-add, le-div, mul-le}
 use Rattle.dym_base.specs.Numbers.{number, size, per, exponent_of, index_of}
-use Rattle.dym_base.specs.Heaps.{Live}
-use Rattle.dym_base.specs.HeapStep.{key, handle_of}
+use Rattle.dym_base.specs.HeapStep.{handle_of}
 use Rattle.dym_base.proofs.Heaps.{areas_below, areas_held}
-use Rattle.dym_heap.specs.Addresses.{chunk_offset, HasByteAt, LiesAt}
+use Rattle.dym_heap.specs.Addresses.{chunk_offset, HasByteAt}
 use Rattle.dym_heap.specs.Meaning.{HeapMeaning, IsSound}
 use Rattle.dym_heap.specs.Touches.{has_byte_in}
 use Rattle.dym_heap.proofs.Sizes.{chunk_fits, size_fits}

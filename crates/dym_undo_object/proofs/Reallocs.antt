@@ -1,15 +1,14 @@
 -- What a realloc changes of a heap: the chunk that it names, and then the one that it makes.
 use Rattle.std.proofs.Common.{◌≡◌, ℕ, Bool, true, false, cond, not, ◌&&◌, ◌==◌, nat_lt, List, length, Option, None, Some, is_some, Result, Ok, Err, ◌⊎◌, inl, inr, refl, sym, ap, subst, ◌∙◌, true≢false, eq-eqb, eqb-true}
 use Rattle.std.specs.Result.{result_unwrap_or}
-use Rattle.std.specs.FinMap as map
 use Rattle.std.specs.FinMap.{get, contains_key}
 use Rattle.std.specs.FinSet as set
 use Rattle.std.specs.FinSet.{contains, contains-remove}
 use Rattle.std.specs.Cmp.{nat_cmp_total, unsigned_tied}
 use Rattle.std.specs.Ordering.{nat_cmp, eq_by_cmp}
 use Rattle.dym_base.specs.Numbers.{number, cls}
-use Rattle.dym_base.specs.Heaps.{Live, Touched, HeapState, fresh}
-use Rattle.dym_base.specs.HeapStep.{HeapAnswer, key, refused, with_chunk, without_chunk, held_with_fresh, fitted, new_len, malloc_in, free_live, resize, move_to, realloc_in, realloc_live, realloc}
+use Rattle.dym_base.specs.Heaps.{HeapState, fresh}
+use Rattle.dym_base.specs.HeapStep.{key, refused, with_chunk, without_chunk, held_with_fresh, fitted, new_len, malloc_in, free_live, resize, move_to, realloc_in, realloc_live, realloc}
 use Rattle.dym_base.specs.declared.handle.Handle.{Handle}
 use Rattle.dym_base.specs.declared.command.Version.{Version}
 use Rattle.dym_base.specs.declared.command.Version.TheVariants.{One, Two}
@@ -17,10 +16,10 @@ use Rattle.dym_base.specs.declared.reply.Reply.{Reply}
 use Rattle.dym_base.specs.declared.reply.Reply.TheVariants.{Chunk, Nil, Refused}
 use Rattle.dym_base.specs.declared.reply.Refusal.{Refusal}
 use Rattle.dym_base.specs.declared.reply.Refusal.TheVariants.{TooLarge, Quota, Dead}
-use Rattle.dym_base.proofs.Maps.{get_insert, get_remove}
+use Rattle.dym_base.proofs.Maps.{get_remove}
 use Rattle.dym_heap.specs.Replies.{moved_reply}
 use Rattle.dym_undo.specs.UndoLogs.{UndoMeaning, Belongs, DiffersAt}
-use Rattle.dym_undo_object.specs.Keeps.{Differs, IsLiveIn, IsDeadIn}
+use Rattle.dym_undo_object.specs.Keeps.{Differs, IsLiveIn}
 use Rattle.dym_undo_object.proofs.HeapChanges.{Makes, mallocs, contains_insert, same_differs, with_differs, without_differs, with_live, fresh_none, chunk_or}
 
 pub record Moves (named made : Option Handle) (s t : HeapState) : Type 0 where

@@ -1,15 +1,14 @@
 -- Chunks that are kept may count as touched.
-use Rattle.std.proofs.Common.{◌≡◌, ℕ, ◌+◌, ◌<◌, ◌||◌, ◌&&◌, Bool, true, false, List, length, refl, sym, ap, subst, ◌∙◌, true≢false}
+use Rattle.std.proofs.Common.{◌≡◌, ℕ, ◌||◌, ◌&&◌, Bool, true, false, refl, sym, ap, ◌∙◌}
 use Rattle.std.specs.List.{filter}
 use Rattle.std.specs.Cmp.{nat_cmp_total, unsigned_tied}
 use Rattle.std.specs.Ordering.{nat_cmp, eq_by_cmp}
 use Rattle.std.proofs.lemmas.Bool.{eqb-true}
 use Rattle.std.proofs.lemmas.Map.Views.{any-filter_same}
 use Rattle.std.specs.FinMap.{contains_key, contains_key-keys, keys}
-use Rattle.std.specs.FinSet.{contains, contains-from_list, from_list, union, contains-union}
+use Rattle.std.specs.FinSet.{contains, contains-from_list, from_list, contains-union}
 use Rattle.dym_base.specs.Heaps.{Live, Touched, HeapState}
 use Rattle.dym_base.specs.declared.command.Version.{Version}
-use Rattle.dym_heap.specs.Meaning.{HeapMeaning}
 use Rattle.dym_heap.specs.Touches.{all_touched, touched_in, has_byte_in}
 use Rattle.dym_undo.specs.UndoLogs.{UndoMeaning, Belongs, IsKept}
 

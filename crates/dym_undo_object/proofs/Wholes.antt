@@ -8,10 +8,10 @@ use Rattle.dym_base.specs.Objects.{LogEntry, ObjectState}
 use Rattle.dym_base.specs.RunLaws.{IsLogList, FoundLive}
 use Rattle.dym_base.specs.declared.command.Version.{Version}
 use Rattle.dym_base.specs.declared.command.Command.{Command}
-use Rattle.dym_base.proofs.Runs.{OfCopies, copies_kept, touched_kept, log_list_kept}
+use Rattle.dym_base.proofs.Runs.{copies_kept, touched_kept, log_list_kept}
 use Rattle.dym_heap.specs.Meaning.{HeapMeaning, IsSound}
 use Rattle.dym_undo.specs.HeapUndo.{is_within}
-use Rattle.dym_undo_object.specs.Meaning.{UndoObjectMeaning, IsStep, IsWhole, state_of, step_by}
+use Rattle.dym_undo_object.specs.Meaning.{UndoObjectMeaning, IsStep, IsWhole, state_of}
 
 -- where its logs stay
 pub heap_whole : (heap new : HeapMeaning) (logs new_logs : List LogEntry) (ran new_ran : ℕ) → IsWhole (record { heap = heap; logs = logs; ran = ran }) → new ≡ record heap { state = new.state; held_ids = new.held_ids } → IsSound new → new_logs ≡ logs

@@ -1,6 +1,5 @@
-use Rattle.std.proofs.Common.{◌≡◌, ℕ, ◌≤◌, ◌<◌, ◌∙◌, refl, sym, ap, subst, arith}
+use Rattle.std.proofs.Common.{◌≤◌, ◌<◌, ◌∙◌, refl, subst, arith}
 use Rattle.dym_base.specs.Numbers.{exponent_of, index_of}
-use Rattle.dym_heap.specs.Touches.{has_byte_in}
 use Rattle.dym_undo.specs.UndoLogs.{IsKept}
 use Rattle.dym_undo_object.specs.Places.{IsPlace, place_start}
 use Rattle.dym_undo_object.proofs.Ranges.{walk, none_yet, place_of}

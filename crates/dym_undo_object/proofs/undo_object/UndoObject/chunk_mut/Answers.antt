@@ -1,12 +1,11 @@
-use Rattle.std.proofs.Common.{◌≡◌, ℕ, ◌+◌, List, refl, sym, ap, subst, ◌∙◌}
+use Rattle.std.proofs.Common.{ℕ, List, refl, sym, ap, subst, ◌∙◌}
 use Rattle.std.specs.FinMap.{get}
 use Rattle.dym_base.specs.HeapStep.{key}
 use Rattle.dym_heap.specs.Meaning.{HeapMeaning}
-use Rattle.dym_heap.specs.ChunkLends.{heap_lent, new_bytes, HasByte}
-use Rattle.dym_undo_object.specs.Meaning.{UndoObjectMeaning, IsStep, IsWhole, IsUndoObject}
+use Rattle.dym_heap.specs.ChunkLends.{new_bytes, HasByte}
+use Rattle.dym_undo_object.specs.Meaning.{UndoObjectMeaning, IsStep, IsWhole}
 use Rattle.dym_undo_object.specs.ChunkLends.{write_all, object_lent}
 use Rattle.dym_undo_object.proofs.HeapChanges.{writes, belongs_after}
-use Rattle.dym_undo_object.proofs.Steps.{same_ids}
 use Rattle.dym_undo_object.proofs.Calls.{lent_here}
 use Rattle.dym_undo_object.proofs.undo_object.UndoObject.chunk_mut.Goals as goal
 

@@ -1,6 +1,6 @@
 use Rattle.dym_base.specs.declared.command.Command.TheVariants.{Malloc}
 use Rattle.dym_heap.specs.Replies.{chunk_reply}
-use Rattle.std.proofs.Common.{◌*◌, sym, ap, subst, ◌∙◌}
+use Rattle.std.proofs.Common.{sym, ap, subst, ◌∙◌}
 use Rattle.dym_heap.specs.Meaning.{HeapMeaning}
 use Rattle.dym_undo_object.specs.Keeps.{IsLiveIn}
 use Rattle.dym_undo_object.proofs.HeapChanges.{Makes, mallocs, made_ok}

@@ -1,4 +1,4 @@
-use Rattle.std.proofs.Common.{◌≡◌, ℕ, ◌≤◌, List, [], sym, ap, subst, arith}
+use Rattle.std.proofs.Common.{List, [], sym, ap, subst, arith}
 use Rattle.dym_base.specs.Objects.{LogEntry}
 use Rattle.dym_heap.specs.Meaning.{HeapMeaning, IsSound}
 use Rattle.dym_undo.specs.UndoLogs.{UndoMeaning}

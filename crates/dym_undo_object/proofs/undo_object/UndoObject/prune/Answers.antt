@@ -1,8 +1,7 @@
 use Rattle.std.proofs.Common.{◌≡◌, ◌+◌, refl, ap, subst}
 use Rattle.dym_base.specs.declared.command.Command.TheVariants.{Prune}
 use Rattle.dym_base.specs.declared.reply.Reply.TheVariants as reply
-use Rattle.dym_heap.specs.Meaning.{HeapMeaning}
-use Rattle.dym_undo_object.specs.Meaning.{UndoObjectMeaning, IsStep, IsWhole, step_by}
+use Rattle.dym_undo_object.specs.Meaning.{UndoObjectMeaning, IsStep, step_by}
 use Rattle.dym_undo_object.proofs.Wholes.{log_whole}
 use Rattle.dym_undo_object.proofs.undo_object.UndoObject.prune.Goals as goal
 

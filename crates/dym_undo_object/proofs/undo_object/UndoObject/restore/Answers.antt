@@ -1,10 +1,10 @@
-use Rattle.std.proofs.Common.{◌≡◌, ◌+◌, Result, Ok, Err, OnErr, ℕ, refl, sym, ap, subst, ◌∙◌}
+use Rattle.std.proofs.Common.{◌≡◌, ◌+◌, Result, Ok, Err, OnErr, ℕ, refl, ap, subst, ◌∙◌}
 use Rattle.dym_base.specs.declared.command.Command.TheVariants.{Restore}
 use Rattle.dym_base.specs.declared.reply.Refusal.{Refusal}
 use Rattle.dym_heap.specs.Meaning.{HeapMeaning}
 use Rattle.dym_undo.specs.Answers.{restored_reply}
 use Rattle.dym_undo.specs.UndoLogs.{UndoMeaning}
-use Rattle.dym_undo_object.specs.Meaning.{UndoObjectMeaning, IsStep, IsWhole, counted, step_by}
+use Rattle.dym_undo_object.specs.Meaning.{UndoObjectMeaning, IsStep, counted, step_by}
 use Rattle.dym_undo_object.proofs.Wholes.{log_whole}
 use Rattle.dym_undo_object.proofs.undo_object.UndoObject.restore.Goals as goal
 
