@@ -1,5 +1,7 @@
 //! Commands to an object over an undo log, beside an object over a chain of packed records: the same replies and the same heaps.
-use dym_base::{Handle, Refusal, Version};
+ghost use Rattle.std.specs.Prelude.{◌<◌};
+
+use dym_base::{Handle, Version};
 use dym_chain::{LogError as ChainError, VecKeep};
 use dym_heap::Heap;
 use dym_object::Object;
@@ -19,12 +21,15 @@ struct Numbers {
 }
 
 impl Numbers {
-    /// The next number, below `limit`, which is at least 1.
-    fn below(&mut self, limit: u64) -> u64 {
+    /// The next number, below `limit`.
+    fn below(&mut self, limit: u64) -> u64
+        requires { 0 < limit }
+        ensures { result < limit }
+    {
         self.state ^= self.state << 13;
         self.state ^= self.state >> 7;
         self.state ^= self.state << 17;
-        if limit == 0 { 0 } else { self.state % limit }
+        self.state % limit
     }
 
     /// One of some handles, live or not.
@@ -36,7 +41,11 @@ impl Numbers {
     }
 
     fn handle_or_nil(&mut self) -> Option<Handle> {
-        if self.below(5) == 0 { None } else { Some(self.handle()) }
+        if self.below(5) == 0 {
+            None
+        } else {
+            Some(self.handle())
+        }
     }
 }
 
@@ -116,7 +125,10 @@ fn logs(pair: &mut Pair, alloc: Global, full: bool) -> bool {
     let (packed, undo) = if full {
         (pair.packed.log(alloc, pair.time), pair.undo.log(pair.time))
     } else {
-        (pair.packed.ilog(alloc, pair.time), pair.undo.ilog(pair.time))
+        (
+            pair.packed.ilog(alloc, pair.time),
+            pair.undo.ilog(pair.time),
+        )
     };
     match (packed, undo) {
         (Ok((kind, _)), Ok(other)) => kind == other,
@@ -137,7 +149,7 @@ fn rolls(pair: &mut Pair, numbers: &mut Numbers, alloc: Global) -> bool {
         2 => pair.packed.prune(time) == pair.undo.prune(time),
         3 => pair.packed.logs() == pair.undo.logs(),
         number => {
-            pair.time += numbers.below(4);
+            pair.time = pair.time.saturating_add(numbers.below(4));
             logs(pair, alloc, number == 4)
         }
     }
@@ -164,9 +176,6 @@ fn are_same(a: &Heap<OwnSupply>, b: &Heap<OwnSupply>) -> bool {
 
 /// A command. Whether both answer alike.
 fn runs(pair: &mut Pair, numbers: &mut Numbers, alloc: Global) -> bool {
-    if pair.time >= 1 << 40 {
-        return false;
-    }
     match numbers.below(4) {
         0 => allocates(pair, numbers),
         1 => rolls(pair, numbers, alloc),
@@ -177,7 +186,10 @@ fn runs(pair: &mut Pair, numbers: &mut Numbers, alloc: Global) -> bool {
 fn run_both(rt: &impl Abort, pair: &mut Pair, numbers: &mut Numbers, alloc: Global) {
     for step in 0..300 {
         assert!(rt; runs(pair, numbers, alloc), "step {step}");
-        assert!(rt; are_same(pair.packed.heap(), pair.undo.heap()), "after step {step}");
+        assert!(rt;
+            are_same(pair.packed.heap(), pair.undo.heap()),
+            "after step {step}"
+        );
     }
 }
 
