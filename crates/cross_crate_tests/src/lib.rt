@@ -24,6 +24,8 @@ mod script_tests;
 #[cfg(test)]
 mod slot_tests;
 #[cfg(test)]
+mod undo_tests;
+#[cfg(test)]
 mod view_tests;
 #[cfg(test)]
 mod watch;

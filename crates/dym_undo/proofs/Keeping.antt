@@ -197,6 +197,15 @@ pub kept_noted : (places : List ℕ) (cs : List Change) (c : Change) → ArePlac
 kept_noted places cs c placed =
     ap (is_noted c.key) (since-push 0 places cs c placed) ∙ noted-push (since places cs) c c.key ∙ ap (λ t. t || is_noted c.key (since places cs)) (eq-eqb c.key c.key refl)
 
+-- one that was noted still is
+pub still_noted : (places : List ℕ) (cs : List Change) (c : Change) (k : ℕ) → ArePlaced 0 (length cs) places → is_noted k (since places cs) ≡ true → is_noted k (since places (cs ++ c ∷ [])) ≡ true
+still_noted places cs c k placed noted =
+    ap (is_noted k) (since-push 0 places cs c placed) ∙ noted-push (since places cs) c k ∙ ap (λ t. (k == c.key) || t) noted ∙ or_true (k == c.key)
+  where
+    or_true : (t : Bool) → (t || true) ≡ true
+    or_true true = refl
+    or_true false = refl
+
 -- a chunk that is noted changes
 pub belongs-change : (v : Version) (quota k : ℕ) (s t : HeapState) (u : UndoMeaning) → ArePlaced 0 (length u.changes) u.places → (0 < length u.places → is_noted k (since u.places u.changes) ≡ true) → DiffersAt k s t → Belongs v quota s u → Belongs v quota t u
 belongs-change v quota k s t u placed noted differ b = record {

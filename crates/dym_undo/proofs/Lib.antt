@@ -11,3 +11,5 @@ mod Logging
 mod Rolling
 mod Pruning
 mod HeldBytes
+mod Frees
+mod Telling

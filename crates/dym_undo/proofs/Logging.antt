@@ -222,9 +222,13 @@ no_stamp n i j =
       | inr past ↦ ap (λ w. bit_at w j) (Rattle.std.proofs.lemmas.List.get_or_past (replicate n 0) i 0 (omega (arith, Rattle.std.proofs.lemmas.List.length-replicate {A = ℕ} n 0))) ∙ Rattle.std.proofs.lemmas.Nat.Bits.bit_at-zero j
     ]
 
+-- words that are zero stamp nothing
+pub none_stamped : (n k : ℕ) → is_stamped (replicate n 0) k ≡ false
+unfolding is_stamped
+none_stamped n k = ap (λ m. m == 1) (no_stamp n (Rattle.dym_undo.specs.Keys.stamp_bit k / 64) (Rattle.dym_undo.specs.Keys.stamp_bit k % 64))
+
 -- the fields of an undo log with no log
 pub undo_log-open : (quota h b : ℕ) (words : List ℕ) → quota ≤ 1024 → words ≡ replicate (quota * 64) 0 → IsUndoLog quota [] [] [] [] words h b []
-unfolding is_stamped
 undo_log-open quota h b words most are = record {
   most = most;
   entries_are = refl;
@@ -236,6 +240,6 @@ undo_log-open quota h b words most are = record {
   placed = omega arith;
   unlogged = λ _. refl;
   word_count = ap length are ∙ Rattle.std.proofs.lemmas.List.length-replicate {A = ℕ} (quota * 64) 0;
-  stamps = λ k is. ap (λ (w : List ℕ). is_stamped w k) are ∙ ap (λ n. n == 1) (no_stamp (quota * 64) (Rattle.dym_undo.specs.Keys.stamp_bit k / 64) (Rattle.dym_undo.specs.Keys.stamp_bit k % 64));
+  stamps = λ k is. ap (λ (w : List ℕ). is_stamped w k) are ∙ none_stamped (quota * 64) k;
   room = record { heads_left = λ some. absurd (omega arith); bytes_left = λ e last. absurd (Rattle.std.proofs.lemmas.Option.none-some e last); at_each = tt };
 }

@@ -6,3 +6,4 @@ pub mod Rooms
 pub mod Heaps
 pub mod UndoLogs
 pub mod Answers
+pub mod HeapUndo

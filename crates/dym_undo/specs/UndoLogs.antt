@@ -44,6 +44,10 @@ last_place (p ∷ q ∷ ps) = last_place (q ∷ ps)
 abbrev pub since : List ℕ → List Change → List Change
 since places cs = drop (last_place places) cs
 
+-- once there is a log, the chunk of number k is among the changes since the newest
+abbrev pub IsKept : UndoMeaning → ℕ → Type 0
+IsKept u k = 0 < length u.places → is_noted k (since u.places u.changes) ≡ true
+
 -- the copy of each log is the heap now, before what was changed since
 abbrev pub AreCopies : Live → List Change → List ℕ → List LogEntry → Type 0
 AreCopies live cs [] [] = ⊤
@@ -79,6 +83,10 @@ log_at logs k = slice_index_or logs k no_entry
 -- the time and the depth of a log
 abbrev pub entry_of : LogEntry → Entry
 entry_of e = record { time = e.time; depth = e.depth }
+
+-- a log but for what it found touched
+abbrev pub unfound : LogEntry → LogEntry
+unfound e = record { time = e.time; depth = e.depth; copy = e.copy; found = set.empty }
 
 -- places rise, from one number to another
 abbrev pub ArePlaced : ℕ → ℕ → List ℕ → Type 0

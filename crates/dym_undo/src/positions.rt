@@ -4,6 +4,7 @@ ghost use Rattle.dym_base.specs.Objects as Objects;
 ghost use Rattle.dym_base.specs.Objects.{LogEntry, next_depth};
 ghost use Rattle.dym_undo.specs.Answers.{log_refusal};
 ghost use Rattle.dym_base.specs.RunLaws.{EachFollows};
+ghost use Rattle.dym_base.specs.declared.limits.TheConstants.{MOST_KEPT_LOGS};
 ghost use Rattle.dym_base.specs.declared.command.Kind.TheVariants.{Full, Inc};
 ghost use Rattle.dym_undo.specs.UndoLogs.{entry_of};
 
@@ -35,6 +36,18 @@ pub(crate) fn newest_of(entries: &[Entry]) -> Option<Entry>
         → result ≡ option_map entry_of (Objects.newest logs) }
 {
     entries.last().copied()
+}
+
+/// How many records a chain of these logs would have.
+pub(crate) fn slots_of(entries: &[Entry]) -> u32
+    requires { length entries.now ≤ MOST_KEPT_LOGS }
+    ensures { (logs : List LogEntry) → entries.now ≡ map entry_of logs
+        → result ≡ Objects.slots logs }
+{
+    match entries.first().copied() {
+        None => 0,
+        Some(oldest) => entries.len() as u32 + u32::from(oldest.depth),
+    }
 }
 
 /// Why no log is taken at a time.

@@ -38,9 +38,22 @@ pub(crate) fn make_room(
 {
     entries.reserve(1)?;
     places.reserve(1)?;
-    heads.reserve(more_heads)?;
-    bytes.reserve(more_bytes)?;
+    reserve_ahead(heads, more_heads)?;
+    reserve_ahead(bytes, more_bytes)?;
     Ok(())
+}
+
+/// Takes room for so many more items where it isn't there, and then for as many again. What is reserved is address space until it
+/// is written, but what grows may be copied, with all room that it had: so it grows once, and again when it is half full.
+fn reserve_ahead<T>(items: &mut Vec<T>, more: usize) -> Result<(), AllocError>
+    ensures items { items.new.items ≡ items.old.items }
+    ensures room { vec_capacity items.old ≤ vec_capacity items.new }
+    ensures left { OnOk result (vec_len items.new + more ≤ vec_capacity items.new) }
+{
+    if items.capacity() - items.len() >= more {
+        return Ok(());
+    }
+    items.reserve(more.saturating_add(more))
 }
 
 /// A live chunk has a handle that can be live within the heap's quota.

@@ -1,5 +1,5 @@
 //! Stamps: a bit for each handle that can be live within a quota.
-ghost use Rattle.std.specs.Prelude.{◌≡◌, true, ℕ, ◌+◌, ◌*◌, ◌/◌, ◌%◌, ◌<◌, ◌≤◌, length};
+ghost use Rattle.std.specs.Prelude.{◌≡◌, true, ℕ, ◌+◌, ◌*◌, ◌/◌, ◌%◌, ◌<◌, ◌≤◌, length, false};
 ghost use Rattle.dym_base.specs.HeapStep.{key};
 ghost use Rattle.dym_base.specs.declared.limits.TheConstants.{LEAST_EXPONENT, GREATEST_EXPONENT, MOST_QUOTA};
 ghost use Rattle.dym_undo.specs.Keys.{IsKey, stamp_bit, is_stamped, with_stamp, without_stamp};
@@ -16,11 +16,28 @@ const WORD_BITS: usize = 64;
 pub(crate) const AREA_WORDS: usize = 64;
 
 /// Whether a handle can be live within a quota.
-pub(crate) fn is_key(handle: Handle, quota: u32) -> bool
-    ensures { result ≡ true → IsKey quota (key handle) }
+fn is_key(handle: Handle, quota: u32) -> bool
+    ensures key { result ≡ true → IsKey quota (key handle) }
+    ensures only { IsKey quota (key handle) → result ≡ true }
 {
-    (LEAST_EXPONENT..=GREATEST_EXPONENT).contains(&handle.exp)
-        && handle.index / per_area(handle.exp) < quota
+    if handle.exp < LEAST_EXPONENT || handle.exp > GREATEST_EXPONENT {
+        return false;
+    }
+    handle.index / per_area(handle.exp) < quota
+}
+
+/// Whether a handle can be live within a quota, and is stamped: for a handle of which nothing is known.
+pub(crate) fn is_stamped_key(words: &[u64], quota: u32, handle: Handle) -> bool
+    requires { length words.now / 64 ≡ quota }
+    ensures stamped { result ≡ true
+        → IsKey quota (key handle) × (is_stamped words.now (key handle) ≡ true) }
+    ensures unstamped { result ≡ false
+        → IsKey quota (key handle) → is_stamped words.now (key handle) ≡ false }
+{
+    if !is_key(handle, quota) {
+        return false;
+    }
+    is_stamped(words, handle)
 }
 
 /// The bit of a handle.

@@ -9,17 +9,20 @@ ghost use Rattle.dym_base.specs.declared.command.Version.{Version};
 ghost use Rattle.dym_base.specs.declared.reply.Reply.TheVariants as reply;
 ghost use Rattle.dym_base.specs.declared.limits.TheConstants.{MOST_QUOTA};
 ghost use Rattle.dym_undo.specs.Answers.{IsLogAnswer, restored_reply};
-ghost use Rattle.dym_undo.specs.UndoLogs.{UndoMeaning, Belongs, DiffersAt, object_of, log_at, entry_of};
+ghost use Rattle.dym_undo.specs.Passes.{TouchesNoMore};
+ghost use Rattle.dym_undo.specs.UndoLogs.{UndoMeaning, Belongs, DiffersAt, IsKept, object_of, log_at, entry_of, unfound};
 
 use crate::entry::Entry;
 use crate::ghost_logs::GhostLogs;
 use crate::head::Head;
 use crate::kept_changes::{push_dead, push_live};
 use crate::log_error::LogError;
-use crate::passes::{begin_interval, undo_from};
-use crate::positions::{depth_of_next, dropped_by, kind_at, newest_of, reached, refusal_of};
+use crate::passes::{begin_interval, count_bytes, take_back, undo_from};
+use crate::positions::{
+    depth_of_next, dropped_by, kind_at, newest_of, reached, refusal_of, slots_of,
+};
 use crate::rooms::{MOST_HANDLES, drop_dead, drop_first, live_is_key, make_room};
-use crate::stamps::{AREA_WORDS, is_stamped, stamp};
+use crate::stamps::{AREA_WORDS, is_stamped, is_stamped_key, stamp};
 use crate::undo_heap::UndoHeap;
 use dym_base::limits::SEGMENT_BYTES;
 use dym_base::{Handle, Kind, Refusal};
@@ -100,17 +103,20 @@ impl UndoLog {
         ensures kept { contains_key (H.state heap.now).live (key handle) ≡ true → (t : HeapState)
             → DiffersAt (key handle) (H.state heap.now) t
             → Belongs (H.version_of heap.now) (H.quota_of heap.now) t self.new }
+        ensures noted { contains_key (H.state heap.now).live (key handle) ≡ true
+            → IsKept self.new (key handle) }
+        ensures before { (k : ℕ) → IsKept self.old k → IsKept self.new k }
     {
         if self.entries.is_empty() {
+            return;
+        }
+        if is_stamped_key(&self.words, self.quota, handle) {
             return;
         }
         let Some(bytes) = heap.chunk(handle) else {
             return;
         };
         live_is_key(heap, handle);
-        if is_stamped(&self.words, handle) {
-            return;
-        }
         push_live(&mut self.heads, &mut self.bytes, handle, bytes);
         stamp(&mut self.words, handle);
     }
@@ -251,6 +257,13 @@ impl UndoLog {
         self.entries.len() as u32
     }
 
+    /// How many records a chain of these logs would have.
+    pub fn slots(&self) -> u32
+        ensures { result ≡ Objects.slots self.now.logs }
+    {
+        slots_of(&self.entries)
+    }
+
     /// The time of the newest log.
     pub fn newest(&self) -> Option<u64>
         ensures { result ≡ option_map (λ (e : LogEntry). e.time) (Objects.newest self.now.logs) }
@@ -267,5 +280,48 @@ impl UndoLog {
         ensures { result ≡ entry_of (log_at self.now.logs k) }
     {
         self.entries[k as usize]
+    }
+
+    /// Makes a heap that is as the logs' own heap is now what log `k` copied. The logs stay as they are; memory is taken for a
+    /// time.
+    pub fn bring_back<H: UndoHeap>(
+        &self,
+        alloc: Global,
+        context: &H::Context,
+        heap: &mut H,
+        k: u32,
+    ) -> Result<(), AllocError>
+        requires sound { H.is_sound heap.old }
+        requires belongs { Belongs (H.version_of heap.old) (H.quota_of heap.old)
+            (H.state heap.old) self.now }
+        requires log { k < length self.now.logs }
+        ensures live { OnOk result ((H.state heap.new).live ≡ (log_at self.now.logs k).copy) }
+        ensures touched { TouchesNoMore (H.state heap.old) (H.state heap.new) }
+        ensures unchanged { OnErr result (heap.new ≡ heap.old) }
+        ensures rest { H.keeps_rest heap.old heap.new }
+        ensures sound { H.is_sound heap.new }
+    {
+        let mut words = vec![in alloc; 0; self.quota as usize * AREA_WORDS]?;
+        let place = self.places[k as usize];
+        let undone = self.heads.split_at(place).1;
+        let len = self.bytes.len();
+        let from = len - count_bytes(undone, len);
+        take_back(
+            heap,
+            context,
+            &mut words,
+            undone,
+            self.bytes.split_at(from).1,
+        );
+        Ok(())
+    }
+
+    /// The same logs, but for what each found touched, which clauses alone know: here it is told anew.
+    pub fn tell_found(&mut self)
+        ghost told: { List LogEntry }
+        requires alike { map unfound told ≡ map unfound self.old.logs }
+        ensures { self.new ≡ record self.old { logs = told } }
+    {
+        self.ghost_logs = self.ghost_logs.cut(0, 0);
     }
 }

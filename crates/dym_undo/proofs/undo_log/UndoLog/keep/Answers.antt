@@ -11,11 +11,11 @@ use Rattle.dym_undo.specs.Heads.{changes_of, bytes_in}
 use Rattle.dym_undo.specs.Keys.{IsKey, is_stamped}
 use Rattle.dym_undo.specs.Passes.{Fits}
 use Rattle.dym_undo.specs.Rooms.{length_at}
-use Rattle.dym_undo.specs.UndoLogs.{UndoMeaning, Belongs, ArePlaced, since, IsUndoLog}
+use Rattle.dym_undo.specs.UndoLogs.{UndoMeaning, Belongs, ArePlaced, since, IsKept, IsUndoLog}
 use Rattle.dym_undo.specs.declared.head.Head.{Head}
 use Rattle.std.proofs.Math.Seq.{take-length}
 use Rattle.dym_undo.proofs.Decoding.{length-changes_of, changes_of-push, noted_bytes-changes_of}
-use Rattle.dym_undo.proofs.Keeping.{belongs-keep, kept_noted, belongs-change, weight_is, undo_log-push, head_fits, bytes_fit, some_places, no_places, fits_short, whole_slice, newest_some, placed_more}
+use Rattle.dym_undo.proofs.Keeping.{belongs-keep, kept_noted, still_noted, belongs-change, weight_is, undo_log-push, head_fits, bytes_fit, some_places, no_places, fits_short, whole_slice, newest_some, placed_more}
 use Rattle.std.proofs.Common.{Bor, ◌==◌, length-append}
 use Rattle.std.specs.Option.{option_copied}
 use Rattle.std.specs.Vec.{vec_capacity}
@@ -60,11 +60,20 @@ returns-then-is_empty-clause-kept g c has t differ =
     (belongs-change (v g a) (q g a) (k g a) (s g a) t (u g a) (placed g a)
     (λ some. absurd (no_places c.self.inside.entries.items c.self.inside.ghost_logs.logs (places g a) c.self.invariant.entries_are c.self.invariant.each_placed (let same : vec_len c.self.inside.entries ≡ length c.self.inside.entries.items = omega arith in ap (λ n. n == 0) (sym same) ∙ sym c.if-is_empty.ensures) some)) differ (belongs g a))
 
+pub returns-then-is_empty-clause-noted : goal.returns-then-is_empty-clause-noted
+returns-then-is_empty-clause-noted g c has =
+    let a = (goal.at.returns-then-is_empty-clause-noted g c).After-is_empty in
+    subst (λ (x : UndoMeaning). IsKept x (k g a)) c.self.view_is
+    (λ some. absurd (no_places c.self.inside.entries.items c.self.inside.ghost_logs.logs (places g a) c.self.invariant.entries_are c.self.invariant.each_placed (let same : vec_len c.self.inside.entries ≡ length c.self.inside.entries.items = omega arith in ap (λ n. n == 0) (sym same) ∙ sym c.if-is_empty.ensures) some))
+
 not_live : (o : Option (List ℕ)) (r : Option (Bor (List ℕ))) → option_copied r ≡ o → is_some o ≡ true → r ≡ None → ⊥
 not_live o r e has none = true≢false (sym has ∙ ap is_some (sym e) ∙ ap (λ (x : Option (Bor (List ℕ))). is_some (option_copied x)) none)
 
 pub returns-in_default-clause-kept : goal.returns-in_default-clause-kept
 returns-in_default-clause-kept g c has t differ = absurd (not_live _ c.chunk.result c.chunk.ensures has c.in_default.is)
+
+pub returns-in_default-clause-noted : goal.returns-in_default-clause-noted
+returns-in_default-clause-noted g c has = absurd (not_live _ c.chunk.result c.chunk.ensures has c.in_default.is)
 
 module _ (g : given.Over) (c : After-live_is_key g) where
   abbrev a : After-is_empty g
@@ -72,6 +81,9 @@ module _ (g : given.Over) (c : After-live_is_key g) where
 
   is : IsKey c.self.inside.quota (k g a)
   is = subst (λ n. IsKey n (k g a)) (sym (belongs g a).quota_same) c.live_is_key.ensures
+
+  unstamped : is_stamped c.self.inside.words.items (k g a) ≡ false
+  unstamped = ap (λ (w : List ℕ). is_stamped w (k g a)) (sym c.deref.ensures.value) ∙ c.is_stamped_key.ensures.unstamped c.if-is_stamped_key.false is
 
   words_quota : length c.self.inside.words.items / 64 ≡ c.self.inside.quota
   words_quota = omega (arith, c.self.invariant.word_count)
@@ -94,18 +106,23 @@ module _ (g : given.Over) (c : After-live_is_key g) where
       = ap bytes_of (weight_is (s g a) (cs g a) (places g a) c.self.inside.ghost_logs.logs e (k g a) (belongs g a).copies last new ∙ got) in
       omega (arith, same)
 
-pub is_stamped-requires : goal.is_stamped-requires
-is_stamped-requires g c =
-    let b = (goal.at.is_stamped-requires g c).After-live_is_key in
-    subst (λ n. IsKey n (key c.args.handle)) (sym (ap (λ (w : List ℕ). length w / 64) c.deref.ensures.value ∙ words_quota g b)) (is g b)
+pub is_stamped_key-requires : goal.is_stamped_key-requires
+is_stamped_key-requires g c = omega (arith, ap length c.deref.ensures.value, c.self.invariant.word_count)
 
-pub returns-then-is_stamped-clause-kept : goal.returns-then-is_stamped-clause-kept
-returns-then-is_stamped-clause-kept g c has t differ =
-    let b = (goal.at.returns-then-is_stamped-clause-kept g c).After-live_is_key in
-    let a = a g b in
+pub returns-then-is_stamped_key-clause-kept : goal.returns-then-is_stamped_key-clause-kept
+returns-then-is_stamped_key-clause-kept g c has t differ =
+    let a = (goal.at.returns-then-is_stamped_key-clause-kept g c).After-is_empty in
+    let stamped = c.is_stamped_key.ensures.stamped c.if-is_stamped_key.true in
     subst (Belongs (v g a) (q g a) t) c.self.view_is
     (belongs-change (v g a) (q g a) (k g a) (s g a) t (u g a) (placed g a)
-    (λ some. sym (c.self.invariant.stamps (k g a) (is g b)) ∙ ap (λ (w : List ℕ). is_stamped w (k g a)) (sym c.deref.ensures.value) ∙ sym c.if-is_stamped.ensures) differ (belongs g a))
+    (λ some. sym (c.self.invariant.stamps (k g a) stamped.0) ∙ ap (λ (w : List ℕ). is_stamped w (k g a)) (sym c.deref.ensures.value) ∙ stamped.1) differ (belongs g a))
+
+pub returns-then-is_stamped_key-clause-noted : goal.returns-then-is_stamped_key-clause-noted
+returns-then-is_stamped_key-clause-noted g c has =
+    let a = (goal.at.returns-then-is_stamped_key-clause-noted g c).After-is_empty in
+    let stamped = c.is_stamped_key.ensures.stamped c.if-is_stamped_key.true in
+    subst (λ (x : UndoMeaning). IsKept x (k g a)) c.self.view_is
+    (λ some. sym (c.self.invariant.stamps (k g a) stamped.0) ∙ ap (λ (w : List ℕ). is_stamped w (k g a)) (sym c.deref.ensures.value) ∙ stamped.1)
 
 pub push_live-requires-clause-short : goal.push_live-requires-clause-short
 push_live-requires-clause-short g c =
@@ -122,14 +139,14 @@ pub push_live-requires-clause-heads : goal.push_live-requires-clause-heads
 push_live-requires-clause-heads g c =
     let b = (goal.at.push_live-requires-clause-heads g c).After-live_is_key in
     let o = a g b in
-    let new : is_noted (k g o) (since (places g o) (cs g o)) ≡ false = sym (c.self.invariant.stamps (k g o) (is g b)) ∙ ap (λ (w : List ℕ). is_stamped w (k g o)) (sym c.deref.ensures.value) ∙ sym c.if-is_stamped.ensures in
+    let new : is_noted (k g o) (since (places g o) (cs g o)) ≡ false = sym (c.self.invariant.stamps (k g o) (is g b)) ∙ unstamped g b in
     omega (arith, head_fits c.self.inside.quota _ _ (places g o) (cs g o) c.self.inside.ghost_logs.logs (record { key = k g o; before = Some c.in-Some.bytes.now }) c.self.invariant.room (some g b) (is g b) new (placed g o), length-changes_of c.self.inside.heads.items c.self.inside.bytes.items)
 
 pub push_live-requires-clause-bytes : goal.push_live-requires-clause-bytes
 push_live-requires-clause-bytes g c =
     let b = (goal.at.push_live-requires-clause-bytes g c).After-live_is_key in
     let o = a g b in
-    let new : is_noted (k g o) (since (places g o) (cs g o)) ≡ false = sym (c.self.invariant.stamps (k g o) (is g b)) ∙ ap (λ (w : List ℕ). is_stamped w (k g o)) (sym c.deref.ensures.value) ∙ sym c.if-is_stamped.ensures in
+    let new : is_noted (k g o) (since (places g o) (cs g o)) ≡ false = sym (c.self.invariant.stamps (k g o) (is g b)) ∙ unstamped g b in
     let last = newest_some c.self.inside.ghost_logs.logs (omega (arith, some g b, c.self.invariant.each_placed)) in
     omega (
       arith,
@@ -147,7 +164,7 @@ pub invariant_of-self : goal.invariant_of-self
 invariant_of-self g c =
     let b = (goal.at.invariant_of-self g c).After-live_is_key in
     let o = a g b in
-    let new : is_stamped c.self.inside.words.items (k g o) ≡ false = ap (λ (w : List ℕ). is_stamped w (k g o)) (sym c.deref.ensures.value) ∙ sym c.if-is_stamped.ensures in
+    let new : is_stamped c.self.inside.words.items (k g o) ≡ false = unstamped g b in
     let unnoted : is_noted (k g o) (since (places g o) (cs g o)) ≡ false = sym (c.self.invariant.stamps (k g o) (is g b)) ∙ new in
     let more : List ℕ = c.in-Some.bytes.now in
     let x : Head = record { handle = c.args.handle; len = Some (length more) } in
@@ -183,3 +200,24 @@ returns-clause-kept g c has t differ =
     (placed_more 0 (length (cs g o)) (length (cs g o ++ change ∷ [])) (places g o) (omega (arith, length-append (cs g o) (change ∷ []))) (placed g o))
     (λ _. kept_noted (places g o) (cs g o) change (placed g o)) differ
     (belongs-keep (v g o) (q g o) (k g o) (s g o) c.self.inside.ghost_logs.logs (places g o) (cs g o) c.self.inside.quota (placed g o) (fits g b) (belongs g o)))
+
+pub returns-clause-noted : goal.returns-clause-noted
+returns-clause-noted g c has =
+    let b = (goal.at.returns-clause-noted g c).After-live_is_key in
+    let o = a g b in
+    let more : List ℕ = c.in-Some.bytes.now in
+    let change : Change = record { key = k g o; before = get (s g o).live (k g o) } in
+    let push = pushed c.self.inside.heads.items c.push_live.new.heads.items c.self.inside.bytes.items c.push_live.new.bytes.items more c.args.handle (get (s g o).live (k g o)) c.self.invariant.whole c.push_live.ensures.heads c.push_live.ensures.bytes (got g b) in
+    subst (λ (l : List Change). IsKept (record { logs = c.self.inside.ghost_logs.logs; places = places g o; changes = l; quota = c.self.inside.quota }) (k g o)) (sym push)
+    (λ _. kept_noted (places g o) (cs g o) change (placed g o))
+
+pub returns-clause-before : goal.returns-clause-before
+returns-clause-before g c j kept =
+    let b = (goal.at.returns-clause-before g c).After-live_is_key in
+    let o = a g b in
+    let more : List ℕ = c.in-Some.bytes.now in
+    let change : Change = record { key = k g o; before = get (s g o).live (k g o) } in
+    let push = pushed c.self.inside.heads.items c.push_live.new.heads.items c.self.inside.bytes.items c.push_live.new.bytes.items more c.args.handle (get (s g o).live (k g o)) c.self.invariant.whole c.push_live.ensures.heads c.push_live.ensures.bytes (got g b) in
+    let was : IsKept (u g o) j = subst (λ (x : UndoMeaning). IsKept x j) (sym c.self.view_is) kept in
+    subst (λ (l : List Change). IsKept (record { logs = c.self.inside.ghost_logs.logs; places = places g o; changes = l; quota = c.self.inside.quota }) j) (sym push)
+    (λ some. still_noted (places g o) (cs g o) change j (placed g o) (was some))

@@ -1,0 +1,83 @@
+//! Chunks that are kept before bytes are changed at their addresses.
+ghost use Rattle.std.specs.Prelude.{◌≡◌, ℕ, ◌-◌, ◌^◌, ◌<◌, ◌≤◌, true};
+ghost use Rattle.std.specs.FinMap.{contains_key};
+ghost use Rattle.dym_base.specs.declared.limits.TheConstants.{MOST_QUOTA};
+ghost use Rattle.dym_base.specs.HeapStep.{handle_of};
+ghost use Rattle.dym_heap.specs.Addresses.{HasByteAt};
+ghost use Rattle.dym_heap.specs.Meaning.{IsSound};
+ghost use Rattle.dym_heap.specs.Touches.{has_byte_in};
+ghost use Rattle.dym_undo.specs.UndoLogs.{Belongs, IsKept};
+ghost use Rattle.dym_undo_object.specs.Places.{IsPlace, place_start};
+
+use dym_base::limits::{LEAST_EXPONENT, SEGMENT_BYTES};
+use dym_base::size_of_class;
+use dym_heap::Heap;
+use dym_quota::{FixedSupply, Supply};
+use dym_undo::UndoLog;
+
+/// Classes of chunks.
+const CLASSES: u64 = 12;
+
+/// Keeps each live chunk.
+pub(crate) fn keep_live<S: Supply>(undo: &mut UndoLog, heap: &Heap<S>)
+    requires sound { IsSound heap.now }
+    requires belongs { Belongs heap.now.version heap.now.quota heap.now.state undo.old }
+    ensures logs { undo.new.logs ≡ undo.old.logs }
+    ensures belongs { Belongs heap.now.version heap.now.quota heap.now.state undo.new }
+    ensures kept { (k : ℕ) → contains_key heap.now.state.live k ≡ true → IsKept undo.new k }
+{
+    let mut last = None;
+    while let Some(h) = heap.next_live(last) {
+        undo.keep(heap, h);
+        last = Some(h);
+    }
+}
+
+/// Keeps each live chunk with a byte in the region from `from` up to `end`, chunk by chunk.
+pub(crate) fn keep_in(undo: &mut UndoLog, heap: &Heap<FixedSupply>, from: u64, end: u64)
+    requires ordered { from ≤ end }
+    requires sound { IsSound heap.now }
+    requires belongs { Belongs heap.now.version heap.now.quota heap.now.state undo.old }
+    ensures logs { undo.new.logs ≡ undo.old.logs }
+    ensures belongs { Belongs heap.now.version heap.now.quota heap.now.state undo.new }
+    ensures kept { (k : ℕ) → has_byte_in heap.now.quota heap.now.state.live from end k ≡ true
+        → IsKept undo.new k }
+{
+    let quota = heap.quota();
+    let mut at = from;
+    while at < end {
+        keep_at(undo, heap, at);
+        at = end.min(chunk_end(quota, at));
+    }
+}
+
+/// Keeps the live chunk that has the byte at an offset, if there is one.
+fn keep_at(undo: &mut UndoLog, heap: &Heap<FixedSupply>, offset: u64)
+    requires sound { IsSound heap.now }
+    requires belongs { Belongs heap.now.version heap.now.quota heap.now.state undo.old }
+    ensures logs { undo.new.logs ≡ undo.old.logs }
+    ensures belongs { Belongs heap.now.version heap.now.quota heap.now.state undo.new }
+    ensures before { (k : ℕ) → IsKept undo.old k → IsKept undo.new k }
+    ensures kept { (k : ℕ) → HasByteAt heap.now (handle_of k) offset → IsKept undo.new k }
+{
+    if let Some(h) = heap.handle_at(offset) {
+        undo.keep(heap, h);
+    }
+}
+
+/// Where the chunk ends, live or not, in which the byte at `offset` of the region lies: no chunk begins between. Past the segments
+/// of all classes there is none.
+fn chunk_end(quota: u32, offset: u64) -> u64
+    requires least { 1 ≤ quota }
+    requires most { quota ≤ MOST_QUOTA }
+    ensures further { offset < 2 ^ 64 - 1 → offset < result }
+    ensures none { (e i : ℕ) → IsPlace quota e i → offset < place_start quota e i
+        → result ≤ place_start quota e i }
+{
+    let class = offset / u64::from(SEGMENT_BYTES) / u64::from(quota);
+    if class >= CLASSES {
+        return u64::MAX;
+    }
+    let size = u64::from(size_of_class(LEAST_EXPONENT + class as u8));
+    offset - offset % size + size
+}
