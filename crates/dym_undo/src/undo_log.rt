@@ -282,6 +282,23 @@ impl UndoLog {
         self.entries[k as usize]
     }
 
+    /// What a chunk was at the newest log, where it was changed since: dead, or live with these bytes. No clause says so: it is for a
+    /// caller that doubts what was kept.
+    pub fn before(&self, handle: Handle) -> Option<Option<&[u8]>> {
+        let mut end = self.bytes.len();
+        for head in self.heads.get(*self.places.last()?..)?.iter().rev() {
+            let from = end.checked_sub(head.len.unwrap_or(0) as usize)?;
+            if head.handle == handle {
+                return Some(match head.len {
+                    Some(_) => self.bytes.get(from..end),
+                    None => None,
+                });
+            }
+            end = from;
+        }
+        None
+    }
+
     /// Makes a heap that is as the logs' own heap is now what log `k` copied. The logs stay as they are; memory is taken for a
     /// time.
     pub fn bring_back<H: UndoHeap>(

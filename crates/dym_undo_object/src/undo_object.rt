@@ -7,8 +7,8 @@ ghost use Rattle.dym_heap.specs.Meaning.{IsSound};
 ghost use Rattle.dym_undo.specs.UndoLogs.{Belongs, entry_of, log_at};
 ghost use Rattle.dym_undo_object.specs.Meaning.{UndoObjectMeaning, IsWhole, IsUndoObject, opened_object};
 
-use dym_base::Version;
 use dym_base::limits::MOST_QUOTA;
+use dym_base::{Handle, Version};
 use dym_heap::Heap;
 use dym_quota::Supply;
 use dym_undo::{Entry, UndoLog};
@@ -139,6 +139,11 @@ impl<S: Supply> UndoObject<S> {
         ensures { result ≡ entry_of (log_at self.now.logs k) }
     {
         self.undo.entry(k)
+    }
+
+    /// What a chunk was at the newest log, where it was changed since: dead, or live with these bytes. No clause says so.
+    pub fn before(&self, h: Handle) -> Option<Option<&[u8]>> {
+        self.undo.before(h)
     }
 
     /// Gives all segments back, and answers the supply.
