@@ -65,7 +65,8 @@ module _ {X : Type 0} (T : List ℕ → Result X Stop → Type 0) (old new : Inp
   }
 
   -- the source failed, or memory ran out
-  pub not_read : {Y : Type 0} → (r : Result Y ReadFail) (e : ReadFail) → r ≡ Err e → ((bytes : List ℕ) → T bytes (Err stop.Source)) → ((bytes : List ℕ) → T bytes (Err stop.Memory))
+  pub not_read : {Y : Type 0} → (r : Result Y ReadFail) (e : ReadFail) → r ≡ Err e → ((bytes : List ℕ) → T bytes (Err stop.Source))
+      → ((bytes : List ℕ) → T bytes (Err stop.Memory))
       → TookAtMost (MOST_INPUT_BYTES + 1) old.left new.left
       → (IsErrOf r read.Source → RoseOnce old.faults new.faults) → (¬ IsErrOf r read.Source → new.faults ≡ old.faults) → ReadsSource T old new (Err (of_read e))
   not_read r read.Source is failed none bounded rose calm = record {

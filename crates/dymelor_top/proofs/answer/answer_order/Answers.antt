@@ -32,7 +32,8 @@ returns-in_err-script-in-Check g c =
     let new : Input = record { left = g.R.Source.left c.read_source.new.source; faults = g.R.Source.faults c.read_source.new.source } in
     let a = g.W.Sink.output c.args.sink.now in
     subst (λ o. AnswersOrder (without_threads (Ok o)) old new a a c.from_residual.result) (sym c.in-Check.is)
-    (passed (AnswersOrder (Ok order.Check) old new a a) c.from_residual.result _ c.from_residual.ensures.1 (script_stopped _ (λ said. text_answer (counts_of said)) old new a _ c.in_err-script-in-Check.ensures))
+    (passed (AnswersOrder (Ok order.Check) old new a a) c.from_residual.result _ c.from_residual.ensures.1
+    (script_stopped _ (λ said. text_answer (counts_of said)) old new a _ c.in_err-script-in-Check.ensures))
 
 pub returns-in_ok-script-in-Check : goal.returns-in_ok-script-in-Check
 returns-in_ok-script-in-Check g c =
@@ -59,7 +60,8 @@ returns-in_err-gen_script-in-Gen g c =
     let b = g.W.Sink.output c.gen_script.new.sink in
     let made = c.in-Gen in
     subst (λ o. AnswersOrder (without_threads (Ok o)) old old a b c.from_residual-in_err-gen_script-in-Gen.result) (sym made.is)
-    (passed (AnswersOrder (Ok (order.Gen made.seed made.objects made.commands)) old old a b) c.from_residual-in_err-gen_script-in-Gen.result _ c.from_residual-in_err-gen_script-in-Gen.ensures.1
+    (passed (AnswersOrder (Ok (order.Gen made.seed made.objects made.commands)) old old a b) c.from_residual-in_err-gen_script-in-Gen.result _
+    c.from_residual-in_err-gen_script-in-Gen.ensures.1
     (generated_cut made.seed made.objects made.commands old a b c.in_err-gen_script-in-Gen.ensures))
 
 pub returns-in_ok-gen_script-in-Gen : goal.returns-in_ok-gen_script-in-Gen
@@ -99,7 +101,8 @@ returns-in_err-script-in-Save g c =
     let new : Input = record { left = g.R.Source.left c.read_source-in-Save.new.source; faults = g.R.Source.faults c.read_source-in-Save.new.source } in
     let a = g.W.Sink.output c.args.sink.now in
     subst (λ o. AnswersOrder (without_threads (Ok o)) old new a a c.from_residual-in_err-script-in-Save.result) (sym c.in-Save.is)
-    (passed (AnswersOrder (Ok (order.Save c.in-Save.name)) old new a a) c.from_residual-in_err-script-in-Save.result _ c.from_residual-in_err-script-in-Save.ensures.1 (script_stopped _ (λ said. named_answer said.version (own_named c.in-Save.name said)) old new a _ c.in_err-script-in-Save.ensures))
+    (passed (AnswersOrder (Ok (order.Save c.in-Save.name)) old new a a) c.from_residual-in_err-script-in-Save.result _ c.from_residual-in_err-script-in-Save.ensures.1
+    (script_stopped _ (λ said. named_answer said.version (own_named c.in-Save.name said)) old new a _ c.in_err-script-in-Save.ensures))
 
 pub returns-in_ok-script-in-Save : goal.returns-in_ok-script-in-Save
 returns-in_ok-script-in-Save g c =
@@ -136,7 +139,8 @@ returns-in_err-bytes-in-Late g c =
     let a = g.W.Sink.output c.args.sink.now in
     subst (λ o. AnswersOrder (without_threads (Ok o)) old new a a c.from_residual-in_err-bytes-in-Late.result) (sym c.in-Late.is)
     (passed (AnswersOrder (Ok order.Late) old new a a) c.from_residual-in_err-bytes-in-Late.result _ c.from_residual-in_err-bytes-in-Late.ensures.1
-    (stopped_reading _ (λ bytes x. x ≡ of_script (λ said. text_answer (late_text said)) (late_of bytes)) old new a _ (λ bytes line kind no. absurd no) c.in_err-bytes-in-Late.ensures))
+    (stopped_reading _ (λ bytes x. x ≡ of_script (λ said. text_answer (late_text said)) (late_of bytes)) old new a _
+    (λ bytes line kind no. absurd no) c.in_err-bytes-in-Late.ensures))
 
 pub returns-in_ok-bytes-in-Late : goal.returns-in_ok-bytes-in-Late
 returns-in_ok-bytes-in-Late g c =
@@ -145,5 +149,6 @@ returns-in_ok-bytes-in-Late g c =
     let a = g.W.Sink.output c.args.sink.now in
     let b = g.W.Sink.output c.answer_late.new.sink in
     subst (λ o. AnswersOrder (without_threads (Ok o)) old new a b c.answer_late.result) (sym c.in-Late.is)
-    (answered_bytes _ (λ bytes x. x ≡ of_script (λ said. text_answer (late_text said)) (late_of bytes)) old new a b _ _ c.deref-in-Late.result.now c.in_ok-bytes-in-Late.ensures c.answer_late.ensures
+    (answered_bytes _ (λ bytes x. x ≡ of_script (λ said. text_answer (late_text said)) (late_of bytes)) old new a b _ _
+    c.deref-in-Late.result.now c.in_ok-bytes-in-Late.ensures c.answer_late.ensures
     (λ bytes told. subst (λ l. SameVerdict l bytes) (sym c.deref-in-Late.ensures.value) told) (same_late (of_script (λ said. text_answer (late_text said)))))
