@@ -1,5 +1,5 @@
 -- The answer to bytes that should be a file: they have one at most.
-use Rattle.std.proofs.Common.{◌≡◌, ℕ, ◌<◌, ◌≤◌, ◌⊎◌, inl, inr, true, false, List, length, drop, nat_lt, Option, MatchBool, refl, sym, ap, subst, ◌∙◌, arith}
+use Rattle.std.proofs.Common.{◌≡◌, ℕ, ◌<◌, ◌≤◌, ◌⊎◌, inl, inr, true, false, List, length, drop, nat_lt, Option, Err, MatchBool, refl, sym, ap, subst, ◌∙◌, arith}
 use Rattle.std.proofs.lemmas.Bool.Decides.{nat_tests}
 use Rattle.dym_base.specs.declared.limits.TheConstants.{MOST_INPUT_BYTES}
 use Rattle.dym_base.specs.declared.bad_kind.BadKind.TheVariants as bad
@@ -8,6 +8,13 @@ use Rattle.dym_base.specs.LawfulLists.{IsLawful}
 use Rattle.dym_base.specs.Objects.{LogEntry}
 use Rattle.dym_chain.specs.AdoptedLogs.{entries_of}
 use Rattle.dym_ckpt.proofs.OneReading.{one_reading, no_file, one_part}
+use Rattle.dym_ckpt.specs.FileRecords.{FailsAs}
+use Rattle.dym_ckpt.specs.declared.file_reader.FileFail.{FileFail}
+use Rattle.dym_ckpt.specs.declared.file_reader.FileFail.TheVariants as file
+use Rattle.dym_io.specs.Sink.{Output}
+use Rattle.dymelor_top.specs.Calls.{AnswersRead}
+use Rattle.dymelor_top.specs.Stops.{of_file_fail}
+use Rattle.dymelor_top.proofs.Answered.{told_fault, wanted_memory}
 use Rattle.dymelor_top.specs.Checkpoints.{HoldsLogs, loaded_text}
 use Rattle.dymelor_top.specs.Answers.{Answer, fault_answer, IsLoadedText, IsPartFault, IsLoadAnswer}
 
@@ -53,3 +60,9 @@ pub part_answer : (time : Option ℕ) (bytes read : List ℕ) (part : ℕ) → r
 part_answer time bytes read part same short fails =
     tested_short (λ x. IsLoadedText time bytes x ⊎ IsPartFault bytes x) bytes (fault_answer part bad.File) short
     (inr (record { part = part; fails = subst (λ l. FailsAt l part) same fails; is = refl }))
+
+-- so the call that reads it tells that part, or that memory ran out
+pub file_failed : (time : Option ℕ) (bytes : List ℕ) (a : Output) → length bytes ≤ MOST_INPUT_BYTES → (e : FileFail) → FailsAs bytes e
+    → AnswersRead (IsLoadAnswer time bytes) a a (Err (of_file_fail e))
+file_failed time bytes a short (file.Bad part) fails = told_fault (IsLoadAnswer time bytes) a part bad.File (part_answer time bytes bytes part refl short fails)
+file_failed time bytes a short file.Memory fails = wanted_memory (IsLoadAnswer time bytes) a

@@ -1,14 +1,23 @@
 -- The part of an object by a heap of late events that took in all that comes for it.
-use Rattle.std.proofs.Common.{◌≡◌, ℕ, List, [], ◌++◌, All, length, flat_map, append_assoc, sym, ap, subst, ◌∙◌}
+use Rattle.std.proofs.Common.{◌≡◌, ℕ, List, [], ◌++◌, All, length, flat_map, Err, append_assoc, sym, ap, subst, ◌∙◌}
 use Rattle.dym_base.specs.LateRun.{LateEvent, Arrival, accepted, late_heap, replayed}
 use Rattle.dym_base.specs.declared.command.Version.TheVariants.{One}
 use Rattle.dym_heap.specs.Meaning.{HeapMeaning}
 use Rattle.dym_late.specs.Meaning.{LateMeaning, IsLate}
+use Rattle.dym_io.specs.Sink.{Output}
 use Rattle.dym_report.specs.Late.{late_end}
 use Rattle.dym_report.specs.Objects.{heading}
+use Rattle.dym_script.specs.Late.{late_of}
+use Rattle.dym_script.specs.LateAnswers.{GivesLate}
+use Rattle.dym_script.specs.declared.script.ScriptFail.{ScriptFail}
+use Rattle.dym_script.specs.declared.script.ScriptFail.TheVariants as fail
+use Rattle.dymelor_top.specs.Answers.{of_script, text_answer}
+use Rattle.dymelor_top.specs.Calls.{AnswersRead}
+use Rattle.dymelor_top.specs.Stops.{of_script_fail}
 use Rattle.dymelor_top.specs.declared.late_outcome.LateOutcome.{LateOutcome}
-use Rattle.dymelor_top.specs.LateReport.{outcome_of, outcome_text, late_part}
+use Rattle.dymelor_top.specs.LateReport.{outcome_of, outcome_text, late_part, late_text}
 use Rattle.dymelor_top.specs.LateParts.{TookIn, IsOneOf}
+use Rattle.dymelor_top.proofs.Answered.{told_fault, wanted_memory}
 use Rattle.dymelor_top.proofs.LateFacts.{events_are, ones_of}
 
 -- a part begins with its heading
@@ -43,3 +52,9 @@ module _ (old new : LateMeaning) (name : List ℕ) (xs : List Arrival) (none : o
       let front : List ℕ = heading name ++ flat_map (outcome_text new.heap.quota new.events) lines in
       part_by_heap ∙ (λ i. front ++ late_end (sym late.version i) (sym late.live i) (sym counted i))
       ∙ (λ i. front ++ late_end (sym same i).version (sym same i).state.live count)
+
+-- a script of late events isn't read: its answer is the line of its first fault, or memory ran out
+pub late_failed : (bytes : List ℕ) (a : Output) (e : ScriptFail) → GivesLate (Err e) (late_of bytes)
+    → AnswersRead (λ x. x ≡ of_script (λ said. text_answer (late_text said)) (late_of bytes)) a a (Err (of_script_fail e))
+late_failed bytes a (fail.Bad line kind) is = told_fault _ a line kind (sym (ap (of_script (λ said. text_answer (late_text said))) is))
+late_failed bytes a fail.Memory is = wanted_memory _ a

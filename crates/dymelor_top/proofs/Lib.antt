@@ -10,6 +10,9 @@ pub mod Yielded
 pub mod LateFacts
 pub mod LateText
 pub mod LatePartFacts
+pub mod WholeInput
+pub mod SourceReads
+pub mod Answered
 pub mod Served
 pub mod SummaryFacts
 pub mod WrittenReplies

@@ -15,7 +15,7 @@ use Rattle.dym_run.specs.Results.{parts_text}
 use Rattle.dym_report.specs.Report.{own_of, IsRunnable, own_from, objects_of, part_text, report_text}
 use Rattle.dym_report.specs.Orders.{end_text}
 use Rattle.dym_run.specs.Views.{viewed_part, views_text}
-use Rattle.dymelor_top.specs.Answers.{outcome_text}
+use Rattle.dymelor_top.specs.WaveTexts.{viewed_text}
 
 -- the commands of the parts from the k-th object on
 abbrev pub OwnsFrom : ScriptMeaning → ℕ → List Part → Type 0
@@ -113,7 +113,7 @@ plain_texts v (p ∷ parts) = λ i. append-nil (part_text v (own_of p)) i ++ pla
 
 -- the report, with views or without
 pub told_of_parts : (views : Bool) (script : WholeScript PartCollector) (s : ScriptMeaning) → IsByObjects script s
-    → outcome_text views s ≡ parts_text (record { version = script.version; views = views }) script.kept.parts.items ++ end_text
+    → viewed_text views s ≡ parts_text (record { version = script.version; views = views }) script.kept.parts.items ++ end_text
 told_of_parts true script s are = views_of_parts script s are
 told_of_parts false script s are =
     report_of_parts script s script.kept.parts.items are refl ∙ ap (λ l. l ++ end_text) (sym (plain_texts script.version script.kept.parts.items))

@@ -1,13 +1,11 @@
 -- An error that is passed on, of whatever cause.
-use Rattle.std.proofs.Common.{◌≡◌, ℕ, suc, ◌+◌, ◌<◌, List, ◌∷◌, ◌++◌, length, take, drop, get_or, flat_map, Result, Ok, Err, IsErrAnd, refl, sym, ap, subst, ◌∙◌, add-one, drop-cons, take-append-drop}
+use Rattle.std.proofs.Common.{◌≡◌, ℕ, suc, ◌+◌, ◌<◌, List, ◌∷◌, ◌++◌, length, take, drop, get_or, flat_map, Result, IsErrAnd, sym, ap, subst, ◌∙◌, add-one, drop-cons, take-append-drop}
 use Rattle.std.proofs.lemmas.Grind.{flat_map-append}
 use Rattle.dym_io.specs.Sink.{Output, Appended, AppendedFront, Stopped, FaultsTellCause, WritesOr}
 use Rattle.dym_io.specs.Laws.{appended_both, front_after, front_within, stopped_after, stopped_within, writes_or_stopped}
 use Rattle.dym_report.specs.declared.write_fail.WriteFail.{WriteFail}
 use Rattle.dym_report.specs.declared.write_fail.WriteFail.TheVariants as fail
 use Rattle.dym_run.proofs.Progress.{writes_or_passed}
-use Rattle.dymelor_top.specs.Answers.{Answer}
-use Rattle.dymelor_top.specs.Headline.{WritesAnswer}
 
 -- the error is the sink's
 abbrev pub IsSinks : WriteFail → Type 0
@@ -37,14 +35,3 @@ each_front_item f items i x a b c within is p q =
     ap (flat_map f) (sym (take-append-drop i items)) ∙ flat_map-append f (take i items) (drop i items) ∙ ap (λ l. flat_map f (take i items) ++ flat_map f l) cut in
     subst (AppendedFront a c) (sym whole)
     (front_after a b c (flat_map f (take i items)) (f x ++ flat_map f (drop (i + 1) items)) p (front_within b c (f x) (flat_map f (drop (i + 1) items)) q))
-
--- the same of an answer that is given
-pub answer_passed : (defined : Answer) (a b : Output) (r : Result ℕ WriteFail) (e : WriteFail) → IsErrAnd r (λ x. x ≡ e)
-    → AppendedFront a b defined.text → FaultsTellCause (e ≡ fail.Sink) a b → WritesAnswer defined a b r
-answer_passed defined a b (Ok x) e is front blames = absurd is
-answer_passed defined a b (Err x) e is front blames = (front, subst (λ x. FaultsTellCause (x ≡ fail.Sink) a b) (sym is) blames)
-
--- where the sink stopped the call
-pub answer_stopped : (defined : Answer) (a b : Output) (r : Result ℕ WriteFail) → IsErrAnd r (λ e. e ≡ fail.Sink) → Stopped a b defined.text
-    → WritesAnswer defined a b r
-answer_stopped defined a b r is stopped = answer_passed defined a b r fail.Sink is stopped.front (λ _. stopped.rose, λ other. absurd (other refl))

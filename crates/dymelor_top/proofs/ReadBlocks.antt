@@ -1,5 +1,5 @@
 -- What holds while a source is read and its script with it, and what is known at the end.
-use Rattle.std.proofs.Common.{◌≡◌, ℕ, ◌+◌, ◌-◌, ◌<◌, ◌≤◌, inl, inr, List, [], ◌++◌, length, take, drop, Option, Some, None, Result, Ok, Err, IfOk, OnOk, sym, ap, subst, ◌∙◌, append_assoc, append-nil, length-append, length-take, length-drop, take-append-drop, zero-add, arith}
+use Rattle.std.proofs.Common.{◌≡◌, ℕ, ◌+◌, ◌-◌, ◌<◌, ◌≤◌, inl, inr, List, [], ◌++◌, length, take, drop, Option, Some, None, Result, Ok, Err, refl, sym, ap, subst, ◌∙◌, append_assoc, append-nil, length-append, length-take, length-drop, take-append-drop, zero-add, arith}
 use Rattle.std.specs.List.{copy_within}
 use Rattle.std.proofs.Math.Seq.{paste, take-add}
 use Rattle.std.proofs.lemmas.List.{drop-take}
@@ -17,7 +17,17 @@ use Rattle.dym_script.specs.Answers.{FailsSo}
 use Rattle.dym_script.specs.Pieces.{says, TakesPiece}
 use Rattle.dym_script.proofs.PiecesRead.{script_says}
 use Rattle.dymelor_top.specs.Blocks.{IsFaultOf, IsReadOut, TakesBytes, IsDrained}
-use Rattle.dymelor_top.proofs.Served.{too_long, read_so, SameVerdict}
+use Rattle.dym_script.specs.WholeScripts.{GivesWhole}
+use Rattle.dym_script.specs.declared.pieces.WholeScript.{WholeScript}
+use Rattle.dym_script.specs.declared.script.Decl.{Decl}
+use Rattle.dym_script.specs.declared.script.Line.{Line}
+use Rattle.dymelor_top.specs.Calls.{SameVerdict, TellsScript, ReadsSource}
+use Rattle.dymelor_top.specs.Headline.{Input}
+use Rattle.dymelor_top.specs.Stops.{of_script_fail}
+use Rattle.dymelor_top.specs.declared.stop.Stop.{Stop}
+use Rattle.dymelor_top.specs.declared.stop.Stop.TheVariants as stop
+use Rattle.dymelor_top.proofs.SourceReads.{made, faulty, no_memory}
+use Rattle.dymelor_top.proofs.WholeInput.{too_long, read_so, same_said}
 
 -- ---- a source that is read
 
@@ -241,19 +251,62 @@ kept_end block end rest within inside =
 
 -- ---- the whole call
 
-pub result_some : {M E : Type 0} → (old new : Option (List ℕ)) (Gives : M → Result ScriptMeaning Fault → Type 0) (result : Result M E)
-    → IfOk result (λ made. TakesBytes [] old new (Gives made)) → IfOk result (λ made. (bytes : List ℕ) × Gives made (script_of bytes))
-result_some old new Gives (Ok made) tells = (tells.got, tells.gives)
-result_some old new Gives (Err e) tells = tt
+-- a script was read, and kept
+module _ {K : Type 0} (Keeps : K → List Decl → List Line → Type 0) (old new : Input) (bounded : TookAtMost (MOST_INPUT_BYTES + 1) old.left new.left)
+    (calm : new.faults ≡ old.faults) where
+  pub script_made : (script : WholeScript K) → TakesBytes [] old.left new.left (GivesWhole Keeps (Ok script)) → ReadsSource (TellsScript Keeps) old new (Ok script)
+  script_made script takes =
+      made (TellsScript Keeps) old new script (takes.got, takes.gives)
+      (λ bytes known. (told_input (MOST_INPUT_BYTES + 1) old.left new.left (GivesWhole Keeps (Ok script)) bytes refl known takes).1)
+      (λ bytes known. (told_input (MOST_INPUT_BYTES + 1) old.left new.left (GivesWhole Keeps (Ok script)) bytes refl known takes).0) bounded calm
 
-pub result_gives : {M E : Type 0} → (n : ℕ) (old new : Option (List ℕ)) (Gives : M → Result ScriptMeaning Fault → Type 0) (result : Result M E) (all : List ℕ)
-    → n ≡ MOST_INPUT_BYTES + 1 → old ≡ Some all → IfOk result (λ made. TakesBytes [] old new (Gives made))
-    → IfOk result (λ made. Gives made (script_of all))
-result_gives n old new Gives (Ok made) all limit known tells = (told_input n old new (Gives made) all limit known tells).1
-result_gives n old new Gives (Err e) all limit known tells = tt
+  -- or it has a fault, or memory ran out
+  pub script_failed : (e : ScriptFail) → TakesBytes [] old.left new.left (FailsSo e) → ReadsSource (TellsScript Keeps) old new (Err (of_script_fail e))
+  script_failed (fail.Bad line kind) takes =
+      faulty (TellsScript Keeps) old new line kind
+      (λ bytes known. (told_input (MOST_INPUT_BYTES + 1) old.left new.left (FailsSo (fail.Bad line kind)) bytes refl known takes).1)
+      (λ bytes known. (told_input (MOST_INPUT_BYTES + 1) old.left new.left (FailsSo (fail.Bad line kind)) bytes refl known takes).0) bounded calm
+  script_failed fail.Memory takes = no_memory (TellsScript Keeps) old new (λ bytes. tt) bounded calm
 
-pub result_read : {M E : Type 0} → (n : ℕ) (old new : Option (List ℕ)) (Gives : M → Result ScriptMeaning Fault → Type 0) (result : Result M E) (all : List ℕ)
-    → n ≡ MOST_INPUT_BYTES + 1 → old ≡ Some all → IfOk result (λ made. TakesBytes [] old new (Gives made))
-    → OnOk result (new ≡ Some (drop n all))
-result_read n old new Gives (Ok made) all limit known tells = (told_input n old new (Gives made) all limit known tells).0
-result_read n old new Gives (Err e) all limit known tells = tt
+-- its bytes were read, and then it
+module _ {X K : Type 0} (T : List ℕ → Result X Stop → Type 0) (Keeps : K → List Decl → List Line → Type 0) (old new : Input) where
+  pub bytes_stopped : (e : Stop) → ((bytes : List ℕ) (line : ℕ) (kind : BadKind) → ¬ T bytes (Err (stop.Bad line kind))) → ReadsSource T old new (Err e)
+      → ReadsSource (TellsScript Keeps) old new (Err e)
+  bytes_stopped stop.Usage good reads = absurd (reads.no_usage refl)
+  bytes_stopped (stop.Bad line kind) good reads = record {
+    some = tt;
+    told = λ bytes known. absurd (good bytes line kind (reads.told bytes known));
+    read = reads.read;
+    bounded = reads.bounded;
+    source = λ is. absurd (cc);
+    source_stands = λ _. reads.source_stands (λ is. absurd (cc));
+    no_usage = λ is. absurd (cc);
+    no_sink = λ is. absurd (cc);
+  }
+  bytes_stopped stop.Source good reads = record {
+    some = tt;
+    told = λ bytes known. tt;
+    read = reads.read;
+    bounded = reads.bounded;
+    source = λ _. reads.source refl;
+    source_stands = λ other. absurd (other refl);
+    no_usage = λ is. absurd (cc);
+    no_sink = λ is. absurd (cc);
+  }
+  bytes_stopped stop.Sink good reads = absurd (reads.no_sink refl)
+  bytes_stopped stop.Memory good reads =
+      no_memory (TellsScript Keeps) old new (λ bytes. tt) reads.bounded (reads.source_stands (λ is. absurd (cc)))
+
+  module _ (x : X) (read : List ℕ) (whole : (bytes : List ℕ) → T bytes (Ok x) → SameVerdict read bytes) (reads : ReadsSource T old new (Ok x)) where
+    pub bytes_made : (script : WholeScript K) → GivesWhole Keeps (Ok script) (script_of read) → ReadsSource (TellsScript Keeps) old new (Ok script)
+    bytes_made script gives =
+        made (TellsScript Keeps) old new script (read, gives)
+        (λ bytes known. subst (GivesWhole Keeps (Ok script)) (same_said read bytes (whole bytes (reads.told bytes known))) gives) (reads.read (omega arith))
+        reads.bounded (reads.source_stands (λ is. absurd (cc)))
+
+    pub bytes_failed : (e : ScriptFail) → FailsSo e (script_of read) → ReadsSource (TellsScript Keeps) old new (Err (of_script_fail e))
+    bytes_failed (fail.Bad line kind) gives =
+        faulty (TellsScript Keeps) old new line kind
+        (λ bytes known. subst (FailsSo (fail.Bad line kind)) (same_said read bytes (whole bytes (reads.told bytes known))) gives) (reads.read (omega arith))
+        reads.bounded (reads.source_stands (λ is. absurd (cc)))
+    bytes_failed fail.Memory gives = no_memory (TellsScript Keeps) old new (λ bytes. tt) reads.bounded (reads.source_stands (λ is. absurd (cc)))

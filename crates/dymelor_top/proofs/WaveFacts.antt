@@ -9,7 +9,12 @@ use Rattle.dym_script.specs.Scripts.{ScriptMeaning}
 use Rattle.dym_script.specs.declared.parts.PartCollector.{PartCollector}
 use Rattle.dym_script.specs.declared.parts.Part.{Part}
 use Rattle.dym_script.specs.declared.pieces.WholeScript.{WholeScript}
-use Rattle.dymelor_top.specs.Answers.{fault_answer, first_above, unless_above}
+use Rattle.dym_report.specs.Report.{report_text}
+use Rattle.dym_report.specs.Summary.{summary_of}
+use Rattle.dymelor_top.specs.Answers.{fault_answer, first_above, report_or_summary, unless_above}
+use Rattle.dymelor_top.specs.WaveTexts.{waves_text}
+use Rattle.dymelor_top.specs.declared.waves.WaveText.{WaveText}
+use Rattle.dymelor_top.specs.declared.waves.WaveText.TheVariants as wave
 
 -- ---- objects that may hold too much
 
@@ -71,3 +76,8 @@ module _ (segments : ℕ) (script : WholeScript PartCollector) (s : ScriptMeanin
   pub fitting_answer : (text : List ℕ) → line ≡ None → unless_above text (first_above segments s.objects) ≡ record { status = 0; text = text }
   fitting_answer text is =
       above_of_parts text ∙ ap (λ o. unless_above text (option_map (λ (p : Part). p.decl) o)) (no_part (find (is_above segments) parts) (sym is ∙ found))
+
+-- what the order `run` writes
+pub run_text_is : (summary : Bool) (text : WaveText) → text ≡ cond summary wave.Summary wave.Report → waves_text text ≡ report_or_summary summary
+run_text_is true text is = ap waves_text is ∙ (λ i s. summary_of s)
+run_text_is false text is = ap waves_text is ∙ (λ i s. report_text s)

@@ -7,7 +7,7 @@ use Rattle.dym_base.specs.declared.bad_kind.BadKind.TheVariants as bad
 use Rattle.dym_base.specs.Files.{FileHead, FailsAt}
 use Rattle.dym_base.specs.Objects.{LogEntry}
 use Rattle.dym_base.specs.declared.command.Version.{Version}
-use Rattle.dym_script.specs.Late.{LateScriptMeaning, late_of}
+use Rattle.dym_script.specs.Late.{late_of}
 use Rattle.dym_script.specs.Scripts.{ScriptMeaning, Fault, script_of}
 use Rattle.dym_script.specs.declared.script.Decl.{Decl}
 use Rattle.dym_trace.specs.declared.answer.TraceAnswer.{TraceAnswer}
@@ -16,13 +16,10 @@ use Rattle.dym_trace.specs.Verdict.{IsVerdict}
 use Rattle.dym_gen.specs.Scripts.{generated}
 use Rattle.dym_words.specs.declared.order.Input.{Input}
 use Rattle.dym_words.specs.declared.order.Input.TheVariants.{Script, GenNumbers}
+use Rattle.dym_words.specs.declared.order.Order.{Order}
+use Rattle.dym_words.specs.declared.order.Order.TheVariants.{Plain, Run, Check, Gen, Trace, Save, Load, Views, Late}
+use Rattle.dym_words.specs.declared.order.Usage.{Usage}
 use Rattle.dym_report.specs.Orders.{counts_text, events_text, error_text, usage_text}
-use Rattle.dymelor_top.specs.declared.plan.Reading.{Reading}
-use Rattle.dymelor_top.specs.declared.plan.Reading.TheVariants as reading
-use Rattle.dymelor_top.specs.declared.plan.WaveText.{WaveText}
-use Rattle.dymelor_top.specs.declared.plan.WaveText.TheVariants as wave
-use Rattle.dymelor_top.specs.declared.plan.Plan.{Plan}
-use Rattle.dymelor_top.specs.declared.plan.Plan.TheVariants as plan
 use Rattle.dymelor_top.specs.Checkpoints.{HoldsLogs, own_named, own_file, loaded_text}
 use Rattle.dymelor_top.specs.LateReport.{late_text}
 use Rattle.dym_report.specs.Report.{Own, report_text}
@@ -33,25 +30,26 @@ pub record Answer : Type 0 where
   pub status : ℕ
   pub text : List ℕ
 
+-- a text that was asked for
+abbrev pub text_answer : List ℕ → Answer
+text_answer text = record { status = 0; text = text }
+
 -- the line of a fault
 abbrev pub fault_answer : ℕ → BadKind → Answer
 fault_answer line kind = record { status = 2; text = error_text line kind }
 
--- a text of what a script says, or the line of its first fault
-abbrev pub of_script : (ScriptMeaning → List ℕ) → Result ScriptMeaning Fault → Answer
-of_script text (Ok said) = record { status = 0; text = text said }
-of_script text (Err fault) = fault_answer fault.line fault.kind
+abbrev pub usage_answer : Answer
+usage_answer = record { status = 1; text = usage_text }
 
--- the report of a script, with the view of each object where views are told
-abbrev pub outcome_text : Bool → ScriptMeaning → List ℕ
-outcome_text true said = views_text said
-outcome_text false said = report_text said
+-- an answer by what a script says, or the line of its first fault
+abbrev pub of_script : {S : Type 0} → (S → Answer) → Result S Fault → Answer
+of_script answer (Ok said) = answer said
+of_script answer (Err fault) = fault_answer fault.line fault.kind
 
--- the report of a script, or its summary, or its report with the view of each object
-abbrev pub waves_text : WaveText → ScriptMeaning → List ℕ
-waves_text wave.Report said = report_text said
-waves_text wave.Summary said = summary_of said
-waves_text wave.Views said = views_text said
+-- the report of a script, or its summary
+abbrev pub report_or_summary : Bool → ScriptMeaning → List ℕ
+report_or_summary true said = summary_of said
+report_or_summary false said = report_text said
 
 -- the first declared object that may hold more than so many segments
 abbrev pub first_above : ℕ → List Decl → Option Decl
@@ -59,14 +57,13 @@ first_above segments decls = find (λ d. nat_lt segments d.quota) decls
 
 -- a text, or the line of an object that may hold too much
 abbrev pub unless_above : List ℕ → Option Decl → Answer
-unless_above text None = record { status = 0; text = text }
+unless_above text None = text_answer text
 unless_above text (Some d) = fault_answer d.line bad.QuotaRange
 
 -- a text of what a script says whose objects run in waves over so many segments. That an object may hold more is a fault of the whole
 -- script, which comes after all faults of its lines
-abbrev pub of_waves : ℕ → (ScriptMeaning → List ℕ) → Result ScriptMeaning Fault → Answer
-of_waves segments text (Ok said) = unless_above (text said) (first_above segments said.objects)
-of_waves segments text (Err fault) = fault_answer fault.line fault.kind
+abbrev pub in_waves : ℕ → (ScriptMeaning → List ℕ) → ScriptMeaning → Answer
+in_waves segments text said = unless_above (text said) (first_above segments said.objects)
 
 -- how many objects and commands a script has
 abbrev pub counts_of : ScriptMeaning → List ℕ
@@ -74,7 +71,7 @@ counts_of said = counts_text (length said.objects) (length said.lines)
 
 -- how many events a good trace has, or the line of the first that is no step
 abbrev pub of_verdict : TraceAnswer → Answer
-of_verdict (Good events) = record { status = 0; text = events_text events }
+of_verdict (Good events) = text_answer (events_text events)
 of_verdict (Bad line) = fault_answer line bad.Step
 
 -- the answer to a trace: that of its verdict, where it isn't too long
@@ -88,25 +85,19 @@ IsTraceAnswer bytes answer = MatchBool (nat_lt MOST_INPUT_BYTES (length bytes)) 
 
 -- a file, or that it is longer than an input may be
 abbrev pub file_answer : List ℕ → Answer
-file_answer file =
-    if nat_lt MOST_INPUT_BYTES (length file) then fault_answer 0 bad.TooLong else record { status = 0; text = file }
+file_answer file = if nat_lt MOST_INPUT_BYTES (length file) then fault_answer 0 bad.TooLong else text_answer file
 
 -- the file of a declared object, or that there is none of the name
 abbrev pub named_answer : Version → Option Own → Answer
 named_answer version None = fault_answer 0 bad.Undeclared
 named_answer version (Some o) = file_answer (own_file version o)
 
--- the file of a script's object of this name, or the line of the script's first fault
-abbrev pub saved_answer : List ℕ → Result ScriptMeaning Fault → Answer
-saved_answer name (Ok said) = named_answer said.version (own_named name said)
-saved_answer name (Err fault) = fault_answer fault.line fault.kind
-
 -- the answer to a file: what its logs come to
 pub record IsLoadedText (time : Option ℕ) (bytes : List ℕ) (answer : Answer) : Type 0 where
   pub head : FileHead
   pub logs : List LogEntry
   pub holds : HoldsLogs bytes head logs
-  pub is : answer ≡ record { status = 0; text = loaded_text time head logs }
+  pub is : answer ≡ text_answer (loaded_text time head logs)
 
 -- the answer to bytes that are no file: the first part that fails
 pub record IsPartFault (bytes : List ℕ) (answer : Answer) : Type 0 where
@@ -119,55 +110,45 @@ abbrev pub IsLoadAnswer : Option ℕ → List ℕ → Answer → Type 0
 IsLoadAnswer time bytes answer =
     MatchBool (nat_lt MOST_INPUT_BYTES (length bytes)) (answer ≡ fault_answer 0 bad.TooLong) (IsLoadedText time bytes answer ⊎ IsPartFault bytes answer)
 
--- the report of a script of late events, or the line of its first fault
-abbrev pub of_late : Result LateScriptMeaning Fault → Answer
-of_late (Ok said) = record { status = 0; text = late_text said }
-of_late (Err fault) = fault_answer fault.line fault.kind
+-- the answer to an order, for the bytes of its input
+abbrev pub IsOrderAnswer : Order → List ℕ → Answer → Type 0
+IsOrderAnswer (Plain input summary) bytes answer = answer ≡ of_script (λ said. text_answer (report_or_summary summary said)) (script_of bytes)
+IsOrderAnswer (Run workers segments quantum input summary) bytes answer =
+    answer ≡ of_script (in_waves segments (report_or_summary summary)) (script_of bytes)
+IsOrderAnswer Check bytes answer = answer ≡ of_script (λ said. text_answer (counts_of said)) (script_of bytes)
+IsOrderAnswer (Gen seed objects commands) bytes answer = answer ≡ text_answer bytes
+IsOrderAnswer Trace bytes answer = IsTraceAnswer bytes answer
+IsOrderAnswer (Save name) bytes answer = answer ≡ of_script (λ said. named_answer said.version (own_named name said)) (script_of bytes)
+IsOrderAnswer (Load time) bytes answer = IsLoadAnswer time bytes answer
+IsOrderAnswer (Views workers segments quantum) bytes answer = answer ≡ of_script (in_waves segments views_text) (script_of bytes)
+IsOrderAnswer Late bytes answer = answer ≡ of_script (λ said. text_answer (late_text said)) (late_of bytes)
 
--- the answer to an input that is read
-abbrev pub IsRead : Reading → List ℕ → Answer → Type 0
-IsRead reading.Report bytes answer = answer ≡ of_script report_text (script_of bytes)
-IsRead reading.Summary bytes answer = answer ≡ of_script summary_of (script_of bytes)
-IsRead reading.Counts bytes answer = answer ≡ of_script counts_of (script_of bytes)
-IsRead reading.Trace bytes answer = IsTraceAnswer bytes answer
-IsRead (reading.File name) bytes answer = answer ≡ saved_answer name (script_of bytes)
-IsRead (reading.Loaded time) bytes answer = IsLoadAnswer time bytes answer
-IsRead reading.Late bytes answer = answer ≡ of_late (late_of bytes)
+-- where the input of an order comes from: that of `gen` is the script that it makes
+abbrev pub input_of : Order → Input
+input_of (Plain input summary) = input
+input_of (Run workers segments quantum input summary) = input
+input_of (Gen seed objects commands) = GenNumbers seed objects commands
+input_of order = Script
 
--- the answer to a script whose objects run in waves over so many segments
-abbrev pub IsInWaves : ℕ → WaveText → List ℕ → Answer → Type 0
-IsInWaves segments text bytes answer = answer ≡ of_waves segments (waves_text text) (script_of bytes)
-
--- the answer to an order to make a script: its text
-abbrev pub made_answer : ℕ → ℕ → ℕ → Answer
-made_answer seed objects commands = record { status = 0; text = generated seed objects commands }
-
-abbrev pub usage_answer : Answer
-usage_answer = record { status = 1; text = usage_text }
-
--- the bytes that a plan is for: those that are read, or the script that the generator makes
+-- the bytes of an input: those that are read, or the script that the generator makes
 abbrev pub input_bytes : Input → List ℕ → List ℕ
 input_bytes Script bytes = bytes
 input_bytes (GenNumbers seed objects commands) bytes = generated seed objects commands
 
--- the answer that a plan has, for the bytes that are read
-abbrev pub IsAnswer : Plan → List ℕ → Answer → Type 0
-IsAnswer (plan.Read input reading) bytes answer = IsRead reading (input_bytes input bytes) answer
-IsAnswer (plan.Run run) bytes answer = IsInWaves run.segments run.text (input_bytes run.input bytes) answer
-IsAnswer (plan.Make seed objects commands) bytes answer = answer ≡ made_answer seed objects commands
-IsAnswer plan.Usage bytes answer = answer ≡ usage_answer
+-- the answer to an order, or to words of none, for the bytes that are read
+abbrev pub IsAnswer : Result Order Usage → List ℕ → Answer → Type 0
+IsAnswer (Ok order) bytes answer = IsOrderAnswer order (input_bytes (input_of order) bytes) answer
+IsAnswer (Err usage) bytes answer = answer ≡ usage_answer
 
 abbrev pub is_read : Input → Bool
 is_read Script = true
 is_read (GenNumbers seed objects commands) = false
 
--- whether a plan reads its source
-abbrev pub reads : Plan → Bool
-reads (plan.Read input reading) = is_read input
-reads (plan.Run run) = is_read run.input
-reads (plan.Make seed objects commands) = false
-reads plan.Usage = false
+-- whether a call that has this order reads its source
+abbrev pub reads : Result Order Usage → Bool
+reads (Ok order) = is_read (input_of order)
+reads (Err usage) = false
 
 -- an input has at most one answer
 abbrev pub OneAnswer : Type 0
-OneAnswer = (p : Plan) (bytes : List ℕ) (x y : Answer) → IsAnswer p bytes x → IsAnswer p bytes y → x ≡ y
+OneAnswer = (order : Result Order Usage) (bytes : List ℕ) (x y : Answer) → IsAnswer order bytes x → IsAnswer order bytes y → x ≡ y

@@ -1,19 +1,15 @@
 -- What a top call promises: the bytes written are a prefix of the defined answer, and all of it at status 0, 1 or 2; every
 -- other status but want of memory has its cause.
-use Rattle.std.specs.Prelude.{◌≡◌, ℕ, ◌+◌, ◌≤◌, ◌⊎◌, Bool, false, List, [], ◌++◌, drop, Option, Some, Result, MatchResult}
+use Rattle.std.specs.Prelude.{◌≡◌, ℕ, ◌+◌, ◌≤◌, ◌⊎◌, Bool, false, List, [], ◌++◌, drop, Option, Some, Result, Ok, Err}
 use Rattle.std.specs.Bool.{OnTrue}
 use Rattle.std.specs.Io.KnownBytes.{Appends, Keeps}
 use Rattle.dym_base.specs.declared.limits.TheConstants.{MOST_INPUT_BYTES}
 use Rattle.dym_io.specs.Faults.{Rose, RoseOnce}
 use Rattle.dym_io.specs.Source.{TookAtMost}
-use Rattle.dym_io.specs.Sink.{Output, AllFlushed, Appended, AppendedFront, FaultsTellCause}
+use Rattle.dym_io.specs.Sink.{Output, AllFlushed, Appended}
 use Rattle.dym_words.specs.declared.order.Order.{Order}
+use Rattle.dym_words.specs.declared.order.Order.TheVariants.{Run, Gen, Views}
 use Rattle.dym_words.specs.declared.order.Usage.{Usage}
-use Rattle.dym_report.specs.declared.write_fail.WriteFail.{WriteFail}
-use Rattle.dym_report.specs.declared.write_fail.WriteFail.TheVariants as fail
-use Rattle.dymelor_top.specs.declared.plan.Plan.{Plan}
-use Rattle.dymelor_top.specs.Plans.{plan_of, whole_plan_of}
-use Rattle.dymelor_top.specs.declared.plan.Plan.TheVariants as plan
 use Rattle.dymelor_top.specs.Answers.{Answer, IsAnswer, reads}
 
 -- a source before or after a call: the bytes that are left, where it tells them, and its count of faults
@@ -50,20 +46,21 @@ pub record Answered (Is : Answer → Type 0) (old new : Output) (source_rose : T
   -- where neither the source nor the sink failed, all of it was written, or memory ran out
   pub complete : ¬ source_rose → ¬ Rose old.faults new.faults → (status ≤ 2) ⊎ (status ≡ 5)
 
--- what holds of a call that had this plan
-pub record PlanHeadline (p : Plan) (old new : Input) (sink_old sink_new : Output) (status : ℕ) : Type 0 where
-  pub answered : (bytes : List ℕ) → IsInput (reads p) old bytes → Answered (IsAnswer p bytes) sink_old sink_new (Rose old.faults new.faults) status
+-- what holds of a call that had this order, or words of none
+pub record Headline (order : Result Order Usage) (old new : Input) (sink_old sink_new : Output) (status : ℕ) : Type 0 where
+  pub answered : (bytes : List ℕ) → IsInput (reads order) old bytes
+      → Answered (IsAnswer order bytes) sink_old sink_new (Rose old.faults new.faults) status
   -- of the source no more was taken than tells that the input is too long, whatever the status
   pub bounded : TookAtMost (MOST_INPUT_BYTES + 1) old.left new.left
   -- 0 and 2: the input was read
-  pub read : status ≤ 2 → WasRead (reads p) old new
-  -- where the plan reads nothing, the source stays as it was
-  pub unread : reads p ≡ false → Keeps old.left new.left × (new.faults ≡ old.faults)
+  pub read : status ≤ 2 → WasRead (reads order) old new
+  -- where the order reads nothing, the source stays as it was
+  pub unread : reads order ≡ false → Keeps old.left new.left × (new.faults ≡ old.faults)
   -- 1: words of no order. Such words get no other status but 4
-  pub usage : status ≡ 1 → p ≡ plan.Usage
-  pub only_usage : p ≡ plan.Usage → (status ≡ 1) ⊎ (status ≡ 4)
+  pub usage : status ≡ 1 → order ≡ Err (record {})
+  pub only_usage : order ≡ Err (record {}) → (status ≡ 1) ⊎ (status ≡ 4)
   -- to make a script takes no memory: such an order gets 0, or 4
-  pub made : (seed objects commands : ℕ) → p ≡ plan.Make seed objects commands → (status ≡ 0) ⊎ (status ≡ 4)
+  pub made : (seed objects commands : ℕ) → order ≡ Ok (Gen seed objects commands) → (status ≡ 0) ⊎ (status ≡ 4)
   -- 3: one call on the source failed, and nothing was written
   pub source : status ≡ 3 → RoseOnce old.faults new.faults × Appended sink_old sink_new []
   -- 4: one call on the sink failed
@@ -74,38 +71,8 @@ pub record PlanHeadline (p : Plan) (old new : Input) (sink_old sink_new : Output
   -- there is no other status
   pub known : status ≤ 5
 
--- what holds of a call that starts no thread and was given this order
-abbrev pub Headline : Result Order Usage → Input → Input → Output → Output → ℕ → Type 0
-Headline order old new sink_old sink_new status = PlanHeadline (plan_of order) old new sink_old sink_new status
-
--- the same of a call that may start threads
-abbrev pub WholeHeadline : Result Order Usage → Input → Input → Output → Output → ℕ → Type 0
-WholeHeadline order old new sink_old sink_new status = PlanHeadline (whole_plan_of order) old new sink_old sink_new status
-
--- what a call that answers for a known input does: the whole answer at Ok, and else the front of it
-abbrev pub Serves : {E : Type 0} → (Answer → Type 0) → Output → Output → Result ℕ E → Type 0
-Serves Is old new result =
-    MatchResult result (λ status. (answer : Answer) × Is answer × (status ≡ answer.status) × WroteAll old new answer.text)
-    (λ _. (answer : Answer) → Is answer → WroteFront old new answer.text)
-
--- the same before the sink was flushed
-abbrev pub Writes : (Answer → Type 0) → Output → Output → Result ℕ WriteFail → Type 0
-Writes Is old new result =
-    MatchResult result (λ status. (answer : Answer) × Is answer × (status ≡ answer.status) × Appended old new answer.text)
-    (λ failed. ((answer : Answer) → Is answer → AppendedFront old new answer.text) × FaultsTellCause (failed ≡ fail.Sink) old new)
-
--- the same whatever stops the call
-abbrev pub WritesSo : {E : Type 0} → (Answer → Type 0) → Output → Output → Result ℕ E → Type 0
-WritesSo Is old new result =
-    MatchResult result (λ status. (answer : Answer) × Is answer × (status ≡ answer.status) × Appended old new answer.text)
-    (λ _. (answer : Answer) → Is answer → AppendedFront old new answer.text)
-
--- the same where the answer is given
-abbrev pub WritesAnswer : Answer → Output → Output → Result ℕ WriteFail → Type 0
-WritesAnswer defined old new result =
-    MatchResult result (λ status. (status ≡ defined.status) × Appended old new defined.text)
-    (λ failed. AppendedFront old new defined.text × FaultsTellCause (failed ≡ fail.Sink) old new)
-
--- what the sink's count tells of such a call: no call on the sink failed, or one did and is the cause
-abbrev pub Counted : {T : Type 0} → Output → Output → Result T WriteFail → Type 0
-Counted old new result = MatchResult result (λ _. new.faults ≡ old.faults) (λ failed. FaultsTellCause (failed ≡ fail.Sink) old new)
+-- an order as a call has it that starts no thread: to run in waves is no order
+abbrev pub without_threads : Result Order Usage → Result Order Usage
+without_threads (Ok (Run workers segments quantum input summary)) = Err (record {})
+without_threads (Ok (Views workers segments quantum)) = Err (record {})
+without_threads order = order

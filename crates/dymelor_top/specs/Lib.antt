@@ -2,7 +2,8 @@ pub mod Stops
 pub mod Checkpoints
 pub mod LateReport
 pub mod LateParts
-pub mod Plans
 pub mod Answers
 pub mod Headline
+pub mod Calls
 pub mod Blocks
+pub mod WaveTexts

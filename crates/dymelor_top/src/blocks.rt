@@ -1,15 +1,16 @@
 //! Reads the script that a source gives, block by block, so that no input is kept whole.
-ghost use Rattle.std.specs.Prelude.{◌≡◌, ◌+◌, ◌-◌, ◌<◌, ◌≤◌, ℕ, List, [], Some, take, drop, length, IfOk, OnOk, OnErr, IsErrOf};
+ghost use Rattle.std.specs.Prelude.{◌≡◌, ◌+◌, ◌-◌, ◌<◌, ◌≤◌, ℕ, List, [], take, drop, length, IfOk, OnOk, OnErr, IsErrOf};
 ghost use Rattle.std.specs.Io.KnownBytes.{Consumes, Keeps};
 ghost use Rattle.dym_io.specs.Faults.{RoseOnce};
 ghost use Rattle.dym_io.specs.Source.{IsEmptyAtEnd, TookAtMost};
-ghost use Rattle.dym_script.specs.Scripts.{script_of};
 ghost use Rattle.dym_script.specs.Answers.{FailsSo};
 ghost use Rattle.dym_script.specs.WholeScripts.{GivesWhole};
 ghost use Rattle.dym_script.specs.declared.script.ScriptFail.TheVariants.{Bad};
 ghost use Rattle.dym_base.specs.declared.bad_kind.BadKind.TheVariants.{TooLong};
+ghost use Rattle.dymelor_top.specs.Calls.{ReadsSource, TellsScript};
 ghost use Rattle.dymelor_top.specs.Blocks.{IsFaultOf, TakesBytes, IsDrained};
 
+use crate::stop::Stop;
 use dym_base::BadKind;
 use dym_base::limits::{MOST_INPUT_BYTES, MOST_LINE_BYTES};
 use dym_io::{Failed, ReadFail, Source};
@@ -24,27 +25,20 @@ const BLOCK: usize = 262_144;
 const BLOCK_ROOM: usize = 4_194_304;
 
 /// Reads the script that a source gives, and answers what a reader of lines makes of it, which is that of the source's bytes.
-/// The source is read to its end, or for as many bytes as tell that the input is too long. The outer error: the source
-/// failed, or memory ran out before all was read. Whatever it answers, no more bytes are taken than tell of a too long input.
+/// The source is read to its end, or for as many bytes as tell that the input is too long. Whatever it answers, no more bytes
+/// are taken than tell of a too long input.
 pub fn read_source<K: Keeper + Drop, R: Source>(
     alloc: Global,
     source: &mut R,
-) -> Result<Result<WholeScript<K>, ScriptFail>, ReadFail>
+) -> Result<WholeScript<K>, Stop>
     requires { R.goes_on source.old }
-    ensures some { IfOk result
-        (λ made. (bytes : List ℕ) × GivesWhole K.keeps made (script_of bytes)) }
-    ensures gives { (bytes : List ℕ) → R.left source.old ≡ Some bytes
-        → IfOk result (λ made. GivesWhole K.keeps made (script_of bytes)) }
-    ensures read { (bytes : List ℕ) → R.left source.old ≡ Some bytes
-        → OnOk result (R.left source.new ≡ Some (drop (MOST_INPUT_BYTES + 1) bytes)) }
-    ensures bounded { TookAtMost (MOST_INPUT_BYTES + 1) (R.left source.old) (R.left source.new) }
-    ensures failed { IsErrOf result ReadFail.Source
-        → RoseOnce (R.faults source.old) (R.faults source.new) }
-    ensures count { ¬ IsErrOf result ReadFail.Source → R.faults source.new ≡ R.faults source.old }
+    ensures { ReadsSource (TellsScript K.keeps)
+        (record { left = R.left source.old; faults = R.faults source.old })
+        (record { left = R.left source.new; faults = R.faults source.new }) result }
 {
     let mut block = Vec::with_capacity(alloc, BLOCK_ROOM)?;
     block.resize(BLOCK, 0)?;
-    read_blocks::<K, R>(alloc, source, &mut block)
+    Ok(read_blocks::<K, R>(alloc, source, &mut block)??)
 }
 
 /// Reads the script that a source gives. What is pulled stands in the block behind the bytes of a line that wasn't ended.

@@ -1,40 +1,30 @@
 //! The order `late`: events that come in any order of their times, one object after another.
-ghost use Rattle.std.specs.Prelude.{◌≡◌, ◌⊎◌, All, IfOk, flat_map};
+ghost use Rattle.std.specs.Prelude.{◌≡◌, All, flat_map};
 ghost use Rattle.dym_io.specs.Sink.{WritesOr};
 ghost use Rattle.dym_script.specs.Late.{late_of, late_said};
 ghost use Rattle.dym_script.specs.LateArrivals.{IsLawfulLate};
 ghost use Rattle.dymelor_top.specs.LateReport.{late_text};
 ghost use Rattle.dymelor_top.specs.LateParts.{IsLatePart, late_part_text};
-ghost use Rattle.dymelor_top.specs.Answers.{of_late};
-ghost use Rattle.dymelor_top.specs.Headline.{WritesAnswer, Counted};
+ghost use Rattle.dymelor_top.specs.Answers.{of_script, text_answer};
+ghost use Rattle.dymelor_top.specs.Calls.{AnswersRead};
 ghost use Rattle.dym_report.specs.declared.write_fail.WriteFail.TheVariants.{Sink as SinkFailed};
 
 use crate::late_parts::{LatePart, late_parts};
 use crate::late_run::write_late_part;
 use crate::segment_store::SegmentStore;
+use crate::stop::Stop;
 use dym_io::Sink;
-use dym_report::{WriteFail, write_end, write_error};
-use dym_script::{LateScript, ScriptFail, read_late};
+use dym_report::{WriteFail, write_end};
+use dym_script::{LateScript, read_late};
 use std::alloc::Global;
 
-/// Writes the report of a script of late events, or the line of its first fault.
-pub fn answer_late<W: Sink>(alloc: Global, bytes: &[u8], sink: &mut W) -> Result<u8, WriteFail>
-    ensures answered { WritesAnswer (of_late (late_of bytes.now)) (W.output sink.old)
-        (W.output sink.new) result }
-    ensures status { IfOk result (λ status. (status ≡ 0) ⊎ (status ≡ 2)) }
-    ensures counted { Counted (W.output sink.old) (W.output sink.new) result }
+/// Answers with the report of a script of late events.
+pub fn answer_late<W: Sink>(alloc: Global, bytes: &[u8], sink: &mut W) -> Result<(), Stop>
+    ensures { AnswersRead (λ x. x ≡ of_script (λ said. text_answer (late_text said)) (late_of bytes.now))
+        (W.output sink.old) (W.output sink.new) result }
 {
-    match read_late(alloc, bytes) {
-        Ok(script) => {
-            write_late(alloc, script, sink)?;
-            Ok(0)
-        }
-        Err(ScriptFail::Bad { line, kind }) => {
-            write_error(sink, line, kind)?;
-            Ok(2)
-        }
-        Err(ScriptFail::Memory) => Err(WriteFail::Memory),
-    }
+    let script = read_late(alloc, bytes)?;
+    Ok(write_late(alloc, script, sink)?)
 }
 
 /// Writes the report of a good script of late events.

@@ -7,6 +7,7 @@
 
 mod answer;
 mod blocks;
+mod finish;
 mod generator_text;
 mod late_order;
 mod late_outcome;
@@ -15,7 +16,7 @@ mod late_run;
 mod laws;
 mod load_order;
 mod plain_order;
-mod plan;
+mod read_input;
 mod save_order;
 mod segment_store;
 mod still_call;

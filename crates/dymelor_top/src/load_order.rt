@@ -1,5 +1,5 @@
 //! The order `load`: what a checkpoint file holds, restored to a time where one is named.
-ghost use Rattle.std.specs.Prelude.{◌≡◌, ◌⊎◌, ◌++◌, ℕ, List, None, IfOk};
+ghost use Rattle.std.specs.Prelude.{◌≡◌, ◌++◌, ℕ, List, None};
 ghost use Rattle.dym_io.specs.Sink.{Writes as WritesText};
 ghost use Rattle.dym_heap.specs.Meaning.{IsSound};
 ghost use Rattle.dym_chain.specs.Answers.{restored_reply};
@@ -8,44 +8,36 @@ ghost use Rattle.dym_ckpt.specs.FileReads.{IsLoaded};
 ghost use Rattle.dym_report.specs.Orders.{end_text};
 ghost use Rattle.dymelor_top.specs.Checkpoints.{restored_text, loaded_text};
 ghost use Rattle.dymelor_top.specs.Answers.{IsLoadAnswer};
-ghost use Rattle.dymelor_top.specs.Headline.{Writes};
+ghost use Rattle.dymelor_top.specs.Calls.{AnswersRead};
 
+use crate::stop::Stop;
 use dym_base::limits::MOST_INPUT_BYTES;
 use dym_base::{BadKind, Name, Refusal, Reply};
 use dym_chain::{Chain, VecKeep};
-use dym_ckpt::{FileFail, Loaded, load_file};
+use dym_ckpt::{Loaded, load_file};
 use dym_heap::Heap;
 use dym_io::{Sink, SinkFault};
 use dym_quota::OwnSupply;
-use dym_report::{WriteFail, write_end, write_error, write_object};
+use dym_report::{write_end, write_object};
 use std::alloc::Global;
 
-/// Writes what a file holds, or the first of its parts that fails.
+/// Answers with what a file holds.
 pub fn answer_loaded<W: Sink>(
     alloc: Global,
     time: Option<u64>,
-    file: Vec<u8>,
+    file: &[u8],
     sink: &mut W,
-) -> Result<u8, WriteFail>
-    ensures answered { Writes (IsLoadAnswer time file.items) (W.output sink.old)
-        (W.output sink.new) result }
-    ensures status { IfOk result (λ status. (status ≡ 0) ⊎ (status ≡ 2)) }
+) -> Result<(), Stop>
+    ensures { AnswersRead (IsLoadAnswer time file.now) (W.output sink.old) (W.output sink.new) result }
 {
     if file.len() > MOST_INPUT_BYTES {
-        write_error(sink, 0, BadKind::TooLong)?;
-        return Ok(2);
+        return Err(Stop::Bad {
+            line: 0,
+            kind: BadKind::TooLong,
+        });
     }
-    match load_file(alloc, &file) {
-        Ok(loaded) => {
-            write_loaded(loaded, time, sink)?;
-            Ok(0)
-        }
-        Err(FileFail::Bad { part }) => {
-            write_error(sink, part, BadKind::File)?;
-            Ok(2)
-        }
-        Err(FileFail::Memory) => Err(WriteFail::Memory),
-    }
+    let loaded = load_file(alloc, file)?;
+    Ok(write_loaded(loaded, time, sink)?)
 }
 
 /// Writes what was made of a file, restored to a time where one is named, and gives its segments back.

@@ -1,4 +1,4 @@
-//! The order `plain`: one object after another, each part written as its object ends.
+//! The order `plain`: one object after another, each part written, or counted, as its object ends.
 ghost use Rattle.std.specs.Prelude.{◌≡◌, ◌≤◌, [], length, flat_map, IfOk, OnOk, All};
 ghost use Rattle.dym_base.specs.Objects.{object_start, replies_from, object_after};
 ghost use Rattle.dym_base.specs.declared.limits.TheConstants.{MOST_QUOTA, MOST_COMMANDS};
@@ -8,21 +8,59 @@ ghost use Rattle.dym_report.specs.Replies.{reply_line};
 ghost use Rattle.dym_script.specs.Scripts.{ScriptMeaning};
 ghost use Rattle.dym_script.specs.ByObjects.{IsByObjects};
 ghost use Rattle.dym_report.specs.Report.{IsRunnable, own_of, part_text, report_text};
+ghost use Rattle.dym_report.specs.Summary.{summary_of};
+ghost use Rattle.dymelor_top.specs.Answers.{report_or_summary};
 ghost use Rattle.dym_report.specs.declared.write_fail.WriteFail.TheVariants.{Sink as SinkFailed};
 
 use crate::segment_store::SegmentStore;
+use crate::summary::total;
 use dym_base::Version;
 use dym_chain::VecKeep;
 use dym_commands::Commands;
 use dym_io::Sink;
 use dym_object::{Object, Turn};
 use dym_quota::OwnSupply;
-use dym_report::{Page, WriteFail, write_end, write_heading, write_state};
+use dym_report::{Page, WriteFail, write_end, write_heading, write_state, write_summary};
 use dym_script::{Part, PartCollector, WholeScript};
 use std::alloc::{AllocError, Global};
 
+/// Writes the report of a script, or its summary, one object after another.
+pub fn write_plain<W: Sink>(
+    alloc: Global,
+    summary: bool,
+    script: &WholeScript<PartCollector>,
+    sink: &mut W,
+) -> Result<(), WriteFail>
+    requires made { (s : ScriptMeaning) × IsByObjects script.now s }
+    ensures { (s : ScriptMeaning) → IsByObjects script.now s
+        → WritesOr (λ fail. fail ≡ SinkFailed) (W.output sink.old) (W.output sink.new)
+        (report_or_summary summary s) result }
+{
+    if summary {
+        write_totals(alloc, script, sink)
+    } else {
+        write_report(alloc, script, sink)
+    }
+}
+
+/// Writes the summary of a script.
+fn write_totals<W: Sink>(
+    alloc: Global,
+    script: &WholeScript<PartCollector>,
+    sink: &mut W,
+) -> Result<(), WriteFail>
+    requires made { (s : ScriptMeaning) × IsByObjects script.now s }
+    ensures { (s : ScriptMeaning) → IsByObjects script.now s
+        → WritesOr (λ fail. fail ≡ SinkFailed) (W.output sink.old) (W.output sink.new)
+        (summary_of s) result }
+{
+    let totals = total(alloc, script)?;
+    write_summary(sink, &totals)?;
+    Ok(())
+}
+
 /// Writes the report of a script, one object after another.
-pub fn write_report<W: Sink>(
+fn write_report<W: Sink>(
     alloc: Global,
     script: &WholeScript<PartCollector>,
     sink: &mut W,

@@ -1,20 +1,21 @@
 //! The order `save`: the checkpoint file of one object of a script.
-ghost use Rattle.std.specs.Prelude.{◌≡◌, ◌≤◌, ◌⊎◌, [], length, IsTrue, Option, None, Some, option_map, Result, IfOk, OnOk};
+ghost use Rattle.std.specs.Prelude.{◌≡◌, ◌≤◌, [], length, IsTrue, Option, None, Some, option_map, OnOk};
 ghost use Rattle.std.specs.List.{find};
 ghost use Rattle.std.specs.Str.{bytes_eq};
 ghost use Rattle.dym_base.specs.Names.{is_name};
 ghost use Rattle.dym_base.specs.Objects.{object_start};
 ghost use Rattle.dym_base.specs.declared.limits.TheConstants.{MOST_COMMANDS};
 ghost use Rattle.dym_object.specs.Meaning.{HasRun, IsWhole, state_of};
-ghost use Rattle.dym_script.specs.Scripts.{ScriptMeaning, Fault};
-ghost use Rattle.dym_script.specs.ByObjects.{GivesParts, IsByObjects};
+ghost use Rattle.dym_script.specs.Scripts.{ScriptMeaning};
+ghost use Rattle.dym_script.specs.ByObjects.{IsByObjects};
 ghost use Rattle.dymelor_top.specs.Checkpoints.{own_file, own_named};
 ghost use Rattle.dym_report.specs.Report.{IsRunnable, own_of};
-ghost use Rattle.dymelor_top.specs.Answers.{file_answer, named_answer, saved_answer};
-ghost use Rattle.dymelor_top.specs.Headline.{WritesAnswer, Counted};
+ghost use Rattle.dymelor_top.specs.Answers.{file_answer, named_answer};
+ghost use Rattle.dymelor_top.specs.Calls.{AnswersRead};
 
 use crate::plain_order::open_object;
 use crate::segment_store::SegmentStore;
+use crate::stop::Stop;
 use dym_base::limits::MOST_INPUT_BYTES;
 use dym_base::{BadKind, Name, Version};
 use dym_chain::VecKeep;
@@ -23,53 +24,27 @@ use dym_commands::Commands;
 use dym_io::Sink;
 use dym_object::{LentObject, Turn, laws};
 use dym_quota::OwnSupply;
-use dym_report::{WriteFail, write_error};
-use dym_script::{Part, PartCollector, ScriptFail, WholeScript};
+use dym_script::{Part, PartCollector, WholeScript};
 use std::alloc::{AllocError, Global};
 
-/// Writes the file of a script's object of this name, or the line of the script's first fault.
+/// Answers with the file of a script's object of this name, where there is one.
 pub fn answer_saved<W: Sink>(
-    alloc: Global,
-    name: &Name,
-    script: Result<WholeScript<PartCollector>, ScriptFail>,
-    sink: &mut W,
-) -> Result<u8, WriteFail>
-    requires made { (read : Result ScriptMeaning Fault) × GivesParts script read }
-    ensures answered { (read : Result ScriptMeaning Fault) → GivesParts script read
-        → WritesAnswer (saved_answer name.now read) (W.output sink.old) (W.output sink.new) result }
-    ensures status { IfOk result (λ status. (status ≡ 0) ⊎ (status ≡ 2)) }
-    ensures counted { Counted (W.output sink.old) (W.output sink.new) result }
-{
-    match script {
-        Ok(script) => save_named(alloc, name, &script, sink),
-        Err(ScriptFail::Bad { line, kind }) => {
-            write_error(sink, line, kind)?;
-            Ok(2)
-        }
-        Err(ScriptFail::Memory) => Err(WriteFail::Memory),
-    }
-}
-
-/// Writes the file of the declared object of this name, where there is one.
-fn save_named<W: Sink>(
     alloc: Global,
     name: &Name,
     script: &WholeScript<PartCollector>,
     sink: &mut W,
-) -> Result<u8, WriteFail>
+) -> Result<(), Stop>
     requires made { (s : ScriptMeaning) × IsByObjects script.now s }
-    ensures answered { (s : ScriptMeaning) → IsByObjects script.now s
-        → WritesAnswer (named_answer s.version
-        (own_named name.now s)) (W.output sink.old) (W.output sink.new) result }
-    ensures status { IfOk result (λ status. (status ≡ 0) ⊎ (status ≡ 2)) }
-    ensures counted { Counted (W.output sink.old) (W.output sink.new) result }
+    ensures { (s : ScriptMeaning) → IsByObjects script.now s
+        → AnswersRead (λ x. x ≡ named_answer s.version (own_named name.now s))
+        (W.output sink.old) (W.output sink.new) result }
 {
     match part_named(&script.kept.parts, name) {
         Some(part) => save_part(alloc, script.version, part, sink),
-        None => {
-            write_error(sink, 0, BadKind::Undeclared)?;
-            Ok(2)
-        }
+        None => Err(Stop::Bad {
+            line: 0,
+            kind: BadKind::Undeclared,
+        }),
     }
 }
 
@@ -94,13 +69,11 @@ fn save_part<W: Sink>(
     version: Version,
     part: &Part,
     sink: &mut W,
-) -> Result<u8, WriteFail>
+) -> Result<(), Stop>
     requires runnable { IsRunnable part.now }
     requires named { IsTrue (is_name part.now.decl.name) }
-    ensures answered { WritesAnswer (file_answer (own_file version (own_of part.now)))
+    ensures { AnswersRead (λ x. x ≡ file_answer (own_file version (own_of part.now)))
         (W.output sink.old) (W.output sink.new) result }
-    ensures status { IfOk result (λ status. (status ≡ 0) ⊎ (status ≡ 2)) }
-    ensures counted { Counted (W.output sink.old) (W.output sink.new) result }
 {
     let mut segment_store = SegmentStore::new(alloc);
     let object = open_object(alloc, version, &mut segment_store, part.decl.quota)?;
@@ -135,24 +108,23 @@ fn save_run<W: Sink>(
     object: &mut LentObject<OwnSupply, VecKeep>,
     part: &Part,
     sink: &mut W,
-) -> Result<u8, WriteFail>
+) -> Result<(), Stop>
     requires named { IsTrue (is_name part.now.decl.name) }
     requires run { OnOk ran (HasRun part.now.commands object.old) }
     requires quota { object.old.heap.quota ≡ part.now.decl.quota }
     requires whole { IsWhole object.old }
-    ensures answered { WritesAnswer
-        (file_answer (own_file object.old.heap.version (own_of part.now)))
+    ensures answered { AnswersRead
+        (λ x. x ≡ file_answer (own_file object.old.heap.version (own_of part.now)))
         (W.output sink.old) (W.output sink.new) result }
-    ensures status { IfOk result (λ status. (status ≡ 0) ⊎ (status ≡ 2)) }
-    ensures counted { Counted (W.output sink.old) (W.output sink.new) result }
     ensures same { object.new.chain ≡ object.old.chain }
 {
     ran?;
     let version = object.heap().version();
     if saved_len(object, &part.decl.name) > MOST_INPUT_BYTES as u64 {
-        write_error(sink, 0, BadKind::TooLong)?;
-        return Ok(2);
+        return Err(Stop::Bad {
+            line: 0,
+            kind: BadKind::TooLong,
+        });
     }
-    save(object, &part.decl.name, part.decl.quota, version, sink)?;
-    Ok(0)
+    Ok(save(object, &part.decl.name, part.decl.quota, version, sink)?)
 }

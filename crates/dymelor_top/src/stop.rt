@@ -1,14 +1,21 @@
-//! Why a top call stops before it has written its whole answer.
+//! What stops a top call before it has written the text that was asked for.
 ghost use Rattle.std.specs.Prelude.{◌≡◌};
-ghost use Rattle.dymelor_top.specs.Stops.{status_of};
 
+use dym_base::BadKind;
+use dym_ckpt::FileFail;
 use dym_io::{ReadFail, SinkFault};
 use dym_report::WriteFail;
+use dym_script::ScriptFail;
+use dym_words::Usage;
 use std::alloc::AllocError;
 
-/// Why a top call stops before it has written its whole answer.
+/// What stops a top call before it has written the text that was asked for.
 #[derive(Clone, Copy, Debug, PartialEq, Eq)]
 pub enum Stop {
+    /// The words are no order that is served.
+    Usage,
+    /// The input has a fault in this line, or in this part of a file. It is 0 where the fault is one of the whole input.
+    Bad { line: u32, kind: BadKind },
     /// The source failed.
     Source,
     /// The sink failed.
@@ -21,10 +28,12 @@ impl Stop {
     ghost use Rattle.dymelor_top.specs.Stops.{stop_status};
 
     /// The status that tells of it.
-    fn status(self) -> u8
+    pub fn status(self) -> u8
         ensures { result ≡ stop_status self }
     {
         match self {
+            Stop::Usage => 1,
+            Stop::Bad { .. } => 2,
             Stop::Source => 3,
             Stop::Sink => 4,
             Stop::Memory => 5,
@@ -32,13 +41,13 @@ impl Stop {
     }
 }
 
-/// The status of a call that ended, or stopped before it had written its whole answer.
-pub fn status_of(served: Result<u8, Stop>) -> u8
-    ensures { result ≡ status_of served }
-{
-    match served {
-        Ok(status) => status,
-        Err(stop) => stop.status(),
+impl From<Usage> for Stop {
+    ghost use Rattle.dymelor_top.specs.declared.stop.Stop.TheVariants as stop;
+
+    ghost from_gives = { λ _ stopped. stopped ≡ stop.Usage };
+
+    fn from(_: Usage) -> Stop {
+        Stop::Usage
     }
 }
 
@@ -84,6 +93,35 @@ impl From<WriteFail> for Stop {
         match fail {
             WriteFail::Sink => Stop::Sink,
             WriteFail::Memory => Stop::Memory,
+        }
+    }
+}
+
+impl From<ScriptFail> for Stop {
+    ghost use Rattle.dymelor_top.specs.Stops.{of_script_fail};
+
+    ghost from_gives = { λ fail stop. stop ≡ of_script_fail fail };
+
+    fn from(fail: ScriptFail) -> Stop {
+        match fail {
+            ScriptFail::Bad { line, kind } => Stop::Bad { line, kind },
+            ScriptFail::Memory => Stop::Memory,
+        }
+    }
+}
+
+impl From<FileFail> for Stop {
+    ghost use Rattle.dymelor_top.specs.Stops.{of_file_fail};
+
+    ghost from_gives = { λ fail stop. stop ≡ of_file_fail fail };
+
+    fn from(fail: FileFail) -> Stop {
+        match fail {
+            FileFail::Bad { part } => Stop::Bad {
+                line: part,
+                kind: BadKind::File,
+            },
+            FileFail::Memory => Stop::Memory,
         }
     }
 }

@@ -1,31 +1,42 @@
 //! The orders `run` and `views`: the objects of a script run in waves of workers.
-ghost use Rattle.std.specs.Prelude.{◌≡◌, ◌⊎◌, ◌+◌, ◌≤◌, ℕ, List, Some, drop, nat_lt, All, option_map, Result, IfOk, OnOk};
+ghost use Rattle.std.specs.Prelude.{◌≡◌, ◌+◌, ◌≤◌, true, nat_lt, All, option_map, IfOk};
 ghost use Rattle.std.specs.List.{find};
-ghost use Rattle.dym_base.specs.declared.limits.TheConstants.{MOST_INPUT_BYTES};
 ghost use Rattle.dym_io.specs.Sink.{WritesOr};
-ghost use Rattle.dym_io.specs.Source.{TookAtMost};
 ghost use Rattle.dym_run.specs.Parts.{IsShape};
 ghost use Rattle.dym_report.specs.Summary.{summary_of, totals_of};
 ghost use Rattle.dym_report.specs.declared.write_fail.WriteFail.TheVariants.{Sink as SinkFailed};
-ghost use Rattle.dym_script.specs.Scripts.{ScriptMeaning, Fault, script_of};
-ghost use Rattle.dym_script.specs.ByObjects.{GivesParts, IsByObjects};
-ghost use Rattle.dymelor_top.specs.Answers.{first_above, of_waves, outcome_text, unless_above, waves_text, IsInWaves};
-ghost use Rattle.dymelor_top.specs.Headline.{Serves, WritesAnswer, Counted};
-ghost use Rattle.dymelor_top.specs.Stops.{StopCauses};
+ghost use Rattle.dym_script.specs.Scripts.{ScriptMeaning, script_of};
+ghost use Rattle.dym_script.specs.ByObjects.{IsByObjects};
+ghost use Rattle.dym_script.specs.Parts.{KeepsParts};
+ghost use Rattle.dym_words.specs.Laws.{IsInputWithin};
+ghost use Rattle.dymelor_top.specs.Answers.{in_waves, input_bytes, is_read, of_script};
+ghost use Rattle.dymelor_top.specs.Calls.{AnswersInput, AnswersRead, HadOrder, ReadsSource, TellsScript};
+ghost use Rattle.dymelor_top.specs.WaveTexts.{viewed_text, waves_text};
 
-use crate::plan::WaveText;
-use crate::still_call::flush;
+use crate::generator_text::{GeneratedSource, generated_script};
+use crate::read_input::read_input;
 use crate::stop::Stop;
 use dym_base::BadKind;
-use dym_base::limits::MOST_INPUT_BYTES;
-use dym_io::{Sink, Source, read_whole};
+use dym_io::{Sink, Source};
 use dym_pool::Gate;
-use dym_report::{Totals, WriteFail, write_end, write_error, write_summary};
+use dym_report::{Totals, WriteFail, write_end, write_summary};
 use dym_run::{ReportOptions, Shape, WaveOptions, tally_waves, write_waves};
-use dym_script::{Part, PartCollector, ScriptFail, WholeScript, read_parallel};
+use dym_script::{Part, PartCollector, WholeScript, read_parallel};
+use dym_words::Input;
 use std::alloc::{AllocError, Global};
 use std::sync::Wait;
 use std::thread::Threads;
+
+/// What is written of a script whose objects run in waves.
+#[derive(Clone, Copy, Debug, PartialEq, Eq)]
+pub enum WaveText {
+    /// Its report.
+    Report,
+    /// Its summary.
+    Summary,
+    /// Its report, with the view of each object.
+    Views,
+}
 
 /// How the objects of a script run in waves, and what is written of it.
 #[derive(Clone, Copy, Debug, PartialEq, Eq)]
@@ -34,100 +45,79 @@ pub struct Waves {
     pub text: WaveText,
 }
 
-/// How the objects of a script run in waves whose report is written, and whether it has the view of each.
-#[derive(Clone, Copy)]
-struct ReportedWaves {
-    shape: Shape,
-    views: bool,
+/// Answers with what is asked for of a script whose objects run in waves: that of the source, or the script that a seed makes, which is
+/// read as any source is.
+pub fn answer_in_waves<R: Threads + Wait + Send + Sync, S: Source, W: Sink, G: Gate>(
+    rt: &R,
+    alloc: Global,
+    input: Input,
+    waves: Waves,
+    source: &mut S,
+    sink: &mut W,
+    gate: &G,
+) -> Result<(), Stop>
+    requires goes_on { S.goes_on source.old }
+    requires input { IsInputWithin input }
+    requires shape { IsShape waves.shape }
+    ensures { AnswersInput HadOrder (is_read input)
+        (λ bytes x. x ≡ of_script (in_waves waves.shape.segments (waves_text waves.text)) (script_of (input_bytes input bytes)))
+        (record { left = S.left source.old; faults = S.faults source.old })
+        (record { left = S.left source.new; faults = S.faults source.new })
+        (W.output sink.old) (W.output sink.new) result }
+{
+    match input {
+        Input::Script => answer_waves(rt, alloc, waves, source, sink, gate),
+        Input::GenNumbers {
+            seed,
+            objects,
+            commands,
+        } => {
+            let made = generated_script(alloc, seed, objects, commands)?;
+            let mut generated = GeneratedSource { rest: &made };
+            answer_waves(rt, alloc, waves, &mut generated, sink, gate)
+        }
+    }
 }
 
-/// Reads a script, runs its objects in waves, and writes what is asked for of them.
-pub fn serve_waves<R: Threads + Wait + Send + Sync, S: Source, W: Sink, G: Gate>(
+/// Answers with what is asked for of the script that a source gives.
+fn answer_waves<R: Threads + Wait + Send + Sync, S: Source, W: Sink, G: Gate>(
     rt: &R,
     alloc: Global,
     waves: Waves,
     source: &mut S,
     sink: &mut W,
     gate: &G,
-) -> Result<u8, Stop>
+) -> Result<(), Stop>
     requires goes_on { S.goes_on source.old }
     requires shape { IsShape waves.shape }
-    ensures served { (bytes : List ℕ) → S.left source.old ≡ Some bytes
-        → Serves (IsInWaves waves.shape.segments waves.text bytes) (W.output sink.old)
-        (W.output sink.new) result }
-    ensures read { (bytes : List ℕ) → S.left source.old ≡ Some bytes
-        → OnOk result (S.left source.new ≡ Some (drop (MOST_INPUT_BYTES + 1) bytes)) }
-    ensures status { IfOk result (λ status. (status ≡ 0) ⊎ (status ≡ 2)) }
-    ensures bounded { TookAtMost (MOST_INPUT_BYTES + 1) (S.left source.old) (S.left source.new) }
-    ensures causes { StopCauses (S.faults source.old) (S.faults source.new)
+    ensures { AnswersInput HadOrder true
+        (λ bytes x. x ≡ of_script (in_waves waves.shape.segments (waves_text waves.text)) (script_of bytes))
+        (record { left = S.left source.old; faults = S.faults source.old })
+        (record { left = S.left source.new; faults = S.faults source.new })
         (W.output sink.old) (W.output sink.new) result }
 {
-    let bytes = read_whole(alloc, source, MOST_INPUT_BYTES + 1)?;
-    Ok(serve_text(rt, alloc, waves, bytes, sink, gate)?)
+    let script = read_side_by_side(rt, alloc, waves.shape.workers, source)?;
+    run_script(rt, alloc, waves, script, sink, gate)
 }
 
-/// The same of a script that is in memory.
-pub fn serve_text<R: Threads + Wait + Send + Sync, W: Sink, G: Gate>(
-    rt: &R,
-    alloc: Global,
-    waves: Waves,
-    bytes: Vec<u8>,
-    sink: &mut W,
-    gate: &G,
-) -> Result<u8, WriteFail>
-    requires shape { IsShape waves.shape }
-    ensures served { Serves (IsInWaves waves.shape.segments waves.text bytes.items)
-        (W.output sink.old) (W.output sink.new) result }
-    ensures status { IfOk result (λ status. (status ≡ 0) ⊎ (status ≡ 2)) }
-    ensures counted { Counted (W.output sink.old) (W.output sink.new) result }
-{
-    let script = read_text(rt, alloc, waves.shape.workers, bytes);
-    let status = answer_waves(rt, alloc, waves, script, sink, gate)?;
-    flush(sink)?;
-    Ok(status)
-}
-
-/// Reads a script side by side by these workers. Its text is given up, before its objects take memory.
-fn read_text<R: Threads + Sync>(
+/// Reads the script that a source gives, side by side by these workers. Its text is given up, before its objects take memory.
+fn read_side_by_side<R: Threads + Sync, S: Source>(
     rt: &R,
     alloc: Global,
     workers: u32,
-    bytes: Vec<u8>,
-) -> Result<WholeScript<PartCollector>, ScriptFail>
-    requires { 1 ≤ workers }
-    ensures { GivesParts result (script_of bytes.items) }
+    source: &mut S,
+) -> Result<WholeScript<PartCollector>, Stop>
+    requires goes_on { S.goes_on source.old }
+    requires some { 1 ≤ workers }
+    ensures { ReadsSource (TellsScript (λ kept. KeepsParts kept))
+        (record { left = S.left source.old; faults = S.faults source.old })
+        (record { left = S.left source.new; faults = S.faults source.new }) result }
 {
-    read_parallel(rt, alloc, workers, &bytes)
+    let bytes = read_input(alloc, source)?;
+    Ok(read_parallel(rt, alloc, workers, &bytes)?)
 }
 
-/// Writes what is asked for of a script that was read, or the line of its first fault.
-fn answer_waves<R: Threads + Wait + Send + Sync, W: Sink, G: Gate>(
-    rt: &R,
-    alloc: Global,
-    waves: Waves,
-    script: Result<WholeScript<PartCollector>, ScriptFail>,
-    sink: &mut W,
-    gate: &G,
-) -> Result<u8, WriteFail>
-    requires made { (read : Result ScriptMeaning Fault) × GivesParts script read }
-    requires shape { IsShape waves.shape }
-    ensures answered { (read : Result ScriptMeaning Fault) → GivesParts script read
-        → WritesAnswer (of_waves waves.shape.segments (waves_text waves.text) read)
-        (W.output sink.old) (W.output sink.new) result }
-    ensures status { IfOk result (λ status. (status ≡ 0) ⊎ (status ≡ 2)) }
-    ensures counted { Counted (W.output sink.old) (W.output sink.new) result }
-{
-    match script {
-        Ok(script) => run_script(rt, alloc, waves, script, sink, gate),
-        Err(ScriptFail::Bad { line, kind }) => {
-            write_error(sink, line, kind)?;
-            Ok(2)
-        }
-        Err(ScriptFail::Memory) => Err(WriteFail::Memory),
-    }
-}
-
-/// Runs the objects of a good script and writes what is asked for, or the line of the first object that may hold too much.
+/// Runs the objects of a good script and answers with what is asked for, or with the line of the first object that may hold too much.
 fn run_script<R: Threads + Wait + Send + Sync, W: Sink, G: Gate>(
     rt: &R,
     alloc: Global,
@@ -135,25 +125,19 @@ fn run_script<R: Threads + Wait + Send + Sync, W: Sink, G: Gate>(
     script: WholeScript<PartCollector>,
     sink: &mut W,
     gate: &G,
-) -> Result<u8, WriteFail>
+) -> Result<(), Stop>
     requires made { (s : ScriptMeaning) × IsByObjects script s }
     requires shape { IsShape waves.shape }
-    ensures answered { (s : ScriptMeaning) → IsByObjects script s
-        → WritesAnswer
-        (unless_above (waves_text waves.text s) (first_above waves.shape.segments s.objects))
+    ensures { (s : ScriptMeaning) → IsByObjects script s
+        → AnswersRead (λ x. x ≡ in_waves waves.shape.segments (waves_text waves.text) s)
         (W.output sink.old) (W.output sink.new) result }
-    ensures status { IfOk result (λ status. (status ≡ 0) ⊎ (status ≡ 2)) }
-    ensures counted { Counted (W.output sink.old) (W.output sink.new) result }
 {
     match line_above(&script.kept.parts, waves.shape.segments) {
-        Some(line) => {
-            write_error(sink, line, BadKind::QuotaRange)?;
-            Ok(2)
-        }
-        None => {
-            run_fitting(rt, alloc, waves, script, sink, gate)?;
-            Ok(0)
-        }
+        Some(line) => Err(Stop::Bad {
+            line,
+            kind: BadKind::QuotaRange,
+        }),
+        None => Ok(run_fitting(rt, alloc, waves, script, sink, gate)?),
     }
 }
 
@@ -187,18 +171,9 @@ fn run_fitting<R: Threads + Wait + Send + Sync, W: Sink, G: Gate>(
 {
     let shape = waves.shape;
     match waves.text {
-        WaveText::Report => {
-            let reported = ReportedWaves {
-                shape,
-                views: false,
-            };
-            report_waves(rt, alloc, reported, script, sink, gate)
-        }
+        WaveText::Report => report_waves(rt, alloc, shape, false, script, sink, gate),
         WaveText::Summary => summarize(rt, alloc, shape, script, sink, gate),
-        WaveText::Views => {
-            let reported = ReportedWaves { shape, views: true };
-            report_waves(rt, alloc, reported, script, sink, gate)
-        }
+        WaveText::Views => report_waves(rt, alloc, shape, true, script, sink, gate),
     }
 }
 
@@ -206,20 +181,20 @@ fn run_fitting<R: Threads + Wait + Send + Sync, W: Sink, G: Gate>(
 fn report_waves<R: Threads + Wait + Send + Sync, W: Sink, G: Gate>(
     rt: &R,
     alloc: Global,
-    reported: ReportedWaves,
+    shape: Shape,
+    views: bool,
     script: WholeScript<PartCollector>,
     sink: &mut W,
     gate: &G,
 ) -> Result<(), WriteFail>
     requires made { (s : ScriptMeaning) × IsByObjects script s }
-    requires shape { IsShape reported.shape }
-    requires fits { All (λ part. part.decl.quota ≤ reported.shape.segments)
+    requires shape { IsShape shape }
+    requires fits { All (λ part. part.decl.quota ≤ shape.segments)
         script.kept.parts.items }
     ensures { (s : ScriptMeaning) → IsByObjects script s
         → WritesOr (λ fail. fail ≡ SinkFailed) (W.output sink.old) (W.output sink.new)
-        (outcome_text reported.views s) result }
+        (viewed_text views s) result }
 {
-    let ReportedWaves { shape, views } = reported;
     let WholeScript { version, kept, .. } = script;
     let report = ReportOptions { version, views };
     let options = WaveOptions { report, shape };

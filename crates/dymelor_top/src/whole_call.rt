@@ -1,20 +1,18 @@
 //! The top call that may start threads.
-ghost use Rattle.std.specs.Prelude.{map, string_bytes};
-ghost use Rattle.dym_words.specs.Laws.{CanRun, IsInputWithin};
+ghost use Rattle.std.specs.Prelude.{◌≡◌, if◌then◌else◌, map, string_bytes};
 ghost use Rattle.dym_words.specs.Orders.{order};
-ghost use Rattle.dymelor_top.specs.Headline.{PlanHeadline, WholeHeadline};
-ghost use Rattle.dymelor_top.specs.Stops.{status_of};
-ghost use Rattle.dymelor_top.specs.declared.plan.Plan.TheVariants as plan;
+ghost use Rattle.dymelor_top.specs.Calls.{AnswersOrder};
+ghost use Rattle.dymelor_top.specs.Headline.{Headline};
+ghost use Rattle.dymelor_top.specs.declared.waves.WaveText.TheVariants.{Report, Summary};
 
-use crate::generator_text::{GeneratedSource, generated_script};
-use crate::plan::{Plan, Run, plan_for};
-use crate::still_call::{serve_made, serve_read, serve_usage};
-use crate::stop::{Stop, status_of};
-use crate::waves::{Waves, serve_waves};
+use crate::answer::answer_order;
+use crate::finish::finish;
+use crate::stop::Stop;
+use crate::waves::{WaveText, Waves, answer_in_waves};
 use dym_io::{Sink, Source};
 use dym_pool::Gate;
 use dym_run::Shape;
-use dym_words::{Input, read_words};
+use dym_words::{Input, Order, read_words};
 use std::alloc::Global;
 use std::sync::Wait;
 use std::thread::Threads;
@@ -33,61 +31,78 @@ pub fn dymelor<R: Threads + Wait + Send + Sync, S: Source, W: Sink, G: Gate>(
     gate: &G,
 ) -> u8
     requires { S.goes_on source.old }
-    ensures { WholeHeadline (order (map string_bytes words.now))
+    ensures { Headline (order (map string_bytes words.now))
         (record { left = S.left source.old; faults = S.faults source.old })
         (record { left = S.left source.new; faults = S.faults source.new })
         (W.output sink.old) (W.output sink.new) result }
 {
-    match plan_for(read_words(words)) {
-        Plan::Read { input, reading } => {
-            status_of(serve_read(alloc, input, reading, source, sink))
-        }
-        Plan::Run(run) => status_of(serve_run(rt, alloc, run, source, sink, gate)),
-        Plan::Make {
-            seed,
-            objects,
-            commands,
-        } => status_of(serve_made(sink, seed, objects, commands)),
-        Plan::Usage => status_of(serve_usage(sink)),
-    }
+    let answered = answer_words(rt, alloc, words, source, sink, gate);
+    finish(answered, sink)
 }
 
-/// Runs the objects of a script in waves: of the source, or of the script that a seed makes, which is read as any source is.
-fn serve_run<R: Threads + Wait + Send + Sync, S: Source, W: Sink, G: Gate>(
+/// Answers words of a command line.
+fn answer_words<R: Threads + Wait + Send + Sync, S: Source, W: Sink, G: Gate>(
     rt: &R,
     alloc: Global,
-    run: Run,
+    words: &[String],
     source: &mut S,
     sink: &mut W,
     gate: &G,
-) -> Result<u8, Stop>
-    requires goes_on { S.goes_on source.old }
-    requires numbers { CanRun run.workers run.segments run.quantum }
-    requires input { IsInputWithin run.input }
-    ensures { PlanHeadline (plan.Run run)
+) -> Result<(), Stop>
+    requires { S.goes_on source.old }
+    ensures { AnswersOrder (order (map string_bytes words.now))
         (record { left = S.left source.old; faults = S.faults source.old })
         (record { left = S.left source.new; faults = S.faults source.new })
-        (W.output sink.old) (W.output sink.new) (status_of result) }
+        (W.output sink.old) (W.output sink.new) result }
 {
-    let shape = Shape {
-        workers: run.workers,
-        segments: run.segments,
-        quantum: run.quantum,
-    };
-    let waves = Waves {
-        shape,
-        text: run.text,
-    };
-    match run.input {
-        Input::Script => serve_waves(rt, alloc, waves, source, sink, gate),
-        Input::GenNumbers {
-            seed,
-            objects,
-            commands,
+    match read_words(words)? {
+        Order::Run {
+            workers,
+            segments,
+            quantum,
+            input,
+            summary,
         } => {
-            let made = generated_script(alloc, seed, objects, commands)?;
-            let mut generated = GeneratedSource { rest: &made };
-            serve_waves(rt, alloc, waves, &mut generated, sink, gate)
+            let shape = Shape {
+                workers,
+                segments,
+                quantum,
+            };
+            let text = run_text(summary);
+            answer_in_waves(rt, alloc, input, Waves { shape, text }, source, sink, gate)
         }
+        Order::Views {
+            workers,
+            segments,
+            quantum,
+        } => {
+            let shape = Shape {
+                workers,
+                segments,
+                quantum,
+            };
+            let text = WaveText::Views;
+            answer_in_waves(
+                rt,
+                alloc,
+                Input::Script,
+                Waves { shape, text },
+                source,
+                sink,
+                gate,
+            )
+        }
+        order => answer_order(alloc, order, source, sink),
+    }
+}
+
+/// What the order `run` writes.
+fn run_text(summary: bool) -> WaveText
+    ensures { result ≡ if summary then Summary else Report }
+{
+    if summary {
+        WaveText::Summary
+    } else {
+        WaveText::Report
     }
 }

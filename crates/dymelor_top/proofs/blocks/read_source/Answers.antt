@@ -1,25 +1,25 @@
-use Rattle.std.proofs.Common.{◌+◌, refl}
-use Rattle.dym_base.specs.declared.limits.TheConstants.{MOST_INPUT_BYTES}
-use Rattle.dym_script.specs.Answers.{GivesBy}
-use Rattle.dym_script.specs.declared.pieces.WholeScript.{WholeScript}
-use Rattle.dym_script.specs.Keepers.{IsWhole}
-use Rattle.dymelor_top.proofs.ReadBlocks.{result_some, result_gives, result_read}
+use Rattle.std.proofs.Common.{[], subst}
+use Rattle.dym_script.specs.WholeScripts.{GivesWhole}
+use Rattle.dymelor_top.specs.Blocks.{TakesBytes}
+use Rattle.dymelor_top.specs.Calls.{ReadsSource, TellsScript}
+use Rattle.dymelor_top.specs.Headline.{Input}
+use Rattle.dymelor_top.proofs.ReadBlocks.{script_made, script_failed}
+use Rattle.dymelor_top.proofs.SourceReads.{passed}
 use Rattle.dymelor_top.proofs.blocks.read_source.Goals as goal
 
-pub returns-clause-some : goal.returns-clause-some
-returns-clause-some g c =
-    result_some (g.R.Source.left c.args.source.now) (g.R.Source.left c.read_blocks.new.source)
-    (GivesBy (λ (whole : WholeScript g.row.K.Denot). IsWhole (g.K.Keeper.keeps whole.kept) whole.version whole.objects.items whole.commands)) c.read_blocks.result
-    c.read_blocks.ensures.outcome
+pub returns-in_err-branch : goal.returns-in_err-branch
+returns-in_err-branch g c =
+    let old : Input = record { left = g.R.Source.left c.args.source.now; faults = g.R.Source.faults c.args.source.now } in
+    let new : Input = record { left = g.R.Source.left c.read_blocks.new.source; faults = g.R.Source.faults c.read_blocks.new.source } in
+    let is = c.in_ok-read_blocks.ensures in
+    passed (ReadsSource (TellsScript g.K.Keeper.keeps) old new) _ _ c.from_residual-in_err-branch.ensures.1
+    (script_failed g.K.Keeper.keeps old new is.bounded (is.count (λ other. absurd (cc))) c.in_err-branch.field-0.0
+    (subst (λ r. TakesBytes [] old.left new.left (GivesWhole g.K.Keeper.keeps r)) c.in_err-branch.was is.outcome))
 
-pub returns-clause-gives : goal.returns-clause-gives
-returns-clause-gives g c bytes known =
-    result_gives (MOST_INPUT_BYTES + 1) (g.R.Source.left c.args.source.now) (g.R.Source.left c.read_blocks.new.source)
-    (GivesBy (λ (whole : WholeScript g.row.K.Denot). IsWhole (g.K.Keeper.keeps whole.kept) whole.version whole.objects.items whole.commands)) c.read_blocks.result
-    bytes refl known c.read_blocks.ensures.outcome
-
-pub returns-clause-read : goal.returns-clause-read
-returns-clause-read g c bytes known =
-    result_read (MOST_INPUT_BYTES + 1) (g.R.Source.left c.args.source.now) (g.R.Source.left c.read_blocks.new.source)
-    (GivesBy (λ (whole : WholeScript g.row.K.Denot). IsWhole (g.K.Keeper.keeps whole.kept) whole.version whole.objects.items whole.commands)) c.read_blocks.result
-    bytes refl known c.read_blocks.ensures.outcome
+pub returns : goal.returns
+returns g c =
+    let old : Input = record { left = g.R.Source.left c.args.source.now; faults = g.R.Source.faults c.args.source.now } in
+    let new : Input = record { left = g.R.Source.left c.read_blocks.new.source; faults = g.R.Source.faults c.read_blocks.new.source } in
+    let is = c.in_ok-read_blocks.ensures in
+    script_made g.K.Keeper.keeps old new is.bounded (is.count (λ other. absurd (cc))) c.in_ok-branch.field-0
+    (subst (λ r. TakesBytes [] old.left new.left (GivesWhole g.K.Keeper.keeps r)) c.in_ok-branch.was is.outcome)

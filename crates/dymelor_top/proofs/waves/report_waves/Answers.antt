@@ -9,14 +9,14 @@ write_waves-requires-clause-runnable g c κs within =
 
 pub returns-in_err-write_waves : goal.returns-in_err-write_waves
 returns-in_err-write_waves g c s are =
-    first_passed _ _ _ _ (told_of_parts c.args.reported.views c.args.script s are) _ _
+    first_passed _ _ _ _ (told_of_parts c.args.views c.args.script s are) _ _
     c.in_err-write_waves.field-0.0 c.from_residual.ensures.1 c.in_err-write_waves.ensures.0 c.in_err-write_waves.ensures.1
 
 pub returns-in_err-write_end : goal.returns-in_err-write_end
 returns-in_err-write_end g c s are =
-    second_stopped _ _ _ _ (told_of_parts c.args.reported.views c.args.script s are) _ _ _
+    second_stopped _ _ _ _ (told_of_parts c.args.views c.args.script s are) _ _ _
     c.from_residual-in_err-write_end.ensures.1 c.in_ok-write_waves.ensures c.in_err-write_end.ensures
 
 pub returns : goal.returns
 returns g c s are =
-    second_done _ _ _ _ (told_of_parts c.args.reported.views c.args.script s are) _ _ c.in_ok-write_waves.ensures c.in_ok-write_end.ensures
+    second_done _ _ _ _ (told_of_parts c.args.views c.args.script s are) _ _ c.in_ok-write_waves.ensures c.in_ok-write_end.ensures

@@ -1,7 +1,7 @@
 use Rattle.std.proofs.Common.{◌≡◌, sym, subst}
 use Rattle.dym_io.specs.Sink.{WritesOr}
 use Rattle.dym_report.specs.declared.write_fail.WriteFail.TheVariants as fail
-use Rattle.dymelor_top.specs.Answers.{waves_text}
+use Rattle.dymelor_top.specs.WaveTexts.{waves_text}
 use Rattle.dymelor_top.proofs.waves.run_fitting.Goals as goal
 
 pub returns-in-Report : goal.returns-in-Report

@@ -1,32 +1,12 @@
-use Rattle.std.proofs.Common.{map, string_bytes, sym, ap, ◌∙◌}
-use Rattle.dymelor_top.specs.Plans.{whole_plan_of}
-use Rattle.dymelor_top.proofs.Served.{words_within, planned}
+use Rattle.std.proofs.Common.{map, string_bytes}
+use Rattle.dym_words.specs.Orders.{order}
+use Rattle.dymelor_top.specs.Headline.{Input}
+use Rattle.dymelor_top.proofs.Served.{headline}
 use Rattle.dymelor_top.proofs.whole_call.dymelor.Goals as goal
 
-pub serve_read-requires-clause-input : goal.serve_read-requires-clause-input
-serve_read-requires-clause-input g c = words_within (map string_bytes c.args.words.now) _ _ _ c.read_words.ensures c.plan_for.ensures.within c.in-Read.is
-
-pub serve_run-requires-clause-input : goal.serve_run-requires-clause-input
-serve_run-requires-clause-input g c κs within = (words_within (map string_bytes c.args.words.now) _ _ _ c.read_words.ensures c.plan_for.ensures.within c.in-Run.is).1
-
-pub serve_run-requires-clause-numbers : goal.serve_run-requires-clause-numbers
-serve_run-requires-clause-numbers g c κs within = (words_within (map string_bytes c.args.words.now) _ _ _ c.read_words.ensures c.plan_for.ensures.within c.in-Run.is).0
-
-pub serve_made-requires : goal.serve_made-requires
-serve_made-requires g c = record { made = words_within (map string_bytes c.args.words.now) _ _ _ c.read_words.ensures c.plan_for.ensures.within c.in-Make.is }
-
-pub returns-in-Read : goal.returns-in-Read
-returns-in-Read g c =
-    planned _ _ _ _ _ _ c.serve_read.result _ (sym c.in-Read.is ∙ c.plan_for.ensures.plan ∙ ap whole_plan_of c.read_words.ensures) c.status_of.ensures c.serve_read.ensures
-
-pub returns-in-Run : goal.returns-in-Run
-returns-in-Run g c =
-    planned _ _ _ _ _ _ c.serve_run.result _ (sym c.in-Run.is ∙ c.plan_for.ensures.plan ∙ ap whole_plan_of c.read_words.ensures) c.status_of-in-Run.ensures c.serve_run.ensures
-
-pub returns-in-Make : goal.returns-in-Make
-returns-in-Make g c =
-    planned _ _ _ _ _ _ c.serve_made.result _ (sym c.in-Make.is ∙ c.plan_for.ensures.plan ∙ ap whole_plan_of c.read_words.ensures) c.status_of-in-Make.ensures (c.serve_made.ensures _)
-
-pub returns-in-Usage : goal.returns-in-Usage
-returns-in-Usage g c =
-    planned _ _ _ _ _ _ c.serve_usage.result _ (sym c.in-Usage.is ∙ c.plan_for.ensures.plan ∙ ap whole_plan_of c.read_words.ensures) c.status_of-in-Usage.ensures (c.serve_usage.ensures _)
+pub returns : goal.returns
+returns g c =
+    let old : Input = record { left = g.S.Source.left c.args.source.now; faults = g.S.Source.faults c.args.source.now } in
+    let new : Input = record { left = g.S.Source.left c.answer_words-answered.new.source; faults = g.S.Source.faults c.answer_words-answered.new.source } in
+    headline (order (map string_bytes c.args.words.now)) old new (g.W.Sink.output c.args.sink.now) (g.W.Sink.output c.answer_words-answered.new.sink)
+    (g.W.Sink.output c.finish.new.sink) c.answer_words-answered.result c.answer_words-answered.ensures c.finish.result c.finish.ensures
