@@ -3,14 +3,15 @@
  *
  * An object is the heap of one logical process. Its chunks are named by handles, which stay valid over rollbacks, and lie at addresses
  * that follow from the handles and so stay valid, too. The bytes of a chunk are written and read by calls, or in place, by a pointer; before
- * they are written in place, a call touches the chunk, so that the object knows what changed. A log keeps the heap at a simulation time, the
- * whole of it or what changed since the log before; a restore brings back the newest log at or before a time; a prune drops the logs that no
- * rollback can reach, since no event before a bound (GVT, the global virtual time) can come any more.
+ * they are written in place, a call touches the chunk, so that the object keeps what stands there. A log marks the heap at a simulation time:
+ * it copies nothing, and from then on the first change of each chunk keeps what the chunk was. A restore brings back the newest log at or before
+ * a time, by what was kept since; a prune drops the logs that no rollback can reach, since no event before a bound (GVT, the global virtual
+ * time) can come any more.
  *
  * Every call answers a status, but for dym_version and the small functions that handle numbers, times and words. The calls of the library,
- * which stand here with DYM_API, are proved: whatever numbers are handed in, each does what stands beside it here and touches no memory but
- * the object's own and what its parameters point to. The inline calls, which stand here with their bodies, are tested: they are C over the
- * proved ones. What C owes, and nothing checks:
+ * which stand here with DYM_API, are proved: whatever numbers are handed in, each does what stands beside it here, but for what is said to be
+ * tested or is of time, and touches no memory but the object's own and what its parameters point to. The inline calls, which stand here with
+ * their bodies, are tested: they are C over the proved ones. What C owes, and nothing checks:
  *
  *   - a dym_object is zeroed before its first use, and then written by these calls alone. While it is open a copy may take its place, as
  *     when an array of objects grows, but a copy and the original are never both used;
@@ -22,16 +23,18 @@
  *     while it runs, and counts a command unless it is none;
  *   - one call at a time on an object, so that two calls that take it as const aren't safe beside each other either. It may be another
  *     thread's than the call before: a lock, a barrier, a thread's start or join, or an atomic that is stored with release and loaded with
- *     acquire then stands between the two. To write a chunk by a pointer is like a call here. While no thread writes or calls, any number
- *     of threads may read chunks by pointers. Calls on different objects need no order;
+ *     acquire then stands between the two. To write a chunk by a pointer is like a call here. While no thread writes, nor calls but what
+ *     takes the object as const, any number of threads may read chunks by pointers. Calls on different objects need no order;
  *   - no call from a signal handler, nor from the forked child of a process that has threads;
  *   - malloc, realloc and free are those of one allocator, which aligns a block to each power of two up to 16 that divides its length.
  *
- * Only dym_open, dym_log, dym_save, dym_load and dym_untold take memory, by malloc and realloc, and only they can answer DYM_MEMORY. They
- * give memory back by free, as do dym_prune, dym_prune_before, dym_restore, dym_restore_before and dym_close. When an object is opened or
- * loaded, it takes one block for its chunks: 12 segments of 64 KiB for each segment of its quota, since each of the 12 classes has places
- * of its own. That is address space (3 MiB for a quota of 4, 768 MiB for one of 1,024): a malloc that maps a large block page by page, as
- * the C library's does, takes memory only for pages that are used. The calls start no thread, and wait for none.
+ * Only dym_open, dym_open_checked, dym_log, dym_save and dym_load take memory, by malloc and realloc, and only they can answer DYM_MEMORY,
+ * and dym_untold. What an object took it keeps until dym_close frees all of it: a prune and a restore make room for later logs, and give none
+ * back. When an object is opened or loaded, it takes one block for its chunks: 12 segments of 64 KiB for each segment of its quota, since each
+ * of the 12 classes has places of its own. A log makes sure that there is room for whatever can change until the next one: all bytes of the
+ * segments that are held, and 64 KiB for each segment of the quota. Both are address space (3 MiB for a quota of 4, 768 MiB for one of 1,024,
+ * and as the log says): a malloc that maps a large block page by page, as the C library's does, takes memory only for pages that are used. The
+ * calls start no thread, and wait for none.
  *
  * Pointers. A chunk stays at one address as long as its object is open: whatever else is allocated, freed, logged, restored or pruned,
  * and when it is given another length in its class. A chunk that a restore brings back is where it was when the log was taken;
@@ -41,12 +44,13 @@
  *   - it reads by a pointer what a live chunk has: its bytes from the first to its length, and no others;
  *   - it writes by a pointer into a live chunk that was touched since the last dym_log, dym_restore, dym_restore_before or dym_load, and
  *     into no other: touched by dym_touch, dym_touch_all, dym_wrote, dym_write or dym_fill of at least one byte, dym_link, or because
- *     dym_malloc, dym_calloc or a dym_realloc that moved it gave it. The touch comes before the first write, since what stands in the chunk
- *     then may be what a restore brings back. An incremental log and a restore trust this: bytes that are written into a chunk that isn't
- *     touched may be missed by the one and stay after the other;
+ *     dym_malloc, dym_calloc or a dym_realloc that moved it gave it. The touch comes before the first write, for the touch keeps what stands
+ *     in the chunk then, and a restore brings that back. A touch after the write is as bad as none: the restore leaves what was written, and
+ *     nothing tells of it, unless the object was opened by dym_open_checked;
  *   - a pointer into a chunk that was freed, moved by dym_realloc, or undone by a restore is used no more, until the chunk is live again.
  *
- * What is written by a pointer is in the next log, and in what the calls read.
+ * What is written by a pointer is in the next log, and in what the calls read. dym_write, dym_fill, dym_link, dym_realloc and dym_free keep what
+ * stood there themselves.
  *
  * Units: a length, a room and a place in a chunk are in bytes, and places are counted from 0; a quota is in segments of 65,536 bytes; a
  * simulation time is a number of whatever unit the simulator has, of which only the order matters.
@@ -66,9 +70,9 @@
 
 /* The version of this header: in words, in numbers, and as the one number that dym_version has for the library's. While the first number
  * is 0, a greater second one may change what stands here. */
-#define DYM_VERSION "0.4.0"
+#define DYM_VERSION "0.5.0"
 #define DYM_VERSION_MAJOR 0
-#define DYM_VERSION_MINOR 4
+#define DYM_VERSION_MINOR 5
 #define DYM_VERSION_PATCH 0
 #define DYM_VERSION_NUMBER (DYM_VERSION_MAJOR * 10000 + DYM_VERSION_MINOR * 100 + DYM_VERSION_PATCH)
 
@@ -116,7 +120,7 @@ enum {
     DYM_RANGE = 4,     /* refused: the bytes that were named pass the end of the chunk; for dym_save: the file is longer than the room */
     DYM_NOT_AFTER = 5, /* refused: the newest log has this time or a later one, and a new one must come after it */
     DYM_LOGS_FULL = 6, /* refused: 256 logs are kept, the most that an object keeps */
-    DYM_NO_LOG = 7,    /* refused: no kept log is at or before the time, before it (dym_restore_before), or at the place (dym_log_time) */
+    DYM_NO_LOG = 7,    /* refused: no kept log is at or before the time, before it (dym_restore_before), or at the place (dym_log_time, dym_log_kind) */
     DYM_MEMORY = 8,    /* memory ran out */
     DYM_BAD = 9,       /* an argument was bad */
     DYM_SPENT = 10,    /* the object has run 2^60 commands, the most that it may */
@@ -206,17 +210,11 @@ static inline const char *dym_status_text(dym_status status)
     return status < sizeof texts / sizeof texts[0] ? texts[status] : "no status";
 }
 
-/* The kinds of log. */
+/* The kinds of log, as the objects of scripts take them: both bring back the whole heap, and here both cost the same. */
 enum {
-    DYM_FULL = 0,       /* the whole heap */
-    DYM_INCREMENTAL = 1 /* what was written, taken or freed since the newest log */
+    DYM_FULL = 0,       /* one that stands for itself */
+    DYM_INCREMENTAL = 1 /* one that stands on the log before it */
 };
-
-/* A log that was taken: its kind, and the length of its record in bytes. */
-typedef struct dym_logged {
-    uint32_t kind;
-    uint64_t length;
-} dym_logged;
 
 /* What eight bytes of a chunk name. A link to a chunk that was freed is loose, and live again when another chunk has that handle. */
 enum {
@@ -231,7 +229,8 @@ typedef struct dym_found {
     uint64_t number;  /* the number that the eight bytes are, the least byte first: for a handle exponent * 2^32 + index */
 } dym_found;
 
-/* How many logs are kept, and how many records they take (`slots`): theirs, and those before the oldest kept log that a restore of it reads. */
+/* How many logs are kept, and how many records a script's object would have for them (`slots`): theirs, and those from the last full log
+ * before the oldest kept one. */
 typedef struct dym_slots {
     uint32_t kept;
     uint32_t slots;
@@ -244,6 +243,13 @@ typedef struct dym_heap {
     uint32_t held;
 } dym_heap;
 
+/* How many bytes an object has in use. */
+typedef struct dym_bytes {
+    uint64_t live; /* the bytes of live chunks */
+    uint64_t kept; /* what is kept of chunks as they were before they changed, for restores; a prune may leave up to as much again */
+    uint64_t idle; /* the bytes of held segments that are none of a live chunk */
+} dym_bytes;
+
 /* ---- objects */
 
 /*
@@ -253,12 +259,23 @@ typedef struct dym_heap {
  */
 DYM_NODISCARD DYM_API dym_status dym_open(dym_object *object, uint32_t quota, uint32_t version);
 
-/* Closes an open object, and frees all its memory. It can be opened again then. No compiler warns where this status is dropped, since a
+/*
+ * The same, and the object is checked: dym_untold finds what was written by a pointer and not touched before. For that each dym_log, dym_restore
+ * and dym_restore_before copies the whole heap, in memory that this call takes: 160 KiB of address space for each segment of the quota. All
+ * else is as with dym_open. To debug a kernel.
+ */
+DYM_NODISCARD DYM_API dym_status dym_open_checked(dym_object *object, uint32_t quota, uint32_t version);
+
+/* Closes an open object, and frees all its memory (no clause says so: valgrind sees it). It can be opened again then. No compiler warns where this status is dropped, since a
  * program that opened the object knows it. DYM_STATE: it was closed. */
 DYM_API dym_status dym_close(dym_object *object);
 
 /* *heap is the version, the quota and the held segments of an object. This is no command. */
 DYM_NODISCARD DYM_API dym_status dym_inspect(const dym_object *object, dym_heap *heap);
+
+/* *bytes is how many bytes an object has in use. It asks each live chunk for its length. This is no command. That the numbers are right is tested;
+ * proved is that it changes neither heap nor logs. */
+DYM_NODISCARD DYM_API dym_status dym_usage(const dym_object *object, dym_bytes *bytes);
 
 /* ---- chunks
  * Each of these answers DYM_BAD if a handle's exponent is that of no class (nil is allowed where it is said), and, but for the last two,
@@ -316,25 +333,28 @@ DYM_NODISCARD DYM_API dym_status dym_next(const dym_object *object, dym_handle a
 DYM_NODISCARD DYM_API dym_status dym_address(const dym_object *object, dym_handle chunk, const void **address);
 
 /*
- * The same, to be read and written there: the chunk is touched, before the first write. This counts as a dym_write of all its bytes, with
- * what stands there at the next call, and is a command like it: DYM_SPENT, DYM_DEAD. A chunk of length 0 has no byte to be written, and this
- * doesn't touch it. `address` may be null.
+ * The same, to be read and written there from then on: the chunk is touched, which keeps what stands in it, so this call comes before the first
+ * write. It counts as a dym_write of all its bytes as they stand there, and is a command like it: DYM_SPENT, DYM_DEAD. A chunk of length 0 has no
+ * byte to be written, and this doesn't touch it. `address` may be null.
  */
 DYM_NODISCARD DYM_API dym_status dym_touch(dym_object *object, dym_handle chunk, void **address);
 
-/* Touches every live chunk: for code that writes wherever it likes, as an interpreter that runs inside an object. Such code needs it after
- * each log, restore and load, before it writes. This is no command. */
+/* Touches every live chunk, which keeps all their bytes: for code that writes wherever it likes, as an interpreter that runs inside an object.
+ * Such code needs it after each log, restore and load, before it writes. This is no command. */
 DYM_NODISCARD DYM_API dym_status dym_touch_all(dym_object *object);
 
-/* Touches, before it is written, each live chunk of which a byte lies in the object's block in the `length` bytes from `offset` on; what else
- * lies there, and a length of 0, is passed over. This is no command. */
+/* Touches, before they are written, each live chunk of which a byte lies in the object's block in the `length` bytes from `offset` on; what else
+ * lies there, and a length of 0, is passed over. Where the length isn't known before the write, name more: a chunk ends no later than 65,536
+ * bytes on. This is no command. */
 DYM_NODISCARD DYM_API dym_status dym_wrote_offset(dym_object *object, uint64_t offset, uint64_t length);
 
 /*
- * Finds what was written by a pointer and not touched: *chunk is the first live chunk that isn't touched and has other bytes, or another
- * length, than the newest log brings back. It is nil if there is none, which is so while C keeps what it owes, and while no log is kept. To
- * debug a kernel, call it after each event, before the log. It brings the newest log back into a block of its own, which takes the time of
- * a restore of the whole heap, and changes nothing. This is no command. DYM_MEMORY.
+ * Finds what was written by a pointer and not touched before: *chunk is the first chunk of the newest log that a restore would bring back with
+ * other bytes than it had at that log, by the copy that was made then; or one that was so when a log or a restore came since, which is told once.
+ * It is nil if there is none, which is so while C keeps what it owes. So it can be called after each event, to find which one it was, or now and
+ * then. It takes the time of a comparison of the whole heap. This is no command. That it finds what it should is tested; proved is that it changes
+ * neither heap nor logs.
+ * DYM_BAD: the object was opened by dym_open or dym_load. DYM_MEMORY: the copy could not be made. Which objects answer these is tested, too.
  */
 DYM_NODISCARD DYM_API dym_status dym_untold(const dym_object *object, dym_handle *chunk);
 
@@ -357,7 +377,7 @@ DYM_NODISCARD static inline dym_status dym_at(const dym_object *object, const vo
     return dym_handle_offset(object, (uintptr_t)address - (uintptr_t)start, chunk);
 }
 
-/* Touches each live chunk of which a byte lies in the `length` bytes from an address on, before these are written. */
+/* Touches each live chunk of which a byte lies in the `length` bytes from an address on, before these are written: dym_wrote_offset. */
 DYM_NODISCARD static inline dym_status dym_wrote(dym_object *object, const void *address, size_t length)
 {
     const void *start;
@@ -449,17 +469,18 @@ DYM_NODISCARD static inline dym_status dym_hash(const dym_object *object, uint64
 }
 
 /* ---- logs
- * Each of these answers DYM_SPENT, but for dym_log_time. */
+ * Each of these answers DYM_SPENT, but for the last three, which are no commands. */
 
 /*
- * Logs the heap at a simulation time, which is any number above that of the newest log. A log is full, whatever kind is asked, if there
- * is none before it or 31 incremental ones follow the last full one. *logged says what was taken; `logged` may be null.
+ * Logs the heap at a simulation time, which is any number above that of the newest log. No chunk is touched from then on. A log is full,
+ * whatever kind is asked, if there is none before it or 31 incremental ones follow the last full one. *logged is the kind of this one; `logged`
+ * may be null.
  * DYM_BAD: the kind is neither 0 nor 1. DYM_NOT_AFTER, DYM_LOGS_FULL. DYM_MEMORY: nothing was logged.
  */
-DYM_NODISCARD DYM_API dym_status dym_log(dym_object *object, uint32_t kind, uint64_t time, dym_logged *logged);
+DYM_NODISCARD DYM_API dym_status dym_log(dym_object *object, uint32_t kind, uint64_t time, uint32_t *logged);
 
-/* Brings the heap back to the newest log at or before a time, which stays, and drops the logs after it. *restored is its time;
- * `restored` may be null. DYM_NO_LOG. */
+/* Brings the heap back to the newest log at or before a time, which stays, and drops the logs after it. No chunk is touched from then on.
+ * *restored is its time; `restored` may be null. DYM_NO_LOG. */
 DYM_NODISCARD DYM_API dym_status dym_restore(dym_object *object, uint64_t time, uint64_t *restored);
 
 /* The same with the newest log before a time, of which there is none at time 0. `restored` may be null. DYM_NO_LOG. */
@@ -474,30 +495,41 @@ DYM_NODISCARD DYM_API dym_status dym_prune(dym_object *object, uint64_t bound, u
  * it. At bound 0 it drops none. `dropped` may be null. */
 DYM_NODISCARD DYM_API dym_status dym_prune_before(dym_object *object, uint64_t bound, uint32_t *dropped);
 
-/* *slots says how many logs are kept, and how many records they take. */
+/* *slots says how many logs are kept, and how many records a script's object would have for them. */
 DYM_NODISCARD DYM_API dym_status dym_logs(const dym_object *object, dym_slots *slots);
 
-/* *time is that of a kept log, of which the oldest has place 0. This is no command: it never answers DYM_SPENT. DYM_NO_LOG: no log is kept
- * at this place. */
+/* *time is that of a kept log, of which the oldest has place 0. DYM_NO_LOG: no log is kept at this place. */
 DYM_NODISCARD DYM_API dym_status dym_log_time(const dym_object *object, uint32_t place, uint64_t *time);
+
+/* *kind is that of a kept log, by the same places: DYM_FULL or DYM_INCREMENTAL. DYM_NO_LOG. */
+DYM_NODISCARD DYM_API dym_status dym_log_kind(const dym_object *object, uint32_t place, uint32_t *kind);
+
+/* *count is how many chunks are kept as they were at the newest log, or as made since: those that were touched, written, made or freed since it was
+ * taken or brought back. So many a restore of that log looks at. It is 0 while there is no log. That the number is right is tested; proved is that
+ * this changes neither heap nor logs. */
+DYM_NODISCARD DYM_API dym_status dym_changed(const dym_object *object, uint64_t *count);
 
 /* ---- checkpoint files
  * A file has the kept logs of an object, with its quota and version, under a name of 1 to 32 characters A-Z a-z 0-9 _ that isn't
- * the word object. What was changed since the newest log isn't in it. It is the file that the program dymelor saves and loads. Its own
- * numbers have their least byte first; bytes of chunks stand as they are. It has no checksum. */
+ * the word object. They are in it as if they were taken again: the oldest as a full log, each other one as an incremental one of the chunks in
+ * which it differs from the log before, and each 32nd as a full one; so what is loaded has the same times and brings back the same heaps, which
+ * follows of the clauses of dym_save and dym_load and is tested as a whole. What was changed since the newest log isn't in it. The program dymelor saves and loads files of this form. Its own numbers have their least byte
+ * first; bytes of chunks stand as they are. It has no checksum. */
 
 /*
  * Writes the file to where `bytes` begins. *length is how many bytes it has. This is no command.
  * DYM_BAD: the name is none. DYM_RANGE: the file is longer than `room`; *length is its length then too, and the
- * bytes stay as they were, so that a room of 0 asks for the length (`bytes` isn't null then either). DYM_MEMORY: the library first makes the
- * file in memory of its own, whatever the room.
+ * bytes stay as they were, so that a room of 0 asks for the length (`bytes` isn't null then either). DYM_MEMORY: whatever the room, the library
+ * first makes the file in memory of its own, and beside it the file's records and three copies of the heap. It takes the time in which the heap is
+ * copied and compared for each kept log.
  */
 DYM_NODISCARD DYM_API dym_status dym_save(const dym_object *object, const char *name, size_t name_length, void *bytes, size_t room,
                                                uint64_t *length);
 
 /*
  * Opens a closed object as the newest log of a file has it, with all its logs, and empty if the file has none. Its quota and version
- * are the file's. Any bytes may be handed in: they make an object exactly if they are a file. The name that the file has isn't returned.
+ * are the file's. Any bytes may be handed in: where memory is there, they make an object exactly if they are a file. The name that the file has
+ * isn't returned.
  * DYM_FILE: the bytes are no file, and *part is the first part that fails: 0 for the header, k for record k, and one more than there are
  * records for what follows them; `part` may be null. DYM_MEMORY: it stays closed; this may come of any bytes that begin with a good header,
  * also where the rest is no file.
@@ -515,9 +547,9 @@ DYM_NODISCARD static inline dym_status dym_inline_touch(dym_object *object, dym_
     return dym_touch(object, chunk, address != NULL ? address : &unread);
 }
 
-DYM_NODISCARD static inline dym_status dym_inline_log(dym_object *object, uint32_t kind, uint64_t time, dym_logged *logged)
+DYM_NODISCARD static inline dym_status dym_inline_log(dym_object *object, uint32_t kind, uint64_t time, uint32_t *logged)
 {
-    dym_logged unread;
+    uint32_t unread;
     return dym_log(object, kind, time, logged != NULL ? logged : &unread);
 }
 
@@ -558,17 +590,6 @@ DYM_NODISCARD static inline dym_status dym_inline_load(dym_object *object, const
 #define dym_prune dym_inline_prune
 #define dym_prune_before dym_inline_prune_before
 #define dym_load dym_inline_load
-
-/* The names that two calls had up to 0.3. They leave with 0.5. */
-DYM_NODISCARD static inline dym_status dym_wrote_at(dym_object *object, uint64_t offset, uint64_t length)
-{
-    return dym_wrote_offset(object, offset, length);
-}
-
-DYM_NODISCARD static inline dym_status dym_handle_at(const dym_object *object, uint64_t offset, dym_handle *chunk)
-{
-    return dym_handle_offset(object, offset, chunk);
-}
 
 #ifdef __cplusplus
 }

@@ -13,7 +13,7 @@
  * constants, and the resource itself; and another object, or one that was loaded from a file, has other addresses.
  *
  * What C++ owes is what dymelor.h says that C owes. Of it this file takes over what a container can't say, which chunks it writes into: with
- * wrote::anywhere, at each log and restore, every live chunk is touched up to it and from it on, so that the next log packs them all. With
+ * wrote::anywhere, right after each log, restore and load, every live chunk is touched, so that all their bytes are kept. With
  * wrote::touched those count that were touched, which the program answers for. With wrote::told the compiler has touched them, where
  * dymelor-c++ compiled what writes (dymelor_track.h, which names what isn't told: the nodes of std::list, std::map and std::set).
  */
@@ -68,9 +68,12 @@ inline void done(dym_status status)
 }
 #endif
 
-/* Where the program writes between one log or restore and the next: into any live chunk, or into those alone that it, or the compiler,
- * touched. */
+/* Where the program writes from a log, a restore or a load on, up to the next one: into any live chunk, which is touched then, or into those
+ * alone that it, or the compiler, touches before. */
 enum class wrote { anywhere, touched, told };
+
+/* The kind of a log: dym_log. */
+enum class log_kind : std::uint32_t { full = DYM_FULL, incremental = DYM_INCREMENTAL };
 
 /* A value in a chunk of its own. */
 template <class T> struct placed {
@@ -155,6 +158,12 @@ public:
     /* Opens a closed object: dym_open. In version 2 a chunk is as long as was asked. */
     DYM_NODISCARD dym_status try_open(std::uint32_t quota, std::uint32_t version = 2) noexcept { return dym_open(&c_, quota, version); }
 
+    /* The same, and the object is checked, for try_untold: dym_open_checked. */
+    DYM_NODISCARD dym_status try_open_checked(std::uint32_t quota, std::uint32_t version = 2) noexcept
+    {
+        return dym_open_checked(&c_, quota, version);
+    }
+
     /* Frees all memory of the object. No destructor of what lies in it runs. A closed object stays closed. */
     void close() noexcept
     {
@@ -236,7 +245,14 @@ public:
         return dym_inspect(&c_, told != nullptr ? told : &unread);
     }
 
-    /* The first chunk that was written and not touched; nil where there is none: dym_untold. DYM_MEMORY. */
+    /* The bytes of live chunks, of what is kept for restores, and of held segments beside: dym_usage. */
+    DYM_NODISCARD dym_status try_usage(dym_bytes *told) const noexcept
+    {
+        dym_bytes unread{};
+        return dym_usage(&c_, told != nullptr ? told : &unread);
+    }
+
+    /* The first chunk that was written and not touched before; nil where there is none: dym_untold. DYM_BAD: the object isn't checked. */
     DYM_NODISCARD dym_status try_untold(handle *told) const noexcept
     {
         handle unread = dym_nil;
@@ -250,7 +266,7 @@ public:
         return dym_hash(&c_, told != nullptr ? told : &unread);
     }
 
-    /* How many logs are kept, and how many records they take. */
+    /* How many logs are kept, and how many records a script's object would have for them. */
     DYM_NODISCARD dym_status try_logs(dym_slots *told) const noexcept
     {
         dym_slots unread{};
@@ -264,31 +280,44 @@ public:
         return dym_log_time(&c_, place, told != nullptr ? told : &unread);
     }
 
+    /* The kind of a kept log, of which the oldest has place 0: dym_log_kind. DYM_NO_LOG. */
+    DYM_NODISCARD dym_status try_kind_of_log(std::uint32_t place, log_kind *told) const noexcept
+    {
+        std::uint32_t kind = DYM_FULL;
+        const dym_status status = dym_log_kind(&c_, place, &kind);
+        if (status == DYM_DONE && told != nullptr) *told = static_cast<log_kind>(kind);
+        return status;
+    }
+
+    /* How many chunks were changed since the newest log: dym_changed. */
+    DYM_NODISCARD dym_status try_changed(std::uint64_t *told) const noexcept
+    {
+        std::uint64_t unread = 0;
+        return dym_changed(&c_, told != nullptr ? told : &unread);
+    }
+
     /* ---- logs */
 
-    /* Logs the heap at a time above that of the newest log. DYM_NOT_AFTER, DYM_LOGS_FULL, DYM_MEMORY. */
-    DYM_NODISCARD dym_status try_log(std::uint64_t time, wrote where, dym_logged *told = nullptr,
-                                     std::uint32_t kind = DYM_INCREMENTAL) noexcept
+    /* Logs the heap at a time above that of the newest log; the kind of the log is told. DYM_NOT_AFTER, DYM_LOGS_FULL, DYM_MEMORY. */
+    DYM_NODISCARD dym_status try_log(std::uint64_t time, wrote where, log_kind *told = nullptr,
+                                     log_kind kind = log_kind::incremental) noexcept
     {
-        dym_status status = tell(where);
-        if (status == DYM_DONE) status = dym_log(&c_, kind, time, told);
+        std::uint32_t logged = DYM_FULL;
+        const dym_status status = dym_log(&c_, static_cast<std::uint32_t>(kind), time, &logged);
+        if (status == DYM_DONE && told != nullptr) *told = static_cast<log_kind>(logged);
         return begun(where, status);
     }
 
     /* Brings the heap back to the newest log at or before a time, and drops those after it; the time of that log is told. DYM_NO_LOG. */
     DYM_NODISCARD dym_status try_restore(std::uint64_t time, wrote where, std::uint64_t *told = nullptr) noexcept
     {
-        dym_status status = tell(where);
-        if (status == DYM_DONE) status = dym_restore(&c_, time, told);
-        return begun(where, status);
+        return begun(where, dym_restore(&c_, time, told));
     }
 
     /* The same with the newest log before a time. */
     DYM_NODISCARD dym_status try_restore_before(std::uint64_t time, wrote where, std::uint64_t *told = nullptr) noexcept
     {
-        dym_status status = tell(where);
-        if (status == DYM_DONE) status = dym_restore_before(&c_, time, told);
-        return begun(where, status);
+        return begun(where, dym_restore_before(&c_, time, told));
     }
 
     /* Drops the logs before the newest one at or before a bound, or before a bound; how many is told. */
@@ -366,6 +395,13 @@ public:
         return heap;
     }
 
+    dym_bytes usage() const
+    {
+        dym_bytes bytes{};
+        done(try_usage(&bytes));
+        return bytes;
+    }
+
     handle untold() const
     {
         handle chunk = dym_nil;
@@ -394,9 +430,23 @@ public:
         return time;
     }
 
-    dym_logged log(std::uint64_t time, wrote where, std::uint32_t kind = DYM_INCREMENTAL)
+    log_kind kind_of_log(std::uint32_t place) const
     {
-        dym_logged logged{};
+        log_kind kind = log_kind::full;
+        done(try_kind_of_log(place, &kind));
+        return kind;
+    }
+
+    std::uint64_t changed() const
+    {
+        std::uint64_t count = 0;
+        done(try_changed(&count));
+        return count;
+    }
+
+    log_kind log(std::uint64_t time, wrote where, log_kind kind = log_kind::incremental)
+    {
+        log_kind logged = kind;
         done(try_log(time, where, &logged, kind));
         return logged;
     }
@@ -482,14 +532,11 @@ private:
         return length < sizeof(T) ? DYM_RANGE : DYM_DONE;
     }
 
-    dym_status tell(wrote where) noexcept
-    {
-        if (where == wrote::anywhere) return dym_touch_all(&c_);
-        return DYM_DONE;
-    }
-
     /* What a log, a restore or a load answered. What the program writes from there on is touched before, where it writes anywhere. */
-    dym_status begun(wrote where, dym_status status) noexcept { return status == DYM_DONE ? tell(where) : status; }
+    dym_status begun(wrote where, dym_status status) noexcept
+    {
+        return status == DYM_DONE && where == wrote::anywhere ? dym_touch_all(&c_) : status;
+    }
 
     dym_object c_ = {nullptr};
 };

@@ -10,8 +10,8 @@
  *     dym_track(NULL);
  *
  * The simulator itself needs no such compiler, but it is linked by dymelor-cc too, or with what dymelor-track.pc says: the calls that begin
- * and end a touch (dym_open, dym_load, dym_close, dym_log, dym_restore, dym_restore_before) pass through libdymelor-track.a, which keeps a
- * table of the touched chunks beside each object. Without that the linker names __real_dym_log as undefined.
+ * and end a touch (dym_open, dym_open_checked, dym_load, dym_close, dym_log, dym_restore, dym_restore_before) pass through
+ * libdymelor-track.a, which keeps a table of the touched chunks beside each object. Without that the linker names __real_dym_log as undefined.
  *
  * Told are all stores of the model's own code, before the bytes change: those that the compiler tells, and every other one, as by assembler or
  * by intrinsics, by a call that dymelor-cc adds to what the compiler made. `dymelor-cc --untold-stores` lists these with their lines, and
@@ -31,8 +31,8 @@
  *     sincosl setjmp to_chars from_chars
  *
  * Not told, so that a dym_touch, dym_wrote or dym_touch_all has to come before: what other functions write that dymelor-cc didn't compile, those
- * of libraries, and of the C++ library's own list, map and set. dym_untold finds what they wrote. What a call of dymelor.h writes to by a
- * parameter, as *chunk, may not lie in a chunk at all.
+ * of libraries, and of the C++ library's own list, map and set. dym_untold finds what they wrote, where dym_open_checked opened the object. What a
+ * call of dymelor.h writes to by a parameter, as *chunk, may not lie in a chunk at all.
  *
  * What C owes beside what dymelor.h says, and nothing checks: a store into an object is like a call on it, so that one thread at a time
  * makes them; an object that moved is named again; no thread stores into the chunks of a closed object. A thread that named an object which

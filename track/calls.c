@@ -6,9 +6,10 @@
 #include "dymelor_track.h"
 
 dym_status __real_dym_open(dym_object *object, uint32_t quota, uint32_t version);
+dym_status __real_dym_open_checked(dym_object *object, uint32_t quota, uint32_t version);
 dym_status __real_dym_close(dym_object *object);
 dym_status __real_dym_load(dym_object *object, const uint8_t *bytes, size_t length, uint32_t *part);
-dym_status __real_dym_log(dym_object *object, uint32_t kind, uint64_t time, dym_logged *logged);
+dym_status __real_dym_log(dym_object *object, uint32_t kind, uint64_t time, uint32_t *logged);
 dym_status __real_dym_restore(dym_object *object, uint64_t time, uint64_t *restored);
 dym_status __real_dym_restore_before(dym_object *object, uint64_t time, uint64_t *restored);
 
@@ -77,6 +78,12 @@ dym_status __wrap_dym_open(dym_object *object, uint32_t quota, uint32_t version)
     return status == DYM_DONE ? attach(object) : status;
 }
 
+dym_status __wrap_dym_open_checked(dym_object *object, uint32_t quota, uint32_t version)
+{
+    dym_status status = __real_dym_open_checked(object, quota, version);
+    return status == DYM_DONE ? attach(object) : status;
+}
+
 dym_status __wrap_dym_load(dym_object *object, const uint8_t *bytes, size_t length, uint32_t *part)
 {
     dym_status status = __real_dym_load(object, bytes, length, part);
@@ -90,7 +97,7 @@ dym_status __wrap_dym_close(dym_object *object)
     return __real_dym_close(object);
 }
 
-dym_status __wrap_dym_log(dym_object *object, uint32_t kind, uint64_t time, dym_logged *logged)
+dym_status __wrap_dym_log(dym_object *object, uint32_t kind, uint64_t time, uint32_t *logged)
 {
     begin_era(object);
     return __real_dym_log(object, kind, time, logged);

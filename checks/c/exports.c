@@ -36,9 +36,10 @@ static void closed_object(dym_object *object)
     uint64_t number = 77;
     uint32_t small = 78;
     dym_found found = {9, {9, 9}, 9};
-    dym_logged logged = {9, 9};
+    uint32_t logged = 9;
     dym_slots slots = {9, 9};
     dym_heap heap = {9, 9, 9};
+    dym_bytes used = {9, 9, 9};
     const void *place = bytes;
     void *address = bytes;
     ANSWERS(dym_close(object), DYM_STATE);
@@ -63,6 +64,9 @@ static void closed_object(dym_object *object)
     ANSWERS(dym_prune_before(object, 0, &small), DYM_STATE);
     ANSWERS(dym_prune_before(object, 1, &small), DYM_STATE);
     ANSWERS(dym_log_time(object, 0, &number), DYM_STATE);
+    ANSWERS(dym_log_kind(object, 0, &small), DYM_STATE);
+    ANSWERS(dym_changed(object, &number), DYM_STATE);
+    ANSWERS(dym_usage(object, &used), DYM_STATE);
     ANSWERS(dym_inspect(object, &heap), DYM_STATE);
     ANSWERS(dym_address(object, h, &place), DYM_STATE);
     ANSWERS(dym_touch(object, h, &address), DYM_STATE);
@@ -84,22 +88,31 @@ static void closed_object(dym_object *object)
     ANSWERS(dym_log(object, 2, 1, &logged), DYM_BAD);
     EXPECT(place == bytes && address == bytes && heap.version == 9 && heap.quota == 9 && heap.held == 9);
     EXPECT(dym_same(h, handle(5, 7)) && number == 77 && small == 78);
-    EXPECT(bytes[0] == 1 && bytes[3] == 4 && found.kind == 9 && logged.length == 9 && slots.kept == 9);
+    EXPECT(bytes[0] == 1 && bytes[3] == 4 && found.kind == 9 && logged == 9 && slots.kept == 9);
+    EXPECT(used.live == 9 && used.kept == 9 && used.idle == 9);
     EXPECT(object->inside == NULL);
+}
+
+/* Neither way to open takes bad arguments. */
+static void bad_openings(dym_object *object, dym_status (*open)(dym_object *, uint32_t, uint32_t))
+{
+    ANSWERS(open(object, 0, 1), DYM_BAD);
+    ANSWERS(open(object, 1025, 1), DYM_BAD);
+    ANSWERS(open(object, UINT32_MAX, 2), DYM_BAD);
+    ANSWERS(open(object, 4, 0), DYM_BAD);
+    ANSWERS(open(object, 4, 3), DYM_BAD);
 }
 
 static void opening(dym_object *object)
 {
-    ANSWERS(dym_open(object, 0, 1), DYM_BAD);
-    ANSWERS(dym_open(object, 1025, 1), DYM_BAD);
-    ANSWERS(dym_open(object, UINT32_MAX, 2), DYM_BAD);
-    ANSWERS(dym_open(object, 4, 0), DYM_BAD);
-    ANSWERS(dym_open(object, 4, 3), DYM_BAD);
+    bad_openings(object, dym_open);
+    bad_openings(object, dym_open_checked);
     closed_object(object);
     ANSWERS(dym_open(object, 1024, 2), DYM_DONE);
     ANSWERS(dym_close(object), DYM_DONE);
     ANSWERS(dym_open(object, 2, 1), DYM_DONE);
     ANSWERS(dym_open(object, 4, 1), DYM_STATE);
+    ANSWERS(dym_open_checked(object, 4, 1), DYM_STATE);
     ANSWERS(dym_open(object, 0, 1), DYM_BAD);
     EXPECT(object->inside != NULL);
 }
@@ -275,7 +288,7 @@ static void touches(void)
 {
     dym_object object = {0};
     dym_handle a, b;
-    dym_logged logged;
+    uint32_t logged;
     uint64_t time;
     void *first = NULL, *second = NULL, *again = NULL;
     int way;
@@ -296,7 +309,7 @@ static void touches(void)
             ANSWERS(dym_wrote(&object, (char *)first + 64, 1), DYM_DONE);
         *(uint8_t *)second = (uint8_t)(10 + way);
         ANSWERS(dym_log(&object, DYM_INCREMENTAL, (uint64_t)(2 + 2 * way), &logged), DYM_DONE);
-        EXPECT(logged.kind == DYM_INCREMENTAL);
+        EXPECT(logged == DYM_INCREMENTAL);
         ANSWERS(dym_touch_all(&object), DYM_DONE);
         *(uint8_t *)second = 99;
         ANSWERS(dym_restore(&object, (uint64_t)(2 + 2 * way), &time), DYM_DONE);
@@ -319,28 +332,82 @@ static void expect_untold(const dym_object *object, dym_handle want)
     EXPECT(dym_same(found, want));
 }
 
-/* The first chunk is named in which a byte was written and no call told. */
+/* The first chunk is named in which a byte was written that no call told before, also where one told it afterwards, where the chunk was freed
+ * since, and, once, where the object was logged or restored since. */
 static void untold_writes(void)
 {
     dym_object object = {0};
     dym_handle a, b;
-    dym_logged logged;
     void *first = NULL, *second = NULL;
-    ANSWERS(dym_open(&object, 2, 2), DYM_DONE);
+    ANSWERS(dym_open_checked(&object, 2, 2), DYM_DONE);
     ANSWERS(dym_malloc_at(&object, 64, &a, &first), DYM_DONE);
     ANSWERS(dym_malloc_at(&object, 33, &b, &second), DYM_DONE);
     expect_untold(&object, dym_nil);
-    ANSWERS(dym_log(&object, DYM_FULL, 1, &logged), DYM_DONE);
+    ANSWERS(dym_log(&object, DYM_FULL, 1, NULL), DYM_DONE);
     ((uint8_t *)second)[32] = 1;
     expect_untold(&object, b);
     ((uint8_t *)first)[0] = 1;
     expect_untold(&object, a);
+    ((uint8_t *)first)[0] = 0;
     ANSWERS(dym_touch(&object, a, &first), DYM_DONE);
+    ((uint8_t *)first)[0] = 1;
     expect_untold(&object, b);
-    ANSWERS(dym_log(&object, DYM_INCREMENTAL, 2, &logged), DYM_DONE);
+    ANSWERS(dym_log(&object, DYM_INCREMENTAL, 2, NULL), DYM_DONE);
     expect_untold(&object, b);
-    ((uint8_t *)second)[32] = 0;
     expect_untold(&object, dym_nil);
+    ((uint8_t *)first)[0] = 2;
+    ANSWERS(dym_touch(&object, a, &first), DYM_DONE);
+    expect_untold(&object, a);
+    ANSWERS(dym_restore(&object, 2, NULL), DYM_DONE);
+    expect_untold(&object, a);
+    expect_untold(&object, dym_nil);
+    ((uint8_t *)second)[0] = 2;
+    ANSWERS(dym_free(&object, b), DYM_DONE);
+    expect_untold(&object, b);
+    ANSWERS(dym_close(&object), DYM_DONE);
+}
+
+/* What was written and told is never named, whatever calls tell it. */
+static void told_writes(void)
+{
+    dym_object object = {0};
+    dym_handle a, b, c;
+    void *first = NULL, *second = NULL;
+    ANSWERS(dym_open_checked(&object, 4, 1), DYM_DONE);
+    ANSWERS(dym_malloc_at(&object, 64, &a, &first), DYM_DONE);
+    ANSWERS(dym_malloc_at(&object, 64, &b, &second), DYM_DONE);
+    ANSWERS(dym_log(&object, DYM_FULL, 1, NULL), DYM_DONE);
+    ANSWERS(dym_wrote(&object, (char *)first + 8, 1), DYM_DONE);
+    memset(first, 7, 64);
+    ANSWERS(dym_write(&object, b, 0, "abc", 3), DYM_DONE);
+    ANSWERS(dym_malloc(&object, 200, &c), DYM_DONE);
+    expect_untold(&object, dym_nil);
+    ANSWERS(dym_log(&object, DYM_INCREMENTAL, 2, NULL), DYM_DONE);
+    ANSWERS(dym_realloc(&object, b, 300, &b), DYM_DONE);
+    ANSWERS(dym_free(&object, c), DYM_DONE);
+    ANSWERS(dym_touch_all(&object), DYM_DONE);
+    memset(first, 8, 64);
+    expect_untold(&object, dym_nil);
+    ANSWERS(dym_restore(&object, 1, NULL), DYM_DONE);
+    ANSWERS(dym_prune(&object, 1, NULL), DYM_DONE);
+    expect_untold(&object, dym_nil);
+    ANSWERS(dym_close(&object), DYM_DONE);
+}
+
+/* An object that isn't checked tells nothing. */
+static void unchecked(void)
+{
+    dym_object object = {0}, other = {0};
+    dym_handle found = handle(9, 9);
+    uint8_t file[100];
+    uint64_t length = 0;
+    ANSWERS(dym_open(&object, 2, 2), DYM_DONE);
+    ANSWERS(dym_untold(&object, &found), DYM_BAD);
+    ANSWERS(dym_save(&object, "lp", 2, file, sizeof file, &length), DYM_DONE);
+    ANSWERS(dym_load(&other, file, (size_t)length, NULL), DYM_DONE);
+    ANSWERS(dym_untold(&other, &found), DYM_BAD);
+    EXPECT(dym_same(found, handle(9, 9)));
+    ANSWERS(dym_close(&other), DYM_DONE);
     ANSWERS(dym_close(&object), DYM_DONE);
 }
 
@@ -348,7 +415,7 @@ static void strictly_before(void)
 {
     dym_object object = {0};
     dym_handle h;
-    dym_logged logged;
+    uint32_t logged;
     dym_heap heap = {9, 9, 9};
     uint64_t time = 77;
     uint32_t dropped = 78;
@@ -377,6 +444,46 @@ static void strictly_before(void)
     ANSWERS(dym_restore_before(&object, 10, &time), DYM_NO_LOG);
     ANSWERS(dym_log_time(&object, 0, &time), DYM_DONE);
     EXPECT(time == 10);
+    ANSWERS(dym_close(&object), DYM_DONE);
+}
+
+/* What is told of the logs and of the bytes in use. */
+static void usage(void)
+{
+    dym_object object = {0};
+    dym_bytes used = {9, 9, 9};
+    dym_handle small, large, other;
+    uint64_t count = 77;
+    uint32_t kind = 78;
+    ANSWERS(dym_open(&object, 3, 2), DYM_DONE);
+    ANSWERS(dym_usage(&object, &used), DYM_DONE);
+    EXPECT(used.live == 0 && used.kept == 0 && used.idle == 0);
+    ANSWERS(dym_malloc(&object, 10, &small), DYM_DONE);
+    ANSWERS(dym_malloc(&object, 100, &large), DYM_DONE);
+    ANSWERS(dym_changed(&object, &count), DYM_DONE);
+    EXPECT(count == 0);
+    ANSWERS(dym_log(&object, DYM_INCREMENTAL, 10, NULL), DYM_DONE);
+    ANSWERS(dym_log(&object, DYM_INCREMENTAL, 20, NULL), DYM_DONE);
+    ANSWERS(dym_log_kind(&object, 0, &kind), DYM_DONE);
+    EXPECT(kind == DYM_FULL);
+    ANSWERS(dym_log_kind(&object, 1, &kind), DYM_DONE);
+    EXPECT(kind == DYM_INCREMENTAL);
+    ANSWERS(dym_log_kind(&object, 2, &kind), DYM_NO_LOG);
+    EXPECT(kind == DYM_INCREMENTAL);
+    ANSWERS(dym_usage(&object, &used), DYM_DONE);
+    EXPECT(used.live == 110 && used.kept == 0 && used.idle == 2 * 65536 - 110);
+    ANSWERS(dym_fill(&object, large, 0, 1, 1), DYM_DONE);
+    ANSWERS(dym_touch(&object, large, NULL), DYM_DONE);
+    ANSWERS(dym_free(&object, small), DYM_DONE);
+    ANSWERS(dym_malloc(&object, 20, &other), DYM_DONE);
+    ANSWERS(dym_malloc(&object, 30, &other), DYM_DONE);
+    ANSWERS(dym_changed(&object, &count), DYM_DONE);
+    EXPECT(count == 3);
+    ANSWERS(dym_usage(&object, &used), DYM_DONE);
+    EXPECT(used.live == 150 && used.kept == 3 * 16 + 110 && used.idle == 2 * 65536 - 150);
+    ANSWERS(dym_restore(&object, 20, NULL), DYM_DONE);
+    ANSWERS(dym_changed(&object, &count), DYM_DONE);
+    EXPECT(count == 0);
     ANSWERS(dym_close(&object), DYM_DONE);
 }
 
@@ -443,24 +550,24 @@ static void walk(dym_object *object)
 static void logs(dym_object *object)
 {
     dym_handle h;
-    dym_logged logged = {9, 9};
+    uint32_t logged = 9;
     dym_slots slots;
     uint8_t byte = 0;
     uint32_t dropped = 99;
     uint64_t time = 99, k;
     ANSWERS(dym_restore(object, 5, &time), DYM_NO_LOG);
     ANSWERS(dym_log(object, 2, 10, &logged), DYM_BAD);
-    EXPECT(logged.kind == 9 && logged.length == 9);
+    EXPECT(logged == 9);
     ANSWERS(dym_malloc(object, 40, &h), DYM_DONE);
     ANSWERS(dym_log(object, DYM_INCREMENTAL, 10, &logged), DYM_DONE);
-    EXPECT(logged.kind == DYM_FULL && logged.length == 210);
+    EXPECT(logged == DYM_FULL);
     ANSWERS(dym_fill(object, h, 0, 1, 42), DYM_DONE);
     ANSWERS(dym_log(object, DYM_INCREMENTAL, 20, &logged), DYM_DONE);
-    EXPECT(logged.kind == DYM_INCREMENTAL && logged.length == 338);
+    EXPECT(logged == DYM_INCREMENTAL);
     ANSWERS(dym_log(object, DYM_FULL, 20, &logged), DYM_NOT_AFTER);
-    EXPECT(logged.kind == DYM_INCREMENTAL && logged.length == 338);
+    EXPECT(logged == DYM_INCREMENTAL);
     ANSWERS(dym_log(object, DYM_FULL, 30, &logged), DYM_DONE);
-    EXPECT(logged.kind == DYM_FULL && logged.length == 210);
+    EXPECT(logged == DYM_FULL);
     ANSWERS(dym_restore(object, 9, &time), DYM_NO_LOG);
     EXPECT(time == 99);
     ANSWERS(dym_restore(object, 15, &time), DYM_DONE);
@@ -488,7 +595,7 @@ static void files(void)
 {
     dym_object object = {0}, other = {0};
     dym_handle h;
-    dym_logged logged;
+    uint32_t logged;
     dym_slots slots;
     uint8_t file[2000], again[2000], byte = 0;
     uint64_t length = 99, other_length = 0, time = 0;
@@ -642,7 +749,10 @@ int main(void)
     files();
     touches();
     untold_writes();
+    told_writes();
+    unchecked();
     strictly_before();
+    usage();
     inline_functions();
     version();
     unread_results();

@@ -52,7 +52,7 @@ void logs(dymelor::object &o)
     dymelor::object loaded;
     dym_heap heap{};
     dym_slots slots{};
-    dym_logged logged{};
+    dymelor::log_kind logged = dymelor::log_kind::incremental;
     dymelor::handle untold = {9, 9};
     std::uint64_t number = 0, hash = 0, length = 0;
     unsigned char file[1000] = {0};
@@ -68,8 +68,14 @@ void logs(dymelor::object &o)
     ANSWERS(o.try_log(20, dymelor::wrote::anywhere), DYM_DONE);
     ANSWERS(o.try_untold(&untold), DYM_DONE);
     ANSWERS(o.try_logs(&slots), DYM_DONE);
+    ANSWERS(o.try_kind_of_log(1, &logged), DYM_DONE);
+    EXPECT(logged == dymelor::log_kind::incremental);
+    ANSWERS(o.try_kind_of_log(0, &logged), DYM_DONE);
+    ANSWERS(o.try_changed(&number), DYM_DONE);
+    EXPECT(number == 2);
+    ANSWERS(o.try_usage(nullptr), DYM_DONE);
     ANSWERS(o.try_log_time(1, &number), DYM_DONE);
-    EXPECT(logged.kind == DYM_FULL && dym_same(untold, dym_nil) && slots.kept == 2 && number == 20);
+    EXPECT(logged == dymelor::log_kind::full && dym_same(untold, dym_nil) && slots.kept == 2 && number == 20);
     ANSWERS(o.try_save("lp", file, 0, &length), DYM_RANGE);
     EXPECT(length > 0 && length < sizeof file);
     ANSWERS(o.try_save("lp", file, sizeof file, nullptr), DYM_DONE);
@@ -90,6 +96,9 @@ int main()
     dymelor::object o;
     ANSWERS(o.try_make<int>(nullptr), DYM_STATE);
     ANSWERS(o.try_open(2), DYM_DONE);
+    ANSWERS(o.try_untold(nullptr), DYM_BAD);
+    o.close();
+    ANSWERS(o.try_open_checked(2), DYM_DONE);
     values(o);
     logs(o);
     dymelor::resource memory(o);

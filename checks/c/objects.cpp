@@ -113,9 +113,9 @@ void logs()
     dymelor::object o(2);
     auto value = o.make<int>(1);
     EXPECT(refuses(DYM_NO_LOG, [&] { o.restore(9, dymelor::wrote::touched); }));
-    EXPECT(o.log(10, dymelor::wrote::anywhere).kind == DYM_FULL);
+    EXPECT(o.log(10, dymelor::wrote::anywhere) == dymelor::log_kind::full);
     *value = 2;
-    EXPECT(o.log(20, dymelor::wrote::anywhere).kind == DYM_INCREMENTAL);
+    EXPECT(o.log(20, dymelor::wrote::anywhere) == dymelor::log_kind::incremental);
     o.touch<int>(value.chunk) = 3;
     o.log(30, dymelor::wrote::anywhere);
     EXPECT(refuses(DYM_NOT_AFTER, [&] { o.log(30, dymelor::wrote::anywhere); }));
@@ -123,7 +123,7 @@ void logs()
     EXPECT(o.restore_before(30, dymelor::wrote::anywhere) == 20 && *value == 2);
     *value = 5;
     EXPECT(o.restore(29, dymelor::wrote::anywhere) == 20 && *value == 2);
-    o.log(25, dymelor::wrote::touched, DYM_FULL);
+    EXPECT(o.log(25, dymelor::wrote::touched, dymelor::log_kind::full) == dymelor::log_kind::full);
     EXPECT(o.prune_before(25) == 1 && o.prune(25) == 1 && o.try_restore(24, dymelor::wrote::touched) == DYM_NO_LOG);
 }
 
@@ -150,14 +150,15 @@ void written_after_a_load()
     auto file = o.save("lp");
     other.load(file.data(), file.size(), dymelor::wrote::anywhere);
     const_cast<int &>(other.at<int>(value.chunk)) = 2;
-    EXPECT(dym_same(other.untold(), dym_nil));
-    EXPECT(other.log(20, dymelor::wrote::touched).kind == DYM_INCREMENTAL);
+    EXPECT(refuses(DYM_BAD, [&] { other.untold(); }));
+    EXPECT(other.log(20, dymelor::wrote::touched) == dymelor::log_kind::incremental);
     EXPECT(other.restore(10, dymelor::wrote::touched) == 10 && other.at<int>(value.chunk) == 1);
 }
 
 void seen()
 {
-    dymelor::object o(3), closed;
+    dymelor::object o, closed;
+    EXPECT(o.try_open_checked(3) == DYM_DONE);
     EXPECT(o.live().begin() == o.live().end() && closed.live().begin() == closed.live().end());
     auto far = o.make<std::array<char, 100>>();
     auto near = o.make<int>(1);
@@ -174,6 +175,8 @@ void seen()
     o.log(10, dymelor::wrote::touched);
     o.log(20, dymelor::wrote::touched);
     EXPECT(o.logs().kept == 2 && o.log_time(1) == 20 && refuses(DYM_NO_LOG, [&] { o.log_time(2); }));
+    EXPECT(o.kind_of_log(0) == dymelor::log_kind::full && o.kind_of_log(1) == dymelor::log_kind::incremental && o.changed() == 0);
+    EXPECT(o.usage().live > 100 && o.usage().live + o.usage().idle == std::uint64_t{o.inspect().held} * 65536);
     EXPECT(o.hash() == before);
     *small = 3;
     EXPECT(dym_same(o.untold(), small.chunk) && o.hash() != before);

@@ -261,7 +261,7 @@ static void begin(trial *t)
 
 static void take_log(trial *t, uint64_t time, uint64_t *chance)
 {
-    dym_logged logged;
+    uint32_t logged;
     ANSWERS(dym_log(&t->object, draw(chance, 8) > 0 ? DYM_INCREMENTAL : DYM_FULL, time, &logged), DYM_DONE);
     logs[log_count++] = copy_all(&t->object, time);
     begin(t);

@@ -2,7 +2,7 @@
  * A model whose stores are told, rolled back at random beside whole copies. Linked with the model compiled by dymelor-cc:
  *   stores rollbacks SEED    an object rolled back 1,000 times; and four at once, which change their threads, as often together
  *   stores table             the table of touched chunks after each call that ends a touch, and closed objects
- *   stores before            each chunk is told while its bytes are those of the log before
+ *   stores before            each chunk is told while its bytes are those of the log before, and no other chunk is
  *   stores names             prints the names of the library's calls that are made
  * Linked with the model compiled by any compiler, which tells nothing:
  *   stores found             of some touches one is left out, 100 times for each way to store: dym_untold finds the chunk
@@ -74,7 +74,7 @@ static void open_process(process *p, uint32_t seed)
     memset(p, 0, sizeof *p);
     p->state = seed * 2654435761U | 1;
     p->now = 1;
-    must(dym_open(&p->object, QUOTA, 1 + seed % 2), "dym_open");
+    must(dym_open_checked(&p->object, QUOTA, 1 + seed % 2), "dym_open_checked");
     for (size_t k = 0; k < way_count; k++)
         must(dym_calloc_at(&p->object, 1, ways[k]->size, &p->chunks[k], &p->at[k]), "dym_calloc_at");
     must(dym_malloc_at(&p->object, ROOT_BYTES, &root, &p->list), "dym_malloc_at");
@@ -162,7 +162,7 @@ static void run_event(process *p)
 
 static void take_log(process *p)
 {
-    dym_logged logged;
+    uint32_t logged;
     dym_handle chunk;
     uint32_t dropped;
     if (p->kept == LOGS) {
@@ -255,7 +255,8 @@ dym_status __wrap_dym_wrote_offset(dym_object *object, uint64_t offset, uint64_t
     if (watched != NULL && object == &watched->object && dym_start(object, &start) == DYM_DONE) {
         uintptr_t chunk = (uintptr_t)watched->at[watched_way] - (uintptr_t)start;
         size_t size = ways[watched_way]->size;
-        if (offset + length > chunk && offset < chunk + size && tellings++ == 0 && memcmp(watched->at[watched_way], watched_bytes, size) != 0)
+        if (offset < chunk || offset + length > chunk + size) fail("another chunk was told", ways[watched_way]->name);
+        if (tellings++ == 0 && memcmp(watched->at[watched_way], watched_bytes, size) != 0)
             fail("it was written before it was told", ways[watched_way]->name);
     }
     return __real_dym_wrote_offset(object, offset, length);
@@ -264,7 +265,7 @@ dym_status __wrap_dym_wrote_offset(dym_object *object, uint64_t offset, uint64_t
 static void before(void)
 {
     process *p = &processes[0];
-    dym_logged logged;
+    uint32_t logged;
     uint32_t dropped;
     open_process(p, 11);
     for (size_t k = 0; k < TRIALS * way_count; k++) {
@@ -316,7 +317,7 @@ static void change_some(process *p, size_t left_out)
 static void found(void)
 {
     process *p = &processes[0];
-    dym_logged logged;
+    uint32_t logged;
     dym_handle chunk;
     uint32_t dropped;
     open_process(p, 1);
@@ -338,42 +339,13 @@ static void found(void)
 /* ---- the table of touched chunks */
 
 /* Logs an object, and finds nothing that wasn't told. */
-static dym_logged log_told(process *p)
+static void log_told(process *p)
 {
-    dym_logged logged;
+    uint32_t logged;
     dym_handle chunk;
     must(dym_log(&p->object, DYM_INCREMENTAL, ++p->now, &logged), "dym_log");
     must(dym_untold(&p->object, &chunk), "dym_untold");
     if (!dym_same(chunk, dym_nil)) fail("a store wasn't told", way_of(p, chunk));
-    return logged;
-}
-
-/* What is told is what is changed: the logs of an object are those of another one that is touched by hand. */
-static void exact_logs(void)
-{
-    process *told = &processes[0], *by_hand = &processes[1];
-    dym_logged a, b;
-    void *address;
-    uint32_t dropped;
-    open_process(told, 3);
-    open_process(by_hand, 3);
-    for (int event = 0; event < 5000; event++) {
-        size_t k = draw(told) % way_count;
-        uint32_t number = draw(told);
-        must(dym_track(&told->object), "dym_track");
-        ways[k]->change(told->at[k], number);
-        must(dym_track(NULL), "dym_track");
-        must(dym_touch(&by_hand->object, by_hand->chunks[k], &address), "dym_touch");
-        ways[k]->change(address, number);
-        if (draw(told) % 3 == 0) continue;
-        must(dym_log(&told->object, DYM_INCREMENTAL, ++told->now, &a), "dym_log");
-        must(dym_log(&by_hand->object, DYM_INCREMENTAL, told->now, &b), "dym_log");
-        if (a.kind != b.kind || a.length != b.length) fail("another log than by hand", ways[k]->name);
-        must(dym_prune(&told->object, told->now, &dropped), "dym_prune");
-        must(dym_prune(&by_hand->object, told->now, &dropped), "dym_prune");
-    }
-    close_process(told);
-    close_process(by_hand);
 }
 
 static void *log_there(void *where)
@@ -472,14 +444,14 @@ static void closed_while_named(void)
     free(block);
 }
 
-/* An object that is saved, closed and loaded again is still named. */
+/* An object that is saved, closed and loaded again is still named. It isn't checked then, so that a rollback shows what was told. */
 static void loaded_while_named(void)
 {
     process *p = &processes[0];
     static uint8_t bytes[1 << 22];
     static const char name[] = {'p'};
     const void *address;
-    uint64_t length;
+    uint64_t length, restored;
     uint32_t part;
     open_process(p, 9);
     must(dym_track(&p->object), "dym_track");
@@ -490,8 +462,13 @@ static void loaded_while_named(void)
     for (size_t k = 0; k < way_count; k++) {
         must(dym_address(&p->object, p->chunks[k], &address), "dym_address");
         p->at[k] = (void *)address;
+        must(dym_log(&p->object, DYM_INCREMENTAL, ++p->now, &part), "dym_log");
+        p->copies[p->kept++] = copy_of(p);
         change(p, k);
-        log_told(p);
+        must(dym_restore(&p->object, p->now, &restored), "dym_restore");
+        compare(p, &p->copies[0]);
+        drop(p, 0, 1);
+        change(p, k);
     }
     must(dym_track(NULL), "dym_track");
     close_process(p);
@@ -512,7 +489,6 @@ int main(int count, char **words)
     } else if (count == 2 && strcmp(words[1], "found") == 0) {
         found();
     } else if (count == 2 && strcmp(words[1], "table") == 0) {
-        exact_logs();
         logged_elsewhere();
         loaded_while_named();
         closed_while_named();

@@ -36,7 +36,7 @@ int main(void)
 {
     dym_object object = {0};
     dym_handle chunk;
-    dym_logged logged;
+    uint32_t logged;
     void *at, *other;
     int outside, is_kept = 1;
     if (!__builtin_cpu_supports("avx")) return 0;

@@ -1,7 +1,7 @@
 /*
- * What it costs that stores are told: events a second and bytes logged for each event of one model by touches by hand, told, with every chunk
- * touched before each event, and by whole copies of a flat state; and nanoseconds of one store. Each number is the best of several rounds, which
- * take the ways in turns. stores_speed ROUNDS prints figures and bars, for checks/lib/measured.
+ * What it costs that stores are told: events a second of one model by touches by hand, told, with every chunk touched before each event, and by
+ * whole copies of a flat state; and nanoseconds of one store. Each number is the best of several rounds, which take the ways in turns.
+ * stores_speed ROUNDS prints figures and bars, for checks/lib/measured.
  */
 #define _XOPEN_SOURCE 700
 
@@ -16,10 +16,6 @@
 enum { WAYS = 4, CHUNK_BYTES = CHUNK_NUMBERS * 8, QUOTA = 20, LOGS = 32, STORES = 200000 };
 
 static const char *const names[WAYS] = {"by hand", "told", "touch all", "whole copies"};
-
-typedef struct measured {
-    double rate, bytes;
-} measured;
 
 static void must(dym_status status)
 {
@@ -64,10 +60,10 @@ static void close_state(state *s)
 }
 
 /* Turns of some events and a log, by a way over an object. */
-static double run_object(state *s, int way, size_t changes, size_t period, double seconds, size_t *events)
+static void run_object(state *s, int way, size_t changes, size_t period, double seconds, size_t *events)
 {
-    dym_logged logged;
-    uint64_t time = 1, bytes = 0;
+    uint32_t logged;
+    uint64_t time = 1;
     uint32_t dropped;
     double start = now();
     must(dym_log(s->object, DYM_FULL, time, &logged));
@@ -86,65 +82,62 @@ static double run_object(state *s, int way, size_t changes, size_t period, doubl
                 }
             }
             must(dym_log(s->object, DYM_INCREMENTAL, ++time, &logged));
-            bytes += logged.length;
         }
         *events += LOGS * period;
         must(dym_prune(s->object, time, &dropped));
     }
-    return (double)bytes;
 }
 
 /* The same over a flat state, of which each log is a copy. */
-static double run_copies(state *s, uint8_t *flat, size_t changes, size_t period, double seconds, size_t *events)
+static void run_copies(state *s, uint8_t *flat, size_t changes, size_t period, double seconds, size_t *events)
 {
     uint8_t *logs[LOGS];
     size_t length = s->count * CHUNK_BYTES;
-    double start = now(), bytes = 0;
+    double start = now();
     for (size_t k = 0; k < s->count; k++) s->chunks[k] = (uint64_t *)(flat + k * CHUNK_BYTES);
     while (now() - start < seconds) {
         for (size_t turn = 0; turn < LOGS; turn++) {
             for (size_t k = 0; k < period; k++) event_plain(s, changes);
             logs[turn] = must_have(malloc(length));
             memcpy(logs[turn], flat, length);
-            bytes += (double)length;
         }
         *events += LOGS * period;
         for (size_t turn = 0; turn < LOGS; turn++) free(logs[turn]);
     }
-    return bytes;
 }
 
-static measured measure(int way, size_t bytes, size_t changes, size_t period, double seconds)
+static double measure(int way, size_t bytes, size_t changes, size_t period, double seconds)
 {
     dym_object object = {0};
     state s;
-    measured m;
     size_t events = 0;
-    double start, logged;
+    double start, rate;
     uint8_t *flat = must_have(calloc(1, bytes));
     open_state(&s, &object, bytes);
     start = now();
-    logged = way < 3 ? run_object(&s, way, changes, period, seconds, &events) : run_copies(&s, flat, changes, period, seconds, &events);
-    m.rate = (double)events / (now() - start);
-    m.bytes = logged / (double)events;
+    if (way < 3)
+        run_object(&s, way, changes, period, seconds, &events);
+    else
+        run_copies(&s, flat, changes, period, seconds, &events);
+    rate = (double)events / (now() - start);
     close_state(&s);
     free(flat);
-    return m;
+    return rate;
 }
 
 /* The rows of a state, one for each way; answers told beside by hand. */
 static double rows(size_t bytes, size_t changes, size_t period, int rounds)
 {
-    measured best[WAYS] = {{0, 0}};
+    double best[WAYS] = {0};
     for (int round = 0; round < rounds; round++)
         for (int way = 0; way < WAYS; way++) {
-            measured m = measure(way, bytes, changes, period, 0.1);
-            if (m.rate > best[way].rate) best[way] = m;
+            double rate = measure(way, bytes, changes, period, 0.1);
+            if (rate > best[way]) best[way] = rate;
         }
     for (int way = 0; way < WAYS; way++)
-        printf("%zu,%zu,%zu,%s,%.*f,%.0f\n", bytes, changes, period, names[way], best[way].rate < 1e5, best[way].rate / 1000, best[way].bytes);
+        printf("%zu,%zu,%zu,%s,%.*f\n", bytes, changes, period, names[way], best[way] < 1e5, best[way] / 1000);
     fflush(stdout);
-    return best[1].rate / best[0].rate;
+    return best[1] / best[0];
 }
 
 static double nanoseconds(void (*stores)(volatile uint64_t *, size_t), volatile uint64_t *at, int rounds)
@@ -189,7 +182,7 @@ int main(int count, char **words)
     static const size_t states[] = {256, 4096, 65536, 1048576};
     int rounds = count == 2 ? atoi(words[1]) : 3;
     double least = 1e9;
-    printf("figures stores\nstate,chunks an event changes,events a log,way,thousand events a second,bytes logged an event\n");
+    printf("figures stores\nstate,chunks an event changes,events a log,way,thousand events a second\n");
     for (size_t k = 0; k < 4; k++)
         for (size_t changes = 1;;) {
             for (size_t period = 1; period <= 16; period *= 16) {

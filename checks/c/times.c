@@ -94,7 +94,7 @@ static costs by_library(void)
     dym_object object = {0};
     static dym_handle chunks[CHUNKS];
     uint8_t bytes[LENGTH] = {1};
-    dym_logged logged;
+    uint32_t logged;
     dym_handle h;
     uint64_t time = 1, restored;
     uint32_t dropped;

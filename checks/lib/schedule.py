@@ -1,7 +1,11 @@
 """Which crate is built next and with how many jobs, and how long that takes. A crate is ready once those that it stands on are built, and
 the one with the longest chain of crates behind it goes first, with the number of jobs for which the whole is expected to end soonest."""
+import pathlib
+
 import repository
 
+# What was measured, by checks/lib/build --measure.
+TABLE = pathlib.Path(__file__).resolve().with_name("seconds")
 # A check gains little from more jobs than these.
 MOST_JOBS = 4
 # How many times faster a crate is proved by so many jobs.
@@ -12,6 +16,20 @@ FIRST_JOB, FURTHER_JOB = 3_000_000_000, 1_500_000_000
 
 def memory_of(jobs):
     return FIRST_JOB + (jobs - 1) * FURTHER_JOB
+
+
+def table():
+    rows = [it.split() for it in TABLE.read_text().splitlines() if it and not it.startswith("#")] if TABLE.is_file() else []
+    return {name: float(seconds) for name, seconds in rows}
+
+
+def seconds_of(names):
+    """How long one job takes for each crate: what was measured, and else what the others' lines let expect."""
+    told = table()
+    lines = {it: repository.crates()[it].lines() for it in {*names, *(told.keys() & repository.crates().keys())}}
+    measured = [it for it in lines if it in told]
+    a_line = sum(told[it] for it in measured) / max(sum(lines[it] for it in measured), 1) or 0.06
+    return {it: told.get(it, 10 + a_line * lines[it]) for it in names}
 
 
 class Schedule:
@@ -88,3 +106,10 @@ def expected(schedule, now, waits=False):
         at = ends.pop(name)
         rest.end(name)
     return at - now
+
+
+def minutes_from_nothing(target, processors):
+    """How many minutes a build of this target takes where nothing is built, and memory isn't short."""
+    name = repository.TARGETS[target]
+    seconds = seconds_of([*repository.below(name), name])
+    return expected(Schedule(seconds, processors, processors * memory_of(1)), 0) / 60

@@ -87,7 +87,7 @@ static void call(lua_State *lua, const char *name, lua_Integer argument)
 /* Lua writes wherever it likes, so that each chunk is touched before it runs on, and is in the next log. */
 static void take_log(dym_object *object, uint64_t now)
 {
-    dym_logged logged;
+    uint32_t logged;
     must(dym_log(object, DYM_INCREMENTAL, now, &logged), "log");
     must(dym_touch_all(object), "touch");
 }

@@ -23,7 +23,9 @@ static void print_outcome(const outcome *out, const settings *s)
         printf("workers %" PRIu32 " (%s), save %s, bounds %" PRIu64 "\n", transport_workers(s), transport_name(), s->way->name, out->bounds);
         printf("rollbacks %" PRIu64 ", undone %" PRIu64 " events, replayed %" PRIu64 ", efficiency %.3f\n", c->rollbacks, c->undone,
                c->replayed, ran > 0 ? (double)c->committed / (double)ran : 1);
-        printf("logs %" PRIu64 " of %" PRIu64 " bytes\n", c->logs, c->log_bytes);
+        printf("logs %" PRIu64, c->logs);
+        if (c->log_bytes > 0) printf(" of %" PRIu64 " bytes", c->log_bytes);
+        printf("\n");
     }
     printf("checksum %016" PRIx64 "\n", c->checksum);
 }

@@ -20,22 +20,24 @@ pub struct Heap {
     pub held: u32,
 }
 
-/// The kind of a log.
+/// How many bytes an object has in use.
 #[derive(Clone, Copy, Debug, PartialEq, Eq, Hash)]
-pub enum LogKind {
-    /// The whole heap.
-    Full,
-    /// What was written, taken or freed since the newest log.
-    Incremental,
+pub struct Usage {
+    /// The bytes of live chunks.
+    pub live: u64,
+    /// What is kept of chunks as they were before they changed, for restores. A prune may leave up to as much again.
+    pub kept: u64,
+    /// The bytes of held segments that are none of a live chunk.
+    pub idle: u64,
 }
 
-/// A log that was taken.
+/// The kind of a log, as the objects of scripts take them: both bring back the whole heap, and here both cost the same.
 #[derive(Clone, Copy, Debug, PartialEq, Eq, Hash)]
-pub struct Logged {
-    /// Its kind, which is full where no incremental one was possible.
-    pub kind: LogKind,
-    /// How many bytes its record has.
-    pub length: u64,
+pub enum LogKind {
+    /// One that stands for itself.
+    Full,
+    /// One that stands on the log before it.
+    Incremental,
 }
 
 /// The logs that an object keeps.
@@ -43,7 +45,7 @@ pub struct Logged {
 pub struct Logs {
     /// How many there are.
     pub kept: u32,
-    /// How many records they take: theirs, and those before the oldest log that it stands on.
+    /// How many records a script's object would have for them: theirs, and those from the last full log before the oldest one.
     pub records: u32,
 }
 

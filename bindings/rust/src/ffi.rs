@@ -39,14 +39,6 @@ pub(crate) const NIL: Handle = Handle {
 pub(crate) const FULL: u32 = 0;
 pub(crate) const INCREMENTAL: u32 = 1;
 
-/// `dym_logged`.
-#[repr(C)]
-#[derive(Default)]
-pub(crate) struct Logged {
-    pub kind: u32,
-    pub length: u64,
-}
-
 pub(crate) const FOUND_NIL: u32 = 0;
 pub(crate) const FOUND_LIVE: u32 = 1;
 
@@ -73,6 +65,15 @@ pub(crate) struct Heap {
     pub version: u32,
     pub quota: u32,
     pub held: u32,
+}
+
+/// `dym_bytes`.
+#[repr(C)]
+#[derive(Default)]
+pub(crate) struct Bytes {
+    pub live: u64,
+    pub kept: u64,
+    pub idle: u64,
 }
 
 extern "C" {
@@ -105,13 +106,16 @@ extern "C" {
     fn dym_next(object: *const Object, after: Handle, next: *mut Handle) -> Status;
     fn dym_address(object: *const Object, chunk: Handle, address: *mut *const c_void) -> Status;
     fn dym_touch(object: *mut Object, chunk: Handle, address: *mut *mut c_void) -> Status;
-    fn dym_log(object: *mut Object, kind: u32, time: u64, logged: *mut Logged) -> Status;
+    fn dym_log(object: *mut Object, kind: u32, time: u64, logged: *mut u32) -> Status;
     fn dym_restore(object: *mut Object, time: u64, restored: *mut u64) -> Status;
     fn dym_restore_before(object: *mut Object, time: u64, restored: *mut u64) -> Status;
     fn dym_prune(object: *mut Object, bound: u64, dropped: *mut u32) -> Status;
     fn dym_prune_before(object: *mut Object, bound: u64, dropped: *mut u32) -> Status;
     fn dym_log_time(object: *const Object, place: u32, time: *mut u64) -> Status;
+    fn dym_log_kind(object: *const Object, place: u32, kind: *mut u32) -> Status;
+    fn dym_changed(object: *const Object, count: *mut u64) -> Status;
     fn dym_inspect(object: *const Object, heap: *mut Heap) -> Status;
+    fn dym_usage(object: *const Object, bytes: *mut Bytes) -> Status;
     fn dym_logs(object: *const Object, slots: *mut Slots) -> Status;
     fn dym_save(
         object: *const Object,
@@ -355,8 +359,9 @@ impl OpenObject {
         })
     }
 
-    pub fn log(&mut self, kind: u32, time: u64) -> Result<Logged, Error> {
-        let mut logged = Logged::default();
+    /// The answer is the kind of the log that was taken.
+    pub fn log(&mut self, kind: u32, time: u64) -> Result<u32, Error> {
+        let mut logged = 0;
         // SAFETY: "each other pointer is that of a whole value of its type, which the caller may write".
         done(unsafe { dym_log(self.object.get(), kind, time, &mut logged) }).map(|()| logged)
     }
@@ -384,6 +389,24 @@ impl OpenObject {
         let mut time = 0;
         // SAFETY: "each other pointer is that of a whole value of its type, which the caller may write".
         done(unsafe { dym_log_time(self.object.get(), place, &mut time) }).map(|()| time)
+    }
+
+    pub fn log_kind(&self, place: u32) -> Result<u32, Error> {
+        let mut kind = FULL;
+        // SAFETY: "each other pointer is that of a whole value of its type, which the caller may write".
+        done(unsafe { dym_log_kind(self.object.get(), place, &mut kind) }).map(|()| kind)
+    }
+
+    pub fn changed(&self) -> Result<u64, Error> {
+        let mut count = 0;
+        // SAFETY: "each other pointer is that of a whole value of its type, which the caller may write".
+        done(unsafe { dym_changed(self.object.get(), &mut count) }).map(|()| count)
+    }
+
+    pub fn usage(&self) -> Result<Bytes, Error> {
+        let mut bytes = Bytes::default();
+        // SAFETY: "each other pointer is that of a whole value of its type, which the caller may write".
+        done(unsafe { dym_usage(self.object.get(), &mut bytes) }).map(|()| bytes)
     }
 
     pub fn inspect(&self) -> Result<Heap, Error> {

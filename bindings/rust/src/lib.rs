@@ -1,9 +1,9 @@
 //! Heaps that can be logged at simulation times and rolled back, for simulators of the Time Warp kind.
 //!
 //! An [`Object`] is the heap of one logical process. Its chunks are named by [`Handle`]s, which stay valid over rollbacks; their bytes are
-//! written and read by calls, or borrowed where they lie, so that the object knows what changed. A log keeps the heap at a simulation
-//! [`Time`], the whole of it or what changed since the log before; a restore brings back the newest log at or before a time; a prune drops
-//! the logs that no rollback can reach. Two events of a process, and a straggler:
+//! written and read by calls, or borrowed where they lie, so that the object keeps what they were before their first change. A log marks the
+//! heap at a simulation [`Time`]; a restore brings back the newest log at or before a time, by what was kept since; a prune drops the logs
+//! that no rollback can reach. Two events of a process, and a straggler:
 //!
 //! ```
 //! use dymelor::{Error, LogKind, Object, Time, Version};
@@ -11,6 +11,7 @@
 //! fn simulate() -> Result<u8, Error> {
 //!     let mut process = Object::open(4, Version::Two)?; // at most four segments of 64 KiB, exact lengths
 //!     let state = process.malloc(64)?;
+//!     process.log(LogKind::Full, Time(0))?; // before the first event, so that every straggler finds a log
 //!     process.write(state, 0, &[10])?; // the event of time 10
 //!     process.log(LogKind::Incremental, Time(10))?;
 //!     process.chunk_mut(state)?[0] = 20; // the event of time 20, in place
@@ -26,9 +27,10 @@
 //!
 //! # What it stands on
 //!
-//! The crate calls the exports of the C library `libdymelor`, each of which is proved to do what its header `dymelor.h` says, and none of the
-//! inline calls of that header. What Rust adds is only tested: this crate, which takes over what the header asks of a caller, so that none of it is left to the program. It depends only
-//! on `std`.
+//! The crate calls the exports of the C library `libdymelor`, each of which is proved to do what its header `dymelor.h` says, but for what is
+//! said there to be tested (the numbers of `usage` and `changed`), and none of the inline calls of that header. What Rust adds is only
+//! tested: this crate, which takes over what the header asks of a caller, so that none of it is left to the program. It depends only on
+//! `std`.
 //!
 //! `build.rs` asks `pkg-config` for the library `dymelor`, of this crate's version or a later one with the same second number. If the
 //! environment variable `DYMELOR_DIR` names a prefix, it takes the library in its folder `lib` instead, where the header in its folder
@@ -57,7 +59,7 @@ mod object;
 mod pod;
 mod time;
 
-pub use answers::{Found, Heap, LogKind, Logged, Logs, Version};
+pub use answers::{Found, Heap, LogKind, Logs, Usage, Version};
 pub use chunk::Chunk;
 pub use chunks::Chunks;
 pub use error::Error;

@@ -1,4 +1,4 @@
-use crate::answers::{Found, Heap, LogKind, Logged, Logs, Version};
+use crate::answers::{Found, Heap, LogKind, Logs, Usage, Version};
 use crate::chunk::Chunk;
 use crate::chunks::Chunks;
 use crate::error::Error;
@@ -13,7 +13,8 @@ use std::fmt;
 /// What changes the heap or the logs takes the object by `&mut self`; what only looks takes it by `&self`. Commands of both kinds are
 /// counted: each method can return [`Error::Spent`], which isn't named again below, but [`open`](Object::open), [`load`](Object::load),
 /// [`save`](Object::save), [`inspect`](Object::inspect), [`size`](Object::size), [`chunk`](Object::chunk), [`get`](Object::get),
-/// [`log_time`](Object::log_time), [`next_chunk`](Object::next_chunk) and [`chunks`](Object::chunks).
+/// [`log_time`](Object::log_time), [`log_kind`](Object::log_kind), [`changed`](Object::changed), [`usage`](Object::usage),
+/// [`next_chunk`](Object::next_chunk) and [`chunks`](Object::chunks).
 ///
 /// An object may move to another thread. Threads can't share it, since the library allows one call at a time on an object:
 ///
@@ -33,8 +34,8 @@ pub struct Object {
 
 /// Opening, and checkpoint files.
 ///
-/// A file has the kept logs of an object, with its quota and version, under a name. What was changed since the newest log isn't in it. It
-/// is the file that the program `dymelor` saves and loads.
+/// A file has the kept logs of an object, as if they were taken again, with its quota and version, under a name. What was changed since the newest
+/// log isn't in it. The program `dymelor` saves and loads files of this form.
 impl Object {
     /// Opens an object with an empty heap and no log. The quota is the most segments of 64 KiB that it may hold, 1 to 1,024. Addresses are
     /// reserved for twelve times as many, and memory is taken for those that are used.
@@ -74,6 +75,18 @@ impl Object {
                 held: heap.held,
             },
             Err(why) => unreachable!("an open object tells its quota: {why}"),
+        }
+    }
+
+    /// How many bytes the object has in use. It asks each live chunk for its length. This is no command.
+    pub fn usage(&self) -> Usage {
+        match self.inside.usage() {
+            Ok(bytes) => Usage {
+                live: bytes.live,
+                kept: bytes.kept,
+                idle: bytes.idle,
+            },
+            Err(why) => unreachable!("an open object tells what it uses: {why}"),
         }
     }
 
@@ -357,24 +370,18 @@ impl Object {
 
 /// Logs.
 impl Object {
-    /// Logs the heap at a time above that of the newest log. A log is full, whatever kind is asked, where there is none before it or 31
-    /// incremental ones stand behind the last full one.
+    /// Logs the heap at a time above that of the newest log. The answer is the log's kind: it is full, whatever kind is asked, where there is
+    /// none before it or 31 incremental ones stand behind the last full one.
     ///
     /// # Errors
     ///
     /// [`Error::NotAfter`], [`Error::LogsFull`], and [`Error::Memory`], where nothing was logged.
-    pub fn log(&mut self, kind: LogKind, time: Time) -> Result<Logged, Error> {
+    pub fn log(&mut self, kind: LogKind, time: Time) -> Result<LogKind, Error> {
         let asked = match kind {
             LogKind::Full => ffi::FULL,
             LogKind::Incremental => ffi::INCREMENTAL,
         };
-        let logged = self.inside.log(asked, time.0)?;
-        let kind = match logged.kind {
-            ffi::FULL => LogKind::Full,
-            _ => LogKind::Incremental,
-        };
-        let length = logged.length;
-        Ok(Logged { kind, length })
+        self.inside.log(asked, time.0).map(kind_of)
     }
 
     /// Brings the heap back to the newest log at or before a time, which stays, and drops the logs after it. The answer is its time.
@@ -424,6 +431,24 @@ impl Object {
         self.inside.log_time(place).map(Time)
     }
 
+    /// The kind of a kept log, of which the oldest has place 0. This is no command.
+    ///
+    /// # Errors
+    ///
+    /// [`Error::NoLog`] if no log is kept at this place.
+    pub fn log_kind(&self, place: u32) -> Result<LogKind, Error> {
+        self.inside.log_kind(place).map(kind_of)
+    }
+
+    /// How many chunks were changed, made or freed since the newest log was taken or brought back: so many a restore of it looks at. It is 0
+    /// while there is no log. This is no command.
+    pub fn changed(&self) -> u64 {
+        match self.inside.changed() {
+            Ok(count) => count,
+            Err(why) => unreachable!("an open object tells what changed: {why}"),
+        }
+    }
+
     /// How many logs are kept, and how many records they take.
     ///
     /// # Errors
@@ -435,6 +460,14 @@ impl Object {
             kept: slots.kept,
             records: slots.slots,
         })
+    }
+}
+
+/// A kind as C has it.
+fn kind_of(kind: u32) -> LogKind {
+    match kind {
+        ffi::FULL => LogKind::Full,
+        _ => LogKind::Incremental,
     }
 }
 

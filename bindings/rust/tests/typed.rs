@@ -93,6 +93,8 @@ fn logs_have_their_times_and_bounds_before_which_they_go() -> Result<(), Error> 
     }
     assert_eq!(object.log_time(2), Ok(Time(20)));
     assert_eq!(object.log_time(3), Err(Error::NoLog));
+    assert_eq!(object.log_kind(2), Ok(LogKind::Full));
+    assert_eq!(object.log_kind(3), Err(Error::NoLog));
     assert_eq!(object.restore_before(Time(0)), Err(Error::NoLog));
     assert_eq!(object.prune_before(Time(0)), Ok(0));
     assert_eq!(object.prune_before(Time(10)), Ok(0));
@@ -105,7 +107,13 @@ fn logs_have_their_times_and_bounds_before_which_they_go() -> Result<(), Error> 
 fn an_object_shows_what_it_holds() -> Result<(), Error> {
     let mut object = opened();
     object.make(1u8)?;
-    object.make(2u8)?;
+    let chunk = object.make(2u8)?;
+    let usage = object.usage();
+    assert_eq!((usage.live, usage.kept, usage.idle), (2, 0, 65_534));
+    object.log(LogKind::Incremental, Time(1))?;
+    assert_eq!(object.changed(), 0);
+    *object.get_mut(chunk)? = 3;
+    assert_eq!((object.changed(), object.usage().kept), (1, 17));
     let heap = object.inspect();
     assert_eq!((heap.version, heap.quota, heap.held), (Version::Two, 3, 1));
     assert_eq!(

@@ -1,3 +1,4 @@
 pub mod HeldSteps
 pub mod ObjectSteps
+pub mod Runs
 pub mod Sent

@@ -16,8 +16,9 @@ use Rattle.std.proofs.Crossing.{frees}
 use Rattle.dym_c.specs.Ownership.{kept_owns, heap}
 use Rattle.dym_c.specs.contracts.object_content.ObjectContent as inside
 use Rattle.dym_c.specs.contracts.object.DymObject as kept
-use Rattle.dym_object.specs.contracts.object.Object as Object
-use Rattle.dym_object.proofs.object.Object.TheSendSync as object
+use Rattle.dym_c.proofs.heap_copy.HeapCopy.TheSendSync as copy
+use Rattle.dym_undo_object.specs.contracts.undo_object.UndoObject as Object
+use Rattle.dym_undo_object.proofs.undo_object.UndoObject.TheSendSync as object
 use Rattle.dym_quota.specs.contracts.fixed_supply.FixedSupply as fixed
 use Rattle.dym_region.specs.contracts.block.Claim as claim
 use Rattle.dym_region.specs.contracts.block.Claim.TheInside as claim_fields
@@ -26,11 +27,7 @@ use Rattle.dym_region.specs.contracts.raw_segment.RawSegment as segment
 use Rattle.dym_region.proofs.raw_segment.RawSegment.TheSendSync as sent_segment
 use Rattle.std_alloc.proofs.vec.lodged.Lodged.TheSendSync as lodged
 use Rattle.std_alloc.specs.contracts.vec.lodged.LodgedAllocator.TheImpl.{ghosts as lodged_ghosts}
-use Rattle.dym_chain.proofs.vec_keep.Slot.TheSendSync as slot
-use Rattle.dym_chain.specs.contracts.vec_keep.VecKeep as keep
 use Rattle.std.proofs.vec.Vec.TheSendSync as vec
-use Rattle.std.specs.contracts.snapshot.Snapshot as snapshot
-use Rattle.dym_chain.specs.contracts.vec_keep.Lifted as lifted
 
 kept_keyless : (R : RattleType) → IsSend R → (p : Ptr) (v : Option R.Denot) → Keyless (kept_owns R p v)
 kept_keyless R s null_ptr None = tt
@@ -41,15 +38,6 @@ kept_keyless R s (block_ptr b o) (Some x) = (part_keyless R s full_share x b o, 
 object_send : IsSend inside.the_row → IsSend kept.the_row
 object_send s = let O = kept.the_type in let ps : IsSend RawPtr = search sendable in
     owning_send O (ps, tt) (λ d. kept_keyless inside.the_row s d.at d.value) (λ k. quiet (to O) (exits_of k (fields O)) ((struct_send (shape O) (ps, tt)).leaving k))
-
-snapshot_send : (R : RattleType) → IsSend (snapshot.the_row R)
-snapshot_send R = record { owned = λ d vs. ((λ vss. (tt, ((λ uss. (tt, tt)), tt))), tt); leaving = λ k f vs. tt }
-
-lifted_send : IsSend lifted.the_row
-lifted_send = search (sendable, snapshot_send)
-
-keep_send : IsSend keep.the_row
-keep_send = search (sendable, slot.the_send, vec.the_send, lifted_send, global.the_send, frees) depth 20
 
 claim_fields_send : IsSend claim_fields.the_row
 claim_fields_send = search (sendable, vec.the_send, global.the_send, frees) depth 20
@@ -66,11 +54,11 @@ region_send = search (sendable, claim_send, vec.the_send, lodged.the_send, lodge
 supply_send : IsSend fixed.the_row
 supply_send = search (sendable, region_send, sent_segment.the_send, vec.the_send, global.the_send, frees) depth 20
 
-process_send : (Context : RattleType) (a : _) (b : _) (c : _) → IsSend (Object.the_row fixed.the_row keep.the_row segment.the_row Context a b c)
-process_send Context a b c = object.the_send fixed.the_row keep.the_row segment.the_row Context a b c supply_send keep_send sent_segment.the_send
+process_send : (Context : RattleType) (a : _) (b : _) → IsSend (Object.the_row fixed.the_row segment.the_row Context a b)
+process_send Context a b = object.the_send fixed.the_row segment.the_row Context a b supply_send sent_segment.the_send
 
 inside_send : IsSend inside.the_row
-inside_send = search (sendable, process_send) depth 20
+inside_send = search (sendable, process_send, copy.the_send) depth 20
 
 pub object_sent : IsSend kept.the_row
 object_sent = object_send inside_send

@@ -3,10 +3,10 @@ use Rattle.std.specs.Prelude.{ℕ, List, [], Option, None, Some, option_map}
 use Rattle.dym_base.specs.declared.handle.Handle.{Handle}
 use Rattle.dym_base.specs.declared.command.Command.{Command}
 use Rattle.dym_base.specs.declared.command.Command.TheVariants.{Realloc, Free, Write, Fill, Read, Link, Follow, Sum}
-use Rattle.dym_object.specs.Commands.{log_command}
+use Rattle.dym_undo_object.specs.ChunkLends.{write_of_all}
+use Rattle.dym_undo_object.specs.Commands.{log_command}
+use Rattle.dym_undo_object.specs.Meaning.{UndoObjectMeaning}
 use Rattle.dym_c.specs.Handles.{chunk_of, chunk_or_nil_of}
-use Rattle.dym_object.specs.Meaning.{ObjectMeaning}
-use Rattle.dym_c.specs.Inspections.{bytes_at}
 use Rattle.dym_c.specs.OutValues.{kind_of}
 use Rattle.dym_c.specs.declared.handle.DymHandle.{DymHandle}
 
@@ -19,16 +19,8 @@ asked_free h = option_map Free (chunk_or_nil_of h)
 abbrev pub asked_write : DymHandle → ℕ → List ℕ → Option Command
 asked_write h at bytes = option_map (λ chunk. Write chunk at bytes) (chunk_of h)
 
--- all bytes that stand there: of a chunk that isn't live, none
-abbrev all_of : Option (List ℕ) → List ℕ
-all_of None = []
-all_of (Some bytes) = bytes
-
 -- a touch writes all bytes of a chunk as they stand there
-abbrev pub write_of_all : ObjectMeaning → Handle → Command
-write_of_all o chunk = Write chunk 0 (all_of (bytes_at o chunk))
-
-abbrev pub asked_touch : Option ObjectMeaning → DymHandle → Option Command
+abbrev pub asked_touch : Option UndoObjectMeaning → DymHandle → Option Command
 asked_touch None h = option_map (λ chunk. Write chunk 0 []) (chunk_of h)
 asked_touch (Some o) h = option_map (λ chunk. write_of_all o chunk) (chunk_of h)
 

@@ -7,5 +7,6 @@ pub mod Inspections
 pub mod Openings
 pub mod OutValues
 pub mod Ownership
+pub mod RestoreLaw
 pub mod SavedFiles
 pub mod Statuses

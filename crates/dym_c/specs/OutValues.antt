@@ -7,12 +7,11 @@ use Rattle.dym_base.specs.declared.reply.Reply.{Reply}
 use Rattle.dym_base.specs.declared.reply.Reply.TheVariants.{Chunk, Nil, Loose, Bytes, Total, Logged, At, Dropped, Slots}
 use Rattle.dym_heap.specs.declared.found.Found.{Found}
 use Rattle.dym_heap.specs.declared.found.Found.TheVariants as found
-use Rattle.dym_object.specs.Meaning.{ObjectMeaning}
+use Rattle.dym_undo_object.specs.Meaning.{UndoObjectMeaning}
 use Rattle.dym_c.specs.Calls.{has_left}
 use Rattle.dym_c.specs.Handles.{nil, c_handle}
 use Rattle.dym_c.specs.declared.handle.DymHandle.{DymHandle}
 use Rattle.dym_c.specs.declared.out_values.DymFound.{DymFound}
-use Rattle.dym_c.specs.declared.out_values.DymLogged.{DymLogged}
 use Rattle.dym_c.specs.declared.out_values.DymSlots.{DymSlots}
 
 abbrev pub kind_number : Kind → ℕ
@@ -47,9 +46,10 @@ abbrev pub total_after : Option Reply → ℕ → ℕ
 total_after (Some (Total n)) before = n
 total_after _ before = before
 
-abbrev pub logged_after : Option Reply → DymLogged → DymLogged
-logged_after (Some (Logged kind len)) before = record { kind = kind_number kind; len = len }
-logged_after _ before = before
+-- the kind of the log that was taken
+abbrev pub kind_after : Option Reply → ℕ → ℕ
+kind_after (Some (Logged kind len)) before = kind_number kind
+kind_after _ before = before
 
 abbrev pub time_after : Option Reply → ℕ → ℕ
 time_after (Some (At time)) before = time
@@ -60,7 +60,7 @@ dropped_after (Some (Dropped n)) before = n
 dropped_after _ before = before
 
 -- what a prune tells that drops nothing, where a command could be run
-abbrev pub none_dropped : Option ObjectMeaning → ℕ → ℕ
+abbrev pub none_dropped : Option UndoObjectMeaning → ℕ → ℕ
 none_dropped (Some o) before = if has_left o then 0 else before
 none_dropped None before = before
 

@@ -1,9 +1,6 @@
 //! Chunks in place: where they lie, and which of them were written there.
-ghost use Rattle.std.specs.Prelude.{◌≡◌, ◌+◌, ◌<◌, OnErr, option_map};
-ghost use Rattle.dym_base.specs.declared.limits.TheConstants.{COUNT_LIMIT};
-ghost use Rattle.dym_heap.specs.Replies.{done_reply};
-ghost use Rattle.dym_object.specs.Meaning.{IsStep, counted, step_by};
-ghost use Rattle.dym_c.specs.AskedCommands.{asked_touch, write_of_all};
+ghost use Rattle.std.specs.Prelude.{◌≡◌, ◌+◌, option_map};
+ghost use Rattle.dym_c.specs.AskedCommands.{asked_touch};
 ghost use Rattle.dym_c.specs.Calls.{status_of, IsAfter};
 ghost use Rattle.dym_c.specs.ChunkPlaces.{address_after, touched_address, with_all_touched, with_touched_in, start_after, IsHandleAt};
 ghost use Rattle.dym_c.specs.Handles.{chunk_of};
@@ -11,9 +8,8 @@ ghost use Rattle.dym_c.specs.Inspections.{size_status, open_status};
 
 use crate::handle::{DymHandle, c_chunk, chunk_of_c};
 use crate::object::DymObject;
-use crate::object_content::Process;
-use crate::status::{BAD, DONE, STATE, done_number, refusal_number};
-use dym_base::{Handle, Refusal};
+use crate::status::{BAD, DONE, STATE, refusal_number};
+use dym_base::Refusal;
 
 /// Where a chunk lies, to be read there.
 #[unsafe(no_mangle)]
@@ -51,27 +47,12 @@ pub extern "C" fn dym_touch(object: &mut DymObject, h: DymHandle, address: &mut 
         Ok(inside) => inside,
         Err(status) => return status,
     };
-    let place = inside.object.address(chunk);
-    let answer = touch(&mut inside.object, chunk);
-    if let Some(place) = place {
-        *address = place;
-    }
-    done_number(answer)
-}
-
-/// Writes all bytes of a chunk as they stand there.
-fn touch(object: &mut Process, chunk: Handle) -> Result<(), Refusal>
-    requires { object.old.ran < COUNT_LIMIT }
-    ensures reply { done_reply result ≡ (step_by object.old (write_of_all object.old chunk)).reply }
-    ensures step { IsStep object.old object.new (write_of_all object.old chunk) }
-    ensures refused { OnErr result (object.new ≡ counted object.old) }
-{
-    match object.check(chunk) {
-        Ok(()) => {
-            object.chunk_mut(chunk);
-            Ok(())
+    match inside.object.touch(chunk) {
+        Ok(place) => {
+            *address = place;
+            DONE
         }
-        Err(_) => object.write(chunk, 0, &[]),
+        Err(why) => refusal_number(why),
     }
 }
 

@@ -2,20 +2,19 @@
 ghost use Rattle.std.specs.Prelude.{◌≡◌, length, IfOk, IfErr, IsTrue};
 ghost use Rattle.dym_base.specs.Names.{is_name};
 ghost use Rattle.dym_ckpt.specs.FileRecords.{FailsAs};
-ghost use Rattle.dym_object.specs.Meaning.{IsWhole};
 ghost use Rattle.dym_c.specs.SavedFiles.{IsSaving, IsLoading, IsCopied, IsLoadedObject, file_of_object};
 
 use crate::object::DymObject;
 use crate::object_content::{ObjectContent, Process};
 use crate::status::{BAD, DONE, FILE, MEMORY, STATE, refusal_number};
-use core::mem::replace_with;
 use dym_base::{Name, Refusal};
-use dym_ckpt::{FileFail, file_bytes, read_file};
-use dym_object::Object;
+use dym_ckpt::{FileFail, read_file};
 use dym_quota::FixedSupply;
+use dym_undo_files::{file_of_undo, undo_of_file};
+use dym_undo_object::UndoObject;
 use std::alloc::{AllocError, Global};
 
-/// Writes the checkpoint file of an object's kept logs, under a name, to where the bytes begin. How long it is is told also where it
+/// Writes the checkpoint file of an object's kept logs taken again, under a name, to where the bytes begin. How long it is is told also where it
 /// has no room there.
 #[unsafe(no_mangle)]
 pub extern "C" fn dym_save(
@@ -34,8 +33,7 @@ pub extern "C" fn dym_save(
     let Some(inside) = object.inside() else {
         return STATE;
     };
-    let file = file_of_process(alloc, &mut inside.object, &name);
-    match file {
+    match file_of_process(alloc, &inside.object, &name) {
         Ok(file) => {
             *len = file.len() as u64;
             copy_to_front(&file, bytes)
@@ -56,25 +54,11 @@ fn copy_to_front(file: &[u8], bytes: &mut [u8]) -> u32
 }
 
 /// The checkpoint file of an object's kept logs.
-fn file_of_process(alloc: Global, object: &mut Process, name: &Name) -> Result<Vec<u8>, AllocError>
+fn file_of_process(alloc: Global, object: &Process, name: &Name) -> Result<Vec<u8>, AllocError>
     requires { IsTrue (is_name name.now) }
-    ensures file { IfOk result (λ file. file.items ≡ file_of_object name.now object.old) }
-    ensures same { object.new ≡ object.old }
+    ensures { IfOk result (λ file. file.items ≡ file_of_object name.now object.now) }
 {
-    replace_with(object, name, |object: Process, name: &Name| {
-        apart(alloc, object, name)
-    })
-}
-
-/// The file of an object that is taken apart for it, and the object again.
-fn apart(alloc: Global, object: Process, name: &Name) -> (Process, Result<Vec<u8>, AllocError>)
-    requires { IsTrue (is_name name.now) }
-    ensures file { IfOk result.1 (λ file. file.items ≡ file_of_object name.now object) }
-    ensures same { result.0 ≡ object }
-{
-    let (heap, mut chain, ran) = object.into_parts();
-    let file = file_bytes(alloc, &mut chain, name, heap.quota(), heap.version());
-    (Object::of_parts(heap, chain, ran), file)
+    file_of_undo(alloc, object.heap(), object.undo(), name)
 }
 
 /// Opens a closed object as the newest log of a checkpoint file has it, with all its logs. Where the bytes are no file, the first part
@@ -113,16 +97,15 @@ fn loaded(alloc: Global, bytes: &[u8]) -> Result<Box<ObjectContent>, FileFail>
     let Ok(supply) = FixedSupply::open(alloc, content.quota()) else {
         return Err(FileFail::Memory);
     };
-    let (_name, heap, chain) = match content.load(alloc, &(), supply) {
+    let (_name, heap, undo) = match undo_of_file(alloc, content, &(), supply) {
         Ok(loaded) => loaded,
         Err(supply) => {
             supply.close();
             return Err(FileFail::Memory);
         }
     };
-    let ran = chain.next_number();
-    let object = Object::of_parts(heap, chain, ran);
-    match Box::new(alloc, ObjectContent { object }) {
+    let object = UndoObject::of_parts(heap, undo, 0);
+    match Box::new(alloc, ObjectContent { object, copy: None }) {
         Ok(inside) => Ok(inside),
         Err(_) => Err(FileFail::Memory),
     }

@@ -1,18 +1,18 @@
 //! What can be seen of an object without a command.
-ghost use Rattle.std.specs.Prelude.{◌≡◌, ◌<◌, length};
+ghost use Rattle.std.specs.Prelude.{◌≡◌};
 ghost use Rattle.dym_base.specs.Files.{version_number};
-ghost use Rattle.dym_chain.specs.Chains.{log_at};
 ghost use Rattle.dym_c.specs.Handles.{chunk_of, chunk_or_nil_of};
-ghost use Rattle.dym_c.specs.Inspections.{size_status, size_after, IsNext, heap_after, open_status, IsLogTime};
+ghost use Rattle.dym_c.specs.Inspections.{size_status, size_after, IsNext, heap_after, open_status, IsLogKind, IsLogTime, IsTold};
 
 use crate::handle::{DymHandle, c_chunk, chunk_of_c, chunk_or_nil_of_c};
+use crate::heap_copy::MOST_CHUNKS;
 use crate::object::DymObject;
-use crate::object_content::Process;
-use crate::out_values::DymHeap;
+use crate::out_values::{DymBytes, DymHeap};
 use crate::status::{BAD, DONE, STATE, refusal_number};
-use core::mem::replace_with;
+use dym_base::limits::SEGMENT_BYTES;
 use dym_base::{Refusal, Version};
-use dym_chain::KeptLogs;
+use dym_heap::Heap;
+use dym_quota::FixedSupply;
 
 /// The version, the quota and the held segments of an object.
 #[unsafe(no_mangle)]
@@ -55,30 +55,74 @@ pub extern "C" fn dym_log_time(object: &mut DymObject, place: u32, time: &mut u6
     if inside.object.kept() <= place {
         return refusal_number(Refusal::NoLog);
     }
-    *time = time_of_log(&mut inside.object, place);
+    *time = inside.object.entry(place).time;
     DONE
 }
 
-/// The time of a kept log.
-fn time_of_log(object: &mut Process, place: u32) -> u64
-    requires kept { place < length object.old.chain.logs }
-    ensures time { result ≡ (log_at object.old.chain.logs place).time }
-    ensures same { object.new ≡ object.old }
+/// The kind of the kept log at a place, the oldest at place 0: 0 for a full log, 1 for an incremental one.
+#[unsafe(no_mangle)]
+pub extern "C" fn dym_log_kind(object: &mut DymObject, place: u32, kind: &mut u32) -> u32
+    ensures told { IsLogKind object.old.value place result kind.old kind.new }
+    ensures same { object.new.value ≡ object.old.value }
 {
-    replace_with(object, place, |object: Process, place: u32| {
-        lent_time(object, place)
-    })
+    let Some(inside) = object.inside() else {
+        return STATE;
+    };
+    if inside.object.kept() <= place {
+        return refusal_number(Refusal::NoLog);
+    }
+    *kind = match inside.object.entry(place).depth {
+        0 => 0,
+        _ => 1,
+    };
+    DONE
 }
 
-/// The time of a kept log of an object that is lent for it, and the object again.
-fn lent_time(object: Process, place: u32) -> (Process, u64)
-    requires kept { place < length object.chain.logs }
-    ensures time { result.1 ≡ (log_at object.chain.logs place).time }
-    ensures same { result.0 ≡ object }
+/// How many chunks were changed since the newest log, freed and made ones too. How many, no clause tells.
+#[unsafe(no_mangle)]
+pub extern "C" fn dym_changed(object: &mut DymObject, count: &mut u64) -> u32
+    ensures told { IsTold object.old.value result count.old count.new }
+    ensures same { object.new.value ≡ object.old.value }
 {
-    let lent = object.lend();
-    let time = lent.entry(place).time;
-    (lent.take_back(), time)
+    let Some(inside) = object.inside() else {
+        return STATE;
+    };
+    *count = inside.object.changed();
+    DONE
+}
+
+/// How many bytes an object has in use. How many, no clause tells.
+#[unsafe(no_mangle)]
+pub extern "C" fn dym_usage(object: &mut DymObject, bytes: &mut DymBytes) -> u32
+    ensures told { IsTold object.old.value result bytes.old bytes.new }
+    ensures same { object.new.value ≡ object.old.value }
+{
+    let Some(inside) = object.inside() else {
+        return STATE;
+    };
+    let heap = inside.object.heap();
+    let live = live_bytes(heap);
+    let held = u64::from(heap.held()).saturating_mul(u64::from(SEGMENT_BYTES));
+    *bytes = DymBytes {
+        live,
+        kept: inside.object.kept_bytes(),
+        idle: held.saturating_sub(live),
+    };
+    DONE
+}
+
+/// How many bytes all live chunks of a heap have.
+fn live_bytes(heap: &Heap<FixedSupply>) -> u64 {
+    let mut total: u64 = 0;
+    let mut last = None;
+    for _ in 0..heap.quota() as usize * MOST_CHUNKS {
+        let Some(h) = heap.next_live(last) else {
+            break;
+        };
+        total = total.saturating_add(u64::from(heap.size_of(h).unwrap_or(0)));
+        last = Some(h);
+    }
+    total
 }
 
 /// A chunk's length in bytes.

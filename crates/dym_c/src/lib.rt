@@ -1,7 +1,7 @@
 //! The object for C: a static library, whose exports `include/dymelor.h` declares.
 //!
-//! Below stand `dym_object` and `dym_ckpt`, whose calls these are; above stands a program in C, and
-//! no crate can. Its one contract: each export does to the object that C keeps what the call does
+//! Below stand `dym_undo_object` and `dym_undo_files`, whose calls these are; above stands a program
+//! in C, and no crate can. Its one contract: each export does to the object that C keeps what the call does
 //! that it makes, and answers a status (`status_of`, `IsAfter`, `reply_of`). Every number that C
 //! hands in is tested; only that pointers are what the header says is left to C. The object is kept
 //! as a box's bare pointer: what goes in as a box comes out as a box with the same value (`Held`),
@@ -13,7 +13,9 @@ mod chunk_calls;
 mod files;
 mod handle;
 mod heap_calls;
+mod heap_copy;
 mod inspection;
+pub mod laws;
 mod lifetime;
 mod log_calls;
 mod long_buffers;
@@ -27,4 +29,4 @@ mod version;
 pub use handle::DymHandle;
 pub use object::DymObject;
 pub use object_content::ObjectContent;
-pub use out_values::{DymFound, DymHeap, DymLogged, DymSlots};
+pub use out_values::{DymBytes, DymFound, DymHeap, DymSlots};

@@ -3,24 +3,17 @@ ghost use Rattle.std.specs.Prelude.{◌≡◌, ◌-◌, ◌<◌, Some};
 ghost use Rattle.dym_base.specs.declared.command.Command.TheVariants.{Restore, Prune, Logs};
 ghost use Rattle.dym_c.specs.AskedCommands.{asked_log};
 ghost use Rattle.dym_c.specs.Calls.{status_of, reply_of, IsAfter, IsCounted, Wanting, IsTaken};
-ghost use Rattle.dym_c.specs.OutValues.{logged_after, time_after, dropped_after, none_dropped, slots_after};
+ghost use Rattle.dym_c.specs.OutValues.{kind_after, time_after, dropped_after, none_dropped, slots_after};
 
 use crate::object::DymObject;
-use crate::out_values::{DymLogged, DymSlots, c_kind, kind_of_c};
+use crate::out_values::{DymSlots, c_kind, kind_of_c};
 use crate::status::{BAD, DONE, MEMORY, refusal_number};
 use dym_base::Kind;
-use dym_chain::LogError;
-use std::alloc::Global;
+use dym_undo::LogError;
 
-/// Logs the heap at a time, the whole of it for kind 0 and what changed for kind 1.
+/// Logs the heap at a time, as a full log for kind 0 and as an incremental one for kind 1, and tells the kind that it is.
 #[unsafe(no_mangle)]
-pub extern "C" fn dym_log(
-    alloc: Global,
-    object: &mut DymObject,
-    kind: u32,
-    time: u64,
-    logged: &mut DymLogged,
-) -> u32
+pub extern "C" fn dym_log(object: &mut DymObject, kind: u32, time: u64, logged: &mut u32) -> u32
     ensures status { Wanting result
         (IsTaken (reply_of object.old.value (asked_log kind time)))
         (result ≡ status_of object.old.value (asked_log kind time)) }
@@ -29,7 +22,7 @@ pub extern "C" fn dym_log(
         (IsAfter object.old.value (asked_log kind time) object.new.value) }
     ensures out_value { Wanting result
         (logged.new ≡ logged.old)
-        (logged.new ≡ logged_after (reply_of object.old.value (asked_log kind time)) logged.old) }
+        (logged.new ≡ kind_after (reply_of object.old.value (asked_log kind time)) logged.old) }
 {
     let Some(want) = kind_of_c(kind) else {
         return BAD;
@@ -38,16 +31,15 @@ pub extern "C" fn dym_log(
         Ok(inside) => inside,
         Err(status) => return status,
     };
+    inside.look();
     let answer = match want {
-        Kind::Full => inside.object.log(alloc, time),
-        Kind::Inc => inside.object.ilog(alloc, time),
+        Kind::Full => inside.object.log(time),
+        Kind::Inc => inside.object.ilog(time),
     };
     match answer {
-        Ok((kind, len)) => {
-            *logged = DymLogged {
-                kind: c_kind(kind),
-                len,
-            };
+        Ok(kind) => {
+            inside.copy_heap();
+            *logged = c_kind(kind);
             DONE
         }
         Err(LogError::Refused(why)) => refusal_number(why),
@@ -67,8 +59,10 @@ pub extern "C" fn dym_restore(object: &mut DymObject, time: u64, at: &mut u64) -
         Ok(inside) => inside,
         Err(status) => return status,
     };
+    inside.look();
     match inside.object.restore(&(), time) {
         Ok(time) => {
+            inside.copy_heap();
             *at = time;
             DONE
         }
@@ -91,8 +85,10 @@ pub extern "C" fn dym_restore_before(object: &mut DymObject, time: u64, at: &mut
         Ok(inside) => inside,
         Err(status) => return status,
     };
+    inside.look();
     match inside.object.restore_before(&(), time) {
         Ok(time) => {
+            inside.copy_heap();
             *at = time;
             DONE
         }
@@ -135,7 +131,7 @@ pub extern "C" fn dym_prune_before(object: &mut DymObject, bound: u64, dropped: 
     DONE
 }
 
-/// How many logs are kept, and how many records they take.
+/// How many logs are kept, and how many records a chain of them has.
 #[unsafe(no_mangle)]
 pub extern "C" fn dym_logs(object: &mut DymObject, logs: &mut DymSlots) -> u32
     ensures status { result ≡ status_of object.old.value (Some Logs) }

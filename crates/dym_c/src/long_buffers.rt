@@ -4,7 +4,7 @@ ghost use Rattle.std.specs.Prelude.{◌≡◌, ◌<◌, length, OnErr};
 ghost use Rattle.dym_base.specs.declared.command.Command.TheVariants.{Write, Read};
 ghost use Rattle.dym_base.specs.declared.limits.TheConstants.{COUNT_LIMIT};
 ghost use Rattle.dym_heap.specs.Replies.{done_reply, bytes_reply};
-ghost use Rattle.dym_object.specs.Meaning.{IsStep, counted, step_by};
+ghost use Rattle.dym_undo_object.specs.Meaning.{IsStep, counted, step_by};
 
 use crate::object_content::Process;
 use dym_base::{Handle, Refusal};

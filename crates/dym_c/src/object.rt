@@ -4,7 +4,7 @@ ghost use Rattle.std.specs.Borrow.{sem};
 ghost use Rattle.std.specs.Coded.{codes};
 ghost use Rattle.dym_base.specs.declared.limits.TheConstants.{COUNT_LIMIT};
 ghost use Rattle.dym_heap.specs.Meaning.{live_code, touched_code};
-ghost use Rattle.dym_object.specs.Meaning.{ObjectMeaning};
+ghost use Rattle.dym_undo_object.specs.Meaning.{UndoObjectMeaning};
 ghost use Rattle.dym_c.specs.Ownership.{kept_owns};
 ghost use Rattle.dym_c.specs.Calls.{status_unready};
 ghost use Rattle.dym_c.specs.contracts.object_content.ObjectContent.{the_row};
@@ -21,7 +21,7 @@ use std::{mem, ptr};
 #[repr(C)]
 pub struct DymObject {
     at: *mut u8,
-    pub ghost value: { Option ObjectMeaning } by { Prim.hlevel (codes, live_code, touched_code) },
+    pub ghost value: { Option UndoObjectMeaning } by { Prim.hlevel (codes, live_code, touched_code) },
 }
 
 impl Model for DymObject {

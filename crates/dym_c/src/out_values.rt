@@ -15,15 +15,7 @@ pub struct DymFound {
     pub number: u64,
 }
 
-/// A log that was taken: 0 for a full one, 1 for an incremental one, and its record's length in bytes.
-#[repr(C)]
-#[derive(Clone, Copy)]
-pub struct DymLogged {
-    pub kind: u32,
-    pub len: u64,
-}
-
-/// How many logs are kept, and how many records they take.
+/// How many logs are kept, and how many records a chain of them has.
 #[repr(C)]
 #[derive(Clone, Copy)]
 pub struct DymSlots {
@@ -38,6 +30,15 @@ pub struct DymHeap {
     pub version: u32,
     pub quota: u32,
     pub held: u32,
+}
+
+/// How many bytes live chunks have, how many are kept of what they were, and how many of the held segments are in no live chunk.
+#[repr(C)]
+#[derive(Clone, Copy)]
+pub struct DymBytes {
+    pub live: u64,
+    pub kept: u64,
+    pub idle: u64,
 }
 
 /// What was found, for C.
@@ -63,7 +64,7 @@ pub(crate) fn c_found(found: Found) -> DymFound
     }
 }
 
-/// The number of a kind, for C.
+/// The number of a kind, for C: 0 for a full log, 1 for an incremental one.
 pub(crate) fn c_kind(kind: Kind) -> u32
     ensures { result ≡ kind_number kind }
 {

@@ -5,7 +5,7 @@ ghost use Rattle.std.specs.Prelude.{◌≡◌};
 /// and the third. `include/dymelor.h` has its own as DYM_VERSION_NUMBER.
 #[unsafe(no_mangle)]
 pub extern "C" fn dym_version() -> u32
-    ensures { result ≡ 400 }
+    ensures { result ≡ 500 }
 {
-    400
+    500
 }

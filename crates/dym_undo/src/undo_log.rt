@@ -29,6 +29,9 @@ use dym_base::{Handle, Kind, Refusal};
 use std::alloc::{AllocError, Global};
 use std::marker::Model;
 
+/// The bytes of the head of a change.
+const HEAD_BYTES: u64 = 16;
+
 /// The logs of one object: what its chunks were before they were changed, and where each log stands among these changes.
 ///
 /// Contracts see the kept logs as whole copies. Before a chunk is changed `keep` is called, and `keep_fresh` after one was made. A
@@ -282,21 +285,20 @@ impl UndoLog {
         self.entries[k as usize]
     }
 
-    /// What a chunk was at the newest log, where it was changed since: dead, or live with these bytes. No clause says so: it is for a
-    /// caller that doubts what was kept.
-    pub fn before(&self, handle: Handle) -> Option<Option<&[u8]>> {
-        let mut end = self.bytes.len();
-        for head in self.heads.get(*self.places.last()?..)?.iter().rev() {
-            let from = end.checked_sub(head.len.unwrap_or(0) as usize)?;
-            if head.handle == handle {
-                return Some(match head.len {
-                    Some(_) => self.bytes.get(from..end),
-                    None => None,
-                });
-            }
-            end = from;
-        }
-        None
+    /// The changes since the newest log: their heads, and bytes of which the last ones belong to them, those of one head after the
+    /// other. No clause says so: it is for a caller that doubts what was kept.
+    pub fn changes(&self) -> (&[Head], &[u8]) {
+        let heads = match self.places.last() {
+            Some(place) => self.heads.get(*place..).unwrap_or(&[]),
+            None => &[],
+        };
+        (heads, &self.bytes)
+    }
+
+    /// How many bytes are kept of all changes. No clause says so.
+    pub fn kept_bytes(&self) -> u64 {
+        let heads = (self.heads.len() as u64).saturating_mul(HEAD_BYTES);
+        heads.saturating_add(self.bytes.len() as u64)
     }
 
     /// Makes a heap that is as the logs' own heap is now what log `k` copied. The logs stay as they are; memory is taken for a

@@ -16,7 +16,8 @@ use Rattle.dym_undo_object.proofs.Steps.{object_is, reply_is, rest_stays, same_i
 use Rattle.dym_undo_object.proofs.Wholes.{heap_whole}
 
 -- a refusal
-refused_here : {T : Type 0} (r : Result T Refusal) (heap new : HeapMeaning) (logs new_logs : List LogEntry) (ran : ℕ) (old : UndoObjectMeaning) → record { heap = heap; logs = logs; ran = ran } ≡ old → new_logs ≡ logs → OnErr r (new ≡ heap)
+refused_here : {T : Type 0} (r : Result T Refusal) (heap new : HeapMeaning) (logs new_logs : List LogEntry) (ran : ℕ) (old : UndoObjectMeaning)
+    → record { heap = heap; logs = logs; ran = ran } ≡ old → new_logs ≡ logs → OnErr r (new ≡ heap)
     → OnErr r (record { heap = new; logs = new_logs; ran = ran + 1 } ≡ counted old)
 refused_here (Ok x) heap new logs new_logs ran old view same kept = tt
 refused_here (Err why) heap new logs new_logs ran old view same kept =
@@ -37,10 +38,12 @@ pub record IsCalled {T : Type 0} (answer : Result T Refusal) (said : Reply) (old
 -- a call of an object of these parts
 module _ (heap : HeapMeaning) (logs : List LogEntry) (ran : ℕ) (old : UndoObjectMeaning) (view : record { heap = heap; logs = logs; ran = ran } ≡ old)
     (whole : IsWhole (record { heap = heap; logs = logs; ran = ran })) where
-  pub called : {T : Type 0} → (answer : Result T Refusal) (said : Reply) (new : HeapMeaning) (new_logs : List LogEntry) (c : Command) → IsHeapCommand c → new ≡ record (stepped heap c) { held_ids = new.held_ids } → IsSound new
+  pub called : {T : Type 0} → (answer : Result T Refusal) (said : Reply) (new : HeapMeaning) (new_logs : List LogEntry) (c : Command) → IsHeapCommand c
+      → new ≡ record (stepped heap c) { held_ids = new.held_ids } → IsSound new
       → said ≡ (step_of heap c).reply → OnErr answer (new ≡ heap) → new_logs ≡ logs → IsCalled answer said old (record { heap = new; logs = new_logs; ran = ran + 1 }) c
   called answer said new new_logs c is after sound reply kept same = record {
-    reply = subst (λ (o : UndoObjectMeaning). said ≡ (step_by o c).reply) view (reply ∙ reply_is heap.version heap.quota (record { heap = heap.state; logs = logs }) c is);
+    reply = subst (λ (o : UndoObjectMeaning). said ≡ (step_by o c).reply) view
+        (reply ∙ reply_is heap.version heap.quota (record { heap = heap.state; logs = logs }) c is);
     step = subst (λ (o : UndoObjectMeaning). IsStep o (record { heap = new; logs = new_logs; ran = ran + 1 }) c) view (record {
       object = object_is heap new logs new_logs c is after same;
       ran = refl;
@@ -51,7 +54,8 @@ module _ (heap : HeapMeaning) (logs : List LogEntry) (ran : ℕ) (old : UndoObje
   }
 
   -- one that leaves the segments as they are
-  pub called_in_place : {T : Type 0} → (answer : Result T Refusal) (said : Reply) (new : HeapMeaning) (new_logs : List LogEntry) (c : Command) → IsHeapCommand c → new ≡ stepped heap c → IsSound new
+  pub called_in_place : {T : Type 0} → (answer : Result T Refusal) (said : Reply) (new : HeapMeaning) (new_logs : List LogEntry) (c : Command) → IsHeapCommand c
+      → new ≡ stepped heap c → IsSound new
       → said ≡ (step_of heap c).reply → OnErr answer (new ≡ heap) → new_logs ≡ logs → IsCalled answer said old (record { heap = new; logs = new_logs; ran = ran + 1 }) c
   called_in_place answer said new new_logs c is after sound reply kept same = called answer said new new_logs c is (same_ids heap new c after) sound reply kept same
 
@@ -61,17 +65,20 @@ module _ (heap : HeapMeaning) (logs : List LogEntry) (ran : ℕ) (old : UndoObje
   looked answer said c is stays reply = called answer said heap logs c is stays whole.sound reply (unchanged_here answer heap) refl
 
 -- the log that belongs to the step's chunks belongs to the heap
-pub belongs_new : (heap new : HeapMeaning) (c : Command) (u : UndoMeaning) → new ≡ record (stepped heap c) { held_ids = new.held_ids } → Belongs heap.version heap.quota (step_of heap c).heap u → Belongs new.version new.quota new.state u
+pub belongs_new : (heap new : HeapMeaning) (c : Command) (u : UndoMeaning) → new ≡ record (stepped heap c) { held_ids = new.held_ids } → Belongs heap.version heap.quota
+    (step_of heap c).heap u → Belongs new.version new.quota new.state u
 belongs_new heap new c u after belongs = subst (λ (m : HeapMeaning). Belongs m.version m.quota m.state u) (sym after) belongs
 
 -- a chunk that is lent: what the object ends as
 pub record IsLentHere (heap : HeapMeaning) (logs new_logs : List LogEntry) (ran : ℕ) (h : Handle) (ws : List ℕ) : Type 0 where
   pub is : record { heap = heap_lent heap h ws; logs = new_logs; ran = ran + 1 } ≡ object_lent (record { heap = heap; logs = logs; ran = ran }) h ws
-  pub step : IsStep (record { heap = heap; logs = logs; ran = ran }) (object_lent (record { heap = heap; logs = logs; ran = ran }) h ws) (write_all (record { heap = heap; logs = logs; ran = ran }) h ws)
+  pub step : IsStep (record { heap = heap; logs = logs; ran = ran }) (object_lent (record { heap = heap; logs = logs; ran = ran }) h ws)
+      (write_all (record { heap = heap; logs = logs; ran = ran }) h ws)
   pub whole : IsWhole (record { heap = heap_lent heap h ws; logs = new_logs; ran = ran + 1 })
   pub lent_whole : IsWhole (object_lent (record { heap = heap; logs = logs; ran = ran }) h ws)
 
-pub lent_here : (heap : HeapMeaning) (logs new_logs : List LogEntry) (ran : ℕ) (h : Handle) (ws : List ℕ) → IsWhole (record { heap = heap; logs = logs; ran = ran }) → IsSound (heap_lent heap h ws) → new_logs ≡ logs → IsLentHere heap logs new_logs ran h ws
+pub lent_here : (heap : HeapMeaning) (logs new_logs : List LogEntry) (ran : ℕ) (h : Handle) (ws : List ℕ) → IsWhole (record { heap = heap; logs = logs; ran = ran })
+    → IsSound (heap_lent heap h ws) → new_logs ≡ logs → IsLentHere heap logs new_logs ran h ws
 lent_here heap logs new_logs ran h ws whole sound same =
     let c : Command = write_all (record { heap = heap; logs = logs; ran = ran }) h ws in
     let after = same_ids heap (heap_lent heap h ws) c refl in

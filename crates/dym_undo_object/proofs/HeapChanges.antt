@@ -1,5 +1,6 @@
 -- What a command changes of a heap: the one chunk that it names or makes.
-use Rattle.std.proofs.Common.{◌≡◌, ℕ, Bool, true, false, cond, ◌&&◌, ◌||◌, ◌==◌, nat_lt, ◌+◌, List, [], ◌∷◌, length, replicate, Option, None, Some, is_some, Result, Ok, Err, OnErr, refl, sym, ap, subst, ◌∙◌, true≢false}
+use Rattle.std.proofs.Common.{◌≡◌, ℕ, Bool, true, false, cond, ◌&&◌, ◌||◌, ◌==◌, nat_lt, ◌+◌, List, [], ◌∷◌, length, replicate, Option, None, Some, is_some}
+use Rattle.std.proofs.Common.{Result, Ok, Err, OnErr, refl, sym, ap, subst, ◌∙◌, true≢false}
 use Rattle.std.specs.Result.{result_ok}
 use Rattle.std.specs.FinMap.{get, contains_key}
 use Rattle.std.specs.FinSet as set
@@ -7,7 +8,8 @@ use Rattle.std.specs.FinSet.{contains, contains-insert, contains-remove}
 use Rattle.std.specs.Cmp.{nat_cmp_total, unsigned_tied}
 use Rattle.dym_base.specs.Numbers.{number, cls}
 use Rattle.dym_base.specs.Heaps.{Live, Touched, HeapState, fresh}
-use Rattle.dym_base.specs.HeapStep.{HeapAnswer, key, refused, with_chunk, without_chunk, held_with_fresh, new_len, malloc_in, malloc, free_live, free, splice, written, write_live, write}
+use Rattle.dym_base.specs.HeapStep.{HeapAnswer, key, refused, with_chunk, without_chunk, held_with_fresh, new_len, malloc_in, malloc, free_live, free, splice}
+use Rattle.dym_base.specs.HeapStep.{written, write_live, write}
 use Rattle.dym_base.specs.declared.handle.Handle.{Handle}
 use Rattle.dym_base.specs.declared.command.Version.{Version}
 use Rattle.dym_base.specs.declared.reply.Reply.{Reply}
@@ -56,7 +58,8 @@ pub record ChangesLive (k : ℕ) (s t : HeapState) : Type 0 where
   pub dead : contains_key s.live k ≡ false → t ≡ s
 
 -- whatever is kept of the chunk, the log belongs to the heap after it
-pub belongs_after : (v : Version) (quota k : ℕ) (s t : HeapState) (u : UndoMeaning) → Belongs v quota s u → (contains_key s.live k ≡ true → (x : HeapState) → DiffersAt k s x → Belongs v quota x u) → ChangesLive k s t → Belongs v quota t u
+pub belongs_after : (v : Version) (quota k : ℕ) (s t : HeapState) (u : UndoMeaning) → Belongs v quota s u
+    → (contains_key s.live k ≡ true → (x : HeapState) → DiffersAt k s x → Belongs v quota x u) → ChangesLive k s t → Belongs v quota t u
 belongs_after v quota k s t u before kept changes = by (contains_key s.live k) refl
   where
     by : (b : Bool) → contains_key s.live k ≡ b → Belongs v quota t u
@@ -98,7 +101,8 @@ frees s h = record {
 }
 
 -- a free of nil frees nothing
-pub belongs_freed : (v : Version) (quota : ℕ) (s : HeapState) (h : Option Handle) (u : UndoMeaning) → Belongs v quota s u → (IsLiveIn s h → (x : HeapState) → Differs h s x → Belongs v quota x u) → Belongs v quota (free s h).heap u
+pub belongs_freed : (v : Version) (quota : ℕ) (s : HeapState) (h : Option Handle) (u : UndoMeaning) → Belongs v quota s u
+    → (IsLiveIn s h → (x : HeapState) → Differs h s x → Belongs v quota x u) → Belongs v quota (free s h).heap u
 belongs_freed v quota s None u before kept = before
 belongs_freed v quota s (Some h) u before kept = belongs_after v quota (key h) s (free s (Some h)).heap u before kept (frees s h)
 
@@ -128,7 +132,8 @@ with_live s k bytes = ap is_some (get_insert s.live k bytes k) ∙ here (k == k)
     here true is = refl
     here false is = absurd (true≢false (sym is))
 
-makes_fresh : (s : HeapState) (e : ℕ) (bytes : List ℕ) (h : Handle) → key h ≡ number e (fresh s.live e) → Makes (Some h) s (with_chunk s (number e (fresh s.live e)) bytes)
+makes_fresh : (s : HeapState) (e : ℕ) (bytes : List ℕ) (h : Handle) → key h ≡ number e (fresh s.live e)
+    → Makes (Some h) s (with_chunk s (number e (fresh s.live e)) bytes)
 makes_fresh s e bytes h is = record {
   dead = ap (get s.live) is ∙ fresh_none s.live e;
   differs = subst (λ k. DiffersAt k s (with_chunk s (number e (fresh s.live e)) bytes)) (sym is) (with_differs s (number e (fresh s.live e)) bytes);
@@ -136,19 +141,23 @@ makes_fresh s e bytes h is = record {
 }
 
 made_or : (s : HeapState) (e : ℕ) (bytes : List ℕ) (b : Bool) (answer : Result Handle Refusal)
-    → chunk_reply answer ≡ (cond b (refused s Quota) (record { heap = with_chunk s (number e (fresh s.live e)) bytes; reply = Chunk (record { exp = e; index = fresh s.live e }) })).reply
-    → Makes (made_of answer) s (cond b (refused s Quota) (record { heap = with_chunk s (number e (fresh s.live e)) bytes; reply = Chunk (record { exp = e; index = fresh s.live e }) })).heap
+    → chunk_reply answer ≡ (cond b (refused s Quota)
+    (record { heap = with_chunk s (number e (fresh s.live e)) bytes; reply = Chunk (record { exp = e; index = fresh s.live e }) })).reply
+    → Makes (made_of answer) s (cond b (refused s Quota)
+    (record { heap = with_chunk s (number e (fresh s.live e)) bytes; reply = Chunk (record { exp = e; index = fresh s.live e }) })).heap
 made_or s e bytes true (Ok h) is = absurd (let x : Chunk h ≡ Refused Quota = is in cc)
 made_or s e bytes true (Err why) is = record { dead = tt; differs = refl; live = tt }
 made_or s e bytes false (Ok h) is = makes_fresh s e bytes h (ap (λ (r : Reply). key (chunk_or h r)) is)
 made_or s e bytes false (Err why) is = absurd (let x : Refused why ≡ Chunk (record { exp = e; index = fresh s.live e }) = is in cc)
 
-malloc_in_makes : (v : Version) (quota : ℕ) (s : HeapState) (n : ℕ) (o : Option ℕ) (answer : Result Handle Refusal) → chunk_reply answer ≡ (malloc_in v quota s n o).reply → Makes (made_of answer) s (malloc_in v quota s n o).heap
+malloc_in_makes : (v : Version) (quota : ℕ) (s : HeapState) (n : ℕ) (o : Option ℕ) (answer : Result Handle Refusal) → chunk_reply answer
+    ≡ (malloc_in v quota s n o).reply → Makes (made_of answer) s (malloc_in v quota s n o).heap
 malloc_in_makes v quota s n None (Ok h) is = absurd (let x : Chunk h ≡ Refused TooLarge = is in cc)
 malloc_in_makes v quota s n None (Err why) is = record { dead = tt; differs = refl; live = tt }
 malloc_in_makes v quota s n (Some e) answer is = made_or s e (replicate (new_len v e n) 0) (nat_lt quota (held_with_fresh s.live e)) answer is
 
-pub mallocs : (v : Version) (quota : ℕ) (s : HeapState) (n : ℕ) (answer : Result Handle Refusal) → chunk_reply answer ≡ (malloc v quota s n).reply → Makes (made_of answer) s (malloc v quota s n).heap
+pub mallocs : (v : Version) (quota : ℕ) (s : HeapState) (n : ℕ) (answer : Result Handle Refusal) → chunk_reply answer ≡ (malloc v quota s n).reply
+    → Makes (made_of answer) s (malloc v quota s n).heap
 mallocs v quota s n answer is = malloc_in_makes v quota s n (cls n) answer is
 
 pub made_ok : {T : Type 0} → (answer : Result T Refusal) → result_ok answer ≡ made_of answer

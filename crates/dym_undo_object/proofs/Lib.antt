@@ -4,5 +4,6 @@ pub mod Steps
 pub mod Wholes
 pub mod Calls
 pub mod LogSteps
+pub mod OneTouched
 pub mod Ranges
 pub mod Touched

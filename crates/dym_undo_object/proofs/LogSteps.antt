@@ -12,7 +12,8 @@ use Rattle.dym_undo_object.specs.Commands.{log_command}
 use Rattle.dym_undo_object.specs.Meaning.{UndoObjectMeaning, IsStep, IsWhole}
 use Rattle.dym_undo_object.proofs.Wholes.{heap_whole, log_whole}
 
-module _ (heap new : HeapMeaning) (u new_u : UndoMeaning) (ran time : ℕ) (whole : IsWhole (record { heap = heap; logs = u.logs; ran = ran })) (sound : IsSound new) (rest : KeepsRest heap new) where
+module _ (heap new : HeapMeaning) (u new_u : UndoMeaning) (ran time : ℕ) (whole : IsWhole (record { heap = heap; logs = u.logs; ran = ran })) (sound : IsSound new)
+    (rest : KeepsRest heap new) where
   abbrev before : UndoObjectMeaning
   before = record { heap = heap; logs = u.logs; ran = ran }
 
@@ -28,6 +29,7 @@ module _ (heap new : HeapMeaning) (u new_u : UndoMeaning) (ran time : ℕ) (whol
   stays Inc = refl
 
   -- the object is whole where a log was taken, and where none was
-  pub logged_whole : (want : Kind) (answer : Result Kind LogError) → OnOk answer (object_of new.state new_u ≡ (log heap.version (object_of heap.state u) time want).object) → OnErr answer ((new_u ≡ u) × (new ≡ heap)) → IsWhole after
+  pub logged_whole : (want : Kind) (answer : Result Kind LogError)
+      → OnOk answer (object_of new.state new_u ≡ (log heap.version (object_of heap.state u) time want).object) → OnErr answer ((new_u ≡ u) × (new ≡ heap)) → IsWhole after
   logged_whole want (Ok kind) object same = log_whole before after (log_command want time) (stays want) whole (step want object) sound
   logged_whole want (Err why) object same = heap_whole heap new u.logs new_u.logs ran (ran + 1) whole rest sound (ap (λ (x : UndoMeaning). x.logs) same.0)

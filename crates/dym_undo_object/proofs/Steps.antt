@@ -28,14 +28,16 @@ pub reply_is : (v : Version) (quota : ℕ) (s : ObjectState) (c : Command) → I
 reply_is v quota s c is = sym (ap (λ (a : ObjectAnswer). a.reply) (step_is v quota s c is))
 
 -- the object after, where its heap is that of the step and its logs are the same
-pub object_is : (heap new : HeapMeaning) (logs new_logs : List LogEntry) (c : Command) → IsHeapCommand c → new ≡ record (stepped heap c) { held_ids = new.held_ids } → new_logs ≡ logs
+pub object_is : (heap new : HeapMeaning) (logs new_logs : List LogEntry) (c : Command) → IsHeapCommand c → new ≡ record (stepped heap c) { held_ids = new.held_ids }
+    → new_logs ≡ logs
     → record { heap = new.state; logs = new_logs } ≡ (object_step heap.version heap.quota (record { heap = heap.state; logs = logs }) c).object
 object_is heap new logs new_logs c is after same =
     ap₂ (λ (m : HeapMeaning) (l : List LogEntry). record { heap = m.state; logs = l }) after same
     ∙ sym (ap (λ (a : ObjectAnswer). a.object) (step_is heap.version heap.quota (record { heap = heap.state; logs = logs }) c is))
 
 -- all but the chunks and the segments stays
-pub rest_stays : (h new : HeapMeaning) (c : Command) → new ≡ record (stepped h c) { held_ids = new.held_ids } → new ≡ record h { state = new.state; held_ids = new.held_ids }
+pub rest_stays : (h new : HeapMeaning) (c : Command) → new ≡ record (stepped h c) { held_ids = new.held_ids }
+    → new ≡ record h { state = new.state; held_ids = new.held_ids }
 rest_stays h new c after =
     subst (λ (m : HeapMeaning). m ≡ record h { state = m.state; held_ids = m.held_ids }) (sym after) refl
 

@@ -16,7 +16,8 @@ use Rattle.dym_undo.specs.UndoLogs.{UndoMeaning, Belongs, IsKept}
 abbrev pub touching : HeapState → Touched → HeapState
 touching s touched = record { live = s.live; touched = touched }
 
-pub belongs_touched : (v : Version) (quota : ℕ) (s : HeapState) (touched : Touched) (u : UndoMeaning) → ((k : ℕ) → contains touched k ≡ true → IsKept u k) → Belongs v quota s u → Belongs v quota (touching s touched) u
+pub belongs_touched : (v : Version) (quota : ℕ) (s : HeapState) (touched : Touched) (u : UndoMeaning) → ((k : ℕ) → contains touched k ≡ true → IsKept u k)
+    → Belongs v quota s u → Belongs v quota (touching s touched) u
 belongs_touched v quota s touched u kept belongs = record {
   quota_same = belongs.quota_same;
   copies = belongs.copies;
@@ -25,7 +26,8 @@ belongs_touched v quota s touched u kept belongs = record {
 }
 
 -- every live chunk
-pub all_kept : (s : HeapState) (u : UndoMeaning) → ((k : ℕ) → contains_key s.live k ≡ true → IsKept u k) → (k : ℕ) → contains (all_touched s).touched k ≡ true → IsKept u k
+pub all_kept : (s : HeapState) (u : UndoMeaning) → ((k : ℕ) → contains_key s.live k ≡ true → IsKept u k) → (k : ℕ) → contains (all_touched s).touched k ≡ true
+    → IsKept u k
 all_kept s u kept k has = kept k (contains_key-keys s.live k ∙ sym (contains-from_list nat_cmp_total (keys s.live) k) ∙ has)
 
 -- those with a byte in a range
@@ -37,13 +39,17 @@ left : (a b : Bool) → (a && b) ≡ true → a ≡ true
 left true b is = refl
 left false b is = is
 
-in_range : (quota : ℕ) (live : Live) (from end q : ℕ) → contains (from_list {R = nat_cmp} (filter (has_byte_in quota live from end) (keys live))) q ≡ true → has_byte_in quota live from end q ≡ true
+in_range : (quota : ℕ) (live : Live) (from end q : ℕ) → contains (from_list {R = nat_cmp} (filter (has_byte_in quota live from end) (keys live))) q ≡ true
+    → has_byte_in quota live from end q ≡ true
 in_range quota live from end q has =
     let p : ℕ → Bool = has_byte_in quota live from end in
-    left (p q) _ (sym (contains-from_list nat_cmp_total (filter p (keys live)) q ∙ any-filter_same (eq_by_cmp nat_cmp q) p (p q) (λ x tied. ap p (sym (eqb-true q x (sym (unsigned_tied q x) ∙ tied)))) (keys live)) ∙ has)
+    left (p q) _ (sym (contains-from_list nat_cmp_total (filter p (keys live)) q ∙ any-filter_same (eq_by_cmp nat_cmp q) p (p q)
+    (λ x tied. ap p (sym (eqb-true q x (sym (unsigned_tied q x) ∙ tied)))) (keys live)) ∙ has)
 
-pub range_kept : (v : Version) (quota from end : ℕ) (s : HeapState) (u : UndoMeaning) → Belongs v quota s u → ((k : ℕ) → has_byte_in quota s.live from end k ≡ true → IsKept u k) → (k : ℕ) → contains (touched_in quota from end s).touched k ≡ true → IsKept u k
+pub range_kept : (v : Version) (quota from end : ℕ) (s : HeapState) (u : UndoMeaning) → Belongs v quota s u
+    → ((k : ℕ) → has_byte_in quota s.live from end k ≡ true → IsKept u k) → (k : ℕ) → contains (touched_in quota from end s).touched k ≡ true → IsKept u k
 range_kept v quota from end s u belongs kept k has =
-    either (contains s.touched k) (contains (from_list {R = nat_cmp} (filter (has_byte_in quota s.live from end) (keys s.live))) k) (IsKept u k) (sym (contains-union nat_cmp_total s.touched (from_list (filter (has_byte_in quota s.live from end) (keys s.live))) k) ∙ has)
+    either (contains s.touched k) (contains (from_list {R = nat_cmp} (filter (has_byte_in quota s.live from end) (keys s.live))) k) (IsKept u k)
+    (sym (contains-union nat_cmp_total s.touched (from_list (filter (has_byte_in quota s.live from end) (keys s.live))) k) ∙ has)
     (λ was some. belongs.noted some k was)
     (λ is. kept k (in_range quota s.live from end k is))

@@ -14,7 +14,8 @@ use Rattle.dym_undo.specs.HeapUndo.{is_within}
 use Rattle.dym_undo_object.specs.Meaning.{UndoObjectMeaning, IsStep, IsWhole, state_of}
 
 -- where its logs stay
-pub heap_whole : (heap new : HeapMeaning) (logs new_logs : List LogEntry) (ran new_ran : ℕ) → IsWhole (record { heap = heap; logs = logs; ran = ran }) → new ≡ record heap { state = new.state; held_ids = new.held_ids } → IsSound new → new_logs ≡ logs
+pub heap_whole : (heap new : HeapMeaning) (logs new_logs : List LogEntry) (ran new_ran : ℕ) → IsWhole (record { heap = heap; logs = logs; ran = ran })
+    → new ≡ record heap { state = new.state; held_ids = new.held_ids } → IsSound new → new_logs ≡ logs
     → IsWhole (record { heap = new; logs = new_logs; ran = new_ran })
 heap_whole heap new logs new_logs ran new_ran whole rest sound same =
     let quota : new.quota ≡ heap.quota = ap (λ (h : HeapMeaning). h.quota) rest in
@@ -28,7 +29,8 @@ heap_whole heap new logs new_logs ran new_ran whole rest sound same =
     })
 
 -- by a command about its logs
-module _ (old new : UndoObjectMeaning) (c : Command) (stays : (heap_step old.heap.version old.heap.quota old.heap.state c).heap ≡ old.heap.state) (whole : IsWhole old) (step : IsStep old new c) where
+module _ (old new : UndoObjectMeaning) (c : Command) (stays : (heap_step old.heap.version old.heap.quota old.heap.state c).heap ≡ old.heap.state) (whole : IsWhole old)
+    (step : IsStep old new c) where
   copies : (Q : Live → Type 0) → Q old.heap.state.live → AllByRecursion (λ (e : LogEntry). Q e.copy) old.logs → AllByRecursion (λ (e : LogEntry). Q e.copy) new.logs
   copies Q here each =
       subst (λ (s : ObjectState). AllByRecursion (λ (e : LogEntry). Q e.copy) s.logs) (sym step.object)
@@ -41,13 +43,17 @@ module _ (old new : UndoObjectMeaning) (c : Command) (stays : (heap_step old.hea
       record {
         sound = sound;
         list = subst (λ (s : ObjectState). IsLogList s.logs) (sym step.object) (log_list_kept old.heap.version old.heap.quota (state_of old) c whole.list);
-        within = subst (λ q. AllByRecursion (λ (e : LogEntry). held e.copy ≤ q) new.logs) (sym quota) (copies (λ live. held live ≤ old.heap.quota) whole.sound.within whole.within);
-        sized = subst (λ (v : Version). AllByRecursion (λ (e : LogEntry). IsWellSized v e.copy) new.logs) (sym version) (copies (IsWellSized old.heap.version) (is_within old.heap whole.sound).sized whole.sized);
-        found = subst (λ (s : ObjectState). AllByRecursion FoundLive s.logs) (sym step.object) (touched_kept old.heap.version old.heap.quota (state_of old) c (whole.sound.touched_live, whole.found)).1;
+        within = subst (λ q. AllByRecursion (λ (e : LogEntry). held e.copy ≤ q) new.logs) (sym quota)
+            (copies (λ live. held live ≤ old.heap.quota) whole.sound.within whole.within);
+        sized = subst (λ (v : Version). AllByRecursion (λ (e : LogEntry). IsWellSized v e.copy) new.logs) (sym version)
+            (copies (IsWellSized old.heap.version) (is_within old.heap whole.sound).sized whole.sized);
+        found = subst (λ (s : ObjectState). AllByRecursion FoundLive s.logs) (sym step.object)
+            (touched_kept old.heap.version old.heap.quota (state_of old) c (whole.sound.touched_live, whole.found)).1;
       }
 
 -- where more chunks count as touched
-pub touched_whole : (heap new : HeapMeaning) (logs new_logs : List LogEntry) (ran : ℕ) (state : HeapState) → IsWhole (record { heap = heap; logs = logs; ran = ran }) → new ≡ record heap { state = state } → IsSound new → new_logs ≡ logs
+pub touched_whole : (heap new : HeapMeaning) (logs new_logs : List LogEntry) (ran : ℕ) (state : HeapState) → IsWhole (record { heap = heap; logs = logs; ran = ran })
+    → new ≡ record heap { state = state } → IsSound new → new_logs ≡ logs
     → IsWhole (record { heap = new; logs = new_logs; ran = ran })
 touched_whole heap new logs new_logs ran state whole is sound same =
     heap_whole heap new logs new_logs ran ran whole (subst (λ (m : HeapMeaning). m ≡ record heap { state = m.state; held_ids = m.held_ids }) (sym is) refl) sound same

@@ -1,18 +1,20 @@
 //! Where the chunks of an object lie, over a heap whose areas have one segment of a region each.
-ghost use Rattle.std.specs.Prelude.{◌≡◌, ℕ, ◌+◌, ◌≤◌, None, Some, MatchOption, IsSome, IfSome, option_map};
+ghost use Rattle.std.specs.Prelude.{◌≡◌, ℕ, ◌+◌, ◌<◌, ◌≤◌, None, Some, MatchOption, IsSome, IfSome, IfOk, OnErr, IsErr, option_map};
 ghost use Rattle.std.specs.FinMap.{get};
 ghost use Rattle.std.specs.Option.{ForSome};
 ghost use denote.RawPtr.{block_ptr};
 ghost use Rattle.dym_base.specs.HeapStep.{key, handle_of};
-ghost use Rattle.dym_base.specs.declared.limits.TheConstants.{LEAST_EXPONENT, GREATEST_EXPONENT};
+ghost use Rattle.dym_base.specs.declared.limits.TheConstants.{COUNT_LIMIT, LEAST_EXPONENT, GREATEST_EXPONENT};
 ghost use Rattle.dym_heap.specs.Addresses.{region_of, HasByteAt};
+ghost use Rattle.dym_heap.specs.ChunkLends.{HasByte, check_answer};
 ghost use Rattle.dym_heap.specs.Touches.{touched_in};
 ghost use Rattle.dym_undo_object.specs.Addresses.{address_of};
-ghost use Rattle.dym_undo_object.specs.Meaning.{IsWhole};
+ghost use Rattle.dym_undo_object.specs.ChunkLends.{place_reply, write_of_all};
+ghost use Rattle.dym_undo_object.specs.Meaning.{IsStep, IsWhole, counted, step_by};
 
-use crate::touches::keep_in;
+use crate::touches::{keep_in, only_chunk};
 use crate::undo_object::UndoObject;
-use dym_base::Handle;
+use dym_base::{Handle, Refusal};
 use dym_quota::FixedSupply;
 
 impl UndoObject<FixedSupply> {
@@ -28,6 +30,56 @@ impl UndoObject<FixedSupply> {
         }
         self.has_region();
         Some(self.heap.address(h))
+    }
+
+    /// Where a chunk lies, to be changed there: it is kept, and counts as touched. It is a command: the one that writes all bytes of the
+    /// chunk as they stand. A chunk of no byte isn't touched.
+    #[inline(always)]
+    pub fn touch(&mut self, h: Handle) -> Result<*const u8, Refusal>
+        requires { self.old.ran < COUNT_LIMIT }
+        ensures reply { place_reply result ≡ (step_by self.old (write_of_all self.old h)).reply }
+        ensures place { IfOk result (λ at. address_of self.old.heap h ≡ Some at) }
+        ensures step { IsStep self.old self.new (write_of_all self.old h) }
+        ensures refused { OnErr result (self.new ≡ counted self.old) }
+        ensures whole { IsWhole self.new }
+    {
+        match self.check(h) {
+            Ok(()) => {
+                let place = self.lies_at(h);
+                self.chunk_mut(h);
+                Ok(place)
+            }
+            Err(_) => self.touch_none(h),
+        }
+    }
+
+    /// Where a live chunk lies.
+    fn lies_at(&self, h: Handle) -> *const u8
+        requires least { LEAST_EXPONENT ≤ h.exp }
+        requires most { h.exp ≤ GREATEST_EXPONENT }
+        requires some { HasByte self.now.heap h }
+        ensures { address_of self.now.heap h ≡ Some result }
+    {
+        self.has_region();
+        self.heap.address(h)
+    }
+
+    /// The same where the chunk has no byte, or isn't live.
+    fn touch_none(&mut self, h: Handle) -> Result<*const u8, Refusal>
+        requires ran { self.old.ran < COUNT_LIMIT }
+        requires none { IsErr (check_answer (get self.old.heap.state.live (key h))) }
+        ensures reply { place_reply result ≡ (step_by self.old (write_of_all self.old h)).reply }
+        ensures place { IfOk result (λ at. address_of self.old.heap h ≡ Some at) }
+        ensures step { IsStep self.old self.new (write_of_all self.old h) }
+        ensures refused { OnErr result (self.new ≡ counted self.old) }
+        ensures whole { IsWhole self.new }
+    {
+        let place = self.address(h);
+        self.write(h, 0, &[])?;
+        match place {
+            Some(at) => Ok(at),
+            None => unreachable!(),
+        }
     }
 
     /// A law: the segments come from one region.
@@ -67,12 +119,16 @@ impl UndoObject<FixedSupply> {
         } }
         ensures whole { IsWhole self.new }
     {
-        keep_in(
-            &mut self.undo,
-            &self.heap,
-            offset,
-            offset.saturating_add(len),
-        );
-        self.heap.touch_at(offset, len);
+        let end = offset.saturating_add(len);
+        match only_chunk(&self.heap, offset, end) {
+            Some(h) => {
+                self.undo.keep(&self.heap, h);
+                self.heap.live_mut(h);
+            }
+            None => {
+                keep_in(&mut self.undo, &self.heap, offset, end);
+                self.heap.touch_at(offset, len);
+            }
+        }
     }
 }

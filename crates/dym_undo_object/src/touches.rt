@@ -1,16 +1,17 @@
 //! Chunks that are kept before bytes are changed at their addresses.
-ghost use Rattle.std.specs.Prelude.{◌≡◌, ℕ, ◌-◌, ◌^◌, ◌<◌, ◌≤◌, true};
+ghost use Rattle.std.specs.Prelude.{◌≡◌, ℕ, ◌-◌, ◌^◌, ◌<◌, ◌≤◌, ◌==◌, true, IfSome};
 ghost use Rattle.std.specs.FinMap.{contains_key};
-ghost use Rattle.dym_base.specs.declared.limits.TheConstants.{MOST_QUOTA};
-ghost use Rattle.dym_base.specs.HeapStep.{handle_of};
+ghost use Rattle.dym_base.specs.declared.limits.TheConstants.{LEAST_EXPONENT, GREATEST_EXPONENT, MOST_QUOTA};
+ghost use Rattle.dym_base.specs.HeapStep.{handle_of, key};
 ghost use Rattle.dym_heap.specs.Addresses.{HasByteAt};
+ghost use Rattle.dym_heap.specs.ChunkLends.{HasByte};
 ghost use Rattle.dym_heap.specs.Meaning.{IsSound};
 ghost use Rattle.dym_heap.specs.Touches.{has_byte_in};
 ghost use Rattle.dym_undo.specs.UndoLogs.{Belongs, IsKept};
 ghost use Rattle.dym_undo_object.specs.Places.{IsPlace, place_start};
 
 use dym_base::limits::{LEAST_EXPONENT, SEGMENT_BYTES};
-use dym_base::size_of_class;
+use dym_base::{Handle, size_of_class};
 use dym_heap::Heap;
 use dym_quota::{FixedSupply, Supply};
 use dym_undo::UndoLog;
@@ -49,6 +50,27 @@ pub(crate) fn keep_in(undo: &mut UndoLog, heap: &Heap<FixedSupply>, from: u64, e
         keep_at(undo, heap, at);
         at = end.min(chunk_end(quota, at));
     }
+}
+
+/// The live chunk that alone has bytes in the region from `from` up to `end`, where the range is within the place of one chunk.
+pub(crate) fn only_chunk(heap: &Heap<FixedSupply>, from: u64, end: u64) -> Option<Handle>
+    requires { IsSound heap.now }
+    ensures class { IfSome result
+        (λ h. (LEAST_EXPONENT ≤ h.exp) × (h.exp ≤ GREATEST_EXPONENT)) }
+    ensures some { IfSome result (λ h. HasByte heap.now h) }
+    ensures only { IfSome result (λ h. (k : ℕ)
+        → has_byte_in heap.now.quota heap.now.state.live from end k ≡ (k == key h)) }
+{
+    if end <= from {
+        return None;
+    }
+    let Some(h) = heap.handle_at(from) else {
+        return None;
+    };
+    if chunk_end(heap.quota(), from) < end {
+        return None;
+    }
+    Some(h)
 }
 
 /// Keeps the live chunk that has the byte at an offset, if there is one.

@@ -7,11 +7,11 @@ ghost use Rattle.dym_heap.specs.Meaning.{IsSound};
 ghost use Rattle.dym_undo.specs.UndoLogs.{Belongs, entry_of, log_at};
 ghost use Rattle.dym_undo_object.specs.Meaning.{UndoObjectMeaning, IsWhole, IsUndoObject, opened_object};
 
+use dym_base::Version;
 use dym_base::limits::MOST_QUOTA;
-use dym_base::{Handle, Version};
 use dym_heap::Heap;
 use dym_quota::Supply;
-use dym_undo::{Entry, UndoLog};
+use dym_undo::{Entry, Head, UndoLog};
 use std::alloc::{AllocError, Global};
 use std::marker::Model;
 
@@ -141,9 +141,21 @@ impl<S: Supply> UndoObject<S> {
         self.undo.entry(k)
     }
 
-    /// What a chunk was at the newest log, where it was changed since: dead, or live with these bytes. No clause says so.
-    pub fn before(&self, h: Handle) -> Option<Option<&[u8]>> {
-        self.undo.before(h)
+    /// The changes since the newest log: their heads, and bytes of which the last ones belong to them, those of one head after the
+    /// other. No clause says so.
+    pub fn changes(&self) -> (&[Head], &[u8]) {
+        self.undo.changes()
+    }
+
+    /// How many chunks were changed since the newest log, with those that were freed and made. No clause says so.
+    pub fn changed(&self) -> u64 {
+        let (heads, _bytes) = self.undo.changes();
+        heads.len() as u64
+    }
+
+    /// How many bytes are kept of all changes. No clause says so.
+    pub fn kept_bytes(&self) -> u64 {
+        self.undo.kept_bytes()
     }
 
     /// Gives all segments back, and answers the supply.

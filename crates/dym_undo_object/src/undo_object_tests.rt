@@ -101,9 +101,13 @@ fn touches(rt: &impl Abort, object: &mut UndoObject<FixedSupply>) -> Result<(), 
     let a = object.malloc(&(), 40)?;
     object.fill(a, 0, 40, 2)?;
     assert_eq!(rt; object.log(1), Ok(Kind::Full));
+    assert_eq!(rt; (object.changed(), object.kept_bytes()), (0, 0));
     object.touch_at(65_536 * 4 + 10, 1_000_000);
+    assert_eq!(rt; (object.changed(), object.kept_bytes()), (1, 56));
     assert_eq!(rt; object.handle_at(65_536 * 4 + 10), Some(a));
     assert_eq!(rt; object.ilog(2), Ok(Kind::Inc));
+    assert_eq!(rt; object.touch(a).is_ok(), true);
+    assert_eq!(rt; (object.changed(), object.kept_bytes()), (1, 112));
     object.touch_all();
     assert_eq!(rt; object.address(a).is_some(), true);
     assert_eq!(rt; object.restore(&(), 1), Ok(1));

@@ -1,5 +1,5 @@
-use dymelor::{Error, Found, Handle, LogKind, Logged, Logs, Time, Version};
-use std::collections::{BTreeMap, BTreeSet};
+use dymelor::{Error, Found, Handle, LogKind, Logs, Time, Version};
+use std::collections::BTreeMap;
 use std::ops::Range;
 
 type Live = BTreeMap<Handle, Vec<u8>>;
@@ -10,7 +10,6 @@ pub struct Model {
     version: Version,
     quota: u32,
     live: Live,
-    touched: BTreeSet<Handle>,
     logs: Vec<Log>,
 }
 
@@ -32,15 +31,16 @@ impl Model {
             version,
             quota,
             live: Live::new(),
-            touched: BTreeSet::new(),
             logs: Vec::new(),
         }
     }
 
-    /// What an object is that was loaded from this one's file.
+    /// What an object is that was loaded from this one's file, in which the kept logs are taken again.
     pub fn loaded(&self) -> Model {
         let mut loaded = self.clone();
-        loaded.touched.clear();
+        for (log, depth) in loaded.logs.iter_mut().zip((0..=MOST_DEPTH).cycle()) {
+            log.depth = depth;
+        }
         loaded.live = self.logs.last().map_or(Live::new(), |log| log.copy.clone());
         loaded
     }
@@ -57,7 +57,7 @@ impl Model {
         let exponent = class_of(length).ok_or(Error::TooLarge)?;
         let chunk = self.fresh(exponent)?;
         let bytes = vec![0; self.length_of(exponent, length)];
-        self.put(chunk, bytes);
+        self.live.insert(chunk, bytes);
         Ok(chunk)
     }
 
@@ -80,7 +80,7 @@ impl Model {
         let length = self.length_of(exponent, length);
         if moves || length != bytes.len() {
             bytes.resize(length, 0);
-            self.put(to, bytes);
+            self.live.insert(to, bytes);
         }
         if moves {
             self.free(Some(chunk))?;
@@ -91,7 +91,6 @@ impl Model {
     pub fn free(&mut self, chunk: Option<Handle>) -> Result<(), Error> {
         if let Some(chunk) = chunk {
             self.live.remove(&chunk).ok_or(Error::Dead)?;
-            self.touched.remove(&chunk);
         }
         Ok(())
     }
@@ -144,7 +143,7 @@ impl Model {
         chunks.find(|&chunk| after.map_or(true, |after| after < chunk))
     }
 
-    pub fn log(&mut self, kind: LogKind, time: Time) -> Result<Logged, Error> {
+    pub fn log(&mut self, kind: LogKind, time: Time) -> Result<LogKind, Error> {
         if self.newest().map_or(false, |newest| time <= newest) {
             return Err(Error::NotAfter);
         }
@@ -159,11 +158,9 @@ impl Model {
             0 => LogKind::Full,
             _ => LogKind::Incremental,
         };
-        let length = self.record_length(kind);
         let copy = self.live.clone();
         self.logs.push(Log { time, depth, copy });
-        self.touched.clear();
-        Ok(Logged { kind, length })
+        Ok(kind)
     }
 
     pub fn restore(&mut self, time: Time) -> Result<Time, Error> {
@@ -174,7 +171,6 @@ impl Model {
         self.logs.truncate(reached);
         let log = &self.logs[reached - 1];
         self.live = log.copy.clone();
-        self.touched.clear();
         Ok(log.time)
     }
 
@@ -201,16 +197,8 @@ impl Model {
         last.map_or(0, |(chunk, _)| chunk.index() / per_area(exponent) + 1)
     }
 
-    fn put(&mut self, chunk: Handle, bytes: Vec<u8>) {
-        self.live.insert(chunk, bytes);
-        self.touched.insert(chunk);
-    }
-
-    /// The bytes of a live chunk at a place, to be changed. A change of no bytes doesn't touch the chunk.
+    /// The bytes of a live chunk at a place, to be changed.
     fn change(&mut self, chunk: Handle, place: Range<usize>) -> &mut [u8] {
-        if !place.is_empty() {
-            self.touched.insert(chunk);
-        }
         match self.live.get_mut(&chunk) {
             Some(bytes) => &mut bytes[place],
             None => unreachable!("a place is that of a live chunk"),
@@ -246,28 +234,6 @@ impl Model {
             return Err(Error::Quota);
         }
         Ok(fresh)
-    }
-
-    /// How many bytes the record of a log has: 13 and, for each area, 5, the bits of its chunks, and those that the log packs.
-    fn record_length(&self, kind: LogKind) -> u64 {
-        let bitmaps = match kind {
-            LogKind::Full => 1,
-            LogKind::Incremental => 2,
-        };
-        let prefix = match self.version {
-            Version::One => 0,
-            Version::Two => 4,
-        };
-        let areas = EXPONENTS.map(|exponent| {
-            let bitmap = u64::from(per_area(exponent) / 8).max(1);
-            u64::from(self.areas(exponent)) * (5 + bitmaps * bitmap)
-        });
-        let is_packed = |chunk: &Handle| kind == LogKind::Full || self.touched.contains(chunk);
-        let packed = self.live.iter().filter(|(chunk, _)| is_packed(chunk));
-        13 + areas.sum::<u64>()
-            + packed
-                .map(|(_, bytes)| prefix + bytes.len() as u64)
-                .sum::<u64>()
     }
 }
 

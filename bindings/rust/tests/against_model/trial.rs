@@ -261,8 +261,7 @@ impl Trial {
         self.compare(&loaded, &meant);
 
         file.push(0);
-        let records = self.answer("logs", self.object.logs()).records;
-        let part = records + 1;
+        let part = self.answer("logs", self.object.logs()).kept + 1;
         let told = Object::load(&file).map(|_| ());
         assert_eq!(
             told,

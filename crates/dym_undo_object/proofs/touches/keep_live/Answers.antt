@@ -16,7 +16,8 @@ loop-h-smaller g c =
     let next = c.in-Some.ensures.at_least in
     omega (arith, most, next)
 
-one_more : (live : Live) (from next k : ℕ) (old new : UndoMeaning) → IsNextLive live from next → ((j : ℕ) → j < from → contains_key live j ≡ true → IsKept old j) → ((j : ℕ) → IsKept old j → IsKept new j)
+one_more : (live : Live) (from next k : ℕ) (old new : UndoMeaning) → IsNextLive live from next → ((j : ℕ) → j < from → contains_key live j ≡ true → IsKept old j)
+    → ((j : ℕ) → IsKept old j → IsKept new j)
     → IsKept new next → k < next + 1 → contains_key live k ≡ true → IsKept new k
 one_more live from next k old new is each before noted low has =
     elim (cases_lt k from) as (λ _. IsKept new k) [
@@ -35,6 +36,7 @@ loop-h-preserved g c = record {
   logs = c.keep.ensures.logs ∙ c.loop-h.invariant.logs;
   belongs = c.keep.ensures.belongs;
   kept = λ k low has.
-      one_more c.args.heap.now.state.live (after_key c.loop-h.last) (key c.in-Some.h) k c.loop-h.undo c.keep.new.self c.in-Some.ensures c.loop-h.invariant.kept c.keep.ensures.before
+      one_more c.args.heap.now.state.live (after_key c.loop-h.last) (key c.in-Some.h) k c.loop-h.undo c.keep.new.self c.in-Some.ensures c.loop-h.invariant.kept
+      c.keep.ensures.before
       (c.keep.ensures.noted c.in-Some.ensures.is_live) low has;
 }

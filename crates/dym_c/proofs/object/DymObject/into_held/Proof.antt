@@ -44,9 +44,12 @@ stayed = (stay_dropped (plain (λ _. kept.the_row)) yes, (stay_dropped (plain (�
 
 pub into_held_spec : {M : Type 1} → statement M
 into_held_spec 𝓤 𝓛 𝓜 𝓡 wired =
-    let H = 𝓛.H in let 𝓣 = tables 𝓤 H 𝓜 𝓡 𝓡.env in let c = f.clauses 𝓛 𝓜.mem 𝓡.returns in let Z = global.the_row in let L = global_laws.the_row_laws in let Row = held.Row R Z L ghosts in
-    proved_at 𝓛 f.ended stayed c 𝓜 𝓡 (Goes-dropped 𝓛 0 (plain (λ _. kept.the_row)) yes (λ κs x w. refl), (Goes-dropped 𝓛 0 (plain (λ _. Z)) yes (λ κs x w. refl), tt)) f.Key.name code.function (code.unfolded 𝓤 H 𝓜 𝓡 wired) (λ z are.
-    let v = z.0.3.0 in let a = z.0.3.1.0 in let Post : Val → SProp 𝓤 = (walk_of 𝓛 f.ended stayed c).post z in let Run : List Val → SProp 𝓤 = λ ws. WpFn 𝓤 H 𝓣.C 𝓣.Λ code.function ws Post in
+    let H = 𝓛.H in let 𝓣 = tables 𝓤 H 𝓜 𝓡 𝓡.env in let c = f.clauses 𝓛 𝓜.mem 𝓡.returns in let Z = global.the_row in let L = global_laws.the_row_laws in let
+    Row = held.Row R Z L ghosts in
+    proved_at 𝓛 f.ended stayed c 𝓜 𝓡 (Goes-dropped 𝓛 0 (plain (λ _. kept.the_row)) yes (λ κs x w. refl), (Goes-dropped 𝓛 0 (plain (λ _. Z)) yes (λ κs x w. refl), tt))
+    f.Key.name code.function (code.unfolded 𝓤 H 𝓜 𝓡 wired) (λ z are.
+    let v = z.0.3.0 in let a = z.0.3.1.0 in let Post : Val → SProp 𝓤 = (walk_of 𝓛 f.ended stayed c).post z in let Run : List Val
+    → SProp 𝓤 = λ ws. WpFn 𝓤 H 𝓣.C 𝓣.Λ code.function ws Post in
     let Out : RattleType = type_at f.signature.result z.0.0 in
     qed 𝓛 ((‵ ftrue ⊛ ‵ (fsep (kept.the_row.own_val v z.0.4.0) (fsep (Z.own_val a z.0.4.1.0) ftrue))) ∷ ‵ ftrue ∷ []) ∵ split ! $ drop ! $ fsplit ! $
     out ! v z.0.4.0 (λ ws. move ! (1 ∷ []) $ fsplit ! $ handle_tells (held.al R Z L ghosts) ! a z.0.4.1.0 (λ h hs fits.
@@ -54,23 +57,30 @@ into_held_spec 𝓤 𝓛 𝓜 𝓡 wired =
     -- [the handle; nothing; what was kept; nothing]
     move ! (2 ∷ 0 ∷ []) $ kept_cases ! v.at v.value
     (λ is_null is_none. let w = word null_ptr in keep ! [] $
-    suffices ! (Run (w ∷ h ∷ [])) (subst (λ (us : List Val). ent 𝓤 (Run (w ∷ h ∷ [])) (Run us)) (sym (λ i. (ws ∙ ap (λ (p : Ptr). word p ∷ []) is_null) i ++ (hs i ++ []))) (id⊢ 𝓤 (Run (w ∷ h ∷ [])))) $
+    suffices ! (Run (w ∷ h ∷ [])) (subst (λ (us : List Val). ent 𝓤 (Run (w ∷ h ∷ [])) (Run us))
+    (sym (λ i. (ws ∙ ap (λ (p : Ptr). word p ∷ []) is_null) i ++ (hs i ++ []))) (id⊢ 𝓤 (Run (w ∷ h ∷ [])))) $
     enter ! 𝓣.C 𝓣.Λ code.function (w ∷ h ∷ []) Post $ alloc_all ! (λ l. pass_all ! refl (null_typed, (fits, tt)) $ let Ev = env code.function.locals l in
-    sets ! (of_opd ! (get_in ! (fld ! refl (stop !)) (sub ! 0 refl (whole !)))) refl (tt, record { fits = lit< tt }) $ sets ! (bin ! (get ! refl) (lit ! tt) tt) refl (tt, tt) $
+    sets ! (of_opd ! (get_in ! (fld ! refl (stop !)) (sub ! 0 refl (whole !)))) refl (tt, record { fits = lit< tt }) $ sets ! (bin ! (get ! refl) (lit ! tt) tt) refl
+    (tt, tt) $
     first ! $ branches ! (get ! refl)
     (λ _. sets_last ! (agg ! (and_then ! (lit ! tt) (no_more !))) refl (tt, (record { fits = lit< tt }, tt)) $ exec ! 𝓣.C 𝓣.Λ Ev (after 3 body) (at_ret Ev Post) $
     sets ! (of_opd ! (get ! refl)) refl (tt, (record { fits = lit< tt }, tt)) $ use0 𝓛 (‵ (Out.own_val None (live 0 vnil ∷ []))) (none_of 𝓛 Row) $
     use0 𝓛 (raw (fact 𝓤 (v.value ≡ None))) (fact_i 𝓤 (v.value ≡ None) (emp 𝓤) is_none) $ nothing ! $ nothing ! $ fjoin ! $ nothing ! $ fjoin ! $ nothing ! $
     returns ! (look_at ! 0 refl) $ free_all ! refl $ keep ! (0 ∷ 1 ∷ 3 ∷ 2 ∷ []) $ by ! (leaves 𝓛 f.ended stayed c z (live 0 vnil) None (tt, (tt, tt)) (tt, (tt, tt))))
     (λ wrong. absurd wrong)))
-    (λ b o x is_block is_some ok. let w = word (block_ptr b o) in let typed = held.held_typed R Z L ghosts b o h fits in let next_number : Val = held.word b o h in let gives : Val = live 1 (vcons next_number vnil) in
-    let d : Row.Denot = record { at = block_ptr b o; alloc = a; value = x } in let good : Good (layout Out) gives = (and_tt _ typed.0, (record { fits = lit< tt }, (typed.1, tt))) in keep ! (0 ∷ 1 ∷ []) $
-    suffices ! (Run (w ∷ h ∷ [])) (subst (λ (us : List Val). ent 𝓤 (Run (w ∷ h ∷ [])) (Run us)) (sym (λ i. (ws ∙ ap (λ (p : Ptr). word p ∷ []) is_block) i ++ (hs i ++ []))) (id⊢ 𝓤 (Run (w ∷ h ∷ [])))) $
+    (λ b o x is_block is_some ok. let w = word (block_ptr b o) in let typed = held.held_typed R Z L ghosts b o h fits in let next_number : Val = held.word b o h in let
+    gives : Val = live 1 (vcons next_number vnil) in
+    let d : Row.Denot = record { at = block_ptr b o; alloc = a; value = x } in let good : Good (layout Out) gives =
+    (and_tt _ typed.0, (record { fits = lit< tt }, (typed.1, tt))) in keep ! (0 ∷ 1 ∷ []) $
+    suffices ! (Run (w ∷ h ∷ [])) (subst (λ (us : List Val). ent 𝓤 (Run (w ∷ h ∷ [])) (Run us))
+    (sym (λ i. (ws ∙ ap (λ (p : Ptr). word p ∷ []) is_block) i ++ (hs i ++ []))) (id⊢ 𝓤 (Run (w ∷ h ∷ [])))) $
     enter ! 𝓣.C 𝓣.Λ code.function (w ∷ h ∷ []) Post $ alloc_all ! (λ l. pass_all ! refl ((tt, (tt, tt)), (fits, tt)) $ let Ev = env code.function.locals l in
-    sets ! (of_opd ! (get_in ! (fld ! refl (stop !)) (sub ! 0 refl (whole !)))) refl (tt, tt) $ sets ! (bin ! (get ! refl) (lit ! tt) (tests_null (block_ptr b o) ok)) refl (tt, tt) $
+    sets ! (of_opd ! (get_in ! (fld ! refl (stop !)) (sub ! 0 refl (whole !)))) refl (tt, tt) $ sets ! (bin ! (get ! refl) (lit ! tt) (tests_null (block_ptr b o) ok))
+    refl (tt, tt) $
     first ! $ branches ! (get ! refl) (λ wrong. absurd wrong)
     (λ _. sets ! (of_opd ! (get ! refl)) refl (tt, tt) $ sets ! (agg ! (and_then ! (get ! refl) (and_then ! (get ! refl) (no_more !)))) refl typed $
-    sets_last ! (agg ! (and_then ! (lit ! tt) (and_then ! (get ! refl) (no_more !)))) refl good $ exec ! 𝓣.C 𝓣.Λ Ev (after 3 body) (at_ret Ev Post) $ sets ! (of_opd ! (get ! refl)) refl good $
+    sets_last ! (agg ! (and_then ! (lit ! tt) (and_then ! (get ! refl) (no_more !)))) refl good $ exec ! 𝓣.C 𝓣.Λ Ev (after 3 body) (at_ret Ev Post) $ sets !
+    (of_opd ! (get ! refl)) refl good $
     held.held_in R Z L ghosts ! b o h a x $ use1 𝓛 (‵ (Out.own_val (Some d) (gives ∷ []))) (Some-of 𝓛 Row d next_number) $
     use0 𝓛 (raw (fact 𝓤 (v.value ≡ Some x))) (fact_i 𝓤 (v.value ≡ Some x) (emp 𝓤) is_some) $ nothing ! $ nothing ! $ fjoin ! $ nothing ! $ fjoin ! $ nothing ! $
     returns ! (look_at ! 0 refl) $ free_all ! refl $ keep ! (0 ∷ 1 ∷ 3 ∷ 2 ∷ []) $ by ! (leaves 𝓛 f.ended stayed c z gives (Some d) (tt, (tt, tt)) (tt, (tt, tt)))))))))

@@ -1,10 +1,9 @@
 -- `is_closed` tests the pointer, and leaves it.
-use Rattle.std.proofs.Common.{◌≡◌, List, [], ◌∷◌, refl, sym, subst}
+use Rattle.std.proofs.Common.{List, [], ◌∷◌, refl}
 use mir.Syntax.{named}
 use mir.Val.{Val, vbool, vnull, ptr_same}
 use base.Fraction.{full_share}
 use base.Fml.{ftrue, flft}
-use contract.Running.{tables}
 use types.Kit.{‵, ◌⊛◌, ◌$◌, ◌∵◌, !, qed, done, move, keep, split, join, fsplit3, rewrite, suffices, frame, group}
 use types.Part.{whole, sub, look_in}
 use types.Run.{enter, of_opd, lit, bin, load, stop, fld, returns}
@@ -12,7 +11,7 @@ use types.ByLocal.{alloc_all, pass_all, free_all, look_at, get, through, sets}
 use denote.Builtin.{bool}
 use denote.Memory.{cell_at}
 use denote.Plain.{bool_Makes}
-use denote.RawPtr.{Ptr, ptr_val, rawptr_Lawful}
+use denote.RawPtr.{ptr_val, rawptr_Lawful}
 use denote.Ref.{MutRef, mut_vals, mut_Tells}
 use denote.Signature.{plain}
 use denote.Steps.{nothing, owned, opens, closes}

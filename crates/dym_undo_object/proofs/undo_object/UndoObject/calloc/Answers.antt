@@ -15,22 +15,27 @@ pub keep_made-requires-clause-live : goal.keep_made-requires-clause-live
 keep_made-requires-clause-live g c =
     let h = c.self.inside.heap in
     let made = c.ok.ensures.value ∙ made_ok c.calloc-answer.result in
-    subst (λ (m : HeapMeaning). IsLiveIn m.state c.ok.result) (sym c.calloc-answer.ensures.after) (subst (λ o. IsLiveIn (malloc h.version h.quota h.state (c.args.n * c.args.len)).heap o) (sym made) (mallocs h.version h.quota h.state (c.args.n * c.args.len) c.calloc-answer.result c.calloc-answer.ensures.reply).live)
+    subst (λ (m : HeapMeaning). IsLiveIn m.state c.ok.result) (sym c.calloc-answer.ensures.after)
+    (subst (λ o. IsLiveIn (malloc h.version h.quota h.state (c.args.n * c.args.len)).heap o) (sym made)
+    (mallocs h.version h.quota h.state (c.args.n * c.args.len) c.calloc-answer.result c.calloc-answer.ensures.reply).live)
 
 pub returns : goal.returns
 returns g c =
     let o = c.self.inside in
     let e = c.calloc-answer.ensures in
     let t = called o.heap o.undo.logs o.ran c.args.self.now c.self.view_is c.self.invariant.whole
-    c.calloc-answer.result (chunk_reply c.calloc-answer.result) c.calloc-answer.new.self c.keep_made.new.undo.logs (Calloc c.args.n c.args.len) tt e.after e.sound e.reply e.refused c.keep_made.ensures.logs in
+    c.calloc-answer.result (chunk_reply c.calloc-answer.result) c.calloc-answer.new.self c.keep_made.new.undo.logs (Calloc c.args.n c.args.len) tt e.after e.sound
+    e.reply e.refused c.keep_made.ensures.logs in
     record { reply = t.reply; step = t.step; refused = t.refused; whole = t.whole }
 
 pub invariant_of-self : goal.invariant_of-self
 invariant_of-self g c =
     let h = c.self.inside.heap in
     let made = c.ok.ensures.value ∙ made_ok c.calloc-answer.result in
-    let m = subst (λ o. Makes o h.state (malloc h.version h.quota h.state (c.args.n * c.args.len)).heap) (sym made) (mallocs h.version h.quota h.state (c.args.n * c.args.len) c.calloc-answer.result c.calloc-answer.ensures.reply) in
+    let m = subst (λ o. Makes o h.state (malloc h.version h.quota h.state (c.args.n * c.args.len)).heap) (sym made)
+    (mallocs h.version h.quota h.state (c.args.n * c.args.len) c.calloc-answer.result c.calloc-answer.ensures.reply) in
     record {
       whole = (returns g c).whole;
-      belongs = belongs_new h c.calloc-answer.new.self (Calloc c.args.n c.args.len) c.keep_made.new.undo c.calloc-answer.ensures.after (c.keep_made.ensures.kept h.version h.quota h.state _ c.self.invariant.belongs m.dead m.differs);
+      belongs = belongs_new h c.calloc-answer.new.self (Calloc c.args.n c.args.len) c.keep_made.new.undo c.calloc-answer.ensures.after
+          (c.keep_made.ensures.kept h.version h.quota h.state _ c.self.invariant.belongs m.dead m.differs);
     }

@@ -16,15 +16,18 @@ pub invariant_of-self-lent : goal.invariant_of-self-lent
 invariant_of-self-lent g c ws =
     let h : HeapMeaning = c.self.inside.heap in
     record {
-      whole = (lent_here h c.self.inside.undo.logs c.keep.new.self.logs c.self.inside.ran c.args.h ws c.self.invariant.whole (c.live_mut.ensures.sound ws) c.keep.ensures.logs).whole;
-      belongs = belongs_after h.version h.quota (key c.args.h) h.state _ c.keep.new.self c.keep.ensures.belongs c.keep.ensures.kept (writes h.state c.args.h 0 (new_bytes (get h.state.live (key c.args.h)) ws));
+      whole = (lent_here h c.self.inside.undo.logs c.keep.new.self.logs c.self.inside.ran c.args.h ws c.self.invariant.whole (c.live_mut.ensures.sound ws)
+          c.keep.ensures.logs).whole;
+      belongs = belongs_after h.version h.quota (key c.args.h) h.state _ c.keep.new.self c.keep.ensures.belongs c.keep.ensures.kept
+          (writes h.state c.args.h 0 (new_bytes (get h.state.live (key c.args.h)) ws));
     }
 
 pub returns : goal.returns
 returns g c =
     let h : HeapMeaning = c.self.inside.heap in
     let parts : UndoObjectMeaning = record { heap = h; logs = c.self.inside.undo.logs; ran = c.self.inside.ran } in
-    let both = λ (ws : List ℕ). lent_here h c.self.inside.undo.logs c.keep.new.self.logs c.self.inside.ran c.args.h ws c.self.invariant.whole (c.live_mut.ensures.sound ws) c.keep.ensures.logs in (
+    let both = λ (ws : List ℕ). lent_here h c.self.inside.undo.logs c.keep.new.self.logs c.self.inside.ran c.args.h ws c.self.invariant.whole
+    (c.live_mut.ensures.sound ws) c.keep.ensures.logs in (
       (refl, λ ws. (both ws).is ∙ ap (λ (o : UndoObjectMeaning). object_lent o c.args.h ws) c.self.view_is),
       record {
         writes_back = tt;

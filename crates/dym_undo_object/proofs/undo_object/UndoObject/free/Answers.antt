@@ -17,5 +17,6 @@ invariant_of-self g c =
     let h = c.self.inside.heap in
     record {
       whole = (returns g c).whole;
-      belongs = belongs_new h c.free.new.self (Free c.args.h) c.keep_named.new.undo c.free.ensures.after (belongs_freed h.version h.quota h.state c.args.h c.keep_named.new.undo c.keep_named.ensures.belongs c.keep_named.ensures.kept);
+      belongs = belongs_new h c.free.new.self (Free c.args.h) c.keep_named.new.undo c.free.ensures.after
+          (belongs_freed h.version h.quota h.state c.args.h c.keep_named.new.undo c.keep_named.ensures.belongs c.keep_named.ensures.kept);
     }

@@ -6,7 +6,8 @@ invariant_of-self g c =
     let o = c.self.inside in
     let l = c.log-answer in
     record {
-      whole = logged_whole o.heap l.new.heap o.undo l.new.self o.ran c.args.time c.self.invariant.whole l.ensures.sound l.ensures.rest c.args.want l.result l.ensures.after l.ensures.unchanged;
+      whole = logged_whole o.heap l.new.heap o.undo l.new.self o.ran c.args.time c.self.invariant.whole l.ensures.sound l.ensures.rest c.args.want l.result
+          l.ensures.after l.ensures.unchanged;
       belongs = l.ensures.belongs;
     }
 

@@ -13,6 +13,8 @@ invariant_of-result g c =
     let h = c.in-Ok-open_as.heap in
     let u = c.in-Ok.undo in
     record {
-      whole = subst (λ (l : List LogEntry). IsWhole (record { heap = h; logs = l; ran = 0 })) (sym (ap (λ (x : UndoMeaning). x.logs) c.in-Ok.ensures.opened)) (no_log h c.in-Ok-open_as.ensures.sound);
-      belongs = subst (λ q. Rattle.dym_undo.specs.UndoLogs.Belongs h.version q h.state u) (sym (ap (λ (x : HeapMeaning). x.quota) c.in-Ok-open_as.ensures.opened)) (subst (λ q. Rattle.dym_undo.specs.UndoLogs.Belongs h.version q h.state u) c.quota.ensures (c.in-Ok.ensures.belongs h.version h.state));
+      whole = subst (λ (l : List LogEntry). IsWhole (record { heap = h; logs = l; ran = 0 })) (sym (ap (λ (x : UndoMeaning). x.logs) c.in-Ok.ensures.opened))
+          (no_log h c.in-Ok-open_as.ensures.sound);
+      belongs = subst (λ q. Rattle.dym_undo.specs.UndoLogs.Belongs h.version q h.state u) (sym (ap (λ (x : HeapMeaning). x.quota) c.in-Ok-open_as.ensures.opened))
+          (subst (λ q. Rattle.dym_undo.specs.UndoLogs.Belongs h.version q h.state u) c.quota.ensures (c.in-Ok.ensures.belongs h.version h.state));
     }

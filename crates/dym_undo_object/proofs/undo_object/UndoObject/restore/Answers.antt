@@ -8,7 +8,9 @@ use Rattle.dym_undo_object.specs.Meaning.{UndoObjectMeaning, IsStep, counted, st
 use Rattle.dym_undo_object.proofs.Wholes.{log_whole}
 use Rattle.dym_undo_object.proofs.undo_object.UndoObject.restore.Goals as goal
 
-refused_as : (r : Result ℕ Refusal) (heap new : HeapMeaning) (u new_u : UndoMeaning) (ran : ℕ) (old : UndoObjectMeaning) → record { heap = heap; logs = u.logs; ran = ran } ≡ old → OnErr r ((new_u ≡ u) × (new ≡ heap)) → OnErr r (record { heap = new; logs = new_u.logs; ran = ran + 1 } ≡ counted old)
+refused_as : (r : Result ℕ Refusal) (heap new : HeapMeaning) (u new_u : UndoMeaning) (ran : ℕ) (old : UndoObjectMeaning)
+    → record { heap = heap; logs = u.logs; ran = ran } ≡ old → OnErr r ((new_u ≡ u) × (new ≡ heap))
+    → OnErr r (record { heap = new; logs = new_u.logs; ran = ran + 1 } ≡ counted old)
 refused_as (Ok time) heap new u new_u ran old view same = tt
 refused_as (Err why) heap new u new_u ran old view same = (λ i. record { heap = same.1 i; logs = (same.0 i).logs; ran = ran + 1 }) ∙ ap counted view
 

@@ -17,7 +17,8 @@ invariant_of-self g c =
     let h = c.self.inside.heap in
     let u = c.keep_live.new.undo in
     record {
-      whole = touched_whole h c.touch_all.new.self c.self.inside.undo.logs u.logs c.self.inside.ran (all_touched h.state) c.self.invariant.whole c.touch_all.ensures.touched c.touch_all.ensures.sound c.keep_live.ensures.logs;
+      whole = touched_whole h c.touch_all.new.self c.self.inside.undo.logs u.logs c.self.inside.ran (all_touched h.state) c.self.invariant.whole
+          c.touch_all.ensures.touched c.touch_all.ensures.sound c.keep_live.ensures.logs;
       belongs = subst (λ (m : HeapMeaning). Belongs m.version m.quota m.state u) (sym c.touch_all.ensures.touched)
           (belongs_touched h.version h.quota h.state (all_touched h.state).touched u (all_kept h.state u c.keep_live.ensures.kept) c.keep_live.ensures.belongs);
     }

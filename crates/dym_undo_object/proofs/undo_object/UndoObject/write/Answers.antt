@@ -11,14 +11,17 @@ returns g c =
     let o = c.self.inside in
     let e = c.write.ensures in
     let t = called_in_place o.heap o.undo.logs o.ran c.args.self.now c.self.view_is c.self.invariant.whole
-    c.write.result (done_reply c.write.result) c.write.new.self c.keep.new.self.logs (Write c.args.h c.args.at c.args.bytes.now) tt e.after e.sound e.reply e.refused c.keep.ensures.logs in
+    c.write.result (done_reply c.write.result) c.write.new.self c.keep.new.self.logs (Write c.args.h c.args.at c.args.bytes.now) tt e.after e.sound e.reply e.refused
+    c.keep.ensures.logs in
     record { reply = t.reply; step = t.step; refused = t.refused; whole = t.whole }
 
 pub invariant_of-self : goal.invariant_of-self
 invariant_of-self g c =
     let h = c.self.inside.heap in
-    let after = belongs_after h.version h.quota (key c.args.h) h.state _ c.keep.new.self c.keep.ensures.belongs c.keep.ensures.kept (writes h.state c.args.h c.args.at c.args.bytes.now) in
+    let after = belongs_after h.version h.quota (key c.args.h) h.state _ c.keep.new.self c.keep.ensures.belongs c.keep.ensures.kept
+    (writes h.state c.args.h c.args.at c.args.bytes.now) in
     record {
       whole = (returns g c).whole;
-      belongs = belongs_new h c.write.new.self (Write c.args.h c.args.at c.args.bytes.now) c.keep.new.self (same_ids h c.write.new.self (Write c.args.h c.args.at c.args.bytes.now) c.write.ensures.after) after;
+      belongs = belongs_new h c.write.new.self (Write c.args.h c.args.at c.args.bytes.now) c.keep.new.self
+          (same_ids h c.write.new.self (Write c.args.h c.args.at c.args.bytes.now) c.write.ensures.after) after;
     }

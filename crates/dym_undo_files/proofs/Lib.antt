@@ -1,0 +1,11 @@
+mod Lists
+mod Maps
+mod Differing
+mod Logging
+mod TakenLists
+mod Copying
+mod Bringing
+mod Reading
+mod Loading
+mod Taking
+mod Opening
