@@ -5,14 +5,21 @@
 //! is of the end of the run in order.
 #![tactic(auto)]
 
+mod progress;
 mod report;
+mod share;
+#[cfg(test)]
+mod tests;
 mod words;
 
 use crate::report::simulate;
+use crate::share::Share;
 use crate::words::read_words;
+use std::env;
+use std::io::{self, ErrorKind};
 use std::process::ExitCode;
+use std::rt::Env;
 use std::time::Instant;
-use std::{env, io};
 use warp_run::Failure;
 
 /// The status where the words are bad.
@@ -27,24 +34,48 @@ const TOO_MANY: u8 = 3;
 /// The status where there is no memory, as in `dymelor`.
 const MEMORY: u8 = 5;
 
-const USAGE: &str = "usage: timewarp queues --in-order [--processes N] [--end T] [--seed S]
-                [--jobs J] [--half-life H] [--travel D] [--room R]
+const USAGE: &str =
+    "usage: timewarp phold|cells|queues [--end T] [--processes N] [--seed S] [OPTION VALUE]..
 
-A ring of N stations with J jobs each at the start, simulated up to the time T. A service has the
-half-life H, a way to the next station takes 1 + D ticks, and more than R jobs at one station are a
-fault.";
+It simulates a model of N processes up to the time T, and prints how many events
+stand, and a checksum of all states at the end. Whatever the workers, both are
+those of a run in order, one event after the other.
+
+ahead   by workers, which run ahead of what is certain: [--workers N], else as many
+        as processors; [--window TICKS ahead], else chosen as they run; [--log-every
+        EVENTS a copy of a state]; [--progress], a line each second;
+        or --in-order, with none of these
+phold   J jobs of each process hop among all: [--jobs J] [--remote R of 1000 hops]
+        [--lookahead L] [--mean M of what is random of a delay] [--work TURNS]
+        [--state BYTES] [--changed BYTES of it by each event]
+cells   calls in the cells of a mobile network: [--channels C of a cell]
+        [--interval I between calls] [--duration D] [--stay S in a cell], means all
+queues  a ring of stations with J jobs each: [--jobs J] [--half-life H of a service]
+        [--travel D, and a tick] [--room R of a station, beyond which it is a fault]";
 
 fn main(rt: HostRuntime) -> io::Result<ExitCode> {
-    let words: Vec<String> = env::args(&rt)?.skip(1).collect(rt.alloc())?;
+    let words = match words_behind_the_name(&rt) {
+        Ok(words) => words,
+        Err(error) if error.kind() == ErrorKind::OutOfMemory => {
+            return Ok(ExitCode::from(MEMORY));
+        }
+        Err(error) => return Err(error),
+    };
     let Some(order) = read_words(&words) else {
         eprintln!(rt; "{}", USAGE)?;
         return Ok(ExitCode::from(WORDS));
     };
     let start = Instant::now(&rt)?;
-    let status = match simulate(rt.alloc(), &order) {
+    let status = match simulate(&rt, rt.alloc(), &order) {
         Ok(report) => {
             println!(rt; "committed {}", report.committed)?;
             println!(rt; "checksum {:016x}", report.checksum)?;
+            if report.rounds > 0 {
+                let efficiency = Share::of(report.committed, report.counts.ran);
+                eprintln!(rt; "rollbacks {}", report.counts.rollbacks)?;
+                eprintln!(rt; "efficiency {efficiency}")?;
+                eprintln!(rt; "rounds {}", report.rounds)?;
+            }
             0
         }
         Err(Failure::Fault { process }) => {
@@ -61,6 +92,12 @@ fn main(rt: HostRuntime) -> io::Result<ExitCode> {
         }
     };
     let time = start.elapsed(&rt)?;
-    eprintln!(rt; "{} us", time.as_micros())?;
+    eprintln!(rt; "time {} us", time.as_micros())?;
     Ok(ExitCode::from(status))
+}
+
+/// The words behind the program's name.
+fn words_behind_the_name<R: Env + AllocGlobal>(rt: &R) -> io::Result<Vec<String>> {
+    let words = env::args(rt)?.skip(1).collect(rt.alloc())?;
+    Ok(words)
 }

@@ -1,15 +1,20 @@
 //! A run of a model, and what the program tells of it.
-ghost use Rattle.std.specs.Prelude.{◌≡◌, IfOk, IfErr};
-ghost use Rattle.timewarp.specs.Checksums.{with_number, with_station, checksum_of};
-ghost use Rattle.timewarp.specs.Reports.{TellsEnd};
-ghost use Rattle.warp_run.specs.Ends.{FaultsFirstAt, IsTooLong};
+ghost use Rattle.std.specs.Prelude.{⊤, ◌≡◌, IfOk, IfErr};
+ghost use Rattle.timewarp.specs.Reports.{TellsEnd, Tells, FailsAs, Fails};
+ghost use Rattle.warp_models.specs.Checksums.{checksum_of};
+ghost use Rattle.warp_run.specs.Ends.{FaultsAt, FaultsFirstAt, IsTooLong};
 ghost use Rattle.warp_run.specs.Failures.{MatchFailure};
 
-use crate::words::Order;
+use crate::progress::ProgressLines;
+use crate::words::{Choice, Order, Way};
 use std::alloc::Global;
+use std::sync::Wait;
+use std::thread::Threads;
+use std::time::Clock;
 use warp_base::{Payload, Simulation};
-use warp_models::{Ring, Station};
-use warp_run::{Failure, run_in_order};
+use warp_models::{Summed, checksum};
+use warp_process::Copied;
+use warp_run::{Counts, Failure, Finished, Observer, Options, run_in_order, simulate_observed};
 
 /// What the program tells of a run.
 #[derive(Clone, Copy, Debug, PartialEq, Eq)]
@@ -18,76 +23,132 @@ pub struct Report {
     pub committed: u64,
     /// A checksum of all states at the end.
     pub checksum: u64,
+    /// How many events were run, and how many of these were undone.
+    pub counts: Counts,
+    /// In how many rounds workers ran them; 0 in order.
+    pub rounds: u64,
 }
 
-/// A sum with a number more.
-#[tactic(auto, unfolding(crate::specs::Checksums::with_number))]
-fn with_number(sum: u64, number: u64) -> u64
-    ensures { result ≡ with_number sum number }
-{
-    sum.wrapping_mul(6364136223846793005).wrapping_add(number)
+impl Report {
+    /// What is told of the end of a run.
+    fn of<S: Summed>(finished: &Finished<S>) -> Report
+        ensures committed { result.committed ≡ finished.now.committed }
+        ensures checksum { result.checksum ≡ checksum_of S.sum finished.now.states.items }
+    {
+        Report {
+            committed: finished.committed,
+            checksum: checksum(&finished.states),
+            counts: finished.counts,
+            rounds: finished.rounds,
+        }
+    }
 }
 
-/// A sum with the numbers of a station more.
-fn with_station(sum: u64, station: &Station) -> u64
-    ensures { result ≡ with_station sum station.now }
-{
-    let sum = with_number(sum, station.random);
-    with_number(with_number(sum, station.waiting), station.served)
-}
-
-/// The checksum of the states of all stations.
-fn checksum(states: &[Station]) -> u64
-    ensures { result ≡ checksum_of states.now }
-{
-    states
-        .iter()
-        .fold(0, |sum, station| with_station(sum, station))
-}
-
-/// Simulates a model of stations in order, up to the end.
-fn simulate_model<M: Simulation<State = Station>>(
-    alloc: Global,
-    model: &M,
-    end: u64,
-) -> Result<Report, Failure>
+/// Simulates a model in order, up to the end.
+fn simulate_in_order<M: Simulation>(alloc: Global, model: &M, end: u64) -> Result<Report, Failure>
+where
+    M::State: Summed,
     ensures ok { IfOk result (λ r. TellsEnd M.Payload.words (M.behaviour model.now)
-        (M.processes model.now) end r.committed r.checksum) }
+        (M.processes model.now) M.State.sum end r.committed r.checksum) }
     ensures failure { IfErr result (MatchFailure
         (FaultsFirstAt M.Payload.words (M.behaviour model.now) (M.processes model.now) end)
         (IsTooLong M.Payload.words (M.behaviour model.now) (M.processes model.now) end)) }
 {
     match run_in_order(alloc, model, end) {
-        Ok(finished) => Ok(Report {
-            committed: finished.committed,
-            checksum: checksum(&finished.states),
-        }),
+        Ok(finished) => Ok(Report::of(&finished)),
         Err(failure) => Err(failure),
     }
 }
 
-/// Simulates what the words ask for.
-pub fn simulate(alloc: Global, order: &Order) -> Result<Report, Failure>
-    ensures ok { IfOk result (λ r. TellsEnd ⟦<() as Payload>⟧.words
-        (⟦<Ring as Simulation>⟧.behaviour order.now.ring) order.now.ring.stations order.now.end
-        r.committed r.checksum) }
-    ensures failure { IfErr result (MatchFailure
-        (FaultsFirstAt ⟦<() as Payload>⟧.words (⟦<Ring as Simulation>⟧.behaviour order.now.ring)
-        order.now.ring.stations order.now.end)
-        (IsTooLong ⟦<() as Payload>⟧.words (⟦<Ring as Simulation>⟧.behaviour order.now.ring)
-        order.now.ring.stations order.now.end)) }
+/// Simulates a model by workers, up to the end.
+fn simulate_ahead<M, R, O>(
+    rt: &R,
+    alloc: Global,
+    model: &M,
+    options: &Options,
+    observer: O,
+) -> Result<Report, Failure>
+where
+    M: Simulation + Sync,
+    M::Payload: Send,
+    M::State: Copied + Summed + Send,
+    R: Threads + Wait + Sync,
+    O: Observer,
+    ensures ok { IfOk result (λ r. TellsEnd M.Payload.words (M.behaviour model.now)
+        (M.processes model.now) M.State.sum options.now.end r.committed r.checksum) }
+    ensures failure { IfErr result (MatchFailure (FaultsAt M.Payload.words (M.behaviour model.now)
+        (M.processes model.now) options.now.end) ⊤) }
 {
-    simulate_model(alloc, &order.ring, order.end)
+    match simulate_observed(rt, alloc, model, options, observer) {
+        Ok(finished) => Ok(Report::of(&finished)),
+        Err(failure) => Err(failure),
+    }
+}
+
+/// Simulates a model in the way that is told, up to the end.
+fn simulate_model<M, R, O>(
+    rt: &R,
+    alloc: Global,
+    model: &M,
+    way: Way,
+    end: u64,
+    observer: O,
+) -> Result<Report, Failure>
+where
+    M: Simulation + Sync,
+    M::Payload: Send,
+    M::State: Copied + Summed + Send,
+    R: Threads + Wait + Sync,
+    O: Observer,
+    ensures ok { IfOk result (λ r. TellsEnd M.Payload.words (M.behaviour model.now)
+        (M.processes model.now) M.State.sum end r.committed r.checksum) }
+    ensures failure { IfErr result (FailsAs way M.Payload.words (M.behaviour model.now)
+        (M.processes model.now) end) }
+{
+    match way {
+        Way::InOrder => simulate_in_order(alloc, model, end),
+        Way::Ahead {
+            workers,
+            window,
+            period,
+        } => {
+            let options = Options {
+                end,
+                workers,
+                window,
+                period,
+            };
+            simulate_ahead(rt, alloc, model, &options, observer)
+        }
+    }
+}
+
+/// Simulates what the words ask for.
+pub fn simulate<R: Threads + Wait + Sync + Clock + Eprint>(
+    rt: &R,
+    alloc: Global,
+    order: &Order,
+) -> Result<Report, Failure>
+    ensures ok { IfOk result (λ r. Tells order.now.choice order.now.end r.committed r.checksum) }
+    ensures failure { IfErr result (Fails order.now.choice order.now.way order.now.end) }
+{
+    let lines = ProgressLines::new(rt, order.progress);
+    match &order.choice {
+        Choice::Phold(model) => simulate_model(rt, alloc, model, order.way, order.end, lines),
+        Choice::Cells(model) => simulate_model(rt, alloc, model, order.way, order.end, lines),
+        Choice::Queues(model) => simulate_model(rt, alloc, model, order.way, order.end, lines),
+    }
 }
 
 #[cfg(test)]
 mod tests {
     use super::*;
     use std::test::Fail;
+    use warp_models::{Ring, RingOptions};
 
     /// Services and ways of one tick: each station serves a job each tick, from 1 on, and each
     /// that was served comes to the next station a tick later.
-    const RING: Ring = Ring {
+    const RING: RingOptions = RingOptions {
         stations: 3,
         jobs: 2,
         half_life: 0,
@@ -98,7 +159,8 @@ mod tests {
 
     #[test]
     fn a_job_is_served_each_tick(rt: HostRuntime) -> Result<(), Fail> {
-        let finished = run_in_order(rt.alloc(), &RING, 10).map_err(|_| "no end")?;
+        let ring = Ring::new(RING).ok_or("no sense")?;
+        let finished = run_in_order(rt.alloc(), &ring, 10).map_err(|_| "no end")?;
         assert_eq!(rt; finished.committed, 3 * 10 + 3 * 9);
         assert_eq!(rt; finished.states.len(), 3);
         for station in &finished.states {
@@ -109,7 +171,8 @@ mod tests {
 
     #[test]
     fn nothing_is_run_before_the_first_event(rt: HostRuntime) -> Result<(), Fail> {
-        let finished = run_in_order(rt.alloc(), &RING, 0).map_err(|_| "no end")?;
+        let ring = Ring::new(RING).ok_or("no sense")?;
+        let finished = run_in_order(rt.alloc(), &ring, 0).map_err(|_| "no end")?;
         assert_eq!(rt; finished.committed, 0);
         for station in &finished.states {
             assert_eq!(rt; (station.waiting, station.served), (2, 0));
@@ -118,27 +181,32 @@ mod tests {
     }
 
     #[test]
-    fn a_fault_is_told(rt: HostRuntime) {
-        let crowded = Ring {
-            stations: 3,
-            jobs: 2,
-            half_life: 0,
-            travel: 0,
-            room: 1,
-            seed: 1,
-        };
+    fn a_fault_is_told(rt: HostRuntime) -> Result<(), Fail> {
+        let crowded = RingOptions { room: 1, ..RING };
         let order = Order {
-            ring: crowded,
+            choice: Choice::Queues(Ring::new(crowded).ok_or("no sense")?),
             end: 10,
+            way: Way::InOrder,
+            progress: false,
         };
-        let told = simulate(rt.alloc(), &order);
+        let told = simulate(&rt, rt.alloc(), &order);
         assert!(rt; matches!(told, Err(Failure::Fault { process: 0 })));
+        Ok(())
     }
 
     #[test]
     fn a_report_has_the_count(rt: HostRuntime) -> Result<(), Fail> {
-        let order = Order { ring: RING, end: 6 };
-        assert_eq!(rt; simulate(rt.alloc(), &order)?.committed, 3 * 6 + 3 * 5);
+        let order = Order {
+            choice: Choice::Queues(Ring::new(RING).ok_or("no sense")?),
+            end: 6,
+            way: Way::Ahead {
+                workers: 2,
+                window: Some(3),
+                period: 1,
+            },
+            progress: true,
+        };
+        assert_eq!(rt; simulate(&rt, rt.alloc(), &order)?.committed, 3 * 6 + 3 * 5);
         Ok(())
     }
 }

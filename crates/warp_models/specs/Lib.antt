@@ -1,4 +1,11 @@
 pub mod Random
 pub mod Sends
+pub mod CellStates
+pub mod PholdStates
+pub mod Phold
+pub mod PholdLaws
+pub mod Cells
+pub mod CellLaws
 pub mod Queues
 pub mod QueueLaws
+pub mod Checksums

@@ -1,5 +1,5 @@
 -- What a model sends.
-use Rattle.std.specs.Prelude.{ℕ, ◌^◌, nat_lt, Bool, cond, true, false, List, [], ◌∷◌}
+use Rattle.std.specs.Prelude.{◌^◌, nat_lt, Bool, cond, true, false, List, [], ◌∷◌}
 use Rattle.warp_base.specs.declared.event.Draft.{Draft}
 use Rattle.warp_base.specs.Events.{Each}
 

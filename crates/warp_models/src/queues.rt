@@ -1,8 +1,10 @@
 //! M/M/1 queues in a ring.
-ghost use Rattle.std.specs.Prelude.{◌≡◌, ◌<◌, ◌+◌, ◌++◌, OnOk};
-ghost use Rattle.warp_base.specs.declared.event.Draft.{Draft};
+ghost use Rattle.std.specs.Prelude.{◌≡◌, ◌↔◌, ◌++◌, IsSome, IfSome, OnOk};
+ghost use Rattle.warp_models.specs.Queues.{IsSensible};
 ghost use Rattle.warp_models.specs.Sends.{in_time};
 
+use crate::checksums::{Summed, with_number};
+use crate::drafts::send;
 use crate::random::{memoryless, mixed, next, seeded};
 use std::alloc::{AllocError, Global};
 use warp_base::{Draft, Event, Simulation};
@@ -13,9 +15,9 @@ const ARRIVAL: u64 = 0;
 /// A station has served a job.
 const DEPARTURE: u64 = 1;
 
-/// Stations in a ring, each with one server and a queue before it.
+/// What a ring can be told.
 #[derive(Clone, Copy, Debug)]
-pub struct Ring {
+pub struct RingOptions {
     /// How many stations there are.
     pub stations: u32,
     /// How many jobs each station has at the start.
@@ -28,7 +30,13 @@ pub struct Ring {
     pub room: u64,
     /// What random numbers begin with.
     pub seed: u64,
-    ghost some: { 0 < stations },
+}
+
+/// Stations in a ring, each with one server and a queue before it.
+#[derive(Clone, Copy, Debug)]
+pub struct Ring {
+    pub options: RingOptions,
+    ghost sensible: { IsSensible options },
 }
 
 /// A station.
@@ -42,36 +50,19 @@ pub struct Station {
     pub served: u64,
 }
 
-/// Sends a draft, unless 64 bits don't hold its time.
-fn send(
-    out: &mut Vec<Draft<()>>,
-    now: u64,
-    delay: u64,
-    receiver: u32,
-    kind: u64,
-) -> Result<(), AllocError>
-    ensures { OnOk result (out.new.items ≡ out.old.items ++ in_time (record {
-      time = now + delay;
-      priority = 0;
-      receiver = receiver;
-      kind = kind;
-      payload = tt;
-    })) }
-{
-    if let Some(time) = now.checked_add(delay) {
-        out.push(Draft {
-            time,
-            priority: 0,
-            receiver,
-            kind,
-            payload: (),
-        })?;
-    }
-    Ok(())
-}
-
 impl Ring {
     ghost use Rattle.warp_models.specs.Queues.{arrival, departure};
+
+    /// The model of these options, if they make sense.
+    pub fn new(options: RingOptions) -> Option<Ring>
+        ensures exact { IsSome result ↔ IsSensible options }
+        ensures same { IfSome result (λ m. m.options ≡ options) }
+    {
+        if options.stations == 0 {
+            return None;
+        }
+        Some(Ring { options })
+    }
 
     /// A station begins to serve a job, which takes a time drawn from this number.
     fn begin_service(
@@ -82,19 +73,22 @@ impl Ring {
         now: u64,
     ) -> Result<(), AllocError>
         ensures { OnOk result (out.new.items ≡ out.old.items
-            ++ in_time (departure self.now.stations self.now.half_life process random now)) }
+            ++ in_time (departure self.now.options process random now)) }
     {
-        let delay = 1 + memoryless(self.half_life, mixed(random));
-        send(out, now, delay, process % self.stations, DEPARTURE)
+        let delay = 1 + memoryless(self.options.half_life, mixed(random));
+        let own = process % self.options.stations;
+        send(out, now, delay, own, DEPARTURE, ())
     }
 
     /// A job goes from a station to the next one.
     fn go_on(&self, out: &mut Vec<Draft<()>>, process: u32, now: u64) -> Result<(), AllocError>
         ensures { OnOk result (out.new.items ≡ out.old.items
-            ++ in_time (arrival self.now.stations self.now.travel process now)) }
+            ++ in_time (arrival self.now.options process now)) }
     {
-        let next = (process % self.stations + 1) % self.stations;
-        send(out, now, 1 + u64::from(self.travel), next, ARRIVAL)
+        let stations = self.options.stations;
+        let delay = 1 + u64::from(self.options.travel);
+        let next = (process % stations + 1) % stations;
+        send(out, now, delay, next, ARRIVAL, ())
     }
 }
 
@@ -106,19 +100,12 @@ impl Simulation for Ring {
 
     type State = Station;
 
-    ghost behaviour = { λ m. ring (record {
-      stations = m.stations;
-      jobs = m.jobs;
-      half_life = m.half_life;
-      travel = m.travel;
-      room = m.room;
-      seed = m.seed;
-    }) };
+    ghost behaviour = { λ m. ring m.options };
 
-    ghost processes = { λ m. m.stations };
+    ghost processes = { λ m. m.options.stations };
 
     fn processes(&self) -> u32 {
-        self.stations
+        self.options.stations
     }
 
     fn start(
@@ -127,13 +114,13 @@ impl Simulation for Ring {
         process: u32,
         out: &mut Vec<Draft<()>>,
     ) -> Result<Station, AllocError> {
-        let random = next(seeded(self.seed, process));
-        if process < self.stations && self.jobs > 0 {
+        let random = next(seeded(self.options.seed, process));
+        if process < self.options.stations && self.options.jobs > 0 {
             self.begin_service(out, process, random, 0)?;
         }
         Ok(Station {
             random,
-            waiting: self.jobs,
+            waiting: self.options.jobs,
             served: 0,
         })
     }
@@ -165,35 +152,25 @@ impl Simulation for Ring {
     }
 
     fn is_faulty(&self, state: &Station) -> bool {
-        self.room < state.waiting
+        self.options.room < state.waiting
     }
 
-    ghost looks_ahead = { λ m. ring-looks_ahead (record {
-      stations = m.stations;
-      jobs = m.jobs;
-      half_life = m.half_life;
-      travel = m.travel;
-      room = m.room;
-      seed = m.seed;
-    }) };
+    ghost looks_ahead = { λ m. ring-looks_ahead m.options };
 
-    ghost starts_within = { λ m. ring-starts_within (record {
-      stations = m.stations;
-      jobs = m.jobs;
-      half_life = m.half_life;
-      travel = m.travel;
-      room = m.room;
-      seed = m.seed;
-    }) };
+    ghost starts_within = { λ m. ring-starts_within m.options };
 
-    ghost sends_within = { λ m. ring-sends_within (record {
-      stations = m.stations;
-      jobs = m.jobs;
-      half_life = m.half_life;
-      travel = m.travel;
-      room = m.room;
-      seed = m.seed;
-    }) m.some };
+    ghost sends_within = { λ m. ring-sends_within m.options m.sensible };
+}
+
+impl Summed for Station {
+    ghost use Rattle.warp_models.specs.Checksums.{station_sum};
+
+    ghost sum = { station_sum };
+
+    fn sum(&self) -> u64 {
+        let sum = mixed(self.random).wrapping_add(self.waiting);
+        with_number(sum, self.served)
+    }
 }
 
 #[cfg(test)]
@@ -203,12 +180,14 @@ mod tests {
 
     /// Services and ways of one tick.
     const RING: Ring = Ring {
-        stations: 3,
-        jobs: 2,
-        half_life: 0,
-        travel: 0,
-        room: 4,
-        seed: 1,
+        options: RingOptions {
+            stations: 3,
+            jobs: 2,
+            half_life: 0,
+            travel: 0,
+            room: 4,
+            seed: 1,
+        },
     };
 
     #[test]

@@ -20,6 +20,18 @@ pub fn next(random: u64) -> u64
     random.wrapping_add(0x9e3779b97f4a7c15)
 }
 
+/// A random number below a bound, of the generator's next number.
+#[tactic(auto, unfolding(crate::specs::Random::drawn))]
+pub fn drawn(random: &mut u64, bound: u64) -> u64
+    requires { 0 < bound }
+    ensures value { result ≡ definition.drawn random.old bound }
+    ensures random { random.new ≡ definition.next random.old }
+    ensures below { result < bound }
+{
+    *random = next(*random);
+    mixed(*random) % bound
+}
+
 /// Where the generator of a process begins.
 #[tactic(auto, unfolding(crate::specs::Random::seeded))]
 pub fn seeded(seed: u64, process: u32) -> u64

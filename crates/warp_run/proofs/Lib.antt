@@ -1,3 +1,13 @@
 pub mod Sorted
 pub mod Standing
 pub mod Steps
+pub mod Totals
+pub mod Families
+pub mod Runs
+pub mod Ending
+pub mod RoundWorlds
+pub mod Exchanges
+pub mod Lanes
+pub mod Starting
+pub mod Advancing
+pub mod Finishing

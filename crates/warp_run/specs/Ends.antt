@@ -25,6 +25,12 @@ module _ {P S : Type 0} (words : P → List ℕ) (b : Behaviour P S) (n end : �
     pub before : (k q : ℕ) → k < steps → q < n → b.faulty ((sequential words b n end k).states q) ≡ false
     pub beside : (q : ℕ) → q < p → b.faulty ((sequential words b n end steps).states q) ≡ false
 
+  -- the run comes to a state of this process that is a fault of the model's own
+  pub record FaultsAt (p : ℕ) : Type 0 where
+    pub steps : ℕ
+    pub within : p < n
+    pub fault : b.faulty ((sequential words b n end steps).states p) ≡ true
+
   -- the run has more events, or one of its processes sends more, than 64 bits count
   pub record IsTooLong : Type 0 where
     pub steps : ℕ

@@ -7,6 +7,7 @@ use crate::finished::{Failure, Finished};
 use crate::progress;
 use std::alloc::Global;
 use warp_base::Simulation;
+use warp_worker::Counts;
 
 /// Runs a model in order, one event after the other, up to `end`, whose events are run too.
 pub fn run_in_order<M: Simulation>(
@@ -26,8 +27,15 @@ pub fn run_in_order<M: Simulation>(
         match progress.queue.pop_until(end) {
             Some(event) => progress.run_event(alloc, model, &event, &mut drafts)?,
             None => {
-                let states = progress.states;
-                return Ok(Finished { states, committed });
+                return Ok(Finished {
+                    states: progress.states,
+                    committed,
+                    counts: Counts {
+                        ran: committed,
+                        ..Counts::NONE
+                    },
+                    rounds: 0,
+                });
             }
         }
     }

@@ -1,0 +1,3 @@
+pub mod Savers
+pub mod Processes
+pub mod Laws

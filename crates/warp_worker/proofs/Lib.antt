@@ -1,0 +1,9 @@
+pub mod Places
+pub mod Cells
+pub mod Midway
+pub mod Replaced
+pub mod Loops
+pub mod Telling
+pub mod Advancing
+pub mod Openings
+pub mod Endings
