@@ -10,7 +10,7 @@ import sys
 TOP = pathlib.Path(__file__).resolve().parents[2]
 PROGRAM = TOP / "crates/dymelor/out/dymelor"
 # What a build's target is called, and the crate that makes it.
-TARGETS = {"program": "dymelor", "library": "dym_c"}
+TARGETS = {"program": "dymelor", "library": "dym_c", "simulator": "timewarp"}
 ROW = re.compile(r"(?P<name>\w+)(?P<options>(?: +[\w=+]+)*) *:(?P<names>.*)")
 TEST = re.compile(rb"#\s*\[[^]]*\btest\b")
 
