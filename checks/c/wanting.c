@@ -18,9 +18,12 @@ void *__wrap_realloc(void *block, size_t size);
 /* Which allocation from now on fails, 0 for none; and whether all after it do, until `recover`. */
 static unsigned long failing = 0;
 static int fails_on = 0, has_failed = 0;
+/* How many allocations were asked for. */
+static unsigned long asked = 0;
 
 static int fails(void)
 {
+    asked++;
     if (failing == 0 || (failing > 1 && failing-- > 0)) return 0;
     if (!fails_on) failing = 0;
     has_failed = 1;
@@ -54,6 +57,14 @@ static void expect(int holds, const char *what, int line)
 }
 
 #define EXPECT(what) expect((what), #what, __LINE__)
+
+/* A call that takes no memory is done, and asks for none, not even for a time. */
+#define TAKES_NONE(call)                           \
+    do {                                           \
+        const unsigned long before = asked;        \
+        EXPECT((call) == DYM_DONE);                \
+        EXPECT(asked == before && "takes memory"); \
+    } while (0)
 
 enum { QUOTA = 5, MOST_LOGS = 36, ROOM = 80000 };
 
@@ -108,7 +119,8 @@ static void brings_back(const trial *t, dym_object *object, int first)
     uint64_t time = 0;
     int k;
     for (k = t->logs - 1; k >= first; k--) {
-        EXPECT(dym_restore(object, 10 * (uint64_t)k + 5, &time) == DYM_DONE && time == 10 * (uint64_t)k);
+        TAKES_NONE(dym_restore(object, 10 * (uint64_t)k + 5, &time));
+        EXPECT(time == 10 * (uint64_t)k);
         EXPECT(hash_of(object) == t->hashes[k]);
     }
     EXPECT(first == 0 || dym_restore(object, 10 * (uint64_t)first - 1, &time) == DYM_NO_LOG);
@@ -159,14 +171,45 @@ static void event(dym_object *object, dym_handle *h, int k)
 {
     dym_handle *other = &h[1 + k % 3];
     void *at = NULL;
-    EXPECT(dym_fill(object, h[0], (uint32_t)k, 100, (uint8_t)k) == DYM_DONE);
+    TAKES_NONE(dym_fill(object, h[0], (uint32_t)k, 100, (uint8_t)k));
     if (k % 4 == 3) {
-        EXPECT(dym_free(object, *other) == DYM_DONE);
-        EXPECT(dym_malloc(object, 60 + (uint64_t)k, other) == DYM_DONE);
+        TAKES_NONE(dym_free(object, *other));
+        TAKES_NONE(dym_malloc(object, 60 + (uint64_t)k, other));
     }
-    EXPECT(dym_touch(object, *other, &at) == DYM_DONE);
+    TAKES_NONE(dym_touch(object, *other, &at));
     *(uint8_t *)at = (uint8_t)k;
-    if (k % 5 == 4) EXPECT(dym_realloc(object, *other, 300, other) == DYM_DONE);
+    if (k % 5 == 4) TAKES_NONE(dym_realloc(object, *other, 300, other));
+}
+
+/* The other calls that take no memory, of an object whose chunk has at least 100 bytes. */
+static void asks(dym_object *object, dym_handle chunk)
+{
+    const void *place = NULL, *start = NULL;
+    uint8_t bytes[8];
+    dym_found found;
+    dym_heap heap;
+    dym_bytes usage;
+    dym_handle next;
+    uint32_t length = 0, kind = 9;
+    uint64_t number = 0;
+    TAKES_NONE(dym_read(object, chunk, 0, bytes, sizeof bytes));
+    TAKES_NONE(dym_write(object, chunk, 8, bytes, sizeof bytes));
+    TAKES_NONE(dym_link(object, chunk, 16, chunk));
+    TAKES_NONE(dym_follow(object, chunk, 16, &found));
+    TAKES_NONE(dym_sum(object, chunk, &number));
+    TAKES_NONE(dym_size(object, chunk, &length));
+    TAKES_NONE(dym_next(object, dym_nil, &next));
+    TAKES_NONE(dym_address(object, chunk, &place));
+    TAKES_NONE(dym_start(object, &start));
+    TAKES_NONE(dym_handle_offset(object, (uint64_t)((const uint8_t *)place - (const uint8_t *)start), &next));
+    TAKES_NONE(dym_wrote(object, place, length));
+    TAKES_NONE(dym_touch_all(object));
+    TAKES_NONE(dym_hash(object, &number));
+    TAKES_NONE(dym_inspect(object, &heap));
+    TAKES_NONE(dym_usage(object, &usage));
+    TAKES_NONE(dym_changed(object, &number));
+    TAKES_NONE(dym_log_time(object, 0, &number));
+    TAKES_NONE(dym_log_kind(object, 0, &kind));
 }
 
 /* What an object does, in which one allocation fails, or all from one on up to the end of a call. */
@@ -177,8 +220,8 @@ static void run(trial *t)
     uint32_t dropped = 0;
     int k;
     opens(t, &object);
-    EXPECT(dym_malloc(&object, 600, &h[0]) == DYM_DONE);
-    for (k = 1; k < 4; k++) EXPECT(dym_calloc(&object, 2, 50, &h[k]) == DYM_DONE);
+    TAKES_NONE(dym_malloc(&object, 600, &h[0]));
+    for (k = 1; k < 4; k++) TAKES_NONE(dym_calloc(&object, 2, 50, &h[k]));
     for (k = 0; k < t->logs; k++) {
         event(&object, h, k);
         t->hashes[k] = hash_of(&object);
@@ -187,10 +230,12 @@ static void run(trial *t)
     event(&object, h, k);
     copies(t, &object, 0);
     looks(&object);
-    EXPECT(dym_prune(&object, 15, &dropped) == DYM_DONE && dropped == 1);
+    TAKES_NONE(dym_prune(&object, 15, &dropped));
+    EXPECT(dropped == 1);
     copies(t, &object, 1);
     brings_back(t, &object, 1);
-    EXPECT(dym_close(&object) == DYM_DONE);
+    asks(&object, h[0]);
+    TAKES_NONE(dym_close(&object));
 }
 
 /* Each allocation in turn fails, or each `step`th. */

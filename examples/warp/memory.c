@@ -17,10 +17,15 @@ const memory_way *memory_way_named(const char *name)
     return *way;
 }
 
+static void clear(memory *m, const memory_way *way)
+{
+    memset(m, 0, sizeof *m);
+    m->way = way;
+}
+
 fault memory_open(memory *m, const memory_way *way, uint32_t quota)
 {
-    m->way = way;
-    m->inside = NULL;
+    clear(m, way);
     return way->open(m, quota);
 }
 
@@ -62,7 +67,6 @@ fault memory_save(memory *m, uint8_t **bytes, uint64_t *length)
 
 fault memory_load(memory *m, const memory_way *way, const uint8_t *bytes, uint64_t length, uintptr_t *distance)
 {
-    m->way = way;
-    m->inside = NULL;
+    clear(m, way);
     return way->load(m, bytes, length, distance);
 }

@@ -11,6 +11,7 @@
 #include <stdint.h>
 
 #include "fault.h"
+#include "touches.h"
 
 /* The most logs that a process keeps; the library has the same limit. */
 enum { MEMORY_LOGS = 256 };
@@ -19,7 +20,7 @@ typedef struct memory memory;
 
 /*
  * What a model calls (alloc, free, write) ends the run where it can't be done. `write` comes before each change of what an event didn't
- * allocate itself.
+ * allocate itself, but for what `touches` has.
  *
  * A state moves when it stands at the only log that it has. `save` makes its bytes, and `load` opens a state of them; *distance is how far
  * its chunks lie from where they lay. When its pointers were made right it is logged again, at the same time.
@@ -44,6 +45,7 @@ typedef struct memory_way {
 struct memory {
     const memory_way *way;
     void *inside; /* the way's own; null while it is closed */
+    touches touches;
 };
 
 extern const memory_way memory_copies;

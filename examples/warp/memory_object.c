@@ -1,7 +1,6 @@
 /*
- * --save place and --save told: the state is an object of the library, whose chunks lie at addresses that stay. In place, a write is said by
- * dym_wrote_offset, which touches the chunk; where stores are told nothing is said: dymelor-cc compiled the models, and the object is named
- * while an event runs.
+ * --save place and --save told: the state is an object of the library, whose chunks lie at addresses that stay. In place, the chunk is touched
+ * before a write; where stores are told nothing is said: dymelor-cc compiled the models, and the object is named while an event runs.
  */
 #include "memory.h"
 
@@ -16,27 +15,20 @@
 /* The name that a state has in a checkpoint file. */
 static const char file_name[] = {'p', 'r', 'o', 'c', 'e', 's', 's'};
 
-/* A write that was said, and the interval between two logs in which it was. */
-typedef struct said {
-    const void *at;
-    size_t length;
-    uint64_t interval;
-} said;
-
-/* How many writes are remembered: by their addresses, the last one of those that meet in a place. */
-enum { REMEMBERED = 8, LEAST_CHUNK = 32 };
+/* The block has as many segments for each class as the quota says, in which all classes together have fewer than so many chunks. */
+enum { CLASSES = 12, MOST_CHUNKS = 4096 };
 
 /*
  * Chunks of a state that moved lie elsewhere, so that it is logged once more with its new pointers, after the log that it came with: the
- * library's time of a log is the number of events before it, and of moves. Most events write to the same few chunks, as the one that the
- * state begins in: a write that was said since the last log or restore isn't said to the library again.
+ * library's time of a log is the number of events before it, and of moves.
+ *
+ * What is known of the chunks is address space, of which memory is taken where there are chunks.
  */
 typedef struct object {
     dym_object heap;
-    uintptr_t start; /* where its block begins */
     uint64_t moves;
-    uint64_t interval; /* counted by logs and restores, from 1 on */
-    said said[REMEMBERED];
+    touch *room; /* for all chunks that there can be */
+    size_t used;
 } object;
 
 /* What an answer of the library means for a run. */
@@ -56,14 +48,29 @@ static void must(dym_status status)
     if (status != DYM_DONE) fault_end(fault_of(status));
 }
 
-/* Notes where the chunks of an object lie that was just opened. */
-static dym_status find_start(object *own)
+/* Closes an object, which may be half open. */
+static void discard(memory *m, object *own)
+{
+    dym_close(&own->heap);
+    free(m->touches.segments);
+    free(own->room);
+    free(own);
+    m->touches.segments = NULL;
+}
+
+/* Finds where the chunks of an object lie that was just opened, and makes room for what is known of them. */
+static dym_status prepare(memory *m, object *own)
 {
     const void *start = NULL;
+    dym_heap heap = {0};
     dym_status status = dym_start(&own->heap, &start);
-    own->start = (uintptr_t)start;
-    own->interval = 1;
-    return status;
+    if (status == DYM_DONE) status = dym_inspect(&own->heap, &heap);
+    if (status != DYM_DONE) return status;
+    own->room = calloc((size_t)heap.quota * MOST_CHUNKS, sizeof *own->room);
+    m->touches.start = (uintptr_t)start;
+    m->touches.interval = 1;
+    m->touches.segments = calloc((size_t)heap.quota * CLASSES, sizeof *m->touches.segments);
+    return own->room != NULL && m->touches.segments != NULL ? DYM_DONE : DYM_MEMORY;
 }
 
 /* In version 2 a chunk is as long as was asked. */
@@ -73,48 +80,60 @@ static fault object_open(memory *m, uint32_t quota)
     dym_status status;
     if (own == NULL) return FAULT_MEMORY;
     status = dym_open(&own->heap, quota, 2);
-    if (status == DYM_DONE) status = find_start(own);
+    if (status == DYM_DONE) status = prepare(m, own);
     if (status == DYM_DONE)
         m->inside = own;
     else
-        free(own);
+        discard(m, own);
     return fault_of(status);
 }
 
 static void object_close(memory *m)
 {
-    object *own = m->inside;
-    dym_close(&own->heap);
-    free(own);
+    discard(m, m->inside);
 }
 
+/* Notes a chunk that is touched. Each class of chunks has segments of its own, in which they lie one behind the other. */
+static void note_chunk(memory *m, object *own, dym_handle handle, const void *chunk)
+{
+    segment *s = &m->touches.segments[((uintptr_t)chunk - m->touches.start) / TOUCHES_SEGMENT];
+    touch *t;
+    if (s->chunks == NULL) {
+        s->size = handle.exponent;
+        s->chunks = own->room + own->used;
+        own->used += TOUCHES_SEGMENT >> s->size;
+    }
+    if (s->size != handle.exponent) fault_end(FAULT_LOG);
+    t = touches_at(&m->touches, chunk);
+    t->chunk = dym_number(handle);
+    t->interval = m->touches.interval;
+}
+
+/* A new chunk is touched. */
 static void *object_alloc(memory *m, size_t length)
 {
     object *own = m->inside;
     dym_handle handle;
     void *chunk = NULL;
     must(dym_malloc_at(&own->heap, length, &handle, &chunk));
+    note_chunk(m, own, handle, chunk);
     return chunk;
 }
 
 static void object_free(memory *m, void *chunk, size_t length)
 {
     object *own = m->inside;
-    dym_handle handle;
     (void)length;
-    must(dym_handle_offset(&own->heap, (uintptr_t)chunk - own->start, &handle));
-    must(dym_free(&own->heap, handle));
+    must(dym_free(&own->heap, dym_numbered(touches_at(&m->touches, chunk)->chunk)));
 }
 
 static void place_write(memory *m, void *at, size_t length)
 {
     object *own = m->inside;
-    said *before = &own->said[(uintptr_t)at / LEAST_CHUNK % REMEMBERED];
-    if (before->at == at && before->length >= length && before->interval == own->interval) return;
-    must(dym_wrote_offset(&own->heap, (uintptr_t)at - own->start, length));
-    before->at = at;
-    before->length = length;
-    before->interval = own->interval;
+    touch *t = touches_at(&m->touches, at);
+    (void)length;
+    must(dym_touch(&own->heap, dym_numbered(t->chunk), NULL));
+    t->interval = m->touches.interval;
 }
 
 /* A log copies nothing. */
@@ -122,7 +141,7 @@ static fault object_log(memory *m, uint64_t time, uint64_t *bytes)
 {
     object *own = m->inside;
     dym_status status = dym_log(&own->heap, DYM_INCREMENTAL, time + own->moves, NULL);
-    own->interval++;
+    m->touches.interval++;
     *bytes = 0;
     return fault_of(status);
 }
@@ -131,7 +150,7 @@ static fault object_restore(memory *m, uint64_t time, uint64_t *restored)
 {
     object *own = m->inside;
     dym_status status = dym_restore(&own->heap, time + own->moves, restored);
-    own->interval++;
+    m->touches.interval++;
     *restored -= own->moves;
     return fault_of(status);
 }
@@ -147,7 +166,7 @@ static fault object_prune(memory *m, uint64_t bound)
 static fault object_save(memory *m, uint8_t **bytes, uint64_t *length)
 {
     object *own = m->inside;
-    uint64_t head[2] = {own->start, own->moves};
+    uint64_t head[2] = {m->touches.start, own->moves};
     uint8_t none;
     dym_status status = dym_save(&own->heap, file_name, sizeof file_name, &none, 0, length);
     if (status != DYM_RANGE) return fault_of(status);
@@ -157,6 +176,21 @@ static fault object_save(memory *m, uint8_t **bytes, uint64_t *length)
     status = dym_save(&own->heap, file_name, sizeof file_name, *bytes + sizeof head, *length, length);
     *length += sizeof head;
     return fault_of(status);
+}
+
+/* Touches all chunks of an object that was loaded, and notes them. */
+static dym_status note_all(memory *m, object *own)
+{
+    dym_handle chunk = dym_nil;
+    const void *at = NULL;
+    dym_status status = dym_touch_all(&own->heap);
+    if (status == DYM_DONE) status = dym_next(&own->heap, chunk, &chunk);
+    while (status == DYM_DONE && !dym_same(chunk, dym_nil)) {
+        status = dym_address(&own->heap, chunk, &at);
+        if (status == DYM_DONE) note_chunk(m, own, chunk, at);
+        if (status == DYM_DONE) status = dym_next(&own->heap, chunk, &chunk);
+    }
+    return status;
 }
 
 static fault object_load(memory *m, const uint8_t *bytes, uint64_t length, uintptr_t *distance)
@@ -170,15 +204,15 @@ static fault object_load(memory *m, const uint8_t *bytes, uint64_t length, uintp
     own = calloc(1, sizeof *own);
     if (own == NULL) return FAULT_MEMORY;
     status = dym_load(&own->heap, bytes + sizeof head, length - sizeof head, &part);
-    if (status == DYM_DONE) status = find_start(own);
+    if (status == DYM_DONE) status = prepare(m, own);
     if (status != DYM_DONE) {
-        free(own);
+        discard(m, own);
         return status == DYM_FILE ? FAULT_MOVE : fault_of(status);
     }
     own->moves = head[1] + 1;
     m->inside = own;
-    *distance = own->start - (uintptr_t)head[0];
-    return fault_of(dym_touch_all(&own->heap));
+    *distance = m->touches.start - (uintptr_t)head[0];
+    return fault_of(note_all(m, own));
 }
 
 const memory_way memory_place = {

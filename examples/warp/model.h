@@ -23,6 +23,7 @@
 
 #include "event.h"
 #include "fault.h"
+#include "touches.h"
 
 /* The most options that a model has, and the most bytes of a chunk. */
 enum { MODEL_OPTIONS = 12, MODEL_CHUNK_MOST = 65536 };
@@ -46,6 +47,7 @@ typedef struct context {
     const uint64_t *options; /* the values, in the order of the model's options */
     /* the kernel's, for the calls below */
     struct memory *memory;
+    const touches *touches;
     void (*write)(struct memory *m, void *at, size_t length); /* null where nothing is to be done before a write */
     void (*deliver)(struct context *c, event *e);
     void *owner;
@@ -78,7 +80,7 @@ void model_free(context *c, void *chunk, size_t length);
 /* Says that this event is about to change bytes of a chunk. */
 static inline void model_write(context *c, void *at, size_t length)
 {
-    if (c->write != NULL) c->write(c->memory, at, length);
+    if (c->write != NULL && !touches_have(c->touches, at)) c->write(c->memory, at, length);
 }
 
 /* Where a chunk lies to which the state of a process that moved points; null stays null. */

@@ -16,6 +16,7 @@
 #include <unistd.h>
 
 #include "pack.h"
+#include "resources.h"
 
 enum { BATCH = 64 };
 
@@ -107,10 +108,12 @@ int transport_speaks(const transport *t)
     return 1;
 }
 
+/* To end the other ranks MPI takes memory too. */
 _Noreturn void fault_end(fault f)
 {
     fprintf(stderr, "warp: rank %d: %s\n", rank, fault_text(f));
     fflush(NULL);
+    resources_lift();
     MPI_Abort(MPI_COMM_WORLD, (int)f);
     _Exit((int)f);
 }

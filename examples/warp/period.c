@@ -101,12 +101,6 @@ void period_note_log(period *p, uint64_t nanoseconds)
     note(&p->own.log, &worker.log, nanoseconds, 1);
 }
 
-void period_note_run(period *p)
-{
-    p->own.rollbacks.count += 1;
-    worker.rollbacks.count += 1;
-}
-
 void period_note_rollback(period *p)
 {
     p->own.rollbacks.sum += 1;
@@ -140,10 +134,25 @@ static uint32_t root_of(double square)
     return low;
 }
 
+/* To choose it takes about as long as an event. */
+static int is_due(period *p)
+{
+    if (p->rest > 0) {
+        p->rest--;
+        return 0;
+    }
+    if (p->rests < PERIOD_RESTS) p->rests++;
+    p->rest = p->rests;
+    return 1;
+}
+
 void period_adapt(period *p)
 {
     double log, event, rollbacks;
-    if (!p->is_chosen || worker.log.count == 0 || worker.event.count == 0) return;
+    if (!p->is_chosen || worker.log.count == 0 || worker.event.count == 0 || !is_due(p)) return;
+    p->own.rollbacks.count += p->ran;
+    worker.rollbacks.count += p->ran;
+    p->ran = 0;
     log = expected(&p->own.log, &worker.log, PRIOR);
     event = expected(&p->own.event, &worker.event, PRIOR) + 1; /* more than nothing, whatever the clock says */
     rollbacks = expected(&p->own.rollbacks, &worker.rollbacks, PRIOR_EVENTS);

@@ -14,8 +14,9 @@
 
 #include <stdint.h>
 
-/* The longest period: a process that was never rolled back still keeps logs, so that its events can go. */
-enum { PERIOD_LONGEST = 256 };
+/* The longest period: a process that was never rolled back still keeps logs, so that its events can go. And the most times that a period
+ * stays as it is until it is chosen anew. */
+enum { PERIOD_LONGEST = 256, PERIOD_RESTS = 8 };
 
 /* What was measured in all, and how often. */
 typedef struct mean {
@@ -35,6 +36,8 @@ typedef struct period {
     int is_chosen;   /* by the rule; else it stays */
     costs own;
     uint32_t log_pass, event_pass; /* how many more pass until one is timed */
+    uint32_t ran;                  /* events that are yet to be added to what was measured */
+    uint32_t rest, rests;          /* how often it stays as it is until it is chosen anew, and how often the next time */
 } period;
 
 /* A period of so many events, or, for 0, one that the rule chooses. */
@@ -51,10 +54,14 @@ void period_note_log(period *p, uint64_t nanoseconds);
 void period_note_events(period *p, uint64_t nanoseconds, uint64_t count);
 
 /* An event was run, or some were undone. */
-void period_note_run(period *p);
+static inline void period_note_run(period *p)
+{
+    p->ran++;
+}
+
 void period_note_rollback(period *p);
 
-/* Chooses the period anew. */
+/* Chooses the period anew, at first each time and later now and then. */
 void period_adapt(period *p);
 
 #endif

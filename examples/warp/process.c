@@ -177,6 +177,7 @@ void process_context(process *p, const settings *s, uint32_t k)
     p->context.seed = s->seed;
     p->context.options = s->options;
     p->context.memory = &p->memory;
+    p->context.touches = &p->memory.touches;
     p->context.write = s->way->write;
     p->context.deliver = deliver;
     p->context.owner = p;

@@ -27,3 +27,11 @@ void resources_limit(uint64_t mebibytes)
     limit.rlim_cur = (rlim_t)(mebibytes << 20);
     setrlimit(RLIMIT_DATA, &limit);
 }
+
+void resources_lift(void)
+{
+    struct rlimit limit;
+    if (getrlimit(RLIMIT_DATA, &limit) != 0) return;
+    limit.rlim_cur = limit.rlim_max;
+    setrlimit(RLIMIT_DATA, &limit);
+}

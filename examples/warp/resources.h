@@ -10,4 +10,7 @@ uint64_t resources_peak(void);
 /* Limits what the program may take, so that too much is a fault of its own and no trouble of the machine; 0 sets no limit. */
 void resources_limit(uint64_t mebibytes);
 
+/* Lifts that limit, for what is still to be done once memory ran out. */
+void resources_lift(void);
+
 #endif

@@ -6,6 +6,8 @@
 #![tactic(auto)]
 
 #[cfg(test)]
+mod event_loop_tests;
+#[cfg(test)]
 mod heap_tests;
 #[cfg(test)]
 mod io_tests;

@@ -14,12 +14,15 @@ use std::process::Abort;
 use std::sync::Wait;
 use std::test::Fail;
 use std::thread::{self, Threads};
+use std::time::{Clock, Duration};
 
-/// How many turns the job has that logs: so many that the pruner's thread gets a processor meanwhile, also on a busy machine; and after
-/// how many of these it leaves its own to other threads.
-const TURNS: u32 = 400_000;
+/// How many turns the job has that logs, and after how many of these it sleeps, so that the pruner's thread gets a processor, also on a
+/// busy machine.
+const TURNS: u32 = 20_000;
 
 const TURNS_AT_A_TIME: u32 = 500;
+
+const MILLISECONDS_OF_SLEEP: u64 = 2;
 
 /// Where a job that logs came from.
 struct Began {
@@ -33,7 +36,7 @@ struct Logging {
     object: Object<OwnSupply, SlotKeep>,
 }
 
-impl<R> Job<R> for Logging {
+impl<R: Clock> Job<R> for Logging {
     type Origin = Began;
 
     ghost number_of = { λ _. 0 };
@@ -50,10 +53,10 @@ impl<R> Job<R> for Logging {
         self.left
     }
 
-    fn turn(&mut self, _rt: &R) {
+    fn turn(&mut self, rt: &R) {
         self.left -= 1;
         if self.left % TURNS_AT_A_TIME == 0 {
-            thread::yield_now();
+            thread::sleep(rt, Duration::from_millis(MILLISECONDS_OF_SLEEP));
         }
         log_and_drop(self.alloc, &mut self.object, self.left);
     }
@@ -73,7 +76,7 @@ fn log_and_drop(alloc: Global, object: &mut Object<OwnSupply, SlotKeep>, left: u
 /// The one job, of an object over this keep.
 fn opened(alloc: Global, keep: SlotKeep) -> Result<Vec<Logging>, AllocError>
     requires empty { keep.records ≡ [] }
-    requires next_number { keep.next_number ≡ 0 }
+    requires made { keep.made ≡ 0 }
     requires idle { keep.lifted ≡ None }
     ensures { IfOk result (λ jobs. vec_len jobs ≡ 1) }
 {
@@ -113,7 +116,7 @@ fn ended(rt: &impl Abort, mut jobs: Vec<Logging>) -> u64 {
 }
 
 /// How many commands ran, and how many records were taken back, in one run of the job beside a pruner.
-fn ran_and_taken<R: Threads + Wait + Abort + Send + Sync>(
+fn ran_and_taken<R: Threads + Wait + Clock + Abort + Send + Sync>(
     rt: &R,
     alloc: Global,
 ) -> Result<(u64, u64), AllocError> {
@@ -135,7 +138,7 @@ fn a_pruner_sweeps_while_a_worker_runs(rt: HostRuntime) -> Result<(), Fail> {
     let mut most = 0;
     for _ in 0..40 {
         let (ran, taken) = ran_and_taken(&rt, rt.alloc())?;
-        assert!(rt; ran == 800_000, "{ran} commands");
+        assert!(rt; ran == 40_000, "{ran} commands");
         most = taken;
         if most > 319 {
             break;

@@ -25,7 +25,7 @@ fn a_sweep_takes_back_what_was_let_go(rt: HostRuntime) -> Result<(), Fail> {
     owner.put(record_at(alloc, 11)?);
     let last = owner.put(record_at(alloc, 12)?);
     let none = sweeper.sweep();
-    owner.drop_before(2);
+    owner.raise(2);
     let both = sweeper.sweep();
     let rec = owner.lift(0);
     let time = rec.time();

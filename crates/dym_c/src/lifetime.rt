@@ -22,7 +22,8 @@ pub extern "C" fn dym_open(alloc: Global, object: &mut DymObject, quota: u32, ve
     open(alloc, object, quota, version, false)
 }
 
-/// The same, and the object is checked: `dym_untold` finds what was written into a chunk that no call touched before.
+/// Opens a closed object with an empty heap of at most `quota` segments, and the object is checked: `dym_untold` finds what was
+/// written into a chunk that no call touched before.
 #[unsafe(no_mangle)]
 pub extern "C" fn dym_open_checked(
     alloc: Global,

@@ -44,7 +44,7 @@ pub record ComesNext (c : ChainMeaning) (v : Version) (e : LogEntry) : Type 0 wh
 
 records_push : (c : ChainMeaning) (v : Version) (e : LogEntry) → bytes_of c.records ≡ map (record_of v) (all_logs c) → bytes_of (logged v e c).records ≡ map (record_of v) (all_logs (logged v e c))
 records_push c v e are =
-    map-append (λ (r : Numbered). r.bytes) c.records (record { number = c.next_number; bytes = record_of v e } ∷ [])
+    map-append (λ (r : Numbered). r.bytes) c.records (record { number = c.made; bytes = record_of v e } ∷ [])
     ∙ ap (λ l. l ++ record_of v e ∷ []) are
     ∙ sym (map-append (record_of v) (all_logs c) (e ∷ []))
     ∙ ap (map (record_of v)) (append_assoc c.base_logs c.logs (e ∷ []))
@@ -146,7 +146,7 @@ without n c =
       base_logs = take (oldest_depth (drop n c.logs)) (drop gone (all_logs c));
       logs = drop n c.logs;
       records = drop gone c.records;
-      next_number = c.next_number;
+      made = c.made;
       lifted = c.lifted;
       origin = c.origin;
     }

@@ -25,11 +25,11 @@ abbrev pub no_logs : ChainCopies
 no_logs = record { base_logs = []; logs = [] }
 
 abbrev pub no_chain : Origin → ChainMeaning
-no_chain origin = record { base_logs = []; logs = []; records = []; next_number = 0; lifted = None; origin = origin }
+no_chain origin = record { base_logs = []; logs = []; records = []; made = 0; lifted = None; origin = origin }
 
-pub opened : {keep : KeepMeaning} {copies : ChainCopies} → keep.records ≡ [] → keep.next_number ≡ 0 → keep.lifted ≡ None → copies ≡ no_logs → chain_of copies keep ≡ no_chain keep.origin
-opened {keep = keep} records next_number idle told_is =
-    λ i. record { base_logs = (told_is i).base_logs; logs = (told_is i).logs; records = records i; next_number = next_number i; lifted = idle i; origin = keep.origin }
+pub opened : {keep : KeepMeaning} {copies : ChainCopies} → keep.records ≡ [] → keep.made ≡ 0 → keep.lifted ≡ None → copies ≡ no_logs → chain_of copies keep ≡ no_chain keep.origin
+opened {keep = keep} records made idle told_is =
+    λ i. record { base_logs = (told_is i).base_logs; logs = (told_is i).logs; records = records i; made = made i; lifted = idle i; origin = keep.origin }
 
 pub lawful_open : (origin : Origin) → IsLawful (no_chain origin)
 lawful_open origin = record {

@@ -159,7 +159,7 @@ part_version c v a b are = subst (HaveVersion v) (part_records c v a b are) (hav
 pub lowered : {k1 k2 k3 : KeepMeaning} (k : KeepMeaning) (place : ℕ) → k1 ≡ up_to k place → k2 ≡ record k1 { lifted = Some place } → k3 ≡ record k2 { lifted = None } → k.lifted ≡ None → k3 ≡ up_to k place
 lowered k place dropped out back idle =
     back ∙ ap (λ (x : KeepMeaning). record x { lifted = None }) (out ∙ ap (λ (x : KeepMeaning). record x { lifted = Some place }) dropped)
-    ∙ ap (λ (l : Option ℕ). record { records = take (place + 1) k.records; next_number = k.next_number; lifted = l; origin = k.origin }) (sym idle)
+    ∙ ap (λ (l : Option ℕ). record { records = take (place + 1) k.records; made = k.made; lifted = l; origin = k.origin }) (sym idle)
 
 -- the chain that the fields then show
 pub first_is : {keep' : KeepMeaning} {copies' : ChainCopies} (keep : KeepMeaning) (copies : ChainCopies) (n base : ℕ) → 0 < n → base ≡ length copies.base_logs → keep' ≡ up_to keep (base + (n - 1))

@@ -14,29 +14,29 @@ use Rattle.dym_chain.specs.declared.vec_keep.Lifted.{Lifted}
 
 -- numbers that rise
 
-all_below : (r : Numbered) (rs : List Numbered) (next_number : ℕ) → NumbersRise (r ∷ rs) next_number → r.number < next_number
-all_below r [] next_number rise = rise.0
-all_below r (q ∷ rs) next_number rise = (let next = all_below q rs next_number rise.1 in omega (arith, rise.0))
+all_below : (r : Numbered) (rs : List Numbered) (made : ℕ) → NumbersRise (r ∷ rs) made → r.number < made
+all_below r [] made rise = rise.0
+all_below r (q ∷ rs) made rise = (let next = all_below q rs made rise.1 in omega (arith, rise.0))
 
-pub rise_push : (rs : List Numbered) (next_number : ℕ) (bytes : List ℕ) → NumbersRise rs next_number → NumbersRise (rs ++ record { number = next_number; bytes = bytes } ∷ []) (next_number + 1)
-rise_push [] next_number bytes rise = (omega arith, tt)
-rise_push (r ∷ []) next_number bytes rise = (rise.0, rise_push [] next_number bytes tt)
-rise_push (r ∷ q ∷ rs) next_number bytes rise = (rise.0, rise_push (q ∷ rs) next_number bytes rise.1)
+pub rise_push : (rs : List Numbered) (made : ℕ) (bytes : List ℕ) → NumbersRise rs made → NumbersRise (rs ++ record { number = made; bytes = bytes } ∷ []) (made + 1)
+rise_push [] made bytes rise = (omega arith, tt)
+rise_push (r ∷ []) made bytes rise = (rise.0, rise_push [] made bytes tt)
+rise_push (r ∷ q ∷ rs) made bytes rise = (rise.0, rise_push (q ∷ rs) made bytes rise.1)
 
-first_take : (r : Numbered) (n : ℕ) (rs : List Numbered) (next_number : ℕ) → NumbersRise (r ∷ rs) next_number → r.number < first_number (take n rs) next_number
-first_take r zero rs next_number rise = all_below r rs next_number rise
-first_take r (suc n) [] next_number rise = rise.0
-first_take r (suc n) (q ∷ rs) next_number rise = rise.0
+first_take : (r : Numbered) (n : ℕ) (rs : List Numbered) (made : ℕ) → NumbersRise (r ∷ rs) made → r.number < first_number (take n rs) made
+first_take r zero rs made rise = all_below r rs made rise
+first_take r (suc n) [] made rise = rise.0
+first_take r (suc n) (q ∷ rs) made rise = rise.0
 
-pub rise_take : (n : ℕ) (rs : List Numbered) (next_number : ℕ) → NumbersRise rs next_number → NumbersRise (take n rs) next_number
-rise_take zero rs next_number rise = tt
-rise_take (suc n) [] next_number rise = tt
-rise_take (suc n) (r ∷ rs) next_number rise = (first_take r n rs next_number rise, rise_take n rs next_number rise.1)
+pub rise_take : (n : ℕ) (rs : List Numbered) (made : ℕ) → NumbersRise rs made → NumbersRise (take n rs) made
+rise_take zero rs made rise = tt
+rise_take (suc n) [] made rise = tt
+rise_take (suc n) (r ∷ rs) made rise = (first_take r n rs made rise, rise_take n rs made rise.1)
 
-pub rise_drop : (n : ℕ) (rs : List Numbered) (next_number : ℕ) → NumbersRise rs next_number → NumbersRise (drop n rs) next_number
-rise_drop zero rs next_number rise = rise
-rise_drop (suc n) [] next_number rise = tt
-rise_drop (suc n) (r ∷ rs) next_number rise = rise_drop n rs next_number rise.1
+pub rise_drop : (n : ℕ) (rs : List Numbered) (made : ℕ) → NumbersRise rs made → NumbersRise (drop n rs) made
+rise_drop zero rs made rise = rise
+rise_drop (suc n) [] made rise = tt
+rise_drop (suc n) (r ∷ rs) made rise = rise_drop n rs made rise.1
 
 -- ---- where each slot has its record, it doesn't matter which one is out
 
@@ -53,11 +53,11 @@ shown_there a b (s ∷ slots) all =
     ap (λ (bytes : List ℕ). record { number = s.number; bytes = bytes } ∷ map (shown a) slots) (unwrap_there s.held a b (All-head IsHeld s slots all))
     ∙ ap (λ l. shown b s ∷ l) (shown_there a b slots (All-tail IsHeld s slots all))
 
-pub all_held : {slots : List Slot} {lifted : Option Lifted} {next_number capacity : ℕ} → IsValidKeep slots lifted next_number capacity → place_out lifted ≡ None → All IsHeld slots
+pub all_held : {slots : List Slot} {lifted : Option Lifted} {made capacity : ℕ} → IsValidKeep slots lifted made capacity → place_out lifted ≡ None → All IsHeld slots
 all_held {slots = slots} kept idle = All-from_get_or IsHeld slots no_slot (λ i within. kept.there i within (λ e. none-some i (sym idle ∙ e)))
 
 -- all slots again, once the one that is out is back
-pub all_back : {slots : List Slot} {lifted : Option Lifted} {next_number capacity : ℕ} (i number : ℕ) (rec : List ℕ) → IsValidKeep slots lifted next_number capacity → place_out lifted ≡ Some i → All IsHeld (set slots i (record { number = number; held = Some rec }))
+pub all_back : {slots : List Slot} {lifted : Option Lifted} {made capacity : ℕ} (i number : ℕ) (rec : List ℕ) → IsValidKeep slots lifted made capacity → place_out lifted ≡ Some i → All IsHeld (set slots i (record { number = number; held = Some rec }))
 all_back {slots = slots} i number rec kept out =
     let S : Slot = record { number = number; held = Some rec } in
     All-from_get_or IsHeld (set slots i S) no_slot (λ j within.
@@ -82,8 +82,8 @@ shown_lowered a out rec slots i s all is bytes =
 -- ---- what each call keeps
 
 -- a keep with no record out
-idle_keep : {slots : List Slot} {lifted : Option Lifted} {next_number capacity : ℕ} → 288 ≤ capacity → length slots ≤ 288 → NumbersRise (map (shown (bytes_out lifted)) slots) next_number → place_out lifted ≡ None → All IsHeld slots
-    → IsValidKeep slots lifted next_number capacity
+idle_keep : {slots : List Slot} {lifted : Option Lifted} {made capacity : ℕ} → 288 ≤ capacity → length slots ≤ 288 → NumbersRise (map (shown (bytes_out lifted)) slots) made → place_out lifted ≡ None → All IsHeld slots
+    → IsValidKeep slots lifted made capacity
 idle_keep room few rise idle all = record {
   room = room;
   few = few;
@@ -92,16 +92,16 @@ idle_keep room few rise idle all = record {
   inside = λ i out. absurd (none-some i (sym idle ∙ out));
 }
 
-pub kept_push : {slots : List Slot} {lifted : Option Lifted} {next_number capacity capacity' : ℕ} (rec : List ℕ) → capacity' ≡ capacity → length slots < 288 → place_out lifted ≡ None → IsValidKeep slots lifted next_number capacity
-    → IsValidKeep (slots ++ record { number = next_number; held = Some rec } ∷ []) lifted (next_number + 1) capacity'
-kept_push {slots = slots} {lifted = lifted} {next_number = number} rec same few idle kept =
+pub kept_push : {slots : List Slot} {lifted : Option Lifted} {made capacity capacity' : ℕ} (rec : List ℕ) → capacity' ≡ capacity → length slots < 288 → place_out lifted ≡ None → IsValidKeep slots lifted made capacity
+    → IsValidKeep (slots ++ record { number = made; held = Some rec } ∷ []) lifted (made + 1) capacity'
+kept_push {slots = slots} {lifted = lifted} {made = number} rec same few idle kept =
     let S : Slot = record { number = number; held = Some rec } in
     idle_keep (omega (arith, kept.room, same)) (omega (arith, length-append slots (S ∷ []), few))
     (rw (map-append (shown (bytes_out lifted)) slots (S ∷ [])) (rise_push (map (shown (bytes_out lifted)) slots) number rec kept.rise)) idle (All-push IsHeld slots S (all_held kept idle) refl)
 
-pub kept_lift : {slots : List Slot} {lifted : Option Lifted} {next_number capacity : ℕ} (i : ℕ) (s : Slot) (new : Option Lifted) → IsValidKeep slots lifted next_number capacity → place_out lifted ≡ None → i < length slots → s ≡ get_or slots i no_slot
-    → s.held ≡ Some (bytes_out new) → place_out new ≡ Some i → IsValidKeep (set slots i (record { number = s.number; held = None })) new next_number capacity
-kept_lift {slots = slots} {lifted = lifted} {next_number = number} i s new kept idle inside is held place =
+pub kept_lift : {slots : List Slot} {lifted : Option Lifted} {made capacity : ℕ} (i : ℕ) (s : Slot) (new : Option Lifted) → IsValidKeep slots lifted made capacity → place_out lifted ≡ None → i < length slots → s ≡ get_or slots i no_slot
+    → s.held ≡ Some (bytes_out new) → place_out new ≡ Some i → IsValidKeep (set slots i (record { number = s.number; held = None })) new made capacity
+kept_lift {slots = slots} {lifted = lifted} {made = number} i s new kept idle inside is held place =
     let S : Slot = record { number = s.number; held = None } in
     let same : length (set slots i S) ≡ length slots = length-set slots i S in
     record {
@@ -112,21 +112,21 @@ kept_lift {slots = slots} {lifted = lifted} {next_number = number} i s new kept 
       inside = λ j out. (let e : i ≡ j = same_Some i j (sym place ∙ out) in omega (arith, same, e, inside));
     }
 
-pub kept_lower : {slots : List Slot} {lifted : Option Lifted} {next_number capacity : ℕ} (i : ℕ) (s : Slot) (rec : List ℕ) → IsValidKeep slots lifted next_number capacity → place_out lifted ≡ Some i → s ≡ get_or slots i no_slot
-    → rec ≡ (shown (bytes_out lifted) s).bytes → IsValidKeep (set slots i (record { number = s.number; held = Some rec })) None next_number capacity
-kept_lower {slots = slots} {lifted = lifted} {next_number = number} i s rec kept out is bytes =
+pub kept_lower : {slots : List Slot} {lifted : Option Lifted} {made capacity : ℕ} (i : ℕ) (s : Slot) (rec : List ℕ) → IsValidKeep slots lifted made capacity → place_out lifted ≡ Some i → s ≡ get_or slots i no_slot
+    → rec ≡ (shown (bytes_out lifted) s).bytes → IsValidKeep (set slots i (record { number = s.number; held = Some rec })) None made capacity
+kept_lower {slots = slots} {lifted = lifted} {made = number} i s rec kept out is bytes =
     let all = all_back i s.number rec kept out in
     idle_keep kept.room (omega (arith, length-set slots i (record { number = s.number; held = Some rec }), kept.few))
     (subst (λ rs. NumbersRise rs number) (sym (shown_lowered [] (bytes_out lifted) rec slots i s all is bytes)) kept.rise) refl all
 
-pub kept_take : {slots slots' : List Slot} {lifted : Option Lifted} {next_number capacity capacity' : ℕ} (n : ℕ) → capacity' ≡ capacity → slots' ≡ take n slots → place_out lifted ≡ None → IsValidKeep slots lifted next_number capacity
-    → IsValidKeep slots' lifted next_number capacity'
-kept_take {slots = slots} {lifted = lifted} {next_number = number} {capacity' = capacity'} n same is idle kept =
+pub kept_take : {slots slots' : List Slot} {lifted : Option Lifted} {made capacity capacity' : ℕ} (n : ℕ) → capacity' ≡ capacity → slots' ≡ take n slots → place_out lifted ≡ None → IsValidKeep slots lifted made capacity
+    → IsValidKeep slots' lifted made capacity'
+kept_take {slots = slots} {lifted = lifted} {made = number} {capacity' = capacity'} n same is idle kept =
     subst (λ l. IsValidKeep l lifted number capacity') (sym is) (idle_keep (omega (arith, kept.room, same)) (omega (arith, length-take n slots, kept.few))
     (subst (λ rs. NumbersRise rs number) (take-map (shown (bytes_out lifted)) n slots) (rise_take n (map (shown (bytes_out lifted)) slots) number kept.rise)) idle (All-take IsHeld n slots (all_held kept idle)))
 
-pub kept_drop : {slots slots' : List Slot} {lifted : Option Lifted} {next_number capacity capacity' : ℕ} (n : ℕ) → capacity' ≡ capacity → slots' ≡ drop n slots → place_out lifted ≡ None → IsValidKeep slots lifted next_number capacity
-    → IsValidKeep slots' lifted next_number capacity'
-kept_drop {slots = slots} {lifted = lifted} {next_number = number} {capacity' = capacity'} n same is idle kept =
+pub kept_drop : {slots slots' : List Slot} {lifted : Option Lifted} {made capacity capacity' : ℕ} (n : ℕ) → capacity' ≡ capacity → slots' ≡ drop n slots → place_out lifted ≡ None → IsValidKeep slots lifted made capacity
+    → IsValidKeep slots' lifted made capacity'
+kept_drop {slots = slots} {lifted = lifted} {made = number} {capacity' = capacity'} n same is idle kept =
     subst (λ l. IsValidKeep l lifted number capacity') (sym is) (idle_keep (omega (arith, kept.room, same)) (omega (arith, length-drop n slots, kept.few))
     (subst (λ rs. NumbersRise rs number) (drop-map (shown (bytes_out lifted)) n slots) (rise_drop n (map (shown (bytes_out lifted)) slots) number kept.rise)) idle (All-drop IsHeld n slots (all_held kept idle)))

@@ -12,7 +12,7 @@ chain_of copies keep = record {
   base_logs = copies.base_logs;
   logs = copies.logs;
   records = keep.records;
-  next_number = keep.next_number;
+  made = keep.made;
   lifted = keep.lifted;
   origin = keep.origin;
 }

@@ -13,4 +13,4 @@ HeapStepsKeepBelonging = (v : Version) (quota : ℕ) (s : HeapState) (command : 
 
 -- a chain with no log belongs to every heap
 abbrev pub NoLogsBelong : Type 0
-NoLogsBelong = (v : Version) (quota : ℕ) (s : HeapState) (next_number : ℕ) (origin : Origin) → Belongs v quota s (record { base_logs = []; logs = []; records = []; next_number = next_number; lifted = None; origin = origin })
+NoLogsBelong = (v : Version) (quota : ℕ) (s : HeapState) (made : ℕ) (origin : Origin) → Belongs v quota s (record { base_logs = []; logs = []; records = []; made = made; lifted = None; origin = origin })

@@ -20,7 +20,7 @@ pub record ChainMeaning : Type 0 where
   pub base_logs : List LogEntry
   pub logs : List LogEntry
   pub records : List Numbered
-  pub next_number : ℕ
+  pub made : ℕ
   pub lifted : Option ℕ
   pub origin : Origin
 
@@ -90,8 +90,8 @@ abbrev pub logged : Version → LogEntry → ChainMeaning → ChainMeaning
 logged v entry c = record {
   base_logs = c.base_logs;
   logs = c.logs ++ entry ∷ [];
-  records = c.records ++ record { number = c.next_number; bytes = record_of v entry } ∷ [];
-  next_number = c.next_number + 1;
+  records = c.records ++ record { number = c.made; bytes = record_of v entry } ∷ [];
+  made = c.made + 1;
   lifted = c.lifted;
   origin = c.origin;
 }
@@ -109,7 +109,7 @@ pruned c g = record {
   base_logs = take (oldest_depth (left_by g c.logs)) (drop (gone_by g c) (all_logs c));
   logs = left_by g c.logs;
   records = drop (gone_by g c) c.records;
-  next_number = c.next_number;
+  made = c.made;
   lifted = c.lifted;
   origin = c.origin;
 }

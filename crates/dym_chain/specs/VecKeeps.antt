@@ -22,7 +22,7 @@ place_out lifted = option_map (λ (l : Lifted). l.place) lifted
 abbrev pub keep_of : Inside → KeepMeaning
 keep_of keep = record {
   records = map (shown (bytes_out keep.lifted)) keep.slots.items;
-  next_number = keep.next_number;
+  made = keep.made;
   lifted = place_out keep.lifted;
   origin = own;
 }
@@ -33,9 +33,9 @@ no_slot = record { number = 0; held = None }
 
 -- what is true of every such keep: there is room for a full list, numbers rise, and each slot has its record, but for the one
 -- whose record is out
-pub record IsValidKeep (slots : List Slot) (lifted : Option Lifted) (next_number capacity : ℕ) : Type 0 where
+pub record IsValidKeep (slots : List Slot) (lifted : Option Lifted) (made capacity : ℕ) : Type 0 where
   pub room : RECORD_ROOM ≤ capacity
   pub few : length slots ≤ RECORD_ROOM
-  pub rise : NumbersRise (map (shown (bytes_out lifted)) slots) next_number
+  pub rise : NumbersRise (map (shown (bytes_out lifted)) slots) made
   pub there : (i : ℕ) → i < length slots → (place_out lifted ≡ Some i → ⊥) → IsSome (slice_index_or slots i no_slot).held
   pub inside : (i : ℕ) → place_out lifted ≡ Some i → i < length slots

@@ -69,13 +69,13 @@ impl<K: LogKeep> Chain<K> {
     /// A chain with no log over a keep with no record. Room for all entries is taken here.
     pub fn open(alloc: Global, keep: K) -> Result<Chain<K>, (AllocError, K)>
         requires empty { (K.meaning keep).records ≡ [] }
-        requires next_number { (K.meaning keep).next_number ≡ 0 }
+        requires made { (K.meaning keep).made ≡ 0 }
         requires idle { (K.meaning keep).lifted ≡ None }
         ensures opened { IfOk result (λ c. c ≡ record {
           base_logs = [];
           logs = [];
           records = [];
-          next_number = 0;
+          made = 0;
           lifted = None;
           origin = (K.meaning keep).origin;
         }) }
@@ -139,7 +139,7 @@ impl<K: LogKeep> Chain<K> {
     ) -> Result<(Kind, u64), LogError>
         requires belongs { Belongs heap.old.version heap.old.quota heap.old.state self.old }
         requires sound { IsSound heap.old }
-        requires next_number { self.old.next_number < COUNT_LIMIT }
+        requires made { self.old.made < COUNT_LIMIT }
         requires idle { self.old.lifted ≡ None }
         ensures answer { IsLogAnswer result (Objects.log heap.old.version
             (object_of heap.old.state self.old) time want).reply }
@@ -243,7 +243,7 @@ impl<K: LogKeep> Chain<K> {
         }
         let base = u32::from(self.entries[0].depth);
         let depth = u32::from(self.entries[dropped].depth);
-        self.keep.drop_before(base + dropped as u32 - depth);
+        self.keep.raise(base + dropped as u32 - depth);
         drop_first(&mut self.entries, dropped);
         drop_difference(&mut self.differences, dropped);
         self.ghost_copies = self.ghost_copies.cut(dropped, depth as usize);
@@ -270,10 +270,10 @@ impl<K: LogKeep> Chain<K> {
     }
 
     /// How many records were made.
-    pub fn next_number(&self) -> u64
-        ensures { result ≡ self.now.next_number }
+    pub fn made(&self) -> u64
+        ensures { result ≡ self.now.made }
     {
-        self.keep.next_number()
+        self.keep.made()
     }
 
     /// The time of the newest log.
@@ -299,7 +299,7 @@ impl<K: LogKeep> Chain<K> {
         requires idle { self.lifted ≡ None }
         ensures keep { K.meaning result ≡ record {
           records = self.records;
-          next_number = self.next_number;
+          made = self.made;
           lifted = None;
           origin = self.origin;
         } }

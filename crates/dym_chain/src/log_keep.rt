@@ -22,16 +22,16 @@ pub trait LogKeep {
         ensures { result ≡ (record_at (meaning self.now).records place).number };
 
     /// The number that the next record gets. Numbers rise along the list, and all are below it.
-    fn next_number(&self) -> u64
-        ensures next_number { result ≡ (meaning self.now).next_number }
-        ensures rise { NumbersRise (meaning self.now).records (meaning self.now).next_number };
+    fn made(&self) -> u64
+        ensures made { result ≡ (meaning self.now).made }
+        ensures rise { NumbersRise (meaning self.now).records (meaning self.now).made };
 
     /// Appends a record, and answers its number.
     fn put(&mut self, rec: Record) -> u64
         requires room { length (meaning self.old).records < RECORD_ROOM }
-        requires next_number { (meaning self.old).next_number < COUNT_LIMIT }
+        requires made { (meaning self.old).made < COUNT_LIMIT }
         requires idle { (meaning self.old).lifted ≡ None }
-        ensures number { result ≡ (meaning self.old).next_number }
+        ensures number { result ≡ (meaning self.old).made }
         ensures after { meaning self.new ≡ with_record (meaning self.old) rec };
 
     /// Takes out the record at a place, for `lower` to bring back.
@@ -54,7 +54,7 @@ pub trait LogKeep {
         ensures after { meaning self.new ≡ up_to (meaning self.old) place };
 
     /// Removes the records before a place.
-    fn drop_before(&mut self, place: u32)
+    fn raise(&mut self, place: u32)
         requires place { place < length (meaning self.old).records }
         requires idle { (meaning self.old).lifted ≡ None }
         ensures after { meaning self.new ≡ from (meaning self.old) place };

@@ -49,8 +49,8 @@ impl LogKeep for SlotKeep {
         self.owner.number_at(place)
     }
 
-    fn next_number(&self) -> u64 {
-        self.owner.next_number()
+    fn made(&self) -> u64 {
+        self.owner.made()
     }
 
     fn put(&mut self, rec: Record) -> u64 {
@@ -69,7 +69,7 @@ impl LogKeep for SlotKeep {
         self.owner.drop_after(place);
     }
 
-    fn drop_before(&mut self, place: u32) {
-        self.owner.drop_before(place);
+    fn raise(&mut self, place: u32) {
+        self.owner.raise(place);
     }
 }

@@ -27,7 +27,7 @@ pub(crate) struct Lifted {
 #[derive(Drop)]
 pub struct VecKeep {
     slots: Vec<Slot>,
-    next_number: u64,
+    made: u64,
     lifted: Option<Lifted>,
 }
 
@@ -41,7 +41,7 @@ impl Model for VecKeep {
 
     ghost view = { keep_of };
 
-    ghost invariant = { λ k. IsValidKeep k.slots.items k.lifted k.next_number
+    ghost invariant = { λ k. IsValidKeep k.slots.items k.lifted k.made
         (vec_capacity k.slots) };
 }
 
@@ -49,11 +49,11 @@ impl VecKeep {
     /// An empty keep. Only memory can be wanting.
     pub fn open(alloc: Global) -> Result<VecKeep, AllocError>
         ensures { IfOk result (λ k. k
-            ≡ record { records = []; next_number = 0; lifted = None; origin = own }) }
+            ≡ record { records = []; made = 0; lifted = None; origin = own }) }
     {
         Ok(VecKeep {
             slots: Vec::with_capacity(alloc, RECORD_ROOM as usize)?,
-            next_number: 0,
+            made: 0,
             lifted: None,
         })
     }
@@ -70,17 +70,17 @@ impl LogKeep for VecKeep {
         self.slots[place as usize].number
     }
 
-    fn next_number(&self) -> u64 {
-        self.next_number
+    fn made(&self) -> u64 {
+        self.made
     }
 
     fn put(&mut self, rec: Record) -> u64 {
-        let number = self.next_number;
+        let number = self.made;
         self.slots.push_reserved(Slot {
             number,
             held: Some(rec),
         });
-        self.next_number += 1;
+        self.made += 1;
         number
     }
 
@@ -104,7 +104,7 @@ impl LogKeep for VecKeep {
         self.slots.truncate(place as usize + 1);
     }
 
-    fn drop_before(&mut self, place: u32) {
+    fn raise(&mut self, place: u32) {
         self.slots.drain(..place as usize);
     }
 }

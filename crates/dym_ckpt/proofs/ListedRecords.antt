@@ -128,12 +128,12 @@ listed_next v quota d record_list keep mid rec more kind depth is is_rec of fits
     let put_here : keep ≡ with_record record_list.keep rec = put ∙ ap (λ k. with_record k rec) same in
     let all : bytes_of keep.records ≡ bytes_of record_list.keep.records ++ more ∷ []
     = ap (λ (k : KeepMeaning). bytes_of k.records) put_here
-    ∙ map-append (λ (r : Numbered). r.bytes) record_list.keep.records (record { number = record_list.keep.next_number; bytes = rec } ∷ [])
+    ∙ map-append (λ (r : Numbered). r.bytes) record_list.keep.records (record { number = record_list.keep.made; bytes = rec } ∷ [])
     ∙ ap (λ x. bytes_of record_list.keep.records ++ x ∷ []) is_rec in
     record {
       idle = ap (λ (k : KeepMeaning). k.lifted) put_here ∙ is.idle;
-      next_number = ap (λ (k : KeepMeaning). k.next_number) put_here ∙ ap (λ n. n + 1) is.next_number
-          ∙ sym (ap (λ (k : KeepMeaning). length k.records) put_here ∙ length-append record_list.keep.records (record { number = record_list.keep.next_number; bytes = rec } ∷ []));
+      made = ap (λ (k : KeepMeaning). k.made) put_here ∙ ap (λ n. n + 1) is.made
+          ∙ sym (ap (λ (k : KeepMeaning). length k.records) put_here ∙ length-append record_list.keep.records (record { number = record_list.keep.made; bytes = rec } ∷ []));
       own_room = ap (λ (k : KeepMeaning). k.origin) put_here ∙ is.own_room;
       lawful = subst (IsLawfulList v d) (sym all) (list_next v quota d record_list.keep.records record_list.depth rec more is_rec is.lawful is.depth of fits follows);
       depth = λ logs recorded are. depths ∙ depth_next (bytes_of record_list.keep.records) record_list.depth rec more kind is_rec is.depth kinds logs recorded (are ∙ all);

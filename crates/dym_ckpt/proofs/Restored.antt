@@ -83,16 +83,16 @@ entries_again d rs qs base_logs kept other more entries records belows logs v re
     (belows ∙ said.0, logs ∙ said.1)
 
 -- the chain and the heap at the end
-pub loaded_chain : (c d : ChainMeaning) (keep record_list : KeepMeaning) → d ≡ record c { records = d.records } → c.next_number ≡ keep.next_number → c.lifted ≡ keep.lifted → c.origin ≡ keep.origin → keep ≡ record_list → record_list.next_number ≡ length record_list.records → record_list.lifted ≡ None → record_list.origin ≡ own
-    → d ≡ record d { next_number = length (bytes_of record_list.records); lifted = None; origin = own }
-loaded_chain c d keep record_list after next_number lifted origin is counted idle own_room =
-    let made_is : d.next_number ≡ length (bytes_of record_list.records)
-    = ap (λ (x : ChainMeaning). x.next_number) after ∙ next_number ∙ ap (λ (k : KeepMeaning). k.next_number) is ∙ counted ∙ sym (length-map record_list.records (λ (r : Numbered). r.bytes)) in
+pub loaded_chain : (c d : ChainMeaning) (keep record_list : KeepMeaning) → d ≡ record c { records = d.records } → c.made ≡ keep.made → c.lifted ≡ keep.lifted → c.origin ≡ keep.origin → keep ≡ record_list → record_list.made ≡ length record_list.records → record_list.lifted ≡ None → record_list.origin ≡ own
+    → d ≡ record d { made = length (bytes_of record_list.records); lifted = None; origin = own }
+loaded_chain c d keep record_list after made lifted origin is counted idle own_room =
+    let made_is : d.made ≡ length (bytes_of record_list.records)
+    = ap (λ (x : ChainMeaning). x.made) after ∙ made ∙ ap (λ (k : KeepMeaning). k.made) is ∙ counted ∙ sym (length-map record_list.records (λ (r : Numbered). r.bytes)) in
     let lifted_is : d.lifted ≡ None = ap (λ (x : ChainMeaning). x.lifted) after ∙ lifted ∙ ap (λ (k : KeepMeaning). k.lifted) is ∙ idle in
     let origin_is : d.origin ≡ own = ap (λ (x : ChainMeaning). x.origin) after ∙ origin ∙ ap (λ (k : KeepMeaning). k.origin) is ∙ own_room in
-    ap (λ n. record d { next_number = n }) made_is
-    ∙ ap (λ l. record d { next_number = length (bytes_of record_list.records); lifted = l }) lifted_is
-    ∙ ap (λ o. record d { next_number = length (bytes_of record_list.records); lifted = None; origin = o }) origin_is
+    ap (λ n. record d { made = n }) made_is
+    ∙ ap (λ l. record d { made = length (bytes_of record_list.records); lifted = l }) lifted_is
+    ∙ ap (λ o. record d { made = length (bytes_of record_list.records); lifted = None; origin = o }) origin_is
 
 pub loaded_heap : (h g : HeapMeaning) (v : Version) (quota q : ℕ) (o : Origin) (logs now : List LogEntry) → h ≡ record { version = v; quota = q; state = empty_heap; held_ids = []; origin = o; applied = 0 } → q ≡ quota
     → g ≡ record h { state = g.state; held_ids = g.held_ids } → g.state ≡ heap_at (newest logs) → now ≡ logs

@@ -33,7 +33,7 @@ pub record IsLoaded (bytes : List ℕ) (loaded : Loaded) : Type 0 where
   pub name : loaded.name ≡ head.name
   pub entries : AreEntriesOf head.depth records loaded.chain.base_logs loaded.chain.logs
   pub are : bytes_of loaded.chain.records ≡ records
-  pub chain : loaded.chain ≡ record loaded.chain { next_number = length records; lifted = None; origin = own }
+  pub chain : loaded.chain ≡ record loaded.chain { made = length records; lifted = None; origin = own }
   pub heap : loaded.heap ≡ record {
     version = head.version;
     quota = head.quota;

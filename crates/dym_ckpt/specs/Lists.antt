@@ -55,7 +55,7 @@ CantBeNext v quota d records more = IsRecordOf v quota more → IsLawfulList v d
 -- the records that were read so far: a lawful list in a keep of their own, with the depth of the last
 pub record IsListed (v : Version) (d : ℕ) (record_list : RecordList) : Type 0 where
   pub idle : record_list.keep.lifted ≡ None
-  pub next_number : record_list.keep.next_number ≡ length record_list.keep.records
+  pub made : record_list.keep.made ≡ length record_list.keep.records
   pub own_room : record_list.keep.origin ≡ own
   pub lawful : IsLawfulList v d (bytes_of record_list.keep.records)
   pub depth : OfLogs (bytes_of record_list.keep.records) (λ logs. record_list.depth ≡ last_depth 0 logs)

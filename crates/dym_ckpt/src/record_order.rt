@@ -36,8 +36,8 @@ fn is_based(before: &Record, rec: &Record) -> bool
     true
 }
 
-/// The same of the chunks of area `k`. The area of the other record is looked for from area `from` on first; the answer is where
-/// the next one is to be looked for, as areas rise in both.
+/// Whether each chunk of area `k` that a record uses and doesn't pack is used in another: at None it isn't. The area of the other
+/// record is looked for from area `from` on first; the answer is where the next one is to be looked for, as areas rise in both.
 fn area_is_based(before: &Record, rec: &Record, k: u32, from: u32) -> Option<u32>
     requires area { OfLog rec.now (λ log. k < held log.copy) }
     ensures is { IsSome result → OfLog before.now
@@ -79,7 +79,7 @@ fn place_of(rec: &Record, exp: u8, ordinal: u32, from: u32) -> Option<u32>
     }
 }
 
-/// The same among some of the areas.
+/// Where an area stands in a record, among the areas from `from` to before `to`.
 fn place_within(rec: &Record, exp: u8, ordinal: u32, from: u32, to: u32) -> Option<u32>
     requires within { OfLog rec.now (λ log. to ≤ held log.copy) }
     ensures is { IfSome result (λ place.

@@ -1,16 +1,21 @@
 -- Where a chunk lies, from where its area's segment lies.
-use Rattle.std.proofs.Common.{◌≡◌, ℕ, ◌+◌, ◌-◌, ◌*◌, ◌%◌, ◌<◌, ◌≤◌, ◌^◌, Some, IsSome, refl, sym, ap, subst, ◌∙◌, arith}
+use Rattle.std.proofs.Common.{◌≡◌, ℕ, ◌+◌, ◌-◌, ◌*◌, ◌/◌, ◌%◌, ◌<◌, ◌≤◌, ◌^◌, Some, IsSome, refl, sym, ap, subst, ◌∙◌, arith}
 use Rattle.std.specs.Option.{ForSome}
-use Rattle.std.specs.Prelude.{unwrap_or}
+use Rattle.std.specs.Prelude.{option_map, unwrap_or}
 use denote.RawPtr.{Ptr, block_ptr, InBlock, ◌+ₚ◌}
 use Rattle.std.proofs.lemmas.Nat.{pow_pos, mod_below}
 use Rattle.dym_base.specs.Numbers.{size, per}
 use Rattle.dym_base.specs.Origins.{Origin, own, shared}
+use Rattle.dym_base.specs.declared.handle.Handle.{Handle}
 use Rattle.dym_base.specs.declared.limits.TheConstants.{SEGMENT_BYTES}
 use Rattle.dym_region.specs.Identity.{start_of}
 use Rattle.dym_quota.specs.Bound.{bound_by, region_origin}
-use Rattle.dym_heap.specs.Addresses.{region_of}
+use Rattle.dym_heap.specs.Addresses.{address_of, region_of}
+use Rattle.dym_heap.specs.Chunks.{rank}
+use Rattle.dym_heap.specs.Meaning.{HeapMeaning}
+use Rattle.dym_heap.specs.Shelves.{ShelfMeaning}
 use Rattle.dym_heap.proofs.Sizes.{chunk_fits}
+use Rattle.dym_heap.proofs.Tidy.{meaning_of}
 
 -- the segment of area o of class c lies in the region's block, at the place of its number
 record StartsAt (origin : Origin) (quota c o : ℕ) (p : Ptr) : Type 0 where
@@ -25,15 +30,31 @@ starts_at : (origin : Origin) (quota c o : ℕ) (p : Ptr) → IsSome (region_of 
 starts_at own quota c o p some lies = absurd cc
 starts_at (shared name) quota c o p some lies = record { region = name.block; is_region = refl; at = lies _ refl _ refl }
 
-pub start_in_block : (origin : Origin) (quota c o : ℕ) (p : Ptr) → IsSome (region_of origin) → Lies origin quota c o p → InBlock p
+start_in_block : (origin : Origin) (quota c o : ℕ) (p : Ptr) → IsSome (region_of origin) → Lies origin quota c o p → InBlock p
 start_in_block origin quota c o p some lies = subst InBlock (sym (starts_at origin quota c o p some lies).at) tt
 
-pub chunk_lies : (origin : Origin) (quota c o n n' : ℕ) (p q : Ptr) → IsSome (region_of origin) → Lies origin quota c o p → q ≡ p +ₚ n → n ≡ n'
-    → ForSome (region_of origin) (λ region. q ≡ block_ptr region ((c * quota + o) * SEGMENT_BYTES + n'))
-chunk_lies origin quota c o n n' p q some lies moved same region is =
+chunk_lies : (origin : Origin) (quota c o n : ℕ) (p q : Ptr) → IsSome (region_of origin) → Lies origin quota c o p
+    → q ≡ p +ₚ n
+    → option_map (λ region. block_ptr region ((c * quota + o) * SEGMENT_BYTES + n)) (region_of origin) ≡ Some q
+chunk_lies origin quota c o n p q some lies moved =
     let s = starts_at origin quota c o p some lies in
-    let one : s.region ≡ region = ap (λ x. unwrap_or x 0) (sym s.is_region ∙ is) in
-    moved ∙ ap (λ (x : Ptr). x +ₚ n) s.at ∙ (λ j. block_ptr (one j) ((c * quota + o) * SEGMENT_BYTES + same j))
+    ap (option_map (λ region. block_ptr region ((c * quota + o) * SEGMENT_BYTES + n))) s.is_region
+    ∙ ap Some (sym (moved ∙ ap (λ (x : Ptr). x +ₚ n) s.at))
+
+-- ---- of a heap, from its shelf
+
+module _ (s : ShelfMeaning) {applied : ℕ} {heap : HeapMeaning} (view : meaning_of s applied ≡ heap) (h : Handle) (segment : Ptr) (region : IsSome (region_of heap.origin))
+    (lies : Lies s.origin s.quota (rank h.exp) (h.index / per h.exp) segment) where
+  some_s : IsSome (region_of s.origin)
+  some_s = subst (λ (x : HeapMeaning). IsSome (region_of x.origin)) (sym view) region
+
+  pub segment_in_block : InBlock segment
+  segment_in_block = start_in_block s.origin s.quota _ _ segment some_s lies
+
+  pub address_is : (place : Ptr) → place ≡ segment +ₚ ((h.index % per h.exp) * size h.exp) → address_of heap h ≡ Some place
+  address_is place moved =
+      subst (λ (x : HeapMeaning). address_of x h ≡ Some place) view
+      (chunk_lies s.origin s.quota _ _ ((h.index % per h.exp) * size h.exp) segment place some_s lies moved)
 
 -- a region begins at its first byte
 pub begins : {origin : Origin} (id : ℕ) {p : Ptr} → region_origin id ≡ origin → p ≡ block_ptr id 0 → IsSome (region_of origin) × ForSome (region_of origin) (λ region. p ≡ block_ptr region 0)

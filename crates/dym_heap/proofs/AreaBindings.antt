@@ -9,8 +9,7 @@ use Rattle.dym_region.specs.declared.segment.SegmentId.{SegmentId}
 use Rattle.dym_quota.specs.Bound.{Binding, IsBoundTo, IsFreeFor, AreApart}
 use Rattle.dym_heap.specs.SizedAreas.{SizedAreaMeaning, clean, used_touched}
 use Rattle.dym_heap.specs.Arrangement.{AreBound, IsPlaced, IsShelf}
-use Rattle.dym_heap.proofs.Lending.{In, class_of_place}
-use Rattle.dym_heap.proofs.Rows.{class_end}
+use Rattle.dym_heap.proofs.Starts.{class_end, placed_at, in_class}
 use Rattle.dym_heap.proofs.Owned.{held_area, same_identity}
 
 -- an area at its place in its class, over the segment of that place
@@ -42,11 +41,9 @@ module _ {v : Version} {quota quota' : ℕ} {ids : List SegmentId} {starts : Lis
   alike_at : IsShelf v quota ids starts sized_areas full room spare spare_room → IsShelf v quota' ids starts (set sized_areas k p) full' room' spare' spare_room' → k < length sized_areas
       → (d : SizedAreaMeaning) → Alike p (get_or sized_areas k d)
   alike_at before after inside d =
-      let last = before.arranged.last in
-      let at : In starts k = class_of_place starts k 12 (omega arith) before.arranged.first (omega (arith, inside, last)) in
-      let was : IsPlaced v (at.c + 5) at.o (get_or sized_areas k d) = subst (λ n. IsPlaced v (at.c + 5) at.o (get_or sized_areas n d)) (sym at.at) (before.arranged.placed at.c at.o d at.small at.within) in
-      let there : get_or (set sized_areas k p) k d ≡ p = get_or-set_same sized_areas k p d inside in
-      let now : IsPlaced v (at.c + 5) at.o p = subst (IsPlaced v (at.c + 5) at.o) there (subst (λ n. IsPlaced v (at.c + 5) at.o (get_or (set sized_areas k p) n d)) (sym at.at) (after.arranged.placed at.c at.o d at.small at.within)) in
+      let at = in_class before.arranged k inside in
+      let was = placed_at before.arranged at.stands d in
+      let now = subst (IsPlaced v at.e at.o) (get_or-set_same sized_areas k p d inside) (placed_at after.arranged at.stands d) in
       (now.exponent ∙ sym was.exponent, now.ordinal ∙ sym was.ordinal, same_identity ids sized_areas k d p before.supplied.owned after.supplied.owned inside)
 
   pub bound_kept : (binding : Binding) → IsShelf v quota ids starts sized_areas full room spare spare_room → IsShelf v quota' ids starts (set sized_areas k p) full' room' spare' spare_room' → AreBound binding sized_areas → AreBound binding (set sized_areas k p)
@@ -124,21 +121,19 @@ next_free (Some f) {v} {quota} {ids} {starts} {sized_areas} {full} c apart is bo
     let n : ℕ = get_or starts (c + 1) 0 - get_or starts c 0 in
     let found = held_area (f c n) ids sized_areas is.supplied.owned held in
     let k : ℕ = found.0 in
-    let at : In starts k = class_of_place starts k 12 (omega arith) is.arranged.first (let last = is.arranged.last in let inside = found.1 in omega arith) in
+    let at = in_class is.arranged k found.1 in
     elim sized_areas as (λ xs. xs ≡ sized_areas → ⊥) [
       | [] ↦ λ e. omega (arith, found.1, ap length e)
       | d ∷ _ ↦ λ e.
-          let was : IsPlaced v (at.c + 5) at.o (get_or sized_areas k d) = subst (λ m. IsPlaced v (at.c + 5) at.o (get_or sized_areas m d)) (sym at.at) (is.arranged.placed at.c at.o d at.small at.within) in
-          let five : at.c + 5 - 5 ≡ at.c = omega arith in
-          let here : (get_or sized_areas k d).identity ≡ f at.c at.o =
-          bound k d found.1 ∙ ap (λ x. f (x - 5) (get_or sized_areas k d).ordinal) was.exponent ∙ ap (λ x. f x (get_or sized_areas k d).ordinal) five ∙ ap (f at.c) was.ordinal in
-          let within = at.within in
+          let was = placed_at is.arranged at.stands d in
+          let here : (get_or sized_areas k d).identity ≡ f (at.e - 5) at.o = bound k d found.1 ∙ ap (λ x. f (x - 5) (get_or sized_areas k d).ordinal) was.exponent ∙ ap (f (at.e - 5)) was.ordinal in
+          let within = at.stands.within in
           let rising = is.arranged.rising c small in
-          let low : at.o < quota = (let i = found.1 in let e = at.at in omega arith) in
+          let low : at.o < quota = (let i = found.1 in let e = at.stands.at in omega arith) in
           let top = class_end is.arranged small in
-          let one = apart at.c at.o c n low (omega arith) (sym here ∙ found.2 d) in
-          let end : get_or starts (at.c + 1) 0 ≡ get_or starts (c + 1) 0 = ap (λ x. get_or starts (x + 1) 0) one.0 in
-          let start : get_or starts at.c 0 ≡ get_or starts c 0 = ap (λ x. get_or starts x 0) one.0 in
+          let one = apart (at.e - 5) at.o c n low (omega arith) (sym here ∙ found.2 d) in
+          let end = ap (λ x. get_or starts (x + 1) 0) one.0 in
+          let start = ap (λ x. get_or starts x 0) one.0 in
           let o = one.1 in
           omega arith
     ] refl

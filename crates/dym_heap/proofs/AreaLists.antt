@@ -87,18 +87,18 @@ module _ (F : ℕ → List AreaName) where
 
 -- ---- the areas of a map
 
-names : Live → ℕ → List AreaName
+pub names : Live → ℕ → List AreaName
 names live e = map (λ o. record { exponent = e; ordinal = o }) (range_with_len 0 (areas live e))
 
-length-names : (live : Live) (e : ℕ) → length (names live e) ≡ areas live e
+pub length-names : (live : Live) (e : ℕ) → length (names live e) ≡ areas live e
 unfolding names
 length-names live e = length-map-range_with_len (λ o. record { exponent = e; ordinal = o }) 0 (areas live e)
 
-name-names : (live : Live) (e o : ℕ) (d : AreaName) → o < areas live e → get_or (names live e) o d ≡ record { exponent = e; ordinal = o }
+pub name-names : (live : Live) (e o : ℕ) (d : AreaName) → o < areas live e → get_or (names live e) o d ≡ record { exponent = e; ordinal = o }
 unfolding names
 name-names live e o d l = get_or-map-range_with_len (λ o. record { exponent = e; ordinal = o }) 0 (areas live e) o o d l (omega arith)
 
-list-names : (live : Live) → area_list live ≡ flat_map (names live) (range_with_len 5 12)
+pub list-names : (live : Live) → area_list live ≡ flat_map (names live) (range_with_len 5 12)
 unfolding area_list names
 list-names live = refl
 

@@ -1,5 +1,5 @@
 -- An area once a chunk's bytes, which were lent, come back.
-use Rattle.std.proofs.Common.{◌≡◌, ℕ, ◌+◌, ◌<◌, ◌≤◌, true, false, cond, ltb, is_some, Option, Some, None, List, [], ◌∷◌, ◌++◌, ◌-◌, MatchOption, ◌^◌, length, get_or, refl, sym, ap, subst, ◌∙◌, arith}
+use Rattle.std.proofs.Common.{◌≡◌, ℕ, ◌+◌, ◌<◌, true, false, cond, ltb, Option, Some, None, List, [], ◌∷◌, ◌++◌, MatchOption, length, get_or, refl, sym, ap, subst, ◌∙◌, arith}
 use Rattle.std.specs.List.{refill, length_refill}
 use Rattle.std.proofs.lemmas.List.{drop_all, append-nil}
 use Rattle.std.specs.FinMap.{get}
@@ -11,13 +11,8 @@ use Rattle.dym_base.specs.declared.handle.Handle.{Handle}
 use Rattle.dym_base.specs.declared.reply.Reply.TheVariants.{Done}
 use Rattle.dym_base.specs.declared.reply.Refusal.TheVariants.{Range}
 use Rattle.dym_heap.specs.Meaning.{HeapMeaning, IsSound}
-use Rattle.dym_heap.specs.Table.{chunk_at, live_of, state_of}
 use Rattle.dym_heap.specs.Shelves.{ShelfMeaning, IsValidShelf, IsTidy, FitsIn, with_put}
-use Rattle.dym_heap.proofs.HandleSteps.{Wrote, wrote}
-use Rattle.dym_heap.proofs.Soundness.{heap_of, sound_of}
-use Rattle.dym_base.specs.Numbers.{number}
-use Rattle.dym_heap.proofs.Entries.{get-live_of}
-use Rattle.dym_heap.proofs.Steps.{kept_fits}
+use Rattle.dym_heap.proofs.Tidy.{meaning_of, sound_of, tidy_put}
 use Rattle.dym_region.specs.Content.{part_of}
 use Rattle.dym_area.specs.Area.{AreaMeaning, IsValidArea, chunk_start, with_chunk_lent}
 use Rattle.dym_heap.specs.ChunkLends.{refilled, lent_chunk, area_lent, shelf_lent, new_bytes, heap_lent, HasByte}
@@ -60,9 +55,9 @@ pub lent_step : (q : SizedAreaMeaning) (j : ℕ) (ws : List ℕ) (o : Option (Li
 lent_step q j ws None fits = fits
 lent_step q j ws (Some old) fits = refl
 
-pub lent_gives : (s t : ShelfMeaning) (c i : ℕ) (ws : List ℕ) (o : Option (List ℕ)) → MatchOption o ⊥ (λ old. t ≡ with_put s c i (Some (refilled ws old)) true) → t ≡ with_put s c i (lent_chunk o ws) true
-lent_gives s t c i ws None gives = absurd gives
-lent_gives s t c i ws (Some old) gives = gives
+pub lent_gives : (s t : ShelfMeaning) (k : ℕ) (ws : List ℕ) (o : Option (List ℕ)) → MatchOption o ⊥ (λ old. t ≡ with_put s k (Some (refilled ws old)) true) → t ≡ with_put s k (lent_chunk o ws) true
+lent_gives s t k ws None gives = absurd gives
+lent_gives s t k ws (Some old) gives = gives
 
 -- ---- of a heap
 
@@ -87,39 +82,26 @@ pub some_there : (o : Option (List ℕ)) → FitsIn o 1 → (old : List ℕ) × 
 some_there None fits = absurd fits
 some_there (Some old) fits = (old, refl, omega (arith, fits))
 
-module _ {s : ShelfMeaning} {applied : ℕ} {h : HeapMeaning} (view : heap_of s applied ≡ h) (tidy : IsTidy s) (hd : Handle) (low : 5 ≤ hd.exp) (high : hd.exp ≤ 16)
-    (live : get (live_of s.rows) (key hd) ≡ chunk_at s.rows (hd.exp - 5) hd.index) (fits : FitsIn (chunk_at s.rows (hd.exp - 5) hd.index) 1) (ws : List ℕ) (valid_shelf' : IsValidShelf (shelf_lent s (hd.exp - 5) hd.index ws)) where
-  old : List ℕ
-  old = (some_there (chunk_at s.rows (hd.exp - 5) hd.index) fits).0
+module _ {s : ShelfMeaning} {applied : ℕ} {h : HeapMeaning} (view : meaning_of s applied ≡ h) (tidy : IsTidy s) (hd : Handle) (some : HasByte h hd) where
+  pub fits_at : FitsIn (get s.state.live (key hd)) 1
+  fits_at = subst (λ o. FitsIn o 1) (ap (λ (x : HeapMeaning). get x.state.live (key hd)) (sym view)) some
 
-  there : chunk_at s.rows (hd.exp - 5) hd.index ≡ Some old
-  unfolding old some_there
-  there = (some_there (chunk_at s.rows (hd.exp - 5) hd.index) fits).1
+  module _ (ws : List ℕ) (valid : IsValidShelf (shelf_lent s (key hd) ws)) where
+    old : (old : List ℕ) × (get s.state.live (key hd) ≡ Some old) × (0 < length old)
+    old = some_there (get s.state.live (key hd)) fits_at
 
-  abbrev lent : ShelfMeaning
-  lent = shelf_lent s (hd.exp - 5) hd.index ws
+    lent_is : shelf_lent s (key hd) ws ≡ with_put s (key hd) (Some (refilled ws old.0)) true
+    lent_is = ap (λ o. with_put s (key hd) (lent_chunk o ws) true) old.1
 
-  wrote_h : Wrote s lent hd.exp hd.index (refilled ws old)
-  wrote_h = wrote hd.exp hd.index (refilled ws old) tidy valid_shelf' (ap (λ o. with_put s (hd.exp - 5) hd.index (lent_chunk o ws) true) there) (ap is_some there) low high
+    pub tidy_h : IsTidy (shelf_lent s (key hd) ws)
+    tidy_h = tidy_put (key hd) (refilled ws old.0) true tidy valid lent_is
 
-  pub tidy_h : IsTidy lent
-  tidy_h = wrote_h.tidy
+    pub lent_h : meaning_of (shelf_lent s (key hd) ws) applied ≡ heap_lent h hd ws
+    lent_h =
+        ap (λ (t : ShelfMeaning). meaning_of t applied) lent_is
+        ∙ sym (ap (λ o. record (meaning_of s applied) { state = (write_live s.state hd 0 (new_bytes o ws) o).heap }) old.1
+        ∙ ap (λ (st : HeapState). record (meaning_of s applied) { state = st }) (whole_write s.state hd ws old.0 old.2))
+        ∙ ap (λ (x : HeapMeaning). heap_lent x hd ws) view
 
-  pub lent_h : heap_of lent applied ≡ heap_lent h hd ws
-  unfolding old some_there
-  lent_h =
-      ap (λ (st : HeapState). record (heap_of s applied) { state = st }) wrote_h.state
-      ∙ sym (ap (λ o. record (heap_of s applied) { state = (write_live (state_of s.rows) hd 0 (new_bytes o ws) o).heap }) (live ∙ there)
-      ∙ ap (λ (st : HeapState). record (heap_of s applied) { state = st }) (whole_write (state_of s.rows) hd ws old (some_there (chunk_at s.rows (hd.exp - 5) hd.index) fits).2))
-      ∙ ap (λ (x : HeapMeaning). heap_lent x hd ws) view
-
-  pub sound_h : IsSound (heap_lent h hd ws)
-  sound_h = subst IsSound lent_h (sound_of applied tidy_h)
-
--- a live chunk of a heap is one of its shelf
-module _ {s : ShelfMeaning} {applied : ℕ} {h : HeapMeaning} (view : heap_of s applied ≡ h) (tidy : IsTidy s) (hd : Handle) (low : 5 ≤ hd.exp) (small : hd.index < 2 ^ 32) where
-  pub live_at : get (live_of s.rows) (key hd) ≡ chunk_at s.rows (hd.exp - 5) hd.index
-  live_at = get-live_of s.rows (kept_fits tidy.valid_shelf) (hd.exp - 5) hd.index {q = (key hd)} (let e : hd.exp ≡ hd.exp - 5 + 5 = omega arith in ap (λ n. number n hd.index) e) small
-
-  pub fits_at : HasByte h hd → FitsIn (chunk_at s.rows (hd.exp - 5) hd.index) 1
-  fits_at some = subst (λ o. FitsIn o 1) (ap (λ (x : HeapMeaning). get x.state.live (key hd)) (sym view) ∙ live_at) some
+    pub sound_h : IsSound (heap_lent h hd ws)
+    sound_h = subst IsSound lent_h (sound_of applied tidy_h)

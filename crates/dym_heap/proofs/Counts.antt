@@ -1,81 +1,52 @@
 -- How many areas each class has, and how many a record has.
-use Rattle.std.proofs.Common.{◌≡◌, ℕ, zero, suc, ◌+◌, ◌-◌, ◌*◌, ◌/◌, ◌<◌, ◌≤◌, inl, inr, List, [], ◌∷◌, length, get_or, set, max, refl, sym, ap, subst, ◌∙◌, arith, sum, sum_by, length-set, get_or-set_same, get_or-set_other, add-zero}
-use Rattle.std.specs.List.{range_with_len}
+use Rattle.std.proofs.Common.{◌≡◌, ℕ, zero, suc, ◌+◌, ◌-◌, ◌<◌, ◌≤◌, inl, inr, List, [], ◌∷◌, length, get_or, set, max, sym, ap, subst, ◌∙◌, arith, sum, length-set, get_or-set_same, get_or-set_other}
 use Rattle.std.proofs.lemmas.Bool.{cases_eq, cases_lt}
 use Rattle.std.proofs.lemmas.List.Sums.{sum_by-cons}
-use Rattle.std.proofs.lemmas.Nat.{pow_pos, div-mul-add, div_below}
-use Rattle.dym_base.specs.Numbers.{per}
+use Rattle.dym_base.specs.Numbers.{IsClass}
 use Rattle.dym_base.specs.Heaps.{areas, held}
 use Rattle.dym_base.specs.Packed.{Logged, packed}
 use Rattle.dym_pack.specs.Areas.{AreaName, area_at}
 use Rattle.dym_base.specs.Recorded.{IsRecorded}
 use Rattle.dym_pack.specs.ParsedAreas.{IsRecord, OfLog}
-use Rattle.dym_heap.specs.Table.{Row, row_at}
-use Rattle.dym_heap.specs.Shape.{areas_in}
-use Rattle.dym_heap.specs.Shelves.{ShelfMeaning, IsValidShelf}
+use Rattle.dym_heap.specs.Shelves.{ShelfMeaning, IsValidShelf, count_of}
+use Rattle.dym_heap.proofs.Tidy.{sum_points}
 use Rattle.dym_heap.proofs.AreaLists.{named, stands_in}
 
 -- ---- sums
 
-pub sum_points : (f : ℕ → ℕ) (xs : List ℕ) (a n : ℕ) → length xs ≡ n → ((c : ℕ) → c < n → get_or xs c 0 ≡ f (a + c)) → sum xs ≡ sum_by f (range_with_len a n)
-sum_points f [] a zero long each = refl
-sum_points f [] a (suc n) long each = absurd (omega arith)
-sum_points f (x ∷ xs) a zero long each = absurd (omega arith)
-sum_points f (x ∷ xs) a (suc n) long each =
-    let rest = sum_points f xs (a + 1) n (omega arith) (λ c l. each (suc c) (omega arith) ∙ (let e : a + suc c ≡ a + 1 + c = omega arith in ap f e)) in
-    let first : x ≡ f a = each 0 (omega arith) ∙ ap f (add-zero a) in
-    sum_by-cons (λ y. y) x xs ∙ (let s = sum_by-cons f a (range_with_len (a + 1) n) in omega arith)
-
-below_quotient : (l n m : ℕ) → 0 < n → l ≤ m * n → l / n ≤ m
-below_quotient l n m some fits =
-    elim (cases_lt l (m * n)) as (λ _. l / n ≤ m) [
-      | inl less ↦ (let b = div_below l n m some less in omega arith)
-      | inr past ↦ (let e : l ≡ m * n + 0 = omega arith in let q = ap (λ x. x / n) e ∙ div-mul-add m n 0 some in omega arith)
-    ]
-
-areas_le : (e : ℕ) (rows : List Row) (counts : List ℕ) → length rows ≡ length counts → ((c : ℕ) → c < length rows → length (row_at rows c).chunks / per (e + c) ≤ get_or counts c 0) → areas_in e rows ≤ sum counts
-areas_le e [] [] long each = omega arith
-areas_le e [] (n ∷ counts) long each = absurd (omega arith)
-areas_le e (r ∷ rows) [] long each = absurd (omega arith)
-areas_le e (r ∷ rows) (n ∷ counts) long each =
-    let z : e + 0 ≡ e = add-zero e in
-    let first : length r.chunks / per e ≤ n = subst (λ x. length r.chunks / per x ≤ n) z (each 0 (omega arith)) in
-    let rest = areas_le (e + 1) rows counts (omega arith) (λ c l. let s : e + suc c ≡ e + 1 + c = omega arith in subst (λ x. length (row_at rows c).chunks / per x ≤ get_or counts c 0) s (each (suc c) (omega arith))) in
-    let s = sum_by-cons (λ y. y) n counts in
+sum_le : (xs ys : List ℕ) → length xs ≡ length ys → ((c : ℕ) → c < length xs → get_or xs c 0 ≤ get_or ys c 0) → sum xs ≤ sum ys
+sum_le [] ys long each = omega arith
+sum_le (x ∷ xs) [] long each = absurd (omega arith)
+sum_le (x ∷ xs) (y ∷ ys) long each =
+    let first = each 0 (omega arith) in
+    let rest = sum_le xs ys (omega arith) (λ c l. each (suc c) (omega arith)) in
+    let a = sum_by-cons (λ z. z) x xs in
+    let b = sum_by-cons (λ z. z) y ys in
     omega arith
 
-areas_lt : (e : ℕ) (rows : List Row) (counts : List ℕ) (d : ℕ) → length rows ≡ length counts → ((c : ℕ) → c < length rows → length (row_at rows c).chunks / per (e + c) ≤ get_or counts c 0) → d < length rows
-    → length (row_at rows d).chunks / per (e + d) < get_or counts d 0 → areas_in e rows < sum counts
-areas_lt e [] counts d long each l strict = absurd (omega arith)
-areas_lt e (r ∷ rows) [] d long each l strict = absurd (omega arith)
-areas_lt e (r ∷ rows) (n ∷ counts) zero long each l strict =
-    let z : e + 0 ≡ e = add-zero e in
-    let first : length r.chunks / per e < n = subst (λ x. length r.chunks / per x < n) z strict in
-    let rest = areas_le (e + 1) rows counts (omega arith) (λ c m. let s : e + suc c ≡ e + 1 + c = omega arith in subst (λ x. length (row_at rows c).chunks / per x ≤ get_or counts c 0) s (each (suc c) (omega arith))) in
-    let s = sum_by-cons (λ y. y) n counts in
+sum_lt : (xs ys : List ℕ) (d : ℕ) → length xs ≡ length ys → ((c : ℕ) → c < length xs → get_or xs c 0 ≤ get_or ys c 0) → d < length xs → get_or xs d 0 < get_or ys d 0 → sum xs < sum ys
+sum_lt [] ys d long each l strict = absurd (omega arith)
+sum_lt (x ∷ xs) [] d long each l strict = absurd (omega arith)
+sum_lt (x ∷ xs) (y ∷ ys) zero long each l strict =
+    let rest = sum_le xs ys (omega arith) (λ c l. each (suc c) (omega arith)) in
+    let a = sum_by-cons (λ z. z) x xs in
+    let b = sum_by-cons (λ z. z) y ys in
     omega arith
-areas_lt e (r ∷ rows) (n ∷ counts) (suc d) long each l strict =
-    let z : e + 0 ≡ e = add-zero e in
-    let first : length r.chunks / per e ≤ n = subst (λ x. length r.chunks / per x ≤ n) z (each 0 (omega arith)) in
-    let move : e + suc d ≡ e + 1 + d = omega arith in
-    let rest = areas_lt (e + 1) rows counts d (omega arith) (λ c m. let s : e + suc c ≡ e + 1 + c = omega arith in subst (λ x. length (row_at rows c).chunks / per x ≤ get_or counts c 0) s (each (suc c) (omega arith))) (omega arith)
-    (subst (λ x. length (row_at rows d).chunks / per x < get_or counts d 0) move strict) in
-    let s = sum_by-cons (λ y. y) n counts in
+sum_lt (x ∷ xs) (y ∷ ys) (suc d) long each l strict =
+    let first = each 0 (omega arith) in
+    let rest = sum_lt xs ys d (omega arith) (λ c l. each (suc c) (omega arith)) (omega arith) strict in
+    let a = sum_by-cons (λ z. z) x xs in
+    let b = sum_by-cons (λ z. z) y ys in
     omega arith
 
 -- where one class has fewer areas than it should, and none has more, a segment may still be taken
-pub room_left : (s : ShelfMeaning) (counts : List ℕ) (c n : ℕ) → IsValidShelf s → length counts ≡ 12 → ((d : ℕ) → d < 12 → length (row_at s.rows d).chunks ≤ get_or counts d 0 * per (d + 5)) → c < 12
-    → length (row_at s.rows c).chunks ≡ n * per (c + 5) → n < get_or counts c 0 → sum counts ≤ s.quota → length s.held_ids < s.quota
-room_left s counts c n valid_shelf long each l many less within =
-    let classes = valid_shelf.classes in
-    let positive : (d : ℕ) → 0 < per (d + 5) = λ d. pow_pos (16 - (d + 5)) in
-    let turn : (d : ℕ) → (5 + d ≡ d + 5) = λ d. omega arith in
-    let strict = areas_lt 5 s.rows counts c (omega arith)
-    (λ d m. subst (λ x. length (row_at s.rows d).chunks / per x ≤ get_or counts d 0) (sym (turn d)) (below_quotient (length (row_at s.rows d).chunks) (per (d + 5)) (get_or counts d 0) (positive d) (each d (omega arith))))
-    (omega arith)
-    (subst (λ x. length (row_at s.rows c).chunks / per x < get_or counts c 0) (sym (turn c))
-    (let e : length (row_at s.rows c).chunks ≡ n * per (c + 5) + 0 = omega arith in let q = ap (λ x. x / per (c + 5)) e ∙ div-mul-add n (per (c + 5)) 0 (positive c) in omega arith)) in
-    let holds = valid_shelf.holds in
+pub room_left : (s : ShelfMeaning) (counts : List ℕ) (e : ℕ) → IsValidShelf s → length counts ≡ 12 → ((d : ℕ) → IsClass d → count_of s d ≤ get_or counts (d - 5) 0) → 5 ≤ e → e ≤ 16 → count_of s e < get_or counts (e - 5) 0
+    → sum counts ≤ s.quota → length s.held_ids < s.quota
+room_left s counts e valid long each low high less within =
+    let classes = valid.classes in
+    let strict = sum_lt s.counts counts (e - 5) (omega arith)
+    (λ c l. (let same : c + 5 - 5 ≡ c = omega arith in subst (λ x. get_or s.counts x 0 ≤ get_or counts x 0) same (each (c + 5) (omega arith, omega arith)))) (omega arith) less in
+    let holds = valid.holds in
     omega arith
 
 -- ---- the areas of a record
@@ -134,8 +105,8 @@ counted_more {counts} {k} {c} e o {x} was has inside exp ord c_is x_is =
           ];
     }
 
-pub counted_all : {bytes counts : List ℕ} {k : ℕ} → Counted bytes counts k → OfLog bytes (λ log. k ≡ held log.copy) → OfLog bytes (λ log. (c : ℕ) → c < 12 → get_or counts c 0 ≡ areas log.copy (c + 5))
-counted_all {counts} was all log is pk c l =
+counted_c : {bytes counts : List ℕ} {k : ℕ} → Counted bytes counts k → OfLog bytes (λ log. k ≡ held log.copy) → OfLog bytes (λ log. (c : ℕ) → c < 12 → get_or counts c 0 ≡ areas log.copy (c + 5))
+counted_c {counts} was all log is pk c l =
     let under = was.under log is pk c l in
     elim (cases_lt (get_or counts c 0) (areas log.copy (c + 5))) as (λ _. get_or counts c 0 ≡ areas log.copy (c + 5)) [
       | inr past ↦ omega arith
@@ -150,10 +121,15 @@ counted_all {counts} was all log is pk c l =
           absurd (omega arith)
     ]
 
+pub counted_all : {bytes counts : List ℕ} {k : ℕ} → Counted bytes counts k → OfLog bytes (λ log. k ≡ held log.copy) → OfLog bytes (λ log. (e : ℕ) → IsClass e → get_or counts (e - 5) 0 ≡ areas log.copy e)
+counted_all was all log is pk e class =
+    let same : e - 5 + 5 ≡ e = (let low = class.0 in omega arith) in
+    counted_c was all log is pk (e - 5) (let high = class.1 in omega arith) ∙ ap (areas log.copy) same
+
 pub counted_total : {bytes counts : List ℕ} {k : ℕ} → Counted bytes counts k → IsRecord bytes → OfLog bytes (λ log. k ≡ held log.copy) → (quota : ℕ) → OfLog bytes (λ log. held log.copy ≤ quota) → sum counts ≤ quota
 unfolding held
 counted_total {bytes} {counts} {k} was has all quota within =
-    let each = counted_all was all has.0 has.1 has.2 in
+    let each = counted_c was all has.0 has.1 has.2 in
     let turn : (c : ℕ) → (c + 5 ≡ 5 + c) = λ c. omega arith in
     let total : sum counts ≡ held has.0.copy = sum_points (areas has.0.copy) counts 5 12 was.long (λ c l. each c l ∙ ap (areas has.0.copy) (turn c)) in
     let w = within has.0 has.1 has.2 in

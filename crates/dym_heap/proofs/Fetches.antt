@@ -1,12 +1,13 @@
 -- A shelf in which a record's chunks are marked, or to which those that are touched are fetched, area by area.
-use Rattle.std.proofs.Common.{◌≡◌, ℕ, zero, suc, ◌+◌, ◌-◌, ◌<◌, ◌≤◌, ◌&&◌, inl, inr, Bool, true, false, cond, ltb, is_some, Some, None, List, [], ◌∷◌, ◌++◌, length, refl, sym, ap, subst, ◌∙◌, arith, length-append}
+use Rattle.std.proofs.Common.{◌≡◌, ℕ, zero, suc, ◌+◌, ◌-◌, ◌%◌, ◌<◌, ◌≤◌, ◌&&◌, inl, inr, Bool, true, false, cond, ltb, is_some, Some, None, List, [], ◌∷◌, ◌++◌, length, refl, sym, ap, subst, ◌∙◌, arith, length-append}
 use Rattle.std.specs.Prelude.{unwrap_or, ◌==◌}
+use Rattle.std.proofs.lemmas.Nat.{pow_pos, mod_below}
 use Rattle.std.specs.Int.{to_le_bytes, w32}
 use Rattle.std.specs.List.{flat_map, filter, range_with_len}
 use Rattle.std.specs.FinMap.{get, contains_key}
 use Rattle.std.proofs.lemmas.Bool.{cases_eq, eqb-true, lt-ltb}
-use Rattle.dym_base.specs.Numbers.{per, exponent_of}
-use Rattle.dym_base.specs.Heaps.{held}
+use Rattle.dym_base.specs.Numbers.{per, exponent_of, index_of}
+use Rattle.dym_base.specs.Heaps.{HeapState}
 use Rattle.dym_base.specs.Laws.{IsLengthOf}
 use Rattle.dym_base.specs.Packed.{Logged, packs_by, packed_chunk}
 use Rattle.dym_base.specs.Recorded.{IsRecorded}
@@ -16,12 +17,12 @@ use Rattle.dym_base.specs.declared.command.Version.TheVariants.{One, Two}
 use Rattle.dym_bits.specs.Bits.{bit_in}
 use Rattle.dym_pack.specs.Areas.{area_at, chunks_of, chunk_number, bytes_at}
 use Rattle.dym_pack.specs.ParsedAreas.{packs_at, body_from}
-use Rattle.dym_heap.specs.Table.{Row, row_at}
+use Rattle.dym_heap.specs.Chunks.{ChunkMeaning, heap_chunk}
 use Rattle.dym_heap.specs.Shelves.{ShelfMeaning, IsValidShelf, IsTidy}
-use Rattle.dym_heap.specs.Fetches.{ChunkMeaning, row_chunk, marked, fetched, packed_at, IsReshaped, IsChangedArea, IsAreaChange}
-use Rattle.dym_heap.proofs.Sizes.{size_least}
+use Rattle.dym_heap.specs.Fetches.{marked, fetched, packed_at, IsReshaped, IsChangedArea, IsAreaChange}
 use Rattle.dym_heap.proofs.AreaSteps.{tidy_changed}
-use Rattle.dym_heap.proofs.RecordLoads.{class_low, class_high, packs_live, packed_is, packed_gone, some_bytes, area_as, bit_is}
+use Rattle.dym_heap.proofs.RecordLoads.{packs_live, packed_is, packed_gone, some_bytes, area_as, number_in, bit_is}
+use Rattle.dym_heap.proofs.Sizes.{size_least}
 use Rattle.dym_heap.proofs.Reshapes.{class_of}
 use Rattle.dym_heap.proofs.Wants.{marked_again, marked_none, fetched_again, fetched_none, fetched_some}
 
@@ -56,39 +57,31 @@ fetched_idle log is q a gone = sym (ap (λ o. fetched o a) (packed_gone log is q
 pub classes : (log : Logged) → IsRecorded log → (q : ℕ) → contains_key log.copy q ≡ true → (5 ≤ exponent_of q) × (exponent_of q ≤ 16)
 classes log is = class_of log.version log.copy is.sized
 
-pub class_k : (log : Logged) → IsRecorded log → (k : ℕ) → k < held log.copy → (area_at log.copy k).exponent - 5 < 12
-class_k log is k l = let low = class_low is k l in let high = class_high is k l in omega arith
-
 -- ---- the shelf stays tidy
 
-pub tidy_marked : (log : Logged) (k : ℕ) (mid new : ShelfMeaning) → (area_at log.copy k).exponent - 5 < 12 → IsTidy mid → IsValidShelf new → ((d : ℕ) → length (row_at new.rows d).chunks ≡ length (row_at mid.rows d).chunks)
-    → IsAreaChange log k mid.rows new.rows (Marked log) → IsTidy new
-tidy_marked log k mid new small tidy valid_shelf long changes =
-    tidy_changed tidy valid_shelf long changes
-    (λ i j e. ap (λ (x : ChunkMeaning). is_some x.bytes) e)
+pub tidy_marked : (log : Logged) (k : ℕ) {mid new : ShelfMeaning} → IsTidy mid → IsValidShelf new → new ≡ record mid { state = new.state } → IsAreaChange log.copy k mid.state new.state (Marked log) → IsTidy new
+tidy_marked log k tidy valid same changes = tidy_changed tidy valid same changes (λ q e some. ap (λ (x : ChunkMeaning). is_some x.bytes) e ∙ some)
 
-pub tidy_fetched : (log : Logged) (k : ℕ) (mid new : ShelfMeaning) → (area_at log.copy k).exponent - 5 < 12 → IsTidy mid → IsValidShelf new → ((d : ℕ) → length (row_at new.rows d).chunks ≡ length (row_at mid.rows d).chunks)
-    → IsAreaChange log k mid.rows new.rows (Fetched log) → IsTidy new
-tidy_fetched log k mid new small tidy valid_shelf long changes =
-    let c : ℕ = (area_at log.copy k).exponent - 5 in
-    tidy_changed tidy valid_shelf long changes
-    (λ i j e. ap (λ (x : ChunkMeaning). is_some x.bytes) e ∙ fetched_some (packed_by log (chunk_number log.copy k i)) (row_chunk mid.rows c j) (λ t. (tidy.valid_shelf.row c small).touched_used j t))
+pub tidy_fetched : (log : Logged) (k : ℕ) {mid new : ShelfMeaning} → IsTidy mid → IsValidShelf new → new ≡ record mid { state = new.state } → IsAreaChange log.copy k mid.state new.state (Fetched log) → IsTidy new
+tidy_fetched log k {mid} tidy valid same changes =
+    tidy_changed tidy valid same changes
+    (λ q e some. ap (λ (x : ChunkMeaning). is_some x.bytes) e ∙ fetched_some (packed_by log q) (heap_chunk mid.state q) (tidy.valid_shelf.touched_live q) ∙ some)
 
 -- ---- one area
 
-module _ {log : Logged} (is : IsRecorded log) (k : ℕ) {e o : ℕ} (low : 5 ≤ e) (e_is : e ≡ (area_at log.copy k).exponent) (o_is : o ≡ (area_at log.copy k).ordinal) (bits : List Bool)
-    (packs : (i : ℕ) → bit_in bits i ≡ (ltb i (chunks_of log.copy k) && packs_at log k i)) (old new : List Row) where
-  pub area_marked : IsChangedArea old new (e - 5) o (λ i a b. b ≡ marked (bit_in bits i) a) → IsAreaChange log k old new (Marked log)
-  area_marked changes =
-      area_as log k (λ i a b. b ≡ marked (bit_in bits i) a) (Marked log) low e_is o_is
-      (λ i a b l h. h ∙ ap (λ x. marked x a) (bit_is log k e_is bits packs i l ∙ sym (packs_some log is (chunk_number log.copy k i)))) changes
+module _ {log : Logged} (is : IsRecorded log) (k : ℕ) {e o : ℕ} (e_is : e ≡ (area_at log.copy k).exponent) (o_is : o ≡ (area_at log.copy k).ordinal) (bits : List Bool)
+    (packs : (i : ℕ) → bit_in bits i ≡ (ltb i (chunks_of log.copy k) && packs_at log k i)) {old new : HeapState} where
+  pub area_marked : IsChangedArea old new e o (λ i a b. b ≡ marked (bit_in bits i) a) → IsAreaChange log.copy k old new (Marked log)
+  area_marked =
+      area_as log k (λ i a b. b ≡ marked (bit_in bits i) a) (Marked log) e_is o_is
+      (λ i a b l h. h ∙ ap (λ x. marked x a) (bit_is log k e_is bits packs i l ∙ sym (packs_some log is (chunk_number log.copy k i))))
 
-  pub area_fetched : IsChangedArea old new (e - 5) o (λ i a b. b ≡ fetched (packed_at bits (bytes_at log.copy k) i) a) → IsAreaChange log k old new (Fetched log)
-  area_fetched changes =
-      area_as log k (λ i a b. b ≡ fetched (packed_at bits (bytes_at log.copy k) i) a) (Fetched log) low e_is o_is
+  pub area_fetched : IsChangedArea old new e o (λ i a b. b ≡ fetched (packed_at bits (bytes_at log.copy k) i) a) → IsAreaChange log.copy k old new (Fetched log)
+  area_fetched =
+      area_as log k (λ i a b. b ≡ fetched (packed_at bits (bytes_at log.copy k) i) a) (Fetched log) e_is o_is
       (λ i a b l h.
       let q : ℕ = chunk_number log.copy k i in
-      h ∙ ap (λ x. fetched x a) (ap (λ x. cond x (Some (bytes_at log.copy k i)) None) (bit_is log k e_is bits packs i l) ∙ sym (packed_is is q (packs_by log.kind log.copy log.found q) refl))) changes
+      h ∙ ap (λ x. fetched x a) (ap (λ x. cond x (Some (bytes_at log.copy k i)) None) (bit_is log k e_is bits packs i l) ∙ sym (packed_is is q (packs_by log.kind log.copy log.found q) refl)))
 
 -- ---- an area of which nothing is packed
 
@@ -132,18 +125,19 @@ none_packed log is k none i l =
     0 (chunks_of log.copy k - 0) none i (omega arith) (omega arith) in
     packed_is is (chunk_number log.copy k i) false clear
 
-pub idle_area : (log : Logged) (k : ℕ) (rows : List Row) (C : ℕ → ChunkMeaning → ChunkMeaning → Type 0) → 5 ≤ (area_at log.copy k).exponent → ((i : ℕ) (a : ChunkMeaning) → i < chunks_of log.copy k → C (chunk_number log.copy k i) a a) → IsAreaChange log k rows rows C
-idle_area log k rows C low each =
-    let row : (area_at log.copy k).exponent - 5 + 5 ≡ (area_at log.copy k).exponent = omega arith in
-    record { here = λ i b. each i _ (subst (λ x. i < per x) row b); others = λ d i ne. refl }
+idle_area : (log : Logged) (k : ℕ) (s : HeapState) (C : ℕ → ChunkMeaning → ChunkMeaning → Type 0) → ((i : ℕ) (a : ChunkMeaning) → i < chunks_of log.copy k → C (chunk_number log.copy k i) a a) → IsAreaChange log.copy k s s C
+idle_area log k s C each = record {
+  here = λ q at.
+      let e : ℕ = (area_at log.copy k).exponent in
+      subst (λ x. C x (heap_chunk s q) (heap_chunk s q)) (number_in log.copy k q at) (each (index_of q % per e) (heap_chunk s q) (mod_below (index_of q) (per e) (pow_pos (16 - e))));
+  others = λ q apart. refl;
+}
 
-pub idle_marked : (log : Logged) → IsRecorded log → (k : ℕ) → k < held log.copy → (rows : List Row) → body_from log k 0 ≡ [] → IsAreaChange log k rows rows (Marked log)
-idle_marked log is k l rows none =
-    idle_area log k rows (Marked log) (class_low is k l) (λ i a b. sym (ap (λ o. marked (is_some o) a) (none_packed log is k none i b) ∙ marked_none a))
+pub idle_marked : (log : Logged) → IsRecorded log → (k : ℕ) (s : HeapState) → body_from log k 0 ≡ [] → IsAreaChange log.copy k s s (Marked log)
+idle_marked log is k s none = idle_area log k s (Marked log) (λ i a b. sym (ap (λ o. marked (is_some o) a) (none_packed log is k none i b) ∙ marked_none a))
 
-pub idle_fetched : (log : Logged) → IsRecorded log → (k : ℕ) → k < held log.copy → (rows : List Row) → body_from log k 0 ≡ [] → IsAreaChange log k rows rows (Fetched log)
-idle_fetched log is k l rows none =
-    idle_area log k rows (Fetched log) (class_low is k l) (λ i a b. sym (ap (λ o. fetched o a) (none_packed log is k none i b) ∙ fetched_none a))
+pub idle_fetched : (log : Logged) → IsRecorded log → (k : ℕ) (s : HeapState) → body_from log k 0 ≡ [] → IsAreaChange log.copy k s s (Fetched log)
+idle_fetched log is k s none = idle_area log k s (Fetched log) (λ i a b. sym (ap (λ o. fetched o a) (none_packed log is k none i b) ∙ fetched_none a))
 
 -- ---- use bits
 

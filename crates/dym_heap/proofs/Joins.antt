@@ -22,10 +22,6 @@ between-join a b c xs low high fits =
           ∙ sym (get_or-between xs a c j d (omega arith))
     ])
 
-pub between-all : {X : Type 0} (xs : List X) → between 0 (length xs) xs ≡ xs
-between-all xs = same_lists (between 0 (length xs) xs) xs (omega (arith, length-between xs 0 (length xs) (omega arith)))
-    (λ j d l. get_or-between xs 0 (length xs) j d (omega (arith, length-between xs 0 (length xs) (omega arith))) ∙ (let e : 0 + j ≡ j = omega arith in ap (λ i. get_or xs i d) e))
-
 pub flat-same : {X : Type 0} (f g : ℕ → List X) (a n : ℕ) → ((i : ℕ) → a ≤ i → i < a + n → f i ≡ g i) → flat_map f (range_with_len a n) ≡ flat_map g (range_with_len a n)
 flat-same f g a zero same = refl
 flat-same f g a (suc n) same =

@@ -17,13 +17,11 @@ use Rattle.dym_region.specs.Content.{part_of}
 use Rattle.dym_area.specs.Area.{AreaMeaning}
 use Rattle.dym_pack.specs.Areas.{area_at, chunks_of, chunk_number, is_used_at, bytes_at}
 use Rattle.dym_heap.specs.Meaning.{HeapMeaning}
-use Rattle.dym_heap.specs.Table.{live_of, touched_of}
 use Rattle.dym_heap.specs.Shelves.{ShelfMeaning, IsTidy}
 use Rattle.dym_heap.specs.SizedAreas.{SizedAreaMeaning, len_of, version_by, place_of, IsMeasured}
 use Rattle.dym_heap.specs.AreaViews.{IsAreaOf, IsUsedRun}
 use Rattle.dym_heap.proofs.Sizes.{whole_area}
-use Rattle.dym_heap.proofs.Steps.{tidy_held}
-use Rattle.dym_heap.proofs.Soundness.{heap_of}
+use Rattle.dym_heap.proofs.Tidy.{tidy_held, meaning_of}
 use Rattle.dym_heap.proofs.Joins.{between-join, flat-same}
 use Rattle.dym_heap.proofs.PlaceSteps.{some_used, used_chunk, mark_of}
 use Rattle.dym_heap.proofs.PlaceFacts.{chunk_at_p, set_p}
@@ -123,14 +121,14 @@ module _ {live : Live} {touched : Touched} {k : ℕ} {p : SizedAreaMeaning} (is 
 
 -- ---- the areas of a heap
 
-module _ {s : ShelfMeaning} {applied : ℕ} {h : HeapMeaning} (view : heap_of s applied ≡ h) (tidy : IsTidy s) where
+module _ {s : ShelfMeaning} {applied : ℕ} {h : HeapMeaning} (view : meaning_of s applied ≡ h) (tidy : IsTidy s) where
   pub held_h : length s.held_ids ≡ held h.state.live
   held_h = sym (tidy_held tidy) ∙ ap (λ (x : HeapMeaning). held x.state.live) view
 
   pub within_h : {k : ℕ} → k < held h.state.live → k < length s.held_ids
   within_h l = let n = held_h in omega arith
 
-  pub area_h : {k : ℕ} {p : SizedAreaMeaning} → IsAreaOf (live_of s.rows) (touched_of s.rows) k p → IsAreaOf h.state.live h.state.touched k p
+  pub area_h : {k : ℕ} {p : SizedAreaMeaning} → IsAreaOf s.state.live s.state.touched k p → IsAreaOf h.state.live h.state.touched k p
   area_h {k} {p} is = subst (λ (x : HeapMeaning). IsAreaOf x.state.live x.state.touched k p) view is
 
   pub version_h : (p : SizedAreaMeaning) → p.version ≡ s.version → p.version ≡ h.version

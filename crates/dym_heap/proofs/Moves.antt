@@ -1,51 +1,20 @@
 -- A chunk that moves to another class, or gets another length.
-use Rattle.std.proofs.Common.{◌≡◌, ℕ, zero, suc, ◌+◌, ◌-◌, ◌^◌, ◌<◌, ◌≤◌, inl, inr, true, false, cond, ◌||◌, is_some, Option, Some, None, List, ◌++◌, length, take, drop, min, replicate, ◌==◌, refl, sym, ap, subst, ◌∙◌, arith, length-take-le, MatchOption}
-use Rattle.std.proofs.lemmas.Bool.{cases_lt, eq-eqb, ne_eqb, cond-false}
+use Rattle.std.proofs.Common.{◌≡◌, ℕ, ◌+◌, ◌-◌, inl, inr, ◌==◌, min, true, is_some, IsSome, Option, Some, None, List, ◌++◌, length, take, drop, replicate, length-take-le, refl, sym, ap, subst, ◌∙◌, arith, MatchOption}
+use Rattle.std.specs.FinMap.{get}
+use Rattle.std.specs.FinSet.{contains}
+use Rattle.std.proofs.lemmas.Bool.{cases_lt, cond-false, ne_eqb}
 use Rattle.std.proofs.lemmas.List.{take_all, drop-replicate, length-replicate}
-use Rattle.std.specs.Ordering.{nat_cmp, eq_by_cmp}
-use Rattle.std.specs.Cmp.{nat_cmp_total, unsigned_tied}
-use Rattle.std.specs.FinMap.{get, insert, get-insert, same_map, nat_cmp-IsAntisymmetric}
-use Rattle.std.specs.FinSet as fset
-use Rattle.std.specs.FinSet.{contains-insert, same_set}
-use Rattle.dym_base.specs.Numbers.{number}
-use Rattle.dym_base.specs.Heaps.{Live, Touched, HeapState}
-use Rattle.dym_base.specs.HeapStep.{splice, fitted, with_chunk, resize}
+use Rattle.dym_base.specs.Heaps.{HeapState}
+use Rattle.dym_base.specs.HeapStep.{splice, fitted, with_chunk, without_chunk, resize, key}
 use Rattle.dym_base.specs.declared.handle.Handle.{Handle}
 use Rattle.dym_base.specs.declared.command.Version.{Version}
 use Rattle.dym_base.specs.declared.command.Version.TheVariants.{One, Two}
-use Rattle.dym_heap.specs.Table.{chunk_at, live_of, state_of}
-use Rattle.dym_heap.specs.Shelves.{ShelfMeaning, IsValidShelf, IsTidy, with_put, FitsIn, copied_to, Copied}
-use Rattle.dym_heap.proofs.HandleSteps.{get_handle, wrote, wrote_by}
-use Rattle.dym_heap.proofs.Copies.{midway}
-
--- ---- a chunk that is written twice
-
-live_twice : (m : Live) (k : ℕ) (x y : List ℕ) → insert (insert m k x) k y ≡ insert m k y
-live_twice m k x y =
-    same_map nat_cmp_total nat_cmp-IsAntisymmetric (insert (insert m k x) k y) (insert m k y) (λ q.
-    get-insert nat_cmp_total (insert m k x) k y q
-    ∙ elim (eq_by_cmp nat_cmp q k) as (λ b. eq_by_cmp nat_cmp q k ≡ b → cond b (Some y) (get (insert m k x) q) ≡ cond b (Some y) (get m q)) [
-      | true ↦ λ e. refl
-      | false ↦ λ e. get-insert nat_cmp_total m k x q ∙ ap (λ b. cond b (Some x) (get m q)) e
-    ] refl
-    ∙ sym (get-insert nat_cmp_total m k y q))
-
-touched_twice : (t : Touched) (k : ℕ) → fset.insert (fset.insert t k) k ≡ fset.insert t k
-touched_twice t k =
-    same_set nat_cmp_total nat_cmp-IsAntisymmetric (fset.insert (fset.insert t k) k) (fset.insert t k) (λ q.
-    contains-insert nat_cmp_total (fset.insert t k) k q
-    ∙ ap (λ b. eq_by_cmp nat_cmp q k || b) (contains-insert nat_cmp_total t k q)
-    ∙ elim (eq_by_cmp nat_cmp q k) as (λ b. (b || (b || fset.contains t q)) ≡ (b || fset.contains t q)) [ true ↦ refl | false ↦ refl ]
-    ∙ sym (contains-insert nat_cmp_total t k q))
-
-state_twice : (st : HeapState) (k : ℕ) (x y : List ℕ) → with_chunk (with_chunk st k x) k y ≡ with_chunk st k y
-state_twice st k x y = λ j. record { live = live_twice st.live k x y j; touched = touched_twice st.touched k j }
-
-get_apart : (m : Live) (k q : ℕ) (x : List ℕ) → (q ≡ k → ⊥) → get (insert m k x) q ≡ get m q
-get_apart m k q x ne = get-insert nat_cmp_total m k x q ∙ ap (λ b. cond b (Some x) (get m q)) (unsigned_tied q k ∙ ne_eqb q k ne)
-
-get_here : (m : Live) (k : ℕ) (x : List ℕ) → get (insert m k x) k ≡ Some x
-get_here m k x = get-insert nat_cmp_total m k x k ∙ ap (λ b. cond b (Some x) (get m k)) (unsigned_tied k k ∙ eq-eqb k k refl)
+use Rattle.dym_heap.specs.Chunks.{ChunkMeaning, heap_chunk}
+use Rattle.dym_heap.specs.Shelves.{ShelfMeaning, IsValidShelf, IsTidy, with_put, FitsIn}
+use Rattle.dym_heap.proofs.Chunks.{put_here, put_other, put_same, put_twice}
+use Rattle.dym_heap.proofs.ShelfCalls.{matched, match_some}
+use Rattle.dym_heap.proofs.HandleSteps.{wrote}
+use Rattle.dym_heap.proofs.Tidy.{tidy_put}
 
 -- ---- the bytes that moved
 
@@ -61,23 +30,7 @@ first_bytes n m old is =
     let rest : drop (0 + length xs) (replicate n 0) ≡ replicate (n - length old) 0 = drop-replicate (0 + length xs) n 0 ∙ (let e : n - (0 + length xs) ≡ n - length old = omega arith in ap (λ k. replicate k 0) e) in
     ap (λ zs. zs ++ drop (0 + length xs) (replicate n 0)) front ∙ ap (λ zs. take n old ++ zs) rest
 
-no_bytes : (x target : List ℕ) → splice 0 (take 0 x) target ≡ target
-no_bytes x target = refl
-
 -- ---- the steps of a move: a fresh chunk, its bytes, and the old chunk's end
-
--- after the fresh chunk was taken, the old one is as it was
-pub record Taken (s m : ShelfMeaning) (a i e j n : ℕ) : Type 0 where
-  pub from : chunk_at m.rows (a - 5) i ≡ chunk_at s.rows (a - 5) i
-  pub into : chunk_at m.rows (e - 5) j ≡ Some (replicate n 0)
-
-pub taken_chunks : {s m : ShelfMeaning} {a : ℕ} (i : ℕ) {e : ℕ} (j n : ℕ) → IsValidShelf s → IsValidShelf m → 5 ≤ a → 5 ≤ e → (a ≡ e → ⊥) → i < 2 ^ 32 → j < 2 ^ 32 → state_of m.rows ≡ with_chunk (state_of s.rows) (number e j) (replicate n 0) → Taken s m a i e j n
-taken_chunks {s} {m} {a} i {e} j n valid_shelf valid_shelf' low low' ne small small' after =
-    let lives : live_of m.rows ≡ insert (live_of s.rows) (number e j) (replicate n 0) = ap (λ (st : HeapState). st.live) after in
-    record {
-      from = sym (get_handle a i valid_shelf' low small) ∙ ap (λ x. get x (number a i)) lives ∙ get_apart (live_of s.rows) (number e j) (number a i) (replicate n 0) (λ same. ne (omega arith)) ∙ get_handle a i valid_shelf low small;
-      into = sym (get_handle e j valid_shelf' low' small') ∙ ap (λ x. get x (number e j)) lives ∙ get_here (live_of s.rows) (number e j) (replicate n 0);
-    }
 
 pub live_fits : (o : Option (List ℕ)) (old n m : ℕ) → MatchOption o ⊥ (λ bytes. length bytes ≡ old) → m ≡ min old n → FitsIn o m
 live_fits None old n m live is = absurd live
@@ -90,43 +43,64 @@ pub live_some : (o : Option (List ℕ)) (old : ℕ) → MatchOption o ⊥ (λ by
 live_some None old live = absurd live
 live_some (Some bytes) old live = (bytes, refl, live)
 
--- after the bytes were copied
-pub record Arrived (s t : ShelfMeaning) (a i e j n : ℕ) (source : List ℕ) : Type 0 where
-  pub state : state_of t.rows ≡ with_chunk (state_of s.rows) (number e j) (fitted n source)
-  pub tidy : IsTidy t
-  pub from : chunk_at t.rows (a - 5) i ≡ Some source
+-- the first n bytes of one live chunk over those of another, which is touched
+abbrev pub CopiesChunk : ShelfMeaning → ShelfMeaning → ℕ → ℕ → ℕ → Type 0
+CopiesChunk s t k j n = MatchOption (get s.state.live k) ⊥ (λ source. MatchOption (get s.state.live j) ⊥ (λ target. t ≡ with_put s j (Some (splice 0 (take n source) target)) true))
 
-arrived_at : (s m t : ShelfMeaning) (a i e j n k : ℕ) (source : List ℕ) → IsTidy m → IsValidShelf t → 5 ≤ e → e ≤ 16 → (a - 5 ≡ e - 5 → ⊥) → chunk_at m.rows (a - 5) i ≡ Some source → chunk_at m.rows (e - 5) j ≡ Some (replicate n 0)
-    → state_of m.rows ≡ with_chunk (state_of s.rows) (number e j) (replicate n 0) → k ≡ min (length source) n → copied_to m t (e - 5) j source (replicate n 0) k → Arrived s t a i e j n source
-arrived_at s m t a i e j n zero source tidy valid_shelf' low high ne from into after is so =
-    let bytes : replicate n 0 ≡ fitted n source = sym (no_bytes source (replicate n 0)) ∙ first_bytes n zero source is in
-    record {
-      state = ap (λ (x : ShelfMeaning). state_of x.rows) so ∙ after ∙ ap (with_chunk (state_of s.rows) (number e j)) bytes;
-      tidy = subst IsTidy (sym so) tidy;
-      from = ap (λ (x : ShelfMeaning). chunk_at x.rows (a - 5) i) so ∙ from;
-    }
-arrived_at s m t a i e j n (suc k) source tidy valid_shelf' low high ne from into after is so =
-    let w = wrote e j (splice 0 (take (suc k) source) (replicate n 0)) tidy valid_shelf' so (ap is_some into) low high in
-    let mid = midway m t (a - 5) i (e - 5) j source (replicate n 0) (suc k) ne (let c = tidy.valid_shelf.classes in omega arith) from into so in
-    record {
-      state = w.state ∙ ap (λ st. with_chunk st (number e j) (splice 0 (take (suc k) source) (replicate n 0))) after
-          ∙ state_twice (state_of s.rows) (number e j) (replicate n 0) (splice 0 (take (suc k) source) (replicate n 0)) ∙ ap (with_chunk (state_of s.rows) (number e j)) (first_bytes n (suc k) source is);
-      tidy = w.tidy;
-      from = mid.from;
-    }
+pub fits_match : (o : Option (List ℕ)) (n : ℕ) (Q : List ℕ → Type 0) → FitsIn o n → ((x : List ℕ) → o ≡ Some x → Q x) → MatchOption o ⊥ Q
+fits_match None n Q fits q = absurd fits
+fits_match (Some x) n Q fits q = q x refl
 
-pub arrived : {s m t : ShelfMeaning} {a : ℕ} (i : ℕ) {e : ℕ} (j n : ℕ) {k : ℕ} (old : ℕ) → IsValidShelf s → IsTidy m → IsValidShelf t → 5 ≤ a → 5 ≤ e → e ≤ 16 → (a ≡ e → ⊥) → i < 2 ^ 32 → j < 2 ^ 32 → MatchOption (chunk_at s.rows (a - 5) i) ⊥ (λ bytes. length bytes ≡ old)
-    → state_of m.rows ≡ with_chunk (state_of s.rows) (number e j) (replicate n 0) → k ≡ min old n → Copied m t (a - 5) i (e - 5) j k
-    → (source : List ℕ) × (chunk_at s.rows (a - 5) i ≡ Some source) × Arrived s t a i e j n source
-arrived {s} {m} {t} {a} i {e} j n {k} old valid_shelf tidy valid_shelf' low low' high ne small small' live after is so =
-    let it = live_some (chunk_at s.rows (a - 5) i) old live in
-    let there = taken_chunks i j n valid_shelf tidy.valid_shelf low low' ne small small' after in
-    let from : chunk_at m.rows (a - 5) i ≡ Some it.0 = there.from ∙ it.1 in
-    let long = it.2 in
-    let so' : copied_to m t (e - 5) j it.0 (replicate n 0) k =
-    subst (λ o. MatchOption o ⊥ (λ target. copied_to m t (e - 5) j it.0 target k)) there.into
-    (subst (λ o. MatchOption o ⊥ (λ source. MatchOption (chunk_at m.rows (e - 5) j) ⊥ (λ target. copied_to m t (e - 5) j source target k))) from so) in
-    (it.0, it.1, arrived_at s m t a i e j n k it.0 tidy valid_shelf' low' high (λ same. ne (omega arith)) from there.into after (omega arith) so')
+-- no byte
+pub copied_none : (s : ShelfMeaning) (k j n : ℕ) → n ≡ 0 → FitsIn (get s.state.live k) n → FitsIn (get s.state.live j) n → contains s.state.touched j ≡ true → CopiesChunk s s k j n
+copied_none s k j n none from into touched =
+    fits_match (get s.state.live k) n _ from (λ source _. fits_match (get s.state.live j) n _ into (λ target there.
+    ap (λ st. record s { state = st }) (put_same s.state j (record { bytes = Some target; touched = true }) (λ i. record { bytes = there i; touched = touched i }))
+    ∙ ap (λ m. with_put s j (Some (splice 0 (take m source) target)) true) (sym none)))
+
+pub copied_tidy : {s t : ShelfMeaning} (k j n : ℕ) → IsTidy s → IsValidShelf t → CopiesChunk s t k j n → IsTidy t
+copied_tidy {s} {t} k j n tidy valid copied =
+    let source = matched (get s.state.live k) (λ source. MatchOption (get s.state.live j) ⊥ (λ target. t ≡ with_put s j (Some (splice 0 (take n source) target)) true)) copied in
+    let target = matched (get s.state.live j) (λ target. t ≡ with_put s j (Some (splice 0 (take n source.0) target)) true) source.2 in
+    tidy_put j (splice 0 (take n source.0) target.0) true tidy valid target.2
+
+-- after the fresh chunk j was taken, the old one, k, is as it was
+module _ (s m : ShelfMeaning) (k j n old : ℕ) (ne : k ≡ j → ⊥) (live : MatchOption (get s.state.live k) ⊥ (λ bytes. length bytes ≡ old)) (taken : m.state ≡ with_chunk s.state j (replicate n 0)) where
+  source : (x : List ℕ) × (get s.state.live k ≡ Some x) × (length x ≡ old)
+  source = live_some (get s.state.live k) old live
+
+  fresh_chunk : heap_chunk m.state j ≡ record { bytes = Some (replicate n 0); touched = true }
+  fresh_chunk = ap (λ (st : HeapState). heap_chunk st j) taken ∙ put_here s.state j (record { bytes = Some (replicate n 0); touched = true })
+
+  pub from_m : get m.state.live k ≡ get s.state.live k
+  from_m = ap (λ (st : HeapState). get st.live k) taken ∙ ap (λ (c : ChunkMeaning). c.bytes) (put_other s.state j (record { bytes = Some (replicate n 0); touched = true }) k ne)
+
+  pub into_m : get m.state.live j ≡ Some (replicate n 0)
+  into_m = ap (λ (c : ChunkMeaning). c.bytes) fresh_chunk
+
+  pub touched_m : contains m.state.touched j ≡ true
+  touched_m = ap (λ (c : ChunkMeaning). c.touched) fresh_chunk
+
+  -- after the bytes were copied
+  module _ (t : ShelfMeaning) (l : ℕ) (l_is : l ≡ min old n) (copied : CopiesChunk m t k j l) where
+    is_t : t ≡ with_put m j (Some (splice 0 (take l source.0) (replicate n 0))) true
+    is_t =
+        subst (λ o. MatchOption o ⊥ (λ target. t ≡ with_put m j (Some (splice 0 (take l source.0) target)) true)) into_m
+        (subst (λ o. MatchOption o ⊥ (λ x. MatchOption (get m.state.live j) ⊥ (λ target. t ≡ with_put m j (Some (splice 0 (take l x) target)) true))) (from_m ∙ source.1) copied)
+
+    state_t : t.state ≡ with_chunk s.state j (fitted n source.0)
+    state_t =
+        ap (λ (x : ShelfMeaning). x.state) is_t ∙ ap (λ st. with_chunk st j (splice 0 (take l source.0) (replicate n 0))) taken
+        ∙ put_twice s.state j (record { bytes = Some (replicate n 0); touched = true }) (record { bytes = Some (splice 0 (take l source.0) (replicate n 0)); touched = true })
+        ∙ ap (with_chunk s.state j) (first_bytes n l source.0 (let long = source.2 in omega arith))
+
+    pub live_t : IsSome (get t.state.live k)
+    live_t =
+        ap (λ (st : HeapState). is_some (get st.live k)) state_t
+        ∙ ap (λ (c : ChunkMeaning). is_some c.bytes) (put_other s.state j (record { bytes = Some (fitted n source.0); touched = true }) k ne) ∙ ap is_some source.1
+
+    pub moved : (u : ShelfMeaning) → u.state ≡ without_chunk t.state k → MatchOption (get s.state.live k) ⊥ (λ bytes. u.state ≡ without_chunk (with_chunk s.state j (fitted n bytes)) k)
+    moved u freed = match_some source.0 (λ bytes. u.state ≡ without_chunk (with_chunk s.state j (fitted n bytes)) k) source.1 (freed ∙ ap (λ st. without_chunk st k) state_t)
 
 -- ---- another length
 
@@ -134,15 +108,13 @@ two_of : (v : Version) → (v ≡ One → ⊥) → v ≡ Two
 two_of One no_one = absurd (no_one refl)
 two_of Two no_one = refl
 
-pub resized : {s t : ShelfMeaning} (h : Handle) {n old : ℕ} → IsTidy s → IsValidShelf t → 5 ≤ h.exp → h.exp ≤ 16 → (s.version ≡ One → ⊥) → (n ≡ old → ⊥) → MatchOption (chunk_at s.rows (h.exp - 5) h.index) ⊥ (λ bytes. length bytes ≡ old)
-    → MatchOption (chunk_at s.rows (h.exp - 5) h.index) ⊥ (λ bytes. t ≡ with_put s (h.exp - 5) h.index (Some (fitted n bytes)) true)
-    → (bytes : List ℕ) × (chunk_at s.rows (h.exp - 5) h.index ≡ Some bytes) × (state_of t.rows ≡ resize s.version (state_of s.rows) h n bytes) × IsTidy t
-resized {s} {t} h {n} {old} tidy valid_shelf' low high no_one ne live gives =
-    let w = wrote_by h.index (fitted n) tidy valid_shelf' gives low high in
-    let long : length w.0 ≡ old = subst (λ o. MatchOption o ⊥ (λ bytes. length bytes ≡ old)) w.1 live in
-    let two = two_of s.version no_one in (
-      w.0,
-      w.1,
-      w.2.state ∙ sym (ap (λ v. resize v (state_of s.rows) h n w.0) two ∙ cond-false (n == length w.0) (state_of s.rows) (with_chunk (state_of s.rows) (number h.exp h.index) (fitted n w.0)) (ne_eqb n (length w.0) (λ e. ne (omega arith)))),
-      w.2.tidy,
-    )
+pub resized : {s t : ShelfMeaning} (h : Handle) {n old : ℕ} → IsTidy s → IsValidShelf t → (s.version ≡ One → ⊥) → (n ≡ old → ⊥) → MatchOption (get s.state.live (key h)) ⊥ (λ bytes. length bytes ≡ old)
+    → MatchOption (get s.state.live (key h)) ⊥ (λ bytes. t ≡ with_put s (key h) (Some (fitted n bytes)) true)
+    → MatchOption (get s.state.live (key h)) ⊥ (λ bytes. t.state ≡ resize s.version s.state h n bytes)
+resized {s} {t} h {n} {old} tidy valid no_one ne live gives =
+    let w = wrote (fitted n) tidy valid gives in
+    let long : length w.old ≡ old = subst (λ o. MatchOption o ⊥ (λ bytes. length bytes ≡ old)) w.was live in
+    let two = two_of s.version no_one in
+    match_some w.old (λ bytes. t.state ≡ resize s.version s.state h n bytes) w.was
+    (ap (λ (x : ShelfMeaning). x.state) w.is
+    ∙ sym (ap (λ v. resize v s.state h n w.old) two ∙ cond-false (n == length w.old) s.state (with_chunk s.state (key h) (fitted n w.old)) (ne_eqb n (length w.old) (λ e. ne (omega arith)))))

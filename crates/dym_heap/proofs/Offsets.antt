@@ -1,22 +1,18 @@
 -- Which chunk a byte of the region lies in: the place of a chunk, read backwards.
-use Rattle.std.proofs.Common.{◌≡◌, ℕ, zero, suc, ◌+◌, ◌-◌, ◌*◌, ◌/◌, ◌%◌, ◌^◌, ◌<◌, ◌≤◌, IsSome, is_some, Option, Some, None, List, [], ◌∷◌, length, MatchOption, refl, sym, ap, subst, ◌∙◌, arith}
+use Rattle.std.proofs.Common.{◌≡◌, ℕ, ◌+◌, ◌-◌, ◌*◌, ◌/◌, ◌%◌, ◌^◌, ◌<◌, ◌≤◌, is_some, Option, Some, None, List, length, MatchOption, refl, sym, ap, subst, ◌∙◌, arith}
 use Rattle.std.specs.FinMap.{get}
 use Rattle.std.specs.Prelude.{option_map}
 use Rattle.std.proofs.Math.Nat.{mod-eq-sub-div-mul, div-mul-le_self}
-use Rattle.std.proofs.lemmas.Nat.{div-mul-add, mod-mul-add, div_below, mod_below, le-div, pow_pos}
+use Rattle.std.proofs.lemmas.Nat.{div-mul-add, mod-mul-add, div_below, mod_below, pow_pos}
+use Rattle.std.proofs.lemmas.List.Sums.{get_or-le-sum_by}
 use Rattle.dym_base.specs.Numbers.{number, size, per, exponent_of, index_of}
 use Rattle.dym_base.specs.HeapStep.{key, handle_of}
 use Rattle.dym_base.specs.declared.handle.Handle.{Handle}
 use Rattle.dym_heap.specs.Meaning.{HeapMeaning}
-use Rattle.dym_heap.specs.Table.{Row, row_at, chunk_at, live_of}
-use Rattle.dym_heap.specs.Shape.{areas_in}
-use Rattle.dym_heap.specs.Shelves.{ShelfMeaning, IsValidShelf, IsTidy}
+use Rattle.dym_heap.specs.Shelves.{ShelfMeaning, IsTidy}
 use Rattle.dym_heap.specs.Addresses.{chunk_offset, HasByteAt, LiesAt}
-use Rattle.dym_heap.proofs.Entries.{get-live_of}
-use Rattle.dym_heap.proofs.HandleSteps.{in_row}
 use Rattle.dym_heap.proofs.Sizes.{size_fits, chunk_fits, whole_area}
-use Rattle.dym_heap.proofs.Soundness.{heap_of, sound_of}
-use Rattle.dym_heap.proofs.Steps.{kept_fits}
+use Rattle.dym_heap.proofs.Tidy.{meaning_of}
 
 -- ---- numbers
 
@@ -115,30 +111,6 @@ none_computed {quota} offset {a} {b} a_is b_is far e i at lies =
 
 -- ---- a live chunk lies in one of its class's areas, of which there are no more than the quota
 
-row_areas : (e : ℕ) (rows : List Row) (c : ℕ) → c < length rows → length (row_at rows c).chunks / per (e + c) ≤ areas_in e rows
-row_areas e [] c l = absurd (omega arith)
-row_areas e (r ∷ rows) zero l = (let same : e + 0 ≡ e = omega arith in let here = ap (λ n. length r.chunks / per n) same in omega arith)
-row_areas e (r ∷ rows) (suc c) l =
-    let more = row_areas (e + 1) rows c (omega arith) in
-    let same : e + suc c ≡ e + 1 + c = omega arith in
-    let here = ap (λ n. length (row_at rows c).chunks / per n) same in
-    omega arith
-
-pub area_below : (s : ShelfMeaning) (c i : ℕ) → IsValidShelf s → c < 12 → IsSome (chunk_at s.rows c i) → i / per (c + 5) < s.quota
-area_below s c i valid small used =
-    let row = valid.row c small in
-    let whole = row.whole in
-    let inside : i < row.areas * per (c + 5) = (let l = in_row (row_at s.rows c).chunks i used in omega arith) in
-    let below : i / per (c + 5) < row.areas = div_below i (per (c + 5)) row.areas (per_pos (c + 5)) inside in
-    let some : row.areas ≤ length (row_at s.rows c).chunks / per (c + 5) = le-div row.areas (length (row_at s.rows c).chunks) (per (c + 5)) (per_pos (c + 5)) (omega arith) in
-    let classes = valid.classes in
-    let all = row_areas 5 s.rows c (omega arith) in
-    let same : 5 + c ≡ c + 5 = omega arith in
-    let here = ap (λ n. length (row_at s.rows c).chunks / per n) same in
-    let holds = valid.holds in
-    let within = valid.within in
-    omega arith
-
 pub number_of : (k : ℕ) → number (exponent_of k) (index_of k) ≡ k
 number_of k = parts_of k (2 ^ 32)
 
@@ -149,21 +121,21 @@ pub record LivePlace (quota e i len : ℕ) : Type 0 where
   pub area : i / per e < quota
   pub fits : len ≤ size e
 
-pub place_of_live : (s : ShelfMeaning) → IsTidy s → (k : ℕ) (bytes : List ℕ) → get (live_of s.rows) k ≡ Some bytes → LivePlace s.quota (exponent_of k) (index_of k) (length bytes)
+pub place_of_live : (s : ShelfMeaning) → IsTidy s → (k : ℕ) (bytes : List ℕ) → get s.state.live k ≡ Some bytes → LivePlace s.quota (exponent_of k) (index_of k) (length bytes)
 place_of_live s tidy k bytes live =
+    let valid = tidy.valid_shelf in
     let e : ℕ = exponent_of k in
-    let i : ℕ = index_of k in
-    let sound = sound_of 0 tidy in
-    let low = sound.least_class k (ap is_some live) in
-    let high = sound.most_class k (ap is_some live) in
-    let five : e - 5 + 5 ≡ e = omega (arith, low) in
-    let there : chunk_at s.rows (e - 5) i ≡ Some bytes =
-    sym (get-live_of s.rows (kept_fits tidy.valid_shelf) (e - 5) i (sym (number_of k) ∙ ap (λ n. number n i) (sym five)) (mod_below k (2 ^ 32) (omega arith))) ∙ live in
+    let class = valid.class k (ap is_some live) in
     record {
-      least = low;
-      most = high;
-      area = subst (λ n. i / per n < s.quota) five (area_below s (e - 5) i tidy.valid_shelf (omega (arith, high)) (ap is_some there));
-      fits = size_fits s.version e (length bytes) (sound.sized k bytes live);
+      least = class.0;
+      most = class.1;
+      area =
+          (let inside = valid.in_area k (ap is_some live) in
+          let least = get_or-le-sum_by (λ (x : ℕ). x) s.counts (e - 5) 0 (let n = valid.classes in let high = class.1 in omega arith) in
+          let holds = valid.holds in
+          let within = valid.within in
+          omega arith);
+      fits = size_fits s.version e (length bytes) (valid.sized k bytes live);
     }
 
 -- a byte of the live chunk of number k
@@ -178,7 +150,7 @@ pub has_some : (o : Option (List ℕ)) (P : List ℕ → Type 0) → MatchOption
 has_some None P has = absurd has
 has_some (Some bytes) P has = (bytes, refl, has)
 
-module _ {s : ShelfMeaning} {applied : ℕ} {h : HeapMeaning} (view : heap_of s applied ≡ h) (tidy : IsTidy s) where
+module _ {s : ShelfMeaning} {applied : ℕ} {h : HeapMeaning} (view : meaning_of s applied ≡ h) (tidy : IsTidy s) where
   pub live_byte : {quota : ℕ} (k offset : ℕ) → quota ≡ s.quota → HasByteAt h (handle_of k) offset → LiveByte h quota k offset
   live_byte k offset quota_is has =
       let e : ℕ = exponent_of k in
@@ -216,7 +188,7 @@ found_by {h} {k} one hd same =
     record { is = is; bytes = one.bytes; live = ap (get h.state.live) is ∙ one.live; within = subst (λ n. n < length one.bytes) (sym same.2) one.within }
 
 -- no chunk is too short that has the byte
-pub found_len : (s : ShelfMeaning) {applied : ℕ} {h : HeapMeaning} → heap_of s applied ≡ h → {hd : Handle} {at k : ℕ} {o : Option ℕ} → Found h hd at k → o ≡ option_map length (get (live_of s.rows) (key hd)) → MatchOption o ⊥ (λ len. at < len)
+pub found_len : (s : ShelfMeaning) {applied : ℕ} {h : HeapMeaning} → meaning_of s applied ≡ h → {hd : Handle} {at k : ℕ} {o : Option ℕ} → Found h hd at k → o ≡ option_map length (get s.state.live (key hd)) → MatchOption o ⊥ (λ len. at < len)
 found_len s view {hd} {at} {o} found is =
     let e : o ≡ Some (length found.bytes) = is ∙ ap (λ (x : HeapMeaning). option_map length (get x.state.live (key hd))) view ∙ ap (option_map length) found.live in
     subst (λ x. MatchOption x ⊥ (λ len. at < len)) (sym e) found.within

@@ -171,5 +171,8 @@ ones : {A : Type 0} (xs : List A) → sum_by (λ x. 1) xs ≡ length xs
 ones [] = refl
 ones (x ∷ xs) = sum_by-cons (λ x. 1) x xs ∙ (let rest = ones xs in omega arith)
 
+pub ids_are : {v : Version} {quota : ℕ} {ids : List SegmentId} {sized_areas : List SizedAreaMeaning} {room spare spare_room : ℕ} → IsSupplied v quota ids sized_areas room spare spare_room → length ids ≡ length sized_areas
+ids_are {ids} {sized_areas} is = sym (ones ids) ∙ is.owned (λ x. 1) ∙ ones sized_areas
+
 pub owns_none : (ids : List SegmentId) (sized_areas : List SizedAreaMeaning) → Owns ids sized_areas → length sized_areas ≡ 0 → ids ≡ []
 owns_none ids sized_areas owns none = nil_from_length ids (let a = owns (λ x. 1) in let b = ones ids in let c = ones sized_areas in omega arith)

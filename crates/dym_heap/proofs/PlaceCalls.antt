@@ -1,5 +1,5 @@
 -- What each call of an area means for its place.
-use Rattle.std.proofs.Common.{◌≡◌, ℕ, zero, suc, ◌+◌, ◌-◌, ◌*◌, ◌<◌, ◌≤◌, inl, inr, Bool, true, false, is_some, IsSome, Option, Some, None, List, [], ◌++◌, length, get_or, set, take, drop, replicate, refl, sym, ap, subst, ◌∙◌, arith, get_or-set_same}
+use Rattle.std.proofs.Common.{◌≡◌, ℕ, zero, suc, ◌+◌, ◌-◌, ◌*◌, ◌<◌, ◌≤◌, inl, inr, Bool, true, false, is_some, Option, Some, None, List, [], ◌++◌, length, set, take, drop, replicate, refl, sym, ap, subst, ◌∙◌, arith, get_or-set_same}
 use Rattle.std.proofs.lemmas.Bool.{cases_eq}
 use Rattle.std.proofs.lemmas.List.{length-replicate, append-nil, take-take, drop_all, take_all, take-replicate, set-get_or, ext_get_or, get_or-replicate}
 use Rattle.dym_region.specs.declared.segment.SegmentId.{SegmentId}
@@ -32,9 +32,6 @@ first_free area ls i valid first = record {
   free = chunk_of ls i valid ∙ unused_chunk area ls i first.is_clear;
   least = λ k l. ap is_some (chunk_of ls k valid) ∙ some_used area ls k ∙ first.least k l;
 }
-
-pub all_used : (area : AreaMeaning) (ls : Option (List ℕ)) → IsValidArea area → ((k : ℕ) → k < per area.exponent → IsSet area.used k) → (k : ℕ) → k < length (chunks_in area ls) → IsSome (get_or (chunks_in area ls) k None)
-all_used area ls valid used k l = ap is_some (chunk_of ls k valid) ∙ some_used area ls k ∙ used k (omega (arith, length-chunks_in area ls))
 
 pub taken : (area : AreaMeaning) (ls : Option (List ℕ)) (i n : ℕ) → IsMeasured area ls → i < per area.exponent → IsValidArea (with_taken area i) → Reaches ls i → IsSizeOf (version_by ls) area.exponent n
     → Steps (with_taken area i) (with_length ls i n) (area_with_chunk (place_of area ls) i (Some (replicate n 0)) true)

@@ -15,13 +15,16 @@ use Rattle.dym_base.specs.Heaps.{Live, HeapState}
 use Rattle.dym_base.specs.HeapStep.{key, with_chunk}
 use Rattle.dym_base.specs.declared.handle.Handle.{Handle}
 use Rattle.dym_heap.specs.Addresses.{chunk_offset, LiesAt}
+use Rattle.dym_heap.specs.Chunks.{put}
 use Rattle.dym_heap.specs.Fetches.{ChunkMeaning, heap_chunk}
+use Rattle.dym_heap.specs.Meaning.{HeapMeaning}
 use Rattle.dym_heap.specs.Shelves.{ShelfMeaning, IsValidShelf, IsTidy, with_put}
-use Rattle.dym_heap.specs.Table.{chunk_at, live_of, state_of}
-use Rattle.dym_heap.specs.Touches.{has_byte_in, is_hit, touched_besides, touched_in}
-use Rattle.dym_heap.proofs.Offsets.{parts_at, index_of_parts, number_of, place_of_live, has_some}
-use Rattle.dym_heap.proofs.HandleSteps.{wrote}
+use Rattle.dym_heap.specs.Touches.{has_byte_in, is_hit, touched_besides, touched_in, with_touch}
+use Rattle.dym_heap.proofs.Offsets.{parts_at, index_of_parts, number_of, place_of_live}
+use Rattle.dym_heap.proofs.Chunks.{touched_is}
+use Rattle.dym_heap.proofs.HandleSteps.{Wrote, wrote}
 use Rattle.dym_heap.proofs.Sizes.{chunk_fits}
+use Rattle.dym_heap.proofs.Tidy.{meaning_of}
 
 -- ---- two chunks never share a byte
 
@@ -148,9 +151,9 @@ pub data IsSeen (quota : ℕ) (live : Live) (k : ℕ) : Type 0 where
   dead : length (bytes_at live k) ≡ 0 → IsSeen quota live k
   there : IsPlace quota (exponent_of k) (index_of k) → length (bytes_at live k) ≤ size (exponent_of k) → IsSeen quota live k
 
-pub seen : {s : ShelfMeaning} → IsTidy s → (k : ℕ) → IsSeen s.quota (live_of s.rows) k
+pub seen : {s : ShelfMeaning} → IsTidy s → (k : ℕ) → IsSeen s.quota s.state.live k
 seen {s} tidy k =
-    elim (get (live_of s.rows) k) as (λ o. get (live_of s.rows) k ≡ o → IsSeen s.quota (live_of s.rows) k) [
+    elim (get s.state.live k) as (λ o. get s.state.live k ≡ o → IsSeen s.quota s.state.live k) [
       | None ↦ λ is. dead (ap (λ o. length (unwrap_or o [])) is)
       | Some bytes ↦ λ is.
           let place = place_of_live s tidy k bytes is in
@@ -285,23 +288,29 @@ hit_now st hd at bytes live long k =
     ]
 
 pub record Touches (s t : ShelfMeaning) (hd : Handle) (at : ℕ) : Type 0 where
-  pub each : (k : ℕ) → heap_chunk (state_of t.rows) k ≡ touched_besides (is_hit (live_of s.rows) hd at k) (heap_chunk (state_of s.rows) k)
-  pub same : t ≡ record s { rows = t.rows }
+  pub touched : (k : ℕ) → heap_chunk t.state k ≡ touched_besides (is_hit s.state.live hd at k) (heap_chunk s.state k)
+  pub same : t ≡ record s { state = t.state }
   pub tidy : IsTidy t
 
-pub touches : {s t : ShelfMeaning} (hd : Handle) (at len : ℕ) → IsTidy s → IsValidShelf t → 5 ≤ hd.exp → hd.exp ≤ 16 → get (live_of s.rows) (key hd) ≡ chunk_at s.rows (hd.exp - 5) hd.index → Some len ≡ option_map (length {A = ℕ}) (get (live_of s.rows) (key hd)) → at < len
-    → MatchOption (chunk_at s.rows (hd.exp - 5) hd.index) ⊥ (λ bytes. t ≡ with_put s (hd.exp - 5) hd.index (Some bytes) true) → Touches s t hd at
-touches {s} {t} hd at len tidy valid' low high live long below put =
-    let found = has_some (chunk_at s.rows (hd.exp - 5) hd.index) (λ bytes. t ≡ with_put s (hd.exp - 5) hd.index (Some bytes) true) put in
-    let bytes = found.0 in
-    let w = wrote hd.exp hd.index bytes tidy valid' found.2 (ap is_some found.1) low high in
-    let is : get (live_of s.rows) (key hd) ≡ Some bytes = live ∙ found.1 in
-    let n : length bytes ≡ len = sym (ap (λ o. length (unwrap_or o [])) is) ∙ len_some (get (live_of s.rows) (key hd)) len long in
+pub touches : {s t : ShelfMeaning} (hd : Handle) (at len : ℕ) → IsTidy s → IsValidShelf t → Some len ≡ option_map (length {A = ℕ}) (get s.state.live (key hd)) → at < len
+    → MatchOption (get s.state.live (key hd)) ⊥ (λ bytes. t ≡ with_put s (key hd) (Some bytes) true) → Touches s t hd at
+touches {s} {t} hd at len tidy valid long below put =
+    let w = wrote (λ bytes. bytes) tidy valid put in
+    let n : length w.old ≡ len = sym (ap (λ o. length (unwrap_or o [])) w.was) ∙ len_some (get s.state.live (key hd)) len long in
     record {
-      each = λ k. ap (λ (st : HeapState). heap_chunk st k) w.state ∙ hit_now (state_of s.rows) hd at bytes is (omega (arith, n, below)) k;
-      same = found.2 ∙ sym (ap (λ (x : ShelfMeaning). record s { rows = x.rows }) found.2);
+      touched = λ k. ap (λ (x : ShelfMeaning). heap_chunk x.state k) w.is ∙ hit_now s.state hd at w.old w.was (omega (arith, n, below)) k;
+      same = w.is ∙ sym (ap (λ (x : ShelfMeaning). record s { state = x.state }) w.is);
       tidy = w.tidy;
     }
+
+-- the heap is that with the chunk touched
+pub touched_now : {s t : ShelfMeaning} {applied : ℕ} {heap : HeapMeaning} → meaning_of s applied ≡ heap → {k : ℕ} → Wrote s t k (λ bytes. bytes)
+    → meaning_of t applied ≡ record heap { state = with_touch heap.state k }
+touched_now {s} {t} {applied} {heap} view {k} w =
+    ap (λ (x : ShelfMeaning). meaning_of x applied) w.is
+    ∙ ap (λ (st : HeapState). record (meaning_of s applied) { state = st })
+    (ap (λ o. put s.state k (record { bytes = o; touched = true })) (sym w.was) ∙ sym (touched_is s.state k))
+    ∙ ap (λ (x : HeapMeaning). record x { state = with_touch x.state k }) view
 
 -- ---- from chunk to chunk
 

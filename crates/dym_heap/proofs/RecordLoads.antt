@@ -1,11 +1,14 @@
 -- What a loop keeps that loads a record area by area.
-use Rattle.std.proofs.Common.{◌≡◌, ℕ, zero, suc, ◌+◌, ◌-◌, ◌*◌, ◌^◌, ◌<◌, ◌≤◌, ◌&&◌, Bool, true, false, cond, ltb, is_some, Option, Some, None, List, [], ◌∷◌, length, refl, sym, ap, subst, ◌∙◌, arith}
+use Rattle.std.proofs.Common.{◌≡◌, ℕ, zero, suc, ◌+◌, ◌-◌, ◌*◌, ◌/◌, ◌%◌, ◌^◌, ◌<◌, ◌≤◌, ◌&&◌, Bool, true, false, cond, ltb, is_some, IsSome, Option, Some, None, List, [], ◌∷◌, length, refl, sym, ap, subst, ◌∙◌, arith}
 use Rattle.std.specs.Prelude.{unwrap_or}
 use Rattle.std.specs.List.{flat_map, filter, range_with_len}
 use Rattle.std.proofs.lemmas.Bool.{lt-ltb, ltb-true, true≢false}
-use Rattle.std.specs.FinMap.{get, contains_key}
-use Rattle.dym_base.specs.Numbers.{per, number, exponent_of}
-use Rattle.dym_base.specs.Heaps.{HeapState, held}
+use Rattle.std.specs.Cmp.{nat_cmp_total}
+use Rattle.std.specs.FinMap.{get, contains_key, nat_cmp-IsAntisymmetric}
+use Rattle.std.specs.FinSet.{same_set}
+use Rattle.std.proofs.lemmas.Nat.{pow_pos, mod_below, div-add-mod'}
+use Rattle.dym_base.specs.Numbers.{per, number, exponent_of, index_of}
+use Rattle.dym_base.specs.Heaps.{Live, HeapState, held}
 use Rattle.dym_base.specs.Laws.{IsLengthOf}
 use Rattle.dym_base.specs.Packed.{Logged, packs_by, packed_chunk}
 use Rattle.dym_base.specs.StandsFor.{packed_by, or_else}
@@ -17,15 +20,9 @@ use Rattle.dym_pack.specs.Areas.{area_at, chunks_of, chunk_number, bytes_at}
 use Rattle.dym_base.specs.Recorded.{IsRecorded}
 use Rattle.dym_pack.specs.ParsedAreas.{packs_at, body_from}
 use Rattle.dym_heap.specs.Meaning.{IsSizeOf}
-use Rattle.dym_heap.specs.Table.{Row, row_at, chunk_at, state_of, touched_of}
-use Rattle.dym_heap.specs.Shelves.{ShelfMeaning, IsValidShelf, IsTidy}
-use Rattle.dym_heap.specs.Bodies.{IsBodyOf, loaded_over, IsLoadedArea}
-use Rattle.dym_heap.specs.Fetches.{ChunkMeaning, IsChangedArea, IsAreaChange}
-use Rattle.dym_heap.proofs.Entries.{touched_of-same}
-use Rattle.dym_heap.proofs.AreaSteps as steps
-use Rattle.dym_heap.proofs.AreaSteps.{UpTo, tidy_changed}
-use Rattle.dym_heap.proofs.Steps.{kept_marks_fit}
-use Rattle.dym_heap.proofs.PlaceLoads.{loaded_some}
+use Rattle.dym_heap.specs.Chunks.{ChunkMeaning, heap_chunk}
+use Rattle.dym_heap.specs.Bodies.{IsBodyOf, loaded_over, loaded_chunk}
+use Rattle.dym_heap.specs.Fetches.{IsOfArea, IsChangedArea, IsAreaChange}
 use Rattle.dym_heap.proofs.AreaLists.{Named, named, number_k, small_k}
 
 filter_same : (p q : ℕ → Bool) (a n : ℕ) → ((i : ℕ) → a ≤ i → i < a + n → p i ≡ q i) → filter p (range_with_len a n) ≡ filter q (range_with_len a n)
@@ -58,8 +55,11 @@ packed_is {log} is q false h = ap (λ b. cond b (get log.copy q) None) h
 -- ---- what loading does to a chunk
 
 -- the chunk of number q after a log was loaded
+abbrev pub after_load : Option (List ℕ) → ChunkMeaning → ChunkMeaning
+after_load packed old = record old { bytes = cond (is_some old.bytes) (or_else packed old.bytes) None }
+
 abbrev pub Loaded : Logged → ℕ → ChunkMeaning → ChunkMeaning → Type 0
-Loaded log q old new = new.bytes ≡ cond (is_some old.bytes) (or_else (packed_by log q) old.bytes) None
+Loaded log q old new = new ≡ after_load (packed_by log q) old
 
 -- a chunk that was loaded has what the log says
 over_is : {log : Logged} → IsRecorded log → (q : ℕ) (o : Option (List ℕ)) → loaded_over (packs_by log.kind log.copy log.found q) (unwrap_or (get log.copy q) []) o ≡ cond (is_some o) (or_else (packed_by log q) o) None
@@ -71,13 +71,13 @@ over_is {log} is q (Some old) =
     ] refl
 
 -- loading again changes nothing
-again : (packed o : Option (List ℕ)) (x : Option (List ℕ)) → x ≡ cond (is_some o) (or_else packed o) None → cond (is_some x) (or_else packed x) None ≡ cond (is_some o) (or_else packed o) None
-again packed None x is = ap (λ y. cond (is_some y) (or_else packed y) None) is
-again None (Some old) x is = ap (λ y. cond (is_some y) (or_else None y) None) is
-again (Some new) (Some old) x is = ap (λ y. cond (is_some y) (or_else (Some new) y) None) is
+again : (packed o : Option (List ℕ)) (b : Bool) → after_load packed (after_load packed (record { bytes = o; touched = b })) ≡ after_load packed (record { bytes = o; touched = b })
+again packed None b = refl
+again None (Some old) b = refl
+again (Some new) (Some old) b = refl
 
 pub loaded_twice : (log : Logged) (q : ℕ) (a b c : ChunkMeaning) → Loaded log q a b → Loaded log q b c → Loaded log q a c
-loaded_twice log q a b c first second = second ∙ again (packed_by log q) a.bytes b.bytes first
+loaded_twice log q a b c first second = second ∙ ap (after_load (packed_by log q)) first ∙ again (packed_by log q) a.bytes a.touched
 
 pub packed_gone : (log : Logged) → IsRecorded log → (q : ℕ) → contains_key log.copy q ≡ false → packed_by log q ≡ None
 packed_gone log is q gone =
@@ -92,7 +92,7 @@ as_it_is (Some x) = refl
 
 -- where the log packs nothing the old bytes stay
 pub loaded_idle : {log : Logged} → IsRecorded log → (q : ℕ) (a : ChunkMeaning) → contains_key log.copy q ≡ false → Loaded log q a a
-loaded_idle {log} is q a gone = sym (ap (λ o. cond (is_some a.bytes) (or_else o a.bytes) None) (packed_gone log is q gone) ∙ as_it_is a.bytes)
+loaded_idle {log} is q a gone = sym (ap (λ o. after_load o a) (packed_gone log is q gone) ∙ (λ i. record { bytes = as_it_is a.bytes i; touched = a.touched }))
 
 -- ---- the body of an area
 
@@ -144,16 +144,28 @@ module _ {log : Logged} (is : IsRecorded log) (k : ℕ) (l : k < held log.copy) 
 
 -- ---- the loop
 
+-- the number of a chunk of an area
+pub number_in : (copy : Live) (k q : ℕ) → IsOfArea copy k q → chunk_number copy k (index_of q % per (area_at copy k).exponent) ≡ q
+number_in copy k q at =
+    let e : ℕ = (area_at copy k).exponent in
+    let class = at.0 in
+    let parts = div-add-mod' (index_of q) (per e) in
+    let m : index_of q / per e * per e ≡ (area_at copy k).ordinal * per e = ap (λ x. x * per e) at.1 in
+    omega arith
+
 -- an area of a shelf, by its class and ordinal, is that of the record
-pub area_as : (log : Logged) (k : ℕ) {old new : List Row} {e o : ℕ} (Change C : ℕ → ChunkMeaning → ChunkMeaning → Type 0) → 5 ≤ e → e ≡ (area_at log.copy k).exponent → o ≡ (area_at log.copy k).ordinal
-    → ((i : ℕ) (a b : ChunkMeaning) → i < per e → Change i a b → C (chunk_number log.copy k i) a b) → IsChangedArea old new (e - 5) o Change → IsAreaChange log k old new C
-area_as log k {old} {new} {e} Change C low e_is o_is means changes =
-    let step : IsChangedArea old new ((area_at log.copy k).exponent - 5) (area_at log.copy k).ordinal Change =
-    subst (λ x. IsChangedArea old new (x - 5) (area_at log.copy k).ordinal Change) e_is (subst (λ x. IsChangedArea old new (e - 5) x Change) o_is changes) in
-    let row : (area_at log.copy k).exponent - 5 + 5 ≡ e = omega arith in
+pub area_as : (log : Logged) (k : ℕ) {old new : HeapState} {e o : ℕ} (Change C : ℕ → ChunkMeaning → ChunkMeaning → Type 0) → e ≡ (area_at log.copy k).exponent → o ≡ (area_at log.copy k).ordinal
+    → ((i : ℕ) (a b : ChunkMeaning) → i < per e → Change i a b → C (chunk_number log.copy k i) a b) → IsChangedArea old new e o Change → IsAreaChange log.copy k old new C
+area_as log k {old} {new} {e} {o} Change C e_is o_is means changes =
+    let there : (q : ℕ) → (exponent_of q ≡ e → index_of q / per e ≡ o → IsOfArea log.copy k q) = λ q class area. (class ∙ e_is, ap (λ x. index_of q / per x) (sym e_is) ∙ area ∙ o_is) in
     record {
-      here = λ i b. means i _ _ (subst (λ x. i < per x) row b) (step.here i b);
-      others = step.others;
+      here = λ q at.
+          let class = at.0 ∙ sym e_is in
+          let i : ℕ = index_of q % per e in
+          let q_is : chunk_number log.copy k i ≡ q = ap (λ x. chunk_number log.copy k (index_of q % per x)) e_is ∙ number_in log.copy k q at in
+          subst (λ x. C x (heap_chunk old q) (heap_chunk new q)) q_is
+          (means i (heap_chunk old q) (heap_chunk new q) (mod_below (index_of q) (per e) (pow_pos (16 - e))) (changes.here q class (ap (λ x. index_of q / per x) e_is ∙ at.1 ∙ sym o_is)));
+      others = λ q apart. changes.others q (λ class area. apart (there q class area));
     }
 
 -- the bits of an area say what the log packs
@@ -161,26 +173,20 @@ pub bit_is : (log : Logged) (k : ℕ) {e : ℕ} → e ≡ (area_at log.copy k).e
     → (i : ℕ) → i < per e → bit_in bits i ≡ packs_by log.kind log.copy log.found (chunk_number log.copy k i)
 bit_is log k e_is bits packs i b = packs i ∙ ap (λ x. x && packs_at log k i) (lt-ltb i (chunks_of log.copy k) (let p = ap per e_is in omega arith))
 
-area_change : {old new : List Row} {c o : ℕ} {bits : List Bool} {f : ℕ → List ℕ} → IsLoadedArea old new c o bits f → IsChangedArea old new c o (λ i a b. b.bytes ≡ loaded_over (bit_in bits i) (f i) a.bytes)
-area_change loads = record { here = loads.here; others = λ d i ne j. record { bytes = loads.others d i ne j; touched = loads.marks d i j } }
+pub area_loaded : {log : Logged} → IsRecorded log → (k : ℕ) {mid new : HeapState} {e o : ℕ} (bits : List Bool) → e ≡ (area_at log.copy k).exponent → o ≡ (area_at log.copy k).ordinal
+    → ((i : ℕ) → bit_in bits i ≡ (ltb i (chunks_of log.copy k) && packs_at log k i)) → IsChangedArea mid new e o (λ i old new. new ≡ loaded_chunk bits (bytes_at log.copy k) i old) → IsAreaChange log.copy k mid new (Loaded log)
+area_loaded {log} is k bits e_is o_is packs =
+    area_as log k (λ i a b. b ≡ loaded_chunk bits (bytes_at log.copy k) i a) (Loaded log) e_is o_is
+    (λ i a b inside h. h ∙ (λ j. record { bytes = (ap (λ x. loaded_over x (bytes_at log.copy k i) a.bytes) (bit_is log k e_is bits packs i inside) ∙ over_is is (chunk_number log.copy k i) a.bytes) j; touched = a.touched }))
 
-module _ {log : Logged} (is : IsRecorded log) (k : ℕ) (l : k < held log.copy) (old : HeapState) {mid new : ShelfMeaning} (kept_mid : IsValidShelf mid) (valid_shelf : IsValidShelf new)
-    {e o : ℕ} {bits : List Bool} (e_is : e ≡ (area_at log.copy k).exponent) (o_is : o ≡ (area_at log.copy k).ordinal) (packs : (i : ℕ) → bit_in bits i ≡ (ltb i (chunks_of log.copy k) && packs_at log k i))
-    (loads : IsLoadedArea mid.rows new.rows (e - 5) o bits (bytes_at log.copy k)) where
-  area_loaded : IsAreaChange log k mid.rows new.rows (Loaded log)
-  area_loaded =
-      area_as log k (λ i (a b : ChunkMeaning). b.bytes ≡ loaded_over (bit_in bits i) (bytes_at log.copy k i) a.bytes) (Loaded log) (let low = class_low is k l in omega arith) e_is o_is
-      (λ i a b inside h. h ∙ ap (λ x. loaded_over x (bytes_at log.copy k i) a.bytes) (bit_is log k e_is bits packs i inside) ∙ over_is is (chunk_number log.copy k i) a.bytes) (area_change loads)
+-- as many chunks are live as before
+pub loaded_some : (log : Logged) (q : ℕ) (a b : ChunkMeaning) → Loaded log q a b → IsSome a.bytes → IsSome b.bytes
+loaded_some log q a b h some = ap (λ (x : ChunkMeaning). is_some x.bytes) h ∙ some_over (packed_by log q) a.bytes some
+  where
+    some_over : (packed o : Option (List ℕ)) → IsSome o → IsSome (cond (is_some o) (or_else packed o) None)
+    some_over packed None some = absurd cc
+    some_over None (Some x) some = refl
+    some_over (Some y) (Some x) some = refl
 
-  pub upto_more : (q : ℕ) → UpTo (Loaded log) log.copy old (state_of mid.rows) k q → UpTo (Loaded log) log.copy old (state_of new.rows) (k + 1) q
-  upto_more = steps.upto_more (Loaded log) (loaded_twice log) log.copy is.few k l old kept_mid valid_shelf area_loaded
-
--- ---- the shelf stays tidy
-
-pub tidy_loaded : {mid new : ShelfMeaning} {c o : ℕ} {bits : List Bool} {f : ℕ → List ℕ} → IsTidy mid → IsValidShelf new → ((d : ℕ) → length (row_at new.rows d).chunks ≡ length (row_at mid.rows d).chunks) → IsLoadedArea mid.rows new.rows c o bits f
-    → IsTidy new
-tidy_loaded {mid} {c = c} {bits = bits} {f = f} tidy valid_shelf long loads =
-    tidy_changed tidy valid_shelf long (area_change loads) (λ i j h. ap is_some h ∙ loaded_some (bit_in bits i) (f i) (chunk_at mid.rows c j))
-
-pub touched_loaded : {mid new : ShelfMeaning} {c o : ℕ} {bits : List Bool} {f : ℕ → List ℕ} → IsValidShelf mid → IsValidShelf new → IsLoadedArea mid.rows new.rows c o bits f → touched_of new.rows ≡ touched_of mid.rows
-touched_loaded {mid} {new} kept_mid valid_shelf loads = touched_of-same mid.rows new.rows (kept_marks_fit kept_mid) (kept_marks_fit valid_shelf) loads.marks
+pub touched_loaded : (log : Logged) (old new : HeapState) → ((q : ℕ) → Loaded log q (heap_chunk old q) (heap_chunk new q)) → new.touched ≡ old.touched
+touched_loaded log old new each = same_set nat_cmp_total nat_cmp-IsAntisymmetric new.touched old.touched (λ q. ap (λ (x : ChunkMeaning). x.touched) (each q))

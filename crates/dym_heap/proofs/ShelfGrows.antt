@@ -1,30 +1,30 @@
 -- The clauses of a shelf's calls by which areas come and go.
-use Rattle.std.proofs.Common.{◌≡◌, ℕ, ◌+◌, ◌-◌, ◌*◌, ◌<◌, ◌≤◌, inl, inr, Bool, true, false, cond, is_some, IsSome, Option, Some, None, List, length, get_or, set, replicate, refl, sym, ap, subst, ◌∙◌, arith, length-take, get_or-set_same, get_or-take, MatchOption, MatchBool}
+use Rattle.std.proofs.Common.{◌≡◌, ℕ, ◌+◌, ◌-◌, ◌*◌, ◌/◌, ◌%◌, ◌<◌, ◌≤◌, inl, inr, Bool, true, false, cond, is_some, IsSome, Option, Some, None, List, length, get_or, set, replicate, refl, sym, ap, subst, ◌∙◌, arith, get_or-set_same, MatchOption, MatchBool}
 use Rattle.std.specs.List.{insert, remove}
+use Rattle.std.specs.FinMap.{get}
+use Rattle.std.specs.FinSet.{contains}
 use Rattle.std.proofs.lemmas.Bool.{cases_lt}
-use Rattle.std.proofs.lemmas.List.{get_or_past, take-take, take_all, set-get_or, set-set, length-replicate, get_or-replicate}
+use Rattle.std.proofs.lemmas.List.{get_or_past, set-get_or, set-set, length-replicate, get_or-replicate}
 use Rattle.std.proofs.lemmas.List.Edits.{length-remove}
 use Rattle.std.proofs.lemmas.Nat.{pow_pos}
-use Rattle.std.proofs.Math.Nat.{add-mul}
-use Rattle.dym_base.specs.Numbers.{per}
+use Rattle.dym_base.specs.Numbers.{per, number, exponent_of, index_of}
 use Rattle.dym_base.specs.Origins.{Origin}
 use Rattle.dym_base.specs.declared.command.Version.{Version}
 use Rattle.dym_base.specs.declared.command.Version.TheVariants.{One, Two}
 use Rattle.dym_region.specs.declared.segment.SegmentId.{SegmentId}
 use Rattle.dym_quota.specs.HeldIds.{IsHeld, GivesBack}
-use Rattle.dym_heap.specs.Table.{Row, empty_row, row_at, chunk_at}
-use Rattle.dym_heap.specs.Shape.{IsTrimmed}
-use Rattle.dym_heap.specs.Shelves.{ShelfMeaning, IsValidShelf, with_row, longer, shorter, EndsFree, without_last}
+use Rattle.dym_heap.specs.Chunks.{ChunkMeaning, heap_chunk, no_chunk}
+use Rattle.dym_heap.specs.Fetches.{area_chunk}
+use Rattle.dym_heap.specs.Shelves.{ShelfMeaning, IsValidShelf, IsTrimmed, count_of, with_count, EndsFree}
 use Rattle.dym_heap.specs.SizedAreas.{SizedAreaMeaning, IsSizedArea}
 use Rattle.dym_heap.specs.Lengths.{version_of}
 use Rattle.dym_heap.specs.declared.lengths.Lengths.{Lengths}
-use Rattle.dym_heap.specs.Arrangement.{row_of, class_sized_areas, rows_upto, IsPlaced, HasFree, HasTables, IsShelf, shelf_of, Shifts, Unshifts}
-use Rattle.dym_heap.proofs.Rows as Rows
-use Rattle.dym_heap.proofs.Rows.{class_end, count_c, count_is, whole_row, is_kept, ids_are}
-use Rattle.dym_heap.proofs.RowSteps.{arranged-insert, rows-insert, arranged-remove, rows-remove}
-use Rattle.dym_heap.proofs.Owned.{place_held, supplied-insert, supplied-remove, table_there}
+use Rattle.dym_heap.specs.Arrangement.{IsPlaced, HasFree, HasTables, IsShelf, shelf_of, Shifts, Unshifts, place_of_number, chunk_among}
+use Rattle.dym_heap.proofs.Owned.{place_held, supplied-insert, supplied-remove, table_there, ids_are}
 use Rattle.dym_heap.proofs.PlaceCalls.{empty_place}
-use Rattle.dym_heap.proofs.ShelfFacts as facts
+use Rattle.dym_heap.proofs.Starts.{starts_upto, class_end, Stands, Inside, IsNumber, is_number, heap_is, placed_at}
+use Rattle.dym_heap.proofs.Arranged as arranged
+use Rattle.dym_heap.proofs.ShelfCalls as calls
 
 -- a table of lengths is taken in version 2 alone
 pub popped : (v : Version) (quota areas spare spare' room : ℕ) (o : Option Lengths) → HasTables v quota areas spare room → areas < quota → MatchOption o ((spare ≡ 0) × (spare' ≡ 0)) (λ _. spare' + 1 ≡ spare)
@@ -58,74 +58,24 @@ pub roomy : {v : Version} {quota : ℕ} {ids : List SegmentId} {starts : List �
     → IsShelf v quota ids starts sized_areas full room spare spare_room → IsShelf v quota ids starts sized_areas full room' spare spare_room
 roomy {v} {quota} {ids} {starts} {sized_areas} {full} {spare} {spare_room} same is = subst (λ r. IsShelf v quota ids starts sized_areas full r spare spare_room) (sym same) is
 
--- the last of o + 1 areas is empty, or has a chunk in use
-ends_of : (b : Bool) (len n o c : ℕ) (rows : List Row) (cs : List (Option (List ℕ))) → length (row_at rows c).chunks ≡ (o + 1) * n → len ≡ length (row_at rows c).chunks
-    → ((j : ℕ) → j < n → chunk_at rows c (o * n + j) ≡ get_or cs j None) → ((i : ℕ) → IsSome (get_or cs i None) → i < n)
-    → MatchBool b ((i : ℕ) → get_or cs i None ≡ None) ((i : ℕ) × IsSome (get_or cs i None)) → MatchBool b (EndsFree rows c n) (IsTrimmed n (row_at rows c))
-ends_of true len n o c rows cs whole same chunk inside empty =
-    let m = add-mul o 1 n in
-    record {
-      there = omega arith;
-      free = λ i far.
-          elim (cases_lt i (length (row_at rows c).chunks)) as (λ _. chunk_at rows c i ≡ None) [
-            | inl l ↦ (let h : i ≡ o * n + (i - o * n) = omega arith in ap (chunk_at rows c) h ∙ chunk (i - o * n) (omega arith) ∙ empty (i - o * n))
-            | inr past ↦ get_or_past (row_at rows c).chunks i None past
-          ];
-    }
-ends_of false len n o c rows cs whole same chunk inside some =
-    let m = add-mul o 1 n in
-    record {
-      count = o + 1;
-      whole = whole;
-      ends = inr (o * n + some.0, omega arith, ap is_some (chunk some.0 (inside some.0 some.1)) ∙ some.1);
-    }
+get_or_same : {A : Type 0} (n i : ℕ) (x : A) → get_or (replicate n x) i x ≡ x
+get_or_same n i x =
+    elim (cases_lt i n) as (λ _. get_or (replicate n x) i x ≡ x) [ inl l ↦ get_or-replicate n i x x l | inr past ↦ get_or_past (replicate n x) i x (omega (arith, length-replicate n x)) ]
 
 -- ---- areas that go, one after another
 
--- the shelf with the first n chunks of row c
-abbrev pub cut : ShelfMeaning → ℕ → ℕ → List SegmentId → ShelfMeaning
-cut s c n ids = record (with_row s c (shorter n (row_at s.rows c))) { held_ids = ids }
-
 -- what a loop keeps that drops the last area again and again
-pub record Cuts (old new : ShelfMeaning) (c : ℕ) : Type 0 where
-  pub left : ℕ
-  pub is : new ≡ cut old c left new.held_ids
-  pub free : (i : ℕ) → left ≤ i → chunk_at old.rows c i ≡ None
+abbrev pub Cuts : ShelfMeaning → ShelfMeaning → ℕ → Type 0
+Cuts old new e = new ≡ with_count old e (count_of new e) new.held_ids
 
-row_cut : (s : ShelfMeaning) (c n : ℕ) (ids : List SegmentId) → c < length s.rows → row_at (cut s c n ids).rows c ≡ shorter n (row_at s.rows c)
-row_cut s c n ids l = get_or-set_same s.rows c (shorter n (row_at s.rows c)) empty_row l
+pub cuts_none : (s : ShelfMeaning) (e : ℕ) → Cuts s s e
+cuts_none s e = ap (λ cs. record s { counts = cs }) (sym (set-get_or s.counts (e - 5) 0))
 
-pub cuts_none : (s : ShelfMeaning) (c : ℕ) → c < length s.rows → Cuts s s c
-cuts_none s c l =
-    let n : ℕ = length (row_at s.rows c).chunks in
-    record {
-      left = n + length (row_at s.rows c).touched;
-      is = ap (λ rs. record s { rows = rs }) (sym (set-get_or s.rows c empty_row)
-          ∙ ap (set s.rows c) (λ i. record { chunks = sym (take_all (n + length (row_at s.rows c).touched) (row_at s.rows c).chunks (omega arith)) i; touched = sym (take_all (n + length (row_at s.rows c).touched) (row_at s.rows c).touched (omega arith)) i }));
-      free = λ i far. get_or_past (row_at s.rows c).chunks i None (omega arith);
-    }
-
-pub cuts_more : {old mid new : ShelfMeaning} {c n : ℕ} → c < length old.rows → Cuts old mid c → EndsFree mid.rows c n → new ≡ without_last mid c n new.held_ids → Cuts old new c
-cuts_more {old} {mid} {new} {c} {n} l cuts ends dropped =
-    let a : ℕ = cuts.left in
-    let row : Row = row_at old.rows c in
-    let mid_row : row_at mid.rows c ≡ shorter a row = ap (λ (t : ShelfMeaning). row_at t.rows c) cuts.is ∙ row_cut old c a mid.held_ids l in
-    let b : ℕ = length (row_at mid.rows c).chunks - n in
-    let short : length (row_at mid.rows c).chunks ≤ a = (let h = ap (λ (r : Row). length r.chunks) mid_row in omega (arith, length-take a row.chunks)) in
-    record {
-      left = b;
-      is =
-          dropped ∙ ap (λ (t : ShelfMeaning). record (with_row t c (shorter b (row_at mid.rows c))) { held_ids = new.held_ids }) cuts.is
-          ∙ ap (λ r. record old { held_ids = new.held_ids; rows = set (set old.rows c (shorter a row)) c (shorter b r) }) mid_row
-          ∙ ap (λ rs. record old { held_ids = new.held_ids; rows = rs })
-          (set-set old.rows c (shorter a row) (shorter b (shorter a row))
-          ∙ ap (set old.rows c) (λ i. record { chunks = take-take b a row.chunks (omega arith) i; touched = take-take b a row.touched (omega arith) i }));
-      free = λ i far.
-          elim (cases_lt i a) as (λ _. chunk_at old.rows c i ≡ None) [
-            | inl low ↦ sym (ap (λ (r : Row). get_or r.chunks i None) mid_row ∙ get_or-take a row.chunks i None low) ∙ ends.free i (omega arith)
-            | inr past ↦ cuts.free i past
-          ];
-    }
+pub cuts_more : (old : ShelfMeaning) {mid new : ShelfMeaning} (e : ℕ) → Cuts old mid e → new ≡ with_count mid e (count_of mid e - 1) new.held_ids → e - 5 < length mid.counts → Cuts old new e
+cuts_more old {mid} {new} e cuts dropped small =
+    let n : ℕ = count_of mid e - 1 in
+    let count : count_of new e ≡ n = ap (λ (t : ShelfMeaning). count_of t e) dropped ∙ get_or-set_same mid.counts (e - 5) n 0 small in
+    dropped ∙ ap (λ (t : ShelfMeaning). with_count t e n new.held_ids) cuts ∙ ap (λ cs. record old { held_ids = new.held_ids; counts = cs }) (set-set old.counts (e - 5) (count_of mid e) n ∙ ap (set old.counts (e - 5)) (sym count))
 
 module _ {v : Version} {quota : ℕ} {ids : List SegmentId} {origin : Origin} {starts : List ℕ} {sized_areas : List SizedAreaMeaning} {full : List (List Bool)} {room spare spare_room : ℕ}
     {s : ShelfMeaning} (view : shelf_of v quota ids origin starts sized_areas ≡ s) (is : IsShelf v quota ids starts sized_areas full room spare spare_room) {e : ℕ} (low : 5 ≤ e) (high : e ≤ 16) where
@@ -133,26 +83,20 @@ module _ {v : Version} {quota : ℕ} {ids : List SegmentId} {origin : Origin} {s
   abbrev start_of : ℕ → ℕ
   start_of c = get_or starts c 0
 
-  per_is : per (e - 5 + 5) ≡ per e
-  per_is = ap per (let h : e - 5 + 5 ≡ e = omega arith in h)
-
   class_in : e - 5 < 12
   class_in = omega arith
 
   per_some : 0 < per e
   per_some = pow_pos (16 - e)
 
-  pub ids_s : length s.held_ids ≡ length sized_areas
-  ids_s = sym (ap (λ (t : ShelfMeaning). length t.held_ids) view) ∙ ids_are is.supplied
-
-  pub quota_s : s.quota ≡ quota
-  quota_s = sym (ap (λ (t : ShelfMeaning). t.quota) view)
+  class_is : e - 5 + 5 ≡ e
+  class_is = omega arith
 
   pub below_quota : length s.held_ids < s.quota → length sized_areas < quota
-  below_quota l = let a = ids_s in let b = quota_s in omega arith
+  below_quota l = let a = sym (ap (λ (t : ShelfMeaning). length t.held_ids) view) ∙ ids_are is.supplied in let b = ap (λ (t : ShelfMeaning). t.quota) view in omega arith
 
   pub end_in : {k : ℕ} → k ≡ e - 5 → start_of (k + 1) ≤ length sized_areas
-  end_in {k} same = let top = class_end is.arranged class_in in let a : start_of (k + 1) ≡ start_of (e - 5 + 1) = ap (λ x. start_of (x + 1)) same in omega arith
+  end_in {k} same = let top = class_end is.arranged class_in in let a = ap (λ x. start_of (x + 1)) same in omega arith
 
   pub rising_k : (k : ℕ) → k ≡ e - 5 → start_of k ≤ start_of (k + 1)
   rising_k k same = subst (λ x. start_of x ≤ start_of (x + 1)) (sym same) (is.arranged.rising (e - 5) class_in)
@@ -163,9 +107,7 @@ module _ {v : Version} {quota : ℕ} {ids : List SegmentId} {origin : Origin} {s
   pub starts_small : (d : ℕ) → start_of d ≤ 1024
   starts_small d =
       elim (cases_lt d 13) as (λ _. start_of d ≤ 1024) [
-        | inl l ↦ (let up = Rows.starts_mono d (12 - d) is.arranged (omega arith) in
-            let a : start_of (d + (12 - d)) ≡ start_of 12 = ap (λ x. start_of x) (let h : d + (12 - d) ≡ 12 = omega arith in h) in
-            let last = is.arranged.last in let fits = is.supplied.within in let most = is.supplied.most in omega arith)
+        | inl l ↦ (let up = starts_upto d 12 is.arranged (omega arith) (omega arith) in let last = is.arranged.last in let few = calls.few_s view is in omega arith)
         | inr past ↦ (let z = get_or_past starts d 0 (let n = is.arranged.starts_len in omega arith) in omega arith)
       ]
 
@@ -173,36 +115,32 @@ module _ {v : Version} {quota : ℕ} {ids : List SegmentId} {origin : Origin} {s
 
   pub record Grown (ids' : List SegmentId) (quota' : ℕ) (origin' : Origin) (starts' : List ℕ) (sized_areas' : List SizedAreaMeaning) (room' spare' spare_room' : ℕ) : Type 0 where
     pub shelf : IsShelf v quota' ids' starts' sized_areas' full room' spare' spare_room'
-    pub gives : shelf_of v quota' ids' origin' starts' sized_areas' ≡ record (with_row s (e - 5) (longer (per e) (row_at s.rows (e - 5)))) { held_ids = ids' }
+    pub gives : shelf_of v quota' ids' origin' starts' sized_areas' ≡ with_count s e (count_of s e + 1) ids'
     pub valid_shelf : IsValidShelf (shelf_of v quota' ids' origin' starts' sized_areas')
 
   grown_at : {o : ℕ} (lengths : Option Lengths) {p : SizedAreaMeaning} {id : SegmentId} {ids' : List SegmentId} {starts' : List ℕ} (room' : ℕ) {spare' : ℕ}
       → length s.held_ids < s.quota → version_of lengths ≡ v → spare' ≡ spare - 1 → p ≡ empty_place (version_of lengths) e o id → IsSizedArea p → o ≡ start_of (e - 5 + 1) - start_of (e - 5)
       → GivesBack ids' ids id → Shifts starts starts' (e - 5) → room ≤ room' → Grown ids' quota origin starts' (insert sized_areas (start_of (e - 5 + 1)) p) room' spare' spare_room
   grown_at lengths {p} {ids'} {starts'} room' {spare'} less version fewer made valid ordinal more shift bigger =
-      let c : ℕ = e - 5 in
-      let at : ℕ = start_of (c + 1) in
-      let top = class_end is.arranged class_in in
-      let chunks : p.chunks ≡ replicate (per (c + 5)) None = ap (λ (q : SizedAreaMeaning). q.chunks) made ∙ sym (ap (λ n. replicate n None) per_is) in
-      let touched : p.touched ≡ replicate (per (c + 5)) false = ap (λ (q : SizedAreaMeaning). q.touched) made ∙ sym (ap (λ n. replicate n false) per_is) in
-      let placed : IsPlaced v (c + 5) (at - start_of c) p = record {
+      let at : ℕ = start_of (e - 5 + 1) in
+      let empty : (j : ℕ) → area_chunk p j ≡ no_chunk =
+      λ j. ap (λ (q : SizedAreaMeaning). area_chunk q j) made ∙ (λ i. record { bytes = get_or_same (per e) j None i; touched = get_or_same (per e) j false i }) in
+      let placed : IsPlaced v (e - 5 + 5) (at - start_of (e - 5)) p = record {
         sized_area = valid;
         version = ap (λ (q : SizedAreaMeaning). q.version) made ∙ version;
-        exponent = ap (λ (q : SizedAreaMeaning). q.exponent) made ∙ (let h : e ≡ e - 5 + 5 = omega arith in h);
+        exponent = ap (λ (q : SizedAreaMeaning). q.exponent) made ∙ sym class_is;
         ordinal = ap (λ (q : SizedAreaMeaning). q.ordinal) made ∙ ordinal;
       } in
-      let long : length p.chunks ≡ per e = ap length chunks ∙ length-replicate {A = Option (List ℕ)} (per (c + 5)) None ∙ per_is in
-      let free : HasFree p = (0, (let z = per_some in omega arith), ap (λ cs. get_or cs 0 None) chunks ∙ get_or-replicate (per (c + 5)) 0 None None (let z = per_some in let y = per_is in omega arith)) in
-      let arranged = arranged-insert is.arranged class_in shift placed free in
-      let supplied = supplied-insert room' at p is.supplied (below_quota less) top
-      (subst (GivesBack ids' ids) (sym (ap (λ (q : SizedAreaMeaning). q.identity) made)) more) bigger fewer in
-      let rows = rows-insert is.arranged p class_in shift chunks touched in
+      let long : length p.chunks ≡ per e = ap (λ (q : SizedAreaMeaning). length q.chunks) made ∙ length-replicate {A = Option (List ℕ)} (per e) None in
+      let free : HasFree p = (0, (let z = per_some in omega arith), ap (λ (c : ChunkMeaning). c.bytes) (empty 0)) in
+      let supplied = supplied-insert room' at p is.supplied (below_quota less) (end_in refl) (subst (GivesBack ids' ids) (sym (ap (λ (q : SizedAreaMeaning). q.identity) made)) more) bigger fewer in
+      let shelf : IsShelf v quota ids' starts' (insert sized_areas at p) full room' spare' spare_room = record { arranged = arranged.arranged-insert is.arranged starts' class_in p shift placed free; supplied = supplied } in
+      let state = arranged.heap-insert is.arranged starts' class_in p shift empty in
+      let counts = arranged.counts-insert is.arranged starts' class_in p shift in
       record {
-        shelf = record { arranged = arranged; supplied = supplied };
-        gives =
-            ap (λ rs. record { version = v; quota = quota; held_ids = ids'; origin = origin; rows = rs }) (rows ∙ ap (λ n. set (rows_upto 12 starts sized_areas) c (longer n (row_at (rows_upto 12 starts sized_areas) c))) per_is)
-            ∙ ap (λ (t : ShelfMeaning). record (with_row t c (longer (per e) (row_at t.rows c))) { held_ids = ids' }) view;
-        valid_shelf = is_kept origin arranged supplied;
+        shelf = shelf;
+        gives = (λ j. record { version = v; quota = quota; held_ids = ids'; origin = origin; counts = counts j; state = state j }) ∙ ap (λ (t : ShelfMeaning). with_count t e (count_of t e + 1) ids') view;
+        valid_shelf = calls.is_valid origin shelf;
       }
 
   pub grown : {k o : ℕ} (lengths : Option Lengths) {p : SizedAreaMeaning} {id : SegmentId} {ids' : List SegmentId} {quota' : ℕ} {origin' : Origin} {starts' : List ℕ} (room' spare' : ℕ) {spare_room' : ℕ}
@@ -219,108 +157,87 @@ module _ {v : Version} {quota : ℕ} {ids : List SegmentId} {origin : Origin} {s
 
   -- ---- the last area goes
 
-  row_e : row_at s.rows (e - 5) ≡ row_of (class_sized_areas starts sized_areas (e - 5))
-  row_e = facts.row_s view is class_in
+  module _ (ends : EndsFree s e) where
+    some_area : start_of (e - 5) < start_of (e - 5 + 1)
+    some_area = let n = calls.count_s view is high in let some = ends.some in omega arith
 
-  pub long_e : length (row_at s.rows (e - 5)).chunks + start_of (e - 5) * per e ≡ start_of (e - 5 + 1) * per e
-  long_e =
-      let n : ℕ = count_c is.arranged class_in in
-      let whole = ap (λ (r : Row). length r.chunks) row_e ∙ whole_row is.arranged class_in ∙ ap (λ x. n * x) per_is in
-      let count = count_is is.arranged class_in in
-      let parts = add-mul n (start_of (e - 5)) (per e) in
-      let all : (n + start_of (e - 5)) * per e ≡ start_of (e - 5 + 1) * per e = ap (λ x. x * per e) count in
-      omega arith
+    stands_last : (k : ℕ) → k ≡ e - 5 → Stands starts e (start_of (e - 5 + 1) - 1 - start_of (e - 5)) (start_of (k + 1) - 1)
+    stands_last k same = let l = some_area in let a = ap (λ x. start_of (x + 1)) same in record { least = low; most = high; within = omega arith; at = omega arith }
 
-  -- a class with a chunk has an area
-  some_area : EndsFree s.rows (e - 5) (per e) → start_of (e - 5) < start_of (e - 5 + 1)
-  some_area ends =
-      elim (cases_lt (start_of (e - 5)) (start_of (e - 5 + 1))) as (λ _. start_of (e - 5) < start_of (e - 5 + 1)) [
-        | inl l ↦ l
-        | inr past ↦ absurd (let up = is.arranged.rising (e - 5) class_in in let same : start_of (e - 5) ≡ start_of (e - 5 + 1) = omega arith in
-            let m : start_of (e - 5) * per e ≡ start_of (e - 5 + 1) * per e = ap (λ x. x * per e) same in
-            let l = long_e in let t = ends.there in let p = per_some in omega arith)
-      ]
+    pub last_in : {k : ℕ} → k ≡ e - 5 → (1 ≤ start_of (k + 1)) × (start_of (k + 1) - 1 < length sized_areas)
+    last_in {k} same = let l = some_area in let a = ap (λ x. start_of (x + 1)) same in let top = class_end is.arranged class_in in (omega arith, omega arith)
 
-  pub last_in : {k : ℕ} → k ≡ e - 5 → EndsFree s.rows (e - 5) (per e) → (1 ≤ start_of (k + 1)) × (start_of (k + 1) - 1 < length sized_areas)
-  last_in {k} same ends =
-      let l = some_area ends in
-      let a : start_of (k + 1) ≡ start_of (e - 5 + 1) = ap (λ x. start_of (x + 1)) same in
-      let top = class_end is.arranged class_in in
-      (omega arith, omega arith)
+    pub last_held : (k : ℕ) (d : SizedAreaMeaning) → k ≡ e - 5 → IsHeld ids (get_or sized_areas (start_of (k + 1) - 1) d).identity
+    last_held k d same = place_held (start_of (k + 1) - 1) d is.supplied (last_in same).1
 
-  pub last_held : (k : ℕ) (d : SizedAreaMeaning) → k ≡ e - 5 → EndsFree s.rows (e - 5) (per e) → IsHeld ids (get_or sized_areas (start_of (k + 1) - 1) d).identity
-  last_held k d same ends = place_held (start_of (k + 1) - 1) d is.supplied (last_in same ends).1
+    pub last_version : (k : ℕ) (d : SizedAreaMeaning) → k ≡ e - 5 → (get_or sized_areas (start_of (k + 1) - 1) d).version ≡ v
+    last_version k d same = (placed_at is.arranged (stands_last k same) d).version
 
-  pub last_version : (k : ℕ) (d : SizedAreaMeaning) → k ≡ e - 5 → EndsFree s.rows (e - 5) (per e) → (get_or sized_areas (start_of (k + 1) - 1) d).version ≡ v
-  last_version k d same ends =
-      let l = some_area ends in
-      let at : start_of (k + 1) - 1 ≡ start_of (e - 5) + (start_of (e - 5 + 1) - 1 - start_of (e - 5)) =
-      (let a : start_of (k + 1) ≡ start_of (e - 5 + 1) = ap (λ x. start_of (x + 1)) same in omega arith) in
-      let p = is.arranged.placed (e - 5) (start_of (e - 5 + 1) - 1 - start_of (e - 5)) d class_in (omega arith) in
-      ap (λ i. (get_or sized_areas i d).version) at ∙ p.version
+    pub starts_some : (k : ℕ) → k ≡ e - 5 → (d : ℕ) → k < d → d < 13 → 1 ≤ start_of d
+    starts_some k same d past small = let l = some_area in let up = starts_upto (e - 5 + 1) d is.arranged (omega arith) (omega arith) in omega arith
 
-  pub starts_some : (k : ℕ) → k ≡ e - 5 → EndsFree s.rows (e - 5) (per e) → (d : ℕ) → k < d → d < 13 → 1 ≤ start_of d
-  starts_some k same ends d past small =
-      let l = some_area ends in
-      let up = Rows.starts_mono (e - 5 + 1) (d - (e - 5 + 1)) is.arranged (omega arith) in
-      let a : get_or starts (e - 5 + 1 + (d - (e - 5 + 1))) 0 ≡ start_of d = ap (λ x. start_of x) (let h : e - 5 + 1 + (d - (e - 5 + 1)) ≡ d = omega arith in h) in
-      omega arith
-
-  pub some_places : EndsFree s.rows (e - 5) (per e) → 0 < length sized_areas
-  some_places ends = let l = (last_in refl ends).1 in omega arith
+    pub some_places : 0 < length sized_areas
+    some_places = let l = (last_in refl).1 in omega arith
 
   pub record Dropped (ids' : List SegmentId) (quota' : ℕ) (origin' : Origin) (starts' : List ℕ) (sized_areas' : List SizedAreaMeaning) (spare' spare_room' : ℕ) : Type 0 where
     pub shelf : IsShelf v quota' ids' starts' sized_areas' full room spare' spare_room'
-    pub gives : shelf_of v quota' ids' origin' starts' sized_areas' ≡ without_last s (e - 5) (per e) ids'
+    pub gives : shelf_of v quota' ids' origin' starts' sized_areas' ≡ with_count s e (count_of s e - 1) ids'
     pub fewer : length ids' + 1 ≡ length s.held_ids
     pub valid_shelf : IsValidShelf (shelf_of v quota' ids' origin' starts' sized_areas')
 
-  dropped_at : (ids' : List SegmentId) (starts' : List ℕ) (spare' spare_room' : ℕ) (d : SizedAreaMeaning) → EndsFree s.rows (e - 5) (per e) → GivesBack ids ids' (get_or sized_areas (start_of (e - 5 + 1) - 1) d).identity
+  dropped_at : (ids' : List SegmentId) (starts' : List ℕ) (spare' spare_room' : ℕ) (d : SizedAreaMeaning) → EndsFree s e → GivesBack ids ids' (get_or sized_areas (start_of (e - 5 + 1) - 1) d).identity
       → HasTables v quota (length (remove sized_areas (start_of (e - 5 + 1) - 1))) spare' spare_room' → Unshifts starts starts' (e - 5)
       → Dropped ids' quota origin starts' (remove sized_areas (start_of (e - 5 + 1) - 1)) spare' spare_room'
   dropped_at ids' starts' spare' spare_room' d ends back tables shift =
-      let c : ℕ = e - 5 in
-      let k : ℕ = start_of (c + 1) - 1 in
+      let k : ℕ = start_of (e - 5 + 1) - 1 in
       let l = some_area ends in
-      let in_k = (last_in refl ends).1 in
-      let o : ℕ = k - start_of c in
-      let long = long_e in
-      let at_o : start_of c + o ≡ k = omega arith in
-      let parts = add-mul o (start_of c) (per e) in
-      let parts' = add-mul k 1 (per e) in
-      let ends_at : start_of (c + 1) * per e ≡ (k + 1) * per e = ap (λ x. x * per e) (let h : start_of (c + 1) ≡ k + 1 = omega arith in h) in
-      let k_parts : k * per e ≡ (o + start_of c) * per e = ap (λ x. x * per e) (let h : k ≡ o + start_of c = omega arith in h) in
-      let front : o * per e ≡ length (row_at s.rows c).chunks - per e = omega arith in
-      let location : facts.ChunkLocation view is c o 0 k = record { small = class_in; within = omega arith; at = sym at_o; below = (let p = per_some in let q = per_is in omega arith) } in
-      let there : chunk_at s.rows c (o * per (c + 5) + 0) ≡ get_or (get_or sized_areas k d).chunks 0 None = facts.chunk_s view is location d in
-      let first_free : chunk_at s.rows c (o * per (c + 5) + 0) ≡ None =
-      ends.free (o * per (c + 5) + 0) (let q : o * per (c + 5) ≡ o * per e = ap (λ x. o * x) per_is in let t = ends.there in omega arith) in
-      let free : HasFree (get_or sized_areas k d) = (0, facts.chunk_in_s view is location d, sym there ∙ first_free) in
-      let up : k + 1 ≡ start_of (c + 1) = omega arith in
-      let arranged = arranged-remove is.arranged k d class_in shift up (omega arith) free in
-      let supplied = supplied-remove spare' spare_room' k d is.supplied in_k back tables in
-      let rows = rows-remove is.arranged k class_in shift up (omega arith) in
+      let up : k + 1 ≡ start_of (e - 5 + 1) = omega arith in
+      let st = stands_last ends (e - 5) refl in
+      let o : ℕ = k - start_of (e - 5) in
+      let count = calls.count_s view is high in
+      let gone : (j q : ℕ) → IsNumber e o j q → (get s.state.live q ≡ None) = λ j q num. ends.free q num.exponent (let a = num.area in omega arith) in
+      let num = is_number o 0 low (calls.few_o view is st) per_some in
+      let free : HasFree (get_or sized_areas k d) = (
+        0,
+        (let p = placed_at is.arranged st d in let long = p.sized_area.whole ∙ ap per p.exponent in let some = per_some in omega arith),
+        sym (ap (λ (c : ChunkMeaning). c.bytes) (calls.chunk_s view is st num d)) ∙ gone 0 _ num,
+      ) in
+      let empty : (q : ℕ) → Inside starts q → place_of_number starts q ≡ k → chunk_among starts sized_areas q ≡ no_chunk =
+      λ q at place.
+      let one = arranged.apart is.arranged (index_of q / per (exponent_of q)) o (let m = at.most in omega arith) class_in at.within st.within (place ∙ st.at) in
+      let class : exponent_of q ≡ e = (let a = one.0 in let b = at.least in omega arith) in
+      let area : index_of q / per e ≡ o = ap (λ x. index_of q / per x) (sym class) ∙ one.1 in
+      let bytes : get s.state.live q ≡ None = gone (index_of q % per e) q (calls.number_of class area) in
+      sym (heap_is starts sized_areas q is.arranged.starts_len) ∙ ap (λ (t : ShelfMeaning). heap_chunk t.state q) view ∙ (λ i. record { bytes = bytes i; touched = quiet q bytes i }) in
+      let gave = supplied-remove spare' spare_room' k d is.supplied (last_in ends refl).1 back tables in
+      let shelf : IsShelf v quota ids' starts' (remove sized_areas k) full room spare' spare_room' = record { arranged = arranged.arranged-remove is.arranged starts' class_in shift up (omega arith) d free; supplied = gave } in
+      let state = arranged.heap-remove is.arranged starts' class_in shift up (omega arith) empty in
+      let counts = arranged.counts-remove is.arranged starts' class_in shift up (omega arith) in
       record {
-        shelf = record { arranged = arranged; supplied = supplied };
-        gives =
-            ap (λ rs. record { version = v; quota = quota; held_ids = ids'; origin = origin; rows = rs })
-            (rows ∙ ap (λ n. set (rows_upto 12 starts sized_areas) c (shorter n (row_at (rows_upto 12 starts sized_areas) c))) (ap (λ x. o * x) per_is ∙ front ∙ ap (λ rs. length (row_at rs c).chunks - per e) (sym (ap (λ (t : ShelfMeaning). t.rows) view))))
-            ∙ ap (λ (t : ShelfMeaning). without_last t c (per e) ids') view;
-        fewer = (let a = ids_are supplied in let b = length-remove sized_areas k in_k in let n = ids_s in omega arith);
-        valid_shelf = is_kept origin arranged supplied;
+        shelf = shelf;
+        gives = (λ j. record { version = v; quota = quota; held_ids = ids'; origin = origin; counts = counts j; state = state j }) ∙ ap (λ (t : ShelfMeaning). with_count t e (count_of t e - 1) ids') view;
+        fewer = (let a = ids_are gave in let b = length-remove sized_areas k (last_in ends refl).1 in let n = ids_are is.supplied in let t = ap (λ (t : ShelfMeaning). length t.held_ids) view in omega arith);
+        valid_shelf = calls.is_valid origin shelf;
       }
+    where
+      quiet : (q : ℕ) → get s.state.live q ≡ None → contains s.state.touched q ≡ false
+      quiet q none =
+          elim (contains s.state.touched q) as (λ b. contains s.state.touched q ≡ b → b ≡ false) [
+            | false ↦ λ h. refl
+            | true ↦ λ h. (let used = (calls.valid_s view is).touched_live q h in let gone = ap is_some none in absurd cc)
+          ] refl
 
   pub dropped : {k : ℕ} {p : SizedAreaMeaning} {id : SegmentId} (lengths : Option Lengths) {ids' : List SegmentId} {quota' : ℕ} {origin' : Origin} {starts' : List ℕ} {spare' : ℕ} (spare_room' : ℕ)
-      → k ≡ e - 5 → EndsFree s.rows (e - 5) (per e) → p ≡ get_or sized_areas (start_of (k + 1) - 1) p → id ≡ p.identity → version_of lengths ≡ p.version → GivesBack ids ids' id → quota' ≡ quota → origin' ≡ origin
+      → k ≡ e - 5 → EndsFree s e → p ≡ get_or sized_areas (start_of (k + 1) - 1) p → id ≡ p.identity → version_of lengths ≡ p.version → GivesBack ids ids' id → quota' ≡ quota → origin' ≡ origin
       → spare' ≡ cond (is_some lengths) (spare + 1) spare → spare_room ≤ spare_room' → Unshifts starts starts' k
       → {sized_areas' : List SizedAreaMeaning} → sized_areas' ≡ remove sized_areas (start_of (k + 1) - 1) → Dropped ids' quota' origin' starts' sized_areas' spare' spare_room'
   dropped {k} {p} lengths {ids'} {quota'} {origin'} {starts'} {spare'} spare_room' same ends read id_is version_is back quota_is origin_is valid_shelf bigger shift items =
       let at : ℕ → ℕ = λ x. start_of (x + 1) - 1 in
       let at_same : at k ≡ at (e - 5) = ap at same in
-      let in_k = (last_in refl ends).1 in
+      let in_k = (last_in ends refl).1 in
       let read' : p ≡ get_or sized_areas (at (e - 5)) p = read ∙ ap (λ i. get_or sized_areas i p) at_same in
       let tables = returned v quota (length sized_areas) (length (remove sized_areas (at (e - 5)))) spare spare' spare_room spare_room' lengths is.supplied.tables (length-remove sized_areas (at (e - 5)) in_k)
-      (version_is ∙ ap (λ (q : SizedAreaMeaning). q.version) read ∙ last_version k p same ends) valid_shelf bigger in
+      (version_is ∙ ap (λ (q : SizedAreaMeaning). q.version) read ∙ last_version ends k p same) valid_shelf bigger in
       let gave : GivesBack ids ids' (get_or sized_areas (at (e - 5)) p).identity = subst (GivesBack ids ids') (id_is ∙ ap (λ (q : SizedAreaMeaning). q.identity) read') back in
       let it = dropped_at ids' starts' spare' spare_room' p ends gave tables (subst (Unshifts starts starts') same shift) in
       subst (λ xs. Dropped ids' quota' origin' starts' xs spare' spare_room') (sym items) (subst (λ x. Dropped ids' quota' origin' starts' (remove sized_areas x) spare' spare_room') (sym at_same)
@@ -330,44 +247,32 @@ module _ {v : Version} {quota : ℕ} {ids : List SegmentId} {origin : Origin} {s
   -- ---- whether the class ends with an empty area
 
   -- a class with no area is trimmed
-  pub none_trimmed : (k : ℕ) → k ≡ e - 5 → start_of (k + 1) ≡ start_of k → IsTrimmed (per e) (row_at s.rows (e - 5))
-  none_trimmed k same none =
-      let a : start_of (k + 1) ≡ start_of (e - 5 + 1) = ap (λ x. start_of (x + 1)) same in
-      let b : start_of k ≡ start_of (e - 5) = ap (λ x. start_of x) same in
-      let m : start_of (e - 5) * per e ≡ start_of (e - 5 + 1) * per e = ap (λ x. x * per e) (let h : start_of (e - 5) ≡ start_of (e - 5 + 1) = omega arith in h) in
-      let long = long_e in
-      record { count = 0; whole = (let z : length (row_at s.rows (e - 5)).chunks ≡ 0 = omega arith in z ∙ (let y : 0 ≡ 0 * per e = omega arith in y)); ends = inl refl }
-
-  long_place : (o last : ℕ) → start_of (e - 5) + o < start_of (e - 5 + 1) → last ≡ start_of (e - 5) + o → (d : SizedAreaMeaning) → length (get_or sized_areas last d).chunks ≡ per e
-  long_place o last within at d =
-      let p = is.arranged.placed (e - 5) o d class_in within in
-      ap (λ i. length (get_or sized_areas i d).chunks) at ∙ p.sized_area.whole ∙ ap per (p.exponent ∙ (let h : e - 5 + 5 ≡ e = omega arith in h))
+  pub none_trimmed : (k : ℕ) → k ≡ e - 5 → start_of (k + 1) ≡ start_of k → IsTrimmed s e
+  none_trimmed k same none n is_n = absurd (let c = calls.count_k view is low high same in omega arith)
 
   pub ends_k : (k : ℕ) (q : SizedAreaMeaning) (b : Bool) → k ≡ e - 5 → (start_of (k + 1) ≡ start_of k → ⊥) → q ≡ get_or sized_areas (start_of (k + 1) - 1) q
-      → MatchBool b ((i : ℕ) → get_or q.chunks i None ≡ None) ((i : ℕ) × IsSome (get_or q.chunks i None))
-      → MatchBool b (EndsFree s.rows (e - 5) (per e)) (IsTrimmed (per e) (row_at s.rows (e - 5)))
+      → MatchBool b ((i : ℕ) → get_or q.chunks i None ≡ None) ((i : ℕ) × IsSome (get_or q.chunks i None)) → MatchBool b (EndsFree s e) (IsTrimmed s e)
   ends_k k q b same some read empty =
-      let c : ℕ = e - 5 in
-      let a : start_of (k + 1) ≡ start_of (c + 1) = ap (λ x. start_of (x + 1)) same in
-      let f : start_of k ≡ start_of c = ap (λ x. start_of x) same in
-      let up = is.arranged.rising c class_in in
-      let last : ℕ = start_of (c + 1) - 1 in
-      let o : ℕ = last - start_of c in
-      let at_o : last ≡ start_of c + o = omega arith in
-      let read' : q ≡ get_or sized_areas last q = read ∙ (let h : start_of (k + 1) - 1 ≡ last = omega arith in ap (λ i. get_or sized_areas i q) h) in
-      let m = add-mul o 1 (per e) in
-      let m' : start_of (c + 1) * per e ≡ (o + 1 + start_of c) * per e = ap (λ x. x * per e) (let h : start_of (c + 1) ≡ o + 1 + start_of c = omega arith in h) in
-      let m'' = add-mul (o + 1) (start_of c) (per e) in
-      let long = long_e in
-      let whole : length (row_at s.rows c).chunks ≡ (o + 1) * per e = omega arith in
-      let per_o : o * per (c + 5) ≡ o * per e = ap (λ x. o * x) per_is in
-      let location : (j : ℕ) → j < per e → facts.ChunkLocation view is c o j last =
-      λ j l. record { small = class_in; within = omega arith; at = at_o; below = (let p = per_is in omega arith) } in
-      let chunk : (j : ℕ) → j < per e → (chunk_at s.rows c (o * per e + j) ≡ get_or q.chunks j None) =
-      λ j l. ap (λ x. chunk_at s.rows c (x + j)) (sym per_o) ∙ facts.chunk_s view is (location j l) q ∙ ap (λ (z : SizedAreaMeaning). get_or z.chunks j None) (sym read') in
-      ends_of b (length (row_at s.rows c).chunks) (per e) o c s.rows q.chunks whole refl chunk
-      (λ i h. (let n : length q.chunks ≡ per e = ap (λ (z : SizedAreaMeaning). length z.chunks) read' ∙ long_place o last (omega arith) at_o q in
-      elim (cases_lt i (per e)) as (λ _. i < per e) [ inl l ↦ l | inr past ↦ (let gone : is_some (get_or q.chunks i None) ≡ false = ap is_some (get_or_past q.chunks i None (omega arith)) in absurd cc) ])) empty
+      let count = calls.count_k view is low high same in
+      let up = rising_k k same in
+      let a = ap (λ x. start_of x) same in
+      let d = ap (λ x. start_of (x + 1)) same in
+      let o : ℕ = start_of (k + 1) - 1 - start_of k in
+      let st : Stands starts e o (start_of (k + 1) - 1) = record { least = low; most = high; within = omega arith; at = omega arith } in
+      elim b as (λ x. MatchBool x ((i : ℕ) → get_or q.chunks i None ≡ None) ((i : ℕ) × IsSome (get_or q.chunks i None)) → MatchBool x (EndsFree s e) (IsTrimmed s e)) [
+        | true ↦ λ none. record {
+          some = omega arith;
+          free = λ n class last. ap (λ (c : ChunkMeaning). c.bytes) (calls.chunk_q view is st read (calls.number_of class (let h : index_of n / per e ≡ o = omega arith in h))) ∙ none (index_of n % per e);
+        }
+        | false ↦ λ used n is_n.
+            let inside : used.0 < per e =
+            elim (cases_lt used.0 (per e)) as (λ _. used.0 < per e) [
+              | inl l ↦ l
+              | inr past ↦ (let gone : is_some (get_or q.chunks used.0 None) ≡ false = ap is_some (get_or_past q.chunks used.0 None (let long = calls.long_q view is st read in omega arith)) in let some = used.1 in absurd cc)
+            ] in
+            let num = is_number o used.0 low (calls.few_o view is st) inside in
+            (number e (o * per e + used.0), ap (λ (c : ChunkMeaning). is_some c.bytes) (calls.chunk_q view is st read num) ∙ used.1, num.exponent, (let x = num.area in omega arith))
+      ] empty
 
-  pub table_room_e : (o : Option Lengths) → EndsFree s.rows (e - 5) (per e) → version_of o ≡ v → IsSome o → spare < spare_room
+  pub table_room_e : (o : Option Lengths) → EndsFree s e → version_of o ≡ v → IsSome o → spare < spare_room
   table_room_e o ends is_v h = table_room v quota (length sized_areas) spare spare_room o is.supplied.tables (some_places ends) is_v h

@@ -140,13 +140,6 @@ left_next {body} {at} {rest} k {n} k' low some left is_n =
       | c ∷ cs ↦ λ many begins. record { chunks = cs; many = omega arith; begins = next_begins body low begins n (number_is body low begins n is_n) }
     ] left.many left.begins
 
-pub left_none : (body : List ℕ) (at : ℕ) (rest : List ℕ) (k : ℕ) → k ≡ 0 → Left body at rest k → drop at body ≡ rest
-left_none body at rest k none left =
-    elim left.chunks as (λ cs. length cs ≡ k → BeginsWithChunks (drop at body) cs rest → drop at body ≡ rest) [
-      | [] ↦ λ many begins. begins.is
-      | c ∷ cs ↦ λ many begins. absurd (omega arith)
-    ] left.many left.begins
-
 set_within : (bits : List Bool) (i : ℕ) → IsSet bits i → i < length bits
 set_within bits i set =
     elim (cases_lt i (length bits)) as (λ _. i < length bits) [

@@ -1,156 +1,171 @@
 -- What it means for a heap that a chunk is taken.
-use Rattle.std.proofs.Common.{◌≡◌, ℕ, ◌+◌, ◌-◌, ◌*◌, ◌<◌, ◌≤◌, inl, inr, Bool, true, false, is_some, Option, Some, None, List, length, get_or, replicate, refl, sym, ap, subst, ◌∙◌, arith}
-use Rattle.std.proofs.Common.{length-append, length-set, get_or-set_same}
-use Rattle.std.proofs.lemmas.Bool.{cases_eq, cases_lt}
-use Rattle.std.proofs.lemmas.List.{get_or_past, length-replicate}
+use Rattle.std.proofs.Common.{◌≡◌, ℕ, zero, suc, ◌+◌, ◌-◌, ◌*◌, ◌/◌, ◌^◌, ◌<◌, ◌≤◌, inl, inr, true, false, is_some, IsSome, Some, None, List, [], length, get_or, replicate, refl, sym, ap, subst, ◌∙◌, arith, get_or-set_same, sum_by}
+use Rattle.std.specs.List.{range_with_len}
+use Rattle.std.specs.FinMap.{get, insert}
+use Rattle.std.proofs.lemmas.Bool.{cases_eq}
 use Rattle.std.proofs.Math.Nat.{add-mul}
-use Rattle.std.proofs.lemmas.Nat.{pow_pos}
-use Rattle.dym_base.specs.Numbers.{number, per}
-use Rattle.dym_base.specs.Heaps.{fresh}
-use Rattle.dym_base.specs.HeapStep.{held_with_fresh, with_chunk}
-use Rattle.dym_region.specs.declared.segment.SegmentId.{SegmentId}
-use Rattle.dym_heap.specs.Table.{Row, row_at, chunk_at, live_of, state_of}
-use Rattle.dym_heap.specs.Shape.{IsTrimmed}
-use Rattle.dym_heap.specs.Shelves.{ShelfMeaning, IsFirstFree, IsValidShelf, IsTidy, put, with_put, with_row, longer}
-use Rattle.dym_heap.proofs.FreshIndex.{IsFull, fresh_first, fresh_full, held_with_first, held_with_full, put_trimmed, set_trimmed}
-use Rattle.dym_heap.proofs.Steps.{row_here, row_other, state-put, state_of-same, longer_chunks, longer_marks}
+use Rattle.std.proofs.lemmas.List.Sums.{sum_by-cons, sum_by-le-sum_by, get_or-le-sum_by}
+use Rattle.std.proofs.lemmas.Nat.{pow_pos, div-mul-add, mul-le}
+use Rattle.dym_base.specs.Numbers.{per, number, exponent_of, index_of}
+use Rattle.dym_base.specs.Heaps.{Live, HeapState, areas, held, fresh}
+use Rattle.dym_base.specs.HeapStep.{with_chunk, held_with_fresh}
+use Rattle.dym_base.proofs.Maps.{Has, has_new, has_kept}
+use Rattle.dym_base.proofs.Heaps.{areas_grow, reach_areas, reach_there, held_insert_any}
+use Rattle.dym_heap.specs.Chunks.{ChunkMeaning}
+use Rattle.dym_heap.specs.Shelves.{ShelfMeaning, IsValidShelf, IsTidy, IsTrimmed, IsFirstFree, Keeps, count_of, with_put, with_count}
+use Rattle.dym_heap.proofs.Sizes.{per_fits}
+use Rattle.dym_heap.proofs.Chunks.{none_of, put_here, put_some}
+use Rattle.dym_heap.proofs.HandleSteps.{count_other, keeps_put}
+use Rattle.dym_heap.proofs.Tidy.{count_is, tidy_held, tidy_put, fresh_is}
+
+-- ---- a chunk that comes needs the segments up to that of its area
+
+-- a sum of terms none of which is smaller: each term's growth is part of the sum's
+sum_at : (f g : ℕ → ℕ) → ((x : ℕ) → g x ≤ f x) → (a n e : ℕ) → a ≤ e → e < a + n → sum_by g (range_with_len a n) + f e ≤ sum_by f (range_with_len a n) + g e
+sum_at f g each a zero e low high = absurd (omega arith)
+sum_at f g each a (suc n) e low high =
+    let x = sum_by-cons f a (range_with_len (a + 1) n) in
+    let y = sum_by-cons g a (range_with_len (a + 1) n) in
+    let first = each a in
+    elim (cases_eq a e) as (λ _. sum_by g (range_with_len a (suc n)) + f e ≤ sum_by f (range_with_len a (suc n)) + g e) [
+      | inl same ↦
+          let rest = sum_by-le-sum_by g f (range_with_len (a + 1) n) each in
+          let p : f e ≡ f a = ap f (sym same) in
+          let q : g e ≡ g a = ap g (sym same) in
+          omega arith
+      | inr ne ↦ (let rest = sum_at f g each (a + 1) n e (omega arith) (omega arith) in omega arith)
+    ]
+
+held_at : (a b : Live) → ((k : ℕ) → Has a k → Has b k) → (e : ℕ) → 5 ≤ e → e ≤ 16 → held a + areas b e ≤ held b + areas a e
+unfolding held
+held_at a b more e low high = sum_at (areas b) (areas a) (areas_grow a b more) 5 12 e low (omega arith)
+
+pub held_least : {s : ShelfMeaning} (e i : ℕ) (bytes : List ℕ) → IsTidy s → 5 ≤ e → e ≤ 16 → i < 2 ^ 32 → length s.held_ids + i / per e + 1 ≤ held (insert s.state.live (number e i) bytes) + count_of s e
+held_least {s} e i bytes tidy low high small =
+    let k : ℕ = number e i in
+    let live : Live = s.state.live in
+    let is : exponent_of k ≡ e = omega arith in
+    let index : index_of k ≡ i = omega arith in
+    let there = reach_areas (insert live k bytes) e k (has_new live k bytes) in
+    let far = reach_there e k is in
+    let same : index_of k / per e ≡ i / per e = ap (λ n. n / per e) index in
+    let grown = held_at live (insert live k bytes) (has_kept live k bytes) e low high in
+    let now = count_is tidy e (low, high) in
+    let holds = tidy_held tidy in
+    omega arith
+
+-- ---- a chunk is taken
+
+-- no chunk of the areas of class e is free
+abbrev pub IsFull : ShelfMeaning → ℕ → Type 0
+IsFull s e = (i : ℕ) → i < count_of s e * per e → IsSome (get s.state.live (number e i))
 
 -- chunk i of class e was taken, with n bytes
 pub record Took (s t : ShelfMeaning) (e i n : ℕ) : Type 0 where
-  pub index : i ≡ fresh (live_of s.rows) e
-  pub state : state_of t.rows ≡ with_chunk (state_of s.rows) (number e i) (replicate n 0)
+  pub index : i ≡ fresh s.state.live e
+  pub state : t.state ≡ with_chunk s.state (number e i) (replicate n 0)
   pub tidy : IsTidy t
+  pub keeps : Keeps s t
+  pub held : held_with_fresh s.state.live e ≡ length t.held_ids
 
--- a chunk of a tidy shelf is written whole, and the shelf is tidy
-pub tidy-put : (s : ShelfMeaning) (c i : ℕ) (bytes : List ℕ) (b : Bool) → IsTidy s → IsValidShelf (with_put s c i (Some bytes) b) → c < 12 → i < length (row_at s.rows c).chunks
-    → IsTidy (with_put s c i (Some bytes) b)
-tidy-put s c i bytes b tidy valid_shelf' small within = record {
-  valid_shelf = valid_shelf';
-  trimmed = let n = tidy.valid_shelf.classes in set_trimmed s.rows c (put (row_at s.rows c) i (Some bytes) b) (omega arith) (put_trimmed i bytes b within (tidy.trimmed c small)) tidy.trimmed;
-}
-
-took_in : {s : ShelfMeaning} {c i : ℕ} (n : ℕ) → IsTidy s → IsValidShelf (with_put s c i (Some (replicate n 0)) true) → IsFirstFree s.rows c i → c < 12
-    → Took s (with_put s c i (Some (replicate n 0)) true) (c + 5) i n
-took_in {s} {c} {i} n tidy valid_shelf' first small = record {
-  index = sym (fresh_first tidy.valid_shelf first);
-  state = state-put c i (Some (replicate n 0)) true tidy.valid_shelf valid_shelf' small first.within;
-  tidy = tidy-put s c i (replicate n 0) true tidy valid_shelf' small first.within;
-}
-
-class_of_row : {e : ℕ} → 5 ≤ e → e ≡ e - 5 + 5
-class_of_row low = omega arith
-
-pub took_first : {s t : ShelfMeaning} (e : ℕ) {i : ℕ} (n : ℕ) → IsTidy s → IsValidShelf t → t ≡ with_put s (e - 5) i (Some (replicate n 0)) true → IsFirstFree s.rows (e - 5) i → 5 ≤ e → e ≤ 16
-    → Took s t e i n
-took_first {s} e {i} n tidy valid_shelf' is first low high =
-    let that : Took s (with_put s (e - 5) i (Some (replicate n 0)) true) (e - 5 + 5) i n = took_in n tidy (subst IsValidShelf is valid_shelf') first (omega arith) in
-    subst (λ x. Took s x e i n) (sym is) (subst (λ x. Took s (with_put s (e - 5) i (Some (replicate n 0)) true) x i n) (sym (class_of_row low)) that)
-
-pub held_first : (s : ShelfMeaning) (e i : ℕ) → IsTidy s → IsFirstFree s.rows (e - 5) i → 5 ≤ e → e ≤ 16 → held_with_fresh (live_of s.rows) e ≡ length s.held_ids
-held_first s e i tidy first low high =
-    let that = held_with_first s (e - 5) i tidy (omega arith) first in
-    subst (λ x. held_with_fresh (live_of s.rows) x ≡ length s.held_ids) (sym (class_of_row low)) that
-
-pub held_full : (s : ShelfMeaning) (e : ℕ) → IsTidy s → IsFull s.rows (e - 5) → 5 ≤ e → e ≤ 16 → held_with_fresh (live_of s.rows) e ≡ length s.held_ids + 1
-held_full s e tidy full low high =
-    let that = held_with_full s (e - 5) tidy (omega arith) full in
-    subst (λ x. held_with_fresh (live_of s.rows) x ≡ length s.held_ids + 1) (sym (class_of_row low)) that
-
--- ---- in an area that was just added
-
--- s with an empty area more at row c
-abbrev pub with_area : ShelfMeaning → ℕ → List SegmentId → ShelfMeaning
-with_area s c ids = record (with_row s c (longer (per (c + 5)) (row_at s.rows c))) { held_ids = ids }
-
-first_after : {s : ShelfMeaning} {c i : ℕ} (ids : List SegmentId) → IsValidShelf s → c < 12 → IsFull s.rows c → IsFirstFree (with_area s c ids).rows c i → i ≡ length (row_at s.rows c).chunks
-first_after {s} {c} {i} ids valid_shelf small full first =
-    let n = valid_shelf.classes in
-    let row : Row = row_at s.rows c in
-    let here : row_at (with_area s c ids).rows c ≡ longer (per (c + 5)) row = row_here s.rows c (longer (per (c + 5)) row) (omega arith) in
-    let same : (k : ℕ) → chunk_at (with_area s c ids).rows c k ≡ chunk_at s.rows c k = λ k. ap (λ (r : Row). get_or r.chunks k None) here ∙ longer_chunks (per (c + 5)) row k in
-    elim (cases_lt i (length row.chunks)) as (λ _. i ≡ length row.chunks) [
-      | inl l ↦ (let used : is_some (chunk_at s.rows c i) ≡ true = full i l in let gone : is_some (chunk_at s.rows c i) ≡ false = ap is_some (sym (same i) ∙ first.free) in absurd cc)
-      | inr past ↦
-          elim (cases_eq i (length row.chunks)) as (λ _. i ≡ length row.chunks) [
-            | inl is ↦ is
-            | inr ne ↦ (let used : is_some (chunk_at (with_area s c ids).rows c (length row.chunks)) ≡ true = first.least (length row.chunks) (omega arith) in
-                let gone : is_some (chunk_at (with_area s c ids).rows c (length row.chunks)) ≡ false = ap is_some (same (length row.chunks) ∙ get_or_past row.chunks (length row.chunks) None (omega arith)) in
-                absurd cc)
-          ]
-    ]
-
-took_after : {s : ShelfMeaning} {c i : ℕ} (n : ℕ) (ids : List SegmentId) → IsTidy s → IsValidShelf (with_area s c ids) → IsValidShelf (with_put (with_area s c ids) c i (Some (replicate n 0)) true)
-    → IsFull s.rows c → IsFirstFree (with_area s c ids).rows c i → c < 12 → Took s (with_put (with_area s c ids) c i (Some (replicate n 0)) true) (c + 5) i n
-took_after {s} {c} {i} n ids tidy valid_shelf' valid_shelf'' full first small =
-    let many = tidy.valid_shelf.classes in
-    let row : Row = row_at s.rows c in
-    let m : ℕ = per (c + 5) in
-    let u : ShelfMeaning = with_area s c ids in
-    let here : row_at u.rows c ≡ longer m row = row_here s.rows c (longer m row) (omega arith) in
-    let sized_area : i ≡ length row.chunks = first_after ids tidy.valid_shelf small full first in
-    let within : i < length (row_at u.rows c).chunks = first.within in
-    let t : ShelfMeaning = with_put u c i (Some (replicate n 0)) true in
-    let is = tidy.valid_shelf.row c small in
-    let longer_by : length (row_at u.rows c).chunks ≡ (is.areas + 1) * m =
-    ap (λ (r : Row). length r.chunks) here ∙ (let w = is.whole in omega (arith, length-append row.chunks (replicate m None), length-replicate {A = Option (List ℕ)} m None, add-mul is.areas 1 m)) in
+took : {s t : ShelfMeaning} (e i n : ℕ) → IsFirstFree s.state e i → t.state ≡ with_chunk s.state (number e i) (replicate n 0) → IsTidy t → Keeps s t → Took s t e i n
+took {s} {t} e i n first state tidy keeps =
+    let index : fresh s.state.live e ≡ i = fresh_is s.state.live e i first.free first.least in
     record {
-      index = sized_area ∙ sym (fresh_full s c tidy.valid_shelf small full);
-      state =
-          state-put c i (Some (replicate n 0)) true valid_shelf' valid_shelf'' small within
-          ∙ ap (λ st. with_chunk st (number (c + 5) i) (replicate n 0)) (state_of-same c (longer m row) tidy.valid_shelf valid_shelf' refl small (longer_chunks m row) (longer_marks m row));
-      tidy = record {
-        valid_shelf = valid_shelf'';
-        trimmed = λ d l.
-            elim (cases_eq d c) as (λ _. IsTrimmed (per (d + 5)) (row_at t.rows d)) [
-              | inl same ↦
-                  subst (λ x. IsTrimmed (per (x + 5)) (row_at t.rows x)) (sym same)
-                  (subst (λ r. IsTrimmed m r) (sym (row_here u.rows c (put (row_at u.rows c) i (Some (replicate n 0)) true) (omega (arith, length-set s.rows c (longer m row)))))
-                  (record {
-                    count = is.areas + 1;
-                    whole = length-set (row_at u.rows c).chunks i (Some (replicate n 0)) ∙ longer_by;
-                    ends = inr (
-                      i,
-                      (let w = is.whole in omega (arith, length-set (row_at u.rows c).chunks i (Some (replicate n 0)), add-mul is.areas 1 m)),
-                      ap is_some (get_or-set_same (row_at u.rows c).chunks i (Some (replicate n 0)) None within),
-                    );
-                  }))
-              | inr ne ↦ subst (λ r. IsTrimmed (per (d + 5)) r) (sym (row_other u.rows _ ne ∙ row_other s.rows _ ne)) (tidy.trimmed d l)
-            ];
-      };
+      index = sym index;
+      state = state;
+      tidy = tidy;
+      keeps = keeps;
+      held =
+          ap (λ x. held (insert s.state.live (number e x) [])) index ∙ held_insert_any s.state.live (number e i) [] (replicate n 0)
+          ∙ sym (ap (λ (h : HeapState). held h.live) state) ∙ tidy_held tidy;
     }
 
-pub took_grown : {s u t : ShelfMeaning} (e : ℕ) {i : ℕ} (n : ℕ) → IsTidy s → IsValidShelf u → IsValidShelf t → u ≡ record (with_row s (e - 5) (longer (per e) (row_at s.rows (e - 5)))) { held_ids = u.held_ids }
-    → t ≡ with_put u (e - 5) i (Some (replicate n 0)) true → IsFull s.rows (e - 5) → IsFirstFree u.rows (e - 5) i → 5 ≤ e → e ≤ 16 → Took s t e i n
-took_grown {s} {u} {t} e {i} n tidy valid_shelf' valid_shelf'' grown is full first low high =
-    let c : ℕ = e - 5 in
-    let grown' : u ≡ with_area s c u.held_ids = grown ∙ ap (λ x. record (with_row s c (longer (per x) (row_at s.rows c))) { held_ids = u.held_ids }) (class_of_row low) in
-    let is' : t ≡ with_put (with_area s c u.held_ids) c i (Some (replicate n 0)) true = is ∙ ap (λ x. with_put x c i (Some (replicate n 0)) true) grown' in
-    let that = took_after n u.held_ids tidy (subst IsValidShelf grown' valid_shelf') (subst IsValidShelf is' valid_shelf'') full (subst (λ x. IsFirstFree x.rows c i) grown' first) (omega arith) in
-    subst (λ x. Took s x e i n) (sym is') (subst (λ x. Took s (with_put (with_area s c u.held_ids) c i (Some (replicate n 0)) true) x i n) (sym (class_of_row low)) that)
+pub took_first : {s t : ShelfMeaning} (e : ℕ) {i : ℕ} (n : ℕ) → IsTidy s → IsValidShelf t → t ≡ with_put s (number e i) (Some (replicate n 0)) true → IsFirstFree s.state e i → Took s t e i n
+took_first e {i} n tidy valid is first = took e i n first (ap (λ (x : ShelfMeaning). x.state) is) (tidy_put (number e i) (replicate n 0) true tidy valid is) (keeps_put (number e i) (Some (replicate n 0)) true is)
 
--- the area that was added has a free chunk
-pub grown_free : (s u : ShelfMeaning) (e : ℕ) → IsValidShelf s → u ≡ record (with_row s (e - 5) (longer (per e) (row_at s.rows (e - 5)))) { held_ids = u.held_ids } → 5 ≤ e → e ≤ 16
-    → IsFull u.rows (e - 5) → ⊥
-grown_free s u e valid_shelf grown low high full =
-    let c : ℕ = e - 5 in
-    let many = valid_shelf.classes in
-    let row : Row = row_at s.rows c in
-    let positive : 0 < per e = pow_pos (16 - e) in
-    let here : row_at u.rows c ≡ longer (per e) row = ap (λ (x : ShelfMeaning). row_at x.rows c) grown ∙ row_here s.rows c (longer (per e) row) (omega arith) in
-    let long : length (row_at u.rows c).chunks ≡ length row.chunks + per e =
-    ap (λ (r : Row). length r.chunks) here ∙ omega (arith, length-append row.chunks (replicate (per e) None), length-replicate {A = Option (List ℕ)} (per e) None) in
-    let used : is_some (chunk_at u.rows c (length row.chunks)) ≡ true = full (length row.chunks) (omega arith) in
-    let gone : is_some (chunk_at u.rows c (length row.chunks)) ≡ false =
-    ap is_some (ap (λ (r : Row). get_or r.chunks (length row.chunks) None) here ∙ longer_chunks (per e) row (length row.chunks) ∙ get_or_past row.chunks (length row.chunks) None (omega arith)) in
-    absurd cc
+-- the call before left the shelf m as it was, s
+pub grown_from : {s m u : ShelfMeaning} (e : ℕ) → m ≡ s → u ≡ with_count m e (count_of m e + 1) u.held_ids → u ≡ with_count s e (count_of s e + 1) u.held_ids
+grown_from {u = u} e same grown = grown ∙ ap (λ (x : ShelfMeaning). with_count x e (count_of x e + 1) u.held_ids) same
 
--- the same, after a call that left the shelf m as it was, s
-pub took_later : {s m u t : ShelfMeaning} (e : ℕ) {i : ℕ} (n : ℕ) → IsTidy s → m ≡ s → IsValidShelf u → IsValidShelf t → u ≡ record (with_row m (e - 5) (longer (per e) (row_at m.rows (e - 5)))) { held_ids = u.held_ids }
-    → t ≡ with_put u (e - 5) i (Some (replicate n 0)) true → IsFull s.rows (e - 5) → IsFirstFree u.rows (e - 5) i → 5 ≤ e → e ≤ 16 → Took s t e i n
-took_later {m} {u} {t} e {i} n tidy same valid_shelf' valid_shelf'' grown is full first low high =
-    subst (λ x. Took x t e i n) same
-    (took_grown e n (subst IsTidy (sym same) tidy) valid_shelf' valid_shelf'' grown is (subst (λ (x : ShelfMeaning). IsFull x.rows (e - 5)) (sym same) full) first low high)
+-- ---- where no chunk is free
 
-pub grown_free_later : {s m u : ShelfMeaning} (e : ℕ) → IsTidy s → m ≡ s → u ≡ record (with_row m (e - 5) (longer (per e) (row_at m.rows (e - 5)))) { held_ids = u.held_ids } → 5 ≤ e → e ≤ 16
-    → IsFull u.rows (e - 5) → ⊥
-grown_free_later {m} {u} e tidy same grown low high full = grown_free m u e (subst IsValidShelf (sym same) tidy.valid_shelf) grown low high full
+module _ {s : ShelfMeaning} {e : ℕ} (valid : IsValidShelf s) (low : 5 ≤ e) (high : e ≤ 16) where
+  -- the index behind the last area
+  abbrev end : ℕ
+  end = count_of s e * per e
+
+  few : count_of s e ≤ 1024
+  few =
+      let n = get_or-le-sum_by (λ (x : ℕ). x) s.counts (e - 5) 0 (let c = valid.classes in omega arith) in
+      let holds = valid.holds in let within = valid.within in let most = valid.quota_most in
+      omega arith
+
+  pub end_small : end < 2 ^ 32
+  end_small = let rows = mul-le (count_of s e) (per e) 1024 2048 few (per_fits low) in omega arith
+
+  pub end_free : get s.state.live (number e end) ≡ None
+  end_free =
+      let small = end_small in
+      let class : exponent_of (number e end) ≡ e = omega arith in
+      let index : index_of (number e end) ≡ end + 0 = omega arith in
+      let at : index_of (number e end) / per e ≡ count_of s e = ap (λ x. x / per e) index ∙ div-mul-add (count_of s e) (per e) 0 (pow_pos (16 - e)) in
+      elim (is_some (get s.state.live (number e end))) as (λ b. is_some (get s.state.live (number e end)) ≡ b → get s.state.live (number e end) ≡ None) [
+        | false ↦ λ h. none_of (get s.state.live (number e end)) h
+        | true ↦ λ h. absurd (let l = subst (λ x. index_of (number e end) / per x < count_of s x) class (valid.in_area (number e end) h) in omega arith)
+      ] refl
+
+  pub fresh_full : IsFull s e → fresh s.state.live e ≡ end
+  fresh_full full = fresh_is s.state.live e end end_free full
+
+-- more segments would be needed
+pub held_full : {s : ShelfMeaning} (e : ℕ) → IsTidy s → IsFull s e → 5 ≤ e → e ≤ 16 → length s.held_ids < held_with_fresh s.state.live e
+held_full {s} e tidy full low high =
+    let at = fresh_full tidy.valid_shelf low high full in
+    let least = held_least e (count_of s e * per e) [] tidy low high (end_small tidy.valid_shelf low high) in
+    let index : (count_of s e * per e) / per e ≡ count_of s e = ap (λ x. x / per e) (let z : count_of s e * per e ≡ count_of s e * per e + 0 = omega arith in z) ∙ div-mul-add (count_of s e) (per e) 0 (pow_pos (16 - e)) in
+    let same : held_with_fresh s.state.live e ≡ held (insert s.state.live (number e (count_of s e * per e)) []) = ap (λ x. held (insert s.state.live (number e x) [])) at in
+    omega arith
+
+module _ {s u : ShelfMeaning} (e : ℕ) (tidy : IsTidy s) (grown : u ≡ with_count s e (count_of s e + 1) u.held_ids) (low : 5 ≤ e) (high : e ≤ 16) where
+  count_u : count_of u e ≡ count_of s e + 1
+  count_u = ap (λ (x : ShelfMeaning). count_of x e) grown ∙ get_or-set_same s.counts (e - 5) (count_of s e + 1) 0 (let n = tidy.valid_shelf.classes in omega arith)
+
+  -- in an area that was just added
+  pub took_grown : {t : ShelfMeaning} {i : ℕ} (n : ℕ) → IsValidShelf t → t ≡ with_put u (number e i) (Some (replicate n 0)) true → IsFull s e → IsFirstFree u.state e i → Took s t e i n
+  took_grown {t} {i} n valid is full first =
+      let same = ap (λ (x : ShelfMeaning). x.state) grown in
+      let first' = subst (λ st. IsFirstFree st e i) same first in
+      let counts = ap (λ (x : ShelfMeaning). x.counts) is in
+      let at : i ≡ count_of s e * per e = sym (fresh_is s.state.live e i first'.free first'.least) ∙ fresh_full tidy.valid_shelf low high full in
+      let state : t.state ≡ with_chunk s.state (number e i) (replicate n 0) = ap (λ (x : ShelfMeaning). x.state) is ∙ ap (λ st. with_chunk st (number e i) (replicate n 0)) same in
+      took e i n first' state (record {
+        valid_shelf = valid;
+        trimmed = λ d class.
+            elim (cases_eq d e) as (λ _. IsTrimmed t d) [
+              | inl one ↦ subst (IsTrimmed t) (sym one) (λ m some.
+                  let small = first'.small in
+                  let count : count_of t e ≡ count_of s e + 1 = ap (λ cs. get_or cs (e - 5) 0) counts ∙ count_u in
+                  let index : index_of (number e i) ≡ count_of s e * per e + 0 = omega arith in (
+                    number e i,
+                    ap (λ (h : HeapState). is_some (get h.live (number e i))) state ∙ ap (λ (c : ChunkMeaning). is_some c.bytes) (put_here s.state (number e i) (record { bytes = Some (replicate n 0); touched = true })),
+                    omega arith,
+                    ap (λ x. x / per e) index ∙ div-mul-add (count_of s e) (per e) 0 (pow_pos (16 - e)) ∙ (let h : count_of s e ≡ m = omega arith in h),
+                  ))
+              | inr ne ↦ λ m some.
+                  let last = tidy.trimmed d class m (sym (ap (λ cs. get_or cs (d - 5) 0) counts ∙ ap (λ (x : ShelfMeaning). count_of x d) grown ∙ count_other s (count_of s e + 1) u.held_ids low class.0 ne) ∙ some) in
+                  (last.0, ap (λ (h : HeapState). is_some (get h.live last.0)) state ∙ put_some s.state (number e i) (replicate n 0) true last.0 last.1, last.2, last.3)
+            ];
+      })
+      (record {
+        version = ap (λ (x : ShelfMeaning). x.version) is ∙ ap (λ (x : ShelfMeaning). x.version) grown;
+        quota = ap (λ (x : ShelfMeaning). x.quota) is ∙ ap (λ (x : ShelfMeaning). x.quota) grown;
+        origin = ap (λ (x : ShelfMeaning). x.origin) is ∙ ap (λ (x : ShelfMeaning). x.origin) grown;
+      })
+
+  -- the area that was added has a free chunk
+  pub grown_free : IsFull u e → ⊥
+  grown_free full =
+      let some = full (count_of s e * per e) (let c = ap (λ x. x * per e) count_u in let m = add-mul (count_of s e) 1 (per e) in let p : 0 < per e = pow_pos (16 - e) in omega arith) in
+      let none = ap (λ (x : ShelfMeaning). is_some (get x.state.live (number e (count_of s e * per e)))) grown ∙ ap is_some (end_free tidy.valid_shelf low high) in
+      absurd cc

@@ -2,23 +2,21 @@
 use Rattle.std.proofs.Common.{◌≡◌, ℕ, ◌||◌, inl, inr, Bool, true, false, is_some, Option, None, List, length, get_or, map, refl, sym, ap, ◌∙◌, arith}
 use Rattle.std.specs.Ordering.{nat_cmp}
 use Rattle.std.specs.Cmp.{nat_cmp_total}
-use Rattle.std.specs.FinMap.{get, keys, contains_key-keys, nat_cmp-IsAntisymmetric}
-use Rattle.std.specs.FinSet.{contains, from_list, contains-from_list, same_set}
+use Rattle.std.specs.FinMap.{get, keys, contains_key-keys}
+use Rattle.std.specs.FinSet.{contains, from_list, contains-from_list}
 use Rattle.std.proofs.lemmas.Bool.{cases_lt}
-use Rattle.std.proofs.lemmas.List.{length-map, ext_get_or, get_or-map, map-append, get_or_past}
+use Rattle.std.proofs.lemmas.List.{length-map, ext_get_or, get_or-map, get_or_past}
 use Rattle.dym_base.specs.Origins.{Origin}
 use Rattle.dym_base.specs.Heaps.{Live}
 use Rattle.dym_base.specs.declared.command.Version.{Version}
 use Rattle.dym_region.specs.declared.segment.SegmentId.{SegmentId}
 use Rattle.dym_bits.specs.Bits.{bit_in, IsSet}
 use Rattle.dym_area.specs.Area.{AreaMeaning, IsValidArea}
-use Rattle.dym_heap.specs.Table.{Row, row_at, live_of, touched_of, state_of}
-use Rattle.dym_heap.specs.Shelves.{ShelfMeaning, IsValidShelf, IsTidy, used_touched_rows}
-use Rattle.dym_heap.specs.SizedAreas.{SizedAreaMeaning, place_of, touched_in, IsMeasured, used_touched}
+use Rattle.dym_heap.specs.Chunks.{ChunkMeaning}
+use Rattle.dym_heap.specs.Shelves.{ShelfMeaning}
 use Rattle.dym_heap.specs.Arrangement.{IsShelf, shelf_of}
+use Rattle.dym_heap.specs.SizedAreas.{SizedAreaMeaning, place_of, touched_in, IsMeasured, used_touched}
 use Rattle.dym_heap.specs.Touches.{all_touched}
-use Rattle.dym_heap.proofs.Entries.{below, at, splits, get-live_of, get-live_of_below, contains-touched_of, contains-touched_of_below}
-use Rattle.dym_heap.proofs.Steps.{kept_fits, kept_marks_fit}
 use Rattle.dym_heap.proofs.PlaceSteps.{is_place, chunk_of, some_used}
 use Rattle.dym_heap.proofs.PlaceShapes as shapes
 use Rattle.dym_heap.proofs.NewMarks as marks
@@ -31,17 +29,8 @@ used_mark chunks i =
       | inr past ↦ get_or_past (map is_some chunks) i false (omega (arith, length-map chunks is_some)) ∙ sym (ap is_some (get_or_past chunks i None past))
     ]
 
--- each chunk in use is marked
-abbrev used_marks : List (Option (List ℕ)) → List Bool → List Bool
-used_marks chunks marks = map is_some chunks
-
-makes_used : MakesMarks used_marks
-makes_used = record {
-  none = refl;
-  long = λ chunks marks same. length-map chunks is_some;
-  both = λ chunks more marks marks'. map-append is_some chunks more;
-  used = λ chunks marks i h. sym (used_mark chunks i) ∙ h;
-}
+makes_used : MakesMarks (λ (p : SizedAreaMeaning). map is_some p.chunks)
+makes_used = record { long = λ p same. length-map p.chunks is_some; used = λ p i h. sym (used_mark p.chunks i) ∙ h }
 
 -- ---- a place whose use bits become its dirty bits
 
@@ -81,32 +70,16 @@ module _ {area : AreaMeaning} {ls : Option (List ℕ)} {p : SizedAreaMeaning} (v
 
 -- ---- the shelf
 
-pub touched_view : {v : Version} {quota : ℕ} {ids : List SegmentId} {origin : Origin} (starts : List ℕ) (sized_areas : List SizedAreaMeaning) {s : ShelfMeaning} → shelf_of v quota ids origin starts sized_areas ≡ s
-    → shelf_of v quota ids origin starts (map used_touched sized_areas) ≡ record s { rows = used_touched_rows s.rows }
-touched_view starts sized_areas view = marks.view_of makes_used starts sized_areas view
-
-pub touched_shelf : {v : Version} {quota : ℕ} {ids : List SegmentId} {starts : List ℕ} {sized_areas sized_areas' : List SizedAreaMeaning} {full : List (List Bool)} {room room' spare spare_room : ℕ} → sized_areas' ≡ map used_touched sized_areas → room' ≡ room
-    → IsShelf v quota ids starts sized_areas full room spare spare_room → IsShelf v quota ids starts sized_areas' full room' spare spare_room
-touched_shelf items same is = marks.kept_shelf makes_used items same is
-
--- ---- the maps then
-
 -- a set of all keys has a number where the map does
 contains-keys : (live : Live) (q : ℕ) → contains (from_list {R = nat_cmp} (keys live)) q ≡ is_some (get live q)
 contains-keys live q = contains-from_list nat_cmp_total (keys live) q ∙ sym (contains_key-keys live q)
 
-pub touched_state : (s t : ShelfMeaning) → IsValidShelf s → IsValidShelf t → t.rows ≡ used_touched_rows s.rows → state_of t.rows ≡ all_touched (state_of s.rows)
-touched_state s t valid_shelf valid_shelf' is =
-    let lives : live_of t.rows ≡ live_of s.rows = marks.lives makes_used valid_shelf valid_shelf' is in
-    let touches : touched_of t.rows ≡ from_list (keys (live_of s.rows)) =
-    same_set nat_cmp_total nat_cmp-IsAntisymmetric (touched_of t.rows) (from_list (keys (live_of s.rows))) (λ q.
-    elim (splits q) as (λ _. contains (touched_of t.rows) q ≡ contains (from_list {R = nat_cmp} (keys (live_of s.rows))) q) [
-      | below b ↦ contains-touched_of_below t.rows b ∙ sym (contains-keys (live_of s.rows) q ∙ ap is_some (get-live_of_below s.rows q b))
-      | at c j e l ↦
-          contains-touched_of t.rows (kept_marks_fit valid_shelf') c e l ∙ ap (λ (r : Row). get_or r.touched j false) (marks.row_is makes_used s t is c) ∙ used_mark (row_at s.rows c).chunks j
-          ∙ sym (contains-keys (live_of s.rows) q ∙ ap is_some (get-live_of s.rows (kept_fits valid_shelf) c j e l))
-    ]) in
-    λ i. record { live = lives i; touched = touches i }
+module _ {v : Version} {quota : ℕ} {ids : List SegmentId} {origin : Origin} {starts : List ℕ} {sized_areas sized_areas' : List SizedAreaMeaning} {full : List (List Bool)} {room spare spare_room : ℕ}
+    {s : ShelfMeaning} (view : shelf_of v quota ids origin starts sized_areas ≡ s) (is : IsShelf v quota ids starts sized_areas full room spare spare_room) (items : sized_areas' ≡ map used_touched sized_areas) where
+  pub touched_view : shelf_of v quota ids origin starts sized_areas' ≡ record s { state = all_touched s.state }
+  touched_view =
+      marks.view_of makes_used is view items (all_touched s.state) (λ q. refl)
+      (λ p j q e. used_mark p.chunks j ∙ sym (contains-keys s.state.live q ∙ ap (λ (c : ChunkMeaning). is_some c.bytes) e)) (λ q e. contains-keys s.state.live q ∙ ap (λ (c : ChunkMeaning). is_some c.bytes) e)
 
-pub touched_tidy : {s t : ShelfMeaning} → IsTidy s → IsValidShelf t → t.rows ≡ used_touched_rows s.rows → IsTidy t
-touched_tidy tidy valid_shelf is = marks.kept_tidy makes_used tidy valid_shelf is
+  pub touched_shelf : {room' : ℕ} → room' ≡ room → IsShelf v quota ids starts sized_areas' full room' spare spare_room
+  touched_shelf same = marks.kept_shelf makes_used is items same

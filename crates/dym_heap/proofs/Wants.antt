@@ -1,14 +1,12 @@
 -- One chunk that is marked, fetched or reshaped, and again.
 use Rattle.std.proofs.Common.{◌≡◌, ℕ, Bool, true, false, cond, not, ◌&&◌, ◌||◌, is_some, Option, Some, None, List, refl, sym, ◌∙◌}
 use Rattle.dym_base.specs.StandsFor.{or_else}
+use Rattle.dym_heap.specs.Chunks.{no_chunk}
 use Rattle.dym_heap.specs.Fetches.{ChunkMeaning, marked, fetched, is_unmodified, IsReshaped}
 
 pub both_first : (a b : Bool) → (a && b) ≡ true → a ≡ true
 both_first true b h = refl
 both_first false b h = h
-
-abbrev pub no_chunk : ChunkMeaning
-no_chunk = record { bytes = None; touched = false }
 
 -- ---- marked
 

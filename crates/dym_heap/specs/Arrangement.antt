@@ -1,28 +1,43 @@
 -- How a shelf keeps its areas: those of all classes in one list, class after class, and a mark for each that is full.
-use Rattle.std.specs.Prelude.{◌≡◌, ℕ, ◌+◌, ◌≤◌, ◌<◌, Bool, List, [], map, length, slice_index, slice_index_or, slice_range, None, IsSome, sum_by}
-use Rattle.std.specs.List.{range_with_len, flat_map}
+use Rattle.std.specs.Prelude.{◌≡◌, ℕ, ◌+◌, ◌-◌, ◌/◌, ◌%◌, ◌≤◌, ◌<◌, ◌&&◌, nat_le, nat_lt, Bool, true, false, if◌then◌else◌, List, [], map, length, slice_index, slice_index_or, None, IsSome, sum_by}
+use Rattle.std.specs.List.{range_with_len}
+use Rattle.dym_base.specs.Numbers.{per, exponent_of, index_of}
+use Rattle.dym_base.specs.Heaps.{HeapState}
 use Rattle.dym_base.specs.declared.command.Version.{Version}
 use Rattle.dym_base.specs.declared.command.Version.TheVariants.{One, Two}
-use Rattle.dym_base.specs.declared.limits.TheConstants.{MOST_CHUNKS, MOST_QUOTA}
-use Rattle.dym_bits.specs.Bits.{IsSet, IsClear}
+use Rattle.dym_base.specs.declared.limits.TheConstants.{LEAST_EXPONENT, MOST_CHUNKS, MOST_QUOTA}
+use Rattle.dym_bits.specs.Bits.{bit_in, IsSet, IsClear}
 use Rattle.dym_region.specs.declared.segment.SegmentId.{SegmentId}
 use Rattle.dym_base.specs.Origins.{Origin}
 use Rattle.dym_quota.specs.Bound.{Binding, IsBoundTo}
-use Rattle.dym_heap.specs.Table.{Row, row_index}
+use Rattle.dym_heap.specs.Chunks.{rank, no_chunk, heap_of}
+use Rattle.dym_heap.specs.Fetches.{ChunkMeaning, area_chunk}
 use Rattle.dym_heap.specs.Shelves.{ShelfMeaning}
 use Rattle.dym_heap.specs.SizedAreas.{SizedAreaMeaning, IsSizedArea}
 
--- the chunks of areas of one class, one area after the other
-abbrev pub row_of : List SizedAreaMeaning → Row
-row_of sized_areas = record { chunks = flat_map (λ p. p.chunks) sized_areas; touched = flat_map (λ p. p.touched) sized_areas }
+-- the areas of class e stand from start (rank e) up to the next start, by their ordinals: where that of number k stands
+abbrev pub place_of_number : List ℕ → ℕ → ℕ
+place_of_number starts k = slice_index starts (rank (exponent_of k)) + index_of k / per (exponent_of k)
 
--- the areas of class c + 5: they stand from start c up to start c + 1
-abbrev pub class_sized_areas : List ℕ → List SizedAreaMeaning → ℕ → List SizedAreaMeaning
-class_sized_areas starts sized_areas c = slice_range sized_areas (slice_index starts c) (slice_index starts (c + 1))
+abbrev pub is_placed : List ℕ → ℕ → Bool
+is_placed starts k = nat_le LEAST_EXPONENT (exponent_of k) && nat_lt (place_of_number starts k) (slice_index starts (rank (exponent_of k) + 1))
 
--- the rows of the first n classes
-unfoldable pub rows_upto : ℕ → List ℕ → List SizedAreaMeaning → List Row
-rows_upto n starts sized_areas = map (λ c. row_of (class_sized_areas starts sized_areas c)) (range_with_len 0 n)
+-- what a list has past its end
+abbrev pub no_area : SizedAreaMeaning
+no_area = record { version = One; exponent = 0; ordinal = 0; identity = record { region = 0; number = 0 }; chunks = []; touched = [] }
+
+-- the chunk of number k
+abbrev pub chunk_among : List ℕ → List SizedAreaMeaning → ℕ → ChunkMeaning
+chunk_among starts sized_areas k =
+    if is_placed starts k then area_chunk (slice_index_or sized_areas (place_of_number starts k) no_area) (index_of k % per (exponent_of k)) else no_chunk
+
+-- the heap that the areas are
+unfoldable pub heap_among : List ℕ → List SizedAreaMeaning → HeapState
+heap_among starts sized_areas = heap_of (chunk_among starts sized_areas)
+
+-- how many areas each class has
+unfoldable pub counts_of : List ℕ → List ℕ
+counts_of starts = map (λ c. slice_index starts (c + 1) - slice_index starts c) (range_with_len 0 12)
 
 -- an area of class e, at its place in the class
 pub record IsPlaced (v : Version) (e o : ℕ) (p : SizedAreaMeaning) : Type 0 where
@@ -43,6 +58,11 @@ IsFullArea p = (i : ℕ) → i < length p.chunks → IsSome (slice_index_or p.ch
 abbrev pub HasFree : SizedAreaMeaning → Type 0
 HasFree p = (i : ℕ) × (i < length p.chunks) × (slice_index_or p.chunks i None ≡ None)
 
+-- a mark says whether the area is full
+pub record IsMarked (mark : Bool) (p : SizedAreaMeaning) : Type 0 where
+  pub full : mark ≡ true → IsFullArea p
+  pub free : mark ≡ false → HasFree p
+
 -- the thirteen starts, the areas and the marks belong together
 pub record IsArranged (v : Version) (starts : List ℕ) (sized_areas : List SizedAreaMeaning) (full : List (List Bool)) : Type 0 where
   pub starts_len : length starts ≡ 13
@@ -53,11 +73,9 @@ pub record IsArranged (v : Version) (starts : List ℕ) (sized_areas : List Size
       → IsPlaced v (c + 5) o (slice_index_or sized_areas (slice_index starts c + o) d)
   pub full_len : length full ≡ 12
   pub bits_len : (c : ℕ) → c < 12 → length (marks_of_class full c) ≡ MOST_CHUNKS
-  -- a mark says that the area is full, and only an area that is not lacks one
-  pub marked : (c o : ℕ) (d : SizedAreaMeaning) → c < 12 → IsSet (marks_of_class full c) o
-      → (slice_index starts c + o < slice_index starts (c + 1)) × IsFullArea (slice_index_or sized_areas (slice_index starts c + o) d)
-  pub unmarked : (c o : ℕ) (d : SizedAreaMeaning) → c < 12 → slice_index starts c + o < slice_index starts (c + 1) → IsClear (marks_of_class full c) o
-      → HasFree (slice_index_or sized_areas (slice_index starts c + o) d)
+  pub marked : (c o : ℕ) (d : SizedAreaMeaning) → c < 12 → slice_index starts c + o < slice_index starts (c + 1)
+      → IsMarked (bit_in (marks_of_class full c) o) (slice_index_or sized_areas (slice_index starts c + o) d)
+  pub mark_within : (c o : ℕ) → c < 12 → IsSet (marks_of_class full c) o → slice_index starts c + o < slice_index starts (c + 1)
 
 -- in version 2 there are tables of lengths for as many areas as the quota allows, and in version 1 none
 abbrev pub HasTables : Version → ℕ → ℕ → ℕ → ℕ → Type 0
@@ -71,7 +89,7 @@ Owns ids sized_areas = (weight : SegmentId → ℕ) → sum_by weight ids ≡ su
 -- each area is over the segment that it is bound to, where a supply binds areas to segments
 abbrev pub AreBound : Binding → List SizedAreaMeaning → Type 0
 AreBound binding sized_areas = (k : ℕ) (d : SizedAreaMeaning) → k < length sized_areas
-    → IsBoundTo binding (row_index (slice_index_or sized_areas k d).exponent) (slice_index_or sized_areas k d).ordinal (slice_index_or sized_areas k d).identity
+    → IsBoundTo binding (rank (slice_index_or sized_areas k d).exponent) (slice_index_or sized_areas k d).ordinal (slice_index_or sized_areas k d).identity
 
 -- the areas are over the segments that are held, and there is room for as many as the quota allows
 pub record IsSupplied (v : Version) (quota : ℕ) (ids : List SegmentId) (sized_areas : List SizedAreaMeaning) (room spare spare_room : ℕ) : Type 0 where
@@ -84,7 +102,7 @@ pub record IsSupplied (v : Version) (quota : ℕ) (ids : List SegmentId) (sized_
 
 -- a shelf, read from its starts and its areas
 abbrev pub shelf_of : Version → ℕ → List SegmentId → Origin → List ℕ → List SizedAreaMeaning → ShelfMeaning
-shelf_of v quota ids origin starts sized_areas = record { version = v; quota = quota; held_ids = ids; origin = origin; rows = rows_upto 12 starts sized_areas }
+shelf_of v quota ids origin starts sized_areas = record { version = v; quota = quota; held_ids = ids; origin = origin; counts = counts_of starts; state = heap_among starts sized_areas }
 
 -- what a shelf keeps
 pub record IsShelf (v : Version) (quota : ℕ) (ids : List SegmentId) (starts : List ℕ) (sized_areas : List SizedAreaMeaning) (full : List (List Bool)) (room spare spare_room : ℕ) : Type 0 where

@@ -1,5 +1,5 @@
 -- The packed chunks of one area, and what an area, a place and a shelf have after they were loaded.
-use Rattle.std.specs.Prelude.{◌≡◌, ℕ, ◌+◌, ◌*◌, ◌/◌, ◌^◌, ◌≤◌, ◌<◌, ◌++◌, Bool, true, false, List, length, slice_index, slice_index_or, Option, None, Some}
+use Rattle.std.specs.Prelude.{◌≡◌, ℕ, ◌*◌, ◌^◌, ◌≤◌, ◌<◌, ◌++◌, Bool, true, false, List, length, slice_index, slice_index_or, Option, None, Some}
 use Rattle.std.specs.List.{All, flat_map, filter, range_with_len}
 use Rattle.dym_base.specs.Numbers.{size, per}
 use Rattle.dym_base.specs.Packed.{packed_chunk}
@@ -9,7 +9,7 @@ use Rattle.dym_bits.specs.Bits.{bit_in, IsSet, IsClear}
 use Rattle.dym_region.specs.Content.{part_of}
 use Rattle.dym_area.specs.Area.{AreaMeaning}
 use Rattle.dym_heap.specs.Meaning.{IsSizeOf}
-use Rattle.dym_heap.specs.Table.{Row, chunk_at, touch_at}
+use Rattle.dym_heap.specs.Fetches.{ChunkMeaning}
 use Rattle.dym_heap.specs.SizedAreas.{SizedAreaMeaning}
 
 -- the body packs the chunks of an area of class e whose bits are set: of chunk i the bytes f i
@@ -55,8 +55,6 @@ pub record IsLoadedSizedArea (old new : SizedAreaMeaning) (bits : List Bool) (f 
   pub same : new ≡ record old { chunks = new.chunks }
   pub chunk : (i : ℕ) → slice_index_or new.chunks i None ≡ loaded_over (bit_in bits i) (f i) (slice_index_or old.chunks i None)
 
--- area o of row c is loaded
-pub record IsLoadedArea (old new : List Row) (c o : ℕ) (bits : List Bool) (f : ℕ → List ℕ) : Type 0 where
-  pub here : (i : ℕ) → i < per (c + 5) → chunk_at new c (o * per (c + 5) + i) ≡ loaded_over (bit_in bits i) (f i) (chunk_at old c (o * per (c + 5) + i))
-  pub others : (d i : ℕ) → (d ≡ c → i / per (c + 5) ≡ o → ⊥) → chunk_at new d i ≡ chunk_at old d i
-  pub marks : (d i : ℕ) → touch_at new d i ≡ touch_at old d i
+-- chunk i is loaded
+abbrev pub loaded_chunk : List Bool → (ℕ → List ℕ) → ℕ → ChunkMeaning → ChunkMeaning
+loaded_chunk bits f i chunk = record chunk { bytes = loaded_over (bit_in bits i) (f i) chunk.bytes }

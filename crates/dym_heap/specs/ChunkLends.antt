@@ -11,7 +11,6 @@ use Rattle.dym_heap.specs.Meaning.{HeapMeaning}
 use Rattle.dym_heap.specs.SizedAreas.{SizedAreaMeaning, area_with_chunk}
 use Rattle.dym_heap.specs.Replies.{stepped}
 use Rattle.dym_heap.specs.Shelves.{ShelfMeaning, FitsIn, with_put}
-use Rattle.dym_heap.specs.Table.{chunk_at}
 
 -- `ws`, cut or filled up from the bytes that stood there
 abbrev pub refilled : List ℕ → List ℕ → List ℕ
@@ -24,8 +23,8 @@ lent_chunk (Some old) ws = Some (refilled ws old)
 abbrev pub area_lent : SizedAreaMeaning → ℕ → List ℕ → SizedAreaMeaning
 area_lent p i ws = area_with_chunk p i (lent_chunk (slice_index_or p.chunks i None) ws) true
 
-abbrev pub shelf_lent : ShelfMeaning → ℕ → ℕ → List ℕ → ShelfMeaning
-shelf_lent s c i ws = with_put s c i (lent_chunk (chunk_at s.rows c i) ws) true
+abbrev pub shelf_lent : ShelfMeaning → ℕ → List ℕ → ShelfMeaning
+shelf_lent s k ws = with_put s k (lent_chunk (get s.state.live k) ws) true
 
 abbrev pub new_bytes : Option (List ℕ) → List ℕ → List ℕ
 new_bytes None ws = []

@@ -1,27 +1,13 @@
 -- Chunks that want their bytes: the touched ones, while a heap is brought back to a log.
-use Rattle.std.specs.Prelude.{◌≡◌, ℕ, ◌+◌, ◌*◌, ◌/◌, ◌<◌, Bool, true, false, not, ◌&&◌, ◌||◌, if◌then◌else◌, List, slice_index_or, Option, None, Some, is_some}
-use Rattle.std.specs.FinMap.{get}
-use Rattle.std.specs.FinSet.{contains}
-use Rattle.dym_base.specs.Numbers.{per}
-use Rattle.dym_base.specs.Heaps.{HeapState}
-use Rattle.dym_base.specs.Packed.{Logged}
+use Rattle.std.specs.Prelude.{◌≡◌, ℕ, ◌/◌, ◌%◌, Bool, true, false, not, ◌&&◌, ◌||◌, if◌then◌else◌, List, slice_index_or, Option, None, Some, is_some}
+use Rattle.dym_base.specs.Numbers.{per, exponent_of, index_of}
+use Rattle.dym_base.specs.Heaps.{Live, HeapState}
 use Rattle.dym_base.specs.StandsFor.{or_else}
-use Rattle.dym_pack.specs.Areas.{area_at, chunk_number}
-use Rattle.dym_heap.specs.Table.{Row, row_index, chunk_at, touch_at}
+use Rattle.dym_pack.specs.Areas.{area_at}
+pub use Rattle.dym_heap.specs.Chunks.{ChunkMeaning, heap_chunk}
 use Rattle.dym_heap.specs.SizedAreas.{SizedAreaMeaning}
 
--- a chunk: its bytes, where it is live, and whether it is touched
-pub record ChunkMeaning : Type 0 where
-  pub bytes : Option (List ℕ)
-  pub touched : Bool
-
--- the chunk of number k of a heap, chunk i of row c, and chunk i of a place
-abbrev pub heap_chunk : HeapState → ℕ → ChunkMeaning
-heap_chunk s k = record { bytes = get s.live k; touched = contains s.touched k }
-
-abbrev pub row_chunk : List Row → ℕ → ℕ → ChunkMeaning
-row_chunk rows c i = record { bytes = chunk_at rows c i; touched = touch_at rows c i }
-
+-- chunk i of an area
 abbrev pub area_chunk : SizedAreaMeaning → ℕ → ChunkMeaning
 area_chunk p i = record { bytes = slice_index_or p.chunks i None; touched = slice_index_or p.touched i false }
 
@@ -44,16 +30,19 @@ pub record IsReshaped (is_used : Bool) (old new : ChunkMeaning) : Type 0 where
   pub wanted : new.touched ≡ (is_used && not (is_unmodified old))
   pub valid_shelf : is_used ≡ true → new.touched ≡ false → new.bytes ≡ old.bytes
 
--- the chunks of area o of row c changed, each in this way, and no others
-pub record IsChangedArea (old new : List Row) (c o : ℕ) (Change : ℕ → ChunkMeaning → ChunkMeaning → Type 0) : Type 0 where
-  pub here : (i : ℕ) → i < per (c + 5) → Change i (row_chunk old c (o * per (c + 5) + i)) (row_chunk new c (o * per (c + 5) + i))
-  pub others : (d i : ℕ) → (d ≡ c → i / per (c + 5) ≡ o → ⊥) → row_chunk new d i ≡ row_chunk old d i
+-- the chunks of area o of class e changed, each by its place in the area in this way, and no others
+pub record IsChangedArea (old new : HeapState) (e o : ℕ) (Change : ℕ → ChunkMeaning → ChunkMeaning → Type 0) : Type 0 where
+  pub here : (k : ℕ) → exponent_of k ≡ e → index_of k / per e ≡ o → Change (index_of k % per e) (heap_chunk old k) (heap_chunk new k)
+  pub others : (k : ℕ) → (exponent_of k ≡ e → index_of k / per e ≡ o → ⊥) → heap_chunk new k ≡ heap_chunk old k
 
--- so did those of area k of a log, each in this way by its number
-abbrev pub IsAreaChange : Logged → ℕ → List Row → List Row → (ℕ → ChunkMeaning → ChunkMeaning → Type 0) → Type 0
-IsAreaChange log k old new Change =
-    let area = area_at log.copy k in
-    IsChangedArea old new (row_index area.exponent) area.ordinal (λ i. Change (chunk_number log.copy k i))
+-- number q is that of a chunk of area k of a copy
+abbrev pub IsOfArea : Live → ℕ → ℕ → Type 0
+IsOfArea copy k q = (exponent_of q ≡ (area_at copy k).exponent) × (index_of q / per (area_at copy k).exponent ≡ (area_at copy k).ordinal)
+
+-- the chunks of area k of a copy changed, each by its number in this way, and no others
+pub record IsAreaChange (copy : Live) (k : ℕ) (old new : HeapState) (Change : ℕ → ChunkMeaning → ChunkMeaning → Type 0) : Type 0 where
+  pub here : (q : ℕ) → IsOfArea copy k q → Change q (heap_chunk old q) (heap_chunk new q)
+  pub others : (q : ℕ) → (IsOfArea copy k q → ⊥) → heap_chunk new q ≡ heap_chunk old q
 
 -- the bytes that are packed for chunk i where its bit is set
 abbrev pub packed_at : List Bool → (ℕ → List ℕ) → ℕ → Option (List ℕ)

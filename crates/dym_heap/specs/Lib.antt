@@ -2,6 +2,7 @@ pub mod AreaViews
 pub mod Addresses
 pub mod Arrangement
 pub mod Bodies
+pub mod Chunks
 pub mod ChunkLends
 pub mod Fetches
 pub mod HeapLends
@@ -9,12 +10,10 @@ pub mod Lengths
 pub mod Meaning
 pub mod RecordLoads
 pub mod Replies
-pub mod Shape
 pub mod ShapeSteps
 pub mod ShelfLends
 pub mod Shelves
 pub mod SizedAreaLends
 pub mod SizedAreas
-pub mod Table
 pub mod Touches
 pub mod Undo

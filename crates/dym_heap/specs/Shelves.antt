@@ -1,77 +1,72 @@
 -- What a shelf of areas stands for, and what its calls do.
-use Rattle.std.specs.Prelude.{◌≡◌, ℕ, zero, suc, MatchOption, ◌+◌, ◌-◌, ◌*◌, ◌≤◌, ◌<◌, Bool, true, false, List, map, ◌++◌, length, take, replicate, slice_index_or, slice_set, Option, None, Some, IsSome, is_some}
-use Rattle.dym_base.specs.Numbers.{per}
-use Rattle.dym_base.specs.HeapStep.{splice}
+use Rattle.std.specs.Prelude.{◌≡◌, ℕ, ◌+◌, ◌/◌, ◌^◌, ◌≤◌, ◌<◌, Bool, true, List, length, sum, slice_index, slice_set, Option, None, Some, IsSome}
+use Rattle.std.specs.FinMap.{get}
+use Rattle.std.specs.FinSet.{contains}
+use Rattle.dym_base.specs.Numbers.{per, number, exponent_of, index_of, IsClass}
+use Rattle.dym_base.specs.Heaps.{HeapState}
 use Rattle.dym_base.specs.Origins.{Origin}
 use Rattle.dym_base.specs.declared.command.Version.{Version}
 use Rattle.dym_base.specs.declared.limits.TheConstants.{MOST_QUOTA}
 use Rattle.dym_region.specs.declared.segment.SegmentId.{SegmentId}
 use Rattle.dym_heap.specs.Meaning.{IsSizeOf}
-use Rattle.dym_heap.specs.Table.{Row, empty_row, row_at, chunk_at}
-use Rattle.dym_heap.specs.Shape.{IsTrimmed, areas_in}
+use Rattle.dym_heap.specs.Chunks.{rank, put}
 
--- a shelf: its version, its quota of segments, the identities of those that it holds, where its segments come from, and the
--- chunks of the twelve classes
+-- a shelf: its version, its quota of segments, the identities of those that it holds, where its segments come from, how many areas
+-- each of the twelve classes has, and its chunks
 pub record ShelfMeaning : Type 0 where
   pub version : Version
   pub quota : ℕ
   pub held_ids : List SegmentId
   pub origin : Origin
-  pub rows : List Row
+  pub counts : List ℕ
+  pub state : HeapState
 
--- the chunks of class e lie in whole areas, and a touched one is in use
-pub record IsRow (v : Version) (e : ℕ) (row : Row) : Type 0 where
-  pub areas : ℕ
-  pub few : areas ≤ MOST_QUOTA
-  pub whole : length row.chunks ≡ areas * per e
-  pub marks : length row.touched ≡ length row.chunks
-  pub sized : (i : ℕ) (bytes : List ℕ) → slice_index_or row.chunks i None ≡ Some bytes → IsSizeOf v e (length bytes)
-  pub touched_used : (i : ℕ) → slice_index_or row.touched i false ≡ true → IsSome (slice_index_or row.chunks i None)
+-- how many areas class e has
+abbrev pub count_of : ShelfMeaning → ℕ → ℕ
+count_of s e = slice_index s.counts (rank e)
 
 -- what is true of every shelf
 pub record IsValidShelf (s : ShelfMeaning) : Type 0 where
   pub quota_least : 1 ≤ s.quota
   pub quota_most : s.quota ≤ MOST_QUOTA
-  pub classes : length s.rows ≡ 12
-  pub row : (c : ℕ) → c < 12 → IsRow s.version (c + 5) (row_at s.rows c)
-  pub holds : length s.held_ids ≡ areas_in 5 s.rows
+  pub classes : length s.counts ≡ 12
+  pub holds : length s.held_ids ≡ sum s.counts
   pub within : length s.held_ids ≤ s.quota
+  -- a live chunk lies in an area of its class, and has a length of that class
+  pub class : (k : ℕ) → IsSome (get s.state.live k) → IsClass (exponent_of k)
+  pub in_area : (k : ℕ) → IsSome (get s.state.live k) → index_of k / per (exponent_of k) < count_of s (exponent_of k)
+  pub sized : (k : ℕ) (bytes : List ℕ) → get s.state.live k ≡ Some bytes → IsSizeOf s.version (exponent_of k) (length bytes)
+  -- what is touched is live
+  pub touched_live : (k : ℕ) → contains s.state.touched k ≡ true → IsSome (get s.state.live k)
+
+-- the last area of class e, where it has one, has a live chunk
+abbrev pub IsTrimmed : ShelfMeaning → ℕ → Type 0
+IsTrimmed s e = (n : ℕ) → count_of s e ≡ n + 1 → (k : ℕ) × IsSome (get s.state.live k) × (exponent_of k ≡ e) × (index_of k / per e ≡ n)
 
 -- what is true of a shelf between two commands: no class ends with an empty area
 pub record IsTidy (s : ShelfMeaning) : Type 0 where
   pub valid_shelf : IsValidShelf s
-  pub trimmed : (c : ℕ) → c < 12 → IsTrimmed (per (c + 5)) (row_at s.rows c)
+  pub trimmed : (e : ℕ) → IsClass e → IsTrimmed s e
 
-abbrev pub with_row : ShelfMeaning → ℕ → Row → ShelfMeaning
-with_row s c row = record s { rows = slice_set s.rows c row }
+-- the shelf with this as the chunk of number k
+abbrev pub with_put : ShelfMeaning → ℕ → Option (List ℕ) → Bool → ShelfMeaning
+with_put s k chunk is_touched = record s { state = put s.state k (record { bytes = chunk; touched = is_touched }) }
 
--- the row with this in the place of chunk i
-abbrev pub put : Row → ℕ → Option (List ℕ) → Bool → Row
-put row i chunk is_touched = record { chunks = slice_set row.chunks i chunk; touched = slice_set row.touched i is_touched }
+-- the shelf with n areas of class e
+abbrev pub with_count : ShelfMeaning → ℕ → ℕ → List SegmentId → ShelfMeaning
+with_count s e n ids = record s { held_ids = ids; counts = slice_set s.counts (rank e) n }
 
-abbrev pub with_put : ShelfMeaning → ℕ → ℕ → Option (List ℕ) → Bool → ShelfMeaning
-with_put s c i chunk is_touched = with_row s c (put (row_at s.rows c) i chunk is_touched)
+-- i is the least index of class e whose chunk is free
+pub record IsFirstFree (s : HeapState) (e i : ℕ) : Type 0 where
+  pub small : i < 2 ^ 32
+  pub free : get s.live (number e i) ≡ None
+  pub least : (j : ℕ) → j < i → IsSome (get s.live (number e j))
 
--- i is the least index of row c whose chunk is free
-pub record IsFirstFree (rows : List Row) (c i : ℕ) : Type 0 where
-  pub within : i < length (row_at rows c).chunks
-  pub free : chunk_at rows c i ≡ None
-  pub least : (k : ℕ) → k < i → IsSome (chunk_at rows c k)
-
--- the row with one area of n chunks more
-abbrev pub longer : ℕ → Row → Row
-longer n row = record { chunks = row.chunks ++ replicate n None; touched = row.touched ++ replicate n false }
-
--- the first n chunks of a row
-abbrev pub shorter : ℕ → Row → Row
-shorter n row = record { chunks = take n row.chunks; touched = take n row.touched }
-
--- row c lost its empty areas at the end
-pub record Trims (old new : ShelfMeaning) (c : ℕ) : Type 0 where
+-- class e lost its empty areas at the end
+pub record Trims (old new : ShelfMeaning) (e : ℕ) : Type 0 where
   pub left : ℕ
-  pub is : new ≡ record (with_row old c (shorter left (row_at old.rows c))) { held_ids = new.held_ids }
-  pub free : (i : ℕ) → left ≤ i → chunk_at old.rows c i ≡ None
-  pub trimmed : IsTrimmed (per (c + 5)) (row_at new.rows c)
+  pub is : new ≡ with_count old e left new.held_ids
+  pub trimmed : IsTrimmed new e
 
 -- the version, the quota and the origin stay
 pub record Keeps (old new : ShelfMeaning) : Type 0 where
@@ -79,43 +74,18 @@ pub record Keeps (old new : ShelfMeaning) : Type 0 where
   pub quota : new.quota ≡ old.quota
   pub origin : new.origin ≡ old.origin
 
--- i is the least index from `from` on whose chunk is in use
-pub record IsNextUsed (rows : List Row) (c from i : ℕ) : Type 0 where
+-- i is the least index of class e from `from` on whose chunk is live
+pub record IsNextUsed (s : HeapState) (e from i : ℕ) : Type 0 where
   pub at_least : from ≤ i
-  pub used : IsSome (chunk_at rows c i)
-  pub least : (k : ℕ) → from ≤ k → k < i → chunk_at rows c k ≡ None
+  pub used : IsSome (get s.live (number e i))
+  pub least : (j : ℕ) → from ≤ j → j < i → get s.live (number e j) ≡ None
 
--- the chunk is in use and has at least n bytes
+-- the chunk is live and has at least n bytes
 abbrev pub FitsIn : Option (List ℕ) → ℕ → Type 0
 FitsIn None n = ⊥
 FitsIn (Some bytes) n = n ≤ length bytes
 
--- the twelve classes with no area
-unfoldable pub empty_rows : List Row
-empty_rows = replicate 12 empty_row
-
--- no chunk is touched
-abbrev pub untouched_rows : List Row → List Row
-untouched_rows rows = map (λ row. record { chunks = row.chunks; touched = replicate (length row.touched) false }) rows
-
--- each chunk in use is touched
-abbrev pub used_touched_rows : List Row → List Row
-used_touched_rows rows = map (λ row. record { chunks = row.chunks; touched = map is_some row.chunks }) rows
-
--- the last n chunks of row c, which are there, are free
-pub record EndsFree (rows : List Row) (c n : ℕ) : Type 0 where
-  pub there : n ≤ length (row_at rows c).chunks
-  pub free : (i : ℕ) → length (row_at rows c).chunks ≤ i + n → chunk_at rows c i ≡ None
-
--- row c lost its last n chunks
-abbrev pub without_last : ShelfMeaning → ℕ → ℕ → List SegmentId → ShelfMeaning
-without_last s c n ids = record (with_row s c (shorter (length (row_at s.rows c).chunks - n) (row_at s.rows c))) { held_ids = ids }
-
--- the first n of these bytes were copied over those of chunk j of row d
-abbrev pub copied_to : ShelfMeaning → ShelfMeaning → ℕ → ℕ → List ℕ → List ℕ → ℕ → Type 0
-copied_to old new d j source target zero = new ≡ old
-copied_to old new d j source target (suc n) = new ≡ with_put old d j (Some (splice 0 (take (suc n) source) target)) true
-
--- the first n bytes of chunk i of row c were copied over those of chunk j of row d
-abbrev pub Copied : ShelfMeaning → ShelfMeaning → ℕ → ℕ → ℕ → ℕ → ℕ → Type 0
-Copied old new c i d j n = MatchOption (chunk_at old.rows c i) ⊥ (λ source. MatchOption (chunk_at old.rows d j) ⊥ (λ target. copied_to old new d j source target n))
+-- class e has an area, and no chunk of its last one is live
+pub record EndsFree (s : ShelfMeaning) (e : ℕ) : Type 0 where
+  pub some : 0 < count_of s e
+  pub free : (k : ℕ) → exponent_of k ≡ e → index_of k / per e + 1 ≡ count_of s e → get s.state.live k ≡ None

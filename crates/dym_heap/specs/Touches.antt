@@ -2,7 +2,7 @@
 use Rattle.std.specs.Prelude.{ℕ, ◌+◌, max, min, ◌&&◌, ◌||◌, ◌==◌, Bool, [], length, unwrap_or, nat_lt}
 use Rattle.std.specs.List.{filter}
 use Rattle.std.specs.FinMap.{get, keys}
-use Rattle.std.specs.FinSet.{from_list, union}
+use Rattle.std.specs.FinSet.{from_list, insert, union}
 use Rattle.dym_base.specs.Heaps.{Live, HeapState}
 use Rattle.dym_base.specs.HeapStep.{key, handle_of}
 use Rattle.dym_base.specs.declared.handle.Handle.{Handle}
@@ -12,6 +12,10 @@ use Rattle.dym_heap.specs.Fetches.{ChunkMeaning}
 -- every live chunk is touched
 abbrev pub all_touched : HeapState → HeapState
 all_touched st = record { live = st.live; touched = from_list (keys st.live) }
+
+-- the chunk of number k is touched besides
+abbrev pub with_touch : HeapState → ℕ → HeapState
+with_touch st k = record { live = st.live; touched = insert st.touched k }
 
 -- whether the live chunk of number k has a byte in the region from `from` up to `end`: the greater start is below the lesser end
 abbrev pub has_byte_in : ℕ → Live → ℕ → ℕ → ℕ → Bool

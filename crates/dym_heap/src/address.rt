@@ -1,21 +1,23 @@
 //! Where chunks lie, in a heap over segments that its areas are bound to.
-ghost use Rattle.std.specs.Prelude.{◌≡◌, ℕ, ◌+◌, ◌*◌, ◌≤◌, Some, IsSome, IsNone, MatchOption, option_map};
+ghost use Rattle.std.specs.Prelude.{◌≡◌, ℕ, ◌+◌, ◌*◌, ◌%◌, ◌≤◌, true, false, None, Some, IsSome, IsNone, MatchOption, option_map};
 ghost use Rattle.std.specs.FinMap.{get};
+ghost use Rattle.std.specs.FinSet.{contains};
 ghost use Rattle.std.specs.Option.{ForSome, IfSome};
-ghost use denote.RawPtr.{block_ptr};
+ghost use denote.RawPtr.{block_ptr, InBlock, ◌+ₚ◌};
 ghost use Rattle.dym_base.specs.HeapStep.{key, handle_of};
+ghost use Rattle.dym_base.specs.Numbers.{size, per};
 ghost use Rattle.dym_base.specs.declared.limits.TheConstants.{LEAST_EXPONENT, GREATEST_EXPONENT, MOST_QUOTA, SEGMENT_BYTES};
-ghost use Rattle.dym_heap.specs.Addresses.{chunk_offset, region_of, HasByteAt, LiesAt};
+ghost use Rattle.dym_heap.specs.Addresses.{address_of, region_of, HasByteAt, LiesAt};
+ghost use Rattle.dym_heap.specs.ChunkLends.{HasByte};
 ghost use Rattle.dym_heap.specs.Fetches.{heap_chunk};
 ghost use Rattle.dym_heap.specs.Meaning.{IsSound};
 ghost use Rattle.dym_heap.specs.Shelves.{IsTidy};
-ghost use Rattle.dym_heap.specs.Table.{live_of, state_of};
-ghost use Rattle.dym_heap.specs.Touches.{has_byte_in, is_hit, touched_besides, touched_in};
+ghost use Rattle.dym_heap.specs.Touches.{has_byte_in, is_hit, touched_besides, touched_in, with_touch};
 
 use crate::chunk::len_of_handle;
 use crate::heap::Heap;
 use crate::shelf::Shelf;
-use dym_base::limits::{LEAST_EXPONENT, SEGMENT_BYTES};
+use dym_base::limits::{GREATEST_EXPONENT, LEAST_EXPONENT, SEGMENT_BYTES};
 use dym_base::{Handle, per_area, size_of_class};
 use dym_quota::{FixedSupply, Supply};
 
@@ -23,19 +25,61 @@ use dym_quota::{FixedSupply, Supply};
 const CLASSES: u64 = 12;
 
 impl Heap<FixedSupply> {
-    /// Where a live chunk lies: in the region's block, at the place that its handle alone tells. It is the same as long as the
-    /// heap is open, whatever is freed, allocated or restored.
-    pub fn address(&self, h: Handle) -> *const u8
+    /// Where a chunk lies, and None where it isn't live: in the region's block, at the place that its handle alone tells.
+    /// It is the same as long as the heap is open, whatever is freed, allocated or restored.
+    pub fn address(&self, h: Handle) -> Option<*const u8>
+        ensures { MatchOption result (get self.now.state.live (key h) ≡ None) (λ at.
+            IsSome (get self.now.state.live (key h))
+            × (address_of self.now h ≡ Some at)) }
+    {
+        let shelf = &self.shelf;
+        if h.exp < LEAST_EXPONENT {
+            return None;
+        }
+        if h.exp > GREATEST_EXPONENT {
+            return None;
+        }
+        let Some(segment) = shelf.start_of_used(h.exp, h.index) else {
+            return None;
+        };
+        self.start();
+        Some(chunk_within(segment, h))
+    }
+
+    /// Where a chunk lies that is touched, and None where it isn't.
+    #[inline(always)]
+    pub fn touched_address(&self, h: Handle) -> Option<*const u8>
+        ensures { MatchOption result (contains self.now.state.touched (key h) ≡ false) (λ at.
+            (contains self.now.state.touched (key h) ≡ true)
+            × IsSome (get self.now.state.live (key h))
+            × (address_of self.now h ≡ Some at)) }
+    {
+        let shelf = &self.shelf;
+        if h.exp < LEAST_EXPONENT {
+            return None;
+        }
+        if h.exp > GREATEST_EXPONENT {
+            return None;
+        }
+        let Some(segment) = shelf.start_of_touched(h.exp, h.index) else {
+            return None;
+        };
+        self.start();
+        Some(chunk_within(segment, h))
+    }
+
+    /// Where a live chunk lies that has at least one byte. It is touched from now on.
+    pub fn touch(&mut self, h: Handle) -> *const u8
         requires least { LEAST_EXPONENT ≤ h.exp }
         requires most { h.exp ≤ GREATEST_EXPONENT }
-        requires live { IsSome (get self.now.state.live (key h)) }
-        requires region { IsSome (region_of self.now.origin) }
-        ensures { ForSome (region_of self.now.origin) (λ region.
-            result ≡ block_ptr region (chunk_offset self.now.quota h)) }
+        requires some { HasByte self.old h }
+        ensures place { address_of self.old h ≡ Some result }
+        ensures touched { self.new ≡ record self.old { state = with_touch self.old.state (key h) } }
+        ensures sound { IsSound self.new }
     {
-        let start = self.shelf.start(h.exp, h.index);
-        let at = h.index % per_area(h.exp) * size_of_class(h.exp);
-        unsafe { start.byte_add(at as usize) }
+        self.start();
+        let segment = self.shelf.touch(h.exp, h.index);
+        chunk_within(segment, h)
     }
 
     /// Where the region begins: the byte at offset 0.
@@ -78,14 +122,25 @@ impl Heap<FixedSupply> {
     }
 }
 
+/// Where a chunk lies, from where its area's segment lies.
+fn chunk_within(segment: *const u8, h: Handle) -> *const u8
+    requires least { LEAST_EXPONENT ≤ h.exp }
+    requires most { h.exp ≤ GREATEST_EXPONENT }
+    requires block { InBlock segment }
+    ensures { result ≡ segment +ₚ ((h.index % per h.exp) * size h.exp) }
+{
+    let at = h.index % per_area(h.exp) * size_of_class(h.exp);
+    unsafe { segment.byte_add(at as usize) }
+}
+
 /// Each chunk in use with a byte in the region from `from` up to `end` is touched, chunk by chunk.
 fn touch_range<S: Supply>(shelf: &mut Shelf<S>, from: u64, end: u64)
     requires ordered { from ≤ end }
     requires tidy { IsTidy shelf.old }
-    ensures touched { (k : ℕ) → heap_chunk (state_of shelf.new.rows) k
-        ≡ touched_besides (has_byte_in shelf.old.quota (live_of shelf.old.rows) from end k)
-        (heap_chunk (state_of shelf.old.rows) k) }
-    ensures same { shelf.new ≡ record shelf.old { rows = shelf.new.rows } }
+    ensures touched { (k : ℕ) → heap_chunk shelf.new.state k
+        ≡ touched_besides (has_byte_in shelf.old.quota shelf.old.state.live from end k)
+        (heap_chunk shelf.old.state k) }
+    ensures same { shelf.new ≡ record shelf.old { state = shelf.new.state } }
     ensures tidy { IsTidy shelf.new }
 {
     let quota = shelf.quota();
@@ -102,10 +157,10 @@ fn touch_range<S: Supply>(shelf: &mut Shelf<S>, from: u64, end: u64)
 /// A chunk is touched where it is live and has a byte at its place `at`.
 fn touch_byte<S: Supply>(shelf: &mut Shelf<S>, h: Handle, at: u32)
     requires tidy { IsTidy shelf.old }
-    ensures touched { (k : ℕ) → heap_chunk (state_of shelf.new.rows) k
-        ≡ touched_besides (is_hit (live_of shelf.old.rows) h at k)
-        (heap_chunk (state_of shelf.old.rows) k) }
-    ensures same { shelf.new ≡ record shelf.old { rows = shelf.new.rows } }
+    ensures touched { (k : ℕ) → heap_chunk shelf.new.state k
+        ≡ touched_besides (is_hit shelf.old.state.live h at k)
+        (heap_chunk shelf.old.state k) }
+    ensures same { shelf.new ≡ record shelf.old { state = shelf.new.state } }
     ensures tidy { IsTidy shelf.new }
 {
     let Some(len) = len_of_handle(shelf, h) else {

@@ -1,6 +1,7 @@
 //! Chunks of a shelf by their handles.
-ghost use Rattle.std.specs.Prelude.{IfOk, ◌≡◌, ℕ, ◌+◌, ◌≤◌, ◌<◌, true, None, Some, List, length, replicate, Ok, MatchOption, IsSome, is_some, MatchBool, option_map};
+ghost use Rattle.std.specs.Prelude.{IfOk, ◌≡◌, ℕ, ◌+◌, ◌≤◌, ◌<◌, true, None, Some, List, length, take, replicate, Ok, MatchOption, IsSome, is_some, MatchBool, option_map};
 ghost use Rattle.std.specs.FinMap.{get};
+ghost use Rattle.std.specs.FinSet.{contains};
 ghost use Rattle.dym_base.specs.Numbers.{number, IsClass};
 ghost use Rattle.dym_base.specs.HeapStep.{key, splice, with_chunk, without_chunk, found_at, resize, fitted, held_with_fresh};
 ghost use Rattle.dym_base.specs.Heaps.{fresh};
@@ -9,8 +10,7 @@ ghost use Rattle.dym_base.specs.declared.limits.TheConstants.{LEAST_EXPONENT, GR
 ghost use Rattle.dym_heap.specs.ChunkLends.{check_answer};
 ghost use Rattle.dym_heap.specs.Meaning.{IsSizeOf};
 ghost use Rattle.dym_heap.specs.Replies.{found_reply};
-ghost use Rattle.dym_heap.specs.Table.{row_index, chunk_at, live_of, state_of};
-ghost use Rattle.dym_heap.specs.Shelves.{ShelfMeaning, IsTidy, IsValidShelf, Keeps, FitsIn, Copied};
+ghost use Rattle.dym_heap.specs.Shelves.{ShelfMeaning, IsTidy, Keeps, with_put, FitsIn};
 
 use crate::found::Found;
 use crate::fresh_chunk::take_fresh;
@@ -22,10 +22,8 @@ use dym_quota::Supply;
 /// A chunk's length in bytes, and None where it isn't live.
 pub(crate) fn len_of_handle<S: Supply>(shelf: &Shelf<S>, h: Handle) -> Option<u32>
     requires { IsTidy shelf.now }
-    ensures len { result ≡ option_map length (get (live_of shelf.now.rows) (key h)) }
-    ensures sized_area { IsSome result → (LEAST_EXPONENT ≤ h.exp) × (h.exp ≤ GREATEST_EXPONENT)
-        × (get (live_of shelf.now.rows) (key h)
-        ≡ chunk_at shelf.now.rows (row_index h.exp) h.index) }
+    ensures len { result ≡ option_map length (get shelf.now.state.live (key h)) }
+    ensures class { IsSome result → IsClass h.exp }
 {
     if h.exp < LEAST_EXPONENT {
         return None;
@@ -39,10 +37,9 @@ pub(crate) fn len_of_handle<S: Supply>(shelf: &Shelf<S>, h: Handle) -> Option<u3
 /// Whether a chunk has a byte: a refusal where it isn't live or has none.
 pub(crate) fn check_chunk<S: Supply>(shelf: &Shelf<S>, h: Handle) -> Result<(), Refusal>
     requires { IsTidy shelf.now }
-    ensures answer { result ≡ check_answer (get (live_of shelf.now.rows) (key h)) }
-    ensures chunk { IfOk result (λ _. (LEAST_EXPONENT ≤ h.exp) × (h.exp ≤ GREATEST_EXPONENT)
-        × (get (live_of shelf.now.rows) (key h) ≡ chunk_at shelf.now.rows (row_index h.exp) h.index)
-        × FitsIn (chunk_at shelf.now.rows (row_index h.exp) h.index) 1) }
+    ensures answer { result ≡ check_answer (get shelf.now.state.live (key h)) }
+    ensures class { IfOk result (λ _. IsClass h.exp) }
+    ensures some { IfOk result (λ _. FitsIn (get shelf.now.state.live (key h)) 1) }
 {
     let Some(len) = len_of_handle(shelf, h) else {
         return Err(Refusal::Dead);
@@ -56,8 +53,8 @@ pub(crate) fn check_chunk<S: Supply>(shelf: &Shelf<S>, h: Handle) -> Result<(), 
 /// A chunk's bytes, and None where it isn't live.
 pub(crate) fn bytes_of_handle<S: Supply>(shelf: &Shelf<S>, h: Handle) -> Option<&[u8]>
     requires { IsTidy shelf.now }
-    ensures { MatchOption result (get (live_of shelf.now.rows) (key h) ≡ None)
-        (λ bytes. get (live_of shelf.now.rows) (key h) ≡ Some bytes.now) }
+    ensures { MatchOption result (get shelf.now.state.live (key h) ≡ None)
+        (λ bytes. get shelf.now.state.live (key h) ≡ Some bytes.now) }
 {
     if h.exp < LEAST_EXPONENT {
         return None;
@@ -73,9 +70,9 @@ pub(crate) fn free_chunk<S: Supply>(shelf: &mut Shelf<S>, context: &S::Context, 
     requires least { LEAST_EXPONENT ≤ exp }
     requires most { exp ≤ GREATEST_EXPONENT }
     requires tidy { IsTidy shelf.old }
-    requires live { IsSome (chunk_at shelf.old.rows (row_index exp) index) }
-    ensures after { state_of shelf.new.rows
-        ≡ without_chunk (state_of shelf.old.rows) (number exp index) }
+    requires live { IsSome (get shelf.old.state.live (number exp index)) }
+    ensures after { shelf.new.state
+        ≡ without_chunk shelf.old.state (number exp index) }
     ensures keeps { Keeps shelf.old shelf.new }
     ensures tidy { IsTidy shelf.new }
 {
@@ -86,9 +83,9 @@ pub(crate) fn free_chunk<S: Supply>(shelf: &mut Shelf<S>, context: &S::Context, 
 /// Frees a chunk, and gives back the areas that its class needs no more. False where it isn't live, and nothing changes then.
 pub(crate) fn free_handle<S: Supply>(shelf: &mut Shelf<S>, context: &S::Context, h: Handle) -> bool
     requires tidy { IsTidy shelf.old }
-    ensures live { result ≡ is_some (get (live_of shelf.old.rows) (key h)) }
-    ensures after { MatchBool result (state_of shelf.new.rows
-        ≡ without_chunk (state_of shelf.old.rows) (key h)) (shelf.new ≡ shelf.old) }
+    ensures live { result ≡ is_some (get shelf.old.state.live (key h)) }
+    ensures after { MatchBool result (shelf.new.state
+        ≡ without_chunk shelf.old.state (key h)) (shelf.new ≡ shelf.old) }
     ensures keeps { Keeps shelf.old shelf.new }
     ensures tidy { IsTidy shelf.new }
 {
@@ -117,11 +114,11 @@ pub(crate) fn write_chunk<S: Supply>(
     requires most { exp ≤ GREATEST_EXPONENT }
     requires tidy { IsTidy shelf.old }
     requires some { 0 < length bytes.now }
-    requires within { FitsIn (chunk_at shelf.old.rows (row_index exp) index)
+    requires within { FitsIn (get shelf.old.state.live (number exp index))
         (at + length bytes.now) }
-    ensures after { MatchOption (chunk_at shelf.old.rows (row_index exp) index) ⊥
-        (λ old. state_of shelf.new.rows
-        ≡ with_chunk (state_of shelf.old.rows) (number exp index) (splice at bytes.now old)) }
+    ensures after { MatchOption (get shelf.old.state.live (number exp index)) ⊥
+        (λ old. shelf.new.state
+        ≡ with_chunk shelf.old.state (number exp index) (splice at bytes.now old)) }
     ensures keeps { Keeps shelf.old shelf.new }
     ensures held { shelf.new.held_ids ≡ shelf.old.held_ids }
     ensures tidy { IsTidy shelf.new }
@@ -142,10 +139,10 @@ pub(crate) fn fill_chunk<S: Supply>(
     requires most { exp ≤ GREATEST_EXPONENT }
     requires tidy { IsTidy shelf.old }
     requires some { 0 < len }
-    requires within { FitsIn (chunk_at shelf.old.rows (row_index exp) index) (at + len) }
-    ensures after { MatchOption (chunk_at shelf.old.rows (row_index exp) index) ⊥
-        (λ old. state_of shelf.new.rows
-        ≡ with_chunk (state_of shelf.old.rows) (number exp index)
+    requires within { FitsIn (get shelf.old.state.live (number exp index)) (at + len) }
+    ensures after { MatchOption (get shelf.old.state.live (number exp index)) ⊥
+        (λ old. shelf.new.state
+        ≡ with_chunk shelf.old.state (number exp index)
         (splice at (replicate len byte) old)) }
     ensures keeps { Keeps shelf.old shelf.new }
     ensures held { shelf.new.held_ids ≡ shelf.old.held_ids }
@@ -157,7 +154,7 @@ pub(crate) fn fill_chunk<S: Supply>(
 /// What a number in a chunk's bytes names.
 pub(crate) fn find_number<S: Supply>(shelf: &Shelf<S>, n: u64) -> Found
     requires { IsTidy shelf.now }
-    ensures { found_reply (Ok result) ≡ found_at (state_of shelf.now.rows) n }
+    ensures { found_reply (Ok result) ≡ found_at shelf.now.state n }
 {
     if n == 0 {
         return Found::Nil;
@@ -177,11 +174,11 @@ pub(crate) fn resize_chunk<S: Supply>(shelf: &mut Shelf<S>, h: Handle, old: u32,
     requires most { h.exp ≤ GREATEST_EXPONENT }
     requires tidy { IsTidy shelf.old }
     requires sized { IsSizeOf Two h.exp len }
-    requires live { MatchOption (chunk_at shelf.old.rows (row_index h.exp) h.index) ⊥
+    requires live { MatchOption (get shelf.old.state.live (key h)) ⊥
         (λ bytes. length bytes ≡ old) }
-    ensures after { MatchOption (chunk_at shelf.old.rows (row_index h.exp) h.index) ⊥
-        (λ bytes. state_of shelf.new.rows
-        ≡ resize shelf.old.version (state_of shelf.old.rows) h len bytes) }
+    ensures after { MatchOption (get shelf.old.state.live (key h)) ⊥
+        (λ bytes. shelf.new.state
+        ≡ resize shelf.old.version shelf.old.state h len bytes) }
     ensures keeps { Keeps shelf.old shelf.new }
     ensures held { shelf.new.held_ids ≡ shelf.old.held_ids }
     ensures tidy { IsTidy shelf.new }
@@ -200,12 +197,14 @@ fn copy_chunk<S: Supply>(shelf: &mut Shelf<S>, from: Handle, to: Handle, len: u3
     requires from_class { IsClass from.exp }
     requires to_class { IsClass to.exp }
     requires apart { from.exp ≡ to.exp → ⊥ }
-    requires valid_shelf { IsValidShelf shelf.old }
-    requires source { FitsIn (chunk_at shelf.old.rows (row_index from.exp) from.index) len }
-    requires target { FitsIn (chunk_at shelf.old.rows (row_index to.exp) to.index) len }
-    ensures copied { Copied shelf.old shelf.new (row_index from.exp) from.index
-        (row_index to.exp) to.index len }
-    ensures valid_shelf { IsValidShelf shelf.new }
+    requires tidy { IsTidy shelf.old }
+    requires source { FitsIn (get shelf.old.state.live (key from)) len }
+    requires target { FitsIn (get shelf.old.state.live (key to)) len }
+    requires touched { contains shelf.old.state.touched (key to) ≡ true }
+    ensures copied { MatchOption (get shelf.old.state.live (key from)) ⊥
+        (λ source. MatchOption (get shelf.old.state.live (key to)) ⊥ (λ target. shelf.new
+        ≡ with_put shelf.old (key to) (Some (splice 0 (take len source) target)) true)) }
+    ensures tidy { IsTidy shelf.new }
 {
     if len == 0 {
         return;
@@ -228,16 +227,16 @@ pub(crate) fn move_chunk<S: Supply>(
     requires apart { from.exp ≡ exp → ⊥ }
     requires tidy { IsTidy shelf.old }
     requires sized { IsSizeOf shelf.old.version exp len }
-    requires live { MatchOption (chunk_at shelf.old.rows (row_index from.exp) from.index) ⊥
+    requires live { MatchOption (get shelf.old.state.live (key from)) ⊥
         (λ bytes. length bytes ≡ old) }
     ensures answer { MatchOption result
-        (shelf.old.quota < held_with_fresh (live_of shelf.old.rows) exp)
-        (λ i. (held_with_fresh (live_of shelf.old.rows) exp ≤ shelf.old.quota)
-        × (i ≡ fresh (live_of shelf.old.rows) exp)) }
+        (shelf.old.quota < held_with_fresh shelf.old.state.live exp)
+        (λ i. (held_with_fresh shelf.old.state.live exp ≤ shelf.old.quota)
+        × (i ≡ fresh shelf.old.state.live exp)) }
     ensures after { MatchOption result (shelf.new ≡ shelf.old)
-        (λ i. MatchOption (chunk_at shelf.old.rows (row_index from.exp) from.index) ⊥
-        (λ bytes. state_of shelf.new.rows
-        ≡ without_chunk (with_chunk (state_of shelf.old.rows) (number exp i) (fitted len bytes))
+        (λ i. MatchOption (get shelf.old.state.live (key from)) ⊥
+        (λ bytes. shelf.new.state
+        ≡ without_chunk (with_chunk shelf.old.state (number exp i) (fitted len bytes))
         (key from))) }
     ensures keeps { Keeps shelf.old shelf.new }
     ensures tidy { IsTidy shelf.new }

@@ -2,7 +2,7 @@
 ghost use Rattle.std.specs.Prelude.{◌≡◌, ℕ, ◌+◌, ◌≤◌, ◌<◌, ◌/◌, ◌%◌, true, Bool, List, length, slice_index, slice_set, MatchOption, IsSome, is_some, vec_len, vec_capacity, if◌then◌else◌};
 ghost use Rattle.dym_base.specs.Numbers.{per};
 ghost use Rattle.dym_base.specs.declared.limits.TheConstants.{MOST_CHUNKS, LEAST_EXPONENT, GREATEST_EXPONENT, MOST_QUOTA};
-ghost use Rattle.dym_heap.specs.Table.{row_index};
+ghost use Rattle.dym_heap.specs.Chunks.{rank};
 ghost use Rattle.dym_heap.specs.Arrangement.{marks_of_class, Shifts, Unshifts};
 
 use crate::lengths::{Lengths, SpareLengths};
@@ -22,7 +22,7 @@ pub(crate) struct ChunkLocation {
 pub(crate) fn class_index(exp: u8) -> usize
     requires least { LEAST_EXPONENT ≤ exp }
     requires most { exp ≤ GREATEST_EXPONENT }
-    ensures { result ≡ row_index exp }
+    ensures { result ≡ rank exp }
 {
     usize::from(exp - LEAST_EXPONENT)
 }
@@ -31,14 +31,14 @@ pub(crate) fn class_index(exp: u8) -> usize
 pub(crate) fn find(starts: &[u32; 13], exp: u8, index: u32) -> Option<ChunkLocation>
     requires least { LEAST_EXPONENT ≤ exp }
     requires most { exp ≤ GREATEST_EXPONENT }
-    requires rising { slice_index starts.now (row_index exp)
-        ≤ slice_index starts.now (row_index exp + 1) }
-    ensures { MatchOption result (slice_index starts.now (row_index exp + 1)
-        ≤ slice_index starts.now (row_index exp) + index / per exp)
+    requires rising { slice_index starts.now (rank exp)
+        ≤ slice_index starts.now (rank exp + 1) }
+    ensures { MatchOption result (slice_index starts.now (rank exp + 1)
+        ≤ slice_index starts.now (rank exp) + index / per exp)
         (λ location. (location.ordinal ≡ index / per exp) × (location.chunk ≡ index % per exp)
-        × (location.sized_area ≡ slice_index starts.now (row_index exp) + index / per exp)
-        × (slice_index starts.now (row_index exp) + index / per exp
-        < slice_index starts.now (row_index exp + 1))) }
+        × (location.sized_area ≡ slice_index starts.now (rank exp) + index / per exp)
+        × (slice_index starts.now (rank exp) + index / per exp
+        < slice_index starts.now (rank exp + 1))) }
 {
     let class = class_index(exp);
     let per = per_area(exp);

@@ -6,7 +6,6 @@ ghost use Rattle.dym_base.specs.HeapStep.{key, without_chunk};
 ghost use Rattle.dym_base.specs.declared.limits.TheConstants.{LEAST_EXPONENT, GREATEST_EXPONENT};
 ghost use Rattle.dym_heap.specs.Meaning.{IsSizeOf};
 ghost use Rattle.dym_heap.specs.Undo.{with_chunk_back, without_touch};
-ghost use Rattle.dym_heap.specs.Table.{live_of, state_of};
 ghost use Rattle.dym_heap.specs.Shelves.{IsTidy, IsValidShelf, Keeps};
 ghost use Rattle.dym_heap.specs.ShapeSteps.{HasRoomFor, ReachesArea};
 
@@ -20,7 +19,7 @@ use dym_quota::Supply;
 /// more.
 pub(crate) fn take_chunk_away<S: Supply>(shelf: &mut Shelf<S>, context: &S::Context, h: Handle)
     requires tidy { IsTidy shelf.old }
-    ensures after { state_of shelf.new.rows ≡ without_chunk (state_of shelf.old.rows) (key h) }
+    ensures after { shelf.new.state ≡ without_chunk shelf.old.state (key h) }
     ensures keeps { Keeps shelf.old shelf.new }
     ensures tidy { IsTidy shelf.new }
 {
@@ -39,10 +38,10 @@ pub(crate) fn put_chunk_back<S: Supply>(
     requires most { h.exp ≤ GREATEST_EXPONENT }
     requires tidy { IsTidy shelf.old }
     requires sized { IsSizeOf shelf.old.version h.exp (length bytes.now) }
-    requires within { held (insert (live_of shelf.old.rows) (key h) bytes.now)
+    requires within { held (insert shelf.old.state.live (key h) bytes.now)
         ≤ shelf.old.quota }
-    ensures after { state_of shelf.new.rows
-        ≡ with_chunk_back (state_of shelf.old.rows) (key h) bytes.now }
+    ensures after { shelf.new.state
+        ≡ with_chunk_back shelf.old.state (key h) bytes.now }
     ensures keeps { Keeps shelf.old shelf.new }
     ensures tidy { IsTidy shelf.new }
 {
@@ -68,7 +67,7 @@ fn reach_area<S: Supply>(shelf: &mut Shelf<S>, context: &S::Context, exp: u8, or
 /// A chunk isn't touched any more.
 pub(crate) fn forget_chunk<S: Supply>(shelf: &mut Shelf<S>, h: Handle)
     requires tidy { IsTidy shelf.old }
-    ensures after { state_of shelf.new.rows ≡ without_touch (state_of shelf.old.rows) (key h) }
+    ensures after { shelf.new.state ≡ without_touch shelf.old.state (key h) }
     ensures keeps { Keeps shelf.old shelf.new }
     ensures held { shelf.new.held_ids ≡ shelf.old.held_ids }
     ensures tidy { IsTidy shelf.new }

@@ -5,7 +5,6 @@ ghost use Rattle.dym_base.specs.Heaps.{fresh};
 ghost use Rattle.dym_base.specs.HeapStep.{held_with_fresh, with_chunk};
 ghost use Rattle.dym_base.specs.declared.limits.TheConstants.{LEAST_EXPONENT, GREATEST_EXPONENT};
 ghost use Rattle.dym_heap.specs.Meaning.{IsSizeOf};
-ghost use Rattle.dym_heap.specs.Table.{row_at, chunk_at, live_of, state_of};
 ghost use Rattle.dym_heap.specs.Shelves.{ShelfMeaning, IsTidy, Keeps};
 
 use crate::shelf::Shelf;
@@ -24,12 +23,12 @@ pub(crate) fn take_fresh<S: Supply>(
     requires tidy { IsTidy shelf.old }
     requires sized { IsSizeOf shelf.old.version exp len }
     ensures answer { MatchOption result
-        (shelf.old.quota < held_with_fresh (live_of shelf.old.rows) exp)
-        (λ i. (held_with_fresh (live_of shelf.old.rows) exp ≤ shelf.old.quota)
-        × (i ≡ fresh (live_of shelf.old.rows) exp)) }
+        (shelf.old.quota < held_with_fresh shelf.old.state.live exp)
+        (λ i. (held_with_fresh shelf.old.state.live exp ≤ shelf.old.quota)
+        × (i ≡ fresh shelf.old.state.live exp)) }
     ensures after { MatchOption result (shelf.new ≡ shelf.old)
-        (λ i. state_of shelf.new.rows
-        ≡ with_chunk (state_of shelf.old.rows) (number exp i) (replicate len 0)) }
+        (λ i. shelf.new.state
+        ≡ with_chunk shelf.old.state (number exp i) (replicate len 0)) }
     ensures keeps { Keeps shelf.old shelf.new }
     ensures tidy { IsTidy shelf.new }
 {

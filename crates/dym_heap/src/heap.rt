@@ -58,13 +58,12 @@ impl<S: Supply> Model for Heap<S> {
 
     ghost coded = { Prim.hlevel (codes, live_code, touched_code) };
 
-    ghost use Rattle.dym_heap.specs.Table.{state_of};
     ghost use Rattle.dym_heap.specs.Shelves.{IsTidy};
 
     ghost view = { λ h. record {
       version = h.shelf.version;
       quota = h.shelf.quota;
-      state = state_of h.shelf.rows;
+      state = h.shelf.state;
       held_ids = h.shelf.held_ids;
       origin = h.shelf.origin;
       applied = h.applied;
@@ -358,13 +357,15 @@ impl<S: Supply> Heap<S> {
             ≡ (step_of self.now (Read h at (length out.old))).reply }
         ensures refused { OnErr result (out.new ≡ out.old) }
     {
-        let Some(len) = len_of_handle(&self.shelf, h) else {
+        let Some(bytes) = bytes_of_handle(&self.shelf, h) else {
             return Err(Refusal::Dead);
         };
-        if at as usize + out.len() > len as usize {
+        let from = at as usize;
+        let end = from + out.len();
+        if end > bytes.len() {
             return Err(Refusal::Range);
         }
-        self.shelf.read(h.exp, h.index, at, out);
+        out.copy_from_slice(&bytes[from..end]);
         Ok(())
     }
 

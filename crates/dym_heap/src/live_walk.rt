@@ -4,7 +4,6 @@ ghost use Rattle.std.specs.FinMap.{contains_key};
 ghost use Rattle.dym_base.specs.Numbers.{number};
 ghost use Rattle.dym_base.specs.HeapStep.{key};
 ghost use Rattle.dym_base.specs.declared.limits.TheConstants.{LEAST_EXPONENT};
-ghost use Rattle.dym_heap.specs.Table.{live_of};
 ghost use Rattle.dym_heap.specs.Shelves.{IsTidy};
 ghost use Rattle.dym_heap.specs.Replies.{after_key, IsNextLive};
 
@@ -17,8 +16,8 @@ use dym_quota::Supply;
 pub(crate) fn next_from<S: Supply>(shelf: &Shelf<S>, after: Option<Handle>) -> Option<Handle>
     requires { IsTidy shelf.now }
     ensures { MatchOption result ((k : ℕ) → after_key after ≤ k
-        → contains_key (live_of shelf.now.rows) k ≡ false) (λ h.
-        IsNextLive (live_of shelf.now.rows) (after_key after) (key h)) }
+        → contains_key shelf.now.state.live k ≡ false) (λ h.
+        IsNextLive shelf.now.state.live (after_key after) (key h)) }
 {
     let (mut exp, mut from) = start_of(after);
     while exp <= GREATEST_EXPONENT {

@@ -1,9 +1,8 @@
 //! A record's packed chunks are marked in a shelf, or put over those of it that are touched.
-ghost use Rattle.std.specs.Prelude.{◌≡◌, ℕ, ◌<◌, is_some, length};
+ghost use Rattle.std.specs.Prelude.{◌≡◌, ℕ, ◌<◌, is_some};
 ghost use Rattle.dym_base.specs.Heaps.{held};
 ghost use Rattle.dym_base.specs.StandsFor.{packed_by};
 ghost use Rattle.dym_pack.specs.ParsedAreas.{OfLog, IsRecord};
-ghost use Rattle.dym_heap.specs.Table.{row_at, state_of};
 ghost use Rattle.dym_heap.specs.Shelves.{IsValidShelf, IsTidy};
 ghost use Rattle.dym_heap.specs.Fetches.{heap_chunk, marked, fetched, IsAreaChange};
 
@@ -15,9 +14,9 @@ use dym_quota::Supply;
 pub(crate) fn mark_record<S: Supply>(shelf: &mut Shelf<S>, rec: &Record)
     requires tidy { IsTidy shelf.old }
     ensures marked { OfLog rec.now (λ log.
-        (k : ℕ) → heap_chunk (state_of shelf.new.rows) k
-        ≡ marked (is_some (packed_by log k)) (heap_chunk (state_of shelf.old.rows) k)) }
-    ensures same { shelf.new ≡ record shelf.old { rows = shelf.new.rows } }
+        (k : ℕ) → heap_chunk shelf.new.state k
+        ≡ marked (is_some (packed_by log k)) (heap_chunk shelf.old.state k)) }
+    ensures same { shelf.new ≡ record shelf.old { state = shelf.new.state } }
     ensures tidy { IsTidy shelf.new }
 {
     for k in 0..rec.area_count() {
@@ -31,11 +30,9 @@ fn mark_area_of<S: Supply>(shelf: &mut Shelf<S>, rec: &Record, k: u32)
     requires recorded { IsRecord rec.now }
     requires valid_shelf { IsValidShelf shelf.old }
     ensures marked { OfLog rec.now (λ log.
-        IsAreaChange log k shelf.old.rows shelf.new.rows (λ q old new.
+        IsAreaChange log.copy k shelf.old.state shelf.new.state (λ q old new.
         new ≡ marked (is_some (packed_by log q)) old)) }
-    ensures long { (d : ℕ) → length (row_at shelf.new.rows d).chunks
-        ≡ length (row_at shelf.old.rows d).chunks }
-    ensures same { shelf.new ≡ record shelf.old { rows = shelf.new.rows } }
+    ensures same { shelf.new ≡ record shelf.old { state = shelf.new.state } }
     ensures valid_shelf { IsValidShelf shelf.new }
 {
     if rec.body(k).is_empty() {
@@ -49,9 +46,9 @@ pub(crate) fn fetch_record<S: Supply>(shelf: &mut Shelf<S>, rec: &Record)
     requires version { OfLog rec.now (λ log. log.version ≡ shelf.old.version) }
     requires tidy { IsTidy shelf.old }
     ensures fetched { OfLog rec.now (λ log.
-        (k : ℕ) → heap_chunk (state_of shelf.new.rows) k
-        ≡ fetched (packed_by log k) (heap_chunk (state_of shelf.old.rows) k)) }
-    ensures same { shelf.new ≡ record shelf.old { rows = shelf.new.rows } }
+        (k : ℕ) → heap_chunk shelf.new.state k
+        ≡ fetched (packed_by log k) (heap_chunk shelf.old.state k)) }
+    ensures same { shelf.new ≡ record shelf.old { state = shelf.new.state } }
     ensures tidy { IsTidy shelf.new }
 {
     for k in 0..rec.area_count() {
@@ -66,11 +63,9 @@ fn fetch_area_of<S: Supply>(shelf: &mut Shelf<S>, rec: &Record, k: u32)
     requires version { OfLog rec.now (λ log. log.version ≡ shelf.old.version) }
     requires valid_shelf { IsValidShelf shelf.old }
     ensures fetched { OfLog rec.now (λ log.
-        IsAreaChange log k shelf.old.rows shelf.new.rows
+        IsAreaChange log.copy k shelf.old.state shelf.new.state
         (λ q old new. new ≡ fetched (packed_by log q) old)) }
-    ensures long { (d : ℕ) → length (row_at shelf.new.rows d).chunks
-        ≡ length (row_at shelf.old.rows d).chunks }
-    ensures same { shelf.new ≡ record shelf.old { rows = shelf.new.rows } }
+    ensures same { shelf.new ≡ record shelf.old { state = shelf.new.state } }
     ensures valid_shelf { IsValidShelf shelf.new }
 {
     let body = rec.body(k);

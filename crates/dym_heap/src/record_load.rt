@@ -2,7 +2,6 @@
 ghost use Rattle.std.specs.Prelude.{◌≡◌};
 ghost use Rattle.dym_pack.specs.ParsedAreas.{OfLog};
 ghost use Rattle.dym_heap.specs.RecordLoads.{IsLoaded};
-ghost use Rattle.dym_heap.specs.Table.{live_of, touched_of};
 ghost use Rattle.dym_heap.specs.Shelves.{IsTidy};
 
 use crate::shelf::Shelf;
@@ -14,9 +13,9 @@ pub(crate) fn load_record<S: Supply>(shelf: &mut Shelf<S>, rec: &Record)
     requires version { OfLog rec.now (λ log. log.version ≡ shelf.old.version) }
     requires tidy { IsTidy shelf.old }
     ensures loaded { OfLog rec.now (λ log.
-        IsLoaded log (live_of shelf.old.rows) (live_of shelf.new.rows)) }
-    ensures touched { touched_of shelf.new.rows ≡ touched_of shelf.old.rows }
-    ensures same { shelf.new ≡ record shelf.old { rows = shelf.new.rows } }
+        IsLoaded log shelf.old.state.live shelf.new.state.live) }
+    ensures touched { shelf.new.state.touched ≡ shelf.old.state.touched }
+    ensures same { shelf.new ≡ record shelf.old { state = shelf.new.state } }
     ensures tidy { IsTidy shelf.new }
 {
     for k in 0..rec.area_count() {

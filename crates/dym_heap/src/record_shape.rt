@@ -1,12 +1,12 @@
 //! A shelf gets the areas and the use bits of a record.
-ghost use Rattle.std.specs.Prelude.{◌≡◌, ℕ, ◌+◌, ◌≤◌, ◌<◌, length, slice_index, sum};
+ghost use Rattle.std.specs.Prelude.{◌≡◌, ℕ, ◌/◌, ◌≤◌, ◌<◌, slice_index, sum};
 ghost use Rattle.std.specs.FinMap.{contains_key};
+ghost use Rattle.dym_base.specs.Numbers.{per, exponent_of, index_of, IsClass};
 ghost use Rattle.dym_base.specs.Heaps.{areas, held};
 ghost use Rattle.dym_pack.specs.ParsedAreas.{OfLog, IsRecord};
-ghost use Rattle.dym_heap.specs.Table.{row_at, state_of};
-ghost use Rattle.dym_heap.specs.Shelves.{IsValidShelf, IsTidy, Keeps};
-ghost use Rattle.dym_heap.specs.ShapeSteps.{HasAreas, HasAtMost, AgreeTo};
-ghost use Rattle.dym_heap.specs.Fetches.{heap_chunk, row_chunk, IsReshaped, IsAreaChange};
+ghost use Rattle.dym_heap.specs.Chunks.{rank};
+ghost use Rattle.dym_heap.specs.Shelves.{IsValidShelf, IsTidy, Keeps, count_of};
+ghost use Rattle.dym_heap.specs.Fetches.{heap_chunk, IsReshaped, IsAreaChange};
 
 use crate::chunk_location::class_index;
 use crate::shelf::Shelf;
@@ -21,7 +21,7 @@ pub(crate) fn shape_shelf<S: Supply>(shelf: &mut Shelf<S>, context: &S::Context,
     requires within { OfLog rec.now (λ log. held log.copy ≤ shelf.old.quota) }
     ensures shaped { OfLog rec.now (λ log.
         (k : ℕ) → IsReshaped (contains_key log.copy k)
-        (heap_chunk (state_of shelf.old.rows) k) (heap_chunk (state_of shelf.new.rows) k)) }
+        (heap_chunk shelf.old.state k) (heap_chunk shelf.new.state k)) }
     ensures keeps { Keeps shelf.old shelf.new }
     ensures tidy { IsTidy shelf.new }
 {
@@ -34,7 +34,7 @@ pub(crate) fn shape_shelf<S: Supply>(shelf: &mut Shelf<S>, context: &S::Context,
 /// How many areas of each class a record has.
 fn count_areas(rec: &Record) -> [u32; 12]
     ensures are { OfLog rec.now (λ log.
-        (c : ℕ) → c < 12 → slice_index result c ≡ areas log.copy (c + 5)) }
+        (e : ℕ) → IsClass e → slice_index result (rank e) ≡ areas log.copy e) }
     ensures total { (quota : ℕ) → OfLog rec.now (λ log. held log.copy ≤ quota)
         → sum result ≤ quota }
 {
@@ -49,9 +49,10 @@ fn count_areas(rec: &Record) -> [u32; 12]
 /// Gives back the last areas of each class that has more than it should have.
 fn give_areas<S: Supply>(shelf: &mut Shelf<S>, context: &S::Context, counts: &[u32; 12])
     requires valid_shelf { IsValidShelf shelf.old }
-    ensures most { (c : ℕ) → c < 12 → HasAtMost shelf.new.rows c (slice_index counts.now c) }
-    ensures agree { (c : ℕ) → c < 12
-        → AgreeTo shelf.old.rows shelf.new.rows c (slice_index counts.now c) }
+    ensures most { (e : ℕ) → IsClass e → count_of shelf.new e ≤ slice_index counts.now (rank e) }
+    ensures agree { (k : ℕ)
+        → index_of k / per (exponent_of k) < slice_index counts.now (rank (exponent_of k))
+        → heap_chunk shelf.new.state k ≡ heap_chunk shelf.old.state k }
     ensures keeps { Keeps shelf.old shelf.new }
     ensures valid_shelf { IsValidShelf shelf.new }
 {
@@ -66,10 +67,10 @@ fn give_areas<S: Supply>(shelf: &mut Shelf<S>, context: &S::Context, counts: &[u
 /// Takes areas for each class that has fewer than it should have.
 fn take_areas<S: Supply>(shelf: &mut Shelf<S>, context: &S::Context, counts: &[u32; 12])
     requires valid_shelf { IsValidShelf shelf.old }
-    requires most { (c : ℕ) → c < 12 → HasAtMost shelf.old.rows c (slice_index counts.now c) }
+    requires most { (e : ℕ) → IsClass e → count_of shelf.old e ≤ slice_index counts.now (rank e) }
     requires within { sum counts.now ≤ shelf.old.quota }
-    ensures are { (c : ℕ) → c < 12 → HasAreas shelf.new.rows c (slice_index counts.now c) }
-    ensures rows { (c i : ℕ) → row_chunk shelf.new.rows c i ≡ row_chunk shelf.old.rows c i }
+    ensures are { (e : ℕ) → IsClass e → count_of shelf.new e ≡ slice_index counts.now (rank e) }
+    ensures state { shelf.new.state ≡ shelf.old.state }
     ensures keeps { Keeps shelf.old shelf.new }
     ensures valid_shelf { IsValidShelf shelf.new }
 {
@@ -85,11 +86,11 @@ fn take_areas<S: Supply>(shelf: &mut Shelf<S>, context: &S::Context, counts: &[u
 fn use_areas<S: Supply>(shelf: &mut Shelf<S>, rec: &Record)
     requires valid_shelf { IsValidShelf shelf.old }
     requires are { OfLog rec.now (λ log.
-        (c : ℕ) → c < 12 → HasAreas shelf.old.rows c (areas log.copy (c + 5))) }
+        (e : ℕ) → IsClass e → count_of shelf.old e ≡ areas log.copy e) }
     ensures shaped { OfLog rec.now (λ log.
         (k : ℕ) → IsReshaped (contains_key log.copy k)
-        (heap_chunk (state_of shelf.old.rows) k) (heap_chunk (state_of shelf.new.rows) k)) }
-    ensures same { shelf.new ≡ record shelf.old { rows = shelf.new.rows } }
+        (heap_chunk shelf.old.state k) (heap_chunk shelf.new.state k)) }
+    ensures same { shelf.new ≡ record shelf.old { state = shelf.new.state } }
     ensures tidy { IsTidy shelf.new }
 {
     for k in 0..rec.area_count() {
@@ -102,13 +103,11 @@ fn use_area<S: Supply>(shelf: &mut Shelf<S>, rec: &Record, k: u32)
     requires area { OfLog rec.now (λ log. k < held log.copy) }
     requires recorded { IsRecord rec.now }
     requires are { OfLog rec.now (λ log.
-        (c : ℕ) → c < 12 → HasAreas shelf.old.rows c (areas log.copy (c + 5))) }
+        (e : ℕ) → IsClass e → count_of shelf.old e ≡ areas log.copy e) }
     ensures shaped { OfLog rec.now (λ log.
-        IsAreaChange log k shelf.old.rows shelf.new.rows (λ q old new.
+        IsAreaChange log.copy k shelf.old.state shelf.new.state (λ q old new.
         IsReshaped (contains_key log.copy q) old new)) }
-    ensures long { (d : ℕ) → length (row_at shelf.new.rows d).chunks
-        ≡ length (row_at shelf.old.rows d).chunks }
-    ensures same { shelf.new ≡ record shelf.old { rows = shelf.new.rows } }
+    ensures same { shelf.new ≡ record shelf.old { state = shelf.new.state } }
     ensures valid_shelf { IsValidShelf shelf.new }
 {
     shelf.shape_area(rec.area_exp(k), rec.area_ordinal(k), rec.use_bytes(k));

@@ -1,23 +1,26 @@
 //! The areas of a heap, class by class.
-ghost use Rattle.std.specs.Prelude.{◌≡◌, ℕ, ◌+◌, ◌*◌, ◌/◌, max, ◌≤◌, ◌<◌, true, false, None, Some, [], List, map, length, take, drop, replicate, slice_index_or, IsSome, IsTrue, MatchBool, MatchOption, OnOk, OnErr, IfOk, IfErr, is_some, option_map, vec_len, vec_capacity};
-ghost use Rattle.dym_base.specs.Numbers.{per, IsClass};
+ghost use Rattle.std.specs.Prelude.{◌≡◌, ℕ, ◌+◌, ◌-◌, ◌*◌, ◌/◌, ◌^◌, max, ◌≤◌, ◌<◌, true, false, None, Some, [], List, map, length, take, drop, replicate, slice_index_or, IsSome, IsTrue, MatchBool, MatchOption, OnOk, OnErr, IfOk, IfErr, is_some, option_map, vec_len, vec_capacity};
+ghost use Rattle.std.specs.FinMap.{get};
+ghost use Rattle.std.specs.FinSet as FinSet;
+ghost use Rattle.dym_base.specs.Numbers.{per, number, exponent_of, index_of, IsClass};
+ghost use Rattle.dym_base.specs.Objects.{empty_heap};
 ghost use Rattle.dym_base.specs.HeapStep.{splice, fitted};
 ghost use Rattle.dym_base.specs.declared.command.Version.TheVariants.{Two};
 ghost use Rattle.dym_base.specs.declared.limits.TheConstants.{MOST_QUOTA, LEAST_EXPONENT, GREATEST_EXPONENT};
 ghost use Rattle.dym_bits.specs.Bits.{bit_in, bits_of_bytes, IsSet};
 ghost use Rattle.dym_heap.specs.Meaning.{IsSizeOf};
-ghost use Rattle.dym_heap.specs.Table.{row_at, row_index, chunk_at, live_of, touched_of};
-ghost use Rattle.dym_heap.specs.Shape.{IsTrimmed};
+ghost use Rattle.dym_heap.specs.Chunks.{rank};
+ghost use Rattle.dym_heap.specs.Undo.{without_touch};
+ghost use Rattle.dym_heap.specs.Touches.{all_touched};
 ghost use Rattle.dym_heap.specs.SizedAreas.{clean, used_touched};
-ghost use Rattle.dym_heap.specs.Bodies.{IsBodyOf, IsBody, IsLoadedArea};
-ghost use Rattle.dym_heap.specs.ShapeSteps.{HasAreas};
-ghost use Rattle.dym_heap.specs.Fetches.{row_chunk, marked, fetched, packed_at, IsReshaped, IsChangedArea};
+ghost use Rattle.dym_heap.specs.Bodies.{IsBodyOf, IsBody, loaded_chunk};
+ghost use Rattle.dym_heap.specs.Fetches.{heap_chunk, marked, fetched, packed_at, IsReshaped, IsChangedArea};
 ghost use Rattle.std.specs.Option.{ForSome};
 ghost use Rattle.std.specs.Borrow.{sem};
 ghost use Rattle.dym_heap.specs.ChunkLends.{shelf_lent};
 ghost use Rattle.dym_heap.specs.AreaViews.{IsAreaOf};
 ghost use Rattle.dym_heap.specs.Arrangement.{AreClear, HasTables, Owns};
-ghost use Rattle.dym_heap.specs.Shelves.{ShelfMeaning, IsValidShelf, IsTidy, IsFirstFree, IsNextUsed, Keeps, with_row, with_put, longer, Trims, EndsFree, without_last, FitsIn, empty_rows, untouched_rows, used_touched_rows};
+ghost use Rattle.dym_heap.specs.Shelves.{ShelfMeaning, IsValidShelf, IsTidy, IsFirstFree, IsNextUsed, IsTrimmed, with_put, with_count, count_of, Trims, EndsFree, FitsIn};
 
 use crate::area_order::{copy_between, put_in, take_out};
 use crate::chunk_location::{
@@ -58,6 +61,11 @@ impl<S: Supply> Model for Shelf<S> {
 
     ghost Value = { ShelfMeaning };
 
+    ghost use Rattle.std.specs.Coded.{codes};
+    ghost use Rattle.dym_heap.specs.Meaning.{live_code, touched_code};
+
+    ghost coded = { Prim.hlevel (codes, live_code, touched_code) };
+
     ghost use Rattle.std.specs.Prelude.{vec_len, vec_capacity};
     ghost use Rattle.dym_heap.specs.Arrangement.{shelf_of, IsShelf, AreBound};
 
@@ -87,7 +95,8 @@ impl<S: Supply> Shelf<S> {
           quota = S.quota_of supply;
           held_ids = [];
           origin = S.origin supply;
-          rows = empty_rows;
+          counts = replicate 12 0;
+          state = empty_heap;
         }) }
         ensures valid_shelf { IfOk result IsValidShelf }
         ensures back { IfErr result (λ e. e.1 ≡ supply) }
@@ -148,11 +157,11 @@ impl<S: Supply> Shelf<S> {
         requires most { exp ≤ GREATEST_EXPONENT }
         requires sized { IsSizeOf self.old.version exp len }
         ensures taken { MatchOption result (self.new ≡ self.old)
-            (λ i. self.new ≡ with_put self.old (row_index exp) i (Some (replicate len 0)) true) }
-        ensures sized_area { MatchOption result
-            ((i : ℕ) → i < length (row_at self.old.rows (row_index exp)).chunks
-            → IsSome (chunk_at self.old.rows (row_index exp) i))
-            (λ i. IsFirstFree self.old.rows (row_index exp) i) }
+            (λ i. self.new ≡ with_put self.old (number exp i) (Some (replicate len 0)) true) }
+        ensures first { MatchOption result
+            ((i : ℕ) → i < count_of self.old exp * per exp
+            → IsSome (get self.old.state.live (number exp i)))
+            (λ i. IsFirstFree self.old.state exp i) }
         ensures valid_shelf { IsValidShelf self.new }
     {
         let class = class_index(exp);
@@ -176,9 +185,8 @@ impl<S: Supply> Shelf<S> {
         requires least { LEAST_EXPONENT ≤ exp }
         requires most { exp ≤ GREATEST_EXPONENT }
         requires room { length self.old.held_ids < self.old.quota }
-        ensures added { self.new ≡ record (with_row self.old (row_index exp)
-            (longer (per exp) (row_at self.old.rows (row_index exp))))
-            { held_ids = self.new.held_ids } }
+        ensures added { self.new
+            ≡ with_count self.old exp (count_of self.old exp + 1) self.new.held_ids }
         ensures valid_shelf { IsValidShelf self.new }
     {
         let class = class_index(exp);
@@ -196,7 +204,7 @@ impl<S: Supply> Shelf<S> {
         requires least { LEAST_EXPONENT ≤ exp }
         requires most { exp ≤ GREATEST_EXPONENT }
         requires valid_shelf { IsValidShelf self.old }
-        ensures trims { Trims self.old self.new (row_index exp) }
+        ensures trims { Trims self.old self.new exp }
         ensures valid_shelf { IsValidShelf self.new }
     {
         while self.ends_free(exp) {
@@ -208,8 +216,7 @@ impl<S: Supply> Shelf<S> {
     fn ends_free(&self, exp: u8) -> bool
         requires least { LEAST_EXPONENT ≤ exp }
         requires most { exp ≤ GREATEST_EXPONENT }
-        ensures { MatchBool result (EndsFree self.now.rows (row_index exp) (per exp))
-            (IsTrimmed (per exp) (row_at self.now.rows (row_index exp))) }
+        ensures { MatchBool result (EndsFree self.now exp) (IsTrimmed self.now exp) }
     {
         let class = class_index(exp);
         let end = self.starts[class + 1];
@@ -223,9 +230,9 @@ impl<S: Supply> Shelf<S> {
     fn drop_area(&mut self, context: &S::Context, exp: u8)
         requires least { LEAST_EXPONENT ≤ exp }
         requires most { exp ≤ GREATEST_EXPONENT }
-        requires free { EndsFree self.old.rows (row_index exp) (per exp) }
+        requires free { EndsFree self.old exp }
         ensures dropped { self.new
-            ≡ without_last self.old (row_index exp) (per exp) self.new.held_ids }
+            ≡ with_count self.old exp (count_of self.old exp - 1) self.new.held_ids }
         ensures fewer { length self.new.held_ids + 1 ≡ length self.old.held_ids }
         ensures valid_shelf { IsValidShelf self.new }
     {
@@ -242,7 +249,7 @@ impl<S: Supply> Shelf<S> {
     pub(crate) fn sized_area(&self, k: u32) -> &SizedArea<S::Seg>
         requires tidy { IsTidy self.now }
         requires within { k < length self.now.held_ids }
-        ensures area { IsAreaOf (live_of self.now.rows) (touched_of self.now.rows) k result.now }
+        ensures area { IsAreaOf self.now.state.live self.now.state.touched k result.now }
         ensures version { result.now.version ≡ self.now.version }
     {
         &self.sized_areas[k as usize]
@@ -252,8 +259,8 @@ impl<S: Supply> Shelf<S> {
     pub(crate) fn bytes(&self, exp: u8, index: u32) -> Option<&[u8]>
         requires least { LEAST_EXPONENT ≤ exp }
         requires most { exp ≤ GREATEST_EXPONENT }
-        ensures { MatchOption result (chunk_at self.now.rows (row_index exp) index ≡ None)
-            (λ bytes. chunk_at self.now.rows (row_index exp) index ≡ Some bytes.now) }
+        ensures { MatchOption result (get self.now.state.live (number exp index) ≡ None)
+            (λ bytes. get self.now.state.live (number exp index) ≡ Some bytes.now) }
     {
         let Some(location) = find(&self.starts, exp, index) else {
             return None;
@@ -265,12 +272,12 @@ impl<S: Supply> Shelf<S> {
     pub(crate) fn bytes_mut(&mut self, exp: u8, index: u32) -> &mut [u8]
         requires least { LEAST_EXPONENT ≤ exp }
         requires most { exp ≤ GREATEST_EXPONENT }
-        requires some { FitsIn (chunk_at self.old.rows (row_index exp) index) 1 }
+        requires some { FitsIn (get self.old.state.live (number exp index)) 1 }
         ensures* writes_back { sem 𝓛 (lends_of_shelf S.row S.Seg.row S.Context.row S.Seg.Segment
-            S.Supply self.entry (row_index exp) index result) }
-        ensures value { Some result.now ≡ chunk_at self.old.rows (row_index exp) index }
+            S.Supply self.entry (number exp index) result) }
+        ensures value { Some result.now ≡ get self.old.state.live (number exp index) }
         ensures valid_shelf { (ws : List ℕ)
-            → IsValidShelf (shelf_lent self.old (row_index exp) index ws) }
+            → IsValidShelf (shelf_lent self.old (number exp index) ws) }
     {
         let Some(location) = find(&self.starts, exp, index) else {
             unreachable!();
@@ -279,38 +286,76 @@ impl<S: Supply> Shelf<S> {
         sized_area.used_bytes_mut(location.chunk)
     }
 
-    /// A chunk in use with at least one byte is touched.
-    pub(crate) fn touch(&mut self, exp: u8, index: u32)
+    /// A chunk in use with at least one byte is touched. The answer is where the segment lies that its area is over: that of its
+    /// class and ordinal, where areas are bound.
+    pub(crate) fn touch(&mut self, exp: u8, index: u32) -> *const u8
         requires least { LEAST_EXPONENT ≤ exp }
         requires most { exp ≤ GREATEST_EXPONENT }
-        requires some { FitsIn (chunk_at self.old.rows (row_index exp) index) 1 }
-        ensures touched { MatchOption (chunk_at self.old.rows (row_index exp) index) ⊥
-            (λ bytes. self.new ≡ with_put self.old (row_index exp) index (Some bytes) true) }
-        ensures valid_shelf { IsValidShelf self.new }
-    {
-        let _bytes = self.bytes_mut(exp, index);
-    }
-
-    /// Where the segment lies that the area of a chunk in use is over: that of its class and ordinal, where areas are bound.
-    pub(crate) fn start(&self, exp: u8, index: u32) -> *const u8
-        requires least { LEAST_EXPONENT ≤ exp }
-        requires most { exp ≤ GREATEST_EXPONENT }
-        requires used { IsSome (chunk_at self.now.rows (row_index exp) index) }
-        ensures { ForSome (S.binding self.now.origin self.now.quota) (λ f.
-            ForSome (S.Seg.place_of (f (row_index exp) (index / per exp)))
+        requires some { FitsIn (get self.old.state.live (number exp index)) 1 }
+        ensures touched { MatchOption (get self.old.state.live (number exp index)) ⊥
+            (λ bytes. self.new ≡ with_put self.old (number exp index) (Some bytes) true) }
+        ensures start { ForSome (S.binding self.old.origin self.old.quota) (λ f.
+            ForSome (S.Seg.place_of (f (rank exp) (index / per exp)))
             (λ place. result ≡ place)) }
+        ensures valid_shelf { IsValidShelf self.new }
     {
         let Some(location) = find(&self.starts, exp, index) else {
             unreachable!();
         };
-        self.sized_areas[location.sized_area].start()
+        let sized_area = &mut self.sized_areas[location.sized_area];
+        let start = sized_area.start();
+        sized_area.touch(location.chunk);
+        start
+    }
+
+    /// Where the segment lies that a chunk's area is over: that of its class and ordinal, where areas are bound. None where
+    /// the chunk isn't in use.
+    pub(crate) fn start_of_used(&self, exp: u8, index: u32) -> Option<*const u8>
+        requires least { LEAST_EXPONENT ≤ exp }
+        requires most { exp ≤ GREATEST_EXPONENT }
+        ensures { MatchOption result (get self.now.state.live (number exp index) ≡ None)
+            (λ at. IsSome (get self.now.state.live (number exp index))
+            × ForSome (S.binding self.now.origin self.now.quota) (λ f.
+            ForSome (S.Seg.place_of (f (rank exp) (index / per exp)))
+            (λ place. at ≡ place))) }
+    {
+        let Some(location) = find(&self.starts, exp, index) else {
+            return None;
+        };
+        let sized_area = &self.sized_areas[location.sized_area];
+        if !sized_area.is_used(location.chunk) {
+            return None;
+        }
+        Some(sized_area.start())
+    }
+
+    /// Where the segment lies that a touched chunk's area is over, likewise. None where the chunk isn't touched.
+    #[inline(always)]
+    pub(crate) fn start_of_touched(&self, exp: u8, index: u32) -> Option<*const u8>
+        requires least { LEAST_EXPONENT ≤ exp }
+        requires most { exp ≤ GREATEST_EXPONENT }
+        ensures { MatchOption result
+            (FinSet.contains self.now.state.touched (number exp index) ≡ false)
+            (λ at. (FinSet.contains self.now.state.touched (number exp index) ≡ true)
+            × ForSome (S.binding self.now.origin self.now.quota) (λ f.
+            ForSome (S.Seg.place_of (f (rank exp) (index / per exp)))
+            (λ place. at ≡ place))) }
+    {
+        let Some(location) = find(&self.starts, exp, index) else {
+            return None;
+        };
+        let sized_area = &self.sized_areas[location.sized_area];
+        if !sized_area.is_dirty(location.chunk) {
+            return None;
+        }
+        Some(sized_area.start())
     }
 
     /// How many bytes a chunk has that is in use.
     pub(crate) fn chunk_len(&self, exp: u8, index: u32) -> Option<u32>
         requires least { LEAST_EXPONENT ≤ exp }
         requires most { exp ≤ GREATEST_EXPONENT }
-        ensures { result ≡ option_map length (chunk_at self.now.rows (row_index exp) index) }
+        ensures { result ≡ option_map length (get self.now.state.live (number exp index)) }
     {
         let Some(location) = find(&self.starts, exp, index) else {
             return None;
@@ -322,9 +367,9 @@ impl<S: Supply> Shelf<S> {
     pub(crate) fn next_used(&self, exp: u8, from: u64) -> Option<u32>
         requires least { LEAST_EXPONENT ≤ exp }
         requires most { exp ≤ GREATEST_EXPONENT }
-        ensures { MatchOption result ((i : ℕ) → from ≤ i
-            → chunk_at self.now.rows (row_index exp) i ≡ None)
-            (λ i. IsNextUsed self.now.rows (row_index exp) from i) }
+        ensures { MatchOption result ((i : ℕ) → from ≤ i → i < 2 ^ 32
+            → get self.now.state.live (number exp i) ≡ None)
+            (λ i. IsNextUsed self.now.state exp from i) }
     {
         let class = class_index(exp);
         let per = per_area(exp);
@@ -351,9 +396,9 @@ impl<S: Supply> Shelf<S> {
     pub(crate) fn release(&mut self, exp: u8, index: u32) -> bool
         requires least { LEAST_EXPONENT ≤ exp }
         requires most { exp ≤ GREATEST_EXPONENT }
-        ensures used { result ≡ is_some (chunk_at self.old.rows (row_index exp) index) }
+        ensures used { result ≡ is_some (get self.old.state.live (number exp index)) }
         ensures freed { MatchBool result
-            (self.new ≡ with_put self.old (row_index exp) index None false)
+            (self.new ≡ with_put self.old (number exp index) None false)
             (self.new ≡ self.old) }
         ensures valid_shelf { IsValidShelf self.new }
     {
@@ -375,10 +420,10 @@ impl<S: Supply> Shelf<S> {
     pub(crate) fn put_back(&mut self, exp: u8, index: u32, bytes: &[u8])
         requires least { LEAST_EXPONENT ≤ exp }
         requires most { exp ≤ GREATEST_EXPONENT }
-        requires there { index < length (row_at self.old.rows (row_index exp)).chunks }
+        requires there { index / per exp < count_of self.old exp }
         requires sized { IsSizeOf self.old.version exp (length bytes.now) }
         ensures back { self.new
-            ≡ with_put self.old (row_index exp) index (Some bytes.now) false }
+            ≡ with_put self.old (number exp index) (Some bytes.now) false }
         ensures valid_shelf { IsValidShelf self.new }
     {
         let Some(location) = find(&self.starts, exp, index) else {
@@ -394,8 +439,8 @@ impl<S: Supply> Shelf<S> {
     pub(crate) fn forget(&mut self, exp: u8, index: u32)
         requires least { LEAST_EXPONENT ≤ exp }
         requires most { exp ≤ GREATEST_EXPONENT }
-        ensures forgotten { self.new ≡ with_put self.old (row_index exp) index
-            (chunk_at self.old.rows (row_index exp) index) false }
+        ensures forgotten { self.new
+            ≡ record self.old { state = without_touch self.old.state (number exp index) } }
         ensures valid_shelf { IsValidShelf self.new }
     {
         let Some(location) = find(&self.starts, exp, index) else {
@@ -409,9 +454,9 @@ impl<S: Supply> Shelf<S> {
     pub(crate) fn read(&self, exp: u8, index: u32, at: u32, out: &mut [u8])
         requires least { LEAST_EXPONENT ≤ exp }
         requires most { exp ≤ GREATEST_EXPONENT }
-        requires within { FitsIn (chunk_at self.now.rows (row_index exp) index)
+        requires within { FitsIn (get self.now.state.live (number exp index))
             (at + length out.old) }
-        ensures { MatchOption (chunk_at self.now.rows (row_index exp) index) ⊥
+        ensures { MatchOption (get self.now.state.live (number exp index)) ⊥
             (λ bytes. out.new ≡ take (length out.old) (drop at bytes)) }
     {
         let Some(location) = find(&self.starts, exp, index) else {
@@ -426,11 +471,11 @@ impl<S: Supply> Shelf<S> {
         requires to_class { IsClass to.exp }
         requires apart { from.exp ≡ to.exp → ⊥ }
         requires some { 0 < len }
-        requires source { FitsIn (chunk_at self.old.rows (row_index from.exp) from.index) len }
-        requires target { FitsIn (chunk_at self.old.rows (row_index to.exp) to.index) len }
-        ensures copied { MatchOption (chunk_at self.old.rows (row_index from.exp) from.index) ⊥
-            (λ source. MatchOption (chunk_at self.old.rows (row_index to.exp) to.index) ⊥
-            (λ old. self.new ≡ with_put self.old (row_index to.exp) to.index
+        requires source { FitsIn (get self.old.state.live (number from.exp from.index)) len }
+        requires target { FitsIn (get self.old.state.live (number to.exp to.index)) len }
+        ensures copied { MatchOption (get self.old.state.live (number from.exp from.index)) ⊥
+            (λ source. MatchOption (get self.old.state.live (number to.exp to.index)) ⊥
+            (λ old. self.new ≡ with_put self.old (number to.exp to.index)
             (Some (splice 0 (take len source) old)) true)) }
         ensures valid_shelf { IsValidShelf self.new }
     {
@@ -448,10 +493,10 @@ impl<S: Supply> Shelf<S> {
         requires least { LEAST_EXPONENT ≤ exp }
         requires most { exp ≤ GREATEST_EXPONENT }
         requires some { 0 < length bytes.now }
-        requires within { FitsIn (chunk_at self.old.rows (row_index exp) index)
+        requires within { FitsIn (get self.old.state.live (number exp index))
             (at + length bytes.now) }
-        ensures written { MatchOption (chunk_at self.old.rows (row_index exp) index) ⊥
-            (λ old. self.new ≡ with_put self.old (row_index exp) index
+        ensures written { MatchOption (get self.old.state.live (number exp index)) ⊥
+            (λ old. self.new ≡ with_put self.old (number exp index)
             (Some (splice at bytes.now old)) true) }
         ensures valid_shelf { IsValidShelf self.new }
     {
@@ -467,9 +512,9 @@ impl<S: Supply> Shelf<S> {
         requires least { LEAST_EXPONENT ≤ exp }
         requires most { exp ≤ GREATEST_EXPONENT }
         requires some { 0 < len }
-        requires within { FitsIn (chunk_at self.old.rows (row_index exp) index) (at + len) }
-        ensures filled { MatchOption (chunk_at self.old.rows (row_index exp) index) ⊥
-            (λ old. self.new ≡ with_put self.old (row_index exp) index
+        requires within { FitsIn (get self.old.state.live (number exp index)) (at + len) }
+        ensures filled { MatchOption (get self.old.state.live (number exp index)) ⊥
+            (λ old. self.new ≡ with_put self.old (number exp index)
             (Some (splice at (replicate len byte) old)) true) }
         ensures valid_shelf { IsValidShelf self.new }
     {
@@ -486,10 +531,10 @@ impl<S: Supply> Shelf<S> {
         requires most { exp ≤ GREATEST_EXPONENT }
         requires version { self.old.version ≡ Two }
         requires sized { IsSizeOf Two exp len }
-        requires another { MatchOption (chunk_at self.old.rows (row_index exp) index) ⊥
+        requires another { MatchOption (get self.old.state.live (number exp index)) ⊥
             (λ old. length old ≡ len → ⊥) }
-        ensures resized { MatchOption (chunk_at self.old.rows (row_index exp) index) ⊥
-            (λ old. self.new ≡ with_put self.old (row_index exp) index
+        ensures resized { MatchOption (get self.old.state.live (number exp index)) ⊥
+            (λ old. self.new ≡ with_put self.old (number exp index)
             (Some (fitted len old)) true) }
         ensures valid_shelf { IsValidShelf self.new }
     {
@@ -506,10 +551,9 @@ impl<S: Supply> Shelf<S> {
         requires most { exp ≤ GREATEST_EXPONENT }
         requires body { IsBody self.old.version exp packed.now body.now }
         ensures loaded { (f : ℕ → List ℕ) → IsBodyOf self.old.version exp packed.now body.now f
-            → IsLoadedArea self.old.rows self.new.rows (row_index exp) ordinal packed.now f }
-        ensures long { (d : ℕ) → length (row_at self.new.rows d).chunks
-            ≡ length (row_at self.old.rows d).chunks }
-        ensures same { self.new ≡ record self.old { rows = self.new.rows } }
+            → IsChangedArea self.old.state self.new.state exp ordinal
+            (λ i old new. new ≡ loaded_chunk packed.now f i old) }
+        ensures same { self.new ≡ record self.old { state = self.new.state } }
         ensures valid_shelf { IsValidShelf self.new }
     {
         let class = class_index(exp);
@@ -525,7 +569,7 @@ impl<S: Supply> Shelf<S> {
     pub(crate) fn areas(&self, exp: u8) -> u32
         requires least { LEAST_EXPONENT ≤ exp }
         requires most { exp ≤ GREATEST_EXPONENT }
-        ensures { HasAreas self.now.rows (row_index exp) result }
+        ensures { result ≡ count_of self.now exp }
     {
         let class = class_index(exp);
         self.starts[class + 1] - self.starts[class]
@@ -536,14 +580,12 @@ impl<S: Supply> Shelf<S> {
     pub(crate) fn shape_area(&mut self, exp: u8, ordinal: u32, use_bytes: &[u8])
         requires least { LEAST_EXPONENT ≤ exp }
         requires most { exp ≤ GREATEST_EXPONENT }
-        requires area { ordinal * per exp < length (row_at self.old.rows (row_index exp)).chunks }
+        requires area { ordinal < count_of self.old exp }
         requires len { length use_bytes.now ≡ max 1 (per exp / 8) }
         requires below { (i : ℕ) → IsSet (bits_of_bytes use_bytes.now) i → i < per exp }
-        ensures shaped { IsChangedArea self.old.rows self.new.rows (row_index exp) ordinal
+        ensures shaped { IsChangedArea self.old.state self.new.state exp ordinal
             (λ i old new. IsReshaped (bit_in (bits_of_bytes use_bytes.now) i) old new) }
-        ensures long { (d : ℕ) → length (row_at self.new.rows d).chunks
-            ≡ length (row_at self.old.rows d).chunks }
-        ensures same { self.new ≡ record self.old { rows = self.new.rows } }
+        ensures same { self.new ≡ record self.old { state = self.new.state } }
         ensures valid_shelf { IsValidShelf self.new }
     {
         let class = class_index(exp);
@@ -557,11 +599,9 @@ impl<S: Supply> Shelf<S> {
     pub(crate) fn mark_area(&mut self, exp: u8, ordinal: u32, packed: &Bits)
         requires least { LEAST_EXPONENT ≤ exp }
         requires most { exp ≤ GREATEST_EXPONENT }
-        ensures marked { IsChangedArea self.old.rows self.new.rows (row_index exp) ordinal
+        ensures marked { IsChangedArea self.old.state self.new.state exp ordinal
             (λ i old new. new ≡ marked (bit_in packed.now i) old) }
-        ensures long { (d : ℕ) → length (row_at self.new.rows d).chunks
-            ≡ length (row_at self.old.rows d).chunks }
-        ensures same { self.new ≡ record self.old { rows = self.new.rows } }
+        ensures same { self.new ≡ record self.old { state = self.new.state } }
         ensures valid_shelf { IsValidShelf self.new }
     {
         let class = class_index(exp);
@@ -580,11 +620,9 @@ impl<S: Supply> Shelf<S> {
         requires most { exp ≤ GREATEST_EXPONENT }
         requires body { IsBody self.old.version exp packed.now body.now }
         ensures fetched { (f : ℕ → List ℕ) → IsBodyOf self.old.version exp packed.now body.now f
-            → IsChangedArea self.old.rows self.new.rows (row_index exp) ordinal (λ i old new.
+            → IsChangedArea self.old.state self.new.state exp ordinal (λ i old new.
             new ≡ fetched (packed_at packed.now f i) old) }
-        ensures long { (d : ℕ) → length (row_at self.new.rows d).chunks
-            ≡ length (row_at self.old.rows d).chunks }
-        ensures same { self.new ≡ record self.old { rows = self.new.rows } }
+        ensures same { self.new ≡ record self.old { state = self.new.state } }
         ensures valid_shelf { IsValidShelf self.new }
     {
         let class = class_index(exp);
@@ -600,15 +638,12 @@ impl<S: Supply> Shelf<S> {
     pub(crate) fn give_last(&mut self, context: &S::Context, exp: u8)
         requires least { LEAST_EXPONENT ≤ exp }
         requires most { exp ≤ GREATEST_EXPONENT }
-        requires some { per exp ≤ length (row_at self.old.rows (row_index exp)).chunks }
-        requires valid_shelf { IsValidShelf self.old }
-        ensures fewer { length (row_at self.new.rows (row_index exp)).chunks + per exp
-            ≡ length (row_at self.old.rows (row_index exp)).chunks }
-        ensures others { (d : ℕ) → (d ≡ row_index exp → ⊥)
-            → length (row_at self.new.rows d).chunks ≡ length (row_at self.old.rows d).chunks }
-        ensures rows { (d i : ℕ) → (d ≡ row_index exp → i < length (row_at self.new.rows d).chunks)
-            → row_chunk self.new.rows d i ≡ row_chunk self.old.rows d i }
-        ensures keeps { Keeps self.old self.new }
+        requires some { 0 < count_of self.old exp }
+        ensures dropped { self.new ≡ record (with_count self.old exp
+            (count_of self.old exp - 1) self.new.held_ids) { state = self.new.state } }
+        ensures chunks { (k : ℕ)
+            → (exponent_of k ≡ exp → index_of k / per exp < count_of self.new exp)
+            → heap_chunk self.new.state k ≡ heap_chunk self.old.state k }
         ensures valid_shelf { IsValidShelf self.new }
     {
         let last = self.areas(exp) - 1;
@@ -618,7 +653,10 @@ impl<S: Supply> Shelf<S> {
 
     /// No chunk is touched.
     pub(crate) fn clear_touched(&mut self)
-        ensures cleared { self.new ≡ record self.old { rows = untouched_rows self.old.rows } }
+        ensures cleared { self.new ≡ record self.old {
+          state =
+              record { live = self.old.state.live; touched = FinSet.empty };
+        } }
         ensures valid_shelf { IsValidShelf self.new }
     {
         clear_sized_areas(&mut self.sized_areas);
@@ -626,7 +664,8 @@ impl<S: Supply> Shelf<S> {
 
     /// Each chunk in use is touched.
     pub(crate) fn touch_all(&mut self)
-        ensures touched { self.new ≡ record self.old { rows = used_touched_rows self.old.rows } }
+        ensures touched { self.new
+            ≡ record self.old { state = all_touched self.old.state } }
         ensures valid_shelf { IsValidShelf self.new }
     {
         touch_sized_areas(&mut self.sized_areas);
@@ -634,9 +673,7 @@ impl<S: Supply> Shelf<S> {
 
     /// Whether no chunk is touched. Where the answer is no, no clause tells that one is.
     pub(crate) fn is_unmodified(&self) -> bool
-        ensures unmodified { IsTrue result
-            → self.now ≡ record self.now { rows = untouched_rows self.now.rows } }
-        ensures valid_shelf { IsValidShelf self.now }
+        ensures { IsTrue result → self.now.state.touched ≡ FinSet.empty }
     {
         are_unmodified(&self.sized_areas)
     }

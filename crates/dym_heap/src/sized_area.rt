@@ -205,6 +205,16 @@ impl<G: Segment> SizedArea<G> {
         self.area.bytes_mut(i, 0, len)
     }
 
+    /// Chunk `i`, which is in use and has at least one byte, is touched.
+    pub(crate) fn touch(&mut self, i: u32)
+        requires { FitsIn (slice_index_or self.old.chunks i None) 1 }
+        ensures touched { MatchOption (slice_index_or self.old.chunks i None) ⊥
+            (λ old. self.new ≡ area_with_chunk self.old i (Some old) true) }
+        ensures valid { IsSizedArea self.new }
+    {
+        let _bytes = self.used_bytes_mut(i);
+    }
+
     /// The bytes of chunk `i`, and None where it is free.
     pub(crate) fn chunk_bytes(&self, i: u32) -> Option<&[u8]>
         requires { i < length self.now.chunks }

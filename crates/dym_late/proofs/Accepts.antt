@@ -314,9 +314,9 @@ module _ (bound : ℕ) (events : List Event) (numbers : List ℕ) (heap : HeapMe
 
   pub ended : (start : ℕ) → start ≡ start_of count place → (done : List Event) (order : List ℕ) (after : HeapMeaning) (back : ChainMeaning)
       → late_events done ≡ late_events events ++ late_event e ∷ [] → IsRun (length done) bound done order after back
-      → after.applied + start ≡ heap.applied + (count + 1) → back.next_number + start ≤ chain.next_number + (count + 1) → length events < 4096
+      → after.applied + start ≡ heap.applied + (count + 1) → back.made + start ≤ chain.made + (count + 1) → length events < 4096
       → IsWhole bound done order after back
-  ended start starts done order after back same run applied next_number few =
+  ended start starts done order after back same run applied made few =
       let late : List LateEvent = late_events events in
       let p : ℕ = events_to e.time late in
       let many = many_late events in
@@ -333,7 +333,7 @@ module _ (bound : ℕ) (events : List Event) (numbers : List ℕ) (heap : HeapMe
         run = run;
         applied = omega (arith, applied, one_more, before, by, begins, counted, many);
         applied_few = omega (arith, applied, applied_few, longer, many, done_many, counted, few);
-        made_few = omega (arith, next_number, made_few, longer, many, done_many, counted, few);
+        made_few = omega (arith, made, made_few, longer, many, done_many, counted, few);
       }
 
 -- a heap with no event, of which a full log was taken
@@ -351,8 +351,8 @@ no_order = record {
 }
 
 opened_at : (heap : HeapMeaning) (chain : ChainMeaning) (log : LogEntry) → heap.version ≡ One → heap.state.live ≡ empty_heap.live → heap.applied ≡ 0 → IsSound heap → chain.logs ≡ log ∷ [] → log.time ≡ 0 → log.copy ≡ empty_heap.live
-    → chain.next_number ≤ 1 → Belongs heap.version heap.quota heap.state chain → chain.lifted ≡ None → IsWhole 0 [] [] heap chain
-opened_at heap chain log version empty applied sound logs time copy next_number belongs idle =
+    → chain.made ≤ 1 → Belongs heap.version heap.quota heap.state chain → chain.lifted ≡ None → IsWhole 0 [] [] heap chain
+opened_at heap chain log version empty applied sound logs time copy made belongs idle =
     let count = ap length logs in
     record {
       run = record {
@@ -370,15 +370,15 @@ opened_at heap chain log version empty applied sound logs time copy next_number 
       };
       applied = applied;
       applied_few = omega (arith, applied);
-      made_few = omega (arith, next_number);
+      made_few = omega (arith, made);
     }
 
-pub opened : (heap : HeapMeaning) (chain : ChainMeaning) (after : HeapMeaning) (longer : ChainMeaning) → heap.version ≡ One → heap.state ≡ empty_heap → heap.applied ≡ 0 → chain.logs ≡ [] → chain.next_number ≡ 0
-    → after ≡ record heap { state = after.state } → after.state.live ≡ heap.state.live → longer.logs ≡ chain.logs ++ new_entry (object_of heap.state chain) 0 Full ∷ [] → longer.next_number ≤ chain.next_number + 1
+pub opened : (heap : HeapMeaning) (chain : ChainMeaning) (after : HeapMeaning) (longer : ChainMeaning) → heap.version ≡ One → heap.state ≡ empty_heap → heap.applied ≡ 0 → chain.logs ≡ [] → chain.made ≡ 0
+    → after ≡ record heap { state = after.state } → after.state.live ≡ heap.state.live → longer.logs ≡ chain.logs ++ new_entry (object_of heap.state chain) 0 Full ∷ [] → longer.made ≤ chain.made + 1
     → IsSound after → Belongs after.version after.quota after.state longer → longer.lifted ≡ None → (events : List Event) (order : List ℕ) → events ≡ [] → order ≡ [] → IsWhole 0 events order after longer
-opened heap chain after longer version empty applied logs next_number heaps lives logged more sound belongs idle events order no_events no_order_yet =
+opened heap chain after longer version empty applied logs made heaps lives logged more sound belongs idle events order no_events no_order_yet =
     let live : heap.state.live ≡ empty_heap.live = ap (λ s. s.live) empty in
     let whole : IsWhole 0 [] [] after longer =
     opened_at after longer (new_entry (object_of heap.state chain) 0 Full) (ap (λ (h : HeapMeaning). h.version) heaps ∙ version) (lives ∙ live) (ap (λ (h : HeapMeaning). h.applied) heaps ∙ applied) sound
-    (logged ∙ ap (λ l. l ++ new_entry (object_of heap.state chain) 0 Full ∷ []) logs) refl live (omega (arith, next_number, more)) belongs idle in
+    (logged ∙ ap (λ l. l ++ new_entry (object_of heap.state chain) 0 Full ∷ []) logs) refl live (omega (arith, made, more)) belongs idle in
     subst (λ l. IsWhole 0 l order after longer) (sym no_events) (subst (λ l. IsWhole 0 [] l after longer) (sym no_order_yet) whole)

@@ -78,8 +78,8 @@ module _ (bound : ℕ) (events : List Event) (numbers : List ℕ) (heap : HeapMe
         let count = marks_reached heap.quota (LateRun.order late) position (oldest_log_point bound late) chain.logs whole.run.logs in
         omega (arith, kept, count)
 
-    pub committed : (back : ChainMeaning) → back.logs ≡ drop dropped chain.logs → back.next_number ≡ chain.next_number → Belongs heap.version heap.quota heap.state back → back.lifted ≡ None → IsWhole raised events numbers heap back
-    committed back logs next_number belongs idle =
+    pub committed : (back : ChainMeaning) → back.logs ≡ drop dropped chain.logs → back.made ≡ chain.made → Belongs heap.version heap.quota heap.state back → back.lifted ≡ None → IsWhole raised events numbers heap back
+    committed back logs made belongs idle =
         let kept = whole.run.kept in
         let gone = drops in
         let most = fits in
@@ -103,5 +103,5 @@ module _ (bound : ℕ) (events : List Event) (numbers : List ℕ) (heap : HeapMe
           };
           applied = whole.applied;
           applied_few = whole.applied_few;
-          made_few = omega (arith, next_number, made_few);
+          made_few = omega (arith, made, made_few);
         }

@@ -47,7 +47,7 @@ pub record IsWhole (bound : ℕ) (events : List Event) (numbers : List ℕ) (hea
   pub run : IsRun (length events) bound events numbers heap chain
   pub applied : heap.applied ≡ LateRun.replayed (late_events events)
   pub applied_few : heap.applied ≤ MOST_LATE_EVENTS * length events
-  pub made_few : chain.next_number ≤ MOST_LATE_EVENTS * length events + 1
+  pub made_few : chain.made ≤ MOST_LATE_EVENTS * length events + 1
 
 -- between two calls: all events are run, unless memory was wanting for one, and no record of the chain is out
 pub record IsWholeUnless (broken : Bool) (bound : ℕ) (events : List Event) (numbers : List ℕ) (heap : HeapMeaning) (chain : ChainMeaning) : Type 0 where

@@ -56,7 +56,7 @@ pub(crate) fn take_log<S: Supply>(
 ) -> Result<(), AllocError>
     requires belongs { Belongs heap.old.version heap.old.quota heap.old.state chain.old }
     requires sound { IsSound heap.old }
-    requires next_number { chain.old.next_number < COUNT_LIMIT }
+    requires made { chain.old.made < COUNT_LIMIT }
     requires idle { chain.old.lifted ≡ None }
     requires room { length chain.old.logs < 256 }
     requires later { (log : LogEntry) → newest chain.old.logs ≡ Some log → log.time < position }
@@ -66,7 +66,7 @@ pub(crate) fn take_log<S: Supply>(
     ensures logs { OnOk result (chain.new.logs
         ≡ chain.old.logs
         ++ Objects.new_entry (object_of heap.old.state chain.old) position kind ∷ []) }
-    ensures next_number { chain.new.next_number ≤ chain.old.next_number + 1 }
+    ensures made { chain.new.made ≤ chain.old.made + 1 }
     ensures belongs { Belongs heap.new.version heap.new.quota heap.new.state chain.new }
     ensures idle { chain.new.lifted ≡ None }
     ensures sound { IsSound heap.new }
@@ -87,7 +87,7 @@ pub(crate) fn log_if_due<S: Supply>(
 ) -> Result<(), AllocError>
     requires belongs { Belongs heap.old.version heap.old.quota heap.old.state chain.old }
     requires sound { IsSound heap.old }
-    requires next_number { chain.old.next_number < COUNT_LIMIT }
+    requires made { chain.old.made < COUNT_LIMIT }
     requires idle { chain.old.lifted ≡ None }
     requires room { IsLogPoint position → length chain.old.logs < 256 }
     requires later { IsLogPoint position → (log : LogEntry) → newest chain.old.logs ≡ Some log
@@ -98,7 +98,7 @@ pub(crate) fn log_if_due<S: Supply>(
         → chain.new.logs ≡ chain.old.logs
         ++ Objects.new_entry (object_of heap.old.state chain.old) position Inc ∷ []) }
     ensures none { (IsLogPoint position → ⊥) → chain.new.logs ≡ chain.old.logs }
-    ensures next_number { chain.new.next_number ≤ chain.old.next_number + 1 }
+    ensures made { chain.new.made ≤ chain.old.made + 1 }
     ensures belongs { Belongs heap.new.version heap.new.quota heap.new.state chain.new }
     ensures idle { chain.new.lifted ≡ None }
     ensures sound { IsSound heap.new }

@@ -79,7 +79,7 @@ impl<S: Supply> Timeline<S> {
         requires applied { heap.applied ≡ 0 }
         requires sound { IsSound heap }
         requires logs { chain.logs ≡ [] }
-        requires next_number { chain.next_number ≡ 0 }
+        requires made { chain.made ≡ 0 }
         requires idle { chain.lifted ≡ None }
         requires belongs { Belongs heap.version heap.quota heap.state chain }
         ensures whole { IfOk result (λ t. IsWhole 0 t.events.items t.order.items t.heap t.chain) }
@@ -179,7 +179,7 @@ impl<S: Supply> Timeline<S> {
             self.old.heap self.old.chain }
         requires start { start ≤ length self.old.events.items }
         requires applied { self.old.heap.applied < 2 ^ 30 }
-        requires next_number { self.old.chain.next_number < 2 ^ 30 }
+        requires made { self.old.chain.made < 2 ^ 30 }
         ensures run { OnOk result (IsRun (length self.new.events.items) self.old.bound
             self.new.events.items self.old.order.items self.new.heap self.new.chain) }
         ensures events { late_events self.new.events.items ≡ late_events self.old.events.items }
@@ -187,8 +187,8 @@ impl<S: Supply> Timeline<S> {
         ensures bound { self.new.bound ≡ self.old.bound }
         ensures applied { OnOk result (self.new.heap.applied + start
             ≡ self.old.heap.applied + length self.old.events.items) }
-        ensures next_number { OnOk result (self.new.chain.next_number + start
-            ≤ self.old.chain.next_number + length self.old.events.items) }
+        ensures made { OnOk result (self.new.chain.made + start
+            ≤ self.old.chain.made + length self.old.events.items) }
         ensures quota { self.new.heap.quota ≡ self.old.heap.quota }
         ensures origin { self.new.heap.origin ≡ self.old.heap.origin }
         ensures idle { self.new.chain.lifted ≡ None }

@@ -108,12 +108,12 @@ module _ (law : StepsKeepWhole) (heap : HeapMeaning) (chain : ChainMeaning) (ran
   looked answer said c is stays reply = called answer said heap c is stays whole.sound reply (unchanged_here answer heap)
 
 -- a chain that lost logs, and made no record
-pub pruned_here : (heap : HeapMeaning) (chain new : ChainMeaning) (ran : ℕ) → IsWhole (record { heap = heap; chain = chain; ran = ran }) → new.next_number ≡ chain.next_number → new.lifted ≡ None → Belongs heap.version heap.quota heap.state new → StandsForCopies new
+pub pruned_here : (heap : HeapMeaning) (chain new : ChainMeaning) (ran : ℕ) → IsWhole (record { heap = heap; chain = chain; ran = ran }) → new.made ≡ chain.made → new.lifted ≡ None → Belongs heap.version heap.quota heap.state new → StandsForCopies new
     → IsWhole (record { heap = heap; chain = new; ran = ran + 1 })
-pruned_here heap chain new ran whole next_number idle belongs stands = record {
+pruned_here heap chain new ran whole made idle belongs stands = record {
   sound = whole.sound;
   belongs = belongs;
   stands = stands;
   idle = idle;
-  counted = (let few = whole.counted in omega (arith, few, next_number));
+  counted = (let few = whole.counted in omega (arith, few, made));
 }

@@ -71,6 +71,6 @@ steps_keep law o heap c is after sound whole = (
     belongs = still_belongs law o.heap heap o.chain c after whole.belongs;
     stands = whole.stands;
     idle = whole.idle;
-    counted = (let next_number = whole.counted in omega (arith, next_number));
+    counted = (let made = whole.counted in omega (arith, made));
   },
 )

@@ -20,7 +20,7 @@ TakesMemory (Log t) reply = IsNotRefused reply
 TakesMemory (Ilog t) reply = IsNotRefused reply
 TakesMemory _ reply = ⊥
 
--- the command that logs, for the kind that is wanted
+-- the command that takes a log of this kind
 abbrev pub log_command : Kind → ℕ → Command
 log_command Full t = Log t
 log_command Inc t = Ilog t

@@ -19,7 +19,7 @@ pub record ObjectMeaning : Type 0 where
 abbrev pub opened_object : Version → ℕ → Origin → Origin → ObjectMeaning
 opened_object version quota segments records = record {
   heap = record { version = version; quota = quota; state = empty_heap; held_ids = []; origin = segments; applied = 0 };
-  chain = record { base_logs = []; logs = []; records = []; next_number = 0; lifted = None; origin = records };
+  chain = record { base_logs = []; logs = []; records = []; made = 0; lifted = None; origin = records };
   ran = 0;
 }
 
@@ -51,14 +51,14 @@ pub record IsWhole (o : ObjectMeaning) : Type 0 where
   pub belongs : Belongs o.heap.version o.heap.quota o.heap.state o.chain
   pub stands : StandsForCopies o.chain
   pub idle : o.chain.lifted ≡ None
-  pub counted : o.chain.next_number ≤ o.ran
+  pub counted : o.chain.made ≤ o.ran
 
 -- what stays true of an object while one of its records may be out
 pub record IsLent (o : ObjectMeaning) : Type 0 where
   pub sound : IsSound o.heap
   pub belongs : Belongs o.heap.version o.heap.quota o.heap.state o.chain
   pub stands : StandsForCopies o.chain
-  pub counted : o.chain.next_number ≤ o.ran
+  pub counted : o.chain.made ≤ o.ran
 
 -- the object is one that ran these commands from its start: its heap and its kept logs are those at the run's end, and so is what
 -- stands below them

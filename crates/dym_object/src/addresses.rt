@@ -23,18 +23,7 @@ impl<K: LogKeep> Object<FixedSupply, K> {
             IsSome (get self.now.heap.state.live (key h))
             × (address_of self.now.heap h ≡ Some at)) }
     {
-        if !self.heap.is_live(h) {
-            return None;
-        }
-        self.has_region();
-        Some(self.heap.address(h))
-    }
-
-    /// A law: the segments come from one region.
-    fn has_region(&self)
-        ensures { IsSome (region_of self.now.heap.origin) }
-    {
-        self.heap.start();
+        self.heap.address(h)
     }
 
     /// The live chunk that has the byte at `offset` of the region, and None where none has it. It takes constant time.

@@ -45,7 +45,7 @@ impl<S: Supply, K: LogKeep> Object<S, K> {
         requires least { 1 ≤ S.quota_of supply }
         requires most { S.quota_of supply ≤ MOST_QUOTA }
         requires empty { (K.meaning keep).records ≡ [] }
-        requires next_number { (K.meaning keep).next_number ≡ 0 }
+        requires made { (K.meaning keep).made ≡ 0 }
         requires idle { (K.meaning keep).lifted ≡ None }
         ensures opened { IfOk result (λ o. o ≡ opened_object One (S.quota_of supply)
             (S.origin supply) (K.meaning keep).origin) }
@@ -67,7 +67,7 @@ impl<S: Supply, K: LogKeep> Object<S, K> {
         requires least { 1 ≤ S.quota_of supply }
         requires most { S.quota_of supply ≤ MOST_QUOTA }
         requires empty { (K.meaning keep).records ≡ [] }
-        requires next_number { (K.meaning keep).next_number ≡ 0 }
+        requires made { (K.meaning keep).made ≡ 0 }
         requires idle { (K.meaning keep).lifted ≡ None }
         ensures opened { IfOk result (λ o. o ≡ opened_object version (S.quota_of supply)
             (S.origin supply) (K.meaning keep).origin) }
@@ -150,7 +150,7 @@ impl<S: Supply, K: LogKeep> Object<S, K> {
         ensures heap { result.0 ≡ self.heap }
         ensures keep { K.meaning result.1 ≡ record {
           records = self.chain.records;
-          next_number = self.chain.next_number;
+          made = self.chain.made;
           lifted = None;
           origin = self.chain.origin;
         } }
@@ -172,7 +172,7 @@ impl<S: Supply, K: LogKeep> Object<S, K> {
         ensures supply_origin { S.origin result.0 ≡ self.heap.origin }
         ensures keep { K.meaning result.1 ≡ record {
           records = self.chain.records;
-          next_number = self.chain.next_number;
+          made = self.chain.made;
           lifted = None;
           origin = self.chain.origin;
         } }

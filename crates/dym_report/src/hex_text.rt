@@ -125,7 +125,7 @@ fn is_zero(block: &[u8]) -> bool
     greatest == 0
 }
 
-/// The same as `trimmed`, where few zero bytes are at the end.
+/// The bytes without the zero bytes at their end, where these are few.
 fn without_zero_bytes(bytes: &[u8]) -> &[u8]
     ensures { result.now ≡ trimmed bytes.now }
 {

@@ -26,7 +26,7 @@ pub(crate) fn has_room(room: usize, reply: &Reply) -> bool
         }
 }
 
-/// The same of bytes that were read.
+/// Whether so many bytes are enough for the line of a reply that shows these bytes, which were read.
 #[inline(always)]
 pub(crate) fn has_bytes_room(room: usize, bytes: &[u8]) -> bool
     ensures { (result ≡ true) → line_room (Bytes bytes.now) ≤ room }

@@ -13,6 +13,6 @@ pub record JobOriginMeaning : Type 0 where
   pub quantum : ℕ
   pub source : JobSource
 
--- what stands where a value of the type is wanted that is never made
+-- what a value of the type means, though none is ever made
 abbrev pub no_job : JobOriginMeaning
 no_job = record { name = []; quantum = 0; source = record { origin = no_origin; views = false } }

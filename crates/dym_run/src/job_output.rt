@@ -42,7 +42,7 @@ pub(crate) enum JobOutput<R: Wait> {
 }
 
 impl<R: Wait> JobOutput<R> {
-    /// The same as a text, where there is memory for it and it isn't long.
+    /// The output as a text, where there is memory for it and it isn't long; else it stays as it is.
     pub(crate) fn as_text(self, rt: &R, alloc: Global) -> JobOutput<R>
         requires ends { CanEnd self }
         ensures same { (v : Version) (replies : List Reply) (s : ObjectState)

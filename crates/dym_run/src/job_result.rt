@@ -63,7 +63,7 @@ impl<R: Wait> Model for JobResult<R> {
 }
 
 impl<R: Wait> JobResult<R> {
-    /// What is left of a work, and the keep of its records, which are no longer wanted.
+    /// What is left of a work, and the keep of its records, which no one needs any more.
     pub(crate) fn of(rt: &R, work: ViewedWork<R>) -> (JobResult<R>, TableKeep)
         requires over { RanOut work }
         ensures origin { result.0 ≡ result_of work }
@@ -90,7 +90,7 @@ impl<R: Wait> JobResult<R> {
         (job_result, keep)
     }
 
-    /// What is left of a work that ends: its keep is left for another object, and its part is put together where that is wanted.
+    /// What is left of a work that ends: its keep is left for another object, and its part is put together if texts are asked for.
     pub(crate) fn end(rt: &R, context: &JobContext, work: ViewedWork<R>) -> JobResult<R>
         requires over { RanOut work }
         ensures origin { result ≡ result_of work }
@@ -104,7 +104,7 @@ impl<R: Wait> JobResult<R> {
         }
     }
 
-    /// The same with its text put together and its segments given back, where there is memory for the text.
+    /// What is left of the work, with its text put together and its segments given back where there is memory for the text.
     fn as_text(self, rt: &R, context: &JobContext) -> JobResult<R>
         ensures { result ≡ self }
     {

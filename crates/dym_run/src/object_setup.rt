@@ -28,7 +28,7 @@ pub(crate) fn open_work<R: Wait>(
 ) -> Result<ViewedWork<R>, JobSpec<R>>
     requires empty { keep.records ≡ [] }
     requires idle { keep.lifted ≡ None }
-    requires counts { keep.next_number + MOST_COMMANDS ≤ COUNT_LIMIT }
+    requires counts { keep.made + MOST_COMMANDS ≤ COUNT_LIMIT }
     requires start { CanStart job_spec }
     requires least { 1 ≤ quantum }
     requires most { quantum ≤ MOST_QUANTUM }
@@ -90,7 +90,7 @@ fn open_object<R: Wait>(
     requires quota_most { ⟦<Berth<R> as Supply>⟧.quota_of berth ≤ MOST_QUOTA }
     ensures start { IfOk result (λ o. state_of o ≡ object_start) }
     ensures whole { IfOk result IsWhole }
-    ensures ran { IfOk result (λ o. o.ran ≡ keep.next_number) }
+    ensures ran { IfOk result (λ o. o.ran ≡ keep.made) }
     ensures version { IfOk result (λ o. o.heap.version ≡ version) }
     ensures quota { IfOk result (λ o. o.heap.quota ≡ ⟦<Berth<R> as Supply>⟧.quota_of berth) }
     ensures supply { IfOk result (λ o. o.heap.origin ≡ ⟦<Berth<R> as Supply>⟧.origin berth) }
@@ -105,9 +105,9 @@ fn open_object<R: Wait>(
         Ok(heap) => heap,
         Err((_, berth)) => return Err(berth),
     };
-    let next_number = keep.next_number();
+    let made = keep.made();
     match Chain::adopt(alloc, keep, 0) {
-        Ok(chain) => Ok(Object::of_parts(heap, chain, next_number)),
+        Ok(chain) => Ok(Object::of_parts(heap, chain, made)),
         Err(_) => Err(heap.end(rt)),
     }
 }

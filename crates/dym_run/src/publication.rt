@@ -37,7 +37,7 @@ pub(crate) fn publish_oldest<R: Wait>(
     }
 }
 
-/// The same where there is a publisher.
+/// Where there is a publisher, publishes by it the oldest kept log of a work, as `publish_oldest` does.
 pub(crate) fn publish_where_told<R: Wait>(
     rt: &R,
     alloc: Global,

@@ -117,10 +117,10 @@ impl TablePool {
     pub(crate) fn take<R: Wait>(&self, rt: &R, alloc: Global) -> Result<TableKeep, AllocError>
         ensures empty { IfOk result (λ keep. keep.records ≡ []) }
         ensures idle { IfOk result (λ keep. keep.lifted ≡ None) }
-        ensures counts { IfOk result (λ keep. keep.next_number + MOST_COMMANDS ≤ COUNT_LIMIT) }
+        ensures counts { IfOk result (λ keep. keep.made + MOST_COMMANDS ≤ COUNT_LIMIT) }
     {
         if let Some(PooledTable { keep }) = self.queue.pop(rt) {
-            if keep.next_number() <= MOST_NEXT_NUMBER {
+            if keep.made() <= MOST_NEXT_NUMBER {
                 return Ok(keep);
             }
         }

@@ -79,7 +79,7 @@ window (suc n) m (suc len) (x ∷ xs) ys e le = window n m len xs ys (omega arit
 pub raised_records : (list kept : List Listed) (place : ℕ) → kept ≡ drop place list → map numbered kept ≡ drop place (map numbered list)
 raised_records list kept place is = ap (map numbered) is ∙ sym (drop-map numbered place list)
 
-module _ {order : List Entry} {len next_number : ℕ} {me : Knowing} (s : Stands order len next_number me) where
+module _ {order : List Entry} {len made : ℕ} {me : Knowing} (s : Stands order len made me) where
   -- a list is shorter than the table
   pub fits : len + 2 ≤ length order
   fits = let a = s.order_is.size in let b = s.few in omega arith
@@ -106,8 +106,8 @@ module _ {order : List Entry} {len next_number : ℕ} {me : Knowing} (s : Stands
 
   pub number_fits : (place : ℕ) → place < len → (get_or order place no_entry).number < RECORD_NUMBERS
   number_fits place lt =
-      let below = below_made (records_of me) next_number place s.rise (let n = count_of_records in omega arith) in
-      below_most _ _ next_number RECORD_NUMBERS (number_here place lt) below s.most
+      let below = below_made (records_of me) made place s.rise (let n = count_of_records in omega arith) in
+      below_most _ _ made RECORD_NUMBERS (number_here place lt) below s.most
 
   pub has_entry : (place : ℕ) → place < len → HasEntry (slot_at order place) (get_or order place no_entry).number (owner_of me.0)
   has_entry place lt =
@@ -134,7 +134,7 @@ module _ {order : List Entry} {len next_number : ℕ} {me : Knowing} (s : Stands
 
   -- Spare slots
 
-  pub swapped : Stands (swap order len (len + 1)) len next_number me × (slot_at (swap order len (len + 1)) len ≡ slot_at order (len + 1))
+  pub swapped : Stands (swap order len (len + 1)) len made me × (slot_at (swap order len (len + 1)) len ≡ slot_at order (len + 1))
   swapped =
       let f = fits in
       let spare = get_or order (len + 1) no_entry in
@@ -174,44 +174,44 @@ module _ {order : List Entry} {len next_number : ℕ} {me : Knowing} (s : Stands
   -- Puts
 
   put_records : (mid : Knowing) (bytes : List ℕ) → SameList me mid
-      → map numbered (with_put (slot_at order len) bytes (owner_of mid.0)).list ≡ records_of me ++ record { number = next_number; bytes = bytes } ∷ []
+      → map numbered (with_put (slot_at order len) bytes (owner_of mid.0)).list ≡ records_of me ++ record { number = made; bytes = bytes } ∷ []
   put_records mid bytes same =
-      let next : (owner_of mid.0).next ≡ next_number = same.next ∙ s.next in
+      let next : (owner_of mid.0).next ≡ made = same.next ∙ s.next in
       map-append numbered (list_of mid) (record { entry = entry (slot_at order len) (owner_of mid.0).next; bytes = bytes } ∷ [])
       ∙ (λ j. map numbered (same.list j) ++ record { number = next j; bytes = bytes } ∷ [])
 
-  pub put_stands : (mid : Knowing) (bytes : List ℕ) → SameList me mid → len < RECORD_ROOM → next_number < RECORD_NUMBERS
-      → Stands (set order len (entry (slot_at order len) next_number)) (len + 1) (next_number + 1) (Owns (with_put (slot_at order len) bytes (owner_of mid.0)), [])
+  pub put_stands : (mid : Knowing) (bytes : List ℕ) → SameList me mid → len < RECORD_ROOM → made < RECORD_NUMBERS
+      → Stands (set order len (entry (slot_at order len) made)) (len + 1) (made + 1) (Owns (with_put (slot_at order len) bytes (owner_of mid.0)), [])
   put_stands mid bytes same room left =
       let f = fits in
-      let new : Entry = entry (slot_at order len) next_number in
-      let next : (owner_of mid.0).next ≡ next_number = same.next ∙ s.next in
+      let new : Entry = entry (slot_at order len) made in
+      let next : (owner_of mid.0).next ≡ made = same.next ∙ s.next in
       let old : map entry_of (list_of mid) ≡ take len order = ap (map entry_of) same.list ∙ s.list in
       record {
         seat = refl;
-        order_is = order_numbered order len next_number s.order_is;
+        order_is = order_numbered order len made s.order_is;
         list = map-append entry_of (list_of mid) (record { entry = entry (slot_at order len) (owner_of mid.0).next; bytes = bytes } ∷ [])
             ∙ (λ j. old j ++ entry (slot_at order len) (next j) ∷ [])
             ∙ sym (take-set_at order len (len + 1) new refl (omega arith));
         few = omega arith;
         next = ap (λ (n : ℕ). n + 1) next;
-        most = up_one next_number RECORD_NUMBERS left;
-        rise = subst (λ (l : List Numbered). NumbersRise l (next_number + 1)) (sym (put_records mid bytes same)) (rise_push (records_of me) next_number bytes s.rise);
+        most = up_one made RECORD_NUMBERS left;
+        rise = subst (λ (l : List Numbered). NumbersRise l (made + 1)) (sym (put_records mid bytes same)) (rise_push (records_of me) made bytes s.rise);
         remembered = refl;
       }
 
-  pub put_after : (items : List Entry) (slot : ℕ) (mid after : Knowing) (bytes : List ℕ) → SameList me mid → len < RECORD_ROOM → next_number < RECORD_NUMBERS
-      → slot ≡ slot_at order len → items ≡ set order len (entry (slot_at order len) next_number) → after ≡ (Owns (with_put slot bytes (owner_of mid.0)), [])
-      → Stands items (len + 1) (next_number + 1) after
+  pub put_after : (items : List Entry) (slot : ℕ) (mid after : Knowing) (bytes : List ℕ) → SameList me mid → len < RECORD_ROOM → made < RECORD_NUMBERS
+      → slot ≡ slot_at order len → items ≡ set order len (entry (slot_at order len) made) → after ≡ (Owns (with_put slot bytes (owner_of mid.0)), [])
+      → Stands items (len + 1) (made + 1) after
   put_after items slot mid after bytes same room left at is new =
       let now : after ≡ (Owns (with_put (slot_at order len) bytes (owner_of mid.0)), []) = new ∙ ap (λ (t : ℕ). (Owns (with_put t bytes (owner_of mid.0)), [])) at in
-      subst (λ (p : List Entry × Knowing). Stands p.0 (len + 1) (next_number + 1) p.1) (λ j. (sym is j, sym now j)) (put_stands mid bytes same room left)
+      subst (λ (p : List Entry × Knowing). Stands p.0 (len + 1) (made + 1) p.1) (λ j. (sym is j, sym now j)) (put_stands mid bytes same room left)
 
   -- Lifts and lowers
 
-  pub held_stands : (slot : ℕ) (after : Knowing) (home : Held) → after ≡ (Owns (holding slot (owner_of me.0)), (slot, home) ∷ []) → Stands order len next_number after
+  pub held_stands : (slot : ℕ) (after : Knowing) (home : Held) → after ≡ (Owns (holding slot (owner_of me.0)), (slot, home) ∷ []) → Stands order len made after
   held_stands slot after home is =
-      subst (Stands order len next_number) (sym is) (record { seat = refl; order_is = s.order_is; list = s.list; few = s.few; next = s.next; most = s.most; rise = s.rise; remembered = s.remembered })
+      subst (Stands order len made) (sym is) (record { seat = refl; order_is = s.order_is; list = s.list; few = s.few; next = s.next; most = s.most; rise = s.rise; remembered = s.remembered })
 
   -- Cuts at the end
 
@@ -234,7 +234,7 @@ module _ {order : List Entry} {len next_number : ℕ} {me : Knowing} (s : Stands
       (sym is ∙ left.list_is ∙ take_more (list_of me) last unlisted (omega arith)) in
       record { idle = new.idle; list_is = new.list_is ∙ front; next = new.next ∙ left.next; remembered = new.remembered ∙ left.remembered }
 
-  pub cut_stands : (kept : ℕ) (after : Knowing) → kept ≤ len → HasLeft (take kept (list_of me)) me after → Stands order kept next_number after
+  pub cut_stands : (kept : ℕ) (after : Knowing) → kept ≤ len → HasLeft (take kept (list_of me)) me after → Stands order kept made after
   cut_stands kept after le left = record {
     seat = left.idle.seat;
     order_is = s.order_is;
@@ -242,7 +242,7 @@ module _ {order : List Entry} {len next_number : ℕ} {me : Knowing} (s : Stands
     few = (let f = s.few in omega arith);
     next = left.next ∙ s.next;
     most = s.most;
-    rise = subst (λ (l : List Numbered). NumbersRise l next_number) (sym (ap (map numbered) left.list_is ∙ cut_records (list_of me) kept)) (rise_take (records_of me) next_number kept s.rise);
+    rise = subst (λ (l : List Numbered). NumbersRise l made) (sym (ap (map numbered) left.list_is ∙ cut_records (list_of me) kept)) (rise_take (records_of me) made kept s.rise);
     remembered = left.remembered ∙ s.remembered;
   }
 
@@ -268,16 +268,16 @@ module _ {order : List Entry} {len next_number : ℕ} {me : Knowing} (s : Stands
       let inside : length dropped < length (list_of me) = omega arith in
       let at : record_at (records_of me) (length dropped) ≡ numbered x
       = get_or-map numbered (list_of me) (length dropped) x no_record inside ∙ ap numbered (ap (λ (l : List Listed). get_or l (length dropped) x) is ∙ get_or_at dropped x others x (length dropped) refl) in
-      let same : length dropped ≡ place = one_place (records_of me) next_number (length dropped) place s.rise (omega arith) (omega arith)
+      let same : length dropped ≡ place = one_place (records_of me) made (length dropped) place s.rise (omega arith) (omega arith)
       (ap (λ (r : Numbered). r.number) at ∙ number ∙ number_here place lt) in
       sym (ap (λ (l : List Listed). drop (length dropped) l) is ∙ drop_front dropped (x ∷ others)) ∙ ap (λ (k : ℕ). drop k (list_of me)) same
 
   pub raised_stands : (next_spares place left : ℕ) (after : Knowing) (kept : List Listed) → place < len → left ≡ len - place → len ≤ next_spares → next_spares ≤ length order
-      → kept ≡ drop place (list_of me) → IsOrder (retired next_spares place order) → after ≡ (Owns (with_raised kept (owner_of me.0)), []) → Stands (retired next_spares place order) left next_number after
+      → kept ≡ drop place (list_of me) → IsOrder (retired next_spares place order) → after ≡ (Owns (with_raised kept (owner_of me.0)), []) → Stands (retired next_spares place order) left made after
   raised_stands next_spares place left after kept lt at le inside is turned new =
       let sum : left + place ≡ len = omega arith in
       let size = length-take next_spares order in
-      subst (Stands (retired next_spares place order) left next_number) (sym new) (record {
+      subst (Stands (retired next_spares place order) left made) (sym new) (record {
         seat = refl;
         order_is = turned;
         list = ap (map entry_of) is ∙ sym (drop-map entry_of place (list_of me)) ∙ ap (drop place) (s.list ∙ sym (take_less order len next_spares le))
@@ -285,7 +285,7 @@ module _ {order : List Entry} {len next_number : ℕ} {me : Knowing} (s : Stands
         few = (let r = s.few in omega arith);
         next = s.next;
         most = s.most;
-        rise = subst (λ (l : List Numbered). NumbersRise l next_number) (sym (raised_records (list_of me) kept place is)) (rise_drop (records_of me) next_number place s.rise);
+        rise = subst (λ (l : List Numbered). NumbersRise l made) (sym (raised_records (list_of me) kept place is)) (rise_drop (records_of me) made place s.rise);
         remembered = s.remembered;
       })
 

@@ -25,7 +25,7 @@ pub record Numbered : Type 0 where
 -- place whose record is out; where the keep has its room, which for an owner is its log table
 pub record KeepMeaning : Type 0 where
   pub records : List Numbered
-  pub next_number : ℕ
+  pub made : ℕ
   pub lifted : Option ℕ
   pub origin : Origin
 
@@ -60,8 +60,8 @@ record_at records place = slice_index_or records place no_record
 -- the keep with one record more, under the number that was next
 abbrev pub with_record : KeepMeaning → List ℕ → KeepMeaning
 with_record keep bytes = record keep {
-  records = keep.records ++ record { number = keep.next_number; bytes = bytes } ∷ [];
-  next_number = keep.next_number + 1;
+  records = keep.records ++ record { number = keep.made; bytes = bytes } ∷ [];
+  made = keep.made + 1;
 }
 
 -- the keep without the records after a place, and without those before it
@@ -73,10 +73,10 @@ from keep place = record keep { records = drop place keep.records }
 
 -- the number of the first record, or else the next one
 abbrev pub first_number : List Numbered → ℕ → ℕ
-first_number [] next_number = next_number
-first_number (r ∷ records) next_number = r.number
+first_number [] made = made
+first_number (r ∷ records) made = r.number
 
 -- the numbers rise, and are below the next one
 abbrev pub NumbersRise : List Numbered → ℕ → Type 0
-NumbersRise [] next_number = ⊤
-NumbersRise (r ∷ records) next_number = (r.number < first_number records next_number) × NumbersRise records next_number
+NumbersRise [] made = ⊤
+NumbersRise (r ∷ records) made = (r.number < first_number records made) × NumbersRise records made

@@ -34,14 +34,14 @@ abbrev pub entry_of : Listed → Entry
 entry_of x = x.entry
 
 -- the order, the length of the list and the next number say what the owner's seat knows
-pub record Stands (order : List Entry) (len next_number : ℕ) (me : Knowing) : Type 0 where
+pub record Stands (order : List Entry) (len made : ℕ) (me : Knowing) : Type 0 where
   pub seat : IsOwner me.0
   pub order_is : IsOrder order
   pub list : map entry_of (owner_of me.0).list ≡ take len order
   pub few : len ≤ RECORD_ROOM
-  pub next : (owner_of me.0).next ≡ next_number
-  pub most : next_number ≤ RECORD_NUMBERS
-  pub rise : NumbersRise (map numbered (owner_of me.0).list) next_number
+  pub next : (owner_of me.0).next ≡ made
+  pub most : made ≤ RECORD_NUMBERS
+  pub rise : NumbersRise (map numbered (owner_of me.0).list) made
   pub remembered : (owner_of me.0).remembered ≡ []
 
 -- the number of the first record of an owner's list, or else the next one: all records below it were let go

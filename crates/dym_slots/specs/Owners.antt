@@ -17,7 +17,7 @@ OutIs order (Some place) me = ((owner_of me.0).out ≡ Some (slot_at order place
 abbrev pub owner_meaning : Inside → KeepMeaning
 owner_meaning i = record {
   records = map numbered (owner_of i.seat.me.0).list;
-  next_number = i.next_number;
+  made = i.made;
   lifted = i.lifted;
   origin = shared (name_of i.seat.table_id);
 }
@@ -26,6 +26,6 @@ owner_meaning i = record {
 -- its list
 pub record IsOwned (i : Inside) : Type 0 where
   pub seated : SitsAt i.table.value.shared.table_id i.seat.table_id
-  pub stands : Stands i.order.items i.len i.next_number i.seat.me
+  pub stands : Stands i.order.items i.len i.made i.seat.me
   pub inside : (place : ℕ) → i.lifted ≡ Some place → place < i.len
   pub out : OutIs i.order.items i.lifted i.seat.me

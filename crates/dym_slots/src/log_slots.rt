@@ -23,7 +23,7 @@ impl LogSlots {
         ensures owner { IfOk result (λ ends.
             ends.0 ≡ record {
               records = [];
-              next_number = 0;
+              made = 0;
               lifted = None;
               origin = shared ends.1.table;
             }) }
@@ -51,7 +51,7 @@ impl LogSlots {
             seat,
             order,
             len: 0,
-            next_number: 0,
+            made: 0,
             lifted: None,
         };
         let sweeper = Sweeper {

@@ -14,7 +14,7 @@ pub struct Owner {
     // All slots of the table: those of the list, oldest first, and then the others, in the order in which `put` takes them.
     pub(crate) order: Vec<Entry>,
     pub(crate) len: u32,
-    pub(crate) next_number: u64,
+    pub(crate) made: u64,
     pub(crate) lifted: Option<u32>,
 }
 

@@ -18,7 +18,7 @@ use crate::rule::{LogSeat, Slots};
 use dym_base::limits::LOG_SLOTS;
 use dym_pack::Record;
 
-/// How many of the other slots `put` takes before those that the last `drop_before` let go.
+/// How many of the other slots `put` takes before those that the last `raise` let go.
 const SPARE_SLOTS: u32 = 8;
 
 impl Owner {
@@ -38,22 +38,22 @@ impl Owner {
     }
 
     /// The number that the next record gets. Numbers rise along the list, and all are below it.
-    pub fn next_number(&self) -> u64
-        ensures next_number { result ≡ self.now.next_number }
-        ensures rise { NumbersRise self.now.records self.now.next_number }
+    pub fn made(&self) -> u64
+        ensures made { result ≡ self.now.made }
+        ensures rise { NumbersRise self.now.records self.now.made }
     {
-        self.next_number
+        self.made
     }
 
     /// Appends a record, and answers its number. It looks at two slots at most, and reuses a record's that was let go.
     pub fn put(&mut self, rec: Record) -> u64
         requires room { length self.old.records < RECORD_ROOM }
-        requires next_number { self.old.next_number < COUNT_LIMIT }
+        requires made { self.old.made < COUNT_LIMIT }
         requires idle { self.old.lifted ≡ None }
-        ensures number { result ≡ self.old.next_number }
+        ensures number { result ≡ self.old.made }
         ensures after { self.new ≡ with_record self.old rec }
     {
-        let number = self.next_number;
+        let number = self.made;
         let slot = hold_spare(
             &self.table.shared,
             &mut self.seat,
@@ -64,7 +64,7 @@ impl Owner {
         put_into(&self.table.shared, &mut self.seat, slot, number, rec);
         self.order[self.len as usize].number = number;
         self.len += 1;
-        self.next_number += 1;
+        self.made += 1;
         number
     }
 
@@ -105,7 +105,7 @@ impl Owner {
     }
 
     /// Removes the records before a place, for the sweeper to take back: the number at that place becomes the root.
-    pub fn drop_before(&mut self, place: u32)
+    pub fn raise(&mut self, place: u32)
         requires place { place < length self.old.records }
         requires idle { self.old.lifted ≡ None }
         ensures after { self.new ≡ from self.old place }
@@ -121,7 +121,7 @@ impl Owner {
     pub fn note(&mut self) -> RootNote
         ensures same { self.new ≡ self.old }
         ensures table { self.old.origin ≡ shared result.table }
-        ensures root { result.root ≡ first_number self.old.records self.old.next_number }
+        ensures root { result.root ≡ first_number self.old.records self.old.made }
     {
         let seat = self.table.shared.split_seat::<Notes>(&mut self.seat);
         RootNote { seat }
@@ -134,21 +134,21 @@ fn hold_spare(
     seat: &mut LogSeat,
     order: &mut Vec<Entry>,
     place: u32,
-    next_number: u64,
+    made: u64,
 ) -> u32
     requires table { SitsAt table.now.table_id seat.old.table_id }
-    requires stands { Stands order.old.items place next_number seat.old.me }
+    requires stands { Stands order.old.items place made seat.old.me }
     requires idle { IsIdleOwner seat.old.me }
     requires room { place < RECORD_ROOM }
-    requires number { next_number < RECORD_NUMBERS }
+    requires number { made < RECORD_NUMBERS }
     ensures table { seat.new.table_id ≡ seat.old.table_id }
-    ensures stands { Stands order.new.items place next_number seat.old.me }
+    ensures stands { Stands order.new.items place made seat.old.me }
     ensures slot { result ≡ slot_at order.new.items place }
     ensures seized { Seized result seat.old.me seat.new.me }
 {
     let place = place as usize;
     let (first, second) = (order[place].slot, order[place + 1].slot);
-    if seize_either(table, seat, first, second, next_number) {
+    if seize_either(table, seat, first, second, made) {
         return first;
     }
     order.swap(place, place + 1);
@@ -158,7 +158,7 @@ fn hold_spare(
 /// Removes the newest entries, until so many are left.
 fn drop_down(table: &Slots, seat: &mut LogSeat, order: &Vec<Entry>, len: u32, kept: u32)
     requires table { SitsAt table.now.table_id seat.old.table_id }
-    requires stands { (next_number : ℕ) × Stands order.now.items len next_number seat.old.me }
+    requires stands { (made : ℕ) × Stands order.now.items len made seat.old.me }
     requires idle { IsIdleOwner seat.old.me }
     requires kept { (0 < kept) × (kept ≤ len) }
     ensures table { seat.new.table_id ≡ seat.old.table_id }

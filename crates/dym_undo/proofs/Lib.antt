@@ -13,3 +13,5 @@ mod Pruning
 mod HeldBytes
 mod Frees
 mod Telling
+mod Kept
+mod Pushes

@@ -67,12 +67,14 @@ pub(crate) fn live_is_key<H: UndoHeap>(heap: &H, handle: Handle)
 }
 
 /// Drops the first items.
-pub(crate) fn drop_first<T: Drop>(items: &mut Vec<T>, count: usize)
+pub(crate) fn drop_first<T: Copy>(items: &mut Vec<T>, count: usize)
     requires { count ≤ vec_len items.old }
     ensures items { items.new.items ≡ drop count items.old.items }
     ensures capacity { vec_capacity items.new ≡ vec_capacity items.old }
 {
-    items.drain(..count);
+    let left = items.len() - count;
+    items.copy_within(count.., 0);
+    items.truncate(left);
 }
 
 /// Drops the changes before the oldest log, once they are as many as the others.

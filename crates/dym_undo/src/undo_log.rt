@@ -1,5 +1,5 @@
 //! The undo log.
-ghost use Rattle.std.specs.Prelude.{◌≡◌, ℕ, ◌+◌, ◌-◌, ◌*◌, ◌/◌, ◌<◌, ◌≤◌, ◌++◌, true, None, [], ◌∷◌, List, length, option_map, OnOk, OnErr, IfOk, take, drop, map, vec_len, vec_capacity};
+ghost use Rattle.std.specs.Prelude.{◌≡◌, ℕ, ◌+◌, ◌-◌, ◌*◌, ◌/◌, ◌<◌, ◌≤◌, ◌++◌, true, false, None, Some, [], ◌∷◌, List, length, option_map, OnOk, OnErr, IfOk, take, drop, map, vec_len, vec_capacity};
 ghost use Rattle.std.specs.FinMap.{get, contains_key};
 ghost use Rattle.dym_base.specs.HeapStep.{key};
 ghost use Rattle.dym_base.specs.Heaps.{HeapState};
@@ -9,8 +9,9 @@ ghost use Rattle.dym_base.specs.declared.command.Version.{Version};
 ghost use Rattle.dym_base.specs.declared.reply.Reply.TheVariants as reply;
 ghost use Rattle.dym_base.specs.declared.limits.TheConstants.{MOST_QUOTA};
 ghost use Rattle.dym_undo.specs.Answers.{IsLogAnswer, restored_reply};
+ghost use Rattle.dym_undo.specs.Changes.{is_noted};
 ghost use Rattle.dym_undo.specs.Passes.{TouchesNoMore};
-ghost use Rattle.dym_undo.specs.UndoLogs.{UndoMeaning, Belongs, DiffersAt, IsKept, object_of, log_at, entry_of, unfound};
+ghost use Rattle.dym_undo.specs.UndoLogs.{UndoMeaning, Belongs, DiffersAt, IsKept, since, object_of, log_at, entry_of, unfound};
 
 use crate::entry::Entry;
 use crate::ghost_logs::GhostLogs;
@@ -119,6 +120,49 @@ impl UndoLog {
         let Some(bytes) = heap.chunk(handle) else {
             return;
         };
+        self.push(heap, handle, bytes);
+    }
+
+    /// `keep` for a caller that has looked the chunk up, whose bytes these are. The heap isn't read.
+    pub fn keep_bytes<H: UndoHeap>(&mut self, heap: &H, handle: Handle, bytes: &[u8])
+        requires sound { H.is_sound heap.now }
+        requires belongs { Belongs (H.version_of heap.now) (H.quota_of heap.now)
+            (H.state heap.now) self.old }
+        requires live { get (H.state heap.now).live (key handle) ≡ Some bytes.now }
+        ensures logs { self.new.logs ≡ self.old.logs }
+        ensures belongs { Belongs (H.version_of heap.now) (H.quota_of heap.now)
+            (H.state heap.now) self.new }
+        ensures kept { (t : HeapState) → DiffersAt (key handle) (H.state heap.now) t
+            → Belongs (H.version_of heap.now) (H.quota_of heap.now) t self.new }
+        ensures noted { IsKept self.new (key handle) }
+        ensures before { (k : ℕ) → IsKept self.old k → IsKept self.new k }
+    {
+        if self.entries.is_empty() {
+            return;
+        }
+        live_is_key(heap, handle);
+        if is_stamped(&self.words, handle) {
+            return;
+        }
+        self.push(heap, handle, bytes);
+    }
+
+    /// Keeps what a live chunk is that isn't among the changes since the newest log, and whose bytes these are.
+    fn push<H: UndoHeap>(&mut self, heap: &H, handle: Handle, bytes: &[u8])
+        requires sound { H.is_sound heap.now }
+        requires belongs { Belongs (H.version_of heap.now) (H.quota_of heap.now)
+            (H.state heap.now) self.old }
+        requires live { get (H.state heap.now).live (key handle) ≡ Some bytes.now }
+        requires logged { 0 < length self.old.places }
+        requires new { is_noted (key handle) (since self.old.places self.old.changes) ≡ false }
+        ensures logs { self.new.logs ≡ self.old.logs }
+        ensures belongs { Belongs (H.version_of heap.now) (H.quota_of heap.now)
+            (H.state heap.now) self.new }
+        ensures kept { (t : HeapState) → DiffersAt (key handle) (H.state heap.now) t
+            → Belongs (H.version_of heap.now) (H.quota_of heap.now) t self.new }
+        ensures noted { IsKept self.new (key handle) }
+        ensures before { (k : ℕ) → IsKept self.old k → IsKept self.new k }
+    {
         live_is_key(heap, handle);
         push_live(&mut self.heads, &mut self.bytes, handle, bytes);
         stamp(&mut self.words, handle);
@@ -335,7 +379,7 @@ impl UndoLog {
         Ok(())
     }
 
-    /// The same logs, but for what each found touched, which clauses alone know: here it is told anew.
+    /// Tells anew what each log found touched, which clauses alone know. All else of the logs stays.
     pub fn tell_found(&mut self)
         ghost told: { List LogEntry }
         requires alike { map unfound told ≡ map unfound self.old.logs }

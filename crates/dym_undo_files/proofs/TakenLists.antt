@@ -117,20 +117,20 @@ module _ (b n n1 : HeapMeaning) (c : ChainMeaning) (logs : List LogEntry) (taken
           taken = lists ∙ ap (λ (l : List LogEntry). l ++ again l e ∷ []) taken.taken ∙ sym (taken_push logs e);
           base = ap (λ (x : ChainMeaning). x.base_logs) put ∙ taken.base;
           idle = ap (λ (x : ChainMeaning). x.lifted) put ∙ taken.idle;
-          count = omega (arith, ap (λ (x : ChainMeaning). x.next_number) put, taken.count, length-append logs (e ∷ []));
+          count = omega (arith, ap (λ (x : ChainMeaning). x.made) put, taken.count, length-append logs (e ∷ []));
           belongs = subst (λ (v : Version). Belongs v b.quota n2.state d) version (subst (λ q. Belongs n2.version q n2.state d) quota belongs);
         }
 
 -- before the first one
 pub taken_none : (v : Version) (quota : ℕ) (h : HeapMeaning) (c : ChainMeaning) → IsHeapOf v quota h → h.state ≡ empty_heap
-    → c ≡ record { base_logs = []; logs = []; records = []; next_number = 0; lifted = None; origin = own } → AreTaken v quota [] h c
+    → c ≡ record { base_logs = []; logs = []; records = []; made = 0; lifted = None; origin = own } → AreTaken v quota [] h c
 taken_none v quota h c of empty is = record {
   heap = of;
   live = ap (λ (s : HeapState). s.live) empty ∙ sym (ap (λ (x : ChainMeaning). live_in (newest x.logs)) is);
   taken = ap (λ (x : ChainMeaning). x.logs) is;
   base = ap (λ (x : ChainMeaning). x.base_logs) is;
   idle = ap (λ (x : ChainMeaning). x.lifted) is;
-  count = omega (arith, ap (λ (x : ChainMeaning). x.next_number) is);
+  count = omega (arith, ap (λ (x : ChainMeaning). x.made) is);
   belongs = subst (Belongs v quota h.state) (sym is) (record { records = refl; untouched = tt; keeps = tt; within = tt });
 }
 

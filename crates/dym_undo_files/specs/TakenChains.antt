@@ -19,5 +19,5 @@ pub record AreTaken (v : Version) (quota : ℕ) (logs : List LogEntry) (h : Heap
   pub taken : c.logs ≡ taken_again logs
   pub base : c.base_logs ≡ []
   pub idle : c.lifted ≡ None
-  pub count : c.next_number ≤ length logs
+  pub count : c.made ≤ length logs
   pub belongs : Belongs v quota h.state c

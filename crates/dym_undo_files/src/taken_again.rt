@@ -67,7 +67,7 @@ fn take_again<S: Supply>(
       base_logs = [];
       logs = [];
       records = [];
-      next_number = 0;
+      made = 0;
       lifted = None;
       origin = own;
     } }

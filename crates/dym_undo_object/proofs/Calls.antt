@@ -1,18 +1,23 @@
 -- What a call to the heap of an object leaves of the object, over the object's parts.
-use Rattle.std.proofs.Common.{◌≡◌, ℕ, ◌+◌, Result, Ok, Err, OnErr, List, refl, sym, ap, subst, ◌∙◌}
-use Rattle.dym_base.specs.HeapStep.{IsHeapCommand}
+use Rattle.std.proofs.Common.{◌≡◌, ℕ, ◌+◌, ◌<◌, true, Result, Ok, Err, OnErr, IsSome, Some, List, length, refl, sym, ap, subst, ◌∙◌}
+use Rattle.std.specs.FinMap.{get}
+use Rattle.std.specs.FinSet.{contains}
+use Rattle.dym_base.specs.HeapStep.{HeapAnswer, IsHeapCommand, key}
 use Rattle.dym_base.specs.Objects.{LogEntry}
 use Rattle.dym_base.specs.declared.command.Command.{Command}
 use Rattle.dym_base.specs.declared.reply.Refusal.{Refusal}
 use Rattle.dym_base.specs.declared.reply.Reply.{Reply}
+use Rattle.dym_base.specs.declared.reply.Reply.TheVariants.{Done}
 use Rattle.dym_heap.specs.Meaning.{HeapMeaning, IsSound}
 use Rattle.dym_heap.specs.Replies.{step_of, stepped}
+use Rattle.dym_heap.specs.Touches.{with_touch}
 use Rattle.dym_undo.specs.UndoLogs.{UndoMeaning, Belongs}
 use Rattle.dym_undo_object.specs.Meaning.{UndoObjectMeaning, IsStep, IsWhole, counted, step_by}
 use Rattle.dym_base.specs.declared.handle.Handle.{Handle}
 use Rattle.dym_heap.specs.ChunkLends.{heap_lent}
-use Rattle.dym_undo_object.specs.ChunkLends.{object_lent, write_all}
-use Rattle.dym_undo_object.proofs.Steps.{object_is, reply_is, rest_stays, same_ids}
+use Rattle.dym_undo_object.specs.ChunkLends.{object_lent, write_all, write_of_all}
+use Rattle.dym_undo_object.proofs.OneTouched.{first_touched, touched_stays}
+use Rattle.dym_undo_object.proofs.Steps.{object_is, reply_is, rest_stays, same_ids, unchanged_by}
 use Rattle.dym_undo_object.proofs.Wholes.{heap_whole}
 
 -- a refusal
@@ -63,6 +68,36 @@ module _ (heap : HeapMeaning) (logs : List LogEntry) (ran : ℕ) (old : UndoObje
   pub looked : {T : Type 0} → (answer : Result T Refusal) (said : Reply) (c : Command) → IsHeapCommand c → heap ≡ record (stepped heap c) { held_ids = heap.held_ids }
       → said ≡ (step_of heap c).reply → IsCalled answer said old (record { heap = heap; logs = logs; ran = ran + 1 }) c
   looked answer said c is stays reply = called answer said heap logs c is stays whole.sound reply (unchanged_here answer heap) refl
+
+-- a touch of a chunk that is touched
+pub touched_here : {T : Type 0} (answer : Result T Refusal) (heap : HeapMeaning) (logs : List LogEntry) (ran : ℕ)
+    (old : UndoObjectMeaning) → record { heap = heap; logs = logs; ran = ran } ≡ old
+    → IsWhole (record { heap = heap; logs = logs; ran = ran }) → (h : Handle) → IsSome (get heap.state.live (key h))
+    → contains heap.state.touched (key h) ≡ true
+    → IsCalled answer Done old (record { heap = heap; logs = logs; ran = ran + 1 }) (write_of_all old h)
+touched_here answer heap logs ran old view whole h some has =
+    let parts : UndoObjectMeaning = record { heap = heap; logs = logs; ran = ran } in
+    let stays = touched_stays heap.state h some has in
+    subst (λ (o : UndoObjectMeaning).
+    IsCalled answer Done o (record { heap = heap; logs = logs; ran = ran + 1 }) (write_of_all o h)) view
+    (looked heap logs ran parts refl whole answer Done (write_of_all parts h) tt
+    (unchanged_by heap (write_of_all parts h) (ap (λ (a : HeapAnswer). a.heap) stays))
+    (sym (ap (λ (a : HeapAnswer). a.reply) stays)))
+
+-- a touch of a live chunk that has a byte
+pub first_here : {T : Type 0} (answer : Result T Refusal) (heap new : HeapMeaning) (logs new_logs : List LogEntry) (ran : ℕ)
+    (old : UndoObjectMeaning) → record { heap = heap; logs = logs; ran = ran } ≡ old
+    → IsWhole (record { heap = heap; logs = logs; ran = ran }) → (h : Handle) (bytes : List ℕ) → 0 < length bytes → get heap.state.live (key h) ≡ Some bytes
+    → new ≡ record heap { state = with_touch heap.state (key h) } → IsSound new → OnErr answer (new ≡ heap) → new_logs ≡ logs
+    → IsCalled answer Done old (record { heap = new; logs = new_logs; ran = ran + 1 }) (write_of_all old h)
+first_here answer heap new logs new_logs ran old view whole h bytes some is after sound kept same =
+    let parts : UndoObjectMeaning = record { heap = heap; logs = logs; ran = ran } in
+    let step = first_touched heap.state h bytes some is in
+    subst (λ (o : UndoObjectMeaning).
+    IsCalled answer Done o (record { heap = new; logs = new_logs; ran = ran + 1 }) (write_of_all o h)) view
+    (called_in_place heap logs ran parts refl whole answer Done new new_logs (write_of_all parts h) tt
+    (after ∙ sym (ap (λ (a : HeapAnswer). record heap { state = a.heap }) step)) sound
+    (sym (ap (λ (a : HeapAnswer). a.reply) step)) kept same)
 
 -- the log that belongs to the step's chunks belongs to the heap
 pub belongs_new : (heap new : HeapMeaning) (c : Command) (u : UndoMeaning) → new ≡ record (stepped heap c) { held_ids = new.held_ids } → Belongs heap.version heap.quota

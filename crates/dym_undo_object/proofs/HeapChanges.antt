@@ -19,6 +19,7 @@ use Rattle.dym_base.specs.declared.reply.Refusal.TheVariants.{TooLarge, Quota, R
 use Rattle.dym_base.proofs.Maps.{get_insert, get_remove}
 use Rattle.dym_base.proofs.Heaps.{fresh_free}
 use Rattle.dym_heap.specs.Replies.{chunk_reply}
+use Rattle.dym_heap.specs.Touches.{with_touch}
 use Rattle.dym_undo.specs.UndoLogs.{UndoMeaning, Belongs, DiffersAt}
 use Rattle.dym_undo_object.specs.Keeps.{Differs, IsLiveIn, IsDeadIn}
 
@@ -44,6 +45,9 @@ with_differs s k bytes = record {
   live = λ q apart. get_insert s.live k bytes q ∙ ap (λ b. cond b (Some bytes) (get s.live q)) apart;
   touched = λ q apart has. sym (contains_insert s.touched k q apart) ∙ has;
 }
+
+pub touch_differs : (s : HeapState) (k : ℕ) → DiffersAt k s (with_touch s k)
+touch_differs s k = record { live = λ q apart. refl; touched = λ q apart has. sym (contains_insert s.touched k q apart) ∙ has }
 
 pub without_differs : (s : HeapState) (k : ℕ) → DiffersAt k s (without_chunk s k)
 without_differs s k = record {

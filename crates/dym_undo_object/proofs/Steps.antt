@@ -64,7 +64,7 @@ sum_keeps : (s : HeapState) (o : Option (List ℕ)) → (sum_of s o).heap ≡ s
 sum_keeps s None = refl
 sum_keeps s (Some bytes) = refl
 
-unchanged_by : (h : HeapMeaning) (c : Command) → (heap_step h.version h.quota h.state c).heap ≡ h.state → h ≡ record (stepped h c) { held_ids = h.held_ids }
+pub unchanged_by : (h : HeapMeaning) (c : Command) → (heap_step h.version h.quota h.state c).heap ≡ h.state → h ≡ record (stepped h c) { held_ids = h.held_ids }
 unchanged_by h c keeps = sym (ap (λ (s : HeapState). record h { state = s }) keeps)
 
 pub read_stays : (h : HeapMeaning) (k : Handle) (at n : ℕ) → h ≡ record (stepped h (Read k at n)) { held_ids = h.held_ids }

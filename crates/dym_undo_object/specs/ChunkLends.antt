@@ -21,7 +21,7 @@ abbrev pub object_lent : UndoObjectMeaning → Handle → List ℕ → UndoObjec
 object_lent o h ws = record o { heap = heap_lent o.heap h ws; ran = o.ran + 1 }
 
 -- all bytes that stand in a chunk: where it isn't live, none
-abbrev all_of : Option (List ℕ) → List ℕ
+abbrev pub all_of : Option (List ℕ) → List ℕ
 all_of None = []
 all_of (Some bytes) = bytes
 

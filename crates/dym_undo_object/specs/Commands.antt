@@ -9,7 +9,7 @@ use Rattle.dym_base.specs.declared.reply.Reply.TheVariants as reply
 use Rattle.dym_undo.specs.declared.log_error.LogError.{LogError}
 use Rattle.dym_undo.specs.declared.log_error.LogError.TheVariants.{Refused, Memory}
 
--- the command that logs, for the kind that is wanted
+-- the command that takes a log of this kind
 abbrev pub log_command : Kind → ℕ → Command
 log_command Full t = Log t
 log_command Inc t = Ilog t

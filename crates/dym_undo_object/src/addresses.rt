@@ -6,7 +6,7 @@ ghost use denote.RawPtr.{block_ptr};
 ghost use Rattle.dym_base.specs.HeapStep.{key, handle_of};
 ghost use Rattle.dym_base.specs.declared.limits.TheConstants.{COUNT_LIMIT, LEAST_EXPONENT, GREATEST_EXPONENT};
 ghost use Rattle.dym_heap.specs.Addresses.{region_of, HasByteAt};
-ghost use Rattle.dym_heap.specs.ChunkLends.{HasByte, check_answer};
+ghost use Rattle.dym_heap.specs.ChunkLends.{check_answer};
 ghost use Rattle.dym_heap.specs.Touches.{touched_in};
 ghost use Rattle.dym_undo_object.specs.Addresses.{address_of};
 ghost use Rattle.dym_undo_object.specs.ChunkLends.{place_reply, write_of_all};
@@ -25,11 +25,7 @@ impl UndoObject<FixedSupply> {
             IsSome (get self.now.heap.state.live (key h))
             × (address_of self.now.heap h ≡ Some at)) }
     {
-        if !self.heap.is_live(h) {
-            return None;
-        }
-        self.has_region();
-        Some(self.heap.address(h))
+        self.heap.address(h)
     }
 
     /// Where a chunk lies, to be changed there: it is kept, and counts as touched. It is a command: the one that writes all bytes of the
@@ -43,28 +39,37 @@ impl UndoObject<FixedSupply> {
         ensures refused { OnErr result (self.new ≡ counted self.old) }
         ensures whole { IsWhole self.new }
     {
-        match self.check(h) {
-            Ok(()) => {
-                let place = self.lies_at(h);
-                self.chunk_mut(h);
+        match self.heap.touched_address(h) {
+            Some(place) => {
+                self.ran += 1;
                 Ok(place)
             }
-            Err(_) => self.touch_none(h),
+            None => self.touch_first(h),
         }
     }
 
-    /// Where a live chunk lies.
-    fn lies_at(&self, h: Handle) -> *const u8
-        requires least { LEAST_EXPONENT ≤ h.exp }
-        requires most { h.exp ≤ GREATEST_EXPONENT }
-        requires some { HasByte self.now.heap h }
-        ensures { address_of self.now.heap h ≡ Some result }
+    /// The `touch` of a chunk that isn't touched: it is kept first.
+    #[inline(never)]
+    fn touch_first(&mut self, h: Handle) -> Result<*const u8, Refusal>
+        requires { self.old.ran < COUNT_LIMIT }
+        ensures reply { place_reply result ≡ (step_by self.old (write_of_all self.old h)).reply }
+        ensures place { IfOk result (λ at. address_of self.old.heap h ≡ Some at) }
+        ensures step { IsStep self.old self.new (write_of_all self.old h) }
+        ensures refused { OnErr result (self.new ≡ counted self.old) }
+        ensures whole { IsWhole self.new }
     {
-        self.has_region();
-        self.heap.address(h)
+        let Some(bytes) = self.heap.bytes(h) else {
+            return self.touch_none(h);
+        };
+        if bytes.is_empty() {
+            return self.touch_none(h);
+        }
+        self.undo.keep_bytes(&self.heap, h, bytes);
+        self.ran += 1;
+        Ok(self.heap.touch(h))
     }
 
-    /// The same where the chunk has no byte, or isn't live.
+    /// The `touch` of a chunk that has no byte or isn't live: nothing is kept.
     fn touch_none(&mut self, h: Handle) -> Result<*const u8, Refusal>
         requires ran { self.old.ran < COUNT_LIMIT }
         requires none { IsErr (check_answer (get self.old.heap.state.live (key h))) }
@@ -80,13 +85,6 @@ impl UndoObject<FixedSupply> {
             Some(at) => Ok(at),
             None => unreachable!(),
         }
-    }
-
-    /// A law: the segments come from one region.
-    fn has_region(&self)
-        ensures { IsSome (region_of self.now.heap.origin) }
-    {
-        self.heap.start();
     }
 
     /// The live chunk that has the byte at `offset` of the region, and None where none has it. It takes constant time.
@@ -123,7 +121,7 @@ impl UndoObject<FixedSupply> {
         match only_chunk(&self.heap, offset, end) {
             Some(h) => {
                 self.undo.keep(&self.heap, h);
-                self.heap.live_mut(h);
+                self.heap.touch(h);
             }
             None => {
                 keep_in(&mut self.undo, &self.heap, offset, end);

@@ -101,7 +101,7 @@ impl KnownHistory {
         }
     }
 
-    /// The same beginning once more. An `AllocError` comes where the last commit can't be shared.
+    /// This beginning, as a value of its own. An `AllocError` comes where the last commit can't be shared.
     pub(crate) fn again(&self) -> Result<KnownHistory, AllocError>
         ensures { IfOk result (λ known. known ≡ self.now) }
     {
@@ -112,7 +112,7 @@ impl KnownHistory {
         Ok(self.sharing(last))
     }
 
-    /// The same beginning, with a last commit that is shared already.
+    /// This beginning, as a value of its own, made with its last commit, which was shared before.
     pub(crate) fn sharing(&self, last: Option<Shared>) -> KnownHistory
         requires { option_map arc_value last ≡ last_commit self.now.commits }
         ensures { result ≡ self.now }
@@ -124,7 +124,7 @@ impl KnownHistory {
         }
     }
 
-    /// Of two beginnings of one history the shorter begins the longer.
+    /// Where another beginning of the same history is no shorter, this one is its front.
     fn begins(&self, other: &KnownHistory)
         requires history { other.now.history ≡ self.now.history }
         requires shorter { length self.now.commits ≤ length other.now.commits }
@@ -134,7 +134,8 @@ impl KnownHistory {
         both.learn(&other.reached);
     }
 
-    /// Another beginning of the same history, where it is longer. An `AllocError` comes where it is and its last commit can't be shared.
+    /// A second value of another beginning of the same history, where that is longer than this one, and else None. An
+    /// `AllocError` comes where that is longer and its last commit can't be shared.
     pub(crate) fn longer(&self, other: &KnownHistory) -> Result<Option<KnownHistory>, AllocError>
         requires { other.now.history ≡ self.now.history }
         ensures { IfOk result (λ longer. MatchOption longer
@@ -149,7 +150,7 @@ impl KnownHistory {
         Ok(Some(other.again()?))
     }
 
-    /// Becomes the longer one of itself and another beginning of the same history, which the other one begins.
+    /// Becomes another beginning of the same history where that is longer, and else stays as it is.
     pub(crate) fn learn(&mut self, other: KnownHistory)
         requires { other.history ≡ self.old.history }
         ensures history { self.new.history ≡ self.old.history }

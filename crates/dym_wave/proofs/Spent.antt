@@ -10,5 +10,5 @@ only_last (x ∷ z ∷ xs) y one = absurd (omega (arith, one))
 
 pub in_place_of_spent : (owner : KeepMeaning) (rec : List ℕ) → length owner.records ≡ 1 → from (with_record owner rec) 1 ≡ with_record (kept_of true owner) rec
 in_place_of_spent owner rec one =
-    ap (λ (records : List Numbered). record { records = records; next_number = owner.next_number + 1; lifted = owner.lifted; origin = owner.origin })
-    (only_last owner.records (record { number = owner.next_number; bytes = rec }) one)
+    ap (λ (records : List Numbered). record { records = records; made = owner.made + 1; lifted = owner.lifted; origin = owner.origin })
+    (only_last owner.records (record { number = owner.made; bytes = rec }) one)

@@ -30,7 +30,7 @@ pub record WorkMeaning : Type 0 where
   pub object : ObjectMeaning
   pub out_of_memory : Bool
 
--- what stands where a value of the type is wanted that is never made
+-- what a value of the type means, though none is ever made
 abbrev pub no_origin : OriginMeaning
 no_origin = record { number = 0; quota = 0; version = One; commands = []; supply = own; keep = own }
 

@@ -71,14 +71,14 @@ impl LogKeep for TableKeep {
         self.owner.number_at(place)
     }
 
-    fn next_number(&self) -> u64 {
-        self.owner.next_number()
+    fn made(&self) -> u64 {
+        self.owner.made()
     }
 
     fn put(&mut self, rec: Record) -> u64 {
         let number = self.owner.put(rec);
         if self.spent {
-            self.owner.drop_before(1);
+            self.owner.raise(1);
             self.spent = false;
         }
         number
@@ -96,7 +96,7 @@ impl LogKeep for TableKeep {
         self.owner.drop_after(place);
     }
 
-    fn drop_before(&mut self, place: u32) {
-        self.owner.drop_before(place);
+    fn raise(&mut self, place: u32) {
+        self.owner.raise(place);
     }
 }

@@ -2,7 +2,7 @@
 use Rattle.std.specs.Prelude.{ℕ, ◌<◌, ◌≤◌, List, IfOk, ⊤}
 use Rattle.dym_base.specs.declared.limits.TheConstants.{MOST_OBJECTS, MOST_MADE_COMMANDS, MOST_WORKERS, MOST_SEGMENTS, MOST_QUANTUM}
 use Rattle.dym_words.specs.declared.order.Input.{Input}
-use Rattle.dym_words.specs.declared.order.Input.TheVariants.{Script, GenNumbers}
+use Rattle.dym_words.specs.declared.order.Input.TheVariants.{Script, Made}
 use Rattle.dym_words.specs.declared.order.Order.{Order}
 use Rattle.dym_words.specs.declared.order.Order.TheVariants.{Plain, Run, Check, Gen, Trace, Save, Load, Views, Late}
 use Rattle.dym_words.specs.Orders.{order}
@@ -15,7 +15,7 @@ pub record CanBeMade (objects commands : ℕ) : Type 0 where
 
 abbrev pub IsInputWithin : Input → Type 0
 IsInputWithin Script = ⊤
-IsInputWithin (GenNumbers seed objects commands) = CanBeMade objects commands
+IsInputWithin (Made seed objects commands) = CanBeMade objects commands
 
 -- so many workers, segments and commands of a turn may be asked for
 pub record CanRun (workers segments quantum : ℕ) : Type 0 where

@@ -31,7 +31,7 @@ alone order (w ∷ ws) = None
 -- the input by the values of the option `--gen`: a made script, or what is read where the option isn't given
 abbrev pub input_or : Option (List (List ℕ)) → Option Input
 input_or None = Some input.Script
-input_or (Some ws) = option_map (λ m. input.GenNumbers m.seed m.objects m.commands) (made_of ws)
+input_or (Some ws) = option_map (λ m. input.Made m.seed m.objects m.commands) (made_of ws)
 
 abbrev pub input_of : List (List ℕ) → Option Input
 input_of ws = input_or (values_of (codes "--gen") ws)

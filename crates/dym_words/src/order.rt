@@ -9,7 +9,7 @@ pub enum Input {
     /// What is read.
     Script,
     /// The script that the generator makes of these numbers.
-    GenNumbers {
+    Made {
         seed: u64,
         objects: u32,
         commands: u32,

@@ -98,7 +98,7 @@ fn read_input(rest: &[String]) -> Option<Input>
         None => Some(Input::Script),
         Some(words) => {
             let made = GenNumbers::of_words(words)?;
-            Some(Input::GenNumbers {
+            Some(Input::Made {
                 seed: made.seed,
                 objects: made.objects,
                 commands: made.commands,
@@ -161,7 +161,7 @@ mod tests {
             matches!(
                 plain,
                 Some(Order::Plain {
-                    input: Input::GenNumbers {
+                    input: Input::Made {
                         seed: 7,
                         objects: 3,
                         commands: 40

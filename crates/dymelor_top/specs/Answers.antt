@@ -15,7 +15,7 @@ use Rattle.dym_trace.specs.declared.answer.TraceAnswer.TheVariants.{Good, Bad}
 use Rattle.dym_trace.specs.Verdict.{IsVerdict}
 use Rattle.dym_gen.specs.Scripts.{generated}
 use Rattle.dym_words.specs.declared.order.Input.{Input}
-use Rattle.dym_words.specs.declared.order.Input.TheVariants.{Script, GenNumbers}
+use Rattle.dym_words.specs.declared.order.Input.TheVariants.{Script, Made}
 use Rattle.dym_words.specs.declared.order.Order.{Order}
 use Rattle.dym_words.specs.declared.order.Order.TheVariants.{Plain, Run, Check, Gen, Trace, Save, Load, Views, Late}
 use Rattle.dym_words.specs.declared.order.Usage.{Usage}
@@ -127,13 +127,13 @@ IsOrderAnswer Late bytes answer = answer ≡ of_script (λ said. text_answer (la
 abbrev pub input_of : Order → Input
 input_of (Plain input summary) = input
 input_of (Run workers segments quantum input summary) = input
-input_of (Gen seed objects commands) = GenNumbers seed objects commands
+input_of (Gen seed objects commands) = Made seed objects commands
 input_of order = Script
 
 -- the bytes of an input: those that are read, or the script that the generator makes
 abbrev pub input_bytes : Input → List ℕ → List ℕ
 input_bytes Script bytes = bytes
-input_bytes (GenNumbers seed objects commands) bytes = generated seed objects commands
+input_bytes (Made seed objects commands) bytes = generated seed objects commands
 
 -- the answer to an order, or to words of none, for the bytes that are read
 abbrev pub IsAnswer : Result Order Usage → List ℕ → Answer → Type 0
@@ -142,7 +142,7 @@ IsAnswer (Err usage) bytes answer = answer ≡ usage_answer
 
 abbrev pub is_read : Input → Bool
 is_read Script = true
-is_read (GenNumbers seed objects commands) = false
+is_read (Made seed objects commands) = false
 
 -- whether a call that has this order reads its source
 abbrev pub reads : Result Order Usage → Bool

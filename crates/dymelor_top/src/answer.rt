@@ -87,7 +87,7 @@ fn answer_plain<R: Source, W: Sink>(
 {
     match input {
         Input::Script => answer_script(alloc, summary, source, sink),
-        Input::GenNumbers {
+        Input::Made {
             seed,
             objects,
             commands,

@@ -67,7 +67,7 @@ pub fn answer_in_waves<R: Threads + Wait + Send + Sync, S: Source, W: Sink, G: G
 {
     match input {
         Input::Script => answer_waves(rt, alloc, waves, source, sink, gate),
-        Input::GenNumbers {
+        Input::Made {
             seed,
             objects,
             commands,

@@ -39,7 +39,7 @@ pub fn soak(alloc: Global, owner: &mut Owner, seed: u64, calls: u64) -> Result<S
     soaked
 }
 
-/// The same, with records of a heap.
+/// Makes so many random calls, with records of a heap.
 fn soak_over(
     alloc: Global,
     heap: &Heap<OwnSupply>,
@@ -88,8 +88,8 @@ fn make_call(
             Ok(true)
         }
         _ => {
-            owner.drop_before(place);
-            rows.drop_before(place);
+            owner.raise(place);
+            rows.raise(place);
             Ok(true)
         }
     }
@@ -107,7 +107,7 @@ fn put(
     requires idle { owner.old.lifted ≡ None }
     ensures idle { IfOk result (λ _. owner.new.lifted ≡ None) }
 {
-    if owner.len() >= RECORD_ROOM || owner.next_number() >= MOST_MADE {
+    if owner.len() >= RECORD_ROOM || owner.made() >= MOST_MADE {
         return Ok(true);
     }
     heaps_are_packable();
@@ -131,7 +131,7 @@ fn look(owner: &mut Owner, rows: &Rows, place: u32) -> bool
 /// Whether both have as many records, made as many, and have the same number at a random place.
 fn is_same(owner: &Owner, rows: &Rows, random: &mut Random) -> bool {
     let len = owner.len();
-    if rows.len() != len as usize || rows.next_number() != owner.next_number() {
+    if rows.len() != len as usize || rows.made() != owner.made() {
         return false;
     }
     if len == 0 {

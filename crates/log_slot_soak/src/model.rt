@@ -12,7 +12,7 @@ struct Row {
 #[derive(Drop)]
 pub struct Rows {
     rows: Vec<Row>,
-    next_number: u64,
+    made: u64,
 }
 
 impl Rows {
@@ -20,7 +20,7 @@ impl Rows {
     pub fn new(alloc: Global) -> Rows {
         Rows {
             rows: Vec::new(alloc),
-            next_number: 0,
+            made: 0,
         }
     }
 
@@ -30,8 +30,8 @@ impl Rows {
     }
 
     /// The number that the next record gets.
-    pub fn next_number(&self) -> u64 {
-        self.next_number
+    pub fn made(&self) -> u64 {
+        self.made
     }
 
     /// The number of the record at a place.
@@ -48,9 +48,9 @@ impl Rows {
 
     /// Appends a record of a time, and answers its number.
     pub fn put(&mut self, time: u64) -> Result<u64, AllocError> {
-        let number = self.next_number;
+        let number = self.made;
         self.rows.push(Row { number, time })?;
-        self.next_number = number.saturating_add(1);
+        self.made = number.saturating_add(1);
         Ok(number)
     }
 
@@ -60,7 +60,7 @@ impl Rows {
     }
 
     /// Removes the records before a place.
-    pub fn drop_before(&mut self, place: u32) {
+    pub fn raise(&mut self, place: u32) {
         let count = self.rows.len().min(place as usize);
         self.rows.drain(..count);
     }

@@ -1,11 +1,11 @@
 -- What the program tells of a run.
-use Rattle.std.specs.Prelude.{⊤, ◌≡◌, ℕ, List, [], ◌∷◌}
+use Rattle.std.specs.Prelude.{◌≡◌, ℕ, List, [], ◌∷◌}
 use Rattle.warp_base.specs.Histories.{Behaviour}
 use Rattle.warp_models.specs.Checksums.{checksum_of, station_sum, phold_sum, cell_sum}
 use Rattle.warp_models.specs.Queues.{ring}
 use Rattle.warp_models.specs.Phold.{phold}
 use Rattle.warp_models.specs.Cells.{cells}
-use Rattle.warp_run.specs.Ends.{IsEnd, FaultsAt, FaultsFirstAt, IsTooLong}
+use Rattle.warp_run.specs.Ends.{IsEnd, FaultsAt, FaultsFirstAt, IsTooLong, IsHalfTooLong}
 use Rattle.warp_run.specs.Failures.{MatchFailure}
 use Rattle.warp_run.specs.declared.finished.Failure.{Failure}
 use Rattle.timewarp.specs.declared.words.Choice.{Choice}
@@ -25,10 +25,11 @@ Tells (Phold m) = TellsEnd (λ n. n ∷ []) (phold m.options) m.options.processe
 Tells (Cells m) = TellsEnd (λ n. n ∷ []) (cells m.options) m.options.cells cell_sum
 Tells (Queues m) = TellsEnd (λ _. []) (ring m.options) m.options.stations station_sum
 
--- why there is no end to tell. In order a fault is the first one that the run meets; by workers it is one that the run in order meets
+-- why there is no end to tell. In order a fault is the first one that the run meets, and events are too many where 64 bits don't count them; by
+-- workers a fault is one that the run in order meets, and where events are too many that run has half as many
 abbrev pub FailsAs : {P S : Type 0} → Way → (P → List ℕ) → Behaviour P S → ℕ → ℕ → Failure → Type 0
 FailsAs InOrder words b n end = MatchFailure (FaultsFirstAt words b n end) (IsTooLong words b n end)
-FailsAs (Ahead workers window period) words b n end = MatchFailure (FaultsAt words b n end) ⊤
+FailsAs (Ahead workers window period) words b n end = MatchFailure (FaultsAt words b n end) (IsHalfTooLong words b n end)
 
 abbrev pub Fails : Choice → Way → ℕ → Failure → Type 0
 Fails (Phold m) way = FailsAs way (λ n. n ∷ []) (phold m.options) m.options.processes

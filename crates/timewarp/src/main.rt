@@ -10,17 +10,22 @@ mod report;
 mod share;
 #[cfg(test)]
 mod tests;
+mod trace;
+mod watch;
 mod words;
 
 use crate::report::simulate;
 use crate::share::Share;
-use crate::words::read_words;
+use crate::watch::open_watch;
+use crate::words::{Order, read_words};
 use std::env;
 use std::io::{self, ErrorKind};
 use std::process::ExitCode;
 use std::rt::Env;
-use std::time::Instant;
-use warp_run::Failure;
+use std::sync::Wait;
+use std::thread::Threads;
+use std::time::{Clock, Instant};
+use warp_run::{Failure, Observer};
 
 /// The status where the words are bad.
 const WORDS: u8 = 1;
@@ -30,6 +35,9 @@ const FAULT: u8 = 2;
 
 /// The status where more events are run than 64 bits count.
 const TOO_MANY: u8 = 3;
+
+/// The status where the trace can't be written, as output in `dymelor`.
+const TRACE: u8 = 4;
 
 /// The status where there is no memory, as in `dymelor`.
 const MEMORY: u8 = 5;
@@ -43,8 +51,8 @@ those of a run in order, one event after the other.
 
 ahead   by workers, which run ahead of what is certain: [--workers N], else as many
         as processors; [--window TICKS ahead], else chosen as they run; [--log-every
-        EVENTS a copy of a state]; [--progress], a line each second;
-        or --in-order, with none of these
+        EVENTS a copy of a state]; [--progress], a line each second; [--trace FILE],
+        which examples/warp/draw draws; or --in-order, with none of these
 phold   J jobs of each process hop among all: [--jobs J] [--remote R of 1000 hops]
         [--lookahead L] [--mean M of what is random of a delay] [--work TURNS]
         [--state BYTES] [--changed BYTES of it by each event]
@@ -65,8 +73,26 @@ fn main(rt: HostRuntime) -> io::Result<ExitCode> {
         eprintln!(rt; "{}", USAGE)?;
         return Ok(ExitCode::from(WORDS));
     };
-    let start = Instant::now(&rt)?;
-    let status = match simulate(&rt, rt.alloc(), &order) {
+    let mut watch = match open_watch(&rt, &order) {
+        Ok(watch) => watch,
+        Err(error) => return Ok(ExitCode::from(tell_no_trace(&rt, &error)?)),
+    };
+    let status = run(&rt, &order, &mut watch)?;
+    let closed = match watch.close() {
+        Ok(()) => 0,
+        Err(error) => tell_no_trace(&rt, &error)?,
+    };
+    Ok(ExitCode::from(if status == 0 { closed } else { status }))
+}
+
+/// Simulates what the words ask for, and tells what it comes to. The result is the program's status.
+fn run<R, O>(rt: &R, order: &Order<'_>, observer: O) -> io::Result<u8>
+where
+    R: Threads + Wait + Sync + Clock + Print + Eprint + AllocGlobal,
+    O: Observer,
+{
+    let start = Instant::now(rt)?;
+    let status = match simulate(rt, rt.alloc(), order, observer) {
         Ok(report) => {
             println!(rt; "committed {}", report.committed)?;
             println!(rt; "checksum {:016x}", report.checksum)?;
@@ -91,9 +117,19 @@ fn main(rt: HostRuntime) -> io::Result<ExitCode> {
             MEMORY
         }
     };
-    let time = start.elapsed(&rt)?;
+    let time = start.elapsed(rt)?;
     eprintln!(rt; "time {} us", time.as_micros())?;
-    Ok(ExitCode::from(status))
+    Ok(status)
+}
+
+/// Tells why there is no trace, or not all of it. The result is the status for it.
+fn tell_no_trace<R: Eprint>(rt: &R, error: &io::Error) -> io::Result<u8> {
+    eprintln!(rt; "the trace can't be written: {error}")?;
+    if error.kind() == ErrorKind::OutOfMemory {
+        Ok(MEMORY)
+    } else {
+        Ok(TRACE)
+    }
 }
 
 /// The words behind the program's name.

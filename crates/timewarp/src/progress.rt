@@ -1,7 +1,7 @@
 //! Lines that tell how far a run is.
 use crate::share::Share;
 use std::time::{Clock, Instant};
-use warp_run::{Observer, RoundReport};
+use warp_run::RoundReport;
 
 /// How many seconds lie between two lines, at least.
 const PERIOD: u64 = 1;
@@ -39,10 +39,9 @@ impl<'a, R: Clock + Eprint> ProgressLines<'a, R> {
         self.last = Some(now);
         true
     }
-}
 
-impl<'a, R: Clock + Eprint> Observer for ProgressLines<'a, R> {
-    fn observe(&mut self, report: &RoundReport) {
+    /// Tells where a run stands, where it is time for it.
+    pub fn note(&mut self, report: &RoundReport) {
         if !self.is_asked || !self.is_due() {
             return;
         }

@@ -1,16 +1,14 @@
 //! A run of a model, and what the program tells of it.
-ghost use Rattle.std.specs.Prelude.{⊤, ◌≡◌, IfOk, IfErr};
+ghost use Rattle.std.specs.Prelude.{◌≡◌, IfOk, IfErr};
 ghost use Rattle.timewarp.specs.Reports.{TellsEnd, Tells, FailsAs, Fails};
 ghost use Rattle.warp_models.specs.Checksums.{checksum_of};
-ghost use Rattle.warp_run.specs.Ends.{FaultsAt, FaultsFirstAt, IsTooLong};
+ghost use Rattle.warp_run.specs.Ends.{FaultsAt, FaultsFirstAt, IsTooLong, IsHalfTooLong};
 ghost use Rattle.warp_run.specs.Failures.{MatchFailure};
 
-use crate::progress::ProgressLines;
 use crate::words::{Choice, Order, Way};
 use std::alloc::Global;
 use std::sync::Wait;
 use std::thread::Threads;
-use std::time::Clock;
 use warp_base::{Payload, Simulation};
 use warp_models::{Summed, checksum};
 use warp_process::Copied;
@@ -76,8 +74,9 @@ where
     O: Observer,
     ensures ok { IfOk result (λ r. TellsEnd M.Payload.words (M.behaviour model.now)
         (M.processes model.now) M.State.sum options.now.end r.committed r.checksum) }
-    ensures failure { IfErr result (MatchFailure (FaultsAt M.Payload.words (M.behaviour model.now)
-        (M.processes model.now) options.now.end) ⊤) }
+    ensures failure { IfErr result (MatchFailure
+        (FaultsAt M.Payload.words (M.behaviour model.now) (M.processes model.now) options.now.end)
+        (IsHalfTooLong M.Payload.words (M.behaviour model.now) (M.processes model.now) options.now.end)) }
 {
     match simulate_observed(rt, alloc, model, options, observer) {
         Ok(finished) => Ok(Report::of(&finished)),
@@ -123,20 +122,20 @@ where
     }
 }
 
-/// Simulates what the words ask for.
-pub fn simulate<R: Threads + Wait + Sync + Clock + Eprint>(
+/// Simulates what the words ask for, and tells the observer of a run by workers where it stands.
+pub fn simulate<R: Threads + Wait + Sync, O: Observer>(
     rt: &R,
     alloc: Global,
-    order: &Order,
+    order: &Order<'_>,
+    observer: O,
 ) -> Result<Report, Failure>
     ensures ok { IfOk result (λ r. Tells order.now.choice order.now.end r.committed r.checksum) }
     ensures failure { IfErr result (Fails order.now.choice order.now.way order.now.end) }
 {
-    let lines = ProgressLines::new(rt, order.progress);
     match &order.choice {
-        Choice::Phold(model) => simulate_model(rt, alloc, model, order.way, order.end, lines),
-        Choice::Cells(model) => simulate_model(rt, alloc, model, order.way, order.end, lines),
-        Choice::Queues(model) => simulate_model(rt, alloc, model, order.way, order.end, lines),
+        Choice::Phold(model) => simulate_model(rt, alloc, model, order.way, order.end, observer),
+        Choice::Cells(model) => simulate_model(rt, alloc, model, order.way, order.end, observer),
+        Choice::Queues(model) => simulate_model(rt, alloc, model, order.way, order.end, observer),
     }
 }
 
@@ -145,6 +144,7 @@ mod tests {
     use super::*;
     use std::test::Fail;
     use warp_models::{Ring, RingOptions};
+    use warp_run::Unobserved;
 
     /// Services and ways of one tick: each station serves a job each tick, from 1 on, and each
     /// that was served comes to the next station a tick later.
@@ -188,8 +188,9 @@ mod tests {
             end: 10,
             way: Way::InOrder,
             progress: false,
+            trace: None,
         };
-        let told = simulate(&rt, rt.alloc(), &order);
+        let told = simulate(&rt, rt.alloc(), &order, Unobserved);
         assert!(rt; matches!(told, Err(Failure::Fault { process: 0 })));
         Ok(())
     }
@@ -204,9 +205,11 @@ mod tests {
                 window: Some(3),
                 period: 1,
             },
-            progress: true,
+            progress: false,
+            trace: None,
         };
-        assert_eq!(rt; simulate(&rt, rt.alloc(), &order)?.committed, 3 * 6 + 3 * 5);
+        let told = simulate(&rt, rt.alloc(), &order, Unobserved)?;
+        assert_eq!(rt; told.committed, 3 * 6 + 3 * 5);
         Ok(())
     }
 }

@@ -23,12 +23,14 @@ pub enum Way {
 
 /// What the words ask for: a model, the time up to which it is simulated, and how.
 #[derive(Clone, Copy, Debug)]
-pub struct Order {
+pub struct Order<'a> {
     pub choice: Choice,
     pub end: u64,
     pub way: Way,
     /// Whether standard error tells how far workers are.
     pub progress: bool,
+    /// The file that gets a trace of the run by workers.
+    pub trace: Option<&'a str>,
 }
 
 /// What a model is told.
@@ -41,11 +43,12 @@ enum Told {
 
 /// What the words come to.
 #[derive(Clone, Copy, Debug)]
-struct Settings {
+struct Settings<'a> {
     told: Told,
     end: u64,
     in_order: bool,
     progress: bool,
+    trace: Option<&'a str>,
     workers: Option<u32>,
     window: Option<u64>,
     period: Option<u64>,
@@ -92,7 +95,7 @@ const QUEUES: RingOptions = RingOptions {
 };
 
 /// The order that the words give, if they give one.
-pub fn read_words(words: &[String]) -> Option<Order> {
+pub fn read_words(words: &[String]) -> Option<Order<'_>> {
     let (model, options) = words.split_first()?;
     let told = match model.as_str() {
         "phold" => Told::Phold(PHOLD),
@@ -106,16 +109,18 @@ pub fn read_words(words: &[String]) -> Option<Order> {
         end: settings.end,
         way: settings.way()?,
         progress: settings.progress,
+        trace: settings.trace,
     })
 }
 
 /// What the options come to; of one that is given twice the last stands.
-fn read_options(told: Told, words: &[String]) -> Option<Settings> {
+fn read_options(told: Told, words: &[String]) -> Option<Settings<'_>> {
     let mut settings = Settings {
         told,
         end: 10_000,
         in_order: false,
         progress: false,
+        trace: None,
         workers: None,
         window: None,
         period: None,
@@ -124,7 +129,7 @@ fn read_options(told: Told, words: &[String]) -> Option<Settings> {
     for word in words {
         match name {
             Some(option) => {
-                settings = settings.with(option.as_str(), word.as_str().parse().ok()?)?;
+                settings = settings.with(option.as_str(), word.as_str())?;
                 name = None;
             }
             None if word.as_str() == "--in-order" => settings.in_order = true,
@@ -135,9 +140,18 @@ fn read_options(told: Told, words: &[String]) -> Option<Settings> {
     if name.is_some() { None } else { Some(settings) }
 }
 
-impl Settings {
+impl<'a> Settings<'a> {
     /// The settings with an option changed, if it is one of the run or of the model.
-    fn with(mut self, name: &str, value: u64) -> Option<Settings> {
+    fn with(mut self, name: &str, value: &'a str) -> Option<Settings<'a>> {
+        if name == "--trace" {
+            self.trace = Some(value);
+            return Some(self);
+        }
+        self.with_number(name, value.parse().ok()?)
+    }
+
+    /// The same of an option that is a number.
+    fn with_number(mut self, name: &str, value: u64) -> Option<Settings<'a>> {
         match name {
             "--end" => self.end = value,
             "--workers" if value > 0 => self.workers = Some(u32::try_from(value).ok()?),
@@ -148,9 +162,11 @@ impl Settings {
         Some(self)
     }
 
-    /// How the model is simulated; a run in order has no worker, no window, no copies and no progress.
+    /// How the model is simulated; a run in order has no worker, no window, no copies, no progress and
+    /// no trace.
     fn way(&self) -> Option<Way> {
         let is_told = self.progress
+            || self.trace.is_some()
             || self.workers.is_some()
             || self.window.is_some()
             || self.period.is_some();
@@ -293,6 +309,16 @@ mod tests {
             return Err("in order")?;
         };
         assert_eq!(rt; (workers, window, period), (3, Some(9), 4));
+        assert_eq!(rt; order.trace, None);
+        Ok(())
+    }
+
+    #[test]
+    fn a_trace_has_a_name(rt: HostRuntime) -> Result<(), Fail> {
+        let words = line(rt.alloc(), "queues --trace 7 --workers 3 --trace --end")?;
+        let order = read_words(&words).ok_or("no order")?;
+        assert_eq!(rt; order.trace, Some("--end"), "the last stands");
+        assert_eq!(rt; order.end, 10_000);
         Ok(())
     }
 
@@ -320,6 +346,8 @@ mod tests {
             "queues --in-order --end",
             "queues --in-order --workers 2",
             "queues --in-order --log-every 2",
+            "queues --in-order --trace run",
+            "queues --workers 2 --trace",
             "queues --workers 0",
             "queues --log-every 0",
             "queues --workers 4294967296",

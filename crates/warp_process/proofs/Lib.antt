@@ -8,4 +8,6 @@ pub mod Opening
 pub mod Dates
 pub mod Committing
 mod Faults
+mod Keeping
+mod Giving
 mod Undoing

@@ -7,7 +7,7 @@ use Rattle.warp_base.specs.Events.{Each, hit, copies, IsInOrder, AreFor, AreFrom
 use Rattle.warp_base.specs.Messages.{event_of, positives, negatives}
 use Rattle.warp_base.specs.Histories.{Behaviour, LooksAhead, state_after, sent_from, all_sent}
 use Rattle.warp_process.specs.declared.process.Process.{Process}
-use Rattle.warp_process.specs.Savers.{AreAscending}
+use Rattle.warp_process.specs.Savers.{until, AreAscending}
 
 -- what a process is, as lists and numbers: the events since the committed past, of which as many are run as there are marks; what these
 -- sent, and how many events had been sent before each; the anti-messages whose event hasn't come; the last committed time; the committed
@@ -129,6 +129,16 @@ pub record UndoesFrom {P S : Type 0} (time : ℕ) (old new : ProcessFace P S) : 
   pub pending : (floor : ℕ) → floor ≤ time → AreFrom floor (drop (length old.marks) old.events) → AreFrom floor (drop (length new.marks) new.events)
   pub until : (end : ℕ) → Each (λ (e : Event P). e.time ≤ end) (take (length old.marks) old.events)
       → Each (λ (e : Event P). e.time ≤ end) (take (length new.marks) new.events)
+
+-- the events that stay run are the first of those that were, and so are the copies. The state isn't touched; it is stale where any were undone
+pub record KeepsFirst {P S : Type 0} (old new : ProcessFace P S) : Type 0 where
+  pub few : length new.marks ≤ length old.marks
+  pub ran : take (length new.marks) new.events ≡ take (length new.marks) old.events
+  pub first_date : new.first_date ≡ old.first_date
+  pub fossils : new.fossils ≡ old.fossils
+  pub copies : new.copies ≡ until (old.first_date + length old.fossils + length new.marks) old.copies
+  pub state : new.state ≡ old.state
+  pub fresh : new.is_stale ≡ false → (old.is_stale ≡ false) × (length new.marks ≡ length old.marks)
 
 -- what a message does to the events and to the anti-messages that wait
 abbrev pub HasTakenMessage : {P S : Type 0} → (P → List ℕ) → Message P → ProcessFace P S → ProcessFace P S → Type 0

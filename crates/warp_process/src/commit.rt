@@ -1,9 +1,10 @@
 //! Committing.
-ghost use Rattle.std.specs.Prelude.{◌≡◌, ◌+◌, ◌≤◌, ◌↔◌, IsTrue, suc, List, length, take, drop, vec_len, vec_capacity, OnOk, OnErr};
+ghost use Rattle.std.specs.Prelude.{◌≡◌, ◌+◌, ◌-◌, ◌≤◌, ◌↔◌, IsTrue, suc, List, length, take, drop, vec_len, vec_capacity, OnOk, OnErr};
 ghost use Rattle.warp_base.specs.declared.event.Event.{Event};
 ghost use Rattle.warp_base.specs.Events.{Each, AreFrom};
 ghost use Rattle.warp_base.specs.Histories.{Behaviour, state_after, sent_from, all_sent};
 ghost use Rattle.warp_process.specs.Processes.{face, bound_of, IsProcess, IsSomeProcess, Stays, HasCommitted};
+ghost use Rattle.warp_process.specs.Savers.{KeepsFrom};
 
 use crate::places::{append_reserved, are_later, count_until, drop_first};
 use crate::process::Process;
@@ -39,7 +40,9 @@ impl<P: Payload, K: StateSaver> Process<P, K> {
         requires early { AreFrom (suc last) self.old.early.items }
         requires fossils_room { vec_len self.old.fossils + count ≤ vec_capacity self.old.fossils }
         requires out_room { vec_len out.old + count ≤ vec_capacity out.old }
-        ensures { HasCommitted P.words last (face K.state K.copies self.old) (face K.state K.copies self.new) out.old.items out.new.items }
+        ensures committed { HasCommitted P.words last (face K.state K.copies self.old) (face K.state K.copies self.new) out.old.items out.new.items }
+        ensures date { length self.new.fossils.items + length self.new.marks.items ≡ length self.old.fossils.items + length self.old.marks.items }
+        ensures rest { self.new ≡ record self.old { last = self.new.last; events = self.new.events; marks = self.new.marks; sent = self.new.sent; fossils = self.new.fossils } }
     {
         let first = self.sent_by(count);
         let committed = &self.events[..count];
@@ -56,6 +59,9 @@ impl<P: Payload, K: StateSaver> Process<P, K> {
         requires process { IsSomeProcess P.words (face K.state K.copies self.old) }
         ensures kept { Stays P.words (face K.state K.copies self.old) (face K.state K.copies self.new) }
         ensures rest { self.new ≡ record self.old { first_date = self.new.first_date; fossils = self.new.fossils; saver = self.new.saver } }
+        ensures copies { KeepsFrom (K.copies self.old.saver) (self.old.first_date + length self.old.fossils.items)
+            self.new.first_date (K.copies self.new.saver) }
+        ensures state { K.state self.new.saver ≡ K.state self.old.saver }
     {
         let committed = self.first_date + self.fossils.len() as u64;
         let oldest = self.saver.prune(committed);
@@ -87,6 +93,8 @@ impl<P: Payload, K: StateSaver> Process<P, K> {
         requires ran { AreFrom (suc last) (drop (length self.old.marks.items) self.old.events.items) }
         requires early { AreFrom (suc last) self.old.early.items }
         ensures committed { OnOk result (HasCommitted P.words last (face K.state K.copies self.old) (face K.state K.copies self.new) out.old.items out.new.items) }
+        ensures pruned { OnOk result (KeepsFrom (K.copies self.old.saver) (self.old.first_date + length self.old.fossils.items + (length self.old.marks.items - length self.new.marks.items)) self.new.first_date (K.copies self.new.saver)) }
+        ensures state { OnOk result ((K.state self.new.saver ≡ K.state self.old.saver) × (self.new.is_stale ≡ self.old.is_stale)) }
         ensures unchanged { OnErr result (face K.state K.copies self.new ≡ face K.state K.copies self.old) }
         ensures unposted { OnErr result (out.new.items ≡ out.old.items) }
     {

@@ -9,6 +9,7 @@
 #![tactic(auto)]
 
 mod commit;
+mod given;
 pub mod laws;
 mod places;
 mod posts;

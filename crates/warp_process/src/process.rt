@@ -1,11 +1,11 @@
 //! A logical process.
-ghost use Rattle.std.specs.Prelude.{◌≡◌, ℕ, ◌+◌, ◌^◌, ◌<◌, ◌≤◌, ◌↔◌, ◌++◌, List, [], length, map, drop, min, IsTrue, OnOk, OnErr, Err, IfOk, IfSome, None, Some, IfNone, slice_get, option_copied};
+ghost use Rattle.std.specs.Prelude.{◌≡◌, ℕ, ◌+◌, ◌-◌, ◌^◌, ◌<◌, ◌≤◌, ◌↔◌, ◌++◌, List, [], length, map, drop, min, suc, IsTrue, OnOk, OnErr, Err, IfOk, IfSome, None, Some, IfNone, IsNone, slice_get, option_copied};
 ghost use Rattle.warp_base.specs.Events.{AreFrom};
 ghost use Rattle.warp_base.specs.Messages.{event_of};
 ghost use Rattle.warp_base.specs.Histories.{Behaviour, stamped};
 ghost use Rattle.warp_base.specs.declared.event.Message.TheVariants as Variants;
 ghost use Rattle.warp_process.specs.declared.process.TakeError.TheVariants.{Committed};
-ghost use Rattle.warp_process.specs.Processes.{face, bound_of, IsProcess, IsSomeProcess, Stays, HasPosted, HasTaken, HasTakenBack, HasTakenMessage, HasFailed, UndoesFrom, fault_with};
+ghost use Rattle.warp_process.specs.Processes.{face, bound_of, IsProcess, IsSomeProcess, Stays, HasPosted, HasTaken, HasTakenBack, HasTakenMessage, HasFailed, UndoesFrom, KeepsFirst, fault_with};
 
 use crate::places::{find_copy, find_place, is_at};
 use crate::posts::{post, take_back};
@@ -137,6 +137,16 @@ impl<P: Payload, K: StateSaver> Process<P, K> {
         self.events.get(self.marks.len())
     }
 
+    /// The last event that is run, of those since the committed past.
+    pub fn last_event(&self) -> Option<&Event<P>>
+        ensures some { 0 < length self.now.marks.items
+            → option_copied result ≡ slice_get self.now.events.items (length self.now.marks.items - 1) }
+        ensures none { self.now.marks.items ≡ [] → IsNone result }
+    {
+        let place = self.marks.len().checked_sub(1)?;
+        self.events.get(place)
+    }
+
     /// Whether the state is another than that after the events that are run. It is brought forward
     /// before the next event is run, or by a call of `catch_up`.
     pub fn is_stale(&self) -> bool
@@ -189,6 +199,16 @@ impl<P: Payload, K: StateSaver> Process<P, K> {
         }
     }
 
+    /// Whether no later time is committed: a commit up to this one goes forward.
+    pub fn is_forward(&self, last: u64) -> bool
+        ensures { IsTrue result ↔ (bound_of self.now.last ≤ suc last) }
+    {
+        match self.last {
+            Some(committed) => committed <= last,
+            None => true,
+        }
+    }
+
     /// Undoes all events that are run but the first `keep`: they are to be run again, and what
     /// they sent is taken back (aggressive cancellation).
     fn roll_back(&mut self, keep: usize, out: &mut Vec<Message<P>>) -> Result<(), AllocError>
@@ -199,6 +219,7 @@ impl<P: Payload, K: StateSaver> Process<P, K> {
         ensures unposted { OnErr result (out.new.items ≡ out.old.items) }
         ensures sent { OnOk result (length out.new.items + length self.new.sent.items ≡ length out.old.items + length self.old.sent.items) }
         ensures undone { OnOk result (length self.new.marks.items ≡ min keep (length self.old.marks.items)) }
+        ensures keeps { OnOk result (KeepsFirst (face K.state K.copies self.old) (face K.state K.copies self.new)) }
         ensures unchanged { OnErr result (face K.state K.copies self.new ≡ face K.state K.copies self.old) }
         ensures events { self.new.events ≡ self.old.events }
         ensures early { self.new.early ≡ self.old.early }
@@ -232,6 +253,7 @@ impl<P: Payload, K: StateSaver> Process<P, K> {
         ensures taken { OnOk result (HasTaken P.words event (face K.state K.copies self.old) (face K.state K.copies self.new)) }
         ensures sent { OnOk result (length out.new.items + length self.new.sent.items ≡ length out.old.items + length self.old.sent.items) }
         ensures undone { OnOk result (UndoesFrom event.time (face K.state K.copies self.old) (face K.state K.copies self.new)) }
+        ensures keeps { OnOk result (KeepsFirst (face K.state K.copies self.old) (face K.state K.copies self.new)) }
         ensures posted { OnOk result (HasPosted P.words event.time self.old.sent.items self.new.sent.items out.old.items out.new.items) }
         ensures unposted { OnErr result (out.new.items ≡ out.old.items) }
         ensures unchanged { OnErr result (face K.state K.copies self.new ≡ face K.state K.copies self.old) }
@@ -261,6 +283,7 @@ impl<P: Payload, K: StateSaver> Process<P, K> {
         ensures taken { OnOk result (HasTakenBack P.words event (face K.state K.copies self.old) (face K.state K.copies self.new)) }
         ensures sent { OnOk result (length out.new.items + length self.new.sent.items ≡ length out.old.items + length self.old.sent.items) }
         ensures undone { OnOk result (UndoesFrom event.time (face K.state K.copies self.old) (face K.state K.copies self.new)) }
+        ensures keeps { OnOk result (KeepsFirst (face K.state K.copies self.old) (face K.state K.copies self.new)) }
         ensures posted { OnOk result (HasPosted P.words event.time self.old.sent.items self.new.sent.items out.old.items out.new.items) }
         ensures unposted { OnErr result (out.new.items ≡ out.old.items) }
         ensures unchanged { OnErr result (face K.state K.copies self.new ≡ face K.state K.copies self.old) }
@@ -288,6 +311,7 @@ impl<P: Payload, K: StateSaver> Process<P, K> {
         ensures taken { OnOk result (HasTakenMessage P.words message (face K.state K.copies self.old) (face K.state K.copies self.new)) }
         ensures sent { OnOk result (length out.new.items + length self.new.sent.items ≡ length out.old.items + length self.old.sent.items) }
         ensures undone { OnOk result (UndoesFrom (event_of message).time (face K.state K.copies self.old) (face K.state K.copies self.new)) }
+        ensures keeps { OnOk result (KeepsFirst (face K.state K.copies self.old) (face K.state K.copies self.new)) }
         ensures posted { OnOk result (HasPosted P.words (event_of message).time self.old.sent.items self.new.sent.items out.old.items out.new.items) }
         ensures committed { (result ≡ Err Committed) ↔ ((event_of message).time < bound_of self.old.last) }
         ensures unposted { OnErr result (out.new.items ≡ out.old.items) }

@@ -119,7 +119,11 @@ impl<P: Payload, K: StateSaver> Process<P, K> {
 
     /// Counts an event as run, which sent these drafts: they go out as events. An error changes
     /// nothing.
-    fn finish(&mut self, drafts: &[Draft<P>], out: &mut Vec<Message<P>>) -> Result<(), RunError>
+    pub(crate) fn finish(
+        &mut self,
+        drafts: &[Draft<P>],
+        out: &mut Vec<Message<P>>,
+    ) -> Result<(), RunError>
         ensures marks { OnOk result (self.new.marks.items ≡ self.old.marks.items ++ self.old.serial ∷ []) }
         ensures sent { OnOk result (self.new.sent.items
             ≡ self.old.sent.items ++ stamped self.old.number self.old.serial drafts.now) }

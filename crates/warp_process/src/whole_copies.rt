@@ -1,5 +1,5 @@
 //! A state that is copied whole.
-ghost use Rattle.std.specs.Prelude.{◌≡◌, ◌<◌, ◌≤◌, [], length, take, drop};
+ghost use Rattle.std.specs.Prelude.{◌≡◌, ℕ, ◌<◌, ◌≤◌, List, [], ◌∷◌, ◌++◌, length, take, drop, OnOk, OnErr};
 ghost use Rattle.warp_base.specs.Events.{Each};
 ghost use Rattle.warp_process.specs.Savers.{until, AreAscending};
 
@@ -46,6 +46,34 @@ impl<S: Copied> WholeCopies<S> {
             state,
             copies: Vec::new(alloc),
         }
+    }
+
+    /// Another state, which is given.
+    pub(crate) fn set_state(&mut self, state: S)
+        ensures state { self.new.state ≡ state }
+        ensures copies { self.new.copies ≡ self.old.copies }
+    {
+        self.state = state;
+    }
+
+    /// Keeps a copy of the state under a date.
+    pub(crate) fn save_given(&mut self, date: u64) -> Result<(), AllocError>
+        ensures ok { OnOk result (self.new.copies.items ≡ self.old.copies.items ++ (date, self.old.state) ∷ []) }
+        ensures err { OnErr result (self.new.copies.items ≡ self.old.copies.items) }
+        ensures state { self.new.state ≡ self.old.state }
+    {
+        let copy = self.state.clone()?;
+        self.copies.push((date, copy))?;
+        Ok(())
+    }
+
+    /// Drops the newest copy.
+    pub(crate) fn drop_newest(&mut self)
+        ensures copies { (copies : List (ℕ × S)) (c : ℕ × S) → self.old.copies.items ≡ copies ++ c ∷ []
+            → self.new.copies.items ≡ copies }
+        ensures state { self.new.state ≡ self.old.state }
+    {
+        self.copies.pop();
     }
 }
 

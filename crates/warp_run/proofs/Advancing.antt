@@ -5,7 +5,7 @@ use Rattle.warp_base.specs.Events.{Each, AreFrom}
 use Rattle.warp_base.specs.Histories.{Behaviour, LooksAhead, StartsWithin}
 use Rattle.warp_base.specs.Laws.{BoundIsSafe, StatesAreReal}
 use Rattle.warp_base.proofs.Orders.{TellsApart}
-use Rattle.warp_worker.specs.Workers.{WorkerFace, Cell, IsWorker, MayAdvance, HasAdvanced, TellsNext}
+use Rattle.warp_worker.specs.Workers.{WorkerFace, Cell, settled_of, IsWorker, MayAdvance, HasAdvanced, HasTooMany, TellsNext}
 use Rattle.warp_run.specs.Ends.{FaultsAt}
 use Rattle.warp_run.specs.Worlds.{IsWorld, IsNotBefore}
 use Rattle.warp_run.proofs.Totals.{Each-places}
@@ -46,3 +46,8 @@ module _ {P S L O M : Type 0} (face : L → WorkerFace P S) (words : P → List 
       subst (λ t. fine v → (cs : List (Cell P S)) → IsWorker words (behaviour model) cs (face w) → HasAdvanced words (behaviour model) (processes model) bound t cs (face w) (face v)) alike.2
       (subst (λ t. fine v → (cs : List (Cell P S)) → IsWorker words (behaviour model) cs (face w) → HasAdvanced words (behaviour model) (processes model) t (end_of o) cs (face w) (face v)) alike.1
       (subst (λ m. fine v → (cs : List (Cell P S)) → IsWorker words (behaviour m) cs (face w) → HasAdvanced words (behaviour m) (processes m) (bound_of o) (end_of o) cs (face w) (face v)) alike.0 h))
+
+  pub error_tells : (told : L → Type 0) (o : O) (w v : L) → Alike o → (told v → (cs : List (Cell P S)) → IsWorker words (behaviour (model_of o)) cs (face w) → HasTooMany (behaviour (model_of o)) (face w).first (map (settled_of (bound_of o)) cs)) → told v → (cs : List (Cell P S)) → IsWorker words (behaviour model) cs (face w) → HasTooMany (behaviour model) (face w).first (map (settled_of bound) cs)
+  error_tells told o w v alike h =
+      subst (λ t. told v → (cs : List (Cell P S)) → IsWorker words (behaviour model) cs (face w) → HasTooMany (behaviour model) (face w).first (map (settled_of t) cs)) alike.1
+      (subst (λ m. told v → (cs : List (Cell P S)) → IsWorker words (behaviour m) cs (face w) → HasTooMany (behaviour m) (face w).first (map (settled_of (bound_of o)) cs)) alike.0 h)

@@ -1,23 +1,24 @@
 -- What a world comes to: its end is the end of the run in order, and a fault in what is committed is one that this run meets.
-use Rattle.std.proofs.Common.{◌≡◌, ℕ, zero, suc, ◌+◌, ◌-◌, ◌<◌, ◌≤◌, inl, inr, true, false, nat_lt, Option, Some, None, option_map, slice_get, List, [], ◌∷◌, ◌++◌, length, map, take, drop, refl, ap, sym, subst, ◌∙◌, arith, append_assoc}
+use Rattle.std.proofs.Common.{◌≡◌, ℕ, zero, suc, ◌+◌, ◌-◌, ◌^◌, ◌<◌, ◌≤◌, ◌⊎◌, inl, inr, true, false, nat_lt, Option, Some, None, option_map, slice_get, List, [], ◌∷◌, ◌++◌, length, map, take, drop, refl, ap, sym, subst, ◌∙◌, arith, append_assoc, length-append}
 use Rattle.std.proofs.lemmas.List.{append-nil, take-append-drop, take-append-le}
 use Rattle.std.proofs.lemmas.Option.{slice_get-map, slice_get_within}
 use Rattle.std.proofs.lemmas.Bool.{cases_lt, lt-ltb, le-ltb}
 use Rattle.warp_base.specs.declared.event.Event.{Event}
 use Rattle.warp_base.specs.Events.{Each, AreFrom, copies}
-use Rattle.warp_base.specs.Histories.{Behaviour, LooksAhead, StartsWithin, SendsWithin, state_after, earlier}
+use Rattle.warp_base.specs.Histories.{Behaviour, LooksAhead, StartsWithin, SendsWithin, stamped, state_after, all_sent, earlier}
 use Rattle.warp_base.specs.Sequential.{Run, sequential, those_for}
 use Rattle.warp_base.specs.Settled.{IsSettled, EndsAsSequential}
 use Rattle.warp_base.specs.Laws.{SequentialIsSound, BoundIsSafe, StatesAreReal, NothingBeyond}
 use Rattle.warp_base.proofs.Lists.{Each-weaker, filter_all, filter_none, filter-++}
+use Rattle.warp_base.proofs.Folds.{length-stamped}
 use Rattle.warp_base.proofs.Orders.{TellsApart, Each-copy, hit_self}
 use Rattle.warp_process.specs.Processes.{ProcessFace, IsProcess, done_of, bound_of}
-use Rattle.warp_worker.specs.Workers.{WorkerFace, Cell, IsReady, TellsFailed, AreNumbered, HasEnded, total, to_run, ran_of}
-use Rattle.warp_run.specs.Ends.{IsEnd, IsSoundUntil, FaultsAt}
+use Rattle.warp_worker.specs.Workers.{WorkerFace, Cell, IsReady, TellsFailed, AreNumbered, HasEnded, total, history_of, settled_of, to_run, ran_of}
+use Rattle.warp_run.specs.Ends.{IsEnd, IsSoundUntil, FaultsAt, IsHalfTooLong}
 use Rattle.warp_run.specs.Worlds.{IsWorld}
 use Rattle.warp_run.proofs.Totals.{Each-at}
 use Rattle.warp_run.proofs.Families.{faces, number_at, all_cells, past, events, early, marks, process_at, number_is, ready_at, settled, beyond, past_of, events_of, early_of}
-use Rattle.warp_run.proofs.Runs.{Grows, ran_grows, those_grow, those_fewer, reached_later, sum_those, sum_all, ran_within}
+use Rattle.warp_run.proofs.Runs.{Grows, ran_grows, those_grow, those_fewer, those_all, reached_later, sum_those, sum_all, ran_within}
 
 module _ {P : Type 0} where
   earlier_all : (t : ℕ) (xs : List (Event P)) → Each (λ (e : Event P). e.time < t) xs → earlier t xs ≡ xs
@@ -30,7 +31,7 @@ mapped_long : {X Y : Type 0} (f : X → Y) (xs : List X) → length (map f xs) �
 mapped_long f [] = refl
 mapped_long f (x ∷ xs) = ap suc (mapped_long f xs)
 
-mapped_at : {X Y : Type 0} (f : X → Y) (xs : List X) (i : ℕ) (y : Y) → slice_get (map f xs) i ≡ Some y → (x : X) × (slice_get xs i ≡ Some x) × (f x ≡ y)
+pub mapped_at : {X Y : Type 0} (f : X → Y) (xs : List X) (i : ℕ) (y : Y) → slice_get (map f xs) i ≡ Some y → (x : X) × (slice_get xs i ≡ Some x) × (f x ≡ y)
 mapped_at f [] i y there = cc
 mapped_at f (x ∷ xs) zero y there = (x, refl, (let is : f x ≡ y = cc in is))
 mapped_at f (x ∷ xs) (suc i) y there = mapped_at f xs i y there
@@ -76,6 +77,43 @@ module _ {P S : Type 0} (words : P → List ℕ) (tells : TellsApart words) (b :
       let k = failed.4.0 in
       let at : i ≡ p = sym number ∙ failed.3 in
       subst (FaultsAt words b n end) at (fault_real real last k i c (take k c.0) is few there (past_first last i c is there k failed.4.1) (ap (λ q. b.faulty (state_after b q (take k c.0))) at ∙ failed.4.2))
+
+  -- what stands below the bound is of the run in order, and so are so many events of it
+  pub many_real : SequentialIsSound words S → BoundIsSafe words S → bound ≤ end → (p : ℕ) (c : Cell P S) → slice_get cells p ≡ Some c → (s : S) (e : Event P) → (2 ^ 63 ≤ length (settled_of bound c)) ⊎ (2 ^ 63 ≤ length (all_sent b p (settled_of bound c)) + length (b.drafts p s e)) → IsHalfTooLong words b n end
+  many_real sound safe few p c there s e many = by_bound bound refl
+    where
+      any : (xs : List (Event P)) → AreFrom 0 xs
+      any [] = tt
+      any (x ∷ xs) = (omega arith, any xs)
+
+      by_bound : (t : ℕ) → bound ≡ t → IsHalfTooLong words b n end
+      by_bound zero is =
+          let none : settled_of bound c ≡ [] = ap (λ t. earlier t (history_of c)) is ∙ earlier_none 0 (history_of c) (any (history_of c)) in
+          elim many as (λ _. IsHalfTooLong words b n end) [
+            | inl ran ↦ absurd (let long = ap length none in omega (arith, ran, long))
+            | inr sent ↦ (
+                let same = ap (λ l. length (all_sent b p l)) none ∙ length-append (stamped p 0 (b.firsts p)) [] in
+                let firsts = length-stamped p 0 (b.firsts p) in
+                let all : 2 ^ 63 ≤ length (b.firsts p) + length (b.drafts p s e) = omega (arith, sent, same, firsts) in
+                record { steps = 0; many = inr (p, s, e, all) })
+          ]
+      by_bound (suc last) is =
+          let ends = (safe b n last (past words b tells n bound end cells ws starts world) (events words b tells n bound end cells ws starts world) (early words b tells n bound end cells ws starts world) (marks words b tells n bound end cells ws starts world) ahead starts (subst (λ t. IsSettled words b t (past words b tells n bound end cells ws starts world) (events words b tells n bound end cells ws starts world) (early words b tells n bound end cells ws starts world) (marks words b tells n bound end cells ws starts world)) is (settled words b tells n bound end cells ws starts world)) (beyond words b tells n bound end cells ws starts world)).sequential in
+          let r = sequential words b n last ends.0 in
+          let history : settled_of bound c ≡ those_for p r.ran = ap (λ t. earlier t (history_of c)) is ∙ ap (λ o. earlier (suc last) (past_of o ++ events_of o)) (sym there) ∙ ends.2.history p in
+          let later = reached_later words b n last end ends.0 (omega (arith, few, is)) in
+          elim many as (λ _. IsHalfTooLong words b n end) [
+            | inl ran ↦ (
+                let long = ap length history in
+                let fewer = those_all p r.ran in
+                let same = ap (λ (x : Run P S). length x.ran) later.1 in
+                record { steps = later.0; many = inl (omega (arith, ran, long, fewer, same)) })
+            | inr sent ↦ (
+                let all = ap (λ l. length (all_sent b p l)) history in
+                let serial = (sound b n last ends.0 ahead starts).follows.serials p in
+                let same = ap (λ (x : Run P S). x.serials p) later.1 in
+                record { steps = later.0; many = inr (p, s, e, omega (arith, sent, all, serial, same)) })
+          ]
 
   -- no anti-message waits below the bound
   pub early_behind : BoundIsSafe words S → (p : ℕ) (c : Cell P S) → slice_get cells p ≡ Some c → AreFrom bound c.1.early
@@ -141,6 +179,16 @@ module _ {P S : Type 0} (words : P → List ℕ) (tells : TellsApart words) (b :
         found (x ∷ xs) zero less = (x, refl)
         found (x ∷ xs) (suc k) less = found xs k (omega (arith, less))
 
+    all_done : total (λ (c : Cell P S). length (done_of c.0 c.1)) cells ≡ length run.ran
+    all_done =
+        let follows = (sound b n end the_end.0 ahead starts).follows in
+        let sum = counted run.ran 0 cells (all_cells words b tells n (suc end) end cells ws starts world).numbered (λ k c there. done_is k c there ∙ ap (λ q. those_for q run.ran) (let e : k ≡ 0 + k = omega arith in e)) in
+        let all = ap (λ k. sum_those 0 k run.ran) (all_cells words b tells n (suc end) end cells ws starts world).count in
+        sum ∙ all ∙ sum_all n run.ran (ran_within words tells none b n run sends follows)
+
+    pub end_too_long : 2 ^ 64 ≤ total (λ (c : Cell P S). length (done_of c.0 c.1)) cells → IsHalfTooLong words b n end
+    end_too_long many = record { steps = the_end.0; many = inl (let all = all_done in omega (arith, many, all)) }
+
     -- all that is done is the run in order, and so are the states after it
     pub is_end : (states : List S) (count : ℕ) → HasEnded words b cells [] states count None → IsEnd words b n end states count
     is_end states count ended = record {
@@ -153,11 +201,7 @@ module _ {P S : Type 0} (words : P → List ℕ) (tells : TellsApart words) (b :
           let number = number_is words b tells n (suc end) end cells ws starts world p c at.1 in
           ap (λ l. slice_get l p) ended.states ∙ slice_get-map (λ (d : Cell P S). state_after b d.1.number (done_of d.0 d.1)) cells p ∙ ap (option_map (λ (d : Cell P S). state_after b d.1.number (done_of d.0 d.1))) at.1
           ∙ ap (λ q. Some (state_after b q (done_of c.0 c.1))) number ∙ ap (λ l. Some (state_after b p l)) (sym (done_at p c at.1)) ∙ ap (λ o. Some (state_after b p (earlier (suc end) (past_of o ++ events_of o)))) (sym at.1) ∙ ap Some (the_end.2.state p);
-      number =
-          let follows = (sound b n end the_end.0 ahead starts).follows in
-          let sum = counted run.ran 0 cells (all_cells words b tells n (suc end) end cells ws starts world).numbered (λ k c there. done_is k c there ∙ ap (λ q. those_for q run.ran) (let e : k ≡ 0 + k = omega arith in e)) in
-          let all = ap (λ k. sum_those 0 k run.ran) (all_cells words b tells n (suc end) end cells ws starts world).count in
-          ended.count ∙ sum ∙ all ∙ sum_all n run.ran (ran_within words tells none b n run sends follows);
+      number = ended.count ∙ all_done;
       sound = λ k p few less.
           let at = cell_at p less in
           let c = at.0 in

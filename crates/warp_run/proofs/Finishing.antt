@@ -14,12 +14,12 @@ map-append : {X Y : Type 0} (f : X → Y) (xs ys : List X) → map f (xs ++ ys) 
 map-append f [] ys = refl
 map-append f (x ∷ xs) ys = ap (λ l. f x ∷ l) (map-append f xs ys)
 
-get_front : {X : Type 0} (xs ys : List X) (i : ℕ) (x : X) → slice_get xs i ≡ Some x → slice_get (xs ++ ys) i ≡ Some x
+pub get_front : {X : Type 0} (xs ys : List X) (i : ℕ) (x : X) → slice_get xs i ≡ Some x → slice_get (xs ++ ys) i ≡ Some x
 get_front [] ys i x there = cc
 get_front (z ∷ xs) ys zero x there = there
 get_front (z ∷ xs) ys (suc i) x there = get_front xs ys i x there
 
-get_back : {X : Type 0} (xs ys : List X) (i : ℕ) → slice_get (xs ++ ys) (length xs + i) ≡ slice_get ys i
+pub get_back : {X : Type 0} (xs ys : List X) (i : ℕ) → slice_get (xs ++ ys) (length xs + i) ≡ slice_get ys i
 get_back [] ys i = ap (slice_get ys) (let e : 0 + i ≡ i = omega arith in e)
 get_back (x ∷ xs) ys i = ap (slice_get (x ∷ (xs ++ ys))) (let e : suc (length xs) + i ≡ suc (length xs + i) = omega arith in e) ∙ get_back xs ys i
 
@@ -65,6 +65,17 @@ module _ {P S : Type 0} (words : P → List ℕ) (b : Behaviour P S) where
   ended_all cells states count h =
       let all : h.done ≡ cells = sym (append-nil h.done) ∙ ap (λ l. h.done ++ l) (sym h.workers) ∙ sym h.split in
       subst (λ l. HasEnded words b l [] states count None) all h.ended
+
+  -- where the workers that have come to their ends, and the next one, have done so many, all have
+  pub ended_many : (cells : List (Cell P S)) (w : WorkerFace P S) (left : List (WorkerFace P S)) (states : List S) (count k most : ℕ) → EndedUpTo cells (w ∷ left) states count → ((cs : List (Cell P S)) → IsWorker words b cs w → k ≤ total end_count cs) → most ≤ count + k → most ≤ total end_count cells
+  ended_many cells w left states count k most h told many =
+      let front = h.workers.0 in
+      let back = h.workers.1 in
+      let one = told front h.workers.3 in
+      let all = ap (total end_count) (h.split ∙ ap (λ l. h.done ++ l) h.workers.2) ∙ total-append end_count h.done (front ++ back) in
+      let rest = total-append end_count front back in
+      let old = h.ended.count in
+      omega (arith, all, rest, one, old, many)
 
   front_fails : (front back : List (Cell P S)) (p : ℕ) → TellsFailed words b front (Some p) → TellsFailed words b (front ++ back) (Some p)
   front_fails front back p t = (t.0, t.1, get_front front back t.0 t.1 t.2, t.3, t.4)

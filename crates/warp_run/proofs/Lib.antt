@@ -11,3 +11,4 @@ pub mod Lanes
 pub mod Starting
 pub mod Advancing
 pub mod Finishing
+pub mod TooLong

@@ -69,6 +69,15 @@ module _ {P S : Type 0} (words : P → List ℕ) (b : Behaviour P S) where
         | inr stays ↦ (before.0, before.1 ∙ sym stays)
       ]
 
+pub those_all : {P : Type 0} (p : ℕ) (xs : List (Event P)) → length (those_for p xs) ≤ length xs
+those_all p [] = omega arith
+those_all {P} p (x ∷ xs) =
+    let rest = those_all p xs in
+    elim (cases_Bool (x.receiver == p)) as (λ _. length (those_for p (x ∷ xs)) ≤ suc (length xs)) [
+      | inl holds ↦ (let one = ap length (filter_yes (λ (e : Event P). e.receiver == p) x xs holds) in omega (arith, rest, one))
+      | inr fails ↦ (let one = ap length (filter_no (λ (e : Event P). e.receiver == p) x xs fails) in omega (arith, rest, one))
+    ]
+
 -- how many of these events are for processes first, first + 1, .. (k of them)
 abbrev pub sum_those : {P : Type 0} → ℕ → ℕ → List (Event P) → ℕ
 sum_those first zero xs = 0

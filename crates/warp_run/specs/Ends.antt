@@ -1,5 +1,6 @@
 -- What a simulation returns, whoever ran it: the end of the run in order, or what that run meets instead.
 use Rattle.std.specs.Prelude.{◌≡◌, ℕ, ◌+◌, ◌<◌, ◌≤◌, ◌^◌, ◌⊎◌, true, false, List, length, slice_get, Some}
+use Rattle.warp_base.specs.declared.event.Event.{Event}
 use Rattle.warp_base.specs.Histories.{Behaviour}
 use Rattle.warp_base.specs.Sequential.{sequential, IsOver}
 
@@ -35,3 +36,10 @@ module _ {P S : Type 0} (words : P → List ℕ) (b : Behaviour P S) (n end : �
   pub record IsTooLong : Type 0 where
     pub steps : ℕ
     pub many : (2 ^ 64 ≤ length (sequential words b n end steps).ran + 1) ⊎ ((p : ℕ) × (2 ^ 64 ≤ (sequential words b n end steps).serials p))
+
+  -- the run comes to 2^63 events, half of what 64 bits count, or one of its processes has sent so many that with what one event more would send,
+  -- in any state, they are 2^63. Of a model whose events send a few events each, that is so only of a run that is as long
+  pub record IsHalfTooLong : Type 0 where
+    pub steps : ℕ
+    pub many : (2 ^ 63 ≤ length (sequential words b n end steps).ran)
+        ⊎ ((p : ℕ) × (s : S) × (e : Event P) × (2 ^ 63 ≤ (sequential words b n end steps).serials p + length (b.drafts p s e)))

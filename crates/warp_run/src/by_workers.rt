@@ -1,7 +1,7 @@
 //! A run by workers, which run ahead of what is certain.
-ghost use Rattle.std.specs.Prelude.{⊤, ◌≡◌, ℕ, ◌≤◌, ◌<◌, suc, [], List, map, IfOk, IfErr};
+ghost use Rattle.std.specs.Prelude.{◌≡◌, ℕ, ◌≤◌, ◌<◌, suc, [], List, map, IfOk, IfErr};
 ghost use Rattle.warp_worker.specs.Workers.{Cell, worker_face};
-ghost use Rattle.warp_run.specs.Ends.{IsEnd, FaultsAt};
+ghost use Rattle.warp_run.specs.Ends.{IsEnd, FaultsAt, IsHalfTooLong};
 ghost use Rattle.warp_run.specs.Failures.{MatchFailure};
 ghost use Rattle.warp_run.specs.Worlds.{IsWorld};
 
@@ -9,6 +9,7 @@ use crate::finished::{Failure, Finished};
 use crate::observer::{Observer, RoundReport, Unobserved};
 use crate::options::Options;
 use crate::rounds::Rounds;
+use crate::times::Times;
 use crate::window::Window;
 use std::alloc::{AllocError, Global};
 use std::sync::Wait;
@@ -22,9 +23,9 @@ use warp_worker::{OpenSaver, Order, Worker};
 /// whose events are run too.
 ///
 /// What it returns is the end of the run in order, whatever the workers, the window, the period and
-/// the order in which threads run; or a fault that the run in order meets. It may answer that memory
-/// is wanting, or `TooManyEvents`, which it does where a process would have run or sent 2^64 events,
-/// some of which might have been undone, or all together ran as many: no clause says so.
+/// the order in which threads run; or a fault that the run in order meets; or `TooManyEvents`, where
+/// a process would have run or sent 2^64 events, or all together ran as many. Some of these might
+/// have been undone, but half of them are of the run in order. Or it answers that memory is wanting.
 pub fn simulate<M, R>(
     rt: &R,
     alloc: Global,
@@ -38,13 +39,15 @@ where
     R: Threads + Wait + Sync,
     ensures ok { IfOk result (λ f. IsEnd M.Payload.words (M.behaviour model.now)
         (M.processes model.now) options.now.end f.states.items f.committed) }
-    ensures failure { IfErr result (MatchFailure (FaultsAt M.Payload.words (M.behaviour model.now)
-        (M.processes model.now) options.now.end) ⊤) }
+    ensures failure { IfErr result (MatchFailure
+        (FaultsAt M.Payload.words (M.behaviour model.now) (M.processes model.now) options.now.end)
+        (IsHalfTooLong M.Payload.words (M.behaviour model.now) (M.processes model.now) options.now.end)) }
 {
     simulate_observed(rt, alloc, model, options, Unobserved)
 }
 
-/// Does what `simulate` does, and tells the observer after each round where the run stands.
+/// Does what `simulate` does, and tells the observer after each round where the run stands. Where it
+/// doesn't ask for the times of processes, none is collected.
 pub fn simulate_observed<M, R, O>(
     rt: &R,
     alloc: Global,
@@ -60,8 +63,9 @@ where
     O: Observer,
     ensures ok { IfOk result (λ f. IsEnd M.Payload.words (M.behaviour model.now)
         (M.processes model.now) options.now.end f.states.items f.committed) }
-    ensures failure { IfErr result (MatchFailure (FaultsAt M.Payload.words (M.behaviour model.now)
-        (M.processes model.now) options.now.end) ⊤) }
+    ensures failure { IfErr result (MatchFailure
+        (FaultsAt M.Payload.words (M.behaviour model.now) (M.processes model.now) options.now.end)
+        (IsHalfTooLong M.Payload.words (M.behaviour model.now) (M.processes model.now) options.now.end)) }
 {
     let workers = worker_count(rt, options.workers);
     let lanes = open_lanes::<M, WholeCopies<M::State>>(alloc, model, workers, options.period)?;
@@ -73,11 +77,25 @@ where
         window: Window::new(options.window),
         lanes,
         report: RoundReport::START,
+        times: first_times(alloc, model.processes(), &observer)?,
         observer,
     };
     match with_workers(rt, alloc, threads, rounds) {
         Ok(outcome) => outcome,
         Err(_) => Err(Failure::OutOfMemory),
+    }
+}
+
+/// The times of so many processes that have run nothing, where the observer asks for times.
+fn first_times<O: Observer>(
+    alloc: Global,
+    processes: u32,
+    observer: &O,
+) -> Result<Option<Times>, AllocError> {
+    if observer.asks_times() {
+        Ok(Some(Times::new(alloc, processes)?))
+    } else {
+        Ok(None)
     }
 }
 
@@ -121,9 +139,9 @@ impl<'a, M: Simulation, K: StateSaver<State = M::State>, O: Observer> Driver<
     Order<'a, M>,
     Worker<M::Payload, K>,
 > for Rounds<'a, M, K, O> {
-    ghost use Rattle.std.specs.Prelude.{⊤, [], List, map, IfOk, IfErr};
+    ghost use Rattle.std.specs.Prelude.{[], List, map, IfOk, IfErr};
     ghost use Rattle.warp_worker.specs.Workers.{Cell, worker_face};
-    ghost use Rattle.warp_run.specs.Ends.{IsEnd, FaultsAt};
+    ghost use Rattle.warp_run.specs.Ends.{IsEnd, FaultsAt, IsHalfTooLong};
     ghost use Rattle.warp_run.specs.Failures.{MatchFailure};
     ghost use Rattle.warp_run.specs.Worlds.{IsWorld};
 
@@ -133,7 +151,8 @@ impl<'a, M: Simulation, K: StateSaver<State = M::State>, O: Observer> Driver<
         0 rounds.end cells (map (worker_face K.state K.copies) rounds.lanes.items) [] };
 
     ghost drives = { λ rounds outcome. IfOk outcome (λ f. IsEnd M.Payload.words (M.behaviour rounds.model.now) (M.processes rounds.model.now) rounds.end f.states.items f.committed)
-        × IfErr outcome (MatchFailure (FaultsAt M.Payload.words (M.behaviour rounds.model.now) (M.processes rounds.model.now) rounds.end) ⊤) };
+        × IfErr outcome (MatchFailure (FaultsAt M.Payload.words (M.behaviour rounds.model.now) (M.processes rounds.model.now) rounds.end)
+        (IsHalfTooLong M.Payload.words (M.behaviour rounds.model.now) (M.processes rounds.model.now) rounds.end)) };
 
     fn drive<R: Wait>(
         self,
@@ -153,13 +172,17 @@ fn run_rounds<'a, M: Simulation, K: StateSaver<State = M::State>, O: Observer, R
     requires { (cells : List (Cell M.Payload M.State)) × IsWorld M.Payload.words (M.behaviour start.model.now) (M.processes start.model.now)
         0 start.end cells (map (worker_face K.state K.copies) start.lanes.items) [] }
     ensures ok { IfOk result (λ f. IsEnd M.Payload.words (M.behaviour start.entry.model.now) (M.processes start.entry.model.now) start.entry.end f.states.items f.committed) }
-    ensures failure { IfErr result (MatchFailure (FaultsAt M.Payload.words (M.behaviour start.entry.model.now) (M.processes start.entry.model.now) start.entry.end) ⊤) }
+    ensures failure { IfErr result (MatchFailure (FaultsAt M.Payload.words (M.behaviour start.entry.model.now) (M.processes start.entry.model.now) start.entry.end)
+        (IsHalfTooLong M.Payload.words (M.behaviour start.entry.model.now) (M.processes start.entry.model.now) start.entry.end)) }
 {
     let mut rounds = start;
     let mut bound = 0;
+    rounds.tell_times(bound);
     while let Some(next) = rounds.round(rt, threads, bound)? {
         rounds.note_round(next);
         bound = next;
     }
+    let end = rounds.end;
+    rounds.tell_times(end);
     rounds.finish()
 }

@@ -1,5 +1,6 @@
 //! What a simulation returns.
 ghost use Rattle.std.specs.Prelude.{◌≡◌, ◌⊎◌};
+ghost use Rattle.warp_process.specs.declared.run.RunError.TheVariants.{Counts};
 ghost use Rattle.warp_run.specs.declared.finished.Failure.TheVariants.{OutOfMemory, TooManyEvents};
 
 use std::alloc::{AllocError, AllocFailed};
@@ -28,7 +29,8 @@ pub enum Failure {
     /// such state; by workers it is one to which the run in order comes too, and maybe a later one.
     Fault { process: u32 },
     /// In order: the run has 2^64 - 1 events or more, or a process sends 2^64. By workers such a
-    /// count may be of events that would be undone, and no clause says that there is one.
+    /// count may be of events some of which would be undone: then the run in order has half as many at
+    /// least, or a process that sends so many with what one event more would send.
     TooManyEvents,
 }
 
@@ -49,7 +51,7 @@ impl<T: Drop> From<AllocFailed<T>> for Failure {
 }
 
 impl From<RunError> for Failure {
-    ghost from_gives = { λ _ f. (f ≡ OutOfMemory) ⊎ (f ≡ TooManyEvents) };
+    ghost from_gives = { λ e f. (f ≡ OutOfMemory) ⊎ ((f ≡ TooManyEvents) × (e ≡ Counts)) };
 
     fn from(error: RunError) -> Failure {
         match error {

@@ -16,6 +16,7 @@ mod options;
 mod progress;
 mod queue;
 mod rounds;
+mod times;
 mod window;
 
 pub use by_workers::{simulate, simulate_observed};

@@ -1,14 +1,15 @@
 //! Rounds of all workers, until nothing is left up to the end.
-ghost use Rattle.std.specs.Prelude.{⊤, ◌≡◌, ℕ, suc, ◌<◌, ◌≤◌, [], List, length, map, slice_get, Some, None, IfOk, IfErr, IfSome, IfNone};
+ghost use Rattle.std.specs.Prelude.{◌≡◌, ℕ, suc, ◌<◌, ◌≤◌, [], List, length, map, slice_get, Some, None, IfOk, IfErr, IfSome, IfNone};
 ghost use Rattle.warp_base.specs.Events.{Each};
 ghost use Rattle.warp_worker.specs.Workers.{WorkerFace, Cell, worker_face};
-ghost use Rattle.warp_run.specs.Ends.{IsEnd, FaultsAt};
+ghost use Rattle.warp_run.specs.Ends.{IsEnd, FaultsAt, IsHalfTooLong};
 ghost use Rattle.warp_run.specs.Failures.{MatchFailure};
 ghost use Rattle.warp_run.specs.Worlds.{IsWorld, IsNotBefore};
 
 use crate::exchange::exchange_all;
 use crate::finished::{Failure, Finished};
 use crate::observer::{Observer, RoundReport};
+use crate::times::Times;
 use crate::window::{BUDGET, Window};
 use std::alloc::{AllocError, Global};
 use std::sync::Wait;
@@ -26,12 +27,15 @@ pub(crate) struct Rounds<'a, M: Simulation, K, O> {
     pub(crate) window: Window,
     pub(crate) lanes: Vec<Worker<M::Payload, K>>,
     pub(crate) report: RoundReport,
+    /// The times of the processes, where the observer asks for them.
+    pub(crate) times: Option<Times>,
     pub(crate) observer: O,
 }
 
 /// The error that a worker met, if one did.
 fn first_error<P: Payload, K: StateSaver>(workers: &[Worker<P, K>]) -> Option<RunError>
-    ensures { IfNone result (Each (λ w. w.error ≡ None) workers.now) }
+    ensures none { IfNone result (Each (λ w. w.error ≡ None) workers.now) }
+    ensures some { IfSome result (λ e. (k : ℕ) × (w : Worker P K) × (slice_get workers.now k ≡ Some w) × (w.error ≡ Some e)) }
 {
     for worker in workers {
         if let Some(error) = worker.error() {
@@ -133,9 +137,11 @@ impl<'a, M: Simulation, K: StateSaver<State = M::State>, O: Observer> Rounds<'a,
             t self.old.end cells (map (worker_face K.state K.copies) self.new.lanes.items) []))) }
         ensures over { IfOk result (λ next. IfNone next ((cells : List (Cell M.Payload M.State)) × IsWorld M.Payload.words (M.behaviour self.old.model.now)
             (M.processes self.old.model.now) (suc self.old.end) self.old.end cells (map (worker_face K.state K.copies) self.new.lanes.items) [])) }
-        ensures failure { IfErr result (MatchFailure (FaultsAt M.Payload.words (M.behaviour self.old.model.now) (M.processes self.old.model.now) self.old.end) ⊤) }
+        ensures failure { IfErr result (MatchFailure (FaultsAt M.Payload.words (M.behaviour self.old.model.now) (M.processes self.old.model.now) self.old.end)
+            (IsHalfTooLong M.Payload.words (M.behaviour self.old.model.now) (M.processes self.old.model.now) self.old.end)) }
         ensures rest { self.new ≡ record self.old { lanes = self.new.lanes } }
     {
+        laws::sequential_run_is_sound::<M::Payload, M::State>();
         laws::bound_is_safe::<M::Payload, M::State>();
         laws::settled_states_are_real::<M::Payload, M::State>();
         exchange_all(self.alloc, &mut self.lanes)?;
@@ -156,7 +162,7 @@ impl<'a, M: Simulation, K: StateSaver<State = M::State>, O: Observer> Rounds<'a,
     /// Takes the last round into account before that at the next bound: how far workers run ahead is
     /// chosen, and the observer is told.
     pub(crate) fn note_round(&mut self, bound: u64)
-        ensures rest { self.new ≡ record self.old { window = self.new.window; report = self.new.report; observer = self.new.observer } }
+        ensures rest { self.new ≡ record self.old { window = self.new.window; report = self.new.report; times = self.new.times; observer = self.new.observer } }
     {
         let counts = total_counts(&self.lanes);
         self.window.adapt(self.lanes.len(), &counts);
@@ -170,6 +176,18 @@ impl<'a, M: Simulation, K: StateSaver<State = M::State>, O: Observer> Rounds<'a,
             counts,
         };
         self.observer.observe(&self.report);
+        self.tell_times(bound);
+    }
+
+    /// Tells the observer to what times the processes have come, if it asks for that: nothing before
+    /// the bound can change any more.
+    pub(crate) fn tell_times(&mut self, bound: u64)
+        ensures rest { self.new ≡ record self.old { times = self.new.times; observer = self.new.observer } }
+    {
+        if let Some(times) = &mut self.times {
+            times.note(&self.lanes);
+            self.observer.observe_times(bound, times.last());
+        }
     }
 
     /// What all processes come to, where nothing is left up to the end.
@@ -177,7 +195,8 @@ impl<'a, M: Simulation, K: StateSaver<State = M::State>, O: Observer> Rounds<'a,
         requires world { (cells : List (Cell M.Payload M.State)) × IsWorld M.Payload.words (M.behaviour self.model.now) (M.processes self.model.now)
             (suc self.end) self.end cells (map (worker_face K.state K.copies) self.lanes.items) [] }
         ensures ok { IfOk result (λ f. IsEnd M.Payload.words (M.behaviour self.entry.model.now) (M.processes self.entry.model.now) self.entry.end f.states.items f.committed) }
-        ensures failure { IfErr result (MatchFailure (FaultsAt M.Payload.words (M.behaviour self.entry.model.now) (M.processes self.entry.model.now) self.entry.end) ⊤) }
+        ensures failure { IfErr result (MatchFailure (FaultsAt M.Payload.words (M.behaviour self.entry.model.now) (M.processes self.entry.model.now) self.entry.end)
+            (IsHalfTooLong M.Payload.words (M.behaviour self.entry.model.now) (M.processes self.entry.model.now) self.entry.end)) }
     {
         laws::sequential_run_is_sound::<M::Payload, M::State>();
         laws::bound_is_safe::<M::Payload, M::State>();

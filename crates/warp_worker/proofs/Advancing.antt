@@ -8,8 +8,8 @@ use Rattle.warp_base.specs.Histories.{Behaviour}
 use Rattle.warp_base.proofs.Lists.{Each-weaker}
 use Rattle.warp_process.specs.Processes.{ProcessFace, bound_of}
 use Rattle.warp_worker.specs.Workers.{WorkerFace, Cell, IsWorker, IsReady, IsArrival, IsDeparture, IsIdleUntil, MayAdvance, HasAdvanced, TellsNext, TellsFailed, AreNumbered}
-use Rattle.warp_worker.specs.Moves.{HasMoved, Moves, IsDue, IsMidway, IsPendingFrom, TellsLeast}
-use Rattle.warp_worker.proofs.Midway.{arrivals_stay, moves_then}
+use Rattle.warp_worker.specs.Moves.{HasMoved, Moves, Commits, has, owes, IsDue, IsMidway, IsPendingFrom, TellsLeast}
+use Rattle.warp_worker.proofs.Midway.{arrivals_stay, add_up, moves_then}
 use Rattle.warp_worker.proofs.Telling.{tells_next}
 
 ready_of : {P S : Type 0} (bound end : ℕ) (fs : List (ProcessFace P S)) → Each (IsDue bound end) fs → Each (IsPendingFrom (suc bound)) fs → Each (IsReady bound (suc bound) end) fs
@@ -42,12 +42,13 @@ tells_again w v processes outbox bound None h = λ t. idle_again w v processes o
 tells_again w v processes outbox bound (Some next) h =
     (h.0, idle_again w v processes outbox next h.1, λ more. h.2 (idle_again v w (sym processes) (sym outbox) (suc next) more))
 
-module _ {P S : Type 0} (words : P → List ℕ) (b : Behaviour P S) (n bound end : ℕ) (old w new : WorkerFace P S) (mail : List (Message P)) where
-  pub advanced : MayAdvance bound end old → Moves words b old [] w mail → mail ≡ [] → IsMidway bound end n w mail → Each (IsPendingFrom (suc bound)) w.processes → w.inbox ≡ [] → w.first ≡ old.first → length w.processes ≡ length old.processes
+module _ {P S : Type 0} (words : P → List ℕ) (b : Behaviour P S) (n bound end : ℕ) (old v w new : WorkerFace P S) (mail : List (Message P)) where
+  pub advanced : MayAdvance bound end old → Commits words b old v → Moves words b v [] w mail → mail ≡ [] → IsMidway bound end n w mail → Each (IsPendingFrom (suc bound)) w.processes → w.inbox ≡ [] → w.first ≡ old.first → length w.processes ≡ length old.processes
       → new.processes ≡ w.processes → new.first ≡ w.first → new.inbox ≡ w.inbox → new.outbox ≡ w.outbox → TellsLeast (IsIdleUntil w) new.next → ((cells : List (Cell P S)) → IsWorker words b cells w → TellsFailed words b cells new.failed)
       → (cells : List (Cell P S)) → IsWorker words b cells old → HasAdvanced words b n bound end cells old new
-  advanced may moves empty midway pending inbox first count new_processes new_first new_inbox new_outbox next failed cells h =
-      let moved = moves cells h in
+  advanced may commits moves empty midway pending inbox first count new_processes new_first new_inbox new_outbox next failed cells h =
+      let done = commits cells h in
+      let moved = moves done.new_cells done.worker in
       let told = tells_next bound n w new.next pending midway.outbox next in
       record {
         new_cells = moved.new_cells;
@@ -63,7 +64,7 @@ module _ {P S : Type 0} (words : P → List ℕ) (b : Behaviour P S) (n bound en
         inbox = new_inbox ∙ inbox;
         outbox = subst (Each (IsDeparture bound n)) (sym new_outbox) midway.outbox;
         balance = λ e.
-            let all = moved.balance e in
+            let all = add_up words b (has words e cells old []) (owes words b e cells old []) (has words e done.new_cells v []) (owes words b e done.new_cells v []) (has words e moved.new_cells w mail) (owes words b e moved.new_cells w mail) (done.balance e) (moved.balance e) in
             let old_pos = ap (positives words e) may.outbox in
             let old_neg = ap (negatives words e) may.outbox in
             let in_pos = ap (positives words e) inbox in

@@ -30,6 +30,12 @@ module _ {P S : Type 0} where
   numbered-set first (x ∷ fs) zero f g h there same = let is : x ≡ f = cc in (same ∙ ap (λ (y : ProcessFace P S). y.number) (sym is) ∙ h.0, h.1)
   numbered-set first (x ∷ fs) (suc i) f g h there same = (h.0, numbered-set (suc first) fs i f g h.1 there same)
 
+-- an element is replaced by one that keeps something
+same_kept : {X Y : Type 0} (keep : X → Y) (xs : List X) (i : ℕ) (x y : X) → slice_get xs i ≡ Some x → keep y ≡ keep x → map keep (set xs i y) ≡ map keep xs
+same_kept keep [] i x y there same = refl
+same_kept keep (z ∷ xs) zero x y there same = let is : z ≡ x = cc in ap (λ k. k ∷ map keep xs) (same ∙ ap keep (sym is))
+same_kept keep (z ∷ xs) (suc i) x y there same = ap (λ l. keep z ∷ l) (same_kept keep xs i x y there same)
+
 module _ {P S : Type 0} (words : P → List ℕ) (b : Behaviour P S) where
   -- what a process takes and what it posts is accounted for
   pub record CellMoves (old new : Cell P S) (taken more : List (Message P)) : Type 0 where
@@ -38,14 +44,15 @@ module _ {P S : Type 0} (words : P → List ℕ) (b : Behaviour P S) where
     pub balance : (e : Event P) → stands words e new + waits words e old + sends words b e old + negatives words e taken + positives words e more
         ≡ stands words e old + waits words e new + sends words b e new + positives words e taken + negatives words e more
 
-  pub moved_at : (cells : List (Cell P S)) (w new : WorkerFace P S) (i : ℕ) (c d : Cell P S) (taken mail more : List (Message P)) → IsWorker words b cells w → slice_get cells i ≡ Some c → slice_get w.processes i ≡ Some c.1 → CellMoves c d taken more → new.processes ≡ set w.processes i d.1 → new.first ≡ w.first → new.inbox ≡ w.inbox → new.outbox ≡ w.outbox → HasMoved words b cells w (taken ++ mail) new (mail ++ more)
-  moved_at cells w new i c d taken mail more h at face_at moves processes first inbox outbox = record {
+  pub moved_at : (keep : Cell P S → List (Event P)) (cells : List (Cell P S)) (w new : WorkerFace P S) (i : ℕ) (c d : Cell P S) (taken mail more : List (Message P)) → IsWorker words b cells w → slice_get cells i ≡ Some c → slice_get w.processes i ≡ Some c.1 → keep d ≡ keep c → CellMoves c d taken more → new.processes ≡ set w.processes i d.1 → new.first ≡ w.first → new.inbox ≡ w.inbox → new.outbox ≡ w.outbox → HasMoved keep words b cells w (taken ++ mail) new (mail ++ more)
+  moved_at keep cells w new i c d taken mail more h at face_at same moves processes first inbox outbox = record {
     new_cells = set cells i d;
     worker = record {
       faces = map-set (λ (x : Cell P S). x.1) cells i d ∙ ap (λ l. set l i d.1) h.faces ∙ sym processes;
       are = Each-set (λ (x : Cell P S). IsProcess words b x.0 x.1) cells i d h.are moves.process;
       numbered = subst (λ k. AreNumbered k new.processes) (sym first) (subst (AreNumbered w.first) (sym processes) (numbered-set w.first w.processes i c.1 d.1 h.numbered face_at moves.number));
     };
+    kept = same_kept keep cells i c d at same;
     balance = λ e.
         let one = total-set (stands words e) cells i c d at in
         let two = total-set (waits words e) cells i c d at in

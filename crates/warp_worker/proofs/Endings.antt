@@ -105,6 +105,21 @@ module _ {P S : Type 0} (words : P → List ℕ) (b : Behaviour P S) where
             faces = others;
           }
 
+  -- where the processes that have come to their ends, and the next one, ran so many events, all did
+  pub ended_many : (cells : List (Cell P S)) (f : ProcessFace P S) (left : List (ProcessFace P S)) (old new newer : List S) (sum k most : ℕ) (told other : Option ℕ) → EndedUpTo cells (f ∷ left) old new sum told → ((past : List (Event P)) → IsProcess words b past f → HasEnded words b ((past, f) ∷ []) new newer k other) → most ≤ sum + k → most ≤ total end_count cells
+  ended_many cells f left old new newer sum k most told other h one many = go h.rest h.split h.are h.faces
+    where
+      go : (rest : List (Cell P S)) → cells ≡ h.done ++ rest → Each (λ (c : Cell P S). IsProcess words b c.0 c.1) rest → map (λ (c : Cell P S). c.1) rest ≡ f ∷ left → most ≤ total end_count cells
+      go [] split are faces = cc
+      go (c ∷ rest) split are faces =
+          let is_f : c.1 ≡ f = cc in
+          let process : IsProcess words b c.0 f = subst (IsProcess words b c.0) is_f are.0 in
+          let last : HasEnded words b (c ∷ []) new newer k other = subst (λ g. HasEnded words b ((c.0, g) ∷ []) new newer k other) (sym is_f) (one c.0 process) in
+          let all = ap (total end_count) split ∙ sum-append end_count h.done (c ∷ rest) in
+          let before = h.ended.count in
+          let now = last.count in
+          omega (arith, all, before, now, many)
+
   pub ended_all : (cells : List (Cell P S)) (left : List (ProcessFace P S)) (old new : List S) (sum : ℕ) (told : Option ℕ) → left ≡ [] → EndedUpTo cells left old new sum told → HasEnded words b cells old new sum told
   ended_all cells left old new sum told none h = all h.rest h.split (h.faces ∙ none)
     where

@@ -5,5 +5,7 @@ pub mod Replaced
 pub mod Loops
 pub mod Telling
 pub mod Advancing
+pub mod TooMany
 pub mod Openings
 pub mod Endings
+pub mod Times

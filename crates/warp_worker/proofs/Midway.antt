@@ -11,8 +11,8 @@ use Rattle.warp_base.proofs.Lists.{Each-append, Each-back, Each-weaker}
 use Rattle.warp_base.proofs.Orders.{TellsApart, Each-copy, precedes_time, in_order_back, in_order_drop}
 use Rattle.warp_process.specs.Processes.{ProcessFace, IsProcess, HasPosted, HasCommitted, done_of}
 use Rattle.warp_process.specs.Laws.{SentIsKept}
-use Rattle.warp_worker.specs.Workers.{WorkerFace, Cell, AreNumbered, IsWorker, IsArrival, IsDeparture, ran_of, to_run}
-use Rattle.warp_worker.specs.Moves.{has, owes, HasMoved, Moves, next_of, IsPendingFrom}
+use Rattle.warp_worker.specs.Workers.{WorkerFace, Cell, past_of, history_of, AreNumbered, IsWorker, IsArrival, IsDeparture, ran_of, to_run}
+use Rattle.warp_worker.specs.Moves.{has, owes, HasMoved, Moves, Commits, next_of, IsPendingFrom}
 
 Each-both : {X : Type 0} (Q R T : X → Type 0) → ((x : X) → Q x → R x → T x) → (xs : List X) → Each Q xs → Each R xs → Each T xs
 Each-both Q R T tells [] h g = tt
@@ -114,18 +114,28 @@ module _ {P S : Type 0} (words : P → List ℕ) where
 
 -- moves one after the other
 module _ {P S : Type 0} (words : P → List ℕ) (b : Behaviour P S) where
-  add_up : (x0 o0 x1 o1 x2 o2 : ℕ) → x1 + o0 ≡ x0 + o1 → x2 + o1 ≡ x1 + o2 → x2 + o0 ≡ x0 + o2
+  pub add_up : (x0 o0 x1 o1 x2 o2 : ℕ) → x1 + o0 ≡ x0 + o1 → x2 + o1 ≡ x1 + o2 → x2 + o0 ≡ x0 + o2
   add_up x0 o0 x1 o1 x2 o2 one two = omega (arith, one, two)
 
-  pub moves_then : (u v w : WorkerFace P S) (us vs ws : List (Message P)) → Moves words b u us v vs → Moves words b v vs w ws → Moves words b u us w ws
-  moves_then u v w us vs ws one two cells h =
+  moved_then : (keep : Cell P S → List (Event P)) (u v w : WorkerFace P S) (us vs ws : List (Message P)) → ((cells : List (Cell P S)) → IsWorker words b cells u → HasMoved keep words b cells u us v vs) → ((cells : List (Cell P S)) → IsWorker words b cells v → HasMoved keep words b cells v vs w ws) → (cells : List (Cell P S)) → IsWorker words b cells u → HasMoved keep words b cells u us w ws
+  moved_then keep u v w us vs ws one two cells h =
       let first = one cells h in
       let next = two first.new_cells first.worker in
       record {
         new_cells = next.new_cells;
         worker = next.worker;
+        kept = next.kept ∙ first.kept;
         balance = λ e. add_up (has words e cells u us) (owes words b e cells u us) (has words e first.new_cells v vs) (owes words b e first.new_cells v vs) (has words e next.new_cells w ws) (owes words b e next.new_cells w ws) (first.balance e) (next.balance e);
       }
+
+  pub moves_then : (u v w : WorkerFace P S) (us vs ws : List (Message P)) → Moves words b u us v vs → Moves words b v vs w ws → Moves words b u us w ws
+  moves_then = moved_then past_of
+
+  pub commits_then : (u v w : WorkerFace P S) → Commits words b u v → Commits words b v w → Commits words b u w
+  commits_then u v w = moved_then history_of u v w [] [] []
+
+  pub commits_none : (w : WorkerFace P S) → Commits words b w w
+  commits_none w cells h = record { new_cells = cells; worker = h; kept = refl; balance = λ e. refl }
 
   -- messages that only change their place
   pub moves_letters : (u v : WorkerFace P S) (us vs : List (Message P)) → v.processes ≡ u.processes → v.first ≡ u.first
@@ -135,5 +145,6 @@ module _ {P S : Type 0} (words : P → List ℕ) (b : Behaviour P S) where
   moves_letters u v us vs processes first pos neg cells h = record {
     new_cells = cells;
     worker = record { faces = h.faces ∙ sym processes; are = h.are; numbered = subst (λ k. AreNumbered k v.processes) (sym first) (subst (AreNumbered u.first) (sym processes) h.numbered) };
+    kept = refl;
     balance = λ e. let p = pos e in let n = neg e in omega (arith, p, n);
   }

@@ -1,5 +1,5 @@
 -- One process of a worker has gone on: it took a message, ran an event, or committed.
-use Rattle.std.proofs.Common.{◌≡◌, ℕ, zero, suc, ◌+◌, ◌<◌, ◌≤◌, Option, Some, List, [], ◌∷◌, ◌++◌, length, map, take, set, get_or, slice_get, refl, ap, sym, subst, ◌∙◌, arith}
+use Rattle.std.proofs.Common.{◌≡◌, ℕ, zero, suc, ◌+◌, ◌<◌, ◌≤◌, Option, Some, List, [], ◌∷◌, ◌++◌, length, map, take, set, get_or, slice_get, refl, ap, sym, subst, ◌∙◌, arith, append_assoc}
 use Rattle.std.proofs.lemmas.List.{append-nil, map-set, length-set, length-map}
 use Rattle.std.proofs.lemmas.Option.{slice_get_within}
 use Rattle.warp_base.specs.declared.event.Event.{Event}
@@ -12,8 +12,8 @@ use Rattle.warp_base.proofs.Lists.{Each-append, Each-back, Each-weaker}
 use Rattle.warp_base.proofs.Orders.{TellsApart}
 use Rattle.warp_process.specs.Processes.{ProcessFace, IsProcess, IsSomeProcess, Stays, UndoesFrom, HasTakenMessage, HasPosted, HasCommitted, bound_of, done_of}
 use Rattle.warp_process.specs.Laws.{SentIsKept}
-use Rattle.warp_worker.specs.Workers.{WorkerFace, Cell, total, IsWorker, IsReady, IsArrival, IsDeparture, ran_of, to_run}
-use Rattle.warp_worker.specs.Moves.{HasMoved, Moves, IsDue, IsMidway, KeepsPending, IsPendingFrom, next_of, all_to_run, all_sent_since}
+use Rattle.warp_worker.specs.Workers.{WorkerFace, Cell, past_of, history_of, total, IsWorker, IsReady, IsArrival, IsDeparture, ran_of, to_run}
+use Rattle.warp_worker.specs.Moves.{HasMoved, Moves, Commits, IsDue, IsMidway, KeepsPending, IsPendingFrom, next_of, all_to_run, all_sent_since}
 use Rattle.warp_worker.proofs.Places.{Each-at, Each-set, Each-take-set, total-set, take-set}
 use Rattle.warp_worker.proofs.Cells.{cell_at, CellMoves, moved_at, posts, takes, commits}
 use Rattle.warp_worker.proofs.Midway.{arrivals_stay, departures, run_pending, run_fewer, run_until, next_late, commit_to_run, commit_ran}
@@ -63,14 +63,16 @@ module _ {P S : Type 0} (words : P → List ℕ) (w new : WorkerFace P S) (place
   pub replaced_total : (count : ProcessFace P S → ℕ) → total count new.processes + count f ≡ total count w.processes + count g
   replaced_total count = let sum = total-set count w.processes place f g one.get in let is = ap (total count) one.put in omega (arith, sum, is)
 
-  pub replaced_moves : (b : Behaviour P S) (next_past : List (Event P) → List (Event P)) (taken mail more new_mail : List (Message P)) → ((past : List (Event P)) → IsProcess words b past f → CellMoves words b (past, f) (next_past past, g) taken more) → new_mail ≡ mail ++ more → Moves words b w (taken ++ mail) new new_mail
-  replaced_moves b next_past taken mail more new_mail step is cells h =
+  pub replaced_moves : (keep : Cell P S → List (Event P)) (b : Behaviour P S) (next_past : List (Event P) → List (Event P)) (taken mail more new_mail : List (Message P)) → ((past : List (Event P)) → keep (next_past past, g) ≡ keep (past, f)) → ((past : List (Event P)) → IsProcess words b past f → CellMoves words b (past, f) (next_past past, g) taken more) → new_mail ≡ mail ++ more
+      → (cells : List (Cell P S)) → IsWorker words b cells w → HasMoved keep words b cells w (taken ++ mail) new new_mail
+  replaced_moves keep b next_past taken mail more new_mail same step is cells h =
       let c = cell_at cells place f (ap (λ l. slice_get l place) h.faces ∙ one.get) in
       let past = c.0.0 in
       let process = subst (IsProcess words b past) c.2 (Each-at (λ (x : Cell P S). IsProcess words b x.0 x.1) cells place c.0 h.are c.1) in
       let moves = subst (λ x. CellMoves words b (past, x) (next_past past, g) taken more) (sym c.2) (step past process) in
-      let all = moved_at words b cells w new place c.0 (next_past past, g) taken mail more h c.1 (one.get ∙ ap Some (sym c.2)) moves one.put one.first one.inbox one.outbox in
-      subst (HasMoved words b cells w (taken ++ mail) new) (sym is) all
+      let alike = subst (λ x. keep (next_past past, g) ≡ keep (past, x)) (sym c.2) (same past) in
+      let all = moved_at words b keep cells w new place c.0 (next_past past, g) taken mail more h c.1 (one.get ∙ ap Some (sym c.2)) alike moves one.put one.first one.inbox one.outbox in
+      subst (HasMoved keep words b cells w (taken ++ mail) new) (sym is) all
 
   -- where the process is due, so is the worker
   pub replaced_midway : (bound end n : ℕ) (mail more new_mail : List (Message P)) → IsMidway bound end n w mail → g.last ≡ f.last → ((t : ℕ) → Each (λ (e : Event P). e.time ≤ t) (ran_of f) → t ≡ end → Each (λ (e : Event P). e.time ≤ t) (ran_of g)) → new_mail ≡ mail ++ more → Each (IsDeparture bound n) more → IsMidway bound end n new new_mail
@@ -85,7 +87,7 @@ module _ {P S : Type 0} (words : P → List ℕ) (w new : WorkerFace P S) (place
     -- the process took a message
     module _ (m : Message P) (mail new_mail : List (Message P)) (stays : (past : List (Event P)) → IsProcess words b past f → IsProcess words b past g) (taken : HasTakenMessage words m f g) (undone : UndoesFrom (event_of m).time f g) (posted : HasPosted words (event_of m).time f.sent g.sent mail new_mail) (last : g.last ≡ f.last) (number : g.number ≡ f.number) where
       pub took_moves : Moves words b w (m ∷ mail) new new_mail
-      took_moves = replaced_moves b (λ past. past) (m ∷ []) mail posted.more new_mail (λ past is. takes words b kept past f g (event_of m).time m mail new_mail is (stays past is) number taken posted) posted.appended
+      took_moves = replaced_moves past_of b (λ past. past) (m ∷ []) mail posted.more new_mail (λ past. refl) (λ past is. takes words b kept past f g (event_of m).time m mail new_mail is (stays past is) number taken posted) posted.appended
 
       pub took_midway : IsMidway bound end n w mail → bound ≤ (event_of m).time → IsMidway bound end n new new_mail
       took_midway midway late =
@@ -99,7 +101,7 @@ module _ {P S : Type 0} (words : P → List ℕ) (w new : WorkerFace P S) (place
     -- the process ran an event
     module _ (e : Event P) (mail new_mail : List (Message P)) (stays : (past : List (Event P)) → IsProcess words b past f → IsProcess words b past g) (there : next_of f ≡ Some e) (events : g.events ≡ f.events) (marks : length g.marks ≡ length f.marks + 1) (early : g.early ≡ f.early) (posted : HasPosted words e.time f.sent g.sent mail new_mail) (last : g.last ≡ f.last) (number : g.number ≡ f.number) where
       pub ran_moves : Moves words b w mail new new_mail
-      ran_moves = replaced_moves b (λ past. past) [] mail posted.more new_mail (λ past is. posts words b kept past f g e.time [] mail new_mail is (stays past is) number posted (λ x. let some = ap (copies words x) events in let back = ap (copies words x) early in omega (arith, some, back))) posted.appended
+      ran_moves = replaced_moves past_of b (λ past. past) [] mail posted.more new_mail (λ past. refl) (λ past is. posts words b kept past f g e.time [] mail new_mail is (stays past is) number posted (λ x. let some = ap (copies words x) events in let back = ap (copies words x) early in omega (arith, some, back))) posted.appended
 
       pub ran_midway : IsMidway bound end n w mail → bound ≤ e.time → e.time ≤ end → IsMidway bound end n new new_mail
       ran_midway midway late soon =
@@ -115,8 +117,8 @@ module _ {P S : Type 0} (words : P → List ℕ) (w new : WorkerFace P S) (place
 
   -- the process committed
   module _ (time bound end : ℕ) (at : bound ≡ suc time) (out new_out : List (Event P)) (done : HasCommitted words time f g out new_out) where
-    pub committed_moves : (b : Behaviour P S) → Moves words b w [] new []
-    committed_moves b = replaced_moves b (λ past. past ++ done.gone) [] [] [] [] (λ past is. commits words b past f g time out new_out is done) refl
+    pub committed_moves : (b : Behaviour P S) → Commits words b w new
+    committed_moves b = replaced_moves history_of b (λ past. past ++ done.gone) [] [] [] [] (λ past. append_assoc past done.gone g.events ∙ ap (λ l. past ++ l) (sym done.whole)) (λ past is. commits words b past f g time out new_out is done) refl
 
     committed_last : bound_of g.last ≡ bound
     committed_last = let is = ap bound_of done.last in omega (arith, is, at)

@@ -1,3 +1,4 @@
 pub mod Workers
 pub mod Moves
 pub mod Endings
+pub mod Times

@@ -1,12 +1,12 @@
 -- What the calls of a worker do within a round, in which messages between its own processes are on their way: its mail.
-use Rattle.std.specs.Prelude.{◌≡◌, ℕ, suc, ◌+◌, ◌≤◌, min, Option, Some, None, List, length, slice_get}
+use Rattle.std.specs.Prelude.{◌≡◌, ℕ, suc, ◌+◌, ◌≤◌, min, Option, Some, None, List, [], length, map, slice_get}
 use Rattle.warp_base.specs.declared.event.Event.{Event}
 use Rattle.warp_base.specs.declared.event.Message.{Message}
 use Rattle.warp_base.specs.Events.{Each, AreFrom}
 use Rattle.warp_base.specs.Messages.{positives, negatives}
 use Rattle.warp_base.specs.Histories.{Behaviour}
 use Rattle.warp_process.specs.Processes.{ProcessFace, bound_of}
-use Rattle.warp_worker.specs.Workers.{WorkerFace, Cell, total, stands, waits, sends, IsWorker, IsArrival, IsDeparture, ran_of, to_run}
+use Rattle.warp_worker.specs.Workers.{WorkerFace, Cell, total, stands, waits, sends, past_of, history_of, IsWorker, IsArrival, IsDeparture, ran_of, to_run}
 
 module _ {P S : Type 0} where
   -- how often an event stands with the worker or comes to it, and how often it is sent or taken back
@@ -18,15 +18,19 @@ module _ {P S : Type 0} where
   owes words b e cells w mail =
       total (waits words e) cells + total (sends words b e) cells + negatives words e w.inbox + negatives words e mail + negatives words e w.outbox
 
-  -- what a worker has beside what it owes is as it was
-  pub record HasMoved (words : P → List ℕ) (b : Behaviour P S) (cells : List (Cell P S)) (old : WorkerFace P S) (mail : List (Message P)) (new : WorkerFace P S) (new_mail : List (Message P)) : Type 0 where
+  -- what a worker has beside what it owes is as it was, and so is something of each process and its past
+  pub record HasMoved (keep : Cell P S → List (Event P)) (words : P → List ℕ) (b : Behaviour P S) (cells : List (Cell P S)) (old : WorkerFace P S) (mail : List (Message P)) (new : WorkerFace P S) (new_mail : List (Message P)) : Type 0 where
     pub new_cells : List (Cell P S)
     pub worker : IsWorker words b new_cells new
+    pub kept : map keep new_cells ≡ map keep cells
     pub balance : (e : Event P) → has words e new_cells new new_mail + owes words b e cells old mail ≡ has words e cells old mail + owes words b e new_cells new new_mail
 
-  -- it is so whatever pasts the processes have
+  -- it is so whatever pasts the processes have: these stay, or, where they grow by a commit, the past and the events since together
   abbrev pub Moves : (P → List ℕ) → Behaviour P S → WorkerFace P S → List (Message P) → WorkerFace P S → List (Message P) → Type 0
-  Moves words b old mail new new_mail = (cells : List (Cell P S)) → IsWorker words b cells old → HasMoved words b cells old mail new new_mail
+  Moves words b old mail new new_mail = (cells : List (Cell P S)) → IsWorker words b cells old → HasMoved past_of words b cells old mail new new_mail
+
+  abbrev pub Commits : (P → List ℕ) → Behaviour P S → WorkerFace P S → WorkerFace P S → Type 0
+  Commits words b old new = (cells : List (Cell P S)) → IsWorker words b cells old → HasMoved history_of words b cells old [] new []
 
   -- all before the bound is committed, and nothing later than the end was run since
   pub record IsDue (bound end : ℕ) (f : ProcessFace P S) : Type 0 where

@@ -1,10 +1,10 @@
 -- What is true of a worker between two rounds, and what a round does to it.
-use Rattle.std.specs.Prelude.{⊤, ◌≡◌, ℕ, suc, ◌+◌, ◌<◌, ◌≤◌, false, Option, Some, None, List, [], ◌∷◌, ◌++◌, length, map, take, drop, slice_get}
+use Rattle.std.specs.Prelude.{⊤, ◌≡◌, ℕ, suc, ◌+◌, ◌^◌, ◌<◌, ◌≤◌, ◌⊎◌, false, Option, Some, None, List, [], ◌∷◌, ◌++◌, length, map, take, drop, slice_get}
 use Rattle.warp_base.specs.declared.event.Event.{Event}
 use Rattle.warp_base.specs.declared.event.Message.{Message}
 use Rattle.warp_base.specs.Events.{Each, copies, AreFrom}
 use Rattle.warp_base.specs.Messages.{event_of, positives, negatives, AreMessagesFrom}
-use Rattle.warp_base.specs.Histories.{Behaviour, state_after, all_sent}
+use Rattle.warp_base.specs.Histories.{Behaviour, state_after, all_sent, earlier}
 use Rattle.warp_process.specs.Processes.{ProcessFace, face, IsProcess, bound_of, done_of}
 use Rattle.warp_process.specs.Laws.{IsFaultyPast}
 use Rattle.warp_worker.specs.declared.worker.Worker.{Worker}
@@ -32,6 +32,13 @@ worker_face state copies w = record {
 -- a process with its committed past, which no process keeps
 abbrev pub Cell : (P S : Type 0) → Type 0
 Cell P S = List (Event P) × ProcessFace P S
+
+-- the committed past of a process, and all its events
+abbrev pub past_of : {P S : Type 0} → Cell P S → List (Event P)
+past_of c = c.0
+
+abbrev pub history_of : {P S : Type 0} → Cell P S → List (Event P)
+history_of c = c.0 ++ c.1.events
 
 -- a number of each element, added up
 abbrev pub total : {X : Type 0} → (X → ℕ) → List X → ℕ
@@ -107,6 +114,20 @@ TellsFailed {P} {S} words b cells None =
     Each (λ (c : Cell P S). (k : ℕ) → k ≤ length c.0 → b.faulty (state_after b c.1.number (take k c.0)) ≡ false) cells
 TellsFailed {P} {S} words b cells (Some p) =
     (i : ℕ) × (c : Cell P S) × (slice_get cells i ≡ Some c) × (c.1.number ≡ p) × IsFaultyPast words S b p c.0
+
+-- one of the processes from number `first` on, of these pasts, has committed 2^63 events, which is half of what 64 bits count; or it has sent so
+-- many by what it committed that with what one event more would send they are 2^63
+pub record HasTooMany {P S : Type 0} (b : Behaviour P S) (first : ℕ) (pasts : List (List (Event P))) : Type 0 where
+  pub place : ℕ
+  pub past : List (Event P)
+  pub there : slice_get pasts place ≡ Some past
+  pub state : S
+  pub event : Event P
+  pub many : (2 ^ 63 ≤ length past) ⊎ (2 ^ 63 ≤ length (all_sent b (first + place) past) + length (b.drafts (first + place) state event))
+
+-- what stands of a process below the bound
+abbrev pub settled_of : {P S : Type 0} → ℕ → Cell P S → List (Event P)
+settled_of bound c = earlier bound (history_of c)
 
 -- what a round of n processes up to the end does: all below its bound is committed, all messages are taken, and all events at the bound are
 -- run. `balance`: what stands and what went out is accounted for, event by event

@@ -3,7 +3,7 @@ ghost use Rattle.std.specs.Prelude.{◌≡◌, ℕ, ◌+◌, ◌<◌, ◌≤◌,
 ghost use Rattle.warp_base.specs.Events.{Each, AreFrom};
 ghost use Rattle.warp_process.specs.Processes.{ProcessFace, bound_of};
 ghost use Rattle.warp_worker.specs.Workers.{Cell, worker_face, IsWorker, IsReady};
-ghost use Rattle.warp_worker.specs.Moves.{Moves, IsDue, IsPendingFrom};
+ghost use Rattle.warp_worker.specs.Moves.{Commits, IsDue, IsPendingFrom};
 
 use crate::order::Order;
 use crate::worker::Worker;
@@ -25,8 +25,8 @@ impl<P: Payload, K: StateSaver> Worker<P, K> {
         requires ready { Each (IsReady order.now.bound order.now.bound order.now.end) (worker_face K.state K.copies self.old).processes }
         requires early { Each (λ (f : ProcessFace P K.State). AreFrom order.now.bound f.early) (worker_face K.state K.copies self.old).processes }
         requires before { Each (IsDue order.now.bound order.now.end) (take place (worker_face K.state K.copies self.old).processes) }
-        ensures moved { OnOk result (Moves P.words (M.behaviour order.now.model.now) (worker_face K.state K.copies self.old) []
-            (worker_face K.state K.copies self.new) []) }
+        ensures moved { OnOk result (Commits P.words (M.behaviour order.now.model.now) (worker_face K.state K.copies self.old)
+            (worker_face K.state K.copies self.new)) }
         ensures ready { OnOk result (Each (IsReady order.now.bound order.now.bound order.now.end) (worker_face K.state K.copies self.new).processes) }
         ensures early { OnOk result (Each (λ (f : ProcessFace P K.State). AreFrom order.now.bound f.early) (worker_face K.state K.copies self.new).processes) }
         ensures before { OnOk result (Each (IsDue order.now.bound order.now.end) (take (place + 1) (worker_face K.state K.copies self.new).processes)) }
@@ -45,8 +45,8 @@ impl<P: Payload, K: StateSaver> Worker<P, K> {
         requires worker { (cells : List (Cell P K.State)) × IsWorker P.words (M.behaviour order.now.model.now) cells (worker_face K.state K.copies self.old) }
         requires ready { Each (IsReady order.now.bound order.now.bound order.now.end) (worker_face K.state K.copies self.old).processes }
         requires early { Each (λ (f : ProcessFace P K.State). AreFrom order.now.bound f.early) (worker_face K.state K.copies self.old).processes }
-        ensures moved { OnOk result (Moves P.words (M.behaviour order.now.model.now) (worker_face K.state K.copies self.old) []
-            (worker_face K.state K.copies self.new) []) }
+        ensures moved { OnOk result (Commits P.words (M.behaviour order.now.model.now) (worker_face K.state K.copies self.old)
+            (worker_face K.state K.copies self.new)) }
         ensures due { OnOk result (Each (IsDue order.now.bound order.now.end) (worker_face K.state K.copies self.new).processes) }
         ensures pending { OnOk result (Each (IsPendingFrom order.now.bound) (worker_face K.state K.copies self.new).processes) }
         ensures count { length self.new.processes.items ≡ length self.old.processes.items }

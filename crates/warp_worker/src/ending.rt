@@ -1,8 +1,9 @@
 //! The end of a worker.
-ghost use Rattle.std.specs.Prelude.{◌≡◌, ℕ, ◌+◌, List, [], ◌∷◌, Option, Some, None, IfOk};
+ghost use Rattle.std.specs.Prelude.{◌≡◌, ℕ, ◌+◌, ◌^◌, ◌≤◌, List, [], ◌∷◌, length, Option, Some, None, Err, IfOk, IfErr};
 ghost use Rattle.warp_base.specs.declared.event.Event.{Event};
-ghost use Rattle.warp_process.specs.Processes.{face, IsProcess};
-ghost use Rattle.warp_worker.specs.Workers.{Cell, IsWorker, HasEnded, worker_face};
+ghost use Rattle.warp_process.specs.Processes.{face, IsProcess, done_of};
+ghost use Rattle.warp_process.specs.declared.run.RunError.TheVariants.{Memory, Counts};
+ghost use Rattle.warp_worker.specs.Workers.{Cell, total, IsWorker, HasEnded, worker_face};
 ghost use Rattle.warp_worker.specs.Endings.{first_told, told_of};
 
 use crate::worker::Worker;
@@ -47,8 +48,9 @@ fn end_process<P: Payload, K: StateSaver, M: Simulation<Payload = P, State = K::
     states: &mut Vec<K::State>,
 ) -> Result<Ended, RunError>
     requires process { (past : List (Event P)) × IsProcess P.words (M.behaviour model.now) past (face K.state K.copies process) }
-    ensures { IfOk result (λ e. (past : List (Event P)) → IsProcess P.words (M.behaviour model.now) past (face K.state K.copies process)
+    ensures ended { IfOk result (λ e. (past : List (Event P)) → IsProcess P.words (M.behaviour model.now) past (face K.state K.copies process)
         → HasEnded P.words (M.behaviour model.now) ((past, face K.state K.copies process) ∷ []) states.old.items states.new.items e.count e.failed) }
+    ensures memory { IfErr result (λ e. e ≡ Memory) }
 {
     let mut last = process;
     last.catch_up(alloc, model)?;
@@ -69,8 +71,10 @@ impl<P: Payload, K: StateSaver> Worker<P, K> {
         states: &mut Vec<K::State>,
     ) -> Result<Ended, RunError>
         requires worker { (cells : List (Cell P K.State)) × IsWorker P.words (M.behaviour model.now) cells (worker_face K.state K.copies self) }
-        ensures { IfOk result (λ e. (cells : List (Cell P K.State)) → IsWorker P.words (M.behaviour model.now) cells (worker_face K.state K.copies self)
+        ensures ended { IfOk result (λ e. (cells : List (Cell P K.State)) → IsWorker P.words (M.behaviour model.now) cells (worker_face K.state K.copies self)
             → HasEnded P.words (M.behaviour model.now) cells states.old.items states.new.items e.count e.failed) }
+        ensures many { result ≡ Err Counts → (cells : List (Cell P K.State)) → IsWorker P.words (M.behaviour model.now) cells (worker_face K.state K.copies self)
+            → 2 ^ 64 ≤ total (λ (c : Cell P K.State). length (done_of c.0 c.1)) cells }
     {
         let mut count: u64 = 0;
         let mut failed = None;

@@ -1,6 +1,7 @@
 //! A round.
-ghost use Rattle.std.specs.Prelude.{◌≡◌, ℕ, List, None, OnOk};
-ghost use Rattle.warp_worker.specs.Workers.{Cell, worker_face, IsWorker, MayAdvance, HasAdvanced};
+ghost use Rattle.std.specs.Prelude.{◌≡◌, ℕ, List, map, Err, OnOk};
+ghost use Rattle.warp_process.specs.declared.run.RunError.TheVariants.{Counts};
+ghost use Rattle.warp_worker.specs.Workers.{Cell, worker_face, settled_of, IsWorker, MayAdvance, HasAdvanced, HasTooMany};
 
 use crate::order::Order;
 use crate::worker::Worker;
@@ -16,9 +17,11 @@ impl<P: Payload, K: StateSaver> Worker<P, K> {
     ) -> Result<(), RunError>
         requires may { MayAdvance order.now.bound order.now.end (worker_face K.state K.copies self.old) }
         requires worker { (cells : List (Cell P K.State)) × IsWorker P.words (M.behaviour order.now.model.now) cells (worker_face K.state K.copies self.old) }
-        ensures { OnOk result ((cells : List (Cell P K.State)) → IsWorker P.words (M.behaviour order.now.model.now) cells (worker_face K.state K.copies self.old)
+        ensures advanced { OnOk result ((cells : List (Cell P K.State)) → IsWorker P.words (M.behaviour order.now.model.now) cells (worker_face K.state K.copies self.old)
             → HasAdvanced P.words (M.behaviour order.now.model.now) (M.processes order.now.model.now) order.now.bound order.now.end cells
             (worker_face K.state K.copies self.old) (worker_face K.state K.copies self.new)) }
+        ensures many { result ≡ Err Counts → (cells : List (Cell P K.State)) → IsWorker P.words (M.behaviour order.now.model.now) cells (worker_face K.state K.copies self.old)
+            → HasTooMany (M.behaviour order.now.model.now) self.old.first (map (settled_of order.now.bound) cells) }
     {
         let mut mail = Vec::new(order.alloc);
         self.commit(order)?;
@@ -35,16 +38,20 @@ impl<P: Payload, K: StateSaver> Worker<P, K> {
 
 impl<'a, M: Simulation, K: StateSaver<State = M::State>> Lane<Order<'a, M>>
     for Worker<M::Payload, K> {
-    ghost use Rattle.std.specs.Prelude.{◌≡◌, List, None};
-    ghost use Rattle.warp_worker.specs.Workers.{Cell, worker_face, IsWorker, MayAdvance, HasAdvanced};
+    ghost use Rattle.std.specs.Prelude.{◌≡◌, List, map, Some, None};
+    ghost use Rattle.warp_process.specs.declared.run.RunError.TheVariants.{Counts};
+    ghost use Rattle.warp_worker.specs.Workers.{Cell, worker_face, settled_of, IsWorker, MayAdvance, HasAdvanced, HasTooMany};
 
     ghost can_advance = { λ order worker. MayAdvance order.bound order.end (worker_face K.state K.copies worker)
         × ((cells : List (Cell M.Payload M.State)) × IsWorker M.Payload.words (M.behaviour order.model.now) cells (worker_face K.state K.copies worker)) };
 
-    ghost advances = { λ order old new. new.error ≡ None → (cells : List (Cell M.Payload M.State))
+    ghost advances = { λ order old new. (new.error ≡ None → (cells : List (Cell M.Payload M.State))
         → IsWorker M.Payload.words (M.behaviour order.model.now) cells (worker_face K.state K.copies old)
         → HasAdvanced M.Payload.words (M.behaviour order.model.now) (M.processes order.model.now) order.bound order.end cells
-        (worker_face K.state K.copies old) (worker_face K.state K.copies new) };
+        (worker_face K.state K.copies old) (worker_face K.state K.copies new))
+        × (new.error ≡ Some Counts → (cells : List (Cell M.Payload M.State))
+        → IsWorker M.Payload.words (M.behaviour order.model.now) cells (worker_face K.state K.copies old)
+        → HasTooMany (M.behaviour order.model.now) old.first (map (settled_of order.bound) cells)) };
 
     fn advance(&mut self, order: &Order<'a, M>) {
         self.error = self.run_round(order).err();

@@ -1,7 +1,8 @@
 //! Events are run.
-ghost use Rattle.std.specs.Prelude.{◌≡◌, ℕ, ◌+◌, ◌<◌, ◌≤◌, ◌↔◌, suc, List, [], length, take, IsTrue, OnOk, IfSome};
+ghost use Rattle.std.specs.Prelude.{◌≡◌, ℕ, ◌+◌, ◌<◌, ◌≤◌, ◌↔◌, suc, List, [], length, map, take, IsTrue, Err, OnOk, IfSome};
 ghost use Rattle.warp_base.specs.Events.{Each};
-ghost use Rattle.warp_worker.specs.Workers.{Cell, worker_face, IsWorker};
+ghost use Rattle.warp_process.specs.declared.run.RunError.TheVariants.{Counts};
+ghost use Rattle.warp_worker.specs.Workers.{Cell, worker_face, past_of, IsWorker, HasTooMany};
 ghost use Rattle.warp_worker.specs.Moves.{Moves, IsMidway, IsPendingFrom, KeepsPending, HasNextUntil, all_to_run};
 
 use crate::order::Order;
@@ -36,6 +37,8 @@ impl<P: Payload, K: StateSaver> Worker<P, K> {
         requires next { HasNextUntil order.now.end place (worker_face K.state K.copies self.old) }
         ensures moved { OnOk result (Moves P.words (M.behaviour order.now.model.now) (worker_face K.state K.copies self.old) mail.old.items
             (worker_face K.state K.copies self.new) mail.new.items) }
+        ensures many { result ≡ Err Counts → (cells : List (Cell P K.State)) → IsWorker P.words (M.behaviour order.now.model.now) cells (worker_face K.state K.copies self.old)
+            → HasTooMany (M.behaviour order.now.model.now) self.old.first (map past_of cells) }
         ensures midway { OnOk result (IsMidway order.now.bound order.now.end (M.processes order.now.model.now) (worker_face K.state K.copies self.new) mail.new.items) }
         ensures pending { OnOk result ((time : ℕ) → Each (IsPendingFrom time) (worker_face K.state K.copies self.old).processes
             → Each (IsPendingFrom time) (worker_face K.state K.copies self.new).processes) }
@@ -67,6 +70,8 @@ impl<P: Payload, K: StateSaver> Worker<P, K> {
         requires pending { Each (IsPendingFrom order.now.bound) (worker_face K.state K.copies self.old).processes }
         ensures moved { OnOk result (Moves P.words (M.behaviour order.now.model.now) (worker_face K.state K.copies self.old) mail.old.items
             (worker_face K.state K.copies self.new) mail.new.items) }
+        ensures many { result ≡ Err Counts → (cells : List (Cell P K.State)) → IsWorker P.words (M.behaviour order.now.model.now) cells (worker_face K.state K.copies self.old)
+            → HasTooMany (M.behaviour order.now.model.now) self.old.first (map past_of cells) }
         ensures midway { OnOk result (IsMidway order.now.bound order.now.end (M.processes order.now.model.now) (worker_face K.state K.copies self.new) mail.new.items) }
         ensures pending { OnOk result (Each (IsPendingFrom order.now.bound) (worker_face K.state K.copies self.new).processes) }
         ensures done { OnOk result (HasNextUntil order.now.bound place (worker_face K.state K.copies self.new) → ⊥) }
@@ -92,6 +97,8 @@ impl<P: Payload, K: StateSaver> Worker<P, K> {
         requires pending { Each (IsPendingFrom order.now.bound) (worker_face K.state K.copies self.old).processes }
         ensures moved { OnOk result (Moves P.words (M.behaviour order.now.model.now) (worker_face K.state K.copies self.old) mail.old.items
             (worker_face K.state K.copies self.new) mail.new.items) }
+        ensures many { result ≡ Err Counts → (cells : List (Cell P K.State)) → IsWorker P.words (M.behaviour order.now.model.now) cells (worker_face K.state K.copies self.old)
+            → HasTooMany (M.behaviour order.now.model.now) self.old.first (map past_of cells) }
         ensures midway { OnOk result (IsMidway order.now.bound order.now.end (M.processes order.now.model.now) (worker_face K.state K.copies self.new) mail.new.items) }
         ensures pending { OnOk result (Each (IsPendingFrom (suc order.now.bound)) (worker_face K.state K.copies self.new).processes) }
         ensures count { length self.new.processes.items ≡ length self.old.processes.items }
@@ -127,6 +134,8 @@ impl<P: Payload, K: StateSaver> Worker<P, K> {
         requires empty { mail.old.items ≡ [] }
         ensures moved { OnOk result (Moves P.words (M.behaviour order.now.model.now) (worker_face K.state K.copies self.old) mail.old.items
             (worker_face K.state K.copies self.new) mail.new.items) }
+        ensures many { result ≡ Err Counts → (cells : List (Cell P K.State)) → IsWorker P.words (M.behaviour order.now.model.now) cells (worker_face K.state K.copies self.old)
+            → HasTooMany (M.behaviour order.now.model.now) self.old.first (map past_of cells) }
         ensures midway { OnOk result (IsMidway order.now.bound order.now.end (M.processes order.now.model.now) (worker_face K.state K.copies self.new) mail.new.items) }
         ensures pending { OnOk result (Each (IsPendingFrom (suc order.now.bound)) (worker_face K.state K.copies self.new).processes) }
         ensures empty { OnOk result (mail.new.items ≡ []) }

@@ -4,8 +4,10 @@ ghost use Rattle.warp_base.specs.declared.event.Event.{Event};
 ghost use Rattle.warp_base.specs.Events.{Each};
 ghost use Rattle.warp_base.specs.Messages.{AreMessagesFrom};
 ghost use Rattle.warp_base.specs.Histories.{Behaviour, LooksAhead};
+ghost use Rattle.warp_process.specs.Processes.{face};
 ghost use Rattle.warp_worker.specs.Workers.{Cell, worker_face, IsWorker, IsIdleUntil, TellsFailed};
 ghost use Rattle.warp_worker.specs.Moves.{IsPendingFrom, TellsLeast, lesser_of};
+ghost use Rattle.warp_worker.specs.Times.{TellsTimes, last_ran, time_or};
 
 use crate::worker::Worker;
 use warp_base::{Message, Payload};
@@ -45,6 +47,17 @@ fn next_time_of<P: Payload, K: StateSaver>(process: &Process<P, K>) -> Option<u6
     }
 }
 
+/// The time of the last event that a process has run since what is committed, or else the one that is
+/// told of what is committed.
+fn last_time<P: Payload, K: StateSaver>(process: &Process<P, K>, committed: u64) -> u64
+    ensures { Some result ≡ time_or (Some committed) (last_ran (face K.state K.copies process.now)) }
+{
+    match process.last_event() {
+        Some(event) => event.time,
+        None => committed,
+    }
+}
+
 impl<P: Payload, K: StateSaver> Worker<P, K> {
     /// The least time of what is to be run.
     fn least_to_run(&self) -> Option<u64>
@@ -79,5 +92,19 @@ impl<P: Payload, K: StateSaver> Worker<P, K> {
             }
         }
         None
+    }
+
+    /// Notes in `times`, at the number of each process, the time of its last event that stands: of
+    /// those that it has run since what is committed, or, where there is none, the time that is told of
+    /// what is committed. Numbers beyond the end of either slice are left out.
+    pub fn note_times(&self, committed: &[u64], times: &mut [u64])
+        ensures { TellsTimes (worker_face K.state K.copies self.now) committed.now times.old times.new }
+    {
+        let first = self.first as usize;
+        let places = committed.len().min(times.len()).saturating_sub(first);
+        for place in 0..places.min(self.processes.len()) {
+            let told = committed[first + place];
+            times[first + place] = last_time(&self.processes[place], told);
+        }
     }
 }

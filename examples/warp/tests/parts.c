@@ -1,6 +1,6 @@
 /*
- * Parts of the kernel by themselves: the logging period and the window as their rules say, the schedule against a plain search, and a packed
- * process that is unpacked whole and cut short at each place.
+ * Parts of the kernel by themselves: the logging period and the window as their rules say, the schedule against a plain search, a packed
+ * process that is unpacked whole and cut short at each place, and which chunks are touched.
  *     parts [copies|place|undo]
  */
 #include <stdio.h>
@@ -23,6 +23,13 @@ static void check(int holds, const char *what)
 
 /* ---- the logging period */
 
+/* Has the period chosen anew at least once. */
+static void adapt(period *p)
+{
+    unsigned k;
+    for (k = 0; k <= PERIOD_RESTS; k++) period_adapt(p);
+}
+
 /* Notes logs of 1000 ns, events of 100 ns and so many rollbacks in a hundred thousand events, and chooses. */
 static uint32_t choose(period *p, double rollbacks)
 {
@@ -33,7 +40,7 @@ static uint32_t choose(period *p, double rollbacks)
         period_note_log(p, 1000);
         period_note_events(p, 200, 2);
     }
-    period_adapt(p);
+    adapt(p);
     return p->events;
 }
 
@@ -70,6 +77,7 @@ static void try_period(void)
         period_note_run(&p);
         if (k % 20 == 0) period_note_rollback(&p);
     }
+    adapt(&p);
     period_open(&fresh, 0);
     period_adapt(&fresh);
     check(fresh.events > 15 && fresh.events < 25, "the period of a process that ran nothing isn't as its worker's processes have it");
@@ -181,6 +189,28 @@ static void try_pack(const settings *s)
     free(bytes);
 }
 
+/* ---- touches */
+
+/* A chunk is touched when it is made and before it is written, and by neither after a log or a restore. */
+static void try_touches(const settings *s)
+{
+    memory m;
+    uint64_t bytes, restored;
+    uint8_t *chunk;
+    check(memory_open(&m, s->way, 4) == FAULT_NONE, "a state can't be opened");
+    if (m.touches.segments != NULL) {
+        chunk = s->way->alloc(&m, 100);
+        check(touches_have(&m.touches, chunk) && touches_have(&m.touches, chunk + 99), "a new chunk isn't touched");
+        check(memory_log(&m, 1, &bytes) == FAULT_NONE && !touches_have(&m.touches, chunk), "a chunk is touched after a log");
+        s->way->write(&m, chunk + 50, 1);
+        check(touches_have(&m.touches, chunk), "a chunk isn't touched before it is written");
+        chunk[50] = 1;
+        check(memory_restore(&m, 1, &restored) == FAULT_NONE && !touches_have(&m.touches, chunk), "a chunk is touched after a restore");
+        check(chunk[50] == 0, "a restore leaves what was written");
+    }
+    memory_close(&m);
+}
+
 int main(int count, char **words)
 {
     static settings s;
@@ -193,5 +223,6 @@ int main(int count, char **words)
     try_window();
     try_schedule();
     try_pack(&s);
+    try_touches(&s);
     return failed;
 }

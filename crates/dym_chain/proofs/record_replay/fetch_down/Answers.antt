@@ -37,8 +37,8 @@ loop-back-preserved g c =
     let bytes : c.lift-rec.result ≡ (record_at m.records place).bytes = c.lift-rec.ensures.bytes ∙ ap (λ (k : KeepMeaning). (record_at k.records place).bytes) c.loop-back.invariant.keep in
     record {
       keep = c.lower.ensures.after
-          ∙ ap (λ (k : KeepMeaning). record { records = k.records; next_number = k.next_number; lifted = None; origin = k.origin }) (c.lift-rec.ensures.after ∙ ap (λ (k : KeepMeaning). record { records = k.records; next_number = k.next_number; lifted = Some place; origin = k.origin }) c.loop-back.invariant.keep)
-          ∙ ap (λ (l : Option ℕ). record { records = m.records; next_number = m.next_number; lifted = l; origin = m.origin }) (sym c.requires.idle);
+          ∙ ap (λ (k : KeepMeaning). record { records = k.records; made = k.made; lifted = None; origin = k.origin }) (c.lift-rec.ensures.after ∙ ap (λ (k : KeepMeaning). record { records = k.records; made = k.made; lifted = Some place; origin = k.origin }) c.loop-back.invariant.keep)
+          ∙ ap (λ (l : Option ℕ). record { records = m.records; made = m.made; lifted = l; origin = m.origin }) (sym c.requires.idle);
       same = c.fetch.ensures.same ∙ ap (λ (h : HeapMeaning). record h { state = c.fetch.new.self.state }) c.loop-back.invariant.same;
       sound = c.fetch.ensures.sound;
       fetched = λ logs all are. fetched_step m.records c.args.last c.args.count c.loop-back.back c.lift-rec.result logs c.args.heap.now.state c.loop-back.heap.state c.fetch.new.self.state c.requires.within c.requires.there c.loop-back-test.true bytes all are (c.loop-back.invariant.fetched logs all are) c.fetch.ensures.fetched;

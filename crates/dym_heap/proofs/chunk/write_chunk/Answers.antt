@@ -1,15 +1,8 @@
 use Rattle.dym_base.specs.HeapStep.{splice}
-use Rattle.dym_heap.proofs.HandleSteps.{wrote_by, by_old}
+use Rattle.dym_heap.proofs.HandleSteps.{wrote}
 use Rattle.dym_heap.proofs.chunk.write_chunk.Goals as goal
 
-pub returns-clause-after : goal.returns-clause-after
-returns-clause-after g c = by_old _ _ (wrote_by _ (splice c.args.at c.args.bytes.now) c.requires.tidy c.write.ensures.valid_shelf c.write.ensures.written c.requires.least c.requires.most).1 (wrote_by _ (splice c.args.at c.args.bytes.now) c.requires.tidy c.write.ensures.valid_shelf c.write.ensures.written c.requires.least c.requires.most).2.state
-
-pub returns-clause-keeps : goal.returns-clause-keeps
-returns-clause-keeps g c = (wrote_by _ (splice c.args.at c.args.bytes.now) c.requires.tidy c.write.ensures.valid_shelf c.write.ensures.written c.requires.least c.requires.most).2.keeps
-
-pub returns-clause-held : goal.returns-clause-held
-returns-clause-held g c = (wrote_by _ (splice c.args.at c.args.bytes.now) c.requires.tidy c.write.ensures.valid_shelf c.write.ensures.written c.requires.least c.requires.most).2.held
-
-pub returns-clause-tidy : goal.returns-clause-tidy
-returns-clause-tidy g c = (wrote_by _ (splice c.args.at c.args.bytes.now) c.requires.tidy c.write.ensures.valid_shelf c.write.ensures.written c.requires.least c.requires.most).2.tidy
+pub returns : goal.returns
+returns g c =
+    let w = wrote (splice c.args.at c.args.bytes.now) c.requires.tidy c.write.ensures.valid_shelf c.write.ensures.written in
+    record { after = w.after; keeps = w.keeps; held = w.held; tidy = w.tidy }

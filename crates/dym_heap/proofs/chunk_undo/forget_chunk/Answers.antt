@@ -1,20 +1,16 @@
-use Rattle.std.proofs.Common.{◌^◌, ◌<◌, arith, rules, inl, inr}
+use Rattle.std.proofs.Common.{is_some, ap, rules}
 use Rattle.dym_base.specs.HeapStep.{key}
-use Rattle.dym_heap.proofs.Soundness.{outside}
+use Rattle.dym_heap.proofs.Tidy.{not_live}
 use Rattle.dym_heap.proofs.HeapUndo as undo
 use Rattle.dym_heap.proofs.chunk_undo.forget_chunk.Goals as goal
 
 pub returns-then-h-lt-LEAST_EXPONENT-clause-after : goal.returns-then-h-lt-LEAST_EXPONENT-clause-after
-returns-then-h-lt-LEAST_EXPONENT-clause-after g c =
-    let small : c.args.h.index < 2 ^ 32 = search rules in
-    undo.dead_untouched (key c.args.h) c.requires.tidy (outside (key c.args.h) c.requires.tidy.valid_shelf (inl (omega arith)))
+returns-then-h-lt-LEAST_EXPONENT-clause-after g c = undo.dead_untouched (key c.args.h) c.requires.tidy (ap is_some (not_live (key c.args.h) c.requires.tidy.valid_shelf (λ class. let low = class.0 in search rules)))
 
 pub returns-then-h-gt-GREATEST_EXPONENT-clause-after : goal.returns-then-h-gt-GREATEST_EXPONENT-clause-after
-returns-then-h-gt-GREATEST_EXPONENT-clause-after g c =
-    let small : c.args.h.index < 2 ^ 32 = search rules in
-    undo.dead_untouched (key c.args.h) c.requires.tidy (outside (key c.args.h) c.requires.tidy.valid_shelf (inr (omega arith)))
+returns-then-h-gt-GREATEST_EXPONENT-clause-after g c = undo.dead_untouched (key c.args.h) c.requires.tidy (ap is_some (not_live (key c.args.h) c.requires.tidy.valid_shelf (λ class. let high = class.1 in search rules)))
 
 pub returns : goal.returns
 returns g c =
-    let forgot = undo.forgot c.args.h.exp c.args.h.index c.requires.tidy c.forget.ensures.valid_shelf c.forget.ensures.forgotten (omega arith) (omega arith) (search rules) in
-    record { after = forgot.state; keeps = forgot.keeps; held = forgot.held; tidy = forgot.tidy }
+    let forgot = undo.forgot (key c.args.h) c.requires.tidy c.forget.ensures.valid_shelf c.forget.ensures.forgotten in
+    record { after = forgot.after; keeps = forgot.keeps; held = forgot.held; tidy = forgot.tidy }

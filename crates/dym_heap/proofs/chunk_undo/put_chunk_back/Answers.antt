@@ -1,4 +1,4 @@
-use Rattle.std.proofs.Common.{ℕ, ◌/◌, rules, subst, sym, length}
+use Rattle.std.proofs.Common.{ℕ, ◌/◌, length, sym, subst, rules}
 use Rattle.dym_heap.specs.Meaning.{IsSizeOf}
 use Rattle.dym_heap.specs.ShapeSteps.{HasRoomFor, ReachesArea}
 use Rattle.dym_heap.proofs.HeapUndo as undo
@@ -11,8 +11,7 @@ reach_area-requires-clause-within g c =
 
 pub put_back-requires-clause-there : goal.put_back-requires-clause-there
 put_back-requires-clause-there g c =
-    undo.there c.reach_area.new.shelf.rows c.args.h.exp c.args.h.index
-    (subst (λ (n : ℕ). ReachesArea c.args.shelf.now c.reach_area.new.shelf c.args.h.exp (c.args.h.index / n)) c.per_area.ensures c.reach_area.ensures.reached).reached
+    undo.there c.requires.tidy c.requires.least c.requires.most (search rules) (subst (λ (n : ℕ). ReachesArea c.args.shelf.now c.reach_area.new.shelf c.args.h.exp (c.args.h.index / n)) c.per_area.ensures c.reach_area.ensures.reached)
 
 pub put_back-requires-clause-sized : goal.put_back-requires-clause-sized
 put_back-requires-clause-sized g c = subst (λ v. IsSizeOf v c.args.h.exp (length c.args.bytes.now)) (sym c.reach_area.ensures.keeps.version) c.requires.sized
@@ -20,7 +19,7 @@ put_back-requires-clause-sized g c = subst (λ v. IsSizeOf v c.args.h.exp (lengt
 pub returns : goal.returns
 returns g c =
     let back =
-    undo.put_back c.args.h.exp c.args.h.index c.args.bytes.now c.requires.tidy
+    undo.put_back c.requires.tidy c.requires.least c.requires.most (search rules)
     (subst (λ (n : ℕ). ReachesArea c.args.shelf.now c.reach_area.new.shelf c.args.h.exp (c.args.h.index / n)) c.per_area.ensures c.reach_area.ensures.reached)
-    c.reach_area.ensures.keeps c.reach_area.ensures.valid_shelf c.put_back.ensures.valid_shelf c.put_back.ensures.back c.requires.least c.requires.most in
-    record { after = back.state; keeps = back.keeps; tidy = back.tidy }
+    c.args.bytes.now c.put_back.ensures.valid_shelf c.put_back.ensures.back in
+    record { after = back.after; keeps = back.keeps; tidy = back.tidy }

@@ -1,43 +1,35 @@
-use Rattle.std.proofs.Common.{arith, length, ap}
+use Rattle.std.proofs.Common.{length, ap, arith}
 use Rattle.dym_heap.specs.Shelves.{ShelfMeaning}
-use Rattle.dym_heap.proofs.Taking.{took_first, took_later, held_first, held_full, grown_free_later}
+use Rattle.dym_heap.proofs.Taking as taking
 use Rattle.dym_heap.proofs.fresh_chunk.take_fresh.Goals as goal
 
-pub returns-in-Some-clause-answer : goal.returns-in-Some-clause-answer
-returns-in-Some-clause-answer g c =
-    let took = took_first _ _ c.requires.tidy c.in-Some.ensures.valid_shelf c.in-Some.ensures.taken c.in-Some.ensures.sized_area c.requires.least c.requires.most in
-    let holds = held_first _ _ _ c.requires.tidy c.in-Some.ensures.sized_area c.requires.least c.requires.most in
+pub returns-in-Some : goal.returns-in-Some
+returns-in-Some g c =
+    let took = taking.took_first c.args.exp c.args.len c.requires.tidy c.in-Some.ensures.valid_shelf c.in-Some.ensures.taken c.in-Some.ensures.first in
+    let same = ap (λ (s : ShelfMeaning). length s.held_ids) c.in-Some.ensures.taken in
+    let holds = took.held in
     let within = c.requires.tidy.valid_shelf.within in
-    (omega arith, took.index)
-
-pub returns-in-Some-clause-after : goal.returns-in-Some-clause-after
-returns-in-Some-clause-after g c =
-    (took_first _ _ c.requires.tidy c.in-Some.ensures.valid_shelf c.in-Some.ensures.taken c.in-Some.ensures.sized_area c.requires.least c.requires.most).state
+    record { answer = (omega arith, took.index); after = took.state; keeps = took.keeps; tidy = took.tidy }
 
 pub returns-then-held-quota-clause-answer : goal.returns-then-held-quota-clause-answer
 returns-then-held-quota-clause-answer g c =
-    let holds = held_full _ _ c.requires.tidy c.in_default.ensures.sized_area c.requires.least c.requires.most in
+    let more = taking.held_full c.args.exp c.requires.tidy c.in_default.ensures.first c.requires.least c.requires.most in
     let a = ap (λ (s : ShelfMeaning). length s.held_ids) c.in_default.ensures.taken in
     let b = ap (λ (s : ShelfMeaning). s.quota) c.in_default.ensures.taken in
     omega arith
 
 pub unreachable-requires : goal.unreachable-requires
 unreachable-requires g c =
-    grown_free_later _ c.requires.tidy c.in_default.ensures.taken c.add_area.ensures.added c.requires.least c.requires.most c.in_default-take_chunk.ensures.sized_area
+    taking.grown_free c.args.exp c.requires.tidy (taking.grown_from c.args.exp c.in_default.ensures.taken c.add_area.ensures.added) c.requires.least c.requires.most c.in_default-take_chunk.ensures.first
 
-pub returns-clause-answer : goal.returns-clause-answer
-returns-clause-answer g c =
-    let took = took_later _ _ c.requires.tidy c.in_default.ensures.taken c.add_area.ensures.valid_shelf c.in-Some-take_chunk.ensures.valid_shelf c.add_area.ensures.added c.in-Some-take_chunk.ensures.taken c.in_default.ensures.sized_area c.in-Some-take_chunk.ensures.sized_area c.requires.least c.requires.most in
-    let holds = held_full _ _ c.requires.tidy c.in_default.ensures.sized_area c.requires.least c.requires.most in
-    let a = ap (λ (s : ShelfMeaning). length s.held_ids) c.in_default.ensures.taken in
-    let b = ap (λ (s : ShelfMeaning). s.quota) c.in_default.ensures.taken in
-    let within = c.requires.tidy.valid_shelf.within in
-    (omega arith, took.index)
-
-pub returns-clause-after : goal.returns-clause-after
-returns-clause-after g c =
-    (took_later _ _ c.requires.tidy c.in_default.ensures.taken c.add_area.ensures.valid_shelf c.in-Some-take_chunk.ensures.valid_shelf c.add_area.ensures.added c.in-Some-take_chunk.ensures.taken c.in_default.ensures.sized_area c.in-Some-take_chunk.ensures.sized_area c.requires.least c.requires.most).state
-
-pub returns-clause-tidy : goal.returns-clause-tidy
-returns-clause-tidy g c =
-    (took_later _ _ c.requires.tidy c.in_default.ensures.taken c.add_area.ensures.valid_shelf c.in-Some-take_chunk.ensures.valid_shelf c.add_area.ensures.added c.in-Some-take_chunk.ensures.taken c.in_default.ensures.sized_area c.in-Some-take_chunk.ensures.sized_area c.requires.least c.requires.most).tidy
+pub returns : goal.returns
+returns g c =
+    let grown = taking.grown_from c.args.exp c.in_default.ensures.taken c.add_area.ensures.added in
+    let took =
+    taking.took_grown c.args.exp c.requires.tidy grown c.requires.least c.requires.most c.args.len c.in-Some-take_chunk.ensures.valid_shelf c.in-Some-take_chunk.ensures.taken c.in_default.ensures.first
+    c.in-Some-take_chunk.ensures.first in
+    let holds = took.held in
+    let within = took.tidy.valid_shelf.within in
+    let keeps = took.keeps in
+    let quota = keeps.quota in
+    record { answer = (omega arith, took.index); after = took.state; keeps = keeps; tidy = took.tidy }

@@ -1,4 +1,4 @@
-use Rattle.std.proofs.Common.{arith, rules}
+use Rattle.std.proofs.Common.{arith}
 use Rattle.dym_heap.specs.Replies.{after_key}
 use Rattle.dym_heap.proofs.NextLive.{none_before, none_after, next_here, none_left}
 use Rattle.dym_heap.proofs.live_walk.next_from.Goals as goal
@@ -13,7 +13,7 @@ loop-exp-init g c = record {
 
 pub returns-in-Some : goal.returns-in-Some
 returns-in-Some g c =
-    next_here c.args.shelf.now (after_key c.args.after) c.loop-exp.exp c.loop-exp.from c.in-Some.index c.requires.valid_shelf c.loop-exp.invariant.least (search rules) c.loop-exp.invariant.start c.loop-exp.invariant.none c.in-Some.ensures
+    next_here c.args.shelf.now (after_key c.args.after) c.loop-exp.exp c.loop-exp.from c.in-Some.index c.loop-exp.invariant.start c.loop-exp.invariant.none c.in-Some.ensures
 
 pub loop-exp-preserved : goal.loop-exp-preserved
 loop-exp-preserved g c =
@@ -24,7 +24,7 @@ loop-exp-preserved g c =
       least = omega arith;
       fits = omega arith;
       start = omega arith;
-      none = none_after c.args.shelf.now (after_key c.args.after) c.loop-exp.exp c.loop-exp.from c.requires.valid_shelf c.loop-exp.invariant.least c.loop-exp.invariant.none c.in_default.ensures;
+      none = none_after c.args.shelf.now (after_key c.args.after) c.loop-exp.exp c.loop-exp.from c.loop-exp.invariant.none c.in_default.ensures;
     }
 
 pub returns : goal.returns

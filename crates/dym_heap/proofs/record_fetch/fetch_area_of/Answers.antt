@@ -7,7 +7,7 @@ use Rattle.dym_heap.proofs.record_fetch.fetch_area_of.Goals as goal
 pub returns-then-is_empty-clause-fetched : goal.returns-then-is_empty-clause-fetched
 returns-then-is_empty-clause-fetched g c = λ log is e.
     let none = fetches.empty_is c.body-body.result.now c.is_empty.result c.is_empty.ensures c.if-is_empty.true in
-    fetches.idle_fetched log is c.args.k (c.requires.area log is e) c.args.shelf.now.rows (sym (c.body-body.ensures log is e) ∙ none)
+    fetches.idle_fetched log is c.args.k c.args.shelf.now.state (sym (c.body-body.ensures log is e) ∙ none)
 
 pub fetch_area-requires-clause-body : goal.fetch_area-requires-clause-body
 fetch_area-requires-clause-body g c =
@@ -16,5 +16,5 @@ fetch_area-requires-clause-body g c =
 
 pub returns-clause-fetched : goal.returns-clause-fetched
 returns-clause-fetched g c = λ log is e.
-    fetches.area_fetched is c.args.k c.area_exp.ensures.least (c.area_exp.ensures.is log is e) (c.area_ordinal.ensures log is e) c.packed_bits.result (c.packed_bits.ensures log is e) c.args.shelf.now.rows c.fetch_area.new.self.rows
+    fetches.area_fetched is c.args.k (c.area_exp.ensures.is log is e) (c.area_ordinal.ensures log is e) c.packed_bits.result (c.packed_bits.ensures log is e)
     (c.fetch_area.ensures.fetched (bytes_at log.copy c.args.k) (loads.body_k is c.args.k (c.requires.area log is e) c.packed_bits.result (c.requires.version log is e) (c.area_exp.ensures.is log is e) (c.packed_bits.ensures log is e) (c.body-body.ensures log is e)))

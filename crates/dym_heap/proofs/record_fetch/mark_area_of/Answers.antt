@@ -5,9 +5,9 @@ use Rattle.dym_heap.proofs.record_fetch.mark_area_of.Goals as goal
 pub returns-then-is_empty-clause-marked : goal.returns-then-is_empty-clause-marked
 returns-then-is_empty-clause-marked g c = λ log is e.
     let none = fetches.empty_is c.body.result.now c.is_empty.result c.is_empty.ensures c.if-is_empty.true in
-    fetches.idle_marked log is c.args.k (c.requires.area log is e) c.args.shelf.now.rows (sym (c.body.ensures log is e) ∙ none)
+    fetches.idle_marked log is c.args.k c.args.shelf.now.state (sym (c.body.ensures log is e) ∙ none)
 
 pub returns-clause-marked : goal.returns-clause-marked
 returns-clause-marked g c = λ log is e.
-    fetches.area_marked is c.args.k c.area_exp.ensures.least (c.area_exp.ensures.is log is e) (c.area_ordinal.ensures log is e) c.packed_bits.result (c.packed_bits.ensures log is e) c.args.shelf.now.rows c.mark_area.new.self.rows
+    fetches.area_marked is c.args.k (c.area_exp.ensures.is log is e) (c.area_ordinal.ensures log is e) c.packed_bits.result (c.packed_bits.ensures log is e)
     c.mark_area.ensures.marked

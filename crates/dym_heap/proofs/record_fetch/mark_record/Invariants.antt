@@ -1,7 +1,6 @@
 use Rattle.std.proofs.Common.{◌≡◌, ℕ}
 use Rattle.dym_base.specs.Packed.{Logged, packed}
 use Rattle.dym_base.specs.Recorded.{IsRecorded}
-use Rattle.dym_heap.specs.Table.{state_of}
 use Rattle.dym_heap.specs.Shelves.{IsTidy}
 use Rattle.dym_heap.proofs.AreaSteps.{UpTo}
 use Rattle.dym_heap.proofs.Fetches.{Marked}
@@ -9,7 +8,7 @@ use Rattle.dym_heap.proofs.record_fetch.mark_record.Given as goal
 
 abbrev pub invariant-loop-k : goal.invariant-loop-k
 invariant-loop-k g l = record {
-  same : l.shelf ≡ record l.fn.shelf { rows = l.shelf.rows };
+  same : l.shelf ≡ record l.fn.shelf { state = l.shelf.state };
   tidy : IsTidy l.shelf;
-  upto : (log : Logged) → IsRecorded log → packed log ≡ l.rec → (q : ℕ) → UpTo (Marked log) log.copy (state_of l.fn.shelf.rows) (state_of l.shelf.rows) l.k q;
+  upto : (log : Logged) → IsRecorded log → packed log ≡ l.rec → (q : ℕ) → UpTo (Marked log) log.copy l.fn.shelf.state l.shelf.state l.k q;
 }

@@ -1,29 +1,26 @@
-use Rattle.std.proofs.Common.{◌≡◌, ℕ, ◌+◌, ◌-◌, ◌*◌, ◌≤◌, ◌<◌, length, get_or}
-use Rattle.dym_base.specs.Numbers.{per}
-use Rattle.dym_heap.specs.Table.{row_at}
-use Rattle.dym_heap.specs.Shelves.{IsValidShelf, Keeps}
-use Rattle.dym_heap.specs.ShapeSteps.{HasAreas, HasAtMost}
-use Rattle.dym_heap.specs.Fetches.{row_chunk}
+use Rattle.std.proofs.Common.{◌≡◌, ◌≤◌, ◌-◌}
+use Rattle.dym_heap.specs.Shelves.{IsValidShelf, Keeps, count_of}
+use Rattle.dym_heap.proofs.Fitting.{Upto, AtMost}
 use Rattle.dym_heap.proofs.record_shape.take_areas.Given as goal
 
 abbrev pub invariant-loop-exp : goal.invariant-loop-exp
 invariant-loop-exp g l = record {
   low : 5 ≤ l.exp;
-  done : (c : ℕ) → c + 5 < l.exp → HasAreas l.shelf.rows c (get_or l.counts c 0);
-  most : (c : ℕ) → c < 12 → HasAtMost l.shelf.rows c (get_or l.counts c 0);
-  rows : (c i : ℕ) → row_chunk l.shelf.rows c i ≡ row_chunk l.fn.shelf.rows c i;
+  done : Upto l.shelf l.counts l.exp (λ n wanted. n ≡ wanted);
+  most : AtMost l.shelf l.counts;
+  state : l.shelf.state ≡ l.fn.shelf.state;
   keeps : Keeps l.fn.shelf l.shelf;
   valid_shelf : IsValidShelf l.shelf;
 }
 
 abbrev pub invariant-loop-count : goal.invariant-loop-count
 invariant-loop-count g l = record {
-  done : (c : ℕ) → c + 5 < l.exp → HasAreas l.shelf.rows c (get_or l.counts c 0);
-  most : (c : ℕ) → c < 12 → HasAtMost l.shelf.rows c (get_or l.counts c 0);
-  rows : (c i : ℕ) → row_chunk l.shelf.rows c i ≡ row_chunk l.fn.shelf.rows c i;
+  done : Upto l.shelf l.counts l.exp (λ n wanted. n ≡ wanted);
+  most : AtMost l.shelf l.counts;
+  state : l.shelf.state ≡ l.fn.shelf.state;
   keeps : Keeps l.fn.shelf l.shelf;
   valid_shelf : IsValidShelf l.shelf;
 }
 
 abbrev pub decreases-loop-count : goal.decreases-loop-count
-decreases-loop-count g l = l.count * per l.exp - length (row_at l.shelf.rows (l.exp - 5)).chunks
+decreases-loop-count g l = l.count - count_of l.shelf l.exp

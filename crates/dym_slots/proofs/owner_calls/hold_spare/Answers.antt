@@ -9,4 +9,4 @@ seize_either-requires-clause-slots c = two_spare c.requires.stands _ _ c.index.e
 
 pub returns-clause-stands : goal.returns-clause-stands
 returns-clause-stands c =
-    subst (λ (l : List Entry). Stands l c.args.place c.args.next_number c.args.seat.now.me) (sym c.swap.ensures.items) (swapped c.requires.stands).0
+    subst (λ (l : List Entry). Stands l c.args.place c.args.made c.args.seat.now.me) (sym c.swap.ensures.items) (swapped c.requires.stands).0

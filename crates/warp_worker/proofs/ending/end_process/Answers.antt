@@ -17,8 +17,8 @@ date-count-requires g c =
     let counted = h.counted in
     record { counted = omega (arith, all, few, dates, counted) }
 
-pub returns : goal.returns
-returns g c past h =
+pub returns-clause-ended : goal.returns-clause-ended
+returns-clause-ended g c past h =
     let words = g.P.Payload.words in
     let b = g.M.Simulation.behaviour c.args.model.now in
     let to = face g.K.StateSaver.state g.K.StateSaver.copies in

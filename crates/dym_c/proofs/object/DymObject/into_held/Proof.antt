@@ -68,8 +68,8 @@ into_held_spec 𝓤 𝓛 𝓜 𝓡 wired =
     use0 𝓛 (raw (fact 𝓤 (v.value ≡ None))) (fact_i 𝓤 (v.value ≡ None) (emp 𝓤) is_none) $ nothing ! $ nothing ! $ fjoin ! $ nothing ! $ fjoin ! $ nothing ! $
     returns ! (look_at ! 0 refl) $ free_all ! refl $ keep ! (0 ∷ 1 ∷ 3 ∷ 2 ∷ []) $ by ! (leaves 𝓛 f.ended stayed c z (live 0 vnil) None (tt, (tt, tt)) (tt, (tt, tt))))
     (λ wrong. absurd wrong)))
-    (λ b o x is_block is_some ok. let w = word (block_ptr b o) in let typed = held.held_typed R Z L ghosts b o h fits in let next_number : Val = held.word b o h in let
-    gives : Val = live 1 (vcons next_number vnil) in
+    (λ b o x is_block is_some ok. let w = word (block_ptr b o) in let typed = held.held_typed R Z L ghosts b o h fits in let made : Val = held.word b o h in let
+    gives : Val = live 1 (vcons made vnil) in
     let d : Row.Denot = record { at = block_ptr b o; alloc = a; value = x } in let good : Good (layout Out) gives =
     (and_tt _ typed.0, (record { fits = lit< tt }, (typed.1, tt))) in keep ! (0 ∷ 1 ∷ []) $
     suffices ! (Run (w ∷ h ∷ [])) (subst (λ (us : List Val). ent 𝓤 (Run (w ∷ h ∷ [])) (Run us))
@@ -81,6 +81,6 @@ into_held_spec 𝓤 𝓛 𝓜 𝓡 wired =
     (λ _. sets ! (of_opd ! (get ! refl)) refl (tt, tt) $ sets ! (agg ! (and_then ! (get ! refl) (and_then ! (get ! refl) (no_more !)))) refl typed $
     sets_last ! (agg ! (and_then ! (lit ! tt) (and_then ! (get ! refl) (no_more !)))) refl good $ exec ! 𝓣.C 𝓣.Λ Ev (after 3 body) (at_ret Ev Post) $ sets !
     (of_opd ! (get ! refl)) refl good $
-    held.held_in R Z L ghosts ! b o h a x $ use1 𝓛 (‵ (Out.own_val (Some d) (gives ∷ []))) (Some-of 𝓛 Row d next_number) $
+    held.held_in R Z L ghosts ! b o h a x $ use1 𝓛 (‵ (Out.own_val (Some d) (gives ∷ []))) (Some-of 𝓛 Row d made) $
     use0 𝓛 (raw (fact 𝓤 (v.value ≡ Some x))) (fact_i 𝓤 (v.value ≡ Some x) (emp 𝓤) is_some) $ nothing ! $ nothing ! $ fjoin ! $ nothing ! $ fjoin ! $ nothing ! $
     returns ! (look_at ! 0 refl) $ free_all ! refl $ keep ! (0 ∷ 1 ∷ 3 ∷ 2 ∷ []) $ by ! (leaves 𝓛 f.ended stayed c z gives (Some d) (tt, (tt, tt)) (tt, (tt, tt)))))))))

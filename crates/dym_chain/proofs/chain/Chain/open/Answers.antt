@@ -10,7 +10,7 @@ use Rattle.dym_chain.proofs.chain.Chain.open.Goals.{After-open}
 use Rattle.dym_chain.proofs.chain.Chain.open.Goals as goal
 
 view : (g : given.Over) (c : After-open g) → chain_of c.open.result.copies (g.K.LogKeep.meaning c.args.keep) ≡ no_chain (g.K.LogKeep.meaning c.args.keep).origin
-view g c = opened c.requires.empty c.requires.next_number c.requires.idle c.open.ensures
+view g c = opened c.requires.empty c.requires.made c.requires.idle c.open.ensures
 
 pub invariant_of-result : goal.invariant_of-result
 invariant_of-result g c =

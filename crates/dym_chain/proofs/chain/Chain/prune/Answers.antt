@@ -70,8 +70,8 @@ overflow_add-base g c = record { fits = omega (arith, (dropped g (goal.at.overfl
 pub overflow_sub-base : goal.overflow_sub-base
 overflow_sub-base g c = (dropped g (goal.at.overflow_sub-base g c).After-from-depth).fits
 
-pub drop_before-requires-clause-place : goal.drop_before-requires-clause-place
-drop_before-requires-clause-place g c = (dropped g (goal.at.drop_before-requires-clause-place g c).After-from-depth).inside
+pub raise-requires-clause-place : goal.raise-requires-clause-place
+raise-requires-clause-place g c = (dropped g (goal.at.raise-requires-clause-place g c).After-from-depth).inside
 
 pub overflow_cast-depth : goal.overflow_cast-depth
 overflow_cast-depth g c = record { fits = omega (arith, (dropped g (goal.at.overflow_cast-depth g c).After-from-depth).shallow) }
@@ -93,8 +93,8 @@ module _ (g : given.Over) (c : After-cut g) where
   is = dropped g (goal.at.After-cut g c).After-from-depth
 
   -- the chain without them
-  view : chain_of c.cut.result.copies (g.K.LogKeep.meaning c.drop_before.new.self) ≡ left
-  view = view_drop is c.drop_before.ensures.after c.cut.ensures
+  view : chain_of c.cut.result.copies (g.K.LogKeep.meaning c.raise.new.self) ≡ left
+  view = view_drop is c.raise.ensures.after c.cut.ensures
 
   left_law : IsLawful left
   left_law = lawful_drop (whole g first) n is.some (law g first)

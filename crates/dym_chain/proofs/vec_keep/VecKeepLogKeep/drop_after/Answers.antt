@@ -18,7 +18,7 @@ returns c =
     let i = c.self.inside in
     record {
       after =
-          ap (λ (slots : List Slot). record { records = map (shown (bytes_out i.lifted)) slots; next_number = i.next_number; lifted = place_out i.lifted; origin = own }) c.truncate.ensures.items
-          ∙ ap (λ (records : List Numbered). record { records = records; next_number = i.next_number; lifted = place_out i.lifted; origin = own }) (sym (take-map (shown (bytes_out i.lifted)) (c.args.place + 1) i.slots.items))
+          ap (λ (slots : List Slot). record { records = map (shown (bytes_out i.lifted)) slots; made = i.made; lifted = place_out i.lifted; origin = own }) c.truncate.ensures.items
+          ∙ ap (λ (records : List Numbered). record { records = records; made = i.made; lifted = place_out i.lifted; origin = own }) (sym (take-map (shown (bytes_out i.lifted)) (c.args.place + 1) i.slots.items))
           ∙ ap (λ (k : KeepMeaning). up_to k c.args.place) c.self.view_is;
     }

@@ -34,7 +34,7 @@ invariant_of-self c =
     let o = (goal.at.invariant_of-self c).After-of in
     let i = c.self.inside in
     let new : Option Lifted = Some (record { place = c.args.place; bytes = c.of.result }) in
-    subst (λ (h : Option (List ℕ)). IsValidKeep (set i.slots.items c.args.place (record { number = (slot o).number; held = h })) new i.next_number i.slots.cap) (sym c.take.ensures.after)
+    subst (λ (h : Option (List ℕ)). IsValidKeep (set i.slots.items c.args.place (record { number = (slot o).number; held = h })) new i.made i.slots.cap) (sym c.take.ensures.after)
     (kept_lift c.args.place (slot o) new c.self.invariant (idle o) (within o) (at o) (held o) refl)
 
 pub returns-clause-after : goal.returns-clause-after
@@ -42,7 +42,7 @@ returns-clause-after c =
     let o = (goal.at.returns-clause-after c).After-of in
     let i = c.self.inside in
     let out : List ℕ = c.of.result.value in
-    let after : List Numbered → KeepMeaning = λ records. record { records = records; next_number = i.next_number; lifted = Some c.args.place; origin = own } in
+    let after : List Numbered → KeepMeaning = λ records. record { records = records; made = i.made; lifted = Some c.args.place; origin = own } in
     ap (λ (h : Option (List ℕ)). after (map (shown out) (set i.slots.items c.args.place (record { number = (slot o).number; held = h })))) c.take.ensures.after
     ∙ ap after (shown_lifted out (bytes_out i.lifted) i.slots.items c.args.place (slot o) (all_held c.self.invariant (idle o)) (at o) (held o))
     ∙ ap (λ (k : KeepMeaning). record k { lifted = Some c.args.place }) c.self.view_is

@@ -41,7 +41,7 @@ returns c =
     let o = (goal.at.returns c).After-index_mut in
     let i = c.self.inside in
     record {
-      after = ap (λ (records : List Numbered). record { records = records; next_number = i.next_number; lifted = None; origin = own })
+      after = ap (λ (records : List Numbered). record { records = records; made = i.made; lifted = None; origin = own })
           (shown_lowered [] (bytes_out i.lifted) c.args.rec i.slots.items c.args.place (slot o) (all_back c.args.place (slot o).number c.args.rec c.self.invariant (out o)) (at o) (same_bytes o))
           ∙ ap (λ (k : KeepMeaning). record k { lifted = None }) c.self.view_is;
     }

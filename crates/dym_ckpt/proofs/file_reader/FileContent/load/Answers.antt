@@ -32,7 +32,7 @@ returns-clause-loaded g c bytes content =
           c.in-Ok-adopt.ensures.entries (sym kept) (ap (λ (x : ChainMeaning). x.base_logs) after) (ap (λ (x : ChainMeaning). x.logs) after);
       are = c.restore_newest.ensures.records ∙ ap (λ (x : ChainMeaning). bytes_of x.records) adopted ∙ kept;
       chain = loaded_chain c.in-Ok-adopt.chain c.restore_newest.new.chain c.into_keep.result record_list.keep after
-          (ap (λ (x : ChainMeaning). x.next_number) adopted) (ap (λ (x : ChainMeaning). x.lifted) adopted) (ap (λ (x : ChainMeaning). x.origin) adopted) c.into_keep.ensures content.listed.next_number content.listed.idle content.listed.own_room;
+          (ap (λ (x : ChainMeaning). x.made) adopted) (ap (λ (x : ChainMeaning). x.lifted) adopted) (ap (λ (x : ChainMeaning). x.origin) adopted) c.into_keep.ensures content.listed.made content.listed.idle content.listed.own_room;
       heap = loaded_heap c.in-Ok.heap c.restore_newest.new.heap head.version head.quota _ _ c.in-Ok-adopt.chain.logs c.restore_newest.new.chain.logs c.in-Ok.ensures.opened c.requires.quota
           c.restore_newest.ensures.heap c.restore_newest.ensures.state (ap (λ (x : ChainMeaning). x.logs) after);
       belongs = c.restore_newest.ensures.belongs;

@@ -12,13 +12,13 @@ pub returns-in_default-len_of_handle-clause-only : goal.returns-in_default-len_o
 returns-in_default-len_of_handle-clause-only c k has =
     let one = live_byte c.self.view_is c.self.invariant k c.args.offset c.quota.ensures has in
     let found = found_by one c.in-Some.h (c.in-Some.ensures.only (exponent_of k) (index_of k) one.at one.lies) in
-    absurd (found_len _ c.self.view_is found c.in_default-len_of_handle.ensures.len)
+    absurd (found_len c.self.inside.shelf c.self.view_is found c.in_default-len_of_handle.ensures.len)
 
 pub returns-then-at-len-clause-only : goal.returns-then-at-len-clause-only
 returns-then-at-len-clause-only c k has =
     let one = live_byte c.self.view_is c.self.invariant k c.args.offset c.quota.ensures has in
     let found = found_by one c.in-Some.h (c.in-Some.ensures.only (exponent_of k) (index_of k) one.at one.lies) in
-    let long = found_len _ c.self.view_is found c.in-Some-len_of_handle.ensures.len in
+    let long = found_len c.self.inside.shelf c.self.view_is found c.in-Some-len_of_handle.ensures.len in
     absurd (omega arith)
 
 pub returns-clause-only : goal.returns-clause-only

@@ -1,4 +1,4 @@
-use Rattle.dym_heap.proofs.Soundness.{sound_of}
+use Rattle.dym_heap.proofs.Tidy.{sound_of}
 use Rattle.dym_heap.proofs.heap.Heap.free.Goals as goal
 
 pub returns-in_default-clause-sound : goal.returns-in_default-clause-sound

@@ -1,24 +1,22 @@
-use Rattle.std.proofs.Common.{rules, refl, sym, ap, ◌∙◌}
+use Rattle.std.proofs.Common.{refl, ap, sym, ◌∙◌}
 use Rattle.std.specs.FinMap.{get}
 use Rattle.dym_base.specs.HeapStep.{key}
 use Rattle.dym_heap.specs.Meaning.{HeapMeaning}
-use Rattle.dym_heap.proofs.ChunkLent.{tidy_h, sound_h, lent_h, live_at, fits_at}
+use Rattle.dym_heap.proofs.ChunkLent.{tidy_h, sound_h, lent_h, fits_at}
 use Rattle.dym_heap.proofs.heap.Heap.live_mut.Goals as goal
 
 pub bytes_mut-requires-clause-some : goal.bytes_mut-requires-clause-some
-bytes_mut-requires-clause-some g c = fits_at c.self.view_is c.self.invariant c.args.h c.requires.least (search rules) c.requires.some
+bytes_mut-requires-clause-some g c = fits_at c.self.view_is c.self.invariant c.args.h c.requires.some
 
 pub invariant_of-self-lent : goal.invariant_of-self-lent
-invariant_of-self-lent g c ws = tidy_h c.self.view_is c.self.invariant c.args.h c.requires.least c.requires.most (live_at c.self.view_is c.self.invariant c.args.h c.requires.least (search rules)) (fits_at c.self.view_is c.self.invariant c.args.h c.requires.least (search rules) c.requires.some) ws (c.bytes_mut.ensures.valid_shelf ws)
+invariant_of-self-lent g c ws = tidy_h c.self.view_is c.self.invariant c.args.h c.requires.some ws (c.bytes_mut.ensures.valid_shelf ws)
 
 pub returns : goal.returns
-returns g c =
-    let live = live_at c.self.view_is c.self.invariant c.args.h c.requires.least (search rules) in
-    let fits = fits_at c.self.view_is c.self.invariant c.args.h c.requires.least (search rules) c.requires.some in (
-      (refl, λ ws. lent_h c.self.view_is c.self.invariant c.args.h c.requires.least c.requires.most live fits ws (c.bytes_mut.ensures.valid_shelf ws)),
-      record {
-        writes_back = tt;
-        value = ap (λ (x : HeapMeaning). get x.state.live (key c.args.h)) (sym c.self.view_is) ∙ live ∙ sym c.bytes_mut.ensures.value;
-        sound = λ ws. sound_h c.self.view_is c.self.invariant c.args.h c.requires.least c.requires.most live fits ws (c.bytes_mut.ensures.valid_shelf ws);
-      },
-    )
+returns g c = (
+  (refl, λ ws. lent_h c.self.view_is c.self.invariant c.args.h c.requires.some ws (c.bytes_mut.ensures.valid_shelf ws)),
+  record {
+    writes_back = tt;
+    value = ap (λ (x : HeapMeaning). get x.state.live (key c.args.h)) (sym c.self.view_is) ∙ sym c.bytes_mut.ensures.value;
+    sound = λ ws. sound_h c.self.view_is c.self.invariant c.args.h c.requires.some ws (c.bytes_mut.ensures.valid_shelf ws);
+  },
+)

@@ -1,6 +1,6 @@
 use Rattle.std.proofs.Common.{subst}
 use Rattle.dym_heap.specs.Meaning.{IsSound}
-use Rattle.dym_heap.proofs.Soundness.{sound_of}
+use Rattle.dym_heap.proofs.Tidy.{sound_of}
 use Rattle.dym_heap.proofs.heap.Heap.realloc_live.Goals as goal
 
 pub returns-in_default-clause-sound : goal.returns-in_default-clause-sound

@@ -1,4 +1,4 @@
-use Rattle.dym_heap.proofs.Soundness.{sound_of}
+use Rattle.dym_heap.proofs.Tidy.{sound_of}
 use Rattle.dym_heap.proofs.heap.Heap.reshape.Goals as goal
 
 pub returns-clause-sound : goal.returns-clause-sound

@@ -1,7 +1,7 @@
 use Rattle.std.proofs.Common.{subst}
 use Rattle.dym_base.specs.HeapStep.{key}
 use Rattle.dym_heap.specs.Meaning.{IsSound}
-use Rattle.dym_heap.proofs.Soundness.{sound_of}
+use Rattle.dym_heap.proofs.Tidy.{sound_of}
 use Rattle.dym_heap.proofs.Sums.{chunk_fits}
 use Rattle.dym_heap.proofs.heap.Heap.sum.Goals as goal
 

@@ -1,4 +1,4 @@
-use Rattle.dym_heap.proofs.ShelfShapes as shapes
+use Rattle.dym_heap.proofs.ShelfCalls as calls
 use Rattle.dym_heap.proofs.ShelfGrows as grows
 use Rattle.dym_heap.proofs.shelf.Shelf.areas.Goals as goal
 
@@ -6,4 +6,4 @@ pub overflow_sub-result : goal.overflow_sub-result
 overflow_sub-result g c = grows.rising_k c.self.view_is c.self.invariant.0 c.requires.least c.requires.most c.class_index-class.result c.class_index-class.ensures
 
 pub returns : goal.returns
-returns g c = shapes.areas_k c.self.view_is c.self.invariant.0 c.requires.least c.requires.most c.class_index-class.result c.class_index-class.ensures
+returns g c = calls.count_k c.self.view_is c.self.invariant.0 c.requires.least c.requires.most c.class_index-class.ensures

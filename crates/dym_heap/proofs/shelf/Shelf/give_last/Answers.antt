@@ -1,5 +1,4 @@
 use Rattle.std.proofs.Common.{arith, ◌≤◌, ◌/◌, max, ℕ, ◌≡◌}
-use Rattle.std.proofs.lemmas.Nat.{pow_pos}
 use Rattle.dym_base.specs.Numbers.{per}
 use Rattle.dym_heap.proofs.Sizes.{per_fits}
 use Rattle.dym_heap.proofs.Emptied as emptied
@@ -12,17 +11,16 @@ pub shared_ref_as_front-shape_area : goal.shared_ref_as_front-shape_area
 shared_ref_as_front-shape_area g c = small c.args.exp c.max.result c.per_area.result c.requires.least c.per_area.ensures c.max.ensures
 
 pub shape_area-requires-clause-area : goal.shape_area-requires-clause-area
-shape_area-requires-clause-area g c = emptied.last_inside _ c.areas-last.result c.requires.least c.requires.most c.areas-last.ensures c.requires.some (pow_pos _)
+shape_area-requires-clause-area g c = let n = c.areas-last.ensures in let some = c.requires.some in omega arith
 
 pub shape_area-requires-clause-below : goal.shape_area-requires-clause-below
 shape_area-requires-clause-below g c = λ i h. emptied.none_set c.max.result 256 i _ (small c.args.exp c.max.result c.per_area.result c.requires.least c.per_area.ensures c.max.ensures) h
 
 pub drop_area-requires-clause-free : goal.drop_area-requires-clause-free
-drop_area-requires-clause-free g c =
-    emptied.emptied _ c.areas-last.result c.requires.least c.requires.most c.areas-last.ensures c.requires.some _ c.max.result 256 (pow_pos _)
-    (small c.args.exp c.max.result c.per_area.result c.requires.least c.per_area.ensures c.max.ensures) c.shape_area.ensures.shaped (c.shape_area.ensures.long _)
+drop_area-requires-clause-free g c = emptied.emptied c.max.result 256 (small c.args.exp c.max.result c.per_area.result c.requires.least c.per_area.ensures c.max.ensures) (let n = c.areas-last.ensures in let some = c.requires.some in omega arith) c.shape_area.ensures.same c.shape_area.ensures.shaped
 
-pub returns-clause-rows : goal.returns-clause-rows
-returns-clause-rows g c =
-    emptied.last_rows c.args.self.now c.drop_area.new.self.held_ids c.areas-last.result c.requires.least c.requires.most c.areas-last.ensures c.requires.some c.shape_area.ensures.shaped (c.shape_area.ensures.long _)
-    c.shape_area.ensures.valid_shelf c.drop_area.ensures.dropped (pow_pos _)
+pub returns-clause-dropped : goal.returns-clause-dropped
+returns-clause-dropped g c = emptied.given c.max.result 256 (small c.args.exp c.max.result c.per_area.result c.requires.least c.per_area.ensures c.max.ensures) (let n = c.areas-last.ensures in let some = c.requires.some in omega arith) c.shape_area.ensures.same c.shape_area.ensures.shaped c.drop_area.ensures.dropped
+
+pub returns-clause-chunks : goal.returns-clause-chunks
+returns-clause-chunks g c k within = emptied.stay c.max.result 256 (small c.args.exp c.max.result c.per_area.result c.requires.least c.per_area.ensures c.max.ensures) (let n = c.areas-last.ensures in let some = c.requires.some in omega arith) c.shape_area.ensures.same c.shape_area.ensures.shaped c.drop_area.ensures.dropped k within (emptied.count_new c.max.result 256 (small c.args.exp c.max.result c.per_area.result c.requires.least c.per_area.ensures c.max.ensures) (let n = c.areas-last.ensures in let some = c.requires.some in omega arith) c.shape_area.ensures.same c.shape_area.ensures.shaped c.drop_area.ensures.dropped (let n = c.shape_area.ensures.valid_shelf.classes in let high = c.requires.most in omega arith))

@@ -1,28 +1,27 @@
 use Rattle.std.proofs.Common.{refl, ◌≡◌, arith}
 use Rattle.dym_bits.specs.Bits.{bit_in}
 use Rattle.dym_heap.specs.Fetches.{marked}
-use Rattle.dym_heap.proofs.ShelfFacts.{kept_s}
-use Rattle.dym_heap.proofs.ShelfAreas as areas
-use Rattle.dym_heap.proofs.ShelfChanges as changes
+use Rattle.dym_heap.proofs.ShelfCalls as calls
+use Rattle.dym_heap.proofs.ShelfLoads as loads
 use Rattle.dym_heap.proofs.AreaBindings.{bound_kept}
 use Rattle.dym_heap.proofs.shelf.Shelf.mark_area.Goals as goal
 
 pub returns-then-ordinal-self-clause-marked : goal.returns-then-ordinal-self-clause-marked
 returns-then-ordinal-self-clause-marked g c =
-    changes.no_area c.self.view_is c.self.invariant.0 c.requires.least c.requires.most c.class_index-class.result c.args.ordinal (λ i old new. new ≡ marked (bit_in c.args.packed.now i) old) c.class_index-class.ensures c.if-ordinal-self.true (λ i. refl)
+    calls.no_such_area c.self.view_is c.self.invariant.0 c.requires.least c.requires.most (λ i old new. new ≡ marked (bit_in c.args.packed.now i) old) c.class_index-class.ensures c.if-ordinal-self.true (λ i. refl)
 
 pub returns-then-ordinal-self-clause-valid_shelf : goal.returns-then-ordinal-self-clause-valid_shelf
-returns-then-ordinal-self-clause-valid_shelf g c = kept_s c.self.view_is c.self.invariant.0
+returns-then-ordinal-self-clause-valid_shelf g c = calls.valid_s c.self.view_is c.self.invariant.0
 
 pub index_mut-sized_area-requires : goal.index_mut-sized_area-requires
-index_mut-sized_area-requires g c = let l = areas.place_in c.self.view_is c.self.invariant.0 c.requires.least c.requires.most c.class_index-class.ensures c.if-ordinal-self.false in omega arith
+index_mut-sized_area-requires g c = let l = calls.place_in c.self.view_is c.self.invariant.0 c.requires.least c.requires.most c.class_index-class.ensures c.if-ordinal-self.false in omega arith
 
 pub invariant_of-self : goal.invariant_of-self
 invariant_of-self g c =
-    let shelf = (changes.marked_shelf c.self.view_is c.self.invariant.0 c.requires.least c.requires.most c.class_index-class.ensures c.if-ordinal-self.false c.index_mut-sized_area.ensures.value c.mark.ensures.valid c.mark.ensures.same c.args.packed.now c.mark.ensures.marked).shelf in
+    let shelf = (loads.marked_shelf c.self.view_is c.self.invariant.0 c.requires.least c.requires.most c.class_index-class.ensures c.if-ordinal-self.false c.index_mut-sized_area.ensures.value c.mark.ensures.valid c.mark.ensures.same c.args.packed.now c.mark.ensures.marked).shelf in
     (shelf, bound_kept _ _ _ c.self.invariant.0 shelf c.self.invariant.1)
 
 pub returns : goal.returns
 returns g c =
-    let now = changes.marked_shelf c.self.view_is c.self.invariant.0 c.requires.least c.requires.most c.class_index-class.ensures c.if-ordinal-self.false c.index_mut-sized_area.ensures.value c.mark.ensures.valid c.mark.ensures.same c.args.packed.now c.mark.ensures.marked in
-    record { marked = now.area; long = now.long; same = now.same; valid_shelf = now.kept }
+    let now = loads.marked_shelf c.self.view_is c.self.invariant.0 c.requires.least c.requires.most c.class_index-class.ensures c.if-ordinal-self.false c.index_mut-sized_area.ensures.value c.mark.ensures.valid c.mark.ensures.same c.args.packed.now c.mark.ensures.marked in
+    record { marked = now.area; same = now.same; valid_shelf = now.valid }

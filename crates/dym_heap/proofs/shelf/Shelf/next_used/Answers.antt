@@ -1,8 +1,9 @@
-use Rattle.std.proofs.Common.{arith, rules, ◌≡◌, ◌+◌, ◌-◌, ◌*◌, inl, inr, None}
+use Rattle.std.proofs.Common.{arith, rules, ◌≡◌, ◌+◌, ◌*◌, inl, inr, None}
 use Rattle.std.proofs.Math.Nat.{add-mul}
 use Rattle.std.proofs.lemmas.Nat.{div-add-mod', mod_below}
 use Rattle.std.proofs.lemmas.Bool.{cases_lt}
-use Rattle.dym_heap.specs.Table.{chunk_at}
+use Rattle.std.specs.FinMap.{get}
+use Rattle.dym_base.specs.Numbers.{number}
 use Rattle.dym_heap.proofs.NextUsed as next
 use Rattle.dym_heap.proofs.shelf.Shelf.next_used.Goals as goal
 
@@ -10,7 +11,7 @@ pub overflow_mul-end : goal.overflow_mul-end
 overflow_mul-end g c = let few = next.few_chunks c.self.view_is c.self.invariant.0 c.requires.least c.requires.most c.class_index-class.result c.per_area-per.result c.class_index-class.ensures c.per_area-per.ensures in search rules
 
 pub returns-then-from : goal.returns-then-from
-returns-then-from g c i a = next.past_all c.self.view_is c.self.invariant.0 c.requires.least c.requires.most i c.class_index-class.ensures c.per_area-per.ensures (omega arith)
+returns-then-from g c i a small = next.past_all c.self.view_is c.self.invariant.0 c.requires.least c.requires.most i small c.class_index-class.ensures c.per_area-per.ensures (omega arith)
 
 pub loop-ordinal-init : goal.loop-ordinal-init
 loop-ordinal-init g c =
@@ -50,8 +51,8 @@ loop-ordinal-preserved g c =
     }
 
 pub returns : goal.returns
-returns g c i a =
-    elim (cases_lt i (c.loop-ordinal.ordinal * c.per_area-per.result + c.loop-ordinal.chunk)) as (λ _. chunk_at c.args.self.now.rows (c.args.exp - 5) i ≡ None) [
+returns g c i a small =
+    elim (cases_lt i (c.loop-ordinal.ordinal * c.per_area-per.result + c.loop-ordinal.chunk)) as (λ _. get c.args.self.now.state.live (number c.args.exp i) ≡ None) [
       | inl before ↦ c.loop-ordinal.invariant.free i a before
-      | inr past ↦ next.end_n c.self.view_is c.self.invariant.0 c.requires.least c.requires.most c.class_index-class.result c.per_area-per.result c.loop-ordinal.ordinal i c.class_index-class.ensures c.per_area-per.ensures (omega arith) (omega arith)
+      | inr past ↦ next.end_n c.self.view_is c.self.invariant.0 c.requires.least c.requires.most c.class_index-class.result c.per_area-per.result c.loop-ordinal.ordinal i small c.class_index-class.ensures c.per_area-per.ensures (omega arith) (omega arith)
     ]

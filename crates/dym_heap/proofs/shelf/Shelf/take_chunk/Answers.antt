@@ -1,17 +1,16 @@
-use Rattle.std.proofs.Common.{rules, arith, ◌*◌, ap}
-use Rattle.dym_heap.proofs.ShelfFacts as facts
+use Rattle.std.proofs.Common.{rules, arith}
 use Rattle.dym_heap.proofs.ShelfCalls as calls
 use Rattle.dym_heap.proofs.AreaBindings.{bound_kept}
 use Rattle.dym_heap.proofs.shelf.Shelf.take_chunk.Goals as goal
 
 pub first_clear-requires : goal.first_clear-requires
-first_clear-requires g c = calls.limit_k c.self.view_is c.self.invariant.0 c.requires.least c.requires.most c.class_index-class.result c.class_index-class.ensures
+first_clear-requires g c = let l = calls.limit_k c.self.view_is c.self.invariant.0 c.requires.least c.requires.most c.class_index-class.result c.class_index-class.ensures in omega arith
 
-pub returns-in_default-clause-sized_area : goal.returns-in_default-clause-sized_area
-returns-in_default-clause-sized_area g c = calls.full_k c.self.view_is c.self.invariant.0 c.requires.least c.requires.most c.class_index-class.result _ c.class_index-class.ensures c.index.ensures c.in_default.ensures
+pub returns-in_default-clause-first : goal.returns-in_default-clause-first
+returns-in_default-clause-first g c = calls.full_k c.self.view_is c.self.invariant.0 c.requires.least c.requires.most c.class_index-class.result _ c.class_index-class.ensures c.index.ensures c.in_default.ensures
 
 pub returns-in_default-clause-valid_shelf : goal.returns-in_default-clause-valid_shelf
-returns-in_default-clause-valid_shelf g c = facts.kept_s c.self.view_is c.self.invariant.0
+returns-in_default-clause-valid_shelf g c = calls.valid_s c.self.view_is c.self.invariant.0
 
 pub index_mut-sized_area-requires : goal.index_mut-sized_area-requires
 index_mut-sized_area-requires g c = let l = calls.place_k c.self.view_is c.self.invariant.0 c.requires.least c.requires.most c.class_index-class.ensures c.index.ensures c.in-Some.ensures in omega arith
@@ -27,19 +26,13 @@ mark_full-requires-clause-ordinal g c = calls.small_k c.self.view_is c.self.inva
 
 pub overflow_mul-result : goal.overflow_mul-result
 overflow_mul-result g c =
-    let few = calls.few_k c.self.view_is c.self.invariant.0 c.requires.least c.requires.most c.class_index-class.ensures c.index.ensures c.in-Some.ensures in
-    let below = calls.below_k c.self.view_is c.self.invariant.0 c.requires.least c.requires.most c.class_index-class.ensures c.index.ensures c.in-Some.ensures c.index_mut-sized_area.ensures.value c.in-Some-take_chunk.ensures.free in
-    let fits = calls.place_small c.self.view_is c.self.invariant.0 c.requires.least c.requires.most c.in-Some.ordinal c.in-Some-take_chunk.chunk few below in
-    let n = ap (λ x. c.in-Some.ordinal * x) c.per_area.ensures in
+    let fits = calls.fits_k c.self.view_is c.self.invariant.0 c.requires.least c.requires.most c.class_index-class.ensures c.index.ensures c.in-Some.ensures c.index_mut-sized_area.ensures.value c.in-Some-take_chunk.ensures.free c.per_area.ensures in
     let l = fits.1 in
     search rules
 
 pub overflow_add-result : goal.overflow_add-result
 overflow_add-result g c =
-    let few = calls.few_k c.self.view_is c.self.invariant.0 c.requires.least c.requires.most c.class_index-class.ensures c.index.ensures c.in-Some.ensures in
-    let below = calls.below_k c.self.view_is c.self.invariant.0 c.requires.least c.requires.most c.class_index-class.ensures c.index.ensures c.in-Some.ensures c.index_mut-sized_area.ensures.value c.in-Some-take_chunk.ensures.free in
-    let fits = calls.place_small c.self.view_is c.self.invariant.0 c.requires.least c.requires.most c.in-Some.ordinal c.in-Some-take_chunk.chunk few below in
-    let n = ap (λ x. c.in-Some.ordinal * x) c.per_area.ensures in
+    let fits = calls.fits_k c.self.view_is c.self.invariant.0 c.requires.least c.requires.most c.class_index-class.ensures c.index.ensures c.in-Some.ensures c.index_mut-sized_area.ensures.value c.in-Some-take_chunk.ensures.free c.per_area.ensures in
     let l = fits.0 in
     search rules
 
@@ -51,4 +44,4 @@ invariant_of-self g c =
 pub returns : goal.returns
 returns g c =
     let now = calls.taken_k c.self.view_is c.self.invariant.0 c.requires.least c.requires.most c.class_index-class.ensures c.index.ensures c.in-Some.ensures c.index_mut-sized_area.ensures.value c.in-Some-take_chunk.ensures.free c.per_area.ensures c.args.len _ c.in-Some-take_chunk.ensures.taken c.take_chunk.ensures.valid c.mark_full.ensures c.is_full-is_full.ensures in
-    record { taken = now.gives; sized_area = calls.first_k c.self.view_is c.self.invariant.0 c.requires.least c.requires.most c.class_index-class.ensures c.index.ensures c.in-Some.ensures c.index_mut-sized_area.ensures.value c.in-Some-take_chunk.ensures.free c.per_area.result c.per_area.ensures; valid_shelf = now.valid_shelf }
+    record { taken = now.gives; first = calls.first_k c.self.view_is c.self.invariant.0 c.requires.least c.requires.most c.class_index-class.ensures c.index.ensures c.in-Some.ensures c.index_mut-sized_area.ensures.value c.in-Some-take_chunk.ensures.free c.per_area.ensures; valid_shelf = now.valid_shelf }

@@ -30,13 +30,13 @@ returns-clause-whole g c =
     let run = c.in_ok-replay.ensures in
     let same = run.events ∙ ap late_events c.in_ok-push.ensures.items ∙ grown_late c.args.self.now.events.items (record { time = c.args.time; command = c.args.command; reply = Done }) in
     let applied_before = ap (λ (h : HeapMeaning). h.applied) context.heap in
-    let made_before = ap (λ (k : ChainMeaning). k.next_number) context.chain in
+    let made_before = ap (λ (k : ChainMeaning). k.made) context.chain in
     let applied = run.applied in
-    let next_number = run.next_number in
+    let made = run.made in
     let grown = length-append c.args.self.now.events.items (record { time = c.args.time; command = c.args.command; reply = Done } ∷ []) in
     let pushed = ap length c.in_ok-push.ensures.items in
     subst (λ b. IsWhole b c.replay.new.self.events.items c.replay.new.self.order.items c.replay.new.self.heap c.replay.new.self.chain) (sym run.bound)
     (subst (λ o. IsWhole c.args.self.now.bound c.replay.new.self.events.items o c.replay.new.self.heap c.replay.new.self.chain) (sym (ap (λ v. v.items) run.order))
     (ended _ _ _ _ _ c.requires.whole (record { time = c.args.time; command = c.args.command; reply = Done }) c.requires.time _ _ counted placed
     c.drop_logs_after-start.result context.start c.replay.new.self.events.items c.insert.new.self.items c.replay.new.self.heap c.replay.new.self.chain same run.run
-    (omega (arith, applied, applied_before, pushed, grown, counted)) (omega (arith, next_number, made_before, pushed, grown, counted)) c.requires.room))
+    (omega (arith, applied, applied_before, pushed, grown, counted)) (omega (arith, made, made_before, pushed, grown, counted)) c.requires.room))

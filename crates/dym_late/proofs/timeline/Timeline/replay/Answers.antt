@@ -37,9 +37,9 @@ loop-place-preserved g c =
     let many = many_late (set c.loop-place.self.events.items c.index.result.now c.run_event.new.event) in
     let kept = c.in_ok-log_if_due.ensures in
     let applied = ap (λ (h : HeapMeaning). h.applied) kept.heap ∙ ap (λ (h : HeapMeaning). h.applied) c.run_event.ensures.after in
-    let next_number = kept.next_number in
+    let made = kept.made in
     let applied_before = c.loop-place.invariant.applied in
-    let made_before = c.loop-place.invariant.next_number in
+    let made_before = c.loop-place.invariant.made in
     record {
       run =
           logged_if_due c.loop-place.place (c.loop-place.place + 1) c.args.self.now.bound (omega arith) (set c.loop-place.self.events.items c.index.result.now c.run_event.new.event) c.args.self.now.order.items c.run_event.new.heap c.loop-place.self.chain next (omega (arith, within, few, count, many)) Inc c.log_if_due.new.heap c.log_if_due.new.chain
@@ -48,7 +48,7 @@ loop-place-preserved g c =
       order = c.loop-place.invariant.order;
       bound = c.loop-place.invariant.bound;
       applied = omega (arith, applied, applied_before);
-      next_number = omega (arith, next_number, made_before);
+      made = omega (arith, made, made_before);
       quota = ap (λ (h : HeapMeaning). h.quota) kept.heap ∙ ap (λ (h : HeapMeaning). h.quota) c.run_event.ensures.after ∙ c.loop-place.invariant.quota;
       origin = ap (λ (h : HeapMeaning). h.origin) kept.heap ∙ ap (λ (h : HeapMeaning). h.origin) c.run_event.ensures.after ∙ c.loop-place.invariant.origin;
     }

@@ -9,7 +9,7 @@ invariant-loop-place g l = record {
   order : l.self.order ≡ l.fn.self.order;
   bound : l.self.bound ≡ l.fn.self.bound;
   applied : l.self.heap.applied + l.start ≡ l.fn.self.heap.applied + l.place;
-  next_number : l.self.chain.next_number + l.start ≤ l.fn.self.chain.next_number + l.place;
+  made : l.self.chain.made + l.start ≤ l.fn.self.chain.made + l.place;
   quota : l.self.heap.quota ≡ l.fn.self.heap.quota;
   origin : l.self.heap.origin ≡ l.fn.self.heap.origin;
 }

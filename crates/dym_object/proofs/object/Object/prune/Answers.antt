@@ -14,7 +14,7 @@ returns-clause-reply g c =
 pub invariant_of-self : goal.invariant_of-self
 invariant_of-self g c =
     let h : HeapMeaning = c.self.inside.heap in
-    pruned_here h c.self.inside.chain c.prune.new.self c.self.inside.ran c.self.invariant (ap (λ (m : ChainMeaning). m.next_number) c.prune.ensures.after) c.prune.ensures.idle (c.prune.ensures.belongs h.version h.quota h.state c.self.invariant.belongs) c.prune.ensures.stands
+    pruned_here h c.self.inside.chain c.prune.new.self c.self.inside.ran c.self.invariant (ap (λ (m : ChainMeaning). m.made) c.prune.ensures.after) c.prune.ensures.idle (c.prune.ensures.belongs h.version h.quota h.state c.self.invariant.belongs) c.prune.ensures.stands
 
 pub returns-clause-whole : goal.returns-clause-whole
 returns-clause-whole g c = invariant_of-self g c

@@ -33,6 +33,6 @@ returns c =
     let left = c.drop_down.ensures.after in
     let records = ap (map numbered) left.list_is ∙ cut_records (owner_of i.seat.me.0).list (c.args.place + 1) in
     record {
-      after = (λ j. record { records = records j; next_number = i.next_number; lifted = i.lifted; origin = shared (name_of (c.drop_down.ensures.table j)) })
+      after = (λ j. record { records = records j; made = i.made; lifted = i.lifted; origin = shared (name_of (c.drop_down.ensures.table j)) })
           ∙ ap (λ (m : KeepMeaning). up_to m c.args.place) c.self.view_is;
     }

@@ -27,10 +27,10 @@ invariant_of-self c =
     let order = c.hold_spare-slot.new.order.items in
     let f = fits h.stands in
     let quiet = ap (λ (m : KeepMeaning). m.lifted) c.self.view_is ∙ c.requires.idle in
-    let left : i.next_number < RECORD_NUMBERS = let e = ap (λ (m : KeepMeaning). m.next_number) c.self.view_is in let r = c.requires.next_number in omega arith in
+    let left : i.made < RECORD_NUMBERS = let e = ap (λ (m : KeepMeaning). m.made) c.self.view_is in let r = c.requires.made in omega arith in
     let room = put_room c.self.view_is (count_of_records inv.stands) c.requires.room in
     let e = get_or_read order i.len c.index_mut.result.now (omega arith) c.index_mut.ensures.value no_entry in
-    let items = ap (λ (s : ℕ). set order i.len (entry s i.next_number)) (ap (λ (x : Entry). x.slot) e) in
+    let items = ap (λ (s : ℕ). set order i.len (entry s i.made)) (ap (λ (x : Entry). x.slot) e) in
     let now = c.put_into.ensures.after in
     record {
       seated = sits_still (c.put_into.ensures.table ∙ h.table) inv.seated;

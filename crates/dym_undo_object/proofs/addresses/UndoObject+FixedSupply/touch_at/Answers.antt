@@ -1,18 +1,19 @@
-use Rattle.std.proofs.Common.{◌≡◌, ℕ, ◌+◌, ◌<◌, ◌≤◌, Option, List, length, ap, sym, subst, ◌∙◌, arith}
+use Rattle.std.proofs.Common.{◌≡◌, ℕ, ◌+◌, ◌==◌, min, ap, sym, subst, ◌∙◌}
 use Rattle.std.specs.FinMap.{get}
-use Rattle.dym_base.specs.HeapStep.{key, write}
-use Rattle.dym_heap.specs.ChunkLends.{heap_lent, new_bytes}
-use Rattle.dym_heap.specs.Meaning.{HeapMeaning}
-use Rattle.dym_heap.specs.Shelves.{FitsIn}
-use Rattle.dym_heap.specs.Touches.{touched_in}
+use Rattle.dym_base.specs.HeapStep.{key}
+use Rattle.dym_base.specs.Heaps.{HeapState}
+use Rattle.dym_base.specs.declared.handle.Handle.{Handle}
+use Rattle.dym_heap.specs.ChunkLends.{HasByte}
+use Rattle.dym_heap.specs.Meaning.{HeapMeaning, IsSound}
+use Rattle.dym_heap.specs.Touches.{has_byte_in, touched_in, with_touch}
+use Rattle.dym_heap.proofs.ShelfCalls.{some_fits}
 use Rattle.dym_undo.specs.UndoLogs.{Belongs}
 use Rattle.dym_undo_object.specs.Meaning.{UndoObjectMeaning}
-use Rattle.dym_undo_object.proofs.HeapChanges.{writes, belongs_after}
+use Rattle.dym_undo_object.proofs.HeapChanges.{touch_differs}
 use Rattle.dym_undo_object.proofs.OneTouched.{one_touched}
 use Rattle.dym_undo_object.proofs.Ranges.{cut_has, cut_same}
 use Rattle.dym_undo_object.proofs.Touched.{belongs_touched, range_kept}
 use Rattle.dym_undo_object.proofs.Wholes.{touched_whole}
-use Rattle.dym_undo_object.proofs.addresses.UndoObject+FixedSupply.touch_at.Goals.{After-self-1}
 use Rattle.dym_undo_object.proofs.addresses.UndoObject+FixedSupply.touch_at.Goals as goal
 
 pub returns-in-None-clause-touched : goal.returns-in-None-clause-touched
@@ -38,35 +39,33 @@ invariant_of-self-in-None c =
 pub returns-in-None-clause-whole : goal.returns-in-None-clause-whole
 returns-in-None-clause-whole c = (invariant_of-self-in-None c).whole
 
-module _ (c : After-self-1) where
-  abbrev h : HeapMeaning
-  h = c.self.inside.heap
-
-  abbrev ws : List ℕ
-  ws = c.live_mut.result.now
-
-  some : 0 < length ws
-  some = let one : 1 ≤ length ws = subst (λ (o : Option (List ℕ)). FitsIn o 1) c.live_mut.ensures.value c.in-Some.ensures.some in omega (arith, one)
-
-  state : (write h.state c.in-Some.h 0 (new_bytes (get h.state.live (key c.in-Some.h)) ws)).heap ≡ touched_in h.quota c.args.offset (c.args.offset + c.args.len) h.state
-  state = one_touched h.quota c.args.offset (c.args.offset + c.args.len) h.state c.in-Some.h ws some c.live_mut.ensures.value
-      (λ k. cut_same h c.args.offset (c.args.offset + c.args.len) c.saturating_add-end.result k c.self.invariant.whole.sound c.saturating_add-end.ensures
-      ∙ c.in-Some.ensures.only k)
+-- the heap with the one chunk touched that has bytes in the range
+one_is : (h new : HeapMeaning) (from end end' : ℕ) (hd : Handle) → IsSound h → end' ≡ min end 18446744073709551615 → HasByte h hd
+    → ((k : ℕ) → has_byte_in h.quota h.state.live from end' k ≡ (k == key hd)) → new ≡ record h { state = with_touch h.state (key hd) }
+    → new ≡ record h { state = touched_in h.quota from end h.state }
+one_is h new from end end' hd sound cut some only touched =
+    touched
+    ∙ ap (λ (s : HeapState). record h { state = s })
+    (one_touched h.quota from end h.state (key hd) (some_fits (get h.state.live (key hd)) 1 some) (λ k. cut_same h from end end' k sound cut ∙ only k))
 
 pub returns-in-Some-clause-touched : goal.returns-in-Some-clause-touched
 returns-in-Some-clause-touched c =
-    (λ i. record { heap = record (h c) { state = state c i }; logs = c.keep.ensures.logs i; ran = c.self.inside.ran })
+    let is = one_is c.self.inside.heap c.touch.new.self c.args.offset (c.args.offset + c.args.len) c.saturating_add-end.result c.in-Some.h c.self.invariant.whole.sound
+    c.saturating_add-end.ensures c.in-Some.ensures.some c.in-Some.ensures.only c.touch.ensures.touched in
+    (λ i. record { heap = is i; logs = c.keep.ensures.logs i; ran = c.self.inside.ran })
     ∙ ap (λ (o : UndoObjectMeaning). record o { heap = record o.heap { state = touched_in o.heap.quota c.args.offset (c.args.offset + c.args.len) o.heap.state } })
     c.self.view_is
 
 pub invariant_of-self : goal.invariant_of-self
-invariant_of-self c = record {
-  whole = touched_whole (h c) (heap_lent (h c) c.in-Some.h (ws c)) c.self.inside.undo.logs c.keep.new.self.logs c.self.inside.ran
-      (touched_in (h c).quota c.args.offset (c.args.offset + c.args.len) (h c).state) c.self.invariant.whole (λ i. record (h c) { state = state c i })
-      (c.live_mut.ensures.sound (ws c)) c.keep.ensures.logs;
-  belongs = belongs_after (h c).version (h c).quota (key c.in-Some.h) (h c).state _ c.keep.new.self c.keep.ensures.belongs c.keep.ensures.kept
-      (writes (h c).state c.in-Some.h 0 (new_bytes (get (h c).state.live (key c.in-Some.h)) (ws c)));
-}
+invariant_of-self c =
+    let h = c.self.inside.heap in
+    let k = key c.in-Some.h in
+    record {
+      whole = touched_whole h c.touch.new.self c.self.inside.undo.logs c.keep.new.self.logs c.self.inside.ran (with_touch h.state k) c.self.invariant.whole
+          c.touch.ensures.touched c.touch.ensures.sound c.keep.ensures.logs;
+      belongs = subst (λ (m : HeapMeaning). Belongs m.version m.quota m.state c.keep.new.self) (sym c.touch.ensures.touched)
+          (c.keep.ensures.kept (some_fits (get h.state.live k) 1 c.in-Some.ensures.some) (with_touch h.state k) (touch_differs h.state k));
+    }
 
 pub returns-in-Some-clause-whole : goal.returns-in-Some-clause-whole
 returns-in-Some-clause-whole c = (invariant_of-self c).whole

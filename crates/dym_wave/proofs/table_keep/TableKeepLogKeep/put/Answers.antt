@@ -8,7 +8,7 @@ pub returns-then-self-clause-after : goal.returns-then-self-clause-after
 returns-then-self-clause-after c =
     let owner = c.self.inside.owner in
     let rec = c.args.rec in
-    c.drop_before.ensures.after
+    c.raise.ensures.after
     ∙ ap (λ (keep : KeepMeaning). from keep 1) c.put-number.ensures.after
     ∙ in_place_of_spent owner rec (c.self.invariant c.if-self.true).0
     ∙ ap (λ (spent : Bool). with_record (kept_of spent owner) rec) (sym c.if-self.true)

@@ -1,4 +1,4 @@
-use Rattle.std.proofs.Common.{◌≡◌, ◌≤◌, suc, ◌++◌, length, take, drop, refl, ap, sym, subst, ◌∙◌, arith}
+use Rattle.std.proofs.Common.{◌≡◌, ◌≤◌, suc, ◌++◌, length, take, drop, refl, ap, sym, subst, ◌∙◌, arith, length-append}
 use Rattle.std.proofs.lemmas.List.{take-append-drop, length-take-le, length-drop}
 use Rattle.warp_base.specs.Events.{AreFrom}
 use Rattle.warp_base.specs.Histories.{state_after, sent_from, all_sent}
@@ -6,8 +6,8 @@ use Rattle.warp_process.specs.Processes.{face}
 use Rattle.warp_process.proofs.Committing.{done_stays, handed_over}
 use Rattle.warp_process.proofs.process.Process.hand_over.Goals as goal
 
-pub returns : goal.returns
-returns g c =
+pub returns-clause-committed : goal.returns-clause-committed
+returns-clause-committed g c =
     let words = g.P.Payload.words in
     let self = c.args.self.now in
     let p = self.number in
@@ -38,3 +38,16 @@ returns g c =
       early = refl;
       number = refl;
     }
+
+pub returns-clause-date : goal.returns-clause-date
+returns-clause-date g c =
+    let self = c.args.self.now in
+    let count = c.args.count in
+    let k = c.requires.process in
+    let ran = k.process.ran_within in
+    let committed : take count c.deref.result.now ≡ take count self.events.items = ap (take count) c.deref.ensures.value in
+    let long = length-take-le count self.events.items (omega (arith, c.requires.within, ran)) in
+    let fossils = ap length c.append_reserved.ensures ∙ length-append self.fossils.items (take count c.deref.result.now) in
+    let gone = ap length committed in
+    let marks = ap length c.drop_first-2.ensures ∙ length-drop count self.marks.items in
+    omega (arith, fossils, gone, long, marks, c.requires.within)

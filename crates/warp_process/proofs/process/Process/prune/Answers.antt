@@ -1,4 +1,5 @@
 use Rattle.std.proofs.Common.{◌≡◌, ◌+◌, length, sym, subst, arith}
+use Rattle.warp_process.specs.Savers.{KeepsFrom}
 use Rattle.warp_process.specs.Processes.{face, IsProcess}
 use Rattle.warp_process.proofs.Committing.{oldest_late, pruned}
 use Rattle.warp_process.proofs.process.Process.prune.Goals as goal
@@ -18,3 +19,9 @@ returns-clause-kept g c b past h =
     let all : self.first_date + c.len.result ≡ length past = omega (arith, dates, c.len.ensures, self.fossils.ok.0) in
     let now = pruned words b past f h (self.first_date + c.len.result) c.prune-oldest.result (g.K.StateSaver.copies c.prune-oldest.new.self) c.drop_first.new.list.items all c.prune-oldest.ensures.copies c.drop_first.ensures in
     subst (λ s. IsProcess words b past (record f { first_date = c.prune-oldest.result; fossils = c.drop_first.new.list.items; copies = g.K.StateSaver.copies c.prune-oldest.new.self; state = s })) (sym c.prune-oldest.ensures.state) now
+
+pub returns-clause-copies : goal.returns-clause-copies
+returns-clause-copies g c =
+    let self = c.args.self.now in
+    let len_is : c.len.result ≡ length self.fossils.items = omega (arith, c.len.ensures, self.fossils.ok.0) in
+    subst (λ n. KeepsFrom (g.K.StateSaver.copies self.saver) (self.first_date + n) c.prune-oldest.result (g.K.StateSaver.copies c.prune-oldest.new.self)) len_is c.prune-oldest.ensures.copies

@@ -7,6 +7,7 @@ use Rattle.warp_process.specs.Processes.{face}
 use Rattle.warp_process.proofs.Taking.{events_in_order, not_there, early_more, taken_out, behind_from, copies-remove}
 use Rattle.std.specs.List.{remove}
 use Rattle.warp_process.proofs.Undoing.{undoes_remove}
+use Rattle.warp_process.proofs.Keeping.{keeps_all, keeps_remove}
 use Rattle.warp_process.proofs.process.Process.take_anti.Goals as goal
 
 pub find_place-place-requires : goal.find_place-place-requires
@@ -82,3 +83,18 @@ returns-clause-undone g c =
     let there : slice_get self.events.items place ≡ Some e = sym (ap (λ l. slice_get l place) c.deref-2.ensures.value) ∙ c.is_at.ensures.0 c.if-not-is_at.false in
     let events : c.roll_back.new.self.events.items ≡ self.events.items = ap (λ v. v.items) c.in_ok-roll_back.ensures.events in
     undoes_remove e place (face g.K.StateSaver.state g.K.StateSaver.copies self) (face g.K.StateSaver.state g.K.StateSaver.copies (record c.roll_back.new.self { events = c.remove.new.self })) (c.remove.ensures.items ∙ ap (λ l. remove l place) events) c.in_ok-roll_back.ensures.undone there (behind_from words e (drop place self.events.items) behind)
+
+pub returns-then-not-is_at-clause-keeps : goal.returns-then-not-is_at-clause-keeps
+returns-then-not-is_at-clause-keeps g c =
+    let k = c.requires.process in
+    let all = keeps_all g.P.Payload.words k.behaviour k.past (face g.K.StateSaver.state g.K.StateSaver.copies c.args.self.now) k.process in
+    record { few = all.few; ran = all.ran; first_date = all.first_date; fossils = all.fossils; copies = all.copies; state = all.state; fresh = all.fresh }
+
+pub returns-clause-keeps : goal.returns-clause-keeps
+returns-clause-keeps g c =
+    let self = c.args.self.now in
+    let now = c.roll_back.new.self in
+    let place = c.find_place-place.result in
+    let events = ap (λ v. v.items) c.in_ok-roll_back.ensures.events in
+    let there : slice_get now.events.items place ≡ Some c.args.event = ap (λ l. slice_get l place) events ∙ sym (ap (λ l. slice_get l place) c.deref-2.ensures.value) ∙ c.is_at.ensures.0 c.if-not-is_at.false in
+    keeps_remove (face g.K.StateSaver.state g.K.StateSaver.copies self) (face g.K.StateSaver.state g.K.StateSaver.copies now) c.in_ok-roll_back.ensures.keeps place (let undone = c.in_ok-roll_back.ensures.undone in omega (arith, undone)) c.args.event c.remove.new.self.items there c.remove.ensures.items

@@ -1,10 +1,11 @@
 use Rattle.std.proofs.Common.{◌≡◌, ◌≤◌, false, Some, slice_get, length, take, drop, ap, sym, subst, ◌∙◌, arith}
 use Rattle.warp_base.specs.Events.{Each, precedes, copies, IsBefore, IsInOrder}
-use Rattle.warp_process.specs.Processes.{face, bound_of}
+use Rattle.warp_process.specs.Processes.{face, bound_of, KeepsFirst}
 use Rattle.warp_process.proofs.Outgoing.{nothing_sent}
 use Rattle.warp_process.proofs.Taking.{events_in_order, early_less, put_in, same_events, behind_from, copies-remove, copies-insert}
 use Rattle.std.specs.List.{insert}
 use Rattle.warp_process.proofs.Undoing.{undoes_insert}
+use Rattle.warp_process.proofs.Keeping.{keeps_all, keeps_insert}
 use Rattle.warp_process.proofs.process.Process.take_event.Goals as goal
 
 pub returns-in-Some-clause-kept : goal.returns-in-Some-clause-kept
@@ -78,3 +79,21 @@ returns-clause-undone g c =
     let within = subst (λ l. place ≤ length l) c.deref-2.ensures.value c.find_place-place.ensures.within in
     let events : c.roll_back.new.self.events.items ≡ self.events.items = ap (λ v. v.items) c.in_ok-roll_back.ensures.events ∙ c.reserve.ensures.items in
     undoes_insert e place (face g.K.StateSaver.state g.K.StateSaver.copies self) (face g.K.StateSaver.state g.K.StateSaver.copies (record c.roll_back.new.self { events = c.insert.new.self })) (c.in-Ok.ensures.items ∙ ap (λ l. insert l place e) events) c.in_ok-roll_back.ensures.undone within (behind_from words e (drop place self.events.items) behind)
+
+pub returns-in-Some-clause-keeps : goal.returns-in-Some-clause-keeps
+returns-in-Some-clause-keeps g c =
+    let k = c.requires.process in
+    let all = keeps_all g.P.Payload.words k.behaviour k.past (face g.K.StateSaver.state g.K.StateSaver.copies c.args.self.now) k.process in
+    record { few = all.few; ran = all.ran; first_date = all.first_date; fossils = all.fossils; copies = all.copies; state = all.state; fresh = all.fresh }
+
+pub returns-clause-keeps : goal.returns-clause-keeps
+returns-clause-keeps g c =
+    let self = c.args.self.now in
+    let now = c.roll_back.new.self in
+    let place = c.find_place-place.result in
+    let f = face g.K.StateSaver.state g.K.StateSaver.copies self in
+    let events : now.events.items ≡ self.events.items = ap (λ v. v.items) c.in_ok-roll_back.ensures.events ∙ c.reserve.ensures.items in
+    let within : place ≤ length now.events.items = subst (λ l. place ≤ length l) (c.deref-2.ensures.value ∙ sym events) c.find_place-place.ensures.within in
+    let k = c.in_ok-roll_back.ensures.keeps in
+    let back : KeepsFirst f (face g.K.StateSaver.state g.K.StateSaver.copies now) = record { few = k.few; ran = k.ran ∙ ap (take (length now.marks.items)) c.reserve.ensures.items; first_date = k.first_date; fossils = k.fossils; copies = k.copies; state = k.state; fresh = k.fresh } in
+    keeps_insert f (face g.K.StateSaver.state g.K.StateSaver.copies now) back place (let undone = c.in_ok-roll_back.ensures.undone in omega (arith, undone)) c.args.event c.insert.new.self.items within c.in-Ok.ensures.items

@@ -1,0 +1,4 @@
+use Rattle.warp_object.proofs.moment.Moment.like.Given as goal
+
+abbrev pub ghost-of_ghost : goal.ghost-of_ghost
+ghost-of_ghost g a = g.whole

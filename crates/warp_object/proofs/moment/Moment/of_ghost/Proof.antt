@@ -1,0 +1,39 @@
+-- A moment has no bytes, so it may tell anything.
+use Rattle.std.proofs.Common.{[], ◌∷◌, refl}
+use Rattle.std.proofs.raw_atomic.Walks.{proved}
+use mir.Val.{Val, vstruct, vcons, vnil}
+use base.Fml.{Fml}
+use types.Kit.{‵, raw, ◌$◌, ◌∵◌, !, qed, done, drop, use0, suffices}
+use types.Run.{enter, no_more, and_then, returns}
+use types.Part.{agg}
+use types.ByLocal.{alloc_all, pass_all, free_all, look_at, get, sets}
+use denote.Shadow.{makes_shadow}
+use denote.Signature.{type_at}
+use denote.Steps.{nothing}
+use denote.Triple.Entry.{on_entry}
+use denote.Triple.Walked.{says, Stays, walk_of, ends_at}
+use Rattle.warp_object.specs.contracts.moment.Moment.of_ghost as f
+use Rattle.warp_object.proofs.moment.Moment.of_ghost.Statement.{statement}
+use Rattle.warp_object.proofs.moment.Moment.of_ghost.Code as code
+
+abbrev stayed : Stays f.ended.signature.params f.ended.kept
+stayed = tt
+
+pub of_ghost_spec : {M : Type 1} → statement M
+of_ghost_spec 𝓤 𝓛 𝓜 𝓡 wired =
+    let c = f.clauses 𝓛 𝓜.mem 𝓡.returns in
+    proved 𝓛 f.ended stayed c 𝓜 𝓡 tt
+    f.Key.name code.function (code.unfolded 𝓤 𝓛.H 𝓜 𝓡 wired)
+    (λ κs. tt) (λ κs. tt) (λ κs qs bounds a n are.
+    let W = walk_of 𝓛 f.ended stayed c in
+    let y : W.Ghost = ((κs, qs, bounds, a, tt), n) in
+    let v : Val = vstruct (vcons (vstruct vnil) vnil) in
+    let r : denote.Triple.Entry.Res f.ended.signature κs = record { marker = record {}; seen = n } in
+    let O : Fml = (type_at f.ended.signature.result κs).own_val r (v ∷ []) in
+    qed 𝓛 (raw (on_entry 𝓛 f.signature κs qs a tt) ∷ raw ((c κs a).requires n) ∷ []) ∵ drop ! $ drop ! $
+    enter ! _ _ _ _ _ $ alloc_all ! (λ l. pass_all ! refl tt $
+    sets ! (agg ! (no_more !)) refl (tt, tt) $ sets ! (agg ! (and_then ! (get ! refl) (no_more !))) refl (tt, (tt, tt)) $
+    returns ! (look_at ! 0 refl) $ free_all ! refl $
+    use0 𝓛 (‵ O) (makes_shadow 𝓛 O ((λ vss. (tt, ((λ uss. (tt, tt)), tt))), tt) (((vstruct vnil ∷ [], tt), (refl, ((tt, (refl, tt)), tt))), tt)) $
+    suffices ! _ (ends_at 𝓛 f.ended stayed c y v r tt tt) $ says ! refl $
+    nothing ! $ nothing ! $ done !))
