@@ -44,7 +44,7 @@ run_within used e far from count some all filled =
     let end : from * size e + count * size e ≡ last * size e + size e = sum_of from count (size e) ∙ ap (λ n. n * size e) (sym next) ∙ chunk_end last (size e) in
     omega (arith, end, filled last (all last (omega (arith, some)) (omega (arith, some))))
 
--- the same by the size that is at hand, where the area is seen as another record of the same fields
+-- used chunks side by side, by the size that is at hand, where the area is seen as another record of the same fields
 pub run_seen : {area seen : AreaMeaning} (is : area ≡ seen) (far from count : ℕ) {n : ℕ} → n ≡ size area.exponent → (count ≡ 0 → ⊥) → ((i : ℕ) → from ≤ i → i < from + count → IsSet seen.used i) → AreFilled area.used area.exponent far → from * n + count * n ≤ far
 run_seen {area} is far from count same some all filled =
     omega (arith, ap (λ n. from * n + count * n) same, run_within area.used area.exponent far from count some (λ i low high. ap (λ (a : AreaMeaning). bit_in a.used i) is ∙ all i low high) filled)

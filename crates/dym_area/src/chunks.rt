@@ -1,7 +1,6 @@
 //! One segment cut into chunks.
 ghost use Rattle.std.specs.Prelude.{◌≡◌, ℕ, ◌+◌, ◌*◌, ◌/◌, ◌<◌, ◌≤◌, ◌↔◌, max, length, replicate, IsTrue, MatchOption};
 ghost use Rattle.dym_base.specs.Numbers.{size, per};
-ghost use Rattle.dym_base.specs.declared.limits.TheConstants.{LEAST_EXPONENT, GREATEST_EXPONENT};
 ghost use Rattle.std.specs.Prelude.{List};
 ghost use Rattle.std.specs.Option.{ForSome};
 ghost use Rattle.std.specs.Borrow.{sem};
@@ -11,7 +10,7 @@ ghost use Rattle.dym_area.specs.Area.{IsValidArea, chunk_start, with_taken, with
 
 use crate::ends::end_of;
 use crate::summary::{WORD_CHUNKS, after_take, all_words, summary_of, with_room};
-use dym_base::class::{per_area, size_of_class};
+use dym_base::Class;
 use dym_base::limits::{MOST_CHUNKS, SEGMENT_BYTES};
 use dym_bits::Bits;
 use dym_region::Segment;
@@ -19,7 +18,7 @@ use std::marker::Model;
 
 /// A segment cut into chunks of one class, with a use bit and a dirty bit for each chunk. No call takes memory.
 pub struct Area<G: Segment> {
-    exp: u8,
+    class: Class,
     ordinal: u32,
     used: Bits,
     dirty: Bits,
@@ -34,7 +33,7 @@ impl<G: Segment> Model for Area<G> {
     ghost Value = { AreaMeaning };
 
     ghost view = { λ a. record {
-      exponent = a.exp;
+      exponent = a.class.exp;
       ordinal = a.ordinal;
       used = a.used;
       dirty = a.dirty;
@@ -43,7 +42,7 @@ impl<G: Segment> Model for Area<G> {
     } };
 
     ghost invariant = { λ a. IsSummedArea (record {
-      exponent = a.exp;
+      exponent = a.class.exp;
       ordinal = a.ordinal;
       used = a.used;
       dirty = a.dirty;
@@ -55,12 +54,10 @@ impl<G: Segment> Model for Area<G> {
 impl<G: Segment> Area<G> {
     ghost use Rattle.dym_area.specs.Lends.{lends_chunk};
 
-    /// An area of class `exp` over a segment, with no chunk used. `ordinal` is its place among the areas of its class.
-    pub fn new(exp: u8, ordinal: u32, seg: G) -> Area<G>
-        requires least { LEAST_EXPONENT ≤ exp }
-        requires greatest { exp ≤ GREATEST_EXPONENT }
+    /// An area of a class over a segment, with no chunk used. `ordinal` is its place among the areas of its class.
+    pub fn new(class: Class, ordinal: u32, seg: G) -> Area<G>
         ensures made { result ≡ record {
-          exponent = exp;
+          exponent = class.exp;
           ordinal = ordinal;
           used = clear_bits MOST_CHUNKS;
           dirty = clear_bits MOST_CHUNKS;
@@ -71,20 +68,20 @@ impl<G: Segment> Area<G> {
         ensures none { (i : ℕ) → IsClear result.used i }
     {
         Area {
-            exp,
+            class,
             ordinal,
             used: Bits::new(),
             dirty: Bits::new(),
-            room: all_words(exp),
+            room: all_words(class),
             segment: seg,
         }
     }
 
-    /// The class exponent.
-    pub fn exp(&self) -> u8
-        ensures { result ≡ self.now.exponent }
+    /// The class.
+    pub fn class(&self) -> Class
+        ensures { result.exp ≡ self.now.exponent }
     {
-        self.exp
+        self.class
     }
 
     /// The place among the areas of the class.
@@ -111,10 +108,10 @@ impl<G: Segment> Area<G> {
         ensures valid { IsValidArea self.new }
     {
         let i = self.first_free()?;
-        let size = size_of_class(self.exp);
+        let size = self.class.size();
         self.used.set(i);
         self.dirty.set(i);
-        self.room = after_take(self.room, &self.used, self.exp, i);
+        self.room = after_take(self.room, &self.used, self.class, i);
         self.segment.zero(i * size, size);
         Some(i)
     }
@@ -149,11 +146,11 @@ impl<G: Segment> Area<G> {
         ensures after { self.new ≡ with_put_back self.old i bytes.now }
         ensures valid { IsValidArea self.new }
     {
-        let size = size_of_class(self.exp);
+        let size = self.class.size();
         let front = i * size;
         self.used.set(i);
         self.dirty.clear(i);
-        self.room = after_take(self.room, &self.used, self.exp, i);
+        self.room = after_take(self.room, &self.used, self.class, i);
         self.segment.write(front, bytes);
         self.segment.fill(front + size);
     }
@@ -166,7 +163,7 @@ impl<G: Segment> Area<G> {
         ensures empty { length bytes.now ≡ 0 → self.new ≡ self.old }
         ensures valid { IsValidArea self.new }
     {
-        let start = i * size_of_class(self.exp) + at;
+        let start = i * self.class.size() + at;
         if bytes.is_empty() {
             return;
         }
@@ -182,7 +179,7 @@ impl<G: Segment> Area<G> {
         ensures empty { len ≡ 0 → self.new ≡ self.old }
         ensures valid { IsValidArea self.new }
     {
-        let start = i * size_of_class(self.exp) + at;
+        let start = i * self.class.size() + at;
         if len == 0 {
             return;
         }
@@ -196,11 +193,11 @@ impl<G: Segment> Area<G> {
         requires within { at + len ≤ size self.now.exponent }
         ensures { result.now ≡ part_of self.now.content (chunk_start self.now i + at) len }
     {
-        let start = i * size_of_class(self.exp) + at;
+        let start = i * self.class.size() + at;
         self.segment.bytes(start, len)
     }
 
-    /// The same to be changed in place. The chunk is dirty.
+    /// The `len` bytes of a used chunk from its place `at` on, to be changed in place. The chunk is dirty.
     pub fn bytes_mut(&mut self, i: u32, at: u32, len: u32) -> &mut [u8]
         requires used { IsSet self.old.used i }
         requires within { at + len ≤ size self.old.exponent }
@@ -208,7 +205,7 @@ impl<G: Segment> Area<G> {
         ensures value { result.now ≡ part_of self.old.content (chunk_start self.old i + at) len }
         ensures valid { (ws : List ℕ) → IsValidArea (with_chunk_lent self.old i at len ws) }
     {
-        let start = i * size_of_class(self.exp) + at;
+        let start = i * self.class.size() + at;
         touch(&mut self.dirty, i, len);
         self.segment.bytes_mut(start, len)
     }
@@ -220,7 +217,7 @@ impl<G: Segment> Area<G> {
         ensures { out.new
             ≡ part_of self.now.content (chunk_start self.now i + at) (length out.old) }
     {
-        let start = i * size_of_class(self.exp) + at;
+        let start = i * self.class.size() + at;
         self.segment.read(start, out);
     }
 
@@ -233,7 +230,7 @@ impl<G: Segment> Area<G> {
         if count == 0 {
             return self.segment.bytes(0, 0);
         }
-        let size = size_of_class(self.exp);
+        let size = self.class.size();
         self.segment.bytes(from * size, count * size)
     }
 
@@ -243,7 +240,7 @@ impl<G: Segment> Area<G> {
         ensures after { self.new ≡ with_loaded self.old from bytes.now }
         ensures valid { IsValidArea self.new }
     {
-        self.segment.write(from * size_of_class(self.exp), bytes);
+        self.segment.write(from * self.class.size(), bytes);
     }
 
     /// Whether chunk `i` is used.
@@ -290,7 +287,7 @@ impl<G: Segment> Area<G> {
         ensures { MatchOption result ((i : ℕ) → 0 ≤ i → IsClear self.now.used i)
             (IsNextSet self.now.used 0) }
     {
-        self.used.next_set_within(0, per_area(self.exp))
+        self.used.next_set_within(0, self.class.per_area())
     }
 
     /// The use bits.
@@ -345,8 +342,8 @@ impl<G: Segment> Area<G> {
     {
         self.used.set_bytes(use_bytes);
         self.dirty = Bits::new();
-        self.room = summary_of(&self.used, self.exp);
-        self.segment.fill(end_of(&self.used, self.exp));
+        self.room = summary_of(&self.used, self.class);
+        self.segment.fill(end_of(&self.used, self.class));
     }
 
     /// The segment, with the bytes as they stand.
@@ -355,7 +352,7 @@ impl<G: Segment> Area<G> {
         ensures same { G.id result ≡ self.identity }
     {
         let Area {
-            exp: _,
+            class: _,
             ordinal: _,
             used: _,
             dirty: _,

@@ -100,7 +100,7 @@ areas_same a b there back e =
     let more = areas_grow b a back e in
     omega arith
 
--- the same, in the words of indices
+-- a class has at most n areas just where each live index of it, divided by the chunks of an area, is below n
 pub areas_below : (live : Live) (e n : ℕ) → (areas live e ≤ n → (k : ℕ) → Has live k → exponent_of k ≡ e → index_of k / per e < n) × (((k : ℕ) → Has live k → exponent_of k ≡ e → index_of k / per e < n) → areas live e ≤ n)
 areas_below live e n = (
   λ few k has is. (let far = reach_areas live e k has in let there = reach_there e k is in omega arith),

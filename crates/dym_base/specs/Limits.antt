@@ -1,6 +1,6 @@
 -- The limits of the product as numbers, so that a constant that was changed is refused. The names stand in src/limits.rt.
 use Rattle.std.specs.Prelude.{◌≡◌, ◌^◌}
-use Rattle.dym_base.specs.declared.limits.TheConstants.{SEGMENT_BYTES, LEAST_EXPONENT, GREATEST_EXPONENT, MOST_CHUNKS, MOST_QUOTA}
+use Rattle.dym_base.specs.declared.limits.TheConstants.{SEGMENT_BYTES, LEAST_EXPONENT, GREATEST_EXPONENT, CLASSES, MOST_CHUNKS, MOST_QUOTA}
 use Rattle.dym_base.specs.declared.limits.TheConstants.{MOST_KEPT_LOGS, MOST_DEPTH, MOST_RECORDS, RECORD_ROOM, LOG_SLOTS, LOG_WORDS}
 use Rattle.dym_base.specs.declared.limits.TheConstants.{MOST_INPUT_BYTES, MOST_LINE_BYTES, MOST_OBJECTS, MOST_COMMANDS, MOST_MADE_COMMANDS}
 use Rattle.dym_base.specs.declared.limits.TheConstants.{MOST_READ_BYTES, MOST_NAME_BYTES}
@@ -13,6 +13,7 @@ pub record HeapLimits : Type 0 where
   pub segment : SEGMENT_BYTES ≡ 65536
   pub least_class : LEAST_EXPONENT ≡ 5
   pub greatest_class : GREATEST_EXPONENT ≡ 16
+  pub classes : CLASSES ≡ 12
   pub chunks : MOST_CHUNKS ≡ 2048
   pub quota : MOST_QUOTA ≡ 1024
 

@@ -1,5 +1,5 @@
 -- Handles and size classes as numbers.
-use Rattle.std.specs.Prelude.{ℕ, ◌+◌, ◌-◌, ◌*◌, ◌/◌, ◌%◌, ◌^◌, ◌≤◌, List, [], ◌∷◌, nat_le}
+use Rattle.std.specs.Prelude.{ℕ, ◌+◌, ◌-◌, ◌*◌, ◌/◌, ◌%◌, ◌^◌, ◌≤◌, ◌<◌, ◌⊎◌, List, [], ◌∷◌, nat_le}
 use Rattle.std.specs.Prelude.{Option, find}
 use Rattle.dym_base.specs.declared.limits.TheConstants.{LEAST_EXPONENT, GREATEST_EXPONENT}
 
@@ -29,6 +29,14 @@ classes = 5 ∷ 6 ∷ 7 ∷ 8 ∷ 9 ∷ 10 ∷ 11 ∷ 12 ∷ 13 ∷ 14 ∷ 15 �
 -- e is one of these
 abbrev pub IsClass : ℕ → Type 0
 IsClass e = (LEAST_EXPONENT ≤ e) × (e ≤ GREATEST_EXPONENT)
+
+-- e is none of these
+abbrev pub IsNoClass : ℕ → Type 0
+IsNoClass e = (e < LEAST_EXPONENT) ⊎ (GREATEST_EXPONENT < e)
+
+-- the place of class e among these
+abbrev pub rank : ℕ → ℕ
+rank e = e - LEAST_EXPONENT
 
 -- the class of n bytes: the least whose size is at least n, and none where n is above 65,536
 unfoldable pub cls : ℕ → Option ℕ

@@ -1,11 +1,14 @@
 //! Handles: the names of chunks, which a rollback doesn't change.
-ghost use Rattle.std.specs.Prelude.{◌≡◌, ◌+◌, ◌*◌, ◌^◌, ◌<◌, ◌/◌, ◌↔◌, ◌⊎◌, IsNone, IfSome};
-ghost use Rattle.dym_base.specs.Numbers.{number, IsClass};
+ghost use Rattle.std.specs.Prelude.{◌≡◌, ◌+◌, ◌^◌, ◌<◌, ◌/◌, ◌↔◌, ◌⊎◌, IsNone, IfSome, MatchBool, MatchOption};
+ghost use Rattle.dym_base.specs.Numbers.{number, IsClass, IsNoClass};
 ghost use Rattle.dym_base.specs.declared.limits.TheConstants.{LEAST_EXPONENT, GREATEST_EXPONENT};
+
+use crate::class::Class;
+use crate::limits::{GREATEST_EXPONENT, LEAST_EXPONENT};
 
 /// The name of a chunk: the exponent of its class, and its index in that class.
 ///
-/// A handle is any pair of numbers. One whose exponent is outside 5 to 16 is live in no heap.
+/// A handle is any pair of numbers. One whose exponent is no class's is live in no heap.
 #[derive(Clone, Copy, Debug, PartialEq, Eq, Hash)]
 pub struct Handle {
     pub exp: u8,
@@ -13,6 +16,26 @@ pub struct Handle {
 }
 
 impl Handle {
+    /// Whether a class has the handle's exponent. Where none has, the handle is live in no heap.
+    pub fn has_class(self) -> bool
+        ensures { MatchBool result (IsClass self.exp) (IsNoClass self.exp) }
+    {
+        if self.exp < LEAST_EXPONENT {
+            return false;
+        }
+        if self.exp > GREATEST_EXPONENT {
+            return false;
+        }
+        true
+    }
+
+    /// The class of the chunk, and None where no class has its exponent.
+    pub fn class(self) -> Option<Class>
+        ensures { MatchOption result (IsNoClass self.exp) (λ class. class.exp ≡ self.exp) }
+    {
+        Class::of_exponent(self.exp)
+    }
+
     /// The number that stands for the handle in a chunk's bytes: `exp * 2^32 + index`.
     pub fn number(self) -> u64
         ensures { result ≡ number self.exp self.index }
@@ -28,7 +51,7 @@ impl Handle {
         ensures class { IfSome result (λ h. IsClass h.exp) }
     {
         let exp = n >> 32;
-        if !(5..=16).contains(&exp) {
+        if !(u64::from(LEAST_EXPONENT)..=u64::from(GREATEST_EXPONENT)).contains(&exp) {
             return None;
         }
         Some(Handle {

@@ -4,7 +4,7 @@
 //!
 //! Below stands no crate of the repository; above stand nearly all. Its one contract: a handle and
 //! its number, and a length and its class, are what the definitions say: `number` and `of_number`
-//! undo each other, and `class_of` is the least class that fits.
+//! undo each other, and `Class::of_len` is the least class that fits.
 #![tactic(auto)]
 
 pub mod bad_kind;
@@ -19,7 +19,7 @@ pub mod reply;
 
 pub use bad_kind::BadKind;
 pub use blob::Blob;
-pub use class::{class_of, per_area, size_of_class};
+pub use class::Class;
 pub use command::{Command, Kind, Version};
 pub use handle::Handle;
 pub use name::{Name, is_name};

@@ -9,6 +9,9 @@ pub const LEAST_EXPONENT: u8 = 5;
 /// The greatest class exponent: the largest chunk is a whole segment of `2^16` bytes.
 pub const GREATEST_EXPONENT: u8 = 16;
 
+/// The size classes of chunks: one for each exponent from the least to the greatest.
+pub const CLASSES: usize = 12;
+
 /// The most chunks in one segment, which those of the least class are.
 pub const MOST_CHUNKS: u32 = 2_048;
 

@@ -69,7 +69,7 @@ get_or-bits_of k (n ∷ ns) (suc q) r below_end below_width =
     let at : suc q * k + r ≡ length (digits k n) + (q * k + r) = omega (arith, length-digits k n) in
     rw at (get_or-append-add (digits k n) (bits_of k ns) (q * k + r) false ∙ get_or-bits_of k ns q r (omega arith) below_width)
 
--- the same, by the place of the bit
+-- bit i is bit i % k of number i / k
 pub get_or-bits_of_at : (k : ℕ) (ns : List ℕ) (i : ℕ) → 0 < k → i < length ns * k → get_or (bits_of k ns) i false ≡ digit (get_or ns (i / k) 0) (i % k)
 get_or-bits_of_at k ns i some within =
     ap (λ j. get_or (bits_of k ns) j false) (sym (div-add-mod' i k))

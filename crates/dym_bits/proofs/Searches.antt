@@ -224,7 +224,7 @@ module _ (ns : List ℕ) where
     pub next_clear_in_rest : from < length ns * 64 → (clear_rest ≡ 0 → ⊥) → IsNextClear bits from (from / 64 * 64 + trailing_zeros w64 clear_rest)
     next_clear_in_rest within some = next_clear (found_here turned from fits within some)
 
-    -- the same in the word where `from` lies
+    -- the next clear bit in the word where `from` lies
     pub next_clear_here : from < length ns * 64 → (clear_rest ≡ 0 → ⊥) → IsNextClearInWord bits from (from / 64 * 64 + trailing_zeros w64 clear_rest)
     next_clear_here within some =
         let small : clear_rest < 2 ^ 64 = omega (arith, from_bit_le (bit_not w64 (word (from / 64))) (from % 64)) in

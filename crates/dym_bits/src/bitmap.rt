@@ -131,7 +131,7 @@ impl Bits {
         next_set_in(&self.words, from, self.used_words * WORD_BITS)
     }
 
-    /// The same where no bit from `limit` on is set: the words past it aren't read.
+    /// The least set index that is at least `from`, in a bitmap with no bit set from `limit` on: the words past it aren't read.
     pub fn next_set_within(&self, from: u32, limit: u32) -> Option<u32>
         requires within { from ≤ limit }
         requires limit { limit ≤ MOST_CHUNKS }

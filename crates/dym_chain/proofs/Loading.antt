@@ -82,7 +82,7 @@ chunk_back copy k np m r f has packed shaped fetch unmodified =
           fetch ∙ (λ i. record { bytes = bytes i; touched = mark i })
       | false ↦ λ t.
           let was : is_unmodified m ≡ true = not-false (is_unmodified m) (sym shaped.wanted ∙ t) in
-          let bytes : cond r.touched (or_else np r.bytes) r.bytes ≡ get copy k = cond-false r.touched (or_else np r.bytes) r.bytes t ∙ shaped.valid_shelf refl t ∙ sym (unmodified was) in
+          let bytes : cond r.touched (or_else np r.bytes) r.bytes ≡ get copy k = cond-false r.touched (or_else np r.bytes) r.bytes t ∙ shaped.kept refl t ∙ sym (unmodified was) in
           let mark : (r.touched && not (is_some np)) ≡ false = (λ i. t i && not (is_some np)) in
           fetch ∙ (λ i. record { bytes = bytes i; touched = mark i })
     ] refl

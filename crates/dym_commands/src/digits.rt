@@ -33,7 +33,7 @@ pub fn digits_at_front(text: &[u8]) -> Option<usize>
     many_digits_at_front(text)
 }
 
-/// The same of many digits: they end where the line does, and are tested all at once.
+/// How many hexadecimal digits stand before the end of a line, where they are many and end there. They are tested all at once.
 #[inline(never)]
 fn many_digits_at_front(text: &[u8]) -> Option<usize>
     ensures within { IfSome result (λ count. count ≤ length text.now) }

@@ -4,14 +4,13 @@ use Rattle.std.specs.Option.{ForSome}
 use Rattle.std.specs.Prelude.{option_map, unwrap_or}
 use denote.RawPtr.{Ptr, block_ptr, InBlock, ◌+ₚ◌}
 use Rattle.std.proofs.lemmas.Nat.{pow_pos, mod_below}
-use Rattle.dym_base.specs.Numbers.{size, per}
+use Rattle.dym_base.specs.Numbers.{size, per, rank}
 use Rattle.dym_base.specs.Origins.{Origin, own, shared}
 use Rattle.dym_base.specs.declared.handle.Handle.{Handle}
 use Rattle.dym_base.specs.declared.limits.TheConstants.{SEGMENT_BYTES}
 use Rattle.dym_region.specs.Identity.{start_of}
 use Rattle.dym_quota.specs.Bound.{bound_by, region_origin}
 use Rattle.dym_heap.specs.Addresses.{address_of, region_of}
-use Rattle.dym_heap.specs.Chunks.{rank}
 use Rattle.dym_heap.specs.Meaning.{HeapMeaning}
 use Rattle.dym_heap.specs.Shelves.{ShelfMeaning}
 use Rattle.dym_heap.proofs.Sizes.{chunk_fits}

@@ -2,10 +2,9 @@
 use Rattle.std.proofs.Common.{◌≡◌, ℕ, ◌+◌, ◌-◌, ◌*◌, ◌/◌, ◌%◌, ◌^◌, ◌≤◌, ap, ◌∙◌, arith}
 use Rattle.std.proofs.Math.Nat.{mul-mod_left}
 use Rattle.std.proofs.lemmas.Nat.{pow-add}
-use Rattle.dym_base.specs.Numbers.{size, per}
+use Rattle.dym_base.specs.Numbers.{size, per, rank}
 use Rattle.dym_base.specs.declared.handle.Handle.{Handle}
 use Rattle.dym_heap.specs.Addresses.{chunk_offset}
-use Rattle.dym_heap.specs.Chunks.{rank}
 
 split_pow : (a b : ℕ) → b ≤ a → 2 ^ a ≡ 2 ^ (a - b) * 2 ^ b
 split_pow a b le = ap (λ n. 2 ^ n) (let e : a ≡ a - b + b = omega (arith, le) in e) ∙ pow-add 2 (a - b) b

@@ -8,9 +8,10 @@ use Rattle.dym_base.specs.declared.command.Version.{Version}
 use Rattle.dym_region.specs.declared.segment.SegmentId.{SegmentId}
 use Rattle.dym_quota.specs.Bound.{Binding, IsBoundTo, IsFreeFor, AreApart}
 use Rattle.dym_heap.specs.SizedAreas.{SizedAreaMeaning, clean, used_touched}
-use Rattle.dym_heap.specs.Arrangement.{AreBound, IsPlaced, IsShelf}
+use Rattle.dym_heap.specs.Arrangement.{AreBound, IsPlaced}
 use Rattle.dym_heap.proofs.Starts.{class_end, placed_at, in_class}
 use Rattle.dym_heap.proofs.Owned.{held_area, same_identity}
+use Rattle.dym_heap.proofs.ShelfParts.{IsShelfOf}
 
 -- an area at its place in its class, over the segment of that place
 abbrev pub BoundArea : Binding → SizedAreaMeaning → Type 0
@@ -27,18 +28,9 @@ alike_bound (Some f) p q same bound = same.2 ∙ bound ∙ (λ j. f (sym same.0 
 pub bound_none : (binding : Binding) (sized_areas : List SizedAreaMeaning) → sized_areas ≡ [] → AreBound binding sized_areas
 bound_none binding sized_areas none k d l = absurd (omega (arith, l, ap length none))
 
-bound_set : (binding : Binding) (sized_areas : List SizedAreaMeaning) (k : ℕ) (p : SizedAreaMeaning) → AreBound binding sized_areas → k < length sized_areas
-    → ((d : SizedAreaMeaning) → Alike p (get_or sized_areas k d)) → AreBound binding (set sized_areas k p)
-bound_set binding sized_areas k p bound inside alike i d l =
-    elim (cases_eq i k) as (λ _. BoundArea binding (get_or (set sized_areas k p) i d)) [
-      | inl same ↦ subst (λ n. BoundArea binding (get_or (set sized_areas k p) n d)) (sym same)
-          (subst (BoundArea binding) (sym (get_or-set_same sized_areas k p d inside)) (alike_bound binding p (get_or sized_areas k d) (alike d) (bound k d inside)))
-      | inr other ↦ subst (BoundArea binding) (sym (get_or-set_other sized_areas k i p d other)) (bound i d (omega (arith, l, length-set sized_areas k p)))
-    ]
-
 -- a shelf with another area in the place of one: both stand at one place of one class, and own one segment
 module _ {v : Version} {quota quota' : ℕ} {ids : List SegmentId} {starts : List ℕ} {sized_areas : List SizedAreaMeaning} {full full' : List (List Bool)} {room spare spare_room room' spare' spare_room' : ℕ} (k : ℕ) (p : SizedAreaMeaning) where
-  alike_at : IsShelf v quota ids starts sized_areas full room spare spare_room → IsShelf v quota' ids starts (set sized_areas k p) full' room' spare' spare_room' → k < length sized_areas
+  alike_at : IsShelfOf v quota ids starts sized_areas full room spare spare_room → IsShelfOf v quota' ids starts (set sized_areas k p) full' room' spare' spare_room' → k < length sized_areas
       → (d : SizedAreaMeaning) → Alike p (get_or sized_areas k d)
   alike_at before after inside d =
       let at = in_class before.arranged k inside in
@@ -46,18 +38,25 @@ module _ {v : Version} {quota quota' : ℕ} {ids : List SegmentId} {starts : Lis
       let now = subst (IsPlaced v at.e at.o) (get_or-set_same sized_areas k p d inside) (placed_at after.arranged at.stands d) in
       (now.exponent ∙ sym was.exponent, now.ordinal ∙ sym was.ordinal, same_identity ids sized_areas k d p before.supplied.owned after.supplied.owned inside)
 
-  pub bound_kept : (binding : Binding) → IsShelf v quota ids starts sized_areas full room spare spare_room → IsShelf v quota' ids starts (set sized_areas k p) full' room' spare' spare_room' → AreBound binding sized_areas → AreBound binding (set sized_areas k p)
-  bound_kept binding before after bound i d l =
-      elim (cases_lt k (length sized_areas)) as (λ _. BoundArea binding (get_or (set sized_areas k p) i d)) [
-        | inl inside ↦ bound_set binding sized_areas k p bound inside (alike_at before after inside) i d l
-        | inr past ↦ (let other : i ≡ k → ⊥ = λ e. omega (arith, e, past, l, length-set sized_areas k p) in
-            subst (BoundArea binding) (sym (get_or-set_other sized_areas k i p d other)) (bound i d (omega (arith, l, length-set sized_areas k p))))
-      ]
+  pub bound_kept : (binding : Binding) → IsShelfOf v quota ids starts sized_areas full room spare spare_room × AreBound binding sized_areas → IsShelfOf v quota' ids starts (set sized_areas k p) full' room' spare' spare_room'
+      → IsShelfOf v quota' ids starts (set sized_areas k p) full' room' spare' spare_room' × AreBound binding (set sized_areas k p)
+  bound_kept binding before after = (
+    after,
+    λ i d l.
+        let inside : i < length sized_areas = omega (arith, l, length-set sized_areas k p) in
+        elim (cases_eq i k) as (λ _. BoundArea binding (get_or (set sized_areas k p) i d)) [
+          | inl same ↦
+              let here : k < length sized_areas = omega (arith, same, inside) in
+              subst (λ n. BoundArea binding (get_or (set sized_areas k p) n d)) (sym same)
+              (subst (BoundArea binding) (sym (get_or-set_same sized_areas k p d here)) (alike_bound binding p (get_or sized_areas k d) (alike_at before.0 after here d) (before.1 k d here)))
+          | inr other ↦ subst (BoundArea binding) (sym (get_or-set_other sized_areas k i p d other)) (before.1 i d inside)
+        ],
+  )
 
-  pub bound_kept_at : (binding : Binding) {sized_areas' : List SizedAreaMeaning} → sized_areas' ≡ set sized_areas k p → IsShelf v quota ids starts sized_areas full room spare spare_room → IsShelf v quota' ids starts sized_areas' full' room' spare' spare_room'
-      → AreBound binding sized_areas → AreBound binding sized_areas'
-  bound_kept_at binding items before after bound =
-      subst (AreBound binding) (sym items) (bound_kept binding before (subst (λ xs. IsShelf v quota' ids starts xs full' room' spare' spare_room') items after) bound)
+  pub bound_kept_at : (binding : Binding) {sized_areas' : List SizedAreaMeaning} → sized_areas' ≡ set sized_areas k p → IsShelfOf v quota ids starts sized_areas full room spare spare_room × AreBound binding sized_areas → IsShelfOf v quota' ids starts sized_areas' full' room' spare' spare_room'
+      → IsShelfOf v quota' ids starts sized_areas' full' room' spare' spare_room' × AreBound binding sized_areas'
+  bound_kept_at binding items before after =
+      (after, subst (AreBound binding) (sym items) (bound_kept binding before (subst (λ xs. IsShelfOf v quota' ids starts xs full' room' spare' spare_room') items after)).1)
 
 -- areas that change and keep their class, ordinal and segment
 bound_mapped : (f : SizedAreaMeaning → SizedAreaMeaning) → ((p : SizedAreaMeaning) → Alike (f p) p) → (binding : Binding) (sized_areas sized_areas' : List SizedAreaMeaning) → sized_areas' ≡ map f sized_areas
@@ -114,7 +113,7 @@ bound_removed {binding} sized_areas {sized_areas'} at items inside same bound =
 
 -- the segment of the next area of a class isn't held
 pub next_free : (binding : Binding) {v : Version} {quota : ℕ} {ids : List SegmentId} {starts : List ℕ} {sized_areas : List SizedAreaMeaning} {full : List (List Bool)} {room spare spare_room : ℕ} (c : ℕ)
-    → AreApart binding quota → IsShelf v quota ids starts sized_areas full room spare spare_room → AreBound binding sized_areas → c < 12 → length sized_areas < quota
+    → AreApart binding quota → IsShelfOf v quota ids starts sized_areas full room spare spare_room → AreBound binding sized_areas → c < 12 → length sized_areas < quota
     → IsFreeFor binding ids c (get_or starts (c + 1) 0 - get_or starts c 0)
 next_free None c apart is bound small less = tt
 next_free (Some f) {v} {quota} {ids} {starts} {sized_areas} {full} c apart is bound small less = λ held.

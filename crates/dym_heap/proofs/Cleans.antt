@@ -9,10 +9,11 @@ use Rattle.std.specs.Ordering.{nat_cmp}
 use Rattle.std.specs.FinSet as set_of
 use Rattle.std.specs.FinSet.{contains-empty}
 use Rattle.dym_heap.specs.Shelves.{ShelfMeaning}
-use Rattle.dym_heap.specs.Arrangement.{IsShelf, shelf_of}
+use Rattle.dym_heap.specs.Arrangement.{shelf_of}
 use Rattle.dym_heap.specs.SizedAreas.{SizedAreaMeaning, clean}
 use Rattle.dym_heap.proofs.NewMarks as marks
 use Rattle.dym_heap.proofs.NewMarks.{MakesMarks}
+use Rattle.dym_heap.proofs.ShelfParts.{IsShelfOf}
 
 no_mark : (n i : ℕ) → get_or (replicate n false) i false ≡ false
 no_mark n i =
@@ -46,11 +47,11 @@ settled_places (p ∷ ps) each =
 -- ---- the shelf
 
 module _ {v : Version} {quota : ℕ} {ids : List SegmentId} {origin : Origin} {starts : List ℕ} {sized_areas sized_areas' : List SizedAreaMeaning} {full : List (List Bool)} {room spare spare_room : ℕ}
-    {s : ShelfMeaning} (view : shelf_of v quota ids origin starts sized_areas ≡ s) (is : IsShelf v quota ids starts sized_areas full room spare spare_room) (items : sized_areas' ≡ map clean sized_areas) where
+    {s : ShelfMeaning} (view : shelf_of v quota ids origin starts sized_areas ≡ s) (is : IsShelfOf v quota ids starts sized_areas full room spare spare_room) (items : sized_areas' ≡ map clean sized_areas) where
   pub clean_view : shelf_of v quota ids origin starts sized_areas' ≡ record s { state = record { live = s.state.live; touched = set_of.empty {R = nat_cmp} } }
   clean_view =
       marks.view_of makes_none is view items (record { live = s.state.live; touched = set_of.empty {R = nat_cmp} }) (λ q. refl)
       (λ p j q e. no_mark (length p.touched) j ∙ sym (contains-empty nat_cmp q)) (λ q e. contains-empty nat_cmp q)
 
-  pub cleaned_shelf : {room' : ℕ} → room' ≡ room → IsShelf v quota ids starts sized_areas' full room' spare spare_room
+  pub cleaned_shelf : {room' : ℕ} → room' ≡ room → IsShelfOf v quota ids starts sized_areas' full room' spare spare_room
   cleaned_shelf same = marks.kept_shelf makes_none is items same

@@ -12,13 +12,14 @@ use Rattle.dym_heap.specs.Chunks.{ChunkMeaning, heap_chunk}
 use Rattle.dym_heap.specs.Fetches.{area_chunk}
 use Rattle.dym_heap.specs.Shelves.{ShelfMeaning, IsTidy}
 use Rattle.dym_heap.specs.SizedAreas.{SizedAreaMeaning}
-use Rattle.dym_heap.specs.Arrangement.{IsShelf, shelf_of}
+use Rattle.dym_heap.specs.Arrangement.{shelf_of}
 use Rattle.dym_heap.specs.AreaViews.{IsAreaOf}
 use Rattle.dym_heap.proofs.AreaLists.{names, length-names, name-names, list-names}
-use Rattle.dym_heap.proofs.Owned.{ids_are}
+use Rattle.dym_heap.proofs.Owned.{as_many}
 use Rattle.dym_heap.proofs.Starts.{starts_upto, Stands, is_number, in_class}
 use Rattle.dym_heap.proofs.ShelfCalls.{count_s, few_o, placed_q, long_q, chunk_q}
 use Rattle.dym_heap.proofs.Tidy.{count_is}
+use Rattle.dym_heap.proofs.ShelfParts.{IsShelfOf}
 
 -- element o of list c among lists that follow on each other, where list i begins at f i
 flat_at : (F : ℕ → List AreaName) (f : ℕ → ℕ) (a n c o k : ℕ) (d : AreaName) → c < n → o < length (F (a + c)) → ((i : ℕ) → i < n → f i + length (F (a + i)) ≡ f (i + 1)) → ((i : ℕ) → i ≤ c → f i ≤ f c) → f c + o ≡ f 0 + k
@@ -41,9 +42,9 @@ flat_at F f a (suc n) (suc c) o k d l within steps rising at =
     ∙ ap (λ x. get_or (F x) o d) (sym s)
 
 module _ {v : Version} {quota : ℕ} {ids : List SegmentId} {origin : Origin} {starts : List ℕ} {sized_areas : List SizedAreaMeaning} {full : List (List Bool)} {room spare spare_room : ℕ}
-    {s : ShelfMeaning} (view : shelf_of v quota ids origin starts sized_areas ≡ s) (is : IsShelf v quota ids starts sized_areas full room spare spare_room) (tidy : IsTidy s) where
+    {s : ShelfMeaning} (view : shelf_of v quota ids origin starts sized_areas ≡ s) (is : IsShelfOf v quota ids starts sized_areas full room spare spare_room) (tidy : IsTidy s) where
   pub in_places : (k : ℕ) → k < length s.held_ids → k < length sized_areas
-  in_places k l = let ids = sym (ap (λ (t : ShelfMeaning). length t.held_ids) view) ∙ ids_are is.supplied in omega arith
+  in_places k l = let ids = sym (ap (λ (t : ShelfMeaning). length t.held_ids) view) ∙ as_many sized_areas is.supplied.owned in omega arith
 
   many : (e : ℕ) → 5 ≤ e → e ≤ 16 → length (names s.state.live e) + get_or starts (e - 5) 0 ≡ get_or starts (e - 5 + 1) 0
   many e low high = let n = length-names s.state.live e in let m = count_is tidy e (low, high) in let c = count_s view is high in let up = is.arranged.rising (e - 5) (omega arith) in omega arith

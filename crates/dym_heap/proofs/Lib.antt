@@ -3,6 +3,7 @@ pub mod Tidy
 pub mod HandleSteps
 pub mod Taking
 pub mod Parts
+pub mod ShelfParts
 pub mod Sizes
 pub mod PlaceSteps
 pub mod PlaceCalls

@@ -84,7 +84,7 @@ module _ (v : Version) (old : AreaMeaning) (bits wanted : List Bool) (body : Lis
     pub same : now ≡ record old { content = now.content }
     pub rest : drop at body ≡ after from
     pub done : (i : ℕ) → i < from → IsSet wanted i → part_of now.content (i * size old.exponent) (length (f i)) ≡ f i
-    pub valid_shelf : (i n : ℕ) → i < per old.exponent → n ≤ size old.exponent → (from ≤ i) ⊎ IsClear wanted i → part_of now.content (i * size old.exponent) n ≡ part_of old.content (i * size old.exponent) n
+    pub others : (i n : ℕ) → i < per old.exponent → n ≤ size old.exponent → (from ≤ i) ⊎ IsClear wanted i → part_of now.content (i * size old.exponent) n ≡ part_of old.content (i * size old.exponent) n
 
   -- the bits from start up to end are the first that are set from `from` on
   pub record NextRun (from start end : ℕ) : Type 0 where
@@ -102,7 +102,7 @@ module _ (v : Version) (old : AreaMeaning) (bits wanted : List Bool) (body : Lis
             | inl l ↦ done.done i l h
             | inr past ↦ absurd (true≢false (sym h ∙ none i past))
           ];
-      valid_shelf = λ i n l m clear. done.valid_shelf i n l m (inr clear);
+      others = λ i n l m clear. done.others i n l m (inr clear);
     }
 
     -- the chunks up to i aren't wanted, and the body from place at' on has those from i on
@@ -115,7 +115,7 @@ module _ (v : Version) (old : AreaMeaning) (bits wanted : List Bool) (body : Lis
             | inl before ↦ done.done k before h
             | inr past ↦ absurd (true≢false (sym h ∙ none k past l))
           ];
-      valid_shelf = λ k n l m out. done.valid_shelf k n l m (elim out as (λ _. (from ≤ k) ⊎ IsClear wanted k) [ inl past ↦ inl (omega arith) | inr clear ↦ inr clear ]);
+      others = λ k n l m out. done.others k n l m (elim out as (λ _. (from ≤ k) ⊎ IsClear wanted k) [ inl past ↦ inl (omega arith) | inr clear ↦ inr clear ]);
     }
 
     module _ {now : AreaMeaning} {from at start end : ℕ} (done : LoadedTo now from at) (run : NextRun from start end) where
@@ -152,7 +152,7 @@ module _ (v : Version) (old : AreaMeaning) (bits wanted : List Bool) (body : Lis
           let at_old : (i n : ℕ) → i < per e → n ≤ size e → (start ≤ i → i < end → IsSet wanted i → ⊥) → part_of now'.content (i * size e) n ≡ part_of now.content (i * size e) n =
           λ i n l m out.
           subst (λ x. part_of now'.content (i * size x) n ≡ part_of now.content (i * size x) n) exponent_now
-          (range.valid_shelf i n (subst (λ x. i < per x) (sym exponent_now) l) (subst (λ x. n ≤ size x) (sym exponent_now) m) out) in
+          (range.others i n (subst (λ x. i < per x) (sym exponent_now) l) (subst (λ x. n ≤ size x) (sym exponent_now) m) out) in
           record {
             same = range.same ∙ ap (λ (a : AreaMeaning). record a { content = now'.content }) done.same;
             rest = rest;
@@ -170,9 +170,9 @@ module _ (v : Version) (old : AreaMeaning) (bits wanted : List Bool) (body : Lis
                       subst (λ x. part_of now'.content (i * size e) (length x) ≡ x) (same_bytes i inside l)
                       (subst (λ x. part_of now'.content (i * size x) (length (g i)) ≡ g i) exponent_now (range.loaded i inside l h))
                 ];
-            valid_shelf = λ i n l m out.
+            others = λ i n l m out.
                 at_old i n l m (λ x y z. elim out as (λ _. ⊥) [ inl past ↦ omega arith | inr clear ↦ true≢false (sym z ∙ clear) ])
-                ∙ done.valid_shelf i n l m (elim out as (λ _. (from ≤ i) ⊎ IsClear wanted i) [ inl past ↦ inl (omega arith) | inr clear ↦ inr clear ]);
+                ∙ done.others i n l m (elim out as (λ _. (from ≤ i) ⊎ IsClear wanted i) [ inl past ↦ inl (omega arith) | inr clear ↦ inr clear ]);
           }
 
 -- ---- version 1: a run by one copy
@@ -374,7 +374,7 @@ module _ {old : AreaMeaning} {bits wanted : List Bool} {body : List ℕ} (sub : 
 
   pub two_noted : {n m : ℕ} (ls : List ℕ) {ls' : List ℕ} (ls0 : List ℕ) → i < length ls → n ≡ from_le_bytes w32 (between at (at + 4) body) → m ≡ n → ls' ≡ cond (bit_in wanted i) (set ls i m) ls
       → {f : ℕ → List ℕ} → IsBodyOf Two old.exponent bits body f → NotedTo ls0 ls wanted f from → NotedTo ls0 ls' wanted f (i + 1)
-  two_noted {n} {m} ls {ls'} ls0 l is_n m_is step {f} is with_length =
+  two_noted {n} {m} ls {ls'} ls0 l is_n m_is step {f} is noted =
       let low = next.at_least in
       -- another chunk's length stays
       let other : (k : ℕ) → (k ≡ i → ⊥) → get_or ls' k 0 ≡ get_or ls k 0 = λ k ne.
@@ -389,7 +389,7 @@ module _ {old : AreaMeaning} {bits wanted : List Bool} {body : List ℕ} (sub : 
               | inr ne ↦
                   other k ne
                   ∙ elim (cases_lt k from) as (λ _. get_or ls k 0 ≡ length (f k)) [
-                    | inl before ↦ with_length.0 k before h
+                    | inl before ↦ noted.0 k before h
                     | inr past ↦ absurd (true≢false (sym (sub k h) ∙ next.least k past (omega arith)))
                   ]
             ],
@@ -397,22 +397,22 @@ module _ {old : AreaMeaning} {bits wanted : List Bool} {body : List ℕ} (sub : 
             elim (cases_eq k i) as (λ _. get_or ls' k 0 ≡ get_or ls0 k 0) [
               | inl same ↦
                   let clear : IsClear wanted k = elim out as (λ _. IsClear wanted k) [ inl past ↦ absurd (omega arith) | inr c ↦ c ] in
-                  subst (λ j. get_or ls' j 0 ≡ get_or ls0 j 0) (sym same) (stays (sym (ap (bit_in wanted) same) ∙ clear) ∙ with_length.1 i (inl low))
-              | inr ne ↦ other k ne ∙ with_length.1 k (elim out as (λ _. (from ≤ k) ⊎ IsClear wanted k) [ inl past ↦ inl (omega arith) | inr clear ↦ inr clear ])
+                  subst (λ j. get_or ls' j 0 ≡ get_or ls0 j 0) (sym same) (stays (sym (ap (bit_in wanted) same) ∙ clear) ∙ noted.1 i (inl low))
+              | inr ne ↦ other k ne ∙ noted.1 k (elim out as (λ _. (from ≤ k) ⊎ IsClear wanted k) [ inl past ↦ inl (omega arith) | inr clear ↦ inr clear ])
             ],
       )
 
 pub noted_all : (ls0 ls : List ℕ) (wanted : List Bool) (f : ℕ → List ℕ) (from : ℕ) → NotedTo ls0 ls wanted f from → ((k : ℕ) → from ≤ k → IsClear wanted k) → NotesLoaded ls0 ls wanted f
-noted_all ls0 ls wanted f from with_length none = record {
-  with_length = λ i h. elim (cases_lt i from) as (λ _. get_or ls i 0 ≡ length (f i)) [ inl l ↦ with_length.0 i l h | inr past ↦ absurd (true≢false (sym h ∙ none i past)) ];
-  valid_shelf = λ i clear. with_length.1 i (inr clear);
+noted_all ls0 ls wanted f from noted none = record {
+  noted = λ i h. elim (cases_lt i from) as (λ _. get_or ls i 0 ≡ length (f i)) [ inl l ↦ noted.0 i l h | inr past ↦ absurd (true≢false (sym h ∙ none i past)) ];
+  others = λ i clear. noted.1 i (inr clear);
 }
 
 -- none of the chunks up to i is wanted
 pub noted_on : (ls0 ls : List ℕ) (wanted : List Bool) (f : ℕ → List ℕ) (from i : ℕ) → NotedTo ls0 ls wanted f from → from ≤ i → ((k : ℕ) → from ≤ k → k < i → IsClear wanted k) → NotedTo ls0 ls wanted f i
-noted_on ls0 ls wanted f from i with_length low none = (
-  λ k l h. elim (cases_lt k from) as (λ _. get_or ls k 0 ≡ length (f k)) [ inl before ↦ with_length.0 k before h | inr past ↦ absurd (true≢false (sym h ∙ none k past l)) ],
-  λ k out. with_length.1 k (elim out as (λ _. (from ≤ k) ⊎ IsClear wanted k) [ inl past ↦ inl (omega arith) | inr clear ↦ inr clear ]),
+noted_on ls0 ls wanted f from i noted low none = (
+  λ k l h. elim (cases_lt k from) as (λ _. get_or ls k 0 ≡ length (f k)) [ inl before ↦ noted.0 k before h | inr past ↦ absurd (true≢false (sym h ∙ none k past l)) ],
+  λ k out. noted.1 k (elim out as (λ _. (from ≤ k) ⊎ IsClear wanted k) [ inl past ↦ inl (omega arith) | inr clear ↦ inr clear ]),
 )
 
 -- what isn't packed isn't wanted
@@ -432,7 +432,7 @@ module _ (old : AreaMeaning) (wanted : List Bool) (first end : ℕ) (bytes : Lis
     pub low : first ≤ from
     pub high : from ≤ end
     pub done : (i : ℕ) → first ≤ i → i < from → IsSet wanted i → part_of now.content (i * size old.exponent) (length (part i)) ≡ part i
-    pub valid_shelf : (i n : ℕ) → i < per old.exponent → n ≤ size old.exponent → (first ≤ i → i < from → IsSet wanted i → ⊥) → part_of now.content (i * size old.exponent) n ≡ part_of old.content (i * size old.exponent) n
+    pub others : (i n : ℕ) → i < per old.exponent → n ≤ size old.exponent → (first ≤ i → i < from → IsSet wanted i → ⊥) → part_of now.content (i * size old.exponent) n ≡ part_of old.content (i * size old.exponent) n
 
   module _ (valid : IsValidArea old) (within : end ≤ per old.exponent) (long : length bytes ≡ (end - first) * size old.exponent) where
     part_len : (i : ℕ) → first ≤ i → i < end → length (part i) ≡ size old.exponent
@@ -448,7 +448,7 @@ module _ (old : AreaMeaning) (wanted : List Bool) (first end : ℕ) (bytes : Lis
         omega arith
 
     pub range_none : first ≤ end → RangeTo old first
-    range_none l = record { same = refl; low = omega arith; high = l; done = λ i a b. absurd (omega arith); valid_shelf = λ i n l m out. refl }
+    range_none l = record { same = refl; low = omega arith; high = l; done = λ i a b. absurd (omega arith); others = λ i n l m out. refl }
 
     pub range_all : {now : AreaMeaning} {from : ℕ} → RangeTo now from → ((k : ℕ) → from ≤ k → k < end → IsClear wanted k) → IsLoadedRange old now wanted first end part
     range_all {now} {from} done none = record {
@@ -458,7 +458,7 @@ module _ (old : AreaMeaning) (wanted : List Bool) (first end : ℕ) (bytes : Lis
             | inl l ↦ done.done i a l h
             | inr past ↦ absurd (true≢false (sym h ∙ none i past b))
           ];
-      valid_shelf = λ i n l m out. done.valid_shelf i n l m (λ a b h. out a (let top = done.high in omega arith) h);
+      others = λ i n l m out. done.others i n l m (λ a b h. out a (let top = done.high in omega arith) h);
     }
 
     module _ {now : AreaMeaning} {from start : ℕ} (stop : ℕ) (done : RangeTo now from) (next : IsNextSet wanted from start) (some : start < stop) (top : stop ≤ end) (all : (k : ℕ) → start ≤ k → k < stop → IsSet wanted k) where
@@ -539,13 +539,13 @@ module _ (old : AreaMeaning) (wanted : List Bool) (first end : ℕ) (bytes : Lis
                       ∙ (let z : at + (o * n + k) ≡ (i - first) * n + k = omega arith in ap (λ q. get_or bytes q d) z)
                       ∙ sym (get_or-part_of bytes ((i - first) * n) n k d small))
                 ];
-            valid_shelf = λ i m l short out.
+            others = λ i m l short out.
                 elim (cases_lt i start) as (λ _. part_of now'.content (i * n) m ≡ part_of old.content (i * n) m) [
-                  | inl before ↦ outside i m l short (inl before) ∙ done.valid_shelf i m l short (λ a b h. out a (omega arith) h)
+                  | inl before ↦ outside i m l short (inl before) ∙ done.others i m l short (λ a b h. out a (omega arith) h)
                   | inr at_least ↦
                       elim (cases_lt i stop) as (λ _. part_of now'.content (i * n) m ≡ part_of old.content (i * n) m) [
                         | inl inside ↦ absurd (out (omega arith) inside (all i at_least inside))
-                        | inr past ↦ outside i m l short (inr past) ∙ done.valid_shelf i m l short (λ a b h. out a (omega arith) h)
+                        | inr past ↦ outside i m l short (inr past) ∙ done.others i m l short (λ a b h. out a (omega arith) h)
                       ]
                 ];
           }
@@ -564,7 +564,7 @@ loaded_chunk old now wanted i bytes valid within fits set step =
       loaded = λ k low high h.
           let same : k ≡ i = omega arith in
           ap (λ j. part_of now.content (j * n) (length bytes)) same ∙ ap (λ xs. part_of xs (i * n) (length bytes)) content ∙ written_whole old.content (i * n) bytes (omega arith);
-      valid_shelf = λ k m l short out.
+      others = λ k m l short out.
           let lies = chunk_fits e k valid.greatest l in
           elim (cases_eq k i) as (λ _. part_of now.content (k * n) m ≡ part_of old.content (k * n) m) [
             | inl same ↦ absurd (out (omega arith) (omega arith) (ap (bit_in wanted) same ∙ set))

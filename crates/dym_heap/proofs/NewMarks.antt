@@ -1,9 +1,9 @@
 -- A shelf whose chunks get other marks, and nothing else: those of each area are made of the area.
-use Rattle.std.proofs.Common.{◌≡◌, ℕ, ◌+◌, ◌%◌, ◌<◌, Bool, true, false, IsSome, None, List, [], ◌∷◌, length, get_or, map, refl, sym, ap, subst, ◌∙◌, arith, sum_by}
+use Rattle.std.proofs.Common.{◌≡◌, ℕ, ◌+◌, ◌%◌, ◌<◌, Bool, true, false, IsSome, None, List, [], ◌∷◌, length, get_or, map, refl, sym, ap, subst, ◌∙◌, arith}
+use Rattle.std.specs.Prelude.{IsPermutation}
 use Rattle.std.specs.FinMap.{get}
 use Rattle.std.specs.FinSet.{contains}
 use Rattle.std.proofs.lemmas.List.{get_or-map, length-map}
-use Rattle.std.proofs.lemmas.List.Sums.{sum_by-cons}
 use Rattle.dym_base.specs.Numbers.{per, exponent_of, index_of}
 use Rattle.dym_base.specs.Heaps.{HeapState}
 use Rattle.dym_base.specs.Origins.{Origin}
@@ -13,10 +13,11 @@ use Rattle.dym_heap.specs.Chunks.{ChunkMeaning, heap_chunk, no_chunk}
 use Rattle.dym_heap.specs.Fetches.{area_chunk}
 use Rattle.dym_heap.specs.Shelves.{ShelfMeaning}
 use Rattle.dym_heap.specs.SizedAreas.{SizedAreaMeaning}
-use Rattle.dym_heap.specs.Arrangement.{IsPlaced, IsMarked, IsShelf, HasTables, shelf_of, place_of_number, no_area, chunk_among, heap_among}
+use Rattle.dym_heap.specs.Arrangement.{IsPlaced, IsMarked, HasTables, shelf_of, place_of_number, no_area, chunk_among, heap_among}
 use Rattle.dym_heap.proofs.Chunks.{same_heap}
 use Rattle.dym_heap.proofs.Starts.{class_end, lies, heap_is, among_in, stands_in}
 use Rattle.dym_heap.proofs.Starts.Lies.{outside, inside}
+use Rattle.dym_heap.proofs.ShelfParts.{IsShelfOf}
 
 -- as many marks as chunks, and only chunks in use are marked
 pub record MakesMarks (f : SizedAreaMeaning → List Bool) : Type 0 where
@@ -27,13 +28,12 @@ module _ {f : SizedAreaMeaning → List Bool} (makes : MakesMarks f) where
   abbrev pub area : SizedAreaMeaning → SizedAreaMeaning
   area p = record p { touched = f p }
 
-  weights : (weight : SegmentId → ℕ) (ps : List SizedAreaMeaning) → sum_by (λ (p : SizedAreaMeaning). weight p.identity) (map area ps) ≡ sum_by (λ (p : SizedAreaMeaning). weight p.identity) ps
-  weights weight [] = refl
-  weights weight (p ∷ ps) =
-      sum_by-cons (λ (p : SizedAreaMeaning). weight p.identity) (area p) (map area ps) ∙ ap (λ n. weight p.identity + n) (weights weight ps) ∙ sym (sum_by-cons (λ (p : SizedAreaMeaning). weight p.identity) p ps)
+  same_ids : (ps : List SizedAreaMeaning) → map (λ (p : SizedAreaMeaning). p.identity) (map area ps) ≡ map (λ (p : SizedAreaMeaning). p.identity) ps
+  same_ids [] = refl
+  same_ids (p ∷ ps) = ap (λ ids. p.identity ∷ ids) (same_ids ps)
 
-  module _ {v : Version} {quota : ℕ} {ids : List SegmentId} {starts : List ℕ} {sized_areas : List SizedAreaMeaning} {full : List (List Bool)} {room spare spare_room : ℕ} (is : IsShelf v quota ids starts sized_areas full room spare spare_room) where
-    shelf : IsShelf v quota ids starts (map area sized_areas) full room spare spare_room
+  module _ {v : Version} {quota : ℕ} {ids : List SegmentId} {starts : List ℕ} {sized_areas : List SizedAreaMeaning} {full : List (List Bool)} {room spare spare_room : ℕ} (is : IsShelfOf v quota ids starts sized_areas full room spare spare_room) where
+    shelf : IsShelfOf v quota ids starts (map area sized_areas) full room spare spare_room
     shelf =
         let arr = is.arranged in
         let at : (c o : ℕ) (d : SizedAreaMeaning) → c < 12 → get_or starts c 0 + o < get_or starts (c + 1) 0 → (get_or (map area sized_areas) (get_or starts c 0 + o) d ≡ area (get_or sized_areas (get_or starts c 0 + o) d)) =
@@ -64,13 +64,13 @@ module _ {f : SizedAreaMeaning → List Bool} (makes : MakesMarks f) where
             within = (let w = is.supplied.within in let n = length-map sized_areas area in omega arith);
             has_room = is.supplied.has_room;
             tables = subst (λ n. HasTables v quota n spare spare_room) (sym (length-map sized_areas area)) is.supplied.tables;
-            owned = λ weight. is.supplied.owned weight ∙ sym (weights weight sized_areas);
+            owned = subst (IsPermutation ids) (sym (same_ids sized_areas)) is.supplied.owned;
           };
         }
 
-    pub kept_shelf : {sized_areas' : List SizedAreaMeaning} {room' : ℕ} → sized_areas' ≡ map area sized_areas → room' ≡ room → IsShelf v quota ids starts sized_areas' full room' spare spare_room
+    pub kept_shelf : {sized_areas' : List SizedAreaMeaning} {room' : ℕ} → sized_areas' ≡ map area sized_areas → room' ≡ room → IsShelfOf v quota ids starts sized_areas' full room' spare spare_room
     kept_shelf {room' = room'} items same =
-        subst (λ ps. IsShelf v quota ids starts ps full room' spare spare_room) (sym items) (subst (λ r. IsShelf v quota ids starts (map area sized_areas) full r spare spare_room) (sym same) shelf)
+        subst (λ ps. IsShelfOf v quota ids starts ps full room' spare spare_room) (sym items) (subst (λ r. IsShelfOf v quota ids starts (map area sized_areas) full r spare spare_room) (sym same) shelf)
 
     -- a heap with the same bytes, of which those chunks are touched that are marked
     heap_is_t : (t : HeapState) → ((q : ℕ) → get t.live q ≡ get (heap_among starts sized_areas).live q)

@@ -13,17 +13,18 @@ use Rattle.dym_region.specs.declared.segment.SegmentId.{SegmentId}
 use Rattle.dym_heap.specs.Chunks.{ChunkMeaning}
 use Rattle.dym_heap.specs.Shelves.{ShelfMeaning, IsNextUsed}
 use Rattle.dym_heap.specs.SizedAreas.{SizedAreaMeaning, IsUsedFrom}
-use Rattle.dym_heap.specs.Arrangement.{IsShelf, shelf_of}
+use Rattle.dym_heap.specs.Arrangement.{shelf_of}
 use Rattle.dym_heap.proofs.Sizes.{per_fits}
 use Rattle.dym_heap.proofs.Starts.{is_number}
 use Rattle.dym_heap.proofs.ShelfCalls as calls
+use Rattle.dym_heap.proofs.ShelfParts.{IsShelfOf}
 
 -- no chunk of class e is live from index `from` up to `to`
 abbrev pub FreeUpTo : HeapState → ℕ → ℕ → ℕ → Type 0
 FreeUpTo s e from to = (i : ℕ) → from ≤ i → i < to → get s.live (number e i) ≡ None
 
 module _ {v : Version} {quota : ℕ} {ids : List SegmentId} {origin : Origin} {starts : List ℕ} {sized_areas : List SizedAreaMeaning} {full : List (List Bool)} {room spare spare_room : ℕ}
-    {s : ShelfMeaning} (view : shelf_of v quota ids origin starts sized_areas ≡ s) (is : IsShelf v quota ids starts sized_areas full room spare spare_room) {e : ℕ} (low : 5 ≤ e) (high : e ≤ 16) where
+    {s : ShelfMeaning} (view : shelf_of v quota ids origin starts sized_areas ≡ s) (is : IsShelfOf v quota ids starts sized_areas full room spare spare_room) {e : ℕ} (low : 5 ≤ e) (high : e ≤ 16) where
   -- how many areas class k has
   abbrev many_of : ℕ → ℕ
   many_of k = get_or starts (k + 1) 0 - get_or starts k 0

@@ -77,7 +77,7 @@ parts_at {quota} {offset} {e} {i} {at} lies =
 pub index_of_parts : (e i : ℕ) → i / per e * per e + i % per e ≡ i
 index_of_parts e i = parts_of i (per e)
 
--- the same as they are computed: the numbers that they are made of come from calls
+-- the chunk of an offset as it is computed: the numbers that it is made of come from calls
 module _ {quota : ℕ} (offset : ℕ) {a b b' a' p s : ℕ} (a_is : a ≡ 65536) (b_is : b ≡ quota) (b'_is : b' ≡ quota) (a'_is : a' ≡ 65536) (p_is : p ≡ per (5 + offset / a / b)) (s_is : s ≡ size (5 + offset / a / b)) where
   abbrev made : ℕ
   made = 5 + offset / a / b

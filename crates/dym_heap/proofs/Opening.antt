@@ -1,5 +1,7 @@
 -- A shelf with no area, and the empty heap.
-use Rattle.std.proofs.Common.{◌≡◌, ℕ, zero, ◌+◌, ◌-◌, ◌<◌, ◌≤◌, inl, inr, Bool, List, [], length, get_or, replicate, sym, ap, subst, ◌∙◌, arith, sum_by}
+use Rattle.std.proofs.Common.{◌≡◌, ℕ, zero, ◌+◌, ◌-◌, ◌<◌, ◌≤◌, inl, inr, Bool, List, [], length, get_or, replicate, sym, ap, subst, ◌∙◌, arith}
+use Rattle.std.specs.Prelude.{IsPermutation}
+use Rattle.std.proofs.lemmas.List.Sorted.{IsPermutation-refl}
 use Rattle.std.proofs.lemmas.Bool.{cases_lt, true≢false}
 use Rattle.std.proofs.lemmas.List.{ext_get_or, get_or_past, length-replicate, get_or-replicate}
 use Rattle.dym_base.specs.Numbers.{exponent_of}
@@ -10,11 +12,12 @@ use Rattle.dym_region.specs.declared.segment.SegmentId.{SegmentId}
 use Rattle.dym_heap.specs.Chunks.{heap_chunk}
 use Rattle.dym_heap.specs.Shelves.{ShelfMeaning, IsValidShelf, IsTidy}
 use Rattle.dym_heap.specs.SizedAreas.{SizedAreaMeaning}
-use Rattle.dym_heap.specs.Arrangement.{HasTables, AreClear, IsShelf, shelf_of, chunk_among, heap_among, counts_of}
+use Rattle.dym_heap.specs.Arrangement.{HasTables, AreClear, shelf_of, chunk_among, heap_among, counts_of}
 use Rattle.dym_heap.proofs.Chunks.{same_heap, chunk_empty}
 use Rattle.dym_heap.proofs.Starts.{lies, heap_is}
 use Rattle.dym_heap.proofs.Starts.Lies.{outside, inside}
 use Rattle.dym_heap.proofs.Arranged.{length-counts, count_at}
+use Rattle.dym_heap.proofs.ShelfParts.{IsShelfOf}
 
 nowhere : (n c : ℕ) → get_or {A = ℕ} (replicate n 0) c 0 ≡ zero
 nowhere n c =
@@ -35,9 +38,9 @@ no_starts is = record {
 }
 
 pub no_areas : (v : Version) (quota : ℕ) {ids : List SegmentId} {starts : List ℕ} {sized_areas : List SizedAreaMeaning} {full : List (List Bool)} (room spare spare_room : ℕ) → NoStarts starts → sized_areas ≡ [] → AreClear full → ids ≡ [] → 1 ≤ quota → quota ≤ 1024 → quota ≤ room
-    → HasTables v quota 0 spare spare_room → IsShelf v quota ids starts sized_areas full room spare spare_room
+    → HasTables v quota 0 spare spare_room → IsShelfOf v quota ids starts sized_areas full room spare spare_room
 no_areas v quota {ids} {starts} {full} room spare spare_room none empty clear held least most fits tables =
-    subst (λ ps. IsShelf v quota ids starts ps full room spare spare_room) (sym empty) (record {
+    subst (λ ps. IsShelfOf v quota ids starts ps full room spare spare_room) (sym empty) (record {
       arranged = record {
         starts_len = none.long;
         first = none.zeros 0;
@@ -55,7 +58,7 @@ no_areas v quota {ids} {starts} {full} room spare spare_room none empty clear he
         within = omega arith;
         has_room = fits;
         tables = tables;
-        owned = λ weight. ap (λ xs. sum_by weight xs) held;
+        owned = subst (λ xs. IsPermutation xs []) (sym held) (IsPermutation-refl []);
       };
     })
 

@@ -16,13 +16,13 @@ use Rattle.dym_heap.proofs.PlaceSteps.{chunk_of, used_chunk, unused_chunk}
 pub record LensLoaded (area : AreaMeaning) (ls ls' : Option (List ℕ)) (bits : List Bool) (f : ℕ → List ℕ) : Type 0 where
   pub version : version_by ls' ≡ version_by ls
   pub loaded : (i : ℕ) → IsSet bits i → len_of area.exponent ls' i ≡ length (f i)
-  pub valid_shelf : (i : ℕ) → IsClear bits i → len_of area.exponent ls' i ≡ len_of area.exponent ls i
+  pub others : (i : ℕ) → IsClear bits i → len_of area.exponent ls' i ≡ len_of area.exponent ls i
 
 pub lens_one : (area : AreaMeaning) {packed : List Bool} (bits : List Bool) {body : List ℕ} {f : ℕ → List ℕ} → ((i : ℕ) → IsSet bits i → IsSet packed i) → IsBodyOf One area.exponent packed body f → LensLoaded area None None bits f
-lens_one area bits sub is = record { version = refl; loaded = λ i h. sym (is.sized i (sub i h)); valid_shelf = λ i h. refl }
+lens_one area bits sub is = record { version = refl; loaded = λ i h. sym (is.sized i (sub i h)); others = λ i h. refl }
 
 pub lens_two : (area : AreaMeaning) {ns ns' : List ℕ} {bits : List Bool} {f : ℕ → List ℕ} → NotesLoaded ns ns' bits f → LensLoaded area (Some ns) (Some ns') bits f
-lens_two area notes = record { version = refl; loaded = notes.with_length; valid_shelf = notes.valid_shelf }
+lens_two area notes = record { version = refl; loaded = notes.noted; others = notes.others }
 
 module _ {area : AreaMeaning} {ls ls' : Option (List ℕ)} (content : List ℕ) {packed bits : List Bool} {body : List ℕ} {f : ℕ → List ℕ} (m : IsMeasured area ls) (sub : (i : ℕ) → IsSet bits i → IsSet packed i) (is : IsBodyOf (version_by ls) area.exponent packed body f)
     (holds : HoldsLoaded area (record area { content = content }) bits f) (lens : LensLoaded area ls ls' bits f) (valid' : IsValidArea (record area { content = content })) where
@@ -41,8 +41,8 @@ module _ {area : AreaMeaning} {ls ls' : Option (List ℕ)} (content : List ℕ) 
                   now ∙ ap (λ n. Some (part_of content (i * size area.exponent) n)) (lens.loaded i p) ∙ ap Some (holds.loaded i p)
                   ∙ sym (ap (loaded_over true (f i)) old)
               | false ↦ λ p.
-                  now ∙ ap (λ n. Some (part_of content (i * size area.exponent) n)) (lens.valid_shelf i p)
-                  ∙ ap Some (holds.valid_shelf i (len_of area.exponent ls i) (m.valid.used_below i h) (size_fits (version_by ls) area.exponent (len_of area.exponent ls i) (m.fits i h)) p)
+                  now ∙ ap (λ n. Some (part_of content (i * size area.exponent) n)) (lens.others i p)
+                  ∙ ap Some (holds.others i (len_of area.exponent ls i) (m.valid.used_below i h) (size_fits (version_by ls) area.exponent (len_of area.exponent ls i) (m.fits i h)) p)
                   ∙ sym (ap (loaded_over false (f i)) old)
             ] refl
       ] refl
@@ -53,7 +53,7 @@ module _ {area : AreaMeaning} {ls ls' : Option (List ℕ)} (content : List ℕ) 
     fits = λ i h. subst (λ v. IsSizeOf v area.exponent (len_of area.exponent ls' i)) (sym lens.version)
         (elim (bit_in bits i) as (λ b. bit_in bits i ≡ b → IsSizeOf (version_by ls) area.exponent (len_of area.exponent ls' i)) [
           | true ↦ λ p. subst (IsSizeOf (version_by ls) area.exponent) (sym (lens.loaded i p)) (is.sized i (sub i p))
-          | false ↦ λ p. subst (IsSizeOf (version_by ls) area.exponent) (sym (lens.valid_shelf i p)) (m.fits i h)
+          | false ↦ λ p. subst (IsSizeOf (version_by ls) area.exponent) (sym (lens.others i p)) (m.fits i h)
         ] refl);
   }
 

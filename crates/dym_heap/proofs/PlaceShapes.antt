@@ -104,7 +104,7 @@ module _ {area : AreaMeaning} {ls : Option (List ℕ)} {p : SizedAreaMeaning} (v
       record {
         used = ap is_some (chunk_of ls' i valid') ∙ now;
         wanted = mark ∙ wanted_is i ∙ (λ j. bits i j && not (was j));
-        valid_shelf = λ live quiet. chunk_of ls' i valid' ∙ kept_chunk i (used' i ∙ live) (sym mark ∙ quiet) ∙ sym (old_chunk i);
+        kept = λ live quiet. chunk_of ls' i valid' ∙ kept_chunk i (used' i ∙ live) (sym mark ∙ quiet) ∙ sym (old_chunk i);
       }
 
   pub shaped : IsMeasured area' ls' × (place_of area' ls' ≡ record p { chunks = (place_of area' ls').chunks; touched = (place_of area' ls').touched })

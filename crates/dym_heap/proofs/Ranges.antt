@@ -212,7 +212,7 @@ both_touched a b chunk = λ j. record { bytes = chunk.bytes; touched = or_assoc 
 pub none_touched : (b : Bool) (chunk : ChunkMeaning) → b ≡ false → chunk ≡ touched_besides b chunk
 none_touched b chunk none = (λ j. record { bytes = chunk.bytes; touched = or_false chunk.touched j }) ∙ ap (λ x. touched_besides x chunk) (sym none)
 
--- the same chunks are live where each one keeps its bytes
+-- where each chunk keeps its bytes what is live stays
 pub same_live : (old new : HeapState) (f : ℕ → Bool) → ((k : ℕ) → heap_chunk new k ≡ touched_besides (f k) (heap_chunk old k)) → new.live ≡ old.live
 same_live old new f each = same_map nat_cmp_total nat_cmp-IsAntisymmetric new.live old.live (λ k. ap (λ (x : ChunkMeaning). x.bytes) (each k))
 

@@ -103,12 +103,6 @@ module _ {log : Logged} (is : IsRecorded log) (k : ℕ) (l : k < held log.copy) 
   exponent_k : (area_at log.copy k).exponent ≡ area_k.e
   exponent_k = ap (λ a. a.exponent) area_k.is
 
-  pub class_low : 5 ≤ (area_at log.copy k).exponent
-  class_low = let e = exponent_k in let a = area_k.least in omega arith
-
-  pub class_high : (area_at log.copy k).exponent ≤ 16
-  class_high = let e = exponent_k in let a = area_k.most in omega arith
-
   index_small : (i : ℕ) → i < per area_k.e → area_k.o * per area_k.e + i < 2 ^ 32
   index_small i b = small_k i area_k is.few l b
 

@@ -19,13 +19,14 @@ use Rattle.dym_heap.specs.Fetches.{area_chunk, IsChangedArea}
 use Rattle.dym_heap.specs.Undo.{without_touch}
 use Rattle.dym_heap.specs.Shelves.{ShelfMeaning, IsValidShelf, count_of, IsFirstFree, with_put, FitsIn}
 use Rattle.dym_heap.specs.SizedAreas.{SizedAreaMeaning, IsSizedArea, IsFreeIn, area_with_chunk}
-use Rattle.dym_heap.specs.Arrangement.{IsPlaced, IsFullArea, IsShelf, shelf_of, marks_of_class, place_of_number, no_area, chunk_among, heap_among}
+use Rattle.dym_heap.specs.Arrangement.{IsPlaced, IsFullArea, shelf_of, marks_of_class, place_of_number, no_area, chunk_among, heap_among}
 use Rattle.dym_heap.proofs.Sizes.{per_fits}
 use Rattle.dym_heap.proofs.Chunks.{put_is, forgotten_is, quiet_is}
-use Rattle.dym_heap.proofs.Owned.{supplied-put, ids_are}
+use Rattle.dym_heap.proofs.Owned.{as_many, supplied-put}
 use Rattle.dym_heap.proofs.Starts.{class_end, Stands, Inside, lies, among_in, heap_is, IsNumber, is_number, stands_in, placed_at, chunk_inside, chunk_there}
 use Rattle.dym_heap.proofs.Starts.Lies.{outside, inside}
 use Rattle.dym_heap.proofs.Arranged.{Remarks, marks_with, marked_by, not_both, remarks_with, remarks_taken, remarks_kept, apart, arranged-put, length-counts, count_at, sum_counts}
+use Rattle.dym_heap.proofs.ShelfParts.{IsShelfOf}
 
 pub some_fits : (o : Option (List ℕ)) (n : ℕ) → FitsIn o n → IsSome o
 some_fits None n h = absurd h
@@ -57,7 +58,7 @@ not_above q o r j n high less small =
 -- ---- what is true of every shelf
 
 pub is_valid : {v : Version} {quota : ℕ} {ids : List SegmentId} (origin : Origin) {starts : List ℕ} {sized_areas : List SizedAreaMeaning} {full : List (List Bool)} {room spare spare_room : ℕ}
-    → IsShelf v quota ids starts sized_areas full room spare spare_room → IsValidShelf (shelf_of v quota ids origin starts sized_areas)
+    → IsShelfOf v quota ids starts sized_areas full room spare spare_room → IsValidShelf (shelf_of v quota ids origin starts sized_areas)
 is_valid {v} {quota} {ids} origin {starts} {sized_areas} {full} {room} {spare} {spare_room} is =
     let arr = is.arranged in
     let state : HeapState = heap_among starts sized_areas in
@@ -71,8 +72,8 @@ is_valid {v} {quota} {ids} origin {starts} {sized_areas} {full} {room} {spare} {
       quota_least = is.supplied.least;
       quota_most = is.supplied.most;
       classes = length-counts starts;
-      holds = ids_are is.supplied ∙ sym (sum_counts arr);
-      within = (let n = ids_are is.supplied in let fits = is.supplied.within in omega arith);
+      holds = as_many sized_areas is.supplied.owned ∙ sym (sum_counts arr);
+      within = (let n = as_many sized_areas is.supplied.owned in let fits = is.supplied.within in omega arith);
       class = λ k some. let at = where_is k some in (at.least, at.most);
       in_area = λ k some. (let at = where_is k some in let n = count_at starts (exponent_of k - 5) (let m = at.most in omega arith) in let w = at.within in omega arith);
       sized = λ k bytes e.
@@ -103,7 +104,7 @@ pub number_of : {e o q : ℕ} → exponent_of q ≡ e → index_of q / per e ≡
 number_of {e} {o} {q} class area = record { exponent = class; area = area; chunk = refl; small = (let parts = div-add-mod' (index_of q) (per e) in let y = ap (λ z. z * per e) area in omega arith) }
 
 module _ {v : Version} {quota : ℕ} {ids : List SegmentId} {origin : Origin} {starts : List ℕ} {sized_areas : List SizedAreaMeaning} {full : List (List Bool)} {room spare spare_room : ℕ}
-    {s : ShelfMeaning} (view : shelf_of v quota ids origin starts sized_areas ≡ s) (is : IsShelf v quota ids starts sized_areas full room spare spare_room) where
+    {s : ShelfMeaning} (view : shelf_of v quota ids origin starts sized_areas ≡ s) (is : IsShelfOf v quota ids starts sized_areas full room spare spare_room) where
   pub valid_s : IsValidShelf s
   valid_s = subst IsValidShelf view (is_valid origin is)
 
@@ -137,20 +138,20 @@ module _ {v : Version} {quota : ℕ} {ids : List SegmentId} {origin : Origin} {s
 
   -- the shelf after the chunks of area o of class e changed, each in this way: its areas and its marks of full ones
   pub record Changed (e o : ℕ) (sized_areas' : List SizedAreaMeaning) (full' : List (List Bool)) (Change : ℕ → ChunkMeaning → ChunkMeaning → Type 0) : Type 0 where
-    pub shelf : IsShelf v quota ids starts sized_areas' full' room spare spare_room
+    pub shelf : IsShelfOf v quota ids starts sized_areas' full' room spare spare_room
     pub valid : IsValidShelf (shelf_of v quota ids origin starts sized_areas')
     pub same : shelf_of v quota ids origin starts sized_areas' ≡ record s { state = heap_among starts sized_areas' }
     pub area : IsChangedArea s.state (heap_among starts sized_areas') e o Change
 
   -- the shelf after this became the chunk of number n
   pub record Now (n : ℕ) (sized_areas' : List SizedAreaMeaning) (full' : List (List Bool)) (x : Option (List ℕ)) (b : Bool) : Type 0 where
-    pub shelf : IsShelf v quota ids starts sized_areas' full' room spare spare_room
+    pub shelf : IsShelfOf v quota ids starts sized_areas' full' room spare spare_room
     pub gives : shelf_of v quota ids origin starts sized_areas' ≡ with_put s n x b
     pub valid_shelf : IsValidShelf (shelf_of v quota ids origin starts sized_areas')
 
   -- the shelf after the bytes of a live chunk of number n became others
   pub record Written (n : ℕ) (sized_areas' : List SizedAreaMeaning) (f : List ℕ → List ℕ) : Type 0 where
-    pub shelf : IsShelf v quota ids starts sized_areas' full room spare spare_room
+    pub shelf : IsShelfOf v quota ids starts sized_areas' full room spare spare_room
     pub gives : MatchOption (get s.state.live n) ⊥ (λ old. shelf_of v quota ids origin starts sized_areas' ≡ with_put s n (Some (f old)) true)
     pub valid_shelf : IsValidShelf (shelf_of v quota ids origin starts sized_areas')
 
@@ -179,7 +180,7 @@ module _ {v : Version} {quota : ℕ} {ids : List SegmentId} {origin : Origin} {s
       pub marks_stay : ((i : ℕ) → is_some (get_or p.chunks i None) ≡ is_some (get_or q.chunks i None)) → Remarks full full (e - 5) o p
       marks_stay same = remarks_kept is.arranged small_c st.within (here ∙ ap (λ i. get_or sized_areas i q) st.at) long_p same
 
-      shelf_p : {full' : List (List Bool)} → Remarks full full' (e - 5) o p → IsShelf v quota ids starts (set sized_areas k p) full' room spare spare_room
+      shelf_p : {full' : List (List Bool)} → Remarks full full' (e - 5) o p → IsShelfOf v quota ids starts (set sized_areas k p) full' room spare spare_room
       shelf_p marks = record {
         arranged = arranged-put is.arranged small_c st.within st.at (record {
           sized_area = valid;
@@ -264,7 +265,7 @@ module _ {v : Version} {quota : ℕ} {ids : List SegmentId} {origin : Origin} {s
 -- ---- the chunk of a handle
 
 module _ {v : Version} {quota : ℕ} {ids : List SegmentId} {origin : Origin} {starts : List ℕ} {sized_areas : List SizedAreaMeaning} {full : List (List Bool)} {room spare spare_room : ℕ}
-    {s : ShelfMeaning} (view : shelf_of v quota ids origin starts sized_areas ≡ s) (is : IsShelf v quota ids starts sized_areas full room spare spare_room) {e : ℕ} (low : 5 ≤ e) (high : e ≤ 16) (i : ℕ) (small : i < 2 ^ 32) where
+    {s : ShelfMeaning} (view : shelf_of v quota ids origin starts sized_areas ≡ s) (is : IsShelfOf v quota ids starts sized_areas full room spare spare_room) {e : ℕ} (low : 5 ≤ e) (high : e ≤ 16) (i : ℕ) (small : i < 2 ^ 32) where
   -- what `find` ensures of a place
   abbrev pub Finds : ℕ → ℕ → ℕ → Type 0
   Finds o j k = (o ≡ i / per e) × (j ≡ i % per e) × (k ≡ get_or starts (e - 5) 0 + i / per e) × (get_or starts (e - 5) 0 + i / per e < get_or starts (e - 5 + 1) 0)
@@ -363,7 +364,7 @@ module _ {v : Version} {quota : ℕ} {ids : List SegmentId} {origin : Origin} {s
 -- ---- the first free chunk, where the code calls the class k
 
 module _ {v : Version} {quota : ℕ} {ids : List SegmentId} {origin : Origin} {starts : List ℕ} {sized_areas : List SizedAreaMeaning} {full : List (List Bool)} {room spare spare_room : ℕ}
-    {s : ShelfMeaning} (view : shelf_of v quota ids origin starts sized_areas ≡ s) (is : IsShelf v quota ids starts sized_areas full room spare spare_room) {e : ℕ} (low : 5 ≤ e) (high : e ≤ 16) where
+    {s : ShelfMeaning} (view : shelf_of v quota ids origin starts sized_areas ≡ s) (is : IsShelfOf v quota ids starts sized_areas full room spare spare_room) {e : ℕ} (low : 5 ≤ e) (high : e ≤ 16) where
   -- how many areas class k has
   abbrev pub many_of : ℕ → ℕ
   many_of k = get_or starts (k + 1) 0 - get_or starts k 0

@@ -10,14 +10,15 @@ use Rattle.dym_region.specs.declared.segment.SegmentId.{SegmentId}
 use Rattle.dym_heap.specs.Chunks.{ChunkMeaning}
 use Rattle.dym_heap.specs.Shelves.{ShelfMeaning, IsValidShelf, with_put, FitsIn}
 use Rattle.dym_heap.specs.SizedAreas.{SizedAreaMeaning, IsCopiedOver, area_with_chunk}
-use Rattle.dym_heap.specs.Arrangement.{IsShelf, shelf_of}
+use Rattle.dym_heap.specs.Arrangement.{shelf_of}
 use Rattle.dym_heap.proofs.Chunks.{some_of}
 use Rattle.dym_heap.proofs.Arranged.{apart}
 use Rattle.dym_heap.proofs.ShelfCalls as calls
 use Rattle.dym_heap.proofs.ShelfCalls.{Finds, stands_e, match_some}
+use Rattle.dym_heap.proofs.ShelfParts.{IsShelfOf}
 
 module _ {v : Version} {quota : ℕ} {ids : List SegmentId} {origin : Origin} {starts : List ℕ} {sized_areas : List SizedAreaMeaning} {full : List (List Bool)} {room spare spare_room : ℕ}
-    {s : ShelfMeaning} (view : shelf_of v quota ids origin starts sized_areas ≡ s) (is : IsShelf v quota ids starts sized_areas full room spare spare_room)
+    {s : ShelfMeaning} (view : shelf_of v quota ids origin starts sized_areas ≡ s) (is : IsShelfOf v quota ids starts sized_areas full room spare spare_room)
     {e : ℕ} (low : 5 ≤ e) (high : e ≤ 16) (i : ℕ) (small : i < 2 ^ 32) {f : ℕ} (low' : 5 ≤ f) (high' : f ≤ 16) (i' : ℕ) (small' : i' < 2 ^ 32) where
   -- the areas are not the same
   pub other_place : {o j k o' j' k' : ℕ} → (e ≡ f → ⊥) → Finds view is low high i small o j k → Finds view is low' high' i' small' o' j' k' → k ≡ k' → ⊥
@@ -28,7 +29,7 @@ module _ {v : Version} {quota : ℕ} {ids : List SegmentId} {origin : Origin} {s
       other (omega (arith, one, low, low'))
 
   pub record Now (new : List SizedAreaMeaning) (n : ℕ) : Type 0 where
-    pub shelf : IsShelf v quota ids starts new full room spare spare_room
+    pub shelf : IsShelfOf v quota ids starts new full room spare spare_room
     pub gives : MatchOption (get s.state.live (number e i)) ⊥ (λ source. MatchOption (get s.state.live (number f i')) ⊥ (λ old. shelf_of v quota ids origin starts new ≡ with_put s (number f i') (Some (splice 0 (take n source) old)) true))
     pub valid_shelf : IsValidShelf (shelf_of v quota ids origin starts new)
 
@@ -46,7 +47,7 @@ module _ {v : Version} {quota : ℕ} {ids : List SegmentId} {origin : Origin} {s
       subst (λ z. MatchOption z ⊥ (λ x. MatchOption (get_or q.chunks j' None) ⊥ (λ old. sized_area ≡ area_with_chunk q j' (Some (splice 0 (take n x) old)) true))) there over.chunk in
       let now = calls.written view is low' high' i' small' finds' here (splice 0 (take n bytes)) step over.valid in
       record {
-        shelf = subst (λ l. IsShelf v quota ids starts l full room spare spare_room) (sym over.areas) now.shelf;
+        shelf = subst (λ l. IsShelfOf v quota ids starts l full room spare spare_room) (sym over.areas) now.shelf;
         gives = match_some bytes _ source.1 (subst (λ l. MatchOption (get s.state.live (number f i')) ⊥ (λ old. shelf_of v quota ids origin starts l ≡ with_put s (number f i') (Some (splice 0 (take n bytes) old)) true)) (sym over.areas) now.gives);
         valid_shelf = subst (λ l. IsValidShelf (shelf_of v quota ids origin starts l)) (sym over.areas) now.valid_shelf;
       }

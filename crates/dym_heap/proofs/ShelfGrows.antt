@@ -19,12 +19,13 @@ use Rattle.dym_heap.specs.Shelves.{ShelfMeaning, IsValidShelf, IsTrimmed, count_
 use Rattle.dym_heap.specs.SizedAreas.{SizedAreaMeaning, IsSizedArea}
 use Rattle.dym_heap.specs.Lengths.{version_of}
 use Rattle.dym_heap.specs.declared.lengths.Lengths.{Lengths}
-use Rattle.dym_heap.specs.Arrangement.{IsPlaced, HasFree, HasTables, IsShelf, shelf_of, Shifts, Unshifts, place_of_number, chunk_among}
-use Rattle.dym_heap.proofs.Owned.{place_held, supplied-insert, supplied-remove, table_there, ids_are}
+use Rattle.dym_heap.specs.Arrangement.{IsPlaced, HasFree, HasTables, shelf_of, Shifts, Unshifts, place_of_number, chunk_among}
+use Rattle.dym_heap.proofs.Owned.{area_held, as_many, supplied-insert, supplied-remove, table_there}
 use Rattle.dym_heap.proofs.PlaceCalls.{empty_place}
 use Rattle.dym_heap.proofs.Starts.{starts_upto, class_end, Stands, Inside, IsNumber, is_number, heap_is, placed_at}
 use Rattle.dym_heap.proofs.Arranged as arranged
 use Rattle.dym_heap.proofs.ShelfCalls as calls
+use Rattle.dym_heap.proofs.ShelfParts.{IsShelfOf}
 
 -- a table of lengths is taken in version 2 alone
 pub popped : (v : Version) (quota areas spare spare' room : ℕ) (o : Option Lengths) → HasTables v quota areas spare room → areas < quota → MatchOption o ((spare ≡ 0) × (spare' ≡ 0)) (λ _. spare' + 1 ≡ spare)
@@ -55,8 +56,8 @@ table_room One quota areas spare room None has some is h = absurd cc
 table_room Two quota areas spare room o has some is h = let a = has.0 in let b = has.1 in omega arith
 
 pub roomy : {v : Version} {quota : ℕ} {ids : List SegmentId} {starts : List ℕ} {sized_areas : List SizedAreaMeaning} {full : List (List Bool)} {room room' spare spare_room : ℕ} → room' ≡ room
-    → IsShelf v quota ids starts sized_areas full room spare spare_room → IsShelf v quota ids starts sized_areas full room' spare spare_room
-roomy {v} {quota} {ids} {starts} {sized_areas} {full} {spare} {spare_room} same is = subst (λ r. IsShelf v quota ids starts sized_areas full r spare spare_room) (sym same) is
+    → IsShelfOf v quota ids starts sized_areas full room spare spare_room → IsShelfOf v quota ids starts sized_areas full room' spare spare_room
+roomy {v} {quota} {ids} {starts} {sized_areas} {full} {spare} {spare_room} same is = subst (λ r. IsShelfOf v quota ids starts sized_areas full r spare spare_room) (sym same) is
 
 get_or_same : {A : Type 0} (n i : ℕ) (x : A) → get_or (replicate n x) i x ≡ x
 get_or_same n i x =
@@ -78,7 +79,7 @@ cuts_more old {mid} {new} e cuts dropped small =
     dropped ∙ ap (λ (t : ShelfMeaning). with_count t e n new.held_ids) cuts ∙ ap (λ cs. record old { held_ids = new.held_ids; counts = cs }) (set-set old.counts (e - 5) (count_of mid e) n ∙ ap (set old.counts (e - 5)) (sym count))
 
 module _ {v : Version} {quota : ℕ} {ids : List SegmentId} {origin : Origin} {starts : List ℕ} {sized_areas : List SizedAreaMeaning} {full : List (List Bool)} {room spare spare_room : ℕ}
-    {s : ShelfMeaning} (view : shelf_of v quota ids origin starts sized_areas ≡ s) (is : IsShelf v quota ids starts sized_areas full room spare spare_room) {e : ℕ} (low : 5 ≤ e) (high : e ≤ 16) where
+    {s : ShelfMeaning} (view : shelf_of v quota ids origin starts sized_areas ≡ s) (is : IsShelfOf v quota ids starts sized_areas full room spare spare_room) {e : ℕ} (low : 5 ≤ e) (high : e ≤ 16) where
   -- where class c begins
   abbrev start_of : ℕ → ℕ
   start_of c = get_or starts c 0
@@ -93,7 +94,7 @@ module _ {v : Version} {quota : ℕ} {ids : List SegmentId} {origin : Origin} {s
   class_is = omega arith
 
   pub below_quota : length s.held_ids < s.quota → length sized_areas < quota
-  below_quota l = let a = sym (ap (λ (t : ShelfMeaning). length t.held_ids) view) ∙ ids_are is.supplied in let b = ap (λ (t : ShelfMeaning). t.quota) view in omega arith
+  below_quota l = let a = sym (ap (λ (t : ShelfMeaning). length t.held_ids) view) ∙ as_many sized_areas is.supplied.owned in let b = ap (λ (t : ShelfMeaning). t.quota) view in omega arith
 
   pub end_in : {k : ℕ} → k ≡ e - 5 → start_of (k + 1) ≤ length sized_areas
   end_in {k} same = let top = class_end is.arranged class_in in let a = ap (λ x. start_of (x + 1)) same in omega arith
@@ -114,7 +115,7 @@ module _ {v : Version} {quota : ℕ} {ids : List SegmentId} {origin : Origin} {s
   -- ---- an area comes
 
   pub record Grown (ids' : List SegmentId) (quota' : ℕ) (origin' : Origin) (starts' : List ℕ) (sized_areas' : List SizedAreaMeaning) (room' spare' spare_room' : ℕ) : Type 0 where
-    pub shelf : IsShelf v quota' ids' starts' sized_areas' full room' spare' spare_room'
+    pub shelf : IsShelfOf v quota' ids' starts' sized_areas' full room' spare' spare_room'
     pub gives : shelf_of v quota' ids' origin' starts' sized_areas' ≡ with_count s e (count_of s e + 1) ids'
     pub valid_shelf : IsValidShelf (shelf_of v quota' ids' origin' starts' sized_areas')
 
@@ -134,7 +135,7 @@ module _ {v : Version} {quota : ℕ} {ids : List SegmentId} {origin : Origin} {s
       let long : length p.chunks ≡ per e = ap (λ (q : SizedAreaMeaning). length q.chunks) made ∙ length-replicate {A = Option (List ℕ)} (per e) None in
       let free : HasFree p = (0, (let z = per_some in omega arith), ap (λ (c : ChunkMeaning). c.bytes) (empty 0)) in
       let supplied = supplied-insert room' at p is.supplied (below_quota less) (end_in refl) (subst (GivesBack ids' ids) (sym (ap (λ (q : SizedAreaMeaning). q.identity) made)) more) bigger fewer in
-      let shelf : IsShelf v quota ids' starts' (insert sized_areas at p) full room' spare' spare_room = record { arranged = arranged.arranged-insert is.arranged starts' class_in p shift placed free; supplied = supplied } in
+      let shelf : IsShelfOf v quota ids' starts' (insert sized_areas at p) full room' spare' spare_room = record { arranged = arranged.arranged-insert is.arranged starts' class_in p shift placed free; supplied = supplied } in
       let state = arranged.heap-insert is.arranged starts' class_in p shift empty in
       let counts = arranged.counts-insert is.arranged starts' class_in p shift in
       record {
@@ -168,7 +169,7 @@ module _ {v : Version} {quota : ℕ} {ids : List SegmentId} {origin : Origin} {s
     last_in {k} same = let l = some_area in let a = ap (λ x. start_of (x + 1)) same in let top = class_end is.arranged class_in in (omega arith, omega arith)
 
     pub last_held : (k : ℕ) (d : SizedAreaMeaning) → k ≡ e - 5 → IsHeld ids (get_or sized_areas (start_of (k + 1) - 1) d).identity
-    last_held k d same = place_held (start_of (k + 1) - 1) d is.supplied (last_in same).1
+    last_held k d same = area_held sized_areas (start_of (k + 1) - 1) d is.supplied.owned (last_in same).1
 
     pub last_version : (k : ℕ) (d : SizedAreaMeaning) → k ≡ e - 5 → (get_or sized_areas (start_of (k + 1) - 1) d).version ≡ v
     last_version k d same = (placed_at is.arranged (stands_last k same) d).version
@@ -180,7 +181,7 @@ module _ {v : Version} {quota : ℕ} {ids : List SegmentId} {origin : Origin} {s
     some_places = let l = (last_in refl).1 in omega arith
 
   pub record Dropped (ids' : List SegmentId) (quota' : ℕ) (origin' : Origin) (starts' : List ℕ) (sized_areas' : List SizedAreaMeaning) (spare' spare_room' : ℕ) : Type 0 where
-    pub shelf : IsShelf v quota' ids' starts' sized_areas' full room spare' spare_room'
+    pub shelf : IsShelfOf v quota' ids' starts' sized_areas' full room spare' spare_room'
     pub gives : shelf_of v quota' ids' origin' starts' sized_areas' ≡ with_count s e (count_of s e - 1) ids'
     pub fewer : length ids' + 1 ≡ length s.held_ids
     pub valid_shelf : IsValidShelf (shelf_of v quota' ids' origin' starts' sized_areas')
@@ -210,13 +211,13 @@ module _ {v : Version} {quota : ℕ} {ids : List SegmentId} {origin : Origin} {s
       let bytes : get s.state.live q ≡ None = gone (index_of q % per e) q (calls.number_of class area) in
       sym (heap_is starts sized_areas q is.arranged.starts_len) ∙ ap (λ (t : ShelfMeaning). heap_chunk t.state q) view ∙ (λ i. record { bytes = bytes i; touched = quiet q bytes i }) in
       let gave = supplied-remove spare' spare_room' k d is.supplied (last_in ends refl).1 back tables in
-      let shelf : IsShelf v quota ids' starts' (remove sized_areas k) full room spare' spare_room' = record { arranged = arranged.arranged-remove is.arranged starts' class_in shift up (omega arith) d free; supplied = gave } in
+      let shelf : IsShelfOf v quota ids' starts' (remove sized_areas k) full room spare' spare_room' = record { arranged = arranged.arranged-remove is.arranged starts' class_in shift up (omega arith) d free; supplied = gave } in
       let state = arranged.heap-remove is.arranged starts' class_in shift up (omega arith) empty in
       let counts = arranged.counts-remove is.arranged starts' class_in shift up (omega arith) in
       record {
         shelf = shelf;
         gives = (λ j. record { version = v; quota = quota; held_ids = ids'; origin = origin; counts = counts j; state = state j }) ∙ ap (λ (t : ShelfMeaning). with_count t e (count_of t e - 1) ids') view;
-        fewer = (let a = ids_are gave in let b = length-remove sized_areas k (last_in ends refl).1 in let n = ids_are is.supplied in let t = ap (λ (t : ShelfMeaning). length t.held_ids) view in omega arith);
+        fewer = (let a = as_many _ gave.owned in let b = length-remove sized_areas k (last_in ends refl).1 in let n = as_many sized_areas is.supplied.owned in let t = ap (λ (t : ShelfMeaning). length t.held_ids) view in omega arith);
         valid_shelf = calls.is_valid origin shelf;
       }
     where

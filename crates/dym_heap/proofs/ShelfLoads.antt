@@ -10,16 +10,17 @@ use Rattle.dym_heap.specs.Chunks.{ChunkMeaning}
 use Rattle.dym_heap.specs.Fetches.{area_chunk, marked, fetched, packed_at, IsReshaped}
 use Rattle.dym_heap.specs.Shelves.{ShelfMeaning}
 use Rattle.dym_heap.specs.SizedAreas.{SizedAreaMeaning, IsSizedArea}
-use Rattle.dym_heap.specs.Arrangement.{IsFullArea, IsShelf, shelf_of}
+use Rattle.dym_heap.specs.Arrangement.{IsFullArea, shelf_of}
 use Rattle.dym_heap.proofs.Arranged.{Remarks, marks_with, marked_by, remarks_with}
 use Rattle.dym_heap.proofs.PlaceLoads.{loaded_some}
 use Rattle.dym_heap.proofs.Starts.{Stands}
 use Rattle.dym_heap.proofs.ShelfCalls as calls
 use Rattle.dym_heap.proofs.ShelfCalls.{Changed, changed, marks_stay, placed_q}
 use Rattle.dym_heap.proofs.Wants.{fetched_some}
+use Rattle.dym_heap.proofs.ShelfParts.{IsShelfOf}
 
 module _ {v : Version} {quota : ℕ} {ids : List SegmentId} {origin : Origin} {starts : List ℕ} {sized_areas : List SizedAreaMeaning} {full : List (List Bool)} {room spare spare_room : ℕ}
-    {s : ShelfMeaning} (view : shelf_of v quota ids origin starts sized_areas ≡ s) (is : IsShelf v quota ids starts sized_areas full room spare spare_room) {e : ℕ} (low : 5 ≤ e) (high : e ≤ 16)
+    {s : ShelfMeaning} (view : shelf_of v quota ids origin starts sized_areas ≡ s) (is : IsShelfOf v quota ids starts sized_areas full room spare spare_room) {e : ℕ} (low : 5 ≤ e) (high : e ≤ 16)
     {k o : ℕ} (same : k ≡ e - 5) (l : o < get_or starts (k + 1) 0 - get_or starts k 0) {q : SizedAreaMeaning} (here : q ≡ get_or sized_areas (get_or starts k 0 + o) q) where
   abbrev st : Stands starts e o (get_or starts k 0 + o)
   st = calls.stands_a view is low high same l

@@ -9,9 +9,10 @@ use Rattle.dym_base.specs.Origins.{Origin}
 use Rattle.dym_base.specs.declared.command.Version.{Version}
 use Rattle.dym_heap.specs.Shelves.{ShelfMeaning}
 use Rattle.dym_heap.specs.SizedAreas.{SizedAreaMeaning}
-use Rattle.dym_heap.specs.Arrangement.{AreBound, IsPlaced, IsShelf, shelf_of}
+use Rattle.dym_heap.specs.Arrangement.{AreBound, IsPlaced, shelf_of}
 use Rattle.dym_heap.proofs.AreaBindings.{BoundArea}
 use Rattle.dym_heap.proofs.ShelfCalls.{Finds, stands_e, in_e, placed_q}
+use Rattle.dym_heap.proofs.ShelfParts.{IsShelfOf}
 
 -- an area lies where its binding tells
 start_of_area : (place_of : SegmentId → Option Ptr) (binding : Binding) {binding' : Binding} {v : Version} {e o : ℕ} {p : SizedAreaMeaning} (at : Ptr) → binding' ≡ binding → IsPlaced v e o p
@@ -27,7 +28,7 @@ pub start_of_chunk : (binding : Origin → ℕ → Binding) (place_of : SegmentI
     {v : Version} {quota : ℕ} {ids : List SegmentId} {origin : Origin} {starts : List ℕ}
     {sized_areas : List SizedAreaMeaning} {full : List (List Bool)} {room spare spare_room : ℕ} {s : ShelfMeaning}
     (view : shelf_of v quota ids origin starts sized_areas ≡ s)
-    (is : IsShelf v quota ids starts sized_areas full room spare spare_room)
+    (is : IsShelfOf v quota ids starts sized_areas full room spare spare_room)
     → AreBound (binding origin quota) sized_areas
     → {e : ℕ} (low : 5 ≤ e) (high : e ≤ 16) (i : ℕ) (small : i < 2 ^ 32) {o j k : ℕ}
     → Finds view is low high i small o j k

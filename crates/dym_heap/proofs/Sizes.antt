@@ -1,5 +1,5 @@
 -- Sizes of classes, and where chunks lie in an area.
-use Rattle.std.proofs.Common.{◌≡◌, ℕ, ◌+◌, ◌-◌, ◌*◌, ◌^◌, min, ◌<◌, ◌≤◌, ◌⊎◌, inl, inr, Bool, true, false, cond, Some, None, List, [], ◌∷◌, refl, sym, ap, subst, ◌∙◌, arith}
+use Rattle.std.proofs.Common.{◌≡◌, ℕ, ◌+◌, ◌-◌, ◌*◌, ◌^◌, min, ◌<◌, ◌≤◌, ◌⊎◌, inl, inr, Bool, true, false, cond, Some, None, List, [], ◌∷◌, refl, sym, ap, ◌∙◌, arith}
 use Rattle.std.specs.Prelude.{find, nat_le}
 use Rattle.std.proofs.Math.Nat.{pow-le-pow_right}
 use Rattle.std.proofs.lemmas.Nat.{pow-add, row_fits}
@@ -12,39 +12,28 @@ use Rattle.dym_base.specs.declared.command.Version.{Version}
 use Rattle.dym_base.specs.declared.command.Version.TheVariants.{One, Two}
 use Rattle.dym_heap.specs.Meaning.{IsSizeOf}
 
--- what is true of each element of a list, and of the one that is found
+-- what is found passes
+passes : (p : ℕ → Bool) (xs : List ℕ) (e : ℕ) → find p xs ≡ Some e → p e ≡ true
+passes p [] e is = absurd cc
+passes p (x ∷ xs) e is =
+    elim (p x) as (λ b. p x ≡ b → cond b (Some x) (find p xs) ≡ Some e → p e ≡ true) [
+      | true ↦ λ h found. (let same : x ≡ e = cc in ap p (sym same) ∙ h)
+      | false ↦ λ h found. passes p xs e found
+    ] refl is
+
+-- no length above that of the greatest class has one
 abbrev All : (ℕ → Type 0) → List ℕ → Type 0
 All P [] = Unit {0}
 All P (x ∷ xs) = P x × All P xs
 
-found_in : (p : ℕ → Bool) (P : ℕ → Type 0) (xs : List ℕ) (e : ℕ) → All P xs → find p xs ≡ Some e → P e × (p e ≡ true)
-found_in p P [] e all is = absurd cc
-found_in p P (x ∷ xs) e all is =
-    elim (p x) as (λ b. p x ≡ b → cond b (Some x) (find p xs) ≡ Some e → P e × (p e ≡ true)) [
-      | true ↦ λ h found. (let same : x ≡ e = cc in (subst P same all.0, ap p (sym same) ∙ h))
-      | false ↦ λ h found. found_in p P xs e all.1 found
-    ] refl is
-
-abbrev IsExponent : ℕ → Type 0
-IsExponent e = (5 ≤ e) × (e ≤ 16)
-
-exponents : All IsExponent classes
-exponents = (omega arith, omega arith)
-
-pub cls_bounds : (n e : ℕ) → cls n ≡ Some e → (5 ≤ e) × (e ≤ 16) × (n ≤ size e)
-unfolding cls
-cls_bounds n e is =
-    let found = found_in (λ e. nat_le n (size e)) IsExponent classes e exponents is in
-    (found.0.0, found.0.1, leb-true n (size e) found.1)
-
--- no length above that of the greatest class has one
 none_in : (p : ℕ → Bool) (xs : List ℕ) → All (λ e. p e ≡ false) xs → find p xs ≡ None
 none_in p [] all = refl
 none_in p (x ∷ xs) all = ap (λ b. cond b (Some x) (find p xs)) all.0 ∙ none_in p xs all.1
 
 pub size_fits : (v : Version) (e n : ℕ) → IsSizeOf v e n → n ≤ size e
+unfolding cls
 size_fits One e n is = omega arith
-size_fits Two e n is = (cls_bounds n e is).2
+size_fits Two e n is = leb-true n (size e) (passes (λ e. nat_le n (size e)) classes e is)
 
 -- ---- chunks in an area
 

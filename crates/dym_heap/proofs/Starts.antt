@@ -23,7 +23,7 @@ module _ {v : Version} {starts : List ℕ} {sized_areas : List SizedAreaMeaning}
       let e : get_or starts (c + n + 1) 0 ≡ get_or starts (c + suc n) 0 = ap (λ k. get_or starts k 0) (let h : c + n + 1 ≡ c + suc n = omega arith in h) in
       omega arith
 
-  -- the same where the classes are told
+  -- starts rise from any class to a later one
   pub starts_upto : (c d : ℕ) → IsArranged v starts sized_areas full → c ≤ d → d ≤ 12 → get_or starts c 0 ≤ get_or starts d 0
   starts_upto c d is l most =
       let up = starts_mono c (d - c) is (omega arith) in

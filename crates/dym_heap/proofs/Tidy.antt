@@ -1,12 +1,14 @@
 -- A tidy shelf has as many areas as its chunks need.
-use Rattle.std.proofs.Common.{◌≡◌, ℕ, zero, suc, ◌+◌, ◌-◌, ◌/◌, ◌<◌, ◌≤◌, inl, inr, Bool, true, false, List, [], ◌∷◌, length, get_or, is_some, IsSome, Some, None, sum, sum_by, refl, sym, ap, subst, ◌∙◌, arith, add-zero}
+use Rattle.std.proofs.Common.{◌≡◌, ℕ, zero, suc, ◌+◌, ◌-◌, ◌/◌, ◌^◌, ◌<◌, ◌≤◌, inl, inr, Bool, true, false, List, [], ◌∷◌, length, get_or, is_some, IsSome, Some, None, sum, sum_by, refl, sym, ap, subst, ◌∙◌, arith, add-zero}
 use Rattle.std.specs.List.{range_with_len}
 use Rattle.std.specs.FinMap.{get}
 use Rattle.std.specs.FinSet.{contains}
 use Rattle.std.proofs.lemmas.List.Sums.{sum_by-cons}
 use Rattle.std.proofs.lemmas.Bool.{cases_lt}
-use Rattle.dym_base.specs.Numbers.{per, number, exponent_of, index_of, IsClass}
+use Rattle.dym_base.specs.Numbers.{per, number, exponent_of, index_of, IsClass, IsNoClass}
 use Rattle.dym_base.specs.Heaps.{Live, areas, held, fresh}
+use Rattle.dym_base.specs.HeapStep.{key}
+use Rattle.dym_base.specs.declared.handle.Handle.{Handle}
 use Rattle.dym_base.proofs.Heaps.{areas_below, reach_areas, reach_there, fresh_free, below_fresh}
 use Rattle.dym_heap.specs.Meaning.{HeapMeaning, IsSound}
 use Rattle.dym_heap.specs.Shelves.{ShelfMeaning, IsValidShelf, IsTidy, count_of, with_put}
@@ -74,6 +76,17 @@ sound_of {s} applied tidy =
       sized = valid.sized;
       touched_live = valid.touched_live;
     }
+
+-- the number of a handle that has no class is of none
+pub no_class : (h : Handle) → h.index < 2 ^ 32 → IsNoClass h.exp → IsClass (exponent_of (key h)) → ⊥
+no_class h small out class =
+    let same : exponent_of (number h.exp h.index) ≡ h.exp = omega arith in
+    let low = class.0 in
+    let high = class.1 in
+    elim out as (λ _. ⊥) [
+      | inl below ↦ omega arith
+      | inr above ↦ omega arith
+    ]
 
 -- a number outside the classes is that of no live chunk
 pub not_live : {s : ShelfMeaning} (k : ℕ) → IsValidShelf s → (IsClass (exponent_of k) → ⊥) → get s.state.live k ≡ None

@@ -14,13 +14,14 @@ use Rattle.dym_bits.specs.Bits.{bit_in, IsSet}
 use Rattle.dym_area.specs.Area.{AreaMeaning, IsValidArea}
 use Rattle.dym_heap.specs.Chunks.{ChunkMeaning}
 use Rattle.dym_heap.specs.Shelves.{ShelfMeaning}
-use Rattle.dym_heap.specs.Arrangement.{IsShelf, shelf_of}
+use Rattle.dym_heap.specs.Arrangement.{shelf_of}
 use Rattle.dym_heap.specs.SizedAreas.{SizedAreaMeaning, place_of, touched_in, IsMeasured, used_touched}
 use Rattle.dym_heap.specs.Touches.{all_touched}
 use Rattle.dym_heap.proofs.PlaceSteps.{is_place, chunk_of, some_used}
 use Rattle.dym_heap.proofs.PlaceShapes as shapes
 use Rattle.dym_heap.proofs.NewMarks as marks
 use Rattle.dym_heap.proofs.NewMarks.{MakesMarks}
+use Rattle.dym_heap.proofs.ShelfParts.{IsShelfOf}
 
 used_mark : (chunks : List (Option (List ℕ))) (i : ℕ) → get_or (map is_some chunks) i false ≡ is_some (get_or chunks i None)
 used_mark chunks i =
@@ -75,11 +76,11 @@ contains-keys : (live : Live) (q : ℕ) → contains (from_list {R = nat_cmp} (k
 contains-keys live q = contains-from_list nat_cmp_total (keys live) q ∙ sym (contains_key-keys live q)
 
 module _ {v : Version} {quota : ℕ} {ids : List SegmentId} {origin : Origin} {starts : List ℕ} {sized_areas sized_areas' : List SizedAreaMeaning} {full : List (List Bool)} {room spare spare_room : ℕ}
-    {s : ShelfMeaning} (view : shelf_of v quota ids origin starts sized_areas ≡ s) (is : IsShelf v quota ids starts sized_areas full room spare spare_room) (items : sized_areas' ≡ map used_touched sized_areas) where
+    {s : ShelfMeaning} (view : shelf_of v quota ids origin starts sized_areas ≡ s) (is : IsShelfOf v quota ids starts sized_areas full room spare spare_room) (items : sized_areas' ≡ map used_touched sized_areas) where
   pub touched_view : shelf_of v quota ids origin starts sized_areas' ≡ record s { state = all_touched s.state }
   touched_view =
       marks.view_of makes_used is view items (all_touched s.state) (λ q. refl)
       (λ p j q e. used_mark p.chunks j ∙ sym (contains-keys s.state.live q ∙ ap (λ (c : ChunkMeaning). is_some c.bytes) e)) (λ q e. contains-keys s.state.live q ∙ ap (λ (c : ChunkMeaning). is_some c.bytes) e)
 
-  pub touched_shelf : {room' : ℕ} → room' ≡ room → IsShelf v quota ids starts sized_areas' full room' spare spare_room
+  pub touched_shelf : {room' : ℕ} → room' ≡ room → IsShelfOf v quota ids starts sized_areas' full room' spare spare_room
   touched_shelf same = marks.kept_shelf makes_used is items same

@@ -75,12 +75,12 @@ reshaped_again {u} {a} {c} first second =
     record {
       used = second.used;
       wanted = wanted;
-      valid_shelf = λ live quiet. second.valid_shelf live quiet ∙ first.valid_shelf live (first.wanted ∙ sym wanted ∙ quiet);
+      kept = λ live quiet. second.kept live quiet ∙ first.kept live (first.wanted ∙ sym wanted ∙ quiet);
     }
 
 -- where the chunk isn't among the handles it doesn't matter what it was
 pub reshaped_free : (a d b : ChunkMeaning) → IsReshaped false a b → IsReshaped false d b
-reshaped_free a d b is = record { used = is.used; wanted = is.wanted; valid_shelf = λ live. absurd cc }
+reshaped_free a d b is = record { used = is.used; wanted = is.wanted; kept = λ live. absurd cc }
 
 pub reshaped_gone : (a : ChunkMeaning) → IsReshaped false a no_chunk
-reshaped_gone a = record { used = refl; wanted = refl; valid_shelf = λ live. absurd cc }
+reshaped_gone a = record { used = refl; wanted = refl; kept = λ live. absurd cc }

@@ -2,13 +2,12 @@
 use Rattle.std.specs.Prelude.{◌≡◌, ℕ, ◌+◌, ◌*◌, ◌/◌, ◌%◌, ◌≤◌, ◌<◌, length, Option, None, Some, MatchOption, option_map}
 use Rattle.std.specs.FinMap.{get}
 use denote.RawPtr.{Ptr, block_ptr}
-use Rattle.dym_base.specs.Numbers.{size, per, IsClass}
+use Rattle.dym_base.specs.Numbers.{size, per, rank, IsClass}
 use Rattle.dym_base.specs.HeapStep.{key}
 use Rattle.dym_base.specs.Origins.{Origin, own, shared}
 use Rattle.dym_base.specs.declared.handle.Handle.{Handle}
 use Rattle.dym_base.specs.declared.limits.TheConstants.{SEGMENT_BYTES, LEAST_EXPONENT, GREATEST_EXPONENT}
 use Rattle.dym_heap.specs.Meaning.{HeapMeaning}
-use Rattle.dym_heap.specs.Chunks.{rank}
 
 -- how far into the region the chunk of a handle lies: area o of class c has segment c * quota + o
 abbrev pub chunk_offset : ℕ → Handle → ℕ

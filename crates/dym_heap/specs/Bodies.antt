@@ -31,18 +31,18 @@ pub record BeginsWithChunks (bytes : List ℕ) (chunks : List (List ℕ)) (rest 
 pub record HoldsLoaded (old new : AreaMeaning) (bits : List Bool) (f : ℕ → List ℕ) : Type 0 where
   pub same : new ≡ record old { content = new.content }
   pub loaded : (i : ℕ) → IsSet bits i → part_of new.content (i * size old.exponent) (length (f i)) ≡ f i
-  pub valid_shelf : (i n : ℕ) → i < per old.exponent → n ≤ size old.exponent → IsClear bits i → part_of new.content (i * size old.exponent) n ≡ part_of old.content (i * size old.exponent) n
+  pub others : (i n : ℕ) → i < per old.exponent → n ≤ size old.exponent → IsClear bits i → part_of new.content (i * size old.exponent) n ≡ part_of old.content (i * size old.exponent) n
 
 -- so has it of those chunks from `first` up to `end` whose bits are set
 pub record IsLoadedRange (old new : AreaMeaning) (wanted : List Bool) (first end : ℕ) (f : ℕ → List ℕ) : Type 0 where
   pub same : new ≡ record old { content = new.content }
   pub loaded : (i : ℕ) → first ≤ i → i < end → IsSet wanted i → part_of new.content (i * size old.exponent) (length (f i)) ≡ f i
-  pub valid_shelf : (i n : ℕ) → i < per old.exponent → n ≤ size old.exponent → (first ≤ i → i < end → IsSet wanted i → ⊥) → part_of new.content (i * size old.exponent) n ≡ part_of old.content (i * size old.exponent) n
+  pub others : (i n : ℕ) → i < per old.exponent → n ≤ size old.exponent → (first ≤ i → i < end → IsSet wanted i → ⊥) → part_of new.content (i * size old.exponent) n ≡ part_of old.content (i * size old.exponent) n
 
 -- the table has their lengths where a bit is set, and the old ones elsewhere
 pub record NotesLoaded (old new : List ℕ) (bits : List Bool) (f : ℕ → List ℕ) : Type 0 where
-  pub with_length : (i : ℕ) → IsSet bits i → slice_index new i ≡ length (f i)
-  pub valid_shelf : (i : ℕ) → IsClear bits i → slice_index new i ≡ slice_index old i
+  pub noted : (i : ℕ) → IsSet bits i → slice_index new i ≡ length (f i)
+  pub others : (i : ℕ) → IsClear bits i → slice_index new i ≡ slice_index old i
 
 -- what a chunk is after these bytes were loaded into it, where it is packed
 abbrev pub loaded_over : Bool → List ℕ → Option (List ℕ) → Option (List ℕ)

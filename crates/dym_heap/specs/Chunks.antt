@@ -1,13 +1,9 @@
 -- Heaps as finite maps from the numbers of handles to chunks.
-use Rattle.std.specs.Prelude.{ℕ, zero, suc, ◌-◌, ◌*◌, ◌^◌, Bool, true, false, List, Option, None, Some}
+use Rattle.std.specs.Prelude.{ℕ, zero, suc, ◌*◌, ◌^◌, Bool, true, false, List, Option, None, Some}
 use Rattle.std.specs.FinMap as map
 use Rattle.std.specs.FinSet as set
 use Rattle.dym_base.specs.Heaps.{Live, Touched, HeapState}
 use Rattle.dym_base.specs.Objects.{empty_heap}
-
--- the place of class e among the twelve
-abbrev pub rank : ℕ → ℕ
-rank e = e - 5
 
 -- a chunk: its bytes, where it is live, and whether it is touched
 pub record ChunkMeaning : Type 0 where

@@ -28,7 +28,7 @@ is_unmodified chunk = is_some chunk.bytes && not chunk.touched
 pub record IsReshaped (is_used : Bool) (old new : ChunkMeaning) : Type 0 where
   pub used : is_some new.bytes ≡ is_used
   pub wanted : new.touched ≡ (is_used && not (is_unmodified old))
-  pub valid_shelf : is_used ≡ true → new.touched ≡ false → new.bytes ≡ old.bytes
+  pub kept : is_used ≡ true → new.touched ≡ false → new.bytes ≡ old.bytes
 
 -- the chunks of area o of class e changed, each by its place in the area in this way, and no others
 pub record IsChangedArea (old new : HeapState) (e o : ℕ) (Change : ℕ → ChunkMeaning → ChunkMeaning → Type 0) : Type 0 where

@@ -15,7 +15,7 @@ areas_of h = record { version = h.version; live = h.state.live; touched = h.stat
 abbrev pub HeapsArePackable : Type 0
 HeapsArePackable = (h : HeapMeaning) → IsSound h → IsPackable (areas_of h)
 
--- the same handles are live
+-- a handle is live in the one just where it is live in the other
 abbrev pub HaveOneSetOfHandles : Live → Live → Type 0
 HaveOneSetOfHandles live other = (k : ℕ) → contains_key live k ≡ contains_key other k
 

@@ -2,14 +2,14 @@
 use Rattle.std.specs.Prelude.{◌≡◌, ℕ, ◌+◌, ◌/◌, ◌^◌, ◌≤◌, ◌<◌, Bool, true, List, length, sum, slice_index, slice_set, Option, None, Some, IsSome}
 use Rattle.std.specs.FinMap.{get}
 use Rattle.std.specs.FinSet.{contains}
-use Rattle.dym_base.specs.Numbers.{per, number, exponent_of, index_of, IsClass}
+use Rattle.dym_base.specs.Numbers.{per, rank, number, exponent_of, index_of, IsClass}
 use Rattle.dym_base.specs.Heaps.{HeapState}
 use Rattle.dym_base.specs.Origins.{Origin}
 use Rattle.dym_base.specs.declared.command.Version.{Version}
-use Rattle.dym_base.specs.declared.limits.TheConstants.{MOST_QUOTA}
+use Rattle.dym_base.specs.declared.limits.TheConstants.{CLASSES, MOST_QUOTA}
 use Rattle.dym_region.specs.declared.segment.SegmentId.{SegmentId}
 use Rattle.dym_heap.specs.Meaning.{IsSizeOf}
-use Rattle.dym_heap.specs.Chunks.{rank, put}
+use Rattle.dym_heap.specs.Chunks.{put}
 
 -- a shelf: its version, its quota of segments, the identities of those that it holds, where its segments come from, how many areas
 -- each of the twelve classes has, and its chunks
@@ -29,7 +29,7 @@ count_of s e = slice_index s.counts (rank e)
 pub record IsValidShelf (s : ShelfMeaning) : Type 0 where
   pub quota_least : 1 ≤ s.quota
   pub quota_most : s.quota ≤ MOST_QUOTA
-  pub classes : length s.counts ≡ 12
+  pub classes : length s.counts ≡ CLASSES
   pub holds : length s.held_ids ≡ sum s.counts
   pub within : length s.held_ids ≤ s.quota
   -- a live chunk lies in an area of its class, and has a length of that class

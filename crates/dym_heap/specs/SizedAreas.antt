@@ -11,6 +11,7 @@ use Rattle.dym_region.specs.declared.segment.SegmentId.{SegmentId}
 use Rattle.dym_region.specs.Content.{part_of}
 use Rattle.dym_area.specs.Area.{AreaMeaning, IsValidArea, chunk_start}
 use Rattle.dym_heap.specs.Meaning.{IsSizeOf}
+use Rattle.dym_heap.specs.Shelves.{FitsIn}
 
 -- a place: its version, class and ordinal, the identity of its segment, and its chunks by their indices: the bytes of each that
 -- is in use, and which are touched
@@ -103,6 +104,10 @@ clean p = record p { touched = replicate (length p.touched) false }
 -- the place with each chunk in use touched
 abbrev pub used_touched : SizedAreaMeaning → SizedAreaMeaning
 used_touched p = record p { touched = map is_some p.chunks }
+
+-- chunk i of area k is in use, and has at least n bytes
+abbrev pub FitsAt : List SizedAreaMeaning → ℕ → ℕ → ℕ → Type 0
+FitsAt sized_areas k i n = (d : SizedAreaMeaning) → FitsIn (slice_index_or (slice_index_or sized_areas k d).chunks i None) n
 
 -- the first n bytes of chunk j of area s were copied over those of chunk i of area t
 pub record IsCopiedOver (old new : List SizedAreaMeaning) (s j t i n : ℕ) : Type 0 where

@@ -17,12 +17,9 @@ ghost use Rattle.dym_heap.specs.Touches.{has_byte_in, is_hit, touched_besides, t
 use crate::chunk::len_of_handle;
 use crate::heap::Heap;
 use crate::shelf::Shelf;
-use dym_base::limits::{GREATEST_EXPONENT, LEAST_EXPONENT, SEGMENT_BYTES};
-use dym_base::{Handle, per_area, size_of_class};
+use dym_base::limits::{CLASSES, GREATEST_EXPONENT, LEAST_EXPONENT, SEGMENT_BYTES};
+use dym_base::{Class, Handle};
 use dym_quota::{FixedSupply, Supply};
-
-/// Classes of chunks.
-const CLASSES: u64 = 12;
 
 impl Heap<FixedSupply> {
     /// Where a chunk lies, and None where it isn't live: in the region's block, at the place that its handle alone tells.
@@ -33,17 +30,15 @@ impl Heap<FixedSupply> {
             × (address_of self.now h ≡ Some at)) }
     {
         let shelf = &self.shelf;
-        if h.exp < LEAST_EXPONENT {
+        if !h.has_class() {
             return None;
         }
-        if h.exp > GREATEST_EXPONENT {
-            return None;
-        }
-        let Some(segment) = shelf.start_of_used(h.exp, h.index) else {
+        let class = Class { exp: h.exp };
+        let Some(segment) = shelf.start_of_used(class, h.index) else {
             return None;
         };
         self.start();
-        Some(chunk_within(segment, h))
+        Some(chunk_within(segment, class, h.index))
     }
 
     /// Where a chunk lies that is touched, and None where it isn't.
@@ -55,17 +50,15 @@ impl Heap<FixedSupply> {
             × (address_of self.now h ≡ Some at)) }
     {
         let shelf = &self.shelf;
-        if h.exp < LEAST_EXPONENT {
+        if !h.has_class() {
             return None;
         }
-        if h.exp > GREATEST_EXPONENT {
-            return None;
-        }
-        let Some(segment) = shelf.start_of_touched(h.exp, h.index) else {
+        let class = Class { exp: h.exp };
+        let Some(segment) = shelf.start_of_touched(class, h.index) else {
             return None;
         };
         self.start();
-        Some(chunk_within(segment, h))
+        Some(chunk_within(segment, class, h.index))
     }
 
     /// Where a live chunk lies that has at least one byte. It is touched from now on.
@@ -78,8 +71,9 @@ impl Heap<FixedSupply> {
         ensures sound { IsSound self.new }
     {
         self.start();
-        let segment = self.shelf.touch(h.exp, h.index);
-        chunk_within(segment, h)
+        let class = Class { exp: h.exp };
+        let segment = self.shelf.touch(class, h.index);
+        chunk_within(segment, class, h.index)
     }
 
     /// Where the region begins: the byte at offset 0.
@@ -123,13 +117,11 @@ impl Heap<FixedSupply> {
 }
 
 /// Where a chunk lies, from where its area's segment lies.
-fn chunk_within(segment: *const u8, h: Handle) -> *const u8
-    requires least { LEAST_EXPONENT ≤ h.exp }
-    requires most { h.exp ≤ GREATEST_EXPONENT }
-    requires block { InBlock segment }
-    ensures { result ≡ segment +ₚ ((h.index % per h.exp) * size h.exp) }
+fn chunk_within(segment: *const u8, class: Class, index: u32) -> *const u8
+    requires { InBlock segment }
+    ensures { result ≡ segment +ₚ ((index % per class.exp) * size class.exp) }
 {
-    let at = h.index % per_area(h.exp) * size_of_class(h.exp);
+    let at = index % class.per_area() * class.size();
     unsafe { segment.byte_add(at as usize) }
 }
 
@@ -150,7 +142,7 @@ fn touch_range<S: Supply>(shelf: &mut Shelf<S>, from: u64, end: u64)
             return;
         };
         touch_byte(shelf, h, byte);
-        at = end.min(at + u64::from(size_of_class(h.exp) - byte));
+        at = end.min(at + u64::from(Class { exp: h.exp }.size() - byte));
     }
 }
 
@@ -169,7 +161,7 @@ fn touch_byte<S: Supply>(shelf: &mut Shelf<S>, h: Handle, at: u32)
     if len <= at {
         return;
     }
-    shelf.touch(h.exp, h.index);
+    shelf.touch(Class { exp: h.exp }, h.index);
 }
 
 /// The chunk, live or not, in which the byte at `offset` of the region lies, and the byte's number there. None past the segments of
@@ -178,19 +170,20 @@ fn chunk_around(quota: u32, offset: u64) -> Option<(Handle, u32)>
     requires least { 1 ≤ quota }
     requires most { quota ≤ MOST_QUOTA }
     ensures lies { IfSome result (λ r. LiesAt quota r.0.exp r.0.index r.1 offset) }
-    ensures past { IsNone result → 12 * quota * SEGMENT_BYTES ≤ offset }
+    ensures past { IsNone result → CLASSES * quota * SEGMENT_BYTES ≤ offset }
     ensures only { (e i at : ℕ) → LiesAt quota e i at offset → MatchOption result ⊥ (λ r.
         (r.0.exp ≡ e) × (r.0.index ≡ i) × (r.1 ≡ at)) }
 {
     let segment = offset / u64::from(SEGMENT_BYTES);
-    let class = segment / u64::from(quota);
-    if class >= CLASSES {
+    let rank = segment / u64::from(quota);
+    if rank >= CLASSES as u64 {
         return None;
     }
-    let exp = LEAST_EXPONENT + class as u8;
+    let exp = LEAST_EXPONENT + rank as u8;
+    let class = Class { exp };
     let ordinal = (segment % u64::from(quota)) as u32;
     let at = (offset % u64::from(SEGMENT_BYTES)) as u32;
-    let size = size_of_class(exp);
-    let index = ordinal * per_area(exp) + at / size;
+    let size = class.size();
+    let index = ordinal * class.per_area() + at / size;
     Some((Handle { exp, index }, at % size))
 }

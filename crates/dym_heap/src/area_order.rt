@@ -1,8 +1,7 @@
 //! The areas of a shelf in their order: one that is put in or taken out, and two of them at a time.
-ghost use Rattle.std.specs.Prelude.{◌≡◌, ◌≤◌, ◌<◌, None, ◌++◌, length, take, drop, slice_index_or, vec_len, vec_capacity};
+ghost use Rattle.std.specs.Prelude.{◌≡◌, ◌≤◌, ◌<◌, ◌++◌, length, take, drop, slice_index_or, vec_len, vec_capacity};
 ghost use Rattle.std.specs.List.{insert, remove};
-ghost use Rattle.dym_heap.specs.SizedAreas.{SizedAreaMeaning, IsCopiedOver};
-ghost use Rattle.dym_heap.specs.Shelves.{FitsIn};
+ghost use Rattle.dym_heap.specs.SizedAreas.{FitsAt, IsCopiedOver};
 
 use crate::chunk_location::ChunkLocation;
 use crate::sized_area::SizedArea;
@@ -60,12 +59,8 @@ pub(crate) fn copy_between<G: Segment>(
     requires source_area { source.sized_area < length sized_areas.old.items }
     requires target_area { target.sized_area < length sized_areas.old.items }
     requires some { 0 < len }
-    requires source { (d : SizedAreaMeaning) → FitsIn
-        (slice_index_or (slice_index_or sized_areas.old.items source.sized_area d).chunks
-        source.chunk None) len }
-    requires target { (d : SizedAreaMeaning) → FitsIn
-        (slice_index_or (slice_index_or sized_areas.old.items target.sized_area d).chunks
-        target.chunk None) len }
+    requires source { FitsAt sized_areas.old.items source.sized_area source.chunk len }
+    requires target { FitsAt sized_areas.old.items target.sized_area target.chunk len }
     ensures copied { IsCopiedOver sized_areas.old.items sized_areas.new.items
         source.sized_area source.chunk target.sized_area target.chunk len }
     ensures capacity { vec_capacity sized_areas.new ≡ vec_capacity sized_areas.old }
@@ -77,7 +72,7 @@ pub(crate) fn copy_between<G: Segment>(
     }
 }
 
-/// The same where the source stands before the target.
+/// Copies the first `len` bytes, of which there is at least one, of a chunk over those of a chunk of an area behind its own.
 fn copy_up<G: Segment>(
     sized_areas: &mut [SizedArea<G>],
     source: ChunkLocation,
@@ -87,12 +82,8 @@ fn copy_up<G: Segment>(
     requires before { source.sized_area < target.sized_area }
     requires within { target.sized_area < length sized_areas.old }
     requires some { 0 < len }
-    requires source { (d : SizedAreaMeaning) → FitsIn
-        (slice_index_or (slice_index_or sized_areas.old source.sized_area d).chunks
-        source.chunk None) len }
-    requires target { (d : SizedAreaMeaning) → FitsIn
-        (slice_index_or (slice_index_or sized_areas.old target.sized_area d).chunks
-        target.chunk None) len }
+    requires source { FitsAt sized_areas.old source.sized_area source.chunk len }
+    requires target { FitsAt sized_areas.old target.sized_area target.chunk len }
     ensures { IsCopiedOver sized_areas.old sized_areas.new
         source.sized_area source.chunk target.sized_area target.chunk len }
 {
@@ -101,7 +92,7 @@ fn copy_up<G: Segment>(
     sized_area.copy_from(target.chunk, &low[source.sized_area], source.chunk, len);
 }
 
-/// The same where the target stands before the source.
+/// Copies the first `len` bytes, of which there is at least one, of a chunk over those of a chunk of an area before its own.
 fn copy_down<G: Segment>(
     sized_areas: &mut [SizedArea<G>],
     source: ChunkLocation,
@@ -111,12 +102,8 @@ fn copy_down<G: Segment>(
     requires before { target.sized_area < source.sized_area }
     requires within { source.sized_area < length sized_areas.old }
     requires some { 0 < len }
-    requires source { (d : SizedAreaMeaning) → FitsIn
-        (slice_index_or (slice_index_or sized_areas.old source.sized_area d).chunks
-        source.chunk None) len }
-    requires target { (d : SizedAreaMeaning) → FitsIn
-        (slice_index_or (slice_index_or sized_areas.old target.sized_area d).chunks
-        target.chunk None) len }
+    requires source { FitsAt sized_areas.old source.sized_area source.chunk len }
+    requires target { FitsAt sized_areas.old target.sized_area target.chunk len }
     ensures { IsCopiedOver sized_areas.old sized_areas.new
         source.sized_area source.chunk target.sized_area target.chunk len }
 {

@@ -2,7 +2,7 @@
 ghost use Rattle.dym_heap.specs.RecordLoads.{areas_of};
 
 use crate::heap::Heap;
-use dym_base::Version;
+use dym_base::{Class, Version};
 use dym_bits::Bits;
 use dym_pack::Areas;
 use dym_quota::Supply;
@@ -18,8 +18,8 @@ impl<S: Supply> Areas for Heap<S> {
         self.shelf.held()
     }
 
-    fn area_exp(&self, k: u32) -> u8 {
-        self.shelf.sized_area(k).exp()
+    fn area_class(&self, k: u32) -> Class {
+        self.shelf.sized_area(k).class()
     }
 
     fn area_ordinal(&self, k: u32) -> u32 {

@@ -1,5 +1,5 @@
 //! Chunks of a shelf by their handles.
-ghost use Rattle.std.specs.Prelude.{IfOk, ◌≡◌, ℕ, ◌+◌, ◌≤◌, ◌<◌, true, None, Some, List, length, take, replicate, Ok, MatchOption, IsSome, is_some, MatchBool, option_map};
+ghost use Rattle.std.specs.Prelude.{IfOk, ◌≡◌, ◌+◌, ◌≤◌, ◌<◌, true, None, Some, length, take, replicate, Ok, MatchOption, IsSome, is_some, MatchBool, option_map};
 ghost use Rattle.std.specs.FinMap.{get};
 ghost use Rattle.std.specs.FinSet.{contains};
 ghost use Rattle.dym_base.specs.Numbers.{number, IsClass};
@@ -10,13 +10,12 @@ ghost use Rattle.dym_base.specs.declared.limits.TheConstants.{LEAST_EXPONENT, GR
 ghost use Rattle.dym_heap.specs.ChunkLends.{check_answer};
 ghost use Rattle.dym_heap.specs.Meaning.{IsSizeOf};
 ghost use Rattle.dym_heap.specs.Replies.{found_reply};
-ghost use Rattle.dym_heap.specs.Shelves.{ShelfMeaning, IsTidy, Keeps, with_put, FitsIn};
+ghost use Rattle.dym_heap.specs.Shelves.{IsTidy, Keeps, with_put, FitsIn};
 
 use crate::found::Found;
 use crate::fresh_chunk::take_fresh;
 use crate::shelf::Shelf;
-use dym_base::limits::{GREATEST_EXPONENT, LEAST_EXPONENT};
-use dym_base::{Handle, Refusal, Version};
+use dym_base::{Class, Handle, Refusal, Version};
 use dym_quota::Supply;
 
 /// A chunk's length in bytes, and None where it isn't live.
@@ -25,13 +24,10 @@ pub(crate) fn len_of_handle<S: Supply>(shelf: &Shelf<S>, h: Handle) -> Option<u3
     ensures len { result ≡ option_map length (get shelf.now.state.live (key h)) }
     ensures class { IsSome result → IsClass h.exp }
 {
-    if h.exp < LEAST_EXPONENT {
+    if !h.has_class() {
         return None;
     }
-    if h.exp > GREATEST_EXPONENT {
-        return None;
-    }
-    shelf.chunk_len(h.exp, h.index)
+    shelf.chunk_len(Class { exp: h.exp }, h.index)
 }
 
 /// Whether a chunk has a byte: a refusal where it isn't live or has none.
@@ -56,28 +52,28 @@ pub(crate) fn bytes_of_handle<S: Supply>(shelf: &Shelf<S>, h: Handle) -> Option<
     ensures { MatchOption result (get shelf.now.state.live (key h) ≡ None)
         (λ bytes. get shelf.now.state.live (key h) ≡ Some bytes.now) }
 {
-    if h.exp < LEAST_EXPONENT {
+    if !h.has_class() {
         return None;
     }
-    if h.exp > GREATEST_EXPONENT {
-        return None;
-    }
-    shelf.bytes(h.exp, h.index)
+    shelf.bytes(Class { exp: h.exp }, h.index)
 }
 
 /// Frees a chunk that is live, and gives back the areas that its class needs no more.
-pub(crate) fn free_chunk<S: Supply>(shelf: &mut Shelf<S>, context: &S::Context, exp: u8, index: u32)
-    requires least { LEAST_EXPONENT ≤ exp }
-    requires most { exp ≤ GREATEST_EXPONENT }
+pub(crate) fn free_chunk<S: Supply>(
+    shelf: &mut Shelf<S>,
+    context: &S::Context,
+    class: Class,
+    index: u32,
+)
     requires tidy { IsTidy shelf.old }
-    requires live { IsSome (get shelf.old.state.live (number exp index)) }
+    requires live { IsSome (get shelf.old.state.live (number class.exp index)) }
     ensures after { shelf.new.state
-        ≡ without_chunk shelf.old.state (number exp index) }
+        ≡ without_chunk shelf.old.state (number class.exp index) }
     ensures keeps { Keeps shelf.old shelf.new }
     ensures tidy { IsTidy shelf.new }
 {
-    let _used = shelf.release(exp, index);
-    shelf.trim(context, exp);
+    let _used = shelf.release(class, index);
+    shelf.trim(context, class);
 }
 
 /// Frees a chunk, and gives back the areas that its class needs no more. False where it isn't live, and nothing changes then.
@@ -89,66 +85,59 @@ pub(crate) fn free_handle<S: Supply>(shelf: &mut Shelf<S>, context: &S::Context,
     ensures keeps { Keeps shelf.old shelf.new }
     ensures tidy { IsTidy shelf.new }
 {
-    if h.exp < LEAST_EXPONENT {
+    if !h.has_class() {
         return false;
     }
-    if h.exp > GREATEST_EXPONENT {
+    if !shelf.release(Class { exp: h.exp }, h.index) {
         return false;
     }
-    if !shelf.release(h.exp, h.index) {
-        return false;
-    }
-    shelf.trim(context, h.exp);
+    shelf.trim(context, Class { exp: h.exp });
     true
 }
 
 /// Writes at least one byte into a chunk that is live.
 pub(crate) fn write_chunk<S: Supply>(
     shelf: &mut Shelf<S>,
-    exp: u8,
+    class: Class,
     index: u32,
     at: u32,
     bytes: &[u8],
 )
-    requires least { LEAST_EXPONENT ≤ exp }
-    requires most { exp ≤ GREATEST_EXPONENT }
     requires tidy { IsTidy shelf.old }
     requires some { 0 < length bytes.now }
-    requires within { FitsIn (get shelf.old.state.live (number exp index))
+    requires within { FitsIn (get shelf.old.state.live (number class.exp index))
         (at + length bytes.now) }
-    ensures after { MatchOption (get shelf.old.state.live (number exp index)) ⊥
+    ensures after { MatchOption (get shelf.old.state.live (number class.exp index)) ⊥
         (λ old. shelf.new.state
-        ≡ with_chunk shelf.old.state (number exp index) (splice at bytes.now old)) }
+        ≡ with_chunk shelf.old.state (number class.exp index) (splice at bytes.now old)) }
     ensures keeps { Keeps shelf.old shelf.new }
     ensures held { shelf.new.held_ids ≡ shelf.old.held_ids }
     ensures tidy { IsTidy shelf.new }
 {
-    shelf.write(exp, index, at, bytes);
+    shelf.write(class, index, at, bytes);
 }
 
 /// Makes at least one byte of a chunk that is live `byte`.
 pub(crate) fn fill_chunk<S: Supply>(
     shelf: &mut Shelf<S>,
-    exp: u8,
+    class: Class,
     index: u32,
     at: u32,
     len: u32,
     byte: u8,
 )
-    requires least { LEAST_EXPONENT ≤ exp }
-    requires most { exp ≤ GREATEST_EXPONENT }
     requires tidy { IsTidy shelf.old }
     requires some { 0 < len }
-    requires within { FitsIn (get shelf.old.state.live (number exp index)) (at + len) }
-    ensures after { MatchOption (get shelf.old.state.live (number exp index)) ⊥
+    requires within { FitsIn (get shelf.old.state.live (number class.exp index)) (at + len) }
+    ensures after { MatchOption (get shelf.old.state.live (number class.exp index)) ⊥
         (λ old. shelf.new.state
-        ≡ with_chunk shelf.old.state (number exp index)
+        ≡ with_chunk shelf.old.state (number class.exp index)
         (splice at (replicate len byte) old)) }
     ensures keeps { Keeps shelf.old shelf.new }
     ensures held { shelf.new.held_ids ≡ shelf.old.held_ids }
     ensures tidy { IsTidy shelf.new }
 {
-    shelf.fill(exp, index, at, len, byte);
+    shelf.fill(class, index, at, len, byte);
 }
 
 /// What a number in a chunk's bytes names.
@@ -189,7 +178,7 @@ pub(crate) fn resize_chunk<S: Supply>(shelf: &mut Shelf<S>, h: Handle, old: u32,
     if len == old {
         return;
     }
-    shelf.resize(h.exp, h.index, len);
+    shelf.resize(Class { exp: h.exp }, h.index, len);
 }
 
 /// Copies the first `len` bytes of a chunk over those of a chunk of another class.
@@ -219,32 +208,35 @@ pub(crate) fn move_chunk<S: Supply>(
     context: &S::Context,
     from: Handle,
     old: u32,
-    exp: u8,
+    class: Class,
     len: u32,
 ) -> Option<u32>
     requires from_class { IsClass from.exp }
-    requires to_class { IsClass exp }
-    requires apart { from.exp ≡ exp → ⊥ }
+    requires apart { from.exp ≡ class.exp → ⊥ }
     requires tidy { IsTidy shelf.old }
-    requires sized { IsSizeOf shelf.old.version exp len }
+    requires sized { IsSizeOf shelf.old.version class.exp len }
     requires live { MatchOption (get shelf.old.state.live (key from)) ⊥
         (λ bytes. length bytes ≡ old) }
     ensures answer { MatchOption result
-        (shelf.old.quota < held_with_fresh shelf.old.state.live exp)
-        (λ i. (held_with_fresh shelf.old.state.live exp ≤ shelf.old.quota)
-        × (i ≡ fresh shelf.old.state.live exp)) }
+        (shelf.old.quota < held_with_fresh shelf.old.state.live class.exp)
+        (λ i. (held_with_fresh shelf.old.state.live class.exp ≤ shelf.old.quota)
+        × (i ≡ fresh shelf.old.state.live class.exp)) }
     ensures after { MatchOption result (shelf.new ≡ shelf.old)
         (λ i. MatchOption (get shelf.old.state.live (key from)) ⊥
         (λ bytes. shelf.new.state
-        ≡ without_chunk (with_chunk shelf.old.state (number exp i) (fitted len bytes))
+        ≡ without_chunk (with_chunk shelf.old.state (number class.exp i) (fitted len bytes))
         (key from))) }
     ensures keeps { Keeps shelf.old shelf.new }
     ensures tidy { IsTidy shelf.new }
 {
-    let Some(index) = take_fresh(shelf, context, exp, len) else {
+    let Some(index) = take_fresh(shelf, context, class, len) else {
         return None;
     };
-    copy_chunk(shelf, from, Handle { exp, index }, old.min(len));
-    free_chunk(shelf, context, from.exp, from.index);
+    let to = Handle {
+        exp: class.exp,
+        index,
+    };
+    copy_chunk(shelf, from, to, old.min(len));
+    free_chunk(shelf, context, Class { exp: from.exp }, from.index);
     Some(index)
 }

@@ -12,7 +12,6 @@ ghost use Rattle.dym_heap.specs.Bodies.{IsBodyOf, IsBody, HoldsLoaded, IsLoadedR
 use crate::lengths::Lengths;
 use dym_area::Area;
 use dym_base::limits::MOST_CHUNKS;
-use dym_base::size_of_class;
 use dym_bits::Bits;
 use dym_region::Segment;
 
@@ -29,7 +28,7 @@ pub(crate) fn load_runs<G: Segment>(area: &mut Area<G>, packed: &Bits, wanted: &
         → HoldsLoaded area.old area.new wanted.now f }
     ensures valid { IsValidArea area.new }
 {
-    let size = size_of_class(area.exp());
+    let size = area.class().size();
     let mut from = 0;
     let mut at = 0;
     while let Some(start) = packed.next_set(from) {
@@ -51,7 +50,7 @@ fn load_range<G: Segment>(area: &mut Area<G>, wanted: &Bits, first: u32, end: u3
         (λ i. part_of bytes.now ((i - first) * size area.old.exponent) (size area.old.exponent)) }
     ensures valid { IsValidArea area.new }
 {
-    let size = size_of_class(area.exp());
+    let size = area.class().size();
     let mut from = first;
     while let Some(start) = wanted.next_set(from) {
         if start >= end {
@@ -65,8 +64,8 @@ fn load_range<G: Segment>(area: &mut Area<G>, wanted: &Bits, first: u32, end: u3
     }
 }
 
-/// The same of a body of version 2, with their lengths. Of the chunks that aren't wanted the lengths alone are read, and behind the
-/// last wanted one nothing is.
+/// Puts the wanted ones of the chunks that a body of version 2 packs over those of an area, and notes their lengths. Of the chunks
+/// that aren't wanted the lengths alone are read, and behind the last wanted one nothing is.
 pub(crate) fn load_sized<G: Segment>(
     area: &mut Area<G>,
     lengths: &mut Lengths,
@@ -79,7 +78,7 @@ pub(crate) fn load_sized<G: Segment>(
     requires valid { IsValidArea area.old }
     ensures loaded { (f : ℕ → List ℕ) → IsBodyOf Two area.old.exponent packed.now body.now f
         → HoldsLoaded area.old area.new wanted.now f }
-    ensures with_length { (f : ℕ → List ℕ) → IsBodyOf Two area.old.exponent packed.now body.now f
+    ensures noted { (f : ℕ → List ℕ) → IsBodyOf Two area.old.exponent packed.now body.now f
         → NotesLoaded lengths.old.table.items lengths.new.table.items wanted.now f }
     ensures valid { IsValidArea area.new }
 {
@@ -139,7 +138,7 @@ fn load_chunk<G: Segment>(area: &mut Area<G>, lengths: &mut Lengths, i: u32, byt
     requires fits { length bytes.now ≤ size area.old.exponent }
     requires valid { IsValidArea area.old }
     ensures loaded { area.new ≡ with_loaded area.old i bytes.now }
-    ensures with_length { lengths.new.table.items
+    ensures noted { lengths.new.table.items
         ≡ slice_set lengths.old.table.items i (length bytes.now) }
     ensures valid { IsValidArea area.new }
 {

@@ -1,14 +1,16 @@
 //! Where a chunk lies among the areas of a shelf.
-ghost use Rattle.std.specs.Prelude.{◌≡◌, ℕ, ◌+◌, ◌≤◌, ◌<◌, ◌/◌, ◌%◌, true, Bool, List, length, slice_index, slice_set, MatchOption, IsSome, is_some, vec_len, vec_capacity, if◌then◌else◌};
-ghost use Rattle.dym_base.specs.Numbers.{per};
-ghost use Rattle.dym_base.specs.declared.limits.TheConstants.{MOST_CHUNKS, LEAST_EXPONENT, GREATEST_EXPONENT, MOST_QUOTA};
-ghost use Rattle.dym_heap.specs.Chunks.{rank};
+ghost use Rattle.std.specs.Prelude.{◌≡◌, ℕ, ◌+◌, ◌≤◌, ◌<◌, ◌/◌, ◌%◌, true, length, slice_index, slice_set, MatchOption, IsSome, is_some, vec_len, vec_capacity, if◌then◌else◌};
+ghost use Rattle.dym_base.specs.Numbers.{per, rank};
+ghost use Rattle.dym_base.specs.declared.limits.TheConstants.{MOST_CHUNKS};
 ghost use Rattle.dym_heap.specs.Arrangement.{marks_of_class, Shifts, Unshifts};
 
 use crate::lengths::{Lengths, SpareLengths};
-use dym_base::limits::LEAST_EXPONENT;
-use dym_base::per_area;
+use dym_base::Class;
+use dym_base::limits::{CLASSES, MOST_QUOTA};
 use dym_bits::Bits;
+
+/// Where the areas of each class begin, and where those of the last one end.
+pub(crate) const STARTS: usize = CLASSES + 1;
 
 /// An area, by its place among all areas and by its ordinal in its class, and a chunk of it.
 #[derive(Drop)]
@@ -18,62 +20,51 @@ pub(crate) struct ChunkLocation {
     pub(crate) chunk: u32,
 }
 
-/// The place of a class among the twelve.
-pub(crate) fn class_index(exp: u8) -> usize
-    requires least { LEAST_EXPONENT ≤ exp }
-    requires most { exp ≤ GREATEST_EXPONENT }
-    ensures { result ≡ rank exp }
-{
-    usize::from(exp - LEAST_EXPONENT)
-}
-
 /// Where the chunk of an index lies, and None past the areas of its class.
-pub(crate) fn find(starts: &[u32; 13], exp: u8, index: u32) -> Option<ChunkLocation>
-    requires least { LEAST_EXPONENT ≤ exp }
-    requires most { exp ≤ GREATEST_EXPONENT }
-    requires rising { slice_index starts.now (rank exp)
-        ≤ slice_index starts.now (rank exp + 1) }
-    ensures { MatchOption result (slice_index starts.now (rank exp + 1)
-        ≤ slice_index starts.now (rank exp) + index / per exp)
-        (λ location. (location.ordinal ≡ index / per exp) × (location.chunk ≡ index % per exp)
-        × (location.sized_area ≡ slice_index starts.now (rank exp) + index / per exp)
-        × (slice_index starts.now (rank exp) + index / per exp
-        < slice_index starts.now (rank exp + 1))) }
+pub(crate) fn find(starts: &[u32; STARTS], class: Class, index: u32) -> Option<ChunkLocation>
+    requires { slice_index starts.now (rank class.exp)
+        ≤ slice_index starts.now (rank class.exp + 1) }
+    ensures { MatchOption result (slice_index starts.now (rank class.exp + 1)
+        ≤ slice_index starts.now (rank class.exp) + index / per class.exp)
+        (λ location. (location.ordinal ≡ index / per class.exp) × (location.chunk ≡ index % per class.exp)
+        × (location.sized_area ≡ slice_index starts.now (rank class.exp) + index / per class.exp)
+        × (slice_index starts.now (rank class.exp) + index / per class.exp
+        < slice_index starts.now (rank class.exp + 1))) }
 {
-    let class = class_index(exp);
-    let per = per_area(exp);
+    let rank = class.rank();
+    let per = class.per_area();
     let ordinal = index / per;
-    if ordinal >= starts[class + 1] - starts[class] {
+    if ordinal >= starts[rank + 1] - starts[rank] {
         return None;
     }
     Some(ChunkLocation {
-        sized_area: (starts[class] + ordinal) as usize,
+        sized_area: (starts[rank] + ordinal) as usize,
         ordinal,
         chunk: index % per,
     })
 }
 
 /// Marks an area that is full now.
-pub(crate) fn mark_full(full: &mut Vec<Bits>, class: usize, ordinal: u32, is_full: bool)
-    requires class { class < length full.old.items }
+pub(crate) fn mark_full(full: &mut Vec<Bits>, rank: usize, ordinal: u32, is_full: bool)
+    requires rank { rank < length full.old.items }
     requires ordinal { ordinal < MOST_CHUNKS }
-    ensures { full.new.items ≡ (if is_full then slice_set full.old.items class
-        (slice_set (marks_of_class full.old.items class) ordinal true) else full.old.items) }
+    ensures { full.new.items ≡ (if is_full then slice_set full.old.items rank
+        (slice_set (marks_of_class full.old.items rank) ordinal true) else full.old.items) }
 {
     if is_full {
-        let marks = &mut full[class];
+        let marks = &mut full[rank];
         marks.set(ordinal);
     }
 }
 
 /// Marks whether an area is full.
-pub(crate) fn set_mark(full: &mut Vec<Bits>, class: usize, ordinal: u32, is_full: bool)
-    requires class { class < length full.old.items }
+pub(crate) fn set_mark(full: &mut Vec<Bits>, rank: usize, ordinal: u32, is_full: bool)
+    requires rank { rank < length full.old.items }
     requires ordinal { ordinal < MOST_CHUNKS }
-    ensures { full.new.items ≡ slice_set full.old.items class
-        (slice_set (marks_of_class full.old.items class) ordinal is_full) }
+    ensures { full.new.items ≡ slice_set full.old.items rank
+        (slice_set (marks_of_class full.old.items rank) ordinal is_full) }
 {
-    let marks = &mut full[class];
+    let marks = &mut full[rank];
     if is_full {
         marks.set(ordinal);
     } else {
@@ -82,23 +73,23 @@ pub(crate) fn set_mark(full: &mut Vec<Bits>, class: usize, ordinal: u32, is_full
 }
 
 /// Moves the starts past a class one up.
-pub(crate) fn shift_up(starts: &mut [u32; 13], class: usize)
-    requires class { class < 12 }
+pub(crate) fn shift_up(starts: &mut [u32; STARTS], rank: usize)
+    requires rank { rank < CLASSES }
     requires small { (d : ℕ) → slice_index starts.old d ≤ MOST_QUOTA }
-    ensures { Shifts starts.old starts.new class }
+    ensures { Shifts starts.old starts.new rank }
 {
-    for d in class + 1..13 {
+    for d in rank + 1..STARTS {
         starts[d] += 1;
     }
 }
 
 /// Moves the starts past a class one down.
-pub(crate) fn shift_down(starts: &mut [u32; 13], class: usize)
-    requires class { class < 12 }
-    requires some { (d : ℕ) → class < d → d < 13 → 1 ≤ slice_index starts.old d }
-    ensures { Unshifts starts.old starts.new class }
+pub(crate) fn shift_down(starts: &mut [u32; STARTS], rank: usize)
+    requires rank { rank < CLASSES }
+    requires some { (d : ℕ) → rank < d → d < STARTS → 1 ≤ slice_index starts.old d }
+    ensures { Unshifts starts.old starts.new rank }
 {
-    for d in class + 1..13 {
+    for d in rank + 1..STARTS {
         starts[d] -= 1;
     }
 }

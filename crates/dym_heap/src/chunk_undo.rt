@@ -12,7 +12,7 @@ ghost use Rattle.dym_heap.specs.ShapeSteps.{HasRoomFor, ReachesArea};
 use crate::chunk::free_handle;
 use crate::shelf::Shelf;
 use dym_base::limits::{GREATEST_EXPONENT, LEAST_EXPONENT};
-use dym_base::{Handle, per_area};
+use dym_base::{Class, Handle};
 use dym_quota::Supply;
 
 /// A chunk is dead, whether it was live or not. Its class gives back the areas that it needs no
@@ -45,22 +45,21 @@ pub(crate) fn put_chunk_back<S: Supply>(
     ensures keeps { Keeps shelf.old shelf.new }
     ensures tidy { IsTidy shelf.new }
 {
-    reach_area(shelf, context, h.exp, h.index / per_area(h.exp));
-    shelf.put_back(h.exp, h.index, bytes);
+    let class = Class { exp: h.exp };
+    reach_area(shelf, context, class, h.index / class.per_area());
+    shelf.put_back(class, h.index, bytes);
 }
 
 /// Takes areas for a class until it has that of an ordinal.
-fn reach_area<S: Supply>(shelf: &mut Shelf<S>, context: &S::Context, exp: u8, ordinal: u32)
-    requires least { LEAST_EXPONENT ≤ exp }
-    requires most { exp ≤ GREATEST_EXPONENT }
+fn reach_area<S: Supply>(shelf: &mut Shelf<S>, context: &S::Context, class: Class, ordinal: u32)
     requires valid_shelf { IsValidShelf shelf.old }
-    requires within { HasRoomFor shelf.old exp ordinal }
-    ensures reached { ReachesArea shelf.old shelf.new exp ordinal }
+    requires within { HasRoomFor shelf.old class.exp ordinal }
+    ensures reached { ReachesArea shelf.old shelf.new class.exp ordinal }
     ensures keeps { Keeps shelf.old shelf.new }
     ensures valid_shelf { IsValidShelf shelf.new }
 {
-    while shelf.areas(exp) <= ordinal {
-        shelf.add_area(context, exp);
+    while shelf.areas(class) <= ordinal {
+        shelf.add_area(context, class);
     }
 }
 
@@ -72,11 +71,8 @@ pub(crate) fn forget_chunk<S: Supply>(shelf: &mut Shelf<S>, h: Handle)
     ensures held { shelf.new.held_ids ≡ shelf.old.held_ids }
     ensures tidy { IsTidy shelf.new }
 {
-    if h.exp < LEAST_EXPONENT {
+    if !h.has_class() {
         return;
     }
-    if h.exp > GREATEST_EXPONENT {
-        return;
-    }
-    shelf.forget(h.exp, h.index);
+    shelf.forget(Class { exp: h.exp }, h.index);
 }

@@ -1,5 +1,5 @@
 //! The heap.
-ghost use Rattle.std.specs.Prelude.{◌≡◌, ℕ, ◌+◌, ◌-◌, ◌^◌, false, ◌≤◌, ◌<◌, true, false, None, Some, [], List, length, replicate, IsSome, IsTrue, MatchOption, OnErr, IfOk, IfErr, is_some, option_map};
+ghost use Rattle.std.specs.Prelude.{◌≡◌, ℕ, ◌+◌, ◌-◌, ◌^◌, false, ◌≤◌, ◌<◌, false, None, Some, [], List, length, IsTrue, MatchOption, OnErr, IfOk, IfErr, is_some, option_map};
 ghost use Rattle.std.specs.FinMap.{get, contains_key, insert};
 ghost use Rattle.std.specs.FinSet as FinSet;
 ghost use Rattle.dym_base.specs.HeapStep.{key, without_chunk};
@@ -33,7 +33,7 @@ use crate::record_load::load_record;
 use crate::record_shape::shape_shelf;
 use crate::shelf::Shelf;
 use dym_base::limits::MOST_QUOTA;
-use dym_base::{Handle, Refusal, Version, class_of, size_of_class};
+use dym_base::{Class, Handle, Refusal, Version};
 use dym_pack::Record;
 use dym_quota::Supply;
 use std::alloc::{AllocError, Global};
@@ -153,12 +153,15 @@ impl<S: Supply> Heap<S> {
         ensures sound { IsSound self.new }
     {
         let version = self.shelf.version();
-        let Some(exp) = class_of(len) else {
+        let Some(class) = Class::of_len(len) else {
             return Err(Refusal::TooLarge);
         };
-        let bytes = new_len(version, exp, len);
-        match take_fresh(&mut self.shelf, context, exp, bytes) {
-            Some(index) => Ok(Handle { exp, index }),
+        let bytes = new_len(version, class, len);
+        match take_fresh(&mut self.shelf, context, class, bytes) {
+            Some(index) => Ok(Handle {
+                exp: class.exp,
+                index,
+            }),
             None => Err(Refusal::Quota),
         }
     }
@@ -220,16 +223,19 @@ impl<S: Supply> Heap<S> {
         let Some(old) = len_of_handle(&self.shelf, h) else {
             return Err(Refusal::Dead);
         };
-        let Some(exp) = class_of(len) else {
+        let Some(class) = Class::of_len(len) else {
             return Err(Refusal::TooLarge);
         };
-        if exp == h.exp {
+        if class.exp == h.exp {
             resize_chunk(&mut self.shelf, h, old, len as u32);
             return Ok(Some(h));
         }
-        let bytes = new_len(self.shelf.version(), exp, len);
-        match move_chunk(&mut self.shelf, context, h, old, exp, bytes) {
-            Some(index) => Ok(Some(Handle { exp, index })),
+        let bytes = new_len(self.shelf.version(), class, len);
+        match move_chunk(&mut self.shelf, context, h, old, class, bytes) {
+            Some(index) => Ok(Some(Handle {
+                exp: class.exp,
+                index,
+            })),
             None => Err(Refusal::Quota),
         }
     }
@@ -268,7 +274,7 @@ impl<S: Supply> Heap<S> {
         if bytes.is_empty() {
             return Ok(());
         }
-        write_chunk(&mut self.shelf, h.exp, h.index, at, bytes);
+        write_chunk(&mut self.shelf, Class { exp: h.exp }, h.index, at, bytes);
         Ok(())
     }
 
@@ -283,7 +289,7 @@ impl<S: Supply> Heap<S> {
         ensures value { get self.old.state.live (key h) ≡ Some result.now }
         ensures sound { (ws : List ℕ) → IsSound (heap_lent self.old h ws) }
     {
-        self.shelf.bytes_mut(h.exp, h.index)
+        self.shelf.bytes_mut(Class { exp: h.exp }, h.index)
     }
 
     /// Whether a chunk has a byte: `Dead` where it isn't live, and `Range` where it has none.
@@ -311,7 +317,14 @@ impl<S: Supply> Heap<S> {
         if len == 0 {
             return Ok(());
         }
-        fill_chunk(&mut self.shelf, h.exp, h.index, at, len, byte);
+        fill_chunk(
+            &mut self.shelf,
+            Class { exp: h.exp },
+            h.index,
+            at,
+            len,
+            byte,
+        );
         Ok(())
     }
 
@@ -337,7 +350,8 @@ impl<S: Supply> Heap<S> {
             return Err(Refusal::Range);
         }
         let mut bytes = [0; 8];
-        self.shelf.read(h.exp, h.index, at, &mut bytes);
+        self.shelf
+            .read(Class { exp: h.exp }, h.index, at, &mut bytes);
         Ok(find_number(&self.shelf, u64::from_le_bytes(bytes)))
     }
 
@@ -546,14 +560,12 @@ impl<S: Supply> Heap<S> {
 }
 
 /// The bytes of a new chunk of a class for which `len` were asked.
-fn new_len(version: Version, exp: u8, len: u64) -> u32
-    requires least { LEAST_EXPONENT ≤ exp }
-    requires most { exp ≤ GREATEST_EXPONENT }
+fn new_len(version: Version, class: Class, len: u64) -> u32
     requires small { len < 2 ^ 32 }
-    ensures { result ≡ Rattle.dym_base.specs.HeapStep.new_len version exp len }
+    ensures { result ≡ Rattle.dym_base.specs.HeapStep.new_len version class.exp len }
 {
     match version {
-        Version::One => size_of_class(exp),
+        Version::One => class.size(),
         Version::Two => len as u32,
     }
 }

@@ -8,8 +8,8 @@ ghost use Rattle.dym_heap.specs.Shelves.{IsTidy};
 ghost use Rattle.dym_heap.specs.Replies.{after_key, IsNextLive};
 
 use crate::shelf::Shelf;
-use dym_base::Handle;
 use dym_base::limits::{GREATEST_EXPONENT, LEAST_EXPONENT};
+use dym_base::{Class, Handle};
 use dym_quota::Supply;
 
 /// The least live chunk above a handle, or the least of all.
@@ -21,7 +21,7 @@ pub(crate) fn next_from<S: Supply>(shelf: &Shelf<S>, after: Option<Handle>) -> O
 {
     let (mut exp, mut from) = start_of(after);
     while exp <= GREATEST_EXPONENT {
-        if let Some(index) = shelf.next_used(exp, from) {
+        if let Some(index) = shelf.next_used(Class { exp }, from) {
             return Some(Handle { exp, index });
         }
         exp += 1;
@@ -36,7 +36,7 @@ fn start_of(after: Option<Handle>) -> (u8, u64)
     ensures fits { result.1 ≤ 2 ^ 32 }
     ensures start { after_key after ≤ number result.0 result.1 }
     ensures near { (number result.0 result.1 ≡ after_key after)
-        ⊎ (number result.0 result.1 ≡ number 5 0) }
+        ⊎ (number result.0 result.1 ≡ number LEAST_EXPONENT 0) }
 {
     let Some(h) = after else {
         return (LEAST_EXPONENT, 0);

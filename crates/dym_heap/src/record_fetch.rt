@@ -24,7 +24,7 @@ pub(crate) fn mark_record<S: Supply>(shelf: &mut Shelf<S>, rec: &Record)
     }
 }
 
-/// The same of area `k` of the record.
+/// Each chunk in use of area `k` of the record that the record packs is touched.
 fn mark_area_of<S: Supply>(shelf: &mut Shelf<S>, rec: &Record, k: u32)
     requires area { OfLog rec.now (λ log. k < held log.copy) }
     requires recorded { IsRecord rec.now }
@@ -38,7 +38,7 @@ fn mark_area_of<S: Supply>(shelf: &mut Shelf<S>, rec: &Record, k: u32)
     if rec.body(k).is_empty() {
         return;
     }
-    shelf.mark_area(rec.area_exp(k), rec.area_ordinal(k), &rec.packed_bits(k));
+    shelf.mark_area(rec.area_class(k), rec.area_ordinal(k), &rec.packed_bits(k));
 }
 
 /// Writes the bytes, and in version 2 the length, of each touched chunk that the record packs. They are touched no more.
@@ -56,7 +56,8 @@ pub(crate) fn fetch_record<S: Supply>(shelf: &mut Shelf<S>, rec: &Record)
     }
 }
 
-/// The same of area `k` of the record.
+/// Writes the bytes, and in version 2 the length, of each touched chunk of area `k` that the record packs. They are touched no
+/// more.
 fn fetch_area_of<S: Supply>(shelf: &mut Shelf<S>, rec: &Record, k: u32)
     requires area { OfLog rec.now (λ log. k < held log.copy) }
     requires recorded { IsRecord rec.now }
@@ -73,7 +74,7 @@ fn fetch_area_of<S: Supply>(shelf: &mut Shelf<S>, rec: &Record, k: u32)
         return;
     }
     shelf.fetch_area(
-        rec.area_exp(k),
+        rec.area_class(k),
         rec.area_ordinal(k),
         &rec.packed_bits(k),
         body,

@@ -19,9 +19,9 @@ pub(crate) fn load_record<S: Supply>(shelf: &mut Shelf<S>, rec: &Record)
     ensures tidy { IsTidy shelf.new }
 {
     for k in 0..rec.area_count() {
-        let exp = rec.area_exp(k);
+        let class = rec.area_class(k);
         let ordinal = rec.area_ordinal(k);
         let packed = rec.packed_bits(k);
-        shelf.load_area(exp, ordinal, &packed, rec.body(k));
+        shelf.load_area(class, ordinal, &packed, rec.body(k));
     }
 }

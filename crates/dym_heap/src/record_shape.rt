@@ -1,16 +1,15 @@
 //! A shelf gets the areas and the use bits of a record.
 ghost use Rattle.std.specs.Prelude.{◌≡◌, ℕ, ◌/◌, ◌≤◌, ◌<◌, slice_index, sum};
 ghost use Rattle.std.specs.FinMap.{contains_key};
-ghost use Rattle.dym_base.specs.Numbers.{per, exponent_of, index_of, IsClass};
+ghost use Rattle.dym_base.specs.Numbers.{per, rank, exponent_of, index_of, IsClass};
 ghost use Rattle.dym_base.specs.Heaps.{areas, held};
 ghost use Rattle.dym_pack.specs.ParsedAreas.{OfLog, IsRecord};
-ghost use Rattle.dym_heap.specs.Chunks.{rank};
 ghost use Rattle.dym_heap.specs.Shelves.{IsValidShelf, IsTidy, Keeps, count_of};
 ghost use Rattle.dym_heap.specs.Fetches.{heap_chunk, IsReshaped, IsAreaChange};
 
-use crate::chunk_location::class_index;
 use crate::shelf::Shelf;
-use dym_base::limits::{GREATEST_EXPONENT, LEAST_EXPONENT};
+use dym_base::Class;
+use dym_base::limits::{CLASSES, GREATEST_EXPONENT, LEAST_EXPONENT};
 use dym_pack::Record;
 use dym_quota::Supply;
 
@@ -32,22 +31,22 @@ pub(crate) fn shape_shelf<S: Supply>(shelf: &mut Shelf<S>, context: &S::Context,
 }
 
 /// How many areas of each class a record has.
-fn count_areas(rec: &Record) -> [u32; 12]
+fn count_areas(rec: &Record) -> [u32; CLASSES]
     ensures are { OfLog rec.now (λ log.
         (e : ℕ) → IsClass e → slice_index result (rank e) ≡ areas log.copy e) }
     ensures total { (quota : ℕ) → OfLog rec.now (λ log. held log.copy ≤ quota)
         → sum result ≤ quota }
 {
-    let mut counts = [0; 12];
+    let mut counts = [0; CLASSES];
     for k in 0..rec.area_count() {
-        let class = class_index(rec.area_exp(k));
-        counts[class] = counts[class].max(rec.area_ordinal(k) + 1);
+        let rank = rec.area_class(k).rank();
+        counts[rank] = counts[rank].max(rec.area_ordinal(k) + 1);
     }
     counts
 }
 
 /// Gives back the last areas of each class that has more than it should have.
-fn give_areas<S: Supply>(shelf: &mut Shelf<S>, context: &S::Context, counts: &[u32; 12])
+fn give_areas<S: Supply>(shelf: &mut Shelf<S>, context: &S::Context, counts: &[u32; CLASSES])
     requires valid_shelf { IsValidShelf shelf.old }
     ensures most { (e : ℕ) → IsClass e → count_of shelf.new e ≤ slice_index counts.now (rank e) }
     ensures agree { (k : ℕ)
@@ -57,15 +56,16 @@ fn give_areas<S: Supply>(shelf: &mut Shelf<S>, context: &S::Context, counts: &[u
     ensures valid_shelf { IsValidShelf shelf.new }
 {
     for exp in LEAST_EXPONENT..GREATEST_EXPONENT + 1 {
-        let count = counts[class_index(exp)];
-        while shelf.areas(exp) > count {
-            shelf.give_last(context, exp);
+        let class = Class { exp };
+        let count = counts[class.rank()];
+        while shelf.areas(class) > count {
+            shelf.give_last(context, class);
         }
     }
 }
 
 /// Takes areas for each class that has fewer than it should have.
-fn take_areas<S: Supply>(shelf: &mut Shelf<S>, context: &S::Context, counts: &[u32; 12])
+fn take_areas<S: Supply>(shelf: &mut Shelf<S>, context: &S::Context, counts: &[u32; CLASSES])
     requires valid_shelf { IsValidShelf shelf.old }
     requires most { (e : ℕ) → IsClass e → count_of shelf.old e ≤ slice_index counts.now (rank e) }
     requires within { sum counts.now ≤ shelf.old.quota }
@@ -75,9 +75,10 @@ fn take_areas<S: Supply>(shelf: &mut Shelf<S>, context: &S::Context, counts: &[u
     ensures valid_shelf { IsValidShelf shelf.new }
 {
     for exp in LEAST_EXPONENT..GREATEST_EXPONENT + 1 {
-        let count = counts[class_index(exp)];
-        while shelf.areas(exp) < count {
-            shelf.add_area(context, exp);
+        let class = Class { exp };
+        let count = counts[class.rank()];
+        while shelf.areas(class) < count {
+            shelf.add_area(context, class);
         }
     }
 }
@@ -110,5 +111,5 @@ fn use_area<S: Supply>(shelf: &mut Shelf<S>, rec: &Record, k: u32)
     ensures same { shelf.new ≡ record shelf.old { state = shelf.new.state } }
     ensures valid_shelf { IsValidShelf shelf.new }
 {
-    shelf.shape_area(rec.area_exp(k), rec.area_ordinal(k), rec.use_bytes(k));
+    shelf.shape_area(rec.area_class(k), rec.area_ordinal(k), rec.use_bytes(k));
 }

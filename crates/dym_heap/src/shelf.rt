@@ -1,15 +1,14 @@
 //! The areas of a heap, class by class.
-ghost use Rattle.std.specs.Prelude.{◌≡◌, ℕ, ◌+◌, ◌-◌, ◌*◌, ◌/◌, ◌^◌, max, ◌≤◌, ◌<◌, true, false, None, Some, [], List, map, length, take, drop, replicate, slice_index_or, IsSome, IsTrue, MatchBool, MatchOption, OnOk, OnErr, IfOk, IfErr, is_some, option_map, vec_len, vec_capacity};
+ghost use Rattle.std.specs.Prelude.{◌≡◌, ℕ, ◌+◌, ◌-◌, ◌*◌, ◌/◌, ◌^◌, max, ◌≤◌, ◌<◌, true, false, None, Some, [], List, map, length, take, drop, replicate, IsSome, IsTrue, MatchBool, MatchOption, IfOk, IfErr, is_some, option_map, vec_len, vec_capacity};
 ghost use Rattle.std.specs.FinMap.{get};
 ghost use Rattle.std.specs.FinSet as FinSet;
-ghost use Rattle.dym_base.specs.Numbers.{per, number, exponent_of, index_of, IsClass};
+ghost use Rattle.dym_base.specs.Numbers.{per, rank, number, exponent_of, index_of, IsClass};
 ghost use Rattle.dym_base.specs.Objects.{empty_heap};
 ghost use Rattle.dym_base.specs.HeapStep.{splice, fitted};
 ghost use Rattle.dym_base.specs.declared.command.Version.TheVariants.{Two};
-ghost use Rattle.dym_base.specs.declared.limits.TheConstants.{MOST_QUOTA, LEAST_EXPONENT, GREATEST_EXPONENT};
+ghost use Rattle.dym_base.specs.declared.limits.TheConstants.{MOST_QUOTA};
 ghost use Rattle.dym_bits.specs.Bits.{bit_in, bits_of_bytes, IsSet};
 ghost use Rattle.dym_heap.specs.Meaning.{IsSizeOf};
-ghost use Rattle.dym_heap.specs.Chunks.{rank};
 ghost use Rattle.dym_heap.specs.Undo.{without_touch};
 ghost use Rattle.dym_heap.specs.Touches.{all_touched};
 ghost use Rattle.dym_heap.specs.SizedAreas.{clean, used_touched};
@@ -24,20 +23,17 @@ ghost use Rattle.dym_heap.specs.Shelves.{ShelfMeaning, IsValidShelf, IsTidy, IsF
 
 use crate::area_order::{copy_between, put_in, take_out};
 use crate::chunk_location::{
-    class_index, find, keep_table, mark_full, set_mark, shift_down, shift_up, take_table,
+    STARTS, find, keep_table, mark_full, set_mark, shift_down, shift_up, take_table,
 };
 use crate::lengths::SpareLengths;
 use crate::sized_area::SizedArea;
-use dym_base::limits::MOST_QUOTA;
-use dym_base::{Handle, Version, per_area};
+use dym_base::limits::{CLASSES, MOST_QUOTA};
+use dym_base::{Class, Handle, Version};
 use dym_bits::Bits;
 use dym_quota::Supply;
 use dym_region::Segment;
 use std::alloc::{AllocError, Global};
 use std::marker::Model;
-
-/// Classes of chunks.
-const CLASSES: usize = 12;
 
 /// The bitmap of an area with no chunk in use.
 const NO_CHUNK: [u8; 256] = [0; 256];
@@ -49,7 +45,7 @@ pub(crate) struct Shelf<S: Supply> {
     /// The areas of all classes, class after class, ordinals rising.
     sized_areas: Vec<SizedArea<S::Seg>>,
     /// Where the areas of each class begin, and at the end where those of the last class end.
-    starts: [u32; 13],
+    starts: [u32; STARTS],
     /// For each class which of its areas are full.
     full: Vec<Bits>,
     /// Memory for the tables of lengths of areas to come.
@@ -72,10 +68,17 @@ impl<S: Supply> Model for Shelf<S> {
     ghost view = { λ s. shelf_of s.version (S.quota_of s.supply) (S.held_ids s.supply)
         (S.origin s.supply) s.starts s.sized_areas.items };
 
-    ghost invariant = { λ s. IsShelf s.version (S.quota_of s.supply) (S.held_ids s.supply)
-        s.starts s.sized_areas.items s.full.items
-        (vec_capacity s.sized_areas) (vec_len s.spare) (vec_capacity s.spare)
-        × AreBound (S.binding (S.origin s.supply) (S.quota_of s.supply)) s.sized_areas.items };
+    ghost invariant = { λ s. IsShelf (record {
+      version = s.version;
+      quota = S.quota_of s.supply;
+      ids = S.held_ids s.supply;
+      starts = s.starts;
+      sized_areas = s.sized_areas.items;
+      full = s.full.items;
+      room = vec_capacity s.sized_areas;
+      spare = vec_len s.spare;
+      spare_room = vec_capacity s.spare;
+    }) × AreBound (S.binding (S.origin s.supply) (S.quota_of s.supply)) s.sized_areas.items };
 }
 
 impl<S: Supply> Shelf<S> {
@@ -95,7 +98,7 @@ impl<S: Supply> Shelf<S> {
           quota = S.quota_of supply;
           held_ids = [];
           origin = S.origin supply;
-          counts = replicate 12 0;
+          counts = replicate CLASSES 0;
           state = empty_heap;
         }) }
         ensures valid_shelf { IfOk result IsValidShelf }
@@ -118,7 +121,7 @@ impl<S: Supply> Shelf<S> {
             version,
             supply,
             sized_areas,
-            starts: [0; 13],
+            starts: [0; STARTS],
             full,
             spare,
         })
@@ -152,22 +155,20 @@ impl<S: Supply> Shelf<S> {
 
     /// The least free chunk of a class, which is now in use, touched, and of `len` zero bytes. None where no area of the
     /// class has a free chunk.
-    pub(crate) fn take_chunk(&mut self, exp: u8, len: u32) -> Option<u32>
-        requires least { LEAST_EXPONENT ≤ exp }
-        requires most { exp ≤ GREATEST_EXPONENT }
-        requires sized { IsSizeOf self.old.version exp len }
+    pub(crate) fn take_chunk(&mut self, class: Class, len: u32) -> Option<u32>
+        requires { IsSizeOf self.old.version class.exp len }
         ensures taken { MatchOption result (self.new ≡ self.old)
-            (λ i. self.new ≡ with_put self.old (number exp i) (Some (replicate len 0)) true) }
+            (λ i. self.new ≡ with_put self.old (number class.exp i) (Some (replicate len 0)) true) }
         ensures first { MatchOption result
-            ((i : ℕ) → i < count_of self.old exp * per exp
-            → IsSome (get self.old.state.live (number exp i)))
-            (λ i. IsFirstFree self.old.state exp i) }
+            ((i : ℕ) → i < count_of self.old class.exp * per class.exp
+            → IsSome (get self.old.state.live (number class.exp i)))
+            (λ i. IsFirstFree self.old.state class.exp i) }
         ensures valid_shelf { IsValidShelf self.new }
     {
-        let class = class_index(exp);
-        let first = self.starts[class];
-        let count = self.starts[class + 1] - first;
-        let Some(ordinal) = self.full[class].first_clear(count) else {
+        let rank = class.rank();
+        let first = self.starts[rank];
+        let count = self.starts[rank + 1] - first;
+        let Some(ordinal) = self.full[rank].first_clear(count) else {
             return None;
         };
         let sized_area = &mut self.sized_areas[(first + ordinal) as usize];
@@ -175,74 +176,66 @@ impl<S: Supply> Shelf<S> {
             unreachable!();
         };
         let is_full = sized_area.is_full();
-        mark_full(&mut self.full, class, ordinal, is_full);
-        Some(ordinal * per_area(exp) + chunk)
+        mark_full(&mut self.full, rank, ordinal, is_full);
+        Some(ordinal * class.per_area() + chunk)
     }
 
     /// A new area at the end of a class.
     #[inline(never)]
-    pub(crate) fn add_area(&mut self, context: &S::Context, exp: u8)
-        requires least { LEAST_EXPONENT ≤ exp }
-        requires most { exp ≤ GREATEST_EXPONENT }
-        requires room { length self.old.held_ids < self.old.quota }
+    pub(crate) fn add_area(&mut self, context: &S::Context, class: Class)
+        requires { length self.old.held_ids < self.old.quota }
         ensures added { self.new
-            ≡ with_count self.old exp (count_of self.old exp + 1) self.new.held_ids }
+            ≡ with_count self.old class.exp (count_of self.old class.exp + 1) self.new.held_ids }
         ensures valid_shelf { IsValidShelf self.new }
     {
-        let class = class_index(exp);
-        let at = self.starts[class + 1];
-        let ordinal = at - self.starts[class];
+        let rank = class.rank();
+        let at = self.starts[rank + 1];
+        let ordinal = at - self.starts[rank];
         let lengths = take_table(&mut self.spare);
-        let segment = self.supply.take(context, class as u32, ordinal);
-        let sized_area = SizedArea::new(exp, ordinal, segment, lengths);
+        let segment = self.supply.take(context, rank as u32, ordinal);
+        let sized_area = SizedArea::new(class, ordinal, segment, lengths);
         put_in(&mut self.sized_areas, at as usize, sized_area);
-        shift_up(&mut self.starts, class);
+        shift_up(&mut self.starts, rank);
     }
 
     /// Gives back the empty areas at the end of a class.
-    pub(crate) fn trim(&mut self, context: &S::Context, exp: u8)
-        requires least { LEAST_EXPONENT ≤ exp }
-        requires most { exp ≤ GREATEST_EXPONENT }
-        requires valid_shelf { IsValidShelf self.old }
-        ensures trims { Trims self.old self.new exp }
+    pub(crate) fn trim(&mut self, context: &S::Context, class: Class)
+        requires { IsValidShelf self.old }
+        ensures trims { Trims self.old self.new class.exp }
         ensures valid_shelf { IsValidShelf self.new }
     {
-        while self.ends_free(exp) {
-            self.drop_area(context, exp);
+        while self.ends_free(class) {
+            self.drop_area(context, class);
         }
     }
 
     /// Whether a class ends with an empty area.
-    fn ends_free(&self, exp: u8) -> bool
-        requires least { LEAST_EXPONENT ≤ exp }
-        requires most { exp ≤ GREATEST_EXPONENT }
-        ensures { MatchBool result (EndsFree self.now exp) (IsTrimmed self.now exp) }
+    fn ends_free(&self, class: Class) -> bool
+        ensures { MatchBool result (EndsFree self.now class.exp) (IsTrimmed self.now class.exp) }
     {
-        let class = class_index(exp);
-        let end = self.starts[class + 1];
-        if end == self.starts[class] {
+        let rank = class.rank();
+        let end = self.starts[rank + 1];
+        if end == self.starts[rank] {
             return false;
         }
         self.sized_areas[end as usize - 1].is_empty()
     }
 
     /// Gives back the last area of a class, which is empty.
-    fn drop_area(&mut self, context: &S::Context, exp: u8)
-        requires least { LEAST_EXPONENT ≤ exp }
-        requires most { exp ≤ GREATEST_EXPONENT }
-        requires free { EndsFree self.old exp }
+    fn drop_area(&mut self, context: &S::Context, class: Class)
+        requires { EndsFree self.old class.exp }
         ensures dropped { self.new
-            ≡ with_count self.old exp (count_of self.old exp - 1) self.new.held_ids }
+            ≡ with_count self.old class.exp (count_of self.old class.exp - 1) self.new.held_ids }
         ensures fewer { length self.new.held_ids + 1 ≡ length self.old.held_ids }
         ensures valid_shelf { IsValidShelf self.new }
     {
-        let class = class_index(exp);
-        let last = self.starts[class + 1] as usize - 1;
+        let rank = class.rank();
+        let last = self.starts[rank + 1] as usize - 1;
         let sized_area = take_out(&mut self.sized_areas, last);
         let (segment, lengths) = sized_area.into_parts();
         self.supply.give(context, segment);
         keep_table(&mut self.spare, lengths);
-        shift_down(&mut self.starts, class);
+        shift_down(&mut self.starts, rank);
     }
 
     /// Area `k` of all areas.
@@ -256,30 +249,26 @@ impl<S: Supply> Shelf<S> {
     }
 
     /// The bytes of a chunk, and None where it isn't in use.
-    pub(crate) fn bytes(&self, exp: u8, index: u32) -> Option<&[u8]>
-        requires least { LEAST_EXPONENT ≤ exp }
-        requires most { exp ≤ GREATEST_EXPONENT }
-        ensures { MatchOption result (get self.now.state.live (number exp index) ≡ None)
-            (λ bytes. get self.now.state.live (number exp index) ≡ Some bytes.now) }
+    pub(crate) fn bytes(&self, class: Class, index: u32) -> Option<&[u8]>
+        ensures { MatchOption result (get self.now.state.live (number class.exp index) ≡ None)
+            (λ bytes. get self.now.state.live (number class.exp index) ≡ Some bytes.now) }
     {
-        let Some(location) = find(&self.starts, exp, index) else {
+        let Some(location) = find(&self.starts, class, index) else {
             return None;
         };
         self.sized_areas[location.sized_area].chunk_bytes(location.chunk)
     }
 
     /// The bytes of a chunk in use, of which there is at least one, to be changed in place. It is touched.
-    pub(crate) fn bytes_mut(&mut self, exp: u8, index: u32) -> &mut [u8]
-        requires least { LEAST_EXPONENT ≤ exp }
-        requires most { exp ≤ GREATEST_EXPONENT }
-        requires some { FitsIn (get self.old.state.live (number exp index)) 1 }
+    pub(crate) fn bytes_mut(&mut self, class: Class, index: u32) -> &mut [u8]
+        requires { FitsIn (get self.old.state.live (number class.exp index)) 1 }
         ensures* writes_back { sem 𝓛 (lends_of_shelf S.row S.Seg.row S.Context.row S.Seg.Segment
-            S.Supply self.entry (number exp index) result) }
-        ensures value { Some result.now ≡ get self.old.state.live (number exp index) }
+            S.Supply self.entry (number class.exp index) result) }
+        ensures value { Some result.now ≡ get self.old.state.live (number class.exp index) }
         ensures valid_shelf { (ws : List ℕ)
-            → IsValidShelf (shelf_lent self.old (number exp index) ws) }
+            → IsValidShelf (shelf_lent self.old (number class.exp index) ws) }
     {
-        let Some(location) = find(&self.starts, exp, index) else {
+        let Some(location) = find(&self.starts, class, index) else {
             unreachable!();
         };
         let sized_area = &mut self.sized_areas[location.sized_area];
@@ -288,18 +277,16 @@ impl<S: Supply> Shelf<S> {
 
     /// A chunk in use with at least one byte is touched. The answer is where the segment lies that its area is over: that of its
     /// class and ordinal, where areas are bound.
-    pub(crate) fn touch(&mut self, exp: u8, index: u32) -> *const u8
-        requires least { LEAST_EXPONENT ≤ exp }
-        requires most { exp ≤ GREATEST_EXPONENT }
-        requires some { FitsIn (get self.old.state.live (number exp index)) 1 }
-        ensures touched { MatchOption (get self.old.state.live (number exp index)) ⊥
-            (λ bytes. self.new ≡ with_put self.old (number exp index) (Some bytes) true) }
+    pub(crate) fn touch(&mut self, class: Class, index: u32) -> *const u8
+        requires { FitsIn (get self.old.state.live (number class.exp index)) 1 }
+        ensures touched { MatchOption (get self.old.state.live (number class.exp index)) ⊥
+            (λ bytes. self.new ≡ with_put self.old (number class.exp index) (Some bytes) true) }
         ensures start { ForSome (S.binding self.old.origin self.old.quota) (λ f.
-            ForSome (S.Seg.place_of (f (rank exp) (index / per exp)))
+            ForSome (S.Seg.place_of (f (rank class.exp) (index / per class.exp)))
             (λ place. result ≡ place)) }
         ensures valid_shelf { IsValidShelf self.new }
     {
-        let Some(location) = find(&self.starts, exp, index) else {
+        let Some(location) = find(&self.starts, class, index) else {
             unreachable!();
         };
         let sized_area = &mut self.sized_areas[location.sized_area];
@@ -310,16 +297,14 @@ impl<S: Supply> Shelf<S> {
 
     /// Where the segment lies that a chunk's area is over: that of its class and ordinal, where areas are bound. None where
     /// the chunk isn't in use.
-    pub(crate) fn start_of_used(&self, exp: u8, index: u32) -> Option<*const u8>
-        requires least { LEAST_EXPONENT ≤ exp }
-        requires most { exp ≤ GREATEST_EXPONENT }
-        ensures { MatchOption result (get self.now.state.live (number exp index) ≡ None)
-            (λ at. IsSome (get self.now.state.live (number exp index))
+    pub(crate) fn start_of_used(&self, class: Class, index: u32) -> Option<*const u8>
+        ensures { MatchOption result (get self.now.state.live (number class.exp index) ≡ None)
+            (λ at. IsSome (get self.now.state.live (number class.exp index))
             × ForSome (S.binding self.now.origin self.now.quota) (λ f.
-            ForSome (S.Seg.place_of (f (rank exp) (index / per exp)))
+            ForSome (S.Seg.place_of (f (rank class.exp) (index / per class.exp)))
             (λ place. at ≡ place))) }
     {
-        let Some(location) = find(&self.starts, exp, index) else {
+        let Some(location) = find(&self.starts, class, index) else {
             return None;
         };
         let sized_area = &self.sized_areas[location.sized_area];
@@ -331,17 +316,15 @@ impl<S: Supply> Shelf<S> {
 
     /// Where the segment lies that a touched chunk's area is over, likewise. None where the chunk isn't touched.
     #[inline(always)]
-    pub(crate) fn start_of_touched(&self, exp: u8, index: u32) -> Option<*const u8>
-        requires least { LEAST_EXPONENT ≤ exp }
-        requires most { exp ≤ GREATEST_EXPONENT }
+    pub(crate) fn start_of_touched(&self, class: Class, index: u32) -> Option<*const u8>
         ensures { MatchOption result
-            (FinSet.contains self.now.state.touched (number exp index) ≡ false)
-            (λ at. (FinSet.contains self.now.state.touched (number exp index) ≡ true)
+            (FinSet.contains self.now.state.touched (number class.exp index) ≡ false)
+            (λ at. (FinSet.contains self.now.state.touched (number class.exp index) ≡ true)
             × ForSome (S.binding self.now.origin self.now.quota) (λ f.
-            ForSome (S.Seg.place_of (f (rank exp) (index / per exp)))
+            ForSome (S.Seg.place_of (f (rank class.exp) (index / per class.exp)))
             (λ place. at ≡ place))) }
     {
-        let Some(location) = find(&self.starts, exp, index) else {
+        let Some(location) = find(&self.starts, class, index) else {
             return None;
         };
         let sized_area = &self.sized_areas[location.sized_area];
@@ -352,29 +335,25 @@ impl<S: Supply> Shelf<S> {
     }
 
     /// How many bytes a chunk has that is in use.
-    pub(crate) fn chunk_len(&self, exp: u8, index: u32) -> Option<u32>
-        requires least { LEAST_EXPONENT ≤ exp }
-        requires most { exp ≤ GREATEST_EXPONENT }
-        ensures { result ≡ option_map length (get self.now.state.live (number exp index)) }
+    pub(crate) fn chunk_len(&self, class: Class, index: u32) -> Option<u32>
+        ensures { result ≡ option_map length (get self.now.state.live (number class.exp index)) }
     {
-        let Some(location) = find(&self.starts, exp, index) else {
+        let Some(location) = find(&self.starts, class, index) else {
             return None;
         };
         self.sized_areas[location.sized_area].chunk_len(location.chunk)
     }
 
     /// The least index from `from` on of a chunk that is in use.
-    pub(crate) fn next_used(&self, exp: u8, from: u64) -> Option<u32>
-        requires least { LEAST_EXPONENT ≤ exp }
-        requires most { exp ≤ GREATEST_EXPONENT }
+    pub(crate) fn next_used(&self, class: Class, from: u64) -> Option<u32>
         ensures { MatchOption result ((i : ℕ) → from ≤ i → i < 2 ^ 32
-            → get self.now.state.live (number exp i) ≡ None)
-            (λ i. IsNextUsed self.now.state exp from i) }
+            → get self.now.state.live (number class.exp i) ≡ None)
+            (λ i. IsNextUsed self.now.state class.exp from i) }
     {
-        let class = class_index(exp);
-        let per = per_area(exp);
-        let first = self.starts[class];
-        let count = self.starts[class + 1] - first;
+        let rank = class.rank();
+        let per = class.per_area();
+        let first = self.starts[rank];
+        let count = self.starts[rank + 1] - first;
         let end = count * per;
         if from >= u64::from(end) {
             return None;
@@ -393,16 +372,14 @@ impl<S: Supply> Shelf<S> {
     }
 
     /// The chunk is free from now on. False where it was so already.
-    pub(crate) fn release(&mut self, exp: u8, index: u32) -> bool
-        requires least { LEAST_EXPONENT ≤ exp }
-        requires most { exp ≤ GREATEST_EXPONENT }
-        ensures used { result ≡ is_some (get self.old.state.live (number exp index)) }
+    pub(crate) fn release(&mut self, class: Class, index: u32) -> bool
+        ensures used { result ≡ is_some (get self.old.state.live (number class.exp index)) }
         ensures freed { MatchBool result
-            (self.new ≡ with_put self.old (number exp index) None false)
+            (self.new ≡ with_put self.old (number class.exp index) None false)
             (self.new ≡ self.old) }
         ensures valid_shelf { IsValidShelf self.new }
     {
-        let Some(location) = find(&self.starts, exp, index) else {
+        let Some(location) = find(&self.starts, class, index) else {
             return false;
         };
         if !self.sized_areas[location.sized_area].is_used(location.chunk) {
@@ -410,40 +387,36 @@ impl<S: Supply> Shelf<S> {
         }
         let sized_area = &mut self.sized_areas[location.sized_area];
         sized_area.release(location.chunk);
-        let marks = &mut self.full[class_index(exp)];
+        let marks = &mut self.full[class.rank()];
         marks.clear(location.ordinal);
         true
     }
 
     /// A chunk of an area that is there, in use or free, is in use with these bytes, and isn't
     /// touched.
-    pub(crate) fn put_back(&mut self, exp: u8, index: u32, bytes: &[u8])
-        requires least { LEAST_EXPONENT ≤ exp }
-        requires most { exp ≤ GREATEST_EXPONENT }
-        requires there { index / per exp < count_of self.old exp }
-        requires sized { IsSizeOf self.old.version exp (length bytes.now) }
+    pub(crate) fn put_back(&mut self, class: Class, index: u32, bytes: &[u8])
+        requires there { index / per class.exp < count_of self.old class.exp }
+        requires sized { IsSizeOf self.old.version class.exp (length bytes.now) }
         ensures back { self.new
-            ≡ with_put self.old (number exp index) (Some bytes.now) false }
+            ≡ with_put self.old (number class.exp index) (Some bytes.now) false }
         ensures valid_shelf { IsValidShelf self.new }
     {
-        let Some(location) = find(&self.starts, exp, index) else {
+        let Some(location) = find(&self.starts, class, index) else {
             unreachable!();
         };
         let sized_area = &mut self.sized_areas[location.sized_area];
         sized_area.put_back(location.chunk, bytes);
         let is_full = sized_area.is_full();
-        set_mark(&mut self.full, class_index(exp), location.ordinal, is_full);
+        set_mark(&mut self.full, class.rank(), location.ordinal, is_full);
     }
 
     /// The chunk isn't touched any more.
-    pub(crate) fn forget(&mut self, exp: u8, index: u32)
-        requires least { LEAST_EXPONENT ≤ exp }
-        requires most { exp ≤ GREATEST_EXPONENT }
+    pub(crate) fn forget(&mut self, class: Class, index: u32)
         ensures forgotten { self.new
-            ≡ record self.old { state = without_touch self.old.state (number exp index) } }
+            ≡ record self.old { state = without_touch self.old.state (number class.exp index) } }
         ensures valid_shelf { IsValidShelf self.new }
     {
-        let Some(location) = find(&self.starts, exp, index) else {
+        let Some(location) = find(&self.starts, class, index) else {
             return;
         };
         let sized_area = &mut self.sized_areas[location.sized_area];
@@ -451,15 +424,13 @@ impl<S: Supply> Shelf<S> {
     }
 
     /// Copies the chunk's bytes from place `at` on into `out`.
-    pub(crate) fn read(&self, exp: u8, index: u32, at: u32, out: &mut [u8])
-        requires least { LEAST_EXPONENT ≤ exp }
-        requires most { exp ≤ GREATEST_EXPONENT }
-        requires within { FitsIn (get self.now.state.live (number exp index))
+    pub(crate) fn read(&self, class: Class, index: u32, at: u32, out: &mut [u8])
+        requires { FitsIn (get self.now.state.live (number class.exp index))
             (at + length out.old) }
-        ensures { MatchOption (get self.now.state.live (number exp index)) ⊥
+        ensures { MatchOption (get self.now.state.live (number class.exp index)) ⊥
             (λ bytes. out.new ≡ take (length out.old) (drop at bytes)) }
     {
-        let Some(location) = find(&self.starts, exp, index) else {
+        let Some(location) = find(&self.starts, class, index) else {
             unreachable!();
         };
         self.sized_areas[location.sized_area].read(location.chunk, at, out);
@@ -479,28 +450,26 @@ impl<S: Supply> Shelf<S> {
             (Some (splice 0 (take len source) old)) true)) }
         ensures valid_shelf { IsValidShelf self.new }
     {
-        let Some(source) = find(&self.starts, from.exp, from.index) else {
+        let Some(source) = find(&self.starts, Class { exp: from.exp }, from.index) else {
             unreachable!();
         };
-        let Some(target) = find(&self.starts, to.exp, to.index) else {
+        let Some(target) = find(&self.starts, Class { exp: to.exp }, to.index) else {
             unreachable!();
         };
         copy_between(&mut self.sized_areas, source, target, len);
     }
 
     /// Writes at least one byte.
-    pub(crate) fn write(&mut self, exp: u8, index: u32, at: u32, bytes: &[u8])
-        requires least { LEAST_EXPONENT ≤ exp }
-        requires most { exp ≤ GREATEST_EXPONENT }
+    pub(crate) fn write(&mut self, class: Class, index: u32, at: u32, bytes: &[u8])
         requires some { 0 < length bytes.now }
-        requires within { FitsIn (get self.old.state.live (number exp index))
+        requires within { FitsIn (get self.old.state.live (number class.exp index))
             (at + length bytes.now) }
-        ensures written { MatchOption (get self.old.state.live (number exp index)) ⊥
-            (λ old. self.new ≡ with_put self.old (number exp index)
+        ensures written { MatchOption (get self.old.state.live (number class.exp index)) ⊥
+            (λ old. self.new ≡ with_put self.old (number class.exp index)
             (Some (splice at bytes.now old)) true) }
         ensures valid_shelf { IsValidShelf self.new }
     {
-        let Some(location) = find(&self.starts, exp, index) else {
+        let Some(location) = find(&self.starts, class, index) else {
             unreachable!();
         };
         let sized_area = &mut self.sized_areas[location.sized_area];
@@ -508,17 +477,15 @@ impl<S: Supply> Shelf<S> {
     }
 
     /// Makes at least one byte `byte`.
-    pub(crate) fn fill(&mut self, exp: u8, index: u32, at: u32, len: u32, byte: u8)
-        requires least { LEAST_EXPONENT ≤ exp }
-        requires most { exp ≤ GREATEST_EXPONENT }
+    pub(crate) fn fill(&mut self, class: Class, index: u32, at: u32, len: u32, byte: u8)
         requires some { 0 < len }
-        requires within { FitsIn (get self.old.state.live (number exp index)) (at + len) }
-        ensures filled { MatchOption (get self.old.state.live (number exp index)) ⊥
-            (λ old. self.new ≡ with_put self.old (number exp index)
+        requires within { FitsIn (get self.old.state.live (number class.exp index)) (at + len) }
+        ensures filled { MatchOption (get self.old.state.live (number class.exp index)) ⊥
+            (λ old. self.new ≡ with_put self.old (number class.exp index)
             (Some (splice at (replicate len byte) old)) true) }
         ensures valid_shelf { IsValidShelf self.new }
     {
-        let Some(location) = find(&self.starts, exp, index) else {
+        let Some(location) = find(&self.starts, class, index) else {
             unreachable!();
         };
         let sized_area = &mut self.sized_areas[location.sized_area];
@@ -526,19 +493,17 @@ impl<S: Supply> Shelf<S> {
     }
 
     /// Another length for a chunk, of version 2: its first bytes stay, and zeros follow.
-    pub(crate) fn resize(&mut self, exp: u8, index: u32, len: u32)
-        requires least { LEAST_EXPONENT ≤ exp }
-        requires most { exp ≤ GREATEST_EXPONENT }
+    pub(crate) fn resize(&mut self, class: Class, index: u32, len: u32)
         requires version { self.old.version ≡ Two }
-        requires sized { IsSizeOf Two exp len }
-        requires another { MatchOption (get self.old.state.live (number exp index)) ⊥
+        requires sized { IsSizeOf Two class.exp len }
+        requires another { MatchOption (get self.old.state.live (number class.exp index)) ⊥
             (λ old. length old ≡ len → ⊥) }
-        ensures resized { MatchOption (get self.old.state.live (number exp index)) ⊥
-            (λ old. self.new ≡ with_put self.old (number exp index)
+        ensures resized { MatchOption (get self.old.state.live (number class.exp index)) ⊥
+            (λ old. self.new ≡ with_put self.old (number class.exp index)
             (Some (fitted len old)) true) }
         ensures valid_shelf { IsValidShelf self.new }
     {
-        let Some(location) = find(&self.starts, exp, index) else {
+        let Some(location) = find(&self.starts, class, index) else {
             unreachable!();
         };
         let sized_area = &mut self.sized_areas[location.sized_area];
@@ -546,19 +511,17 @@ impl<S: Supply> Shelf<S> {
     }
 
     /// Puts the chunks that a body packs over those in use of an area of a class, where the class has that area.
-    pub(crate) fn load_area(&mut self, exp: u8, ordinal: u32, packed: &Bits, body: &[u8])
-        requires least { LEAST_EXPONENT ≤ exp }
-        requires most { exp ≤ GREATEST_EXPONENT }
-        requires body { IsBody self.old.version exp packed.now body.now }
-        ensures loaded { (f : ℕ → List ℕ) → IsBodyOf self.old.version exp packed.now body.now f
-            → IsChangedArea self.old.state self.new.state exp ordinal
+    pub(crate) fn load_area(&mut self, class: Class, ordinal: u32, packed: &Bits, body: &[u8])
+        requires { IsBody self.old.version class.exp packed.now body.now }
+        ensures loaded { (f : ℕ → List ℕ) → IsBodyOf self.old.version class.exp packed.now body.now f
+            → IsChangedArea self.old.state self.new.state class.exp ordinal
             (λ i old new. new ≡ loaded_chunk packed.now f i old) }
         ensures same { self.new ≡ record self.old { state = self.new.state } }
         ensures valid_shelf { IsValidShelf self.new }
     {
-        let class = class_index(exp);
-        let first = self.starts[class];
-        if ordinal >= self.starts[class + 1] - first {
+        let rank = class.rank();
+        let first = self.starts[rank];
+        if ordinal >= self.starts[rank + 1] - first {
             return;
         }
         let sized_area = &mut self.sized_areas[(first + ordinal) as usize];
@@ -566,47 +529,41 @@ impl<S: Supply> Shelf<S> {
     }
 
     /// How many areas a class has.
-    pub(crate) fn areas(&self, exp: u8) -> u32
-        requires least { LEAST_EXPONENT ≤ exp }
-        requires most { exp ≤ GREATEST_EXPONENT }
-        ensures { result ≡ count_of self.now exp }
+    pub(crate) fn areas(&self, class: Class) -> u32
+        ensures { result ≡ count_of self.now class.exp }
     {
-        let class = class_index(exp);
-        self.starts[class + 1] - self.starts[class]
+        let rank = class.rank();
+        self.starts[rank + 1] - self.starts[rank]
     }
 
     /// Takes the use bits of an area from a bitmap. A chunk that was in use and not touched keeps its bytes, and each other one in
     /// use is touched.
-    pub(crate) fn shape_area(&mut self, exp: u8, ordinal: u32, use_bytes: &[u8])
-        requires least { LEAST_EXPONENT ≤ exp }
-        requires most { exp ≤ GREATEST_EXPONENT }
-        requires area { ordinal < count_of self.old exp }
-        requires len { length use_bytes.now ≡ max 1 (per exp / 8) }
-        requires below { (i : ℕ) → IsSet (bits_of_bytes use_bytes.now) i → i < per exp }
-        ensures shaped { IsChangedArea self.old.state self.new.state exp ordinal
+    pub(crate) fn shape_area(&mut self, class: Class, ordinal: u32, use_bytes: &[u8])
+        requires area { ordinal < count_of self.old class.exp }
+        requires len { length use_bytes.now ≡ max 1 (per class.exp / 8) }
+        requires below { (i : ℕ) → IsSet (bits_of_bytes use_bytes.now) i → i < per class.exp }
+        ensures shaped { IsChangedArea self.old.state self.new.state class.exp ordinal
             (λ i old new. IsReshaped (bit_in (bits_of_bytes use_bytes.now) i) old new) }
         ensures same { self.new ≡ record self.old { state = self.new.state } }
         ensures valid_shelf { IsValidShelf self.new }
     {
-        let class = class_index(exp);
-        let sized_area = &mut self.sized_areas[(self.starts[class] + ordinal) as usize];
+        let rank = class.rank();
+        let sized_area = &mut self.sized_areas[(self.starts[rank] + ordinal) as usize];
         sized_area.shape(use_bytes);
         let is_full = sized_area.is_full();
-        set_mark(&mut self.full, class, ordinal, is_full);
+        set_mark(&mut self.full, rank, ordinal, is_full);
     }
 
     /// The chunks in use among these of an area of a class are touched besides, where the class has that area.
-    pub(crate) fn mark_area(&mut self, exp: u8, ordinal: u32, packed: &Bits)
-        requires least { LEAST_EXPONENT ≤ exp }
-        requires most { exp ≤ GREATEST_EXPONENT }
-        ensures marked { IsChangedArea self.old.state self.new.state exp ordinal
+    pub(crate) fn mark_area(&mut self, class: Class, ordinal: u32, packed: &Bits)
+        ensures marked { IsChangedArea self.old.state self.new.state class.exp ordinal
             (λ i old new. new ≡ marked (bit_in packed.now i) old) }
         ensures same { self.new ≡ record self.old { state = self.new.state } }
         ensures valid_shelf { IsValidShelf self.new }
     {
-        let class = class_index(exp);
-        let first = self.starts[class];
-        if ordinal >= self.starts[class + 1] - first {
+        let rank = class.rank();
+        let first = self.starts[rank];
+        if ordinal >= self.starts[rank + 1] - first {
             return;
         }
         let sized_area = &mut self.sized_areas[(first + ordinal) as usize];
@@ -615,19 +572,17 @@ impl<S: Supply> Shelf<S> {
 
     /// Puts the touched ones of the chunks that a body packs over those in use of an area of a class, where the class has that
     /// area. They are touched no more.
-    pub(crate) fn fetch_area(&mut self, exp: u8, ordinal: u32, packed: &Bits, body: &[u8])
-        requires least { LEAST_EXPONENT ≤ exp }
-        requires most { exp ≤ GREATEST_EXPONENT }
-        requires body { IsBody self.old.version exp packed.now body.now }
-        ensures fetched { (f : ℕ → List ℕ) → IsBodyOf self.old.version exp packed.now body.now f
-            → IsChangedArea self.old.state self.new.state exp ordinal (λ i old new.
+    pub(crate) fn fetch_area(&mut self, class: Class, ordinal: u32, packed: &Bits, body: &[u8])
+        requires { IsBody self.old.version class.exp packed.now body.now }
+        ensures fetched { (f : ℕ → List ℕ) → IsBodyOf self.old.version class.exp packed.now body.now f
+            → IsChangedArea self.old.state self.new.state class.exp ordinal (λ i old new.
             new ≡ fetched (packed_at packed.now f i) old) }
         ensures same { self.new ≡ record self.old { state = self.new.state } }
         ensures valid_shelf { IsValidShelf self.new }
     {
-        let class = class_index(exp);
-        let first = self.starts[class];
-        if ordinal >= self.starts[class + 1] - first {
+        let rank = class.rank();
+        let first = self.starts[rank];
+        if ordinal >= self.starts[rank + 1] - first {
             return;
         }
         let sized_area = &mut self.sized_areas[(first + ordinal) as usize];
@@ -635,20 +590,22 @@ impl<S: Supply> Shelf<S> {
     }
 
     /// Gives back the last area of a class, whatever its chunks are.
-    pub(crate) fn give_last(&mut self, context: &S::Context, exp: u8)
-        requires least { LEAST_EXPONENT ≤ exp }
-        requires most { exp ≤ GREATEST_EXPONENT }
-        requires some { 0 < count_of self.old exp }
-        ensures dropped { self.new ≡ record (with_count self.old exp
-            (count_of self.old exp - 1) self.new.held_ids) { state = self.new.state } }
+    pub(crate) fn give_last(&mut self, context: &S::Context, class: Class)
+        requires { 0 < count_of self.old class.exp }
+        ensures dropped { self.new ≡ record (with_count self.old class.exp
+            (count_of self.old class.exp - 1) self.new.held_ids) { state = self.new.state } }
         ensures chunks { (k : ℕ)
-            → (exponent_of k ≡ exp → index_of k / per exp < count_of self.new exp)
+            → (exponent_of k ≡ class.exp → index_of k / per class.exp < count_of self.new class.exp)
             → heap_chunk self.new.state k ≡ heap_chunk self.old.state k }
         ensures valid_shelf { IsValidShelf self.new }
     {
-        let last = self.areas(exp) - 1;
-        self.shape_area(exp, last, &NO_CHUNK[..(per_area(exp) as usize / 8).max(1)]);
-        self.drop_area(context, exp);
+        let last = self.areas(class) - 1;
+        self.shape_area(
+            class,
+            last,
+            &NO_CHUNK[..(class.per_area() as usize / 8).max(1)],
+        );
+        self.drop_area(context, class);
     }
 
     /// No chunk is touched.

@@ -3,7 +3,7 @@ ghost use Rattle.std.specs.Prelude.{◌≡◌, ℕ, ◌+◌, ◌-◌, ◌≤◌,
 ghost use Rattle.std.specs.List.{flat_map, range_with_len};
 ghost use Rattle.dym_base.specs.Numbers.{size, per};
 ghost use Rattle.dym_base.specs.HeapStep.{splice, fitted};
-ghost use Rattle.dym_base.specs.declared.limits.TheConstants.{MOST_CHUNKS, SEGMENT_BYTES, LEAST_EXPONENT, GREATEST_EXPONENT};
+ghost use Rattle.dym_base.specs.declared.limits.TheConstants.{MOST_CHUNKS, SEGMENT_BYTES};
 ghost use Rattle.dym_base.specs.declared.command.Version.TheVariants.{One, Two};
 ghost use Rattle.dym_bits.specs.Bits.{bit_in, bits_of_bytes, IsSet, IsClear};
 ghost use Rattle.dym_heap.specs.Meaning.{IsSizeOf};
@@ -20,7 +20,7 @@ ghost use Rattle.dym_heap.specs.SizedAreas.{SizedAreaMeaning, IsSizedArea, clean
 use crate::chunk_load::{load_runs, load_sized};
 use crate::lengths::Lengths;
 use dym_area::Area;
-use dym_base::size_of_class;
+use dym_base::Class;
 use dym_bits::Bits;
 use dym_region::Segment;
 use std::marker::Model;
@@ -54,21 +54,24 @@ impl<G: Segment> SizedArea<G> {
     ghost use Rattle.dym_heap.specs.SizedAreaLends.{lends_of_area};
 
     /// A place with no chunk in use.
-    pub(crate) fn new(exp: u8, ordinal: u32, segment: G, lengths: Option<Lengths>) -> SizedArea<G>
-        requires least { LEAST_EXPONENT ≤ exp }
-        requires most { exp ≤ GREATEST_EXPONENT }
+    pub(crate) fn new(
+        class: Class,
+        ordinal: u32,
+        segment: G,
+        lengths: Option<Lengths>,
+    ) -> SizedArea<G>
         ensures made { result ≡ record {
           version = version_of lengths;
-          exponent = exp;
+          exponent = class.exp;
           ordinal = ordinal;
           identity = G.id segment;
-          chunks = replicate (per exp) None;
-          touched = replicate (per exp) false;
+          chunks = replicate (per class.exp) None;
+          touched = replicate (per class.exp) false;
         } }
         ensures valid { IsSizedArea result }
     {
         SizedArea {
-            area: Area::new(exp, ordinal, segment),
+            area: Area::new(class, ordinal, segment),
             lengths,
         }
     }
@@ -123,14 +126,14 @@ impl<G: Segment> SizedArea<G> {
         if !self.area.is_used(i) {
             return None;
         }
-        Some(noted_len(&self.lengths, self.area.exp(), i))
+        Some(noted_len(&self.lengths, self.area.class(), i))
     }
 
-    /// The class exponent.
-    pub(crate) fn exp(&self) -> u8
-        ensures { result ≡ self.now.exponent }
+    /// The class.
+    pub(crate) fn class(&self) -> Class
+        ensures { result.exp ≡ self.now.exponent }
     {
-        self.area.exp()
+        self.area.class()
     }
 
     /// The place among the areas of the class.
@@ -182,7 +185,7 @@ impl<G: Segment> SizedArea<G> {
         requires { IsSome (slice_index_or self.now.chunks i None) }
         ensures { Some result ≡ option_map length (slice_index_or self.now.chunks i None) }
     {
-        noted_len(&self.lengths, self.area.exp(), i)
+        noted_len(&self.lengths, self.area.class(), i)
     }
 
     /// The bytes of chunk `i`, which is in use.
@@ -191,17 +194,17 @@ impl<G: Segment> SizedArea<G> {
         ensures { Some result.now ≡ slice_index_or self.now.chunks i None }
     {
         self.area
-            .bytes(i, 0, noted_len(&self.lengths, self.area.exp(), i))
+            .bytes(i, 0, noted_len(&self.lengths, self.area.class(), i))
     }
 
-    /// The same to be changed in place, where there is at least one. The chunk is touched.
+    /// The bytes of chunk `i`, which is in use and has at least one, to be changed in place. The chunk is touched.
     pub(crate) fn used_bytes_mut(&mut self, i: u32) -> &mut [u8]
         requires { FitsIn (slice_index_or self.old.chunks i None) 1 }
         ensures* writes_back { sem 𝓛 (lends_of_area G.row G.Segment self.entry i result) }
         ensures value { Some result.now ≡ slice_index_or self.old.chunks i None }
         ensures valid { (ws : List ℕ) → IsSizedArea (area_lent self.old i ws) }
     {
-        let len = noted_len(&self.lengths, self.area.exp(), i);
+        let len = noted_len(&self.lengths, self.area.class(), i);
         self.area.bytes_mut(i, 0, len)
     }
 
@@ -349,7 +352,7 @@ impl<G: Segment> SizedArea<G> {
             (λ old. self.new ≡ area_with_chunk self.old i (Some (fitted len old)) true) }
         ensures valid { IsSizedArea self.new }
     {
-        let old = noted_len(&self.lengths, self.area.exp(), i);
+        let old = noted_len(&self.lengths, self.area.class(), i);
         note(&mut self.lengths, i, len);
         if old < len {
             self.area.zero(i, old, len - old);
@@ -481,7 +484,7 @@ impl<G: Segment> SizedArea<G> {
         self.area.set_from(use_bytes);
         let wanted = self.area.used().difference(&unmodified);
         self.area.set_dirty(wanted);
-        let size = size_of_class(self.area.exp());
+        let size = self.area.class().size();
         match &mut self.lengths {
             None => {}
             Some(lengths) => note_all(lengths, self.area.dirty(), size),
@@ -501,9 +504,9 @@ impl<G: Segment> SizedArea<G> {
 /// Notes `len` as the length of each of these chunks.
 fn note_all(lengths: &mut Lengths, chunks: &Bits, len: u32)
     requires { length chunks.now ≡ MOST_CHUNKS }
-    ensures with_length { (i : ℕ) → IsSet chunks.now i
+    ensures noted { (i : ℕ) → IsSet chunks.now i
         → slice_index lengths.new.table.items i ≡ len }
-    ensures valid_shelf { (i : ℕ) → IsClear chunks.now i
+    ensures others { (i : ℕ) → IsClear chunks.now i
         → slice_index lengths.new.table.items i ≡ slice_index lengths.old.table.items i }
 {
     let mut from = 0;
@@ -524,14 +527,12 @@ fn note(lengths: &mut Option<Lengths>, i: u32, len: u32)
 }
 
 /// The bytes of chunk `i` of a class: those of the class, or as many as were noted.
-fn noted_len(lengths: &Option<Lengths>, exp: u8, i: u32) -> u32
-    requires least { LEAST_EXPONENT ≤ exp }
-    requires most { exp ≤ GREATEST_EXPONENT }
-    requires within { i < MOST_CHUNKS }
-    ensures { result ≡ len_of exp (numbers_of lengths.now) i }
+fn noted_len(lengths: &Option<Lengths>, class: Class, i: u32) -> u32
+    requires { i < MOST_CHUNKS }
+    ensures { result ≡ len_of class.exp (numbers_of lengths.now) i }
 {
     match lengths {
-        None => size_of_class(exp),
+        None => class.size(),
         Some(lengths) => lengths.get(i),
     }
 }

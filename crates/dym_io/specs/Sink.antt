@@ -53,7 +53,8 @@ Writes old new text result = MatchResult result (λ _. Appended old new text) (�
 abbrev pub FaultsTellCause : Type 0 → Output → Output → Type 0
 FaultsTellCause is_sinks old new = (is_sinks → RoseOnce old.faults new.faults) × (¬ is_sinks → new.faults ≡ old.faults)
 
--- The same where an error may have another cause than the sink.
+-- A text was written, where an error may have another cause than the sink: all of it at Ok; at an error a front of
+-- it, and the count of faults tells the cause.
 abbrev pub WritesOr : {T E : Type 0} → (E → Type 0) → Output → Output → List ℕ → Result T E → Type 0
 WritesOr IsSinks old new text result =
     MatchResult result (λ _. Appended old new text) (λ e. AppendedFront old new text × FaultsTellCause (IsSinks e) old new)

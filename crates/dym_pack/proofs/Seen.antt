@@ -1,11 +1,10 @@
 -- The area that bytes begin with, by its parts.
-use Rattle.std.proofs.Common.{◌≡◌, ℕ, zero, suc, ◌+◌, ◌-◌, ◌^◌, ◌<◌, ◌≤◌, Bool, true, Option, Some, None, is_some, List, [], ◌∷◌, ◌++◌, length, map, take, drop, get_or, replicate, refl, sym, ap, subst, ◌∙◌, arith, inl, inr}
+use Rattle.std.proofs.Common.{◌≡◌, ℕ, zero, suc, ◌+◌, ◌-◌, ◌^◌, ◌<◌, ◌≤◌, Bool, true, Some, None, is_some, List, [], ◌∷◌, ◌++◌, length, map, take, drop, get_or, replicate, refl, sym, ap, subst, ◌∙◌, arith, inl, inr}
 use Rattle.std.specs.Int.{w32, from_le_bytes}
 use Rattle.std.specs.List.{flat_map}
 use Rattle.std.proofs.lemmas.List.{append_assoc, length-append, length-map, length-take, take-append-drop, drop_at, drop-drop, length-replicate}
 use Rattle.std.proofs.lemmas.List.Elements.{All-from_recursion}
 use Rattle.std.proofs.lemmas.Bool.{cases_Bool, cases_eq, cond-true, cond-false, true≢false}
-use Rattle.std.proofs.lemmas.Option.{same_Some}
 use Rattle.std.proofs.lemmas.Nat.{le_bytes_4}
 use Rattle.std.proofs.Math.Nat.{pow-suc}
 use Rattle.std.proofs.lemmas.Nat.{pow_pos}
@@ -29,13 +28,6 @@ use Rattle.dym_pack.proofs.MapsRead.{made}
 
 pub not_none : {X A : Type 0} (x : X) → None ≡ Some x → A
 not_none x is = absurd (true≢false (sym (ap is_some is)))
-
-pub same_pair : (e o f p : ℕ) → ◌≡◌ {A = Option (ℕ × ℕ)} (Some (e, o)) (Some (f, p)) → (e ≡ f) × (o ≡ p)
-same_pair e o f p is =
-    let x : ℕ × ℕ = (e, o) in
-    let y : ℕ × ℕ = (f, p) in
-    let pair : x ≡ y = same_Some x y is in
-    (ap (λ (x : ℕ × ℕ). x.0) pair, ap (λ (x : ℕ × ℕ). x.1) pair)
 
 -- the name of an area, from its bytes
 pub name_is : (bytes : List ℕ) (n : ℕ) → ((i : ℕ) → get_or bytes i 0 < 256) → 5 ≤ length bytes → n ≡ from_le_bytes w32 (take 4 (drop 1 bytes)) → bytes ≡ name_bytes (get_or bytes 0 0) n ++ drop 5 bytes

@@ -1,7 +1,6 @@
 //! One area of a record: its length, and its bytes.
-ghost use Rattle.std.specs.Prelude.{◌≡◌, ℕ, ◌+◌, ◌*◌, ◌/◌, ◌<◌, ◌≤◌, Bool, true, ◌&&◌, nat_lt, max, ◌++◌, length, OnOk};
+ghost use Rattle.std.specs.Prelude.{◌≡◌, ℕ, ◌+◌, ◌*◌, ◌/◌, ◌<◌, ◌≤◌, Bool, ◌&&◌, nat_lt, max, ◌++◌, length, OnOk};
 ghost use Rattle.dym_base.specs.Packed.{bitmap, packed_chunk};
-ghost use Rattle.dym_base.specs.Numbers.{per};
 ghost use Rattle.dym_base.specs.Heaps.{held};
 ghost use Rattle.dym_base.specs.declared.command.Version.TheVariants.{One, Two};
 ghost use Rattle.dym_base.specs.declared.limits.TheConstants.{SEGMENT_BYTES};
@@ -13,7 +12,7 @@ ghost use Rattle.dym_pack.specs.Offsets.{area_bytes, area_head};
 use crate::areas::Areas;
 use crate::layout::{NAME_BYTES, map_bytes, name_of};
 use crate::walk::LENGTH_BYTES;
-use dym_base::{Kind, Version, per_area, size_of_class};
+use dym_base::{Class, Kind, Version};
 use dym_bits::Bits;
 use std::alloc::AllocError;
 
@@ -33,7 +32,7 @@ fn chunk_count<A: Areas>(areas: &A, k: u32) -> u32
     requires { k < held (A.meaning areas.now).live }
     ensures { result ≡ chunks_of (A.meaning areas.now).live k }
 {
-    per_area(areas.area_exp(k))
+    areas.area_class(k).per_area()
 }
 
 /// How many bytes an area takes.
@@ -44,18 +43,18 @@ pub(crate) fn area_len<A: Areas>(areas: &A, kind: Kind, k: u32) -> u32
         (area_at (A.meaning areas.now).live k)) }
     ensures few { result ≤ 131072 }
 {
-    let exp = areas.area_exp(k);
-    head_len(areas, kind, k, exp) + body_len(areas, kind, k, exp)
+    let class = areas.area_class(k);
+    head_len(areas, kind, k, class) + body_len(areas, kind, k, class)
 }
 
 /// How many bytes stand before the packed chunks of an area.
-fn head_len<A: Areas>(areas: &A, kind: Kind, k: u32, exp: u8) -> u32
+fn head_len<A: Areas>(areas: &A, kind: Kind, k: u32, class: Class) -> u32
     requires area { k < held (A.meaning areas.now).live }
-    requires exp { exp ≡ (area_at (A.meaning areas.now).live k).exponent }
+    requires exp { class.exp ≡ (area_at (A.meaning areas.now).live k).exponent }
     ensures value { result ≡ length (area_head (logged (A.meaning areas.now) kind 0) k) }
     ensures few { result ≤ 517 }
 {
-    let map = map_bytes(exp);
+    let map = map_bytes(class);
     match kind {
         Kind::Full => NAME_BYTES as u32 + map,
         Kind::Inc => NAME_BYTES as u32 + 2 * map,
@@ -63,16 +62,16 @@ fn head_len<A: Areas>(areas: &A, kind: Kind, k: u32, exp: u8) -> u32
 }
 
 /// How many bytes the packed chunks of an area take.
-fn body_len<A: Areas>(areas: &A, kind: Kind, k: u32, exp: u8) -> u32
+fn body_len<A: Areas>(areas: &A, kind: Kind, k: u32, class: Class) -> u32
     requires packable { IsPackable (A.meaning areas.now) }
     requires area { k < held (A.meaning areas.now).live }
-    requires exp { exp ≡ (area_at (A.meaning areas.now).live k).exponent }
+    requires exp { class.exp ≡ (area_at (A.meaning areas.now).live k).exponent }
     ensures value { result ≡ length (body_from (logged (A.meaning areas.now) kind 0) k 0) }
     ensures few { result ≤ 73728 }
 {
     let bits = bits_to_pack(areas, kind, k);
     match areas.version() {
-        Version::One => bits.count_below(per_area(exp)) * size_of_class(exp),
+        Version::One => bits.count_below(class.per_area()) * class.size(),
         Version::Two => chunks_len(areas, kind, k, bits),
     }
 }
@@ -132,9 +131,9 @@ fn put_head<A: Areas>(areas: &A, kind: Kind, k: u32, out: &mut Vec<u8>) -> Resul
     ensures { OnOk result (out.new.items
         ≡ out.old.items ++ area_head (logged (A.meaning areas.now) kind 0) k) }
 {
-    let exp = areas.area_exp(k);
-    let map = map_bytes(exp) as usize;
-    out.extend_from_slice(&name_of(exp, areas.area_ordinal(k)))?;
+    let class = areas.area_class(k);
+    let map = map_bytes(class) as usize;
+    out.extend_from_slice(&name_of(class.exp, areas.area_ordinal(k)))?;
     put_bits(areas.used_bits(k), map, out)?;
     match kind {
         Kind::Full => Ok(()),

@@ -1,5 +1,5 @@
 //! What can be packed.
-ghost use Rattle.std.specs.Prelude.{◌≡◌, ℕ, ◌+◌, ◌<◌, ◌≤◌, ◌&&◌, nat_lt, true, length, IsTrue};
+ghost use Rattle.std.specs.Prelude.{◌≡◌, ℕ, ◌+◌, ◌<◌, ◌≤◌, ◌&&◌, nat_lt, true, length};
 ghost use Rattle.std.specs.List.{flat_map, range_with_len};
 ghost use Rattle.std.specs.FinSet.{contains};
 ghost use Rattle.dym_base.specs.Heaps.{held};
@@ -7,7 +7,7 @@ ghost use Rattle.dym_base.specs.declared.command.Version.TheVariants.{One};
 ghost use Rattle.dym_bits.specs.Bits.{bit_in};
 ghost use Rattle.dym_pack.specs.Areas.{AreasMeaning, area_at, chunks_of, chunk_number, is_used_at, bytes_at};
 
-use dym_base::Version;
+use dym_base::{Class, Version};
 use dym_bits::Bits;
 
 /// The areas of a heap, exponents rising and, within one exponent, ordinals 0, 1, 2 and so on.
@@ -24,10 +24,10 @@ pub trait Areas {
     fn area_count(&self) -> u32
         ensures { result ≡ held (meaning self.now).live };
 
-    /// The class exponent of an area.
-    fn area_exp(&self, k: u32) -> u8
+    /// The class of an area.
+    fn area_class(&self, k: u32) -> Class
         requires { k < held (meaning self.now).live }
-        ensures { result ≡ (area_at (meaning self.now).live k).exponent };
+        ensures { result.exp ≡ (area_at (meaning self.now).live k).exponent };
 
     /// The place of an area among those of its class.
     fn area_ordinal(&self, k: u32) -> u32

@@ -1,14 +1,13 @@
 //! The fixed parts of a record.
-ghost use Rattle.std.specs.Prelude.{◌≡◌, ℕ, ◌==◌, slice_index, ◌+◌, ◌/◌, ◌%◌, ◌<◌, ◌≤◌, ◌∷◌, ◌++◌, max, length, take, OnOk};
+ghost use Rattle.std.specs.Prelude.{◌≡◌, ◌==◌, slice_index, ◌+◌, ◌/◌, ◌%◌, ◌<◌, ◌≤◌, ◌∷◌, ◌++◌, max, length, OnOk};
 ghost use Rattle.std.specs.Int.{w32, w64, bit_at, to_le_bytes};
 ghost use Rattle.dym_base.specs.Numbers.{per};
 ghost use Rattle.dym_base.specs.Packed.{kind_byte};
 ghost use Rattle.dym_pack.specs.Offsets.{name_bytes};
 ghost use Rattle.dym_base.specs.declared.command.Version.{Version};
 ghost use Rattle.dym_base.specs.declared.command.Kind.{Kind};
-ghost use Rattle.dym_base.specs.declared.limits.TheConstants.{LEAST_EXPONENT, GREATEST_EXPONENT};
 
-use dym_base::{Kind, Version, per_area};
+use dym_base::{Class, Kind, Version};
 use std::alloc::AllocError;
 
 /// The kind, the time and the number of areas.
@@ -30,13 +29,11 @@ pub(crate) fn byte_of_kind(version: Version, kind: Kind) -> u8
 }
 
 /// The bytes of a bitmap of the chunks of a class.
-pub(crate) fn map_bytes(exp: u8) -> u32
-    requires least { LEAST_EXPONENT ≤ exp }
-    requires greatest { exp ≤ GREATEST_EXPONENT }
-    ensures value { result ≡ max 1 (per exp / 8) }
+pub(crate) fn map_bytes(class: Class) -> u32
+    ensures value { result ≡ max 1 (per class.exp / 8) }
     ensures few { result ≤ 256 }
 {
-    (per_area(exp) / 8).max(1)
+    (class.per_area() / 8).max(1)
 }
 
 /// Appends what stands before the areas.

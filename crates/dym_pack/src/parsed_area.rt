@@ -1,10 +1,9 @@
 //! One area of bytes that anyone may have made.
-ghost use Rattle.std.specs.Prelude.{◌≡◌, ℕ, ◌*◌, ◌/◌, ◌^◌, ◌<◌, ◌≤◌, Bool, false, List, ◌++◌, max, length, drop, Some, IfSome, IsSome};
-ghost use Rattle.dym_base.specs.Numbers.{per};
+ghost use Rattle.std.specs.Prelude.{◌≡◌, ℕ, ◌*◌, ◌/◌, ◌^◌, ◌<◌, ◌≤◌, Bool, false, List, ◌++◌, max, length, drop, Some, IfSome, IsSome, MatchOption};
+ghost use Rattle.dym_base.specs.Numbers.{per, IsClass};
 ghost use Rattle.dym_base.specs.Packed.{bitmap};
 ghost use Rattle.dym_base.specs.declared.command.Version.TheVariants.{One, Two};
 ghost use Rattle.dym_base.specs.declared.command.Kind.TheVariants.{Full, Inc};
-ghost use Rattle.dym_base.specs.declared.limits.TheConstants.{LEAST_EXPONENT, GREATEST_EXPONENT};
 ghost use Rattle.dym_bits.specs.Bits.{bit_in};
 ghost use Rattle.dym_pack.specs.Offsets.{name_bytes};
 ghost use Rattle.dym_pack.specs.Contents.{IsMaps, IsBody, IsSeen};
@@ -13,8 +12,7 @@ ghost use Rattle.dym_pack.specs.declared.parsed_area.ParsedArea.{ParsedArea};
 
 use crate::layout::{NAME_BYTES, map_bytes};
 use crate::walk::{LENGTH_BYTES, length_at};
-use dym_base::limits::{GREATEST_EXPONENT, LEAST_EXPONENT};
-use dym_base::{Kind, Version, class_of, per_area, size_of_class};
+use dym_base::{Class, Kind, Version};
 use dym_bits::Bits;
 
 /// The bitmaps of an area: whether a chunk is used, how many are packed, and how many bytes the bitmaps take.
@@ -40,12 +38,12 @@ pub(crate) fn area_in(bytes: &[u8], version: Version, kind: Kind) -> Option<Pars
     ensures only { (parsed : ParsedArea) → IsSeen version kind bytes.now parsed
         → result ≡ Some parsed }
 {
-    let (exp, ordinal) = name_in(bytes)?;
-    let maps = maps_in(rest_from(bytes, NAME_BYTES), kind, exp)?;
+    let (class, ordinal) = name_in(bytes)?;
+    let maps = maps_in(rest_from(bytes, NAME_BYTES), kind, class)?;
     let head = NAME_BYTES + maps.len;
-    let body = body_in(rest_from(bytes, head), version, exp, maps.packed)?;
+    let body = body_in(rest_from(bytes, head), version, class, maps.packed)?;
     Some(ParsedArea {
-        exp,
+        exp: class.exp,
         ordinal,
         used: maps.used,
         len: head + body,
@@ -60,45 +58,42 @@ pub(crate) fn rest_from(bytes: &[u8], at: usize) -> &[u8]
     &bytes[at..]
 }
 
-/// The class exponent and the ordinal that the bytes begin with.
-fn name_in(bytes: &[u8]) -> Option<(u8, u32)>
-    ensures is { IfSome result (λ name. (bytes.now ≡ name_bytes name.0 name.1 ++ drop 5 bytes.now)
-        × (LEAST_EXPONENT ≤ name.0) × (name.0 ≤ GREATEST_EXPONENT)) }
-    ensures only { (e o : ℕ) (rest : List ℕ) → LEAST_EXPONENT ≤ e → e ≤ GREATEST_EXPONENT
-        → o < 2 ^ 32 → bytes.now ≡ name_bytes e o ++ rest → result ≡ Some (e, o) }
+/// The class and the ordinal that the bytes begin with.
+fn name_in(bytes: &[u8]) -> Option<(Class, u32)>
+    ensures is { IfSome result (λ name. bytes.now ≡ name_bytes name.0.exp name.1 ++ drop 5 bytes.now) }
+    ensures only { (e o : ℕ) (rest : List ℕ) → IsClass e → o < 2 ^ 32
+        → bytes.now ≡ name_bytes e o ++ rest
+        → MatchOption result ⊥ (λ name. (name.0.exp ≡ e) × (name.1 ≡ o)) }
 {
-    if bytes.len() < NAME_BYTES || bytes[0] < LEAST_EXPONENT || GREATEST_EXPONENT < bytes[0] {
+    if bytes.len() < NAME_BYTES {
         return None;
     }
-    Some((bytes[0], length_at(bytes, 1)))
+    let class = Class::of_exponent(bytes[0])?;
+    Some((class, length_at(bytes, 1)))
 }
 
 /// The bitmaps that the bytes begin with.
-fn maps_in(bytes: &[u8], kind: Kind, exp: u8) -> Option<ParsedMaps>
-    requires least { LEAST_EXPONENT ≤ exp }
-    requires greatest { exp ≤ GREATEST_EXPONENT }
-    ensures is { IfSome result (λ parsed. IsMaps kind exp bytes.now parsed) }
-    ensures only { (parsed : ParsedMaps) → IsMaps kind exp bytes.now parsed → result ≡ Some parsed }
+fn maps_in(bytes: &[u8], kind: Kind, class: Class) -> Option<ParsedMaps>
+    ensures is { IfSome result (λ parsed. IsMaps kind class.exp bytes.now parsed) }
+    ensures only { (parsed : ParsedMaps) → IsMaps kind class.exp bytes.now parsed → result ≡ Some parsed }
 {
-    let map = map_bytes(exp) as usize;
+    let map = map_bytes(class) as usize;
     match kind {
-        Kind::Full => full_maps(bytes, exp, map),
-        Kind::Inc => inc_maps(bytes, exp, map),
+        Kind::Full => full_maps(bytes, class, map),
+        Kind::Inc => inc_maps(bytes, class, map),
     }
 }
 
 /// The use bits of an area of a full record.
-fn full_maps(bytes: &[u8], exp: u8, map: usize) -> Option<ParsedMaps>
-    requires least { LEAST_EXPONENT ≤ exp }
-    requires greatest { exp ≤ GREATEST_EXPONENT }
-    requires map { map ≡ max 1 (per exp / 8) }
-    ensures is { IfSome result (λ parsed. IsMaps Full exp bytes.now parsed) }
-    ensures only { (parsed : ParsedMaps) → IsMaps Full exp bytes.now parsed → result ≡ Some parsed }
+fn full_maps(bytes: &[u8], class: Class, map: usize) -> Option<ParsedMaps>
+    requires map { map ≡ max 1 (per class.exp / 8) }
+    ensures is { IfSome result (λ parsed. IsMaps Full class.exp bytes.now parsed) }
+    ensures only { (parsed : ParsedMaps) → IsMaps Full class.exp bytes.now parsed → result ≡ Some parsed }
 {
     if bytes.len() < map {
         return None;
     }
-    let chunks = per_area(exp);
+    let chunks = class.per_area();
     let used = bits_in(&bytes[..map], chunks)?;
     let packed = used.count_below(chunks);
     Some(ParsedMaps {
@@ -109,17 +104,15 @@ fn full_maps(bytes: &[u8], exp: u8, map: usize) -> Option<ParsedMaps>
 }
 
 /// The use bits and the touched bits of an area of an incremental record.
-fn inc_maps(bytes: &[u8], exp: u8, map: usize) -> Option<ParsedMaps>
-    requires least { LEAST_EXPONENT ≤ exp }
-    requires greatest { exp ≤ GREATEST_EXPONENT }
-    requires map { map ≡ max 1 (per exp / 8) }
-    ensures is { IfSome result (λ parsed. IsMaps Inc exp bytes.now parsed) }
-    ensures only { (parsed : ParsedMaps) → IsMaps Inc exp bytes.now parsed → result ≡ Some parsed }
+fn inc_maps(bytes: &[u8], class: Class, map: usize) -> Option<ParsedMaps>
+    requires map { map ≡ max 1 (per class.exp / 8) }
+    ensures is { IfSome result (λ parsed. IsMaps Inc class.exp bytes.now parsed) }
+    ensures only { (parsed : ParsedMaps) → IsMaps Inc class.exp bytes.now parsed → result ≡ Some parsed }
 {
     if bytes.len() < 2 * map {
         return None;
     }
-    let chunks = per_area(exp);
+    let chunks = class.per_area();
     let used = bits_in(&bytes[..map], chunks)?;
     let touched = bits_in(&rest_from(bytes, map)[..map], chunks)?;
     if !touched.is_within(&used) {
@@ -150,58 +143,54 @@ fn bits_in(map: &[u8], chunks: u32) -> Option<Bits>
 }
 
 /// How many bytes the `count` packed chunks of a class take that the bytes begin with.
-fn body_in(bytes: &[u8], version: Version, exp: u8, count: u32) -> Option<usize>
-    requires least { LEAST_EXPONENT ≤ exp }
-    requires greatest { exp ≤ GREATEST_EXPONENT }
-    requires few { count ≤ 2048 }
-    ensures is { IfSome result (λ len. IsBody version exp count bytes.now len) }
-    ensures only { (len : ℕ) → IsBody version exp count bytes.now len → result ≡ Some len }
+fn body_in(bytes: &[u8], version: Version, class: Class, count: u32) -> Option<usize>
+    requires { count ≤ 2048 }
+    ensures is { IfSome result (λ len. IsBody version class.exp count bytes.now len) }
+    ensures only { (len : ℕ) → IsBody version class.exp count bytes.now len → result ≡ Some len }
     ensures within { IfSome result (λ len. len ≤ length bytes.now) }
 {
     match version {
-        Version::One => equal_chunks(bytes, exp, count),
-        Version::Two => chunks_in(bytes, exp, count),
+        Version::One => equal_chunks(bytes, class, count),
+        Version::Two => chunks_in(bytes, class, count),
     }
 }
 
-/// The same in version 1, where each chunk has all bytes of its class.
-fn equal_chunks(bytes: &[u8], exp: u8, count: u32) -> Option<usize>
-    requires least { LEAST_EXPONENT ≤ exp }
-    requires greatest { exp ≤ GREATEST_EXPONENT }
-    requires few { count ≤ 2048 }
-    ensures is { IfSome result (λ len. IsBody One exp count bytes.now len) }
-    ensures only { (len : ℕ) → IsBody One exp count bytes.now len → result ≡ Some len }
+/// How many bytes they take in version 1, where each chunk has all bytes of its class.
+fn equal_chunks(bytes: &[u8], class: Class, count: u32) -> Option<usize>
+    requires { count ≤ 2048 }
+    ensures is { IfSome result (λ len. IsBody One class.exp count bytes.now len) }
+    ensures only { (len : ℕ) → IsBody One class.exp count bytes.now len → result ≡ Some len }
 {
-    let len = count as usize * size_of_class(exp) as usize;
+    let len = count as usize * class.size() as usize;
     if len <= bytes.len() { Some(len) } else { None }
 }
 
-/// The same in version 2, where each chunk stands after its length.
-fn chunks_in(bytes: &[u8], exp: u8, count: u32) -> Option<usize>
+/// How many bytes they take in version 2, where each chunk stands after its length.
+fn chunks_in(bytes: &[u8], class: Class, count: u32) -> Option<usize>
     requires few { count ≤ 2048 }
-    ensures is { IfSome result (λ len. IsBody Two exp count bytes.now len) }
-    ensures only { (len : ℕ) → IsBody Two exp count bytes.now len → result ≡ Some len }
+    ensures is { IfSome result (λ len. IsBody Two class.exp count bytes.now len) }
+    ensures only { (len : ℕ) → IsBody Two class.exp count bytes.now len → result ≡ Some len }
 {
     let mut at = 0;
     for _i in 0..count {
-        at += chunk_in(rest_from(bytes, at), exp)?;
+        at += chunk_in(rest_from(bytes, at), class)?;
     }
     Some(at)
 }
 
 /// How many bytes the packed chunk of a class takes that the bytes begin with, with its length.
-fn chunk_in(bytes: &[u8], exp: u8) -> Option<usize>
-    ensures is { IfSome result (λ len. IsBody Two exp 1 bytes.now len) }
-    ensures only { (len : ℕ) → IsBody Two exp 1 bytes.now len → result ≡ Some len }
+fn chunk_in(bytes: &[u8], class: Class) -> Option<usize>
+    ensures is { IfSome result (λ len. IsBody Two class.exp 1 bytes.now len) }
+    ensures only { (len : ℕ) → IsBody Two class.exp 1 bytes.now len → result ≡ Some len }
     ensures within { IfSome result (λ len. len ≤ length bytes.now) }
 {
     if bytes.len() < LENGTH_BYTES {
         return None;
     }
     let len = length_at(bytes, 0);
-    let class = class_of(u64::from(len))?;
+    let found = Class::of_len(u64::from(len))?;
     let end = LENGTH_BYTES + len as usize;
-    if class != exp || bytes.len() < end {
+    if found.exp != class.exp || bytes.len() < end {
         return None;
     }
     Some(end)

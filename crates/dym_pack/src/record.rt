@@ -1,12 +1,11 @@
 //! A record and its readers.
 ghost use Rattle.std.specs.Prelude.{◌≡◌, ℕ, ◌+◌, ◌<◌, ◌≤◌, ◌&&◌, nat_lt, true, length, take, drop, option_map};
 ghost use Rattle.std.specs.List.{filter, range_with_len};
-ghost use Rattle.std.specs.Int.{w32, w64, from_le_bytes};
+ghost use Rattle.std.specs.Int.{w32, from_le_bytes};
 ghost use Rattle.dym_base.specs.Heaps.{held};
-ghost use Rattle.dym_base.specs.Packed.{bitmap, kind_byte};
+ghost use Rattle.dym_base.specs.Packed.{bitmap};
 ghost use Rattle.dym_base.specs.StandsFor.{packed_by};
 ghost use Rattle.dym_base.specs.declared.command.Kind.TheVariants.{Full, Inc};
-ghost use Rattle.dym_base.specs.declared.limits.TheConstants.{LEAST_EXPONENT, GREATEST_EXPONENT};
 ghost use Rattle.dym_bits.specs.Bits.{bit_in, bits_of_bytes};
 ghost use Rattle.dym_pack.specs.Areas.{area_at, bytes_at, chunks_of, chunk_number, is_used_at};
 ghost use Rattle.dym_pack.specs.ParsedAreas.{IsRecord, OfLog, packs_at, packed_from, body_from};
@@ -15,7 +14,7 @@ ghost use Rattle.dym_pack.specs.Offsets.{area_head, start_of};
 use crate::indexed_bytes::{IndexedBytes, word_at};
 use crate::layout::{NAME_BYTES, is_bit, kind_of, map_bytes, version_of};
 use crate::walk::chunk_after;
-use dym_base::{Kind, Version, size_of_class};
+use dym_base::{Class, Kind, Version};
 use dym_bits::Bits;
 use std::marker::Model;
 
@@ -97,7 +96,7 @@ impl Record {
         ensures packed { OfLog self.now (λ log. result.packed ≡ length (packed_from log k 0)) }
     {
         AreaHead {
-            exp: self.area_exp(k),
+            exp: self.area_class(k).exp,
             ordinal: self.area_ordinal(k),
             packed: self.packed_bits(k).count(),
         }
@@ -184,7 +183,7 @@ impl Record {
         let body = self.body(k);
         match self.version() {
             Version::One => {
-                let size = size_of_class(self.area_exp(k)) as usize;
+                let size = self.area_class(k).size() as usize;
                 let at = n as usize * size;
                 &body[at..at + size]
             }
@@ -206,7 +205,7 @@ impl Record {
         ensures is { OfLog self.now (λ log. result ≡ length (area_head log k)) }
         ensures few { result ≤ 517 }
     {
-        let map = map_bytes(self.area_exp(k)) as usize;
+        let map = map_bytes(self.area_class(k)) as usize;
         match self.kind() {
             Kind::Full => NAME_BYTES + map,
             Kind::Inc => NAME_BYTES + 2 * map,
@@ -230,15 +229,14 @@ impl Record {
         self.placed.offset(k as usize)
     }
 
-    /// The class exponent of area `k`.
-    pub fn area_exp(&self, k: u32) -> u8
+    /// The class of area `k`.
+    pub fn area_class(&self, k: u32) -> Class
         requires { OfLog self.now (λ log. k < held log.copy) }
-        ensures is { OfLog self.now (λ log. result ≡ (area_at log.copy k).exponent) }
-        ensures least { LEAST_EXPONENT ≤ result }
-        ensures most { result ≤ GREATEST_EXPONENT }
+        ensures { OfLog self.now (λ log. result.exp ≡ (area_at log.copy k).exponent) }
     {
         let bytes = self.whole();
-        bytes[self.start(k)]
+        let exp = bytes[self.start(k)];
+        Class { exp }
     }
 
     /// The use bits of area `k`.
@@ -249,7 +247,7 @@ impl Record {
         ensures few { length result.now ≤ 256 }
     {
         let bytes = self.whole();
-        let map = map_bytes(self.area_exp(k)) as usize;
+        let map = map_bytes(self.area_class(k)) as usize;
         let at = self.start(k) + NAME_BYTES;
         &bytes[at..at + map]
     }
@@ -276,7 +274,7 @@ impl Record {
         ensures few { length result.now ≤ 256 }
     {
         let bytes = self.whole();
-        let map = map_bytes(self.area_exp(k)) as usize;
+        let map = map_bytes(self.area_class(k)) as usize;
         let at = self.start(k) + NAME_BYTES + map;
         &bytes[at..at + map]
     }

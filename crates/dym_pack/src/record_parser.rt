@@ -67,7 +67,7 @@ fn record_in(
     ensures same { IfOk result (λ rec. rec ≡ bytes.now) }
     ensures good { OnOk result (IsRecordOf version count bytes.now) }
     ensures bad { IfErr result (λ why.
-        why ≡ Bad → AreLeft version kind (drop 13 bytes.now) count 5 0 true → ⊥) }
+        why ≡ Bad → AreLeft version kind (drop 13 bytes.now) count LEAST_EXPONENT 0 true → ⊥) }
 {
     let Ok(mut starts) = SmallVec::with_capacity(alloc, count as usize + 1) else {
         return Err(RecordFail::Memory);
@@ -133,7 +133,7 @@ fn offsets_in(
     requires empty { starts.old.items ≡ [] }
     requires room { HasRoomFor starts.old (count + 1) }
     ensures is { IsSome result → HaveOffsets version kind bytes.now count starts.new.items }
-    ensures only { AreLeft version kind (drop 13 bytes.now) count 5 0 true → IsSome result }
+    ensures only { AreLeft version kind (drop 13 bytes.now) count LEAST_EXPONENT 0 true → IsSome result }
 {
     let mut at = HEADER_BYTES;
     let mut exp = LEAST_EXPONENT;

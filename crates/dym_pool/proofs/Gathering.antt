@@ -198,7 +198,7 @@ module _ {J O : Type 0} (number left : J → ℕ) (origin : J → O) where
 pub taken_back : {J : Type 0} (old new : List J) (whole final : List (Option (Box J Global))) → new ≡ old ++ unboxed (standing whole) → old ≡ [] → whole ≡ final → new ≡ unboxed (standing final)
 taken_back {J} old new whole final is none same = is ∙ ap {B = List J} (λ l. l ++ unboxed (standing whole)) none ∙ ap (λ (s : List (Option (Box J Global))). unboxed (standing s)) same
 
--- the same said of equal lists
+-- what is said of numbers and of gathered jobs holds of equal lists
 pub numbers_stay : {O : Type 0} (n m : ℕ) (dealt final : List (ℕ × O)) → n ≡ m → final ≡ dealt → NumbersBelow m dealt → NumbersBelow n final
 numbers_stay {O} n m dealt final e same h = subst (λ (k : ℕ). NumbersBelow k final) (sym e) (subst (λ (l : List (ℕ × O)). NumbersBelow m l) (sym same) h)
 

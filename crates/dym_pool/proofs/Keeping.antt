@@ -5,7 +5,7 @@ use Rattle.dym_pool.specs.Holdings.{Holding, KeepsShare, KeepsDeque, IsNewStealS
 use Rattle.dym_pool.proofs.Zips.{Back, zip-refl, zip-set, zip-trans, zip-under, zip-all, zip-at, zip-mid, zip-length}
 
 module _ {O : Type 0} where
-  -- the same list and the same part
+  -- the list and the part stay
   abbrev SameLoad : Holding O → Holding O → Type 0
   SameLoad a b = (b.part ≡ a.part) × (b.list ≡ a.list)
 

@@ -10,7 +10,7 @@ pub record Holding (O : Type 0) : Type 0 where
   pub deque : RowsId × Global
   -- the number and the origin of each job of the share
   pub list : List (ℕ × O)
-  -- the same of those that ended here
+  -- the number and the origin of each job that ended here
   pub hand : List (ℕ × O)
   -- the part of the whole
   pub part : ℕ
@@ -20,13 +20,13 @@ pub record Holding (O : Type 0) : Type 0 where
   pub pushed : ℕ
 
 module _ {O : Type 0} where
-  -- the same share with the same part: only which jobs ended here may be another
+  -- the share and the part stay: only which jobs ended here may be another
   pub record KeepsShare (before after : Holding O) : Type 0 where
     pub deque : after.deque ≡ before.deque
     pub list : after.list ≡ before.list
     pub part : after.part ≡ before.part
 
-  -- the same deque with the same room, while its jobs come
+  -- the deque and its room stay, while its jobs come
   pub record KeepsDeque (before after : Holding O) : Type 0 where
     pub deque : after.deque ≡ before.deque
     pub part : after.part ≡ before.part

@@ -12,7 +12,7 @@ module _ {J : Type 0} where
   abbrev pub AllEnded : (J → ℕ) → List J → Type 0
   AllEnded left jobs = All (λ j. left j ≡ 0) jobs
 
-  -- the same of jobs in boxes
+  -- nothing is left to do of any of the jobs in these boxes
   abbrev pub AllBoxedEnded : (J → ℕ) → List (Box J Global) → Type 0
   AllBoxedEnded left boxes = All (λ b. left b.value ≡ 0) boxes
 
@@ -25,7 +25,7 @@ module _ {J O : Type 0} (number : J → ℕ) (origin : J → O) where
   abbrev pub labels : List J → List (ℕ × O)
   labels jobs = map (λ j. (number j, origin j)) jobs
 
-  -- the same of jobs in boxes
+  -- the labels of jobs in boxes
   abbrev pub boxed_labels : List (Box J Global) → List (ℕ × O)
   boxed_labels boxes = map (λ b. (number b.value, origin b.value)) boxes
 

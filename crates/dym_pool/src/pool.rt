@@ -49,7 +49,7 @@ pub fn run_jobs<R: Threads + Wait + Send + Sync, J: Job<R>, G: Gate>(
     }
 }
 
-/// The same for at least one job, by exactly so many workers and the caller, whose number at the gate is given.
+/// Runs at least one job to its end, by exactly so many workers and the caller, whose number at the gate is given.
 fn run_with<R: Threads + Wait + Send + Sync, J: Job<R> + Drop, G: Gate>(
     rt: &R,
     alloc: Global,

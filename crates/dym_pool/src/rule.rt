@@ -10,7 +10,7 @@ use std::marker::PhantomData;
 /// The deque of one share, as its own worker has it.
 pub(crate) type ShareDeque<R, J, O> = Worker<Box<J>, Global, ShareView<O>, ShareRule<R, J>>;
 
-/// The same deque, as any other worker has it.
+/// The deque of one share, as any other worker has it.
 pub(crate) type ShareStealer<R, J, O> = Stealer<Box<J>, Global, ShareView<O>, ShareRule<R, J>>;
 
 /// The right to take steps on one deque, and what its holder knows. It has no bytes.

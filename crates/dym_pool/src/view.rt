@@ -5,7 +5,7 @@ use std::collections::LinkedList;
 pub struct ShareView<O> {
     /// The number and the origin of each job of the share.
     pub list: LinkedList<(u32, O)>,
-    /// The same of those that the holder has taken.
+    /// The number and the origin of each job that the holder has taken.
     pub hand: LinkedList<(u32, O)>,
     /// The holder's part of the whole.
     pub part: u64,

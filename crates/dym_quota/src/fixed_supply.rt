@@ -1,12 +1,12 @@
 //! A supply in which each area has one segment of a region, and no other.
 ghost use Rattle.std.specs.Prelude.{◌≡◌, ◌*◌, ◌≤◌, [], map, Some, IfOk, length, vec_len, vec_capacity};
 ghost use denote.RawPtr.{block_ptr};
-ghost use Rattle.dym_base.specs.declared.limits.TheConstants.{MOST_QUOTA};
+ghost use Rattle.dym_base.specs.declared.limits.TheConstants.{CLASSES, MOST_QUOTA};
 ghost use Rattle.dym_quota.specs.Bound.{missing, present, region_origin, bound_by, bound_by_apart};
 ghost use Rattle.dym_quota.specs.Bound.{AreNumbered};
 
 use crate::supply::Supply;
-use dym_base::limits::MOST_QUOTA;
+use dym_base::limits::{CLASSES, MOST_QUOTA};
 use dym_region::{RawSegment, Region, Segment};
 use std::alloc::{AllocError, Global};
 
@@ -22,10 +22,10 @@ pub struct FixedSupply {
     /// Where the region begins.
     pub(crate) start: *const u8,
     ghost most: { quota ≤ MOST_QUOTA },
-    ghost whole: { vec_len segments ≡ 12 * quota },
-    ghost cut: { region.count ≡ 12 * quota },
+    ghost whole: { vec_len segments ≡ CLASSES * quota },
+    ghost cut: { region.count ≡ CLASSES * quota },
     ghost empty: { vec_len list ≡ 0 },
-    ghost room: { 12 * quota ≤ vec_capacity list },
+    ghost room: { CLASSES * quota ≤ vec_capacity list },
     ghost begins: { start ≡ block_ptr region.id 0 },
     ghost numbered: { AreNumbered ⟦<RawSegment as Segment>⟧.id region.id segments.items },
     ghost counted: { length (missing region.id 0 segments.items) ≡ held },
@@ -42,7 +42,7 @@ impl FixedSupply {
         ensures origin { IfOk result (λ s. ⟦<FixedSupply as Supply>⟧.origin s
             ≡ region_origin s.region.id) }
     {
-        let count = 12 * quota;
+        let count = CLASSES as u32 * quota;
         let slots = Vec::with_capacity(alloc, count as usize)?;
         let list = Vec::with_capacity(alloc, count as usize)?;
         let (region, segments) = Region::new(alloc, count)?;

@@ -52,8 +52,8 @@ impl OwnSupply {
         }
     }
 
-    /// The same supply with another quota, while no segment is out. Its segments serve again: only those that are wanting are
-    /// made, and those above the quota wait for a greater one.
+    /// The supply with another quota, while no segment is out. Its segments serve again: only those that are wanting are made,
+    /// and those above the quota wait for a greater one.
     ///
     /// An `AllocError` comes where there is no memory for them; the supply then comes back with its quota and all its segments.
     pub fn with_quota(self, alloc: Global, quota: u32) -> Result<OwnSupply, (AllocError, OwnSupply)>

@@ -5,6 +5,7 @@ ghost use Rattle.dym_quota.specs.Bound.{IsFreeFor, IsBoundTo, AreApart};
 ghost use Rattle.dym_quota.specs.HeldIds.{IsHeld, GivesBack};
 ghost use Rattle.dym_region.specs.declared.segment.SegmentId.{SegmentId};
 
+use dym_base::limits::CLASSES;
 use dym_region::Segment;
 
 /// A quota of segments, and the right to have that many out at a time.
@@ -40,7 +41,7 @@ pub trait Supply {
     /// A segment, of any content, for area `ordinal` of a class, by its number from 0 on. Where areas are bound it is the area's.
     fn take(&mut self, context: &Self::Context, class: u32, ordinal: u32) -> Self::Seg
         requires room { length (held_ids self.old) < quota_of self.old }
-        requires class { class < 12 }
+        requires class { class < CLASSES }
         requires ordinal { ordinal < quota_of self.old }
         requires free { IsFreeFor (binding (origin self.old) (quota_of self.old)) (held_ids self.old)
             class ordinal }

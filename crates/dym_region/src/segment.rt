@@ -43,7 +43,8 @@ pub trait Segment {
         requires { at + len ≤ filled self.now }
         ensures { result.now ≡ part_of (content self.now) at len };
 
-    /// The same to be changed in place. What is written through the result is as long as it is.
+    /// The `len` bytes from place `at` on, which are real, to be changed in place. What is written through the result is as long as
+    /// it is.
     fn bytes_mut(&mut self, at: u32, len: u32) -> &mut [u8]
         requires { at + len ≤ filled self.old }
         ensures* writes_back { sem 𝓛

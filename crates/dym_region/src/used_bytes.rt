@@ -60,7 +60,7 @@ pub(crate) fn read_at<A: Allocator>(bytes: &Vec<u8, A>, at: usize, out: &mut [u8
     }
 }
 
-// The same where the bytes end behind those that were used.
+// Copies the segment's bytes from place `at` on into `out`, where they end behind those that were used.
 fn read_past<A: Allocator>(bytes: &Vec<u8, A>, at: usize, out: &mut [u8])
     requires within { at + length out.old ≤ vec_capacity bytes.now }
     requires past { vec_len bytes.now ≤ at + length out.old }

@@ -85,7 +85,8 @@ pub fn front_name(text: &[u8]) -> Option<FrontName<'_>>
     }
 }
 
-/// The same where a space seems to stand among the first eight bytes.
+/// What stands before the first space of a text, and the text from there on, where that space seems to be one of the first eight
+/// bytes.
 #[inline(always)]
 fn short_name(text: &[u8]) -> Option<FrontName<'_>>
     ensures { IfSome result (λ named. text.now ≡ named.name.now ++ named.words.now) }
@@ -111,7 +112,7 @@ fn space_at(word: u64) -> usize
     spaces.trailing_zeros() as usize / 8
 }
 
-/// The same of any name.
+/// What stands in the first line of a text before its first space, or before its end, however long, and the text from there on.
 #[inline(never)]
 fn any_name(text: &[u8]) -> Option<FrontName<'_>>
     ensures { IfSome result (λ named. text.now ≡ named.name.now ++ named.words.now) }

@@ -157,7 +157,7 @@ impl<K: Keeper + Drop> Pieces<K> {
         self.read_exactly(alloc, number, text)
     }
 
-    /// The same of a line in any spelling.
+    /// Reads the first line of a text, in any spelling, and hands on what it says. The text after the line is left.
     #[inline(never)]
     pub(crate) fn read_exactly<'a>(
         &mut self,

@@ -42,7 +42,7 @@ const VERBS: [Verb; VERB_ROWS] = [
     Verb::Ilog,
 ];
 
-/// What a line asks of which the name was read goes into a place, without a copy, and the text after the line is left.
+/// Reads a line from behind its name on: what it asks goes into a place, without a copy. The answer is the text after the line.
 #[inline(never)]
 pub fn quick_rest<'a>(text: &'a [u8], asked: &mut Request<HexBytes<'a>>) -> Option<&'a [u8]>
     ensures { IfSome result (λ rest. Demands text.now asked.new rest.now) }

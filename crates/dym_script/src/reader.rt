@@ -271,7 +271,7 @@ impl Reader {
         self.place_in_cache(key_of(name), name)
     }
 
-    /// The same where the name's key is known.
+    /// The place of the object of this name, whose key is given.
     #[inline(never)]
     fn place_in_cache(&self, key: u32, name: &[u8]) -> Option<u32>
         requires { IsValidReader self.now }

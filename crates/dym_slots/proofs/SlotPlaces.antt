@@ -54,7 +54,7 @@ pub list_kept : (c : Core) {slots : List Slot} {homes : List (Option ℕ)} {out 
     → ListRises (record c { slots = slots; homes = homes; owner = record c.owner { out = out; remembered = remembered }; sweeper = sweeper })
 list_kept c l = record { numbers_rise = l.numbers_rise; slots_differ = l.slots_differ; from_root = l.from_root; below_next = l.below_next; root_below_next = l.root_below_next }
 
--- the same slots are out with the sweeper, under the same numbers
+-- the slots that are out with the sweeper stay out, under their numbers
 pub sweeper_kept : (c : Core) {slots : List Slot} {owner : OwnerView} →
     ((t n : ℕ) → get_or slots t Free ≡ OutSweeper n → state_of c t ≡ OutSweeper n) →
     ((t n : ℕ) → state_of c t ≡ OutSweeper n → get_or slots t Free ≡ OutSweeper n) →

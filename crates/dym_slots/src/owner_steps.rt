@@ -231,7 +231,7 @@ fn seize(table: &Slots, seat: &mut LogSeat, slot: u32, next: u64) -> bool
     }
 }
 
-/// The same, of a slot that the last look found Live.
+/// Takes a slot that is in no entry and that the last look found Live for the next number, unless the sweeper has it out.
 fn reuse(table: &Slots, seat: &mut LogSeat, slot: u32, number: u64, next: u64) -> bool
     requires table { SitsAt table.now.table_id seat.old.table_id }
     requires idle { IsIdleOwner seat.old.me }

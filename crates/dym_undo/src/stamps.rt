@@ -5,7 +5,7 @@ ghost use Rattle.dym_base.specs.declared.limits.TheConstants.{LEAST_EXPONENT, GR
 ghost use Rattle.dym_undo.specs.Keys.{IsKey, stamp_bit, is_stamped, with_stamp, without_stamp};
 
 use dym_base::limits::{GREATEST_EXPONENT, LEAST_EXPONENT};
-use dym_base::{Handle, per_area};
+use dym_base::{Class, Handle};
 
 /// The bits of one area of each class, and of one word.
 pub(crate) const AREA_BITS: usize = 4_096;
@@ -23,7 +23,7 @@ fn is_key(handle: Handle, quota: u32) -> bool
     if handle.exp < LEAST_EXPONENT || handle.exp > GREATEST_EXPONENT {
         return false;
     }
-    handle.index / per_area(handle.exp) < quota
+    handle.index / Class { exp: handle.exp }.per_area() < quota
 }
 
 /// Whether a handle can be live within a quota, and is stamped: for a handle of which nothing is known.
@@ -46,7 +46,7 @@ fn stamp_bit(handle: Handle) -> usize
     requires greatest { handle.exp ≤ GREATEST_EXPONENT }
     ensures { result ≡ stamp_bit (key handle) }
 {
-    let per = per_area(handle.exp);
+    let per = Class { exp: handle.exp }.per_area();
     let area = (handle.index / per) as usize;
     area * AREA_BITS + (per + handle.index % per) as usize
 }

@@ -66,7 +66,7 @@ module _ (v : Version) (e : LogEntry) (before : Option LogEntry) (old mid new : 
   stays q has same =
       let unmodified : is_unmodified (heap_chunk old q) ≡ true = ap₂ (λ (a b : Bool). a && not b) (ap is_some same ∙ has) (untouched q before refl) in
       let quiet : contains mid.touched q ≡ false = (shaped q).wanted ∙ ap₂ (λ (a b : Bool). a && not b) has unmodified in
-      (shaped q).valid_shelf has quiet ∙ same
+      (shaped q).kept has quiet ∙ same
 
   pub record_brought : new.live ≡ e.copy
   record_brought = same_live new.live e.copy (λ q. loaded q ∙ by q (cases_Bool (contains_key e.copy q)) (cases_Bool (packs q)))

@@ -11,7 +11,7 @@ ghost use Rattle.dym_undo.specs.UndoLogs.{Belongs, IsKept};
 ghost use Rattle.dym_undo_object.specs.Places.{IsPlace, place_start};
 
 use dym_base::limits::{LEAST_EXPONENT, SEGMENT_BYTES};
-use dym_base::{Handle, size_of_class};
+use dym_base::{Class, Handle};
 use dym_heap::Heap;
 use dym_quota::{FixedSupply, Supply};
 use dym_undo::UndoLog;
@@ -100,6 +100,7 @@ fn chunk_end(quota: u32, offset: u64) -> u64
     if class >= CLASSES {
         return u64::MAX;
     }
-    let size = u64::from(size_of_class(LEAST_EXPONENT + class as u8));
+    let exp = LEAST_EXPONENT + class as u8;
+    let size = u64::from(Class { exp }.size());
     offset - offset % size + size
 }

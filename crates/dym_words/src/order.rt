@@ -24,7 +24,7 @@ pub enum Order {
         input: Input,
         summary: bool,
     },
-    /// The same, by workers that share the segments of a region. A turn has up to `quantum` commands.
+    /// A report of a script, by workers that share the segments of a region. A turn has up to `quantum` commands.
     Run {
         workers: u32,
         segments: u32,

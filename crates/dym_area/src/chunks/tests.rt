@@ -1,9 +1,8 @@
 //! One walk through an area of each class.
-ghost use Rattle.std.specs.Prelude.{◌≤◌};
 ghost use Rattle.dym_area.specs.Area.{IsValidArea};
 
 use super::*;
-use dym_base::class::per_area;
+use dym_base::limits::{GREATEST_EXPONENT, LEAST_EXPONENT};
 use dym_region::VecSegment;
 use std::process::Abort;
 use std::test::Fail;
@@ -13,8 +12,8 @@ fn put(area: &mut Area<VecSegment>, i: u32, bytes: [u8; 4])
     requires { IsValidArea area.old }
     ensures { IsValidArea area.new }
 {
-    let size = size_of_class(area.exp());
-    if i < per_area(area.exp()) && area.is_used(i) && size >= 4 {
+    let size = area.class().size();
+    if i < area.class().per_area() && area.is_used(i) && size >= 4 {
         area.write(i, size - 4, &bytes);
     }
 }
@@ -23,9 +22,9 @@ fn put(area: &mut Area<VecSegment>, i: u32, bytes: [u8; 4])
 fn last_bytes(area: &Area<VecSegment>, i: u32) -> Option<[u8; 4]>
     requires { IsValidArea area.now }
 {
-    let size = size_of_class(area.exp());
+    let size = area.class().size();
     let mut bytes = [9; 4];
-    if i < per_area(area.exp()) && area.is_used(i) && size >= 4 {
+    if i < area.class().per_area() && area.is_used(i) && size >= 4 {
         area.read(i, size - 4, &mut bytes);
         return Some(bytes);
     }
@@ -37,7 +36,7 @@ fn give(area: &mut Area<VecSegment>, i: u32)
     requires { IsValidArea area.old }
     ensures { IsValidArea area.new }
 {
-    if i < per_area(area.exp()) && area.is_used(i) {
+    if i < area.class().per_area() && area.is_used(i) {
         area.release(i);
     }
 }
@@ -48,10 +47,10 @@ fn restore(area: &mut Area<VecSegment>, i: u32, bytes: [u8; 4]) -> Option<([u8; 
     ensures { IsValidArea area.new }
 {
     let mut front = [9; 4];
-    if i < per_area(area.exp()) && size_of_class(area.exp()) >= 4 {
+    if i < area.class().per_area() && area.class().size() >= 4 {
         area.put_back(i, &bytes);
     }
-    if i < per_area(area.exp()) && area.is_used(i) && size_of_class(area.exp()) >= 4 {
+    if i < area.class().per_area() && area.is_used(i) && area.class().size() >= 4 {
         area.read(i, 0, &mut front);
         return Some((front, area.is_dirty(i)));
     }
@@ -63,23 +62,20 @@ fn clean(area: &mut Area<VecSegment>, i: u32) -> Option<(bool, bool)>
     requires { IsValidArea area.old }
     ensures { IsValidArea area.new }
 {
-    if i >= per_area(area.exp()) {
+    if i >= area.class().per_area() {
         return None;
     }
     let before = area.is_dirty(i);
     area.clear_dirty_at(i);
-    if i >= per_area(area.exp()) {
+    if i >= area.class().per_area() {
         return None;
     }
     Some((before, area.is_dirty(i)))
 }
 
-fn walk(rt: &impl Abort, exp: u8, seg: VecSegment)
-    requires least { 5 ≤ exp }
-    requires greatest { exp ≤ 16 }
-{
-    let all = per_area(exp);
-    let mut area = Area::new(exp, 3, seg);
+fn walk(rt: &impl Abort, class: Class, seg: VecSegment) {
+    let all = class.per_area();
+    let mut area = Area::new(class, 3, seg);
     for i in 0..all {
         assert_eq!(rt; area.take_first(), Some(i));
     }
@@ -108,8 +104,8 @@ fn walk(rt: &impl Abort, exp: u8, seg: VecSegment)
 
 #[test]
 fn each_class_to_its_last_chunk(rt: HostRuntime) -> Result<(), Fail> {
-    for exp in 5..17 {
-        walk(&rt, exp, VecSegment::new(rt.alloc())?);
+    for exp in LEAST_EXPONENT..GREATEST_EXPONENT + 1 {
+        walk(&rt, Class { exp }, VecSegment::new(rt.alloc())?);
     }
     Ok(())
 }

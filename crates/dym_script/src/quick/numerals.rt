@@ -40,7 +40,7 @@ pub fn digits_to(most: u64, text: &[u8]) -> Option<(u64, &[u8])>
     Some((number, rest))
 }
 
-/// The same of any number.
+/// The number that digits write, and the text after them.
 #[inline(always)]
 fn digits(text: &[u8]) -> Option<(u64, &[u8])>
     ensures { IfSome result (λ cut. Counts text.now cut.0 cut.1.now) }
@@ -51,7 +51,7 @@ fn digits(text: &[u8]) -> Option<(u64, &[u8])>
     }
 }
 
-/// The same of at most seven digits, where eight bytes or more are left.
+/// The number that at most seven digits write, and the text after them, where eight bytes or more are left.
 #[inline(always)]
 pub fn few_digits(text: &[u8]) -> Option<(u32, &[u8])>
     ensures { IfSome result (λ cut. Counts text.now cut.0 cut.1.now) }
@@ -61,7 +61,7 @@ pub fn few_digits(text: &[u8]) -> Option<(u32, &[u8])>
     Some((value, &text[count..]))
 }
 
-/// The same of any digits, one after another.
+/// The number that any digits write, which are read one after another, and the text after them.
 #[inline(always)]
 fn any_digits(text: &[u8]) -> Option<(u64, &[u8])>
     ensures { IfSome result (λ cut. Counts text.now cut.0 cut.1.now) }

@@ -7,13 +7,13 @@ use Rattle.dym_area.proofs.ends.end_of.Goals as goal
 pub overflow_mul-result : goal.overflow_mul-result
 overflow_mul-result c =
     let top = c.in-Some.top in
-    let e = c.args.exp in
-    let end : (top + 1) * c.size_of_class.result ≡ top * size e + size e = ap (λ n. (top + 1) * n) c.size_of_class.ensures ∙ chunk_end top (size e) in
-    omega (arith, end, chunk_fits e top c.requires.greatest (c.requires.below top c.in-Some.ensures.is_set))
+    let e = c.args.class.exp in
+    let end : (top + 1) * c.size.result ≡ top * size e + size e = ap (λ n. (top + 1) * n) c.size.ensures ∙ chunk_end top (size e) in
+    omega (arith, end, chunk_fits e top c.args.class.most (c.requires.below top c.in-Some.ensures.is_set))
 
 pub returns-in-Some-clause-within : goal.returns-in-Some-clause-within
 returns-in-Some-clause-within c =
     let top = c.in-Some.top in
-    let e = c.args.exp in
-    let end : (top + 1) * c.size_of_class.result ≡ top * size e + size e = ap (λ n. (top + 1) * n) c.size_of_class.ensures ∙ chunk_end top (size e) in
-    omega (arith, end, chunk_fits e top c.requires.greatest (c.requires.below top c.in-Some.ensures.is_set))
+    let e = c.args.class.exp in
+    let end : (top + 1) * c.size.result ≡ top * size e + size e = ap (λ n. (top + 1) * n) c.size.ensures ∙ chunk_end top (size e) in
+    omega (arith, end, chunk_fits e top c.args.class.most (c.requires.below top c.in-Some.ensures.is_set))

@@ -9,8 +9,8 @@ returns-in_default-clause-touched g c k = missed_none c.args.shelf.now.state c.a
 pub returns-then-len-at-clause-touched : goal.returns-then-len-at-clause-touched
 returns-then-len-at-clause-touched g c k = missed_short c.args.shelf.now.state c.args.h c.args.at c.in-Some.len k c.in-Some.ensures.len (omega arith)
 
-pub touch-requires-clause-some : goal.touch-requires-clause-some
-touch-requires-clause-some g c = some_bytes _ _ c.in-Some.len c.in-Some.ensures.len refl (λ none. (let short = c.if-len-at.false in omega arith))
+pub touch-requires : goal.touch-requires
+touch-requires g c = some_bytes _ _ c.in-Some.len c.in-Some.ensures.len refl (λ none. (let short = c.if-len-at.false in omega arith))
 
 pub returns : goal.returns
 returns g c =

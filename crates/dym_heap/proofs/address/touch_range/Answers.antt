@@ -16,7 +16,7 @@ loop-at-preserved g c =
     let low = c.loop-at.invariant.low in
     let next = c.min-at.ensures in
     let step = c.from.ensures in
-    let size_is = c.size_of_class.ensures in
+    let size_is = c.size.ensures in
     record {
       met = met_next s.state c.loop-at.shelf.state c.touch_byte.new.shelf.state c.args.from c.min-at.result c.in-Some.h (search rules) lies low (omega arith) (omega arith) (seen c.requires.tidy) c.loop-at.invariant.met c.touch_byte.ensures.touched;
       same = c.touch_byte.ensures.same ∙ ap (λ (x : ShelfMeaning). record x { state = c.touch_byte.new.shelf.state }) c.loop-at.invariant.same;

@@ -22,30 +22,30 @@ run_end-requires-clause-within g c =
     omega arith
 
 pub overflow_mul-at : goal.overflow_mul-at
-overflow_mul-at g c = let sizes = loads.range_sizes c.args.area.now c.args.wanted.now c.args.first c.args.end c.args.bytes.now c.requires.valid c.requires.within c.requires.len c.min-stop.result c.loop-start.invariant.range c.in-Some.ensures (let m = c.min-stop.ensures in let a = c.run_end.ensures.after in let b = c.if-start-end.false in omega arith) (let m = c.min-stop.ensures in omega arith) (λ k low high. let m = c.min-stop.ensures in c.run_end.ensures.run k low (omega arith)) (c.size_of_class-size.ensures ∙ ap size c.exp.ensures) in let a = sizes.0 in let b = sizes.1 in (let room = loads.range_room c.args.area.now c.args.wanted.now c.args.first c.args.end c.args.bytes.now c.requires.valid c.requires.within c.requires.len c.size_of_class-size.result (c.size_of_class-size.ensures ∙ ap size c.exp.ensures) in record { fits = omega arith })
+overflow_mul-at g c = let sizes = loads.range_sizes c.args.area.now c.args.wanted.now c.args.first c.args.end c.args.bytes.now c.requires.valid c.requires.within c.requires.len c.min-stop.result c.loop-start.invariant.range c.in-Some.ensures (let m = c.min-stop.ensures in let a = c.run_end.ensures.after in let b = c.if-start-end.false in omega arith) (let m = c.min-stop.ensures in omega arith) (λ k low high. let m = c.min-stop.ensures in c.run_end.ensures.run k low (omega arith)) (c.size-size.ensures ∙ ap size c.class.ensures) in let a = sizes.0 in let b = sizes.1 in (let room = loads.range_room c.args.area.now c.args.wanted.now c.args.first c.args.end c.args.bytes.now c.requires.valid c.requires.within c.requires.len c.size-size.result (c.size-size.ensures ∙ ap size c.class.ensures) in record { fits = omega arith })
 
 pub overflow_mul-len : goal.overflow_mul-len
-overflow_mul-len g c = let sizes = loads.range_sizes c.args.area.now c.args.wanted.now c.args.first c.args.end c.args.bytes.now c.requires.valid c.requires.within c.requires.len c.min-stop.result c.loop-start.invariant.range c.in-Some.ensures (let m = c.min-stop.ensures in let a = c.run_end.ensures.after in let b = c.if-start-end.false in omega arith) (let m = c.min-stop.ensures in omega arith) (λ k low high. let m = c.min-stop.ensures in c.run_end.ensures.run k low (omega arith)) (c.size_of_class-size.ensures ∙ ap size c.exp.ensures) in let a = sizes.0 in let b = sizes.1 in record { fits = omega arith }
+overflow_mul-len g c = let sizes = loads.range_sizes c.args.area.now c.args.wanted.now c.args.first c.args.end c.args.bytes.now c.requires.valid c.requires.within c.requires.len c.min-stop.result c.loop-start.invariant.range c.in-Some.ensures (let m = c.min-stop.ensures in let a = c.run_end.ensures.after in let b = c.if-start-end.false in omega arith) (let m = c.min-stop.ensures in omega arith) (λ k low high. let m = c.min-stop.ensures in c.run_end.ensures.run k low (omega arith)) (c.size-size.ensures ∙ ap size c.class.ensures) in let a = sizes.0 in let b = sizes.1 in record { fits = omega arith }
 
 pub overflow_add-at : goal.overflow_add-at
-overflow_add-at g c = let sizes = loads.range_sizes c.args.area.now c.args.wanted.now c.args.first c.args.end c.args.bytes.now c.requires.valid c.requires.within c.requires.len c.min-stop.result c.loop-start.invariant.range c.in-Some.ensures (let m = c.min-stop.ensures in let a = c.run_end.ensures.after in let b = c.if-start-end.false in omega arith) (let m = c.min-stop.ensures in omega arith) (λ k low high. let m = c.min-stop.ensures in c.run_end.ensures.run k low (omega arith)) (c.size_of_class-size.ensures ∙ ap size c.exp.ensures) in let a = sizes.0 in let b = sizes.1 in (let room = loads.range_room c.args.area.now c.args.wanted.now c.args.first c.args.end c.args.bytes.now c.requires.valid c.requires.within c.requires.len c.size_of_class-size.result (c.size_of_class-size.ensures ∙ ap size c.exp.ensures) in record { fits = omega arith })
+overflow_add-at g c = let sizes = loads.range_sizes c.args.area.now c.args.wanted.now c.args.first c.args.end c.args.bytes.now c.requires.valid c.requires.within c.requires.len c.min-stop.result c.loop-start.invariant.range c.in-Some.ensures (let m = c.min-stop.ensures in let a = c.run_end.ensures.after in let b = c.if-start-end.false in omega arith) (let m = c.min-stop.ensures in omega arith) (λ k low high. let m = c.min-stop.ensures in c.run_end.ensures.run k low (omega arith)) (c.size-size.ensures ∙ ap size c.class.ensures) in let a = sizes.0 in let b = sizes.1 in (let room = loads.range_room c.args.area.now c.args.wanted.now c.args.first c.args.end c.args.bytes.now c.requires.valid c.requires.within c.requires.len c.size-size.result (c.size-size.ensures ∙ ap size c.class.ensures) in record { fits = omega arith })
 
 pub slice_bounds-load_run-end : goal.slice_bounds-load_run-end
-slice_bounds-load_run-end g c = let sizes = loads.range_sizes c.args.area.now c.args.wanted.now c.args.first c.args.end c.args.bytes.now c.requires.valid c.requires.within c.requires.len c.min-stop.result c.loop-start.invariant.range c.in-Some.ensures (let m = c.min-stop.ensures in let a = c.run_end.ensures.after in let b = c.if-start-end.false in omega arith) (let m = c.min-stop.ensures in omega arith) (λ k low high. let m = c.min-stop.ensures in c.run_end.ensures.run k low (omega arith)) (c.size_of_class-size.ensures ∙ ap size c.exp.ensures) in let a = sizes.0 in let b = sizes.1 in omega arith
+slice_bounds-load_run-end g c = let sizes = loads.range_sizes c.args.area.now c.args.wanted.now c.args.first c.args.end c.args.bytes.now c.requires.valid c.requires.within c.requires.len c.min-stop.result c.loop-start.invariant.range c.in-Some.ensures (let m = c.min-stop.ensures in let a = c.run_end.ensures.after in let b = c.if-start-end.false in omega arith) (let m = c.min-stop.ensures in omega arith) (λ k low high. let m = c.min-stop.ensures in c.run_end.ensures.run k low (omega arith)) (c.size-size.ensures ∙ ap size c.class.ensures) in let a = sizes.0 in let b = sizes.1 in omega arith
 
 pub load_run-requires : goal.load_run-requires
 load_run-requires g c =
-    let sizes = loads.range_sizes c.args.area.now c.args.wanted.now c.args.first c.args.end c.args.bytes.now c.requires.valid c.requires.within c.requires.len c.min-stop.result c.loop-start.invariant.range c.in-Some.ensures (let m = c.min-stop.ensures in let a = c.run_end.ensures.after in let b = c.if-start-end.false in omega arith) (let m = c.min-stop.ensures in omega arith) (λ k low high. let m = c.min-stop.ensures in c.run_end.ensures.run k low (omega arith)) (c.size_of_class-size.ensures ∙ ap size c.exp.ensures) in let a = sizes.0 in let b = sizes.1 in
+    let sizes = loads.range_sizes c.args.area.now c.args.wanted.now c.args.first c.args.end c.args.bytes.now c.requires.valid c.requires.within c.requires.len c.min-stop.result c.loop-start.invariant.range c.in-Some.ensures (let m = c.min-stop.ensures in let a = c.run_end.ensures.after in let b = c.if-start-end.false in omega arith) (let m = c.min-stop.ensures in omega arith) (λ k low high. let m = c.min-stop.ensures in c.run_end.ensures.run k low (omega arith)) (c.size-size.ensures ∙ ap size c.class.ensures) in let a = sizes.0 in let b = sizes.1 in
     let e = ap (λ x. c.in-Some.start * size x) (loads.range_exponent c.args.area.now c.args.wanted.now c.args.first c.args.end c.args.bytes.now c.requires.valid c.requires.within c.requires.len c.min-stop.result c.loop-start.invariant.range c.in-Some.ensures (let m = c.min-stop.ensures in let a = c.run_end.ensures.after in let b = c.if-start-end.false in omega arith) (let m = c.min-stop.ensures in omega arith) (λ k low high. let m = c.min-stop.ensures in c.run_end.ensures.run k low (omega arith))) in
-    let s = ap (λ x. c.in-Some.start * x) (c.size_of_class-size.ensures ∙ ap size c.exp.ensures) in
-    let at = (c.in-Some.start - c.args.first) * c.size_of_class-size.result in
-    let len = (c.min-stop.result - c.in-Some.start) * c.size_of_class-size.result in
+    let s = ap (λ x. c.in-Some.start * x) (c.size-size.ensures ∙ ap size c.class.ensures) in
+    let at = (c.in-Some.start - c.args.first) * c.size-size.result in
+    let len = (c.min-stop.result - c.in-Some.start) * c.size-size.result in
     omega (arith, length-take (at + len - at) (drop at c.args.bytes.now))
 
 pub loop-start-preserved : goal.loop-start-preserved
 loop-start-preserved g c = record {
   valid = c.load_run.ensures.valid;
-  range = loads.range_more c.args.area.now c.args.wanted.now c.args.first c.args.end c.args.bytes.now c.requires.valid c.requires.within c.requires.len c.min-stop.result c.loop-start.invariant.range c.in-Some.ensures (let m = c.min-stop.ensures in let a = c.run_end.ensures.after in let b = c.if-start-end.false in omega arith) (let m = c.min-stop.ensures in omega arith) (λ k low high. let m = c.min-stop.ensures in c.run_end.ensures.run k low (omega arith)) (c.size_of_class-size.ensures ∙ ap size c.exp.ensures) refl refl refl c.loop-start.invariant.valid.content_len c.load_run.ensures.after;
+  range = loads.range_more c.args.area.now c.args.wanted.now c.args.first c.args.end c.args.bytes.now c.requires.valid c.requires.within c.requires.len c.min-stop.result c.loop-start.invariant.range c.in-Some.ensures (let m = c.min-stop.ensures in let a = c.run_end.ensures.after in let b = c.if-start-end.false in omega arith) (let m = c.min-stop.ensures in omega arith) (λ k low high. let m = c.min-stop.ensures in c.run_end.ensures.run k low (omega arith)) (c.size-size.ensures ∙ ap size c.class.ensures) refl refl refl c.loop-start.invariant.valid.content_len c.load_run.ensures.after;
 }
 
 pub returns-then-start-end-clause-loaded : goal.returns-then-start-end-clause-loaded

@@ -12,10 +12,10 @@ pub run_end-end-requires-clause-within : goal.run_end-end-requires-clause-within
 run_end-end-requires-clause-within g c = loads.first_below _ c.requires.valid.least c.requires.body c.in-Some.ensures.is_set
 
 pub overflow_mul-len : goal.overflow_mul-len
-overflow_mul-len g c = let fits = loads.one_size c.requires.wanted c.requires.valid c.requires.body c.loop-start.invariant.loaded c.in-Some.ensures c.run_end-end.ensures.after c.run_end-end.ensures.run _ (c.size_of_class-size.ensures ∙ ap size c.exp.ensures) in omega arith
+overflow_mul-len g c = let fits = loads.one_size c.requires.wanted c.requires.valid c.requires.body c.loop-start.invariant.loaded c.in-Some.ensures c.run_end-end.ensures.after c.run_end-end.ensures.run _ (c.size-size.ensures ∙ ap size c.class.ensures) in omega arith
 
 pub slice_bounds-load_range-end : goal.slice_bounds-load_range-end
-slice_bounds-load_range-end g c = let fits = loads.one_fits c.requires.wanted c.requires.valid c.requires.body c.loop-start.invariant.loaded c.in-Some.ensures c.run_end-end.ensures.after c.run_end-end.ensures.run (c.size_of_class-size.ensures ∙ ap size c.exp.ensures) c.loop-start.invariant.within in omega arith
+slice_bounds-load_range-end g c = let fits = loads.one_fits c.requires.wanted c.requires.valid c.requires.body c.loop-start.invariant.loaded c.in-Some.ensures c.run_end-end.ensures.after c.run_end-end.ensures.run (c.size-size.ensures ∙ ap size c.class.ensures) c.loop-start.invariant.within in omega arith
 
 pub load_range-requires-clause-within : goal.load_range-requires-clause-within
 load_range-requires-clause-within g c =
@@ -25,17 +25,17 @@ load_range-requires-clause-within g c =
 
 pub load_range-requires-clause-len : goal.load_range-requires-clause-len
 load_range-requires-clause-len g c =
-    let fits = loads.one_fits c.requires.wanted c.requires.valid c.requires.body c.loop-start.invariant.loaded c.in-Some.ensures c.run_end-end.ensures.after c.run_end-end.ensures.run (c.size_of_class-size.ensures ∙ ap size c.exp.ensures) c.loop-start.invariant.within in
-    length-part_of c.args.body.now c.loop-start.at ((c.run_end-end.result - c.in-Some.start) * c.size_of_class-size.result) fits
-    ∙ ap (λ s. (c.run_end-end.result - c.in-Some.start) * s) (c.size_of_class-size.ensures ∙ ap size c.exp.ensures)
+    let fits = loads.one_fits c.requires.wanted c.requires.valid c.requires.body c.loop-start.invariant.loaded c.in-Some.ensures c.run_end-end.ensures.after c.run_end-end.ensures.run (c.size-size.ensures ∙ ap size c.class.ensures) c.loop-start.invariant.within in
+    length-part_of c.args.body.now c.loop-start.at ((c.run_end-end.result - c.in-Some.start) * c.size-size.result) fits
+    ∙ ap (λ s. (c.run_end-end.result - c.in-Some.start) * s) (c.size-size.ensures ∙ ap size c.class.ensures)
     ∙ sym (ap (λ e. (c.run_end-end.result - c.in-Some.start) * size e) (loads.one_exponent c.requires.wanted c.requires.valid c.requires.body c.loop-start.invariant.loaded c.in-Some.ensures c.run_end-end.ensures.after c.run_end-end.ensures.run))
 
 pub loop-start-preserved : goal.loop-start-preserved
 loop-start-preserved g c = record {
   small = loads.one_end c.requires.wanted c.requires.valid c.requires.body c.loop-start.invariant.loaded c.in-Some.ensures c.run_end-end.ensures.after c.run_end-end.ensures.run;
-  within = loads.one_fits c.requires.wanted c.requires.valid c.requires.body c.loop-start.invariant.loaded c.in-Some.ensures c.run_end-end.ensures.after c.run_end-end.ensures.run (c.size_of_class-size.ensures ∙ ap size c.exp.ensures) c.loop-start.invariant.within;
+  within = loads.one_fits c.requires.wanted c.requires.valid c.requires.body c.loop-start.invariant.loaded c.in-Some.ensures c.run_end-end.ensures.after c.run_end-end.ensures.run (c.size-size.ensures ∙ ap size c.class.ensures) c.loop-start.invariant.within;
   valid = c.load_range.ensures.valid;
-  loaded = loads.one_more c.requires.wanted c.requires.valid c.requires.body c.loop-start.invariant.loaded c.in-Some.ensures c.run_end-end.ensures.after c.run_end-end.ensures.run _ _ (c.size_of_class-size.ensures ∙ ap size c.exp.ensures) c.load_range.ensures.loaded;
+  loaded = loads.one_more c.requires.wanted c.requires.valid c.requires.body c.loop-start.invariant.loaded c.in-Some.ensures c.run_end-end.ensures.after c.run_end-end.ensures.run _ _ (c.size-size.ensures ∙ ap size c.class.ensures) c.load_range.ensures.loaded;
 }
 
 pub returns-clause-loaded : goal.returns-clause-loaded

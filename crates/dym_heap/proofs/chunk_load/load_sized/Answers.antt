@@ -62,17 +62,17 @@ loop-i-preserved g c =
       within = loads.two_whole c.requires.wanted c.requires.valid c.requires.body before here _ c.number_in-len.ensures c.after_chunks-place.ensures.within;
       valid = c.load_chunk.ensures.valid;
       loaded = loads.two_more c.requires.wanted c.requires.valid c.requires.body before here _ _ c.number_in-len.ensures range;
-      with_length = λ f is.
+      noted = λ f is.
           let below = loads.first_below _ c.requires.valid.least c.requires.body here.is_set in
           let whole = c.loop-i.lengths.whole in
-          loads.two_noted c.requires.wanted c.requires.valid c.requires.body before here c.loop-i.lengths.table.items c.args.lengths.now.table.items (omega arith) c.number_in-len.ensures (loads.two_bytes c.requires.wanted c.requires.valid c.requires.body before here _ c.number_in-len.ensures) (c.load_chunk.ensures.with_length ∙ sym (ap (λ b. cond b (set c.loop-i.lengths.table.items c.in-Some.i (length (between (c.after_chunks-place.result + 4) (c.after_chunks-place.result + 4 + c.number_in-len.result) c.args.body.now))) c.loop-i.lengths.table.items) wanted)) is
-          (loads.noted_on c.args.lengths.now.table.items c.loop-i.lengths.table.items c.args.wanted.now f c.loop-i.from c.in-Some.i (c.loop-i.invariant.with_length f is) c.in-Some.ensures.at_least c.in-Some.ensures.least);
+          loads.two_noted c.requires.wanted c.requires.valid c.requires.body before here c.loop-i.lengths.table.items c.args.lengths.now.table.items (omega arith) c.number_in-len.ensures (loads.two_bytes c.requires.wanted c.requires.valid c.requires.body before here _ c.number_in-len.ensures) (c.load_chunk.ensures.noted ∙ sym (ap (λ b. cond b (set c.loop-i.lengths.table.items c.in-Some.i (length (between (c.after_chunks-place.result + 4) (c.after_chunks-place.result + 4 + c.number_in-len.result) c.args.body.now))) c.loop-i.lengths.table.items) wanted)) is
+          (loads.noted_on c.args.lengths.now.table.items c.loop-i.lengths.table.items c.args.wanted.now f c.loop-i.from c.in-Some.i (c.loop-i.invariant.noted f is) c.in-Some.ensures.at_least c.in-Some.ensures.least);
     }
 
 pub returns-clause-loaded : goal.returns-clause-loaded
 returns-clause-loaded g c = λ f is.
     loads.loaded_all _ c.args.area.now c.args.packed.now c.args.wanted.now c.args.body.now f is c.requires.wanted c.requires.valid (c.loop-i.invariant.loaded f is) c.in_default.ensures
 
-pub returns-clause-with_length : goal.returns-clause-with_length
-returns-clause-with_length g c = λ f is.
-    loads.noted_all c.args.lengths.now.table.items c.loop-i.lengths.table.items c.args.wanted.now f c.loop-i.from (c.loop-i.invariant.with_length f is) c.in_default.ensures
+pub returns-clause-noted : goal.returns-clause-noted
+returns-clause-noted g c = λ f is.
+    loads.noted_all c.args.lengths.now.table.items c.loop-i.lengths.table.items c.args.wanted.now f c.loop-i.from (c.loop-i.invariant.noted f is) c.in_default.ensures

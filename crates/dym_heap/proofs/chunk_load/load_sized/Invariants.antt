@@ -12,7 +12,7 @@ invariant-loop-i g l = record {
   within : l.at ≤ length l.body;
   valid : IsValidArea l.area;
   loaded : (f : ℕ → List ℕ) → IsBodyOf Two l.fn.area.exponent l.packed l.body f → LoadedTo Two l.fn.area l.packed l.wanted l.body f l.area l.from l.at;
-  with_length : (f : ℕ → List ℕ) → IsBodyOf Two l.fn.area.exponent l.packed l.body f → NotedTo l.fn.lengths.table.items l.lengths.table.items l.wanted f l.from;
+  noted : (f : ℕ → List ℕ) → IsBodyOf Two l.fn.area.exponent l.packed l.body f → NotedTo l.fn.lengths.table.items l.lengths.table.items l.wanted f l.from;
 }
 
 abbrev pub decreases-loop-i : goal.decreases-loop-i

@@ -1,14 +1,11 @@
 use Rattle.std.proofs.Common.{is_some, ap, rules}
 use Rattle.dym_base.specs.HeapStep.{key}
-use Rattle.dym_heap.proofs.Tidy.{not_live}
+use Rattle.dym_heap.proofs.Tidy.{no_class, not_live}
 use Rattle.dym_heap.proofs.HeapUndo as undo
 use Rattle.dym_heap.proofs.chunk_undo.forget_chunk.Goals as goal
 
-pub returns-then-h-lt-LEAST_EXPONENT-clause-after : goal.returns-then-h-lt-LEAST_EXPONENT-clause-after
-returns-then-h-lt-LEAST_EXPONENT-clause-after g c = undo.dead_untouched (key c.args.h) c.requires.tidy (ap is_some (not_live (key c.args.h) c.requires.tidy.valid_shelf (λ class. let low = class.0 in search rules)))
-
-pub returns-then-h-gt-GREATEST_EXPONENT-clause-after : goal.returns-then-h-gt-GREATEST_EXPONENT-clause-after
-returns-then-h-gt-GREATEST_EXPONENT-clause-after g c = undo.dead_untouched (key c.args.h) c.requires.tidy (ap is_some (not_live (key c.args.h) c.requires.tidy.valid_shelf (λ class. let high = class.1 in search rules)))
+pub returns-then-not-has_class-clause-after : goal.returns-then-not-has_class-clause-after
+returns-then-not-has_class-clause-after g c = undo.dead_untouched (key c.args.h) c.requires.tidy (ap is_some (not_live (key c.args.h) c.requires.tidy.valid_shelf (no_class c.args.h (search rules) c.if-not-has_class.ensures)))
 
 pub returns : goal.returns
 returns g c =

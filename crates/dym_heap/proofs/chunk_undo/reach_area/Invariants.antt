@@ -3,8 +3,8 @@ use Rattle.dym_heap.specs.Shelves.{count_of}
 use Rattle.dym_heap.proofs.HeapUndo.{Reaching}
 use Rattle.dym_heap.proofs.chunk_undo.reach_area.Given as goal
 
-abbrev pub invariant-loop-shelf : goal.invariant-loop-shelf
-invariant-loop-shelf g l = Reaching l.fn.shelf l.shelf l.exp l.ordinal
+abbrev pub invariant-loop-class : goal.invariant-loop-class
+invariant-loop-class g l = Reaching l.fn.shelf l.shelf l.class.exp l.ordinal
 
-abbrev pub decreases-loop-shelf : goal.decreases-loop-shelf
-decreases-loop-shelf g l = l.ordinal + 1 - count_of l.shelf l.exp
+abbrev pub decreases-loop-class : goal.decreases-loop-class
+decreases-loop-class g l = l.ordinal + 1 - count_of l.shelf l.class.exp

@@ -5,7 +5,7 @@ use Rattle.dym_heap.proofs.fresh_chunk.take_fresh.Goals as goal
 
 pub returns-in-Some : goal.returns-in-Some
 returns-in-Some g c =
-    let took = taking.took_first c.args.exp c.args.len c.requires.tidy c.in-Some.ensures.valid_shelf c.in-Some.ensures.taken c.in-Some.ensures.first in
+    let took = taking.took_first c.args.class.exp c.args.len c.requires.tidy c.in-Some.ensures.valid_shelf c.in-Some.ensures.taken c.in-Some.ensures.first in
     let same = ap (λ (s : ShelfMeaning). length s.held_ids) c.in-Some.ensures.taken in
     let holds = took.held in
     let within = c.requires.tidy.valid_shelf.within in
@@ -13,20 +13,20 @@ returns-in-Some g c =
 
 pub returns-then-held-quota-clause-answer : goal.returns-then-held-quota-clause-answer
 returns-then-held-quota-clause-answer g c =
-    let more = taking.held_full c.args.exp c.requires.tidy c.in_default.ensures.first c.requires.least c.requires.most in
+    let more = taking.held_full c.args.class.exp c.requires.tidy c.in_default.ensures.first c.args.class.least c.args.class.most in
     let a = ap (λ (s : ShelfMeaning). length s.held_ids) c.in_default.ensures.taken in
     let b = ap (λ (s : ShelfMeaning). s.quota) c.in_default.ensures.taken in
     omega arith
 
 pub unreachable-requires : goal.unreachable-requires
 unreachable-requires g c =
-    taking.grown_free c.args.exp c.requires.tidy (taking.grown_from c.args.exp c.in_default.ensures.taken c.add_area.ensures.added) c.requires.least c.requires.most c.in_default-take_chunk.ensures.first
+    taking.grown_free c.args.class.exp c.requires.tidy (taking.grown_from c.args.class.exp c.in_default.ensures.taken c.add_area.ensures.added) c.args.class.least c.args.class.most c.in_default-take_chunk.ensures.first
 
 pub returns : goal.returns
 returns g c =
-    let grown = taking.grown_from c.args.exp c.in_default.ensures.taken c.add_area.ensures.added in
+    let grown = taking.grown_from c.args.class.exp c.in_default.ensures.taken c.add_area.ensures.added in
     let took =
-    taking.took_grown c.args.exp c.requires.tidy grown c.requires.least c.requires.most c.args.len c.in-Some-take_chunk.ensures.valid_shelf c.in-Some-take_chunk.ensures.taken c.in_default.ensures.first
+    taking.took_grown c.args.class.exp c.requires.tidy grown c.args.class.least c.args.class.most c.args.len c.in-Some-take_chunk.ensures.valid_shelf c.in-Some-take_chunk.ensures.taken c.in_default.ensures.first
     c.in-Some-take_chunk.ensures.first in
     let holds = took.held in
     let within = took.tidy.valid_shelf.within in

@@ -9,5 +9,5 @@ returns-then-is_empty-clause-marked g c = λ log is e.
 
 pub returns-clause-marked : goal.returns-clause-marked
 returns-clause-marked g c = λ log is e.
-    fetches.area_marked is c.args.k (c.area_exp.ensures.is log is e) (c.area_ordinal.ensures log is e) c.packed_bits.result (c.packed_bits.ensures log is e)
+    fetches.area_marked is c.args.k (c.area_class.ensures log is e) (c.area_ordinal.ensures log is e) c.packed_bits.result (c.packed_bits.ensures log is e)
     c.mark_area.ensures.marked

@@ -13,32 +13,18 @@ use Rattle.dym_heap.proofs.record_load.load_record.Goals as goal
 pub loop-k-init : goal.loop-k-init
 loop-k-init g c = record { same = refl; tidy = c.requires.tidy; loaded = λ log is e q. steps.upto_none (loads.Loaded log) log.copy c.args.shelf.now.state q }
 
-pub load_area-requires-clause-least : goal.load_area-requires-clause-least
-load_area-requires-clause-least g c =
+pub load_area-requires : goal.load_area-requires
+load_area-requires g c =
     let has = c.area_count-k-end.ensures.recorded in
-    let e = c.area_exp-exp.ensures.is has.0 has.1 has.2 in
-    let low = loads.class_low has.1 c.loop-k.k (let n = c.area_count-k-end.ensures.count has.0 has.1 has.2 in let t = c.loop-k-test.true in omega arith) in
-    omega arith
-
-pub load_area-requires-clause-most : goal.load_area-requires-clause-most
-load_area-requires-clause-most g c =
-    let has = c.area_count-k-end.ensures.recorded in
-    let e = c.area_exp-exp.ensures.is has.0 has.1 has.2 in
-    let high = loads.class_high has.1 c.loop-k.k (let n = c.area_count-k-end.ensures.count has.0 has.1 has.2 in let t = c.loop-k-test.true in omega arith) in
-    omega arith
-
-pub load_area-requires-clause-body : goal.load_area-requires-clause-body
-load_area-requires-clause-body g c =
-    let has = c.area_count-k-end.ensures.recorded in
-    (bytes_at has.0.copy c.loop-k.k, loads.body_k has.1 c.loop-k.k (let n = c.area_count-k-end.ensures.count has.0 has.1 has.2 in let t = c.loop-k-test.true in omega arith) c.packed_bits-packed.result (c.requires.version has.0 has.1 has.2 ∙ sym (ap (λ (s : ShelfMeaning). s.version) c.loop-k.invariant.same)) (c.area_exp-exp.ensures.is has.0 has.1 has.2) (c.packed_bits-packed.ensures has.0 has.1 has.2) (c.body.ensures has.0 has.1 has.2))
+    (bytes_at has.0.copy c.loop-k.k, loads.body_k has.1 c.loop-k.k (let n = c.area_count-k-end.ensures.count has.0 has.1 has.2 in let t = c.loop-k-test.true in omega arith) c.packed_bits-packed.result (c.requires.version has.0 has.1 has.2 ∙ sym (ap (λ (s : ShelfMeaning). s.version) c.loop-k.invariant.same)) (c.area_class-class.ensures has.0 has.1 has.2) (c.packed_bits-packed.ensures has.0 has.1 has.2) (c.body.ensures has.0 has.1 has.2))
 
 pub loop-k-preserved : goal.loop-k-preserved
 loop-k-preserved g c =
     let has = c.area_count-k-end.ensures.recorded in
     let one : (log : Logged) (is : IsRecorded log) → packed log ≡ _ → IsAreaChange log.copy c.loop-k.k c.loop-k.shelf.state c.load_area.new.self.state (loads.Loaded log) =
-    λ log is e. loads.area_loaded is c.loop-k.k c.packed_bits-packed.result (c.area_exp-exp.ensures.is log is e) (c.area_ordinal-ordinal.ensures log is e) (c.packed_bits-packed.ensures log is e)
+    λ log is e. loads.area_loaded is c.loop-k.k c.packed_bits-packed.result (c.area_class-class.ensures log is e) (c.area_ordinal-ordinal.ensures log is e) (c.packed_bits-packed.ensures log is e)
     (c.load_area.ensures.loaded (bytes_at log.copy c.loop-k.k)
-    (loads.body_k is c.loop-k.k (let n = c.area_count-k-end.ensures.count log is e in let t = c.loop-k-test.true in omega arith) c.packed_bits-packed.result (c.requires.version log is e ∙ sym (ap (λ (s : ShelfMeaning). s.version) c.loop-k.invariant.same)) (c.area_exp-exp.ensures.is log is e) (c.packed_bits-packed.ensures log is e) (c.body.ensures log is e))) in
+    (loads.body_k is c.loop-k.k (let n = c.area_count-k-end.ensures.count log is e in let t = c.loop-k-test.true in omega arith) c.packed_bits-packed.result (c.requires.version log is e ∙ sym (ap (λ (s : ShelfMeaning). s.version) c.loop-k.invariant.same)) (c.area_class-class.ensures log is e) (c.packed_bits-packed.ensures log is e) (c.body.ensures log is e))) in
     record {
       same = c.load_area.ensures.same ∙ ap (λ (s : ShelfMeaning). record s { state = c.load_area.new.self.state }) c.loop-k.invariant.same;
       tidy = steps.tidy_changed c.loop-k.invariant.tidy c.load_area.ensures.valid_shelf c.load_area.ensures.same (one has.0 has.1 has.2) (λ q. loads.loaded_some has.0 q _ _);

@@ -3,35 +3,12 @@ use Rattle.dym_base.specs.Heaps.{held}
 use Rattle.std.specs.Ordering.{ord_max}
 use Rattle.dym_pack.specs.Areas.{AreaName}
 use Rattle.dym_heap.proofs.AreaLists.{named}
-use Rattle.dym_heap.proofs.RecordLoads.{class_low, class_high}
 use Rattle.dym_heap.proofs.Counts as counts
 use Rattle.dym_heap.proofs.record_shape.count_areas.Goals as goal
 
 -- the greater of two, as the code takes it
 greater : (x a b : ℕ) → x ≡ ord_max nat_cmp a b → x ≡ max a b
 greater x a b is = search rules
-
-pub class_index-class-requires-clause-least : goal.class_index-class-requires-clause-least
-class_index-class-requires-clause-least c =
-    let has = c.area_count-k-end.ensures.recorded in
-    let e = c.area_exp.ensures.is has.0 has.1 has.2 in
-    let low = class_low has.1 c.loop-k.k (let n = c.area_count-k-end.ensures.count has.0 has.1 has.2 in let t = c.loop-k-test.true in omega arith) in
-    omega arith
-
-pub class_index-class-requires-clause-most : goal.class_index-class-requires-clause-most
-class_index-class-requires-clause-most c =
-    let has = c.area_count-k-end.ensures.recorded in
-    let e = c.area_exp.ensures.is has.0 has.1 has.2 in
-    let high = class_high has.1 c.loop-k.k (let n = c.area_count-k-end.ensures.count has.0 has.1 has.2 in let t = c.loop-k-test.true in omega arith) in
-    omega arith
-
-pub bounds-counts-class : goal.bounds-counts-class
-bounds-counts-class c =
-    let has = c.area_count-k-end.ensures.recorded in
-    let e = c.area_exp.ensures.is has.0 has.1 has.2 in
-    let high = class_high has.1 c.loop-k.k (let n = c.area_count-k-end.ensures.count has.0 has.1 has.2 in let t = c.loop-k-test.true in omega arith) in
-    let i = c.class_index-class.ensures in
-    omega arith
 
 pub overflow_add-area_ordinal : goal.overflow_add-area_ordinal
 overflow_add-area_ordinal c =
@@ -44,18 +21,10 @@ overflow_add-area_ordinal c =
     let l : c.loop-k.k < held has.0.copy = (let n = c.area_count-k-end.ensures.count has.0 has.1 has.2 in let t = c.loop-k-test.true in omega arith) in
     omega arith
 
-pub bounds-counts-class-in-loop-k : goal.bounds-counts-class-in-loop-k
-bounds-counts-class-in-loop-k c =
-    let has = c.area_count-k-end.ensures.recorded in
-    let e = c.area_exp.ensures.is has.0 has.1 has.2 in
-    let high = class_high has.1 c.loop-k.k (let n = c.area_count-k-end.ensures.count has.0 has.1 has.2 in let t = c.loop-k-test.true in omega arith) in
-    let i = c.class_index-class.ensures in
-    omega arith
-
 pub loop-k-preserved : goal.loop-k-preserved
 loop-k-preserved c = record {
-  counted = counts.counted_more c.area_exp.result c.area_ordinal.result c.loop-k.invariant.counted c.area_count-k-end.ensures.recorded
-      (λ log is e. (let n = c.area_count-k-end.ensures.count log is e in let t = c.loop-k-test.true in omega arith)) c.area_exp.ensures.is c.area_ordinal.ensures c.class_index-class.ensures (greater _ _ _ c.max.ensures);
+  counted = counts.counted_more c.area_class.result.exp c.area_ordinal.result c.loop-k.invariant.counted c.area_count-k-end.ensures.recorded
+      (λ log is e. (let n = c.area_count-k-end.ensures.count log is e in let t = c.loop-k-test.true in omega arith)) c.area_class.ensures c.area_ordinal.ensures c.rank-rank.ensures.value (greater _ _ _ c.max.ensures);
 }
 
 pub returns-clause-are : goal.returns-clause-are

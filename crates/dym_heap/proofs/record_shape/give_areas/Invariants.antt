@@ -12,13 +12,13 @@ invariant-loop-exp g l = record {
   valid_shelf : IsValidShelf l.shelf;
 }
 
-abbrev pub invariant-loop-count : goal.invariant-loop-count
-invariant-loop-count g l = record {
+abbrev pub invariant-loop-class : goal.invariant-loop-class
+invariant-loop-class g l = record {
   done : Upto l.shelf l.counts l.exp (λ n most. n ≤ most);
   agree : Agree l.fn.shelf.state l.shelf.state l.counts;
   keeps : Keeps l.fn.shelf l.shelf;
   valid_shelf : IsValidShelf l.shelf;
 }
 
-abbrev pub decreases-loop-count : goal.decreases-loop-count
-decreases-loop-count g l = count_of l.shelf l.exp
+abbrev pub decreases-loop-class : goal.decreases-loop-class
+decreases-loop-class g l = count_of l.shelf l.exp

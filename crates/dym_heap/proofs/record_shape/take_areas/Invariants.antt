@@ -13,8 +13,8 @@ invariant-loop-exp g l = record {
   valid_shelf : IsValidShelf l.shelf;
 }
 
-abbrev pub invariant-loop-count : goal.invariant-loop-count
-invariant-loop-count g l = record {
+abbrev pub invariant-loop-class : goal.invariant-loop-class
+invariant-loop-class g l = record {
   done : Upto l.shelf l.counts l.exp (λ n wanted. n ≡ wanted);
   most : AtMost l.shelf l.counts;
   state : l.shelf.state ≡ l.fn.shelf.state;
@@ -22,5 +22,5 @@ invariant-loop-count g l = record {
   valid_shelf : IsValidShelf l.shelf;
 }
 
-abbrev pub decreases-loop-count : goal.decreases-loop-count
-decreases-loop-count g l = l.count - count_of l.shelf l.exp
+abbrev pub decreases-loop-class : goal.decreases-loop-class
+decreases-loop-class g l = l.count - count_of l.shelf l.exp

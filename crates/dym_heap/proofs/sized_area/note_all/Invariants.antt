@@ -5,8 +5,8 @@ use Rattle.dym_heap.proofs.sized_area.note_all.Given as goal
 abbrev pub invariant-loop-i : goal.invariant-loop-i
 invariant-loop-i l = record {
   small : l.from ≤ 2048;
-  with_length : (k : ℕ) → k < l.from → IsSet l.chunks k → get_or l.lengths.table.items k 0 ≡ l.len;
-  valid_shelf : (k : ℕ) → IsClear l.chunks k → get_or l.lengths.table.items k 0 ≡ get_or l.fn.lengths.table.items k 0;
+  noted : (k : ℕ) → k < l.from → IsSet l.chunks k → get_or l.lengths.table.items k 0 ≡ l.len;
+  others : (k : ℕ) → IsClear l.chunks k → get_or l.lengths.table.items k 0 ≡ get_or l.fn.lengths.table.items k 0;
 }
 
 abbrev pub decreases-loop-i : goal.decreases-loop-i

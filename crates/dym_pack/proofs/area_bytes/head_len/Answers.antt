@@ -2,19 +2,8 @@ use Rattle.std.proofs.Common.{arith}
 use Rattle.dym_base.specs.Numbers.{per}
 use Rattle.std.proofs.Common.{◌≡◌, ◌/◌, max, ap, ◌∙◌}
 use Rattle.dym_pack.specs.Areas.{logged, chunks_of}
-use Rattle.dym_pack.proofs.Named.{area_is}
 use Rattle.dym_pack.proofs.Heads.{head_len, maps_len_full, maps_len_inc}
 use Rattle.dym_pack.proofs.area_bytes.head_len.Goals as goal
-
-pub map_bytes-map-requires-clause-least : goal.map_bytes-map-requires-clause-least
-map_bytes-map-requires-clause-least g c =
-    let is = area_is (g.A.Areas.meaning c.args.areas.now).live c.args.k c.requires.area in
-    omega arith
-
-pub map_bytes-map-requires-clause-greatest : goal.map_bytes-map-requires-clause-greatest
-map_bytes-map-requires-clause-greatest g c =
-    let is = area_is (g.A.Areas.meaning c.args.areas.now).live c.args.k c.requires.area in
-    omega arith
 
 pub returns-in-Full-clause-value : goal.returns-in-Full-clause-value
 returns-in-Full-clause-value g c =

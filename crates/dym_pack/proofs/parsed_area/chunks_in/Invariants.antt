@@ -6,6 +6,6 @@ use Rattle.dym_pack.proofs.parsed_area.chunks_in.Given as goal
 abbrev pub invariant-loop-i : goal.invariant-loop-i
 invariant-loop-i l = record {
   within : l.at ≤ length l.bytes;
-  done : IsBody Two l.exp l._i l.bytes l.at;
-  left : (len : ℕ) → IsBody Two l.exp l.count l.bytes len → (more : ℕ) × IsBody Two l.exp (l.count - l._i) (drop l.at l.bytes) more × (len ≡ l.at + more);
+  done : IsBody Two l.class.exp l._i l.bytes l.at;
+  left : (len : ℕ) → IsBody Two l.class.exp l.count l.bytes len → (more : ℕ) × IsBody Two l.class.exp (l.count - l._i) (drop l.at l.bytes) more × (len ≡ l.at + more);
 }

@@ -10,4 +10,4 @@ returns-then-class-ge-CLASSES-clause-none c e i place before =
 pub returns-clause-none : goal.returns-clause-none
 returns-clause-none c e i place before =
     let class : c.args.offset / c.from.result / c.from-2.result ≡ c.args.offset / 65536 / c.args.quota = λ j. c.args.offset / c.from.ensures j / c.from-2.ensures j in
-    next_start c.args.quota c.args.offset e i c.from-size.result place (c.from-size.ensures ∙ c.size_of_class.ensures ∙ ap (λ n. 2 ^ (5 + n)) class) before
+    next_start c.args.quota c.args.offset e i c.from-size.result place (c.from-size.ensures ∙ c.size.ensures ∙ ap (λ n. 2 ^ (5 + n)) class) before

@@ -9,13 +9,13 @@ use Rattle.dym_area.proofs.Classes.{place_seen, place_real}
 use Rattle.dym_area.proofs.chunks.Area.bytes_mut.Goals as goal
 
 pub overflow_mul-start : goal.overflow_mul-start
-overflow_mul-start g c = omega (arith, place_seen c.self.view_is c.self.invariant.valid c.args.i c.args.at c.args.len c.size_of_class.ensures c.requires.used c.requires.within)
+overflow_mul-start g c = omega (arith, place_seen c.self.view_is c.self.invariant.valid c.args.i c.args.at c.args.len c.size.ensures c.requires.used c.requires.within)
 
 pub overflow_add-start : goal.overflow_add-start
-overflow_add-start g c = omega (arith, place_seen c.self.view_is c.self.invariant.valid c.args.i c.args.at c.args.len c.size_of_class.ensures c.requires.used c.requires.within)
+overflow_add-start g c = omega (arith, place_seen c.self.view_is c.self.invariant.valid c.args.i c.args.at c.args.len c.size.ensures c.requires.used c.requires.within)
 
 pub bytes_mut-requires : goal.bytes_mut-requires
-bytes_mut-requires g c = place_real c.self.view_is c.self.invariant.valid _ c.args.i c.args.at c.args.len c.size_of_class.ensures c.requires.used c.requires.within c.self.invariant.real
+bytes_mut-requires g c = place_real c.self.view_is c.self.invariant.valid _ c.args.i c.args.at c.args.len c.size.ensures c.requires.used c.requires.within c.self.invariant.real
 
 pub returns : goal.returns
 returns g c =
@@ -24,13 +24,13 @@ returns g c =
     let at = c.args.at in
     let len = c.args.len in
     let G = g.G.Segment in
-    let a : AreaMeaning = record { exponent = s.exp; ordinal = s.ordinal; used = s.used; dirty = s.dirty; content = G.content s.segment; identity = G.id s.segment } in
+    let a : AreaMeaning = record { exponent = s.class.exp; ordinal = s.ordinal; used = s.used; dirty = s.dirty; content = G.content s.segment; identity = G.id s.segment } in
     let is : a ≡ c.args.self.now = c.self.view_is in
     let used : IsSet s.used i = ap (λ (z : AreaMeaning). bit_in z.used i) is ∙ c.requires.used in
     let fits = place_seen is c.self.invariant.valid i at len refl c.requires.used c.requires.within in
     let from = chunk_start a i + at in
-    let lent = λ (ws : List ℕ). G.lent s.segment (i * c.size_of_class.result + at) len ws in
-    let start : i * c.size_of_class.result + at ≡ from = ap (λ n. i * n + at) c.size_of_class.ensures in
+    let lent = λ (ws : List ℕ). G.lent s.segment (i * c.size.result + at) len ws in
+    let start : i * c.size.result + at ≡ from = ap (λ n. i * n + at) c.size.ensures in
     let long : (ws : List ℕ) → length (refill len (part_of a.content from len) ws) ≡ len = λ ws. length-refilled a.content from len ws (omega (arith, fits, c.self.invariant.valid.content_len)) in
     let marks : (ws : List ℕ) → c.touch.new.dirty ≡ dirty_after s.dirty i (length (refill len (part_of a.content from len) ws)) = λ ws. c.touch.ensures ∙ ap (dirty_after s.dirty i) (sym (long ws)) in
     let bytes : (ws : List ℕ) → G.content (lent ws) ≡ with_lent a.content from len ws = λ ws. c.bytes_mut.ensures.content ws ∙ ap (λ n. with_lent a.content n len ws) start in

@@ -6,7 +6,7 @@ use Rattle.dym_area.proofs.Classes.{per_small}
 use Rattle.dym_area.proofs.chunks.Area.first_used.Goals as goal
 
 pub next_set_within-requires-clause-limit : goal.next_set_within-requires-clause-limit
-next_set_within-requires-clause-limit g c = omega (arith, c.per_area.ensures, per_small c.self.inside.exp c.self.invariant.valid.least)
+next_set_within-requires-clause-limit g c = omega (arith, c.per_area.ensures, per_small c.self.inside.class.exp c.self.invariant.valid.least)
 
 pub returns : goal.returns
 returns g c =

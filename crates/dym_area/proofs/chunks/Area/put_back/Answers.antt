@@ -3,7 +3,7 @@ use Rattle.dym_area.proofs.Classes.{bit_seen, chunk_seen, front_seen}
 use Rattle.dym_area.proofs.chunks.Area.put_back.Goals as goal
 
 pub overflow_mul-front : goal.overflow_mul-front
-overflow_mul-front g c = omega (arith, chunk_seen c.self.view_is c.self.invariant.valid c.args.i c.size_of_class-size.ensures c.requires.within)
+overflow_mul-front g c = omega (arith, chunk_seen c.self.view_is c.self.invariant.valid c.args.i c.size-size.ensures c.requires.within)
 
 pub set-requires : goal.set-requires
 set-requires g c = bit_seen c.self.view_is c.self.invariant.valid c.args.i c.requires.within
@@ -15,10 +15,10 @@ pub after_take-self-inside-requires-clause-within : goal.after_take-self-inside-
 after_take-self-inside-requires-clause-within g c = bit_seen c.self.view_is c.self.invariant.valid c.args.i c.requires.within
 
 pub write-requires : goal.write-requires
-write-requires g c = front_seen c.self.view_is c.self.invariant.valid c.args.i (length c.args.bytes.now) c.size_of_class-size.ensures c.requires.within c.requires.fits
+write-requires g c = front_seen c.self.view_is c.self.invariant.valid c.args.i (length c.args.bytes.now) c.size-size.ensures c.requires.within c.requires.fits
 
 pub overflow_add-front : goal.overflow_add-front
-overflow_add-front g c = omega (arith, chunk_seen c.self.view_is c.self.invariant.valid c.args.i c.size_of_class-size.ensures c.requires.within)
+overflow_add-front g c = omega (arith, chunk_seen c.self.view_is c.self.invariant.valid c.args.i c.size-size.ensures c.requires.within)
 
 pub fill-requires : goal.fill-requires
-fill-requires g c = chunk_seen c.self.view_is c.self.invariant.valid c.args.i c.size_of_class-size.ensures c.requires.within
+fill-requires g c = chunk_seen c.self.view_is c.self.invariant.valid c.args.i c.size-size.ensures c.requires.within

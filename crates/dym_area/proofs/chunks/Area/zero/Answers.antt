@@ -3,10 +3,10 @@ use Rattle.dym_area.proofs.Classes.{place_seen}
 use Rattle.dym_area.proofs.chunks.Area.zero.Goals as goal
 
 pub overflow_mul-start : goal.overflow_mul-start
-overflow_mul-start g c = omega (arith, place_seen c.self.view_is c.self.invariant.valid c.args.i c.args.at c.args.len c.size_of_class.ensures c.requires.used c.requires.within)
+overflow_mul-start g c = omega (arith, place_seen c.self.view_is c.self.invariant.valid c.args.i c.args.at c.args.len c.size.ensures c.requires.used c.requires.within)
 
 pub overflow_add-start : goal.overflow_add-start
-overflow_add-start g c = omega (arith, place_seen c.self.view_is c.self.invariant.valid c.args.i c.args.at c.args.len c.size_of_class.ensures c.requires.used c.requires.within)
+overflow_add-start g c = omega (arith, place_seen c.self.view_is c.self.invariant.valid c.args.i c.args.at c.args.len c.size.ensures c.requires.used c.requires.within)
 
 pub zero-requires : goal.zero-requires
-zero-requires g c = omega (arith, place_seen c.self.view_is c.self.invariant.valid c.args.i c.args.at c.args.len c.size_of_class.ensures c.requires.used c.requires.within)
+zero-requires g c = omega (arith, place_seen c.self.view_is c.self.invariant.valid c.args.i c.args.at c.args.len c.size.ensures c.requires.used c.requires.within)

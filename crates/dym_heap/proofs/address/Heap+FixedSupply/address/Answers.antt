@@ -3,25 +3,20 @@ use Rattle.std.specs.FinMap.{get}
 use Rattle.dym_base.specs.HeapStep.{key}
 use Rattle.dym_heap.specs.Meaning.{HeapMeaning}
 use Rattle.dym_heap.proofs.Addresses.{segment_in_block, address_is}
-use Rattle.dym_heap.proofs.Tidy.{not_live}
+use Rattle.dym_heap.proofs.Tidy.{no_class, not_live}
 use Rattle.dym_heap.proofs.address.Heap+FixedSupply.address.Goals as goal
 
-pub returns-then-h-lt-LEAST_EXPONENT : goal.returns-then-h-lt-LEAST_EXPONENT
-returns-then-h-lt-LEAST_EXPONENT c =
+pub returns-then-not-has_class : goal.returns-then-not-has_class
+returns-then-not-has_class c =
     subst (λ (x : HeapMeaning). get x.state.live (key c.args.h) ≡ None) c.self.view_is
-    (not_live (key c.args.h) c.self.invariant.valid_shelf (λ class. let low = class.0 in search rules))
-
-pub returns-then-h-gt-GREATEST_EXPONENT : goal.returns-then-h-gt-GREATEST_EXPONENT
-returns-then-h-gt-GREATEST_EXPONENT c =
-    subst (λ (x : HeapMeaning). get x.state.live (key c.args.h) ≡ None) c.self.view_is
-    (not_live (key c.args.h) c.self.invariant.valid_shelf (λ class. let high = class.1 in search rules))
+    (not_live (key c.args.h) c.self.invariant.valid_shelf (no_class c.args.h (search rules) c.if-not-has_class.ensures))
 
 pub returns-in_default : goal.returns-in_default
 returns-in_default c =
     subst (λ (x : HeapMeaning). get x.state.live (key c.args.h) ≡ None) c.self.view_is c.in_default.ensures
 
-pub chunk_within-requires-clause-block : goal.chunk_within-requires-clause-block
-chunk_within-requires-clause-block c = segment_in_block c.self.inside.shelf c.self.view_is c.args.h c.in-Some.segment c.start.ensures.region c.in-Some.ensures.1
+pub chunk_within-requires : goal.chunk_within-requires
+chunk_within-requires c = segment_in_block c.self.inside.shelf c.self.view_is c.args.h c.in-Some.segment c.start.ensures.region c.in-Some.ensures.1
 
 pub returns : goal.returns
 returns c = (

@@ -5,8 +5,8 @@ use Rattle.dym_heap.specs.Meaning.{HeapMeaning}
 use Rattle.dym_heap.proofs.ChunkLent.{tidy_h, sound_h, lent_h, fits_at}
 use Rattle.dym_heap.proofs.heap.Heap.live_mut.Goals as goal
 
-pub bytes_mut-requires-clause-some : goal.bytes_mut-requires-clause-some
-bytes_mut-requires-clause-some g c = fits_at c.self.view_is c.self.invariant c.args.h c.requires.some
+pub bytes_mut-requires : goal.bytes_mut-requires
+bytes_mut-requires g c = fits_at c.self.view_is c.self.invariant c.args.h c.requires.some
 
 pub invariant_of-self-lent : goal.invariant_of-self-lent
 invariant_of-self-lent g c ws = tidy_h c.self.view_is c.self.invariant c.args.h c.requires.some ws (c.bytes_mut.ensures.valid_shelf ws)

@@ -10,8 +10,8 @@ use Rattle.dym_heap.proofs.shelf.Shelf.copy.Goals as goal
 pub unreachable-requires : goal.unreachable-requires
 unreachable-requires g c = calls.not_past c.self.view_is c.self.invariant.0 c.requires.from_class.0 c.requires.from_class.1 c.args.from.index (search rules) (calls.some_fits _ _ c.requires.source) c.in_default.ensures
 
-pub find-requires-2-clause-rising : goal.find-requires-2-clause-rising
-find-requires-2-clause-rising g c = calls.rising_e c.self.view_is c.self.invariant.0 c.requires.to_class.0 c.requires.to_class.1
+pub find-requires-2 : goal.find-requires-2
+find-requires-2 g c = calls.rising_e c.self.view_is c.self.invariant.0 c.requires.to_class.0 c.requires.to_class.1
 
 pub unreachable-requires-in_default-find : goal.unreachable-requires-in_default-find
 unreachable-requires-in_default-find g c = calls.not_past c.self.view_is c.self.invariant.0 c.requires.to_class.0 c.requires.to_class.1 c.args.to.index (search rules) (calls.some_fits _ _ c.requires.target) c.in_default-find.ensures
@@ -32,12 +32,9 @@ pub copy_between-requires-clause-target : goal.copy_between-requires-clause-targ
 copy_between-requires-clause-target g c d = subst (λ o. FitsIn o c.args.len) (ap (λ (c : ChunkMeaning). c.bytes) (calls.chunk_s c.self.view_is c.self.invariant.0 (calls.stands_e c.self.view_is c.self.invariant.0 c.requires.to_class.0 c.requires.to_class.1 c.args.to.index (search rules) c.in-Some-find.ensures) (calls.number_e c.self.view_is c.self.invariant.0 c.requires.to_class.0 c.requires.to_class.1 c.args.to.index (search rules) c.in-Some-find.ensures) d)) c.requires.target
 
 pub invariant_of-self : goal.invariant_of-self
-invariant_of-self g c =
-    let shelf = grows.roomy c.copy_between.ensures.capacity (copies.copied c.self.view_is c.self.invariant.0 c.requires.from_class.0 c.requires.from_class.1 c.args.from.index (search rules) c.requires.to_class.0 c.requires.to_class.1 c.args.to.index (search rules) c.in-Some.ensures c.in-Some-find.ensures c.requires.source c.copy_between.ensures.copied).shelf in
-    (shelf, bound_kept_at _ _ _ c.copy_between.ensures.copied.areas c.self.invariant.0 shelf c.self.invariant.1)
+invariant_of-self g c = bound_kept_at _ _ _ c.copy_between.ensures.copied.areas c.self.invariant (grows.roomy c.copy_between.ensures.capacity (copies.copied c.self.view_is c.self.invariant.0 c.requires.from_class.0 c.requires.from_class.1 c.args.from.index (search rules) c.requires.to_class.0 c.requires.to_class.1 c.args.to.index (search rules) c.in-Some.ensures c.in-Some-find.ensures c.requires.source c.copy_between.ensures.copied).shelf)
 
-pub returns-clause-copied : goal.returns-clause-copied
-returns-clause-copied g c = (copies.copied c.self.view_is c.self.invariant.0 c.requires.from_class.0 c.requires.from_class.1 c.args.from.index (search rules) c.requires.to_class.0 c.requires.to_class.1 c.args.to.index (search rules) c.in-Some.ensures c.in-Some-find.ensures c.requires.source c.copy_between.ensures.copied).gives
-
-pub returns-clause-valid_shelf : goal.returns-clause-valid_shelf
-returns-clause-valid_shelf g c = (copies.copied c.self.view_is c.self.invariant.0 c.requires.from_class.0 c.requires.from_class.1 c.args.from.index (search rules) c.requires.to_class.0 c.requires.to_class.1 c.args.to.index (search rules) c.in-Some.ensures c.in-Some-find.ensures c.requires.source c.copy_between.ensures.copied).valid_shelf
+pub returns : goal.returns
+returns g c =
+    let now = copies.copied c.self.view_is c.self.invariant.0 c.requires.from_class.0 c.requires.from_class.1 c.args.from.index (search rules) c.requires.to_class.0 c.requires.to_class.1 c.args.to.index (search rules) c.in-Some.ensures c.in-Some-find.ensures c.requires.source c.copy_between.ensures.copied in
+    record { copied = now.gives; valid_shelf = now.valid_shelf }

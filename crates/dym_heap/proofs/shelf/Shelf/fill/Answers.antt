@@ -6,24 +6,19 @@ use Rattle.dym_heap.proofs.AreaBindings.{bound_kept}
 use Rattle.dym_heap.proofs.shelf.Shelf.fill.Goals as goal
 
 pub unreachable-requires : goal.unreachable-requires
-unreachable-requires g c = calls.not_past c.self.view_is c.self.invariant.0 c.requires.least c.requires.most c.args.index c.ranges.index.fits (calls.some_fits _ _ c.requires.within) c.in_default.ensures
+unreachable-requires g c = calls.not_past c.self.view_is c.self.invariant.0 c.args.class.least c.args.class.most c.args.index c.ranges.index.fits (calls.some_fits _ _ c.requires.within) c.in_default.ensures
 
 pub index_mut-sized_area-requires : goal.index_mut-sized_area-requires
 index_mut-sized_area-requires g c =
-    let l = calls.in_e c.self.view_is c.self.invariant.0 c.requires.least c.requires.most c.args.index c.ranges.index.fits c.in-Some.ensures in omega arith
+    let l = calls.in_e c.self.view_is c.self.invariant.0 c.args.class.least c.args.class.most c.args.index c.ranges.index.fits c.in-Some.ensures in omega arith
 
 pub fill-requires-clause-within : goal.fill-requires-clause-within
-fill-requires-clause-within g c = subst (λ o. FitsIn o (c.args.at + c.args.len)) (calls.bytes_e c.self.view_is c.self.invariant.0 c.requires.least c.requires.most c.args.index c.ranges.index.fits c.in-Some.ensures c.index_mut-sized_area.ensures.value) c.requires.within
+fill-requires-clause-within g c = subst (λ o. FitsIn o (c.args.at + c.args.len)) (calls.bytes_e c.self.view_is c.self.invariant.0 c.args.class.least c.args.class.most c.args.index c.ranges.index.fits c.in-Some.ensures c.index_mut-sized_area.ensures.value) c.requires.within
 
 pub invariant_of-self : goal.invariant_of-self
-invariant_of-self g c =
-    let shelf = (calls.written c.self.view_is c.self.invariant.0 c.requires.least c.requires.most c.args.index c.ranges.index.fits c.in-Some.ensures c.index_mut-sized_area.ensures.value (splice c.args.at (replicate c.args.len c.args.byte)) c.fill.ensures.filled c.fill.ensures.valid).shelf in
-    (shelf, bound_kept _ _ _ c.self.invariant.0 shelf c.self.invariant.1)
+invariant_of-self g c = bound_kept _ _ _ c.self.invariant (calls.written c.self.view_is c.self.invariant.0 c.args.class.least c.args.class.most c.args.index c.ranges.index.fits c.in-Some.ensures c.index_mut-sized_area.ensures.value (splice c.args.at (replicate c.args.len c.args.byte)) c.fill.ensures.filled c.fill.ensures.valid).shelf
 
-pub returns-clause-filled : goal.returns-clause-filled
-returns-clause-filled g c =
-    (calls.written c.self.view_is c.self.invariant.0 c.requires.least c.requires.most c.args.index c.ranges.index.fits c.in-Some.ensures c.index_mut-sized_area.ensures.value (splice c.args.at (replicate c.args.len c.args.byte)) c.fill.ensures.filled c.fill.ensures.valid).gives
-
-pub returns-clause-valid_shelf : goal.returns-clause-valid_shelf
-returns-clause-valid_shelf g c =
-    (calls.written c.self.view_is c.self.invariant.0 c.requires.least c.requires.most c.args.index c.ranges.index.fits c.in-Some.ensures c.index_mut-sized_area.ensures.value (splice c.args.at (replicate c.args.len c.args.byte)) c.fill.ensures.filled c.fill.ensures.valid).valid_shelf
+pub returns : goal.returns
+returns g c =
+    let now = calls.written c.self.view_is c.self.invariant.0 c.args.class.least c.args.class.most c.args.index c.ranges.index.fits c.in-Some.ensures c.index_mut-sized_area.ensures.value (splice c.args.at (replicate c.args.len c.args.byte)) c.fill.ensures.filled c.fill.ensures.valid in
+    record { filled = now.gives; valid_shelf = now.valid_shelf }

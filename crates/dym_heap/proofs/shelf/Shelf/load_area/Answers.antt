@@ -6,25 +6,22 @@ use Rattle.dym_heap.proofs.AreaBindings.{bound_kept}
 use Rattle.dym_heap.proofs.shelf.Shelf.load_area.Goals as goal
 
 pub returns-then-ordinal-self-clause-loaded : goal.returns-then-ordinal-self-clause-loaded
-returns-then-ordinal-self-clause-loaded g c =
-    λ f is. calls.no_such_area c.self.view_is c.self.invariant.0 c.requires.least c.requires.most (λ i old new. new ≡ loaded_chunk c.args.packed.now f i old) c.class_index-class.ensures c.if-ordinal-self.true (λ i. refl)
+returns-then-ordinal-self-clause-loaded g c = λ f is. calls.no_such_area c.self.view_is c.self.invariant.0 c.args.class.least c.args.class.most (λ i old new. new ≡ loaded_chunk c.args.packed.now f i old) c.rank-rank.ensures.value c.if-ordinal-self.true (λ i. refl)
 
 pub returns-then-ordinal-self-clause-valid_shelf : goal.returns-then-ordinal-self-clause-valid_shelf
 returns-then-ordinal-self-clause-valid_shelf g c = calls.valid_s c.self.view_is c.self.invariant.0
 
 pub index_mut-sized_area-requires : goal.index_mut-sized_area-requires
-index_mut-sized_area-requires g c = let l = calls.place_in c.self.view_is c.self.invariant.0 c.requires.least c.requires.most c.class_index-class.ensures c.if-ordinal-self.false in omega arith
+index_mut-sized_area-requires g c = let l = calls.place_in c.self.view_is c.self.invariant.0 c.args.class.least c.args.class.most c.rank-rank.ensures.value c.if-ordinal-self.false in omega arith
 
 pub load-requires-clause-body : goal.load-requires-clause-body
-load-requires-clause-body g c = loads.has_q c.self.view_is c.self.invariant.0 c.requires.least c.requires.most c.class_index-class.ensures c.if-ordinal-self.false c.index_mut-sized_area.ensures.value c.requires.body
+load-requires-clause-body g c = loads.has_q c.self.view_is c.self.invariant.0 c.args.class.least c.args.class.most c.rank-rank.ensures.value c.if-ordinal-self.false c.index_mut-sized_area.ensures.value c.requires
 
 pub invariant_of-self : goal.invariant_of-self
-invariant_of-self g c =
-    let shelf = (loads.loaded_shelf c.self.view_is c.self.invariant.0 c.requires.least c.requires.most c.class_index-class.ensures c.if-ordinal-self.false c.index_mut-sized_area.ensures.value c.load.ensures.valid c.load.ensures.loaded c.requires.body.0 c.requires.body.1).shelf in
-    (shelf, bound_kept _ _ _ c.self.invariant.0 shelf c.self.invariant.1)
+invariant_of-self g c = bound_kept _ _ _ c.self.invariant (loads.loaded_shelf c.self.view_is c.self.invariant.0 c.args.class.least c.args.class.most c.rank-rank.ensures.value c.if-ordinal-self.false c.index_mut-sized_area.ensures.value c.load.ensures.valid c.load.ensures.loaded c.requires.0 c.requires.1).shelf
 
 pub returns : goal.returns
 returns g c =
-    let now = loads.loaded_shelf c.self.view_is c.self.invariant.0 c.requires.least c.requires.most c.class_index-class.ensures c.if-ordinal-self.false c.index_mut-sized_area.ensures.value c.load.ensures.valid c.load.ensures.loaded in
-    let one = now c.requires.body.0 c.requires.body.1 in
+    let now = loads.loaded_shelf c.self.view_is c.self.invariant.0 c.args.class.least c.args.class.most c.rank-rank.ensures.value c.if-ordinal-self.false c.index_mut-sized_area.ensures.value c.load.ensures.valid c.load.ensures.loaded in
+    let one = now c.requires.0 c.requires.1 in
     record { loaded = λ f is. (now f is).area; same = one.same; valid_shelf = one.valid }

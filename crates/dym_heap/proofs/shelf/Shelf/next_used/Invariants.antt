@@ -4,7 +4,7 @@ use Rattle.dym_heap.proofs.shelf.Shelf.next_used.Given as goal
 
 abbrev pub invariant-loop-ordinal : goal.invariant-loop-ordinal
 invariant-loop-ordinal g l = record {
-  free : FreeUpTo l.self.state l.exp l.from (l.ordinal * l.per + l.chunk);
+  free : FreeUpTo l.self.state l.fn.class.exp l.from (l.ordinal * l.per + l.chunk);
   start : l.from ≤ l.ordinal * l.per + l.chunk;
   small : l.chunk < l.per;
 }

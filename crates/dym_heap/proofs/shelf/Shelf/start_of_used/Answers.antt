@@ -6,31 +6,31 @@ use Rattle.dym_heap.proofs.shelf.Shelf.start_of_used.Goals as goal
 
 pub returns-in_default : goal.returns-in_default
 returns-in_default g c =
-    calls.past_e c.self.view_is c.self.invariant.0 c.requires.least c.requires.most c.args.index
+    calls.past_e c.self.view_is c.self.invariant.0 c.args.class.least c.args.class.most c.args.index
     c.ranges.index.fits c.in_default.ensures
 
 pub index-sized_area-requires : goal.index-sized_area-requires
 index-sized_area-requires g c =
-    let l = calls.in_e c.self.view_is c.self.invariant.0 c.requires.least c.requires.most c.args.index
+    let l = calls.in_e c.self.view_is c.self.invariant.0 c.args.class.least c.args.class.most c.args.index
     c.ranges.index.fits c.in-Some.ensures in
     omega arith
 
 pub is_used-requires : goal.is_used-requires
 is_used-requires g c =
-    calls.inside_e c.self.view_is c.self.invariant.0 c.requires.least c.requires.most c.args.index
+    calls.inside_e c.self.view_is c.self.invariant.0 c.args.class.least c.args.class.most c.args.index
     c.ranges.index.fits c.in-Some.ensures c.index-sized_area.ensures
 
 pub returns-then-not-is_used : goal.returns-then-not-is_used
 returns-then-not-is_used g c =
-    calls.bytes_e c.self.view_is c.self.invariant.0 c.requires.least c.requires.most c.args.index
+    calls.bytes_e c.self.view_is c.self.invariant.0 c.args.class.least c.args.class.most c.args.index
     c.ranges.index.fits c.in-Some.ensures c.index-sized_area.ensures
     ∙ none_of _ (sym c.if-not-is_used.ensures)
 
 pub returns : goal.returns
 returns g c = (
-  ap is_some (calls.bytes_e c.self.view_is c.self.invariant.0 c.requires.least c.requires.most c.args.index
+  ap is_some (calls.bytes_e c.self.view_is c.self.invariant.0 c.args.class.least c.args.class.most c.args.index
       c.ranges.index.fits c.in-Some.ensures c.index-sized_area.ensures) ∙ sym c.if-not-is_used.ensures,
   start_of_chunk g.S.Supply.binding g.S.Seg.Segment.place_of c.self.view_is c.self.invariant.0 c.self.invariant.1
-      c.requires.least c.requires.most c.args.index c.ranges.index.fits c.in-Some.ensures
+      c.args.class.least c.args.class.most c.args.index c.ranges.index.fits c.in-Some.ensures
       c.index-sized_area.ensures c.start.result c.start.ensures,
 )

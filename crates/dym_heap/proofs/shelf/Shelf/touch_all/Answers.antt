@@ -6,8 +6,5 @@ use Rattle.dym_heap.proofs.shelf.Shelf.touch_all.Goals as goal
 pub invariant_of-self : goal.invariant_of-self
 invariant_of-self g c = (touched_shelf c.self.view_is c.self.invariant.0 c.touch_sized_areas.ensures.touched c.touch_sized_areas.ensures.room, bound_touched _ _ _ c.touch_sized_areas.ensures.touched c.self.invariant.1)
 
-pub returns-clause-touched : goal.returns-clause-touched
-returns-clause-touched g c = touched_view c.self.view_is c.self.invariant.0 c.touch_sized_areas.ensures.touched
-
-pub returns-clause-valid_shelf : goal.returns-clause-valid_shelf
-returns-clause-valid_shelf g c = is_valid _ (touched_shelf c.self.view_is c.self.invariant.0 c.touch_sized_areas.ensures.touched c.touch_sized_areas.ensures.room)
+pub returns : goal.returns
+returns g c = record { touched = touched_view c.self.view_is c.self.invariant.0 c.touch_sized_areas.ensures.touched; valid_shelf = is_valid _ (touched_shelf c.self.view_is c.self.invariant.0 c.touch_sized_areas.ensures.touched c.touch_sized_areas.ensures.room) }

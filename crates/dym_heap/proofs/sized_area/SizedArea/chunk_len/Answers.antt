@@ -12,5 +12,5 @@ returns-then-not-is_used g c = facts.len_free_p c.self.view_is c.self.invariant 
 
 pub returns : goal.returns
 returns g c =
-    ap Some (c.noted_len.ensures ∙ (ap (λ e. len_of e (numbers_of c.self.inside.lengths) c.args.i) c.exp.ensures))
+    ap Some (c.noted_len.ensures ∙ (ap (λ e. len_of e (numbers_of c.self.inside.lengths) c.args.i) c.class.ensures))
     ∙ facts.len_used_p c.self.view_is c.self.invariant c.args.i (search rules)

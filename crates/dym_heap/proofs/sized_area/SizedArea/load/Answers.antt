@@ -14,8 +14,8 @@ returns-in-None-clause-valid g c =
 
 pub returns-in-Some-clause-loaded : goal.returns-in-Some-clause-loaded
 returns-in-Some-clause-loaded g c = λ f is.
-    (loads.loads_two c.self.view_is c.self.invariant c.args.wanted.now c.requires.wanted is c.load_sized.ensures.valid _ _ (ap numbers_of c.in-Some.is) c.load_sized.ensures.loaded c.load_sized.ensures.with_length).loaded
+    (loads.loads_two c.self.view_is c.self.invariant c.args.wanted.now c.requires.wanted is c.load_sized.ensures.valid _ _ (ap numbers_of c.in-Some.is) c.load_sized.ensures.loaded c.load_sized.ensures.noted).loaded
 
 pub returns-in-Some-clause-valid : goal.returns-in-Some-clause-valid
 returns-in-Some-clause-valid g c =
-    is_place (loads.loads_two c.self.view_is c.self.invariant c.args.wanted.now c.requires.wanted c.requires.body.1 c.load_sized.ensures.valid _ _ (ap numbers_of c.in-Some.is) c.load_sized.ensures.loaded c.load_sized.ensures.with_length).measured
+    is_place (loads.loads_two c.self.view_is c.self.invariant c.args.wanted.now c.requires.wanted c.requires.body.1 c.load_sized.ensures.valid _ _ (ap numbers_of c.in-Some.is) c.load_sized.ensures.loaded c.load_sized.ensures.noted).measured

@@ -6,8 +6,8 @@ use Rattle.dym_heap.proofs.PlaceSteps.{is_place}
 use Rattle.dym_heap.proofs.PlaceFacts as facts
 use Rattle.dym_heap.proofs.sized_area.SizedArea.used_bytes_mut.Goals as goal
 
-pub noted_len-len-requires-clause-within : goal.noted_len-len-requires-clause-within
-noted_len-len-requires-clause-within g c = facts.few_p c.self.view_is c.self.invariant (facts.in_use c.self.view_is c.self.invariant c.args.i 1 c.requires).below
+pub noted_len-len-requires : goal.noted_len-len-requires
+noted_len-len-requires g c = facts.few_p c.self.view_is c.self.invariant (facts.in_use c.self.view_is c.self.invariant c.args.i 1 c.requires).below
 
 pub bytes_mut-requires-clause-used : goal.bytes_mut-requires-clause-used
 bytes_mut-requires-clause-used g c = (facts.in_use c.self.view_is c.self.invariant c.args.i 1 c.requires).is_set
@@ -15,19 +15,19 @@ bytes_mut-requires-clause-used g c = (facts.in_use c.self.view_is c.self.invaria
 pub bytes_mut-requires-clause-within : goal.bytes_mut-requires-clause-within
 bytes_mut-requires-clause-within g c =
     let u = facts.in_use c.self.view_is c.self.invariant c.args.i 1 c.requires in
-    let long = c.noted_len-len.ensures ∙ ap (λ e. len_of e (numbers_of c.self.inside.lengths) c.args.i) c.exp.ensures ∙ sym u.noted_as in
+    let long = c.noted_len-len.ensures ∙ ap (λ e. len_of e (numbers_of c.self.inside.lengths) c.args.i) c.class.ensures ∙ sym u.noted_as in
     omega (arith, long, u.small)
 
 pub invariant_of-self-lent : goal.invariant_of-self-lent
 invariant_of-self-lent g c ws =
     let u = facts.in_use c.self.view_is c.self.invariant c.args.i 1 c.requires in
-    let long : c.noted_len-len.result ≡ length u.old = c.noted_len-len.ensures ∙ ap (λ e. len_of e (numbers_of c.self.inside.lengths) c.args.i) c.exp.ensures ∙ sym u.noted_as in
+    let long : c.noted_len-len.result ≡ length u.old = c.noted_len-len.ensures ∙ ap (λ e. len_of e (numbers_of c.self.inside.lengths) c.args.i) c.class.ensures ∙ sym u.noted_as in
     (lent_p u long (facts.reaches c.self.inside.lengths (facts.few_p c.self.view_is c.self.invariant u.below)) ws (c.bytes_mut.ensures.valid ws)).measured
 
 pub returns : goal.returns
 returns g c =
     let u = facts.in_use c.self.view_is c.self.invariant c.args.i 1 c.requires in
-    let long : c.noted_len-len.result ≡ length u.old = c.noted_len-len.ensures ∙ ap (λ e. len_of e (numbers_of c.self.inside.lengths) c.args.i) c.exp.ensures ∙ sym u.noted_as in
+    let long : c.noted_len-len.result ≡ length u.old = c.noted_len-len.ensures ∙ ap (λ e. len_of e (numbers_of c.self.inside.lengths) c.args.i) c.class.ensures ∙ sym u.noted_as in
     let r = facts.reaches c.self.inside.lengths (facts.few_p c.self.view_is c.self.invariant u.below) in (
       (refl, λ ws. (lent_p u long r ws (c.bytes_mut.ensures.valid ws)).is),
       record {

@@ -11,10 +11,10 @@ slice_bounds-result-end c =
     let rec = c.requires.is.1 in
     let same = c.requires.is.2 in
     let one = sym (c.version.ensures log rec same) ∙ c.in-One.is in
-    let size_is : c.size_of_class-size.result ≡ size (area_at log.copy c.args.k).exponent = c.size_of_class-size.ensures ∙ ap size (c.area_exp.ensures.is log rec same) in
-    let at_is : c.args.n * c.size_of_class-size.result ≡ length (before_chunk log c.args.k c.args.i) * size (area_at log.copy c.args.k).exponent = ap (λ n. n * c.size_of_class-size.result) (c.requires.count log rec same) ∙ ap (λ s. length (before_chunk log c.args.k c.args.i) * s) size_is in
+    let size_is : c.size-size.result ≡ size (area_at log.copy c.args.k).exponent = c.size-size.ensures ∙ ap size (c.area_class.ensures log rec same) in
+    let at_is : c.args.n * c.size-size.result ≡ length (before_chunk log c.args.k c.args.i) * size (area_at log.copy c.args.k).exponent = ap (λ n. n * c.size-size.result) (c.requires.count log rec same) ∙ ap (λ s. length (before_chunk log c.args.k c.args.i) * s) size_is in
     let room = nth_room_one log (packable log rec) one c.args.k (c.requires.area log rec same) c.args.i (c.requires.chunk log rec same) (c.requires.packs log rec same) in
-    let short : c.args.n * c.size_of_class-size.result + c.size_of_class-size.result ≤ length c.body-body.result.now = omega (arith, ap length (c.body-body.ensures log rec same)) in
+    let short : c.args.n * c.size-size.result + c.size-size.result ≤ length c.body-body.result.now = omega (arith, ap length (c.body-body.ensures log rec same)) in
     short
 
 pub chunk_after-requires : goal.chunk_after-requires
@@ -28,10 +28,10 @@ chunk_after-requires c =
 pub returns-in-One : goal.returns-in-One
 returns-in-One c log rec same =
     let one = sym (c.version.ensures log rec same) ∙ c.in-One.is in
-    let size_is : c.size_of_class-size.result ≡ size (area_at log.copy c.args.k).exponent = c.size_of_class-size.ensures ∙ ap size (c.area_exp.ensures.is log rec same) in
-    let at_is : c.args.n * c.size_of_class-size.result ≡ length (before_chunk log c.args.k c.args.i) * size (area_at log.copy c.args.k).exponent = ap (λ n. n * c.size_of_class-size.result) (c.requires.count log rec same) ∙ ap (λ s. length (before_chunk log c.args.k c.args.i) * s) size_is in
-    let at = c.args.n * c.size_of_class-size.result in
-    let len = at + c.size_of_class-size.result - at in
+    let size_is : c.size-size.result ≡ size (area_at log.copy c.args.k).exponent = c.size-size.ensures ∙ ap size (c.area_class.ensures log rec same) in
+    let at_is : c.args.n * c.size-size.result ≡ length (before_chunk log c.args.k c.args.i) * size (area_at log.copy c.args.k).exponent = ap (λ n. n * c.size-size.result) (c.requires.count log rec same) ∙ ap (λ s. length (before_chunk log c.args.k c.args.i) * s) size_is in
+    let at = c.args.n * c.size-size.result in
+    let len = at + c.size-size.result - at in
     let len_is : len ≡ size (area_at log.copy c.args.k).exponent = omega arith in
     ap (λ bytes. take len (drop at bytes)) (c.body-body.ensures log rec same)
     ∙ nth_read_one log (packable log rec) one c.args.k (c.requires.area log rec same) c.args.i (c.requires.chunk log rec same) (c.requires.packs log rec same) at len at_is len_is

@@ -12,13 +12,13 @@ slice_bounds-result-end c =
     let rec = c.whole-bytes.ensures.is.1 in
     let same = c.whole-bytes.ensures.is.2 ∙ c.whole-bytes.ensures.same in
     let long = ap length c.whole-bytes.ensures.is.2 in
-    let map_is : c.map_bytes-map.result ≡ max 1 (chunks_of log.copy c.args.k / 8) = c.map_bytes-map.ensures.value ∙ ap (λ e. max 1 (per e / 8)) (c.area_exp.ensures.is log rec same) in
+    let map_is : c.map_bytes-map.result ≡ max 1 (chunks_of log.copy c.args.k / 8) = c.map_bytes-map.ensures.value ∙ ap (λ e. max 1 (per e / 8)) (c.area_class.ensures log rec same) in
     let short : c.start.result + 5 + c.map_bytes-map.result + c.map_bytes-map.result ≤ length c.whole-bytes.result.now = omega (arith, touched_fits log c.args.k (c.requires.area log rec same) (c.requires.kind log rec same), c.start.ensures.at log rec same) in
     short
 
 pub returns-clause-is : goal.returns-clause-is
 returns-clause-is c log rec same =
-    let map_is : c.map_bytes-map.result ≡ max 1 (chunks_of log.copy c.args.k / 8) = c.map_bytes-map.ensures.value ∙ ap (λ e. max 1 (per e / 8)) (c.area_exp.ensures.is log rec same) in
+    let map_is : c.map_bytes-map.result ≡ max 1 (chunks_of log.copy c.args.k / 8) = c.map_bytes-map.ensures.value ∙ ap (λ e. max 1 (per e / 8)) (c.area_class.ensures log rec same) in
     let map = c.map_bytes-map.result in
     let n_is : c.start.result + 5 + map + map - (c.start.result + 5 + map) ≡ map = omega arith in
     ap (λ n. take n (drop (c.start.result + 5 + map) c.whole-bytes.result.now)) n_is

@@ -4,7 +4,7 @@ use Rattle.std.proofs.Math.Pow.{pow_mono}
 use Rattle.std.proofs.lemmas.Bool.{cases_lt}
 use Rattle.dym_base.specs.Numbers.{cls}
 use Rattle.dym_base.proofs.Classes.{cls_is, cls_none, cls_class}
-use Rattle.dym_base.proofs.class.class_of.Goals as goal
+use Rattle.dym_base.proofs.class.Class.of_len.Goals as goal
 
 -- the exponents of numbers from 32 to 65,535
 least_exponent : (x e : ℕ) → 32 ≤ x → x < 2 ^ (e + 1) → 5 ≤ e
@@ -33,19 +33,26 @@ class_above n e low high le lt =
     let before : e + 1 - 1 ≡ e = omega arith in
     cls_is n (e + 1) (omega arith) (omega arith) (inr (rw before (omega arith))) (omega arith)
 
-cls_bounds : (n e : ℕ) → cls n ≡ Some e → n ≤ 65536 → (5 ≤ e) × (e ≤ 16) × (n ≤ 2 ^ e) × (n ≤ 65536)
-cls_bounds n e is high = let class = cls_class n e is in (class.0, class.1, class.2, high)
+-- what the logarithm gives, in the last case
+class_found : (n e : ℕ) → 32 < n → n ≤ 65536 → 2 ^ e ≤ n - 1 → n - 1 < 2 * 2 ^ e → (5 ≤ e + 1) × (e + 1 ≤ 16) × (n ≤ 2 ^ (e + 1))
+class_found n e low high le lt = cls_class n (e + 1) (class_above n e low high le lt)
 
-pub returns-then-len-le32 : goal.returns-then-len-le32
-returns-then-len-le32 c = record {
-  value = sym (cls_is c.args.len 5 (omega arith) (omega arith) (inl refl) (omega arith));
-  class = (omega arith, omega arith, omega arith, omega arith);
-}
+pub returns-then-len-le-LEAST_SIZE-clause-value : goal.returns-then-len-le-LEAST_SIZE-clause-value
+returns-then-len-le-LEAST_SIZE-clause-value c = sym (cls_is c.args.len 5 (omega arith) (omega arith) (inl refl) (omega arith))
 
-pub returns-then-len-gt65536 : goal.returns-then-len-gt65536
-returns-then-len-gt65536 c = record { value = sym (cls_none c.args.len (omega arith)); class = tt }
+pub returns-then-len-from-clause-value : goal.returns-then-len-from-clause-value
+returns-then-len-from-clause-value c = sym (cls_none c.args.len (omega (arith, c.from.ensures)))
+
+pub invariant_of-result-2 : goal.invariant_of-result-2
+invariant_of-result-2 c =
+    let class = class_found c.args.len c.ilog2.result (omega arith) (omega (arith, c.from.ensures)) c.ilog2.ensures.power_le c.ilog2.ensures.next_power_gt in
+    record { least = class.0; most = class.1 }
 
 pub returns : goal.returns
 returns c =
-    let is = class_above c.args.len c.ilog2.result (omega arith) (omega arith) c.ilog2.ensures.power_le c.ilog2.ensures.next_power_gt in
-    record { value = sym is; class = cls_bounds c.args.len (c.ilog2.result + 1) is (omega arith) }
+    let le = c.ilog2.ensures.power_le in
+    let lt = c.ilog2.ensures.next_power_gt in
+    record {
+      value = sym (class_above c.args.len c.ilog2.result (omega arith) (omega (arith, c.from.ensures)) le lt);
+      fits = ((class_found c.args.len c.ilog2.result (omega arith) (omega (arith, c.from.ensures)) le lt).2, omega (arith, c.from.ensures));
+    }
