@@ -54,8 +54,8 @@ region_send = search (sendable, claim_send, vec.the_send, lodged.the_send, lodge
 supply_send : IsSend fixed.the_row
 supply_send = search (sendable, region_send, sent_segment.the_send, vec.the_send, global.the_send, frees) depth 20
 
-process_send : (Context : RattleType) (a : _) (b : _) → IsSend (Object.the_row fixed.the_row segment.the_row Context a b)
-process_send Context a b = object.the_send fixed.the_row segment.the_row Context a b supply_send sent_segment.the_send
+process_send : (Way : RattleType) (a : _) (b : _) → IsSend (Object.the_row fixed.the_row segment.the_row Way a b)
+process_send Way a b = object.the_send fixed.the_row segment.the_row Way a b supply_send sent_segment.the_send
 
 inside_send : IsSend inside.the_row
 inside_send = search (sendable, process_send, copy.the_send) depth 20

@@ -181,7 +181,7 @@ impl<K: LogKeep> Chain<K> {
     /// that may have changed since: those that are touched, and those that a dropped log found touched.
     pub fn restore<S: Supply>(
         &mut self,
-        context: &S::Context,
+        way: &S::Way,
         heap: &mut Heap<S>,
         time: u64,
     ) -> Result<u64, Refusal>
@@ -217,7 +217,7 @@ impl<K: LogKeep> Chain<K> {
         self.keep.drop_after(place);
         self.ghost_copies = self.ghost_copies.cut(0, kept);
         let rec = self.keep.lift(place);
-        heap.reshape(context, &rec);
+        heap.reshape(way, &rec);
         self.keep.lower(place, rec);
         fetch_down(&mut self.keep, heap, place, depth + 1);
         Ok(target.time)

@@ -23,7 +23,7 @@ impl<K: LogKeep> Chain<K> {
     pub fn untold<S: Supply>(
         &mut self,
         alloc: Global,
-        context: &S::Context,
+        way: &S::Way,
         heap: &Heap<S>,
         other: &mut Heap<S>,
     ) -> Result<Option<Handle>, AllocError>
@@ -43,7 +43,7 @@ impl<K: LogKeep> Chain<K> {
         let newest = self.entry(kept - 1);
         dym_heap::laws::heaps_are_packable();
         let touched = pack(alloc, heap, Kind::Inc, 0)?;
-        other.reshape(context, &touched);
+        other.reshape(way, &touched);
         other.fetch(&touched);
         let depth = u32::from(newest.depth);
         let last = self.keep.len() - 1;

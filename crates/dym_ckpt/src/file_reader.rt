@@ -79,7 +79,7 @@ impl FileContent {
     pub fn load<S: Supply>(
         self,
         alloc: Global,
-        context: &S::Context,
+        way: &S::Way,
         supply: S,
     ) -> Result<(Name, Heap<S>, Chain<VecKeep>), S>
         requires content { (bytes : List ℕ) × IsContentOf bytes self }
@@ -97,15 +97,15 @@ impl FileContent {
             Err((_, supply)) => return Err(supply),
         };
         let Ok(mut chain) = Chain::adopt(alloc, record_list.into_keep(), head.depth) else {
-            return Err(heap.end(context));
+            return Err(heap.end(way));
         };
-        restore_newest(context, &mut chain, &mut heap);
+        restore_newest(way, &mut chain, &mut heap);
         Ok((head.name, heap, chain))
     }
 }
 
 /// Restores the newest log into an empty heap.
-fn restore_newest<S: Supply>(context: &S::Context, chain: &mut Chain<VecKeep>, heap: &mut Heap<S>)
+fn restore_newest<S: Supply>(way: &S::Way, chain: &mut Chain<VecKeep>, heap: &mut Heap<S>)
     requires belongs { Belongs heap.old.version heap.old.quota heap.old.state chain.old }
     requires empty { heap.old.state ≡ empty_heap }
     requires kept { AreKeptRecords chain.old }
@@ -121,7 +121,7 @@ fn restore_newest<S: Supply>(context: &S::Context, chain: &mut Chain<VecKeep>, h
     ensures sound { IsSound heap.new }
 {
     if let Some(time) = chain.newest() {
-        let _at = chain.restore(context, heap, time);
+        let _at = chain.restore(way, heap, time);
     }
 }
 

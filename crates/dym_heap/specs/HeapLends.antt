@@ -9,5 +9,5 @@ use Rattle.dym_heap.specs.ChunkLends.{heap_lent}
 use Rattle.dym_heap.specs.contracts.heap.Heap.{the_row}
 
 -- it is the heap after the command that writes all bytes of the chunk as they stand behind r at its end
-abbrev pub lends_live : (S Seg Context : RattleType) → (seg : segment.Ghosts Seg.Denot) → (sup : supply.Ghosts S.Denot Seg.Denot Context.Denot) → MutBor HeapMeaning → Handle → MutBor (List ℕ) → Fml
-lends_live S Seg Context seg sup h handle r = Lends (the_row S Seg Context sup seg) (Array u8 0) h r (heap_lent h.now handle)
+abbrev pub lends_live : (S Seg Way : RattleType) → (seg : segment.Ghosts Seg.Denot) → (sup : supply.Ghosts S.Denot Seg.Denot Way.Denot) → MutBor HeapMeaning → Handle → MutBor (List ℕ) → Fml
+lends_live S Seg Way seg sup h handle r = Lends (the_row S Seg Way sup seg) (Array u8 0) h r (heap_lent h.now handle)

@@ -7,5 +7,5 @@ use Rattle.dym_heap.specs.Shelves.{ShelfMeaning}
 use Rattle.dym_heap.specs.ChunkLends.{shelf_lent}
 use Rattle.dym_heap.specs.contracts.shelf.Shelf.{the_row}
 
-abbrev pub lends_of_shelf : (S Seg Context : RattleType) → (seg : segment.Ghosts Seg.Denot) → (sup : supply.Ghosts S.Denot Seg.Denot Context.Denot) → MutBor ShelfMeaning → ℕ → MutBor (List ℕ) → Fml
-lends_of_shelf S Seg Context seg sup s k r = Lends (the_row S Seg Context sup seg) (Array u8 0) s r (shelf_lent s.now k)
+abbrev pub lends_of_shelf : (S Seg Way : RattleType) → (seg : segment.Ghosts Seg.Denot) → (sup : supply.Ghosts S.Denot Seg.Denot Way.Denot) → MutBor ShelfMeaning → ℕ → MutBor (List ℕ) → Fml
+lends_of_shelf S Seg Way seg sup s k r = Lends (the_row S Seg Way sup seg) (Array u8 0) s r (shelf_lent s.now k)

@@ -59,12 +59,7 @@ pub(crate) fn bytes_of_handle<S: Supply>(shelf: &Shelf<S>, h: Handle) -> Option<
 }
 
 /// Frees a chunk that is live, and gives back the areas that its class needs no more.
-pub(crate) fn free_chunk<S: Supply>(
-    shelf: &mut Shelf<S>,
-    context: &S::Context,
-    class: Class,
-    index: u32,
-)
+pub(crate) fn free_chunk<S: Supply>(shelf: &mut Shelf<S>, way: &S::Way, class: Class, index: u32)
     requires tidy { IsTidy shelf.old }
     requires live { IsSome (get shelf.old.state.live (number class.exp index)) }
     ensures after { shelf.new.state
@@ -73,11 +68,11 @@ pub(crate) fn free_chunk<S: Supply>(
     ensures tidy { IsTidy shelf.new }
 {
     let _used = shelf.release(class, index);
-    shelf.trim(context, class);
+    shelf.trim(way, class);
 }
 
 /// Frees a chunk, and gives back the areas that its class needs no more. False where it isn't live, and nothing changes then.
-pub(crate) fn free_handle<S: Supply>(shelf: &mut Shelf<S>, context: &S::Context, h: Handle) -> bool
+pub(crate) fn free_handle<S: Supply>(shelf: &mut Shelf<S>, way: &S::Way, h: Handle) -> bool
     requires tidy { IsTidy shelf.old }
     ensures live { result ≡ is_some (get shelf.old.state.live (key h)) }
     ensures after { MatchBool result (shelf.new.state
@@ -91,7 +86,7 @@ pub(crate) fn free_handle<S: Supply>(shelf: &mut Shelf<S>, context: &S::Context,
     if !shelf.release(Class { exp: h.exp }, h.index) {
         return false;
     }
-    shelf.trim(context, Class { exp: h.exp });
+    shelf.trim(way, Class { exp: h.exp });
     true
 }
 
@@ -205,7 +200,7 @@ fn copy_chunk<S: Supply>(shelf: &mut Shelf<S>, from: Handle, to: Handle, len: u3
 /// them up to `len`.
 pub(crate) fn move_chunk<S: Supply>(
     shelf: &mut Shelf<S>,
-    context: &S::Context,
+    way: &S::Way,
     from: Handle,
     old: u32,
     class: Class,
@@ -229,7 +224,7 @@ pub(crate) fn move_chunk<S: Supply>(
     ensures keeps { Keeps shelf.old shelf.new }
     ensures tidy { IsTidy shelf.new }
 {
-    let Some(index) = take_fresh(shelf, context, class, len) else {
+    let Some(index) = take_fresh(shelf, way, class, len) else {
         return None;
     };
     let to = Handle {
@@ -237,6 +232,6 @@ pub(crate) fn move_chunk<S: Supply>(
         index,
     };
     copy_chunk(shelf, from, to, old.min(len));
-    free_chunk(shelf, context, Class { exp: from.exp }, from.index);
+    free_chunk(shelf, way, Class { exp: from.exp }, from.index);
     Some(index)
 }

@@ -17,23 +17,18 @@ use dym_quota::Supply;
 
 /// A chunk is dead, whether it was live or not. Its class gives back the areas that it needs no
 /// more.
-pub(crate) fn take_chunk_away<S: Supply>(shelf: &mut Shelf<S>, context: &S::Context, h: Handle)
+pub(crate) fn take_chunk_away<S: Supply>(shelf: &mut Shelf<S>, way: &S::Way, h: Handle)
     requires tidy { IsTidy shelf.old }
     ensures after { shelf.new.state ≡ without_chunk shelf.old.state (key h) }
     ensures keeps { Keeps shelf.old shelf.new }
     ensures tidy { IsTidy shelf.new }
 {
-    let _was_live = free_handle(shelf, context, h);
+    let _was_live = free_handle(shelf, way, h);
 }
 
 /// A chunk is live with these bytes, and not touched, whether it was live or not. Its class takes
 /// areas until it has that of the chunk.
-pub(crate) fn put_chunk_back<S: Supply>(
-    shelf: &mut Shelf<S>,
-    context: &S::Context,
-    h: Handle,
-    bytes: &[u8],
-)
+pub(crate) fn put_chunk_back<S: Supply>(shelf: &mut Shelf<S>, way: &S::Way, h: Handle, bytes: &[u8])
     requires least { LEAST_EXPONENT ≤ h.exp }
     requires most { h.exp ≤ GREATEST_EXPONENT }
     requires tidy { IsTidy shelf.old }
@@ -46,12 +41,12 @@ pub(crate) fn put_chunk_back<S: Supply>(
     ensures tidy { IsTidy shelf.new }
 {
     let class = Class { exp: h.exp };
-    reach_area(shelf, context, class, h.index / class.per_area());
+    reach_area(shelf, way, class, h.index / class.per_area());
     shelf.put_back(class, h.index, bytes);
 }
 
 /// Takes areas for a class until it has that of an ordinal.
-fn reach_area<S: Supply>(shelf: &mut Shelf<S>, context: &S::Context, class: Class, ordinal: u32)
+fn reach_area<S: Supply>(shelf: &mut Shelf<S>, way: &S::Way, class: Class, ordinal: u32)
     requires valid_shelf { IsValidShelf shelf.old }
     requires within { HasRoomFor shelf.old class.exp ordinal }
     ensures reached { ReachesArea shelf.old shelf.new class.exp ordinal }
@@ -59,7 +54,7 @@ fn reach_area<S: Supply>(shelf: &mut Shelf<S>, context: &S::Context, class: Clas
     ensures valid_shelf { IsValidShelf shelf.new }
 {
     while shelf.areas(class) <= ordinal {
-        shelf.add_area(context, class);
+        shelf.add_area(way, class);
     }
 }
 

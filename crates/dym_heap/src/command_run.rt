@@ -13,7 +13,7 @@ use dym_quota::Supply;
 impl<S: Supply> Heap<S> {
     /// Runs a command to the heap, and answers its reply. It is one of those that change the heap or look at a handle or a
     /// sum: no read of bytes, and none about logs. Each counts as applied, a refused one too, which changes nothing else.
-    pub fn apply(&mut self, context: &S::Context, command: &Command) -> Reply
+    pub fn apply(&mut self, way: &S::Way, command: &Command) -> Reply
         requires applied { self.old.applied < COUNT_LIMIT }
         requires command { IsEventCommand command.now }
         ensures reply { result ≡ (step_of self.old command.now).reply }
@@ -23,13 +23,13 @@ impl<S: Supply> Heap<S> {
         ensures sound { IsSound self.new }
     {
         self.applied += 1;
-        self.step(context, command)
+        self.step(way, command)
     }
 
     /// Runs a command to the heap as `apply` does, and doesn't count it. Where the caller knows which command it is, only that
     /// one's code is left of the call.
     #[inline(always)]
-    pub fn step(&mut self, context: &S::Context, command: &Command) -> Reply
+    pub fn step(&mut self, way: &S::Way, command: &Command) -> Reply
         requires command { IsEventCommand command.now }
         ensures reply { result ≡ (step_of self.old command.now).reply }
         ensures after { self.new
@@ -40,10 +40,10 @@ impl<S: Supply> Heap<S> {
         // A look at a field, by which a proof knows that the heap is tidy where a call below changes nothing.
         let _ = &self.shelf;
         match command {
-            Command::Malloc { len } => replies::of_chunk(self.malloc(context, *len)),
-            Command::Calloc { n, len } => replies::of_chunk(self.calloc(context, *n, *len)),
-            Command::Realloc { h, len } => replies::of_moved(self.realloc(context, *h, *len)),
-            Command::Free { h } => replies::of_done(self.free(context, *h)),
+            Command::Malloc { len } => replies::of_chunk(self.malloc(way, *len)),
+            Command::Calloc { n, len } => replies::of_chunk(self.calloc(way, *n, *len)),
+            Command::Realloc { h, len } => replies::of_moved(self.realloc(way, *h, *len)),
+            Command::Free { h } => replies::of_done(self.free(way, *h)),
             Command::Write { h, at, bytes } => replies::of_done(self.write(*h, *at, bytes.bytes())),
             Command::Fill { h, at, len, byte } => replies::of_done(self.fill(*h, *at, *len, *byte)),
             Command::Link { h, at, to } => replies::of_done(self.link(*h, *at, *to)),

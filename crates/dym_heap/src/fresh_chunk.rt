@@ -14,7 +14,7 @@ use dym_quota::Supply;
 #[inline(always)]
 pub(crate) fn take_fresh<S: Supply>(
     shelf: &mut Shelf<S>,
-    context: &S::Context,
+    way: &S::Way,
     class: Class,
     len: u32,
 ) -> Option<u32>
@@ -36,7 +36,7 @@ pub(crate) fn take_fresh<S: Supply>(
     if shelf.held() == shelf.quota() {
         return None;
     }
-    shelf.add_area(context, class);
+    shelf.add_area(way, class);
     let Some(index) = shelf.take_chunk(class, len) else {
         unreachable!();
     };

@@ -145,7 +145,7 @@ impl<S: Supply> Heap<S> {
     }
 
     /// A fresh chunk of `len` zero bytes. In version 1 it has all bytes of its class.
-    pub fn malloc(&mut self, context: &S::Context, len: u64) -> Result<Handle, Refusal>
+    pub fn malloc(&mut self, way: &S::Way, len: u64) -> Result<Handle, Refusal>
         ensures reply { chunk_reply result ≡ (step_of self.old (Malloc len)).reply }
         ensures after { self.new
             ≡ record (stepped self.old (Malloc len)) { held_ids = self.new.held_ids } }
@@ -157,7 +157,7 @@ impl<S: Supply> Heap<S> {
             return Err(Refusal::TooLarge);
         };
         let bytes = new_len(version, class, len);
-        match take_fresh(&mut self.shelf, context, class, bytes) {
+        match take_fresh(&mut self.shelf, way, class, bytes) {
             Some(index) => Ok(Handle {
                 exp: class.exp,
                 index,
@@ -167,21 +167,21 @@ impl<S: Supply> Heap<S> {
     }
 
     /// A fresh chunk of `n * len` zero bytes.
-    pub fn calloc(&mut self, context: &S::Context, n: u64, len: u64) -> Result<Handle, Refusal>
+    pub fn calloc(&mut self, way: &S::Way, n: u64, len: u64) -> Result<Handle, Refusal>
         ensures reply { chunk_reply result ≡ (step_of self.old (Calloc n len)).reply }
         ensures after { self.new
             ≡ record (stepped self.old (Calloc n len)) { held_ids = self.new.held_ids } }
         ensures refused { OnErr result (self.new ≡ self.old) }
         ensures sound { IsSound self.new }
     {
-        self.malloc(context, n.saturating_mul(len))
+        self.malloc(way, n.saturating_mul(len))
     }
 
     /// A chunk of `len` bytes with the old bytes up to the smaller length, then zeros. A chunk of its own class keeps its
     /// handle; nil is as `malloc`, and a `len` of 0 frees the chunk.
     pub fn realloc(
         &mut self,
-        context: &S::Context,
+        way: &S::Way,
         h: Option<Handle>,
         len: u64,
     ) -> Result<Option<Handle>, Refusal>
@@ -192,27 +192,22 @@ impl<S: Supply> Heap<S> {
         ensures sound { IsSound self.new }
     {
         let Some(h) = h else {
-            return match self.malloc(context, len) {
+            return match self.malloc(way, len) {
                 Ok(fresh) => Ok(Some(fresh)),
                 Err(refusal) => Err(refusal),
             };
         };
         if len == 0 {
-            return match self.free(context, Some(h)) {
+            return match self.free(way, Some(h)) {
                 Ok(()) => Ok(None),
                 Err(refusal) => Err(refusal),
             };
         }
-        self.realloc_live(context, h, len)
+        self.realloc_live(way, h, len)
     }
 
     /// As `realloc` of a handle and at least one byte.
-    fn realloc_live(
-        &mut self,
-        context: &S::Context,
-        h: Handle,
-        len: u64,
-    ) -> Result<Option<Handle>, Refusal>
+    fn realloc_live(&mut self, way: &S::Way, h: Handle, len: u64) -> Result<Option<Handle>, Refusal>
         requires { 0 < len }
         ensures reply { moved_reply result ≡ (step_of self.old (Realloc (Some h) len)).reply }
         ensures after { self.new ≡ record (stepped self.old
@@ -231,7 +226,7 @@ impl<S: Supply> Heap<S> {
             return Ok(Some(h));
         }
         let bytes = new_len(self.shelf.version(), class, len);
-        match move_chunk(&mut self.shelf, context, h, old, class, bytes) {
+        match move_chunk(&mut self.shelf, way, h, old, class, bytes) {
             Some(index) => Ok(Some(Handle {
                 exp: class.exp,
                 index,
@@ -241,7 +236,7 @@ impl<S: Supply> Heap<S> {
     }
 
     /// Frees a chunk. Nil does nothing.
-    pub fn free(&mut self, context: &S::Context, h: Option<Handle>) -> Result<(), Refusal>
+    pub fn free(&mut self, way: &S::Way, h: Option<Handle>) -> Result<(), Refusal>
         ensures reply { done_reply result ≡ (step_of self.old (Free h)).reply }
         ensures after { self.new
             ≡ record (stepped self.old (Free h)) { held_ids = self.new.held_ids } }
@@ -252,7 +247,7 @@ impl<S: Supply> Heap<S> {
         let Some(h) = h else {
             return Ok(());
         };
-        if !free_handle(shelf, context, h) {
+        if !free_handle(shelf, way, h) {
             return Err(Refusal::Dead);
         }
         Ok(())
@@ -284,7 +279,7 @@ impl<S: Supply> Heap<S> {
         requires least { LEAST_EXPONENT ≤ h.exp }
         requires most { h.exp ≤ GREATEST_EXPONENT }
         requires some { HasByte self.old h }
-        ensures* writes_back { sem 𝓛 (lends_live S.row S.Seg.row S.Context.row S.Seg.Segment
+        ensures* writes_back { sem 𝓛 (lends_live S.row S.Seg.row S.Way.row S.Seg.Segment
             S.Supply self.entry h result) }
         ensures value { get self.old.state.live (key h) ≡ Some result.now }
         ensures sound { (ws : List ℕ) → IsSound (heap_lent self.old h ws) }
@@ -438,7 +433,7 @@ impl<S: Supply> Heap<S> {
     /// Shapes the heap to a record's areas and use bits: areas that the record lacks are given back, then those that are
     /// missing are taken. Live are then the handles that the record has in use, with bytes that no clause tells; nothing is
     /// touched.
-    pub fn shape_to(&mut self, context: &S::Context, rec: &Record)
+    pub fn shape_to(&mut self, way: &S::Way, rec: &Record)
         requires version { OfLog rec.now (λ log. log.version ≡ self.old.version) }
         requires within { OfLog rec.now (λ log. held log.copy ≤ self.old.quota) }
         ensures handles { OfLog rec.now (λ log. HaveOneSetOfHandles self.new.state.live log.copy) }
@@ -447,7 +442,7 @@ impl<S: Supply> Heap<S> {
             ≡ record self.old { state = self.new.state; held_ids = self.new.held_ids } }
         ensures sound { IsSound self.new }
     {
-        shape_shelf(&mut self.shelf, context, rec);
+        shape_shelf(&mut self.shelf, way, rec);
         self.shelf.clear_touched();
     }
 
@@ -481,7 +476,7 @@ impl<S: Supply> Heap<S> {
 
     /// Shapes the heap to a record's areas and use bits, as `shape_to`. A chunk that was live and not touched keeps its bytes;
     /// each other one that is live then is touched, and no clause tells its bytes.
-    pub fn reshape(&mut self, context: &S::Context, rec: &Record)
+    pub fn reshape(&mut self, way: &S::Way, rec: &Record)
         requires within { OfLog rec.now (λ log. held log.copy ≤ self.old.quota) }
         ensures shaped { OfLog rec.now (λ log.
             (k : ℕ) → IsReshaped (contains_key log.copy k)
@@ -490,7 +485,7 @@ impl<S: Supply> Heap<S> {
             ≡ record self.old { state = self.new.state; held_ids = self.new.held_ids } }
         ensures sound { IsSound self.new }
     {
-        shape_shelf(&mut self.shelf, context, rec);
+        shape_shelf(&mut self.shelf, way, rec);
     }
 
     /// Writes the bytes, and in version 2 the length, of each touched chunk that the record packs. It is touched no more.
@@ -507,18 +502,18 @@ impl<S: Supply> Heap<S> {
 
     /// The chunk is dead, whether it was live or not. Areas that are then empty at the end of its
     /// class are given back.
-    pub fn take_away(&mut self, context: &S::Context, h: Handle)
+    pub fn take_away(&mut self, way: &S::Way, h: Handle)
         ensures after { self.new ≡ record self.old {
           state = without_chunk self.old.state (key h);
           held_ids = self.new.held_ids;
         } }
         ensures sound { IsSound self.new }
     {
-        take_chunk_away(&mut self.shelf, context, h);
+        take_chunk_away(&mut self.shelf, way, h);
     }
 
     /// The chunk is live with these bytes, and not touched, whether it was live or not.
-    pub fn put_back(&mut self, context: &S::Context, h: Handle, bytes: &[u8])
+    pub fn put_back(&mut self, way: &S::Way, h: Handle, bytes: &[u8])
         requires least { LEAST_EXPONENT ≤ h.exp }
         requires most { h.exp ≤ GREATEST_EXPONENT }
         requires sized { IsSizeOf self.old.version h.exp (length bytes.now) }
@@ -529,7 +524,7 @@ impl<S: Supply> Heap<S> {
         } }
         ensures sound { IsSound self.new }
     {
-        put_chunk_back(&mut self.shelf, context, h, bytes);
+        put_chunk_back(&mut self.shelf, way, h, bytes);
     }
 
     /// The chunk isn't touched any more.
@@ -549,13 +544,13 @@ impl<S: Supply> Heap<S> {
     }
 
     /// Gives all segments back, and answers the supply.
-    pub fn end(self, context: &S::Context) -> S
+    pub fn end(self, way: &S::Way) -> S
         ensures nothing_held { S.held_ids result ≡ [] }
         ensures quota { S.quota_of result ≡ self.quota }
         ensures origin { S.origin result ≡ self.origin }
     {
         let Heap { shelf, applied: _ } = self;
-        shelf.close(context)
+        shelf.close(way)
     }
 }
 

@@ -15,7 +15,7 @@ use dym_quota::Supply;
 
 /// Gives back the areas that a record lacks, takes those that are missing, and takes the use bits from the record. Chunks that were
 /// live and not touched keep their bytes; each other live one is touched.
-pub(crate) fn shape_shelf<S: Supply>(shelf: &mut Shelf<S>, context: &S::Context, rec: &Record)
+pub(crate) fn shape_shelf<S: Supply>(shelf: &mut Shelf<S>, way: &S::Way, rec: &Record)
     requires tidy { IsTidy shelf.old }
     requires within { OfLog rec.now (λ log. held log.copy ≤ shelf.old.quota) }
     ensures shaped { OfLog rec.now (λ log.
@@ -25,8 +25,8 @@ pub(crate) fn shape_shelf<S: Supply>(shelf: &mut Shelf<S>, context: &S::Context,
     ensures tidy { IsTidy shelf.new }
 {
     let counts = count_areas(rec);
-    give_areas(shelf, context, &counts);
-    take_areas(shelf, context, &counts);
+    give_areas(shelf, way, &counts);
+    take_areas(shelf, way, &counts);
     use_areas(shelf, rec);
 }
 
@@ -46,7 +46,7 @@ fn count_areas(rec: &Record) -> [u32; CLASSES]
 }
 
 /// Gives back the last areas of each class that has more than it should have.
-fn give_areas<S: Supply>(shelf: &mut Shelf<S>, context: &S::Context, counts: &[u32; CLASSES])
+fn give_areas<S: Supply>(shelf: &mut Shelf<S>, way: &S::Way, counts: &[u32; CLASSES])
     requires valid_shelf { IsValidShelf shelf.old }
     ensures most { (e : ℕ) → IsClass e → count_of shelf.new e ≤ slice_index counts.now (rank e) }
     ensures agree { (k : ℕ)
@@ -59,13 +59,13 @@ fn give_areas<S: Supply>(shelf: &mut Shelf<S>, context: &S::Context, counts: &[u
         let class = Class { exp };
         let count = counts[class.rank()];
         while shelf.areas(class) > count {
-            shelf.give_last(context, class);
+            shelf.give_last(way, class);
         }
     }
 }
 
 /// Takes areas for each class that has fewer than it should have.
-fn take_areas<S: Supply>(shelf: &mut Shelf<S>, context: &S::Context, counts: &[u32; CLASSES])
+fn take_areas<S: Supply>(shelf: &mut Shelf<S>, way: &S::Way, counts: &[u32; CLASSES])
     requires valid_shelf { IsValidShelf shelf.old }
     requires most { (e : ℕ) → IsClass e → count_of shelf.old e ≤ slice_index counts.now (rank e) }
     requires within { sum counts.now ≤ shelf.old.quota }
@@ -78,7 +78,7 @@ fn take_areas<S: Supply>(shelf: &mut Shelf<S>, context: &S::Context, counts: &[u
         let class = Class { exp };
         let count = counts[class.rank()];
         while shelf.areas(class) < count {
-            shelf.add_area(context, class);
+            shelf.add_area(way, class);
         }
     }
 }

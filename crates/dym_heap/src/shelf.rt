@@ -182,7 +182,7 @@ impl<S: Supply> Shelf<S> {
 
     /// A new area at the end of a class.
     #[inline(never)]
-    pub(crate) fn add_area(&mut self, context: &S::Context, class: Class)
+    pub(crate) fn add_area(&mut self, way: &S::Way, class: Class)
         requires { length self.old.held_ids < self.old.quota }
         ensures added { self.new
             ≡ with_count self.old class.exp (count_of self.old class.exp + 1) self.new.held_ids }
@@ -192,20 +192,20 @@ impl<S: Supply> Shelf<S> {
         let at = self.starts[rank + 1];
         let ordinal = at - self.starts[rank];
         let lengths = take_table(&mut self.spare);
-        let segment = self.supply.take(context, rank as u32, ordinal);
+        let segment = self.supply.take(way, rank as u32, ordinal);
         let sized_area = SizedArea::new(class, ordinal, segment, lengths);
         put_in(&mut self.sized_areas, at as usize, sized_area);
         shift_up(&mut self.starts, rank);
     }
 
     /// Gives back the empty areas at the end of a class.
-    pub(crate) fn trim(&mut self, context: &S::Context, class: Class)
+    pub(crate) fn trim(&mut self, way: &S::Way, class: Class)
         requires { IsValidShelf self.old }
         ensures trims { Trims self.old self.new class.exp }
         ensures valid_shelf { IsValidShelf self.new }
     {
         while self.ends_free(class) {
-            self.drop_area(context, class);
+            self.drop_area(way, class);
         }
     }
 
@@ -222,7 +222,7 @@ impl<S: Supply> Shelf<S> {
     }
 
     /// Gives back the last area of a class, which is empty.
-    fn drop_area(&mut self, context: &S::Context, class: Class)
+    fn drop_area(&mut self, way: &S::Way, class: Class)
         requires { EndsFree self.old class.exp }
         ensures dropped { self.new
             ≡ with_count self.old class.exp (count_of self.old class.exp - 1) self.new.held_ids }
@@ -233,7 +233,7 @@ impl<S: Supply> Shelf<S> {
         let last = self.starts[rank + 1] as usize - 1;
         let sized_area = take_out(&mut self.sized_areas, last);
         let (segment, lengths) = sized_area.into_parts();
-        self.supply.give(context, segment);
+        self.supply.give(way, segment);
         keep_table(&mut self.spare, lengths);
         shift_down(&mut self.starts, rank);
     }
@@ -262,7 +262,7 @@ impl<S: Supply> Shelf<S> {
     /// The bytes of a chunk in use, of which there is at least one, to be changed in place. It is touched.
     pub(crate) fn bytes_mut(&mut self, class: Class, index: u32) -> &mut [u8]
         requires { FitsIn (get self.old.state.live (number class.exp index)) 1 }
-        ensures* writes_back { sem 𝓛 (lends_of_shelf S.row S.Seg.row S.Context.row S.Seg.Segment
+        ensures* writes_back { sem 𝓛 (lends_of_shelf S.row S.Seg.row S.Way.row S.Seg.Segment
             S.Supply self.entry (number class.exp index) result) }
         ensures value { Some result.now ≡ get self.old.state.live (number class.exp index) }
         ensures valid_shelf { (ws : List ℕ)
@@ -590,7 +590,7 @@ impl<S: Supply> Shelf<S> {
     }
 
     /// Gives back the last area of a class, whatever its chunks are.
-    pub(crate) fn give_last(&mut self, context: &S::Context, class: Class)
+    pub(crate) fn give_last(&mut self, way: &S::Way, class: Class)
         requires { 0 < count_of self.old class.exp }
         ensures dropped { self.new ≡ record (with_count self.old class.exp
             (count_of self.old class.exp - 1) self.new.held_ids) { state = self.new.state } }
@@ -605,7 +605,7 @@ impl<S: Supply> Shelf<S> {
             last,
             &NO_CHUNK[..(class.per_area() as usize / 8).max(1)],
         );
-        self.drop_area(context, class);
+        self.drop_area(way, class);
     }
 
     /// No chunk is touched.
@@ -636,7 +636,7 @@ impl<S: Supply> Shelf<S> {
     }
 
     /// Gives all segments back.
-    pub(crate) fn close(self, context: &S::Context) -> S
+    pub(crate) fn close(self, way: &S::Way) -> S
         requires { IsValidShelf self }
         ensures nothing_held { S.held_ids result ≡ [] }
         ensures quota { S.quota_of result ≡ self.quota }
@@ -650,7 +650,7 @@ impl<S: Supply> Shelf<S> {
             full: _,
             spare: _,
         } = self;
-        give_all(supply, context, sized_areas)
+        give_all(supply, way, sized_areas)
     }
 }
 
@@ -688,11 +688,7 @@ fn all_tables(alloc: Global, quota: u32) -> Result<Vec<SpareLengths>, AllocError
 }
 
 /// Gives back the segments of all areas.
-fn give_all<S: Supply>(
-    mut supply: S,
-    context: &S::Context,
-    mut sized_areas: Vec<SizedArea<S::Seg>>,
-) -> S
+fn give_all<S: Supply>(mut supply: S, way: &S::Way, mut sized_areas: Vec<SizedArea<S::Seg>>) -> S
     requires { Owns (S.held_ids supply) sized_areas.items }
     ensures nothing_held { S.held_ids result ≡ [] }
     ensures quota { S.quota_of result ≡ S.quota_of supply }
@@ -700,7 +696,7 @@ fn give_all<S: Supply>(
 {
     while let Some(sized_area) = sized_areas.pop() {
         let (segment, _lengths) = sized_area.into_parts();
-        supply.give(context, segment);
+        supply.give(way, segment);
     }
     sized_areas.destroy_empty();
     supply

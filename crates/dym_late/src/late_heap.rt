@@ -54,11 +54,7 @@ impl<S: Supply> Model for LateHeap<S> {
 impl<S: Supply> LateHeap<S> {
     /// An empty heap of version 1 with no event and the bound 0. Where memory is wanting, the supply comes back, with nothing
     /// held.
-    pub fn open(
-        context: &S::Context,
-        alloc: Global,
-        supply: S,
-    ) -> Result<LateHeap<S>, (AllocError, S)>
+    pub fn open(way: &S::Way, alloc: Global, supply: S) -> Result<LateHeap<S>, (AllocError, S)>
         requires nothing_held { S.held_ids supply ≡ [] }
         requires least { 1 ≤ S.quota_of supply }
         requires most { S.quota_of supply ≤ MOST_QUOTA }
@@ -68,7 +64,7 @@ impl<S: Supply> LateHeap<S> {
         ensures quota { IfErr result (λ e. S.quota_of e.1 ≡ S.quota_of supply) }
         ensures origin { IfErr result (λ e. S.origin e.1 ≡ S.origin supply) }
     {
-        match Timeline::open(context, alloc, supply) {
+        match Timeline::open(way, alloc, supply) {
             Ok(timeline) => Ok(LateHeap {
                 timeline,
                 broken: false,
@@ -83,7 +79,7 @@ impl<S: Supply> LateHeap<S> {
     /// Where memory is wanting, its command is gone and the heap of late events is broken.
     pub fn put(
         &mut self,
-        context: &S::Context,
+        way: &S::Way,
         alloc: Global,
         time: u64,
         command: Command,
@@ -112,7 +108,7 @@ impl<S: Supply> LateHeap<S> {
         if time < bound {
             return Err(LateError::Early { bound, command });
         }
-        match self.timeline.accept(context, alloc, time, command) {
+        match self.timeline.accept(way, alloc, time, command) {
             Ok(placed) => Ok(placed),
             Err(_) => {
                 self.broken = true;
@@ -193,7 +189,7 @@ impl<S: Supply> LateHeap<S> {
     }
 
     /// Gives all segments back, and answers the supply.
-    pub fn end(self, context: &S::Context) -> S
+    pub fn end(self, way: &S::Way) -> S
         ensures nothing_held { S.held_ids result ≡ [] }
         ensures quota { S.quota_of result ≡ self.heap.quota }
         ensures origin { S.origin result ≡ self.heap.origin }
@@ -202,6 +198,6 @@ impl<S: Supply> LateHeap<S> {
             timeline,
             broken: _,
         } = self;
-        timeline.end(context)
+        timeline.end(way)
     }
 }

@@ -34,7 +34,7 @@ fn mark_before(place: usize) -> usize
 }
 
 /// Runs an event's command, and keeps its reply.
-pub(crate) fn run_event<S: Supply>(heap: &mut Heap<S>, context: &S::Context, event: &mut Event)
+pub(crate) fn run_event<S: Supply>(heap: &mut Heap<S>, way: &S::Way, event: &mut Event)
     requires applied { heap.old.applied < COUNT_LIMIT }
     requires command { IsEventCommand event.old.command }
     ensures event { event.new
@@ -43,7 +43,7 @@ pub(crate) fn run_event<S: Supply>(heap: &mut Heap<S>, context: &S::Context, eve
         (counted heap.old) event.old.command) { held_ids = heap.new.held_ids } }
     ensures sound { IsSound heap.new }
 {
-    event.reply = heap.apply(context, &event.command);
+    event.reply = heap.apply(way, &event.command);
 }
 
 /// Logs the heap at a position. Only memory can be wanting.
@@ -110,12 +110,7 @@ pub(crate) fn log_if_due<S: Supply>(
 }
 
 /// Restores the last log at or before a position, which is there.
-fn rewind<S: Supply>(
-    context: &S::Context,
-    heap: &mut Heap<S>,
-    chain: &mut Chain<VecKeep>,
-    position: usize,
-)
+fn rewind<S: Supply>(way: &S::Way, heap: &mut Heap<S>, chain: &mut Chain<VecKeep>, position: usize)
     requires belongs { Belongs heap.old.version heap.old.quota heap.old.state chain.old }
     requires sound { IsSound heap.old }
     requires idle { chain.old.lifted ≡ None }
@@ -130,7 +125,7 @@ fn rewind<S: Supply>(
     ensures idle { chain.new.lifted ≡ None }
     ensures sound { IsSound heap.new }
 {
-    if chain.restore(context, heap, position as u64).is_err() {
+    if chain.restore(way, heap, position as u64).is_err() {
         unreachable!();
     }
 }
@@ -138,7 +133,7 @@ fn rewind<S: Supply>(
 /// Brings the heap and its logs back to where the event of this place of so many can run, and answers from which place on
 /// events are run. An event behind all others runs where the heap is.
 pub(crate) fn drop_logs_after<S: Supply>(
-    context: &S::Context,
+    way: &S::Way,
     heap: &mut Heap<S>,
     chain: &mut Chain<VecKeep>,
     count: usize,
@@ -165,6 +160,6 @@ pub(crate) fn drop_logs_after<S: Supply>(
         return count;
     }
     let position = mark_before(place);
-    rewind(context, heap, chain, position);
+    rewind(way, heap, chain, position);
     position
 }

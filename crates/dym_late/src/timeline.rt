@@ -34,7 +34,7 @@ pub(crate) struct Timeline<S: Supply> {
 impl<S: Supply> Timeline<S> {
     /// A heap with no event, and a full log of it. Where memory is wanting, the supply comes back, with nothing held.
     pub(crate) fn open(
-        context: &S::Context,
+        way: &S::Way,
         alloc: Global,
         supply: S,
     ) -> Result<Timeline<S>, (AllocError, S)>
@@ -59,7 +59,7 @@ impl<S: Supply> Timeline<S> {
             Err((why, _keep)) => return Err((why, supply)),
         };
         match Heap::open(alloc, supply) {
-            Ok(heap) => Timeline::with_log(context, alloc, heap, chain),
+            Ok(heap) => Timeline::with_log(way, alloc, heap, chain),
             Err(refused) => {
                 chain.into_keep();
                 Err(refused)
@@ -69,7 +69,7 @@ impl<S: Supply> Timeline<S> {
 
     /// A heap with no event and a chain with no log, of which a full log is taken.
     fn with_log(
-        context: &S::Context,
+        way: &S::Way,
         alloc: Global,
         mut heap: Heap<S>,
         mut chain: Chain<VecKeep>,
@@ -100,7 +100,7 @@ impl<S: Supply> Timeline<S> {
             }),
             Err(error) => {
                 chain.into_keep();
-                Err((error, heap.end(context)))
+                Err((error, heap.end(way)))
             }
         }
     }
@@ -108,7 +108,7 @@ impl<S: Supply> Timeline<S> {
     /// Puts an event into its place of the order and runs it, after it those that stand behind it.
     pub(crate) fn accept(
         &mut self,
-        context: &S::Context,
+        way: &S::Way,
         alloc: Global,
         time: u64,
         command: Command,
@@ -142,8 +142,8 @@ impl<S: Supply> Timeline<S> {
             command,
             reply: Reply::Done,
         })?;
-        let start = drop_logs_after(context, &mut self.heap, &mut self.chain, count, place);
-        self.replay(context, alloc, start)?;
+        let start = drop_logs_after(way, &mut self.heap, &mut self.chain, count, place);
+        self.replay(way, alloc, start)?;
         Ok(Placed {
             at: place as u32,
             replayed: (count + 1 - start) as u32,
@@ -171,7 +171,7 @@ impl<S: Supply> Timeline<S> {
     /// Runs the events of the order from a place on, and takes a log wherever one is due.
     pub(crate) fn replay(
         &mut self,
-        context: &S::Context,
+        way: &S::Way,
         alloc: Global,
         start: usize,
     ) -> Result<(), AllocError>
@@ -196,14 +196,14 @@ impl<S: Supply> Timeline<S> {
         heap_steps_keep_belonging();
         for place in start..self.order.len() {
             let event = &mut self.events[self.order[place] as usize];
-            run_event(&mut self.heap, context, event);
+            run_event(&mut self.heap, way, event);
             log_if_due(alloc, &mut self.heap, &mut self.chain, place + 1)?;
         }
         Ok(())
     }
 
     /// Gives all segments back, and answers the supply.
-    pub(crate) fn end(self, context: &S::Context) -> S
+    pub(crate) fn end(self, way: &S::Way) -> S
         requires { self.chain.lifted ≡ None }
         ensures nothing_held { S.held_ids result ≡ [] }
         ensures quota { S.quota_of result ≡ self.heap.quota }
@@ -217,6 +217,6 @@ impl<S: Supply> Timeline<S> {
             bound: _,
         } = self;
         chain.into_keep();
-        heap.end(context)
+        heap.end(way)
     }
 }

@@ -10,6 +10,6 @@ use Rattle.dym_object.specs.ChunkLends.{object_lent}
 use Rattle.dym_object.specs.contracts.object.Object.{the_row}
 
 -- it is the object after the command that writes all bytes of the chunk as they stand behind r at its end
-abbrev pub lends_object : (S K Seg Context : RattleType) → (seg : segment.Ghosts Seg.Denot) → (sup : supply.Ghosts S.Denot Seg.Denot Context.Denot) → (kp : keep.Ghosts K.Denot)
+abbrev pub lends_object : (S K Seg Way : RattleType) → (seg : segment.Ghosts Seg.Denot) → (sup : supply.Ghosts S.Denot Seg.Denot Way.Denot) → (kp : keep.Ghosts K.Denot)
     → MutBor ObjectMeaning → Handle → MutBor (List ℕ) → Fml
-lends_object S K Seg Context seg sup kp o h r = Lends (the_row S K Seg Context sup seg kp) (Array u8 0) o r (object_lent o.now h)
+lends_object S K Seg Way seg sup kp o h r = Lends (the_row S K Seg Way sup seg kp) (Array u8 0) o r (object_lent o.now h)

@@ -43,7 +43,7 @@ impl<S: Supply, K: LogKeep> Object<S, K> {
         requires most { h.exp ≤ GREATEST_EXPONENT }
         requires some { HasByte self.old.heap h }
         ensures* writes_back { sem 𝓛
-            (lends_object S.row K.row S.Seg.row S.Context.row S.Seg.Segment S.Supply K.LogKeep self.entry h result) }
+            (lends_object S.row K.row S.Seg.row S.Way.row S.Seg.Segment S.Supply K.LogKeep self.entry h result) }
         ensures value { get self.old.heap.state.live (key h) ≡ Some result.now }
         ensures step { (ws : List ℕ) → IsStep self.old (object_lent self.old h ws)
             (write_all self.old h ws) }

@@ -22,7 +22,7 @@ impl<S: Supply, K: LogKeep> Object<S, K> {
     /// then wasn't run.
     pub fn run(
         &mut self,
-        context: &S::Context,
+        way: &S::Way,
         alloc: Global,
         command: &Command,
     ) -> Result<Reply, AllocError>
@@ -44,7 +44,7 @@ impl<S: Supply, K: LogKeep> Object<S, K> {
         ensures whole { IsWhole self.new }
     {
         let mut reply = Reply::Done;
-        self.run_into(context, alloc, command, &mut reply)?;
+        self.run_into(way, alloc, command, &mut reply)?;
         Ok(reply)
     }
 
@@ -53,7 +53,7 @@ impl<S: Supply, K: LogKeep> Object<S, K> {
     #[inline(always)]
     pub fn run_into(
         &mut self,
-        context: &S::Context,
+        way: &S::Way,
         alloc: Global,
         command: &Command,
         reply: &mut Reply,
@@ -81,7 +81,7 @@ impl<S: Supply, K: LogKeep> Object<S, K> {
             Command::Log { time } => self.log_into(alloc, *time, Kind::Full, reply),
             Command::Ilog { time } => self.log_into(alloc, *time, Kind::Inc, reply),
             Command::Restore { time } => {
-                *reply = of_restored(self.restore(context, *time));
+                *reply = of_restored(self.restore(way, *time));
                 Ok(())
             }
             Command::Prune { bound } => {
@@ -93,7 +93,7 @@ impl<S: Supply, K: LogKeep> Object<S, K> {
                 Ok(())
             }
             _ => {
-                *reply = self.step(context, command);
+                *reply = self.step(way, command);
                 Ok(())
             }
         }
@@ -101,7 +101,7 @@ impl<S: Supply, K: LogKeep> Object<S, K> {
 
     /// Runs a command to the heap, by the heap's own match over these.
     #[inline(always)]
-    fn step(&mut self, context: &S::Context, command: &Command) -> Reply
+    fn step(&mut self, way: &S::Way, command: &Command) -> Reply
         requires ran { self.old.ran < COUNT_LIMIT }
         requires command { IsEventCommand command.now }
         ensures reply { result ≡ (step_by self.old command.now).reply }
@@ -111,7 +111,7 @@ impl<S: Supply, K: LogKeep> Object<S, K> {
     {
         steps_keep_whole();
         self.ran += 1;
-        self.heap.step(context, command)
+        self.heap.step(way, command)
     }
 
     /// Reads bytes of a chunk. No memory is taken where the read is refused.

@@ -16,7 +16,7 @@ use dym_quota::Supply;
 impl<S: Supply, K: LogKeep> Object<S, K> {
     /// A fresh chunk of `len` zero bytes. In version 1 it has all bytes of its class.
     #[inline(always)]
-    pub fn malloc(&mut self, context: &S::Context, len: u64) -> Result<Handle, Refusal>
+    pub fn malloc(&mut self, way: &S::Way, len: u64) -> Result<Handle, Refusal>
         requires { self.old.ran < COUNT_LIMIT }
         ensures reply { chunk_reply result ≡ (step_by self.old (Malloc len)).reply }
         ensures step { IsStep self.old self.new (Malloc len) }
@@ -25,12 +25,12 @@ impl<S: Supply, K: LogKeep> Object<S, K> {
     {
         steps_keep_whole();
         self.ran += 1;
-        self.heap.malloc(context, len)
+        self.heap.malloc(way, len)
     }
 
     /// A fresh chunk of `n * len` zero bytes.
     #[inline(always)]
-    pub fn calloc(&mut self, context: &S::Context, n: u64, len: u64) -> Result<Handle, Refusal>
+    pub fn calloc(&mut self, way: &S::Way, n: u64, len: u64) -> Result<Handle, Refusal>
         requires { self.old.ran < COUNT_LIMIT }
         ensures reply { chunk_reply result ≡ (step_by self.old (Calloc n len)).reply }
         ensures step { IsStep self.old self.new (Calloc n len) }
@@ -39,7 +39,7 @@ impl<S: Supply, K: LogKeep> Object<S, K> {
     {
         steps_keep_whole();
         self.ran += 1;
-        self.heap.calloc(context, n, len)
+        self.heap.calloc(way, n, len)
     }
 
     /// A chunk of `len` bytes with the old bytes up to the smaller length, then zeros; nil is as `malloc`, and a `len` of 0 frees
@@ -47,7 +47,7 @@ impl<S: Supply, K: LogKeep> Object<S, K> {
     #[inline(always)]
     pub fn realloc(
         &mut self,
-        context: &S::Context,
+        way: &S::Way,
         h: Option<Handle>,
         len: u64,
     ) -> Result<Option<Handle>, Refusal>
@@ -59,12 +59,12 @@ impl<S: Supply, K: LogKeep> Object<S, K> {
     {
         steps_keep_whole();
         self.ran += 1;
-        self.heap.realloc(context, h, len)
+        self.heap.realloc(way, h, len)
     }
 
     /// Frees a chunk. Nil does nothing.
     #[inline(always)]
-    pub fn free(&mut self, context: &S::Context, h: Option<Handle>) -> Result<(), Refusal>
+    pub fn free(&mut self, way: &S::Way, h: Option<Handle>) -> Result<(), Refusal>
         requires { self.old.ran < COUNT_LIMIT }
         ensures reply { done_reply result ≡ (step_by self.old (Free h)).reply }
         ensures step { IsStep self.old self.new (Free h) }
@@ -73,7 +73,7 @@ impl<S: Supply, K: LogKeep> Object<S, K> {
     {
         steps_keep_whole();
         self.ran += 1;
-        self.heap.free(context, h)
+        self.heap.free(way, h)
     }
 
     /// Writes the bytes into a chunk, from its place `at` on. An empty write changes nothing.

@@ -166,7 +166,7 @@ impl<S: Supply, K: LogKeep> Object<S, K> {
     }
 
     /// Gives all segments back, and answers the supply and the keep of the records.
-    pub fn end(self, context: &S::Context) -> (S, K)
+    pub fn end(self, way: &S::Way) -> (S, K)
         ensures nothing_held { S.held_ids result.0 ≡ [] }
         ensures quota { S.quota_of result.0 ≡ self.heap.quota }
         ensures supply_origin { S.origin result.0 ≡ self.heap.origin }
@@ -180,6 +180,6 @@ impl<S: Supply, K: LogKeep> Object<S, K> {
         ensures whole { IsWhole self }
     {
         let (heap, keep) = self.split();
-        (heap.end(context), keep)
+        (heap.end(way), keep)
     }
 }

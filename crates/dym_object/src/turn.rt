@@ -44,7 +44,7 @@ impl<S: Supply, K: LogKeep> Turn<S, K> {
 }
 
 impl<S: Supply, K: LogKeep> Runner for Turn<S, K> {
-    type Context = S::Context;
+    type Context = S::Way;
 
     type Fail = AllocError;
 
@@ -57,11 +57,11 @@ impl<S: Supply, K: LogKeep> Runner for Turn<S, K> {
     ghost stays = { λ old new. Stayed old.object old.reply new.object new.reply };
 
     #[inline(always)]
-    fn run(&mut self, context: &S::Context, request: Request<&[u8]>) -> Result<(), AllocError> {
+    fn run(&mut self, way: &S::Way, request: Request<&[u8]>) -> Result<(), AllocError> {
         match request {
             Request::Plain(command) => {
                 self.object
-                    .run_into(context, self.alloc, &command, &mut self.reply)
+                    .run_into(way, self.alloc, &command, &mut self.reply)
             }
             Request::Write { h, at, bytes } => {
                 self.reply = replies::of_done(self.object.write(h, at, bytes));

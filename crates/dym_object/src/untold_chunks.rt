@@ -15,7 +15,7 @@ impl<S: Supply, K: LogKeep> Object<S, K> {
     pub fn untold(
         &mut self,
         alloc: Global,
-        context: &S::Context,
+        way: &S::Way,
         other: &mut Heap<S>,
     ) -> Result<Option<Handle>, AllocError>
         requires empty { other.old.state ≡ empty_heap }
@@ -24,6 +24,6 @@ impl<S: Supply, K: LogKeep> Object<S, K> {
         ensures none { IfOk result (λ first. first ≡ None) }
         ensures same { self.new ≡ self.old }
     {
-        self.chain.untold(alloc, context, &self.heap, other)
+        self.chain.untold(alloc, way, &self.heap, other)
     }
 }

@@ -34,7 +34,7 @@ pub struct Berth<R> {
 impl<R: Wait> Supply for Berth<R> {
     type Seg = RawSegment;
 
-    type Context = R;
+    type Way = R;
 
     ghost use Rattle.dym_base.specs.Origins.{shared};
     ghost use Rattle.dym_quota.specs.QueueShape.{queue_name, known_by};
@@ -57,14 +57,14 @@ impl<R: Wait> Supply for Berth<R> {
         self.held
     }
 
-    fn take(&mut self, context: &R, _class: u32, _ordinal: u32) -> RawSegment {
-        let segment = take(context, &self.line, &mut self.pass);
+    fn take(&mut self, way: &R, _class: u32, _ordinal: u32) -> RawSegment {
+        let segment = take(way, &self.line, &mut self.pass);
         self.held += 1;
         segment
     }
 
-    fn give(&mut self, context: &R, segment: RawSegment) {
-        give(context, &self.line, &mut self.pass, segment);
+    fn give(&mut self, way: &R, segment: RawSegment) {
+        give(way, &self.line, &mut self.pass, segment);
         self.held -= 1;
     }
 }

@@ -112,7 +112,7 @@ fn segments_of(slots: Vec<Option<RawSegment>>, mut list: Vec<RawSegment>) -> Vec
 impl Supply for FixedSupply {
     type Seg = RawSegment;
 
-    type Context = ();
+    type Way = ();
 
     ghost quota_of = { λ s. s.quota };
 

@@ -160,7 +160,7 @@ fn fill_up(spare: &mut Vec<VecSegment>, aside: &mut Vec<VecSegment>, count: usiz
 impl Supply for OwnSupply {
     type Seg = VecSegment;
 
-    type Context = ();
+    type Way = ();
 
     ghost quota_of = { λ s. s.quota };
 

@@ -27,7 +27,7 @@ impl QuotaQueue {
     /// An `AllocError` comes where there is no memory for the queue or for the list of berths; the segments then come back
     /// as they were handed in.
     pub fn open<R: Wait>(
-        context: &R,
+        way: &R,
         alloc: Global,
         mut segments: Vec<RawSegment>,
         quotas: &[u32],
@@ -60,7 +60,7 @@ impl QuotaQueue {
             ends,
             mut berths,
         } = frame;
-        stock_first(context, &line, &mut keeper, &mut segments, count);
+        stock_first(way, &line, &mut keeper, &mut segments, count);
         deal(&line, &mut keeper, ends, &mut berths, quotas);
         let queue = QuotaQueue {
             line,
@@ -123,7 +123,7 @@ fn ends_of(
 
 /// Puts the last `count` segments of the list into the queue, the last one first.
 fn stock_last<R: Wait>(
-    context: &R,
+    way: &R,
     line: &SegmentLine,
     pass: &mut SegmentPass,
     segments: &mut Vec<RawSegment>,
@@ -147,13 +147,13 @@ fn stock_last<R: Wait>(
 {
     for _k in 0..count {
         let segment = segments.take_last();
-        stock(context, line, pass, segment);
+        stock(way, line, pass, segment);
     }
 }
 
 /// Puts the first `count` segments of the list into the queue, the first one first.
 fn stock_first<R: Wait>(
-    context: &R,
+    way: &R,
     line: &SegmentLine,
     pass: &mut SegmentPass,
     segments: &mut Vec<RawSegment>,
@@ -174,7 +174,7 @@ fn stock_first<R: Wait>(
     ensures room { vec_capacity segments.new ≡ vec_capacity segments.old }
 {
     segments.reverse();
-    stock_last(context, line, pass, segments, count);
+    stock_last(way, line, pass, segments, count);
     segments.reverse();
 }
 

@@ -17,7 +17,7 @@ use std::sync::Wait;
 impl QuotaQueue {
     /// All segments that `open` was handed, in any order and in the same list. The berths are all those that `open` gave, and
     /// hold nothing. No memory is taken.
-    pub fn close<R: Wait>(self, context: &R, berths: Vec<Berth<R>>) -> Vec<RawSegment>
+    pub fn close<R: Wait>(self, way: &R, berths: Vec<Berth<R>>) -> Vec<RawSegment>
         requires origin { All (λ b. ⟦<Berth<R> as Supply>⟧.origin b ≡ shared self.name)
             berths.items }
         requires quotas { sum_by ⟦<Berth<R> as Supply>⟧.quota_of berths.items
@@ -35,7 +35,7 @@ impl QuotaQueue {
             count,
         } = self;
         join_all(&line, &mut keeper, berths);
-        take_all(context, &line, &mut keeper, &mut aside, count);
+        take_all(way, &line, &mut keeper, &mut aside, count);
         learn_all(&line, &mut keeper);
         aside
     }
@@ -60,7 +60,7 @@ fn join_all<R>(line: &SegmentLine, keeper: &mut SegmentPass, mut berths: Vec<Ber
 
 /// Takes `count` segments out of the queue into a list with room for them.
 fn take_all<R: Wait>(
-    context: &R,
+    way: &R,
     line: &SegmentLine,
     keeper: &mut SegmentPass,
     segments: &mut Vec<RawSegment>,
@@ -79,7 +79,7 @@ fn take_all<R: Wait>(
     ensures capacity { vec_capacity segments.new ≡ vec_capacity segments.old }
 {
     for _k in 0..count {
-        let segment = take(context, line, keeper);
+        let segment = take(way, line, keeper);
         segments.push_reserved(segment);
     }
 }

@@ -13,7 +13,7 @@ use std::sync::Wait;
 
 /// Puts a new segment to the queue's back.
 pub(crate) fn stock<R: Wait>(
-    context: &R,
+    way: &R,
     line: &SegmentLine,
     pass: &mut SegmentPass,
     segment: RawSegment,
@@ -26,19 +26,19 @@ pub(crate) fn stock<R: Wait>(
     ensures stocked { IsStocking (⟦<RawSegment as Segment>⟧.id segment)
         (view pass.old) (view pass.new) }
 {
-    let Ok(()) = line.push_as::<Stocks, R>(context, pass, segment) else {
+    let Ok(()) = line.push_as::<Stocks, R>(way, pass, segment) else {
         unreachable!()
     };
 }
 
 /// The segment at the queue's front.
-pub(crate) fn take<R: Wait>(context: &R, line: &SegmentLine, pass: &mut SegmentPass) -> RawSegment
+pub(crate) fn take<R: Wait>(way: &R, line: &SegmentLine, pass: &mut SegmentPass) -> RawSegment
     requires queue { IsPassOf line.now pass.old }
     requires below { length (view pass.old).held < (view pass.old).quota }
     ensures queue { IsPassOf line.now pass.new }
     ensures taken { IsPop (⟦<RawSegment as Segment>⟧.id result) (view pass.old) (view pass.new) }
 {
-    let Some(segment) = line.pop_as::<Takes, R>(context, pass) else {
+    let Some(segment) = line.pop_as::<Takes, R>(way, pass) else {
         unreachable!()
     };
     segment
@@ -46,7 +46,7 @@ pub(crate) fn take<R: Wait>(context: &R, line: &SegmentLine, pass: &mut SegmentP
 
 /// Puts a segment that the pass holds to the queue's back.
 pub(crate) fn give<R: Wait>(
-    context: &R,
+    way: &R,
     line: &SegmentLine,
     pass: &mut SegmentPass,
     segment: RawSegment,
@@ -57,7 +57,7 @@ pub(crate) fn give<R: Wait>(
     ensures queue { IsPassOf line.now pass.new }
     ensures given { IsPush (⟦<RawSegment as Segment>⟧.id segment) (view pass.old) (view pass.new) }
 {
-    let Ok(()) = line.push_as::<Gives, R>(context, pass, segment) else {
+    let Ok(()) = line.push_as::<Gives, R>(way, pass, segment) else {
         unreachable!()
     };
 }

@@ -17,7 +17,7 @@ pub trait Supply {
     type Seg: Segment;
 
     /// What a caller hands in with which the supply may wait for a segment.
-    type Context;
+    type Way;
 
     ghost quota_of: { Self → ℕ };
 
@@ -39,7 +39,7 @@ pub trait Supply {
         ensures { result ≡ length (held_ids self.now) };
 
     /// A segment, of any content, for area `ordinal` of a class, by its number from 0 on. Where areas are bound it is the area's.
-    fn take(&mut self, context: &Self::Context, class: u32, ordinal: u32) -> Self::Seg
+    fn take(&mut self, way: &Self::Way, class: u32, ordinal: u32) -> Self::Seg
         requires room { length (held_ids self.old) < quota_of self.old }
         requires class { class < CLASSES }
         requires ordinal { ordinal < quota_of self.old }
@@ -52,7 +52,7 @@ pub trait Supply {
         ensures origin { origin self.new ≡ origin self.old };
 
     /// Takes back a segment that is out.
-    fn give(&mut self, context: &Self::Context, seg: Self::Seg)
+    fn give(&mut self, way: &Self::Way, seg: Self::Seg)
         requires { IsHeld (held_ids self.old) (Self.Seg.id seg) }
         ensures given { GivesBack (held_ids self.old) (held_ids self.new) (Self.Seg.id seg) }
         ensures quota { quota_of self.new ≡ quota_of self.old }

@@ -8,7 +8,7 @@ use dym_heap::Heap;
 use dym_quota::Supply;
 
 impl<S: Supply> UndoHeap for Heap<S> {
-    type Context = S::Context;
+    type Way = S::Way;
 
     ghost version_of = { λ h. h.version };
 
@@ -28,12 +28,12 @@ impl<S: Supply> UndoHeap for Heap<S> {
         Heap::held(self)
     }
 
-    fn take_away(&mut self, context: &S::Context, handle: Handle) {
-        Heap::take_away(self, context, handle);
+    fn take_away(&mut self, way: &S::Way, handle: Handle) {
+        Heap::take_away(self, way, handle);
     }
 
-    fn put_back(&mut self, context: &S::Context, handle: Handle, bytes: &[u8]) {
-        Heap::put_back(self, context, handle, bytes);
+    fn put_back(&mut self, way: &S::Way, handle: Handle, bytes: &[u8]) {
+        Heap::put_back(self, way, handle, bytes);
     }
 
     fn forget(&mut self, handle: Handle) {

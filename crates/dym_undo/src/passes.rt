@@ -34,7 +34,7 @@ pub(crate) fn clear_heads<H: UndoHeap>(heap: &mut H, words: &mut [u64], heads: &
 }
 
 /// The first pass of a restore: takes away the chunks that were dead before the first of their changes.
-fn take_dead<H: UndoHeap>(heap: &mut H, context: &H::Context, words: &mut [u64], heads: &[Head])
+fn take_dead<H: UndoHeap>(heap: &mut H, way: &H::Way, words: &mut [u64], heads: &[Head])
     requires sound { H.is_sound heap.old }
     requires keys { AreHeadKeys (length words.old / 64) heads.now }
     ensures way { record { words = words.new; live = (H.state heap.new).live }
@@ -44,12 +44,12 @@ fn take_dead<H: UndoHeap>(heap: &mut H, context: &H::Context, words: &mut [u64],
     ensures sound { H.is_sound heap.new }
 {
     for head in heads {
-        take_one(heap, context, words, *head);
+        take_one(heap, way, words, *head);
     }
 }
 
 /// One step of the first pass.
-fn take_one<H: UndoHeap>(heap: &mut H, context: &H::Context, words: &mut [u64], head: Head)
+fn take_one<H: UndoHeap>(heap: &mut H, way: &H::Way, words: &mut [u64], head: Head)
     requires sound { H.is_sound heap.old }
     requires key { IsKey (length words.old / 64) (key head.handle) }
     ensures way { record { words = words.new; live = (H.state heap.new).live }
@@ -63,12 +63,12 @@ fn take_one<H: UndoHeap>(heap: &mut H, context: &H::Context, words: &mut [u64], 
     }
     stamp(words, head.handle);
     if head.len.is_none() {
-        take_chunk(heap, context, head.handle);
+        take_chunk(heap, way, head.handle);
     }
 }
 
 /// Takes a chunk away, if it is live.
-fn take_chunk<H: UndoHeap>(heap: &mut H, context: &H::Context, handle: Handle)
+fn take_chunk<H: UndoHeap>(heap: &mut H, way: &H::Way, handle: Handle)
     requires sound { H.is_sound heap.old }
     ensures live { (H.state heap.new).live ≡ map.remove (H.state heap.old).live (key handle) }
     ensures touched { TouchesNoMore (H.state heap.old) (H.state heap.new) }
@@ -76,14 +76,14 @@ fn take_chunk<H: UndoHeap>(heap: &mut H, context: &H::Context, handle: Handle)
     ensures sound { H.is_sound heap.new }
 {
     if heap.chunk(handle).is_some() {
-        heap.take_away(context, handle);
+        heap.take_away(way, handle);
     }
 }
 
 /// The second pass: puts back the chunks that were live before the first of their changes.
 fn put_live<H: UndoHeap>(
     heap: &mut H,
-    context: &H::Context,
+    way: &H::Way,
     words: &mut [u64],
     heads: &[Head],
     bytes: &[u8],
@@ -106,7 +106,7 @@ fn put_live<H: UndoHeap>(
 {
     let mut rest = bytes;
     for head in heads {
-        put_one(heap, context, words, *head, rest);
+        put_one(heap, way, words, *head, rest);
         rest = bytes_after(rest, *head);
     }
 }
@@ -123,13 +123,7 @@ fn bytes_after(bytes: &[u8], head: Head) -> &[u8]
 }
 
 /// One step of the second pass.
-fn put_one<H: UndoHeap>(
-    heap: &mut H,
-    context: &H::Context,
-    words: &mut [u64],
-    head: Head,
-    bytes: &[u8],
-)
+fn put_one<H: UndoHeap>(heap: &mut H, way: &H::Way, words: &mut [u64], head: Head, bytes: &[u8])
     requires sound { H.is_sound heap.old }
     requires fits { len_of head.len ≤ length bytes.now }
     requires key { IsKey (length words.old / 64) (key head.handle) }
@@ -150,14 +144,14 @@ fn put_one<H: UndoHeap>(
     }
     unstamp(words, head.handle);
     if let Some(len) = head.len {
-        heap.put_back(context, head.handle, &bytes[..len as usize]);
+        heap.put_back(way, head.handle, &bytes[..len as usize]);
     }
 }
 
 /// Takes changes back: each chunk is again what it was before the first of its changes.
 pub(crate) fn take_back<H: UndoHeap>(
     heap: &mut H,
-    context: &H::Context,
+    way: &H::Way,
     words: &mut [u64],
     heads: &[Head],
     bytes: &[u8],
@@ -176,8 +170,8 @@ pub(crate) fn take_back<H: UndoHeap>(
     ensures rest { H.keeps_rest heap.old heap.new }
     ensures sound { H.is_sound heap.new }
 {
-    take_dead(heap, context, words, heads);
-    put_live(heap, context, words, heads, bytes);
+    take_dead(heap, way, words, heads);
+    put_live(heap, way, words, heads, bytes);
 }
 
 /// Begins an interval: nothing is stamped or touched any more. The price is that of the changes since the newest log; where there
@@ -211,7 +205,7 @@ pub(crate) fn begin_interval<H: UndoHeap>(
 /// Takes the changes from a place on back.
 pub(crate) fn undo_from<H: UndoHeap>(
     heap: &mut H,
-    context: &H::Context,
+    way: &H::Way,
     words: &mut [u64],
     heads: &mut Vec<Head>,
     bytes: &mut Vec<u8>,
@@ -241,7 +235,7 @@ pub(crate) fn undo_from<H: UndoHeap>(
     let len = bytes.len();
     let undone = heads.split_at(place).1;
     let from = len - count_bytes(undone, len);
-    take_back(heap, context, words, undone, bytes.split_at(from).1);
+    take_back(heap, way, words, undone, bytes.split_at(from).1);
     heads.truncate(place);
     bytes.truncate(from);
 }

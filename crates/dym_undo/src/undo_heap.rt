@@ -13,7 +13,7 @@ use dym_base::Handle;
 /// A heap whose chunks an undo log takes away and puts back. None of its calls takes memory.
 pub trait UndoHeap {
     /// What a call hands a segment back to, and takes one from.
-    type Context;
+    type Way;
 
     ghost version_of: { Self → Version };
 
@@ -36,7 +36,7 @@ pub trait UndoHeap {
         ensures { result ≡ held (state self.now).live };
 
     /// Takes a live chunk away.
-    fn take_away(&mut self, context: &Self::Context, handle: Handle)
+    fn take_away(&mut self, way: &Self::Way, handle: Handle)
         requires sound { is_sound self.old }
         requires live { map.contains_key (state self.old).live (key handle) ≡ true }
         ensures state { state self.new ≡ without_chunk (state self.old) (key handle) }
@@ -44,7 +44,7 @@ pub trait UndoHeap {
         ensures sound { is_sound self.new };
 
     /// Makes a chunk live with these bytes, and not touched, whether it is live or not.
-    fn put_back(&mut self, context: &Self::Context, handle: Handle, bytes: &[u8])
+    fn put_back(&mut self, way: &Self::Way, handle: Handle, bytes: &[u8])
         requires sound { is_sound self.old }
         requires fits { FitsClass (version_of self.old) (key handle) bytes.now }
         requires within { held (map.insert (state self.old).live (key handle) bytes.now)

@@ -238,7 +238,7 @@ impl UndoLog {
     /// that were changed since.
     pub fn restore<H: UndoHeap>(
         &mut self,
-        context: &H::Context,
+        way: &H::Way,
         heap: &mut H,
         time: u64,
     ) -> Result<u64, Refusal>
@@ -264,7 +264,7 @@ impl UndoLog {
         begin_interval(heap, &mut self.words, &self.heads, &self.places);
         undo_from(
             heap,
-            context,
+            way,
             &mut self.words,
             &mut self.heads,
             &mut self.bytes,
@@ -350,7 +350,7 @@ impl UndoLog {
     pub fn bring_back<H: UndoHeap>(
         &self,
         alloc: Global,
-        context: &H::Context,
+        way: &H::Way,
         heap: &mut H,
         k: u32,
     ) -> Result<(), AllocError>
@@ -369,13 +369,7 @@ impl UndoLog {
         let undone = self.heads.split_at(place).1;
         let len = self.bytes.len();
         let from = len - count_bytes(undone, len);
-        take_back(
-            heap,
-            context,
-            &mut words,
-            undone,
-            self.bytes.split_at(from).1,
-        );
+        take_back(heap, way, &mut words, undone, self.bytes.split_at(from).1);
         Ok(())
     }
 

@@ -17,7 +17,7 @@ use dym_undo::UndoLog;
 
 /// The heap becomes as another one is, with nothing touched. What each chunk was that changes is kept.
 pub(crate) fn bring_to<S: Supply>(
-    context: &S::Context,
+    way: &S::Way,
     heap: &mut Heap<S>,
     undo: &mut UndoLog,
     other: &Heap<OwnSupply>,
@@ -29,13 +29,13 @@ pub(crate) fn bring_to<S: Supply>(
     ensures logs { undo.new.logs ≡ undo.old.logs }
     ensures rest { KeepsRest heap.old heap.new }
 {
-    take_dead(context, heap, undo, other);
-    put_live(context, heap, undo, other);
+    take_dead(way, heap, undo, other);
+    put_live(way, heap, undo, other);
 }
 
 /// Takes away the chunks that aren't live in another heap.
 fn take_dead<S: Supply>(
-    context: &S::Context,
+    way: &S::Way,
     heap: &mut Heap<S>,
     undo: &mut UndoLog,
     other: &Heap<OwnSupply>,
@@ -48,14 +48,14 @@ fn take_dead<S: Supply>(
 {
     let mut last = None;
     while let Some(h) = heap.next_live(last) {
-        take_if_dead(context, heap, undo, other, h);
+        take_if_dead(way, heap, undo, other, h);
         last = Some(h);
     }
 }
 
 /// Takes a live chunk away that isn't live in another heap. What it was is kept.
 fn take_if_dead<S: Supply>(
-    context: &S::Context,
+    way: &S::Way,
     heap: &mut Heap<S>,
     undo: &mut UndoLog,
     other: &Heap<OwnSupply>,
@@ -73,12 +73,12 @@ fn take_if_dead<S: Supply>(
         return;
     }
     undo.keep(heap, h);
-    heap.take_away(context, h);
+    heap.take_away(way, h);
 }
 
 /// Puts each chunk of another heap, in which all chunks of the heap are live.
 fn put_live<S: Supply>(
-    context: &S::Context,
+    way: &S::Way,
     heap: &mut Heap<S>,
     undo: &mut UndoLog,
     other: &Heap<OwnSupply>,
@@ -96,14 +96,14 @@ fn put_live<S: Supply>(
         let Some(bytes) = other.bytes(h) else {
             unreachable!()
         };
-        put_chunk(context, heap, undo, h, bytes);
+        put_chunk(way, heap, undo, h, bytes);
         last = Some(h);
     }
 }
 
 /// A chunk is live with these bytes. What it was is kept, where it was anything else.
 fn put_chunk<S: Supply>(
-    context: &S::Context,
+    way: &S::Way,
     heap: &mut Heap<S>,
     undo: &mut UndoLog,
     h: Handle,
@@ -124,9 +124,9 @@ fn put_chunk<S: Supply>(
     }
     if heap.is_live(h) {
         undo.keep(heap, h);
-        heap.put_back(context, h, bytes);
+        heap.put_back(way, h, bytes);
     } else {
-        heap.put_back(context, h, bytes);
+        heap.put_back(way, h, bytes);
         undo.keep_fresh(heap, h);
     }
 }

@@ -36,7 +36,7 @@ use std::alloc::{AllocError, Global};
 pub fn undo_of_file<S: Supply>(
     alloc: Global,
     content: FileContent,
-    context: &S::Context,
+    way: &S::Way,
     supply: S,
 ) -> Result<(Name, Heap<S>, UndoLog), S>
     requires content { (bytes : List ℕ) × IsContentOf bytes content }
@@ -55,12 +55,12 @@ pub fn undo_of_file<S: Supply>(
         (λ (e : LogEntry). IsWellSized r.1.version e.copy) r.2.logs) }
     ensures found { IfOk result (λ r. AllByRecursion FoundLive r.2.logs) }
 {
-    let (name, loaded, mut chain) = content.load(alloc, context, supply)?;
+    let (name, loaded, mut chain) = content.load(alloc, way, supply)?;
     records_are_kept(&chain);
     dym_ckpt::laws::what_objects_keep_may_be_saved();
     let version = loaded.version();
-    let supply = loaded.end(context);
-    let read = undo_of_chain(alloc, context, &mut chain, version, supply);
+    let supply = loaded.end(way);
+    let read = undo_of_chain(alloc, way, &mut chain, version, supply);
     let _keep = chain.into_keep();
     match read {
         Ok((heap, undo)) => Ok((name, heap, undo)),
@@ -78,7 +78,7 @@ fn records_are_kept(chain: &Chain<VecKeep>)
 /// A heap as the newest kept log of a chain has it, and an undo log with these logs.
 fn undo_of_chain<S: Supply>(
     alloc: Global,
-    context: &S::Context,
+    way: &S::Way,
     chain: &mut Chain<VecKeep>,
     version: Version,
     supply: S,
@@ -111,23 +111,16 @@ fn undo_of_chain<S: Supply>(
         Ok(heap) => heap,
         Err((_, supply)) => return Err(supply),
     };
-    match read_logs(
-        alloc,
-        context,
-        chain,
-        &mut heap,
-        &mut scratch.heap,
-        &mut undo,
-    ) {
+    match read_logs(alloc, way, chain, &mut heap, &mut scratch.heap, &mut undo) {
         Ok(()) => Ok((heap, undo)),
-        Err(_) => Err(heap.end(context)),
+        Err(_) => Err(heap.end(way)),
     }
 }
 
 /// Takes the kept logs of a chain into an undo log that has none.
 fn read_logs<S: Supply>(
     alloc: Global,
-    context: &S::Context,
+    way: &S::Way,
     chain: &mut Chain<VecKeep>,
     heap: &mut Heap<S>,
     scratch: &mut Heap<OwnSupply>,
@@ -152,9 +145,9 @@ fn read_logs<S: Supply>(
         return Ok(());
     }
     let kept = count - chain.kept() + 1;
-    read_some(alloc, context, chain, 0, kept, heap, scratch, undo)?;
+    read_some(alloc, way, chain, 0, kept, heap, scratch, undo)?;
     keep_newest(undo);
-    read_some(alloc, context, chain, kept, count, heap, scratch, undo)?;
+    read_some(alloc, way, chain, kept, count, heap, scratch, undo)?;
     undo.tell_found();
     Ok(())
 }
@@ -175,7 +168,7 @@ fn keep_newest(undo: &mut UndoLog)
 /// Takes the logs of the records from one place up to another into the undo log.
 fn read_some<S: Supply>(
     alloc: Global,
-    context: &S::Context,
+    way: &S::Way,
     chain: &mut Chain<VecKeep>,
     from: u32,
     to: u32,
@@ -197,7 +190,7 @@ fn read_some<S: Supply>(
     ensures sound { IsSound heap.new }
 {
     for place in from..to {
-        read_log(alloc, context, chain, place, heap, scratch, undo)?;
+        read_log(alloc, way, chain, place, heap, scratch, undo)?;
     }
     Ok(())
 }
@@ -205,7 +198,7 @@ fn read_some<S: Supply>(
 /// Takes the log of the record at a place into the undo log.
 fn read_log<S: Supply>(
     alloc: Global,
-    context: &S::Context,
+    way: &S::Way,
     chain: &mut Chain<VecKeep>,
     place: u32,
     heap: &mut Heap<S>,
@@ -229,7 +222,7 @@ fn read_log<S: Supply>(
     let kind = rec.kind();
     bring_record(scratch, &rec);
     chain.lower(place, rec);
-    bring_to(context, heap, undo, scratch);
+    bring_to(way, heap, undo, scratch);
     match undo.log(heap, time, kind) {
         Ok(_kind) => Ok(()),
         Err(_) => Err(AllocError),

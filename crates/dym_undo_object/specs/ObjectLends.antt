@@ -9,6 +9,6 @@ use Rattle.dym_undo_object.specs.ChunkLends.{object_lent}
 use Rattle.dym_undo_object.specs.contracts.undo_object.UndoObject.{the_row}
 
 -- it is the object after the command that writes all bytes of the chunk as they stand behind r at its end
-abbrev pub lends_object : (S Seg Context : RattleType) → (seg : segment.Ghosts Seg.Denot) → (sup : supply.Ghosts S.Denot Seg.Denot Context.Denot)
+abbrev pub lends_object : (S Seg Way : RattleType) → (seg : segment.Ghosts Seg.Denot) → (sup : supply.Ghosts S.Denot Seg.Denot Way.Denot)
     → MutBor UndoObjectMeaning → Handle → MutBor (List ℕ) → Fml
-lends_object S Seg Context seg sup o h r = Lends (the_row S Seg Context sup seg) (Array u8 0) o r (object_lent o.now h)
+lends_object S Seg Way seg sup o h r = Lends (the_row S Seg Way sup seg) (Array u8 0) o r (object_lent o.now h)

@@ -16,7 +16,7 @@ use dym_quota::Supply;
 impl<S: Supply> UndoObject<S> {
     /// A fresh chunk of `len` zero bytes. In version 1 it has all bytes of its class.
     #[inline(always)]
-    pub fn malloc(&mut self, context: &S::Context, len: u64) -> Result<Handle, Refusal>
+    pub fn malloc(&mut self, way: &S::Way, len: u64) -> Result<Handle, Refusal>
         requires { self.old.ran < COUNT_LIMIT }
         ensures reply { chunk_reply result ≡ (step_by self.old (Malloc len)).reply }
         ensures step { IsStep self.old self.new (Malloc len) }
@@ -24,14 +24,14 @@ impl<S: Supply> UndoObject<S> {
         ensures whole { IsWhole self.new }
     {
         self.ran += 1;
-        let answer = self.heap.malloc(context, len);
+        let answer = self.heap.malloc(way, len);
         keep_made(&mut self.undo, &self.heap, answer.ok());
         answer
     }
 
     /// A fresh chunk of `n * len` zero bytes.
     #[inline(always)]
-    pub fn calloc(&mut self, context: &S::Context, n: u64, len: u64) -> Result<Handle, Refusal>
+    pub fn calloc(&mut self, way: &S::Way, n: u64, len: u64) -> Result<Handle, Refusal>
         requires { self.old.ran < COUNT_LIMIT }
         ensures reply { chunk_reply result ≡ (step_by self.old (Calloc n len)).reply }
         ensures step { IsStep self.old self.new (Calloc n len) }
@@ -39,7 +39,7 @@ impl<S: Supply> UndoObject<S> {
         ensures whole { IsWhole self.new }
     {
         self.ran += 1;
-        let answer = self.heap.calloc(context, n, len);
+        let answer = self.heap.calloc(way, n, len);
         keep_made(&mut self.undo, &self.heap, answer.ok());
         answer
     }
@@ -49,7 +49,7 @@ impl<S: Supply> UndoObject<S> {
     #[inline(always)]
     pub fn realloc(
         &mut self,
-        context: &S::Context,
+        way: &S::Way,
         h: Option<Handle>,
         len: u64,
     ) -> Result<Option<Handle>, Refusal>
@@ -61,14 +61,14 @@ impl<S: Supply> UndoObject<S> {
     {
         self.ran += 1;
         keep_named(&mut self.undo, &self.heap, h);
-        let answer = self.heap.realloc(context, h, len);
+        let answer = self.heap.realloc(way, h, len);
         keep_made(&mut self.undo, &self.heap, answer.unwrap_or(None));
         answer
     }
 
     /// Frees a chunk. Nil does nothing.
     #[inline(always)]
-    pub fn free(&mut self, context: &S::Context, h: Option<Handle>) -> Result<(), Refusal>
+    pub fn free(&mut self, way: &S::Way, h: Option<Handle>) -> Result<(), Refusal>
         requires { self.old.ran < COUNT_LIMIT }
         ensures reply { done_reply result ≡ (step_by self.old (Free h)).reply }
         ensures step { IsStep self.old self.new (Free h) }
@@ -77,7 +77,7 @@ impl<S: Supply> UndoObject<S> {
     {
         self.ran += 1;
         keep_named(&mut self.undo, &self.heap, h);
-        self.heap.free(context, h)
+        self.heap.free(way, h)
     }
 
     /// Writes the bytes into a chunk, from its place `at` on. An empty write changes nothing.

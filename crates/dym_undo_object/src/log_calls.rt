@@ -63,7 +63,7 @@ impl<S: Supply> UndoObject<S> {
 
     /// Restores the last log at or before a time, and answers its time; the later logs leave.
     #[inline(always)]
-    pub fn restore(&mut self, context: &S::Context, time: u64) -> Result<u64, Refusal>
+    pub fn restore(&mut self, way: &S::Way, time: u64) -> Result<u64, Refusal>
         requires { self.old.ran < COUNT_LIMIT }
         ensures reply { restored_reply result ≡ (step_by self.old (Restore time)).reply }
         ensures step { IsStep self.old self.new (Restore time) }
@@ -71,12 +71,12 @@ impl<S: Supply> UndoObject<S> {
         ensures whole { IsWhole self.new }
     {
         self.ran += 1;
-        self.undo.restore(context, &mut self.heap, time)
+        self.undo.restore(way, &mut self.heap, time)
     }
 
     /// Restores the last log before a time, and answers its time; the later logs leave. No log is before 0.
     #[inline(always)]
-    pub fn restore_before(&mut self, context: &S::Context, time: u64) -> Result<u64, Refusal>
+    pub fn restore_before(&mut self, way: &S::Way, time: u64) -> Result<u64, Refusal>
         requires { self.old.ran < COUNT_LIMIT }
         ensures at_zero { time ≡ 0 → (result ≡ Err NoLog) × (self.new ≡ counted self.old) }
         ensures reply { 0 < time → restored_reply result
@@ -89,7 +89,7 @@ impl<S: Supply> UndoObject<S> {
             self.ran += 1;
             return Err(Refusal::NoLog);
         }
-        self.restore(context, time - 1)
+        self.restore(way, time - 1)
     }
 
     /// Drops the logs before the last one at or before a bound, and answers how many.

@@ -159,7 +159,7 @@ impl<S: Supply> UndoObject<S> {
     }
 
     /// Gives all segments back, and answers the supply.
-    pub fn end(self, context: &S::Context) -> S
+    pub fn end(self, way: &S::Way) -> S
         ensures nothing_held { S.held_ids result ≡ [] }
         ensures quota { S.quota_of result ≡ self.heap.quota }
         ensures origin { S.origin result ≡ self.heap.origin }
@@ -170,6 +170,6 @@ impl<S: Supply> UndoObject<S> {
             undo: _,
             ran: _,
         } = self;
-        heap.end(context)
+        heap.end(way)
     }
 }
