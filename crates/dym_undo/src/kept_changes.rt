@@ -29,7 +29,19 @@ pub(crate) fn push_live(heads: &mut Vec<Head>, bytes: &mut Vec<u8>, handle: Hand
         handle,
         len: Some(chunk.len() as u32),
     });
-    let Ok(()) = bytes.extend_from_slice(chunk) else {
+    append_reserved(bytes, chunk);
+}
+
+/// Appends bytes in room that is there. That is said before the call, so that the compiler leaves out the vector's growth.
+fn append_reserved(bytes: &mut Vec<u8>, more: &[u8])
+    requires { length bytes.old.items + length more.now ≤ vec_capacity bytes.old }
+    ensures items { bytes.new.items ≡ bytes.old.items ++ more.now }
+    ensures room { vec_capacity bytes.old ≤ vec_capacity bytes.new }
+{
+    if bytes.capacity() - bytes.len() < more.len() {
+        unreachable!();
+    }
+    let Ok(()) = bytes.extend_from_slice(more) else {
         unreachable!();
     };
 }

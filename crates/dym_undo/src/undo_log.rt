@@ -164,8 +164,8 @@ impl UndoLog {
         ensures before { (k : ℕ) → IsKept self.old k → IsKept self.new k }
     {
         live_is_key(heap, handle);
-        push_live(&mut self.heads, &mut self.bytes, handle, bytes);
         stamp(&mut self.words, handle);
+        push_live(&mut self.heads, &mut self.bytes, handle, bytes);
     }
 
     /// Keeps that a chunk was dead, after it was made.
