@@ -16,11 +16,19 @@ use crate::stamps::{is_stamped, stamp, unstamp};
 use crate::undo_heap::UndoHeap;
 use dym_base::Handle;
 
-/// Takes the stamps and the touched marks of these chunks away.
-pub(crate) fn clear_heads<H: UndoHeap>(heap: &mut H, words: &mut [u64], heads: &[Head])
-    requires sound { H.is_sound heap.old }
-    requires keys { AreHeadKeys (length words.old / 64) heads.now }
-    ensures words { words.new ≡ cleared heads.now words.old }
+/// Takes the stamps of these chunks away.
+fn clear_stamps(words: &mut [u64], heads: &[Head])
+    requires { AreHeadKeys (length words.old / 64) heads.now }
+    ensures { words.new ≡ cleared heads.now words.old }
+{
+    for head in heads {
+        unstamp(words, head.handle);
+    }
+}
+
+/// Takes the touched marks of these chunks away.
+fn forget_heads<H: UndoHeap>(heap: &mut H, heads: &[Head])
+    requires { H.is_sound heap.old }
     ensures live { (H.state heap.new).live ≡ (H.state heap.old).live }
     ensures touched { (k : ℕ) → set.contains (H.state heap.new).touched k
         ≡ (not (is_headed k heads.now) && set.contains (H.state heap.old).touched k) }
@@ -28,8 +36,23 @@ pub(crate) fn clear_heads<H: UndoHeap>(heap: &mut H, words: &mut [u64], heads: &
     ensures sound { H.is_sound heap.new }
 {
     for head in heads {
-        unstamp(words, head.handle);
         heap.forget(head.handle);
+    }
+}
+
+/// Takes all touched marks away, which only these chunks have: one by one, or those of each area where there are fewer areas.
+fn forget_touched<H: UndoHeap>(heap: &mut H, heads: &[Head])
+    requires sound { H.is_sound heap.old }
+    requires noted { (k : ℕ) → set.contains (H.state heap.old).touched k ≡ true
+        → is_headed k heads.now ≡ true }
+    ensures state { H.state heap.new ≡ all_forgotten (H.state heap.old) }
+    ensures rest { H.keeps_rest heap.old heap.new }
+    ensures sound { H.is_sound heap.new }
+{
+    if (heap.held() as usize) < heads.len() {
+        heap.forget_all();
+    } else {
+        forget_heads(heap, heads);
     }
 }
 
@@ -198,7 +221,11 @@ pub(crate) fn begin_interval<H: UndoHeap>(
 {
     match places.last() {
         None => heap.forget_all(),
-        Some(place) => clear_heads(heap, words, heads.split_at(*place).1),
+        Some(place) => {
+            let changed = heads.split_at(*place).1;
+            clear_stamps(words, changed);
+            forget_touched(heap, changed);
+        }
     }
 }
 
