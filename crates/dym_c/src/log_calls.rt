@@ -8,7 +8,6 @@ ghost use Rattle.dym_c.specs.OutValues.{kind_after, time_after, dropped_after, n
 use crate::object::DymObject;
 use crate::out_values::{DymSlots, c_kind, kind_of_c};
 use crate::status::{BAD, DONE, MEMORY, refusal_number};
-use dym_base::Kind;
 use dym_undo::LogError;
 
 /// Logs the heap at a time, as a full log for kind 0 and as an incremental one for kind 1, and tells the kind that it is.
@@ -32,11 +31,7 @@ pub extern "C" fn dym_log(object: &mut DymObject, kind: u32, time: u64, logged: 
         Err(status) => return status,
     };
     inside.look();
-    let answer = match want {
-        Kind::Full => inside.object.log(time),
-        Kind::Inc => inside.object.ilog(time),
-    };
-    match answer {
+    match inside.object.log_as(time, want) {
         Ok(kind) => {
             inside.copy_heap();
             *logged = c_kind(kind);

@@ -191,6 +191,7 @@ impl UndoLog {
     }
 
     /// Logs the heap at a time, after which nothing of it is touched. The answer is the log's kind.
+    #[inline(always)]
     pub fn log<H: UndoHeap>(
         &mut self,
         heap: &mut H,

@@ -46,7 +46,7 @@ impl<S: Supply> UndoObject<S> {
 
     /// Logs the heap, all of it or what changed.
     #[inline(always)]
-    pub(crate) fn log_as(&mut self, time: u64, want: Kind) -> Result<Kind, LogError>
+    pub fn log_as(&mut self, time: u64, want: Kind) -> Result<Kind, LogError>
         requires { self.old.ran < COUNT_LIMIT }
         ensures answer { IsLogAnswer result (step_by self.old (log_command want time)).reply }
         ensures step { OnReplied result (IsStep self.old self.new (log_command want time)) }
