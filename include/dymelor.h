@@ -206,6 +206,13 @@ static inline const char *dym_status_text(dym_status status)
         "the object has run 2^60 commands",
         "the object is closed, or open where it is to be opened",
         "the bytes are no checkpoint file",
+        /* of dymelor_process.h */
+        "the time is before the last bound",
+        "what is sent is not later than what sends it",
+        "it is for no process, or for another one",
+        "before the bound an event is still to be run, or waited for",
+        "there is no such event",
+        "the object's logs are not those of the process",
     };
     return status < sizeof texts / sizeof texts[0] ? texts[status] : "no status";
 }

@@ -9,9 +9,12 @@
  *     run(event);                     compiled by dymelor-cc
  *     dym_track(NULL);
  *
+ * Of a process (dymelor_process.h) it is &process.object, after an event was handed out and before it is ended.
+ *
  * The simulator itself needs no such compiler, but it is linked by dymelor-cc too, or with what dymelor-track.pc says: the calls that begin
- * and end a touch (dym_open, dym_open_checked, dym_load, dym_close, dym_log, dym_restore, dym_restore_before) pass through
- * libdymelor-track.a, which keeps a table of the touched chunks beside each object. Without that the linker names __real_dym_log as undefined.
+ * and end a touch (dym_open, dym_open_checked, dym_load, dym_close, dym_log, dym_restore, dym_restore_before, and of dymelor_process.h
+ * dym_process_open, _close, _begin and _replay) pass through libdymelor-track.a, which keeps a table of the touched chunks beside each object.
+ * Without that the linker names __real_dym_log as undefined.
  *
  * Told are all stores of the model's own code, before the bytes change: those that the compiler tells, and every other one, as by assembler or
  * by intrinsics, by a call that dymelor-cc adds to what the compiler made. `dymelor-cc --untold-stores` lists these with their lines, and

@@ -500,7 +500,8 @@ static void inline_functions(void)
     EXPECT(dym_number(handle(5, 1)) == (((uint64_t)5 << 32) | 1) && dym_number(dym_nil) == 0);
     EXPECT(dym_same(dym_numbered(dym_number(handle(16, UINT32_MAX))), handle(16, UINT32_MAX)));
     EXPECT(dym_same(dym_numbered(0), dym_nil) && dym_numbered(UINT64_MAX).exponent == 255);
-    EXPECT(strcmp(dym_status_text(DYM_DONE), "done") == 0 && strcmp(dym_status_text(13), "no status") == 0);
+    EXPECT(strcmp(dym_status_text(DYM_DONE), "done") == 0 && strcmp(dym_status_text(19), "no status") == 0);
+    EXPECT(strcmp(dym_status_text(18), "no status") != 0);
     for (k = 0; k <= DYM_FILE; k++) EXPECT(dym_status_text((dym_status)k)[0] != 0);
 }
 

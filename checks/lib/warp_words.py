@@ -6,7 +6,7 @@
 import random
 import sys
 
-SAVES = ["copies", "place", "undo"]
+SAVES = [["--save", "copies"], ["--save", "place"], ["--save", "undo"], ["--save", "place", "--process", "own"]]
 
 
 class Drawn:
@@ -47,7 +47,7 @@ class Drawn:
                 "--log-every", self.either([1, 2, 4, 16, 50, "auto"], [1, 2, 4, 7, 16, 50, 256, "auto"]),
                 "--window", self.either(["auto", "auto", 20, 100, 1000], ["auto", "auto", 1, 20, 100, 1000]),
                 "--bound-every", self.either([200, 500, 2048], [50, 200, 500, 2048, 20000]), "--move", self.either([0, 0, 1, 3], [0, 1, 1, 2, 5]),
-                "--save", self.either(SAVES, [*SAVES, "place"])]
+                *self.either(SAVES, [*SAVES, ["--save", "place"]])]
 
     def words(self):
         """The words for one run, but for its workers."""

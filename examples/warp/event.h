@@ -1,30 +1,21 @@
-/* Events and messages, and the order in which a process runs its events. */
+/* Events and messages, which are the library's, and the order in which a process runs its events. */
 #ifndef EVENT_H
 #define EVENT_H
 
 #include <stdint.h>
 
+#include "dymelor_process.h"
+
 /*
- * An event: what its receiver is to do at a time. The key (time, sender, serial) decides the order. The serial counts what the sender ever
- * sent, so that it tells an event that was called back from the one that was sent in its place. Runs differ in serials, but not in the
- * order of the events that stand: what a process sends later, in the order of its own events, has the greater one.
+ * An event: what its receiver is to do at a time. The key (time, priority, sender, serial) decides the order; the models here leave the priority 0. Runs
+ * differ in serials, but not in the order of the events that stand: what a process sends later, in the order of its own events, has the greater one.
  * The fields leave no gap, so that an event can go to another rank as its bytes.
  */
-typedef struct event {
-    uint64_t time;
-    uint64_t serial;
-    uint32_t sender;
-    uint32_t receiver;
-    uint64_t kind; /* the model's, as data is */
-    uint64_t data[2];
-} event;
+typedef dym_event event;
 
-/* An event on its way, or the word that it was never sent: an anti-message. */
-typedef struct message {
-    event event;
-    uint32_t is_anti;
-    uint32_t mark; /* MESSAGE_MARK: bytes without it are no message */
-} message;
+/* An event on its way, or the word that it was never sent: an anti-message. On its way to another worker `mark` is MESSAGE_MARK: bytes without it are no
+ * message. */
+typedef dym_message message;
 
 enum { MESSAGE_MARK = 0x57415250 };
 
@@ -32,6 +23,7 @@ enum { MESSAGE_MARK = 0x57415250 };
 static inline int event_order(const event *a, const event *b)
 {
     if (a->time != b->time) return a->time < b->time ? -1 : 1;
+    if (a->priority != b->priority) return a->priority < b->priority ? -1 : 1;
     if (a->sender != b->sender) return a->sender < b->sender ? -1 : 1;
     if (a->serial != b->serial) return a->serial < b->serial ? -1 : 1;
     return 0;

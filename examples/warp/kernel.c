@@ -59,7 +59,7 @@ static void take(kernel *k, const message *m)
 static void send(kernel *k, message *m)
 {
     k->sent++;
-    if (k->sent == k->settings->spoil) m->mark = 0;
+    m->mark = k->sent == k->settings->spoil ? 0 : MESSAGE_MARK;
     transport_send(k->transport, k->owner[m->event.receiver], m);
 }
 

@@ -20,7 +20,8 @@ static void print_outcome(const outcome *out, const settings *s)
            (double)c->processor / 1e9);
     printf("peak memory %" PRIu64 " KiB\n", c->memory);
     if (!s->sequential) {
-        printf("workers %" PRIu32 " (%s), save %s, bounds %" PRIu64 "\n", transport_workers(s), transport_name(), s->way->name, out->bounds);
+        printf("workers %" PRIu32 " (%s), save %s, processes %s, bounds %" PRIu64 "\n", transport_workers(s), transport_name(), s->way->name,
+               s->kind->name, out->bounds);
         printf("rollbacks %" PRIu64 ", undone %" PRIu64 " events, replayed %" PRIu64 ", efficiency %.3f\n", c->rollbacks, c->undone,
                c->replayed, ran > 0 ? (double)c->committed / (double)ran : 1);
         printf("logs %" PRIu64, c->logs);

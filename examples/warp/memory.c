@@ -29,6 +29,28 @@ fault memory_open(memory *m, const memory_way *way, uint32_t quota)
     return way->open(m, quota);
 }
 
+fault memory_open_over(memory *m, const memory_way *way, dym_object *object)
+{
+    clear(m, way);
+    return way->open_over(m, object);
+}
+
+void memory_note_log(memory *m)
+{
+    m->touches.interval++;
+}
+
+fault memory_fault(dym_status status)
+{
+    switch (status) {
+    case DYM_DONE: return FAULT_NONE;
+    case DYM_MEMORY: return FAULT_MEMORY;
+    case DYM_QUOTA:
+    case DYM_TOO_LARGE: return FAULT_QUOTA;
+    default: return FAULT_LOG;
+    }
+}
+
 void memory_close(memory *m)
 {
     if (m->way != NULL && m->inside != NULL) m->way->close(m);

@@ -10,6 +10,7 @@
 #include <stddef.h>
 #include <stdint.h>
 
+#include "dymelor.h"
 #include "fault.h"
 #include "touches.h"
 
@@ -29,6 +30,7 @@ typedef struct memory_way {
     const char *name;
     const char *says;
     fault (*open)(memory *m, uint32_t quota);
+    fault (*open_over)(memory *m, dym_object *object); /* null where the state is no object of the library */
     void (*close)(memory *m);
     void *(*alloc)(memory *m, size_t length);
     void (*free)(memory *m, void *chunk, size_t length);
@@ -60,6 +62,13 @@ const memory_way *memory_way_named(const char *name);
 /* Opens an empty state of at most so many segments of 64 KiB. */
 fault memory_open(memory *m, const memory_way *way, uint32_t quota);
 void memory_close(memory *m);
+
+/* The same over an object of the library, which is another's to close, to log and to bring back: that one says when it did so. */
+fault memory_open_over(memory *m, const memory_way *way, dym_object *object);
+void memory_note_log(memory *m);
+
+/* What an answer of the library means for a run. */
+fault memory_fault(dym_status status);
 
 /* An event of this state's process begins and ends. */
 void memory_begin(memory *m);

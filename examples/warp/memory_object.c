@@ -25,33 +25,22 @@ enum { CLASSES = 12, MOST_CHUNKS = 4096 };
  * What is known of the chunks is address space, of which memory is taken where there are chunks.
  */
 typedef struct object {
-    dym_object heap;
+    dym_object *heap; /* its own, or a process's */
+    dym_object own;
     uint64_t moves;
     touch *room; /* for all chunks that there can be */
     size_t used;
 } object;
 
-/* What an answer of the library means for a run. */
-static fault fault_of(dym_status status)
-{
-    switch (status) {
-    case DYM_DONE: return FAULT_NONE;
-    case DYM_MEMORY: return FAULT_MEMORY;
-    case DYM_QUOTA:
-    case DYM_TOO_LARGE: return FAULT_QUOTA;
-    default: return FAULT_LOG;
-    }
-}
-
 static void must(dym_status status)
 {
-    if (status != DYM_DONE) fault_end(fault_of(status));
+    if (status != DYM_DONE) fault_end(memory_fault(status));
 }
 
 /* Closes an object, which may be half open. */
 static void discard(memory *m, object *own)
 {
-    dym_close(&own->heap);
+    dym_close(&own->own);
     free(m->touches.segments);
     free(own->room);
     free(own);
@@ -63,8 +52,8 @@ static dym_status prepare(memory *m, object *own)
 {
     const void *start = NULL;
     dym_heap heap = {0};
-    dym_status status = dym_start(&own->heap, &start);
-    if (status == DYM_DONE) status = dym_inspect(&own->heap, &heap);
+    dym_status status = dym_start(own->heap, &start);
+    if (status == DYM_DONE) status = dym_inspect(own->heap, &heap);
     if (status != DYM_DONE) return status;
     own->room = calloc((size_t)heap.quota * MOST_CHUNKS, sizeof *own->room);
     m->touches.start = (uintptr_t)start;
@@ -73,19 +62,41 @@ static dym_status prepare(memory *m, object *own)
     return own->room != NULL && m->touches.segments != NULL ? DYM_DONE : DYM_MEMORY;
 }
 
+/* An object that isn't open yet, or null. */
+static object *object_made(void)
+{
+    object *own = calloc(1, sizeof *own);
+    if (own != NULL) own->heap = &own->own;
+    return own;
+}
+
 /* In version 2 a chunk is as long as was asked. */
 static fault object_open(memory *m, uint32_t quota)
 {
-    object *own = calloc(1, sizeof *own);
+    object *own = object_made();
     dym_status status;
     if (own == NULL) return FAULT_MEMORY;
-    status = dym_open(&own->heap, quota, 2);
+    status = dym_open(own->heap, quota, 2);
     if (status == DYM_DONE) status = prepare(m, own);
     if (status == DYM_DONE)
         m->inside = own;
     else
         discard(m, own);
-    return fault_of(status);
+    return memory_fault(status);
+}
+
+static fault object_open_over(memory *m, dym_object *heap)
+{
+    object *own = object_made();
+    dym_status status;
+    if (own == NULL) return FAULT_MEMORY;
+    own->heap = heap;
+    status = prepare(m, own);
+    if (status == DYM_DONE)
+        m->inside = own;
+    else
+        discard(m, own);
+    return memory_fault(status);
 }
 
 static void object_close(memory *m)
@@ -115,7 +126,7 @@ static void *object_alloc(memory *m, size_t length)
     object *own = m->inside;
     dym_handle handle;
     void *chunk = NULL;
-    must(dym_malloc_at(&own->heap, length, &handle, &chunk));
+    must(dym_malloc_at(own->heap, length, &handle, &chunk));
     note_chunk(m, own, handle, chunk);
     return chunk;
 }
@@ -124,7 +135,7 @@ static void object_free(memory *m, void *chunk, size_t length)
 {
     object *own = m->inside;
     (void)length;
-    must(dym_free(&own->heap, dym_numbered(touches_at(&m->touches, chunk)->chunk)));
+    must(dym_free(own->heap, dym_numbered(touches_at(&m->touches, chunk)->chunk)));
 }
 
 static void place_write(memory *m, void *at, size_t length)
@@ -132,7 +143,7 @@ static void place_write(memory *m, void *at, size_t length)
     object *own = m->inside;
     touch *t = touches_at(&m->touches, at);
     (void)length;
-    must(dym_touch(&own->heap, dym_numbered(t->chunk), NULL));
+    must(dym_touch(own->heap, dym_numbered(t->chunk), NULL));
     t->interval = m->touches.interval;
 }
 
@@ -140,26 +151,26 @@ static void place_write(memory *m, void *at, size_t length)
 static fault object_log(memory *m, uint64_t time, uint64_t *bytes)
 {
     object *own = m->inside;
-    dym_status status = dym_log(&own->heap, DYM_INCREMENTAL, time + own->moves, NULL);
+    dym_status status = dym_log(own->heap, DYM_INCREMENTAL, time + own->moves, NULL);
     m->touches.interval++;
     *bytes = 0;
-    return fault_of(status);
+    return memory_fault(status);
 }
 
 static fault object_restore(memory *m, uint64_t time, uint64_t *restored)
 {
     object *own = m->inside;
-    dym_status status = dym_restore(&own->heap, time + own->moves, restored);
+    dym_status status = dym_restore(own->heap, time + own->moves, restored);
     m->touches.interval++;
     *restored -= own->moves;
-    return fault_of(status);
+    return memory_fault(status);
 }
 
 static fault object_prune(memory *m, uint64_t bound)
 {
     object *own = m->inside;
     uint32_t dropped;
-    return fault_of(dym_prune(&own->heap, bound + own->moves, &dropped));
+    return memory_fault(dym_prune(own->heap, bound + own->moves, &dropped));
 }
 
 /* The bytes are where the object's block began, how often it was moved, and its checkpoint file. */
@@ -168,14 +179,14 @@ static fault object_save(memory *m, uint8_t **bytes, uint64_t *length)
     object *own = m->inside;
     uint64_t head[2] = {m->touches.start, own->moves};
     uint8_t none;
-    dym_status status = dym_save(&own->heap, file_name, sizeof file_name, &none, 0, length);
-    if (status != DYM_RANGE) return fault_of(status);
+    dym_status status = dym_save(own->heap, file_name, sizeof file_name, &none, 0, length);
+    if (status != DYM_RANGE) return memory_fault(status);
     *bytes = malloc(sizeof head + *length);
     if (*bytes == NULL) return FAULT_MEMORY;
     memcpy(*bytes, head, sizeof head);
-    status = dym_save(&own->heap, file_name, sizeof file_name, *bytes + sizeof head, *length, length);
+    status = dym_save(own->heap, file_name, sizeof file_name, *bytes + sizeof head, *length, length);
     *length += sizeof head;
-    return fault_of(status);
+    return memory_fault(status);
 }
 
 /* Touches all chunks of an object that was loaded, and notes them. */
@@ -183,12 +194,12 @@ static dym_status note_all(memory *m, object *own)
 {
     dym_handle chunk = dym_nil;
     const void *at = NULL;
-    dym_status status = dym_touch_all(&own->heap);
-    if (status == DYM_DONE) status = dym_next(&own->heap, chunk, &chunk);
+    dym_status status = dym_touch_all(own->heap);
+    if (status == DYM_DONE) status = dym_next(own->heap, chunk, &chunk);
     while (status == DYM_DONE && !dym_same(chunk, dym_nil)) {
-        status = dym_address(&own->heap, chunk, &at);
+        status = dym_address(own->heap, chunk, &at);
         if (status == DYM_DONE) note_chunk(m, own, chunk, at);
-        if (status == DYM_DONE) status = dym_next(&own->heap, chunk, &chunk);
+        if (status == DYM_DONE) status = dym_next(own->heap, chunk, &chunk);
     }
     return status;
 }
@@ -201,24 +212,25 @@ static fault object_load(memory *m, const uint8_t *bytes, uint64_t length, uintp
     dym_status status;
     if (length < sizeof head) return FAULT_MOVE;
     memcpy(head, bytes, sizeof head);
-    own = calloc(1, sizeof *own);
+    own = object_made();
     if (own == NULL) return FAULT_MEMORY;
-    status = dym_load(&own->heap, bytes + sizeof head, length - sizeof head, &part);
+    status = dym_load(own->heap, bytes + sizeof head, length - sizeof head, &part);
     if (status == DYM_DONE) status = prepare(m, own);
     if (status != DYM_DONE) {
         discard(m, own);
-        return status == DYM_FILE ? FAULT_MOVE : fault_of(status);
+        return status == DYM_FILE ? FAULT_MOVE : memory_fault(status);
     }
     own->moves = head[1] + 1;
     m->inside = own;
     *distance = m->touches.start - (uintptr_t)head[0];
-    return fault_of(note_all(m, own));
+    return memory_fault(note_all(m, own));
 }
 
 const memory_way memory_place = {
     .name = "place",
     .says = "an object of the library, whose chunks are touched before a write",
     .open = object_open,
+    .open_over = object_open_over,
     .close = object_close,
     .alloc = object_alloc,
     .free = object_free,
@@ -234,7 +246,7 @@ const memory_way memory_place = {
 static void told_begin(memory *m)
 {
     object *own = m->inside;
-    must(dym_track(&own->heap));
+    must(dym_track(own->heap));
 }
 
 static void told_end(memory *m)
@@ -247,6 +259,7 @@ const memory_way memory_told = {
     .name = "told",
     .says = "an object of the library, whose stores the compiler tells",
     .open = object_open,
+    .open_over = object_open_over,
     .close = object_close,
     .alloc = object_alloc,
     .free = object_free,

@@ -24,15 +24,15 @@ static head head_of(const process *p, uint64_t state)
     memset(&h, 0, sizeof h);
     h.process = p->context.self;
     h.root = (uintptr_t)p->context.state;
-    h.dropped = p->dropped;
-    h.sent_from = p->sent_from;
-    h.serial = p->serial;
-    h.bound = p->bound;
-    h.logged = p->logged.items[0];
-    h.pending = p->pending.count;
-    h.done = p->done.count;
-    h.sent = p->sent.count;
-    h.early = p->early.count;
+    h.dropped = p->own.dropped;
+    h.sent_from = p->own.sent_from;
+    h.serial = p->own.serial;
+    h.bound = p->own.bound;
+    h.logged = p->own.logged.items[0];
+    h.pending = p->own.pending.count;
+    h.done = p->own.done.count;
+    h.sent = p->own.sent.count;
+    h.early = p->own.early.count;
     h.state = state;
     h.period = p->period;
     h.counts = p->counts;
@@ -58,7 +58,7 @@ fault process_pack(process *p, uint8_t **bytes, uint64_t *length)
     cursor c = {NULL, NULL, 0};
     uint64_t oldest;
     head h;
-    fault f = memory_restore(&p->memory, p->logged.items[0], &oldest);
+    fault f = memory_restore(&p->memory, p->own.logged.items[0], &oldest);
     if (f == FAULT_NONE) f = memory_save(&p->memory, &state, &state_length);
     if (f == FAULT_NONE) {
         h = head_of(p, state_length);
@@ -68,10 +68,10 @@ fault process_pack(process *p, uint8_t **bytes, uint64_t *length)
     }
     if (f == FAULT_NONE) {
         append(&c, &h, sizeof h);
-        append(&c, p->pending.items, h.pending * sizeof(event));
-        append(&c, p->done.items, h.done * sizeof(done));
-        append(&c, p->sent.items, h.sent * sizeof(event));
-        append(&c, p->early.items, h.early * sizeof(event));
+        append(&c, p->own.pending.items, h.pending * sizeof(event));
+        append(&c, p->own.done.items, h.done * sizeof(done));
+        append(&c, p->own.sent.items, h.sent * sizeof(event));
+        append(&c, p->own.early.items, h.early * sizeof(event));
         append(&c, state, state_length);
         process_close(p);
     }
@@ -110,14 +110,14 @@ static fault take_events(cursor *c, events *list, uint64_t count)
 
 static void take_head(process *p, const head *h)
 {
-    p->dropped = h->dropped;
-    p->sent_from = h->sent_from;
-    p->serial = h->serial;
-    p->bound = h->bound;
+    p->own.dropped = h->dropped;
+    p->own.sent_from = h->sent_from;
+    p->own.serial = h->serial;
+    p->own.bound = h->bound;
     p->period = h->period;
     p->counts = h->counts;
     /* the state is that of its log: the events after it are run again before the next one */
-    p->is_stale = 1;
+    p->own.is_stale = 1;
 }
 
 /* Opens the state, makes its pointers right, and logs it. */
@@ -131,8 +131,8 @@ static fault take_state(process *p, const head *h, const uint8_t *bytes, uint64_
     if (s->model->moved != NULL) s->model->moved(&p->context);
     f = memory_log(&p->memory, h->logged, &logged);
     if (f == FAULT_NONE) f = memory_prune(&p->memory, h->logged);
-    if (f == FAULT_NONE) f = list_grow(&p->logged.items, &p->logged.room, 0, sizeof *p->logged.items);
-    if (f == FAULT_NONE) p->logged.items[p->logged.count++] = h->logged;
+    if (f == FAULT_NONE) f = list_grow(&p->own.logged.items, &p->own.logged.room, 0, sizeof *p->own.logged.items);
+    if (f == FAULT_NONE) p->own.logged.items[p->own.logged.count++] = h->logged;
     return f;
 }
 
@@ -145,10 +145,10 @@ fault process_unpack(process *p, const settings *s, uint32_t k, const uint8_t *b
     process_context(p, s, k);
     if (!take(&c, &h, sizeof h) || h.process != k) return FAULT_MOVE;
     take_head(p, &h);
-    f = take_events(&c, &p->pending, h.pending);
-    if (f == FAULT_NONE) f = take_list(&c, &p->done.items, &p->done.room, &p->done.count, h.done, sizeof(done));
-    if (f == FAULT_NONE) f = take_events(&c, &p->sent, h.sent);
-    if (f == FAULT_NONE) f = take_events(&c, &p->early, h.early);
+    f = take_events(&c, &p->own.pending, h.pending);
+    if (f == FAULT_NONE) f = take_list(&c, &p->own.done.items, &p->own.done.room, &p->own.done.count, h.done, sizeof(done));
+    if (f == FAULT_NONE) f = take_events(&c, &p->own.sent, h.sent);
+    if (f == FAULT_NONE) f = take_events(&c, &p->own.early, h.early);
     if (f == FAULT_NONE) f = c.left == h.state ? take_state(p, &h, c.read, c.left) : FAULT_MOVE;
     return f;
 }

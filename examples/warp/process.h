@@ -6,6 +6,9 @@
  * called back had been run in the order of their keys, up to the last that was run; and what it sent, less what it called back, is what
  * these events send.
  *
+ * There are two kinds. process_library.c is a process of the library (dymelor_process.h), where that is proved; its state is an object. process_own.c
+ * is one in C, for states of any way, to compare with; and for processes that go to another rank, since the library's can't yet.
+ *
  * A rollback cuts the list of events that were run. The state follows only when the next event is run, so that stragglers that come
  * together cost one restore.
  *
@@ -19,60 +22,75 @@
 #include "memory.h"
 #include "model.h"
 #include "period.h"
+#include "process_own.h"
 #include "settings.h"
 
-/* An event that was run, and how many events the process had sent before it, without those that were called back. */
-typedef struct done {
-    event event;
-    uint64_t sent;
-} done;
+typedef struct process process;
 
-typedef struct dones {
-    done *items;
-    size_t count;
-    size_t room;
-} dones;
+/* What process.c hands on. `deliver` takes what the model sends; `run` is called where there is an event to run, and `settle` brings the state up to
+ * the events that were run. */
+typedef struct process_kind {
+    const char *name;
+    fault (*open)(process *p, messages *out);
+    void (*close)(process *p);
+    void (*deliver)(context *c, event *e);
+    fault (*take)(process *p, const message *m, messages *out);
+    uint64_t (*next)(const process *p);
+    fault (*run)(process *p, messages *out);
+    fault (*settle)(process *p);
+    fault (*commit)(process *p, uint64_t bound);
+} process_kind;
 
-/* How many events had been run at each kept log, oldest first. */
-typedef struct positions {
-    uint64_t *items;
-    size_t count;
-    size_t room;
-} positions;
+extern const process_kind process_library;
+extern const process_kind process_own;
 
-typedef struct process {
+/* The kind of a name, or null. */
+const process_kind *process_kind_named(const char *name);
+
+/* What is the library's kind's alone. */
+typedef struct library_process {
+    dym_process process;
+    uint64_t ran;    /* events that were run and not undone */
+    uint64_t logged; /* how many had been at the newest log, which may be undone */
+    uint32_t period; /* that the library has */
+    int is_stale;    /* the state has seen events that were undone */
+    int has_sent;    /* there is something in the outbox */
+} library_process;
+
+struct process {
     const settings *settings;
+    const process_kind *kind;
     context context;
     memory memory;
-    events pending;
-    dones done;           /* in the order of their keys; the first is event number `dropped` of the process */
-    uint64_t dropped;     /* events that no rollback and no log needs any more */
-    events sent;          /* by the events in `done`, in their order */
-    uint64_t sent_from;   /* how many were sent before these */
-    uint64_t serial;      /* events that were ever sent */
-    events early;         /* anti-messages whose events haven't come yet */
-    positions logged;
-    uint64_t since_log;   /* events that the state has seen since the newest log */
-    int is_stale;         /* the state has seen events that were undone */
-    int wants_bound;      /* its logs are full */
-    uint64_t bound;       /* of the last commit */
     period period;
     counts counts;
-    messages *out;        /* during a call: where what is sent goes; null while events are run again */
-} process;
+    uint64_t reached; /* the time of the last event that was run and not undone, or 0 */
+    int wants_bound;  /* its logs are full */
+    own_process own;
+    library_process library;
+};
 
 /* Makes the state of process k, and takes its first log. Its first events come out as messages to itself. */
 fault process_open(process *p, const settings *s, uint32_t k, messages *out);
 void process_close(process *p);
 
 /* Takes an event, or calls one back; the message may lie in `out`. FAULT_MESSAGE: it comes before the bound. */
-fault process_take(process *p, const message *m, messages *out);
+static inline fault process_take(process *p, const message *m, messages *out)
+{
+    return p->kind->take(p, m, out);
+}
 
 /* The time of the next event, or UINT64_MAX where there is none. */
-uint64_t process_next(const process *p);
+static inline uint64_t process_next(const process *p)
+{
+    return p->kind->next(p);
+}
 
 /* Runs the next event, which there is. */
-fault process_run(process *p, messages *out);
+static inline fault process_run(process *p, messages *out)
+{
+    return p->kind->run(p, out);
+}
 
 /* Commits what was run before a bound: no message with an earlier time comes any more. Logs and events that nothing needs go. */
 fault process_commit(process *p, uint64_t bound);
@@ -87,5 +105,9 @@ int process_wants_bound(const process *p);
 
 /* For pack.c: makes the context in which the model's calls are made. */
 void process_context(process *p, const settings *s, uint32_t k);
+
+/* For the kinds: runs the model for an event, and notes that so many were undone, back to a time. */
+void process_execute(process *p, const event *e);
+void process_note_undone(process *p, uint64_t count, uint64_t time);
 
 #endif

@@ -6,6 +6,9 @@
 #include <stdlib.h>
 #include <string.h>
 
+#include "process.h"
+#include "transport.h"
+
 /* An option of the kernel with a number: where it goes, and what it may be. */
 typedef struct option {
     const char *name;
@@ -86,6 +89,10 @@ static int read_word(settings *s, const char *name, const char *word)
         s->way = memory_way_named(word);
         return s->way != NULL;
     }
+    if (strcmp(name, "process") == 0) {
+        s->kind = process_kind_named(word);
+        return s->kind != NULL;
+    }
     if (strcmp(name, "trace") == 0) {
         s->trace = word;
         return 1;
@@ -101,6 +108,17 @@ static void set_defaults(settings *s, const model *m)
     s->way = memory_ways[0];
     for (k = 0; k < OPTIONS; k++) set(s, &options[k], options[k].value);
     for (k = 0; k < MODEL_OPTIONS && m->options[k].name != NULL; k++) s->options[k] = m->options[k].value;
+}
+
+/* The library's processes where a state is an object, no process goes to another rank, and no other kind was asked for. */
+static fault set_kind(settings *s, const char **why)
+{
+    int has_object = s->way->open_over != NULL, goes = s->move_every > 0 && transport_packs();
+    if (s->kind == NULL) s->kind = has_object && !goes ? &process_library : &process_own;
+    if (s->kind == &process_own || (has_object && !goes)) return FAULT_NONE;
+    *why = has_object ? "--process library with --move, by which a process goes to another rank" :
+                        "--process library, which has its state in an object (--save place)";
+    return FAULT_OPTION;
 }
 
 fault settings_read(settings *s, int count, char **words, const char **why)
@@ -128,7 +146,7 @@ fault settings_read(settings *s, int count, char **words, const char **why)
             if (!read_word(s, name, words[k]) && !read_option(s, name, words[k])) return FAULT_OPTION;
         }
     }
-    return FAULT_NONE;
+    return set_kind(s, why);
 }
 
 static void say(const char *name, uint64_t value, const char *says)
@@ -141,8 +159,10 @@ void settings_usage(const char *program)
     const model *const *m;
     const memory_way *const *way;
     unsigned k;
-    printf("usage: %s [MODEL] [--sequential] [--progress] [--save WAY] [--trace FILE] [--OPTION NUMBER]..\n", program);
+    printf("usage: %s [MODEL] [--sequential] [--progress] [--save WAY] [--process KIND] [--trace FILE] [--OPTION NUMBER]..\n", program);
     for (way = memory_ways; *way != NULL; way++) printf("  --save %-8s %s\n", (*way)->name, (*way)->says);
+    printf("  --process library  the library's processes, as by itself where a state is an object\n");
+    printf("  --process own      the kernel's own processes\n");
     for (k = 0; k < OPTIONS; k++) {
         if (options[k].zero != NULL && options[k].value == 0)
             printf("  --%-12s %8s  %s\n", options[k].name, options[k].zero, options[k].says);

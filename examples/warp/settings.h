@@ -5,9 +5,12 @@
 #include "memory.h"
 #include "model.h"
 
+struct process_kind;
+
 typedef struct settings {
     const model *model;
     const memory_way *way;
+    const struct process_kind *kind; /* the library's processes, or the kernel's own */
     uint64_t options[MODEL_OPTIONS]; /* of the model */
     uint32_t processes;
     uint32_t threads;     /* of the version over threads */

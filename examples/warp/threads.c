@@ -259,6 +259,11 @@ void transport_reduce(transport *t, uint64_t *least, counts *sums)
 }
 
 /* The process lies where both workers reach it: after the barrier the other may touch it. */
+int transport_packs(void)
+{
+    return 0;
+}
+
 void transport_move(transport *t, uint32_t from, uint32_t to, const settings *s, uint32_t k, process *p)
 {
     (void)from;

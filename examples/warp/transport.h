@@ -54,6 +54,9 @@ void transport_settle(transport *t, messages *incoming);
 /* All workers call it. *least becomes the least of all workers' numbers, and *sums the sums. */
 void transport_reduce(transport *t, uint64_t *least, counts *sums);
 
+/* Whether a process that moves goes as bytes, so that it has to be one of the kernel's own. */
+int transport_packs(void);
+
 /* All workers call it at a bound, where nothing is on its way: process k, which lies at `p`, goes from one worker to another. */
 void transport_move(transport *t, uint32_t from, uint32_t to, const settings *s, uint32_t k, process *p);
 

@@ -1,8 +1,8 @@
 use std::fmt;
 
 /// Why a call did not do what it says. Each variant is the status of that name in the header, but [`File`](Error::File), which stands for
-/// the `DYM_FILE` of `dym_load`, and [`Twice`](Error::Twice), which is this crate's own. A later version may have more. `DYM_STATE` is of none:
-/// an [`Object`](crate::Object) is open.
+/// the `DYM_FILE` of `dym_load`, and [`Twice`](Error::Twice), which is this crate's own. A later version may have more. `DYM_STATE` is
+/// [`Open`](Error::Open), of a [`Process`](crate::Process) alone: an [`Object`](crate::Object) is open.
 ///
 /// The variants up to [`NoLog`](Error::NoLog) are refusals. A refused call changes nothing of the object but the count of its
 /// commands, on which only [`Spent`](Error::Spent) depends. A call that returns another variant changes nothing of it at all.
@@ -36,6 +36,18 @@ pub enum Error {
     Spent,
     /// A chunk was named twice where several are lent at once.
     Twice,
+    /// The event of a message is before the last bound of its process, or a bound before an earlier one.
+    Committed,
+    /// What is sent isn't later than the event that sends it.
+    NotLater,
+    /// What is sent is for no process, or a message for another one.
+    NoProcess,
+    /// Before the bound an event is still to be run, or an anti-message waits for one.
+    Unsettled,
+    /// The logs of a process's state aren't those that the process took.
+    Astray,
+    /// An event whose model answered an error is still handed out. `DYM_STATE` of a process.
+    Open,
     /// The bytes are no checkpoint file.
     File {
         /// The first part that fails: 0 for the header, k for record k, and one more than there are records for what follows them.
@@ -47,6 +59,7 @@ pub enum Error {
 pub(crate) type Status = u32;
 
 pub(crate) const FILE: Status = 12;
+pub(crate) const NONE: Status = 17;
 
 /// What a status says.
 pub(crate) fn done(status: Status) -> Result<(), Error> {
@@ -62,6 +75,12 @@ pub(crate) fn done(status: Status) -> Result<(), Error> {
         8 => Error::Memory,
         9 => Error::Bad,
         10 => Error::Spent,
+        11 => Error::Open,
+        13 => Error::Committed,
+        14 => Error::NotLater,
+        15 => Error::NoProcess,
+        16 => Error::Unsettled,
+        18 => Error::Astray,
         _ => unreachable!("no call on an open object answers the status {status}"),
     })
 }
@@ -80,6 +99,12 @@ impl fmt::Display for Error {
             Error::Bad => "the quota or the name is bad",
             Error::Spent => "the object has run 2^60 commands, the most that it may",
             Error::Twice => "a chunk was named twice",
+            Error::Committed => "the time is before the last bound",
+            Error::NotLater => "what is sent isn't later than what sends it",
+            Error::NoProcess => "it is for no process, or for another one",
+            Error::Unsettled => "before the bound an event is still to be run, or waited for",
+            Error::Astray => "the logs aren't those of the process",
+            Error::Open => "an event is still handed out",
             Error::File { part } => {
                 return write!(f, "the bytes are no checkpoint file: part {part} fails")
             }

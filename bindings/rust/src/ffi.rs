@@ -1,4 +1,4 @@
-//! The calls of `dymelor.h` on an open object. All unsafe code of the crate stands here. Each block quotes what the header asks of a
+//! The calls of `dymelor.h` on an open object, and of `dymelor_process.h` on an open process. All unsafe code of the crate stands here. Each block quotes what the header asks of a
 //! caller there; the headings of these sentences hold for all blocks:
 //!
 //! - "a pointer to an object is that of such a dym_object": [`OpenObject`] holds one from a `dym_open` or `dym_load` that succeeded to
@@ -7,8 +7,10 @@
 //!   overlap, since they are exclusive wherever C writes.
 //! - "one call at a time on an object": the type isn't `Sync`, so that only one thread at a time calls, and no call calls back.
 
-use crate::error::{done, Error, Status, FILE};
+use crate::error::{done, Error, Status, FILE, NONE};
 use crate::pod::{Fits, Pod};
+use crate::process::{Config, Event as PlainEvent, Message as PlainMessage, Progress};
+use crate::time::Time;
 use std::array;
 use std::cell::UnsafeCell;
 use std::ffi::c_void;
@@ -127,7 +129,95 @@ extern "C" {
     ) -> Status;
     fn dym_load(object: *mut Object, bytes: *const c_void, length: usize, part: *mut u32)
         -> Status;
+    fn dym_process_open(process: *mut Process, config: *const ProcessConfig) -> Status;
+    fn dym_process_close(process: *mut Process) -> Status;
+    fn dym_process_take(process: *mut Process, message: *const Message, undone: *mut u64)
+        -> Status;
+    fn dym_process_outbox(
+        process: *mut Process,
+        messages: *mut Message,
+        room: usize,
+        count: *mut u64,
+    ) -> Status;
+    fn dym_process_next(process: *const Process, time: *mut u64) -> Status;
+    fn dym_process_begin(process: *mut Process, event: *mut Event, how: *mut u32) -> Status;
+    fn dym_process_replay(process: *mut Process, event: *mut Event, how: *mut u32) -> Status;
+    fn dym_process_send(process: *mut Process, event: *const Event) -> Status;
+    fn dym_process_end(process: *mut Process) -> Status;
+    fn dym_process_commit(process: *mut Process, bound: u64, committed: *mut u64) -> Status;
+    fn dym_process_committed(
+        process: *mut Process,
+        events: *mut Event,
+        room: usize,
+        count: *mut u64,
+    ) -> Status;
+    fn dym_process_progress(process: *const Process, progress: *mut ProcessProgress) -> Status;
+    fn dym_process_period(process: *mut Process, period: u64) -> Status;
 }
+
+/// `dym_event`.
+#[repr(C)]
+#[derive(Clone, Copy, Default)]
+pub(crate) struct Event {
+    pub time: u64,
+    pub priority: u64,
+    pub serial: u64,
+    pub sender: u32,
+    pub receiver: u32,
+    pub kind: u64,
+    pub data: [u64; 4],
+}
+
+/// `dym_message`.
+#[repr(C)]
+#[derive(Clone, Copy, Default)]
+pub(crate) struct Message {
+    pub event: Event,
+    pub is_anti: u32,
+    pub mark: u32,
+}
+
+/// `dym_process`.
+#[repr(C)]
+struct Process {
+    object: Object,
+    inside: *mut c_void,
+}
+
+/// `dym_process_config`.
+#[repr(C)]
+struct ProcessConfig {
+    number: u32,
+    processes: u32,
+    period: u64,
+    quota: u32,
+    version: u32,
+    is_checked: u32,
+}
+
+/// `dym_progress`.
+#[repr(C)]
+#[derive(Default)]
+struct ProcessProgress {
+    ran: u64,
+    replays: u64,
+    logged: u64,
+    outbox: u64,
+    is_open: u32,
+}
+
+/// `DYM_REPLAYED`.
+const REPLAYED: u32 = 1;
+
+/// What a `dym_process` has beside its object, open from when it is made until it is dropped. The object is an [`OpenObject`] beside it: while a call
+/// runs, a `dym_process` of both stands in their place, since "While it is open a copy may take its place, but a copy and the original are never
+/// both used".
+pub(crate) struct OpenProcess {
+    inside: *mut c_void,
+}
+
+// SAFETY: as of `OpenObject`.
+unsafe impl Send for OpenProcess {}
 
 /// A `dym_object` that is open from when it is made until it is dropped.
 ///
@@ -448,5 +538,146 @@ impl Drop for OpenObject {
     fn drop(&mut self) {
         // SAFETY: "a pointer to an object is that of such a dym_object", closed or open: "DYM_STATE: it was closed".
         unsafe { dym_close(self.object.get()) };
+    }
+}
+
+impl OpenProcess {
+    /// An open process at its start, and its object.
+    pub fn open(config: &Config) -> Result<(OpenProcess, OpenObject), Error> {
+        let given = ProcessConfig {
+            number: config.number,
+            processes: config.processes,
+            period: config.period,
+            quota: config.quota,
+            version: 2,
+            is_checked: 0,
+        };
+        let mut object = OpenObject::closed();
+        let mut process = OpenProcess {
+            inside: ptr::null_mut(),
+        };
+        // SAFETY: "a dym_process is zeroed before its first use".
+        done(process.call(&mut object, |c| unsafe { dym_process_open(c, &given) }))?;
+        Ok((process, object))
+    }
+
+    /// Makes a call on a `dym_process` of both.
+    fn call(&mut self, object: &mut OpenObject, call: impl FnOnce(*mut Process) -> Status) -> Status {
+        let mut process = Process {
+            object: Object {
+                inside: object.object.get_mut().inside,
+            },
+            inside: self.inside,
+        };
+        let status = call(&mut process);
+        object.object.get_mut().inside = process.object.inside;
+        self.inside = process.inside;
+        status
+    }
+
+    /// Makes a call that looks at no object, on a `dym_process` without one.
+    fn look(&self, call: impl FnOnce(*mut Process) -> Status) -> Status {
+        let object = Object {
+            inside: ptr::null_mut(),
+        };
+        call(&mut Process {
+            object,
+            inside: self.inside,
+        })
+    }
+
+    pub fn take(&mut self, object: &mut OpenObject, message: &PlainMessage) -> Result<u64, Error> {
+        let given = Message::from(*message);
+        let mut undone = 0;
+        // SAFETY: see the head of this file, for this call and those below.
+        done(self.call(object, |c| unsafe { dym_process_take(c, &given, &mut undone) }))?;
+        Ok(undone)
+    }
+
+    pub fn outbox(&mut self) -> Result<Vec<PlainMessage>, Error> {
+        let mut all = Vec::new();
+        let mut piece = [Message::default(); 16];
+        loop {
+            all.try_reserve(piece.len()).map_err(|_| Error::Memory)?;
+            let mut count = 0;
+            done(self.look(|c| unsafe {
+                dym_process_outbox(c, piece.as_mut_ptr(), piece.len(), &mut count)
+            }))?;
+            let moved = (count as usize).min(piece.len());
+            all.extend(piece[..moved].iter().map(|it| PlainMessage::from(*it)));
+            if moved < piece.len() {
+                return Ok(all);
+            }
+        }
+    }
+
+    pub fn next_time(&self) -> Option<Time> {
+        let mut time = 0;
+        let status = self.look(|c| unsafe { dym_process_next(c, &mut time) });
+        (status == 0).then_some(Time(time))
+    }
+
+    pub fn begin(&mut self, object: &mut OpenObject) -> Result<Option<(PlainEvent, bool)>, Error> {
+        let (mut event, mut how) = (Event::default(), 0);
+        match self.call(object, |c| unsafe { dym_process_begin(c, &mut event, &mut how) }) {
+            NONE => Ok(None),
+            status => done(status).map(|()| Some((event.into(), how & REPLAYED != 0))),
+        }
+    }
+
+    pub fn replay(&mut self, object: &mut OpenObject) -> Result<Option<PlainEvent>, Error> {
+        let (mut event, mut how) = (Event::default(), 0);
+        match self.call(object, |c| unsafe { dym_process_replay(c, &mut event, &mut how) }) {
+            NONE => Ok(None),
+            status => done(status).map(|()| Some(event.into())),
+        }
+    }
+
+    pub fn send(&mut self, object: &mut OpenObject, event: &Event) -> Result<(), Error> {
+        done(self.call(object, |c| unsafe { dym_process_send(c, event) }))
+    }
+
+    pub fn end(&mut self, object: &mut OpenObject) -> Result<(), Error> {
+        done(self.call(object, |c| unsafe { dym_process_end(c) }))
+    }
+
+    pub fn commit(&mut self, object: &mut OpenObject, bound: u64) -> Result<Vec<PlainEvent>, Error> {
+        let mut committed = 0;
+        done(self.call(object, |c| unsafe { dym_process_commit(c, bound, &mut committed) }))?;
+        let mut all = Vec::new();
+        all.try_reserve(committed as usize).map_err(|_| Error::Memory)?;
+        let mut piece = [Event::default(); 16];
+        loop {
+            let mut count = 0;
+            done(self.look(|c| unsafe {
+                dym_process_committed(c, piece.as_mut_ptr(), piece.len(), &mut count)
+            }))?;
+            let moved = (count as usize).min(piece.len());
+            all.extend(piece[..moved].iter().map(|it| PlainEvent::from(*it)));
+            if moved < piece.len() {
+                return Ok(all);
+            }
+        }
+    }
+
+    pub fn progress(&self) -> Progress {
+        let mut told = ProcessProgress::default();
+        self.look(|c| unsafe { dym_process_progress(c, &mut told) });
+        Progress {
+            ran: told.ran,
+            replays: told.replays,
+            logged: told.logged,
+        }
+    }
+
+    pub fn set_period(&mut self, period: u64) {
+        self.look(|c| unsafe { dym_process_period(c, period) });
+    }
+}
+
+impl Drop for OpenProcess {
+    /// Closes the process. Its object is an [`OpenObject`], which closes itself.
+    fn drop(&mut self) {
+        self.look(|c| unsafe { dym_process_close(c) });
     }
 }

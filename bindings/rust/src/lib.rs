@@ -57,6 +57,7 @@ mod handle;
 mod object;
 #[allow(unsafe_code)]
 mod pod;
+mod process;
 mod time;
 
 pub use answers::{Found, Heap, LogKind, Logs, Usage, Version};
@@ -66,6 +67,7 @@ pub use error::Error;
 pub use handle::Handle;
 pub use object::Object;
 pub use pod::Pod;
+pub use process::{Config, Draft, Event, Message, Model, Process, Progress, Site};
 pub use time::Time;
 
 #[doc(hidden)]

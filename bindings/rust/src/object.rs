@@ -32,6 +32,18 @@ pub struct Object {
     inside: OpenObject,
 }
 
+impl Object {
+    /// An object that is open.
+    pub(crate) fn of(inside: OpenObject) -> Object {
+        Object { inside }
+    }
+
+    /// What a process lends its calls.
+    pub(crate) fn inside_mut(&mut self) -> &mut OpenObject {
+        &mut self.inside
+    }
+}
+
 /// Opening, and checkpoint files.
 ///
 /// A file has the kept logs of an object, as if they were taken again, with its quota and version, under a name. What was changed since the newest

@@ -1,4 +1,5 @@
 pub mod HeldSteps
 pub mod ObjectSteps
+pub mod ProcessSteps
 pub mod Runs
 pub mod Sent

@@ -2,11 +2,16 @@ pub mod AskedCommands
 pub mod Calls
 pub mod ChunkPlaces
 pub mod ContentLends
+pub mod Events
 pub mod Handles
 pub mod Inspections
 pub mod Openings
 pub mod OutValues
 pub mod Ownership
+pub mod ProcessCalls
+pub mod ProcessLends
+pub mod ProcessMeanings
+pub mod ProcessRuns
 pub mod RestoreLaw
 pub mod SavedFiles
 pub mod Statuses

@@ -10,6 +10,7 @@
 
 mod box_pointer;
 mod chunk_calls;
+mod events;
 mod files;
 mod handle;
 mod heap_calls;
@@ -22,11 +23,21 @@ mod long_buffers;
 mod object;
 mod object_content;
 mod out_values;
+mod process;
+mod process_calls;
+mod process_content;
+mod process_lifetime;
+mod process_results;
 mod status;
 mod untold_chunks;
 mod version;
 
+pub use events::{DymData, DymEvent, DymMessage};
 pub use handle::DymHandle;
 pub use object::DymObject;
 pub use object_content::ObjectContent;
 pub use out_values::{DymBytes, DymFound, DymHeap, DymSlots};
+pub use process::{DymProcess, KeptProcess};
+pub use process_content::ProcessContent;
+pub use process_lifetime::DymProcessConfig;
+pub use process_results::DymProgress;

@@ -37,7 +37,13 @@ pub extern "C" fn dym_open_checked(
 }
 
 /// Opens a closed object, which is checked or isn't.
-fn open(alloc: Global, object: &mut DymObject, quota: u32, version: u32, is_checked: bool) -> u32
+pub(crate) fn open(
+    alloc: Global,
+    object: &mut DymObject,
+    quota: u32,
+    version: u32,
+    is_checked: bool,
+) -> u32
     ensures { IsOpening object.old.value quota (version_of version) result object.new.value }
 {
     let Some(version) = version_of_c(version) else {

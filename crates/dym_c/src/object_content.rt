@@ -49,6 +49,16 @@ impl ObjectContent {
             copy.take(self.object.heap());
         }
     }
+
+    /// Copies the heap, where the object is checked and nothing was changed since its newest log.
+    #[inline(always)]
+    pub(crate) fn copy_logged_heap(&mut self)
+        ensures { self.new ≡ self.old }
+    {
+        if self.copy.is_some() && self.object.changed() == 0 {
+            self.copy_heap();
+        }
+    }
 }
 
 impl Drop for ObjectContent {

@@ -23,6 +23,24 @@ pub const STATE: u32 = 11;
 /// The bytes were no checkpoint file. Nothing was done.
 pub const FILE: u32 = 12;
 
+/// The event of a message, or a bound, is before what is committed. Nothing was done.
+pub const COMMITTED: u32 = 13;
+
+/// What is sent isn't later than what sends it. Nothing was done.
+pub const NOT_LATER: u32 = 14;
+
+/// What is sent is for no process, or what comes for another one. Nothing was done.
+pub const NO_PROCESS: u32 = 15;
+
+/// Before the bound something is still to be run, or waited for. Nothing was done.
+pub const UNSETTLED: u32 = 16;
+
+/// There is nothing.
+pub const NONE: u32 = 17;
+
+/// The object's logs aren't those of the process.
+pub const ASTRAY: u32 = 18;
+
 /// The status of a refusal.
 pub(crate) fn refusal_number(why: Refusal) -> u32
     ensures { result ≡ refusal_status why }

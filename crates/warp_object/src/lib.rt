@@ -14,6 +14,7 @@
 mod messages;
 mod moment;
 mod object_process;
+mod replays;
 mod steps;
 #[cfg(test)]
 mod tests;

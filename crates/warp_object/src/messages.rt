@@ -69,6 +69,7 @@ impl<P: Payload> ObjectProcess<P> {
             → IsProcessOf P.words b past object self.old → IsProcessOf P.words b past object self.new }
         ensures taken { OnOk result (HasTakenMessage P.words message (inner self.old) (inner self.new)) }
         ensures undone { OnOk result (UndoesFrom (event_of message).time (inner self.old) (inner self.new)) }
+        ensures fewer { OnOk result (date_of (inner self.new) ≤ date_of (inner self.old)) }
         ensures posted { OnOk result (HasPosted P.words (event_of message).time self.old.process.sent.items
             self.new.process.sent.items out.old.items out.new.items) }
         ensures own { OnOk result ((event_of message).receiver ≡ self.old.process.number) }

@@ -145,7 +145,7 @@ impl<P: Payload> ObjectProcess<P> {
 
     /// Brings the object to events that stand: to its newest log, where it is behind them. The answer
     /// is after how many events it is what it is.
-    fn reach(&mut self, object: &mut UndoObject<FixedSupply>) -> Result<u64, BeginError>
+    pub(crate) fn reach(&mut self, object: &mut UndoObject<FixedSupply>) -> Result<u64, BeginError>
         requires recorded { IsRecorded P.words self.old }
         ensures recorded { IsRecorded P.words self.new }
         ensures kept { (b : Behaviour P Live) (past : List (Event P)) → IsProcessOf P.words b past object.old self.old

@@ -320,6 +320,39 @@ fn the_last_event_may_be_taken_back(rt: HostRuntime) -> Result<(), Fail> {
     Ok(())
 }
 
+// Replays alone are handed out by a call of their own: the next event stays.
+#[test]
+fn replays_are_handed_out_without_the_next_event(rt: HostRuntime) -> Result<(), Fail> {
+    let alloc = rt.alloc();
+    let mut bench = having_run(&rt, alloc, 9)?;
+    assert_eq!(rt; (bench.process.date(), bench.process.replays()), (3, 0));
+    let late = Message::Event(event(25, 3, 4));
+    bench.process.take(late, &mut bench.out)?;
+    assert_eq!(rt; (bench.process.date(), bench.process.replays()), (2, 2));
+    for left in (0..2).rev() {
+        let given = bench.process.begin_replay(&mut bench.state.object)?;
+        let given = given.expect(&rt, "an event is replayed");
+        bench.run_one(&rt, &given)?;
+        assert_eq!(rt; bench.process.replays(), left);
+    }
+    assert!(rt;
+        bench
+            .process
+            .begin_replay(&mut bench.state.object)?
+            .is_none()
+    );
+    assert_eq!(rt; bench.number(&rt)?, 1186);
+    assert_eq!(rt; bench.process.newest_log(), 0);
+    bench.process.set_period(2);
+    assert_eq!(rt; bench.run_some(&rt, 1)?, 0);
+    assert_eq!(rt; bench.process.newest_log(), 0);
+    assert_eq!(rt; bench.run_some(&rt, 1)?, 0);
+    assert_eq!(rt; bench.process.newest_log(), 3);
+    // By hand: 1186 * 31 + 4, 36770 * 31 + 9.
+    assert_eq!(rt; bench.number(&rt)?, 1_139_879);
+    Ok(())
+}
+
 // A commit hands out the events up to its time and refuses what comes for them; a straggler behind it
 // rolls back to a log that is left, whatever the period.
 #[test]

@@ -219,6 +219,7 @@ int main(int count, char **words)
     if (settings_read(&s, sizeof own / sizeof *own, own, &why) != FAULT_NONE) return 1;
     s.way = memory_way_named(count > 1 ? words[1] : "copies");
     if (s.way == NULL) return 2;
+    s.kind = &process_own; /* the library's isn't packed */
     try_period();
     try_window();
     try_schedule();

@@ -1,8 +1,8 @@
 /*
- * A process by itself: sets of up to six messages, events and anti-messages, in every order, with some events run and a bound committed
- * after each. At the end the process must stand as if the events that weren't called back had been run in order, and what it sent, less
- * what it called back, must be what these events send.
- *     process [copies|place|undo]      says how many orders were tried
+ * A process by itself, of either kind: sets of up to six messages, events and anti-messages, in every order, with some events run and a bound
+ * committed after each. At the end the process must stand as if the events that weren't called back had been run in order, by a process of the
+ * kernel's own over whole copies; and what it sent, less what it called back, must be what these events send there.
+ *     process [copies|place|undo] [own|library]      says how many orders were tried
  */
 #include "../process.h"
 
@@ -104,7 +104,7 @@ static message message_of(const row *r)
 
 /* ---- one order of one set */
 
-static settings options;
+static settings options, in_order;
 static unsigned long tried;
 
 static void must(fault f, const char *what)
@@ -122,7 +122,7 @@ static events standing(const messages *sent)
     size_t k;
     for (k = 0; k < sent->count; k++) {
         const message *m = &sent->items[k];
-        if (m->is_anti == 0 && m->event.serial != serials++) must(FAULT_MESSAGE, "a serial that isn't the next");
+        if (options.kind == &process_own && m->is_anti == 0 && m->event.serial != serials++) must(FAULT_MESSAGE, "a serial that isn't the next");
         if (m->is_anti == 0)
             must(pending_put(&all, &m->event), "a list");
         else if (!pending_remove(&all, &m->event))
@@ -138,7 +138,7 @@ static uint64_t expected(const set *these, events *sent)
     messages out = {NULL, 0, 0}, none = {NULL, 0, 0};
     uint64_t sum = 0;
     unsigned k, j;
-    must(process_open(&p, &options, 0, &none), "opening");
+    must(process_open(&p, &in_order, 0, &none), "opening");
     for (k = 0; k < these->count; k++) {
         message m = message_of(&these->rows[k]), other;
         int stands = m.is_anti == 0;
@@ -163,6 +163,15 @@ static uint64_t least(const process *p, const set *these, const unsigned *order,
     for (; from < these->count; from++)
         if (these->rows[order[from]].time < time) time = these->rows[order[from]].time;
     return time;
+}
+
+/* How many events of a set weren't called back: each anti-message of a set calls one back. */
+static uint64_t count_standing(const set *these)
+{
+    uint64_t count = 0;
+    unsigned k;
+    for (k = 0; k < these->count; k++) count += these->rows[k].is_anti ? UINT64_MAX : 1;
+    return count;
 }
 
 static int same_events(const events *a, const events *b)
@@ -197,7 +206,7 @@ static int stands_after(const set *these, const unsigned *order, unsigned patter
     while (process_next(&p) != UINT64_MAX) must(process_run(&p, &out), "an event");
     must(process_checksum(&p, &found), "a checksum");
     left = standing(&out);
-    is_same = found == sum && same_events(&left, sent) && p.early.count == 0;
+    is_same = found == sum && same_events(&left, sent) && process_commit(&p, UINT64_MAX) == FAULT_NONE && p.counts.committed == count_standing(these);
     free(left.items);
     free(out.items);
     process_close(&p);
@@ -235,6 +244,14 @@ static void try_orders(const set *these, unsigned *order, unsigned from, uint64_
     }
 }
 
+static size_t count_logs(process *p)
+{
+    dym_slots logs;
+    if (p->kind == &process_own) return p->own.logged.count;
+    if (dym_logs(&p->library.process.object, &logs) != DYM_DONE) must(FAULT_LOG, "logs");
+    return logs.kept;
+}
+
 /* An event comes and is called back, over and over, and each time what was run after it is undone. No log stays of what was undone, so
  * that the process doesn't ask for a bound. */
 static void try_many_rollbacks(void)
@@ -252,8 +269,8 @@ static void try_many_rollbacks(void)
         m.is_anti = 1;
         must(process_take(&p, &m, &out), "an anti-message");
     }
-    if (p.wants_bound || p.logged.count > 3) {
-        fprintf(stderr, "process: %zu logs are kept of one event\n", p.logged.count);
+    if (p.wants_bound || count_logs(&p) > 3) {
+        fprintf(stderr, "process: %zu logs are kept of one event\n", count_logs(&p));
         exit(1);
     }
     free(out.items);
@@ -268,6 +285,12 @@ int main(int count, char **words)
     options.processes = 4;
     options.quota = 3;
     if (options.way == NULL) return 2;
+    options.kind = process_kind_named(count > 2 ? words[2] : "own");
+    if (options.kind == NULL || (options.kind == &process_library && options.way->open_over == NULL)) return 2;
+    in_order = options;
+    in_order.way = &memory_copies;
+    in_order.kind = &process_own;
+    in_order.log_every = 1;
     for (options.log_every = 1; options.log_every <= 3; options.log_every++) {
         for (k = 0; k < sizeof sets / sizeof *sets; k++) {
             unsigned order[MOST] = {0, 1, 2, 3, 4, 5};
