@@ -1,3 +1,4 @@
+pub mod Exports
 pub mod HeldSteps
 pub mod ObjectSteps
 pub mod ProcessSteps

@@ -9,6 +9,7 @@ pub mod Openings
 pub mod OutValues
 pub mod Ownership
 pub mod ProcessCalls
+pub mod ProcessExports
 pub mod ProcessLends
 pub mod ProcessMeanings
 pub mod ProcessRuns

@@ -20,7 +20,7 @@ IsOpened version quota status None = status ≡ 8
 IsOpened version quota status (Some new) = (status ≡ 0) × IsFirst version quota new
 
 -- only a closed object is opened
-abbrev IsOpeningRightly : Option UndoObjectMeaning → Version → ℕ → ℕ → Option UndoObjectMeaning → Type 0
+abbrev pub IsOpeningRightly : Option UndoObjectMeaning → Version → ℕ → ℕ → Option UndoObjectMeaning → Type 0
 IsOpeningRightly None version quota status new = IsOpened version quota status new
 IsOpeningRightly (Some o) version quota status new = (status ≡ 11) × (new ≡ Some o)
 

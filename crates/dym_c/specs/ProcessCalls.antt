@@ -1,11 +1,15 @@
 -- What the calls of a process do that run nothing.
-use Rattle.std.specs.Prelude.{◌≡◌, ℕ, ◌+◌, List, [], length, slice_get, Option, None, Some, Bool, true, false}
+use Rattle.std.specs.Prelude.{◌≡◌, ℕ, ◌+◌, ◌++◌, List, [], length, take, drop, map, min, slice_get, Option, None, Some, Bool, true, false}
 use Rattle.warp_base.specs.declared.event.Event.{Event}
+use Rattle.warp_base.specs.declared.event.Message.{Message}
 use Rattle.warp_object.specs.Processes.{inner, date_of}
 use Rattle.warp_object.specs.declared.object_process.ObjectProcess.{ObjectProcess}
 use Rattle.dym_undo_object.specs.Meaning.{UndoObjectMeaning}
+use Rattle.dym_c.specs.Events.{c_event, c_message}
 use Rattle.dym_c.specs.ProcessMeanings.{ProcessMeaning}
 use Rattle.dym_c.specs.declared.events.DymData.{DymData}
+use Rattle.dym_c.specs.declared.events.DymEvent.{DymEvent}
+use Rattle.dym_c.specs.declared.events.DymMessage.{DymMessage}
 use Rattle.dym_c.specs.declared.process_content.Phase.{Phase}
 use Rattle.dym_c.specs.declared.process_content.Phase.TheVariants.{Starting, Running}
 use Rattle.dym_c.specs.declared.process_content.Start.{Start}
@@ -62,6 +66,25 @@ IsNextTime None status before time = (status ≡ 11) × (time ≡ before)
 IsNextTime (Some p) status before time = IsPhaseNext p.phase status before time
 
 -- a process at its start: it sent nothing yet
+abbrev IsPhaseStart : ℕ → ℕ → ℕ → Phase → Type 0
+IsPhaseStart number processes period (Starting start) = (start.number ≡ number) × (start.processes ≡ processes)
+    × (start.period ≡ period) × (start.firsts.items ≡ [])
+IsPhaseStart number processes period (Running p) = ⊥
+
 abbrev pub IsStart : ℕ → ℕ → ℕ → ProcessMeaning → Type 0
-IsStart number processes period p = (start : Start) × (p ≡ record { phase = Starting start; out = []; committed = [] })
-    × (start.number ≡ number) × (start.processes ≡ processes) × (start.period ≡ period) × (start.firsts.items ≡ [])
+IsStart number processes period p = IsPhaseStart number processes period p.phase × (p.out ≡ []) × (p.committed ≡ [])
+
+-- as many of these as have room are moved to where C has it, the first ones
+abbrev pub HasMoved : {A B : Type 0} → (A → B) → List A → List B → List B → ℕ → List A → Type 0
+HasMoved for_c list room new_room count left = (count ≡ min (length room) (length list))
+    × (new_room ≡ map for_c (take count list) ++ drop count room) × (left ≡ drop count list)
+
+abbrev pub IsMovingMessages : Option ProcessMeaning → ℕ → List DymMessage → List DymMessage → ℕ → ℕ → Option ProcessMeaning → Type 0
+IsMovingMessages None status room new_room told new_told new = (status ≡ 11) × (new_room ≡ room) × (new_told ≡ told) × (new ≡ None)
+IsMovingMessages (Some p) status room new_room told new_told new = (status ≡ 0) × (left : List (Message DymData))
+    × HasMoved c_message p.out room new_room new_told left × (new ≡ Some (record p { out = left }))
+
+abbrev pub IsMovingEvents : Option ProcessMeaning → ℕ → List DymEvent → List DymEvent → ℕ → ℕ → Option ProcessMeaning → Type 0
+IsMovingEvents None status room new_room told new_told new = (status ≡ 11) × (new_room ≡ room) × (new_told ≡ told) × (new ≡ None)
+IsMovingEvents (Some p) status room new_room told new_told new = (status ≡ 0) × (left : List (Event DymData))
+    × HasMoved c_event p.committed room new_room new_told left × (new ≡ Some (record p { committed = left }))

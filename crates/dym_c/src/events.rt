@@ -1,7 +1,8 @@
 //! Events and messages as C has them.
 ghost use Rattle.std.specs.Prelude.{◌≡◌, ◌↔◌, IsTrue, ◌∷◌, []};
-ghost use Rattle.std.proofs.Common.{rules};
+ghost use Rattle.std.proofs.Common.{ap};
 ghost use Rattle.warp_base.specs.Words.{lexically};
+ghost use Rattle.dym_c.specs.ProcessMeanings.{data_of};
 ghost use Rattle.dym_c.specs.Events.{c_event, event_of_c, draft_of_c, c_message, message_of_c};
 
 use warp_base::{Draft, Event, Message, Payload};
@@ -19,8 +20,9 @@ pub struct DymData {
 impl Payload for DymData {
     ghost words = { λ d. d.first ∷ d.second ∷ d.third ∷ d.fourth ∷ [] };
 
-    ghost tells_apart = { λ a b same. Prim.cc };
+    ghost tells_apart = { λ a b same. ap data_of same };
 
+    #[tactic(auto, unfolding(warp_base::specs::Words::lexically))]
     fn is_at_or_before(&self, other: &DymData) -> bool {
         if self.first != other.first {
             return self.first < other.first;

@@ -1,10 +1,11 @@
-//! The object for C: a static library, whose exports `include/dymelor.h` declares.
+//! The object and the logical process for C: a static library, whose exports `include/dymelor.h` and `include/dymelor_process.h`
+//! declare.
 //!
-//! Below stand `dym_undo_object` and `dym_undo_files`, whose calls these are; above stands a program
-//! in C, and no crate can. Its one contract: each export does to the object that C keeps what the call does
-//! that it makes, and answers a status (`status_of`, `IsAfter`, `reply_of`). Every number that C
-//! hands in is tested; only that pointers are what the header says is left to C. The object is kept
-//! as a box's bare pointer: what goes in as a box comes out as a box with the same value (`Held`),
+//! Below stand `dym_undo_object`, `dym_undo_files` and `warp_object`, whose calls these are; above stands a program
+//! in C, and no crate can. Its one contract: each export does to what C keeps what the call does
+//! that it makes, and answers a status (`status_of`, `IsAfter`, `reply_of` of an object; `specs/ProcessExports.antt` of a process).
+//! Every number that C hands in is tested; only that pointers are what the header says is left to C. An object is kept
+//! as a box's bare pointer, and so is a process: what goes in as a box comes out as a box with the same value (`Held`),
 //! and a call borrows what is inside where it lies (`DymObject::inside`).
 #![tactic(auto)]
 

@@ -91,6 +91,7 @@ impl Start {
     pub(crate) fn keep(&mut self, draft: Draft<DymData>) -> Result<(), AllocError>
         ensures kept { OnOk result (self.new.firsts.items ≡ self.old.firsts.items ++ draft ∷ []) }
         ensures unchanged { OnErr result (self.new.firsts.items ≡ self.old.firsts.items) }
+        ensures rest { self.new ≡ record self.old { firsts = self.new.firsts } }
     {
         self.firsts.reserve(1)?;
         self.firsts.push_reserved(draft);

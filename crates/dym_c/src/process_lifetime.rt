@@ -1,8 +1,7 @@
 //! Opening and closing a process.
-ghost use Rattle.std.specs.Prelude.{◌≡◌, None, Some};
+ghost use Rattle.std.specs.Prelude.{◌≡◌, None, IsSomeAnd};
 ghost use Rattle.dym_c.specs.Openings.{IsOpening, version_of};
 ghost use Rattle.dym_c.specs.ProcessCalls.{IsStart, IsClosingProcess};
-ghost use Rattle.dym_c.specs.ProcessMeanings.{ProcessMeaning};
 
 use crate::lifetime::open;
 use crate::process::DymProcess;
@@ -30,11 +29,12 @@ pub extern "C" fn dym_process_open(
     config: &DymProcessConfig,
 ) -> u32
     ensures closed { result ≡ 0 → process.old.kept.value ≡ None }
-    ensures opened { result ≡ 0 → (p : ProcessMeaning) × (process.new.kept.value ≡ Some p)
-        × IsStart config.now.number config.now.processes config.now.period p }
+    ensures opened { result ≡ 0
+        → IsSomeAnd process.new.kept.value (IsStart config.now.number config.now.processes config.now.period) }
     ensures object { result ≡ 0
         → IsOpening process.old.object.value config.now.quota (version_of config.now.version) 0 process.new.object.value }
-    ensures unchanged { (result ≡ 0 → ⊥) → process.new.kept.value ≡ process.old.kept.value }
+    ensures unchanged { (result ≡ 0 → ⊥)
+        → (process.new.kept.value ≡ process.old.kept.value) × (process.new.object.value ≡ process.old.object.value) }
 {
     if config.number >= config.processes || config.is_checked > 1 {
         return BAD;

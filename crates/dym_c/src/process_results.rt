@@ -1,6 +1,6 @@
 //! What C takes from a process, and what it is told of one.
 ghost use Rattle.std.specs.Prelude.{◌≡◌, ◌≤◌, ◌++◌, drop, take, map, min, length, vec_len};
-ghost use Rattle.dym_c.specs.ProcessCalls.{IsProgress, IsTellingProgress, IsSettingPeriod};
+ghost use Rattle.dym_c.specs.ProcessCalls.{IsProgress, IsTellingProgress, IsSettingPeriod, IsMovingMessages, IsMovingEvents};
 ghost use Rattle.dym_c.specs.Events.{c_event, c_message};
 
 use crate::events::{DymData, DymEvent, DymMessage, event_for_c, message_for_c};
@@ -22,10 +22,7 @@ pub struct DymProgress {
 
 /// How far a process is.
 #[unsafe(no_mangle)]
-pub extern "C" fn dym_process_progress(
-    process: &mut DymProcess,
-    progress: &mut DymProgress,
-) -> u32
+pub extern "C" fn dym_process_progress(process: &mut DymProcess, progress: &mut DymProgress) -> u32
     ensures told { IsTellingProgress process.old.kept.value result progress.old progress.new }
     ensures same { (process.new.kept.value ≡ process.old.kept.value) × (process.new.object.value ≡ process.old.object.value) }
 {
@@ -81,7 +78,10 @@ pub extern "C" fn dym_process_outbox(
     process: &mut DymProcess,
     messages: &mut [DymMessage],
     count: &mut u64,
-) -> u32 {
+) -> u32
+    ensures moved { IsMovingMessages process.old.kept.value result messages.old messages.new count.old count.new process.new.kept.value }
+    ensures object { process.new.object.value ≡ process.old.object.value }
+{
     let Some(inside) = process.kept.inside() else {
         return STATE;
     };
@@ -99,7 +99,7 @@ fn move_messages(out: &mut Vec<Message<DymData>>, messages: &mut [DymMessage]) -
     for place in 0..moved {
         messages[place] = message_for_c(&out[place]);
     }
-    drop_moved(out, moved);
+    drop_first(out, moved);
     moved as u64
 }
 
@@ -109,7 +109,10 @@ pub extern "C" fn dym_process_committed(
     process: &mut DymProcess,
     events: &mut [DymEvent],
     count: &mut u64,
-) -> u32 {
+) -> u32
+    ensures moved { IsMovingEvents process.old.kept.value result events.old events.new count.old count.new process.new.kept.value }
+    ensures object { process.new.object.value ≡ process.old.object.value }
+{
     let Some(inside) = process.kept.inside() else {
         return STATE;
     };
@@ -127,12 +130,12 @@ fn move_events(committed: &mut Vec<Event<DymData>>, events: &mut [DymEvent]) -> 
     for place in 0..moved {
         events[place] = event_for_c(&committed[place]);
     }
-    drop_moved(committed, moved);
+    drop_first(committed, moved);
     moved as u64
 }
 
 /// Drops the first elements of a list, which are all of them most often.
-fn drop_moved<T: Copy>(list: &mut Vec<T>, count: usize)
+pub(crate) fn drop_first<T: Copy>(list: &mut Vec<T>, count: usize)
     requires { count ≤ vec_len list.old }
     ensures { list.new.items ≡ drop count list.old.items }
 {

@@ -5,7 +5,7 @@
 //! the object is the number of events that were run before it, so that a rollback is the object's own
 //! restore; events behind that log are handed out once more, and what they send is dropped.
 //!
-//! Below stand `warp_process` and `dym_undo_object`; above stands nothing so far. Its one contract: for
+//! Below stand `warp_process` and `dym_undo_object`; above stands `dym_c`. Its one contract: for
 //! every behaviour, if what the program did to the object and what it sent is what the behaviour does,
 //! then the process is that of the behaviour (`IsProcessOf`). Whether a program is deterministic is for
 //! the program to see to.
