@@ -7,7 +7,7 @@ use crate::request::Request;
 
 /// Runs commands. Each is handed over as what is asked, with the bytes of a write where they stand: none are copied.
 pub trait Runner {
-    /// By what commands are run, as a supply's context.
+    /// By what commands are run: those of an object, by the way of its supply.
     type Context;
 
     /// Why a command wasn't run.

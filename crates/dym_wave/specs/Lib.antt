@@ -1,3 +1,12 @@
-pub mod TableKeeps
+pub mod Consumers
+pub mod Lines
+pub mod Observations
+pub mod Parts
+pub mod Publications
+pub mod Results
+pub mod States
+pub mod Sums
+pub mod Views
 pub mod Waves
+pub mod WorkLists
 pub mod Works

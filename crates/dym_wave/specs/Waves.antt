@@ -1,19 +1,29 @@
 -- A wave: works that run side by side over one queue of segments, while a pruner sweeps their log tables.
-use Rattle.std.specs.Prelude.{◌≡◌, ℕ, ◌<◌, List, All, length, slice_index_or}
+use Rattle.std.specs.Prelude.{◌≡◌, ℕ, ◌<◌, List, All, length, map, slice_index_or, sum_by}
 use Rattle.dym_base.specs.Origins.{Origin, shared}
-use Rattle.dym_slots.specs.Meanings.{SweeperMeaning}
-use Rattle.dym_pool.specs.Jobs.{EveryJobBack}
+use Rattle.dym_pool.specs.Jobs.{EveryJobBack, Numbered}
 use Rattle.dym_prune.specs.Sweeps.{Pruned}
-use Rattle.dym_wave.specs.Works.{WorkMeaning, number_of, left_of, origin_of}
+use Rattle.dym_quota.specs.QueueShape.{QueueShape}
+use Rattle.dym_slots.specs.Meanings.{SweeperMeaning}
+use Rattle.dym_wave.specs.Works.{OriginMeaning, WorkMeaning, number_of, left_of, origin_of}
 
 -- the supplies of all works have one origin
 abbrev pub OfOneQueue : List WorkMeaning → Type 0
-OfOneQueue works = (queue : Origin) × All (λ (w : WorkMeaning). w.origin.supply ≡ queue) works
+OfOneQueue works = (queue : Origin) × All (λ (w : WorkMeaning). w.origin.object.supply ≡ queue) works
+
+-- the log tables of sweepers, in order
+abbrev pub tables_of : List SweeperMeaning → List Origin
+tables_of sweepers = map (λ (s : SweeperMeaning). shared s.table) sweepers
 
 -- there are as many sweepers as works, and sweeper k belongs to the log table that the keep of work k has its records in
-pub record AreSweptBy (works : List WorkMeaning) (sweepers : List SweeperMeaning) : Type 0 where
-  pub same : length sweepers ≡ length works
-  pub tables : (k : ℕ) (w : WorkMeaning) (s : SweeperMeaning) → k < length works → (slice_index_or works k w).origin.keep ≡ shared (slice_index_or sweepers k s).table
+abbrev pub AreSweptBy : List WorkMeaning → List SweeperMeaning → Type 0
+AreSweptBy works sweepers = map (λ (w : WorkMeaning). w.origin.object.keep) works ≡ tables_of sweepers
+
+-- works may be run as a wave: their numbers are 0, 1, 2 and so on, they are of one queue, and these sweepers sweep their log tables
+pub record IsReady (works : List WorkMeaning) (sweepers : List SweeperMeaning) : Type 0 where
+  pub numbered : Numbered number_of works
+  pub queue : OfOneQueue works
+  pub tables : AreSweptBy works sweepers
 
 -- the sweepers are of the same log tables, one by one
 pub record SameTables (old new : List SweeperMeaning) : Type 0 where
@@ -27,3 +37,11 @@ pub record WavePromise (works after : List WorkMeaning) (sweepers swept : List S
   pub back : EveryJobBack number_of left_of origin_of works after
   pub tables : AreSweptBy after swept
   pub sweeps : Pruned sweepers swept taken
+
+-- works that come from there are of this queue, have all quotas that it was opened for and the numbers 0, 1, 2 and so on, and
+-- are swept by these
+pub record AreOfWave (queue : QueueShape) (sweepers : List SweeperMeaning) (origins : List OriginMeaning) : Type 0 where
+  pub supplies : All (λ (o : OriginMeaning). o.object.supply ≡ shared queue.name) origins
+  pub quotas : sum_by (λ (o : OriginMeaning). o.object.quota) origins ≡ length queue.stocked
+  pub numbers : (k : ℕ) (d : OriginMeaning) → k < length origins → (slice_index_or origins k d).number ≡ k
+  pub tables : map (λ (o : OriginMeaning). o.object.keep) origins ≡ tables_of sweepers

@@ -1,63 +1,60 @@
 -- An object with its commands as a job: where it came from, and what it has done.
-use Rattle.std.specs.Prelude.{◌≡◌, ℕ, ◌+◌, ◌-◌, ◌≤◌, Bool, false, if◌then◌else◌, List, [], length, take, drop, sum_by}
-use Rattle.dym_base.specs.Objects.{run_replies, run_end}
+use Rattle.std.specs.Prelude.{◌≡◌, ℕ, ◌-◌, ◌≤◌, Bool, false, if◌then◌else◌, List, [], length, take, Option, None, IfSome, option_map}
+use Rattle.dym_base.specs.Objects.{ObjectState, run_replies, run_end}
 use Rattle.dym_base.specs.Origins.{Origin, own}
 use Rattle.dym_base.specs.declared.command.Version.{Version}
 use Rattle.dym_base.specs.declared.command.Version.TheVariants.{One}
 use Rattle.dym_base.specs.declared.command.Command.{Command}
-use Rattle.dym_base.specs.declared.limits.TheConstants.{COUNT_LIMIT, MOST_COMMANDS, MOST_QUANTUM}
+use Rattle.dym_base.specs.declared.limits.TheConstants.{MOST_COMMANDS, MOST_QUANTUM}
 use Rattle.dym_base.specs.declared.reply.Reply.{Reply}
-use Rattle.dym_commands.specs.Reads.{read_room}
-use Rattle.dym_object.specs.Meaning.{ObjectMeaning, IsWhole, state_of}
-use Rattle.dym_commands.specs.Replies.{RepliesMeaning}
+use Rattle.dym_object.specs.Meaning.{ObjectMeaning}
+use Rattle.dym_view.specs.Histories.{Beginning, HistoryName}
+use Rattle.dym_wave.specs.Publications.{IsPublished}
 
--- where a work came from, which no turn changes: the object's place in its wave, its quota, the version of its heap, its own
--- commands, the origin of its supply, and the origin of its keep
-pub record OriginMeaning : Type 0 where
-  pub number : ℕ
+-- where an object came from: its quota, the version of its heap, the origin of its supply, and the origin of its keep
+pub record ObjectOrigin : Type 0 where
   pub quota : ℕ
   pub version : Version
-  pub commands : List Command
   pub supply : Origin
   pub keep : Origin
 
--- a work: where it came from, how many commands a turn runs at most, the replies so far, the object as it stands, and whether a
--- command found no memory
+-- where a work came from, which no turn changes: the object's place in its wave, its name, how many commands a turn runs at most, whether
+-- the text of its part is made as it ends, its own commands, where the object came from, and the name of the history that it publishes
+pub record OriginMeaning : Type 0 where
+  pub number : ℕ
+  pub name : List ℕ
+  pub quantum : ℕ
+  pub makes_text : Bool
+  pub commands : List Command
+  pub object : ObjectOrigin
+  pub history : Option HistoryName
+
+-- a work: where it came from, how many of its commands have run, whether memory was wanting, and what is published
 pub record WorkMeaning : Type 0 where
   pub origin : OriginMeaning
-  pub quantum : ℕ
-  pub replies : List Reply
-  pub object : ObjectMeaning
-  pub out_of_memory : Bool
+  pub ran : ℕ
+  pub short : Bool
+  pub view : Option Beginning
 
 -- what a value of the type means, though none is ever made
 abbrev pub no_origin : OriginMeaning
-no_origin = record { number = 0; quota = 0; version = One; commands = []; supply = own; keep = own }
+no_origin = record {
+  number = 0;
+  name = [];
+  quantum = 0;
+  makes_text = false;
+  commands = [];
+  object = record { quota = 0; version = One; supply = own; keep = own };
+  history = None;
+}
 
--- the origin of an object with this number and these commands
-abbrev pub origin_with : ℕ → List Command → ObjectMeaning → OriginMeaning
-origin_with number commands object = record {
-  number = number;
+abbrev pub object_origin : ObjectMeaning → ObjectOrigin
+object_origin object = record {
   quota = object.heap.quota;
   version = object.heap.version;
-  commands = commands;
   supply = object.heap.origin;
   keep = object.chain.origin;
 }
-
--- a work of these parts
-abbrev pub work_with : ℕ → ℕ → List Command → List Reply → ObjectMeaning → Bool → WorkMeaning
-work_with number quantum commands replies object out_of_memory = record {
-  origin = origin_with number commands object;
-  quantum = quantum;
-  replies = replies;
-  object = object;
-  out_of_memory = out_of_memory;
-}
-
--- a work that has done nothing yet
-abbrev pub opened : ℕ → ℕ → List Command → ObjectMeaning → WorkMeaning
-opened number quantum commands object = work_with number quantum commands [] object false
 
 abbrev pub number_of : WorkMeaning → ℕ
 number_of w = w.origin.number
@@ -65,42 +62,27 @@ number_of w = w.origin.number
 abbrev pub origin_of : WorkMeaning → OriginMeaning
 origin_of w = w.origin
 
--- how many commands have run
-abbrev pub ran : WorkMeaning → ℕ
-ran w = length w.replies
-
--- how many commands are left to run: none where one found no memory
+-- how many commands are left to run: none where memory was wanting
 abbrev pub left_of : WorkMeaning → ℕ
-left_of w = if w.out_of_memory then 0 else length w.origin.commands - ran w
+left_of w = if w.short then 0 else length w.origin.commands - w.ran
 
--- the commands that have run
-abbrev pub done_of : WorkMeaning → List Command
-done_of w = take (ran w) w.origin.commands
+-- it ran all its commands
+abbrev pub IsOver : WorkMeaning → Type 0
+IsOver w = (left_of w ≡ 0) × (w.short ≡ false)
 
--- a job: the replies and the object are those of a run of the first of its commands, as many as have run
+-- what a work has done: its replies, and its object, are those of a run of the first of its commands, as many as have run
+abbrev pub replies_so_far : WorkMeaning → List Reply
+replies_so_far w = run_replies w.origin.object.version w.origin.object.quota (take w.ran w.origin.commands)
+
+abbrev pub state_so_far : WorkMeaning → ObjectState
+state_so_far w = run_end w.origin.object.version w.origin.object.quota (take w.ran w.origin.commands)
+
+-- a job: no more commands have run than it has. What it publishes is of its history; between turns the last commit is the oldest kept
+-- log, unless memory was wanting
 pub record JobMeaning (w : WorkMeaning) : Type 0 where
-  pub within : ran w ≤ length w.origin.commands
-  pub replies : w.replies ≡ run_replies w.origin.version w.origin.quota (done_of w)
-  pub object : state_of w.object ≡ run_end w.origin.version w.origin.quota (done_of w)
-  -- the count of commands has room for those that are left
-  pub counted : w.object.ran + length w.origin.commands ≤ COUNT_LIMIT + ran w
-  pub whole : IsWhole w.object
-  -- the object is of its origin
-  pub of_origin : w.origin ≡ origin_with w.origin.number w.origin.commands w.object
+  pub within : w.ran ≤ length w.origin.commands
   pub few : length w.origin.commands ≤ MOST_COMMANDS
-  pub some_quantum : 1 ≤ w.quantum
-  pub most_quantum : w.quantum ≤ MOST_QUANTUM
-
--- there is room for a reply to each command that is left, and for all that the reads among them are told
-pub record HasRoom (commands : List Command) (kept : RepliesMeaning) : Type 0 where
-  pub replies : length commands ≤ length kept.replies + kept.room
-  pub bytes : sum_by read_room (drop (length kept.replies) commands) ≤ kept.byte_room
-
--- the replies and the object are those of a run of all its commands
-pub record RanAll (w : WorkMeaning) : Type 0 where
-  pub replies : w.replies ≡ run_replies w.origin.version w.origin.quota w.origin.commands
-  pub object : state_of w.object ≡ run_end w.origin.version w.origin.quota w.origin.commands
-
--- a work that has ended without a want of memory ran all its commands
-abbrev pub EndsWhole : WorkMeaning → Type 0
-EndsWhole w = left_of w ≡ 0 → w.out_of_memory ≡ false → RanAll w
+  pub some_quantum : 1 ≤ w.origin.quantum
+  pub most_quantum : w.origin.quantum ≤ MOST_QUANTUM
+  pub of_history : w.origin.history ≡ option_map (λ (b : Beginning). b.history) w.view
+  pub published : IfSome w.view (IsPublished w.origin.object.version w.origin.object.quota w.origin.commands w.ran w.short)

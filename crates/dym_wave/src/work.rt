@@ -1,135 +1,180 @@
 //! An object with its commands, which is run turn by turn.
-ghost use Rattle.std.specs.Prelude.{◌≡◌, ◌+◌, ◌≤◌, IfOk, IfErr};
-ghost use Rattle.dym_base.specs.Objects.{object_start};
-ghost use Rattle.dym_base.specs.declared.limits.TheConstants.{COUNT_LIMIT, MOST_COMMANDS, MOST_QUANTUM};
-ghost use Rattle.dym_object.specs.Meaning.{IsWhole, state_of};
-ghost use Rattle.dym_wave.specs.Works.{JobMeaning, EndsWhole, opened, origin_with};
+ghost use Rattle.std.specs.Prelude.{◌≡◌, ◌≤◌, true, [], length, None, IfSome, IsTrue, IsFalse, option_map};
+ghost use Rattle.dym_base.specs.declared.limits.TheConstants.{MOST_COMMANDS, MOST_QUANTUM};
+ghost use Rattle.dym_io.specs.Sink.{Writes};
+ghost use Rattle.dym_wave.specs.Results.{IsTallyOf, origin_shown, shown_text};
+ghost use Rattle.dym_wave.specs.States.{CanTakeBerth, IsFreshKeep, IsStarted, origin_over};
+ghost use Rattle.dym_wave.specs.Works.{IsOver};
 
-use crate::table_keep::TableKeep;
-use dym_base::limits::MOST_QUANTUM;
-use dym_commands::{Commands, Replies};
-use dym_object::{Object, Turn};
-use dym_quota::Berth;
-use std::alloc::{AllocError, Global};
+use crate::object_end::{end_object, tally_of};
+use crate::object_setup::open_object;
+use crate::part_text::write_part;
+use crate::publication::last_line;
+use crate::work_state::{WorkSpec, WorkState};
+use dym_base::limits::{MOST_COMMANDS, MOST_QUANTUM};
+use dym_chain::SlotKeep;
+use dym_io::{Sink, SinkFault, push_all};
+use dym_quota::{Berth, Supply};
+use dym_report::Tally;
+use dym_view::Publisher;
 use std::marker::Model;
 use std::sync::Wait;
 
-/// An object whose segments are from a queue and whose records are in log slots, with its own commands and the replies so far.
+/// An object whose segments are from a queue and whose records are in log slots, with its own commands, and the publisher of its view where
+/// that is told.
 ///
-/// It is a job of a pool: a turn runs up to `quantum` commands. Only `open` takes memory of its own. Where a command finds none, the
-/// work keeps that fact and is left as it is; that command wasn't run. Whoever has a work splits it at the end, so that no object is
-/// lost.
+/// It is a job of a pool: a turn runs up to a quantum of commands, and publishes the oldest log that is kept then. The worker that first
+/// takes it opens its object, and the one that runs its last command ends it: of the object stay the text of its part, where one is made,
+/// and what it came to. A long part is its replies and its heap until it is written.
+///
+/// Where memory is wanting the work is short: it keeps that fact, and runs no more. Whoever has a work gives it up at the end, so that no
+/// segment and no publisher is lost.
 pub struct Work<R: Wait> {
-    pub(crate) number: u32,
-    pub(crate) quantum: u32,
-    pub(crate) commands: Commands,
-    pub(crate) replies: Replies,
-    pub(crate) turn: Turn<Berth<R>, TableKeep>,
-    pub(crate) out_of_memory: bool,
+    pub(crate) spec: WorkSpec,
+    pub(crate) publisher: Option<Publisher>,
+    pub(crate) state: WorkState<R>,
+    pub(crate) short: bool,
 }
 
 impl<R: Wait> Model for Work<R> {
+    ghost use Rattle.std.specs.Prelude.{◌≡◌, ◌<◌, ◌⊎◌, true, length, is_some};
     ghost use Rattle.std.specs.Coded.{codes};
-    ghost use Rattle.dym_heap.specs.Meaning.{live_code, touched_code};
-    ghost use Rattle.dym_wave.specs.Works.{WorkMeaning, JobMeaning, HasRoom, work_with};
+    ghost use Rattle.logbook.specs.Pages.{book_coded};
+    ghost use Rattle.dym_heap.specs.Meaning.{live_code};
+    ghost use Rattle.dym_wave.specs.Works.{WorkMeaning, JobMeaning};
 
     ghost Value = { WorkMeaning };
 
-    ghost coded = { Prim.hlevel (codes, live_code, touched_code) };
+    ghost coded = { Prim.hlevel (codes, live_code, book_coded) };
 
-    ghost view = { λ w.
-        work_with w.number w.quantum w.commands w.replies.replies w.turn.object w.out_of_memory };
+    ghost use Rattle.dym_wave.specs.States.{IsStarted, IsState, work_with};
 
-    ghost invariant = { λ w. JobMeaning
-        (work_with w.number w.quantum w.commands w.replies.replies w.turn.object w.out_of_memory)
-        × HasRoom w.commands w.replies };
+    ghost view = { λ w. work_with w.spec w.state w.short w.publisher };
+
+    // A work that has not started has commands to run, or is short.
+    ghost invariant = { λ w. JobMeaning (work_with w.spec w.state w.short w.publisher)
+        × IsState w.spec (is_some w.publisher) w.state
+        × (IsStarted w.state ⊎ (0 < length w.spec.commands) ⊎ (w.short ≡ true)) };
 }
 
 impl<R: Wait> Work<R> {
-    /// A work with nothing run yet. `number` is the object's place in its wave, and `quantum` the most commands of a turn. Room for
-    /// all replies, and for all that reads are told, is taken here.
-    pub fn open(
-        alloc: Global,
-        number: u32,
-        quantum: u32,
-        commands: Commands,
-        object: Object<Berth<R>, TableKeep>,
-    ) -> Result<Work<R>, (AllocError, Commands, Object<Berth<R>, TableKeep>)>
-        requires start { state_of object ≡ object_start }
-        requires counts { object.ran + MOST_COMMANDS ≤ COUNT_LIMIT }
-        requires whole { IsWhole object }
-        requires least { 1 ≤ quantum }
-        requires most { quantum ≤ MOST_QUANTUM }
-        ensures opened { IfOk result (λ w. w ≡ opened number quantum commands object) }
-        ensures commands { IfErr result (λ e. e.1 ≡ commands) }
-        ensures object { IfErr result (λ e. e.2 ≡ object) }
+    /// A work that has run nothing, over a berth and a keep, which publishes its oldest log where there is a publisher. One without
+    /// commands is opened and ended here.
+    pub fn new(
+        rt: &R,
+        spec: WorkSpec,
+        berth: Berth<R>,
+        keep: SlotKeep,
+        publisher: Option<Publisher>,
+    ) -> Work<R>
+        requires few { length spec.commands ≤ MOST_COMMANDS }
+        requires least { 1 ≤ spec.quantum }
+        requires most { spec.quantum ≤ MOST_QUANTUM }
+        requires berth { CanTakeBerth berth }
+        requires keep { IsFreshKeep keep }
+        requires empty { IfSome publisher (λ p. p.commits ≡ []) }
+        ensures { result.origin ≡ record {
+          number = spec.number;
+          name = spec.name;
+          quantum = spec.quantum;
+          makes_text = spec.makes_text;
+          commands = spec.commands;
+          object = origin_over spec.version berth keep;
+          history = option_map (λ p. p.history) publisher;
+        } }
     {
-        match Replies::with_room(alloc, commands.len(), commands.read_bytes()) {
-            Ok(replies) => Ok(Work {
-                number,
-                quantum,
-                commands,
-                replies,
-                turn: Turn::new(alloc, object),
-                out_of_memory: false,
-            }),
-            Err(error) => Err((error, commands, object)),
+        let waiting = WorkState::Waiting { berth, keep };
+        if spec.commands.len() > 0 {
+            return Work {
+                spec,
+                publisher,
+                state: waiting,
+                short: false,
+            };
+        }
+        let (opened, ()) = open_object(waiting, &spec);
+        let short = !opened.is_started();
+        let (state, ()) = end_object(opened, (rt, &spec, last_line(&publisher)));
+        Work {
+            spec,
+            publisher,
+            state,
+            short,
         }
     }
 
-    /// The replies to the commands that have run, in order.
-    pub fn replies(&self) -> &Replies
-        ensures replies { result.now.replies ≡ self.now.replies }
-        ensures job { JobMeaning self.now }
-        ensures whole { EndsWhole self.now }
+    /// Whether memory was wanting: an object wasn't opened, a command wasn't run, or a log wasn't published.
+    pub fn short(&self) -> bool
+        ensures { result ≡ self.now.short }
     {
-        &self.replies
+        self.short
     }
 
-    /// The object as it stands.
-    pub fn object(&self) -> &Object<Berth<R>, TableKeep>
-        ensures object { result.now ≡ self.now.object }
-        ensures job { JobMeaning self.now }
+    /// Writes what is printed of the object of a work that ran all its commands. The only error is that of the sink.
+    pub fn write<W: Sink>(&self, sink: &mut W) -> Result<(), SinkFault>
+        requires over { IsOver self.now }
+        requires text { self.now.origin.makes_text ≡ true }
+        ensures { Writes (W.output sink.old) (W.output sink.new)
+            (shown_text (origin_shown self.now.origin)) result }
     {
-        &self.turn.object
+        match &self.state {
+            WorkState::Waiting { .. } => unreachable!(),
+            WorkState::Running { turn, replies } => {
+                let line = last_line(&self.publisher);
+                write_part(sink, &self.spec.name, replies, &turn.object, line)
+            }
+            WorkState::Ended { text, .. } => push_all(sink, text),
+        }
     }
 
-    /// Whether a command found no memory, so that it and those after it weren't run.
-    pub fn out_of_memory(&self) -> bool
-        ensures out_of_memory { result ≡ self.now.out_of_memory }
-        ensures job { JobMeaning self.now }
-        ensures whole { EndsWhole self.now }
+    /// What the object of a work came to that ran all its commands.
+    pub fn tally(&self) -> Tally
+        requires { IsOver self.now }
+        ensures { IsTallyOf result (origin_shown self.now.origin) }
     {
-        self.out_of_memory
+        match &self.state {
+            WorkState::Waiting { .. } => unreachable!(),
+            WorkState::Running { turn, replies } => tally_of(replies, &turn.object),
+            WorkState::Ended { tally, .. } => *tally,
+        }
     }
 
-    /// Gives up the work, and answers the replies and the object as it stands.
-    pub fn split(self) -> (Replies, Object<Berth<R>, TableKeep>)
-        ensures replies { result.0.replies ≡ self.replies }
-        ensures object { result.1 ≡ self.object }
-        ensures job { JobMeaning self }
-        ensures whole { EndsWhole self }
-    {
-        let (_, _, replies, object) = self.into_parts();
-        (replies, object)
-    }
-
-    /// Takes the work apart: its number, its commands, the replies, and the object as it stands.
-    pub fn into_parts(self) -> (u32, Commands, Replies, Object<Berth<R>, TableKeep>)
-        ensures origin { self.origin ≡ origin_with result.0 result.1 result.3 }
-        ensures replies { result.2.replies ≡ self.replies }
-        ensures object { result.3 ≡ self.object }
-        ensures job { JobMeaning self }
-        ensures whole { EndsWhole self }
+    /// Gives the work up, however far it is, and its publisher, where there is one. Answers the berth, to which all segments are back, and
+    /// the keep.
+    pub fn give_up(self, rt: &R) -> (Berth<R>, SlotKeep)
+        ensures nothing_held { ⟦<Berth<R> as Supply>⟧.held_ids result.0 ≡ [] }
+        ensures quota { ⟦<Berth<R> as Supply>⟧.quota_of result.0 ≡ self.origin.object.quota }
+        ensures supply { ⟦<Berth<R> as Supply>⟧.origin result.0 ≡ self.origin.object.supply }
+        ensures keep { result.1.origin ≡ self.origin.object.keep }
+        ensures idle { result.1.lifted ≡ None }
     {
         let Work {
-            number,
-            quantum: _,
-            commands,
-            replies,
-            turn,
-            out_of_memory: _,
+            spec: _,
+            publisher,
+            state,
+            short: _,
         } = self;
-        (number, commands, replies, turn.into_object())
+        if let Some(publisher) = publisher {
+            publisher.end(rt);
+        }
+        match state {
+            WorkState::Waiting { berth, keep } => (berth, keep),
+            WorkState::Running { turn, replies: _ } => turn.into_object().end(rt),
+            WorkState::Ended {
+                text: _,
+                tally: _,
+                berth,
+                keep,
+            } => (berth, keep),
+        }
+    }
+}
+
+impl<R: Wait> WorkState<R> {
+    /// Whether the work has started.
+    fn is_started(&self) -> bool
+        ensures { IsTrue result → IsStarted self.now }
+    {
+        !matches!(self, WorkState::Waiting { .. })
     }
 }

@@ -11,10 +11,10 @@ use Rattle.dym_script.specs.ByObjects.{IsByObjects}
 use Rattle.dym_script.specs.Scripts.{ScriptMeaning, own}
 use Rattle.dym_script.specs.Answers.{IsLawful}
 use Rattle.dym_script.specs.Parts.{EachHas}
-use Rattle.dym_run.specs.Results.{parts_text}
+use Rattle.dym_wave.specs.Results.{parts_text}
 use Rattle.dym_report.specs.Report.{own_of, IsRunnable, own_from, objects_of, part_text, report_text}
 use Rattle.dym_report.specs.Orders.{end_text}
-use Rattle.dym_run.specs.Views.{viewed_part, views_text}
+use Rattle.dym_wave.specs.Views.{viewed_part, views_text}
 use Rattle.dymelor_top.specs.WaveTexts.{viewed_text}
 
 -- the commands of the parts from the k-th object on

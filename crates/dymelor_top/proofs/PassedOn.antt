@@ -5,7 +5,7 @@ use Rattle.dym_io.specs.Sink.{Output, Appended, AppendedFront, Stopped, FaultsTe
 use Rattle.dym_io.specs.Laws.{appended_both, front_after, front_within, stopped_after, stopped_within, writes_or_stopped}
 use Rattle.dym_report.specs.declared.write_fail.WriteFail.{WriteFail}
 use Rattle.dym_report.specs.declared.write_fail.WriteFail.TheVariants as fail
-use Rattle.dym_run.proofs.Progress.{writes_or_passed}
+use Rattle.dym_wave.proofs.Passing.{writes_or_passed}
 
 -- the error is the sink's
 abbrev pub IsSinks : WriteFail → Type 0

@@ -24,7 +24,7 @@ use Rattle.dymelor_top.specs.Checkpoints.{HoldsLogs, own_named, own_file, loaded
 use Rattle.dymelor_top.specs.LateReport.{late_text}
 use Rattle.dym_report.specs.Report.{Own, report_text}
 use Rattle.dym_report.specs.Summary.{summary_of}
-use Rattle.dym_run.specs.Views.{views_text}
+use Rattle.dym_wave.specs.Views.{views_text}
 
 pub record Answer : Type 0 where
   pub status : ℕ

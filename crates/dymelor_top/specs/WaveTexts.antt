@@ -2,7 +2,7 @@
 use Rattle.std.specs.Prelude.{ℕ, Bool, true, false, List}
 use Rattle.dym_report.specs.Report.{report_text}
 use Rattle.dym_report.specs.Summary.{summary_of}
-use Rattle.dym_run.specs.Views.{views_text}
+use Rattle.dym_wave.specs.Views.{views_text}
 use Rattle.dym_script.specs.Scripts.{ScriptMeaning}
 use Rattle.dymelor_top.specs.declared.waves.WaveText.{WaveText}
 use Rattle.dymelor_top.specs.declared.waves.WaveText.TheVariants as wave

@@ -2,7 +2,7 @@
 ghost use Rattle.std.specs.Prelude.{◌≡◌, ◌+◌, ◌≤◌, true, nat_lt, All, option_map, IfOk};
 ghost use Rattle.std.specs.List.{find};
 ghost use Rattle.dym_io.specs.Sink.{WritesOr};
-ghost use Rattle.dym_run.specs.Parts.{IsShape};
+ghost use Rattle.dym_wave.specs.Parts.{IsShape};
 ghost use Rattle.dym_report.specs.Summary.{summary_of, totals_of};
 ghost use Rattle.dym_report.specs.declared.write_fail.WriteFail.TheVariants.{Sink as SinkFailed};
 ghost use Rattle.dym_script.specs.Scripts.{ScriptMeaning, script_of};
@@ -20,8 +20,8 @@ use dym_base::BadKind;
 use dym_io::{Sink, Source};
 use dym_pool::Gate;
 use dym_report::{Totals, WriteFail, write_end, write_summary};
-use dym_run::{ReportOptions, Shape, WaveOptions, tally_waves, write_waves};
 use dym_script::{Part, PartCollector, WholeScript, read_parallel};
+use dym_wave::{ReportOptions, Shape, WaveOptions, tally_waves, write_waves};
 use dym_words::Input;
 use std::alloc::{AllocError, Global};
 use std::sync::Wait;

@@ -11,7 +11,7 @@ use crate::stop::Stop;
 use crate::waves::{WaveText, Waves, answer_in_waves};
 use dym_io::{Sink, Source};
 use dym_pool::Gate;
-use dym_run::Shape;
+use dym_wave::Shape;
 use dym_words::{Input, Order, read_words};
 use std::alloc::Global;
 use std::sync::Wait;

@@ -3,7 +3,7 @@ use Rattle.std.proofs.lemmas.List.Elements.{All-tail}
 use Rattle.dym_io.specs.Laws.{cause_told_later}
 use Rattle.dym_report.specs.declared.write_fail.WriteFail.TheVariants as fail
 use Rattle.dymelor_top.specs.LateParts.{IsLatePart, late_part_text}
-use Rattle.dym_run.proofs.Progress.{writes_or_passed}
+use Rattle.dym_wave.proofs.Passing.{writes_or_passed}
 use Rattle.dymelor_top.proofs.Yielded.{one_more, text_more, text_front}
 use Rattle.dymelor_top.proofs.late_order.write_late_parts.Goals as goal
 

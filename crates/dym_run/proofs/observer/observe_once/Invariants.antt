@@ -1,5 +1,0 @@
-use Rattle.dym_run.specs.Observations.{LookedOn}
-use Rattle.dym_run.proofs.observer.observe_once.Given as goal
-
-abbrev pub invariant-loop-place : goal.invariant-loop-place
-invariant-loop-place l = LookedOn l.initial.viewers.items l.viewers.items
