@@ -1,5 +1,5 @@
 -- What an export does, by how the process stands.
-use Rattle.std.proofs.Common.{◌≡◌, ℕ, suc, List, [], ◌++◌, length, drop, Option, None, Some, Bool, true, false}
+use Rattle.std.proofs.Common.{◌≡◌, ℕ, suc, List, [], ◌++◌, length, drop, Option, Some, Bool, true, false}
 use Rattle.std.proofs.Common.{Result, Ok, Err, OnOk, OnErr, ◌↔◌, ◌≤◌, ◌∷◌, refl, ap, sym, subst, ◌∙◌, arith}
 use Rattle.std.specs.Prelude.{⊤}
 use Rattle.std.proofs.Math.Seq.{drop-append_seam}

@@ -12,7 +12,6 @@ use Rattle.dym_c.specs.declared.events.DymEvent.{DymEvent}
 use Rattle.dym_c.specs.declared.events.DymMessage.{DymMessage}
 use Rattle.dym_c.specs.declared.process_content.Phase.{Phase}
 use Rattle.dym_c.specs.declared.process_content.Phase.TheVariants.{Starting, Running}
-use Rattle.dym_c.specs.declared.process_content.Start.{Start}
 use Rattle.dym_c.specs.declared.process_results.DymProgress.{DymProgress}
 
 -- an open process and its object are closed

@@ -1,11 +1,11 @@
 -- What is true of an undo log's fields depends on nothing that its logs found touched.
-use Rattle.std.proofs.Common.{◌≡◌, ℕ, ◌+◌, ◌≤◌, List, [], ◌∷◌, map, length, Option, None, Some, option_map, refl, sym, ap, subst, ◌∙◌, arith}
+use Rattle.std.proofs.Common.{◌≡◌, ℕ, ◌+◌, ◌≤◌, List, [], ◌∷◌, map, Option, None, Some, option_map, refl, sym, ap, subst, ◌∙◌, arith}
 use Rattle.std.proofs.lemmas.List.{length-map}
 use Rattle.std.proofs.lemmas.Option.{same_Some, none-some}
 use Rattle.std.specs.List.{AllByRecursion}
 use Rattle.dym_base.specs.Heaps.{held}
 use Rattle.dym_base.specs.Objects.{LogEntry, newest}
-use Rattle.dym_base.specs.RunLaws.{IsLogList, EachFollows}
+use Rattle.dym_base.specs.RunLaws.{EachFollows}
 use Rattle.dym_undo.specs.Changes.{Change, noted_bytes}
 use Rattle.dym_undo.specs.Heads.{changes_of}
 use Rattle.dym_undo.specs.Rooms.{HasRoomAtEach, pending, length_at}

@@ -1,5 +1,5 @@
 -- What an undo log knows of a heap.
-use Rattle.std.specs.Prelude.{◌≡◌, ℕ, List, length, is_some, refl}
+use Rattle.std.specs.Prelude.{◌≡◌, ℕ, length, is_some, refl}
 use Rattle.std.proofs.Common.{ap, ◌∙◌}
 use Rattle.dym_base.specs.Laws.{IsLengthOf}
 use Rattle.dym_base.specs.Numbers.{exponent_of}

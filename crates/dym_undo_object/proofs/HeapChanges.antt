@@ -1,6 +1,6 @@
 -- What a command changes of a heap: the one chunk that it names or makes.
 use Rattle.std.proofs.Common.{◌≡◌, ℕ, Bool, true, false, cond, ◌&&◌, ◌||◌, ◌==◌, nat_lt, ◌+◌, List, [], ◌∷◌, length, replicate, Option, None, Some, is_some}
-use Rattle.std.proofs.Common.{Result, Ok, Err, OnErr, refl, sym, ap, subst, ◌∙◌, true≢false}
+use Rattle.std.proofs.Common.{Result, Ok, Err, refl, sym, ap, subst, ◌∙◌, true≢false}
 use Rattle.std.specs.Result.{result_ok}
 use Rattle.std.specs.FinMap.{get, contains_key}
 use Rattle.std.specs.FinSet as set

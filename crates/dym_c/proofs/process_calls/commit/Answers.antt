@@ -1,8 +1,6 @@
-use Rattle.std.proofs.Common.{◌≡◌, ℕ, List, length, drop, ap, subst, ◌∙◌, true}
+use Rattle.std.proofs.Common.{◌≡◌, ℕ, length, drop, ap, subst, ◌∙◌, true}
 use Rattle.dym_undo_object.specs.Meaning.{UndoObjectMeaning}
-use Rattle.warp_base.specs.declared.event.Event.{Event}
 use Rattle.dym_c.specs.ProcessRuns.{HasCommittedIn}
-use Rattle.dym_c.specs.declared.events.DymData.{DymData}
 use Rattle.dym_c.proofs.Exports.{all_committed, not_both}
 use Rattle.dym_c.proofs.process_calls.commit.Goals as goal
 

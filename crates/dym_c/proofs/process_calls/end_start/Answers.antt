@@ -1,4 +1,4 @@
-use Rattle.std.proofs.Common.{◌≡◌, ◌≤◌, ◌<◌, ◌++◌, map, List, Option, Some, Err, refl, ap, sym, subst, ◌∙◌, arith}
+use Rattle.std.proofs.Common.{◌≡◌, ◌≤◌, ◌<◌, ◌++◌, map, List, Option, Some, Err, ap, sym, subst, ◌∙◌, arith}
 use Rattle.dym_base.specs.declared.limits.TheConstants.{COUNT_LIMIT}
 use Rattle.dym_undo_object.specs.Meaning.{UndoObjectMeaning}
 use Rattle.warp_base.specs.Events.{Each}

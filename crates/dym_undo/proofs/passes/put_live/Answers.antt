@@ -8,7 +8,6 @@ use Rattle.dym_undo.proofs.Lists.{next}
 use Rattle.dym_undo.proofs.Walks.{no_head, keys_next}
 use Rattle.dym_undo.proofs.Decoding.{keys-changes_of}
 use Rattle.dym_undo.proofs.Restoring.{put_within, among_next}
-use Rattle.dym_undo.proofs.passes.put_live.Goals.{After-put_one}
 use Rattle.dym_undo.proofs.passes.put_live.Goals as goal
 
 pub put_one-requires-clause-within : goal.put_one-requires-clause-within

@@ -1,10 +1,10 @@
-use Rattle.std.proofs.Common.{◌≡◌, ℕ, ◌*◌, ◌/◌, ◌-◌, ◌<◌, ◌≤◌, false, List, length, take, drop, replicate, get_or, rules, refl, sym, ap, ap₂, subst, ◌∙◌, arith}
-use Rattle.dym_base.specs.Heaps.{Live, HeapState, held}
+use Rattle.std.proofs.Common.{◌≡◌, ℕ, ◌*◌, ◌/◌, ◌-◌, ◌<◌, ◌≤◌, List, length, take, drop, replicate, get_or, rules, sym, ap, ap₂, subst, ◌∙◌, arith}
+use Rattle.dym_base.specs.Heaps.{HeapState, held}
 use Rattle.dym_base.specs.Objects.{LogEntry}
 use Rattle.dym_base.specs.declared.command.Version.{Version}
 use Rattle.dym_undo.specs.Changes.{Change, patched}
 use Rattle.dym_undo.specs.Heads.{bytes_in, changes_of}
-use Rattle.dym_undo.specs.Keys.{IsKey, is_stamped}
+use Rattle.dym_undo.specs.Keys.{is_stamped}
 use Rattle.dym_undo.specs.Passes.{AreHeadKeys, AreFitting}
 use Rattle.dym_undo.specs.UndoLogs.{UndoMeaning, Belongs, log_at, no_entry}
 use Rattle.dym_undo.specs.declared.head.Head.{Head}

@@ -1,4 +1,4 @@
-use Rattle.std.proofs.Common.{sym, ap, ◌∙◌, arith}
+use Rattle.std.proofs.Common.{ap, ◌∙◌, arith}
 use Rattle.dym_base.specs.Objects.{slots}
 use Rattle.dym_undo.specs.UndoLogs.{UndoMeaning}
 use Rattle.dym_undo.proofs.Places.{count_same}

@@ -1,6 +1,5 @@
-use Rattle.std.proofs.Common.{List, map, sym, ap, subst, ◌∙◌}
+use Rattle.std.proofs.Common.{map, sym, ap, subst, ◌∙◌}
 use Rattle.std.specs.Vec.{vec_capacity}
-use Rattle.dym_base.specs.Objects.{LogEntry}
 use Rattle.dym_undo.specs.UndoLogs.{UndoMeaning, IsUndoLog, unfound}
 use Rattle.dym_undo.proofs.Telling.{undo_log-told}
 use Rattle.dym_undo.proofs.undo_log.UndoLog.tell_found.Goals as goal
