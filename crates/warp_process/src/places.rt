@@ -72,9 +72,11 @@ pub(crate) fn append_reserved<T: Copy>(elements: &[T], list: &mut Vec<T>)
 }
 
 /// Drops the first elements of a list.
-pub(crate) fn drop_first<T: Drop>(list: &mut Vec<T>, count: usize)
+pub(crate) fn drop_first<T: Copy>(list: &mut Vec<T>, count: usize)
     requires { count ≤ vec_len list.old }
     ensures { list.new.items ≡ drop count list.old.items }
 {
-    list.drain(..count);
+    let left = list.len() - count;
+    list.copy_within(count.., 0);
+    list.truncate(left);
 }

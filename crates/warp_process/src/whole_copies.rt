@@ -3,7 +3,6 @@ ghost use Rattle.std.specs.Prelude.{◌≡◌, ℕ, ◌<◌, ◌≤◌, List, []
 ghost use Rattle.warp_base.specs.Events.{Each};
 ghost use Rattle.warp_process.specs.Savers.{until, AreAscending};
 
-use crate::places::drop_first;
 use crate::saver::StateSaver;
 use std::alloc::{AllocError, Global};
 use warp_base::{Draft, Event, Simulation};
@@ -126,7 +125,7 @@ impl<S: Copied> StateSaver for WholeCopies<S> {
 
     fn prune(&mut self, before: u64) -> u64 {
         let later = count_until(&self.copies, before);
-        drop_first(&mut self.copies, later - 1);
+        self.copies.drain(..later - 1);
         self.copies[0].0
     }
 }

@@ -20,4 +20,4 @@ returns-clause-copies g c =
     let within = subst (λ l. k ≤ length l) c.deref.ensures.value c.count_until-later.ensures.within in
     let soon : take k copies ≡ until c.args.before copies = subst (λ l. take k l ≡ until c.args.before l) c.deref.ensures.value c.count_until-later.ensures.until in
     let some = c.requires.some in
-    keeps_from c.args.before k copies c.drop_first.new.list.items c.index.result.now (some_until c.args.before k copies some.0 some.1 some.2 some.4 some.3 late) within soon late c.drop_first.ensures c.index.ensures
+    keeps_from c.args.before k copies c.drop-drain.new.self.0.items c.index.result.now (some_until c.args.before k copies some.0 some.1 some.2 some.4 some.3 late) within soon late (c.drop-drain.ensures.items ∙ c.drain.ensures.kept) c.index.ensures
