@@ -1,10 +1,10 @@
 -- The first fault, where events are undone or one more is run, and what it says of the committed past.
-use Rattle.std.proofs.Common.{◌≡◌, ℕ, ◌+◌, ◌<◌, ◌≤◌, inl, inr, Bool, true, false, cond, Option, Some, None, IfSome, IfNone, List, [], ◌∷◌, ◌++◌, length, take, ap, sym, subst, ◌∙◌, arith, length-append}
+use Rattle.std.proofs.Common.{◌≡◌, ℕ, ◌+◌, ◌<◌, ◌≤◌, inl, inr, false, cond, Option, Some, None, IfSome, IfNone, List, [], ◌∷◌, ◌++◌, length, take, ap, sym, subst, ◌∙◌, arith, length-append}
 use Rattle.std.proofs.lemmas.List.{take-append-le, take_all}
 use Rattle.std.proofs.lemmas.Bool.{cases_Bool, cases_lt}
 use Rattle.warp_base.specs.declared.event.Event.{Event}
 use Rattle.warp_base.specs.Histories.{Behaviour, state_after}
-use Rattle.warp_process.specs.Processes.{ProcessFace, IsProcess, IsFirstFault, HasFailed, fault_with, done_of}
+use Rattle.warp_process.specs.Processes.{ProcessFace, IsProcess, IsFirstFault, fault_with, done_of}
 use Rattle.warp_process.specs.Laws.{FailureIsReal}
 
 module _ {P S : Type 0} (b : Behaviour P S) (p : ℕ) where

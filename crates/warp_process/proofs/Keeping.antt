@@ -1,11 +1,10 @@
 -- The events that stay run are the first of those that were, and so are the copies.
-use Rattle.std.proofs.Common.{◌≡◌, ℕ, suc, ◌+◌, ◌<◌, ◌≤◌, Bool, true, false, nat_le, Option, Some, List, [], ◌∷◌, ◌++◌, length, take, drop, slice_get, refl, ap, sym, ◌∙◌, arith, length-append}
+use Rattle.std.proofs.Common.{◌≡◌, ℕ, suc, ◌+◌, ◌≤◌, true, false, nat_le, Option, Some, List, ◌∷◌, ◌++◌, length, take, drop, slice_get, refl, ap, sym, ◌∙◌, arith}
 use Rattle.std.proofs.lemmas.Bool.{le-leb}
 use Rattle.std.proofs.lemmas.List.{take-append-le, length-take-le}
 use Rattle.std.proofs.lemmas.Option.{slice_get_within}
 use Rattle.std.specs.List.{insert, remove}
 use Rattle.warp_base.specs.declared.event.Event.{Event}
-use Rattle.warp_base.specs.Events.{Each}
 use Rattle.warp_base.specs.Histories.{Behaviour}
 use Rattle.warp_base.proofs.Lists.{filter_all, Each-weaker}
 use Rattle.warp_process.specs.Savers.{until}

@@ -1,5 +1,5 @@
 -- A process that has run nothing.
-use Rattle.std.proofs.Common.{◌≡◌, ℕ, zero, suc, ◌≤◌, ◌<◌, Bool, true, false, cond, Some, None, List, take, [], ◌∷◌, length, refl, ap, sym, subst, arith, lit<, ◌∙◌}
+use Rattle.std.proofs.Common.{◌≡◌, ℕ, zero, suc, Bool, true, false, cond, Some, None, List, take, [], ◌∷◌, length, refl, ap, sym, subst, arith, lit<, ◌∙◌}
 use Rattle.std.proofs.lemmas.List.{append-nil}
 use Rattle.warp_base.specs.declared.event.Event.{Event}
 use Rattle.warp_base.specs.declared.event.Draft.{Draft}

@@ -1,11 +1,11 @@
 use Rattle.std.proofs.lemmas.Option.{get_or_from_slice_get}
 use Rattle.std.proofs.lemmas.Result.{err_from_is_err_and}
-use Rattle.std.proofs.Common.{◌≡◌, ◌+◌, ◌<◌, ◌++◌, Err, Some, false, length, slice_get, refl, ap, sym, subst, ◌∙◌, arith}
+use Rattle.std.proofs.Common.{◌+◌, ◌<◌, Err, false, length, refl, ap, sym, subst, ◌∙◌}
 use Rattle.warp_base.specs.declared.event.Event.{Event}
 use Rattle.warp_base.specs.declared.event.Draft.{Draft}
-use Rattle.warp_base.specs.Histories.{stamped, state_after}
+use Rattle.warp_base.specs.Histories.{stamped}
 use Rattle.warp_base.proofs.Folds.{Each-stamped}
-use Rattle.warp_process.specs.Processes.{face, IsProcess, done_of}
+use Rattle.warp_process.specs.Processes.{face, IsProcess}
 use Rattle.warp_process.proofs.Catching.{with_state}
 use Rattle.warp_process.proofs.Giving.{no_fault}
 use Rattle.warp_process.proofs.Outgoing.{newly_sent}

@@ -1,7 +1,6 @@
 use Rattle.std.proofs.Common.{◌≡◌, ◌≤◌, suc, ◌++◌, length, take, drop, refl, ap, sym, subst, ◌∙◌, arith, length-append}
 use Rattle.std.proofs.lemmas.List.{take-append-drop, length-take-le, length-drop}
 use Rattle.warp_base.specs.Events.{AreFrom}
-use Rattle.warp_base.specs.Histories.{state_after, sent_from, all_sent}
 use Rattle.warp_process.specs.Processes.{face}
 use Rattle.warp_process.proofs.Committing.{done_stays, handed_over}
 use Rattle.warp_process.proofs.process.Process.hand_over.Goals as goal

@@ -1,4 +1,4 @@
-use Rattle.std.proofs.Common.{◌≡◌, ◌+◌, ◌-◌, ◌<◌, ◌≤◌, length, ◌∙◌, arith}
+use Rattle.std.proofs.Common.{◌≡◌, ◌+◌, ◌<◌, length, ◌∙◌, arith}
 use Rattle.warp_process.specs.Processes.{face}
 use Rattle.warp_process.proofs.Catching.{all_older, saved, with_state}
 use Rattle.warp_process.proofs.process.Process.save_if_due.Goals as goal

@@ -1,7 +1,6 @@
-use Rattle.std.proofs.Common.{◌≡◌, ◌+◌, ◌-◌, ◌<◌, ◌≤◌, Some, slice_get, length, refl, ap, sym, ◌∙◌, arith}
+use Rattle.std.proofs.Common.{◌≡◌, ◌+◌, ◌-◌, Some, slice_get, length, refl, ap, sym, ◌∙◌, arith}
 use Rattle.std.proofs.lemmas.Option.{slice_get_read}
 use Rattle.warp_base.specs.Histories.{state_after, all_sent}
-use Rattle.warp_process.specs.Processes.{face}
 use Rattle.warp_process.proofs.Runs.{sent_by_mark}
 use Rattle.warp_process.proofs.process.Process.sent_by.Goals as goal
 

@@ -1,4 +1,4 @@
-use Rattle.std.proofs.Common.{ℕ, ◌-◌, ◌<◌, ◌≤◌, length, take, drop, ap, sym, subst, ◌≡◌, ◌∙◌, arith}
+use Rattle.std.proofs.Common.{ℕ, ◌<◌, ◌≤◌, length, take, drop, subst, ◌≡◌, ◌∙◌}
 use Rattle.warp_base.specs.Events.{Each}
 use Rattle.warp_process.specs.Savers.{until}
 use Rattle.warp_process.proofs.Dates.{some_until, keeps_from}
