@@ -134,14 +134,12 @@ fn move_events(committed: &mut Vec<Event<DymData>>, events: &mut [DymEvent]) -> 
     moved as u64
 }
 
-/// Drops the first elements of a list, which are all of them most often.
+/// Drops the first elements of a list.
 pub(crate) fn drop_first<T: Copy>(list: &mut Vec<T>, count: usize)
     requires { count ≤ vec_len list.old }
     ensures { list.new.items ≡ drop count list.old.items }
 {
-    if count == list.len() {
-        list.clear();
-    } else {
-        list.drain(..count);
-    }
+    let left = list.len() - count;
+    list.copy_within(count.., 0);
+    list.truncate(left);
 }
