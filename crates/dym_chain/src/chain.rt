@@ -37,7 +37,7 @@ use std::marker::Model;
 /// The logs of one object, over a keep of their records.
 ///
 /// Contracts see the kept logs as whole copies, with those before the oldest that later restores read. A refusal and want of
-/// memory change nothing. Only `open`, `adopt`, `log` and `untold` take memory. While a record is out (`KeptLogs`) only readers may be called.
+/// memory change nothing. Only `open`, `adopt` and `log` take memory. While a record is out (`KeptLogs`) only readers may be called.
 pub struct Chain<K: LogKeep> {
     entries: Vec<Entry>,
     /// For each log the record that stands beside its own, as far as there are such. A missing one costs time alone.

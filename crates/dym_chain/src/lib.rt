@@ -21,7 +21,6 @@ mod log_keep;
 mod positions;
 mod record_replay;
 mod slot_keep;
-mod untold_chunks;
 mod vec_keep;
 
 pub use chain::Chain;
