@@ -2,5 +2,4 @@ pub mod Steps
 pub mod Calls
 pub mod Runs
 pub mod Ends
-pub mod Touches
 pub mod ReadRoom

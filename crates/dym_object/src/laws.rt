@@ -1,5 +1,4 @@
-//! What keeps an object whole, what runs come to, and that chunks stay where they lie.
-ghost use Rattle.dym_object.specs.Addresses.{OriginAndQuotaTell, CommandsMoveNoChunk};
+//! What keeps an object whole, and what runs come to.
 ghost use Rattle.dym_object.specs.Laws.{StepsKeepWhole, RunsBegin, RunsGoOn};
 
 use dym_chain::laws::heap_steps_keep_belonging;
@@ -16,10 +15,4 @@ pub(crate) fn steps_keep_whole()
 pub fn runs_go_on()
     ensures start { RunsBegin }
     ensures step { RunsGoOn }
-{}
-
-/// A chunk's address is a function of its heap's origin and quota and of its handle, and no command changes origin and quota.
-pub fn commands_move_no_chunk()
-    ensures told { OriginAndQuotaTell }
-    ensures kept { CommandsMoveNoChunk }
 {}

@@ -4,15 +4,11 @@
 //! records, and `dym_commands`, which tells a runner what each stored command is; above stands
 //! whatever runs an object's commands. Its one contract: each method
 //! for a command answers as one step of the definition replies, and leaves the object of that step
-//! (`IsStep`); `run` does the same for a command that is a value. A chunk is changed in place by
-//! `chunk_mut`, the command that writes what it then has; over a region each chunk has an address,
-//! which no command changes (`laws::commands_move_no_chunk`). An object that lends its records
+//! (`IsStep`); `run` does the same for a command that is a value. An object that lends its records
 //! (`LentObject`) is a `KeptLogs`. A `Turn` runs stored commands on an object, with one place for all
 //! of their replies.
 #![tactic(auto)]
 
-mod addresses;
-mod chunks;
 mod command_run;
 mod heap_calls;
 pub mod laws;
@@ -20,7 +16,6 @@ mod lent_object;
 mod log_calls;
 mod object;
 mod turn;
-mod untold_chunks;
 
 pub use lent_object::LentObject;
 pub use object::Object;

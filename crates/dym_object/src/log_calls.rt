@@ -1,7 +1,5 @@
 //! Commands about the logs of an object, one method for each.
-ghost use Rattle.std.specs.Prelude.{◌≡◌, ℕ, ◌-◌, ◌<◌, Err, OnErr};
-ghost use Rattle.dym_base.specs.declared.reply.Refusal.TheVariants.{NoLog};
-ghost use Rattle.dym_base.specs.Objects as Objects;
+ghost use Rattle.std.specs.Prelude.{◌≡◌, ◌<◌, OnErr};
 ghost use Rattle.dym_base.specs.declared.command.Command.TheVariants.{Log, Ilog, Restore, Prune, Logs};
 ghost use Rattle.dym_base.specs.declared.reply.Reply.TheVariants as reply;
 ghost use Rattle.dym_base.specs.declared.limits.TheConstants.{COUNT_LIMIT};
@@ -80,24 +78,6 @@ impl<S: Supply, K: LogKeep> Object<S, K> {
         self.chain.restore(way, &mut self.heap, time)
     }
 
-    /// Restores the last log before a time, and answers its time; the later logs leave. No log is before 0.
-    #[inline(always)]
-    pub fn restore_before(&mut self, way: &S::Way, time: u64) -> Result<u64, Refusal>
-        requires { self.old.ran < COUNT_LIMIT }
-        ensures at_zero { time ≡ 0 → (result ≡ Err NoLog) × (self.new ≡ counted self.old) }
-        ensures reply { 0 < time → restored_reply result
-            ≡ (step_by self.old (Restore (time - 1))).reply }
-        ensures step { 0 < time → IsStep self.old self.new (Restore (time - 1)) }
-        ensures refused { OnErr result (self.new ≡ counted self.old) }
-        ensures whole { IsWhole self.new }
-    {
-        if time == 0 {
-            self.ran += 1;
-            return Err(Refusal::NoLog);
-        }
-        self.restore(way, time - 1)
-    }
-
     /// Drops the logs before the last one at or before a bound, and answers how many.
     #[inline(always)]
     pub fn prune(&mut self, bound: u64) -> u32
@@ -109,24 +89,6 @@ impl<S: Supply, K: LogKeep> Object<S, K> {
     {
         self.ran += 1;
         self.chain.prune(bound)
-    }
-
-    /// Drops the logs before the last one that is before a bound, and answers how many. No log is before 0.
-    #[inline(always)]
-    pub fn prune_before(&mut self, bound: u64) -> u32
-        requires { self.old.ran < COUNT_LIMIT }
-        ensures at_zero { bound ≡ 0 → (result ≡ 0) × (self.new ≡ counted self.old) }
-        ensures reply { 0 < bound → reply.Dropped result
-            ≡ (step_by self.old (Prune (bound - 1))).reply }
-        ensures step { 0 < bound → IsStep self.old self.new (Prune (bound - 1)) }
-        ensures heap { self.new.heap ≡ self.old.heap }
-        ensures whole { IsWhole self.new }
-    {
-        if bound == 0 {
-            self.ran += 1;
-            return 0;
-        }
-        self.prune(bound - 1)
     }
 
     /// How many logs are kept, and how many records they take: as `kept` and `slots` tell, but that this counts as a command.

@@ -17,7 +17,7 @@ use std::marker::Model;
 
 /// A simulation object: a heap, the chain of its logs, and how many commands it ran.
 ///
-/// Only opening, `untold`, and a log or a read that isn't refused, take memory. A refusal changes nothing of the heap and its logs.
+/// Only opening, and a log or a read that isn't refused, take memory. A refusal changes nothing of the heap and its logs.
 pub struct Object<S: Supply, K: LogKeep> {
     pub(crate) heap: Heap<S>,
     pub(crate) chain: Chain<K>,
