@@ -3,7 +3,7 @@ use Rattle.std.specs.Prelude.{ℕ, List, [], Option, None, Some, option_map}
 use Rattle.dym_base.specs.declared.handle.Handle.{Handle}
 use Rattle.dym_base.specs.declared.command.Command.{Command}
 use Rattle.dym_base.specs.declared.command.Command.TheVariants.{Realloc, Free, Write, Fill, Read, Link, Follow, Sum}
-use Rattle.dym_undo_object.specs.ChunkLends.{write_of_all}
+use Rattle.dym_undo_object.specs.Touches.{write_of_all}
 use Rattle.dym_undo_object.specs.Commands.{log_command}
 use Rattle.dym_undo_object.specs.Meaning.{UndoObjectMeaning}
 use Rattle.dym_c.specs.Handles.{chunk_of, chunk_or_nil_of}

@@ -14,8 +14,7 @@ use Rattle.dym_heap.specs.Touches.{with_touch}
 use Rattle.dym_undo.specs.UndoLogs.{UndoMeaning, Belongs}
 use Rattle.dym_undo_object.specs.Meaning.{UndoObjectMeaning, IsStep, IsWhole, counted, step_by}
 use Rattle.dym_base.specs.declared.handle.Handle.{Handle}
-use Rattle.dym_heap.specs.ChunkLends.{heap_lent}
-use Rattle.dym_undo_object.specs.ChunkLends.{object_lent, write_all, write_of_all}
+use Rattle.dym_undo_object.specs.Touches.{write_of_all}
 use Rattle.dym_undo_object.proofs.OneTouched.{first_touched, touched_stays}
 use Rattle.dym_undo_object.proofs.Steps.{object_is, reply_is, rest_stays, same_ids, unchanged_by}
 use Rattle.dym_undo_object.proofs.Wholes.{heap_whole}
@@ -103,23 +102,3 @@ first_here answer heap new logs new_logs ran old view whole h bytes some is afte
 pub belongs_new : (heap new : HeapMeaning) (c : Command) (u : UndoMeaning) → new ≡ record (stepped heap c) { held_ids = new.held_ids } → Belongs heap.version heap.quota
     (step_of heap c).heap u → Belongs new.version new.quota new.state u
 belongs_new heap new c u after belongs = subst (λ (m : HeapMeaning). Belongs m.version m.quota m.state u) (sym after) belongs
-
--- a chunk that is lent: what the object ends as
-pub record IsLentHere (heap : HeapMeaning) (logs new_logs : List LogEntry) (ran : ℕ) (h : Handle) (ws : List ℕ) : Type 0 where
-  pub is : record { heap = heap_lent heap h ws; logs = new_logs; ran = ran + 1 } ≡ object_lent (record { heap = heap; logs = logs; ran = ran }) h ws
-  pub step : IsStep (record { heap = heap; logs = logs; ran = ran }) (object_lent (record { heap = heap; logs = logs; ran = ran }) h ws)
-      (write_all (record { heap = heap; logs = logs; ran = ran }) h ws)
-  pub whole : IsWhole (record { heap = heap_lent heap h ws; logs = new_logs; ran = ran + 1 })
-  pub lent_whole : IsWhole (object_lent (record { heap = heap; logs = logs; ran = ran }) h ws)
-
-pub lent_here : (heap : HeapMeaning) (logs new_logs : List LogEntry) (ran : ℕ) (h : Handle) (ws : List ℕ) → IsWhole (record { heap = heap; logs = logs; ran = ran })
-    → IsSound (heap_lent heap h ws) → new_logs ≡ logs → IsLentHere heap logs new_logs ran h ws
-lent_here heap logs new_logs ran h ws whole sound same =
-    let c : Command = write_all (record { heap = heap; logs = logs; ran = ran }) h ws in
-    let after = same_ids heap (heap_lent heap h ws) c refl in
-    record {
-      is = ap (λ (l : List LogEntry). record { heap = heap_lent heap h ws; logs = l; ran = ran + 1 }) same;
-      step = record { object = object_is heap (heap_lent heap h ws) logs logs c tt after refl; ran = refl; heap = rest_stays heap (heap_lent heap h ws) c after };
-      whole = heap_whole heap (heap_lent heap h ws) logs new_logs ran (ran + 1) whole (rest_stays heap (heap_lent heap h ws) c after) sound same;
-      lent_whole = heap_whole heap (heap_lent heap h ws) logs logs ran (ran + 1) whole (rest_stays heap (heap_lent heap h ws) c after) sound refl;
-    }

@@ -16,7 +16,7 @@ use Rattle.dym_base.specs.declared.reply.Reply.TheVariants.{Done}
 use Rattle.dym_base.specs.declared.reply.Refusal.TheVariants.{Range}
 use Rattle.dym_base.proofs.Maps.{get_insert_here, get_insert_apart}
 use Rattle.dym_heap.specs.Touches.{has_byte_in, touched_in, with_touch}
-use Rattle.dym_undo_object.specs.ChunkLends.{all_of}
+use Rattle.dym_undo_object.specs.Touches.{all_of}
 
 -- ---- bytes
 

@@ -4,13 +4,11 @@
 //! the library for C. The files of such objects are made of the undo log alone (`dym_undo_files`).
 //! Its one contract: each method for a command answers as one step of the definition replies, and
 //! leaves the object of that step (`IsStep`). What a chunk was is kept before a call changes it, so
-//! that a log costs what changed. A chunk is changed in place by `chunk_mut`, the command that
-//! writes what it then has; over a region each chunk has an address, which no command changes
-//! (`laws::commands_move_no_chunk`).
+//! that a log costs what changed. Over a region each chunk has an address, which no command changes
+//! (`laws::commands_move_no_chunk`): to touch a chunk is the command that writes what stands there.
 #![tactic(auto)]
 
 mod addresses;
-mod chunks;
 mod heap_calls;
 mod keeps;
 pub mod laws;

@@ -1,4 +1,4 @@
-//! Chunks that are kept before bytes are changed at their addresses.
+//! Chunks that are touched, and so kept, before bytes are changed at their addresses.
 ghost use Rattle.std.specs.Prelude.{◌≡◌, ℕ, ◌-◌, ◌^◌, ◌<◌, ◌≤◌, ◌==◌, true, IfSome};
 ghost use Rattle.std.specs.FinMap.{contains_key};
 ghost use Rattle.dym_base.specs.declared.limits.TheConstants.{LEAST_EXPONENT, GREATEST_EXPONENT, MOST_QUOTA};
@@ -6,10 +6,12 @@ ghost use Rattle.dym_base.specs.HeapStep.{handle_of, key};
 ghost use Rattle.dym_heap.specs.Addresses.{HasByteAt};
 ghost use Rattle.dym_heap.specs.ChunkLends.{HasByte};
 ghost use Rattle.dym_heap.specs.Meaning.{IsSound};
-ghost use Rattle.dym_heap.specs.Touches.{has_byte_in};
+ghost use Rattle.dym_heap.specs.Touches.{all_touched, has_byte_in};
 ghost use Rattle.dym_undo.specs.UndoLogs.{Belongs, IsKept};
+ghost use Rattle.dym_undo_object.specs.Meaning.{IsWhole};
 ghost use Rattle.dym_undo_object.specs.Places.{IsPlace, place_start};
 
+use crate::undo_object::UndoObject;
 use dym_base::limits::{LEAST_EXPONENT, SEGMENT_BYTES};
 use dym_base::{Class, Handle};
 use dym_heap::Heap;
@@ -19,8 +21,24 @@ use dym_undo::UndoLog;
 /// Classes of chunks.
 const CLASSES: u64 = 12;
 
+impl<S: Supply> UndoObject<S> {
+    /// Each live chunk is kept, and counts as touched: before bytes are changed at their addresses. It is no command, and takes no
+    /// memory.
+    pub fn touch_all(&mut self)
+        ensures touched { self.new ≡ record self.old {
+          heap = record self.old.heap {
+            state = all_touched self.old.heap.state;
+          };
+        } }
+        ensures whole { IsWhole self.new }
+    {
+        keep_live(&mut self.undo, &self.heap);
+        self.heap.touch_all();
+    }
+}
+
 /// Keeps each live chunk.
-pub(crate) fn keep_live<S: Supply>(undo: &mut UndoLog, heap: &Heap<S>)
+fn keep_live<S: Supply>(undo: &mut UndoLog, heap: &Heap<S>)
     requires sound { IsSound heap.now }
     requires belongs { Belongs heap.now.version heap.now.quota heap.now.state undo.old }
     ensures logs { undo.new.logs ≡ undo.old.logs }

@@ -73,16 +73,6 @@ impl<S: Supply> UndoObject<S> {
         UndoObject { heap, undo, ran }
     }
 
-    /// Takes the object apart into its heap, its undo log, and how many commands it ran, for `of_parts`.
-    pub fn into_parts(self) -> (Heap<S>, UndoLog, u64)
-        ensures parts { self ≡ record { heap = result.0; logs = result.1.logs; ran = result.2 } }
-        ensures belongs { Belongs result.0.version result.0.quota result.0.state result.1 }
-        ensures whole { IsWhole self }
-    {
-        let UndoObject { heap, undo, ran } = self;
-        (heap, undo, ran)
-    }
-
     /// How many commands were run.
     #[inline(always)]
     pub fn ran(&self) -> u64
