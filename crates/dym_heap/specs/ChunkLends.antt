@@ -4,13 +4,11 @@ use Rattle.std.specs.List.{refill}
 use Rattle.std.specs.FinMap.{get}
 use Rattle.dym_base.specs.HeapStep.{key}
 use Rattle.dym_base.specs.declared.handle.Handle.{Handle}
-use Rattle.dym_base.specs.declared.command.Command.TheVariants.{Write}
 use Rattle.dym_base.specs.declared.reply.Refusal.{Refusal}
 use Rattle.dym_base.specs.declared.reply.Refusal.TheVariants.{Dead, Range}
 use Rattle.dym_heap.specs.Meaning.{HeapMeaning}
 use Rattle.dym_heap.specs.SizedAreas.{SizedAreaMeaning, area_with_chunk}
-use Rattle.dym_heap.specs.Replies.{stepped}
-use Rattle.dym_heap.specs.Shelves.{ShelfMeaning, FitsIn, with_put}
+use Rattle.dym_heap.specs.Shelves.{FitsIn}
 
 -- `ws`, cut or filled up from the bytes that stood there
 abbrev pub refilled : List ℕ → List ℕ → List ℕ
@@ -22,17 +20,6 @@ lent_chunk (Some old) ws = Some (refilled ws old)
 
 abbrev pub area_lent : SizedAreaMeaning → ℕ → List ℕ → SizedAreaMeaning
 area_lent p i ws = area_with_chunk p i (lent_chunk (slice_index_or p.chunks i None) ws) true
-
-abbrev pub shelf_lent : ShelfMeaning → ℕ → List ℕ → ShelfMeaning
-shelf_lent s k ws = with_put s k (lent_chunk (get s.state.live k) ws) true
-
-abbrev pub new_bytes : Option (List ℕ) → List ℕ → List ℕ
-new_bytes None ws = []
-new_bytes (Some old) ws = refilled ws old
-
--- the heap after a write of all the chunk's bytes
-abbrev pub heap_lent : HeapMeaning → Handle → List ℕ → HeapMeaning
-heap_lent h handle ws = stepped h (Write handle 0 (new_bytes (get h.state.live (key handle)) ws))
 
 -- a live chunk with at least one byte
 abbrev pub HasByte : HeapMeaning → Handle → Type 0

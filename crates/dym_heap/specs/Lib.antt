@@ -5,13 +5,11 @@ pub mod Bodies
 pub mod Chunks
 pub mod ChunkLends
 pub mod Fetches
-pub mod HeapLends
 pub mod Lengths
 pub mod Meaning
 pub mod RecordLoads
 pub mod Replies
 pub mod ShapeSteps
-pub mod ShelfLends
 pub mod Shelves
 pub mod SizedAreaLends
 pub mod SizedAreas

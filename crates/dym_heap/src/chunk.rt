@@ -1,5 +1,5 @@
 //! Chunks of a shelf by their handles.
-ghost use Rattle.std.specs.Prelude.{IfOk, ◌≡◌, ◌+◌, ◌≤◌, ◌<◌, true, None, Some, length, take, replicate, Ok, MatchOption, IsSome, is_some, MatchBool, option_map};
+ghost use Rattle.std.specs.Prelude.{◌≡◌, ◌+◌, ◌≤◌, ◌<◌, true, None, Some, length, take, replicate, Ok, MatchOption, IsSome, is_some, MatchBool, option_map};
 ghost use Rattle.std.specs.FinMap.{get};
 ghost use Rattle.std.specs.FinSet.{contains};
 ghost use Rattle.dym_base.specs.Numbers.{number, IsClass};
@@ -7,7 +7,6 @@ ghost use Rattle.dym_base.specs.HeapStep.{key, splice, with_chunk, without_chunk
 ghost use Rattle.dym_base.specs.Heaps.{fresh};
 ghost use Rattle.dym_base.specs.declared.command.Version.TheVariants.{Two};
 ghost use Rattle.dym_base.specs.declared.limits.TheConstants.{LEAST_EXPONENT, GREATEST_EXPONENT};
-ghost use Rattle.dym_heap.specs.ChunkLends.{check_answer};
 ghost use Rattle.dym_heap.specs.Meaning.{IsSizeOf};
 ghost use Rattle.dym_heap.specs.Replies.{found_reply};
 ghost use Rattle.dym_heap.specs.Shelves.{IsTidy, Keeps, with_put, FitsIn};
@@ -15,7 +14,7 @@ ghost use Rattle.dym_heap.specs.Shelves.{IsTidy, Keeps, with_put, FitsIn};
 use crate::found::Found;
 use crate::fresh_chunk::take_fresh;
 use crate::shelf::Shelf;
-use dym_base::{Class, Handle, Refusal, Version};
+use dym_base::{Class, Handle, Version};
 use dym_quota::Supply;
 
 /// A chunk's length in bytes, and None where it isn't live.
@@ -28,22 +27,6 @@ pub(crate) fn len_of_handle<S: Supply>(shelf: &Shelf<S>, h: Handle) -> Option<u3
         return None;
     }
     shelf.chunk_len(Class { exp: h.exp }, h.index)
-}
-
-/// Whether a chunk has a byte: a refusal where it isn't live or has none.
-pub(crate) fn check_chunk<S: Supply>(shelf: &Shelf<S>, h: Handle) -> Result<(), Refusal>
-    requires { IsTidy shelf.now }
-    ensures answer { result ≡ check_answer (get shelf.now.state.live (key h)) }
-    ensures class { IfOk result (λ _. IsClass h.exp) }
-    ensures some { IfOk result (λ _. FitsIn (get shelf.now.state.live (key h)) 1) }
-{
-    let Some(len) = len_of_handle(shelf, h) else {
-        return Err(Refusal::Dead);
-    };
-    if len == 0 {
-        return Err(Refusal::Range);
-    }
-    Ok(())
 }
 
 /// A chunk's bytes, and None where it isn't live.

@@ -1,5 +1,5 @@
 //! The heap.
-ghost use Rattle.std.specs.Prelude.{◌≡◌, ℕ, ◌+◌, ◌-◌, ◌^◌, false, ◌≤◌, ◌<◌, false, None, Some, [], List, length, IsTrue, MatchOption, OnErr, IfOk, IfErr, is_some, option_map};
+ghost use Rattle.std.specs.Prelude.{◌≡◌, ℕ, ◌+◌, ◌-◌, ◌^◌, false, ◌≤◌, ◌<◌, false, None, Some, [], length, IsTrue, MatchOption, OnErr, IfOk, IfErr, is_some, option_map};
 ghost use Rattle.std.specs.FinMap.{get, contains_key, insert};
 ghost use Rattle.std.specs.FinSet as FinSet;
 ghost use Rattle.dym_base.specs.HeapStep.{key, without_chunk};
@@ -11,8 +11,6 @@ ghost use Rattle.dym_base.specs.Heaps.{held};
 ghost use Rattle.dym_base.specs.StandsFor.{packed_by};
 ghost use Rattle.dym_pack.specs.ParsedAreas.{OfLog};
 ghost use Rattle.dym_heap.specs.RecordLoads.{HaveOneSetOfHandles, IsLoaded};
-ghost use Rattle.std.specs.Borrow.{sem};
-ghost use Rattle.dym_heap.specs.ChunkLends.{heap_lent, HasByte, check_answer};
 ghost use Rattle.dym_heap.specs.Meaning.{HeapMeaning, IsSizeOf, IsSound};
 ghost use Rattle.dym_heap.specs.Fetches.{heap_chunk, marked, fetched, IsReshaped};
 ghost use Rattle.dym_heap.specs.Touches.{all_touched};
@@ -21,8 +19,8 @@ ghost use Rattle.dym_heap.specs.Replies.{step_of, stepped, done_reply, chunk_rep
 
 use crate::byte_sum::sum_bytes;
 use crate::chunk::{
-    bytes_of_handle, check_chunk, fill_chunk, find_number, free_handle, len_of_handle, move_chunk,
-    resize_chunk, write_chunk,
+    bytes_of_handle, fill_chunk, find_number, free_handle, len_of_handle, move_chunk, resize_chunk,
+    write_chunk,
 };
 use crate::chunk_undo::{forget_chunk, put_chunk_back, take_chunk_away};
 use crate::found::Found;
@@ -73,8 +71,6 @@ impl<S: Supply> Model for Heap<S> {
 }
 
 impl<S: Supply> Heap<S> {
-    ghost use Rattle.dym_heap.specs.HeapLends.{lends_live};
-
     /// An empty heap of version 1. Room for all areas of the quota is taken here.
     pub fn open(alloc: Global, supply: S) -> Result<Heap<S>, (AllocError, S)>
         requires nothing_held { S.held_ids supply ≡ [] }
@@ -271,29 +267,6 @@ impl<S: Supply> Heap<S> {
         }
         write_chunk(&mut self.shelf, Class { exp: h.exp }, h.index, at, bytes);
         Ok(())
-    }
-
-    /// The bytes of a live chunk that has at least one, to be changed in place: the command that writes the bytes that stand
-    /// there when the borrow ends.
-    pub fn live_mut(&mut self, h: Handle) -> &mut [u8]
-        requires least { LEAST_EXPONENT ≤ h.exp }
-        requires most { h.exp ≤ GREATEST_EXPONENT }
-        requires some { HasByte self.old h }
-        ensures* writes_back { sem 𝓛 (lends_live S.row S.Seg.row S.Way.row S.Seg.Segment
-            S.Supply self.entry h result) }
-        ensures value { get self.old.state.live (key h) ≡ Some result.now }
-        ensures sound { (ws : List ℕ) → IsSound (heap_lent self.old h ws) }
-    {
-        self.shelf.bytes_mut(Class { exp: h.exp }, h.index)
-    }
-
-    /// Whether a chunk has a byte: `Dead` where it isn't live, and `Range` where it has none.
-    pub fn check(&self, h: Handle) -> Result<(), Refusal>
-        ensures answer { result ≡ check_answer (get self.now.state.live (key h)) }
-        ensures chunk { IfOk result (λ _. (LEAST_EXPONENT ≤ h.exp) × (h.exp ≤ GREATEST_EXPONENT)
-            × HasByte self.now h) }
-    {
-        check_chunk(&self.shelf, h)
     }
 
     /// Makes `len` bytes of a chunk from its place `at` on `byte`. Where `len` is 0 nothing changes.

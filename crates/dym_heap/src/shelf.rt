@@ -15,8 +15,6 @@ ghost use Rattle.dym_heap.specs.SizedAreas.{clean, used_touched};
 ghost use Rattle.dym_heap.specs.Bodies.{IsBodyOf, IsBody, loaded_chunk};
 ghost use Rattle.dym_heap.specs.Fetches.{heap_chunk, marked, fetched, packed_at, IsReshaped, IsChangedArea};
 ghost use Rattle.std.specs.Option.{ForSome};
-ghost use Rattle.std.specs.Borrow.{sem};
-ghost use Rattle.dym_heap.specs.ChunkLends.{shelf_lent};
 ghost use Rattle.dym_heap.specs.AreaViews.{IsAreaOf};
 ghost use Rattle.dym_heap.specs.Arrangement.{AreClear, HasTables, Owns};
 ghost use Rattle.dym_heap.specs.Shelves.{ShelfMeaning, IsValidShelf, IsTidy, IsFirstFree, IsNextUsed, IsTrimmed, with_put, with_count, count_of, Trims, EndsFree, FitsIn};
@@ -82,8 +80,6 @@ impl<S: Supply> Model for Shelf<S> {
 }
 
 impl<S: Supply> Shelf<S> {
-    ghost use Rattle.dym_heap.specs.ShelfLends.{lends_of_shelf};
-
     /// A shelf with no area. Room for all areas of the quota is taken here.
     pub(crate) fn open(
         alloc: Global,
@@ -257,22 +253,6 @@ impl<S: Supply> Shelf<S> {
             return None;
         };
         self.sized_areas[location.sized_area].chunk_bytes(location.chunk)
-    }
-
-    /// The bytes of a chunk in use, of which there is at least one, to be changed in place. It is touched.
-    pub(crate) fn bytes_mut(&mut self, class: Class, index: u32) -> &mut [u8]
-        requires { FitsIn (get self.old.state.live (number class.exp index)) 1 }
-        ensures* writes_back { sem 𝓛 (lends_of_shelf S.row S.Seg.row S.Way.row S.Seg.Segment
-            S.Supply self.entry (number class.exp index) result) }
-        ensures value { Some result.now ≡ get self.old.state.live (number class.exp index) }
-        ensures valid_shelf { (ws : List ℕ)
-            → IsValidShelf (shelf_lent self.old (number class.exp index) ws) }
-    {
-        let Some(location) = find(&self.starts, class, index) else {
-            unreachable!();
-        };
-        let sized_area = &mut self.sized_areas[location.sized_area];
-        sized_area.used_bytes_mut(location.chunk)
     }
 
     /// A chunk in use with at least one byte is touched. The answer is where the segment lies that its area is over: that of its
