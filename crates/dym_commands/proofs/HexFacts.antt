@@ -1,5 +1,5 @@
 -- Which bytes are hexadecimal digits, and which words write bytes.
-use Rattle.std.proofs.Common.{◌≡◌, ℕ, ◌+◌, ◌*◌, ◌%◌, ◌<◌, ◌≤◌, ◌==◌, ◌&&◌, Bool, Some, None, arith, true, false, List, [], ◌∷◌, length, get_or, Result, Ok, Err, codes, nat_lt, refl, sym, ◌∙◌}
+use Rattle.std.proofs.Common.{◌≡◌, ℕ, ◌+◌, ◌*◌, ◌%◌, ◌<◌, ◌≤◌, ◌==◌, ◌&&◌, Some, None, arith, true, false, List, [], ◌∷◌, length, get_or, Result, Ok, Err, codes, nat_lt, refl, sym, ◌∙◌}
 use Rattle.std.specs.List.{list_all}
 use Rattle.std.specs.Str.{bytes_eq}
 use Rattle.std.specs.Result.{result_ok}
@@ -13,10 +13,6 @@ use Rattle.dym_commands.specs.Hexes.{hex_of, decoded, AreDigits}
 -- the byte of two digits that have these values
 pub pair_is : (high low i h l : ℕ) → hex_digit_value high ≡ Some h → hex_digit_value low ≡ Some l → pair_value high low i ≡ Ok (h * 16 + l)
 pair_is high low i h l first second = rw (first, second) refl
-
-both_true : (a b : Bool) → (a && b) ≡ true → (a ≡ true) × (b ≡ true)
-both_true true b both = (refl, both)
-both_true false b both = absurd (cc)
 
 -- each of some digits is one
 pub digit_at : (digits : List ℕ) (k : ℕ) → list_all is_hex_digit digits ≡ true → k < length digits → is_hex_digit (get_or digits k 0) ≡ true

@@ -1,5 +1,5 @@
 //! The replies to commands, kept in little memory.
-ghost use Rattle.std.specs.Prelude.{◌≡◌, ℕ, List, ◌+◌, ◌≤◌, ◌<◌, ◌^◌, ◌↔◌, [], ◌∷◌, ◌++◌, length, count_by, slice_get, vec_len, vec_capacity, Some, IfOk, MatchOption, IsTrue};
+ghost use Rattle.std.specs.Prelude.{◌≡◌, ℕ, List, ◌+◌, ◌≤◌, ◌<◌, ◌^◌, [], ◌∷◌, ◌++◌, length, count_by, slice_get, vec_len, vec_capacity, Some, IfOk, MatchOption};
 ghost use Rattle.dym_base.specs.declared.reply.Reply.TheVariants.{Bytes, Refused};
 ghost use Rattle.dym_commands.specs.Replies.{replies_with, reply_of_stored, bytes_of, is_refusal, HasRoomFor, IsStored, IsPlain};
 
@@ -79,19 +79,6 @@ impl Replies {
         ensures { result ≡ count_by is_refusal self.now.replies }
     {
         self.refused
-    }
-
-    /// Whether there is room for a reply more, and for the bytes that it tells.
-    pub fn has_room_for(&self, reply: &Reply) -> bool
-        ensures { IsTrue result ↔ HasRoomFor self.now reply.now }
-    {
-        let bytes = match reply {
-            Reply::Bytes(bytes) => bytes.bytes().len(),
-            _ => 0,
-        };
-        self.stored.len() < self.stored.capacity()
-            && bytes <= self.bytes.capacity() - self.bytes.len()
-            && bytes <= u32::MAX as usize
     }
 
     /// Appends a reply.
