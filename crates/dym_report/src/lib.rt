@@ -21,7 +21,7 @@ pub mod write_fail;
 
 pub use hex_text::write_hex_line;
 pub use late_lines::{LateOut, ViewLine, write_late_end, write_late_line, write_view};
-pub use object::{write_heading, write_heap_line, write_image, write_logs};
+pub use object::{write_heading, write_image, write_logs};
 pub use object_report::{live_chunks, write_object, write_state};
 pub use order::{write_counts, write_end, write_error, write_events, write_usage};
 pub use page::Page;

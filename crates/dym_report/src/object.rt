@@ -3,7 +3,7 @@ ghost use Rattle.std.specs.Prelude.{◌≡◌, ◌≤◌, ◌++◌, length, take
 ghost use Rattle.dym_io.specs.Sink.{Writes};
 ghost use Rattle.dym_report.specs.declared.reply_text.TheConstants.{LINE_ROOM};
 ghost use Rattle.dym_report.specs.Handles.{handle_text};
-ghost use Rattle.dym_report.specs.Objects.{heading, heap_line, length_text, image_line, logs_line};
+ghost use Rattle.dym_report.specs.Objects.{heading, length_text, image_line, logs_line};
 
 use crate::hex_text::{trimmed, write_hex_line};
 use crate::reply::write_numbers;
@@ -19,13 +19,6 @@ pub fn write_heading<W: Sink>(sink: &mut W, name: &Name) -> Result<(), SinkFault
         sink,
         &[b"object ".as_slice(), name.bytes(), b"\n".as_slice()],
     )
-}
-
-/// Writes how many chunks are live, and how many segments they need. Its only error is that of the sink.
-pub fn write_heap_line<W: Sink>(sink: &mut W, chunks: u32, segments: u32) -> Result<(), SinkFault>
-    ensures { Writes (W.output sink.old) (W.output sink.new) (heap_line chunks segments) result }
-{
-    write_numbers(sink, b"heap ", u64::from(chunks), u64::from(segments))
 }
 
 /// Writes the line of a live chunk with these bytes. Its only error is that of the sink.

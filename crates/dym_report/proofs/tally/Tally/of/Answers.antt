@@ -1,4 +1,4 @@
-use Rattle.std.proofs.Common.{◌≡◌, sym, ◌∙◌, arith}
+use Rattle.std.proofs.Common.{sym, ◌∙◌, arith}
 use Rattle.dym_report.proofs.Tallies.{not_refused}
 use Rattle.dym_report.proofs.tally.Tally.of.Goals as goal
 
