@@ -15,7 +15,7 @@ use Rattle.warp_process.proofs.Runs.{take_less}
 use Rattle.warp_process.proofs.Steps.{length-done}
 use Rattle.warp_object.specs.declared.moment.Moment.{Moment}
 use Rattle.warp_object.specs.Moments.{dated}
-use Rattle.warp_object.specs.Processes.{HasLogs, IsKept, IsFaceOf, IsKnown, log_pair, copy_pair}
+use Rattle.warp_object.specs.Processes.{HasLogs, IsKept, IsFaceOf, IsKnown, copy_pair}
 use Rattle.warp_object.specs.Processes.{IsRecorded, inner, date_of}
 use Rattle.warp_object.specs.declared.object_process.ObjectProcess.{ObjectProcess}
 
@@ -61,23 +61,6 @@ pub closed_recorded : {P : Type 0} (words : P → List ℕ) (p : ObjectProcess P
 closed_recorded words p is_closed known = record {
   known = known;
   handed_out = λ is_open. absurd (false≢true (sym is_closed ∙ is_open));
-}
-
--- another object with the same chunks and logs will do
-pub moved_of : {P : Type 0} (words : P → List ℕ) (b : Behaviour P Live) (past : List (Event P))
-    (old o : UndoObjectMeaning) (f : ProcessFace P Moment) (reached : Option ℕ) → o.logs ≡ old.logs
-    → o.heap.state.live ≡ old.heap.state.live → IsFaceOf words b past old f reached
-    → IsFaceOf words b past o f reached
-moved_of words b past old o f reached logs live h = record {
-  process = h.process;
-  logs = record {
-    undone = h.logs.undone;
-    logs = ap (map log_pair) logs
-        ∙ h.logs.logs;
-    behind = h.logs.behind;
-    none = h.logs.none;
-  };
-  state = λ r at. live ∙ h.state r at;
 }
 
 module _ {P : Type 0} (f g : ProcessFace P Moment) (reached new : Option ℕ) (k : KeepsFirst f g)
