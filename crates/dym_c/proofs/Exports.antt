@@ -42,11 +42,6 @@ module _ (old : Option ProcessMeaning) (object : Option UndoObjectMeaning) (clos
   both_open p o is there h = subst (λ (x : Option UndoObjectMeaning). ByBoth old x closed starting running) (sym there)
       (subst (λ (x : Option ProcessMeaning). ByBoth x (Some o) closed starting running) (sym is) h)
 
-  pub both_starting : (p : ProcessMeaning) (o : UndoObjectMeaning) → old ≡ Some p → object ≡ Some o → (start : Start)
-      → p.phase ≡ Starting start → starting p start o → ByBoth old object closed starting running
-  both_starting p o is there start at h = both_open p o is there
-      (subst (λ (f : Phase). ByPhase f (λ start. starting p start o) (λ r. running p r o)) (sym at) h)
-
   pub both_running : (p : ProcessMeaning) (o : UndoObjectMeaning) → old ≡ Some p → object ≡ Some o → (r : Kept)
       → p.phase ≡ Running r → running p r o → ByBoth old object closed starting running
   both_running p o is there r at h = both_open p o is there
