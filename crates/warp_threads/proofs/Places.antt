@@ -63,11 +63,6 @@ module _ {A B : Type 0} where
   all_zip_append R (x ∷ xs) xs' (y ∷ ys) ys' h h' = (h.0, all_zip_append R xs xs' ys ys' h.1 h')
   all_zip_append R _ xs' _ ys' h h' = absurd h
 
-  pub all_zip_length : (R : A → B → Type 0) (xs : List A) (ys : List B) → AllZip R xs ys → length ys ≡ length xs
-  all_zip_length R [] [] h = refl
-  all_zip_length R (x ∷ xs) (y ∷ ys) h = ap suc (all_zip_length R xs ys h.1)
-  all_zip_length R _ ys h = absurd h
-
 -- the lane at a place may be advanced by the order for that place
 module _ {O L : Type 0} (may : O → L → Type 0) (orders : List O) where
   pub may_at : (lanes front tail : List L) (lane : L) (order : O) (n : ℕ) → lanes ≡ front ++ lane ∷ tail → n ≡ length front → n < length orders → order ≡ get_or orders n order → AllMayAdvance may orders lanes → may order lane

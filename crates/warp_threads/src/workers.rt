@@ -40,13 +40,6 @@ impl<O: Copy, L: Lane<O> + Drop> Workers<O, L> {
         }
     }
 
-    /// The number of threads besides the caller's.
-    pub fn threads(&self) -> usize
-        ensures { result ≡ self.now }
-    {
-        self.lenders.len()
-    }
-
     /// One round: each lane is advanced by the order for its place. The threads have the last
     /// lanes, and the caller works on the others; where there are fewer lanes than threads, it
     /// works on all of them. Takes no memory.
