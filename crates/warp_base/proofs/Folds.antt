@@ -1,7 +1,6 @@
 -- What histories come to where more events follow, from any state on: what a committed past and the events since it come to together.
-use Rattle.std.proofs.Common.{◌≡◌, ℕ, ◌+◌, ◌<◌, List, [], ◌∷◌, ◌++◌, length, take, drop, refl, ap, sym, ◌∙◌, arith, append_assoc, length-append, suc}
-use Rattle.std.proofs.lemmas.List.{append-nil, take-append-drop}
-use Rattle.std.proofs.Math.Seq.{take_at}
+use Rattle.std.proofs.Common.{◌≡◌, ℕ, ◌+◌, ◌<◌, List, [], ◌∷◌, ◌++◌, length, refl, ap, sym, ◌∙◌, arith, append_assoc, length-append, suc}
+use Rattle.std.proofs.lemmas.List.{append-nil}
 use Rattle.warp_base.specs.declared.event.Event.{Event}
 use Rattle.warp_base.specs.declared.event.Draft.{Draft}
 use Rattle.warp_base.specs.Events.{Each}
@@ -62,13 +61,6 @@ module _ {P S : Type 0} (b : Behaviour P S) (p : ℕ) where
   pub all_sent-push : (xs : List (Event P)) (e : Event P) → all_sent b p (xs ++ e ∷ []) ≡ all_sent b p xs ++ stamped p (length (all_sent b p xs)) (b.drafts p (state_after b p xs) e)
   all_sent-push xs e =
       all_sent-append xs (e ∷ []) ∙ ap (λ l. all_sent b p xs ++ l) (append-nil (stamped p (length (all_sent b p xs)) (b.drafts p (state_after b p xs) e)))
-
-  -- what the first events send is the beginning of what all of them send
-  pub sent_from-take : (n : ℕ) (s : S) (k : ℕ) (es : List (Event P)) → take (length (sent_from b p n s (take k es))) (sent_from b p n s es) ≡ sent_from b p n s (take k es)
-  sent_from-take n s k es =
-      let first = sent_from b p n s (take k es) in
-      let rest = sent_from b p (n + length first) (state_from b p s (take k es)) (drop k es) in
-      ap (take (length first)) (sym (ap (sent_from b p n s) (take-append-drop k es)) ∙ sent_from-append n s (take k es) (drop k es)) ∙ take_at first rest (length first) refl
 
   -- a fact of all that is sent
   pub Each-sent_from : (Q : Event P → Type 0) (R : Draft P → Type 0) → ((d : Draft P) (m : ℕ) → R d → Q (stamp p m d)) → ((s : S) (e : Event P) → Each R (b.drafts p s e)) → (n : ℕ) (s : S) (es : List (Event P)) → Each Q (sent_from b p n s es)

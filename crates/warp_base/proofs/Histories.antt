@@ -6,7 +6,7 @@ use Rattle.warp_base.specs.declared.event.Event.{Event}
 use Rattle.warp_base.specs.declared.event.Draft.{Draft}
 use Rattle.warp_base.specs.Events.{Each, precedes, copies, IsBefore, IsInOrder, AreFor, AreFrom}
 use Rattle.warp_base.specs.Histories.{Behaviour, stamped, sent_from, all_sent, LooksAhead, earlier, IsConsistent}
-use Rattle.warp_base.proofs.Lists.{Each-weaker, filter_yes, filter_no, filter-++, filter_none}
+use Rattle.warp_base.proofs.Lists.{Each-weaker, filter_yes, filter-++, filter_none}
 use Rattle.warp_base.proofs.Orders.{TellsApart, precedes_time, copies-append, in_order_filter, none_of, copies_kept, copies_left_out, one_order}
 use Rattle.warp_base.proofs.Folds.{Each-stamped}
 
@@ -18,9 +18,6 @@ module _ {P : Type 0} where
 
   pub earlier_yes : (t : ℕ) (e : Event P) (es : List (Event P)) → e.time < t → earlier t (e ∷ es) ≡ e ∷ earlier t es
   earlier_yes t e es less = filter_yes (is_earlier t) e es (lt-ltb e.time t less)
-
-  pub earlier_no : (t : ℕ) (e : Event P) (es : List (Event P)) → t ≤ e.time → earlier t (e ∷ es) ≡ earlier t es
-  earlier_no t e es more = filter_no (is_earlier t) e es (le-ltb e.time t more)
 
   pub earlier-append : (t : ℕ) (xs ys : List (Event P)) → earlier t (xs ++ ys) ≡ earlier t xs ++ earlier t ys
   earlier-append t xs ys = filter-++ (is_earlier t) xs ys

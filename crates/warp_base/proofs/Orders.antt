@@ -1,12 +1,12 @@
 -- The order of events, counts of copies, and lists in order: two of them with as many copies of each event are one list.
-use Rattle.std.proofs.Common.{◌≡◌, ℕ, zero, suc, ◌+◌, ◌<◌, ◌≤◌, ◌⊎◌, inl, inr, Bool, true, false, cond, List, [], ◌∷◌, ◌++◌, take, drop, refl, ap, sym, subst, ◌∙◌, arith}
+use Rattle.std.proofs.Common.{◌≡◌, ℕ, zero, suc, ◌+◌, ◌<◌, ◌≤◌, ◌⊎◌, inl, inr, Bool, true, false, cond, List, [], ◌∷◌, ◌++◌, drop, refl, ap, sym, subst, ◌∙◌, arith}
 use Rattle.std.proofs.lemmas.Bool.{cases_lt, cases_Bool}
 use Rattle.std.specs.List.{filter}
 use Rattle.warp_base.specs.declared.event.Event.{Event}
 use Rattle.warp_base.specs.Words.{same_numbers}
 use Rattle.warp_base.specs.Events.{Each, key, precedes, hit, copies, IsBefore, IsInOrder}
 use Rattle.warp_base.proofs.Words.{same_numbers-refl, same_numbers-true, lexically-less, lexically-more, lexically-total, lexically-one, lexically-trans}
-use Rattle.warp_base.proofs.Lists.{Each-front, Each-take, Each-filter, Each-weaker, filter_yes, filter_no}
+use Rattle.warp_base.proofs.Lists.{Each-front, Each-filter, Each-weaker, filter_yes, filter_no}
 
 -- a number of a key, by its place
 abbrev part : List ℕ → ℕ → ℕ
@@ -64,11 +64,6 @@ module _ {P : Type 0} (words : P → List ℕ) where
   pub in_order_back : (xs ys : List (Event P)) → IsInOrder words (xs ++ ys) → IsInOrder words ys
   in_order_back [] ys h = h
   in_order_back (x ∷ xs) ys h = in_order_back xs ys h.1
-
-  pub in_order_take : (n : ℕ) (xs : List (Event P)) → IsInOrder words xs → IsInOrder words (take n xs)
-  in_order_take zero xs h = tt
-  in_order_take (suc n) [] h = tt
-  in_order_take (suc n) (x ∷ xs) h = (Each-take (λ y. precedes words x y ≡ true) n xs h.0, in_order_take n xs h.1)
 
   pub in_order_drop : (n : ℕ) (xs : List (Event P)) → IsInOrder words xs → IsInOrder words (drop n xs)
   in_order_drop zero xs h = h

@@ -1,5 +1,5 @@
 -- The run in order: one queue of events in the order of their keys, of which each step runs the first one.
-use Rattle.std.specs.Prelude.{◌≡◌, ℕ, zero, suc, ◌+◌, ◌<◌, cond, nat_le, ◌==◌, true, List, [], ◌∷◌, ◌++◌, length, filter}
+use Rattle.std.specs.Prelude.{ℕ, zero, suc, ◌+◌, ◌<◌, cond, nat_le, ◌==◌, List, [], ◌∷◌, ◌++◌, length, filter}
 use Rattle.warp_base.specs.declared.event.Event.{Event}
 use Rattle.warp_base.specs.Events.{Each, precedes}
 use Rattle.warp_base.specs.Histories.{Behaviour, stamped}
@@ -59,8 +59,3 @@ IsOver end r = Each (λ e. end < e.time) r.queue
 -- the events for a process
 abbrev pub those_for : {P : Type 0} → ℕ → List (Event P) → List (Event P)
 those_for p = filter (λ e. e.receiver == p)
-
--- the run in order reaches a state that is the model's own fault
-abbrev pub MeetsFault : {P S : Type 0} → (P → List ℕ) → Behaviour P S → ℕ → ℕ → Type 0
-MeetsFault words b n end =
-    (steps p : ℕ) × (p < n) × (b.faulty ((sequential words b n end steps).states p) ≡ true)
