@@ -1,18 +1,18 @@
 -- Each kind of step keeps the segment rule.
-use Rattle.std.proofs.Common.{◌≡◌, ◌≢◌, ℕ, zero, suc, ◌+◌, ◌<◌, ◌≤◌, ◌⊎◌, true, false, true≢false, List, [], ◌∷◌, ◌++◌, length, set, get_or, sum_by, refl, sym, ap, ◌∙◌, subst, inl, inr, ⊎_elim, arith, length-append}
+use Rattle.std.proofs.Common.{◌≡◌, ◌≢◌, ℕ, ◌+◌, ◌<◌, ◌≤◌, ◌⊎◌, true, false, true≢false, List, [], ◌∷◌, ◌++◌, length, set, get_or, sum_by, refl, sym, ap, ◌∙◌, subst, inl, inr, ⊎_elim, arith, length-append}
 use Rattle.std.specs.Prelude.{IsPermutation}
 use Rattle.std.proofs.lemmas.List.Sums.{sum_by-cons, sum_by-append}
-use Rattle.std.proofs.lemmas.List.Sorted.{IsPermutation-refl, sum_by-IsPermutation}
+use Rattle.std.proofs.lemmas.List.Sorted.{sum_by-IsPermutation}
 use Rattle.std.proofs.lemmas.List.Quantifiers.{all_pairs_push}
-use mathlib.Core.Option.{some, some-injective, some-ne-none}
+use mathlib.Core.Option.{some}
 use lib.ListN.{get_elem?}
 use Rattle.crossbeam_queue.proofs.Lists.{at_set, at_snoc, set_else}
 use Rattle.dym_region.specs.declared.segment.SegmentId.{SegmentId}
 use Rattle.dym_quota.specs.declared.pass_view.PassView.{PassView}
-use Rattle.dym_quota.specs.SegmentRule.{first_pass, spent, IsViewAt, all_held, SegmentRule}
+use Rattle.dym_quota.specs.SegmentRule.{spent, IsViewAt, all_held, SegmentRule}
 use Rattle.dym_quota.specs.SegmentSteps.{IsStocking, IsPop, IsPush, IsSplit, IsJoin}
 use Rattle.dym_quota.proofs.Weights.{same_weights}
-use Rattle.dym_quota.proofs.Views.{Each, sum-set, sum-push, weigh-all, each-set, each-push}
+use Rattle.dym_quota.proofs.Views.{sum-set, sum-push, weigh-all, each-set, each-push}
 
 abbrev pub weight : (SegmentId → ℕ) → PassView → ℕ
 weight h v = sum_by h v.held
@@ -73,27 +73,6 @@ alone-set views pass v w at opens goes alone a b p q ea eb o n =
     (λ (y : (b ≢ pass) × (get_elem? views b ≡ some q)). alone a b p q x.1 y.1 o n)
     (at_set views pass b w q eb))
     (at_set views pass a w p ea)
-
--- ---- at the start
-first_view : (F : PassView → Type 0) → F first_pass → Each F (first_pass ∷ [])
-first_view F mine zero v e = subst F (some-injective first_pass v e) mine
-first_view F mine (suc i) v e = absurd (some-ne-none v (sym e))
-
-first_alone : Alone (first_pass ∷ [])
-first_alone zero zero v w ei ej o n = absurd (n refl)
-first_alone zero (suc j) v w ei ej o n = absurd (some-ne-none w (sym ej))
-first_alone (suc i) j v w ei ej o n = absurd (some-ne-none v (sym ei))
-
-pub begins : SegmentRule [] (first_pass ∷ [])
-begins = record {
-  stock = [];
-  known = first_view (KnowsStock []) (inr refl);
-  distinct = λ i j d a b. absurd (omega arith);
-  each_once = IsPermutation-refl [];
-  within = first_view Within (omega arith);
-  quotas = refl;
-  alone = first_alone;
-}
 
 -- ---- stocking
 pub stocking_keeps : (queued : List SegmentId) (views : List PassView) (pass : ℕ) (v w : PassView) (one : SegmentId) → SegmentRule queued views → IsViewAt views pass v → IsStocking one v w
