@@ -6,7 +6,6 @@ use Rattle.std.proofs.lemmas.Bool.{cases_Bool, cond-true, cond-false, eqb-false,
 use Rattle.std.proofs.lemmas.List.{length-map, length-drop, get_or-drop}
 use Rattle.std.proofs.lemmas.List.Sums.{sum_by-cons}
 use Rattle.std.proofs.lemmas.Option.{same_Some, none-some}
-use Rattle.std.proofs.Math.ListN.{drop_of_length-le}
 use Rattle.std.specs.List.{AllByRecursion}
 use Rattle.std.specs.FinMap.{get, contains_key}
 use Rattle.std.specs.FinSet as set
@@ -31,9 +30,7 @@ use Rattle.dym_chain.specs.Lawful.{logged_of}
 use Rattle.dym_chain.proofs.Lawfuls.{heads, tails}
 use Rattle.dym_ckpt.specs.FileReads.{heap_at}
 use Rattle.dym_undo.specs.Changes.{Change}
-use Rattle.dym_undo.specs.UndoLogs.{UndoMeaning, Belongs, AreCopies, entry_of, log_at, no_entry, unfound}
-use Rattle.dym_undo.specs.declared.entry.Entry.{Entry}
-use Rattle.dym_undo_files.proofs.Lists.{next}
+use Rattle.dym_undo.specs.UndoLogs.{UndoMeaning, Belongs, AreCopies, log_at, no_entry, unfound}
 use Rattle.dym_undo_files.specs.RecordedLogs.{IsReadable, AreBrought, StandsOn}
 use Rattle.dym_undo_files.proofs.Logging.{found_nothing}
 use Rattle.dym_undo_files.proofs.Maps.{same_live, none_there}
@@ -173,9 +170,6 @@ take_more n xs lt = ap (λ m. take m xs) (let e : n + 1 ≡ suc n = omega arith 
     by zero (x ∷ xs) lt = refl
     by (suc n) (x ∷ xs) lt = ap (λ l. x ∷ l) (by n xs (omega arith))
 
-pub drop_at : (n : ℕ) (xs : List LogEntry) → n < length xs → drop n xs ≡ log_at xs n ∷ drop (n + 1) xs
-drop_at n xs lt = next xs n no_entry lt
-
 pub take_whole : (n : ℕ) (xs : List LogEntry) → length xs ≤ n → take n xs ≡ xs
 take_whole n [] le = Rattle.std.proofs.Math.Seq.take-nil n
 take_whole zero (x ∷ xs) le = absurd (omega arith)
@@ -232,9 +226,6 @@ last_alone (x ∷ y ∷ es) e is =
 
 pub newest_alone : (logs : List LogEntry) (e : LogEntry) → EachFollows logs → newest logs ≡ Some e → drop (reached e.time logs - 1) logs ≡ e ∷ []
 newest_alone logs e follows is = ap (λ n. drop (n - 1) logs) (all_reached e.time logs (all_before logs e follows is)) ∙ last_alone logs e is
-
-pub log_time : (logs : List LogEntry) (k time : ℕ) (e : Entry) → e ≡ entry_of (log_at logs k) → time ≡ e.time → (log_at logs k).time ≡ time
-log_time logs k time e is at = sym (at ∙ ap (λ (x : Entry). x.time) is)
 
 -- ---- versions, quotas and chains that are the same
 
