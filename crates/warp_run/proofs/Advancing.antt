@@ -1,11 +1,11 @@
 -- A round, from a world to the next: what all lanes may be asked, and what it comes to where none of them has an error.
-use Rattle.std.proofs.Common.{◌≡◌, ℕ, zero, suc, ◌+◌, ◌<◌, ◌≤◌, Option, Some, None, slice_get, List, [], map, refl, ap, sym, subst, ◌∙◌, arith}
+use Rattle.std.proofs.Common.{◌≡◌, ℕ, suc, ◌<◌, ◌≤◌, Some, slice_get, List, [], map, refl, sym, subst, arith}
 use Rattle.std.specs.List.{AllZip}
 use Rattle.warp_base.specs.Events.{Each, AreFrom}
 use Rattle.warp_base.specs.Histories.{Behaviour, LooksAhead, StartsWithin}
 use Rattle.warp_base.specs.Laws.{BoundIsSafe, StatesAreReal}
 use Rattle.warp_base.proofs.Orders.{TellsApart}
-use Rattle.warp_worker.specs.Workers.{WorkerFace, Cell, settled_of, IsWorker, MayAdvance, HasAdvanced, HasTooMany, TellsNext}
+use Rattle.warp_worker.specs.Workers.{WorkerFace, Cell, settled_of, IsWorker, MayAdvance, HasAdvanced, HasTooMany}
 use Rattle.warp_run.specs.Ends.{FaultsAt}
 use Rattle.warp_run.specs.Worlds.{IsWorld, IsNotBefore}
 use Rattle.warp_run.proofs.Totals.{Each-places}

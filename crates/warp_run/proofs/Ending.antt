@@ -1,5 +1,5 @@
 -- What a world comes to: its end is the end of the run in order, and a fault in what is committed is one that this run meets.
-use Rattle.std.proofs.Common.{◌≡◌, ℕ, zero, suc, ◌+◌, ◌-◌, ◌^◌, ◌<◌, ◌≤◌, ◌⊎◌, inl, inr, true, false, nat_lt, Option, Some, None, option_map, slice_get, List, [], ◌∷◌, ◌++◌, length, map, take, drop, refl, ap, sym, subst, ◌∙◌, arith, append_assoc, length-append}
+use Rattle.std.proofs.Common.{◌≡◌, ℕ, zero, suc, ◌+◌, ◌-◌, ◌^◌, ◌<◌, ◌≤◌, ◌⊎◌, inl, inr, true, false, nat_lt, Some, None, option_map, slice_get, List, [], ◌∷◌, ◌++◌, length, map, take, refl, ap, sym, subst, ◌∙◌, arith, length-append}
 use Rattle.std.proofs.lemmas.List.{append-nil, take-append-drop, take-append-le}
 use Rattle.std.proofs.lemmas.Option.{slice_get-map, slice_get_within}
 use Rattle.std.proofs.lemmas.Bool.{cases_lt, lt-ltb, le-ltb}
@@ -13,11 +13,11 @@ use Rattle.warp_base.proofs.Lists.{Each-weaker, filter_all, filter_none, filter-
 use Rattle.warp_base.proofs.Folds.{length-stamped}
 use Rattle.warp_base.proofs.Orders.{TellsApart, Each-copy, hit_self}
 use Rattle.warp_process.specs.Processes.{ProcessFace, IsProcess, done_of, bound_of}
-use Rattle.warp_worker.specs.Workers.{WorkerFace, Cell, IsReady, TellsFailed, AreNumbered, HasEnded, total, history_of, settled_of, to_run, ran_of}
-use Rattle.warp_run.specs.Ends.{IsEnd, IsSoundUntil, FaultsAt, IsHalfTooLong}
+use Rattle.warp_worker.specs.Workers.{WorkerFace, Cell, TellsFailed, AreNumbered, HasEnded, total, history_of, settled_of, to_run, ran_of}
+use Rattle.warp_run.specs.Ends.{IsEnd, FaultsAt, IsHalfTooLong}
 use Rattle.warp_run.specs.Worlds.{IsWorld}
 use Rattle.warp_run.proofs.Totals.{Each-at}
-use Rattle.warp_run.proofs.Families.{faces, number_at, all_cells, past, events, early, marks, process_at, number_is, ready_at, settled, beyond, past_of, events_of, early_of}
+use Rattle.warp_run.proofs.Families.{faces, all_cells, past, events, early, marks, process_at, number_is, ready_at, settled, beyond, past_of, events_of, early_of}
 use Rattle.warp_run.proofs.Runs.{Grows, ran_grows, those_grow, those_fewer, those_all, reached_later, sum_those, sum_all, ran_within}
 
 module _ {P : Type 0} where

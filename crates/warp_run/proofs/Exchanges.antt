@@ -1,5 +1,5 @@
 -- Messages go from outboxes to inboxes, one after the other: whatever it was the world of, it stays.
-use Rattle.std.proofs.Common.{◌≡◌, ℕ, zero, suc, ◌+◌, ◌<◌, ◌≤◌, Some, slice_get, set, List, [], ◌∷◌, ◌++◌, length, map, refl, ap, sym, subst, ◌∙◌, arith}
+use Rattle.std.proofs.Common.{◌≡◌, ℕ, zero, suc, ◌+◌, ◌<◌, ◌≤◌, Some, slice_get, set, List, [], ◌∷◌, ◌++◌, length, ap, sym, subst, ◌∙◌, arith}
 use Rattle.warp_base.specs.declared.event.Event.{Event}
 use Rattle.warp_base.specs.declared.event.Message.{Message}
 use Rattle.warp_base.specs.declared.event.Message.TheVariants as Variants
@@ -7,7 +7,7 @@ use Rattle.warp_base.specs.Events.{Each}
 use Rattle.warp_base.specs.Messages.{event_of, positives, negatives}
 use Rattle.warp_base.specs.Histories.{Behaviour}
 use Rattle.warp_base.proofs.Lists.{Each-append, Each-weaker}
-use Rattle.warp_worker.specs.Workers.{WorkerFace, Cell, IsWorker, IsReady, IsArrival, AreNumbered, total, stands, waits, sends}
+use Rattle.warp_worker.specs.Workers.{WorkerFace, Cell, IsReady, IsArrival, AreNumbered}
 use Rattle.warp_run.specs.Worlds.{AreWorkers, AreContiguous, IsOnItsWay, IsWorld, process_count, sent_off, taken_off}
 use Rattle.warp_run.proofs.Totals.{total-set, Each-set, Each-at}
 

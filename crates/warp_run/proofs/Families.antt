@@ -2,7 +2,6 @@
 use Rattle.std.proofs.Common.{◌≡◌, ℕ, zero, suc, ◌+◌, ◌<◌, ◌≤◌, inl, inr, Option, Some, None, slice_get, List, [], ◌∷◌, ◌++◌, length, map, take, drop, refl, ap, sym, subst, ◌∙◌, arith, length-append}
 use Rattle.std.proofs.lemmas.Option.{slice_get_past}
 use Rattle.std.proofs.lemmas.List.{append-nil}
-use Rattle.std.proofs.lemmas.Bool.{cases_lt}
 use Rattle.warp_base.specs.declared.event.Event.{Event}
 use Rattle.warp_base.specs.declared.event.Draft.{Draft}
 use Rattle.warp_base.specs.declared.event.Message.{Message}
@@ -15,9 +14,9 @@ use Rattle.warp_base.proofs.Lists.{Each-append, Each-weaker}
 use Rattle.warp_base.proofs.Folds.{Each-all_sent}
 use Rattle.warp_base.proofs.Orders.{TellsApart, copies-append, hit_cases, none_of, Each-copy}
 use Rattle.warp_process.specs.Processes.{ProcessFace, IsProcess, done_of, bound_of}
-use Rattle.warp_worker.specs.Workers.{WorkerFace, Cell, IsWorker, IsReady, IsArrival, AreNumbered, total, stands, waits, sends}
+use Rattle.warp_worker.specs.Workers.{WorkerFace, Cell, IsReady, IsArrival, AreNumbered, total, stands, waits, sends}
 use Rattle.warp_run.specs.Worlds.{AreWorkers, AreContiguous, IsOnItsWay, IsWorld, process_count, sent_off, taken_off}
-use Rattle.warp_run.proofs.Totals.{total-append, total-zero, Each-at, slice_get_none}
+use Rattle.warp_run.proofs.Totals.{Each-at, slice_get_none}
 
 module _ {P S : Type 0} where
   abbrev pub past_of : Option (Cell P S) → List (Event P)

@@ -1,7 +1,6 @@
 -- All workers come to their ends, one after the other.
-use Rattle.std.proofs.Common.{◌≡◌, ℕ, zero, suc, ◌+◌, ◌<◌, ◌≤◌, Option, Some, None, slice_get, List, [], ◌∷◌, ◌++◌, length, map, take, false, refl, ap, sym, subst, ◌∙◌, arith, append_assoc}
+use Rattle.std.proofs.Common.{◌≡◌, ℕ, zero, suc, ◌+◌, ◌≤◌, Some, None, slice_get, List, [], ◌∷◌, ◌++◌, length, map, take, false, refl, ap, sym, subst, ◌∙◌, arith, append_assoc}
 use Rattle.std.proofs.lemmas.List.{append-nil}
-use Rattle.warp_base.specs.declared.event.Event.{Event}
 use Rattle.warp_base.specs.Events.{Each}
 use Rattle.warp_base.specs.Histories.{Behaviour, state_after}
 use Rattle.warp_base.proofs.Lists.{Each-append}
@@ -40,9 +39,6 @@ module _ {P S : Type 0} (words : P → List ℕ) (b : Behaviour P S) where
     pub split : cells ≡ done ++ rest
     pub ended : HasEnded words b done [] states count None
     pub workers : AreWorkers words b rest left
-
-  pub ended_none : (cells : List (Cell P S)) (ws : List (WorkerFace P S)) → AreWorkers words b cells ws → EndedUpTo cells ws [] 0
-  ended_none cells ws h = record { done = []; rest = cells; split = refl; ended = record { states = refl; count = refl; failed = tt }; workers = h }
 
   pub ended_more : (cells : List (Cell P S)) (w : WorkerFace P S) (left : List (WorkerFace P S)) (states new_states : List S) (count k sum : ℕ) → EndedUpTo cells (w ∷ left) states count → ((cs : List (Cell P S)) → IsWorker words b cs w → HasEnded words b cs states new_states k None) → sum ≡ count + k → EndedUpTo cells left new_states sum
   ended_more cells w left states new_states count k sum h told is =

@@ -3,7 +3,6 @@ use Rattle.std.proofs.Common.{◌≡◌, ℕ, zero, suc, ◌+◌, ◌<◌, ◌�
 use Rattle.std.specs.List.{All}
 use Rattle.std.proofs.lemmas.List.Elements.{All-nil, All-push, All-append}
 use Rattle.std.specs.List.{AllZip, zip}
-use Rattle.warp_base.specs.declared.event.Event.{Event}
 use Rattle.warp_base.specs.Events.{Each, AreFrom}
 use Rattle.warp_base.specs.Histories.{Behaviour}
 use Rattle.std.proofs.lemmas.List.{take_more, take_all}

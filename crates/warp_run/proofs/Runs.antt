@@ -1,10 +1,10 @@
 -- The run in order: what it has run grows, a run to an earlier end is its beginning, and its events are those of its processes together.
-use Rattle.std.proofs.Common.{◌≡◌, ℕ, zero, suc, ◌+◌, ◌<◌, ◌≤◌, ◌⊎◌, inl, inr, Bool, true, false, cond, nat_le, ◌==◌, List, [], ◌∷◌, ◌++◌, length, take, refl, ap, sym, subst, ◌∙◌, arith, append_assoc, length-append}
+use Rattle.std.proofs.Common.{◌≡◌, ℕ, zero, suc, ◌+◌, ◌<◌, ◌≤◌, ◌⊎◌, inl, inr, cond, nat_le, ◌==◌, List, [], ◌∷◌, ◌++◌, length, take, refl, ap, sym, ◌∙◌, arith, append_assoc, length-append}
 use Rattle.std.proofs.lemmas.List.{append-nil}
 use Rattle.std.proofs.Math.Seq.{take-append_seam}
 use Rattle.std.proofs.lemmas.Bool.{cases_Bool, cases_eq, cases_lt, eq-eqb, ne_eqb, le-leb, leb-true}
 use Rattle.warp_base.specs.declared.event.Event.{Event}
-use Rattle.warp_base.specs.Events.{Each, hit, copies}
+use Rattle.warp_base.specs.Events.{Each, copies}
 use Rattle.warp_base.specs.Histories.{Behaviour, SendsWithin, all_sent}
 use Rattle.warp_base.specs.Sequential.{Run, after_event, step_with, sequential, those_for}
 use Rattle.warp_base.specs.Laws.{FollowsHistories, NothingBeyond}

@@ -1,5 +1,5 @@
 -- A worker that answers that events are too many has a process whose committed past says so, and that is of the run in order.
-use Rattle.std.proofs.Common.{◌≡◌, ℕ, zero, suc, ◌+◌, ◌^◌, ◌≤◌, ◌⊎◌, inl, inr, Some, slice_get, List, [], ◌∷◌, ◌++◌, length, map, refl, ap, sym, subst, ◌∙◌, arith}
+use Rattle.std.proofs.Common.{◌≡◌, ℕ, zero, suc, ◌+◌, ◌^◌, ◌≤◌, ◌⊎◌, inl, inr, Some, slice_get, List, [], ◌∷◌, length, map, refl, ap, sym, subst, ◌∙◌, arith}
 use Rattle.std.specs.List.{AllZip}
 use Rattle.warp_base.specs.Histories.{Behaviour, LooksAhead, StartsWithin, all_sent}
 use Rattle.warp_base.specs.Laws.{SequentialIsSound, BoundIsSafe}
@@ -12,7 +12,7 @@ use Rattle.warp_run.specs.declared.finished.Failure.TheVariants.{OutOfMemory, To
 use Rattle.warp_run.specs.Ends.{IsHalfTooLong}
 use Rattle.warp_run.specs.Failures.{MatchFailure}
 use Rattle.warp_run.specs.Worlds.{AreWorkers, AreContiguous, IsWorld}
-use Rattle.warp_run.proofs.Families.{faces, faces-long}
+use Rattle.warp_run.proofs.Families.{faces-long}
 use Rattle.warp_run.proofs.Ending.{mapped_at, many_real}
 use Rattle.warp_run.proofs.Finishing.{get_front, get_back}
 

@@ -1,5 +1,5 @@
 -- Sums over lists, and facts of each element, at places and over lists put together.
-use Rattle.std.proofs.Common.{◌≡◌, ℕ, zero, suc, ◌+◌, ◌<◌, ◌≤◌, List, [], ◌∷◌, ◌++◌, length, take, drop, set, slice_get, Some, None, refl, ap, sym, subst, ◌∙◌, arith}
+use Rattle.std.proofs.Common.{◌≡◌, ℕ, zero, suc, ◌+◌, ◌≤◌, List, [], ◌∷◌, ◌++◌, length, set, slice_get, Some, None, refl, ap, subst, arith}
 use Rattle.warp_base.specs.Events.{Each}
 use Rattle.warp_worker.specs.Workers.{total}
 

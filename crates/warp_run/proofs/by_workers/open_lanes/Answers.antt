@@ -1,9 +1,9 @@
-use Rattle.std.proofs.Common.{◌≡◌, ◌+◌, ◌≤◌, [], ◌∷◌, ◌++◌, map, length, refl, ap, sym, subst, ◌∙◌, arith}
+use Rattle.std.proofs.Common.{[], ◌∷◌, map, ap, sym, subst, ◌∙◌, arith}
 use Rattle.std.proofs.lemmas.List.{length-map}
 use Rattle.warp_base.specs.Events.{Each}
 use Rattle.warp_base.proofs.Lists.{Each-append}
 use Rattle.warp_process.specs.Processes.{face}
-use Rattle.warp_worker.specs.Workers.{WorkerFace, IsOpened, total, worker_face}
+use Rattle.warp_worker.specs.Workers.{IsOpened, total, worker_face}
 use Rattle.warp_run.specs.Worlds.{AreContiguous, process_count}
 use Rattle.warp_run.proofs.Starting.{contiguous_push, count_push, start_cells, start_world}
 use Rattle.warp_run.proofs.Lanes.{map-push}

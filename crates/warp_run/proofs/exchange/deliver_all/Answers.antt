@@ -1,8 +1,7 @@
-use Rattle.std.proofs.Common.{◌≡◌, ◌+◌, ◌<◌, ◌≤◌, ℕ, suc, [], ◌∷◌, ◌++◌, map, take, drop, length, set, slice_get, get_or, Some, option_map, refl, ap, sym, subst, ◌∙◌, arith, drop-cons}
-use Rattle.std.proofs.lemmas.List.{take_all, length-map}
+use Rattle.std.proofs.Common.{◌≡◌, ◌+◌, ◌<◌, ◌≤◌, suc, ◌∷◌, map, drop, length, set, slice_get, Some, option_map, refl, ap, sym, subst, ◌∙◌, arith, drop-cons}
 use Rattle.std.proofs.lemmas.Option.{slice_get-map, slice_get_read}
 use Rattle.warp_base.specs.Messages.{event_of}
-use Rattle.warp_worker.specs.Workers.{WorkerFace, total, worker_face}
+use Rattle.warp_worker.specs.Workers.{total, worker_face}
 use Rattle.warp_run.specs.Worlds.{AreContiguous, IsWorld, process_count}
 use Rattle.warp_run.proofs.Lanes.{map-set, set_same, drop_beyond}
 use Rattle.warp_run.proofs.Exchanges.{put_in}

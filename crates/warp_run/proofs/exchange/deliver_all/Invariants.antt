@@ -1,4 +1,4 @@
-use Rattle.std.proofs.Common.{◌≡◌, [], map, drop}
+use Rattle.std.proofs.Common.{◌≡◌, map, drop}
 use Rattle.warp_worker.specs.Workers.{worker_face}
 use Rattle.warp_run.specs.Worlds.{StaysWorld}
 use Rattle.warp_run.proofs.exchange.deliver_all.Given as goal

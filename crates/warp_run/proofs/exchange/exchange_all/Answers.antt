@@ -1,10 +1,9 @@
-use Rattle.std.proofs.Common.{◌≡◌, ◌+◌, ◌<◌, ◌≤◌, ℕ, suc, List, [], ◌∷◌, ◌++◌, map, take, drop, length, set, slice_get, get_or, Some, option_map, refl, ap, sym, subst, ◌∙◌, arith}
+use Rattle.std.proofs.Common.{◌≡◌, ◌+◌, ◌<◌, [], map, take, length, set, slice_get, Some, option_map, refl, ap, sym, subst, ◌∙◌, arith}
 use Rattle.std.proofs.lemmas.List.{length-set}
 use Rattle.std.proofs.lemmas.Option.{slice_get-map, slice_get_read}
 use Rattle.warp_base.specs.Events.{Each}
-use Rattle.warp_base.specs.Histories.{Behaviour}
 use Rattle.warp_worker.specs.declared.worker.Worker.{Worker}
-use Rattle.warp_worker.specs.Workers.{WorkerFace, Cell, worker_face}
+use Rattle.warp_worker.specs.Workers.{worker_face}
 use Rattle.warp_run.specs.Worlds.{IsWorld}
 use Rattle.warp_run.proofs.Lanes.{map-set, Each-map, Each-all, empty_put, map_long}
 use Rattle.warp_run.proofs.Exchanges.{taken_out}

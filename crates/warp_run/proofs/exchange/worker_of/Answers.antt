@@ -3,7 +3,7 @@ use Rattle.std.proofs.lemmas.List.{take_all, length-map}
 use Rattle.std.proofs.lemmas.Option.{slice_get-map, slice_get_read}
 use Rattle.std.proofs.lemmas.Bool.{iff_false, cases_lt}
 use Rattle.warp_process.specs.Processes.{face}
-use Rattle.warp_worker.specs.Workers.{WorkerFace, total, worker_face}
+use Rattle.warp_worker.specs.Workers.{total, worker_face}
 use Rattle.warp_run.specs.Worlds.{process_count}
 use Rattle.warp_run.proofs.Lanes.{first_at, total_more}
 use Rattle.warp_run.proofs.exchange.worker_of.Goals as goal

@@ -1,4 +1,4 @@
-use Rattle.std.proofs.Common.{◌≡◌, None, length, refl, sym, ◌∙◌, arith}
+use Rattle.std.proofs.Common.{◌≡◌, None, length, refl, sym, ◌∙◌}
 use Rattle.std.proofs.lemmas.Option.{slice_get_read}
 use Rattle.warp_run.proofs.Lanes.{Each-more, Each-all}
 use Rattle.warp_run.proofs.rounds.first_error.Goals as goal

@@ -1,5 +1,4 @@
-use Rattle.std.proofs.Common.{◌≡◌, None, subst, sym, ◌∙◌, arith}
-use Rattle.warp_base.proofs.Lists.{Each-weaker}
+use Rattle.std.proofs.Common.{subst, sym}
 use Rattle.warp_run.specs.Worlds.{IsNotBefore}
 use Rattle.warp_run.proofs.Lanes.{Each-more, Each-all, Each-read}
 use Rattle.warp_run.proofs.rounds.least_next.Goals as goal

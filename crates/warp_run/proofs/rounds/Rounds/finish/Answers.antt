@@ -1,7 +1,6 @@
-use Rattle.std.proofs.Common.{◌≡◌, ◌+◌, ◌^◌, ◌≤◌, List, [], ◌∷◌, map, Some, None, Err, IfErr, refl, ap, sym, subst, ◌∙◌, arith}
+use Rattle.std.proofs.Common.{◌^◌, List, map, Err, IfErr, ap, sym, subst, arith}
 use Rattle.std.proofs.lemmas.Result.{err_from_is_err_and}
-use Rattle.warp_base.specs.Histories.{Behaviour}
-use Rattle.warp_worker.specs.Workers.{WorkerFace, Cell, IsWorker, HasEnded, worker_face}
+use Rattle.warp_worker.specs.Workers.{Cell, IsWorker, HasEnded, worker_face}
 use Rattle.warp_run.specs.Ends.{FaultsAt, IsHalfTooLong}
 use Rattle.warp_run.specs.Failures.{MatchFailure}
 use Rattle.warp_run.proofs.Ending.{is_end, end_too_long, end_failure_real}

@@ -1,4 +1,4 @@
-use Rattle.std.proofs.Common.{◌≡◌, ◌+◌, ◌<◌, ◌≤◌, ℕ, suc, List, [], ◌∷◌, map, length, slice_get, Option, Some, None, Ok, option_map, refl, ap, sym, subst, ◌∙◌, arith}
+use Rattle.std.proofs.Common.{◌≡◌, ℕ, suc, List, [], map, slice_get, Option, Some, None, option_map, ap, sym, subst, ◌∙◌, arith}
 use Rattle.std.specs.Prelude.{IfOk, IfNone}
 use Rattle.std.specs.List.{All, AllZip, zip}
 use Rattle.std.proofs.lemmas.Option.{slice_get-map}
