@@ -1,6 +1,5 @@
 //! Commands to an object over an undo log, beside an object over a chain of packed records: the same replies and the same heaps.
 ghost use Rattle.std.specs.Prelude.{◌<◌};
-ghost use Rattle.dym_base.specs.declared.limits.TheConstants.{COUNT_LIMIT};
 
 use dym_base::{Handle, Refusal, Version};
 use dym_chain::{LogError as ChainError, VecKeep};
@@ -138,18 +137,6 @@ fn logs(pair: &mut Pair, alloc: Global, full: bool) -> bool {
     }
 }
 
-/// A restore before a time, which over packed records is one at the time before.
-fn restores_before(pair: &mut Pair, time: u64) -> bool
-    requires packed { pair.old.packed.ran < COUNT_LIMIT }
-    requires undo { pair.old.undo.ran < COUNT_LIMIT }
-{
-    let undone = pair.undo.restore_before(&(), time);
-    match time.checked_sub(1) {
-        Some(before) => pair.packed.restore(&(), before) == undone,
-        None => undone == Err(Refusal::NoLog),
-    }
-}
-
 /// A command about logs. Whether both answer alike.
 fn rolls(pair: &mut Pair, numbers: &mut Numbers, alloc: Global) -> bool {
     if pair.packed.ran() >= MOST_COMMANDS || pair.undo.ran() >= MOST_COMMANDS {
@@ -158,7 +145,13 @@ fn rolls(pair: &mut Pair, numbers: &mut Numbers, alloc: Global) -> bool {
     let time = pair.time.saturating_sub(numbers.below(9));
     match numbers.below(8) {
         0 => pair.packed.restore(&(), time) == pair.undo.restore(&(), time),
-        1 => restores_before(pair, time),
+        1 => {
+            let undone = pair.undo.restore_before(&(), time);
+            match time.checked_sub(1) {
+                Some(before) => pair.packed.restore(&(), before) == undone,
+                None => undone == Err(Refusal::NoLog),
+            }
+        }
         2 => pair.packed.prune(time) == pair.undo.prune(time),
         3 => pair.packed.logs() == pair.undo.logs(),
         number => {
