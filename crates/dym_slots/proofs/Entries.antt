@@ -1,5 +1,5 @@
 -- Entries with their records, and what a rising list keeps under the machine's filters.
-use Rattle.std.proofs.Common.{◌≡◌, ℕ, suc, ◌+◌, ◌<◌, ◌≤◌, Bool, true, false, not, nat_eq, List, [], ◌∷◌, ◌++◌, map, length, get_or, sym, refl, ap, ◌∙◌, subst, arith}
+use Rattle.std.proofs.Common.{◌≡◌, ℕ, suc, ◌+◌, ◌<◌, ◌≤◌, Bool, true, false, cond, not, nat_eq, List, [], ◌∷◌, ◌++◌, map, length, get_or, sym, refl, ap, ◌∙◌, subst, arith}
 use Rattle.std.specs.Prelude.{nat_le}
 use Rattle.std.specs.List.{All, Contains, filter}
 use Rattle.std.proofs.lemmas.List.{length-map, length-append, get_or-map, get_or_append_left, get_or_at, get_or-append-add}
@@ -36,6 +36,18 @@ contains_entry records es x (k, lt, is) =
 pub contains_listed : (records : Naming) (es : List Entry) (e : Entry) → Contains es e → Contains (map (listed records) es) (listed records e)
 contains_listed records es e (k, lt, is) =
     (k, (let n = length-map es (listed records) in omega arith), get_or-map (listed records) es k e (listed records e) lt ∙ ap (listed records) is)
+
+-- the machine's filter on entries with their records
+pub from_listed : (records : Naming) (n : ℕ) (es : List Entry) → map (listed records) (from_number n es) ≡ filter (λ x. nat_le n x.entry.number) (map (listed records) es)
+from_listed records n [] = refl
+from_listed records n (e ∷ es) =
+    let kept = from_number n es in
+    let shown = filter (λ (x : Listed). nat_le n x.entry.number) (map (listed records) es) in
+    let rest = from_listed records n es in
+    elim (nat_le n e.number) as (λ b. map (listed records) (cond b (e ∷ kept) kept) ≡ cond b (listed records e ∷ shown) shown) [
+      | true ↦ ap (λ (l : List Listed). listed records e ∷ l) rest
+      | false ↦ rest
+    ]
 
 -- Rising numbers
 
@@ -77,10 +89,10 @@ other a n lt = grind (arith, nat_tests)
 same_number : (n : ℕ) → not (nat_eq n n) ≡ false
 same_number n = grind (arith, nat_tests)
 
-below : (a n : ℕ) → a < n → nat_le n a ≡ false
+pub below : (a n : ℕ) → a < n → nat_le n a ≡ false
 below a n lt = grind (arith, nat_tests)
 
-from_on : (a n : ℕ) → n ≤ a → nat_le n a ≡ true
+pub from_on : (a n : ℕ) → n ≤ a → nat_le n a ≡ true
 from_on a n le = grind (arith, nat_tests)
 
 -- without its newest entry a rising list has the older ones

@@ -1,9 +1,9 @@
 -- Each step of the owner on a table is a step of the machine.
-use Rattle.std.proofs.Common.{◌≡◌, ◌≢◌, ℕ, ◌+◌, ◌*◌, ◌<◌, ◌≤◌, ◌⊎◌, inl, inr, true, false, nat_eq, List, [], ◌∷◌, ◌++◌, map, length, get_or, set, sym, refl, ap, ◌∙◌, subst, arith, Option, Some, None}
+use Rattle.std.proofs.Common.{◌≡◌, ◌≢◌, ℕ, ◌+◌, ◌-◌, ◌*◌, ◌<◌, ◌≤◌, ◌⊎◌, inl, inr, true, false, nat_eq, List, [], ◌∷◌, ◌++◌, map, length, get_or, set, sym, refl, ap, ◌∙◌, subst, arith, Option, Some, None}
 use Rattle.std.specs.Prelude.{slice_index, slice_set, ◌==◌, option_map}
 use Rattle.std.specs.List.{All, Contains}
-use Rattle.std.proofs.lemmas.List.{set-get_or, get_or-set_same, length-map, map-append}
-use Rattle.std.proofs.lemmas.List.Elements.{All-head, All-tail, Contains-push, Contains-append_right, Contains-get_or}
+use Rattle.std.proofs.lemmas.List.{set-get_or, get_or-set_same, length-map, length-take, map-append}
+use Rattle.std.proofs.lemmas.List.Elements.{All-head, All-tail, Contains-push, Contains-get_or}
 use Rattle.std.proofs.lemmas.Bool.Decides.{nat_tests}
 use mathlib.Core.Option as M
 use mathlib.Core.Option.{some, none}
@@ -25,12 +25,12 @@ use Rattle.dym_slots.specs.declared.view.Listed.{Listed}
 use Rattle.dym_slots.specs.declared.view.OwnerSeat.{OwnerSeat}
 use Rattle.dym_slots.specs.declared.view.SeatView.{SeatView}
 use Rattle.dym_slots.specs.declared.view.SeatView.TheVariants.{Owns}
-use Rattle.dym_slots.specs.SeatViews.{Naming, listed, owner_seat, glimpse, glimpse_of, owner_of, IsOwner, past, looked, holding, with_put, lowered, with_freed, with_raised}
+use Rattle.dym_slots.specs.SeatViews.{Naming, listed, owner_seat, glimpse, glimpse_of, owner_of, IsOwner, past, looked, holding, with_put, lowered, older_of, newest_freed, raised_to}
 use Rattle.dym_slots.specs.TableStates.{Held, Knowing, TableState, Sound, Holds}
 use Rattle.dym_slots.specs.Orders.{entry_of}
 use Rattle.dym_slots.specs.Moves.{IsIdleOwner, HasOut, HasEntry, OwnerLooked, IsKnownFree, Claimed, TookOwn, TookRetired, IsUnlisted, WasPut, WasLowered, FreedNewest, Raised}
 use Rattle.dym_slots.proofs.Showing.{by_state, homes_by_state, words_set, word_at, homes_set, home_at, homes_agree, named}
-use Rattle.dym_slots.proofs.Entries.{map_entries, parts, contains_entry, contains_listed, without_newest, from_raised}
+use Rattle.dym_slots.proofs.Entries.{map_entries, parts, contains_entry, contains_listed, without_newest, from_listed}
 use Rattle.dym_slots.proofs.Running.{OwnerIn, owner_in, owner_holds, noted, sound_after, live_numbered, live_below, past_forget, past_twice, look_of, wins, loses}
 
 -- what the seat's view says of the state behind it
@@ -369,8 +369,12 @@ puts count slots id me s num word bytes w has alone inside number left room st h
 
 -- Lowers
 
+-- after a step on the slot that is out, with this list left
+abbrev with_list : ℕ → List Listed → OwnerSeat → OwnerSeat
+with_list s list o = record o { list = list; out = None; look = past s o.look }
+
 freed_view : (records : Naming) (v : OwnerView) (note : OwnerNote) (s : ℕ) (es : List Entry) (list : List Listed) → map (listed records) es ≡ list
-    → owner_seat records (record v { list = es; out = None }) (forget s (forget s note)) ≡ with_freed s list (owner_seat records v note)
+    → owner_seat records (record v { list = es; out = None }) (forget s (forget s note)) ≡ with_list s list (owner_seat records v note)
 freed_view records v note s es list is j = record { list = is j; next = v.next; out = None; remembered = v.remembered; look = past_both s note j }
 
 lower_holds : {count : ℕ} {st : TableState} {id : ℕ} {o : OwnerSeat} (i : OwnerIn count st id o) (carried : List (ℕ × Held)) (s n : ℕ) (bytes : List ℕ) → carried ≡ (s, Some bytes) ∷ [] → o.out ≡ Some s
@@ -412,7 +416,7 @@ lowers count slots id me x has there inside st holds len at fits =
 
 free_holds : {count : ℕ} {st : TableState} {id : ℕ} {o : OwnerSeat} (i : OwnerIn count st id o) (carried : List (ℕ × Held)) (older : List Listed) (x : Listed) → carried ≡ (x.entry.slot, None) ∷ []
     → o.list ≡ older ++ x ∷ [] → 0 < length older → o.out ≡ Some x.entry.slot → x.entry.slot < count
-    → Holds count (stepped st (x.entry.slot + 1) 0 id carried (Owns (with_freed x.entry.slot older o)) gives)
+    → Holds count (stepped st (x.entry.slot + 1) 0 id carried (Owns (with_list x.entry.slot older o)) gives)
 free_holds {count} {st} {id} {o} i carried older x has is some_older held inside =
     let a = i.state in
     let c = a.core in
@@ -438,57 +442,52 @@ free_holds {count} {st} {id} {o} i carried older x has is some_older held inside
       after = refl;
     } in
     let left : without n c.owner.list ≡ es = ap (without n) list ∙ without_newest es s n (subst NumbersRise list i.sound.facts.list.numbers_rise) in
-    slot_holds i s Free i.records d.homes v (forget s (forget s a.owner)) (with_freed s older o)
+    slot_holds i s Free i.records d.homes v (forget s (forget s a.owner)) (with_list s older o)
     (sound_after count (OwnerFree s) b e frees i.sound.numbered mid)
     (set st.words (s + 1) 0) refl
     (put_back st.homes carried) (ap (put_back st.homes) has)
     (homes_of_slots i)
-    (freed_view i.records c.owner a.owner s (without n c.owner.list) older (ap (map (listed i.records)) left ∙ cut.1) ∙ ap (with_freed s older) i.seat)
+    (freed_view i.records c.owner a.owner s (without n c.owner.list) older (ap (map (listed i.records)) left ∙ cut.1) ∙ ap (with_list s older) i.seat)
 
-pub frees : (count slots id : ℕ) (me : Knowing) (older : List Listed) (x : Listed) → (owner_of me.0).list ≡ older ++ x ∷ [] → 0 < length older → HasOut x.entry.slot None me
+pub frees : (count slots id : ℕ) (me : Knowing) (x : Listed) → (owner_of me.0).list ≡ older_of (owner_of me.0).list ++ x ∷ [] → 1 < length (owner_of me.0).list → HasOut x.entry.slot None me
     → x.entry.slot < count → Allows (Holds count) slots id me (x.entry.slot + 1) (λ _. 0) (λ _ after. FreedNewest (x.entry.slot + 1) me after)
-frees count slots id me older x is some_older has inside st holds len at fits =
+frees count slots id me x is more has inside st holds len at fits =
     let o = owner_of me.0 in
     let s = x.entry.slot in
+    let older = older_of o.list in
+    let some_older : 0 < length older = let t = length-take (length o.list - 1) o.list in omega arith in
     let i = owner_in count st id o holds (at ∙ ap some has.seat) in (
-      Owns (with_freed s older o),
+      Owns (newest_freed s o),
       gives,
       tt,
       free_holds i me.1 older x has.held is some_older has.out inside,
-      record { older = older; newest = x; list = is; after_is = ap (λ (l : List (ℕ × Held)). (Owns (with_freed s older o), rest l)) has.held },
+      record { slot = s; at = refl; after_is = ap (λ (l : List (ℕ × Held)). (Owns (newest_freed s o), rest l)) has.held },
     )
 
 -- Raises
 
-raised_view : (records : Naming) (v : OwnerView) (note : OwnerNote) (es : List Entry) (list : List Listed) → map (listed records) es ≡ list
-    → owner_seat records (record v { list = es }) note ≡ with_raised list (owner_seat records v note)
-raised_view records v note es list is j = record { list = is j; next = v.next; out = v.out; remembered = v.remembered; look = option_map glimpse_of note }
+raised_view : (records : Naming) (v : OwnerView) (note : OwnerNote) (n : ℕ) → owner_seat records (record v { list = from_number n v.list }) note ≡ raised_to n (owner_seat records v note)
+raised_view records v note n j =
+    record { list = from_listed records n v.list j; next = v.next; out = v.out; remembered = v.remembered; look = option_map glimpse_of note }
 
-pub raises : (count slots id : ℕ) (me : Knowing) (dropped : List Listed) (x : Listed) (others : List Listed) → (owner_of me.0).list ≡ dropped ++ x ∷ others → IsIdleOwner me
-    → Allows (Holds count) slots id me 0 (λ _. x.entry.number) (λ _ after. Raised me x.entry.number after)
-raises count slots id me dropped x others is idle st holds len at fits =
+pub raises : (count slots id : ℕ) (me : Knowing) (n : ℕ) → ((s : ℕ) × HasEntry s n (owner_of me.0)) → IsIdleOwner me → Allows (Holds count) slots id me 0 (λ _. n) (λ _ after. Raised me n after)
+raises count slots id me n (s, (x, there, slot, number)) idle st holds len at fits =
     let o = owner_of me.0 in
-    let n = x.entry.number in
     let i = owner_in count st id o holds (at ∙ ap some idle.seat) in
     let a = i.state in
     let c = a.core in
-    let cut = split_list i dropped (x ∷ others) is in
-    let list : c.owner.list ≡ map entry_of dropped ++ x.entry ∷ map entry_of others = cut.0 in
-    let is_entry : IsEntry c x.entry.slot n = subst (λ (l : List Entry). Contains l x.entry) (sym list)
-    (Contains-append_right (map entry_of dropped) (x.entry ∷ map entry_of others) x.entry (0, omega arith, refl)) in
+    let is_entry : IsEntry c x.entry.slot n = subst (λ (m : ℕ). IsEntry c x.entry.slot m) number (entry_in i x there).0 in
     let d : Core = record c { root = n; owner = record c.owner { list = from_number n c.owner.list } } in
-    let h : OwnerRaises n c d = record { idle = out_of i ∙ idle.none; listed = (x.entry.slot, is_entry); after = refl } in
-    let left : from_number n c.owner.list ≡ x.entry ∷ map entry_of others
-    = ap (from_number n) list ∙ from_raised (map entry_of dropped) (map entry_of others) x.entry (subst NumbersRise list i.sound.facts.list.numbers_rise) in (
-      Owns (with_raised (x ∷ others) o),
+    let h : OwnerRaises n c d = record { idle = out_of i ∙ idle.none; listed = (x.entry.slot, is_entry); after = refl } in (
+      Owns (raised_to n o),
       keeps,
       tt,
-      owner_holds count st id o i (noted (OwnerRaise n) a d) i.records (set st.words 0 n) st.homes (with_raised (x ∷ others) o)
+      owner_holds count st id o i (noted (OwnerRaise n) a d) i.records (set st.words 0 n) st.homes (raised_to n o)
           (sound_after count (OwnerRaise n) a d h i.sound.numbered i.sound)
           (ap (λ (l : List ℕ). set l 0 n) i.shows.words)
           (homes_of_slots i)
-          (raised_view i.records c.owner a.owner (from_number n c.owner.list) (x ∷ others) (ap (map (listed i.records)) left ∙ cut.2) ∙ ap (with_raised (x ∷ others)) i.seat)
+          (raised_view i.records c.owner a.owner n ∙ ap (raised_to n) i.seat)
           refl
           (i.sound.facts.list.from_root x.entry.slot n is_entry),
-      record { dropped = dropped; kept = x ∷ others; list = is; first = (x, others, refl, refl); after_is = refl },
+      refl,
     )

@@ -1,7 +1,8 @@
 -- What the owner's fields say after each of its calls.
 use Rattle.std.proofs.Common.{◌≡◌, ◌≢◌, ℕ, zero, suc, ◌+◌, ◌-◌, ◌<◌, ◌≤◌, List, [], ◌∷◌, ◌++◌, map, take, drop, length, get_or, set, sym, refl, ap, ◌∙◌, subst, arith, Option, Some, None}
-use Rattle.std.specs.List.{swap}
-use Rattle.std.proofs.lemmas.List.{length-map, length-take, length-append, map-append, take-map, drop-map, take-set-le, get_or-map, get_or-take, get_or-set_same, get_or-set_other, get_or_at, take_more, drop_more, take-append-drop, get_or_read}
+use Rattle.std.specs.List.{swap, filter}
+use Rattle.std.specs.Prelude.{nat_le}
+use Rattle.std.proofs.lemmas.List.{length-map, length-take, map-append, take-map, drop-map, take-set-le, take-take, take-append-le, get_or-map, get_or-take, get_or-set_same, get_or-set_other, get_or_read}
 use Rattle.std.proofs.lemmas.Grind.{take-set_at}
 use Rattle.std.proofs.lemmas.List.Edits.{swap_is}
 use Rattle.dym_base.specs.declared.limits.TheConstants.{LOG_SLOTS, RECORD_ROOM}
@@ -10,14 +11,14 @@ use Rattle.dym_slots.specs.declared.machine.TheConstants.{RECORD_NUMBERS}
 use Rattle.dym_slots.specs.Slots.{entry}
 use Rattle.dym_slots.specs.declared.view.Listed.{Listed}
 use Rattle.dym_slots.specs.declared.view.SeatView.TheVariants.{Owns}
-use Rattle.dym_slots.specs.SeatViews.{owner_of, with_put, with_raised, holding}
+use Rattle.dym_slots.specs.SeatViews.{owner_of, with_put, raised_to, holding, no_listed, newest_of, older_of}
 use Rattle.dym_slots.specs.TableStates.{Held, Knowing}
 use Rattle.atomic_table.specs.Seated.{TableId}
 use Rattle.dym_slots.specs.Owners.{OutIs}
 use Rattle.dym_slots.specs.Moves.{SitsAt, SameList, IsUnlisted, HasEntry, IsBytesOf}
-use Rattle.dym_slots.specs.Meanings.{Numbered, KeepMeaning, no_record, record_at, NumbersRise}
-use Rattle.dym_slots.specs.Orders.{IsOrder, no_entry, slot_at, numbered, entry_of, retired, Stands, HasLeft, IsNewest}
-use Rattle.dym_slots.proofs.Rising.{below_made, one_place, rise_push, rise_drop, rise_take}
+use Rattle.dym_slots.specs.Meanings.{Numbered, KeepMeaning, record_at, NumbersRise}
+use Rattle.dym_slots.specs.Orders.{IsOrder, no_entry, slot_at, numbered, entry_of, retired, Stands, HasLeft}
+use Rattle.dym_slots.proofs.Rising.{below_made, from_place, rise_push, rise_drop, rise_take}
 use Rattle.dym_slots.proofs.Places.{order_swap, order_numbered, EntryAt, entry_at, list_size, spare_slot, bytes_at, differ}
 
 -- the list that the seat knows, and its records
@@ -27,10 +28,6 @@ list_of me = (owner_of me.0).list
 abbrev records_of : Knowing → List Numbered
 records_of me = map numbered (owner_of me.0).list
 
--- what stands at a place past the end
-abbrev unlisted : Listed
-unlisted = record { entry = no_entry; bytes = [] }
-
 up_one : (n top : ℕ) → n < top → n + 1 ≤ top
 up_one n top lt = omega arith
 
@@ -38,40 +35,11 @@ up_one n top lt = omega arith
 below_most : (n m next top : ℕ) → n ≡ m → m < next → next ≤ top → n < top
 below_most n m next top is below most = omega arith
 
-snoc_front : (a b : List Listed) (x y : Listed) → a ++ x ∷ [] ≡ b ++ y ∷ [] → a ≡ b
-snoc_front [] [] x y e = refl
-snoc_front [] (b ∷ bs) x y e = absurd (let n = ap length e in let m = length-append bs (y ∷ []) in omega arith)
-snoc_front (a ∷ as') [] x y e = absurd (let n = ap length e in let m = length-append as' (x ∷ []) in omega arith)
-snoc_front (a ∷ as') (b ∷ bs) x y e =
-    let head : a ≡ b = cc in
-    let rest = snoc_front as' bs x y cc in
-    λ j. head j ∷ rest j
-
-take_less : (xs : List Entry) (kept len : ℕ) → kept ≤ len → take kept (take len xs) ≡ take kept xs
-take_less [] zero zero le = refl
-take_less [] zero (suc len) le = refl
-take_less [] (suc kept) zero le = refl
-take_less [] (suc kept) (suc len) le = refl
-take_less (x ∷ xs) zero zero le = refl
-take_less (x ∷ xs) zero (suc len) le = refl
-take_less (x ∷ xs) (suc kept) zero le = absurd (omega arith)
-take_less (x ∷ xs) (suc kept) (suc len) le = ap (λ (l : List Entry). x ∷ l) (take_less xs kept len (omega arith))
-
 pub cut_records : (list : List Listed) (kept : ℕ) → map numbered (take kept list) ≡ take kept (map numbered list)
 cut_records list kept = sym (take-map numbered kept list)
 
-drop_front : (a b : List Listed) → drop (length a) (a ++ b) ≡ b
-drop_front [] b = refl
-drop_front (x ∷ a) b = drop_front a b
-
-front : (m : ℕ) (xs ys : List Entry) → m ≤ length xs → take m xs ≡ take m (xs ++ ys)
-front zero [] ys le = refl
-front zero (x ∷ xs) ys le = refl
-front (suc m) [] ys le = absurd (omega arith)
-front (suc m) (x ∷ xs) ys le = ap (λ (l : List Entry). x ∷ l) (front m xs ys (omega arith))
-
 window : (n m len : ℕ) (xs ys : List Entry) → m + n ≡ len → len ≤ length xs → drop n (take len xs) ≡ take m (drop n xs ++ ys)
-window zero m len xs ys e le = let same : len ≡ m = omega arith in rw same (front m xs ys (omega arith))
+window zero m len xs ys e le = let same : len ≡ m = omega arith in rw same (sym (take-append-le m xs ys (omega arith)))
 window (suc n) m zero xs ys e le = absurd (omega arith)
 window (suc n) m (suc len) [] ys e le = absurd (omega arith)
 window (suc n) m (suc len) (x ∷ xs) ys e le = window n m len xs ys (omega arith) (omega arith)
@@ -126,9 +94,9 @@ module _ {order : List Entry} {len made : ℕ} {me : Knowing} (s : Stands order 
       (x.found, x.there, ap (λ (e : Entry). e.slot) x.is, ap (λ (e : Entry). e.number) x.is, ap (λ (r : Numbered). r.bytes) x.shown ∙ sym own)
 
   -- the entry at a place, from the list and from the order
-  entry_got : (place : ℕ) → place < len → (get_or (list_of me) place unlisted).entry ≡ get_or order place no_entry
+  entry_got : (place : ℕ) → place < len → (get_or (list_of me) place no_listed).entry ≡ get_or order place no_entry
   entry_got place lt =
-      sym (get_or-map entry_of (list_of me) place unlisted no_entry (let n = size_of_list in omega arith))
+      sym (get_or-map entry_of (list_of me) place no_listed no_entry (let n = size_of_list in omega arith))
       ∙ ap (λ (l : List Entry). get_or l place no_entry) s.list
       ∙ get_or-take len order place no_entry lt
 
@@ -215,30 +183,35 @@ module _ {order : List Entry} {len made : ℕ} {me : Knowing} (s : Stands order 
 
   -- Cuts at the end
 
-  pub newest_here : (last : ℕ) (now : Knowing) → last < len → 0 < last → HasLeft (take (last + 1) (list_of me)) me now → IsNewest (get_or order last no_entry) (list_of now)
-  newest_here last now lt some_older left =
+  count_of_left : (last : ℕ) (now : Knowing) → last < len → HasLeft (take (last + 1) (list_of me)) me now → length (list_of now) ≡ last + 1
+  count_of_left last now lt left =
       let size = size_of_list in
-      record {
-        older = take last (list_of me);
-        newest = get_or (list_of me) last unlisted;
-        list_is = left.list_is ∙ take_more (list_of me) last unlisted (omega arith);
-        entry_is = entry_got last lt;
-        some_older = (let t = length-take last (list_of me) in omega arith);
-      }
+      ap length left.list_is ∙ (let t = length-take (last + 1) (list_of me) in omega arith)
+
+  pub newest_here : (last : ℕ) (now : Knowing) → last < len → 0 < last → HasLeft (take (last + 1) (list_of me)) me now
+      → (1 < length (list_of now)) × ((newest_of (list_of now)).entry ≡ get_or order last no_entry)
+  newest_here last now lt some_older left =
+      let count = count_of_left last now lt left in
+      let at : length (list_of now) - 1 ≡ last = omega arith in (
+        omega arith,
+        (λ j. (get_or (left.list_is j) (at j) no_listed).entry)
+            ∙ ap (λ (x : Listed). x.entry) (get_or-take (last + 1) (list_of me) last no_listed (omega arith))
+            ∙ entry_got last lt,
+      )
 
   pub dropped_one : (last : ℕ) (now after : Knowing) → last < len → HasLeft (take (last + 1) (list_of me)) me now
-      → ((older : List Listed) × (x : Listed) × (list_of now ≡ older ++ x ∷ []) × HasLeft older now after) → HasLeft (take last (list_of me)) me after
-  dropped_one last now after lt left (older, x, is, new) =
-      let size = size_of_list in
-      let front : older ≡ take last (list_of me) = snoc_front older (take last (list_of me)) x (get_or (list_of me) last unlisted)
-      (sym is ∙ left.list_is ∙ take_more (list_of me) last unlisted (omega arith)) in
-      record { idle = new.idle; list_is = new.list_is ∙ front; next = new.next ∙ left.next; remembered = new.remembered ∙ left.remembered }
+      → HasLeft (older_of (list_of now)) now after → HasLeft (take last (list_of me)) me after
+  dropped_one last now after lt left new =
+      let count = count_of_left last now lt left in
+      let at : length (list_of now) - 1 ≡ last = omega arith in
+      let older : older_of (list_of now) ≡ take last (list_of me) = (λ j. take (at j) (left.list_is j)) ∙ take-take last (last + 1) (list_of me) (omega arith) in
+      record { idle = new.idle; list_is = new.list_is ∙ older; next = new.next ∙ left.next; remembered = new.remembered ∙ left.remembered }
 
   pub cut_stands : (kept : ℕ) (after : Knowing) → kept ≤ len → HasLeft (take kept (list_of me)) me after → Stands order kept made after
   cut_stands kept after le left = record {
     seat = left.idle.seat;
     order_is = s.order_is;
-    list = ap (map entry_of) left.list_is ∙ sym (take-map entry_of kept (list_of me)) ∙ ap (take kept) s.list ∙ take_less order kept len le;
+    list = ap (map entry_of) left.list_is ∙ sym (take-map entry_of kept (list_of me)) ∙ ap (take kept) s.list ∙ take-take kept len order le;
     few = (let f = s.few in omega arith);
     next = left.next ∙ s.next;
     most = s.most;
@@ -248,44 +221,28 @@ module _ {order : List Entry} {len made : ℕ} {me : Knowing} (s : Stands order 
 
   -- Cuts at the front
 
-  pub raise_parts : (place : ℕ) → place < len
-      → (dropped : List Listed) × (x : Listed) × (others : List Listed) × (list_of me ≡ dropped ++ x ∷ others) × (x.entry.number ≡ (get_or order place no_entry).number)
-  raise_parts place lt =
-      let size = size_of_list in (
-        take place (list_of me),
-        get_or (list_of me) place unlisted,
-        drop (place + 1) (list_of me),
-        sym (take-append-drop place (list_of me)) ∙ ap (λ (l : List Listed). take place (list_of me) ++ l) (drop_more (list_of me) place unlisted (omega arith)),
-        ap (λ (e : Entry). e.number) (entry_got place lt),
-      )
-
-  pub kept_is : (place : ℕ) (dropped : List Listed) (x : Listed) (others : List Listed) → place < len
-      → list_of me ≡ dropped ++ x ∷ others → x.entry.number ≡ (get_or order place no_entry).number → x ∷ others ≡ drop place (list_of me)
-  kept_is place dropped x others lt is number =
+  pub raised_is : (place n : ℕ) → place < len → n ≡ (get_or order place no_entry).number → (raised_to n (owner_of me.0)).list ≡ drop place (list_of me)
+  raised_is place n lt is =
       let size = size_of_list in
-      let count = count_of_records in
-      let n = ap length is ∙ length-append dropped (x ∷ others) in
-      let inside : length dropped < length (list_of me) = omega arith in
-      let at : record_at (records_of me) (length dropped) ≡ numbered x
-      = get_or-map numbered (list_of me) (length dropped) x no_record inside ∙ ap numbered (ap (λ (l : List Listed). get_or l (length dropped) x) is ∙ get_or_at dropped x others x (length dropped) refl) in
-      let same : length dropped ≡ place = one_place (records_of me) made (length dropped) place s.rise (omega arith) (omega arith)
-      (ap (λ (r : Numbered). r.number) at ∙ number ∙ number_here place lt) in
-      sym (ap (λ (l : List Listed). drop (length dropped) l) is ∙ drop_front dropped (x ∷ others)) ∙ ap (λ (k : ℕ). drop k (list_of me)) same
+      let at : n ≡ (record_at (records_of me) place).number = is ∙ number_here place lt in
+      (λ j. filter (λ (x : Listed). nat_le (at j) x.entry.number) (list_of me)) ∙ from_place (list_of me) made place s.rise (omega arith)
 
-  pub raised_stands : (next_spares place left : ℕ) (after : Knowing) (kept : List Listed) → place < len → left ≡ len - place → len ≤ next_spares → next_spares ≤ length order
-      → kept ≡ drop place (list_of me) → IsOrder (retired next_spares place order) → after ≡ (Owns (with_raised kept (owner_of me.0)), []) → Stands (retired next_spares place order) left made after
-  raised_stands next_spares place left after kept lt at le inside is turned new =
+  pub raised_stands : (next_spares place left n : ℕ) (after : Knowing) → place < len → left ≡ len - place → len ≤ next_spares → next_spares ≤ length order
+      → n ≡ (get_or order place no_entry).number → IsOrder (retired next_spares place order) → after ≡ (Owns (raised_to n (owner_of me.0)), []) → Stands (retired next_spares place order) left made after
+  raised_stands next_spares place left n after lt at le inside number turned new =
       let sum : left + place ≡ len = omega arith in
       let size = length-take next_spares order in
+      let list = (raised_to n (owner_of me.0)).list in
+      let is = raised_is place n lt number in
       subst (Stands (retired next_spares place order) left made) (sym new) (record {
         seat = refl;
         order_is = turned;
-        list = ap (map entry_of) is ∙ sym (drop-map entry_of place (list_of me)) ∙ ap (drop place) (s.list ∙ sym (take_less order len next_spares le))
+        list = ap (map entry_of) is ∙ sym (drop-map entry_of place (list_of me)) ∙ ap (drop place) (s.list ∙ sym (take-take len next_spares order le))
             ∙ window place left len (take next_spares order) (take place (take next_spares order) ++ drop next_spares order) sum (omega arith);
         few = (let r = s.few in omega arith);
         next = s.next;
         most = s.most;
-        rise = subst (λ (l : List Numbered). NumbersRise l made) (sym (raised_records (list_of me) kept place is)) (rise_drop (records_of me) made place s.rise);
+        rise = subst (λ (l : List Numbered). NumbersRise l made) (sym (raised_records (list_of me) list place is)) (rise_drop (records_of me) made place s.rise);
         remembered = s.remembered;
       })
 

@@ -1,6 +1,7 @@
 -- From what a step tells to what the owner's functions say.
-use Rattle.std.proofs.Common.{◌≡◌, ℕ, ◌+◌, ◌*◌, ◌<◌, ◌⊎◌, List, [], ◌∷◌, ◌++◌, length, sym, ap, ◌∙◌, subst, arith, Some, None}
+use Rattle.std.proofs.Common.{◌≡◌, ℕ, ◌+◌, ◌-◌, ◌*◌, ◌<◌, ◌⊎◌, List, [], ◌∷◌, ◌++◌, length, sym, ap, ◌∙◌, subst, arith, Some, None}
 use Rattle.std.specs.Prelude.{Contains}
+use Rattle.std.proofs.lemmas.List.{take_all, take_more}
 use Rattle.atomic_table.specs.Table.{rest, Allows}
 use Rattle.dym_base.specs.declared.limits.TheConstants.{RECORD_ROOM}
 use Rattle.dym_slots.specs.declared.machine.Slot.{Slot}
@@ -10,7 +11,7 @@ use Rattle.dym_slots.specs.SlotWords.{slot_word}
 use Rattle.dym_slots.specs.declared.view.Listed.{Listed}
 use Rattle.dym_slots.specs.declared.view.SeatView.{SeatView}
 use Rattle.dym_slots.specs.declared.view.SeatView.TheVariants.{Owns}
-use Rattle.dym_slots.specs.SeatViews.{owner_of, holding, with_put, lowered}
+use Rattle.dym_slots.specs.SeatViews.{owner_of, holding, with_put, lowered, no_listed, newest_of, older_of, newest_freed}
 use Rattle.dym_slots.specs.TableStates.{Held, Knowing, Holds}
 use Rattle.dym_slots.specs.Moves.{HasOut, OwnerLooked, LookedAt, Claimed, TookOwn, TookRetired, Won, Lost, IsUnlisted, WasPut, WasLowered, FreedNewest, IsBytesOf}
 use Rattle.dym_slots.proofs.OwnerMoves.{puts, lowers, frees}
@@ -86,9 +87,18 @@ lowered_by me mid after s new is r =
     let at : r.slot ≡ s = same_slot s r.slot r.at in
     r.after_is ∙ (λ j. (Owns (lowered (at j) (owner_of (is j).0)), []))
 
-pub frees_by : (count slots id : ℕ) (me : Knowing) (s word : ℕ) → word ≡ slot_word Free → HasOut s None me
-    → ((older : List Listed) × (x : Listed) × ((owner_of me.0).list ≡ older ++ x ∷ []) × (0 < length older) × (x.entry.slot ≡ s)) → s < count
-    → Allows (Holds count) slots id me (s + 1) (λ _. word) (λ _ after. FreedNewest (s + 1) me after)
-frees_by count slots id me s word w has (older, x, list, some_older, at) inside =
+newest_last : (list : List Listed) → 0 < length list → list ≡ older_of list ++ newest_of list ∷ []
+newest_last list some =
+    sym (take_all (length list - 1 + 1) list (omega arith)) ∙ take_more list (length list - 1) no_listed (omega arith)
+
+pub frees_by : (count slots id : ℕ) (me : Knowing) (s word : ℕ) → word ≡ slot_word Free → HasOut s None me → 1 < length (owner_of me.0).list
+    → (newest_of (owner_of me.0).list).entry.slot ≡ s → s < count → Allows (Holds count) slots id me (s + 1) (λ _. word) (λ _ after. FreedNewest (s + 1) me after)
+frees_by count slots id me s word w has more at inside =
+    let x = newest_of (owner_of me.0).list in
     subst (λ (p : ℕ × ℕ). Allows (Holds count) slots id me (p.0 + 1) (λ _. p.1) (λ _ after. FreedNewest (p.0 + 1) me after)) (λ j. (at j, sym w j))
-    (frees count slots id me older x list some_older (subst (λ (t : ℕ). HasOut t None me) (sym at) has) (subst (λ (t : ℕ). t < count) (sym at) inside))
+    (frees count slots id me x (newest_last (owner_of me.0).list (omega arith)) more (subst (λ (t : ℕ). HasOut t None me) (sym at) has) (subst (λ (t : ℕ). t < count) (sym at) inside))
+
+pub freed_by : (me after : Knowing) (s : ℕ) → FreedNewest (s + 1) me after → after ≡ (Owns (newest_freed s (owner_of me.0)), [])
+freed_by me after s r =
+    let at : r.slot ≡ s = same_slot s r.slot r.at in
+    r.after_is ∙ (λ j. (Owns (newest_freed (at j) (owner_of me.0)), []))

@@ -1,6 +1,6 @@
 -- What each kind of step on a log table tells the seat that takes it: of the word, of the seat before, of the number found
 -- and of the seat after.
-use Rattle.std.specs.Prelude.{◌≡◌, ◌≢◌, ℕ, ◌+◌, ◌<◌, ◌≤◌, ◌⊎◌, List, [], ◌∷◌, ◌++◌, Some, None, Contains, Bool, false, if◌then◌else◌}
+use Rattle.std.specs.Prelude.{◌≡◌, ◌≢◌, ℕ, ◌+◌, ◌<◌, ◌≤◌, ◌⊎◌, List, [], ◌∷◌, Some, None, Contains, Bool, false, if◌then◌else◌}
 use Rattle.dym_base.specs.declared.limits.TheConstants.{LOG_SLOTS, LOG_WORDS}
 use Rattle.dym_slots.specs.declared.machine.Slot.{Slot}
 use Rattle.dym_slots.specs.declared.machine.Slot.TheVariants.{Free, Live, OutOwner, OutSweeper}
@@ -11,7 +11,7 @@ use Rattle.atomic_table.specs.Seated.{TableId}
 use Rattle.dym_slots.specs.declared.view.Listed.{Listed}
 use Rattle.dym_slots.specs.declared.view.OwnerSeat.{OwnerSeat}
 use Rattle.dym_slots.specs.declared.view.SeatView.TheVariants.{Owns, Sweeps}
-use Rattle.dym_slots.specs.SeatViews.{glimpse, owner_of, sweeper_of, IsOwner, IsSweeper, looked, holding, with_put, lowered, with_freed, with_raised, with_root, glanced, grabbed, with_taken_back}
+use Rattle.dym_slots.specs.SeatViews.{glimpse, owner_of, sweeper_of, IsOwner, IsSweeper, looked, holding, with_put, lowered, newest_freed, raised_to, with_root, glanced, grabbed, with_taken_back}
 use Rattle.dym_slots.specs.TableStates.{Held, Knowing}
 
 -- a seat of this table, which has the words and the slots of a log table
@@ -104,18 +104,13 @@ pub record WasLowered (word : ℕ) (me : Knowing) (after : Knowing) : Type 0 whe
 
 -- the newest entry's slot becomes Free
 pub record FreedNewest (word : ℕ) (me : Knowing) (after : Knowing) : Type 0 where
-  pub older : List Listed
-  pub newest : Listed
-  pub list : (owner_of me.0).list ≡ older ++ newest ∷ []
-  pub after_is : after ≡ (Owns (with_freed newest.entry.slot older (owner_of me.0)), [])
+  pub slot : ℕ
+  pub at : word ≡ slot + 1
+  pub after_is : after ≡ (Owns (newest_freed slot (owner_of me.0)), [])
 
 -- the root becomes the number of an entry
-pub record Raised (me : Knowing) (n : ℕ) (after : Knowing) : Type 0 where
-  pub dropped : List Listed
-  pub kept : List Listed
-  pub list : (owner_of me.0).list ≡ dropped ++ kept
-  pub first : (x : Listed) × (others : List Listed) × (kept ≡ x ∷ others) × (x.entry.number ≡ n)
-  pub after_is : after ≡ (Owns (with_raised kept (owner_of me.0)), me.1)
+abbrev pub Raised : Knowing → ℕ → Knowing → Type 0
+Raised me n after = after ≡ (Owns (raised_to n (owner_of me.0)), me.1)
 
 -- The sweeper
 

@@ -1,5 +1,5 @@
 -- How the owner keeps the slots of its table: those of its list first, oldest first, and then the others.
-use Rattle.std.specs.Prelude.{◌≡◌, ◌≢◌, ℕ, ◌<◌, ◌≤◌, List, [], ◌∷◌, ◌++◌, map, take, drop, length, slice_index_or, All, AllPairs}
+use Rattle.std.specs.Prelude.{◌≡◌, ◌≢◌, ℕ, ◌<◌, ◌≤◌, List, [], ◌++◌, map, take, drop, length, slice_index_or, All, AllPairs}
 use Rattle.dym_base.specs.declared.limits.TheConstants.{LOG_SLOTS, RECORD_ROOM}
 use Rattle.dym_slots.specs.declared.machine.Entry.{Entry}
 use Rattle.dym_slots.specs.declared.machine.TheConstants.{RECORD_NUMBERS}
@@ -54,11 +54,3 @@ pub record HasLeft (list : List Listed) (me after : Knowing) : Type 0 where
   pub list_is : (owner_of after.0).list ≡ list
   pub next : (owner_of after.0).next ≡ (owner_of me.0).next
   pub remembered : (owner_of after.0).remembered ≡ (owner_of me.0).remembered
-
--- the newest entry of a list that has an older one
-pub record IsNewest (e : Entry) (list : List Listed) : Type 0 where
-  pub older : List Listed
-  pub newest : Listed
-  pub list_is : list ≡ older ++ newest ∷ []
-  pub entry_is : newest.entry ≡ e
-  pub some_older : 0 < length older

@@ -1,6 +1,6 @@
 -- What the seats of a running log table know, and how it shows the views of the machine. A record stands in the owner's
 -- list with its bytes.
-use Rattle.std.specs.Prelude.{◌≡◌, ℕ, ◌+◌, max, List, [], ◌∷◌, ◌++◌, map, Option, Some, None, option_map, nat_eq, if◌then◌else◌}
+use Rattle.std.specs.Prelude.{◌≡◌, ℕ, ◌+◌, ◌-◌, max, List, [], ◌∷◌, ◌++◌, map, filter, take, length, slice_index_or, Option, Some, None, option_map, nat_eq, nat_le, if◌then◌else◌}
 use Rattle.dym_slots.specs.declared.machine.Slot.{Slot}
 use Rattle.dym_slots.specs.declared.machine.Entry.{Entry}
 use Rattle.dym_slots.specs.Slots.{OwnerView, SweeperView, entry}
@@ -104,13 +104,24 @@ with_put s bytes o = record {
 abbrev pub lowered : ℕ → OwnerSeat → OwnerSeat
 lowered s o = record o { out = None; look = past s o.look }
 
--- after the slot s became Free, with this list left
-abbrev pub with_freed : ℕ → List Listed → OwnerSeat → OwnerSeat
-with_freed s list o = record o { list = list; out = None; look = past s o.look }
+-- what stands at a place past the end
+abbrev pub no_listed : Listed
+no_listed = record { entry = entry 0 0; bytes = [] }
 
--- after a raise, with this list left
-abbrev pub with_raised : List Listed → OwnerSeat → OwnerSeat
-with_raised list o = record o { list = list }
+-- the newest entry of a list, and those before it
+abbrev pub newest_of : List Listed → Listed
+newest_of list = slice_index_or list (length list - 1) no_listed
+
+abbrev pub older_of : List Listed → List Listed
+older_of list = take (length list - 1) list
+
+-- after the newest entry's slot s became Free: the older entries are left
+abbrev pub newest_freed : ℕ → OwnerSeat → OwnerSeat
+newest_freed s o = record o { list = older_of o.list; out = None; look = past s o.look }
+
+-- after a raise to the number n: the entries from that number on are left, as the machine's `from_number` leaves them
+abbrev pub raised_to : ℕ → OwnerSeat → OwnerSeat
+raised_to n o = record o { list = filter (λ x. nat_le n x.entry.number) o.list }
 
 -- The sweeper's steps
 

@@ -1,13 +1,12 @@
 //! What the owner does.
-ghost use Rattle.std.specs.Prelude.{◌≡◌, ℕ, ◌+◌, ◌<◌, ◌≤◌, List, [], ◌∷◌, ◌++◌, None, Some, length, take};
+ghost use Rattle.std.specs.Prelude.{◌≡◌, ℕ, ◌+◌, ◌<◌, ◌≤◌, None, Some, length, take};
 ghost use Rattle.dym_base.specs.Origins.{shared};
 ghost use Rattle.dym_base.specs.declared.limits.TheConstants.{LOG_SLOTS, RECORD_ROOM, COUNT_LIMIT};
 ghost use Rattle.dym_slots.specs.declared.machine.TheConstants.{RECORD_NUMBERS};
-ghost use Rattle.dym_slots.specs.declared.view.Listed.{Listed};
-ghost use Rattle.dym_slots.specs.SeatViews.{owner_of};
+ghost use Rattle.dym_slots.specs.SeatViews.{owner_of, newest_of, older_of};
 ghost use Rattle.dym_slots.specs.Moves.{SitsAt, IsIdleOwner, Seized};
 ghost use Rattle.dym_slots.specs.Meanings.{record_at, with_record, up_to, from, first_number, NumbersRise};
-ghost use Rattle.dym_slots.specs.Orders.{Stands, slot_at, HasLeft, IsNewest, retired};
+ghost use Rattle.dym_slots.specs.Orders.{Stands, slot_at, HasLeft, retired};
 ghost use Rattle.std.specs.List.Sorted.{IsPermutation};
 
 use crate::machine::Entry;
@@ -175,13 +174,12 @@ fn drop_down(table: &Slots, seat: &mut LogSeat, order: &Vec<Entry>, len: u32, ke
 fn drop_newest(table: &Slots, seat: &mut LogSeat, newest: Entry)
     requires table { SitsAt table.now.table_id seat.old.table_id }
     requires idle { IsIdleOwner seat.old.me }
-    requires newest { IsNewest newest (owner_of seat.old.me.0).list }
+    requires older { 1 < length (owner_of seat.old.me.0).list }
+    requires newest { (newest_of (owner_of seat.old.me.0).list).entry ≡ newest }
     requires slot { newest.slot < LOG_SLOTS }
     requires number { newest.number < RECORD_NUMBERS }
     ensures table { seat.new.table_id ≡ seat.old.table_id }
-    ensures after { (older : List Listed) × (x : Listed)
-        × ((owner_of seat.old.me.0).list ≡ older ++ x ∷ [])
-        × HasLeft older seat.old.me seat.new.me }
+    ensures after { HasLeft (older_of (owner_of seat.old.me.0).list) seat.old.me seat.new.me }
 {
     drop(take_out(table, seat, newest.slot, newest.number));
     free_newest(table, seat, newest.slot);

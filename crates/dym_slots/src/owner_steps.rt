@@ -1,11 +1,10 @@
 //! The owner's steps on a log table, and what it does by several of them. Each atomic step is one step of the machine.
-ghost use Rattle.std.specs.Prelude.{◌≡◌, ◌≢◌, ℕ, ◌<◌, ◌⊎◌, List, [], ◌∷◌, ◌++◌, length, Some, None, IsTrue, IsFalse};
+ghost use Rattle.std.specs.Prelude.{◌≡◌, ◌≢◌, ℕ, ◌<◌, ◌⊎◌, [], ◌∷◌, length, Some, None, IsTrue, IsFalse};
 ghost use Rattle.dym_base.specs.declared.limits.TheConstants.{LOG_SLOTS, RECORD_ROOM};
 ghost use Rattle.dym_slots.specs.declared.machine.TheConstants.{RECORD_NUMBERS};
 ghost use Rattle.dym_slots.specs.declared.machine.Slot.TheVariants.{Live};
-ghost use Rattle.dym_slots.specs.declared.view.Listed.{Listed};
 ghost use Rattle.dym_slots.specs.declared.view.SeatView.TheVariants.{Owns};
-ghost use Rattle.dym_slots.specs.SeatViews.{glimpse, owner_of, IsOwner, holding, with_put, lowered, with_freed, with_raised};
+ghost use Rattle.dym_slots.specs.SeatViews.{glimpse, owner_of, IsOwner, holding, with_put, lowered, newest_of, newest_freed, raised_to};
 ghost use Rattle.dym_slots.specs.TableStates.{Held};
 ghost use Rattle.dym_slots.specs.Moves.{SitsAt, IsIdleOwner, HasOut, LookedAt, IsKnownFree, Won, Lost, IsUnlisted, Seized, Missed, HasEntry, IsBytesOf};
 
@@ -184,13 +183,10 @@ pub(crate) fn free_newest(table: &Slots, seat: &mut LogSeat, slot: u32)
     requires table { SitsAt table.now.table_id seat.old.table_id }
     requires held { HasOut slot None seat.old.me }
     requires slot { slot < LOG_SLOTS }
-    requires newest { (older : List Listed) × (x : Listed)
-        × ((owner_of seat.old.me.0).list ≡ older ++ x ∷ [])
-        × (0 < length older) × (x.entry.slot ≡ slot) }
+    requires older { 1 < length (owner_of seat.old.me.0).list }
+    requires newest { (newest_of (owner_of seat.old.me.0).list).entry.slot ≡ slot }
     ensures table { seat.new.table_id ≡ seat.old.table_id }
-    ensures after { (older : List Listed) × (x : Listed)
-        × ((owner_of seat.old.me.0).list ≡ older ++ x ∷ [])
-        × (seat.new.me ≡ (Owns (with_freed x.entry.slot older (owner_of seat.old.me.0)), [])) }
+    ensures after { seat.new.me ≡ (Owns (newest_freed slot (owner_of seat.old.me.0)), []) }
 {
     table.store::<Frees>(seat, slot as usize + 1, Slot::Free.word());
 }
@@ -199,13 +195,10 @@ pub(crate) fn free_newest(table: &Slots, seat: &mut LogSeat, slot: u32)
 pub(crate) fn raise_root(table: &Slots, seat: &mut LogSeat, number: u64)
     requires table { SitsAt table.now.table_id seat.old.table_id }
     requires idle { IsIdleOwner seat.old.me }
-    requires listed { (dropped : List Listed) × (x : Listed) × (others : List Listed)
-        × ((owner_of seat.old.me.0).list ≡ dropped ++ x ∷ others) × (x.entry.number ≡ number) }
+    requires listed { (slot : ℕ) × HasEntry slot number (owner_of seat.old.me.0) }
     ensures table { seat.new.table_id ≡ seat.old.table_id }
-    ensures after { (dropped : List Listed) × (x : Listed) × (others : List Listed)
-        × ((owner_of seat.old.me.0).list ≡ dropped ++ x ∷ others) × (x.entry.number ≡ number)
-        × (seat.new.me
-        ≡ (Owns (with_raised (x ∷ others) (owner_of seat.old.me.0)), seat.old.me.1)) }
+    ensures after { seat.new.me
+        ≡ (Owns (raised_to number (owner_of seat.old.me.0)), seat.old.me.1) }
 {
     table.store::<Raises>(seat, 0, number);
 }
