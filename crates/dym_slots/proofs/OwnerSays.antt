@@ -3,6 +3,7 @@ use Rattle.std.proofs.Common.{◌≡◌, ◌≢◌, ℕ, zero, suc, ◌+◌, ◌
 use Rattle.std.specs.List.{swap, filter}
 use Rattle.std.specs.Prelude.{nat_le}
 use Rattle.std.proofs.lemmas.List.{length-map, length-take, map-append, take-map, drop-map, take-set-le, take-take, take-append-le, get_or-map, get_or-take, get_or-set_same, get_or-set_other, get_or_read}
+use Rattle.std.proofs.lemmas.List.Elements.{Contains-get_or}
 use Rattle.std.proofs.lemmas.Grind.{take-set_at}
 use Rattle.std.proofs.lemmas.List.Edits.{swap_is}
 use Rattle.dym_base.specs.declared.limits.TheConstants.{LOG_SLOTS, RECORD_ROOM}
@@ -10,6 +11,7 @@ use Rattle.dym_slots.specs.declared.machine.Entry.{Entry}
 use Rattle.dym_slots.specs.declared.machine.TheConstants.{RECORD_NUMBERS}
 use Rattle.dym_slots.specs.Slots.{entry}
 use Rattle.dym_slots.specs.declared.view.Listed.{Listed}
+use Rattle.dym_slots.specs.declared.view.OwnerSeat.{OwnerSeat}
 use Rattle.dym_slots.specs.declared.view.SeatView.TheVariants.{Owns}
 use Rattle.dym_slots.specs.SeatViews.{owner_of, with_put, raised_to, holding, no_listed, newest_of, older_of}
 use Rattle.dym_slots.specs.TableStates.{Held, Knowing}
@@ -46,6 +48,11 @@ window (suc n) m (suc len) (x ∷ xs) ys e le = window n m len xs ys (omega arit
 
 pub raised_records : (list kept : List Listed) (place : ℕ) → kept ≡ drop place list → map numbered kept ≡ drop place (map numbered list)
 raised_records list kept place is = ap (map numbered) is ∙ sym (drop-map numbered place list)
+
+-- the newest entry is one of the list
+pub newest_listed : (o : OwnerSeat) (e : Entry) → 1 < length o.list → (newest_of o.list).entry ≡ e → HasEntry e.slot e.number o
+newest_listed o e more is =
+    (newest_of o.list, Contains-get_or o.list (length o.list - 1) no_listed (omega arith), ap (λ (x : Entry). x.slot) is, ap (λ (x : Entry). x.number) is)
 
 module _ {order : List Entry} {len made : ℕ} {me : Knowing} (s : Stands order len made me) where
   -- a list is shorter than the table

@@ -171,6 +171,7 @@ fn drop_down(table: &Slots, seat: &mut LogSeat, order: &Vec<Entry>, len: u32, ke
 }
 
 /// Removes the newest entry, and gives its record's memory back.
+#[tactic(auto, using(crate::proofs::OwnerSays::newest_listed))]
 fn drop_newest(table: &Slots, seat: &mut LogSeat, newest: Entry)
     requires table { SitsAt table.now.table_id seat.old.table_id }
     requires idle { IsIdleOwner seat.old.me }
