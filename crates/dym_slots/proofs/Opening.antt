@@ -4,8 +4,6 @@ use Rattle.std.specs.Prelude.{zip}
 use Rattle.std.specs.List.{range_with_len}
 use Rattle.std.proofs.lemmas.List.FromFn.{get_or-map-range_with_len, length-map-range_with_len}
 use Rattle.dym_base.specs.declared.limits.TheConstants.{LOG_SLOTS}
-use Rattle.dym_slots.specs.declared.machine.Entry.{Entry}
-use Rattle.dym_slots.specs.Slots.{entry}
 use Rattle.dym_slots.specs.Orders.{IsOrder}
 use Rattle.std.proofs.lemmas.List.{length-replicate}
 use mathlib.Core.Option as M
@@ -71,15 +69,15 @@ splits count id v alone st (inr (a, records, shows, sound)) at =
     absurd (no_alone _ _ shows.notes id (ap (λ (l : List SeatView). get_elem? l id) (sym shows.views) ∙ at ∙ ap some alone))
 
 -- all slots in their order
-pub all_order : (order : List Entry) (n : ℕ) → n ≡ LOG_SLOTS → order ≡ map (λ s. entry s 0) (range_with_len 0 n) → IsOrder order
+pub all_order : (order : List ℕ) (n : ℕ) → n ≡ LOG_SLOTS → order ≡ map (λ s. s) (range_with_len 0 n) → IsOrder order
 all_order order n size is =
-    let at : (k : ℕ) (d : Entry) → k < n → get_or order k d ≡ entry k 0 = λ k d lt.
-    ap (λ (l : List Entry). get_or l k d) is ∙ get_or-map-range_with_len (λ s. entry s 0) 0 n k k d lt (omega arith) in
-    let len : length order ≡ n = ap length is ∙ length-map-range_with_len (λ (s : ℕ). entry s 0) 0 n in
+    let at : (k : ℕ) (d : ℕ) → k < n → get_or order k d ≡ k = λ k d lt.
+    ap (λ (l : List ℕ). get_or l k d) is ∙ get_or-map-range_with_len (λ s. s) 0 n k k d lt (omega arith) in
+    let len : length order ≡ n = ap length is ∙ length-map-range_with_len (λ (s : ℕ). s) 0 n in
     record {
       size = len ∙ size;
-      inside = λ k d lt. subst (λ (e : Entry). e.slot < LOG_SLOTS) (sym (at k d (omega arith))) (let b : k < n = omega arith in subst (λ (m : ℕ). k < m) size b);
+      inside = λ k d lt. subst (λ (s : ℕ). s < LOG_SLOTS) (sym (at k d (omega arith))) (let b : k < n = omega arith in subst (λ (m : ℕ). k < m) size b);
       differ = λ i j d lt within e.
-          let same : i ≡ j = ap (λ (x : Entry). x.slot) (sym (at i d (omega arith))) ∙ e ∙ ap (λ (x : Entry). x.slot) (at j d (omega arith)) in
+          let same : i ≡ j = sym (at i d (omega arith)) ∙ e ∙ at j d (omega arith) in
           omega arith;
     }

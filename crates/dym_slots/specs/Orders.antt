@@ -11,20 +11,17 @@ use Rattle.dym_slots.specs.declared.view.OwnerSeat.{OwnerSeat}
 use Rattle.dym_slots.specs.Meanings.{Numbered, NumbersRise, first_number}
 
 -- each slot of the table stands once in the order
-pub record IsOrder (order : List Entry) : Type 0 where
+pub record IsOrder (order : List ℕ) : Type 0 where
   pub size : length order ≡ LOG_SLOTS
-  pub inside : All (λ e. e.slot < LOG_SLOTS) order
-  pub differ : AllPairs (λ a b. a.slot ≢ b.slot) order
+  pub inside : All (λ s. s < LOG_SLOTS) order
+  pub differ : AllPairs (λ a b. a ≢ b) order
 
--- what stands at a place past the end
-abbrev pub no_entry : Entry
-no_entry = record { slot = 0; number = 0 }
+-- the slot at a place of the order
+abbrev pub slot_at : List ℕ → ℕ → ℕ
+slot_at order place = slice_index_or order place 0
 
-abbrev pub slot_at : List Entry → ℕ → ℕ
-slot_at order place = (slice_index_or order place no_entry).slot
-
--- the order after the first entries moved behind the others of the first so many
-abbrev pub retired : ℕ → ℕ → List Entry → List Entry
+-- the order after the first slots moved behind the others of the first so many
+abbrev pub retired : ℕ → ℕ → List ℕ → List ℕ
 retired next_spares place order = drop place (take next_spares order) ++ (take place (take next_spares order) ++ drop next_spares order)
 
 abbrev pub numbered : Listed → Numbered
@@ -33,12 +30,19 @@ numbered x = record { number = x.entry.number; bytes = x.bytes }
 abbrev pub entry_of : Listed → Entry
 entry_of x = x.entry
 
--- the order, the length of the list and the next number say what the owner's seat knows
-pub record Stands (order : List Entry) (len made : ℕ) (me : Knowing) : Type 0 where
+abbrev pub slot_of : Listed → ℕ
+slot_of x = x.entry.slot
+
+abbrev pub number_of : Listed → ℕ
+number_of x = x.entry.number
+
+-- the order of the slots, the numbers of the list and the next number say what the owner's seat knows
+pub record Stands (order numbers : List ℕ) (made : ℕ) (me : Knowing) : Type 0 where
   pub seat : IsOwner me.0
   pub order_is : IsOrder order
-  pub list : map entry_of (owner_of me.0).list ≡ take len order
-  pub few : len ≤ RECORD_ROOM
+  pub slots : map slot_of (owner_of me.0).list ≡ take (length numbers) order
+  pub numbers_are : map number_of (owner_of me.0).list ≡ numbers
+  pub few : length numbers ≤ RECORD_ROOM
   pub next : (owner_of me.0).next ≡ made
   pub most : made ≤ RECORD_NUMBERS
   pub rise : NumbersRise (map numbered (owner_of me.0).list) made

@@ -3,11 +3,10 @@ ghost use Rattle.std.specs.Prelude.{◌≡◌, [], None, IfOk};
 ghost use Rattle.dym_base.specs.Origins.{shared};
 ghost use Rattle.dym_slots.specs.Orders.{IsOrder};
 
-use crate::machine::Entry;
 use crate::owner::Owner;
 use crate::rule::{Ends, LogTable};
 use crate::sweeper::Sweeper;
-use dym_base::limits::{LOG_SLOTS, LOG_WORDS};
+use dym_base::limits::{LOG_SLOTS, LOG_WORDS, RECORD_ROOM};
 use std::alloc::{AllocError, Global};
 use std::sync::Arc;
 
@@ -37,6 +36,7 @@ impl LogSlots {
         }) }
     {
         let order = all_slots(alloc)?;
+        let numbers = Vec::with_capacity(alloc, RECORD_ROOM as usize)?;
         let (table, mut seat) = LogTable::vacant(
             alloc,
             &[0; TABLE_WORDS],
@@ -50,7 +50,7 @@ impl LogSlots {
             table,
             seat,
             order,
-            len: 0,
+            numbers,
             made: 0,
             lifted: None,
         };
@@ -63,12 +63,12 @@ impl LogSlots {
 }
 
 /// All slots of a table, in their order.
-fn all_slots(alloc: Global) -> Result<Vec<Entry>, AllocError>
+fn all_slots(alloc: Global) -> Result<Vec<u16>, AllocError>
     ensures { IfOk result (λ order. IsOrder order.items) }
 {
     let mut order = Vec::with_capacity(alloc, LOG_SLOTS as usize)?;
     for slot in 0..LOG_SLOTS {
-        order.push_reserved(Entry { slot, number: 0 });
+        order.push_reserved(slot as u16);
     }
     Ok(order)
 }

@@ -1,5 +1,4 @@
 //! The end of a log table that keeps its records.
-use crate::machine::Entry;
 use crate::rule::{LogSeat, LogTable};
 use std::alloc::Global;
 use std::marker::Model;
@@ -12,8 +11,9 @@ pub struct Owner {
     pub(crate) table: Arc<LogTable, Global>,
     pub(crate) seat: LogSeat,
     // All slots of the table: those of the list, oldest first, and then the others, in the order in which `put` takes them.
-    pub(crate) order: Vec<Entry>,
-    pub(crate) len: u32,
+    pub(crate) order: Vec<u16>,
+    // The numbers of the list's records, oldest first.
+    pub(crate) numbers: Vec<u64>,
     pub(crate) made: u64,
     pub(crate) lifted: Option<u32>,
 }

@@ -1,7 +1,6 @@
 use Rattle.std.proofs.Common.{arith, ◌∙◌, sym, ◌++◌, ◌∷◌, [], ◌≡◌}
 use Rattle.std.proofs.lemmas.List.FromFn.{map-range_with_len_more}
 use Rattle.dym_base.specs.declared.limits.TheConstants.{LOG_SLOTS}
-use Rattle.dym_slots.specs.Slots.{entry}
 use Rattle.dym_slots.proofs.Opening.{all_order}
 use Rattle.dym_slots.proofs.log_slots.all_slots.Goals as goal
 
@@ -10,7 +9,7 @@ loop-slot-preserved c =
     let inv = c.loop-slot.invariant in
     let s = c.loop-slot.slot in
     let p = c.push_reserved.ensures in
-    (p.items ∙ (λ j. inv.0 j ++ entry s 0 ∷ []) ∙ sym (map-range_with_len_more (λ n. entry n 0) 0 s s (omega arith)), (let n = p.len in omega arith), (let n = p.capacity in omega arith))
+    (p.items ∙ (λ j. inv.0 j ++ s ∷ []) ∙ sym (map-range_with_len_more (λ n. n) 0 s s (omega arith)), (let n = p.len in omega arith), (let n = p.capacity in omega arith))
 
 pub returns : goal.returns
 returns c =

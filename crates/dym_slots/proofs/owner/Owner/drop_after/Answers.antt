@@ -6,12 +6,6 @@ use Rattle.dym_slots.specs.Orders.{numbered}
 use Rattle.dym_slots.proofs.OwnerSays.{count_of_records, in_list, cut_stands, cut_records, sits_still, idle_out, never_inside}
 use Rattle.dym_slots.proofs.owner.Owner.drop_after.Goals as goal
 
-pub overflow_add-kept : goal.overflow_add-kept
-overflow_add-kept c =
-    let lt = in_list c.args.place c.self.view_is (count_of_records c.self.invariant.stands) c.requires.place in
-    let few = c.self.invariant.stands.few in
-    omega arith
-
 pub invariant_of-self : goal.invariant_of-self
 invariant_of-self c =
     let i = c.self.inside in
@@ -22,8 +16,9 @@ invariant_of-self c =
     let left = c.drop_down.ensures.after in
     record {
       seated = sits_still c.drop_down.ensures.table inv.seated;
-      stands = cut_stands s (c.args.place + 1) _ (omega arith) left;
-      inside = never_inside (c.args.place + 1) quiet;
+      stands = cut_stands s _ (c.args.place + 1) _ (omega arith) c.truncate.ensures.items left;
+      room = (let cap = c.truncate.ensures.capacity in let old = inv.room in omega arith);
+      inside = never_inside _ quiet;
       out = idle_out _ _ quiet left.idle.none left.idle.empty;
     }
 
