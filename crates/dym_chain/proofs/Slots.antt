@@ -1,4 +1,4 @@
--- The records of a vector's slots: one more, one out, one back, and those before or after a place gone.
+-- The records of a queue's slots: one more, one out, one back, and those before or after a place gone.
 use Rattle.std.proofs.Common.{◌≡◌, ℕ, zero, suc, ◌+◌, ◌<◌, ◌≤◌, inl, inr, Option, Some, None, IsSome, List, [], ◌∷◌, ◌++◌, length, map, take, drop, get_or, unwrap_or, refl, sym, ap, subst, ◌∙◌, arith, length-append}
 use Rattle.std.proofs.Math.ListN.{set, length-set}
 use Rattle.std.proofs.Math.Seq.{map-set_same}

@@ -1,4 +1,4 @@
--- How a vector keeps records: each in its slot, but for the one that is out.
+-- How a queue keeps records: each in its slot, but for the one that is out.
 use Rattle.std.specs.Prelude.{◌≡◌, ℕ, ◌<◌, ◌≤◌, List, [], map, length, slice_index_or, unwrap_or, option_map, Option, None, Some, IsSome}
 use Rattle.dym_base.specs.Origins.{own}
 use Rattle.dym_base.specs.declared.limits.TheConstants.{RECORD_ROOM}

@@ -1,9 +1,9 @@
 //! The logs of one object.
-ghost use Rattle.std.specs.Prelude.{◌≡◌, ℕ, ◌+◌, ◌-◌, ◌<◌, ◌≤◌, None, [], ◌∷◌, ◌++◌, length, option_map, OnOk, OnErr, IfOk, IfErr};
+ghost use Rattle.std.specs.Prelude.{◌≡◌, ℕ, ◌+◌, ◌-◌, ◌<◌, ◌≤◌, None, [], length, option_map, OnOk, OnErr, IfOk, IfErr};
 ghost use Rattle.dym_base.specs.BaseLogs.{dropped_base_logs};
 ghost use Rattle.dym_base.specs.Heaps.{HeapState};
 ghost use Rattle.dym_base.specs.Objects as Objects;
-ghost use Rattle.dym_base.specs.Objects.{LogEntry, record_of};
+ghost use Rattle.dym_base.specs.Objects.{LogEntry};
 ghost use Rattle.dym_base.specs.declared.command.Version.{Version};
 ghost use Rattle.dym_base.specs.declared.reply.Reply.TheVariants as reply;
 ghost use Rattle.dym_base.specs.declared.limits.TheConstants.{COUNT_LIMIT};
@@ -16,7 +16,7 @@ ghost use Rattle.dym_chain.specs.Lawful.{entry_of};
 ghost use Rattle.dym_chain.specs.Answers.{IsLogAnswer, restored_reply};
 ghost use Rattle.dym_chain.specs.ChainInvariants.{chain_of};
 
-use crate::differences::{drop_difference, keep_difference};
+use crate::differences::keep_difference;
 use crate::entry::Entry;
 use crate::entry_reader::read_entries;
 use crate::ghost_copies::GhostCopies;
@@ -25,6 +25,7 @@ use crate::log_keep::LogKeep;
 use crate::positions::{
     depth_of_next, drop_first, dropped_by, kind_at, newest_of, reached, refusal_of,
 };
+use crate::queue_front::drop_front;
 use crate::record_replay::{fetch_down, mark_logs};
 use dym_base::limits::MOST_KEPT_LOGS;
 use dym_base::{Kind, Refusal};
@@ -32,6 +33,7 @@ use dym_heap::Heap;
 use dym_pack::{Record, pack};
 use dym_quota::Supply;
 use std::alloc::{AllocError, Global};
+use std::collections::VecDeque;
 use std::marker::Model;
 
 /// The logs of one object, over a keep of their records.
@@ -41,7 +43,7 @@ use std::marker::Model;
 pub struct Chain<K: LogKeep> {
     entries: Vec<Entry>,
     /// For each log the record that stands beside its own, as far as there are such. A missing one costs time alone.
-    differences: Vec<Option<Record>>,
+    differences: VecDeque<Option<Record>>,
     pub(crate) keep: K,
     ghost_copies: GhostCopies,
 }
@@ -87,7 +89,7 @@ impl<K: LogKeep> Chain<K> {
         match Vec::with_capacity(alloc, MOST_KEPT_LOGS as usize) {
             Ok(entries) => Ok(Chain {
                 entries,
-                differences: Vec::new(alloc),
+                differences: VecDeque::new(alloc),
                 keep,
                 ghost_copies: GhostCopies::open(),
             }),
@@ -120,7 +122,7 @@ impl<K: LogKeep> Chain<K> {
                 let ghost_copies = GhostCopies::read(&keep, first);
                 Ok(Chain {
                     entries,
-                    differences: Vec::new(alloc),
+                    differences: VecDeque::new(alloc),
                     keep,
                     ghost_copies,
                 })
@@ -245,7 +247,7 @@ impl<K: LogKeep> Chain<K> {
         let depth = u32::from(self.entries[dropped].depth);
         self.keep.raise(base + dropped as u32 - depth);
         drop_first(&mut self.entries, dropped);
-        drop_difference(&mut self.differences, dropped);
+        drop_front(&mut self.differences, dropped);
         self.ghost_copies = self.ghost_copies.cut(dropped, depth as usize);
         dropped as u32
     }

@@ -2,7 +2,7 @@
 //!
 //! A full record doesn't say what its log found touched. So an incremental record of the same moment is kept beside it, which a
 //! restore over the full log reads.
-ghost use Rattle.std.specs.Prelude.{◌≡◌, ℕ, ◌-◌, ◌≤◌, None, Some, List, length, take, drop, IfOk, OnOk, OnErr, MatchOption, ⊤};
+ghost use Rattle.std.specs.Prelude.{◌≡◌, ℕ, ◌-◌, ◌≤◌, None, Some, length, IfOk, OnOk, OnErr, MatchOption, ⊤};
 ghost use Rattle.dym_base.specs.Packed.{packed};
 ghost use Rattle.dym_base.specs.declared.command.Kind.TheVariants.{Inc};
 ghost use Rattle.dym_heap.specs.RecordLoads.{areas_of};
@@ -15,10 +15,11 @@ use dym_heap::Heap;
 use dym_pack::{Record, pack};
 use dym_quota::Supply;
 use std::alloc::{AllocError, Global};
+use std::collections::VecDeque;
 
 /// Puts a record beside that of log `count`, which is taken of this heap, where it is full and not the first.
 pub(crate) fn keep_difference<S: Supply>(
-    differences: &mut Vec<Option<Record>>,
+    differences: &mut VecDeque<Option<Record>>,
     alloc: Global,
     heap: &Heap<S>,
     time: u64,
@@ -35,12 +36,12 @@ pub(crate) fn keep_difference<S: Supply>(
 {
     pad(differences, count)?;
     let found = found_by(alloc, heap, time, depth, count)?;
-    differences.push(found)?;
+    differences.push_back(found)?;
     Ok(())
 }
 
 /// Nothing stands beside logs of which nothing is known, up to log `count`.
-fn pad(differences: &mut Vec<Option<Record>>, count: usize) -> Result<(), AllocError>
+fn pad(differences: &mut VecDeque<Option<Record>>, count: usize) -> Result<(), AllocError>
     requires { length differences.old.items ≤ count }
     ensures same { (k : ℕ)
         → difference_at differences.new.items k ≡ difference_at differences.old.items k }
@@ -48,7 +49,7 @@ fn pad(differences: &mut Vec<Option<Record>>, count: usize) -> Result<(), AllocE
     ensures long { OnOk result (length differences.new.items ≡ count) }
 {
     while differences.len() < count {
-        differences.push(None)?;
+        differences.push_back(None)?;
     }
     Ok(())
 }
@@ -70,12 +71,4 @@ fn found_by<S: Supply>(
     }
     dym_heap::laws::heaps_are_packable();
     Ok(Some(pack(alloc, heap, Kind::Inc, time)?))
-}
-
-/// Drops what stands beside the first `count` logs.
-pub(crate) fn drop_difference(differences: &mut Vec<Option<Record>>, count: usize)
-    ensures { differences.new.items ≡ drop count differences.old.items }
-{
-    let gone = count.min(differences.len());
-    differences.drain(..gone);
 }

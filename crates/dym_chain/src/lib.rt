@@ -19,6 +19,7 @@ pub mod laws;
 mod log_error;
 mod log_keep;
 mod positions;
+mod queue_front;
 mod record_replay;
 mod slot_keep;
 mod vec_keep;

@@ -55,7 +55,9 @@ pub(crate) fn drop_first(entries: &mut Vec<Entry>, count: usize)
     ensures items { entries.new.items ≡ drop count entries.old.items }
     ensures capacity { vec_capacity entries.new ≡ vec_capacity entries.old }
 {
-    entries.drain(..count);
+    let left = entries.len() - count;
+    entries.copy_within(count.., 0);
+    entries.truncate(left);
 }
 
 /// The depth of the log that comes after the newest one.

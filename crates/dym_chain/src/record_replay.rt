@@ -14,12 +14,13 @@ use crate::log_keep::LogKeep;
 use dym_heap::Heap;
 use dym_pack::Record;
 use dym_quota::Supply;
+use std::collections::VecDeque;
 
 /// Each chunk is touched, or has in the heap the bytes that it has in the logs from `kept` up to `count`: what one of their records
 /// packs is touched, or what the record beside it packs.
 pub(crate) fn mark_logs<S: Supply, K: LogKeep>(
     keep: &mut K,
-    differences: &[Option<Record>],
+    differences: &VecDeque<Option<Record>>,
     heap: &mut Heap<S>,
     base: u32,
     kept: usize,
@@ -29,11 +30,11 @@ pub(crate) fn mark_logs<S: Supply, K: LogKeep>(
     requires within { base + count ≤ length (K.meaning keep.old).records }
     requires few { base + count < 65536 }
     requires recorded { (i : ℕ) → kept ≤ i → i < count
-        → IsRecord (unwrap_or (difference_at differences.now i)
+        → IsRecord (unwrap_or (difference_at differences.now.items i)
         (record_at (K.meaning keep.old).records (base + i)).bytes) }
     requires sound { IsSound heap.old }
     ensures marked { (i : ℕ) → kept ≤ i → i < count
-        → OfLog (unwrap_or (difference_at differences.now i)
+        → OfLog (unwrap_or (difference_at differences.now.items i)
         (record_at (K.meaning keep.old).records (base + i)).bytes) (PacksTouched heap.new.state) }
     ensures unmodified { KeepsUnmodified heap.old.state heap.new.state }
     ensures keep { K.meaning keep.new ≡ K.meaning keep.old }
@@ -48,7 +49,7 @@ pub(crate) fn mark_logs<S: Supply, K: LogKeep>(
 /// Each live chunk that the record of log `i` packs, or the one beside it, is touched.
 fn mark_log<S: Supply, K: LogKeep>(
     keep: &mut K,
-    differences: &[Option<Record>],
+    differences: &VecDeque<Option<Record>>,
     heap: &mut Heap<S>,
     base: u32,
     i: usize,
@@ -56,9 +57,9 @@ fn mark_log<S: Supply, K: LogKeep>(
     requires idle { (K.meaning keep.old).lifted ≡ None }
     requires within { base + i < length (K.meaning keep.old).records }
     requires few { base + i < 65536 }
-    requires recorded { IsRecord (unwrap_or (difference_at differences.now i)
+    requires recorded { IsRecord (unwrap_or (difference_at differences.now.items i)
         (record_at (K.meaning keep.old).records (base + i)).bytes) }
-    ensures marked { OfLog (unwrap_or (difference_at differences.now i)
+    ensures marked { OfLog (unwrap_or (difference_at differences.now.items i)
         (record_at (K.meaning keep.old).records (base + i)).bytes) (PacksTouched heap.new.state) }
     ensures unmodified { KeepsUnmodified heap.old.state heap.new.state }
     ensures keep { K.meaning keep.new ≡ K.meaning keep.old }
@@ -77,9 +78,9 @@ fn mark_log<S: Supply, K: LogKeep>(
 }
 
 /// The record that stands beside that of log `i`.
-fn difference_of(differences: &[Option<Record>], i: usize) -> Option<&Record>
-    ensures { MatchOption result (difference_at differences.now i ≡ None)
-        (λ rec. difference_at differences.now i ≡ Some rec.now) }
+fn difference_of(differences: &VecDeque<Option<Record>>, i: usize) -> Option<&Record>
+    ensures { MatchOption result (difference_at differences.now.items i ≡ None)
+        (λ rec. difference_at differences.now.items i ≡ Some rec.now) }
 {
     match differences.get(i) {
         Some(Some(rec)) => Some(rec),

@@ -1,11 +1,13 @@
-//! A keep of records in a vector.
-ghost use Rattle.std.specs.Prelude.{◌≡◌, ◌≤◌, None, [], IfOk};
+//! A keep of records in a queue.
+ghost use Rattle.std.specs.Prelude.{◌≡◌, None, [], IfOk};
 ghost use Rattle.dym_base.specs.Origins.{own};
 
 use crate::log_keep::LogKeep;
+use crate::queue_front::drop_front;
 use dym_base::limits::RECORD_ROOM;
 use dym_pack::Record;
 use std::alloc::{AllocError, Global};
+use std::collections::VecDeque;
 use std::marker::Model;
 use std::snapshot::Snapshot;
 
@@ -26,7 +28,7 @@ pub(crate) struct Lifted {
 /// A keep of records that has room for a full list from its opening on.
 #[derive(Drop)]
 pub struct VecKeep {
-    slots: Vec<Slot>,
+    slots: VecDeque<Slot>,
     made: u64,
     lifted: Option<Lifted>,
 }
@@ -36,13 +38,13 @@ impl Model for VecKeep {
 
     ghost Value = { KeepMeaning };
 
-    ghost use Rattle.std.specs.Prelude.{vec_capacity};
+    ghost use Rattle.std.specs.VecDeque.{deque_capacity};
     ghost use Rattle.dym_chain.specs.VecKeeps.{keep_of, IsValidKeep};
 
     ghost view = { keep_of };
 
     ghost invariant = { λ k. IsValidKeep k.slots.items k.lifted k.made
-        (vec_capacity k.slots) };
+        (deque_capacity k.slots) };
 }
 
 impl VecKeep {
@@ -52,7 +54,7 @@ impl VecKeep {
             ≡ record { records = []; made = 0; lifted = None; origin = own }) }
     {
         Ok(VecKeep {
-            slots: Vec::with_capacity(alloc, RECORD_ROOM as usize)?,
+            slots: VecDeque::with_capacity(alloc, RECORD_ROOM as usize)?,
             made: 0,
             lifted: None,
         })
@@ -76,7 +78,7 @@ impl LogKeep for VecKeep {
 
     fn put(&mut self, rec: Record) -> u64 {
         let number = self.made;
-        self.slots.push_reserved(Slot {
+        self.slots.push_back_reserved(Slot {
             number,
             held: Some(rec),
         });
@@ -105,6 +107,6 @@ impl LogKeep for VecKeep {
     }
 
     fn raise(&mut self, place: u32) {
-        self.slots.drain(..place as usize);
+        drop_front(&mut self.slots, place as usize);
     }
 }

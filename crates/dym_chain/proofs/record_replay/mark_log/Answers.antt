@@ -7,7 +7,7 @@ use Rattle.dym_chain.proofs.record_replay.mark_log.Goals.{In-Some, After-lift-re
 use Rattle.dym_chain.proofs.record_replay.mark_log.Goals as goal
 
 module _ (g : given.Over) (c : In-Some g) where
-  kept : unwrap_or (difference_at c.args.differences.now c.args.i) (record_at (g.K.LogKeep.meaning c.args.keep.now).records (c.args.base + c.args.i)).bytes ≡ c.in-Some.rec.now
+  kept : unwrap_or (difference_at c.args.differences.now.items c.args.i) (record_at (g.K.LogKeep.meaning c.args.keep.now).records (c.args.base + c.args.i)).bytes ≡ c.in-Some.rec.now
   kept = ap (λ (o : Option (List ℕ)). unwrap_or o (record_at (g.K.LogKeep.meaning c.args.keep.now).records (c.args.base + c.args.i)).bytes) c.in-Some.ensures
 
 pub returns-in-Some-clause-unmodified : goal.returns-in-Some-clause-unmodified
@@ -20,7 +20,7 @@ returns-in-Some-clause-marked g c log recorded bytes =
     facts.mark_touches log c.args.heap.now.state c.mark.new.self.state (c.mark.ensures.marked log recorded (bytes ∙ kept g (goal.at.returns-in-Some-clause-marked g c).In-Some))
 
 module _ (g : given.Over) (c : After-lift-rec g) where
-  lifted : unwrap_or (difference_at c.args.differences.now c.args.i) (record_at (g.K.LogKeep.meaning c.args.keep.now).records (c.args.base + c.args.i)).bytes ≡ c.lift-rec.result
+  lifted : unwrap_or (difference_at c.args.differences.now.items c.args.i) (record_at (g.K.LogKeep.meaning c.args.keep.now).records (c.args.base + c.args.i)).bytes ≡ c.lift-rec.result
   lifted =
       ap (λ (o : Option (List ℕ)). unwrap_or o (record_at (g.K.LogKeep.meaning c.args.keep.now).records (c.args.base + c.args.i)).bytes) c.in-None.ensures ∙ sym c.lift-rec.ensures.bytes
 

@@ -12,5 +12,5 @@ invariant-loop-i g l = record {
   same : l.heap ≡ record l.fn.heap { state = l.heap.state };
   sound : IsSound l.heap;
   unmodified : KeepsUnmodified l.fn.heap.state l.heap.state;
-  marked : (j : ℕ) → l.kept ≤ j → j < l.i → OfLog (unwrap_or (difference_at l.differences j) (record_at (g.K.LogKeep.meaning l.fn.keep).records (l.base + j)).bytes) (PacksTouched l.heap.state);
+  marked : (j : ℕ) → l.kept ≤ j → j < l.i → OfLog (unwrap_or (difference_at l.differences.items j) (record_at (g.K.LogKeep.meaning l.fn.keep).records (l.base + j)).bytes) (PacksTouched l.heap.state);
 }

@@ -106,7 +106,7 @@ invariant_of-self g c =
     fields_show (left g u) (view g u) (left_law g u)
     (c.drop_first.ensures.items ∙ ap (drop (n g u)) c.self.invariant.chain.shows.entries ∙ drop-map entry_of (n g u) logs)
     (omega (arith, c.self.invariant.chain.shows.room, c.drop_first.ensures.capacity))
-    (subst (AreDifferences (left g u).logs) (sym c.drop_difference.ensures) (differences_drop (n g u) logs c.self.inside.differences.items c.self.invariant.differences))
+    (subst (AreDifferences (left g u).logs) (sym c.drop_front.ensures.items) (differences_drop (n g u) logs c.self.inside.differences.items c.self.invariant.differences))
 
 pub returns-clause-answer : goal.returns-clause-answer
 returns-clause-answer g c s = ap reply.Dropped (count_now g (goal.at.returns-clause-answer g c).After-dropped_by-dropped)

@@ -1,4 +1,4 @@
-use Rattle.std.proofs.Common.{arith, ◌≡◌, ℕ, ◌+◌, ◌-◌, ◌<◌, ◌≤◌, Option, None, Some, unwrap_or, List, [], length, take, drop, sym, ap, subst, ◌∙◌}
+use Rattle.std.proofs.Common.{arith, ◌≡◌, ℕ, ◌+◌, ◌-◌, ◌<◌, ◌≤◌, None, Some, unwrap_or, [], length, take, drop, sym, ap, subst, ◌∙◌}
 use Rattle.std.specs.FinSet as set
 use Rattle.std.proofs.lemmas.List.{length-take, take-map}
 use Rattle.std.proofs.lemmas.List.Elements.{All-from_recursion}
@@ -150,10 +150,9 @@ mark_logs-requires-clause-recorded g c i low high =
     let r = is g a in
     let b = (belongs g a).records in
     let inside : i < length (whole g a).logs = omega (arith, high, counted g at.After-len-count) in
-    subst (λ (l : List (Option (List ℕ))). IsRecord (unwrap_or (difference_at l i) (record_at (keep g a).records (c.from-base.result + i)).bytes)) (sym c.deref-2.ensures.value)
-    (subst (λ b. IsRecord (unwrap_or (difference_at c.self.inside.differences.items i) (record_at (keep g a).records (b + i)).bytes)) (sym r.base_is)
+    subst (λ b. IsRecord (unwrap_or (difference_at c.self.inside.differences.items i) (record_at (keep g a).records (b + i)).bytes)) (sym r.base_is)
     (are_recorded (v g a) (whole g a).logs c.self.inside.differences.items i (record_at (keep g a).records (length (whole g a).base_logs + i)).bytes c.self.invariant.differences
-    (omega (arith, r.some, low)) inside (log_recorded (whole g a) (v g a) (law g a) b i inside) (log_record (whole g a) (v g a) (law g a) b i inside)))
+    (omega (arith, r.some, low)) inside (log_recorded (whole g a) (v g a) (law g a) b i inside) (log_record (whole g a) (v g a) (law g a) b i inside))
 
 -- ---- the later records are dropped, and the heap is shaped to the target's
 
@@ -267,8 +266,7 @@ module _ (g : given.Over) (c : After-fetch_down g) where
       depth differences m c.reshape.new.self.state c.fetch_down.new.heap.state c.self.invariant.differences r.depth_is
       (λ i low inside.
       subst (λ b. OfLog (unwrap_or (difference_at differences i) (record_at keep.records (b + i)).bytes) (PacksTouched m)) r.base_is
-      (subst (λ (l : List (Option (List ℕ))). OfLog (unwrap_or (difference_at l i) (record_at keep.records (c.from-base.result + i)).bytes) (PacksTouched m)) c.deref-2.ensures.value
-      (c.mark_logs.ensures.marked i low (omega (arith, inside, counted)))))
+      (c.mark_logs.ensures.marked i low (omega (arith, inside, counted))))
       c.mark_logs.ensures.unmodified
       (c.reshape.ensures.shaped (logged_of (v g a) (target g a)) (recorded g a) (sym (lifted g at.After-lift-rec)))
       (λ logs every are. c.fetch_down.ensures.fetched logs every

@@ -11,14 +11,14 @@ pub invariant_of-self : goal.invariant_of-self
 invariant_of-self c =
     let i = c.self.inside in
     let idle : place_out i.lifted ≡ None = ap (λ (k : KeepMeaning). k.lifted) c.self.view_is ∙ c.requires.idle in
-    kept_drop c.args.place (c.drop-drain.ensures.capacity ∙ c.drain.ensures.capacity) (c.drop-drain.ensures.items ∙ c.drain.ensures.kept) idle c.self.invariant
+    kept_drop c.args.place c.drop_front.ensures.capacity c.drop_front.ensures.items idle c.self.invariant
 
 pub returns : goal.returns
 returns c =
     let i = c.self.inside in
     record {
       after =
-          ap (λ (slots : List Slot). record { records = map (shown (bytes_out i.lifted)) slots; made = i.made; lifted = place_out i.lifted; origin = own }) (c.drop-drain.ensures.items ∙ c.drain.ensures.kept)
+          ap (λ (slots : List Slot). record { records = map (shown (bytes_out i.lifted)) slots; made = i.made; lifted = place_out i.lifted; origin = own }) c.drop_front.ensures.items
           ∙ ap (λ (records : List Numbered). record { records = records; made = i.made; lifted = place_out i.lifted; origin = own }) (sym (drop-map (shown (bytes_out i.lifted)) c.args.place i.slots.items))
           ∙ ap (λ (k : KeepMeaning). from k c.args.place) c.self.view_is;
     }
