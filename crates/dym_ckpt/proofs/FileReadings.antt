@@ -15,7 +15,7 @@ use Rattle.dym_ckpt.specs.FileRecords.{AreRead, SomeAreRead, StopsAs, FailsAs}
 use Rattle.dym_ckpt.specs.declared.records.RecordList.{RecordList}
 use Rattle.dym_ckpt.specs.declared.file_reader.FileFail.{FileFail}
 use Rattle.dym_ckpt.specs.declared.file_reader.FileFail.TheVariants.{Bad, Memory}
-use Rattle.dym_ckpt.proofs.Lists.{all_more, all_last, nothing_lawful}
+use Rattle.dym_ckpt.proofs.Lists.{all_last, nothing_lawful}
 
 -- ---- the records
 
@@ -30,17 +30,6 @@ read_none v quota d bytes record_list is none =
       each = subst (AllByRecursion (IsRecordOf v quota)) (sym empty) tt;
       many = ap length none;
       are = ap (λ rs. flat_map framed rs ++ bytes) (sym empty);
-    }
-
-pub read_more : (v : Version) (quota d : ℕ) (bytes : List ℕ) (record_list new : RecordList) (n : ℕ) (left rest x : List ℕ) → AreRead v quota d bytes record_list n left → IsListed v d new → IsRecordOf v quota x → bytes_of new.keep.records ≡ bytes_of record_list.keep.records ++ x ∷ [] → left ≡ framed x ++ rest → AreRead v quota d bytes new (n + 1) rest
-read_more v quota d bytes record_list new n left rest x read is of all next =
-    let old = bytes_of record_list.keep.records in
-    record {
-      is = is;
-      each = subst (AllByRecursion (IsRecordOf v quota)) (sym all) (all_more (IsRecordOf v quota) old x read.each of);
-      many = omega (arith, length-map new.keep.records (λ (r : Numbered). r.bytes), ap length all, length-append old (x ∷ []), length-map record_list.keep.records (λ (r : Numbered). r.bytes), read.many);
-      are = read.are ∙ ap (λ ys. flat_map framed old ++ ys) next ∙ sym (append_assoc (flat_map framed old) (framed x) rest)
-          ∙ ap (λ ys. ys ++ rest) (sym (framed_more old x)) ∙ ap (λ rs. flat_map framed rs ++ rest) (sym all);
     }
 
 -- memory is wanting before the first record

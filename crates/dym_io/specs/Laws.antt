@@ -1,9 +1,8 @@
 -- How texts that are written one after the other make one text, and counts of faults in parts of a call one count.
-use Rattle.std.specs.Prelude.{◌≡◌, ℕ, ◌+◌, ◌<◌, List, [], ◌∷◌, ◌++◌, refl, length, take, drop, get_or, Option, Some, None, Result, Ok, Err, IsErr, IsErrAnd, flat_map}
+use Rattle.std.specs.Prelude.{◌≡◌, ℕ, ◌+◌, ◌<◌, List, [], ◌∷◌, ◌++◌, refl, length, take, drop, get_or, Result, Ok, Err, IsErr, IsErrAnd, flat_map}
 use Rattle.std.proofs.Common.{sym, ◌∙◌, ap, subst, inl, inr, append_assoc, append-nil, arith, take-append-drop, add-one}
 use Rattle.std.proofs.Math.Seq.{drop-cons}
 use Rattle.std.proofs.lemmas.Grind.{flat_map-append}
-use Rattle.std.specs.Io.KnownBytes.{Appends, Keeps}
 use Rattle.std.proofs.KnownBytes.{Appends-nil, Appends-trans}
 use Rattle.dym_io.specs.Faults.{Rose, RoseOnce}
 use Rattle.dym_io.specs.Sink.{Output, Appended, AppendedFront, Stopped, Writes, FaultsTellCause, WritesOr, Leaves}
@@ -30,13 +29,6 @@ appended_both a b c t u p q = record {
   flushed = q.flushed ∙ p.flushed;
   faults = q.faults ∙ p.faults;
 }
-
--- a call that writes nothing comes behind, as a flush: at its Ok too
-pub appends_kept : (a b c : Option (List ℕ)) (t : List ℕ) → Appends a b t → Keeps b c → Appends a c t
-appends_kept None b c t p q = tt
-appends_kept (Some xs) None c t p q = absurd p
-appends_kept (Some xs) (Some ys) None t p q = absurd q
-appends_kept (Some xs) (Some ys) (Some zs) t p q = q ∙ p
 
 -- ---- the front of a text
 
@@ -145,12 +137,6 @@ each_cut f items i d a b c within p q =
     let text = f (get_or items i d) in
     let whole = stopped_after a b c (flat_map f (take i items)) (text ++ rest) p (stopped_within b c text rest q) in
     subst (Stopped a c) (sym (texts_at_item f items i d within)) whole
-
--- the same for an item of a type parameter or of a type that owns memory, which goals name with the equation
-pub each_cut_item : {X : Type 0} → (f : X → List ℕ) (items : List X) (i : ℕ) (x : X) (a b c : Output) → i < length items → x ≡ get_or items i x
-    → Appended a b (flat_map f (take i items)) → Stopped b c (f x) → Stopped a c (flat_map f items)
-each_cut_item f items i x a b c within is p q =
-    each_cut f items i x a b c within p (subst (λ y. Stopped b c (f y)) is q)
 
 -- For an answer of `search` or `grind`, or for a function's `using`: texts of which each stands as it is in the whole.
 pub ruleset writing = (appended_nothing, appended_both, stopped_within, stopped_after, writes_stopped, writes_or_stopped, front_of_appended, front_after, front_within)

@@ -52,18 +52,6 @@ to_rises t u (e ∷ es) up =
       | inr early ↦ (let one = one_yes t e early in let more = one_yes u e (omega (arith, early, up)) in omega (arith, rest, first, second, one, more))
     ]
 
--- before a time are those at or before the last one below it
-pub before_next : (t : ℕ) (es : List LateEvent) → events_before (suc t) es ≡ events_to t es
-before_next t [] = refl
-before_next t (e ∷ es) =
-    let rest = before_next t es in
-    let first = before_cons (suc t) e es in
-    let second = to_cons t e es in
-    elim (cases_lt t e.time) as (λ _. events_before (suc t) (e ∷ es) ≡ events_to t (e ∷ es)) [
-      | inl late ↦ (let none = one_no t e late in let too = before_no (suc t) e (omega (arith, late)) in omega (arith, rest, first, second, none, too))
-      | inr early ↦ (let one = one_yes t e early in let too = before_yes (suc t) e (omega (arith, early)) in omega (arith, rest, first, second, one, too))
-    ]
-
 pub before_none : (es : List LateEvent) → events_before 0 es ≡ 0
 before_none [] = refl
 before_none (e ∷ es) =

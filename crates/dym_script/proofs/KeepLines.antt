@@ -1,6 +1,5 @@
 -- How what is kept of a script goes on line by line.
-use Rattle.std.proofs.Common.{◌≡◌, ℕ, ◌+◌, ◌<◌, ◌≤◌, inl, inr, true, List, [], ◌∷◌, ◌++◌, length, get_or, refl, sym, ap, ◌∙◌, arith, append_assoc, length-append, Option, Some, None, Result, Ok, Err, IfOk, subst}
-use Rattle.std.proofs.Math.Seq.{get_or-append_seam}
+use Rattle.std.proofs.Common.{◌≡◌, ℕ, ◌+◌, ◌<◌, ◌≤◌, inl, inr, true, List, [], ◌∷◌, ◌++◌, length, refl, sym, ap, ◌∙◌, arith, append_assoc, length-append, Option, Some, None, Result, Ok, Err, IfOk, subst}
 use Rattle.std.proofs.lemmas.List.Elements.{All-push, All-weaker}
 use Rattle.std.proofs.lemmas.Bool.Decides.{nat_tests}
 use denote.Ref.{Bor}
@@ -16,7 +15,7 @@ use Rattle.dym_script.specs.declared.script.Decl.{Decl}
 use Rattle.dym_script.specs.declared.script.Line.{Line}
 use Rattle.dym_base.specs.Lines.{lines_of}
 use Rattle.dym_script.specs.Scripts.{Reading, ask_at, read_line, read_lines, start}
-use Rattle.dym_script.specs.Keepers.{Asks, Declares, Holds, Stands, IsReady, HoldsLine, IsWhole}
+use Rattle.dym_script.specs.Keepers.{Asks, Holds, Stands, IsReady, HoldsLine, IsWhole}
 use Rattle.dym_script.specs.Pieces.{ReadsNext}
 use Rattle.dym_script.specs.Readers.{IsValidReader, Grows, GoesOn, reading_of, reading, with_ask}
 use Rattle.dym_script.proofs.PiecesRead.{lines_next}
@@ -200,20 +199,6 @@ whole_told P r n now stands =
       valid = holds.valid;
     } in
     subst (λ (x : Reading). IsWhole P r.version r.objects.items n x.said) (sym is) whole
-
--- the declaration that came last
-pub told_last : (P Q : List Decl → List Line → Type 0) (decls : List Decl) (n : ℕ) (decl : Decl) → n < length decls → decl ≡ get_or decls n decl → Declares P Q decl
-    → (objects : List Decl) (lines : List Line) → length objects ≡ n → Grows objects decls → P objects lines → Q decls lines
-told_last P Q decls n decl more at declares objects lines len (inl same) keeps = absurd (omega (arith, more, len, ap length same))
-told_last P Q decls n decl more at declares objects lines len (inr (last, is)) keeps =
-    let here : decl ≡ last = at ∙ ap (λ ds. get_or ds n decl) is ∙ ap (λ k. get_or (objects ++ last ∷ []) k decl) (sym len) ∙ get_or-append_seam objects last [] decl in
-    subst (λ ds. Q ds lines) (sym is) (subst (λ d. Q (objects ++ d ∷ []) lines) here (declares objects lines keeps))
-
--- no declaration came
-pub told_none : (P : List Decl → List Line → Type 0) (decls : List Decl) (n : ℕ) → length decls ≤ n → (objects : List Decl) (lines : List Line)
-    → length objects ≡ n → Grows objects decls → P objects lines → P decls lines
-told_none P decls n few objects lines len (inl same) keeps = subst (λ ds. P ds lines) (sym same) keeps
-told_none P decls n few objects lines len (inr (last, is)) keeps = absurd (omega (arith, few, len, ap length is, length-append objects (last ∷ [])))
 
 -- the bad line is named
 pub next_bad : (Before After : Reading → Type 0) (number : ℕ) (text : List ℕ) (failed : LineFail) (kind told : BadKind) → failed ≡ fail.Bad kind

@@ -1,6 +1,5 @@
 -- A script that was read into its objects.
 use Rattle.std.specs.Prelude.{Result}
-use Rattle.dym_script.specs.declared.counter.Counter.{Counter}
 use Rattle.dym_script.specs.declared.parts.PartCollector.{PartCollector}
 use Rattle.dym_script.specs.declared.pieces.WholeScript.{WholeScript}
 use Rattle.dym_script.specs.declared.script.ScriptFail.{ScriptFail}
@@ -16,7 +15,3 @@ IsByObjects whole s = IsWhole (KeepsParts whole.kept) whole.version whole.object
 -- the answer of the reader of parts is what the grammar gives, unless memory ran out
 abbrev pub GivesParts : Result (WholeScript PartCollector) ScriptFail → Result ScriptMeaning Fault → Type 0
 GivesParts result read = GivesBy IsByObjects result read
-
--- the same of the reader that keeps nothing
-abbrev pub GivesCounts : Result (WholeScript Counter) ScriptFail → Result ScriptMeaning Fault → Type 0
-GivesCounts result read = GivesBy (λ whole. IsWhole (λ objects lines. Unit {0}) whole.version whole.objects.items whole.commands) result read

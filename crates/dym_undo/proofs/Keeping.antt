@@ -174,9 +174,6 @@ newest_copy live cs (p ∷ []) (x ∷ y ∷ es) e copies is = absurd copies.1
 newest_copy live cs (p ∷ q ∷ ps) (x ∷ []) e copies is = absurd copies.1
 newest_copy live cs (p ∷ q ∷ ps) (x ∷ y ∷ es) e copies is = newest_copy live cs (q ∷ ps) (y ∷ es) e copies.1 is
 
-abbrev meaning : List LogEntry → List ℕ → List Change → ℕ → UndoMeaning
-meaning logs places cs quota = record { logs = logs; places = places; changes = cs; quota = quota }
-
 -- what a chunk is is kept
 pub belongs-keep : (v : Version) (quota k : ℕ) (s : HeapState) (logs : List LogEntry) (places : List ℕ) (cs : List Change) (q : ℕ) → ArePlaced 0 (length cs) places → Fits v k (get s.live k) → Belongs v quota s (record { logs = logs; places = places; changes = cs; quota = q })
     → Belongs v quota s (record { logs = logs; places = places; changes = cs ++ record { key = k; before = get s.live k } ∷ []; quota = q })

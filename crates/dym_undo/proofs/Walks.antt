@@ -1,5 +1,5 @@
 -- The two passes of a restore: from the front, the first change of each chunk counting.
-use Rattle.std.proofs.Common.{◌≡◌, ℕ, Bool, true, false, not, cond, ◌&&◌, ◌||◌, ◌==◌, ◌*◌, ◌+◌, ◌<◌, ◌≤◌, drop, get_or, is_some, if◌then◌else◌, List, [], ◌∷◌, length, Option, None, Some, refl, sym, ap, subst, ◌∙◌, arith, eq-eqb, eqb-true, true≢false}
+use Rattle.std.proofs.Common.{◌≡◌, ℕ, Bool, true, false, not, cond, ◌&&◌, ◌||◌, ◌==◌, ◌*◌, ◌+◌, ◌<◌, ◌≤◌, drop, is_some, if◌then◌else◌, List, [], ◌∷◌, length, Option, None, Some, refl, sym, ap, subst, ◌∙◌, arith, eq-eqb, eqb-true, true≢false}
 use Rattle.std.specs.FinMap.{get, contains_key}
 use Rattle.dym_base.specs.HeapStep.{key}
 use Rattle.dym_base.specs.Heaps.{Live}
@@ -202,6 +202,3 @@ put_live-stamped quota (c ∷ cs) w q keys is le old dead = by (q == c.key) refl
 
 pub keys_next : (quota : ℕ) (hs : List Head) (i : ℕ) → i < length hs → AreHeadKeys quota (drop i hs) → AreHeadKeys quota (drop (i + 1) hs)
 keys_next quota hs i lt keys = (subst (AreHeadKeys quota) (next hs i no_head lt) keys).1
-
-pub keys_here : (quota : ℕ) (hs : List Head) (i : ℕ) (d : Head) → i < length hs → AreHeadKeys quota (drop i hs) → IsKey quota (key (get_or hs i d).handle)
-keys_here quota hs i d lt keys = (subst (AreHeadKeys quota) (next hs i d lt) keys).0

@@ -1,5 +1,5 @@
 -- Objects that are handed over one after the other.
-use Rattle.std.proofs.Common.{◌≡◌, ℕ, ◌+◌, ◌<◌, ◌≤◌, IsPermutation, List, [], ◌∷◌, ◌++◌, length, map, take, drop, get_or, Result, Ok, Err, IsErrAnd, refl, sym, ap, subst, ◌∙◌, arith, append_assoc, append-nil}
+use Rattle.std.proofs.Common.{◌≡◌, ℕ, ◌+◌, ◌<◌, ◌≤◌, IsPermutation, List, [], ◌∷◌, ◌++◌, length, map, take, drop, get_or, Result, Ok, Err, IsErrAnd, refl, sym, ap, subst, ◌∙◌, arith, append_assoc}
 use Rattle.std.proofs.Math.Seq.{drop-cons}
 use Rattle.std.proofs.lemmas.List.{length-map, map-append, map_more}
 use Rattle.std.proofs.lemmas.List.Sorted.{length_permutation}
@@ -110,13 +110,6 @@ module _ {C F : Type 0} (Can : C → Shown → Type 0) (Takes : C → Shown → 
         subst (λ l. Stops Takes Fails a l c e) (sym shown_is)
         (stops_after a b c (parts_shown options so_far.done) (parts_shown options left) e so_far.folds
         (subst (λ o. Stops Takes Fails b (parts_shown o left) c e) same stops))
-
-  pub none_left : (options : ReportOptions) (all left : List Part) (a b : C) → HandedOver options all left a b → left ≡ [] → FoldsTo Takes a (parts_shown options all) b
-  none_left options all left a b h none =
-      subst (λ l. FoldsTo Takes a (parts_shown options l) b) (sym (h.taken ∙ ap (λ l. h.done ++ l) none ∙ append-nil h.done)) h.folds
-
-  pub nothing_yet : (options : ReportOptions) (all : List Part) (a : C) → HandedOver options all all a a
-  nothing_yet options all a = record { done = []; taken = refl; folds = refl }
 
   -- one wave's works were handed over
   pub wave_handed_over : {T : Type 0} (options : ReportOptions) (before after done : List Part) (a b : C) (shown : List Shown) (r : Result T (RunFail F))

@@ -93,10 +93,3 @@ run_lined parts quotas lined_up from end order lined is =
 -- how many quotas a run has
 pub run_length : (quotas : List ℕ) (from end : ℕ) → from ≤ end → end ≤ length quotas → length (slice_range quotas from end) ≡ end - from
 run_length quotas from end order inside = length-take-le (end - from) (drop from quotas) (omega (arith, length-drop from quotas, order, inside))
-
--- as many berths as there are quotas in the run
-pub run_count : {B : Type 0} → (q : B → ℕ) (berths : List B) (quotas : List ℕ) (from end : ℕ) → from ≤ end → end ≤ length quotas
-    → map q berths ≡ slice_range quotas from end → length berths ≡ end - from
-run_count q berths quotas from end order inside is =
-    sym (length-map berths q) ∙ ap {B = ℕ} length is
-    ∙ length-take-le (end - from) (drop from quotas) (omega (arith, length-drop from quotas, order, inside))

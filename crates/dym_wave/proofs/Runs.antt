@@ -1,5 +1,5 @@
 -- One command more of a work.
-use Rattle.std.proofs.Common.{◌≡◌, ℕ, suc, ◌+◌, ◌<◌, ◌≤◌, ◌^◌, ◌-◌, true, false, Bool, List, [], ◌∷◌, ◌++◌, length, take, drop, get_or, sum_by, refl, sym, ap, subst, ◌∙◌, arith, length-append}
+use Rattle.std.proofs.Common.{◌≡◌, ℕ, suc, ◌+◌, ◌<◌, ◌≤◌, ◌^◌, ◌-◌, false, Bool, List, [], ◌∷◌, ◌++◌, length, take, drop, get_or, sum_by, refl, sym, ap, subst, ◌∙◌, arith, length-append}
 use Rattle.std.proofs.Math.Seq.{take-suc}
 use Rattle.std.proofs.lemmas.List.Sums.{sum_by-drop_more}
 use Rattle.std.proofs.lemmas.Option.{slice_get-get_or}
@@ -96,14 +96,6 @@ module _ (commands : List Command) (kept : RepliesMeaning) (old new : ObjectMean
           bytes = omega (arith, told_few, rest_is, before.room.bytes, bytes, ap (λ (n : ℕ). sum_by read_room (drop n commands)) more);
         };
       }
-
-open_by : (short : Bool) (n : ℕ) → 0 < (if short then 0 else n) → (short ≡ false) × (0 < n)
-open_by true n l = absurd (omega arith)
-open_by false n l = (refl, l)
-
--- how much is left of a work
-pub long_while_left : (w : WorkMeaning) → 0 < left_of w → (w.short ≡ false) × (0 < length w.origin.commands - w.ran)
-long_while_left w l = open_by w.short (length w.origin.commands - w.ran) l
 
 pub left_while_long : (w : WorkMeaning) → w.short ≡ false → left_of w ≡ length w.origin.commands - w.ran
 left_while_long w is = ap (λ (b : Bool). if b then 0 else length w.origin.commands - w.ran) is

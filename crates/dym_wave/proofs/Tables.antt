@@ -137,9 +137,3 @@ module _ (works front : List WorkMeaning) (w : WorkMeaning) (sweepers before : L
   pub others_swept : map (λ (v : WorkMeaning). v.origin.object.keep) front ≡ tables_of before
   unfolding keep_of
   others_swept = both_last.0
-
--- there are as many of both
-pub as_many : (works : List WorkMeaning) (sweepers : List SweeperMeaning) → map (λ (w : WorkMeaning). w.origin.object.keep) works ≡ tables_of sweepers
-    → length works ≡ length sweepers
-as_many works sweepers of =
-    sym (length-map works (λ (w : WorkMeaning). w.origin.object.keep)) ∙ ap {B = ℕ} length of ∙ length-map sweepers (λ (s : SweeperMeaning). shared s.table)

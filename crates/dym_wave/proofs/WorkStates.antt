@@ -1,7 +1,6 @@
 -- Works state by state.
-use Rattle.std.proofs.Common.{◌≡◌, ◌≤◌, Bool, true, false, [], length, Option, refl, sym, ap, subst, ◌∙◌, arith}
+use Rattle.std.proofs.Common.{◌≡◌, Bool, true, false, [], length, Option, refl, sym, ap, subst, ◌∙◌, arith}
 use Rattle.std.specs.Prelude.{is_some, IfSome}
-use Rattle.dym_base.specs.declared.limits.TheConstants.{MOST_COMMANDS, MOST_QUANTUM}
 use Rattle.dym_commands.specs.Replies.{RepliesMeaning}
 use Rattle.dym_object.specs.Meaning.{state_of}
 use Rattle.dym_report.specs.declared.late_lines.ViewLine.{ViewLine}
@@ -18,20 +17,6 @@ use Rattle.dym_wave.proofs.Publishing.{line_of, line_shown, nothing_published, p
 use Rattle.dym_wave.proofs.Runs.{left_while_long}
 
 module _ {R : Type 0} (spec : WorkSpec) where
-  -- a work that has run nothing is a job
-  pub new_job : (state : WorkState R) (short : Bool) (view : Option Beginning) → ran_by spec.commands state ≡ 0 → length spec.commands ≤ MOST_COMMANDS
-      → 1 ≤ spec.quantum → spec.quantum ≤ MOST_QUANTUM → IfSome view (λ (b : Beginning). b.commits ≡ []) → JobMeaning (work_with spec state short view)
-  new_job state short view none few some most empty =
-      let o : ObjectOrigin = state_origin spec.version state in
-      record {
-        within = omega (arith, none);
-        few = few;
-        some_quantum = some;
-        most_quantum = most;
-        of_history = refl;
-        published = nothing_published o.version o.quota spec.commands (ran_by spec.commands state) short view none empty;
-      }
-
   -- a work that stays where it was, and found no memory, is one
   pub short_job : (old new : WorkState R) (short : Bool) (view : Option Beginning) → state_origin spec.version new ≡ state_origin spec.version old
       → ran_by spec.commands new ≡ ran_by spec.commands old → JobMeaning (work_with spec old short view) → JobMeaning (work_with spec new true view)

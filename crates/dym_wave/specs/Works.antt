@@ -1,12 +1,10 @@
 -- An object with its commands as a job: where it came from, and what it has done.
-use Rattle.std.specs.Prelude.{◌≡◌, ℕ, ◌-◌, ◌≤◌, Bool, false, if◌then◌else◌, List, [], length, take, Option, None, IfSome, option_map}
-use Rattle.dym_base.specs.Objects.{ObjectState, run_replies, run_end}
+use Rattle.std.specs.Prelude.{◌≡◌, ℕ, ◌-◌, ◌≤◌, Bool, false, if◌then◌else◌, List, [], length, Option, None, IfSome, option_map}
 use Rattle.dym_base.specs.Origins.{Origin, own}
 use Rattle.dym_base.specs.declared.command.Version.{Version}
 use Rattle.dym_base.specs.declared.command.Version.TheVariants.{One}
 use Rattle.dym_base.specs.declared.command.Command.{Command}
 use Rattle.dym_base.specs.declared.limits.TheConstants.{MOST_COMMANDS, MOST_QUANTUM}
-use Rattle.dym_base.specs.declared.reply.Reply.{Reply}
 use Rattle.dym_object.specs.Meaning.{ObjectMeaning}
 use Rattle.dym_view.specs.Histories.{Beginning, HistoryName}
 use Rattle.dym_wave.specs.Publications.{IsPublished}
@@ -69,13 +67,6 @@ left_of w = if w.short then 0 else length w.origin.commands - w.ran
 -- it ran all its commands
 abbrev pub IsOver : WorkMeaning → Type 0
 IsOver w = (left_of w ≡ 0) × (w.short ≡ false)
-
--- what a work has done: its replies, and its object, are those of a run of the first of its commands, as many as have run
-abbrev pub replies_so_far : WorkMeaning → List Reply
-replies_so_far w = run_replies w.origin.object.version w.origin.object.quota (take w.ran w.origin.commands)
-
-abbrev pub state_so_far : WorkMeaning → ObjectState
-state_so_far w = run_end w.origin.object.version w.origin.object.quota (take w.ran w.origin.commands)
 
 -- a job: no more commands have run than it has. What it publishes is of its history; between turns the last commit is the oldest kept
 -- log, unless memory was wanting

@@ -1,5 +1,5 @@
 -- A stale state is brought forward: from the newest copy on, the events are run once more.
-use Rattle.std.proofs.Common.{◌≡◌, ℕ, zero, suc, ◌+◌, ◌-◌, ◌^◌, ◌<◌, ◌≤◌, ◌⊎◌, inl, inr, min, Bool, false, List, [], ◌∷◌, ◌++◌, length, take, drop, refl, ap, sym, subst, ◌∙◌, arith, length-append}
+use Rattle.std.proofs.Common.{◌≡◌, ℕ, zero, suc, ◌+◌, ◌-◌, ◌<◌, ◌≤◌, ◌⊎◌, inl, inr, min, Bool, false, List, [], ◌∷◌, ◌++◌, length, take, drop, refl, ap, sym, subst, ◌∙◌, arith, length-append}
 use Rattle.std.proofs.lemmas.List.{take-append-drop, take_all, length-drop, drop-take, length-take-le}
 use Rattle.std.proofs.lemmas.Bool.{cases_lt}
 use Rattle.warp_base.specs.declared.event.Event.{Event}
@@ -117,14 +117,6 @@ module _ {P S : Type 0} (words : P → List ℕ) (b : Behaviour P S) (past : Lis
   -- where the newest copy is older than the state, all are
   pub all_older : (newest date : ℕ) (s : S) → IsNewest f.copies newest s → newest < date → Each (λ c. c.0 < date) f.copies
   all_older newest date s is late = dates_until_newest f.copies is.older newest date s h.ascending is.last late
-
-  pub few_done : f.first_date + length f.fossils + length f.marks < 2 ^ 64
-  few_done =
-      let all = length-append past (take (length f.marks) f.events) in
-      let few = length-take-le (length f.marks) f.events h.ran_within in
-      let dates = h.dates in
-      let counted = h.counted in
-      omega (arith, all, few, dates, counted)
 
   -- a copy more, of the state after all that is run
   pub saved : (date : ℕ) (new_state : S) (new_copies : List (ℕ × S)) → f.is_stale ≡ false → date ≡ f.first_date + length f.fossils + length f.marks → new_copies ≡ f.copies ++ (date, f.state) ∷ [] → Each (λ c. c.0 < date) f.copies → new_state ≡ f.state → IsProcess words b past (record f { state = new_state; copies = new_copies })

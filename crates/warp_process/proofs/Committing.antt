@@ -81,13 +81,6 @@ module _ {P S : Type 0} (words : P → List ℕ) (b : Behaviour P S) (past : Lis
         fault = subst (λ l. IsFirstFault b p l f.fault) (sym same) h.fault;
       }
 
-  pub committed_few : f.first_date + length f.fossils < 2 ^ 64
-  committed_few =
-      let dates = h.dates in
-      let counted = h.counted in
-      let all = length-append past (take (length f.marks) f.events) in
-      omega (arith, dates, counted, all)
-
   pub oldest_late : (before date : ℕ) (new_copies : List (ℕ × S)) → KeepsFrom f.copies before date new_copies → f.first_date ≤ date
   oldest_late before date new_copies keeps =
       oldest_first f.copies keeps.gone h.oldest.1 keeps.later f.first_date date keeps.oldest h.oldest.0 h.ascending h.oldest.2 (keeps.whole ∙ ap (λ l. keeps.gone ++ l) keeps.first)

@@ -1,5 +1,5 @@
 -- What was sent, where only the first events stay run, or one more is run.
-use Rattle.std.proofs.Common.{◌≡◌, ℕ, zero, suc, ◌+◌, ◌<◌, ◌≤◌, inl, inr, List, [], ◌∷◌, ◌++◌, length, take, drop, get_or, Some, None, slice_get, refl, ap, sym, ◌∙◌, arith, length-append}
+use Rattle.std.proofs.Common.{◌≡◌, ℕ, zero, suc, ◌+◌, ◌<◌, ◌≤◌, inl, inr, List, [], ◌∷◌, ◌++◌, length, take, drop, get_or, Some, slice_get, refl, ap, sym, ◌∙◌, arith, length-append}
 use Rattle.std.proofs.lemmas.List.{take-append-drop, take_more, length-take-le, length-drop}
 use Rattle.std.proofs.Math.Seq.{take-append-add, drop-append_seam}
 use Rattle.std.proofs.lemmas.Bool.{cases_lt}
@@ -148,16 +148,6 @@ module _ {P S : Type 0} (b : Behaviour P S) (p : ℕ) where
           within = omega (arith, total, mark_is, whole);
           is = λ k sum. (omega (arith, sum, total, mark_is, front), omega (arith, sum, total, mark_is, whole));
         }
-
-    pub sent_by_all : (count : ℕ) → count ≤ length marks → slice_get marks count ≡ None → length sent ≡ length (sent_from b p n s (take count events))
-    sent_by_all count within none =
-        elim (cases_lt count (length marks)) as (λ _. length sent ≡ length (sent_from b p n s (take count events))) [
-          | inl less ↦ absurd (some_none (sym (h.mark count less) ∙ none))
-          | inr more ↦ (let all : length marks ≡ count = omega (arith, more, within) in ap length h.outputs ∙ ap (λ j. length (sent_from b p n s (take j events))) all)
-        ]
-      where
-        some_none : {k : ℕ} → Some k ≡ None → ⊥
-        some_none e = cc
 
 -- all that is sent, the past's first
 pub sent_kept : {P S : Type 0} (b : Behaviour P S) (p : ℕ) (past events : List (Event P)) (marks : List ℕ) (sent : List (Event P)) (serial : ℕ) → IsRun b p (length (all_sent b p past)) (state_after b p past) events marks sent serial → all_sent b p (past ++ take (length marks) events) ≡ all_sent b p past ++ sent

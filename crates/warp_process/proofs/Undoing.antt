@@ -42,12 +42,6 @@ from_next time (suc place) [] h = tt
 from_next time (suc place) (x ∷ xs) h = from_next time place xs h
 
 module _ {P S : Type 0} where
-  pub undoes_nothing : (time : ℕ) (f new : ProcessFace P S) → new.events ≡ f.events → length new.marks ≡ length f.marks → UndoesFrom time f new
-  undoes_nothing time f new events marks = record {
-    pending = λ floor few h. subst (λ l. AreFrom floor (drop (length new.marks) l)) (sym events) (subst (λ n. AreFrom floor (drop n f.events)) (sym marks) h);
-    until = λ end h. subst (λ l. Each (λ (e : Event P). e.time ≤ end) (take (length new.marks) l)) (sym events) (subst (λ n. Each (λ (e : Event P). e.time ≤ end) (take n f.events)) (sym marks) h);
-  }
-
   undoes_at : (time place : ℕ) (ys : List (Event P)) (f new : ProcessFace P S) → new.events ≡ take place f.events ++ ys → length new.marks ≡ min place (length f.marks) → place ≤ length f.events → AreFrom time ys → UndoesFrom time f new
   undoes_at time place ys f new events marks within behind = record {
     pending = λ floor few h. subst (λ l. AreFrom floor (drop (length new.marks) l)) (sym events) (behind_place (λ (e : Event P). floor ≤ e.time) place (length f.marks) (length new.marks) f.events ys marks within h (Each-weaker (λ (e : Event P). time ≤ e.time) (λ (e : Event P). floor ≤ e.time) (λ e late. omega (arith, late, few)) ys behind));

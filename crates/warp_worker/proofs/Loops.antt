@@ -1,24 +1,19 @@
 -- What lasts in the loops of a round, and what its messages come to where they change their place.
-use Rattle.std.proofs.Common.{◌≡◌, ℕ, zero, suc, ◌+◌, ◌<◌, ◌≤◌, ◌⊎◌, inl, inr, min, Bool, true, Option, Some, None, IsTrue, List, [], ◌∷◌, ◌++◌, length, map, take, drop, get_or, nat_le, slice_get, refl, ap, sym, subst, ◌∙◌, arith}
+use Rattle.std.proofs.Common.{◌≡◌, ℕ, zero, suc, ◌+◌, ◌<◌, ◌≤◌, ◌⊎◌, inl, inr, Option, Some, None, IsTrue, List, [], ◌∷◌, ◌++◌, length, take, nat_le, slice_get, refl, ap, sym, subst, ◌∙◌, arith}
 use Rattle.std.proofs.lemmas.Bool.{cases_lt, leb-true, le-leb}
-use Rattle.std.proofs.lemmas.List.{take_more}
 use Rattle.warp_base.specs.declared.event.Event.{Event}
 use Rattle.warp_base.specs.declared.event.Message.{Message}
 use Rattle.warp_base.specs.Events.{Each, AreFrom}
-use Rattle.warp_base.specs.Messages.{event_of, positives, negatives, AreMessagesFrom}
+use Rattle.warp_base.specs.Messages.{positives, negatives}
 use Rattle.warp_base.specs.Histories.{Behaviour}
-use Rattle.warp_base.proofs.Lists.{Each-append, Each-front, Each-back, Each-weaker}
+use Rattle.warp_base.proofs.Lists.{Each-append, Each-back, Each-weaker}
 use Rattle.warp_process.specs.Processes.{ProcessFace, IsProcess}
-use Rattle.warp_worker.specs.Workers.{WorkerFace, Cell, IsWorker, IsArrival, IsDeparture, IsIdleUntil, to_run}
-use Rattle.warp_worker.specs.Moves.{HasMoved, Moves, IsDue, IsMidway, KeepsPending, IsPendingFrom, HasNextUntil, next_of, lesser_of, TellsLeast}
+use Rattle.warp_worker.specs.Workers.{WorkerFace, IsArrival, IsDeparture, to_run}
+use Rattle.warp_worker.specs.Moves.{Moves, IsDue, IsMidway, KeepsPending, IsPendingFrom, HasNextUntil, next_of}
 use Rattle.warp_worker.proofs.Places.{positives-append, negatives-append}
-use Rattle.warp_worker.proofs.Midway.{arrivals_stay, moves_then, moves_letters, next_is_least, no_next, next_first}
-use Rattle.warp_worker.proofs.Replaced.{process_at}
+use Rattle.warp_worker.proofs.Midway.{arrivals_stay, moves_then, moves_letters, next_is_least, no_next}
 
 module _ {P S : Type 0} (words : P → List ℕ) (b : Behaviour P S) where
-  pub moves_none : (w : WorkerFace P S) (mail : List (Message P)) → Moves words b w mail w mail
-  moves_none w mail = moves_letters words b w w mail mail refl refl (λ e. refl) (λ e. refl)
-
   -- the last message of the mail, or of the inbox, is taken out of it; one is put into the outbox
   pub mail_popped : (w : WorkerFace P S) (front : List (Message P)) (m : Message P) → Moves words b w (front ++ m ∷ []) w (m ∷ front)
   mail_popped w front m = moves_letters words b w w (front ++ m ∷ []) (m ∷ front) refl refl
@@ -36,20 +31,6 @@ module _ {P S : Type 0} (words : P → List ℕ) (b : Behaviour P S) where
       (λ e. let last = ap (negatives words e) outbox ∙ negatives-append words e w.outbox (m ∷ []) in let more = negatives-append words e (m ∷ []) mail in let same = ap (negatives words e) inbox in omega (arith, last, more, same))
 
 module _ {P S : Type 0} (bound end n : ℕ) where
-  pub midway_mail : (w : WorkerFace P S) (front : List (Message P)) (m : Message P) → IsMidway bound end n w (front ++ m ∷ []) → IsMidway bound end n w front
-  midway_mail w front m h = record { due = h.due; inbox = h.inbox; mail = Each-front (IsDeparture bound n) front (m ∷ []) h.mail; outbox = h.outbox }
-
-  pub last_departs : (w : WorkerFace P S) (front : List (Message P)) (m : Message P) → IsMidway bound end n w (front ++ m ∷ []) → IsDeparture bound n m
-  last_departs w front m h = (Each-back (IsDeparture bound n) front (m ∷ []) h.mail).0
-
-  pub midway_inbox : (w v : WorkerFace P S) (mail : List (Message P)) (m : Message P) → v.processes ≡ w.processes → v.first ≡ w.first → v.outbox ≡ w.outbox → w.inbox ≡ v.inbox ++ m ∷ [] → IsMidway bound end n w mail → IsMidway bound end n v mail
-  midway_inbox w v mail m processes first outbox inbox h = record {
-    due = subst (Each (IsDue bound end)) (sym processes) h.due;
-    inbox = arrivals_stay bound w v v.inbox first (ap length processes) (Each-front (IsArrival bound w) v.inbox (m ∷ []) (subst (Each (IsArrival bound w)) inbox h.inbox));
-    mail = h.mail;
-    outbox = subst (Each (IsDeparture bound n)) (sym outbox) h.outbox;
-  }
-
   pub last_arrives : (w v : WorkerFace P S) (mail : List (Message P)) (m : Message P) → v.processes ≡ w.processes → v.first ≡ w.first → w.inbox ≡ v.inbox ++ m ∷ [] → IsMidway bound end n w mail → IsArrival bound v m
   last_arrives w v mail m processes first inbox h =
       (arrivals_stay bound w v (m ∷ []) first (ap length processes) (Each-back (IsArrival bound w) v.inbox (m ∷ []) (subst (Each (IsArrival bound w)) inbox h.inbox))).0
@@ -69,9 +50,6 @@ pub record Goes {P S : Type 0} (words : P → List ℕ) (b : Behaviour P S) (bou
   pub pending : KeepsPending until w new
 
 module _ {P S : Type 0} (words : P → List ℕ) (b : Behaviour P S) (bound end n until : ℕ) where
-  pub goes_none : (w : WorkerFace P S) (mail : List (Message P)) → IsMidway bound end n w mail → Goes words b bound end n until w mail w mail
-  goes_none w mail h = record { moved = moves_none words b w mail; midway = h; pending = λ t soon all. all }
-
   -- a step more
   pub goes_on : (u v w : WorkerFace P S) (us vs ws : List (Message P)) → Goes words b bound end n until u us v vs → Moves words b v vs w ws → IsMidway bound end n w ws → KeepsPending until v w → Goes words b bound end n until u us w ws
   goes_on u v w us vs ws h moved midway pending = record {

@@ -3,7 +3,7 @@ use Rattle.std.proofs.Common.{◌≡◌, ℕ, zero, suc, ◌+◌, ◌<◌, ◌�
 use Rattle.std.proofs.lemmas.Bool.{cases_lt}
 use Rattle.warp_base.specs.declared.event.Event.{Event}
 use Rattle.warp_base.specs.declared.event.Message.{Message}
-use Rattle.warp_base.specs.Events.{Each, precedes, copies, IsBefore, IsInOrder, AreFrom}
+use Rattle.warp_base.specs.Events.{Each, precedes, copies, IsInOrder, AreFrom}
 use Rattle.warp_base.specs.Messages.{event_of, positives, negatives}
 use Rattle.warp_base.specs.Histories.{Behaviour, SendsWithin, all_sent}
 use Rattle.warp_base.specs.Laws.{NothingBeyond}
@@ -11,8 +11,8 @@ use Rattle.warp_base.proofs.Lists.{Each-append, Each-back, Each-weaker}
 use Rattle.warp_base.proofs.Orders.{TellsApart, Each-copy, precedes_time, in_order_back, in_order_drop}
 use Rattle.warp_process.specs.Processes.{ProcessFace, IsProcess, HasPosted, HasCommitted, done_of}
 use Rattle.warp_process.specs.Laws.{SentIsKept}
-use Rattle.warp_worker.specs.Workers.{WorkerFace, Cell, past_of, history_of, AreNumbered, IsWorker, IsArrival, IsDeparture, ran_of, to_run}
-use Rattle.warp_worker.specs.Moves.{has, owes, HasMoved, Moves, Commits, next_of, IsPendingFrom}
+use Rattle.warp_worker.specs.Workers.{WorkerFace, Cell, past_of, AreNumbered, IsWorker, IsArrival, IsDeparture, ran_of, to_run}
+use Rattle.warp_worker.specs.Moves.{has, owes, HasMoved, Moves, next_of, IsPendingFrom}
 
 Each-both : {X : Type 0} (Q R T : X → Type 0) → ((x : X) → Q x → R x → T x) → (xs : List X) → Each Q xs → Each R xs → Each T xs
 Each-both Q R T tells [] h g = tt
@@ -130,12 +130,6 @@ module _ {P S : Type 0} (words : P → List ℕ) (b : Behaviour P S) where
 
   pub moves_then : (u v w : WorkerFace P S) (us vs ws : List (Message P)) → Moves words b u us v vs → Moves words b v vs w ws → Moves words b u us w ws
   moves_then = moved_then past_of
-
-  pub commits_then : (u v w : WorkerFace P S) → Commits words b u v → Commits words b v w → Commits words b u w
-  commits_then u v w = moved_then history_of u v w [] [] []
-
-  pub commits_none : (w : WorkerFace P S) → Commits words b w w
-  commits_none w cells h = record { new_cells = cells; worker = h; kept = refl; balance = λ e. refl }
 
   -- messages that only change their place
   pub moves_letters : (u v : WorkerFace P S) (us vs : List (Message P)) → v.processes ≡ u.processes → v.first ≡ u.first

@@ -1,9 +1,9 @@
 -- Lists of which one element is replaced, and messages put together.
-use Rattle.std.proofs.Common.{◌≡◌, ℕ, zero, suc, ◌+◌, ◌<◌, Some, List, [], ◌∷◌, ◌++◌, length, take, set, slice_get, refl, ap, sym, subst, ◌∙◌, arith}
+use Rattle.std.proofs.Common.{◌≡◌, ℕ, zero, suc, ◌+◌, Some, List, [], ◌∷◌, ◌++◌, take, set, slice_get, refl, ap, subst, arith}
 use Rattle.warp_base.specs.declared.event.Event.{Event}
 use Rattle.warp_base.specs.declared.event.Message.{Message}
 use Rattle.warp_base.specs.declared.event.Message.TheVariants as Variants
-use Rattle.warp_base.specs.Events.{Each, hit}
+use Rattle.warp_base.specs.Events.{Each}
 use Rattle.warp_base.specs.Messages.{positives, negatives}
 use Rattle.warp_worker.specs.Workers.{total}
 
@@ -28,11 +28,6 @@ module _ {X : Type 0} where
   Each-take-set Q [] i y h is = tt
   Each-take-set Q (x ∷ xs) zero y h is = (is, tt)
   Each-take-set Q (x ∷ xs) (suc i) y h is = (h.0, Each-take-set Q xs i y h.1 is)
-
-  pub get-set : (xs : List X) (i : ℕ) (x y : X) → slice_get xs i ≡ Some x → slice_get (set xs i y) i ≡ Some y
-  get-set [] i x y there = absurd cc
-  get-set (z ∷ xs) zero x y there = refl
-  get-set (z ∷ xs) (suc i) x y there = get-set xs i x y there
 
   pub total-set : (count : X → ℕ) (xs : List X) (i : ℕ) (x y : X) → slice_get xs i ≡ Some x → total count (set xs i y) + count x ≡ total count xs + count y
   total-set count [] i x y there = absurd cc

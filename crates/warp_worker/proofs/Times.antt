@@ -43,13 +43,6 @@ module _ {P S : Type 0} (w : WorkerFace P S) (committed : List ℕ) where
         → slice_get new (w.first + place) ≡ time_or (slice_get committed (w.first + place)) (last_ran f)
     pub others : (i : ℕ) → (i < w.first) ⊎ (w.first + places ≤ i) → slice_get new i ≡ slice_get old i
 
-  pub none_noted : (old : List ℕ) → IsNoted 0 old old
-  none_noted old = record {
-    count = refl;
-    time = λ place f less there. absurd (omega (arith, less));
-    others = λ i apart. refl;
-  }
-
   -- one time more
   pub noted_more : (places : ℕ) (old new : List ℕ) (f : ProcessFace P S) (time : ℕ) → IsNoted places old new → slice_get w.processes places ≡ Some f → w.first + places < length old
       → Some time ≡ time_or (slice_get committed (w.first + places)) (last_ran f) → IsNoted (places + 1) old (set new (w.first + places) time)

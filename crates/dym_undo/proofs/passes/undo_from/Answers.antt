@@ -24,9 +24,6 @@ module _ (g : given.Over) (c : After-count_bytes g) where
   from_is : c.len-len.result - c.count_bytes.result ≡ bytes_in (take c.args.place c.args.heads.now.items)
   from_is = omega (arith, c.count_bytes.ensures, ap bytes_in heads_are, bytes_in-split c.args.place c.args.heads.now.items, c.requires.whole, c.len-len.ensures)
 
-  low : bytes_in (take c.args.place c.args.heads.now.items) ≤ length c.args.bytes.now.items
-  low = omega (arith, bytes_in-split c.args.place c.args.heads.now.items, c.requires.whole)
-
 pub overflow_sub-from : goal.overflow_sub-from
 overflow_sub-from g c =
     omega (arith, c.count_bytes.ensures, ap bytes_in (c.split_at.ensures.back ∙ ap (drop c.args.place) c.deref.ensures.value), bytes_in-split c.args.place c.args.heads.now.items, c.requires.whole, c.len-len.ensures)

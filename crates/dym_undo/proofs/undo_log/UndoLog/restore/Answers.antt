@@ -195,9 +195,6 @@ module _ (g : given.Over) (c : After-cut g) where
   abbrev copy : Live
   copy = patched (drop (place g at) (cs g at)) (s g (first g at)).live
 
-  abbrev left : UndoMeaning
-  left = record { logs = take (suc (m g at)) (logs g (first g at)); places = take (suc (m g at)) (places g at); changes = take (place g at) (cs g at); quota = c.self.inside.quota }
-
   state_is : g.H.UndoHeap.state c.undo_from.new.heap ≡ record { live = copy; touched = set.empty }
   state_is =
       ap₂ (λ (l : Live) (x : Touched). record { live = l; touched = x })
