@@ -2,8 +2,6 @@ mod Arguments
 mod ByteVecs
 mod Claims
 mod Cutting
-mod Lent
 mod LodgeCalls
 mod Numbering
-mod RunsLent
 mod Zeros

@@ -1,4 +1,3 @@
 pub mod Block
 pub mod Content
 pub mod Identity
-pub mod Lending

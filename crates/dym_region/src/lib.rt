@@ -10,7 +10,6 @@
 mod block;
 mod raw_segment;
 mod region;
-mod runs;
 mod segment;
 mod used_bytes;
 mod vec_segment;

@@ -4,9 +4,7 @@ ghost use denote.RawPtr.{block_of, block_ptr};
 ghost use Rattle.dym_base.specs.declared.limits.TheConstants.{SEGMENT_BYTES};
 ghost use Rattle.dym_region.specs.Content.{zeros_behind, length-zeros_behind};
 ghost use Rattle.dym_region.specs.Identity.{start_of};
-ghost use Rattle.dym_region.specs.Lending.{vec_with_lent};
 
-use crate::runs::run;
 use crate::segment::Segment;
 use crate::used_bytes::{bytes_at, fill_to, read_at, write_at, zero_at};
 use dym_base::limits::SEGMENT_BYTES;
@@ -47,13 +45,6 @@ impl Segment for RawSegment {
 
     ghost filled = { λ s. vec_len s.bytes };
 
-    ghost lent = { λ s at len ws. record {
-      bytes = vec_with_lent s.bytes at len ws;
-      number = s.number;
-      room = s.room;
-      placed = s.placed;
-    } };
-
     ghost content_is_whole = { λ s. length-zeros_behind (vec_capacity s.bytes) SEGMENT_BYTES
         (vec_len s.bytes) s.bytes.items s.bytes.ok s.room };
 
@@ -63,10 +54,6 @@ impl Segment for RawSegment {
 
     fn bytes(&self, at: u32, len: u32) -> &[u8] {
         bytes_at(&self.bytes, at as usize, len as usize)
-    }
-
-    fn bytes_mut(&mut self, at: u32, len: u32) -> &mut [u8] {
-        run(&mut self.bytes, at as usize, len as usize)
     }
 
     fn fill(&mut self, to: u32) {

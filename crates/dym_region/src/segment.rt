@@ -3,9 +3,7 @@ ghost use Rattle.std.specs.Prelude.{◌≡◌, ℕ, ◌+◌, ◌≤◌, List, le
 ghost use Rattle.std.specs.Option.{ForSome};
 ghost use denote.RawPtr.{Ptr};
 ghost use Rattle.dym_base.specs.declared.limits.TheConstants.{SEGMENT_BYTES};
-ghost use Rattle.std.specs.Borrow.{Lends, Array, sem, u8 as byte};
 ghost use Rattle.dym_region.specs.Content.{part_of, with_part};
-ghost use Rattle.dym_region.specs.Lending.{with_lent};
 ghost use Rattle.dym_region.specs.declared.segment.SegmentId.{SegmentId};
 
 use dym_base::limits::SEGMENT_BYTES;
@@ -31,9 +29,6 @@ pub trait Segment {
     // How many bytes are real, from the first on.
     ghost filled: { Self → ℕ };
 
-    // The segment once `ws` was written through its `len` bytes from place `at` on, which were lent.
-    ghost lent: { Self → ℕ → ℕ → List ℕ → Self };
-
     /// Where the bytes lie. No call moves them.
     fn start(&self) -> *const u8
         ensures { ForSome (place_of (id self.now)) (λ place. result ≡ place) };
@@ -42,18 +37,6 @@ pub trait Segment {
     fn bytes(&self, at: u32, len: u32) -> &[u8]
         requires { at + len ≤ filled self.now }
         ensures { result.now ≡ part_of (content self.now) at len };
-
-    /// The `len` bytes from place `at` on, which are real, to be changed in place. What is written through the result is as long as
-    /// it is.
-    fn bytes_mut(&mut self, at: u32, len: u32) -> &mut [u8]
-        requires { at + len ≤ filled self.old }
-        ensures* writes_back { sem 𝓛
-            (Lends Self.row (Array byte 0) self.entry result (lent self.old at len)) }
-        ensures content { (ws : List ℕ) → content (lent self.old at len ws)
-            ≡ with_lent (content self.old) at len ws }
-        ensures filled { (ws : List ℕ) → filled (lent self.old at len ws) ≡ filled self.old }
-        ensures same { (ws : List ℕ) → id (lent self.old at len ws) ≡ id self.old }
-        ensures value { result.now ≡ part_of (content self.old) at len };
 
     /// Makes at least the first `to` bytes real.
     fn fill(&mut self, to: u32)

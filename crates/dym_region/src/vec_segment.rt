@@ -2,10 +2,8 @@
 ghost use Rattle.std.specs.Prelude.{◌≡◌, None, IfOk, replicate, vec_len, vec_capacity};
 ghost use Rattle.dym_base.specs.declared.limits.TheConstants.{SEGMENT_BYTES};
 ghost use Rattle.dym_region.specs.Content.{zeros_behind, length-zeros_behind};
-ghost use Rattle.dym_region.specs.Lending.{vec_with_lent};
 ghost use Rattle.dym_region.specs.Identity.{lone_id};
 
-use crate::runs::run;
 use crate::segment::Segment;
 use crate::used_bytes::{bytes_at, fill_to, read_at, write_at, zero_at};
 use dym_base::limits::SEGMENT_BYTES;
@@ -38,11 +36,6 @@ impl Segment for VecSegment {
 
     ghost filled = { λ s. vec_len s.bytes };
 
-    ghost lent = { λ s at len ws. record {
-      bytes = vec_with_lent s.bytes at len ws;
-      room = s.room;
-    } };
-
     ghost content_is_whole = { λ s. length-zeros_behind (vec_capacity s.bytes) SEGMENT_BYTES
         (vec_len s.bytes) s.bytes.items s.bytes.ok s.room };
 
@@ -52,10 +45,6 @@ impl Segment for VecSegment {
 
     fn bytes(&self, at: u32, len: u32) -> &[u8] {
         bytes_at(&self.bytes, at as usize, len as usize)
-    }
-
-    fn bytes_mut(&mut self, at: u32, len: u32) -> &mut [u8] {
-        run(&mut self.bytes, at as usize, len as usize)
     }
 
     fn fill(&mut self, to: u32) {
