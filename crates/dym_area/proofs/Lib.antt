@@ -2,4 +2,3 @@ pub mod Classes
 pub mod Taken
 pub mod Rooms
 pub mod Reach
-mod AreaLent

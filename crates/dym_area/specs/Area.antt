@@ -1,11 +1,10 @@
 -- What is seen of an area, and what its calls do with it.
 use Rattle.std.specs.Prelude.{◌≡◌, ℕ, zero, suc, ◌+◌, ◌-◌, ◌*◌, ◌/◌, ◌^◌, ◌<◌, ◌≤◌, Bool, true, false, List, ◌++◌, length, replicate, slice_set}
 use Rattle.std.specs.Int.{bit_at}
-use Rattle.std.specs.List.{refill}
 use Rattle.dym_base.specs.Numbers.{size, per}
 use Rattle.dym_base.specs.declared.limits.TheConstants.{MOST_CHUNKS, SEGMENT_BYTES, LEAST_EXPONENT, GREATEST_EXPONENT}
 use Rattle.dym_bits.specs.Bits.{IsSet, IsClear, bits_of_bytes, clear_bits}
-use Rattle.dym_region.specs.Content.{part_of, with_part}
+use Rattle.dym_region.specs.Content.{with_part}
 use Rattle.dym_region.specs.declared.segment.SegmentId.{SegmentId}
 
 -- one segment cut into chunks of a class: which of them are used, which are dirty, and all the bytes
@@ -90,10 +89,6 @@ with_written area i at bytes =
       content = with_part area.content (chunk_start area i + at) bytes;
     }
 
--- the area once `ws` was written through the `len` bytes of chunk i from place `at` on, which were lent: these are then as many
-abbrev pub with_chunk_lent : AreaMeaning → ℕ → ℕ → ℕ → List ℕ → AreaMeaning
-with_chunk_lent area i at len ws = with_written area i at (refill len (part_of area.content (chunk_start area i + at) len) ws)
-
 -- the area after the bytes were put over those of the chunks from chunk `from` on
 abbrev pub with_loaded : AreaMeaning → ℕ → List ℕ → AreaMeaning
 with_loaded area from bytes = record area { content = with_part area.content (chunk_start area from) bytes }
@@ -102,9 +97,9 @@ with_loaded area from bytes = record area { content = with_part area.content (ch
 abbrev pub with_clean : AreaMeaning → AreaMeaning
 with_clean area = record area { dirty = clear_bits MOST_CHUNKS }
 
--- the area where chunk i isn't dirty, and each other one is as it was
-abbrev pub with_clean_at : AreaMeaning → ℕ → AreaMeaning
-with_clean_at area i = record area { dirty = slice_set area.dirty i false }
+-- the area where chunk i is dirty or isn't, as `b` says, and each other one is as it was
+abbrev pub with_dirty_at : AreaMeaning → ℕ → Bool → AreaMeaning
+with_dirty_at area i b = record area { dirty = slice_set area.dirty i b }
 
 -- the area whose use bits are those of the bytes, with no chunk dirty
 abbrev pub with_used_bytes : AreaMeaning → List ℕ → AreaMeaning

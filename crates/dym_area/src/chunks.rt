@@ -1,12 +1,10 @@
 //! One segment cut into chunks.
-ghost use Rattle.std.specs.Prelude.{◌≡◌, ℕ, ◌+◌, ◌*◌, ◌/◌, ◌<◌, ◌≤◌, ◌↔◌, max, length, replicate, IsTrue, MatchOption};
+ghost use Rattle.std.specs.Prelude.{◌≡◌, ℕ, ◌+◌, ◌*◌, ◌/◌, ◌<◌, ◌≤◌, ◌↔◌, max, length, replicate, true, false, IsTrue, MatchOption};
 ghost use Rattle.dym_base.specs.Numbers.{size, per};
-ghost use Rattle.std.specs.Prelude.{List};
 ghost use Rattle.std.specs.Option.{ForSome};
-ghost use Rattle.std.specs.Borrow.{sem};
 ghost use Rattle.dym_bits.specs.Bits.{bit_in, bits_of_bytes, clear_bits, IsSet, IsClear, IsFirstClear, IsNextSet, IsTopSet};
 ghost use Rattle.dym_region.specs.Content.{part_of};
-ghost use Rattle.dym_area.specs.Area.{IsValidArea, chunk_start, with_taken, with_released, with_put_back, dirty_after, with_written, with_chunk_lent, with_loaded, with_clean, with_clean_at, with_used_bytes};
+ghost use Rattle.dym_area.specs.Area.{IsValidArea, chunk_start, with_taken, with_released, with_put_back, with_written, with_loaded, with_clean, with_dirty_at, with_used_bytes};
 
 use crate::ends::end_of;
 use crate::summary::{WORD_CHUNKS, after_take, all_words, summary_of, with_room};
@@ -52,8 +50,6 @@ impl<G: Segment> Model for Area<G> {
 }
 
 impl<G: Segment> Area<G> {
-    ghost use Rattle.dym_area.specs.Lends.{lends_chunk};
-
     /// An area of a class over a segment, with no chunk used. `ordinal` is its place among the areas of its class.
     pub fn new(class: Class, ordinal: u32, seg: G) -> Area<G>
         ensures made { result ≡ record {
@@ -197,19 +193,6 @@ impl<G: Segment> Area<G> {
         self.segment.bytes(start, len)
     }
 
-    /// The `len` bytes of a used chunk from its place `at` on, to be changed in place. The chunk is dirty.
-    pub fn bytes_mut(&mut self, i: u32, at: u32, len: u32) -> &mut [u8]
-        requires used { IsSet self.old.used i }
-        requires within { at + len ≤ size self.old.exponent }
-        ensures* writes_back { sem 𝓛 (lends_chunk G.row G.Segment self.entry i at len result) }
-        ensures value { result.now ≡ part_of self.old.content (chunk_start self.old i + at) len }
-        ensures valid { (ws : List ℕ) → IsValidArea (with_chunk_lent self.old i at len ws) }
-    {
-        let start = i * self.class.size() + at;
-        touch(&mut self.dirty, i, len);
-        self.segment.bytes_mut(start, len)
-    }
-
     /// Fills `out` with the bytes of a used chunk, from its place `at` on.
     pub fn read(&self, i: u32, at: u32, out: &mut [u8])
         requires used { IsSet self.now.used i }
@@ -315,10 +298,19 @@ impl<G: Segment> Area<G> {
     /// Marks chunk `i` as one that isn't dirty.
     pub fn clear_dirty_at(&mut self, i: u32)
         requires { i < per self.old.exponent }
-        ensures after { self.new ≡ with_clean_at self.old i }
+        ensures after { self.new ≡ with_dirty_at self.old i false }
         ensures valid { IsValidArea self.new }
     {
         self.dirty.clear(i);
+    }
+
+    /// Marks chunk `i`, which is used, as dirty.
+    pub fn set_dirty_at(&mut self, i: u32)
+        requires { IsSet self.old.used i }
+        ensures after { self.new ≡ with_dirty_at self.old i true }
+        ensures valid { IsValidArea self.new }
+    {
+        self.dirty.set(i);
     }
 
     /// Makes these used chunks the dirty ones.
@@ -360,16 +352,6 @@ impl<G: Segment> Area<G> {
             segment,
         } = self;
         segment
-    }
-}
-
-/// Marks chunk `i` where there is a byte of it to be changed.
-fn touch(dirty: &mut Bits, i: u32, len: u32)
-    requires { i < MOST_CHUNKS }
-    ensures { dirty.new ≡ dirty_after dirty.old i len }
-{
-    if len > 0 {
-        dirty.set(i);
     }
 }
 

@@ -73,6 +73,21 @@ fn clean(area: &mut Area<VecSegment>, i: u32) -> Option<(bool, bool)>
     Some((before, area.is_dirty(i)))
 }
 
+// Whether a chunk that is used is dirty once it is marked so.
+fn soil(area: &mut Area<VecSegment>, i: u32) -> Option<bool>
+    requires { IsValidArea area.old }
+    ensures { IsValidArea area.new }
+{
+    if i >= area.class().per_area() || !area.is_used(i) {
+        return None;
+    }
+    area.set_dirty_at(i);
+    if i >= area.class().per_area() {
+        return None;
+    }
+    Some(area.is_dirty(i))
+}
+
 fn walk(rt: &impl Abort, class: Class, seg: VecSegment) {
     let all = class.per_area();
     let mut area = Area::new(class, 3, seg);
@@ -99,6 +114,7 @@ fn walk(rt: &impl Abort, class: Class, seg: VecSegment) {
     assert_eq!(rt; area.take_first(), None);
     put(&mut area, last, [1, 2, 3, 4]);
     assert_eq!(rt; clean(&mut area, last), Some((true, false)));
+    assert_eq!(rt; soil(&mut area, last), Some(true));
     let _segment = area.into_segment();
 }
 
