@@ -47,7 +47,6 @@ pub mod Fetches
 pub mod Fitting
 pub mod HeapUndo
 pub mod Sums
-mod ChunkLent
 mod ShelfStarts
 mod Addresses
 mod Offsets

@@ -1,10 +1,10 @@
--- A place of which a chunk is put back, or isn't touched any more.
-use Rattle.std.proofs.Common.{◌≡◌, ℕ, ◌*◌, ◌<◌, ◌≤◌, inl, inr, true, false, Option, Some, None, List, length, get_or, set, refl, sym, ap, subst, ◌∙◌, arith, get_or-set_same}
+-- A place of which a chunk is put back, or is touched from now on, or isn't any more.
+use Rattle.std.proofs.Common.{◌≡◌, ℕ, ◌*◌, ◌<◌, ◌≤◌, inl, inr, Bool, true, false, Option, Some, None, List, length, get_or, set, refl, sym, ap, subst, ◌∙◌, arith, get_or-set_same}
 use Rattle.std.proofs.lemmas.Bool.{cases_eq}
 use Rattle.dym_base.specs.Numbers.{size, per}
 use Rattle.dym_bits.specs.Bits.{bit_in}
 use Rattle.dym_region.specs.Content.{part_of, with_part}
-use Rattle.dym_area.specs.Area.{AreaMeaning, IsValidArea, with_put_back, with_clean_at}
+use Rattle.dym_area.specs.Area.{AreaMeaning, IsValidArea, with_put_back, with_dirty_at}
 use Rattle.dym_heap.specs.Meaning.{IsSizeOf}
 use Rattle.dym_heap.specs.SizedAreas.{SizedAreaMeaning, len_of, chunks_in, version_by, place_of, IsMeasured, area_with_chunk, with_length}
 use Rattle.dym_heap.proofs.Sizes.{size_fits, chunk_fits, per_fits}
@@ -50,16 +50,16 @@ back area ls i ys is l valid' reaches sized =
       };
     }
 
--- chunk i isn't touched any more
-forgotten : (area : AreaMeaning) (ls : Option (List ℕ)) (i : ℕ) → IsMeasured area ls → i < per area.exponent → IsValidArea (with_clean_at area i)
-    → Steps (with_clean_at area i) ls (area_with_chunk (place_of area ls) i (get_or (chunks_in area ls) i None) false)
-forgotten area ls i is l valid' =
+-- chunk i is touched or isn't, as b says
+marked : (area : AreaMeaning) (ls : Option (List ℕ)) (i : ℕ) (b : Bool) → IsMeasured area ls → i < per area.exponent → IsValidArea (with_dirty_at area i b)
+    → Steps (with_dirty_at area i b) ls (area_with_chunk (place_of area ls) i (get_or (chunks_in area ls) i None) b)
+marked area ls i b is l valid' =
     let long' = is.valid.dirty_len in
     let in_bits : i < 2048 = omega (arith, l, per_fits is.valid.least) in
     record {
-      is = sized_area-put ls ls area.used (set area.dirty i false) area.content i is.valid valid' refl l (sym (chunk_of ls i is.valid)) (λ k ne. refl)
-          (get_or-set_same area.dirty i false false (omega arith))
-          (λ k ne. set_bit area.dirty false ne);
+      is = sized_area-put ls ls area.used (set area.dirty i b) area.content i is.valid valid' refl l (sym (chunk_of ls i is.valid)) (λ k ne. refl)
+          (get_or-set_same area.dirty i b false (omega arith))
+          (λ k ne. set_bit area.dirty b ne);
       measured = record { valid = valid'; fits = is.fits };
     }
 
@@ -80,9 +80,9 @@ module _ {area : AreaMeaning} {ls : Option (List ℕ)} {p : SizedAreaMeaning} (v
       (subst (λ x. Steps (with_put_back area i ys) x (area_with_chunk p i (Some ys) false)) (sym lengths)
       (record { is = steps.is ∙ ap (λ q. area_with_chunk q i (Some ys) false) v; measured = steps.measured }))
 
-  pub forgotten_p : (area' : AreaMeaning) (i : ℕ) → area' ≡ with_clean_at area i → IsValidArea area' → i < length p.chunks
-      → Steps area' ls (area_with_chunk p i (get_or p.chunks i None) false)
-  forgotten_p area' i after valid' l =
-      let steps = forgotten area ls i m (below_p v m l) (subst IsValidArea after valid') in
-      subst (λ a. Steps a ls (area_with_chunk p i (get_or p.chunks i None) false)) (sym after)
-      (record { is = steps.is ∙ ap (λ (q : SizedAreaMeaning). area_with_chunk q i (get_or q.chunks i None) false) v; measured = steps.measured })
+  pub marked_p : (area' : AreaMeaning) (i : ℕ) (b : Bool) → area' ≡ with_dirty_at area i b → IsValidArea area' → i < per area.exponent
+      → Steps area' ls (area_with_chunk p i (get_or p.chunks i None) b)
+  marked_p area' i b after valid' l =
+      let steps = marked area ls i b m l (subst IsValidArea after valid') in
+      subst (λ a. Steps a ls (area_with_chunk p i (get_or p.chunks i None) b)) (sym after)
+      (record { is = steps.is ∙ ap (λ (q : SizedAreaMeaning). area_with_chunk q i (get_or q.chunks i None) b) v; measured = steps.measured })

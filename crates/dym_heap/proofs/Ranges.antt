@@ -18,7 +18,7 @@ use Rattle.dym_heap.specs.Addresses.{chunk_offset, LiesAt}
 use Rattle.dym_heap.specs.Chunks.{put}
 use Rattle.dym_heap.specs.Fetches.{ChunkMeaning, heap_chunk}
 use Rattle.dym_heap.specs.Meaning.{HeapMeaning}
-use Rattle.dym_heap.specs.Shelves.{ShelfMeaning, IsValidShelf, IsTidy, with_put}
+use Rattle.dym_heap.specs.Shelves.{ShelfMeaning, FitsIn, IsValidShelf, IsTidy, with_put}
 use Rattle.dym_heap.specs.Touches.{has_byte_in, is_hit, touched_besides, touched_in, with_touch}
 use Rattle.dym_heap.proofs.Offsets.{parts_at, index_of_parts, number_of, place_of_live}
 use Rattle.dym_heap.proofs.Chunks.{touched_is}
@@ -257,6 +257,11 @@ len_some (Some bytes) len is = sym (ap (λ x. unwrap_or x 0) is)
 -- a chunk that isn't live, or has no such byte, is no hit
 pub missed : (st : HeapState) (hd : Handle) (at k : ℕ) → length (bytes_at st.live (key hd)) ≤ at → heap_chunk st k ≡ touched_besides (is_hit st.live hd at k) (heap_chunk st k)
 missed st hd at k short = none_touched (is_hit st.live hd at k) (heap_chunk st k) (miss st.live hd at k short)
+
+-- a chunk whose length is not 0
+pub some_bytes : (o got : Option (List ℕ)) (n : ℕ) → Some n ≡ option_map length got → got ≡ o → (n ≡ 0 → ⊥) → FitsIn o 1
+some_bytes None got n is same other = absurd (let e = is ∙ ap (option_map length) same in cc)
+some_bytes (Some old) got n is same other = (let e : n ≡ length old = ap (λ x. unwrap_or x 0) (is ∙ ap (option_map length) same) in let z : n ≡ 0 → ⊥ = other in omega (arith, e, z))
 
 pub missed_none : (st : HeapState) (hd : Handle) (at k : ℕ) → None ≡ option_map (length {A = ℕ}) (get st.live (key hd)) → heap_chunk st k ≡ touched_besides (is_hit st.live hd at k) (heap_chunk st k)
 missed_none st hd at k none = missed st hd at k (omega (arith, len_none (get st.live (key hd)) none))

@@ -8,6 +8,7 @@ use Rattle.dym_base.specs.Origins.{Origin, own, shared}
 use Rattle.dym_base.specs.declared.handle.Handle.{Handle}
 use Rattle.dym_base.specs.declared.limits.TheConstants.{SEGMENT_BYTES, LEAST_EXPONENT, GREATEST_EXPONENT}
 use Rattle.dym_heap.specs.Meaning.{HeapMeaning}
+use Rattle.dym_heap.specs.Shelves.{FitsIn}
 
 -- how far into the region the chunk of a handle lies: area o of class c has segment c * quota + o
 abbrev pub chunk_offset : ℕ → Handle → ℕ
@@ -21,6 +22,10 @@ region_of (shared name) = Some name.block
 -- where the chunk of a handle lies while it is live, where the heap's segments come from one region
 abbrev pub address_of : HeapMeaning → Handle → Option Ptr
 address_of heap h = option_map (λ region. block_ptr region (chunk_offset heap.quota h)) (region_of heap.origin)
+
+-- a live chunk with at least one byte
+abbrev pub HasByte : HeapMeaning → Handle → Type 0
+HasByte h handle = FitsIn (get h.state.live (key handle)) 1
 
 -- the byte at `offset` of the region is one of the live chunk's
 abbrev pub HasByteAt : HeapMeaning → Handle → ℕ → Type 0

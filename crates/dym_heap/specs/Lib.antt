@@ -3,7 +3,6 @@ pub mod Addresses
 pub mod Arrangement
 pub mod Bodies
 pub mod Chunks
-pub mod ChunkLends
 pub mod Fetches
 pub mod Lengths
 pub mod Meaning
@@ -11,7 +10,6 @@ pub mod RecordLoads
 pub mod Replies
 pub mod ShapeSteps
 pub mod Shelves
-pub mod SizedAreaLends
 pub mod SizedAreas
 pub mod Touches
 pub mod Undo

@@ -12,8 +12,6 @@ ghost use Rattle.dym_heap.specs.Shelves.{FitsIn};
 ghost use Rattle.dym_heap.specs.Bodies.{IsBodyOf, IsBody, IsLoadedSizedArea};
 ghost use Rattle.dym_heap.specs.Fetches.{area_chunk, marked, fetched, packed_at, IsReshaped};
 ghost use Rattle.std.specs.Option.{ForSome};
-ghost use Rattle.std.specs.Borrow.{sem};
-ghost use Rattle.dym_heap.specs.ChunkLends.{area_lent};
 ghost use Rattle.dym_heap.specs.AreaViews.{IsUsedRun};
 ghost use Rattle.dym_heap.specs.SizedAreas.{SizedAreaMeaning, IsSizedArea, clean, used_touched, IsFreeIn, IsUsedFrom, IsRepeated, area_with_chunk, with_length, len_of};
 
@@ -51,8 +49,6 @@ impl<G: Segment> Model for SizedArea<G> {
 }
 
 impl<G: Segment> SizedArea<G> {
-    ghost use Rattle.dym_heap.specs.SizedAreaLends.{lends_of_area};
-
     /// A place with no chunk in use.
     pub(crate) fn new(
         class: Class,
@@ -197,17 +193,6 @@ impl<G: Segment> SizedArea<G> {
             .bytes(i, 0, noted_len(&self.lengths, self.area.class(), i))
     }
 
-    /// The bytes of chunk `i`, which is in use and has at least one, to be changed in place. The chunk is touched.
-    pub(crate) fn used_bytes_mut(&mut self, i: u32) -> &mut [u8]
-        requires { FitsIn (slice_index_or self.old.chunks i None) 1 }
-        ensures* writes_back { sem 𝓛 (lends_of_area G.row G.Segment self.entry i result) }
-        ensures value { Some result.now ≡ slice_index_or self.old.chunks i None }
-        ensures valid { (ws : List ℕ) → IsSizedArea (area_lent self.old i ws) }
-    {
-        let len = noted_len(&self.lengths, self.area.class(), i);
-        self.area.bytes_mut(i, 0, len)
-    }
-
     /// Chunk `i`, which is in use and has at least one byte, is touched.
     pub(crate) fn touch(&mut self, i: u32)
         requires { FitsIn (slice_index_or self.old.chunks i None) 1 }
@@ -215,7 +200,7 @@ impl<G: Segment> SizedArea<G> {
             (λ old. self.new ≡ area_with_chunk self.old i (Some old) true) }
         ensures valid { IsSizedArea self.new }
     {
-        let _bytes = self.used_bytes_mut(i);
+        self.area.set_dirty_at(i);
     }
 
     /// The bytes of chunk `i`, and None where it is free.

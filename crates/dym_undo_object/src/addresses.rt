@@ -6,11 +6,10 @@ ghost use denote.RawPtr.{block_ptr};
 ghost use Rattle.dym_base.specs.HeapStep.{key, handle_of};
 ghost use Rattle.dym_base.specs.declared.limits.TheConstants.{COUNT_LIMIT, LEAST_EXPONENT, GREATEST_EXPONENT};
 ghost use Rattle.dym_heap.specs.Addresses.{region_of, HasByteAt};
-ghost use Rattle.dym_heap.specs.ChunkLends.{check_answer};
 ghost use Rattle.dym_heap.specs.Touches.{touched_in};
 ghost use Rattle.dym_undo_object.specs.Addresses.{address_of};
 ghost use Rattle.dym_undo_object.specs.Meaning.{IsStep, IsWhole, counted, step_by};
-ghost use Rattle.dym_undo_object.specs.Touches.{place_reply, write_of_all};
+ghost use Rattle.dym_undo_object.specs.Touches.{check_answer, place_reply, write_of_all};
 
 use crate::touches::{keep_in, only_chunk};
 use crate::undo_object::UndoObject;

@@ -3,8 +3,7 @@ ghost use Rattle.std.specs.Prelude.{◌≡◌, ℕ, ◌-◌, ◌^◌, ◌<◌, �
 ghost use Rattle.std.specs.FinMap.{contains_key};
 ghost use Rattle.dym_base.specs.declared.limits.TheConstants.{LEAST_EXPONENT, GREATEST_EXPONENT, MOST_QUOTA};
 ghost use Rattle.dym_base.specs.HeapStep.{handle_of, key};
-ghost use Rattle.dym_heap.specs.Addresses.{HasByteAt};
-ghost use Rattle.dym_heap.specs.ChunkLends.{HasByte};
+ghost use Rattle.dym_heap.specs.Addresses.{HasByte, HasByteAt};
 ghost use Rattle.dym_heap.specs.Meaning.{IsSound};
 ghost use Rattle.dym_heap.specs.Touches.{all_touched, has_byte_in};
 ghost use Rattle.dym_undo.specs.UndoLogs.{Belongs, IsKept};

@@ -1,6 +1,5 @@
 use Rattle.std.proofs.Common.{arith, refl}
-use Rattle.dym_heap.proofs.ChunkLent.{some_bytes}
-use Rattle.dym_heap.proofs.Ranges.{missed_none, missed_short, touches}
+use Rattle.dym_heap.proofs.Ranges.{some_bytes, missed_none, missed_short, touches}
 use Rattle.dym_heap.proofs.address.touch_byte.Goals as goal
 
 pub returns-in_default-clause-touched : goal.returns-in_default-clause-touched

@@ -3,7 +3,7 @@ use Rattle.std.specs.FinMap.{get}
 use Rattle.dym_base.specs.HeapStep.{key}
 use Rattle.dym_base.specs.Heaps.{HeapState}
 use Rattle.dym_base.specs.declared.handle.Handle.{Handle}
-use Rattle.dym_heap.specs.ChunkLends.{HasByte}
+use Rattle.dym_heap.specs.Addresses.{HasByte}
 use Rattle.dym_heap.specs.Meaning.{HeapMeaning, IsSound}
 use Rattle.dym_heap.specs.Touches.{has_byte_in, touched_in, with_touch}
 use Rattle.dym_heap.proofs.ShelfCalls.{some_fits}
