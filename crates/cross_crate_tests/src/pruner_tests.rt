@@ -148,15 +148,13 @@ fn a_pruner_sweeps_while_a_worker_runs(rt: HostRuntime) -> Result<(), Fail> {
     Ok(())
 }
 
-/// An ask is heard, at once or by a note of it; and a pruner of no table, which heard it, ends.
+/// An ask is heard; and a pruner of no table, which heard it, ends.
 #[test]
 fn hears_what_was_asked(rt: HostRuntime) -> Result<(), Fail> {
     let (mut asker, mut ear) = Stop::open(rt.alloc())?;
     let before = [ear.heard(), ear.asked()];
     asker.ask();
-    let note = asker.note();
-    ear.hear(note);
-    let after = [ear.heard(), ear.asked()];
+    let after = [ear.asked(), ear.heard()];
     assert!(rt; before == [false, false] && after == [true, true]);
     assert!(rt; pruner(&rt, &mut [], &mut ear) == 0);
     Ok(())

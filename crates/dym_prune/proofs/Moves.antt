@@ -1,11 +1,11 @@
 -- Each step of a stop keeps its rule.
-use Rattle.std.proofs.Common.{◌≡◌, ◌≢◌, ℕ, zero, suc, ◌+◌, ◌<◌, Bool, true, false, true≢false, List, [], ◌∷◌, length, set, sym, refl, ap, ◌∙◌, subst, inl, inr, ⊎_elim, arith}
+use Rattle.std.proofs.Common.{◌≡◌, ◌≢◌, ℕ, zero, suc, ◌+◌, ◌<◌, true, false, true≢false, List, [], ◌∷◌, length, set, sym, refl, ap, ◌∙◌, subst, inl, inr, ⊎_elim, arith}
 use Rattle.std.specs.Prelude.{slice_index}
 use Rattle.std.proofs.lemmas.Bool.{cases_Bool, cases_eq}
 use Rattle.std.proofs.lemmas.List.{length-set, get_or-set_same, set-get_or}
 use mathlib.Core.Option.{some, some-injective, some-ne-none}
 use lib.ListN.{get_elem?}
-use Rattle.atomic_table.specs.Table.{State, Me, keeps, stepped, Allows, Splits, Joins, opening}
+use Rattle.atomic_table.specs.Table.{State, Me, keeps, stepped, Allows, Splits, opening}
 use Rattle.atomic_table.proofs.Lists.{at_set, at_snoc, at_longer, set_here, set_else}
 use Rattle.dym_prune.specs.declared.stop_view.StopView.{StopView}
 use Rattle.dym_prune.specs.Stops.{stop_view, flag, HasAsker, IsStop, Asks, Listens}
@@ -121,15 +121,14 @@ none_heard (suc i) v here o = absurd (some-ne-none v (sym here))
 pub begins : (S : Type 0) → IsStop (opening {S = S} (0 ∷ []) [] (stop_view true false false 0))
 begins S = (refl, 0, (stop_view true false false 0, refl, refl, refl), first_asks, none_heard)
 
--- the end that asks is cut in two: itself, and a view that has heard only where it has asked
-pub splits : {S : Type 0} → (id : ℕ) (v : StopView) (heard : Bool) → v.asks ≡ true → (heard ≡ true → v.asked ≡ true)
-    → Splits {S = S} IsStop id v (stop_view true v.asked false 0) (stop_view false false heard 0)
-splits id v heard asks told s is at =
+-- the end that asks is cut in two: itself, and an end that has heard nothing
+pub splits : {S : Type 0} → (id : ℕ) (v : StopView) → v.asks ≡ true
+    → Splits {S = S} IsStop id v (stop_view true v.asked false 0) (stop_view false false false 0)
+splits id v asks s is at =
     let l = stop_view true v.asked false 0 in
-    let r = stop_view false false heard 0 in
+    let r = stop_view false false false 0 in
     let views = set s.views id l in
     let word = slice_index s.words 0 in
-    let own : is.2.0 ≡ v = some-injective is.2.0 v (sym is.2.1 ∙ ap (get_elem? s.views) (sym (is.3 id v at asks)) ∙ at) in
     let left = has_asker word s.views id v l is.1 at is.2 (sym asks) refl in (
       is.0,
       is.1,
@@ -142,28 +141,6 @@ splits id v heard asks told s is at =
       (λ i u here o.
           ⊎_elim
           (λ (x : get_elem? views i ≡ some u). heard_is_asked word s.views id l (λ p. absurd (true≢false (sym p))) is.4 i u x o)
-          (λ (x : r ≡ u). is.2.3 ∙ ap (λ (y : StopView). flag y.asked) own ∙ ap flag (told (ap (λ (y : StopView). y.heard) x ∙ o)))
+          (λ (x : r ≡ u). absurd (true≢false (sym o ∙ ap (λ (y : StopView). y.heard) (sym x))))
           (at_snoc views r u i here)),
-    )
-
--- an end that takes in a view which has heard has heard, too
-pub joins : {S : Type 0} → (id : ℕ) (v : StopView) (other : ℕ) (w : StopView) → w ≡ stop_view false false true 0
-    → Joins {S = S} IsStop id v other w (stop_view v.asks v.asked true v.misses) (stop_view false false false 0)
-joins id v other w knows s is at apart there =
-    let both = stop_view v.asks v.asked true v.misses in
-    let spent = stop_view false false false 0 in
-    let word = slice_index s.words 0 in
-    let views = set s.views id both in
-    let was : get_elem? s.views other ≡ some w =
-    ⊎_elim
-    (λ (x : (other ≡ id) × (both ≡ w)). absurd (apart x.0))
-    (λ (x : (other ≢ id) × (get_elem? s.views other ≡ some w)). x.1)
-    (at_set s.views id other both w there) in
-    let one : word ≡ 1 = is.4 other w was (ap (λ (y : StopView). y.heard) knows) in
-    let first = has_asker word s.views id v both is.1 at is.2 refl refl in (
-      is.0,
-      is.1,
-      has_asker word views other w spent is.1 there first (sym (ap (λ (y : StopView). y.asks) knows)) (sym (ap (λ (y : StopView). y.asked) knows)),
-      one_asks views other w spent is.1 there (one_asks s.views id v both is.1 at is.3 (λ o. o)) (λ o. absurd (true≢false (sym o))),
-      (λ i u here o. one),
     )

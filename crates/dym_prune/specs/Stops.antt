@@ -11,10 +11,6 @@ pub record AskerMeaning : Type 0 where
   pub stop : TableName
   pub asked : Bool
 
--- what contracts see of a note that a stop was asked for
-pub record NoteMeaning : Type 0 where
-  pub stop : TableName
-
 -- what contracts see of an end that listens: to which stop, whether it has heard, and how often it found that nobody had asked
 pub record EarMeaning : Type 0 where
   pub stop : TableName

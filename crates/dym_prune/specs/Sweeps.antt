@@ -32,8 +32,9 @@ pub record Pruned (old new : List SweeperMeaning) (answer : ℕ) : Type 0 where
 abbrev pub OneRound : List SweeperMeaning → List SweeperMeaning → Type 0
 OneRound old new = (k : ℕ) (d : SweeperMeaning) → k < length old → (slice_index_or new k d).rounds ≡ (slice_index_or old k d).rounds + 1
 
--- after each round but the last, two listens found that nobody had asked, and after the last one at most one did: the listen that found
--- its word was the last. The numbers are how often the end that listens had found nothing, before and after
-pub record NoneAfter (old new : List SweeperMeaning) (before after : ℕ) : Type 0 where
-  pub none_more : (k : ℕ) (d : SweeperMeaning) → k < length old → 2 * (slice_index_or new k d).rounds + before ≤ 2 * (slice_index_or old k d).rounds + 2 + after
-  pub none_less : (k : ℕ) (d : SweeperMeaning) → k < length old → 2 * (slice_index_or old k d).rounds + after + 1 ≤ 2 * (slice_index_or new k d).rounds + before
+-- how many rounds each sweeper began: after each round but the last, two listens found that nobody had asked, and after the last one at
+-- most one did, as the listen that found its word was the last. The numbers are how often the end that listens had found nothing, before
+-- and after
+pub record CountsRounds (old new : List SweeperMeaning) (before after : ℕ) : Type 0 where
+  pub rounds_most : (k : ℕ) (d : SweeperMeaning) → k < length old → 2 * (slice_index_or new k d).rounds + before ≤ 2 * (slice_index_or old k d).rounds + 2 + after
+  pub rounds_least : (k : ℕ) (d : SweeperMeaning) → k < length old → 2 * (slice_index_or old k d).rounds + after + 1 ≤ 2 * (slice_index_or new k d).rounds + before

@@ -10,5 +10,5 @@ mod stop;
 pub mod stop_view;
 mod sweep_loop;
 
-pub use stop::{Asker, Ear, Note, Stop};
+pub use stop::{Asker, Ear, Stop};
 pub use sweep_loop::pruner;

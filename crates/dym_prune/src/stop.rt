@@ -1,9 +1,9 @@
 //! A stop: one shared word, by which one thread asks another to end.
-ghost use Rattle.std.specs.Prelude.{◌≡◌, ◌+◌, [], true, false, IfOk, ◌↔◌, IsTrue, IsFalse};
-ghost use Rattle.dym_prune.specs.Stops.{AskerMeaning, EarMeaning, NoteMeaning, stop_view};
+ghost use Rattle.std.specs.Prelude.{◌≡◌, ◌+◌, true, false, IfOk, IsTrue, IsFalse};
+ghost use Rattle.dym_prune.specs.Stops.{AskerMeaning, EarMeaning, stop_view};
 
 use crate::stop_view::StopView;
-use atomic_table::{Join, Play, Seat, Split, Table, TableRule};
+use atomic_table::{Play, Seat, Split, Table, TableRule};
 use std::alloc::{AllocError, Global};
 use std::marker::Model;
 use std::sync::{Arc, Wait};
@@ -34,30 +34,6 @@ impl Split<StopView> for Ends {
     ghost left = { λ v. stop_view true v.asked false 0 };
 
     ghost right = { λ v. stop_view false false false 0 };
-}
-
-/// An end that has asked keeps asking, and the other view knows that the word is 1.
-struct Noted;
-
-impl Split<StopView> for Noted {
-    ghost use Rattle.std.specs.Prelude.{true, false};
-    ghost use Rattle.dym_prune.specs.Stops.{stop_view};
-
-    ghost left = { λ v. stop_view true v.asked false 0 };
-
-    ghost right = { λ v. stop_view false false true 0 };
-}
-
-/// An end that listens has heard what another view knows.
-struct Hear;
-
-impl Join<StopView> for Hear {
-    ghost use Rattle.std.specs.Prelude.{true, false};
-    ghost use Rattle.dym_prune.specs.Stops.{stop_view};
-
-    ghost both = { λ v _. stop_view v.asks v.asked true v.misses };
-
-    ghost spent = { stop_view false false false 0 };
 }
 
 /// The step of an end that asks.
@@ -99,22 +75,6 @@ impl Model for Asker {
     ghost Value = { AskerMeaning };
 
     ghost view = { λ a. record { stop = name_of a.seat.table_id; asked = a.seat.me.0.asked } };
-}
-
-/// A note that a stop was asked for. It has no bytes: with it an end of that stop has heard.
-#[derive(Drop)]
-pub struct Note {
-    seat: End,
-    ghost asked: { seat.me ≡ (stop_view false false true 0, []) },
-}
-
-impl Model for Note {
-    ghost use Rattle.dym_slots.specs.Meanings.{name_of};
-    ghost use Rattle.dym_prune.specs.Stops.{NoteMeaning};
-
-    ghost Value = { NoteMeaning };
-
-    ghost view = { λ n. record { stop = name_of n.seat.table_id } };
 }
 
 /// The end of a stop that hears of it. Contracts see of which stop it is, whether it has heard, and how often it listened and found
@@ -169,29 +129,9 @@ impl Asker {
         self.table.shared.store::<Ask>(&mut self.seat, 0, 1);
         self.table.shared.wake_one(0);
     }
-
-    /// A note that the stop was asked for, once it was.
-    pub fn note(&mut self) -> Note
-        requires asked { self.old.asked ≡ true }
-        ensures same { self.new ≡ self.old }
-        ensures stop { result.stop ≡ self.old.stop }
-    {
-        let seat = self.table.shared.split_seat::<Noted>(&mut self.seat);
-        Note { seat }
-    }
 }
 
 impl Ear {
-    /// Has heard from now on, by a note that this stop was asked for. Each `asked` that comes later then answers that it was.
-    pub fn hear(&mut self, note: Note)
-        requires { note.stop ≡ self.old.stop }
-        ensures { self.new ≡ record { stop = self.old.stop; heard = true; misses = self.old.misses } }
-    {
-        let Note { seat } = note;
-        self.table.shared.join_seat::<Hear>(&mut self.seat, seat);
-        self.heard = true;
-    }
-
     /// Whether the stop was asked for, by one load of the word. Once this end has heard, the answer is always true.
     pub fn asked(&mut self) -> bool
         ensures found { IsTrue result → self.new

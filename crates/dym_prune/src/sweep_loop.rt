@@ -1,6 +1,6 @@
 //! The loop that sweeps until it is told to stop.
 ghost use Rattle.std.specs.Prelude.{◌≡◌, ◌+◌, ◌≤◌, true, IsTrue, IsFalse};
-ghost use Rattle.dym_prune.specs.Sweeps.{NoneAfter, OneRound, Pruned};
+ghost use Rattle.dym_prune.specs.Sweeps.{CountsRounds, OneRound, Pruned};
 
 use crate::stop::Ear;
 use dym_slots::Sweeper;
@@ -19,7 +19,7 @@ const REST_FOR_A_TABLE: u64 = 16;
 pub fn pruner<R: Wait>(rt: &R, sweepers: &mut [Sweeper], ear: &mut Ear) -> u64
     ensures heard { ear.new.heard ≡ true }
     ensures pruned { Pruned sweepers.old sweepers.new result }
-    ensures prompt { NoneAfter sweepers.old sweepers.new ear.old.misses ear.new.misses }
+    ensures counted { CountsRounds sweepers.old sweepers.new ear.old.misses ear.new.misses }
 {
     let rest = rest_after(sweepers.len());
     let mut total: u64 = 0;
