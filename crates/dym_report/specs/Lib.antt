@@ -5,5 +5,4 @@ pub mod Replies
 pub mod Objects
 pub mod Orders
 pub mod Late
-pub mod Report
 pub mod Summary

@@ -1,16 +1,11 @@
--- The summary of a script: what all its objects come to.
-use Rattle.std.specs.Prelude.{ℕ, ◌+◌, not, List, [], ◌∷◌, length, count_by}
+-- The summary of a script: what an object comes to, and what objects come to together.
+use Rattle.std.specs.Prelude.{ℕ, ◌+◌, not, List, count_by}
 use Rattle.std.specs.FinMap.{len}
 use Rattle.dym_base.specs.Heaps.{Live, held}
-use Rattle.dym_base.specs.Objects.{slots}
-use Rattle.dym_base.specs.declared.command.Version.{Version}
 use Rattle.dym_base.specs.declared.reply.Reply.{Reply}
 pub use Rattle.dym_commands.specs.Replies.{is_refusal}
-use Rattle.dym_script.specs.Scripts.{ScriptMeaning}
 use Rattle.dym_report.specs.declared.totals.Totals.{Totals}
-use Rattle.dym_report.specs.Orders.{summary_text}
 use Rattle.dym_report.specs.declared.tally.Tally.{Tally}
-use Rattle.dym_report.specs.Report.{Own, objects_of, replies_of, end_of}
 
 -- what an object comes to that gave these replies, has these chunks, and keeps so many logs in so many records: its replies that are no
 -- refusals and those that are, its live chunks, the segments that they need, its kept logs, and the records that these take
@@ -23,12 +18,6 @@ tally_with replies live kept slots = record {
   kept = kept;
   slots = slots;
 }
-
--- what a declared object comes to by its own commands
-unfoldable pub tally_of : Version → Own → Tally
-tally_of version o =
-    let s = end_of version o in
-    tally_with (replies_of version o) s.heap.live (length s.logs) (slots s.logs)
 
 abbrev pub no_tally : Tally
 no_tally = record { ok = 0; refused = 0; chunks = 0; segments = 0; kept = 0; slots = 0 }
@@ -43,11 +32,6 @@ both_tallies a b = record {
   slots = a.slots + b.slots;
 }
 
--- what objects come to together
-abbrev pub tally_all : Version → List Own → Tally
-tally_all version [] = no_tally
-tally_all version (o ∷ os) = both_tallies (tally_of version o) (tally_all version os)
-
 -- the eight numbers of so many objects that come to this together
 abbrev pub totals_with : ℕ → Tally → Totals
 totals_with objects tally = record {
@@ -60,22 +44,3 @@ totals_with objects tally = record {
   kept = tally.kept;
   slots = tally.slots;
 }
-
--- the eight numbers of a summary
-abbrev pub totals_of : ScriptMeaning → Totals
-totals_of said =
-    let all = tally_all said.version (objects_of said) in
-    record {
-      objects = length said.objects;
-      commands = length said.lines;
-      ok = all.ok;
-      refused = all.refused;
-      chunks = all.chunks;
-      segments = all.segments;
-      kept = all.kept;
-      slots = all.slots;
-    }
-
--- the line of a summary
-abbrev pub summary_of : ScriptMeaning → List ℕ
-summary_of said = summary_text (totals_of said)

@@ -1,10 +1,10 @@
 //! What the program prints: replies, heaps, logs, summaries and errors, as text in a sink.
 //!
-//! Below stand `dym_script` and `dym_commands`, whose parts and replies its definitions speak of,
-//! `dym_heap`, whose chunks are printed, and `dym_io`; above stand the top call and what runs objects
-//! in waves. Its one contract: each call writes the text that its definition says, or a front of it
-//! where the sink failed, and then the count of its faults rose. No call takes memory. What a script's
-//! objects print (`report_text`) and come to (`totals_of`) is defined here, for every order.
+//! Below stand `dym_commands`, of whose replies its definitions speak, `dym_heap`, whose chunks are
+//! printed, and `dym_io`; above stand the top call and what runs objects in waves. Its one contract:
+//! each call writes the text that its definition says, or a front of it where the sink failed, and
+//! then the count of its faults rose. No call takes memory. It knows of no script: what a script's
+//! objects print (`report_text`) and come to (`totals_of`) is defined in `dym_wave`, for every order.
 #![tactic(auto)]
 
 pub mod hex_text;

@@ -10,6 +10,7 @@ pub mod Keepers
 pub mod Pieces
 pub mod WholeScripts
 pub mod Parts
+pub mod OwnCommands
 pub mod ByObjects
 pub mod ReadAheads
 pub mod Laws

@@ -5,8 +5,9 @@ use Rattle.std.proofs.lemmas.List.Sums.{sum_by-cons}
 use Rattle.std.specs.List.{FoldsTo}
 use Rattle.dym_base.specs.Objects.{object_start}
 use Rattle.dym_base.specs.declared.limits.TheConstants.{MOST_OBJECTS, MOST_COMMANDS}
-use Rattle.dym_report.specs.Report.{own_of}
-use Rattle.dym_report.specs.Summary.{tally_of, both_tallies, no_tally, tally_all}
+use Rattle.dym_script.specs.OwnCommands.{own_of}
+use Rattle.dym_report.specs.Summary.{both_tallies, no_tally}
+use Rattle.dym_wave.specs.Reports.{tally_of, tally_all}
 use Rattle.dym_report.specs.declared.tally.Tally.{Tally}
 use Rattle.dym_report.proofs.Tallies.{tally_none, tally_last, tally_regroup, length_replies}
 use Rattle.dym_script.specs.declared.parts.Part.{Part}

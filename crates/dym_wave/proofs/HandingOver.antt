@@ -5,7 +5,7 @@ use Rattle.std.proofs.lemmas.List.{length-map, map-append, map_more}
 use Rattle.std.proofs.lemmas.List.Sorted.{length_permutation}
 use Rattle.std.proofs.Common.{take-append-drop, add-one}
 use Rattle.std.specs.List.{FoldsTo}
-use Rattle.dym_report.specs.Report.{own_of}
+use Rattle.dym_script.specs.OwnCommands.{own_of}
 use Rattle.dym_script.specs.declared.parts.Part.{Part}
 use Rattle.dym_wave.specs.declared.report_options.ReportOptions.{ReportOptions}
 use Rattle.dym_wave.specs.declared.run_fail.RunFail.{RunFail}

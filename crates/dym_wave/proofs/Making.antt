@@ -4,7 +4,7 @@ use Rattle.std.specs.Prelude.{is_some, option_map, IfSome}
 use Rattle.std.proofs.lemmas.List.{map_push, nil_from_length}
 use Rattle.std.proofs.lemmas.List.Elements.{All-push}
 use Rattle.dym_script.specs.declared.parts.Part.{Part}
-use Rattle.dym_report.specs.Report.{own_of}
+use Rattle.dym_script.specs.OwnCommands.{own_of}
 use Rattle.dym_view.specs.Histories.{Beginning}
 use Rattle.dym_wave.specs.declared.wave_options.WaveOptions.{WaveOptions}
 use Rattle.dym_wave.specs.Parts.{quota_of}

@@ -8,7 +8,7 @@ use Rattle.std.proofs.lemmas.List.Folds.{drop_split}
 use Rattle.std.proofs.Math.Seq.{take-add, take-length, drop-append-add}
 use Rattle.dym_script.specs.declared.parts.Part.{Part}
 use Rattle.std.proofs.lemmas.Bool.{cases_lt}
-use Rattle.dym_report.specs.Report.{IsRunnable}
+use Rattle.dym_script.specs.OwnCommands.{IsRunnable}
 use Rattle.dym_wave.specs.Parts.{quota_of, IsSumOfRun}
 
 -- each of some numbers is at most their sum

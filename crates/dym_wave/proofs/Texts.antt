@@ -5,7 +5,8 @@ use Rattle.std.specs.Prelude.{⊤}
 use Rattle.std.specs.List.{FoldsTo}
 use Rattle.dym_io.specs.Sink.{Output, Appended, AppendedFront, FaultsTellCause, Stopped, Writes}
 use Rattle.dym_io.specs.Laws.{appended_nothing, appended_both, front_after, front_of_appended, front_within, rose_later, stopped_after, stopped_within, writes_after, writes_stopped}
-use Rattle.dym_report.specs.Report.{own_of, part_text}
+use Rattle.dym_script.specs.OwnCommands.{own_of}
+use Rattle.dym_wave.specs.Reports.{part_text}
 use Rattle.dym_script.specs.declared.parts.Part.{Part}
 use Rattle.dym_wave.specs.declared.report_options.ReportOptions.{ReportOptions}
 use Rattle.dym_wave.specs.Consumers.{CanTakeAll}

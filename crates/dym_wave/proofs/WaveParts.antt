@@ -2,7 +2,7 @@
 use Rattle.std.proofs.Common.{◌≡◌, ℕ, ◌<◌, Bool, List, length, map, All, Result, sym, ap, subst, ◌∙◌, arith}
 use Rattle.std.proofs.lemmas.Simd.{map-map}
 use Rattle.std.proofs.lemmas.List.{length-map, map-append}
-use Rattle.dym_report.specs.Report.{own_of}
+use Rattle.dym_script.specs.OwnCommands.{own_of}
 use Rattle.dym_script.specs.declared.parts.Part.{Part}
 use Rattle.dym_wave.specs.declared.run_fail.RunFail.{RunFail}
 use Rattle.dym_wave.specs.declared.wave_options.WaveOptions.{WaveOptions}

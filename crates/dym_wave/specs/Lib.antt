@@ -3,6 +3,7 @@ pub mod Lines
 pub mod Observations
 pub mod Parts
 pub mod Publications
+pub mod Reports
 pub mod Results
 pub mod States
 pub mod Sums

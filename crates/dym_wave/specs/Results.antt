@@ -6,7 +6,7 @@ use Rattle.dym_base.specs.declared.command.Version.{Version}
 use Rattle.dym_base.specs.declared.command.Command.{Command}
 use Rattle.dym_base.specs.declared.reply.Reply.{Reply}
 use Rattle.dym_report.specs.Objects.{object_text}
-use Rattle.dym_report.specs.Report.{Own, own_of}
+use Rattle.dym_script.specs.OwnCommands.{Own, own_of}
 use Rattle.dym_report.specs.Summary.{tally_with}
 use Rattle.dym_report.specs.declared.late_lines.ViewLine.{ViewLine}
 use Rattle.dym_report.specs.declared.tally.Tally.{Tally}

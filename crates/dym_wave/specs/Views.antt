@@ -8,7 +8,8 @@ use Rattle.dym_report.specs.Orders.{end_text}
 use Rattle.dym_report.specs.declared.late_lines.ViewLine.{ViewLine}
 use Rattle.dym_wave.specs.Lines.{oldest_view}
 use Rattle.dym_wave.specs.declared.report_options.ReportOptions.{ReportOptions}
-use Rattle.dym_report.specs.Report.{Own, objects_of, part_text, end_of}
+use Rattle.dym_script.specs.OwnCommands.{Own, objects_of, end_of}
+use Rattle.dym_wave.specs.Reports.{part_text}
 
 -- what is told of the view of an object, where views are
 abbrev pub shown_view : Bool → ObjectState → Option (Option ViewLine)

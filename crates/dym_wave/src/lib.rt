@@ -10,7 +10,8 @@
 //! (`JobMeaning`). So whatever the workers, the segments and the quantum, the text of `write_waves` is
 //! that of the objects' own commands (`part_text`, or `viewed_part`), the same that one object after
 //! another would give, or a front of it where the sink failed or memory was wanting; `tally_all` is
-//! what they come to. Jobs of any other kind are run by `run_with_sweepers` (`EveryJobBack`, `Pruned`).
+//! what they come to. Both are defined here, for every order (`specs/Reports.antt`). Jobs of any other
+//! kind are run by `run_with_sweepers` (`EveryJobBack`, `Pruned`).
 #![tactic(auto)]
 
 mod consumer;

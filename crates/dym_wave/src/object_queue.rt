@@ -3,7 +3,7 @@ ghost use Rattle.std.specs.Prelude.{◌≡◌, ◌<◌, ◌≤◌, ◌++◌, IfO
 ghost use Rattle.dym_base.specs.declared.limits.TheConstants.{MOST_OBJECTS, MOST_SEGMENTS};
 ghost use Rattle.dym_pool.specs.Jobs.{AllEnded};
 ghost use Rattle.dym_region.specs.Identity.{AreDistinct, ids_of};
-ghost use Rattle.dym_report.specs.Report.{IsRunnable};
+ghost use Rattle.dym_script.specs.OwnCommands.{IsRunnable};
 ghost use Rattle.dym_wave.specs.Consumers.{CanTakeAll, HandsOver, HandsOverFirst};
 ghost use Rattle.dym_wave.specs.Parts.{quota_of, IsShape, IsSumOfRun};
 ghost use Rattle.dym_wave.specs.Results.{origin_shown, parts_shown};

@@ -3,7 +3,7 @@ ghost use Rattle.std.specs.Prelude.{◌≡◌, ◌<◌, ◌≤◌, [], ◌++◌,
 ghost use Rattle.dym_base.specs.declared.limits.TheConstants.{MOST_OBJECTS, MOST_QUOTA, MOST_WORKERS};
 ghost use Rattle.dym_pool.specs.Jobs.{AllEnded};
 ghost use Rattle.dym_region.specs.Identity.{AreDistinct};
-ghost use Rattle.dym_report.specs.Report.{IsRunnable};
+ghost use Rattle.dym_script.specs.OwnCommands.{IsRunnable};
 ghost use Rattle.dym_wave.specs.Parts.{IsShape, StandInLine};
 ghost use Rattle.dym_wave.specs.Waves.{AreOfWave};
 ghost use Rattle.dym_wave.specs.WorkLists.{TakesParts};

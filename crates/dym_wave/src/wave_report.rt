@@ -2,7 +2,7 @@
 ghost use Rattle.std.specs.Prelude.{◌≡◌, ◌≤◌, ⊤, true, vec_len, All};
 ghost use Rattle.dym_base.specs.declared.limits.TheConstants.{MOST_OBJECTS};
 ghost use Rattle.dym_io.specs.Sink.{Appended, Stopped, WritesOr};
-ghost use Rattle.dym_report.specs.Report.{IsRunnable};
+ghost use Rattle.dym_script.specs.OwnCommands.{IsRunnable};
 ghost use Rattle.dym_report.specs.declared.write_fail.WriteFail.TheVariants.{Sink as SinkFailed};
 ghost use Rattle.dym_wave.specs.Parts.{IsShape};
 ghost use Rattle.dym_wave.specs.Results.{parts_text};

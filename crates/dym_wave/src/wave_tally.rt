@@ -1,8 +1,8 @@
 //! What objects that run in waves come to.
 ghost use Rattle.std.specs.Prelude.{◌≡◌, ◌+◌, ◌≤◌, false, IfOk, length, map, sum_by, vec_len, All};
 ghost use Rattle.dym_base.specs.declared.limits.TheConstants.{MOST_COMMANDS, MOST_OBJECTS};
-ghost use Rattle.dym_report.specs.Report.{own_of, IsRunnable};
-ghost use Rattle.dym_report.specs.Summary.{tally_all};
+ghost use Rattle.dym_script.specs.OwnCommands.{own_of, IsRunnable};
+ghost use Rattle.dym_wave.specs.Reports.{tally_all};
 ghost use Rattle.dym_wave.specs.Parts.{IsShape};
 
 use crate::consumer::Consumer;

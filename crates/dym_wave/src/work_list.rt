@@ -1,7 +1,7 @@
 //! How the works of a wave are made: one for each part, over a berth and a log table.
 ghost use Rattle.std.specs.Prelude.{◌≡◌, ◌≤◌, [], IfOk, map, vec_len, vec_capacity, All};
 ghost use Rattle.dym_base.specs.declared.limits.TheConstants.{MOST_OBJECTS};
-ghost use Rattle.dym_report.specs.Report.{IsRunnable};
+ghost use Rattle.dym_script.specs.OwnCommands.{IsRunnable};
 ghost use Rattle.dym_wave.specs.Parts.{IsShape, StandInLine};
 ghost use Rattle.dym_wave.specs.States.{CanTakeBerth, IsFreshKeep};
 ghost use Rattle.dym_wave.specs.Waves.{tables_of};

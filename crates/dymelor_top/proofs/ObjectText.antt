@@ -8,7 +8,8 @@ use Rattle.dym_object.specs.Meaning.{ObjectMeaning, state_of}
 use Rattle.dym_report.specs.Objects.{heading, state_text, object_text}
 use Rattle.dym_report.specs.Replies.{reply_line}
 use Rattle.dym_script.specs.declared.parts.Part.{Part}
-use Rattle.dym_report.specs.Report.{own_of, part_text}
+use Rattle.dym_script.specs.OwnCommands.{own_of}
+use Rattle.dym_wave.specs.Reports.{part_text}
 
 -- a part begins with its heading
 pub part_pieces : (v : Version) (part : Part) → (rest : List ℕ) × (part_text v (own_of part) ≡ heading part.decl.name ++ rest)

@@ -12,7 +12,8 @@ use Rattle.dym_script.specs.Scripts.{ScriptMeaning, own}
 use Rattle.dym_script.specs.Answers.{IsLawful}
 use Rattle.dym_script.specs.Parts.{EachHas}
 use Rattle.dym_wave.specs.Results.{parts_text}
-use Rattle.dym_report.specs.Report.{own_of, IsRunnable, own_from, objects_of, part_text, report_text}
+use Rattle.dym_script.specs.OwnCommands.{own_of, IsRunnable, own_from, objects_of}
+use Rattle.dym_wave.specs.Reports.{part_text, report_text}
 use Rattle.dym_report.specs.Orders.{end_text}
 use Rattle.dym_wave.specs.Views.{viewed_part, views_text}
 use Rattle.dymelor_top.specs.WaveTexts.{viewed_text}

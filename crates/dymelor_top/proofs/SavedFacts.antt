@@ -27,7 +27,7 @@ use Rattle.dym_script.specs.declared.script.Decl.{Decl}
 use Rattle.dym_object.specs.Turns.{Ran}
 use Rattle.dymelor_top.specs.Answers.{Answer, fault_answer, file_answer, named_answer}
 use Rattle.dymelor_top.specs.Checkpoints.{own_named, own_file}
-use Rattle.dym_report.specs.Report.{own_of, IsRunnable, Own}
+use Rattle.dym_script.specs.OwnCommands.{own_of, IsRunnable, Own}
 use Rattle.dymelor_top.proofs.CommandFacts.{command_at, command_fact, none_behind}
 use Rattle.dymelor_top.proofs.PartFacts.{parts_are_objects, parts_run, decl_at, length_decls}
 

@@ -21,11 +21,12 @@ use Rattle.dym_script.specs.ByObjects.{IsByObjects}
 use Rattle.dym_script.specs.Scripts.{ScriptMeaning, own}
 use Rattle.dym_script.specs.Parts.{EachHas}
 use Rattle.dym_report.specs.declared.tally.Tally.{Tally}
-use Rattle.dym_report.specs.Report.{own_of, objects_of}
+use Rattle.dym_script.specs.OwnCommands.{own_of, objects_of}
+use Rattle.dym_report.specs.Summary.{is_refusal, tally_with, both_tallies, totals_with}
+use Rattle.dym_wave.specs.Reports.{tally_of, tally_all, totals_of}
 use Rattle.dym_object.specs.Turns.{Ran}
 use Rattle.dymelor_top.proofs.CommandFacts.{command_at, command_fact}
 use Rattle.dymelor_top.proofs.PartFacts.{OwnsFrom, owns_first, owns_later, owns_all, parts_are_objects}
-use Rattle.dym_report.specs.Summary.{is_refusal, tally_of, tally_with, both_tallies, tally_all, totals_with, totals_of}
 
 -- ---- the commands of all objects are those of the lines
 

@@ -9,8 +9,7 @@ use Rattle.dym_script.specs.Scripts.{ScriptMeaning}
 use Rattle.dym_script.specs.declared.parts.PartCollector.{PartCollector}
 use Rattle.dym_script.specs.declared.parts.Part.{Part}
 use Rattle.dym_script.specs.declared.pieces.WholeScript.{WholeScript}
-use Rattle.dym_report.specs.Report.{report_text}
-use Rattle.dym_report.specs.Summary.{summary_of}
+use Rattle.dym_wave.specs.Reports.{report_text, summary_of}
 use Rattle.dymelor_top.specs.Answers.{fault_answer, first_above, report_or_summary, unless_above}
 use Rattle.dymelor_top.specs.WaveTexts.{waves_text}
 use Rattle.dymelor_top.specs.declared.waves.WaveText.{WaveText}

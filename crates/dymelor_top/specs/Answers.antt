@@ -22,8 +22,8 @@ use Rattle.dym_words.specs.declared.order.Usage.{Usage}
 use Rattle.dym_report.specs.Orders.{counts_text, events_text, error_text, usage_text}
 use Rattle.dymelor_top.specs.Checkpoints.{HoldsLogs, own_named, own_file, loaded_text}
 use Rattle.dymelor_top.specs.LateReport.{late_text}
-use Rattle.dym_report.specs.Report.{Own, report_text}
-use Rattle.dym_report.specs.Summary.{summary_of}
+use Rattle.dym_script.specs.OwnCommands.{Own}
+use Rattle.dym_wave.specs.Reports.{report_text, summary_of}
 use Rattle.dym_wave.specs.Views.{views_text}
 
 pub record Answer : Type 0 where

@@ -12,7 +12,7 @@ use Rattle.dym_ckpt.specs.FileReads.{heap_at}
 use Rattle.dym_report.specs.Objects.{object_text}
 use Rattle.dym_report.specs.Orders.{end_text}
 use Rattle.dym_script.specs.Scripts.{ScriptMeaning}
-use Rattle.dym_report.specs.Report.{Own, objects_of}
+use Rattle.dym_script.specs.OwnCommands.{Own, objects_of}
 
 -- the declared object of a name, with its own commands
 abbrev pub own_named : List ℕ → ScriptMeaning → Option Own

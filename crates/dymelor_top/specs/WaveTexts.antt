@@ -1,7 +1,6 @@
 -- What is written of a script whose objects run in waves.
 use Rattle.std.specs.Prelude.{ℕ, Bool, true, false, List}
-use Rattle.dym_report.specs.Report.{report_text}
-use Rattle.dym_report.specs.Summary.{summary_of}
+use Rattle.dym_wave.specs.Reports.{report_text, summary_of}
 use Rattle.dym_wave.specs.Views.{views_text}
 use Rattle.dym_script.specs.Scripts.{ScriptMeaning}
 use Rattle.dymelor_top.specs.declared.waves.WaveText.{WaveText}

@@ -7,8 +7,8 @@ ghost use Rattle.dym_object.specs.Meaning.{state_of};
 ghost use Rattle.dym_report.specs.Replies.{reply_line};
 ghost use Rattle.dym_script.specs.Scripts.{ScriptMeaning};
 ghost use Rattle.dym_script.specs.ByObjects.{IsByObjects};
-ghost use Rattle.dym_report.specs.Report.{IsRunnable, own_of, part_text, report_text};
-ghost use Rattle.dym_report.specs.Summary.{summary_of};
+ghost use Rattle.dym_script.specs.OwnCommands.{IsRunnable, own_of};
+ghost use Rattle.dym_wave.specs.Reports.{part_text, report_text, summary_of};
 ghost use Rattle.dymelor_top.specs.Answers.{report_or_summary};
 ghost use Rattle.dym_report.specs.declared.write_fail.WriteFail.TheVariants.{Sink as SinkFailed};
 

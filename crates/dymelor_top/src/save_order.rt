@@ -9,7 +9,7 @@ ghost use Rattle.dym_object.specs.Meaning.{HasRun, IsWhole, state_of};
 ghost use Rattle.dym_script.specs.Scripts.{ScriptMeaning};
 ghost use Rattle.dym_script.specs.ByObjects.{IsByObjects};
 ghost use Rattle.dymelor_top.specs.Checkpoints.{own_file, own_named};
-ghost use Rattle.dym_report.specs.Report.{IsRunnable, own_of};
+ghost use Rattle.dym_script.specs.OwnCommands.{IsRunnable, own_of};
 ghost use Rattle.dymelor_top.specs.Answers.{file_answer, named_answer};
 ghost use Rattle.dymelor_top.specs.Calls.{AnswersRead};
 

@@ -5,8 +5,9 @@ ghost use Rattle.dym_base.specs.declared.limits.TheConstants.{MOST_OBJECTS, MOST
 ghost use Rattle.dym_object.specs.Meaning.{state_of};
 ghost use Rattle.dym_script.specs.Scripts.{ScriptMeaning};
 ghost use Rattle.dym_script.specs.ByObjects.{IsByObjects};
-ghost use Rattle.dym_report.specs.Report.{IsRunnable, own_of};
-ghost use Rattle.dym_report.specs.Summary.{is_refusal, tally_of, tally_all, totals_of};
+ghost use Rattle.dym_script.specs.OwnCommands.{IsRunnable, own_of};
+ghost use Rattle.dym_report.specs.Summary.{is_refusal};
+ghost use Rattle.dym_wave.specs.Reports.{tally_of, tally_all, totals_of};
 
 use crate::plain_order::open_object;
 use crate::segment_store::SegmentStore;

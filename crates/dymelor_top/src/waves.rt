@@ -3,7 +3,7 @@ ghost use Rattle.std.specs.Prelude.{◌≡◌, ◌+◌, ◌≤◌, true, nat_lt,
 ghost use Rattle.std.specs.List.{find};
 ghost use Rattle.dym_io.specs.Sink.{WritesOr};
 ghost use Rattle.dym_wave.specs.Parts.{IsShape};
-ghost use Rattle.dym_report.specs.Summary.{summary_of, totals_of};
+ghost use Rattle.dym_wave.specs.Reports.{summary_of, totals_of};
 ghost use Rattle.dym_report.specs.declared.write_fail.WriteFail.TheVariants.{Sink as SinkFailed};
 ghost use Rattle.dym_script.specs.Scripts.{ScriptMeaning, script_of};
 ghost use Rattle.dym_script.specs.ByObjects.{IsByObjects};

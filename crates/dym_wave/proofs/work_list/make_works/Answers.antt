@@ -5,7 +5,7 @@ use Rattle.std.proofs.lemmas.List.{length-map, map_push, nil_from_length}
 use Rattle.std.proofs.lemmas.List.Elements.{All-rest}
 use Rattle.dym_base.specs.Origins.{shared}
 use Rattle.dym_quota.specs.QueueShape.{queue_name}
-use Rattle.dym_report.specs.Report.{IsRunnable}
+use Rattle.dym_script.specs.OwnCommands.{IsRunnable}
 use Rattle.dym_slots.specs.Meanings.{KeepMeaning}
 use Rattle.dym_wave.specs.States.{CanTakeBerth, IsFreshKeep}
 use Rattle.dym_wave.specs.Works.{OriginMeaning, origin_of}

@@ -2,7 +2,7 @@ use Rattle.std.proofs.Common.{◌≡◌, ℕ, ◌+◌, ◌≤◌, List, ◌++◌
 use Rattle.std.specs.VecDeque.{deque_len, deque_capacity}
 use Rattle.dym_base.specs.Origins.{shared}
 use Rattle.dym_quota.specs.QueueShape.{queue_name}
-use Rattle.dym_report.specs.Report.{IsRunnable}
+use Rattle.dym_script.specs.OwnCommands.{IsRunnable}
 use Rattle.dym_slots.specs.Meanings.{KeepMeaning}
 use Rattle.dym_wave.specs.Parts.{quota_of}
 use Rattle.dym_wave.specs.States.{CanTakeBerth, IsFreshKeep}

@@ -2,7 +2,8 @@ use Rattle.std.proofs.Common.{◌≡◌, subst, ap, ◌∙◌}
 use Rattle.dym_object.specs.Meaning.{ObjectMeaning}
 use Rattle.dym_io.specs.Sink.{WritesOr}
 use Rattle.dym_report.specs.declared.write_fail.WriteFail.TheVariants as fail
-use Rattle.dym_report.specs.Report.{own_of, part_text}
+use Rattle.dym_script.specs.OwnCommands.{own_of}
+use Rattle.dym_wave.specs.Reports.{part_text}
 use Rattle.dymelor_top.proofs.plain_order.write_part.Goals as goal
 
 pub returns : goal.returns

@@ -2,7 +2,8 @@ use Rattle.std.proofs.Common.{◌≡◌, ℕ, List}
 use Rattle.dym_io.specs.Laws.{cause_told_later}
 use Rattle.dym_script.specs.declared.parts.Part.{Part}
 use Rattle.dym_report.specs.declared.write_fail.WriteFail.TheVariants as fail
-use Rattle.dym_report.specs.Report.{own_of, part_text}
+use Rattle.dym_script.specs.OwnCommands.{own_of}
+use Rattle.dym_wave.specs.Reports.{part_text}
 use Rattle.dym_wave.proofs.Passing.{writes_or_passed}
 use Rattle.dymelor_top.proofs.PassedOn.{each_front_item}
 use Rattle.dymelor_top.proofs.plain_order.write_parts.Goals as goal

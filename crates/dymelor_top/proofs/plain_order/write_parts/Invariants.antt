@@ -1,6 +1,7 @@
 use Rattle.std.proofs.Common.{take, flat_map}
 use Rattle.dym_io.specs.Sink.{Appended}
-use Rattle.dym_report.specs.Report.{own_of, part_text}
+use Rattle.dym_script.specs.OwnCommands.{own_of}
+use Rattle.dym_wave.specs.Reports.{part_text}
 use Rattle.dymelor_top.proofs.plain_order.write_parts.Given as goal
 
 abbrev pub invariant-loop-part : goal.invariant-loop-part

@@ -1,5 +1,5 @@
 use Rattle.std.proofs.Common.{All, subst, sym}
-use Rattle.dym_report.specs.Report.{IsRunnable}
+use Rattle.dym_script.specs.OwnCommands.{IsRunnable}
 use Rattle.dymelor_top.proofs.PassedOn.{first_passed, second_stopped, second_done}
 use Rattle.dymelor_top.proofs.PartFacts.{parts_run, report_of_parts}
 use Rattle.dymelor_top.proofs.plain_order.write_report.Goals as goal

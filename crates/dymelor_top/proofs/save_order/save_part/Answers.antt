@@ -1,7 +1,7 @@
 use Rattle.std.proofs.Common.{◌≡◌, subst, ap, ◌∙◌}
 use Rattle.dym_base.specs.declared.command.Version.{Version}
 use Rattle.dym_object.specs.Meaning.{ObjectMeaning}
-use Rattle.dym_report.specs.Report.{own_of}
+use Rattle.dym_script.specs.OwnCommands.{own_of}
 use Rattle.dymelor_top.specs.Answers.{file_answer}
 use Rattle.dymelor_top.specs.Calls.{AnswersRead}
 use Rattle.dymelor_top.specs.Checkpoints.{own_file}

@@ -2,7 +2,7 @@ use Rattle.std.proofs.Common.{◌≡◌, ◌≤◌, length, sym, ap, subst, ◌�
 use Rattle.dym_base.specs.declared.limits.TheConstants.{MOST_INPUT_BYTES}
 use Rattle.dym_heap.specs.Meaning.{HeapMeaning}
 use Rattle.dym_object.specs.Meaning.{HasRun}
-use Rattle.dym_report.specs.Report.{own_of}
+use Rattle.dym_script.specs.OwnCommands.{own_of}
 use Rattle.dym_ckpt.specs.SavedFiles.{AreOf, file_of_logs}
 use Rattle.dymelor_top.specs.Answers.{Answer, file_answer}
 use Rattle.dymelor_top.specs.Calls.{AnswersRead}

@@ -1,8 +1,8 @@
 use Rattle.std.proofs.Common.{◌≡◌, ◌+◌, ◌≤◌, All, map, length, sum_by, subst, sym, ap, ◌∙◌, arith}
 use Rattle.dym_base.specs.declared.limits.TheConstants.{MOST_COMMANDS}
 use Rattle.dym_script.specs.declared.parts.Part.{Part}
-use Rattle.dym_report.specs.Report.{own_of, IsRunnable}
-use Rattle.dym_report.specs.Summary.{tally_all}
+use Rattle.dym_script.specs.OwnCommands.{own_of, IsRunnable}
+use Rattle.dym_wave.specs.Reports.{tally_all}
 use Rattle.dymelor_top.proofs.PartFacts.{parts_run}
 use Rattle.dymelor_top.proofs.SummaryFacts.{commands_of_parts, objects_of_parts, total_is}
 use Rattle.dymelor_top.proofs.summary.total.Goals as goal

@@ -1,7 +1,7 @@
 use Rattle.std.proofs.Common.{ℕ, map, refl, arith, ap, sym, ◌∙◌, length, drop}
 use Rattle.std.proofs.lemmas.List.{length-map}
 use Rattle.std.proofs.lemmas.List.Elements.{All-same}
-use Rattle.dym_report.specs.Report.{IsRunnable}
+use Rattle.dym_script.specs.OwnCommands.{IsRunnable}
 use Rattle.dym_wave.specs.Parts.{quota_of}
 use Rattle.dym_wave.specs.Works.{origin_of}
 use Rattle.dym_wave.proofs.QuotaRuns.{run_quotas, run_lined, all_back, lined_rest, run_length}
