@@ -273,8 +273,10 @@ DYM_NODISCARD DYM_API dym_status dym_open(dym_object *object, uint32_t quota, ui
  */
 DYM_NODISCARD DYM_API dym_status dym_open_checked(dym_object *object, uint32_t quota, uint32_t version);
 
-/* Closes an open object, and frees all its memory (no clause says so: valgrind sees it). It can be opened again then. No compiler warns where this status is dropped, since a
- * program that opened the object knows it. DYM_STATE: it was closed. */
+/*
+ * Closes an open object, and frees all its memory (that it is freed is tested, and no clause says it). The object can be opened again then. No
+ * compiler warns where this status is dropped, since a program that opened the object knows it. DYM_STATE: it was closed.
+ */
 DYM_API dym_status dym_close(dym_object *object);
 
 /* *heap is the version, the quota and the held segments of an object. This is no command. */
@@ -519,9 +521,10 @@ DYM_NODISCARD DYM_API dym_status dym_changed(const dym_object *object, uint64_t 
 /* ---- checkpoint files
  * A file has the kept logs of an object, with its quota and version, under a name of 1 to 32 characters A-Z a-z 0-9 _ that isn't
  * the word object. They are in it as if they were taken again: the oldest as a full log, each other one as an incremental one of the chunks in
- * which it differs from the log before, and each 32nd as a full one; so what is loaded has the same times and brings back the same heaps, which
- * follows of the clauses of dym_save and dym_load and is tested as a whole. What was changed since the newest log isn't in it. The program dymelor saves and loads files of this form. Its own numbers have their least byte
- * first; bytes of chunks stand as they are. It has no checksum. */
+ * which it differs from the log before, and each 32nd as a full one. So what is loaded has the same times and brings back the same heaps: this
+ * follows from the clauses of dym_save and dym_load, and is tested too. What was changed since the newest log isn't in the file. The program
+ * dymelor saves and loads files of this form. The file's own numbers have their least byte first; bytes of chunks stand as they are. It has no
+ * checksum. */
 
 /*
  * Writes the file to where `bytes` begins. *length is how many bytes it has. This is no command.

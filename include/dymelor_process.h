@@ -139,7 +139,10 @@ typedef struct dym_progress {
  */
 DYM_NODISCARD DYM_API dym_status dym_process_open(dym_process *process, const dym_process_config *config);
 
-/* Closes an open process and its object, and frees all their memory. No compiler warns where this status is dropped. DYM_STATE: it was closed. */
+/*
+ * Closes an open process and its object, and frees all their memory. No compiler warns where this status is dropped.
+ * DYM_STATE: it was closed.
+ */
 DYM_API dym_status dym_process_close(dym_process *process);
 
 /* ---- messages */
@@ -173,7 +176,7 @@ DYM_NODISCARD DYM_API dym_status dym_process_next(const dym_process *process, ui
 /* How an event is handed out, as a sum. */
 enum {
     DYM_REPLAYED = 1, /* it was run before */
-    DYM_UNTOUCHED = 2 /* no chunk is touched, as after a log; else those are that were touched before */
+    DYM_UNTOUCHED = 2 /* no chunk is touched, as after a log; where the sum is without it, the chunks that were touched before still are */
 };
 
 /*
