@@ -1,5 +1,5 @@
 //! A pruner takes back what an object's prunes let go, beside the worker whose job has the object.
-ghost use Rattle.std.specs.Prelude.{◌≡◌, ◌<◌, ◌≤◌, None, [], ℕ, IfOk, length, slice_index_or, vec_len};
+ghost use Rattle.std.specs.Prelude.{◌≡◌, ◌<◌, None, [], IfOk, vec_len};
 
 use crate::watch::Watch;
 use dym_chain::SlotKeep;

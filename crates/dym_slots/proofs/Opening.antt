@@ -7,7 +7,7 @@ use Rattle.dym_base.specs.declared.limits.TheConstants.{LOG_SLOTS}
 use Rattle.dym_slots.specs.Orders.{IsOrder}
 use Rattle.std.proofs.lemmas.List.{length-replicate}
 use mathlib.Core.Option as M
-use mathlib.Core.Option.{some, none, some-injective, some-ne-none}
+use mathlib.Core.Option.{some, some-injective, some-ne-none}
 use lib.ListN.{get_elem?}
 use Rattle.atomic_table.specs.Table.{opening, Splits}
 use Rattle.dym_slots.specs.declared.machine.Slot.{Slot}

@@ -1,5 +1,5 @@
 //! What the owner does.
-ghost use Rattle.std.specs.Prelude.{◌≡◌, ℕ, ◌+◌, ◌<◌, ◌≤◌, List, [], ◌∷◌, ◌++◌, None, Some, length, take, drop, vec_len, vec_capacity};
+ghost use Rattle.std.specs.Prelude.{◌≡◌, ℕ, ◌+◌, ◌<◌, ◌≤◌, ◌++◌, None, Some, length, take, drop, vec_len, vec_capacity};
 ghost use Rattle.dym_base.specs.Origins.{shared};
 ghost use Rattle.dym_base.specs.declared.limits.TheConstants.{LOG_SLOTS, RECORD_ROOM, COUNT_LIMIT};
 ghost use Rattle.dym_slots.specs.declared.machine.TheConstants.{RECORD_NUMBERS};

@@ -1,5 +1,5 @@
 //! A simulation object.
-ghost use Rattle.std.specs.Prelude.{◌≡◌, ℕ, ◌<◌, ◌≤◌, None, [], length, option_map, IfOk, IfErr};
+ghost use Rattle.std.specs.Prelude.{◌≡◌, ◌<◌, ◌≤◌, [], length, option_map, IfOk, IfErr};
 ghost use Rattle.dym_base.specs.Objects as Objects;
 ghost use Rattle.dym_base.specs.Objects.{LogEntry};
 ghost use Rattle.dym_base.specs.declared.limits.TheConstants.{MOST_QUOTA};
