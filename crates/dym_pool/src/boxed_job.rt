@@ -5,8 +5,8 @@ ghost use Rattle.dym_pool.specs.BoxedJobs.{job_of};
 use crate::job::Job;
 use std::mem::ManuallyDrop;
 
-/// A job while the pool has it. A deque asks that what it holds may be let go, which a job need not allow: it is taken out of here
-/// once it has ended, and that each one is follows from `EveryJobBack`.
+/// A job while the pool has it. A deque asks that what it holds may be dropped, which a job need not allow. So a job is held in here,
+/// and is taken out before the pool answers it; that each one is follows from `EveryJobBack`.
 #[derive(Drop)]
 pub(crate) struct BoxedJob<J> {
     job: ManuallyDrop<J>,

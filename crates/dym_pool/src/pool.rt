@@ -16,7 +16,7 @@ use std::thread::Threads;
 /// Runs all jobs to their ends, with at most so many workers side by side, and gives them back in order.
 ///
 /// Each turn is behind a call of the gate. Workers have the numbers from 0 on, and `workers` is that of the caller, where it
-/// runs a job itself. A job need not be one that may be let go: none is lost. AllocError is free, and comes only before the first
+/// runs a job itself. A job need not be one that may be dropped: none is lost. AllocError is free, and comes only before the first
 /// turn; the jobs then come back as they were.
 pub fn run_jobs<R: Threads + Wait + Send + Sync, J: Job<R>, G: Gate>(
     rt: &R,
@@ -49,7 +49,8 @@ pub fn run_jobs<R: Threads + Wait + Send + Sync, J: Job<R>, G: Gate>(
     }
 }
 
-/// Runs at least one job to its end, by exactly so many workers and the caller, whose number at the gate is given.
+/// Runs all jobs to their ends, of which there is at least one, by exactly so many workers and the caller, whose number at the gate is
+/// given.
 fn run_with<R: Threads + Wait + Send + Sync, J: Job<R> + Drop, G: Gate>(
     rt: &R,
     alloc: Global,

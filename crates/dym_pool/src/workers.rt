@@ -67,7 +67,7 @@ fn open_row<R, J: Job<R> + Drop>(
 /// Runs the jobs of all shares to their ends: each worker its own and what it steals, and the caller what is left, by the
 /// number that is given for it.
 ///
-/// The rows are those of the shares, and the worker_list is empty, with room for a worker for each share.
+/// The rows are those of the shares, and `worker_list` is empty, with room for a worker for each share.
 pub(crate) fn run_all<R: Threads + Wait + Send + Sync, J: Job<R> + Drop, G: Gate>(
     rt: &R,
     gate: &G,

@@ -11,7 +11,7 @@ use Rattle.dym_wave.specs.declared.report_options.ReportOptions.{ReportOptions}
 use Rattle.dym_script.specs.OwnCommands.{Own, objects_of, end_of}
 use Rattle.dym_wave.specs.Reports.{part_text}
 
--- what is told of the view of an object, where views are
+-- what is told of the view of an object: nothing where views aren't told
 abbrev pub shown_view : Bool → ObjectState → Option (Option ViewLine)
 shown_view true s = Some (oldest_view s)
 shown_view false s = None

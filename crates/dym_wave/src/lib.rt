@@ -9,9 +9,10 @@
 //! its origin (`WavePromise`), and what is told of a work is what a run of its own commands gives
 //! (`JobMeaning`). So whatever the workers, the segments and the quantum, the text of `write_waves` is
 //! that of the objects' own commands (`part_text`, or `viewed_part`), the same that one object after
-//! another would give, or a front of it where the sink failed or memory was wanting; `tally_all` is
-//! what they come to. Both are defined here, for every order (`specs/Reports.antt`). Jobs of any other
-//! kind are run by `run_with_sweepers` (`EveryJobBack`, `Pruned`).
+//! another would give, or a front of it where the sink failed or memory was wanting; `tally_waves`
+//! answers what they come to (`tally_all`). Both texts are defined here, for every order
+//! (`specs/Reports.antt`). Jobs of any other kind are run by `run_with_sweepers` (`EveryJobBack`,
+//! `Pruned`).
 #![tactic(auto)]
 
 mod consumer;

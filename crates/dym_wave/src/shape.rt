@@ -7,6 +7,6 @@ pub struct Shape {
     pub workers: u32,
     /// The segments of 65,536 bytes that objects which run at the same time hold at most, from 1 to 16,384.
     pub segments: u32,
-    /// The commands, from 1 to 65,536, that a worker runs of an object before it takes another.
+    /// The most commands, from 1 to 65,536, of a turn. Between two turns of an object another worker may take it.
     pub quantum: u32,
 }

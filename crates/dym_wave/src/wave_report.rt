@@ -51,8 +51,8 @@ impl<R: Wait, W: Sink> Consumer<R> for Report<W> {
 
 /// Writes the parts of objects, in their order, and behind each the line of its view where views are told: what a viewer sees, in the
 /// end, of the oldest log that the object keeps. The objects run in waves: as many side by side as have room in the segments, by these
-/// workers, each for at most so many commands before another takes its turn. Where views are told, each publishes its oldest kept log
-/// while they run, and a thread looks at all of them. The text is the same whatever the numbers of workers, segments and commands.
+/// workers, in turns of at most so many commands. Where views are told, each object publishes its oldest kept log at the end of each
+/// turn, and a thread looks at all of them. The text is the same whatever the numbers of workers, segments and commands.
 ///
 /// The gate is told of each wave and each turn. A call may wait for other threads.
 pub fn write_waves<R: Threads + Wait + Send + Sync, G: Gate, W: Sink>(

@@ -25,7 +25,8 @@ use std::sync::Wait;
 ///
 /// It is a job of a pool: a turn runs up to a quantum of commands, and publishes the oldest log that is kept then. The worker that first
 /// takes it opens its object, and the one that runs its last command ends it: of the object stay the text of its part, where one is made,
-/// and what it came to. A long part is its replies and its heap until it is written.
+/// and what it came to. Where the part is long, or there is no memory for its text, the object and its replies stay until the part is
+/// written.
 ///
 /// Where memory is wanting the work is short: it keeps that fact, and runs no more. Whoever has a work gives it up at the end, so that no
 /// segment and no publisher is lost.

@@ -30,7 +30,7 @@ pub(crate) struct WorkEnds<R: Wait> {
     pub(crate) works: Vec<Work<R>>,
 }
 
-/// What stands on the other side of works while these run: the sweepers of their log tables, and the viewers of what they publish.
+/// The other ends of what works have while they run: the sweepers of their log tables, and the viewers of what they publish.
 #[derive(Drop)]
 pub(crate) struct OtherEnds {
     pub(crate) sweepers: Vec<Sweeper>,
@@ -38,7 +38,7 @@ pub(crate) struct OtherEnds {
 }
 
 impl<R: Wait> WorkEnds<R> {
-    /// Both sides of so many works.
+    /// What so many works are made with, and the other ends of it.
     pub(crate) fn open(
         rt: &R,
         alloc: Global,

@@ -37,7 +37,7 @@ IsInput reads_it source bytes = OnTrue reads_it (source.left ≡ Some bytes)
 abbrev pub WasRead : Bool → Input → Input → Type 0
 WasRead reads_it old new = OnTrue reads_it ((bytes : List ℕ) → old.left ≡ Some bytes → new.left ≡ Some (drop (MOST_INPUT_BYTES + 1) bytes))
 
--- what holds of the answers that an input may have (it has one), as the status has it
+-- what holds, by the status, of the answers that an input may have, of which there is one at most (the law `one_answer`)
 pub record Answered (Is : Answer → Type 0) (old new : Output) (source_rose : Type 0) (status : ℕ) : Type 0 where
   -- whatever the status, a prefix of the answer was written
   pub prefix : (answer : Answer) → Is answer → WroteFront old new answer.text
@@ -65,7 +65,7 @@ pub record Headline (order : Result Order Usage) (old new : Input) (sink_old sin
   pub source : status ≡ 3 → RoseOnce old.faults new.faults × Appended sink_old sink_new []
   -- 4: one call on the sink failed
   pub sink : status ≡ 4 → RoseOnce sink_old.faults sink_new.faults
-  -- at every other status no call on the source failed, and at every other than 4 none on the sink: so 0, 1, 2 and 5 are no fault's
+  -- at every status but 3 no call on the source failed, and at every status but 4 none on the sink
   pub source_stands : ¬ (status ≡ 3) → new.faults ≡ old.faults
   pub sink_stands : ¬ (status ≡ 4) → sink_new.faults ≡ sink_old.faults
   -- there is no other status

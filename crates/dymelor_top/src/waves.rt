@@ -1,4 +1,4 @@
-//! The orders `run` and `views`: the objects of a script run in waves of workers.
+//! The orders `run` and `views`: the objects of a script run in waves, by workers side by side.
 ghost use Rattle.std.specs.Prelude.{◌≡◌, ◌+◌, ◌≤◌, true, nat_lt, All, option_map, IfOk};
 ghost use Rattle.std.specs.List.{find};
 ghost use Rattle.dym_io.specs.Sink.{WritesOr};

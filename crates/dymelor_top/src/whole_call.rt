@@ -20,8 +20,8 @@ use std::thread::Threads;
 /// Serves the words of a command line, and answers the status: 0 and the whole answer, 1 for words of no order, 2 and the line of the
 /// first fault of a bad input, 3 and 4 where the source or the sink failed, 5 where memory ran out.
 ///
-/// It runs scripts in waves of workers, and may wait for them; all else it serves as `dymelor_still` does. The gate is told of each wave
-/// and each turn.
+/// For `run` and `views` it runs the objects of a script in waves, by workers for which it may wait; all else it serves as
+/// `dymelor_still` does. The gate is told of each wave and each turn.
 pub fn dymelor<R: Threads + Wait + Send + Sync, S: Source, W: Sink, G: Gate>(
     rt: &R,
     alloc: Global,
