@@ -1,6 +1,5 @@
 pub mod Exports
 pub mod HeldSteps
-pub mod ObjectSteps
-pub mod ProcessSteps
+pub mod KeptSteps
 pub mod Runs
 pub mod Sent

@@ -5,6 +5,7 @@ pub mod ContentLends
 pub mod Events
 pub mod Handles
 pub mod Inspections
+pub mod KeptLends
 pub mod Openings
 pub mod OutValues
 pub mod Ownership

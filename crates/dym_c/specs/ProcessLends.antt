@@ -2,7 +2,9 @@
 use Rattle.std.specs.Prelude.{Option, Some}
 use Rattle.std.specs.Borrow.{Lends, LendsIf, MutBor, Fml}
 use Rattle.dym_c.specs.contracts.process_content.ProcessContent as content
-use Rattle.dym_c.specs.contracts.process.KeptProcess as kept
+use Rattle.dym_c.specs.contracts.process.KeptProcess as process
+use Rattle.dym_c.specs.contracts.kept.Kept as kept
+use Rattle.dym_c.specs.declared.kept.Kept.{Kept}
 use Rattle.dym_c.specs.declared.process.KeptProcess.{KeptProcess}
 use Rattle.dym_c.specs.ProcessMeanings.{ProcessMeaning}
 
@@ -10,10 +12,17 @@ use Rattle.dym_c.specs.ProcessMeanings.{ProcessMeaning}
 abbrev pub with_process : KeptProcess → ProcessMeaning → KeptProcess
 with_process o w = record o { value = Some w }
 
--- it ends with what was last written inside
-abbrev pub lends_content : MutBor KeptProcess → MutBor ProcessMeaning → Fml
-lends_content o r = Lends kept.the_row content.the_row o r (with_process o.now)
+-- the process as what is kept, and back
+abbrev pub kept_of : KeptProcess → Kept ProcessMeaning
+kept_of o = record { at = o.at; value = o.value }
 
--- so where something is lent, and else it ends as it was
+abbrev pub of_kept : Kept ProcessMeaning → KeptProcess
+of_kept k = record { at = k.at; value = k.value }
+
+-- it ends as what was last kept
+abbrev pub lends_kept : MutBor KeptProcess → MutBor (Kept ProcessMeaning) → Fml
+lends_kept o r = Lends process.the_row (kept.the_row content.the_row) o r of_kept
+
+-- where something is lent, it ends with what was last written inside, and else it ends as it was
 abbrev pub lends_inside : MutBor KeptProcess → Option (MutBor ProcessMeaning) → Fml
-lends_inside o r = LendsIf kept.the_row content.the_row o r (with_process o.now) o.now
+lends_inside o r = LendsIf process.the_row content.the_row o r (with_process o.now) o.now

@@ -72,12 +72,12 @@ pub extern "C" fn dym_load(
 ) -> u32
     ensures { IsLoading object.old.value bytes.now result object.new.value part.old part.new }
 {
-    if !object.is_closed() {
+    if !object.as_kept().is_closed() {
         return STATE;
     }
     match loaded(alloc, bytes) {
         Ok(inside) => {
-            object.open(alloc, inside);
+            object.as_kept().open(alloc, inside);
             DONE
         }
         Err(FileFail::Bad { part: failing }) => {

@@ -5,7 +5,7 @@
 //! in C, and no crate can. Its one contract: each export does to what C keeps what the call does
 //! that it makes, and answers a status (`status_of`, `IsAfter`, `reply_of` of an object; `specs/ProcessExports.antt` of a process).
 //! Every number that C hands in is tested; only that pointers are what the header says is left to C. An object is kept
-//! as a box's bare pointer, and so is a process: what goes in as a box comes out as a box with the same value (`Held`),
+//! as a box's bare pointer, and so is a process (`Kept`): what goes in as a box comes out as a box with the same value (`Held`),
 //! and a call borrows what is inside where it lies (`DymObject::inside`).
 #![tactic(auto)]
 
@@ -17,6 +17,7 @@ mod handle;
 mod heap_calls;
 mod heap_copy;
 mod inspection;
+mod kept;
 pub mod laws;
 mod lifetime;
 mod log_calls;

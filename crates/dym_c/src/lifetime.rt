@@ -52,13 +52,13 @@ pub(crate) fn open(
     if quota == 0 || MOST_QUOTA < quota {
         return BAD;
     }
-    if !object.is_closed() {
+    if !object.as_kept().is_closed() {
         return STATE;
     }
     let Ok(inside) = boxed(alloc, quota, version, is_checked) else {
         return MEMORY;
     };
-    object.open(alloc, inside);
+    object.as_kept().open(alloc, inside);
     DONE
 }
 
@@ -67,10 +67,10 @@ pub(crate) fn open(
 pub extern "C" fn dym_close(alloc: Global, object: &mut DymObject) -> u32
     ensures { IsClosing object.old.value result object.new.value }
 {
-    if object.is_closed() {
+    if object.as_kept().is_closed() {
         return STATE;
     }
-    object.close(alloc);
+    object.as_kept().close(alloc);
     DONE
 }
 

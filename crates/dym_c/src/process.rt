@@ -1,17 +1,15 @@
 //! The process that C keeps.
-ghost use Rattle.std.specs.Prelude.{◌≡◌, Option, None, Some, MatchOption, IsSome, IfSome, is_none};
+ghost use Rattle.std.specs.Prelude.{◌≡◌, Option, Some, IfSome, is_none};
 ghost use Rattle.std.specs.Borrow.{sem};
 ghost use Rattle.std.specs.Coded.{coded_option};
 ghost use Rattle.dym_c.specs.Ownership.{kept_owns};
 ghost use Rattle.dym_c.specs.contracts.process_content.ProcessContent.{the_row};
 ghost use Rattle.dym_c.specs.ProcessMeanings.{ProcessMeaning};
 
-use crate::box_pointer::Held;
+use crate::kept::Kept;
 use crate::object::DymObject;
 use crate::process_content::ProcessContent;
-use std::alloc::Global;
 use std::marker::Model;
-use std::{mem, ptr};
 
 /// A process's state, and what the process has inside.
 #[repr(C)]
@@ -32,57 +30,15 @@ impl Model for KeptProcess {
 }
 
 impl KeptProcess {
-    ghost use Rattle.dym_c.specs.ProcessLends.{lends_content, lends_inside};
+    ghost use Rattle.dym_c.specs.ProcessLends.{kept_of, lends_kept, lends_inside};
 
-    /// A closed process.
-    fn closed() -> KeptProcess
-        ensures { result.value ≡ None }
-    {
-        KeptProcess {
-            at: ptr::null_mut(),
-        }
-    }
-
-    /// An open process.
-    fn holding(held: Held<ProcessContent, Global>) -> KeptProcess
-        ensures { result.value ≡ Some held.value }
-    {
-        let Held { at, alloc: _ } = held;
-        KeptProcess { at: at as *mut u8 }
-    }
-
-    /// The box that an open process has.
-    fn into_held(self, alloc: Global) -> Option<Held<ProcessContent, Global>>
-        ensures { MatchOption result (self.value ≡ None) (λ held. self.value ≡ Some held.value) }
-    {
-        let KeptProcess { at } = self;
-        if at.is_null() {
-            None
-        } else {
-            Some(Held {
-                at: at as *mut ProcessContent,
-                alloc,
-            })
-        }
-    }
-
-    /// Whether the process is closed.
+    /// The process as what is kept.
     #[inline(always)]
-    pub(crate) fn is_closed(&mut self) -> bool
-        ensures closed { result ≡ is_none self.old.value }
-        ensures same { self.new ≡ self.old }
+    pub(crate) fn as_kept(&mut self) -> &mut Kept<ProcessContent>
+        ensures* writes_back { sem 𝓛 (lends_kept self.entry result) }
+        ensures value { result.now ≡ kept_of self.old }
     {
-        self.at.is_null()
-    }
-
-    /// What is inside of an open process, where it lies.
-    #[inline(always)]
-    fn content(&mut self) -> &mut ProcessContent
-        requires open { IsSome self.old.value }
-        ensures* writes_back { sem 𝓛 (lends_content self.entry result) }
-        ensures value { self.old.value ≡ Some result.now }
-    {
-        unsafe { &mut *(self.at as *mut ProcessContent) }
+        unsafe { &mut *(self as *mut KeptProcess as *mut Kept<ProcessContent>) }
     }
 
     /// What is inside, and None where the process is closed.
@@ -92,30 +48,10 @@ impl KeptProcess {
         ensures closed { is_none result ≡ is_none self.old.value }
         ensures value { IfSome result (λ inside. self.old.value ≡ Some inside.now) }
     {
-        if self.is_closed() {
+        let kept = self.as_kept();
+        if kept.is_closed() {
             return None;
         }
-        Some(self.content())
-    }
-
-    /// Opens the process, and drops what was inside.
-    pub(crate) fn open(&mut self, alloc: Global, inside: Box<ProcessContent>)
-        ensures { self.new.value ≡ Some inside.value }
-    {
-        mem::replace(self, KeptProcess::holding(Held::of(inside))).end(alloc);
-    }
-
-    /// Closes the process, and drops what was inside.
-    pub(crate) fn close(&mut self, alloc: Global)
-        ensures { self.new.value ≡ None }
-    {
-        mem::replace(self, KeptProcess::closed()).end(alloc);
-    }
-
-    /// Drops what is inside.
-    fn end(self, alloc: Global) {
-        if let Some(held) = self.into_held(alloc) {
-            drop(held.into_box());
-        }
+        Some(kept.content())
     }
 }

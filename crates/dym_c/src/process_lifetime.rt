@@ -39,7 +39,7 @@ pub extern "C" fn dym_process_open(
     if config.number >= config.processes || config.is_checked > 1 {
         return BAD;
     }
-    if !process.kept.is_closed() {
+    if !process.kept.as_kept().is_closed() {
         return STATE;
     }
     let content = ProcessContent::starting(alloc, config.number, config.processes, config.period);
@@ -54,7 +54,7 @@ pub extern "C" fn dym_process_open(
         config.is_checked == 1,
     );
     if status == DONE {
-        process.kept.open(alloc, inside);
+        process.kept.as_kept().open(alloc, inside);
     }
     status
 }
@@ -64,12 +64,12 @@ pub extern "C" fn dym_process_open(
 pub extern "C" fn dym_process_close(alloc: Global, process: &mut DymProcess) -> u32
     ensures { IsClosingProcess process.old.kept.value process.old.object.value result process.new.kept.value process.new.object.value }
 {
-    if process.kept.is_closed() {
+    if process.kept.as_kept().is_closed() {
         return STATE;
     }
-    process.kept.close(alloc);
-    if !process.object.is_closed() {
-        process.object.close(alloc);
+    process.kept.as_kept().close(alloc);
+    if !process.object.as_kept().is_closed() {
+        process.object.as_kept().close(alloc);
     }
     DONE
 }

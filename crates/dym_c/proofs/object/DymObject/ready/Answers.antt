@@ -1,4 +1,4 @@
-use Rattle.std.proofs.Common.{◌≡◌, Option, Some, sym, ap, ◌∙◌, arith}
+use Rattle.std.proofs.Common.{◌≡◌, Option, Some, sym, ap, arith}
 use mathlib.Core.Logic.{inr}
 use Rattle.dym_undo_object.specs.Meaning.{UndoObjectMeaning}
 use Rattle.dym_c.specs.Calls.{status_unready}
@@ -12,7 +12,6 @@ as_before o w is = ap (λ (v : Option UndoObjectMeaning). record o { value = v }
 
 pub returns-then-ran-ge-COUNT_LIMIT : goal.returns-then-ran-ge-COUNT_LIMIT
 returns-then-ran-ge-COUNT_LIMIT c =
-    let same = as_before c.is_closed.new.self c.content.result.now c.content.ensures.value ∙ c.is_closed.ensures.same in
     let unready : status_unready c.args.self.now.value ≡ Some 10
-    = search (arith, c.content.ensures.value, c.is_closed.ensures.same, c.ran.view_is, c.ran-2.ensures, c.if-ran-ge-COUNT_LIMIT.true) in
-    (ap inr same, record { writes_back = tt; inside = tt; unready = unready })
+    = search (arith, c.in-Some.ensures.value, c.inside.view_is, c.ran.ensures, c.if-ran-ge-COUNT_LIMIT.true) in
+    (ap inr (as_before c.args.self.now c.in-Some.inside.now c.in-Some.ensures.value), record { writes_back = tt; inside = tt; unready = unready })
