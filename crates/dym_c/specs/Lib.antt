@@ -1,17 +1,14 @@
 pub mod AskedCommands
 pub mod Calls
 pub mod ChunkPlaces
-pub mod ContentLends
 pub mod Events
 pub mod Handles
 pub mod Inspections
-pub mod KeptLends
 pub mod Openings
 pub mod OutValues
 pub mod Ownership
 pub mod ProcessCalls
 pub mod ProcessExports
-pub mod ProcessLends
 pub mod ProcessMeanings
 pub mod ProcessRuns
 pub mod RestoreLaw

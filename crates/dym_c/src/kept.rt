@@ -1,6 +1,6 @@
 //! A box that C keeps by its pointer: null where there is none.
 ghost use Rattle.std.specs.Prelude.{◌≡◌, Option, None, Some, MatchOption, IsSome, is_none};
-ghost use Rattle.std.specs.Borrow.{sem};
+ghost use Rattle.std.specs.Borrow.{sem, Lends};
 ghost use Rattle.std.specs.Coded.{coded_option};
 ghost use Rattle.dym_c.specs.Ownership.{kept_owns};
 
@@ -21,7 +21,7 @@ impl<T> Model for Kept<T> {
 }
 
 impl<T: Drop> Kept<T> {
-    ghost use Rattle.dym_c.specs.KeptLends.{lends_content};
+    ghost use Rattle.dym_c.specs.contracts.kept.Kept.{the_row};
 
     /// Nothing is kept.
     fn closed() -> Kept<T>
@@ -65,7 +65,7 @@ impl<T: Drop> Kept<T> {
     #[inline(always)]
     pub(crate) fn content(&mut self) -> &mut T
         requires open { IsSome self.old.value }
-        ensures* writes_back { sem 𝓛 (lends_content T.row self.entry result) }
+        ensures* writes_back { sem 𝓛 (Lends (the_row T.row) T.row self.entry result (λ w. record self.old { value = Some w })) }
         ensures value { self.old.value ≡ Some result.now }
     {
         unsafe { &mut *self.at }

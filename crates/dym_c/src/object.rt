@@ -1,6 +1,6 @@
 //! The object that C keeps.
 ghost use Rattle.std.specs.Prelude.{◌≡◌, ◌<◌, Option, Some, IfSome, IfOk, IfErr, is_none};
-ghost use Rattle.std.specs.Borrow.{sem};
+ghost use Rattle.std.specs.Borrow.{sem, Lends, LendsIf, LendsIfOk};
 ghost use Rattle.std.specs.Coded.{codes};
 ghost use Rattle.dym_base.specs.declared.limits.TheConstants.{COUNT_LIMIT};
 ghost use Rattle.dym_heap.specs.Meaning.{live_code, touched_code};
@@ -27,13 +27,14 @@ impl Model for DymObject {
 }
 
 impl DymObject {
-    ghost use Rattle.dym_c.specs.ContentLends.{kept_of, lends_kept, lends_inside, lends_ready};
+    ghost use Rattle.dym_c.specs.contracts.kept.Kept.{the_row as kept_row};
+    ghost use Rattle.dym_c.specs.contracts.object.DymObject.{the_row as own_row};
 
     /// The object as what is kept.
     #[inline(always)]
     pub(crate) fn as_kept(&mut self) -> &mut Kept<ObjectContent>
-        ensures* writes_back { sem 𝓛 (lends_kept self.entry result) }
-        ensures value { result.now ≡ kept_of self.old }
+        ensures* writes_back { sem 𝓛 (Lends own_row (kept_row the_row) self.entry result (λ k. record { at = k.at; value = k.value })) }
+        ensures value { result.now ≡ record { at = self.old.at; value = self.old.value } }
     {
         unsafe { &mut *(self as *mut DymObject as *mut Kept<ObjectContent>) }
     }
@@ -41,7 +42,7 @@ impl DymObject {
     /// What is inside, and None where the object is closed.
     #[inline(always)]
     pub(crate) fn inside(&mut self) -> Option<&mut ObjectContent>
-        ensures* writes_back { sem 𝓛 (lends_inside self.entry result) }
+        ensures* writes_back { sem 𝓛 (LendsIf own_row the_row self.entry result (λ w. record self.old { value = Some w }) self.old) }
         ensures closed { is_none result ≡ is_none self.old.value }
         ensures value { IfSome result (λ inside. self.old.value ≡ Some inside.now) }
     {
@@ -55,7 +56,7 @@ impl DymObject {
     /// What is inside, for one command more. Else the answer is the status that says why there can be none.
     #[inline(always)]
     pub(crate) fn ready(&mut self) -> Result<&mut ObjectContent, u32>
-        ensures* writes_back { sem 𝓛 (lends_ready self.entry result) }
+        ensures* writes_back { sem 𝓛 (LendsIfOk own_row the_row self.entry result (λ w. record self.old { value = Some w }) self.old) }
         ensures inside { IfOk result (λ inside. (self.old.value ≡ Some inside.now)
             × (inside.now.ran < COUNT_LIMIT)) }
         ensures unready { IfErr result (λ status. status_unready self.old.value ≡ Some status) }

@@ -1,6 +1,6 @@
 //! The process that C keeps.
 ghost use Rattle.std.specs.Prelude.{◌≡◌, Option, Some, IfSome, is_none};
-ghost use Rattle.std.specs.Borrow.{sem};
+ghost use Rattle.std.specs.Borrow.{sem, Lends, LendsIf};
 ghost use Rattle.std.specs.Coded.{coded_option};
 ghost use Rattle.dym_c.specs.Ownership.{kept_owns};
 ghost use Rattle.dym_c.specs.contracts.process_content.ProcessContent.{the_row};
@@ -30,13 +30,14 @@ impl Model for KeptProcess {
 }
 
 impl KeptProcess {
-    ghost use Rattle.dym_c.specs.ProcessLends.{kept_of, lends_kept, lends_inside};
+    ghost use Rattle.dym_c.specs.contracts.kept.Kept.{the_row as kept_row};
+    ghost use Rattle.dym_c.specs.contracts.process.KeptProcess.{the_row as own_row};
 
     /// The process as what is kept.
     #[inline(always)]
     pub(crate) fn as_kept(&mut self) -> &mut Kept<ProcessContent>
-        ensures* writes_back { sem 𝓛 (lends_kept self.entry result) }
-        ensures value { result.now ≡ kept_of self.old }
+        ensures* writes_back { sem 𝓛 (Lends own_row (kept_row the_row) self.entry result (λ k. record { at = k.at; value = k.value })) }
+        ensures value { result.now ≡ record { at = self.old.at; value = self.old.value } }
     {
         unsafe { &mut *(self as *mut KeptProcess as *mut Kept<ProcessContent>) }
     }
@@ -44,7 +45,7 @@ impl KeptProcess {
     /// What is inside, and None where the process is closed.
     #[inline(always)]
     pub(crate) fn inside(&mut self) -> Option<&mut ProcessContent>
-        ensures* writes_back { sem 𝓛 (lends_inside self.entry result) }
+        ensures* writes_back { sem 𝓛 (LendsIf own_row the_row self.entry result (λ w. record self.old { value = Some w }) self.old) }
         ensures closed { is_none result ≡ is_none self.old.value }
         ensures value { IfSome result (λ inside. self.old.value ≡ Some inside.now) }
     {

@@ -31,24 +31,26 @@ use Rattle.std.proofs.VecSteps.Shapes.{after}
 use Rattle.std.proofs.raw_atomic.Walks.{proved}
 use Rattle.std.specs.contracts.impls.GlobalAllocator.TheImpl.{ghosts}
 use Rattle.dym_c.specs.Ownership.{heap}
-use Rattle.dym_c.specs.KeptLends.{with_content}
 use Rattle.dym_c.proofs.KeptSteps.{Row, word, out, open_in, some_cases}
 use Rattle.dym_c.specs.contracts.kept.Kept.content as f
 use Rattle.dym_c.proofs.kept.Kept.content.Statement.{statement}
 use Rattle.dym_c.proofs.kept.Kept.content.Code as code
 
 module _ (R : RattleType) where
+  abbrev with_content : (Row R).Denot → R.Denot → (Row R).Denot
+  with_content d w = record d { value = Some w }
+
   -- all that is owned but what is inside
   abbrev Rest : ℕ → ℕ → ℕ → ℕ → Fml
   Rest b o b' o' = fsep (ghosts.dealloc_token heap (bare (lone R.mir)) (block_ptr b' o')) (cell_at full_share (Row R).mir (word (block_ptr b' o') ∷ []) b o)
 
   back : {M : Type 1} {𝓤 : Ura M} (𝓛 : Logic 𝓤) (d : (Row R).Denot) (b o b' o' : ℕ) → d.at ≡ block_ptr b' o' → (w : R.Denot)
-      → ent 𝓤 (sep 𝓤 (sem 𝓛 ((mem R).own_at w b' o')) (sem 𝓛 (Rest b o b' o'))) (sem 𝓛 ((mem (Row R)).own_at (with_content R d w) b o))
+      → ent 𝓤 (sep 𝓤 (sem 𝓛 ((mem R).own_at w b' o')) (sem 𝓛 (Rest b o b' o'))) (sem 𝓛 ((mem (Row R)).own_at (with_content d w) b o))
   unfolding part_of
   back {𝓤 = 𝓤} 𝓛 d b o b' o' at w =
       qed 𝓛 (‵ (part_at R full_share w b' o') ∷ ‵ (Rest b o b' o') ∷ []) ∵ move ! (1 ∷ []) $ fsplit ! $ move ! (2 ∷ 0 ∷ []) $ fjoin ! $ open_in R ! b' o' w $
       rewrite ! 0 (λ (p : Ptr). ‵ ((Row R).own_val (record { at = p; value = Some w }) (word (block_ptr b' o') ∷ []))) (sym at) refl $ move ! (1 ∷ 0 ∷ []) $ fjoin ! $
-      fpack ! (List Val) (λ us. fsep (cell_at full_share (Row R).mir us b o) ((Row R).own_val (with_content R d w) us)) (word (block_ptr b' o') ∷ []) $ done !
+      fpack ! (List Val) (λ us. fsep (cell_at full_share (Row R).mir us b o) ((Row R).own_val (with_content d w) us)) (word (block_ptr b' o') ∷ []) $ done !
 
 pub content_spec : {M : Type 1} → statement M
 content_spec 𝓤 𝓛 𝓜 𝓡 wired X LX dx glue =

@@ -1,11 +1,11 @@
 -- `as_kept` lends the process as what it is.
-use Rattle.std.proofs.Common.{◌≡◌, ℕ, List, [], ◌∷◌, refl}
+use Rattle.std.proofs.Common.{ℕ, List, [], ◌∷◌, refl}
 use seplogic.Ra.Ura.{Ura}
 use mir.Syntax.{named}
 use mir.Val.{Val, vptr}
 use base.Fraction.{full_share}
-use base.Logic.{ent, sep, id⊢}
-use base.Fml.{Fml, GName, ftrue, fsep, flft}
+use base.Logic.{ent, sep}
+use base.Fml.{GName, ftrue, fsep, flft}
 use contract.Running.{tables}
 use types.Logic.{Logic, sem}
 use types.Kit.{‵, ◌⊛◌, some, later, at_ret, ◌$◌, ◌∵◌, !, qed, done, move, keep, use1, split, split3, join, pick, await, fsplit, fsplit3, fjoin}
@@ -21,7 +21,6 @@ use denote.Steps.{nothing, opens}
 use denote.Triple.Walked.{Stays, walk_of, says, stay_dropped, Goes-spent_ref, ends_at}
 use Rattle.std.proofs.VecSteps.Shapes.{after}
 use Rattle.std.proofs.raw_atomic.Walks.{proved}
-use Rattle.dym_c.specs.ProcessLends.{of_kept}
 use Rattle.dym_c.specs.contracts.process.KeptProcess as process
 use Rattle.dym_c.specs.contracts.process_content.ProcessContent.{the_row as R}
 use Rattle.dym_c.proofs.KeptSteps.{Row}
@@ -31,6 +30,9 @@ use Rattle.dym_c.proofs.process.KeptProcess.as_kept.Code as code
 
 abbrev stayed : Stays f.ended.signature.params f.ended.kept
 stayed = (stay_dropped (mut_ref_to (0 ∷ []) tt (plain (λ _. process.the_row))) no, tt)
+
+abbrev of_kept : (Row R).Denot → process.the_row.Denot
+of_kept k = record { at = k.at; value = k.value }
 
 back : {M : Type 1} {𝓤 : Ura M} (𝓛 : Logic 𝓤) (b o : ℕ) (w : (Row R).Denot)
     → ent 𝓤 (sep 𝓤 (sem 𝓛 ((mem (Row R)).own_at w b o)) (sem 𝓛 ftrue)) (sem 𝓛 ((mem process.the_row).own_at (of_kept w) b o))

@@ -1,9 +1,12 @@
 use Rattle.std.proofs.Common.{◌≡◌, ◌∙◌, ap, sym, true, is_none}
 use mathlib.Core.Logic.{inr}
-use Rattle.dym_c.specs.ProcessLends.{of_kept}
 use Rattle.dym_c.specs.ProcessMeanings.{ProcessMeaning}
 use Rattle.dym_c.specs.declared.kept.Kept.{Kept}
+use Rattle.dym_c.specs.declared.process.KeptProcess.{KeptProcess}
 use Rattle.dym_c.proofs.process.KeptProcess.inside.Goals as goal
+
+abbrev of_kept : Kept ProcessMeaning → KeptProcess
+of_kept k = record { at = k.at; value = k.value }
 
 pub returns-then-is_closed : goal.returns-then-is_closed
 returns-then-is_closed c =
