@@ -1,20 +1,19 @@
 -- `as_kept` lends the process as what it is.
-use Rattle.std.proofs.Common.{ℕ, List, [], ◌∷◌, refl}
-use seplogic.Ra.Ura.{Ura}
+use Rattle.std.proofs.Common.{List, [], ◌∷◌, refl}
 use mir.Syntax.{named}
 use mir.Val.{Val, vptr}
 use base.Fraction.{full_share}
-use base.Logic.{ent, sep}
+use base.Logic.{fst∗}
 use base.Fml.{GName, ftrue, fsep, flft}
 use contract.Running.{tables}
-use types.Logic.{Logic, sem}
-use types.Kit.{‵, ◌⊛◌, some, later, at_ret, ◌$◌, ◌∵◌, !, qed, done, move, keep, use1, split, split3, join, pick, await, fsplit, fsplit3, fjoin}
-use types.Kit.{fpick, fpack, suffices, frame, group}
+use types.Logic.{sem}
+use types.Kit.{‵, ◌⊛◌, some, later, at_ret, ◌$◌, ◌∵◌, !, qed, done, move, keep, use1, split, split3, join, pick, await, fsplit3, fjoin}
+use types.Kit.{fpack, suffices, frame, group}
 use types.Run.{enter, of_opd, stop, addr, first, blocks, exec, returns}
 use types.ByLocal.{alloc_all, pass_all, free_all, look_at, get, through, sets, sets_last, env}
 use denote.Exit.{no}
 use denote.Follow.{follows, lends_Part}
-use denote.Memory.{mem, cell_at, part_at, part_of}
+use denote.Memory.{mem, cell_at, part_of}
 use denote.Ref.{MutBor, MutRef, mut_vals, mut_Tells}
 use denote.Signature.{plain, mut_ref_to}
 use denote.Steps.{nothing, opens}
@@ -33,13 +32,6 @@ stayed = (stay_dropped (mut_ref_to (0 ∷ []) tt (plain (λ _. process.the_row))
 
 abbrev of_kept : (Row R).Denot → process.the_row.Denot
 of_kept k = record { at = k.at; value = k.value }
-
-back : {M : Type 1} {𝓤 : Ura M} (𝓛 : Logic 𝓤) (b o : ℕ) (w : (Row R).Denot)
-    → ent 𝓤 (sep 𝓤 (sem 𝓛 ((mem (Row R)).own_at w b o)) (sem 𝓛 ftrue)) (sem 𝓛 ((mem process.the_row).own_at (of_kept w) b o))
-unfolding part_of
-back {𝓤 = 𝓤} 𝓛 b o w =
-    qed 𝓛 (‵ (part_at (Row R) full_share w b o) ∷ ‵ ftrue ∷ []) ∵ keep ! (0 ∷ []) $ fpick ! (λ us. fsplit ! $ fjoin ! $
-    fpack ! (List Val) (λ us'. fsep (cell_at full_share process.the_row.mir us' b o) (process.the_row.own_val (of_kept w) us')) us $ done !)
 
 pub as_kept_spec : {M : Type 1} → statement M
 unfolding part_of
@@ -61,7 +53,7 @@ as_kept_spec 𝓤 𝓛 𝓜 𝓡 wired =
     fpack ! (List Val) (λ us'. fsep (cell_at full_share K.mir us' b o) (K.own_val k us')) us $ nothing ! $ move ! (2 ∷ 3 ∷ 4 ∷ 1 ∷ 0 ∷ []) $ group ! 5 $
     let r : GName → MutBor K.Denot = λ γ'. record { ref_ptr = (b, o); ghost_name = γ'; now = k } in
     use1 𝓛 (later (some (λ (γ' : GName). ‵ ((MutRef (named 0) κ K).own_val (r γ') (vptr b o ∷ [])) ⊛ ‵ (flft κ q) ⊛ ‵ (follows O K γ γ' of_kept))))
-    (lends_Part 𝓛 O K of_kept (named 0) κ q b o b o γ (sem 𝓛 ftrue) (back 𝓛 b o) (O.coded.code d) (O.coded.code d) k) $
+    (lends_Part 𝓛 O K of_kept (named 0) κ q b o b o γ (sem 𝓛 ftrue) (λ w. fst∗ 𝓤 (sem 𝓛 ((mem K).own_at w b o)) (sem 𝓛 ftrue)) (O.coded.code d) (O.coded.code d) k) $
     await ! tt $ pick ! (λ γ'. split3 ! $
     returns ! (look_at ! 0 refl) $ free_all ! refl $ keep ! (0 ∷ 1 ∷ 2 ∷ []) $ suffices ! _ (ends_at 𝓛 f.ended stayed c y (vptr b o) (r γ') (tt, tt) (tt, tt)) $
     nothing ! $ nothing ! $ fjoin ! $ join ! $ nothing ! $ move ! (2 ∷ 0 ∷ []) $ join ! $ join ! $ frame ! $ says ! refl $ done !))))
