@@ -12,5 +12,5 @@ as_before o w is = ap (λ (v : Option UndoObjectMeaning). record o { value = v }
 pub returns-then-ran-ge-COUNT_LIMIT : goal.returns-then-ran-ge-COUNT_LIMIT
 returns-then-ran-ge-COUNT_LIMIT c =
     let unready : status_unready c.args.self.now.value ≡ Some 10
-    = search (arith, c.in-Some.ensures.value, c.inside.view_is, c.ran.ensures, c.if-ran-ge-COUNT_LIMIT.true) in
+    = search (arith, c.in-Some.ensures.value, c.inside-2.view_is, c.ran.ensures, c.if-ran-ge-COUNT_LIMIT.true) in
     (ap inr (as_before c.args.self.now c.in-Some.inside.now c.in-Some.ensures.value), record { writes_back = tt; inside = tt; unready = unready })
