@@ -187,11 +187,13 @@ public:
         return status;
     }
 
-    /* Destroys a value that was made, and frees its chunk. DYM_DEAD: it lies in none of this object. */
+    /* Destroys a value that was made, and frees its chunk, which is touched before the destructor may write into it. What the destructor writes
+     * elsewhere, as into the nodes of a container, counts as any other write (wrote). DYM_DEAD: it lies in none of this object. */
     template <class T> DYM_NODISCARD dym_status try_destroy(T *value)
     {
         handle chunk = dym_nil;
-        const dym_status status = try_chunk_of(value, &chunk);
+        dym_status status = try_chunk_of(value, &chunk);
+        if (status == DYM_DONE) status = dym_touch(&c_, chunk, nullptr);
         if (status != DYM_DONE) return status;
         value->~T();
         return dym_free(&c_, chunk);

@@ -10,8 +10,9 @@
  * try_ before its name answers the status.
  *
  * What dymelor_process.h says that the program owes, C++ owes too: a model's answer depends on nothing but the process's number, the event and
- * the state, and so the model's own members don't change from event to event; and the logs of p.state() are the process's. Where a model throws,
- * the event stays handed out: the process can only be closed then. A process has no save and no load; dymelor_process.h says how one is opened anew.
+ * the state, and so the model's own members don't change from event to event; and the logs of p.state() are the process's. Where a model throws
+ * at an event, that stays handed out: the process can only be closed then. Where it throws at the start, the process is closed again. A process has
+ * no save and no load; dymelor_process.h says how one is opened anew.
  */
 #ifndef DYMELOR_PROCESS_HPP
 #define DYMELOR_PROCESS_HPP
@@ -57,14 +58,18 @@ public:
     object &state() noexcept { return state_; }
     const object &state() const noexcept { return state_; }
 
-    /* Opens a closed process, and has the model start it: dym_process_open. */
+    /* Opens a closed process, and has the model start it: dym_process_open and, for the end of the start, dym_process_end. Where that end is
+     * refused, or the model throws, the process is closed again. */
     template <class Model> DYM_NODISCARD dym_status try_open(const dym_process_config &config, Model &model)
     {
         dym_status status = call([&](dym_process *c) { return dym_process_open(c, &config); });
         if (status != DYM_DONE) return status;
+        unstarted rest{this};
         number_ = config.number;
         model.start(*this);
-        return call(dym_process_end);
+        status = call(dym_process_end);
+        if (status == DYM_DONE) rest.of = nullptr;
+        return status;
     }
 
     /* Frees all memory of the process and its state. */
@@ -112,7 +117,8 @@ public:
         return call([&](dym_process *c) { return dym_process_send(c, &event); });
     }
 
-    /* Hands each message that is to be delivered to a function, and takes it out: dym_process_outbox. */
+    /* Hands each message that is to be delivered to a function, and takes it out: dym_process_outbox. The function may not throw: what was taken
+     * out with the message that it threw at, up to 63 others, would be lost. */
     template <class Deliver> DYM_NODISCARD dym_status try_deliver(Deliver deliver)
     {
         std::array<dym_message, 64> piece;
@@ -125,7 +131,8 @@ public:
         return DYM_DONE;
     }
 
-    /* Commits what is before a bound, and hands each event that was committed to a function: dym_process_commit. */
+    /* Commits what is before a bound, and hands each event that was committed to a function: dym_process_commit. The function may not
+     * throw: the events that it hasn't seen by then would be handed to none. */
     template <class Seen> DYM_NODISCARD dym_status try_commit(std::uint64_t bound, Seen seen)
     {
         std::array<dym_event, 128> piece;
@@ -166,7 +173,7 @@ public:
 #if DYM_THROWS
     /* ---- the same calls, which throw what is refused */
 
-    template <class Model> process(const dym_process_config &config, Model &model) { done(try_open(config, model)); }
+    template <class Model> process(const dym_process_config &config, Model &model) : process() { done(try_open(config, model)); }
 
     std::uint64_t take(const dym_message &message)
     {
@@ -197,6 +204,15 @@ public:
 #endif
 
 private:
+    /* A process whose start isn't ended yet: it is closed where that is refused, or the model throws. */
+    struct unstarted {
+        process *of;
+        ~unstarted()
+        {
+            if (of != nullptr) of->close();
+        }
+    };
+
     /* The object is the state's between the calls, and the process's while one runs: a copy takes its place. */
     template <class Call> dym_status call(Call call)
     {

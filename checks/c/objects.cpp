@@ -56,6 +56,12 @@ struct counted {
     int &count_;
 };
 
+// Its destructor writes. A compiler may leave that out, unless the number is volatile.
+template <class Number> struct erased {
+    Number value = 7;
+    ~erased() { value = 9; }
+};
+
 void opening()
 {
     EXPECT(refuses(DYM_BAD, [] { dymelor::object none(0); }));
@@ -106,6 +112,19 @@ void values()
     EXPECT(thrown && count == 3 && made.chunk.index == 0 && o.make<int>(0).chunk.index == 2);
     o.destroy(made.at);
     EXPECT(count == 2);
+}
+
+// A value that was logged and destroyed, and is brought back as it was logged.
+template <class Number> void destroyed()
+{
+    dymelor::object o;
+    EXPECT(o.try_open_checked(2) == DYM_DONE);
+    auto made = o.make<erased<Number>>();
+    o.log(10, dymelor::wrote::touched);
+    o.destroy(made.at);
+    EXPECT(refuses(DYM_DEAD, [&] { o.chunk_of(made.at); }) && dym_same(o.untold(), dym_nil));
+    o.restore(10, dymelor::wrote::touched);
+    EXPECT(made->value == 7 && dym_same(o.untold(), dym_nil));
 }
 
 void logs()
@@ -239,6 +258,8 @@ int main()
     opening();
     moves();
     values();
+    destroyed<int>();
+    destroyed<volatile int>();
     logs();
     files();
     written_after_a_load();

@@ -116,16 +116,46 @@ template <class Model> void try_model(Model model, dymelor::handle (&chunk)[2], 
     MUST(undone > 0);
 }
 
+/* What a call throws. */
+template <class Call> dym_status status_of(Call call)
+{
+    try {
+        call();
+    } catch (const dymelor::refused &why) {
+        return why.status();
+    }
+    return DYM_DONE;
+}
+
 void try_refusals()
 {
     dymelor::process closed;
     dym_message m{};
     MUST(!closed.is_open() && !closed.next() && closed.try_take(m) == DYM_STATE && closed.progress().ran == 0);
-    try {
-        closed.take(m);
-        MUST(false);
-    } catch (const dymelor::refused &why) {
-        MUST(why.status() == DYM_STATE);
+    MUST(status_of([&] { closed.take(m); }) == DYM_STATE);
+}
+
+/* Starts that are refused, or throw: the process is closed again, and can be opened by another model. */
+void try_failing_starts()
+{
+    using start = void (*)(dymelor::process &);
+    const std::pair<dym_status, start> rows[] = {
+        {DYM_ASTRAY, [](dymelor::process &p) { p.state().log(1, dymelor::wrote::touched); }},
+        {DYM_STATE, [](dymelor::process &p) { p.state().close(); }},
+        {DYM_NO_PROCESS, [](dymelor::process &p) { p.send(first_of(2)); }},
+        {DYM_NO_LOG, [](dymelor::process &p) { p.state().restore(1, dymelor::wrote::touched); }},
+    };
+    dym_process_config config{};
+    config.processes = config.quota = 1;
+    config.version = 2;
+    const auto run = [](dymelor::process &, const dym_event &) {};
+    auto empty = dymelor::model_of([](dymelor::process &) {}, run);
+    for (const auto &[wanted, start] : rows) {
+        auto model = dymelor::model_of(start, run);
+        dymelor::process p;
+        MUST(status_of([&] { dymelor::done(p.try_open(config, model)); }) == wanted && !p.is_open() && !p.state().is_open());
+        MUST(p.try_open(config, empty) == DYM_DONE && p.is_open() && p.state().is_open());
+        MUST(status_of([&] { dymelor::process constructed(config, model); }) == wanted);
     }
 }
 
@@ -152,5 +182,6 @@ int main()
         try_model(dymelor::model_of(start, run), chunk, period);
     }
     try_refusals();
+    try_failing_starts();
     return 0;
 }
