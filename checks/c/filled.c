@@ -1,6 +1,6 @@
 /*
- * What dymelor_debug.h fills: chunks that were freed, and those that a restore undid, while what a log has is brought back, and a call that is
- * refused fills nothing. And random calls by it beside the same by dymelor.h alone: they answer the same and leave the same heaps. In both
+ * What dymelor_debug.h fills: chunks that were freed or moved, and those that a restore undid, while what a log has is brought back, and a call that
+ * is refused fills nothing. And random calls by it beside the same by dymelor.h alone: they answer the same and leave the same heaps. In both
  * versions, of objects that are checked and of others. It ends with 0, or with 1 after a line for each difference.
  */
 #include "dymelor.h"
@@ -11,6 +11,11 @@
 static dym_status plain_free(dym_object *object, dym_handle chunk)
 {
     return dym_free(object, chunk);
+}
+
+static dym_status plain_realloc(dym_object *object, dym_handle chunk, uint64_t length, dym_handle *moved)
+{
+    return dym_realloc(object, chunk, length, moved);
 }
 
 static dym_status plain_restore(dym_object *object, uint64_t time, uint64_t *restored)
@@ -112,6 +117,34 @@ static void chunks_that_leave(int is_checked, uint32_t version)
     dym_close(&object);
 }
 
+/* One chunk after the other of 100 bytes, given another length: where it lay is filled if it leaves, and else as it was. */
+static void chunks_that_move(int is_checked, uint32_t version)
+{
+    static const struct {
+        uint64_t length;
+        dym_status status;
+        int stays;
+    } rows[] = {{0, DYM_DONE, 0},    {1, DYM_DONE, 0},   {64, DYM_DONE, 0},         {65, DYM_DONE, 1},           {128, DYM_DONE, 1},
+                {129, DYM_DONE, 0}, {4000, DYM_DONE, 0}, {65537, DYM_TOO_LARGE, 1}, {UINT64_MAX, DYM_TOO_LARGE, 1}};
+    dym_object object = {0};
+    dym_handle chunk, moved, last;
+    void *was = NULL, *at = NULL;
+    for (size_t k = 0; k < sizeof rows / sizeof rows[0]; k++) {
+        size_t both = rows[k].length < 100 ? (size_t)rows[k].length : 100;
+        ANSWERS(open_as(&object, is_checked, version), DYM_DONE);
+        ANSWERS(dym_malloc_at(&object, 100, &chunk, &was), DYM_DONE);
+        ANSWERS(dym_malloc(&object, 100, &last), DYM_DONE);
+        ANSWERS(dym_fill(&object, chunk, 0, 100, 1), DYM_DONE);
+        moved = chunk;
+        at = was;
+        ANSWERS(dym_realloc_at(&object, chunk, rows[k].length, &moved, &at), rows[k].status);
+        EXPECT(dym_same(moved, chunk) == rows[k].stays && (at == was) == rows[k].stays && (at == NULL) == (rows[k].length == 0));
+        EXPECT(all_are(was, rows[k].stays ? (uint32_t)both : 100, rows[k].stays ? 1 : DYM_FILLED));
+        if (at != NULL) EXPECT(all_are(at, (uint32_t)both, 1));
+        dym_close(&object);
+    }
+}
+
 static uint64_t seed = 1;
 
 static uint32_t below(uint32_t most)
@@ -133,7 +166,7 @@ static void random_calls(int is_checked, uint32_t version)
         uint32_t length = below(20) == 0 ? below(65537) : below(300), at = below(40);
         uint64_t past = time - below(5 + (uint32_t)(time > 300 ? 300 : time));
         went[0] = went[1] = 0;
-        switch (below(8)) {
+        switch (below(9)) {
         case 0:
         case 1:
             other = *chunk;
@@ -156,6 +189,12 @@ static void random_calls(int is_checked, uint32_t version)
                 expect(dym_restore(&filled, past, &went[0]) == plain_restore(&plain, past, &went[1]), "restore", __LINE__);
             else
                 expect(dym_restore_before(&filled, past, &went[0]) == plain_restore_before(&plain, past, &went[1]), "before", __LINE__);
+            break;
+        case 7:
+            other = *chunk;
+            if (below(3) == 0) length = below(130);
+            expect(dym_realloc(&filled, *chunk, length, chunk) == plain_realloc(&plain, other, length, &other) && dym_same(*chunk, other),
+                   "realloc", __LINE__);
             break;
         default:
             if (below(4) == 0) {
@@ -181,6 +220,7 @@ int main(void)
     for (uint32_t version = 1; version <= 2; version++)
         for (int is_checked = 0; is_checked <= 1; is_checked++) {
             chunks_that_leave(is_checked, version);
+            chunks_that_move(is_checked, version);
             random_calls(is_checked, version);
         }
     return differences > 0;
