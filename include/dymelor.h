@@ -28,8 +28,8 @@
  *   - no call from a signal handler, nor from the forked child of a process that has threads;
  *   - malloc, realloc and free are those of one allocator, which aligns a block to each power of two up to 16 that divides its length.
  *
- * Only dym_open, dym_open_checked, dym_log, dym_save and dym_load take memory, by malloc and realloc, and only they can answer DYM_MEMORY,
- * and dym_untold. What an object took it keeps until dym_close frees all of it: a prune and a restore make room for later logs, and give none
+ * Only dym_open, dym_open_checked, dym_log, dym_save and dym_load take memory, by malloc and realloc, and only these and dym_untold can answer
+ * DYM_MEMORY. What an object took it keeps until dym_close frees all of it: a prune and a restore make room for later logs, and give none
  * back. When an object is opened or loaded, it takes one block for its chunks: 12 segments of 64 KiB for each segment of its quota, since each
  * of the 12 classes has places of its own. A log makes sure that there is room for whatever can change until the next one: all bytes of the
  * segments that are held, and 64 KiB for each segment of the quota. Both are address space (3 MiB for a quota of 4, 768 MiB for one of 1,024,
@@ -122,7 +122,7 @@ enum {
     DYM_LOGS_FULL = 6, /* refused: 256 logs are kept, the most that an object keeps */
     DYM_NO_LOG = 7,    /* refused: no kept log is at or before the time, before it (dym_restore_before), or at the place (dym_log_time, dym_log_kind) */
     DYM_MEMORY = 8,    /* memory ran out */
-    DYM_BAD = 9,       /* an argument was bad */
+    DYM_BAD = 9,       /* an argument was bad; for dym_untold: the object isn't checked */
     DYM_SPENT = 10,    /* the object has run 2^60 commands, the most that it may */
     DYM_STATE = 11,    /* the object is closed; for dym_open and dym_load: it is open */
     DYM_FILE = 12      /* the bytes are no checkpoint file */
@@ -197,14 +197,14 @@ static inline const char *dym_status_text(dym_status status)
         "no class has chunks of that length",
         "the heap would hold more segments than its quota",
         "no chunk with this handle is live",
-        "the bytes pass the end of the chunk",
+        "the bytes pass the end of the chunk, or the file its room",
         "the newest log has this time or a later one",
         "256 logs are kept, the most that an object keeps",
-        "no log has such a time",
-        "memory was wanting",
-        "an argument was bad",
+        "no log is at such a time or place",
+        "memory ran out",
+        "an argument was bad, or the object isn't checked",
         "the object has run 2^60 commands",
-        "the object is closed, or open where it is to be opened",
+        "it is closed, or open where it is to be opened; or an event is handed out, or none is",
         "the bytes are no checkpoint file",
         /* of dymelor_process.h */
         "the time is before the last bound",

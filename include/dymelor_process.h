@@ -151,6 +151,7 @@ DYM_API dym_status dym_process_close(dym_process *process);
  * Takes a message. An event goes to its place in the order of keys; if events from there on were run they are undone: they are to be run
  * again, and anti-messages of what they had sent go to the outbox. An anti-message takes its event away in the same way, whichever of the
  * two comes first. The object stays as it is until the next event is handed out, so that messages that come together cost one restore.
+ * An event that is taken twice is run twice: what carries messages delivers each once.
  * *undone is how many events were undone; `undone` may be null.
  * DYM_BAD: is_anti is neither 0 nor 1. DYM_STATE: an event is handed out. DYM_NO_PROCESS: the message's receiver isn't this process.
  * DYM_COMMITTED: its event is before the last bound: whatever carries messages, or found the bound, is wrong. DYM_MEMORY.

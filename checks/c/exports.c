@@ -491,6 +491,13 @@ static void usage(void)
 static void inline_functions(void)
 {
     static const double clocks[] = {0, 5e-324, 0.5, 1, 1.5, 1e300};
+    /* Each cause of a status that has several is in its text. */
+    static const struct {
+        dym_status status;
+        const char *words;
+    } causes[] = {{DYM_RANGE, "end of the chunk"}, {DYM_RANGE, "file"},   {DYM_NO_LOG, "time"},     {DYM_NO_LOG, "place"},
+                  {DYM_MEMORY, "ran out"},         {DYM_BAD, "argument"}, {DYM_BAD, "checked"},     {DYM_STATE, "closed"},
+                  {DYM_STATE, "open where"},       {DYM_STATE, "none is"}, {DYM_STATE, "handed out"}};
     size_t k;
     for (k = 1; k < sizeof clocks / sizeof clocks[0]; k++) {
         EXPECT(dym_time_of(clocks[k - 1]) < dym_time_of(clocks[k]));
@@ -503,6 +510,8 @@ static void inline_functions(void)
     EXPECT(strcmp(dym_status_text(DYM_DONE), "done") == 0 && strcmp(dym_status_text(19), "no status") == 0);
     EXPECT(strcmp(dym_status_text(18), "no status") != 0);
     for (k = 0; k <= DYM_FILE; k++) EXPECT(dym_status_text((dym_status)k)[0] != 0);
+    for (k = 0; k < sizeof causes / sizeof causes[0]; k++)
+        EXPECT(strstr(dym_status_text(causes[k].status), causes[k].words) != NULL);
 }
 
 static void links(dym_object *object)

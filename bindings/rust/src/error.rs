@@ -25,12 +25,12 @@ pub enum Error {
     NotAfter,
     /// 256 logs are kept, the most that an object keeps.
     LogsFull,
-    /// No log has a time at or before the one asked for.
+    /// No log is at or before the time, before it, or at the place that was asked for.
     NoLog,
     /// Memory ran out.
     Memory,
-    /// An argument was bad: the quota of [`Object::open`](crate::Object::open) or the name of
-    /// [`Object::save`](crate::Object::save). The types of this crate leave no others.
+    /// An argument was bad: the quota of [`Object::open`](crate::Object::open), the name of
+    /// [`Object::save`](crate::Object::save), or the quota or the number of [`Process::open`](crate::Process::open).
     Bad,
     /// The object has run 2^60 commands, the most that it may.
     Spent,
@@ -94,9 +94,9 @@ impl fmt::Display for Error {
             Error::Range => "the bytes pass the end of the chunk",
             Error::NotAfter => "the newest log has this time or a later one",
             Error::LogsFull => "256 logs are kept, the most that an object keeps",
-            Error::NoLog => "no log has this time or an earlier one",
+            Error::NoLog => "no log is at such a time or place",
             Error::Memory => "memory ran out",
-            Error::Bad => "the quota or the name is bad",
+            Error::Bad => "the quota, the name or the number of the process is bad",
             Error::Spent => "the object has run 2^60 commands, the most that it may",
             Error::Twice => "a chunk was named twice",
             Error::Committed => "the time is before the last bound",

@@ -147,4 +147,12 @@ fn an_error_says_what_was_refused() {
         "the bytes are no checkpoint file: part 2 fails"
     );
     assert_eq!(Error::Dead.to_string(), "no chunk with this handle is live");
+    assert_eq!(
+        Error::NoLog.to_string(),
+        "no log is at such a time or place"
+    );
+    assert_eq!(
+        Error::Bad.to_string(),
+        "the quota, the name or the number of the process is bad"
+    );
 }
