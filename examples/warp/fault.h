@@ -11,7 +11,7 @@ typedef enum fault {
     FAULT_MESSAGE = 6, /* bytes came that are no message, or a message came that can't be for this worker at this bound */
     FAULT_MODEL = 7,   /* the model got an event that is none of its own, or sent one to no process or to no later time */
     FAULT_MOVE = 8,    /* a process that came from another rank is none */
-    FAULT_FILE = 9,    /* the trace can't be written */
+    FAULT_FILE = 9,    /* the trace or the answer can't be written */
     FAULT_ENDED = 10   /* the run was ended from outside: another rank was lost, or a signal came */
 } fault;
 

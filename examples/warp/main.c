@@ -41,9 +41,7 @@ static void work(transport *t, const settings *s, process *processes)
 
 static fault run_optimistic(const settings *s)
 {
-    process *processes;
-    if (s->processes < transport_workers(s)) return FAULT_OPTION;
-    processes = calloc(s->processes, sizeof *processes);
+    process *processes = calloc(s->processes, sizeof *processes);
     if (processes == NULL) fault_end(FAULT_MEMORY); /* of this rank alone, perhaps */
     transport_run(s, processes, work);
     free(processes);
@@ -61,29 +59,30 @@ static fault run_in_order(const settings *s)
     return f;
 }
 
-static void print_fault(fault f, const char *why)
+/* Whether all that was printed is where it is to go: a full disk shows only here. */
+static int is_written(void)
 {
-    if (f == FAULT_OPTION)
-        fprintf(stderr, "warp: %s: %s (--help says which there are)\n", fault_text(f), why);
-    else
-        fprintf(stderr, "warp: %s\n", fault_text(f));
+    return fflush(stdout) == 0 && !ferror(stdout);
 }
 
 int main(int count, char **words)
 {
     settings s;
-    const char *why = "";
+    char why[SETTINGS_WHY];
     fault f;
     transport_begin(&count, &words);
-    f = settings_read(&s, count, words, &why);
+    f = settings_read(&s, count, words, why);
     if (f == FAULT_NONE && s.wants_usage) {
         if (transport_is_first()) settings_usage(words[0]);
     } else if (f == FAULT_NONE) {
         resources_limit(s.memory);
         f = s.sequential ? run_in_order(&s) : run_optimistic(&s);
-        if (f == FAULT_OPTION) why = "there are more workers than processes";
     }
-    if (f != FAULT_NONE && transport_is_first()) print_fault(f, why);
+    if (f == FAULT_NONE && !is_written()) {
+        f = FAULT_FILE;
+        snprintf(why, sizeof why, "the answer can't be written");
+    }
+    if (f != FAULT_NONE && transport_is_first()) fprintf(stderr, "warp: %s\n", why[0] != '\0' ? why : fault_text(f));
     transport_end();
     return (int)f;
 }

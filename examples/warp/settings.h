@@ -30,10 +30,13 @@ typedef struct settings {
     int wants_usage;
 } settings;
 
-/* Reads the words of the command line. Where they are bad, *why says so. */
-fault settings_read(settings *s, int count, char **words, const char **why);
+/* Room for what is said of bad words; what is longer is cut. */
+enum { SETTINGS_WHY = 256 };
 
-/* Prints how the program is called, with all options and the numbers that they have by themselves. */
+/* Reads the words of the command line. Where they are bad, `why` says what is wrong, and else it is empty. */
+fault settings_read(settings *s, int count, char **words, char why[SETTINGS_WHY]);
+
+/* Prints how the program is called, with all options, their defaults, and the ranges of their numbers. */
 void settings_usage(const char *program);
 
 #endif

@@ -214,9 +214,9 @@ static void try_touches(const settings *s)
 int main(int count, char **words)
 {
     static settings s;
-    const char *why;
+    char why[SETTINGS_WHY];
     char *own[] = {"parts", "phold", "--processes", "4", "--log-every", "4"};
-    if (settings_read(&s, sizeof own / sizeof *own, own, &why) != FAULT_NONE) return 1;
+    if (settings_read(&s, sizeof own / sizeof *own, own, why) != FAULT_NONE) return 1;
     s.way = memory_way_named(count > 1 ? words[1] : "copies");
     if (s.way == NULL) return 2;
     s.kind = &process_own; /* the library's isn't packed */
