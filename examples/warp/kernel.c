@@ -193,7 +193,7 @@ static void start(kernel *k)
     k->owner = calloc(processes, sizeof *k->owner);
     if (k->owner == NULL) must(FAULT_MEMORY);
     must(schedule_open(&k->schedule, processes));
-    must(trace_open(&k->trace, k->settings->trace, k->self));
+    must(trace_open(&k->trace, k->settings->trace, k->self, k->workers));
     for (j = 0; j < processes; j++) k->owner[j] = (uint32_t)((uint64_t)j * k->workers / processes);
     for (j = 0; j < processes; j++) {
         if (!is_own(k, j)) continue;

@@ -20,8 +20,9 @@ typedef struct trace {
     FILE *file; /* null where nothing is noted */
 } trace;
 
-/* Opens the file of a worker; `name` may be null. */
-fault trace_open(trace *t, const char *name, uint32_t worker);
+/* Opens the file of a worker; `name` may be null. Worker 0 removes FILE.N where there is no worker N: it is of an older run, and would be drawn with
+ * this one. */
+fault trace_open(trace *t, const char *name, uint32_t worker, uint32_t workers);
 
 /* FAULT_FILE: not all was written. */
 fault trace_close(trace *t);
