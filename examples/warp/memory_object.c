@@ -162,7 +162,7 @@ static fault object_restore(memory *m, uint64_t time, uint64_t *restored)
     object *own = m->inside;
     dym_status status = dym_restore(own->heap, time + own->moves, restored);
     m->touches.interval++;
-    *restored -= own->moves;
+    if (status == DYM_DONE) *restored -= own->moves;
     return memory_fault(status);
 }
 

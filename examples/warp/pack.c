@@ -5,7 +5,7 @@
 
 /* What stands first: the numbers of a process, and how many items each list after it has. */
 typedef struct head {
-    uint64_t process, root, dropped, sent_from, serial, bound;
+    uint64_t process, root, dropped, sent_from, serial, bound, reached;
     uint64_t logged, pending, done, sent, early, state;
     period period;
     counts counts;
@@ -28,6 +28,7 @@ static head head_of(const process *p, uint64_t state)
     h.sent_from = p->own.sent_from;
     h.serial = p->own.serial;
     h.bound = p->own.bound;
+    h.reached = p->reached;
     h.logged = p->own.logged.items[0];
     h.pending = p->own.pending.count;
     h.done = p->own.done.count;
@@ -114,6 +115,7 @@ static void take_head(process *p, const head *h)
     p->own.sent_from = h->sent_from;
     p->own.serial = h->serial;
     p->own.bound = h->bound;
+    p->reached = h->reached;
     p->period = h->period;
     p->counts = h->counts;
     /* the state is that of its log: the events after it are run again before the next one */

@@ -64,7 +64,7 @@ struct process {
     memory memory;
     period period;
     counts counts;
-    uint64_t reached; /* the time of the last event that was run and not undone, or 0 */
+    uint64_t reached; /* the time of the last event that was run and not undone, or 0; of the library's after a rollback, that of the message */
     int wants_bound;  /* its logs are full */
     own_process own;
     library_process library;

@@ -56,7 +56,7 @@ static fault note_logs(process *p, uint32_t how)
     memory_note_log(&p->memory);
     f = fault_of(dym_process_progress(&p->library.process, &progress));
     if (f != FAULT_NONE) return f;
-    if (!p->library.is_stale && progress.logged == p->library.ran) p->counts.logs++;
+    if (!p->library.is_stale && progress.logged > p->library.logged) p->counts.logs++;
     p->library.is_stale = 0;
     p->library.logged = progress.logged;
     return FAULT_NONE;
