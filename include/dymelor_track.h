@@ -24,18 +24,19 @@
  *
  * Told before the call are, where a model names them, what these functions write:
  *
- *     memcpy memmove memset mempcpy memccpy bcopy bzero random_r strcpy stpcpy strncpy stpncpy strcat strncat strtok strtok_r
- *     strsep sscanf fscanf vsscanf vfscanf explicit_bzero wmemcpy wmemmove wmemset wmempcpy wcscpy wcpcpy wcsncpy wcpncpy wcscat
- *     wcsncat sprintf snprintf vsprintf vsnprintf swprintf vswprintf strftime strxfrm qsort qsort_r fread fgets mbstowcs wcstombs
- *     mbtowc wctomb getcwd time timespec_get gettimeofday read pread recv gmtime_r localtime_r asctime_r ctime_r clock_gettime
- *     nanosleep realpath readlink stat fstat lstat strtol strtoul strtoll strtoull strtoimax strtoumax strtod strtof strtold
- *     strptime inet_ntop getline getdelim mbsrtowcs wcsrtombs mbrtowc initstate_r wcrtomb rand_r erand48 nrand48 jrand48 getrandom
- *     getentropy drand48_r lrand48_r mrand48_r frexp frexpf frexpl modf modff modfl remquo remquof remquol lgamma_r sincos sincosf
- *     sincosl setjmp to_chars from_chars
+ *     memcpy memmove memset mempcpy memccpy bcopy bzero random_r srandom_r initstate_r strcpy stpcpy strncpy stpncpy strcat
+ *     strncat strtok strtok_r strsep sscanf fscanf vsscanf vfscanf explicit_bzero wmemcpy wmemmove wmemset wmempcpy wcscpy
+ *     wcpcpy wcsncpy wcpncpy wcscat wcsncat sprintf snprintf vsprintf vsnprintf swprintf vswprintf strftime strxfrm qsort
+ *     qsort_r fread fgets mbstowcs wcstombs mbtowc wctomb getcwd time timespec_get gettimeofday mktime timegm read pread recv
+ *     gmtime_r localtime_r asctime_r ctime_r clock_gettime nanosleep realpath readlink stat fstat lstat strtol strtoul strtoll
+ *     strtoull strtoimax strtoumax strtod strtof strtold strptime inet_ntop socketpair getline getdelim mbsrtowcs wcsrtombs
+ *     mbrtowc wcrtomb rand_r erand48 nrand48 jrand48 getrandom getentropy drand48_r lrand48_r mrand48_r frexp frexpf frexpl
+ *     modf modff modfl remquo remquof remquol lgamma_r sincos sincosf sincosl setjmp to_chars from_chars
  *
  * Not told, so that a dym_touch, dym_wrote or dym_touch_all has to come before: what other functions write that dymelor-cc didn't compile, those
- * of libraries, and of the C++ library's own list, map and set. dym_untold finds what they wrote, where dym_open_checked opened the object. What a
- * call of dymelor.h writes to by a parameter, as *chunk, may not lie in a chunk at all.
+ * of libraries, and of the C++ library's own list, map and set; the number that %n of the printf functions stores; and what a function writes
+ * later into memory that another was given to keep: initstate, setstate, setvbuf, setbuf, fmemopen. dym_untold finds what they wrote, where
+ * dym_open_checked opened the object. What a call of dymelor.h writes to by a parameter, as *chunk, may not lie in a chunk at all.
  *
  * What C owes beside what dymelor.h says, and nothing checks: a store into an object is like a call on it, so that one thread at a time
  * makes them; an object that moved is named again; no thread stores into the chunks of a closed object. A thread that named an object which

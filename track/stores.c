@@ -163,6 +163,22 @@ int dym_told_random_r(struct random_data *data, int32_t *number)
     return random_r(data, number);
 }
 
+int dym_told_srandom_r(unsigned seed, struct random_data *data)
+{
+    tell(data);
+    tell(data->state);
+    return srandom_r(seed, data);
+}
+
+/* It also writes into the state that the generator had before, if any. */
+int dym_told_initstate_r(unsigned seed, char *state, size_t length, struct random_data *data)
+{
+    tell(state);
+    tell(data);
+    tell(data->state);
+    return initstate_r(seed, state, length, data);
+}
+
 /* ---- functions that read values by a format */
 
 /* Where the conversion ends that begins behind a %; `is_stored` says whether it takes a pointer. */

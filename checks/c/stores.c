@@ -25,6 +25,11 @@ static void fail(const char *what, const char *more)
     exit(1);
 }
 
+FILE *file_of(const char *text)
+{
+    return fmemopen((void *)text, strlen(text), "r");
+}
+
 static void must(dym_status status, const char *call)
 {
     if (status != DYM_DONE) fail(call, dym_status_text(status));

@@ -7,6 +7,8 @@
 
 #include "dymelor.h"
 
+#include <stdio.h>
+
 typedef struct way {
     const char *name;
     size_t size;
@@ -22,6 +24,9 @@ extern "C" {
 extern const way plain_ways[];
 extern const way call_ways[];
 extern const way class_ways[];
+
+/* A text as a file that is read, by the simulator: a model that calls fmemopen itself would be told that it isn't known. */
+FILE *file_of(const char *text);
 
 /* A sorted list and a tree in one object. Each step adds a node or takes one away. The root is a chunk of ROOT_BYTES bytes. */
 enum { ROOT_BYTES = 64 };

@@ -220,11 +220,6 @@ static int printed_wide(wchar_t *to, const wchar_t *format, ...)
 
 CALL_WIDE(vswprintf, printed_wide(to, L"%ls", from))
 
-static FILE *file_of(const char *text)
-{
-    return fmemopen((void *)text, strlen(text), "r");
-}
-
 static int scanned(const char *text, FILE *file, const char *format, ...)
 {
     va_list pointers;
@@ -308,6 +303,15 @@ CALL(recv)
     close(ends[1]);
 }
 
+CALL(socketpair)
+{
+    int *ends = chunk;
+    if (socketpair(AF_UNIX, SOCK_STREAM, 0, ends) != 0) return;
+    close(ends[0]);
+    close(ends[1]);
+    vary(chunk, draw);
+}
+
 CALL_VARIED(stat, stat("/", chunk))
 CALL_VARIED(lstat, lstat("/proc/self", chunk))
 CALL_VARIED(realpath, realpath("/proc/self", chunk))
@@ -339,6 +343,9 @@ CALL_VARIED(localtime_r, localtime_r(a_time(draw), chunk))
 CALL_VARIED(ctime_r, ctime_r(a_time(draw), chunk))
 CALL_VARIED(asctime_r, asctime_r(gmtime(a_time(draw)), chunk))
 CALL_VARIED(strftime, strftime(chunk, TEXT, "%Y %S", gmtime(a_time(draw))))
+/* What was varied is no time of a day, and is made one. */
+CALL_VARIED(mktime, mktime(chunk))
+CALL_VARIED(timegm, timegm(chunk))
 CALL_VARIED(strptime, strptime("12:34:56", "%H:%M:%S", chunk))
 CALL_VARIED(inet_ntop, inet_ntop(AF_INET, &draw, chunk, TEXT))
 
@@ -362,13 +369,13 @@ CALL_VARIED(wcrtomb, wcrtomb(chunk, L'a' + (wchar_t)(draw % 26), (mbstate_t *)((
 CALL(mbsrtowcs)
 {
     const char *from = other(chunk, draw);
-    mbsrtowcs(chunk, &from, 20, NULL);
+    mbsrtowcs(chunk, &from, 20, (mbstate_t *)((char *)chunk + 2 * TEXT));
 }
 
 CALL(wcsrtombs)
 {
     const wchar_t *from = wide(chunk, draw);
-    wcsrtombs(chunk, &from, 20, NULL);
+    wcsrtombs(chunk, &from, 20, (mbstate_t *)((char *)chunk + 2 * TEXT));
 }
 
 static int by_number(const void *a, const void *b)
@@ -427,6 +434,15 @@ CALL(random_r)
         random_r(&g->data, &g->number);
 }
 
+CALL(srandom_r)
+{
+    generator *g = chunk;
+    if (g->data.state == NULL)
+        initstate_r(draw, g->state, sizeof g->state, &g->data);
+    else
+        srandom_r(draw, &g->data);
+}
+
 CALL_VARIED(frexp, frexp(draw, chunk))
 CALL_VARIED(frexpf, frexpf((float)draw, chunk))
 CALL_VARIED(frexpl, frexpl(draw, chunk))
@@ -463,11 +479,12 @@ const way call_ways[] = {
     WAY(vsscanf), WAY(vfscanf), WAY(wmemcpy), WAY(wmemmove), WAY(wmemset), WAY(wmempcpy), WAY(wcscpy), WAY(wcpcpy), WAY(wcsncpy),
     WAY(wcpncpy), WAY(wcscat), WAY(wcsncat), WAY(sprintf), WAY(snprintf), WAY(vsprintf), WAY(vsnprintf), WAY(swprintf), WAY(vswprintf),
     WAY(strftime), WAY(strxfrm), WAY(qsort), WAY(qsort_r), WAY(fread), WAY(fgets), WAY(mbstowcs), WAY(wcstombs), WAY(mbtowc), WAY(wctomb),
-    LONG_WAY(getcwd), WAY(time), WAY(timespec_get), WAY(gettimeofday), WAY(read), WAY(pread), WAY(recv), WAY(gmtime_r), WAY(localtime_r),
-    WAY(asctime_r), WAY(ctime_r), WAY(clock_gettime), WAY(nanosleep), LONG_WAY(realpath), WAY(readlink), WAY(stat), WAY(fstat), WAY(lstat),
-    WAY(strtol), WAY(strtoul), WAY(strtoll), WAY(strtoull), WAY(strtoimax), WAY(strtoumax), WAY(strtod), WAY(strtof), WAY(strtold),
-    WAY(strptime), WAY(inet_ntop), WAY(getline), WAY(getdelim), WAY(mbsrtowcs), WAY(wcsrtombs), WAY(mbrtowc), WAY(wcrtomb), WAY(rand_r),
-    WAY(erand48), WAY(nrand48), WAY(jrand48), WAY(getrandom), WAY(getentropy), WAY(random_r), WAY(initstate_r), WAY(drand48_r),
-    WAY(lrand48_r), WAY(mrand48_r), WAY(frexp), WAY(frexpf), WAY(frexpl), WAY(modf), WAY(modff), WAY(modfl), WAY(remquo), WAY(remquof),
-    WAY(remquol), WAY(lgamma_r), WAY(sincos), WAY(sincosf), WAY(sincosl), WAY(setjmp), {NULL, 0, NULL},
+    LONG_WAY(getcwd), WAY(time), WAY(timespec_get), WAY(gettimeofday), WAY(mktime), WAY(timegm), WAY(read), WAY(pread), WAY(recv),
+    WAY(gmtime_r), WAY(localtime_r), WAY(asctime_r), WAY(ctime_r), WAY(clock_gettime), WAY(nanosleep), LONG_WAY(realpath), WAY(readlink),
+    WAY(stat), WAY(fstat), WAY(lstat), WAY(strtol), WAY(strtoul), WAY(strtoll), WAY(strtoull), WAY(strtoimax), WAY(strtoumax), WAY(strtod),
+    WAY(strtof), WAY(strtold), WAY(strptime), WAY(inet_ntop), WAY(socketpair), WAY(getline), WAY(getdelim), WAY(mbsrtowcs), WAY(wcsrtombs),
+    WAY(mbrtowc), WAY(wcrtomb), WAY(rand_r), WAY(erand48), WAY(nrand48), WAY(jrand48), WAY(getrandom), WAY(getentropy), WAY(random_r),
+    WAY(srandom_r), WAY(initstate_r), WAY(drand48_r), WAY(lrand48_r), WAY(mrand48_r), WAY(frexp), WAY(frexpf), WAY(frexpl), WAY(modf),
+    WAY(modff), WAY(modfl), WAY(remquo), WAY(remquof), WAY(remquol), WAY(lgamma_r), WAY(sincos), WAY(sincosf), WAY(sincosl), WAY(setjmp),
+    {NULL, 0, NULL},
 };
