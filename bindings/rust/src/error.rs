@@ -118,6 +118,7 @@ impl std::error::Error for Error {}
 mod tests {
     use super::{done, FILE};
     use std::fs;
+    use std::io::{stderr, Write};
 
     /// The name and the number of the status that a line declares.
     fn status_of(line: &str) -> Option<(&str, u32)> {
@@ -139,7 +140,11 @@ mod tests {
         let header = concat!(env!("CARGO_MANIFEST_DIR"), "/../../include/dymelor.h");
         let header = match fs::read_to_string(header) {
             Ok(header) => header,
-            Err(why) => return println!("dymelor.h: {why}; nothing was compared"),
+            // What `println!` writes isn't shown of a test that passes.
+            Err(why) => {
+                return writeln!(stderr(), "dymelor.h: {why}; nothing was compared")
+                    .expect("there is a standard error")
+            }
         };
         let lines = header
             .lines()

@@ -214,6 +214,8 @@ const REPLAYED: u32 = 1;
 /// both used".
 pub(crate) struct OpenProcess {
     inside: *mut c_void,
+    /// How many events were committed.
+    committed: u64,
 }
 
 // SAFETY: as of `OpenObject`.
@@ -541,6 +543,14 @@ impl Drop for OpenObject {
     }
 }
 
+/// An empty vector with room for so many.
+fn with_room<T>(count: u64) -> Result<Vec<T>, Error> {
+    let count = usize::try_from(count).map_err(|_| Error::Memory)?;
+    let mut all = Vec::new();
+    all.try_reserve_exact(count).map_err(|_| Error::Memory)?;
+    Ok(all)
+}
+
 impl OpenProcess {
     /// An open process at its start, and its object.
     pub fn open(config: &Config) -> Result<(OpenProcess, OpenObject), Error> {
@@ -555,6 +565,7 @@ impl OpenProcess {
         let mut object = OpenObject::closed();
         let mut process = OpenProcess {
             inside: ptr::null_mut(),
+            committed: 0,
         };
         // SAFETY: "a dym_process is zeroed before its first use".
         done(process.call(&mut object, |c| unsafe { dym_process_open(c, &given) }))?;
@@ -595,10 +606,10 @@ impl OpenProcess {
     }
 
     pub fn outbox(&mut self) -> Result<Vec<PlainMessage>, Error> {
-        let mut all = Vec::new();
+        // Room for all comes before the first is moved, so that none is lost.
+        let mut all = with_room(self.told().outbox)?;
         let mut piece = [Message::default(); 16];
         loop {
-            all.try_reserve(piece.len()).map_err(|_| Error::Memory)?;
             let mut count = 0;
             done(self.look(|c| unsafe {
                 dym_process_outbox(c, piece.as_mut_ptr(), piece.len(), &mut count)
@@ -642,10 +653,11 @@ impl OpenProcess {
     }
 
     pub fn commit(&mut self, object: &mut OpenObject, bound: u64) -> Result<Vec<PlainEvent>, Error> {
+        // The same: no more are committed than were run and weren't committed before.
+        let mut all = with_room(self.told().ran.saturating_sub(self.committed))?;
         let mut committed = 0;
         done(self.call(object, |c| unsafe { dym_process_commit(c, bound, &mut committed) }))?;
-        let mut all = Vec::new();
-        all.try_reserve(committed as usize).map_err(|_| Error::Memory)?;
+        self.committed += committed;
         let mut piece = [Event::default(); 16];
         loop {
             let mut count = 0;
@@ -660,9 +672,14 @@ impl OpenProcess {
         }
     }
 
-    pub fn progress(&self) -> Progress {
+    fn told(&self) -> ProcessProgress {
         let mut told = ProcessProgress::default();
         self.look(|c| unsafe { dym_process_progress(c, &mut told) });
+        told
+    }
+
+    pub fn progress(&self) -> Progress {
+        let told = self.told();
         Progress {
             ran: told.ran,
             replays: told.replays,

@@ -290,7 +290,8 @@ impl Process {
     ///
     /// # Errors
     ///
-    /// [`Error::Unsettled`] if an event before the bound is still to be run, [`Error::Committed`] if a later bound was committed, [`Error::Spent`], and [`Error::Memory`].
+    /// [`Error::Unsettled`] if an event before the bound is still to be run, [`Error::Committed`] if a later bound was committed, [`Error::Spent`], and
+    /// [`Error::Memory`], which comes before the others where memory for the answer is wanting. Nothing is committed then.
     pub fn commit(&mut self, bound: Time) -> Result<Vec<Event>, Error> {
         self.process.commit(self.state.inside_mut(), bound.0)
     }

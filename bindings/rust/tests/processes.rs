@@ -80,7 +80,8 @@ fn in_order() -> [u64; 2] {
     for number in [0, 0, 1, 1] {
         put(&mut queue, number, first_of(number));
     }
-    while let Some((_, event)) = queue.pop_first() {
+    while let Some(first) = queue.keys().next().copied() {
+        let event = queue.remove(&first).expect("it is the first one");
         let sum = &mut sums[event.receiver as usize];
         *sum = after(*sum, &event);
         if let Some(draft) = sent_by(&event, *sum) {
@@ -113,7 +114,7 @@ fn try_model<M: Model>(mut model: M, period: u64) -> Result<(), Error> {
         if pool.is_empty() && all.iter().all(|process| process.next_time().is_none()) {
             break;
         }
-        for left in (0..pool.len().div_ceil(2)).rev() {
+        for left in (0..(pool.len() + 1) / 2).rev() {
             let place = if (turn + left) % 2 == 0 { pool.len() - 1 } else { 0 };
             let message: Message = pool.remove(place);
             undone += all[message.event().receiver as usize].take(&message)?;

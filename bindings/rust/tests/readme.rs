@@ -1,6 +1,7 @@
 //! The example of the module's page is that of docs/rust.md.
 
 use std::fs;
+use std::io::{stderr, Write};
 
 const PAGE: &str = include_str!("../src/lib.rs");
 
@@ -18,7 +19,11 @@ fn the_example_of_the_page_is_that_of_docs() {
     let docs = concat!(env!("CARGO_MANIFEST_DIR"), "/../../docs/rust.md");
     let docs = match fs::read_to_string(docs) {
         Ok(docs) => docs,
-        Err(why) => return println!("docs/rust.md: {why}; nothing was compared"),
+        // What `println!` writes isn't shown of a test that passes.
+        Err(why) => {
+            return writeln!(stderr(), "docs/rust.md: {why}; nothing was compared")
+                .expect("there is a standard error")
+        }
     };
     let page = PAGE.lines().filter_map(|line| line.strip_prefix("//!"));
     let page = example(page.map(|line| line.strip_prefix(' ').unwrap_or(line).to_string()));
