@@ -674,121 +674,175 @@ static void try_world(unsigned order, unsigned pattern, uint64_t period, int mov
 
 /* ---- what is refused, in turn */
 
+/* A message of an event for process 0. */
+static dym_message message_at(uint64_t time, uint32_t sender)
+{
+    dym_message m = {0};
+    m.event = dym_event_to(0, time, 1, 0, 0);
+    m.event.sender = sender;
+    return m;
+}
+
+static dym_process_config config_of_one(void)
+{
+    dym_process_config config = {0};
+    config.processes = 1;
+    config.quota = 1;
+    config.version = 2;
+    return config;
+}
+
+static void refused_openings(dym_process *closed)
+{
+    dym_process_config config = config_of_one();
+    config.processes = 0;
+    MUST(dym_process_open(closed, &config) == DYM_BAD);
+    config.processes = 1;
+    config.version = 3;
+    MUST(dym_process_open(closed, &config) == DYM_BAD);
+    config.version = 2;
+    config.quota = 0;
+    MUST(dym_process_open(closed, &config) == DYM_BAD);
+    config.quota = 1;
+    config.is_checked = 2;
+    MUST(dym_process_open(closed, &config) == DYM_BAD);
+    config.is_checked = 0;
+    config.number = 1;
+    MUST(dym_process_open(closed, &config) == DYM_BAD);
+    config.number = 0;
+    DONE(dym_open(&closed->object, 1, 2));
+    MUST(dym_process_open(closed, &config) == DYM_STATE);
+    DONE(dym_close(&closed->object));
+    MUST(closed->inside == NULL);
+}
+
+/* Each call on a closed process. */
+static void refused_while_closed(dym_process *closed)
+{
+    dym_progress progress;
+    dym_message m = message_at(10, 1);
+    dym_event event = m.event, sent;
+    uint64_t number = 7;
+    MUST(dym_process_close(closed) == DYM_STATE && dym_process_take(closed, &m, NULL) == DYM_STATE);
+    MUST(dym_process_begin(closed, &sent, NULL) == DYM_STATE && dym_process_replay(closed, &sent, NULL) == DYM_STATE);
+    MUST(dym_process_send(closed, &event) == DYM_STATE && dym_process_end(closed) == DYM_STATE);
+    MUST(dym_process_commit(closed, 5, NULL) == DYM_STATE && dym_process_next(closed, &number) == DYM_STATE);
+    MUST(dym_process_outbox(closed, &m, 1, &number) == DYM_STATE && dym_process_committed(closed, &sent, 1, &number) == DYM_STATE);
+    MUST(dym_process_progress(closed, &progress) == DYM_STATE && dym_process_period(closed, 3) == DYM_STATE && number == 7);
+}
+
+static void refused_at_start(dym_process *process)
+{
+    dym_process_config config = config_of_one();
+    dym_progress progress;
+    dym_message m = message_at(10, 1);
+    dym_event event = m.event, sent;
+    uint64_t number = 7;
+    DONE(dym_process_open(process, &config));
+    MUST(dym_process_open(process, &config) == DYM_STATE);
+    MUST(dym_process_begin(process, &sent, NULL) == DYM_STATE && dym_process_take(process, &m, NULL) == DYM_STATE);
+    MUST(dym_process_commit(process, 5, NULL) == DYM_STATE && dym_process_next(process, &number) == DYM_STATE && number == 7);
+    DONE(dym_process_progress(process, &progress));
+    MUST(progress.is_open == 1 && progress.ran == 0 && progress.outbox == 0);
+    event.receiver = 1;
+    MUST(dym_process_send(process, &event) == DYM_NO_PROCESS);
+    event.receiver = 0;
+    event.time = 0;
+    DONE(dym_process_send(process, &event));
+    DONE(dym_log(&process->object, DYM_FULL, 3, NULL));
+    MUST(dym_process_end(process) == DYM_ASTRAY);
+    DONE(dym_close(&process->object));
+    MUST(dym_process_end(process) == DYM_STATE);
+    DONE(dym_process_close(process));
+    MUST(process->inside == NULL && process->object.inside == NULL);
+}
+
+/* An event of time 10 comes, and its run sends one of time 11. */
+static void refused_events(dym_process *process)
+{
+    dym_progress progress;
+    dym_message m = message_at(10, 1);
+    dym_event event = dym_event_to(0, 0, 1, 0, 0), sent;
+    uint64_t number = 7;
+    uint32_t how;
+    MUST(dym_process_end(process) == DYM_STATE && dym_process_send(process, &event) == DYM_STATE);
+    MUST(dym_process_begin(process, &sent, NULL) == DYM_NONE && dym_process_next(process, &number) == DYM_NONE && number == 7);
+    m.is_anti = 2;
+    MUST(dym_process_take(process, &m, NULL) == DYM_BAD);
+    m.is_anti = 0;
+    m.event.receiver = 1;
+    MUST(dym_process_take(process, &m, NULL) == DYM_NO_PROCESS);
+    m.event.receiver = 0;
+    DONE(dym_process_take(process, &m, NULL));
+    MUST(dym_process_commit(process, 11, &number) == DYM_UNSETTLED);
+    DONE(dym_process_commit(process, 10, &number));
+    MUST(number == 0);
+    MUST(dym_process_commit(process, 9, &number) == DYM_COMMITTED);
+    DONE(dym_process_begin(process, &sent, &how));
+    MUST(memcmp(&sent, &m.event, sizeof sent) == 0 && how == DYM_UNTOUCHED);
+    MUST(dym_process_begin(process, &sent, NULL) == DYM_STATE && dym_process_replay(process, &sent, NULL) == DYM_STATE);
+    MUST(dym_process_take(process, &m, NULL) == DYM_STATE && dym_process_commit(process, 11, NULL) == DYM_STATE);
+    MUST(dym_process_commit(process, 0, NULL) == DYM_STATE);
+    event.time = 10;
+    MUST(dym_process_send(process, &event) == DYM_NOT_LATER);
+    event.time = 11;
+    event.receiver = 1;
+    MUST(dym_process_send(process, &event) == DYM_NO_PROCESS);
+    event.receiver = 0;
+    DONE(dym_process_send(process, &event));
+    DONE(dym_process_progress(process, &progress));
+    MUST(progress.is_open == 1 && progress.ran == 0 && progress.outbox == 0);
+    DONE(dym_process_end(process));
+}
+
+/* What was committed stays where a commit is refused; a bound of 0 commits nothing, whatever bound came before. */
+static void refused_commits(dym_process *process)
+{
+    dym_message m = message_at(10, 1);
+    dym_event event;
+    uint64_t number;
+    DONE(dym_process_commit(process, 11, &number));
+    MUST(number == 1);
+    MUST(dym_process_take(process, &m, NULL) == DYM_COMMITTED);
+    m.is_anti = 1;
+    MUST(dym_process_take(process, &m, NULL) == DYM_COMMITTED);
+    m.event.time = 12;
+    DONE(dym_process_take(process, &m, NULL));
+    MUST(dym_process_commit(process, 13, NULL) == DYM_UNSETTLED && dym_process_commit(process, 9, NULL) == DYM_COMMITTED);
+    DONE(dym_process_committed(process, &event, 0, &number));
+    MUST(number == 0);
+    DONE(dym_process_committed(process, &event, 1, &number));
+    MUST(number == 1 && event.time == 10);
+    DONE(dym_process_commit(process, 0, &number));
+    MUST(number == 0);
+    DONE(dym_process_outbox(process, &m, 0, &number));
+    MUST(number == 0);
+    DONE(dym_process_outbox(process, &m, 1, &number));
+    MUST(number == 1 && m.event.time == 11 && m.event.sender == 0 && m.event.serial == 0 && !m.is_anti);
+}
+
+/* Logs that aren't the process's. */
+static void refused_logs(dym_process *process)
+{
+    const dym_message m = message_at(20, 0);
+    dym_event event;
+    DONE(dym_process_take(process, &m, NULL));
+    DONE(dym_log(&process->object, DYM_FULL, 9, NULL));
+    MUST(dym_process_begin(process, &event, NULL) == DYM_ASTRAY);
+}
+
 static void try_refusals(void)
 {
     runner r;
-    dym_process closed = {{NULL}, NULL};
-    dym_process_config config = {0};
-    dym_progress progress;
-    dym_event event = dym_event_to(0, 10, 1, 0, 0), sent;
-    dym_message m = {0};
-    uint64_t number = 7;
-    uint32_t how;
+    dym_process process = {{NULL}, NULL};
     trial = "refusals";
-    m.event = event;
-    m.event.sender = 1;
-    config.quota = 1;
-    config.version = 2;
-    MUST(dym_process_open(&closed, &config) == DYM_BAD);
-    config.processes = 1;
-    config.version = 3;
-    MUST(dym_process_open(&closed, &config) == DYM_BAD);
-    config.version = 2;
-    config.quota = 0;
-    MUST(dym_process_open(&closed, &config) == DYM_BAD);
-    config.quota = 1;
-    config.is_checked = 2;
-    MUST(dym_process_open(&closed, &config) == DYM_BAD);
-    config.is_checked = 0;
-    config.number = 1;
-    MUST(dym_process_open(&closed, &config) == DYM_BAD);
-    config.number = 0;
-    DONE(dym_open(&closed.object, 1, 2));
-    MUST(dym_process_open(&closed, &config) == DYM_STATE);
-    DONE(dym_close(&closed.object));
-    MUST(closed.inside == NULL);
-    MUST(dym_process_close(&closed) == DYM_STATE && dym_process_take(&closed, &m, NULL) == DYM_STATE);
-    MUST(dym_process_begin(&closed, &sent, NULL) == DYM_STATE && dym_process_replay(&closed, &sent, NULL) == DYM_STATE);
-    MUST(dym_process_send(&closed, &event) == DYM_STATE && dym_process_end(&closed) == DYM_STATE);
-    MUST(dym_process_commit(&closed, 5, NULL) == DYM_STATE && dym_process_next(&closed, &number) == DYM_STATE);
-    MUST(dym_process_outbox(&closed, &m, 1, &number) == DYM_STATE && dym_process_committed(&closed, &sent, 1, &number) == DYM_STATE);
-    MUST(dym_process_progress(&closed, &progress) == DYM_STATE && dym_process_period(&closed, 3) == DYM_STATE && number == 7);
-
-    /* the start */
-    DONE(dym_process_open(&closed, &config));
-    MUST(dym_process_open(&closed, &config) == DYM_STATE);
-    MUST(dym_process_begin(&closed, &sent, NULL) == DYM_STATE && dym_process_take(&closed, &m, NULL) == DYM_STATE);
-    MUST(dym_process_commit(&closed, 5, NULL) == DYM_STATE && dym_process_next(&closed, &number) == DYM_STATE);
-    DONE(dym_process_progress(&closed, &progress));
-    MUST(progress.is_open == 1 && progress.ran == 0 && progress.outbox == 0);
-    event.receiver = 1;
-    MUST(dym_process_send(&closed, &event) == DYM_NO_PROCESS);
-    event.receiver = 0;
-    event.time = 0;
-    DONE(dym_process_send(&closed, &event));
-    DONE(dym_log(&closed.object, DYM_FULL, 3, NULL));
-    MUST(dym_process_end(&closed) == DYM_ASTRAY);
-    DONE(dym_close(&closed.object));
-    MUST(dym_process_end(&closed) == DYM_STATE);
-    DONE(dym_process_close(&closed));
-    MUST(closed.inside == NULL && closed.object.inside == NULL);
-
-    /* events */
+    refused_openings(&process);
+    refused_while_closed(&process);
+    refused_at_start(&process);
     open_runner(&r, 0, 1, 1, 0);
-    MUST(dym_process_end(&r.process) == DYM_STATE && dym_process_send(&r.process, &event) == DYM_STATE);
-    MUST(dym_process_begin(&r.process, &sent, NULL) == DYM_NONE && dym_process_next(&r.process, &number) == DYM_NONE && number == 7);
-    m.is_anti = 2;
-    MUST(dym_process_take(&r.process, &m, NULL) == DYM_BAD);
-    m.is_anti = 0;
-    m.event.receiver = 1;
-    MUST(dym_process_take(&r.process, &m, NULL) == DYM_NO_PROCESS);
-    m.event.receiver = 0;
-    DONE(dym_process_take(&r.process, &m, NULL));
-    MUST(dym_process_commit(&r.process, 11, &number) == DYM_UNSETTLED);
-    DONE(dym_process_commit(&r.process, 10, &number));
-    MUST(number == 0);
-    MUST(dym_process_commit(&r.process, 9, &number) == DYM_COMMITTED);
-    DONE(dym_process_begin(&r.process, &sent, &how));
-    MUST(memcmp(&sent, &m.event, sizeof sent) == 0 && how == DYM_UNTOUCHED);
-    MUST(dym_process_begin(&r.process, &sent, NULL) == DYM_STATE && dym_process_replay(&r.process, &sent, NULL) == DYM_STATE);
-    MUST(dym_process_take(&r.process, &m, NULL) == DYM_STATE && dym_process_commit(&r.process, 11, NULL) == DYM_STATE);
-    MUST(dym_process_commit(&r.process, 0, NULL) == DYM_STATE);
-    event.time = 10;
-    MUST(dym_process_send(&r.process, &event) == DYM_NOT_LATER);
-    event.time = 11;
-    event.receiver = 1;
-    MUST(dym_process_send(&r.process, &event) == DYM_NO_PROCESS);
-    event.receiver = 0;
-    DONE(dym_process_send(&r.process, &event));
-    DONE(dym_process_progress(&r.process, &progress));
-    MUST(progress.is_open == 1 && progress.ran == 0 && progress.outbox == 0);
-    DONE(dym_process_end(&r.process));
-    DONE(dym_process_commit(&r.process, 11, &number));
-    MUST(number == 1);
-    MUST(dym_process_take(&r.process, &m, NULL) == DYM_COMMITTED);
-    m.is_anti = 1;
-    MUST(dym_process_take(&r.process, &m, NULL) == DYM_COMMITTED);
-    m.event.time = 12;
-    DONE(dym_process_take(&r.process, &m, NULL));
-    MUST(dym_process_commit(&r.process, 13, NULL) == DYM_UNSETTLED && dym_process_commit(&r.process, 9, NULL) == DYM_COMMITTED);
-
-    /* what was committed stays where a commit is refused; a bound of 0 commits nothing, whatever bound came before */
-    DONE(dym_process_committed(&r.process, &sent, 0, &number));
-    MUST(number == 0);
-    DONE(dym_process_committed(&r.process, &sent, 1, &number));
-    MUST(number == 1 && sent.time == 10);
-    DONE(dym_process_commit(&r.process, 0, &number));
-    MUST(number == 0);
-    DONE(dym_process_outbox(&r.process, &m, 0, &number));
-    MUST(number == 0);
-    DONE(dym_process_outbox(&r.process, &m, 1, &number));
-    MUST(number == 1 && m.event.time == 11 && m.event.sender == 0 && m.event.serial == 0 && !m.is_anti);
-
-    /* logs that aren't the process's */
-    m.event.time = 20;
-    DONE(dym_process_take(&r.process, &m, NULL));
-    DONE(dym_log(&r.process.object, DYM_FULL, 9, NULL));
-    MUST(dym_process_begin(&r.process, &sent, NULL) == DYM_ASTRAY);
+    refused_events(&r.process);
+    refused_commits(&r.process);
+    refused_logs(&r.process);
     DONE(dym_process_close(&r.process));
 }
 
