@@ -94,8 +94,8 @@ module _ (o : UndoObjectMeaning) (p : Kept) (new_o : UndoObjectMeaning) (q : Kep
     (told new_told : ℕ) where
   pub all_committed : new ≡ drop (length before) out → (done : HasCommitted words last (inner p) (inner q) before out)
       → ((b : Behaviour DymData Live) (past : List (Event DymData)) → IsProcessOf words b past o p → IsProcessOf words b (past ++ done.gone) new_o q)
-      → new_told ≡ length new → (p.is_open ≡ true → ⊥) → HasCommittedIn o p new_o q last before new 0 told new_told
-  all_committed left done kept count closed = record {
+      → new_told ≡ length new → (p.is_open ≡ true → ⊥) → q ≡ record p { process = q.process } → HasCommittedIn o p new_o q last before new 0 told new_told
+  all_committed left done kept count closed rest = record {
     done = λ _. last_committed last (inner p) (inner q) before out new left done;
     kept = λ _ b past h. subst (λ (l : List (Event DymData)). IsProcessOf words b (past ++ l) new_o q)
         (sym (last_gone last (inner p) (inner q) before out new left done)) (kept b past h);
@@ -104,6 +104,7 @@ module _ (o : UndoObjectMeaning) (p : Kept) (new_o : UndoObjectMeaning) (q : Kep
     backward = λ e. absurd (omega (arith, e));
     unsettled = λ e. absurd (omega (arith, e));
     spent = λ e. absurd (omega (arith, e));
+    rest = rest;
     unchanged = λ no. absurd (no refl);
   }
 
@@ -159,6 +160,10 @@ module _ {T : Type 0} where
   done_of_send (Err sending.NoProcess) P h e = absurd (omega (arith, e))
   done_of_send (Err sending.Memory) P h e = absurd (omega (arith, e))
 
+  kept_of_send : (r : Result T SendError) (P : Type 0) → OnErr r P → (send_status r ≡ 0 → ⊥) → P
+  kept_of_send (Ok v) P h fails = absurd (fails refl)
+  kept_of_send (Err e) P h fails = h
+
   -- what a process says of an event that is sent, by the status
   pub sent_of : (p q : Kept) (draft : Draft DymData) (r : Result T SendError) (status : ℕ) → send_status r ≡ status
       → OnOk r (p.reached ≡ Some (date_of (inner p)) → q.drafts.items ≡ p.drafts.items ++ draft ∷ [])
@@ -166,8 +171,9 @@ module _ {T : Type 0} where
       → ((r ≡ Err sending.Idle) ↔ (p.is_open ≡ false))
       → ((event : Event DymData) (is_replayed : Bool) → p.is_open ≡ true → IsHandedOut p event is_replayed
       → (r ≡ Err sending.NotLater) ↔ (draft.time ≤ event.time))
-      → (r ≡ Err sending.NoProcess → p.processes ≤ draft.receiver) → q ≡ record p { drafts = q.drafts } → HasSent p q draft status
-  sent_of p q draft r status at sent dropped idle later nobody rest =
+      → (r ≡ Err sending.NoProcess → p.processes ≤ draft.receiver) → OnErr r (q.drafts.items ≡ p.drafts.items)
+      → q ≡ record p { drafts = q.drafts } → HasSent p q draft status
+  sent_of p q draft r status at sent dropped idle later nobody unchanged rest =
       subst (HasSent p q draft) at (record {
         sent = λ e. done_of_send r _ sent e;
         dropped = dropped;
@@ -177,6 +183,7 @@ module _ {T : Type 0} where
           λ late. ap send_status ((later event is_replayed open_now out).1 late),
         );
         no_process = λ e. nobody (nobody_of r e);
+        unchanged = kept_of_send r _ unchanged;
         rest = rest;
       })
 

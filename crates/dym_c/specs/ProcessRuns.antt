@@ -1,5 +1,5 @@
 -- What the calls do, of a process that is started or starts, that hand events out and end them, take messages and commit.
-use Rattle.std.specs.Prelude.{◌≡◌, ◌↔◌, ◌≤◌, ◌<◌, ◌+◌, ◌++◌, ◌∷◌, [], ℕ, zero, suc, Bool, true, false, List, map, length, drop, Option, None, Some}
+use Rattle.std.specs.Prelude.{◌≡◌, ◌↔◌, ◌≤◌, ◌<◌, ◌+◌, ◌^◌, ◌⊎◌, ◌++◌, ◌∷◌, [], ℕ, zero, suc, Bool, true, false, List, map, length, drop, Option, None, Some}
 use Rattle.std.specs.Bool.{MatchBool}
 use Rattle.dym_base.specs.Heaps.{Live}
 use Rattle.dym_base.specs.declared.limits.TheConstants.{COUNT_LIMIT}
@@ -11,8 +11,8 @@ use Rattle.warp_base.specs.declared.event.Draft.{Draft}
 use Rattle.warp_base.specs.declared.event.Event.{Event}
 use Rattle.warp_base.specs.declared.event.Message.{Message}
 use Rattle.warp_base.specs.declared.event.Message.TheVariants as messages
-use Rattle.warp_process.specs.Processes.{HasTakenMessage, HasPosted, HasCommitted, bound_of}
-use Rattle.warp_object.specs.Processes.{inner, date_of, IsProcessOf, IsHandedOut}
+use Rattle.warp_process.specs.Processes.{HasTakenMessage, HasPosted, UndoesFrom, HasCommitted, bound_of}
+use Rattle.warp_object.specs.Processes.{inner, date_of, IsKept, IsProcessOf, IsHandedOut}
 use Rattle.warp_object.specs.declared.messages.CommitError.{CommitError}
 use Rattle.warp_object.specs.declared.messages.CommitError.TheVariants as committing
 use Rattle.warp_object.specs.declared.object_process.ObjectProcess.{ObjectProcess}
@@ -63,6 +63,7 @@ pub record IsGiven (q : Kept) (event : DymEvent) (how : ℕ) : Type 0 where
   pub event_told : event ≡ c_event event_given
   pub is_open : q.is_open ≡ true
   pub handed_out : IsHandedOut q event_given is_replayed
+  pub nothing_sent : q.drafts.items ≡ []
   pub how_told : how ≡ flag is_replayed + (flag untouched + flag untouched)
 
 -- the next event, or one that was run before, was handed out
@@ -74,6 +75,7 @@ pub record HasBegun (o : UndoObjectMeaning) (p : Kept) (new_o : UndoObjectMeanin
   pub was_open : (status ≡ 11) ↔ (p.is_open ≡ true)
   pub spent : status ≡ 10 → COUNT_LIMIT ≤ new_o.ran
   pub astray : (b : Behaviour DymData Live) (past : List (Event DymData)) → IsProcessOf words b past o p → status ≡ 18 → ⊥
+  pub reached : (r : ℕ) → p.reached ≡ Some r → q.reached ≡ Some r
   pub rest : inner q ≡ record (inner p) { copies = (inner q).copies }
   pub unchanged : (status ≡ 0 → ⊥) → (status ≡ 17 → ⊥) → (q.is_open ≡ p.is_open) × (q.drafts ≡ p.drafts)
   pub untold : (status ≡ 0 → ⊥) → (new_event ≡ event) × (new_how ≡ how)
@@ -87,7 +89,9 @@ pub record HasBegunReplay (o : UndoObjectMeaning) (p : Kept) (new_o : UndoObject
   pub was_open : (status ≡ 11) ↔ (p.is_open ≡ true)
   pub spent : status ≡ 10 → COUNT_LIMIT ≤ new_o.ran
   pub astray : (b : Behaviour DymData Live) (past : List (Event DymData)) → IsProcessOf words b past o p → status ≡ 18 → ⊥
+  pub reached : (r : ℕ) → p.reached ≡ Some r → q.reached ≡ Some r
   pub same : inner q ≡ inner p
+  pub rest : q ≡ record p { reached = q.reached; is_open = q.is_open; drafts = q.drafts }
   pub unchanged : (status ≡ 0 → ⊥) → (status ≡ 17 → ⊥) → (q.is_open ≡ p.is_open) × (q.drafts ≡ p.drafts)
   pub untold : (status ≡ 0 → ⊥) → (new_event ≡ event) × (new_how ≡ how)
 
@@ -99,6 +103,7 @@ pub record HasSent (p q : Kept) (draft : Draft DymData) (status : ℕ) : Type 0 
   pub later : (event : Event DymData) (is_replayed : Bool) → p.is_open ≡ true → IsHandedOut p event is_replayed
       → (status ≡ 14) ↔ (draft.time ≤ event.time)
   pub no_process : status ≡ 15 → p.processes ≤ draft.receiver
+  pub unchanged : (status ≡ 0 → ⊥) → q.drafts.items ≡ p.drafts.items
   pub rest : q ≡ record p { drafts = q.drafts }
 
 -- the start sends an event: it may be at any time
@@ -117,8 +122,19 @@ pub record HasEnded (o : UndoObjectMeaning) (p q : Kept) (out new_out : List (Me
       → IsProcessOf words b past o q
   pub posted : status ≡ 0 → (event : Event DymData) (is_replayed : Bool) → IsHandedOut p event is_replayed
       → HasPosted words event.time p.process.sent.items q.process.sent.items out new_out
+  pub replayed : status ≡ 0 → (event : Event DymData) → IsHandedOut p event true → (inner q ≡ inner p) × (new_out ≡ out)
+  pub reached : status ≡ 0 → (r : ℕ) → p.reached ≡ Some r → q.reached ≡ Some (r + 1)
   pub idle : (status ≡ 11) ↔ (p.is_open ≡ false)
+  pub many : status ≡ 10 → (2 ^ 64 ≤ p.process.serial + length p.drafts.items) ⊎ (2 ^ 64 ≤ date_of (inner p) + 1)
   pub closed : status ≡ 0 → q.is_open ≡ false
+  pub face : inner q ≡ record (inner p) {
+    marks = (inner q).marks;
+    sent = (inner q).sent;
+    serial = (inner q).serial;
+    state = (inner q).state;
+    is_stale = (inner q).is_stale;
+  }
+  pub rest : q ≡ record p { process = q.process; reached = q.reached; is_open = q.is_open }
   pub unchanged : (status ≡ 0 → ⊥) → IsUnchanged p q × (new_out ≡ out)
 
 -- the start was ended: the object is the state in which the process starts
@@ -146,6 +162,8 @@ pub record HasTakenIn (p q : Kept) (message : Message DymData) (out new_out : Li
     (status undone new_undone : ℕ) : Type 0 where
   pub kept : (o : UndoObjectMeaning) → StaysOf o p o q
   pub taken : status ≡ 0 → HasTakenMessage words message (inner p) (inner q)
+  pub undoes : status ≡ 0 → UndoesFrom (event_of message).time (inner p) (inner q)
+  pub reached : status ≡ 0 → IsKept p.reached q.reached (date_of (inner q))
   pub told : status ≡ 0 → new_undone + date_of (inner q) ≡ date_of (inner p)
   pub posted : status ≡ 0 → HasPosted words (event_of message).time p.process.sent.items q.process.sent.items out new_out
   pub own : status ≡ 0 → (event_of message).receiver ≡ p.process.number
@@ -153,6 +171,8 @@ pub record HasTakenIn (p q : Kept) (message : Message DymData) (out new_out : Li
   pub was_open : (status ≡ 11) ↔ (p.is_open ≡ true)
   pub elsewhere : status ≡ 15 → (event_of message).receiver ≡ p.process.number → ⊥
   pub committed : status ≡ 13 → (event_of message).time < bound_of p.process.last
+  pub same : (q.process.number ≡ p.process.number) × (q.process.last ≡ p.process.last)
+  pub rest : q ≡ record p { process = q.process; reached = q.reached }
   pub unchanged : (status ≡ 0 → ⊥) → IsUnchanged p q × (new_out ≡ out) × (new_undone ≡ undone)
 
 -- all events before a bound above 0 were committed, and how many is told
@@ -167,6 +187,7 @@ pub record HasCommittedIn (o : UndoObjectMeaning) (p : Kept) (new_o : UndoObject
   pub unsettled : status ≡ 16 → (AreFrom (suc last) (drop (length p.process.marks.items) p.process.events.items)
       × AreFrom (suc last) p.process.early.items) → ⊥
   pub spent : status ≡ 10 → COUNT_LIMIT ≤ o.ran
+  pub rest : q ≡ record p { process = q.process }
   pub unchanged : (status ≡ 0 → ⊥) → IsUnchanged p q × (new_o ≡ o) × (new_committed ≡ committed) × (new_told ≡ told)
 
 -- all events before a bound were committed, and how many is told: none before 0

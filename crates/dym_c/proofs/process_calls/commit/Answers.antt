@@ -16,4 +16,4 @@ returns-clause-committed c =
     let closed : p.is_open ≡ true → ⊥ = λ is. not_both c.commit.result _ _ c.in-Ok.is (c.commit.ensures.open.1 is) in
     subst (λ (x : UndoObjectMeaning). HasCommittedIn x p c.commit.new.object c.commit.new.self c.args.last before new 0 c.args.told.now c.len.result)
     c.state.view_is (all_committed o p c.commit.new.object c.commit.new.self c.args.last before out new c.args.told.now c.len.result left done
-    (λ b past h. c.in-Ok.ensures.kept b past done h) (c.len.ensures ∙ c.drop_first.new.list.ok.0) closed)
+    (λ b past h. c.in-Ok.ensures.kept b past done h) (c.len.ensures ∙ c.drop_first.new.list.ok.0) closed c.commit.ensures.rest)

@@ -10,7 +10,12 @@ returns-in-Ok-clause-ended c =
     subst (λ (o : UndoObjectMeaning). HasEnded o c.args.running.now c.end.new.self c.args.out.now.items c.end.new.out.items 0) c.state.view_is (record {
       kept = λ _. told.kept;
       posted = λ _. told.posted;
+      replayed = λ _. told.replayed;
+      reached = λ _. told.reached;
       idle = (λ e. absurd (omega (arith, e)), λ is. absurd (not_both c.end.result _ _ c.in-Ok.is (c.end.ensures.idle.1 is)));
+      many = λ e. absurd (omega (arith, e));
       closed = λ _. told.ended;
+      face = c.end.ensures.rest;
+      rest = c.end.ensures.others;
       unchanged = λ no. absurd (no refl);
     })
