@@ -4,7 +4,8 @@
  * A kernel or a model that keeps a pointer to a chunk that was freed, or that a restore undid, most often reads there what stood in the chunk,
  * and nothing tells of it until another chunk takes its place. Compiled with this header, a free fills the chunk before it is freed, as does a
  * realloc that frees or moves it, and a restore fills every live chunk before it brings the heap back; what the log has gets its bytes back then,
- * and what it doesn't have stays filled. So such a pointer reads bytes DYM_FILLED, and one that is taken from there leads nowhere. No source has to be changed:
+ * and what it doesn't have stays filled. So such a pointer reads bytes DYM_FILLED, and one that is taken from there leads nowhere. No source has to
+ * be changed:
  *
  *     cc -include dymelor_debug.h ..          or this header, included behind dymelor.h and before dymelor.hpp
  *

@@ -9,7 +9,8 @@ use std::fmt;
 ///
 /// If more than one would be right, [`Bad`](Error::Bad) comes first, then [`Spent`](Error::Spent), then the refusals in the order
 /// in which the call names them; [`Memory`](Error::Memory) comes only if none of these does, but for
-/// [`Object::save`](crate::Object::save) and [`Process::commit`](crate::Process::commit). [`Object::chunk_mut`](crate::Object::chunk_mut) says [`Dead`](Error::Dead) before `Spent`.
+/// [`Object::save`](crate::Object::save) and [`Process::commit`](crate::Process::commit).
+/// [`Object::chunk_mut`](crate::Object::chunk_mut) says [`Dead`](Error::Dead) before `Spent`.
 #[derive(Clone, Copy, Debug, PartialEq, Eq, Hash)]
 #[non_exhaustive]
 pub enum Error {
