@@ -354,6 +354,3 @@ impl<G: Segment> Area<G> {
         segment
     }
 }
-
-#[cfg(test)]
-mod tests;

@@ -18,8 +18,6 @@ mod rooms;
 mod stamps;
 mod undo_heap;
 mod undo_log;
-#[cfg(test)]
-mod undo_log_tests;
 
 pub use entry::Entry;
 pub use head::Head;

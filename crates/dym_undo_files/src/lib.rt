@@ -9,8 +9,6 @@
 
 mod brought_heap;
 mod chunk_bytes;
-#[cfg(test)]
-mod file_tests;
 pub mod laws;
 mod loaded_logs;
 mod scratch_heap;

@@ -15,7 +15,5 @@ pub mod laws;
 mod log_calls;
 mod touches;
 mod undo_object;
-#[cfg(test)]
-mod undo_object_tests;
 
 pub use undo_object::UndoObject;

@@ -50,17 +50,3 @@ pub fn memoryless(half_life: u32, random: u64) -> u64
     let half_life = u64::from(half_life);
     half_life * u64::from(random.leading_zeros()) + mixed(random) % (half_life + 1)
 }
-
-#[cfg(test)]
-mod tests {
-    use super::*;
-
-    /// The first numbers of SplitMix64 from 0, as they are published.
-    #[test]
-    fn first_numbers(rt: HostRuntime) {
-        let first = next(0);
-        let second = next(first);
-        assert_eq!(rt; mixed(first), 0xe220a8397b1dcdaf);
-        assert_eq!(rt; mixed(second), 0x6e789e6aa1b965f4);
-    }
-}

@@ -16,8 +16,6 @@ mod moment;
 mod object_process;
 mod replays;
 mod steps;
-#[cfg(test)]
-mod tests;
 
 pub use messages::{CommitError, TakeError};
 pub use object_process::{ObjectProcess, OpenError};

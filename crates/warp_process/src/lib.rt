@@ -16,8 +16,6 @@ mod posts;
 mod process;
 mod run;
 mod saver;
-#[cfg(test)]
-mod tests;
 mod whole_copies;
 
 pub use process::{Process, TakeError};

@@ -12,8 +12,6 @@ mod lane;
 mod lender;
 mod packet;
 mod run;
-#[cfg(test)]
-mod tests;
 mod workers;
 
 pub use lane::Lane;
