@@ -21,23 +21,36 @@ fn main() {
     for variable in VARIABLES {
         println!("cargo:rerun-if-env-changed={variable}");
     }
-    let answer = Linking::asked().and_then(|linking| {
-        let folder = match env::var_os("DYMELOR_DIR") {
-            Some(prefix) => linking.library_below(Path::new(&prefix)),
-            None => linking.library_of_pkg_config(),
-        };
-        folder.map(|folder| linking.link(&folder))
-    });
-    if let Err(why) = answer {
-        eprintln!(
-            "dymelor: {why}\n\
-             The C library dymelor {}.{} is needed: install it, so that `pkg-config --libs dymelor` finds it, \
-             or set DYMELOR_DIR to a folder that has lib/libdymelor.a and include/dymelor.h.",
-            env!("CARGO_PKG_VERSION_MAJOR"),
-            env!("CARGO_PKG_VERSION_MINOR")
-        );
+    if let Err(why) = Linking::asked().and_then(link) {
+        eprintln!("dymelor: {why}\n{}", advice());
         exit(1);
     }
+}
+
+/// Links the library of the folder that DYMELOR_DIR names, which has to be there, or the one that pkg-config finds. Where it finds none, what
+/// needs no library goes on, as `cargo doc` and `cargo check`; a program isn't linked then, and the warning says why.
+fn link(linking: Linking) -> Result<(), String> {
+    match env::var_os("DYMELOR_DIR") {
+        Some(prefix) => linking.link(&linking.library_below(Path::new(&prefix))?),
+        None => match linking.library_of_pkg_config() {
+            Ok(folder) => linking.link(&folder),
+            Err(why) => {
+                let why = why.replace('\n', " ");
+                println!("cargo:warning=no program can be linked: {why} {}", advice());
+            }
+        },
+    }
+    Ok(())
+}
+
+/// What a user does where the library isn't found.
+fn advice() -> String {
+    format!(
+        "The C library dymelor {}.{} is needed: install it, so that `pkg-config --libs dymelor` finds it, \
+         or set DYMELOR_DIR to a folder that has lib/libdymelor.a and include/dymelor.h.",
+        env!("CARGO_PKG_VERSION_MAJOR"),
+        env!("CARGO_PKG_VERSION_MINOR")
+    )
 }
 
 /// How the library is linked: its file, the word of rustc, and the package of pkg-config.

@@ -1,7 +1,7 @@
 use std::fmt;
 
 /// Why a call did not do what it says. Each variant is the status of that name in the header, but [`File`](Error::File), which stands for
-/// the `DYM_FILE` of `dym_load`, and [`Twice`](Error::Twice), which is this crate's own. A later version may have more. `DYM_STATE` is
+/// the `DYM_FILE` of `dym_load`, and [`Twice`](Error::Twice) and [`NoValue`](Error::NoValue), which are this crate's own. A later version may have more. `DYM_STATE` is
 /// [`Open`](Error::Open), of a [`Process`](crate::Process) alone: an [`Object`](crate::Object) is open.
 ///
 /// The variants up to [`NoLog`](Error::NoLog) are refusals. A refused call changes nothing of the object but the count of its
@@ -37,6 +37,8 @@ pub enum Error {
     Spent,
     /// A chunk was named twice where several are lent at once.
     Twice,
+    /// The bytes of the chunk are no value of the type: of a `bool`, or of an enum that [`pod!`](crate::pod) declares.
+    NoValue,
     /// The event of a message is before the last bound of its process, or a bound before an earlier one.
     Committed,
     /// What is sent isn't later than the event that sends it.
@@ -100,6 +102,7 @@ impl fmt::Display for Error {
             Error::Bad => "the quota, the name or the number of the process is bad",
             Error::Spent => "the object has run 2^60 commands, the most that it may",
             Error::Twice => "a chunk was named twice",
+            Error::NoValue => "the bytes of the chunk are no value of the type",
             Error::Committed => "the time is before the last bound",
             Error::NotLater => "what is sent isn't later than what sends it",
             Error::NoProcess => "it is for no process, or for another one",

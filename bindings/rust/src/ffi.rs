@@ -415,9 +415,24 @@ impl OpenObject {
         if bytes.len() < std::mem::size_of::<T>() {
             return Err(Error::Range);
         }
-        // SAFETY: the bytes are enough, and aligned for it: "Each chunk is aligned to 16 bytes", more than which `Fits` refuses. Any bytes are
-        // a value of a type that is `Pod`.
+        if !T::ANY_BYTES && !T::is_value(&bytes[..std::mem::size_of::<T>()]) {
+            return Err(Error::NoValue);
+        }
+        // SAFETY: the bytes are enough, and aligned for it: "Each chunk is aligned to 16 bytes", more than which `Fits` refuses. They are a
+        // value of the type, as was tested, or any bytes are.
         Ok(unsafe { &*bytes.as_ptr().cast::<T>() })
+    }
+
+    /// Writes a value into a chunk that is long enough, whatever stands there.
+    pub fn put_value<T: Pod>(&mut self, chunk: Handle, value: T) -> Result<(), Error> {
+        let () = Fits::<T>::IN_A_CHUNK;
+        let bytes = self.chunk_mut(chunk)?;
+        if bytes.len() < std::mem::size_of::<T>() {
+            return Err(Error::Range);
+        }
+        // SAFETY: the bytes are enough, and aligned for it, as in `value`; the value has no padding and needs no drop.
+        unsafe { bytes.as_mut_ptr().cast::<T>().write(value) };
+        Ok(())
     }
 
     /// The values in chunks that are long enough, to be changed at once.

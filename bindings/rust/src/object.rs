@@ -130,8 +130,8 @@ impl Object {
 
 /// Values in chunks of their own.
 ///
-/// A [`Chunk`] is a handle that knows the type of what lies in its chunk, which is [`Pod`]: any bytes of its length are a value of it. So a
-/// handle that got old, whose chunk was freed and taken for something else, may show another value, and never a broken one.
+/// A [`Chunk`] is a handle that knows the type of what lies in its chunk, which is [`Pod`]. A handle that got old, whose chunk was freed and
+/// allocated for something else, may show another value, or fail with [`Error::NoValue`]; it never shows a broken one.
 ///
 /// ```
 /// # fn main() -> Result<(), dymelor::Error> {
@@ -167,21 +167,27 @@ impl Object {
     /// [`Error::Quota`].
     pub fn make<T: Pod>(&mut self, value: T) -> Result<Chunk<T>, Error> {
         let chunk = Chunk::of(self.malloc(std::mem::size_of::<T>() as u64)?);
-        match self.get_mut(chunk) {
-            Ok(place) => *place = value,
-            Err(why) => {
-                let _ = self.free(Some(chunk.handle()));
-                return Err(why);
-            }
+        if let Err(why) = self.set(chunk, value) {
+            let _ = self.free(Some(chunk.handle()));
+            return Err(why);
         }
         Ok(chunk)
+    }
+
+    /// Writes a value into a chunk, whatever bytes it has: its chunk is touched, as by [`chunk_mut`](Object::chunk_mut).
+    ///
+    /// # Errors
+    ///
+    /// [`Error::Dead`], and [`Error::Range`] if the chunk is shorter than the value.
+    pub fn set<T: Pod>(&mut self, chunk: Chunk<T>, value: T) -> Result<(), Error> {
+        self.inside.put_value(sent(chunk.handle()), value)
     }
 
     /// A value where it lies. This is no command, and isn't counted.
     ///
     /// # Errors
     ///
-    /// [`Error::Dead`], and [`Error::Range`] if the chunk is shorter than the value.
+    /// [`Error::Dead`], [`Error::Range`] if the chunk is shorter than the value, and [`Error::NoValue`] if its bytes are no value of the type.
     pub fn get<T: Pod>(&self, chunk: Chunk<T>) -> Result<&T, Error> {
         self.inside.value(sent(chunk.handle()))
     }
@@ -190,7 +196,7 @@ impl Object {
     ///
     /// # Errors
     ///
-    /// [`Error::Dead`], and [`Error::Range`] if the chunk is shorter than the value.
+    /// [`Error::Dead`], [`Error::Range`] if the chunk is shorter than the value, and [`Error::NoValue`] if its bytes are no value of the type.
     pub fn get_mut<T: Pod>(&mut self, chunk: Chunk<T>) -> Result<&mut T, Error> {
         let [value] = self.get_many_mut([chunk])?;
         Ok(value)
@@ -200,7 +206,8 @@ impl Object {
     ///
     /// # Errors
     ///
-    /// [`Error::Dead`], [`Error::Range`] if a chunk is shorter than the value, and [`Error::Twice`] if a chunk is named twice.
+    /// [`Error::Dead`], [`Error::Range`] if a chunk is shorter than the value, [`Error::NoValue`] if its bytes are no value of the type, and
+    /// [`Error::Twice`] if a chunk is named twice.
     pub fn get_many_mut<T: Pod, const N: usize>(
         &mut self,
         chunks: [Chunk<T>; N],
@@ -212,7 +219,8 @@ impl Object {
     ///
     /// # Errors
     ///
-    /// [`Error::Dead`], [`Error::Range`] if a chunk is shorter than the value, and [`Error::Twice`] if both are one chunk.
+    /// [`Error::Dead`], [`Error::Range`] if a chunk is shorter than the value, [`Error::NoValue`] if its bytes are no value of the type, and
+    /// [`Error::Twice`] if both are one chunk.
     pub fn pair_mut<T: Pod, U: Pod>(
         &mut self,
         first: Chunk<T>,
@@ -377,6 +385,30 @@ impl Object {
     /// The live chunks, in the order of their handles.
     pub fn chunks(&self) -> Chunks<'_> {
         Chunks::of(self)
+    }
+
+    /// Returns one number for the live heap, that of `dym_hash`, so that two peers or two runs compare states by one word: FNV-1a of 64 bits over
+    /// each live chunk, in the order of the handles, of its handle's number, its length and its bytes.
+    ///
+    /// Heaps with the same live chunks and bytes have the same hash, whatever their logs. It reads every byte of the heap. This is no command.
+    /// Two machines get the same hash from the same calls: a chunk's bytes are what the program wrote (a number's least byte first,
+    /// as on x86-64, where alone the library was tried), a `Pod` type has no padding, and no address stands in the heap.
+    pub fn hash(&self) -> u64 {
+        let mut hash = 0xcbf2_9ce4_8422_2325;
+        let mut add = |bytes: &[u8]| {
+            for byte in bytes {
+                hash = (hash ^ u64::from(*byte)).wrapping_mul(0x0000_0100_0000_01b3);
+            }
+        };
+        for chunk in self.chunks() {
+            let Ok(bytes) = self.chunk(chunk) else {
+                unreachable!("the chunk is live");
+            };
+            add(&chunk.number().to_le_bytes());
+            add(&(bytes.len() as u32).to_le_bytes());
+            add(bytes);
+        }
+        hash
     }
 }
 

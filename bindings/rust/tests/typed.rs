@@ -10,6 +10,22 @@ pod! {
     }
 }
 
+pod! {
+    #[derive(Debug, PartialEq)]
+    pub enum Phase {
+        Waiting = 3,
+        Running,
+    }
+
+    #[derive(Debug, PartialEq)]
+    pub struct Job {
+        pub phase: Phase,
+        pub is_late: [bool; 2],
+        rest: u8,
+        pub number: u32,
+    }
+}
+
 fn opened() -> Object {
     Object::open(3, Version::Two).expect("memory for three segments")
 }
@@ -44,6 +60,64 @@ fn a_value_that_is_too_long_is_out_of_range() -> Result<(), Error> {
     );
     object.free(Some(short))?;
     assert_eq!(object.get(bytes), Err(Error::Dead));
+    Ok(())
+}
+
+#[test]
+fn bytes_that_are_no_value_are_refused() -> Result<(), Error> {
+    let mut object = opened();
+    let first = Job {
+        phase: Phase::Running,
+        is_late: [false, true],
+        rest: 0,
+        number: 7,
+    };
+    let job = object.make(first)?;
+    assert_eq!(object.get(job)?, &first);
+    assert_eq!(object.chunk(job.handle())?, &[4, 0, 1, 0, 7, 0, 0, 0]);
+    for (at, byte) in [(0, 0), (0, 2), (0, 5), (1, 2), (2, 255)] {
+        object.set(job, first)?;
+        object.write(job.handle(), at, &[byte])?;
+        assert_eq!(object.get(job), Err(Error::NoValue), "{byte} at {at}");
+        assert_eq!(object.get_mut(job).err(), Some(Error::NoValue));
+    }
+    object.log(LogKind::Full, Time(1))?;
+    object.set(job, first)?;
+    assert_eq!(object.get(job)?, &first);
+    object.restore(Time(1))?;
+    assert_eq!(object.get(job), Err(Error::NoValue));
+    let fresh: Chunk<[Phase; 4]> = Chunk::of(object.malloc(4)?);
+    assert_eq!(object.get(fresh), Err(Error::NoValue), "0 is no phase");
+    assert_eq!(
+        object
+            .make([true; 3])
+            .and_then(|it| object.get(it).copied()),
+        Ok([true; 3])
+    );
+    Ok(())
+}
+
+#[test]
+fn equal_heaps_have_one_hash() -> Result<(), Error> {
+    let (mut one, mut other) = (opened(), opened());
+    assert_eq!(one.hash(), 0xcbf2_9ce4_8422_2325, "of an empty heap");
+    for object in [&mut one, &mut other] {
+        let chunk = object.make(0x0102_0304_u32)?;
+        assert_eq!(
+            object.hash(),
+            0xd3d2_359a_7c9c_3fd0,
+            "FNV-1a of 5 << 32, 4 and the bytes"
+        );
+        object.log(LogKind::Full, Time(1))?;
+        *object.get_mut(chunk)? += 1;
+    }
+    assert_eq!(one.hash(), other.hash());
+    other.restore(Time(1))?;
+    assert_ne!(one.hash(), other.hash());
+    one.restore(Time(1))?;
+    assert_eq!(one.hash(), other.hash());
+    other.malloc(0)?;
+    assert_ne!(one.hash(), other.hash());
     Ok(())
 }
 
