@@ -97,6 +97,11 @@
 #endif
 
 #ifdef __cplusplus
+#ifdef __clang__ /* C's casts and null pointers, which a program may have warnings for */
+#pragma clang diagnostic push
+#pragma clang diagnostic ignored "-Wold-style-cast"
+#pragma clang diagnostic ignored "-Wzero-as-null-pointer-constant"
+#endif
 extern "C" {
 #endif
 
@@ -603,6 +608,9 @@ DYM_NODISCARD static inline dym_status dym_inline_load(dym_object *object, const
 
 #ifdef __cplusplus
 }
+#ifdef __clang__
+#pragma clang diagnostic pop
+#endif
 #endif
 
 #endif

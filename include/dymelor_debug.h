@@ -28,6 +28,11 @@
 #endif
 
 #ifdef __cplusplus
+#ifdef __clang__ /* C's casts and null pointers, which a program may have warnings for */
+#pragma clang diagnostic push
+#pragma clang diagnostic ignored "-Wold-style-cast"
+#pragma clang diagnostic ignored "-Wzero-as-null-pointer-constant"
+#endif
 extern "C" {
 #endif
 
@@ -137,6 +142,9 @@ DYM_NODISCARD static inline dym_status dym_restore_before_filled(dym_object *obj
 
 #ifdef __cplusplus
 }
+#ifdef __clang__
+#pragma clang diagnostic pop
+#endif
 #endif
 
 #endif

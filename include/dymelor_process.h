@@ -63,6 +63,11 @@
 #include "dymelor.h"
 
 #ifdef __cplusplus
+#ifdef __clang__ /* C's casts and null pointers, which a program may have warnings for */
+#pragma clang diagnostic push
+#pragma clang diagnostic ignored "-Wold-style-cast"
+#pragma clang diagnostic ignored "-Wzero-as-null-pointer-constant"
+#endif
 extern "C" {
 #endif
 
@@ -283,6 +288,9 @@ DYM_NODISCARD static inline dym_status dym_inline_process_commit(dym_process *pr
 
 #ifdef __cplusplus
 }
+#ifdef __clang__
+#pragma clang diagnostic pop
+#endif
 #endif
 
 #endif

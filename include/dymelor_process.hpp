@@ -214,10 +214,10 @@ private:
     };
 
     /* The object is the state's between the calls, and the process's while one runs: a copy takes its place. */
-    template <class Call> dym_status call(Call call)
+    template <class Call> dym_status call(Call function)
     {
         dym_process c{*state_.c(), inside_};
-        const dym_status status = call(&c);
+        const dym_status status = function(&c);
         *state_.c() = c.object;
         inside_ = c.inside;
         return status;

@@ -48,6 +48,11 @@
 #include "dymelor.h"
 
 #ifdef __cplusplus
+#ifdef __clang__ /* C's casts and null pointers, which a program may have warnings for */
+#pragma clang diagnostic push
+#pragma clang diagnostic ignored "-Wold-style-cast"
+#pragma clang diagnostic ignored "-Wzero-as-null-pointer-constant"
+#endif
 extern "C" {
 #endif
 
@@ -63,6 +68,9 @@ dym_status dym_track(dym_object *object);
 
 #ifdef __cplusplus
 }
+#ifdef __clang__
+#pragma clang diagnostic pop
+#endif
 #endif
 
 #endif
